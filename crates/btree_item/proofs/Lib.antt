@@ -1,0 +1,6 @@
+pub mod SomesLemmas
+pub mod IterLemmas
+pub mod KeyLemmas
+pub mod PairLemmas
+pub mod PairEdits
+pub mod MinLemmas

@@ -1,0 +1,100 @@
+-- What an edit of a list of options leaves of the values, where every option holds one.
+use Rattle.std.proofs.Common.{◌≡◌, ℕ, ◌+◌, ◌<◌, ◌≤◌, List, [], ◌∷◌, ◌++◌, Option, Some, None, map, length, take, drop, set, get_or, zero, suc, refl, sym, ◌∙◌, ap, arith}
+use Rattle.std.specs.Prelude.{slice_get, IsSome}
+use Rattle.std.specs.List.{insert, remove}
+use Rattle.std.specs.Option.{option_map}
+use Rattle.std.proofs.lemmas.List.{take-map, drop-map, map-append, length-map, map-set, set-get_or}
+use Rattle.std.proofs.lemmas.Option.{slice_get-map}
+use Rattle.btree_item.specs.Somes.{somes, AreSome}
+
+module _ {T : Type 0} where
+  pub somes-map : (xs : List T) → somes (map Some xs) ≡ xs
+  somes-map [] = refl
+  somes-map (x ∷ xs) = ap (λ rest. x ∷ rest) (somes-map xs)
+
+  pub somes_from_map : (slots : List (Option T)) (xs : List T) → slots ≡ map Some xs → somes slots ≡ xs
+  somes_from_map slots xs are = ap somes are ∙ somes-map xs
+
+  pub AreSome-from_map : (slots : List (Option T)) (xs : List T) → slots ≡ map Some xs → AreSome slots
+  AreSome-from_map slots xs are = record { are = are ∙ sym (ap (map Some) (somes_from_map slots xs are)) }
+
+  pub length-somes : (slots : List (Option T)) → AreSome slots → length (somes slots) ≡ length slots
+  length-somes slots h = sym (length-map (somes slots) Some) ∙ sym (ap length h.are)
+
+  push_maps : (slots : List (Option T)) (x : T) → AreSome slots → slots ++ Some x ∷ [] ≡ map Some (somes slots ++ x ∷ [])
+  push_maps slots x h = ap (λ l. l ++ Some x ∷ []) h.are ∙ sym (map-append Some (somes slots) (x ∷ []))
+
+  set_maps : (slots : List (Option T)) (i : ℕ) (x : T) → AreSome slots → set slots i (Some x) ≡ map Some (set (somes slots) i x)
+  set_maps slots i x h = ap (λ l. set l i (Some x)) h.are ∙ sym (map-set Some (somes slots) i x)
+
+  take_maps : (n : ℕ) (slots : List (Option T)) → AreSome slots → take n slots ≡ map Some (take n (somes slots))
+  take_maps n slots h = ap (take n) h.are ∙ take-map Some n (somes slots)
+
+  drop_maps : (n : ℕ) (slots : List (Option T)) → AreSome slots → drop n slots ≡ map Some (drop n (somes slots))
+  drop_maps n slots h = ap (drop n) h.are ∙ drop-map Some n (somes slots)
+
+  insert_maps : (slots : List (Option T)) (i : ℕ) (x : T) → AreSome slots → insert slots i (Some x) ≡ map Some (insert (somes slots) i x)
+  insert_maps slots i x h =
+      ap (λ l. l ++ Some x ∷ drop i slots) (take_maps i slots h)
+      ∙ ap (λ l. map Some (take i (somes slots)) ++ Some x ∷ l) (drop_maps i slots h)
+      ∙ sym (map-append Some (take i (somes slots)) (x ∷ drop i (somes slots)))
+
+  remove_maps : (slots : List (Option T)) (i : ℕ) → AreSome slots → remove slots i ≡ map Some (remove (somes slots) i)
+  remove_maps slots i h =
+      ap (λ l. l ++ drop (suc i) slots) (take_maps i slots h)
+      ∙ ap (λ l. map Some (take i (somes slots)) ++ l) (drop_maps (suc i) slots h)
+      ∙ sym (map-append Some (take i (somes slots)) (drop (suc i) (somes slots)))
+
+  pub somes-push : (slots : List (Option T)) (x : T) → AreSome slots → somes (slots ++ Some x ∷ []) ≡ somes slots ++ x ∷ []
+  somes-push slots x h = somes_from_map _ _ (push_maps slots x h)
+
+  pub AreSome-push : (slots : List (Option T)) (x : T) → AreSome slots → AreSome (slots ++ Some x ∷ [])
+  AreSome-push slots x h = AreSome-from_map _ _ (push_maps slots x h)
+
+  pub somes-set : (slots : List (Option T)) (i : ℕ) (x : T) → AreSome slots → somes (set slots i (Some x)) ≡ set (somes slots) i x
+  somes-set slots i x h = somes_from_map _ _ (set_maps slots i x h)
+
+  pub AreSome-set : (slots : List (Option T)) (i : ℕ) (x : T) → AreSome slots → AreSome (set slots i (Some x))
+  AreSome-set slots i x h = AreSome-from_map _ _ (set_maps slots i x h)
+
+  pub somes-insert : (slots : List (Option T)) (i : ℕ) (x : T) → AreSome slots → somes (insert slots i (Some x)) ≡ insert (somes slots) i x
+  somes-insert slots i x h = somes_from_map _ _ (insert_maps slots i x h)
+
+  pub AreSome-insert : (slots : List (Option T)) (i : ℕ) (x : T) → AreSome slots → AreSome (insert slots i (Some x))
+  AreSome-insert slots i x h = AreSome-from_map _ _ (insert_maps slots i x h)
+
+  pub somes-remove : (slots : List (Option T)) (i : ℕ) → AreSome slots → somes (remove slots i) ≡ remove (somes slots) i
+  somes-remove slots i h = somes_from_map _ _ (remove_maps slots i h)
+
+  pub AreSome-remove : (slots : List (Option T)) (i : ℕ) → AreSome slots → AreSome (remove slots i)
+  AreSome-remove slots i h = AreSome-from_map _ _ (remove_maps slots i h)
+
+  pub slice_get-somes : (slots : List (Option T)) (i : ℕ) → AreSome slots → slice_get slots i ≡ option_map Some (slice_get (somes slots) i)
+  slice_get-somes slots i h = ap (λ l. slice_get l i) h.are ∙ slice_get-map Some (somes slots) i
+
+  some_in_map : (xs : List T) (i : ℕ) (r : Option T) → i < length xs → r ≡ get_or (map Some xs) i r → IsSome r
+  some_in_map [] i r within read = absurd (omega arith)
+  some_in_map (x ∷ xs) zero r within read = rw read refl
+  some_in_map (x ∷ xs) (suc i) r within read = some_in_map xs i r (omega arith) read
+
+  pub IsSome-slot : (slots : List (Option T)) (i : ℕ) (r : Option T) → AreSome slots → i < length slots → r ≡ get_or slots i r → IsSome r
+  IsSome-slot slots i r h within read =
+      some_in_map (somes slots) i r (omega (arith, length-somes slots h)) (read ∙ ap (λ l. get_or l i r) h.are)
+
+  read_in_map : (xs : List T) (i : ℕ) (r : Option T) → i < length xs → r ≡ get_or (map Some xs) i r → slice_get xs i ≡ r
+  read_in_map [] i r within read = absurd (omega arith)
+  read_in_map (x ∷ xs) zero r within read = sym read
+  read_in_map (x ∷ xs) (suc i) r within read = read_in_map xs i r (omega arith) read
+
+  pub slot_read : (slots : List (Option T)) (i : ℕ) (r : Option T) → AreSome slots → i < length slots → r ≡ get_or slots i r → slice_get (somes slots) i ≡ r
+  slot_read slots i r h within read =
+      read_in_map (somes slots) i r (omega (arith, length-somes slots h)) (read ∙ ap (λ l. get_or l i r) h.are)
+
+  pub set-read : (slots : List (Option T)) (i : ℕ) (r : Option T) → r ≡ get_or slots i r → set slots i r ≡ slots
+  set-read slots i r read = ap (set slots i) read ∙ set-get_or slots i r
+
+  -- what was read, written back, changes nothing
+  pub AreSome-set_read : (slots : List (Option T)) (i : ℕ) (r : Option T) → AreSome slots → r ≡ get_or slots i r → AreSome (set slots i r)
+  AreSome-set_read slots i r h read = rw (set-read slots i r read) h
+
+pub ruleset slot_edits = (somes-map, IsSome-slot, slot_read, AreSome-set_read, length-somes, somes-push, AreSome-push, somes-set, AreSome-set, somes-insert, AreSome-insert, somes-remove, AreSome-remove, slice_get-somes)

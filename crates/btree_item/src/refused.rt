@@ -1,0 +1,20 @@
+//! Refusals of an insertion.
+
+/// Why an insertion was refused.
+#[derive(Clone, Copy, Debug, PartialEq, Eq)]
+pub enum Cause {
+    /// The store had no room for a node.
+    Store,
+    /// The map holds as many pairs as it may.
+    Count,
+    /// The map's one leaf is full. For now a leaf is not split.
+    Leaf,
+}
+
+/// A refused insertion: why, and the key and the value, which come back.
+#[derive(Debug, Drop)]
+pub struct Refused<K, V> {
+    pub cause: Cause,
+    pub key: K,
+    pub value: V,
+}

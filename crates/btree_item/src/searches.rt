@@ -1,0 +1,96 @@
+//! Searches in slots that are in the order of their keys.
+ghost use Rattle.std.specs.Prelude.{◌≡◌, ◌<◌, ◌≤◌, Some, IfNone, IfSome, length, map, slice_get};
+ghost use Rattle.std.specs.List.Sorted.{IsSearchInRange, IsSorted, IsStrictlySortedBy};
+ghost use Rattle.btree_item.specs.Keys.{key_place, AllAbove, AllBelow, IsFirstNotBelow, IsLastAtMost, IsNotBelowAt};
+
+use crate::{Keyed, Slots};
+
+// Where a search divides the slots: the middle of nine.
+const MIDDLE: usize = 4;
+
+fn key_at<T: Keyed, const N: usize>(slots: &Slots<T, N>, index: usize) -> &T::Key
+    requires { index < length slots.now }
+    ensures { slice_get (map T.key_of slots.now) index ≡ Some result.now }
+{
+    slots.get(index).unwrap().key()
+}
+
+// The first index from `start` to `end` whose key is not below, found from the front.
+#[tactic(auto, using(crate::proofs::KeyLemmas::search_steps))]
+fn first_not_below<T: Keyed, const N: usize>(slots: &Slots<T, N>, key: &T::Key, start: usize, end: usize) -> usize
+where
+    T::Key: Ord,
+    requires ordered { start ≤ end }
+    requires within { end ≤ length slots.now }
+    requires before { AllBelow T.Key.cmp key.now start (map T.key_of slots.now) }
+    requires here { IsNotBelowAt T.Key.cmp key.now end (map T.key_of slots.now) }
+    ensures { IsFirstNotBelow T.Key.cmp key.now result (map T.key_of slots.now) }
+{
+    for i in start..end {
+        let is_below = key_at(slots, i) < key;
+        if !is_below {
+            return i;
+        }
+    }
+    end
+}
+
+// The same over all slots. The key in the middle says which half to look through.
+#[tactic(auto, using(crate::proofs::KeyLemmas::search_halves))]
+fn lower_bound<T: Keyed, const N: usize>(slots: &Slots<T, N>, key: &T::Key) -> usize
+where
+    T::Key: Ord,
+    requires { IsStrictlySortedBy T.Key.cmp (map T.key_of slots.now) }
+    ensures { IsFirstNotBelow T.Key.cmp key.now result (map T.key_of slots.now) }
+{
+    let len = slots.len();
+    if len <= MIDDLE {
+        first_not_below(slots, key, 0, len)
+    } else if key_at(slots, MIDDLE) < key {
+        first_not_below(slots, key, MIDDLE + 1, len)
+    } else {
+        first_not_below(slots, key, 0, MIDDLE)
+    }
+}
+
+/// The place of a key in slots whose keys ascend strictly: Ok where it is there, else Err with the number of smaller
+/// keys. In up to nine slots it compares at most six times: five times by `<`, and then once by `==`.
+#[tactic(auto, using(crate::proofs::KeyLemmas::search_ends))]
+pub fn search<T: Keyed, const N: usize>(slots: &Slots<T, N>, key: &T::Key) -> Result<usize, usize>
+where
+    T::Key: Ord,
+    requires { IsStrictlySortedBy T.Key.cmp (map T.key_of slots.now) }
+    ensures place { result ≡ key_place T.Key.cmp key.now (map T.key_of slots.now) }
+    ensures within { IsSearchInRange result (length slots.now) }
+    ensures fits { length slots.now ≤ N }
+{
+    let place = lower_bound(slots, key);
+    if place < slots.len() && key_at(slots, place) == key {
+        Ok(place)
+    } else {
+        Err(place)
+    }
+}
+
+/// The last index whose key is at most the given one, in slots whose keys do not descend; equal keys may stand side by
+/// side. It halves the slots until one is left.
+#[tactic(auto, using(crate::proofs::MinLemmas::min_steps))]
+pub fn binary_search_min<T: Keyed, const N: usize>(slots: &Slots<T, N>, key: &T::Key) -> Option<usize>
+where
+    T::Key: Ord,
+    requires { IsSorted T.Key.cmp (map T.key_of slots.now) }
+    ensures last { IfSome result (λ index. IsLastAtMost T.Key.cmp key.now index (map T.key_of slots.now)) }
+    ensures none { IfNone result (AllAbove T.Key.cmp key.now 0 (map T.key_of slots.now)) }
+{
+    let mut low = 0;
+    let mut high = slots.len();
+    while low < high {
+        let middle = low + (high - low) / 2;
+        if key < key_at(slots, middle) {
+            high = middle;
+        } else {
+            low = middle + 1;
+        }
+    }
+    if low == 0 { None } else { Some(low - 1) }
+}

@@ -1,0 +1,105 @@
+//! Lists of at most `N` values, kept inside.
+ghost use Rattle.std.specs.Prelude.{◌≡◌, ◌<◌, ◌≤◌, [], ◌∷◌, ◌++◌, Some, length, slice_get, slice_set};
+ghost use Rattle.std.specs.List.{insert, remove};
+ghost use Rattle.std.specs.Borrow.{sem};
+ghost use Rattle.std.specs.Option.{option_copied, option_copied_mut};
+
+use crate::SlotsIter;
+use arrayvec::ArrayVec;
+use std::marker::Model;
+
+/// A list of at most `N` values, kept inside and as options, so that it never allocates and a value needs no default.
+#[derive(Drop)]
+pub struct Slots<T, const N: usize> {
+    slots: ArrayVec<Option<T>, N>,
+}
+
+impl<T, const N: usize> Model for Slots<T, N> {
+    ghost use Rattle.std.specs.Prelude.{List};
+    ghost use Rattle.btree_item.specs.Somes.{somes, AreSome};
+
+    ghost Value = { List T };
+
+    ghost view = { λ s. somes s.slots.items };
+
+    ghost invariant = { λ s. AreSome s.slots.items };
+}
+
+#[tactic(auto, using(crate::proofs::SomesLemmas::slot_edits))]
+impl<T, const N: usize> Slots<T, N> {
+    ghost use Rattle.btree_item.specs.Slots.{lends_slot};
+
+    pub fn len(&self) -> usize
+        ensures value { result ≡ length self.now }
+        ensures fits { result ≤ N }
+    {
+        self.slots.len()
+    }
+
+    /// The value at an index, and `None` past the end.
+    pub fn get(&self, index: usize) -> Option<&T>
+        ensures { option_copied result ≡ slice_get self.now index }
+    {
+        match self.slots.as_slice().get(index) {
+            Some(slot) => slot.as_ref(),
+            None => None,
+        }
+    }
+
+    /// The value at an index, to be written, and `None` past the end.
+    pub fn get_mut(&mut self, index: usize) -> Option<&mut T>
+        ensures* writes_back { sem 𝓛 (lends_slot T.row N.row self.entry index result) }
+        ensures value { option_copied_mut result ≡ slice_get self.old index }
+    {
+        match self.slots.get_mut(index) {
+            Some(slot) => slot.as_mut(),
+            None => None,
+        }
+    }
+
+    /// The values in order.
+    pub fn iter(&self) -> SlotsIter<'_, T>
+        ensures { result ≡ self.now }
+    {
+        SlotsIter {
+            slots: self.slots.as_slice().iter(),
+        }
+    }
+}
+
+#[tactic(auto, using(crate::proofs::SomesLemmas::slot_edits))]
+impl<T: Drop, const N: usize> Slots<T, N> {
+    pub fn new() -> Self
+        ensures { result ≡ [] }
+    {
+        Slots {
+            slots: ArrayVec::new(),
+        }
+    }
+
+    /// Appends a value. There has to be room for it.
+    pub fn push(&mut self, value: T)
+        requires { length self.old < N }
+        ensures { self.new ≡ self.old ++ value ∷ [] }
+    {
+        self.slots.push(Some(value));
+    }
+
+    /// Puts a value at an index, and moves those from there on up. There has to be room for it.
+    pub fn insert(&mut self, index: usize, value: T)
+        requires within { index ≤ length self.old }
+        requires room { length self.old < N }
+        ensures { self.new ≡ insert self.old index value }
+    {
+        self.slots.insert(index, Some(value));
+    }
+
+    /// Takes the value at an index out, and moves those after it down.
+    pub fn remove(&mut self, index: usize) -> T
+        requires { index < length self.old }
+        ensures answer { slice_get self.old index ≡ Some result }
+        ensures after { self.new ≡ remove self.old index }
+    {
+        self.slots.remove(index).unwrap()
+    }
+}

@@ -1,0 +1,51 @@
+//! The iterator over the values in slots.
+ghost use Rattle.std.specs.Prelude.{◌≡◌, Some, IfSome, length};
+ghost use Rattle.std.specs.Iterator.SizeHint.{IsWithinCount};
+ghost use Rattle.std.specs.Iterator.{YieldsFirstRef, item_count, UpTo};
+
+use std::marker::Model;
+use std::slice;
+
+/// The values in slots, in order, seen as the list of those that are left.
+#[derive(Drop)]
+pub struct SlotsIter<'a, T> {
+    pub(crate) slots: slice::Iter<'a, Option<T>>,
+}
+
+impl<'a, T> Model for SlotsIter<'a, T> {
+    ghost use Rattle.std.specs.Prelude.{List};
+    ghost use Rattle.std.specs.Slice.Iter.{iter_rest};
+    ghost use Rattle.btree_item.specs.Somes.{somes, AreSome};
+
+    ghost Value = { List T };
+
+    ghost view = { λ it. somes (iter_rest it.slots) };
+
+    ghost invariant = { λ it. AreSome (iter_rest it.slots) };
+}
+
+#[tactic(auto, using(crate::proofs::IterLemmas::slot_steps))]
+impl<'a, T> Iterator for SlotsIter<'a, T> {
+    type Item = &'a T;
+
+    ghost next_gives = { YieldsFirstRef (λ rest. rest) };
+
+    ghost remaining = { item_count (λ rest. rest) };
+
+    fn next(&mut self) -> Option<&'a T> {
+        let Some(slot) = self.slots.next() else {
+            return None;
+        };
+        slot.as_ref()
+    }
+
+    /// How many values are left, twice.
+    fn size_hint(&self) -> (usize, Option<usize>)
+        ensures exact { result ≡ (length self.now, Some (length self.now)) }
+        ensures lower { IsWithinCount result.0 (item_count (λ rest. rest) self.now) }
+        ensures upper { IfSome result.1 (UpTo (item_count (λ rest. rest) self.now)) }
+    {
+        let left = self.slots.len();
+        (left, Some(left))
+    }
+}

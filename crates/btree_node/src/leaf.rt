@@ -1,0 +1,182 @@
+//! A leaf of the tree.
+ghost use Rattle.std.specs.Prelude.{◌≡◌, ◌<◌, ◌≤◌, [], ◌∷◌, Some, None, IsSomeAnd, IfOk, OnErr, length, slice_get};
+ghost use Rattle.std.specs.Borrow.{sem};
+ghost use Rattle.std.specs.List.Sorted.{IsSearchInRange};
+ghost use Rattle.std.specs.Option.{option_copied, option_copied_mut};
+ghost use Rattle.btree_item.specs.Pairs.{Ascends, before, found, found_value, inserted, place_of};
+ghost use Rattle.btree_node.specs.Leaf.{as_offset, insert_at, parent_of};
+
+use btree_item::{Item, Offset, Slots, SlotsIter, search};
+use std::marker::Model;
+
+/// A leaf: the number of its parent, and up to nine items. At rest it has no more than eight.
+#[derive(Drop)]
+pub struct LeafNode<K, V> {
+    // `usize::MAX` where there is no parent.
+    parent: usize,
+    items: Slots<Item<K, V>, 9>,
+}
+
+impl<K, V> Model for LeafNode<K, V> {
+    ghost use Rattle.btree_node.specs.Leaf.{Leaf, node_of};
+
+    ghost Value = { Leaf K V };
+
+    ghost view = { λ leaf. record { parent = node_of leaf.parent; items = leaf.items } };
+}
+
+impl<K: Drop, V: Drop> LeafNode<K, V> {
+    /// A leaf with one item. `Some(usize::MAX)` as the parent is read as none.
+    pub fn new(parent: Option<usize>, item: Item<K, V>) -> Self
+        ensures { result ≡ record { parent = parent_of parent; items = item ∷ [] } }
+    {
+        let mut items = Slots::new();
+        items.push(item);
+        LeafNode {
+            parent: parent.unwrap_or(usize::MAX),
+            items,
+        }
+    }
+
+    /// A leaf without items. `Some(usize::MAX)` as the parent is read as none.
+    pub fn empty(parent: Option<usize>) -> Self
+        ensures { result ≡ record { parent = parent_of parent; items = [] } }
+    {
+        LeafNode {
+            parent: parent.unwrap_or(usize::MAX),
+            items: Slots::new(),
+        }
+    }
+}
+
+impl<K, V> LeafNode<K, V> {
+    /// The number of the parent, if there is one.
+    pub fn parent(&self) -> Option<usize>
+        ensures { result ≡ self.now.parent }
+    {
+        if self.parent == usize::MAX {
+            None
+        } else {
+            Some(self.parent)
+        }
+    }
+
+    pub fn item_count(&self) -> usize
+        ensures value { result ≡ length self.now.items }
+        ensures fits { result ≤ 9 }
+    {
+        self.items().len()
+    }
+
+    pub fn items(&self) -> &Slots<Item<K, V>, 9>
+        ensures { result.now ≡ self.now.items }
+    {
+        &self.items
+    }
+
+    /// The items in order.
+    pub fn iter(&self) -> SlotsIter<'_, Item<K, V>>
+        ensures { result ≡ self.now.items }
+    {
+        self.items.iter()
+    }
+}
+
+// The offset at an index of a leaf.
+fn offset_at(index: usize) -> Offset
+    requires { index < usize.MAX }
+    ensures { result ≡ Some index }
+{
+    Offset::from(index)
+}
+
+// The place of a key among items.
+fn place<K: Ord, V>(items: &Slots<Item<K, V>, 9>, key: &K) -> Result<usize, usize>
+    requires { Ascends K.cmp items.now }
+    ensures place { result ≡ place_of K.cmp key.now items.now }
+    ensures within { IsSearchInRange result (length items.now) }
+    ensures fits { length items.now ≤ 9 }
+    ensures here { IfOk result (λ index. slice_get items.now index ≡ found K.cmp key.now items.now) }
+    ensures absent { OnErr result (found K.cmp key.now items.now ≡ None) }
+{
+    search(items, key)
+}
+
+impl<K: Ord, V> LeafNode<K, V> {
+    ghost use Rattle.btree_node.specs.LeafLends.{lends_value};
+
+    /// The value at a key, found with at most six comparisons.
+    pub fn get(&self, key: &K) -> Option<&V>
+        requires { Ascends K.cmp self.now.items }
+        ensures { option_copied result ≡ found_value K.cmp key.now self.now.items }
+    {
+        match place(self.items(), key) {
+            Ok(index) => match self.items().get(index) {
+                Some(item) => Some(item.value()),
+                None => None,
+            },
+            Err(_) => None,
+        }
+    }
+
+    /// The value at a key, to be written, found with at most six comparisons.
+    pub fn get_mut(&mut self, key: &K) -> Option<&mut V>
+        requires { Ascends K.cmp self.old.items }
+        ensures* writes_back { sem 𝓛 (lends_value K.row V.row K.cmp self.entry key.now result) }
+        ensures value { option_copied_mut result ≡ found_value K.cmp key.now self.old.items }
+    {
+        match place(&self.items, key) {
+            Ok(index) => match self.items.get_mut(index) {
+                Some(item) => Some(item.value_mut()),
+                None => None,
+            },
+            Err(_) => None,
+        }
+    }
+
+    /// The offset of a key where it is there, else how many keys are smaller, found with at most six comparisons.
+    pub fn offset_of(&self, key: &K) -> Result<Offset, Offset>
+        requires { Ascends K.cmp self.now.items }
+        ensures { result ≡ as_offset (place_of K.cmp key.now self.now.items) }
+    {
+        match place(self.items(), key) {
+            Ok(index) => Ok(offset_at(index)),
+            Err(index) => Err(offset_at(index)),
+        }
+    }
+}
+
+impl<K: Ord + Drop, V: Drop> LeafNode<K, V> {
+    /// Puts a value at a key, found with at most six comparisons: a key that is there stays, with the new value, and
+    /// the given key is dropped. Answers the offset, and the value that stood there.
+    pub fn insert_by_key(&mut self, key: K, value: V) -> (Offset, Option<V>)
+        requires room { length self.old.items < 9 }
+        requires ascends { Ascends K.cmp self.old.items }
+        ensures offset { result.0 ≡ Some (before K.cmp key self.old.items) }
+        ensures answer { result.1 ≡ found_value K.cmp key self.old.items }
+        ensures after { self.new ≡ record self.old { items = inserted K.cmp key value self.old.items } }
+        ensures ascends { Ascends K.cmp self.new.items }
+    {
+        match place(&self.items, &key) {
+            Ok(index) => {
+                let item = self.items.get_mut(index).unwrap();
+                (offset_at(index), Some(item.set_value(value)))
+            }
+            Err(index) => {
+                self.items.insert(index, Item::new(key, value));
+                (offset_at(index), None)
+            }
+        }
+    }
+}
+
+impl<K: Drop, V: Drop> LeafNode<K, V> {
+    /// Puts an item at an offset, and moves those from there on up. The order of the keys is up to the caller.
+    pub fn insert(&mut self, offset: Offset, item: Item<K, V>)
+        requires room { length self.old.items < 9 }
+        requires within { IsSomeAnd offset (λ index. index ≤ length self.old.items) }
+        ensures { self.new ≡ record self.old { items = insert_at offset self.old.items item } }
+    {
+        self.items.insert(offset.unwrap(), item);
+    }
+}

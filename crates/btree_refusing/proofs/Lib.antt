@@ -1,0 +1,2 @@
+mod CountDown
+mod Inside

@@ -1,0 +1,4 @@
+//! To come.
+#![tactic(auto)]
+
+fn main() {}

@@ -1,0 +1,5 @@
+pub mod Spelled
+pub mod Listed
+pub mod OneLeaf
+pub mod LeafTree
+pub mod BaseTree

@@ -1,0 +1,84 @@
+-- The addresses of a tree, their kinds, and their places in its list.
+use Rattle.std.specs.Prelude.{◌≡◌, ℕ, ◌+◌, ◌^◌, ◌-◌, ◌<◌, ◌≤◌, ◌⊎◌, List, ◌++◌, length, slice_get, Option, Some, None}
+use Rattle.btree_shape.specs.View.{View, leaf, internal, Look, size_of, item_in}
+use Rattle.btree_shape.specs.Spells.{Spells}
+
+-- the number of the address that stands for no node
+abbrev pub NOWHERE : ℕ
+NOWHERE = 2 ^ 64 - 1
+
+module _ {A : Type 0} (look : Look A) where
+  -- node `id` is a node whose subtree spells the list
+  pub record IsSubtree (id : ℕ) (ys : List A) : Type 0 where
+    pub height : ℕ
+    pub parent : Option ℕ
+    pub spells : Spells look height parent id ys
+
+  -- the items of the subtree of node `id` stand in the list behind `before` others
+  pub record StandsAt (xs : List A) (id : ℕ) (ys : List A) (before : ℕ) : Type 0 where
+    pub front : List A
+    pub back : List A
+    pub subtree : IsSubtree id ys
+    pub split : xs ≡ front ++ ys ++ back
+    pub counted : before ≡ length front
+
+  -- an address is a node's number and an offset in it, -1 (None) or a number from 0 to the number of items
+  abbrev pub IsWithin : Option (View A) → Option ℕ → Type 0
+  IsWithin None offset = ⊥
+  IsWithin (Some node) None = Unit {0}
+  IsWithin (Some node) (Some offset) = offset ≤ size_of node
+
+  -- the address of the empty tree
+  abbrev pub IsNowhere : Option ℕ → ℕ → Option ℕ → Type 0
+  IsNowhere root id offset = (root ≡ None) × (id ≡ NOWHERE) × (offset ≡ Some 0)
+
+  -- the address is one of the tree: in one of its nodes, or nowhere if it is empty
+  abbrev pub IsValid : Option ℕ → ℕ → Option ℕ → Type 0
+  IsValid root id offset = IsWithin (look id) offset ⊎ IsNowhere root id offset
+
+  -- an item stands at the address
+  abbrev pub IsOccupied : ℕ → Option ℕ → Type 0
+  IsOccupied id None = ⊥
+  IsOccupied id (Some offset) = (x : A) × (item_in (look id) offset ≡ Some x)
+
+  -- the offset is not -1
+  abbrev pub IsBack : Option ℕ → Type 0
+  IsBack None = ⊥
+  IsBack (Some offset) = Unit {0}
+
+  -- the offset is below the number of items
+  abbrev pub IsFront : Option (View A) → Option ℕ → Type 0
+  IsFront None offset = ⊥
+  IsFront (Some node) None = Unit {0}
+  IsFront (Some node) (Some offset) = offset < size_of node
+
+  -- the address is in a leaf, or nowhere
+  abbrev pub IsLeafAddress : Option (View A) → Type 0
+  IsLeafAddress None = Unit {0}
+  IsLeafAddress (Some (leaf parent items)) = Unit {0}
+  IsLeafAddress (Some (internal parent first branches)) = ⊥
+
+  -- the offset past the last item of a node
+  abbrev pub IsEnd : Option (View A) → ℕ → Type 0
+  IsEnd None offset = ⊥
+  IsEnd (Some node) offset = offset ≡ size_of node
+
+  -- at -1: as many items as come before the subtree
+  abbrev pub IsPlaceBefore : List A → ℕ → ℕ → Type 0
+  IsPlaceBefore xs id place = (ys : List A) × StandsAt xs id ys place
+
+  -- past the last item: these, and those of the subtree
+  abbrev pub IsPlaceAfter : List A → ℕ → ℕ → Type 0
+  IsPlaceAfter xs id place = (ys : List A) × (before : ℕ) × StandsAt xs id ys before × (place ≡ before + length ys)
+
+  -- at an item: its index in the list
+  abbrev pub IsPlaceOf : List A → Option A → ℕ → Type 0
+  IsPlaceOf xs None place = ⊥
+  IsPlaceOf xs (Some x) place = slice_get xs place ≡ Some x
+
+  -- the place of an address in the list of the tree
+  abbrev pub IsPlace : (root : Option ℕ) → List A → (id : ℕ) → Option ℕ → ℕ → Type 0
+  IsPlace None xs id offset place = IsNowhere None id offset × (place ≡ 0)
+  IsPlace (Some root) xs id None place = IsPlaceBefore xs id place
+  IsPlace (Some root) xs id (Some offset) place =
+      IsPlaceOf xs (item_in (look id) offset) place ⊎ (IsEnd (look id) offset × IsPlaceAfter xs id place)

@@ -1,0 +1,36 @@
+-- What nodes under numbers spell.
+use Rattle.std.specs.Prelude.{◌≡◌, ℕ, zero, suc, ◌==◌, List, [], ◌∷◌, ◌++◌, map, count_by, Option, Some, None}
+use Rattle.std.specs.List.{flat_map, AllByRecursion}
+use Rattle.btree_shape.specs.View.{View, leaf, internal, Look, children_in}
+
+module _ {A : Type 0} (look : Look A) where
+  -- node `id` has this parent, is `height` levels above the leaves, and it and the nodes below it spell the list:
+  -- a leaf spells its items; an internal node what its first child spells, then each item and what the child after it spells
+  abbrev pub Spells : (height : ℕ) → (parent : Option ℕ) → (id : ℕ) → List A → Type 0
+  Spells zero parent id xs = look id ≡ Some (leaf parent xs)
+  Spells (suc height) parent id xs =
+      (first : ℕ) × (front : List A) × (rest : List (A × ℕ × List A))
+      × (look id ≡ Some (internal parent first (map (λ r. (r.0, r.1)) rest)))
+      × Spells height (Some id) first front
+      × AllByRecursion (λ r. Spells height (Some id) r.1 r.2) rest
+      × (xs ≡ front ++ flat_map (λ r. r.0 ∷ r.2) rest)
+
+  -- the numbers under a node: its own and those under its children, as often as they occur
+  abbrev pub numbers_under : (height : ℕ) → (id : ℕ) → List ℕ
+  numbers_under zero id = id ∷ []
+  numbers_under (suc height) id = id ∷ flat_map (numbers_under height) (children_in (look id))
+
+-- how often a number is in a list
+abbrev pub times : ℕ → List ℕ → ℕ
+times n ns = count_by (λ m. m == n) ns
+
+-- what one node spells, given what each of its children does
+abbrev pub spelled_in : {A : Type 0} → (ℕ → List A) → Option (View A) → List A
+spelled_in below None = []
+spelled_in below (Some (leaf parent items)) = items
+spelled_in below (Some (internal parent first branches)) = below first ++ flat_map (λ b. b.0 ∷ below b.1) branches
+
+-- what a node and those below it spell, by at most so many levels
+abbrev pub spelled : {A : Type 0} → Look A → (levels : ℕ) → (id : ℕ) → List A
+spelled look zero id = []
+spelled look (suc levels) id = spelled_in (spelled look levels) (look id)

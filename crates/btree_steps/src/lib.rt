@@ -1,0 +1,43 @@
+//! A counter that only contracts see.
+#![tactic(auto)]
+
+ghost use Rattle.std.specs.Prelude.{◌≡◌, ℕ, ◌+◌};
+
+use std::marker::{Model, PhantomData};
+
+#[cfg(test)]
+mod tests;
+
+/// A counter that takes no bytes and costs no time, kept for contracts to read. Only `tick` changes its count.
+pub struct Steps {
+    marker: PhantomData<()>,
+    pub ghost count: { ℕ },
+}
+
+impl Model for Steps {
+    ghost use base.Fml.{ftrue};
+
+    ghost also_owns = { λ _. ftrue };
+}
+
+impl Steps {
+    /// A counter that starts from nothing.
+    pub fn new() -> Steps
+        ensures { result.count ≡ 0 }
+    {
+        Steps {
+            marker: PhantomData,
+        }
+    }
+
+    /// Counts one more step.
+    pub fn tick(&mut self)
+        ensures { self.new.count ≡ self.old.count + 1 }
+    {}
+}
+
+impl Drop for Steps {
+    fn drop(self) {
+        let Self { marker: _ } = self;
+    }
+}

@@ -1,0 +1,93 @@
+//! A store over the crate `slab`.
+#![tactic(auto, using(crate::specs::SlotLaws::slots))]
+
+ghost use Rattle.std.specs.Prelude.{◌≡◌, ℕ, ◌+◌, ◌<◌, Some, None, IsSome, IfOk, IfErr, OnOk, OnErr, OnSome, option_copied};
+ghost use Rattle.btree_store.specs.Content.{content_from};
+
+use crate::{Clear, Slab, SlabMut};
+use btree_steps::Steps;
+use std::alloc::{Allocator, Global};
+
+/// A store in memory from an allocator. Each call takes constant time, but for `clear` and an `insert` that makes room.
+///
+/// It refuses a value only where it has to make room and cannot: the allocator has no memory, or no number is left.
+#[derive(Drop)]
+pub struct SlabStore<T, A: Allocator = Global> {
+    slab: slab::Slab<T, A>,
+    refused: Steps,
+}
+
+impl<T, A: Allocator> Slab<T> for SlabStore<T, A> {
+    ghost content = { λ store. content_from 0 store.slab.slots };
+
+    ghost refusals = { λ store. store.refused.count };
+
+    ghost CanHold = { λ _. Unit {0} };
+
+    fn len(&self) -> usize {
+        self.slab.len()
+    }
+
+    fn get(&self, id: usize) -> Option<&T> {
+        // Each number is below the room, which is a `usize`.
+        let _room = self.slab.capacity();
+        self.slab.get(id)
+    }
+}
+
+impl<T, A: Allocator> SlabMut<T> for SlabStore<T, A> {
+    ghost use Rattle.slab.specs.Slab.{with_value};
+    ghost use Rattle.std.proofs.Common.{refl};
+    ghost use Rattle.std.specs.Mem.{FitsInMemory};
+    ghost use Rattle.btree_store.specs.SlotLaws.{content-written};
+
+    type Origin = A;
+
+    ghost MayRefuse = { λ _. Unit {0} };
+
+    ghost Fits = { FitsInMemory T.row };
+
+    ghost written = { λ store id value. record store { slab = with_value store.slab id value } };
+
+    ghost content_written = { λ store id value used. content-written store.slab.slots id value used };
+
+    ghost refusals_written = { λ store id value. refl };
+
+    fn note_fits() {}
+
+    fn tell_fits() {}
+
+    fn empty(origin: A) -> Self {
+        SlabStore {
+            slab: slab::Slab::new(origin),
+            refused: Steps::new(),
+        }
+    }
+
+    fn get_mut(&mut self, id: usize) -> Option<&mut T> {
+        self.slab.get_mut(id)
+    }
+
+    fn insert(&mut self, value: T) -> Result<usize, T> {
+        match self.slab.insert(value) {
+            Ok(id) => {
+                let _room = self.slab.capacity();
+                Ok(id)
+            }
+            Err(failed) => {
+                self.refused.tick();
+                Err(failed.value)
+            }
+        }
+    }
+
+    fn remove(&mut self, id: usize) -> T {
+        self.slab.remove(id)
+    }
+}
+
+impl<T: Drop, A: Allocator> Clear<T> for SlabStore<T, A> {
+    fn clear(&mut self) {
+        self.slab.clear();
+    }
+}

@@ -1,0 +1,102 @@
+//! What every store promises.
+ghost use Rattle.std.specs.Prelude.{◌≡◌, ℕ, ◌+◌, ◌<◌, Some, None, IsSome, IfOk, IfErr, OnOk, OnErr, OnSome, option_copied};
+ghost use Rattle.std.specs.Option.{option_copied_mut};
+ghost use Rattle.std.specs.FinMap as map;
+ghost use Rattle.std.specs.Borrow.{LendsIf, sem};
+ghost use Rattle.std.specs.Mem.{FitsInMemory};
+ghost use Rattle.btree_store.specs.Content.{Content};
+
+/// A store of values under numbers, for reading.
+pub trait Slab<T> {
+    /// The value under each number that is used.
+    ghost content: { Self → Content T };
+
+    /// How many values it has refused since it was made.
+    ghost refusals: { Self → ℕ };
+
+    /// The contents that it can have.
+    ghost CanHold: { Content T → Type 0 };
+
+    /// How many numbers are used.
+    fn len(&self) -> usize
+        ensures len { result ≡ map.len (content self.now) }
+        ensures can_hold { CanHold (content self.now) };
+
+    /// The value under `id`, if that number is used.
+    fn get(&self, id: usize) -> Option<&T>
+        ensures value { option_copied result ≡ map.get (content self.now) id }
+        ensures number { OnSome result (id < usize.MAX) };
+}
+
+/// A store of values under numbers, for changing.
+pub trait SlabMut<T>: Slab<T> + Sized {
+    /// What a store is made from, as the allocator of its memory.
+    type Origin;
+
+    /// The contents in which it may refuse a value. In every other content it takes one.
+    ghost MayRefuse: { Content T → Type 0 };
+
+    /// A value fits in memory, as calls that hand one on require.
+    ghost Fits: { Type 0 };
+
+    /// The store with another value under a number that it uses.
+    ghost written: { Self → ℕ → T → Self };
+
+    /// Notes that a value fits in memory, where the type is known. It does nothing when it runs.
+    fn note_fits()
+        requires { FitsInMemory T.row }
+        ensures { Fits };
+
+    /// Tells what `note_fits` noted, where the type is a parameter. It does nothing when it runs.
+    fn tell_fits()
+        requires { Fits }
+        ensures { FitsInMemory T.row };
+
+    /// A store with no value, which takes no memory until the first `insert`.
+    fn empty(origin: Self::Origin) -> Self
+        ensures content { Self.content result ≡ map.empty }
+        ensures refusals { Self.refusals result ≡ 0 };
+
+    /// The value under `id` for writing, if that number is used.
+    fn get_mut(&mut self, id: usize) -> Option<&mut T>
+        ensures* writes_back { sem 𝓛
+            (LendsIf Self.row T.row self.entry result (written self.old id) self.old) }
+        ensures value { option_copied_mut result ≡ map.get (Self.content self.old) id };
+
+    /// Stores `value` under a number that was not used, or hands it back.
+    fn insert(&mut self, value: T) -> Result<usize, T>
+        ensures number { IfOk result (λ id. id < usize.MAX) }
+        ensures unused { IfOk result (λ id. map.get (Self.content self.old) id ≡ None) }
+        ensures stored { IfOk result (λ id.
+            Self.content self.new ≡ map.insert (Self.content self.old) id value) }
+        ensures can_hold { OnOk result (Self.CanHold (Self.content self.new)) }
+        ensures uncounted { OnOk result (Self.refusals self.new ≡ Self.refusals self.old) }
+
+        // A refusal is counted, and comes only where the store may refuse.
+        ensures returned { IfErr result (λ back. back ≡ value) }
+        ensures unchanged { OnErr result (Self.content self.new ≡ Self.content self.old) }
+        ensures counted { OnErr result (Self.refusals self.new ≡ Self.refusals self.old + 1) }
+        ensures may_refuse { OnErr result (MayRefuse (Self.content self.old)) };
+
+    /// Takes out the value under `id`, a number that is used.
+    fn remove(&mut self, id: usize) -> T
+        requires { IsSome (map.get (Self.content self.old) id) }
+        ensures value { map.get (Self.content self.old) id ≡ Some result }
+        ensures removed { Self.content self.new ≡ map.remove (Self.content self.old) id }
+        ensures uncounted { Self.refusals self.new ≡ Self.refusals self.old };
+
+    // A write through `get_mut` changes that value alone.
+    ghost content_written: { (store : Self) (id : ℕ) (value : T) → IsSome (map.get (Self.content store) id) →
+        Self.content (written store id value) ≡ map.insert (Self.content store) id value };
+
+    ghost refusals_written: { (store : Self) (id : ℕ) (value : T) →
+        Self.refusals (written store id value) ≡ Self.refusals store };
+}
+
+/// A store that can be emptied.
+pub trait Clear<T>: SlabMut<T> {
+    /// Drops every value, so that no number is used.
+    fn clear(&mut self)
+        ensures content { Self.content self.new ≡ map.empty }
+        ensures uncounted { Self.refusals self.new ≡ Self.refusals self.old };
+}

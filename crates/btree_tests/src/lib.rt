@@ -1,0 +1,5 @@
+//! To come.
+#![tactic(auto)]
+
+#[cfg(test)]
+mod stores;

@@ -1,0 +1,60 @@
+//! A store over memory of which one allocation is refused.
+use btree_refusing::Refusing;
+use btree_store::{Slab, SlabMut, SlabStore};
+use std::alloc::Global;
+use std::process::Abort;
+use std::test::Fail;
+
+type LentStore<'a> = SlabStore<u32, &'a Refusing<Global>>;
+
+const VALUES: u32 = 200;
+
+// Under these numbers are the values from 0 on, and no other number is used.
+fn check_content(rt: &impl Abort, store: &LentStore<'_>, numbers: &[usize]) {
+    assert_eq!(rt; store.len(), numbers.len());
+    for (value, id) in (0..VALUES).zip(numbers) {
+        assert_eq!(rt; store.get(*id).copied(), Some(value));
+    }
+}
+
+// Puts in the values from 0 on, and answers which of them were refused. After a refusal the store is as before, and takes
+// the same value when it is asked again.
+fn fill(rt: &impl Abort, store: &mut LentStore<'_>, alloc: Global) -> Result<Vec<u32>, Fail> {
+    let mut refused = Vec::new(alloc);
+    let mut numbers = Vec::new(alloc);
+    for value in 0..VALUES {
+        let mut answer = store.insert(value);
+        if answer.is_err() {
+            assert_eq!(rt; answer, Err(value));
+            check_content(rt, store, numbers.as_slice());
+            refused.push(value)?;
+            answer = store.insert(value);
+        }
+        let Ok(id) = answer else {
+            return Err(Fail::from("refused twice"));
+        };
+        numbers.push(id)?;
+    }
+    check_content(rt, store, numbers.as_slice());
+    Ok(refused)
+}
+
+// Where a store grows is its own affair. So each growth is refused in turn, until a run has fewer growths than that.
+#[test]
+fn each_growth_is_refused_in_turn(rt: HostRuntime) -> Result<(), Fail> {
+    let mut places: Vec<u32> = Vec::new(rt.alloc());
+    for nth in 1..u64::from(VALUES) {
+        let memory = Refusing::over(rt.alloc(), nth);
+        let mut store: LentStore<'_> = SlabStore::empty(&memory);
+        let refused = fill(&rt, &mut store, rt.alloc())?;
+        let Some(place) = refused.first() else {
+            assert!(rt; memory.refuses() > 0);
+            assert_eq!(rt; places.first(), Some(&0));
+            assert!(rt; places.is_sorted_by(|earlier, later| earlier < later));
+            return Ok(());
+        };
+        assert_eq!(rt; (refused.len(), memory.refuses()), (1, 0), "at {nth}");
+        places.push(*place)?;
+    }
+    Err(Fail::from("each run met a refusal"))
+}
