@@ -43,12 +43,13 @@ module _ {K : Type 0} {cmp : K → K → Ordering} where
 
   AllBelow-add : (k q : K) (n : ℕ) (keys : List K) → AllBelow cmp k n keys → slice_get keys n ≡ Some q → cmp q k ≡ Less → (i : ℕ) (p : K) → i < n + 1 → slice_get keys i ≡ Some p → cmp p k ≡ Less
   AllBelow-add k q n keys all at less i p within here = elim (cases_lt i n) [
-      inl earlier ↦ all.below i p earlier here
+    | inl earlier ↦ all.below i p earlier here
     | inr reached ↦
         let same : i ≡ n = omega arith in
         let both : slice_get keys i ≡ Some q = ap (slice_get keys) same ∙ at in
         let equal : q ≡ p = cc in
-        rw (← equal) less ]
+        rw (← equal) less
+  ]
 
   -- one more key that is below
   pub AllBelow-more : (k q : K) (n : ℕ) (keys : List K) → AllBelow cmp k n keys → slice_get keys n ≡ Some q → is_lt (cmp q k) ≡ true → AllBelow cmp k (n + 1) keys
@@ -62,10 +63,10 @@ module _ {K : Type 0} {cmp : K → K → Ordering} where
 
   tail_is_first : (k q : K) (i : ℕ) (keys : List K) → IsFirstNotBelow cmp k (suc i) (q ∷ keys) → IsFirstNotBelow cmp k i keys
   tail_is_first k q i keys first = record {
-      within = let w = first.within in omega arith;
-      before = record { below = λ j p lt at. first.before.below (suc j) p (omega arith) at };
-      here = record { stops = first.here.stops }
-    }
+    within = let w = first.within in omega arith;
+    before = record { below = λ j p lt at. first.before.below (suc j) p (omega arith) at };
+    here = record { stops = first.here.stops };
+  }
 
   first_or_later : (k x : K) (n : ℕ) (keys : List K) → cmp x k ≡ Less → AllBelow cmp k n keys → (i : ℕ) (q : K) → i < suc n → slice_get (x ∷ keys) i ≡ Some q → cmp q k ≡ Less
   first_or_later k x n keys less all zero q lt at = let same : x ≡ q = cc in rw (← same) less
@@ -125,7 +126,7 @@ module _ {K : Type 0} {cmp : K → K → Ordering} where
         rw count (record {
           within = omega arith;
           before = record { below = first_or_later k x (count_below cmp k keys) keys less first.before };
-          here = record { stops = first.here.stops }
+          here = record { stops = first.here.stops };
         })
     first-by false k x keys is up first =
         let none = count_below-later k x keys up is in
@@ -133,7 +134,7 @@ module _ {K : Type 0} {cmp : K → K → Ordering} where
         rw count (record {
           within = omega arith;
           before = AllBelow-none k (x ∷ keys);
-          here = IsNotBelowAt-from_key k x 0 (x ∷ keys) refl is
+          here = IsNotBelowAt-from_key k x 0 (x ∷ keys) refl is;
         })
 
     -- the number of smaller keys is a place
@@ -199,5 +200,3 @@ module _ {K : Type 0} {cmp : K → K → Ordering} where
 pub ruleset search_steps = (AllBelow-none, AllBelow-more, IsNotBelowAt-from_key, IsNotBelowAt-end)
 
 pub ruleset search_halves = (AllBelow-none, AllBelow-from_key, IsNotBelowAt-from_key, IsNotBelowAt-end)
-
-pub ruleset search_ends = (key_place-here, key_place-between, key_place-end)

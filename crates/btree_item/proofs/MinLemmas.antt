@@ -1,8 +1,8 @@
 -- The last key that is at most a given one, in a list of keys that do not descend.
-use Rattle.std.proofs.Common.{◌≡◌, ℕ, ◌+◌, ◌<◌, ◌≤◌, Bool, true, false, List, Option, Some, None, length, get_or, zero, suc, refl, sym, ◌∙◌, ap, arith, Ordering}
+use Rattle.std.proofs.Common.{◌≡◌, ℕ, ◌+◌, ◌<◌, ◌≤◌, true, false, List, Some, length, suc, refl, sym, ◌∙◌, ap, arith, Ordering}
 use Rattle.std.specs.declared.cmp.Ordering.TheVariants.{Less, Equal, Greater}
 use Rattle.std.specs.Prelude.{slice_get}
-use Rattle.std.specs.Ordering.{is_lt, is_le, is_some_and, ordering_reverse, partial_lt}
+use Rattle.std.specs.Ordering.{is_lt, is_le, ordering_reverse}
 use Rattle.std.specs.Cmp.{IsTotalOrder}
 use Rattle.std.specs.List.Sorted.{IsSorted}
 use Rattle.std.proofs.lemmas.List.Sorted.{ranks_by, sorted_far}
@@ -36,28 +36,28 @@ module _ {K : Type 0} {cmp : K → K → Ordering} where
     -- those from a key that is above k on are above k
     pub AllAbove-from_key : (k x : K) (m : ℕ) (keys : List K) → IsSorted cmp keys → slice_get keys m ≡ Some x → cmp k x ≡ Less → AllAbove cmp k m keys
     AllAbove-from_key k x m keys up at less = record {
-        above = λ i q from here.
+      above = λ i q from here.
           let low = get_or_from_slice_get keys m x x at in
           let high = get_or_from_slice_get keys i q x here in
           let within = slice_get_within keys i q here in
           let ordered : is_lt (cmp q x) ≡ false = rw (low, high) at (sorted_far (λ a b. is_lt (cmp a b)) (ranks_by o (λ a. a)) keys up m i x from within) in
-          still_above (cmp k q) k x q refl less ordered
-      }
+          still_above (cmp k q) k x q refl less ordered;
+    }
 
     pub IsAtMostBefore-from_key : (k x : K) (m : ℕ) (keys : List K) → slice_get keys m ≡ Some x → is_lt (cmp k x) ≡ false → IsAtMostBefore cmp k (m + 1) keys
     IsAtMostBefore-from_key k x m keys at not_above = record {
-        at_most = λ i q next here.
+      at_most = λ i q next here.
           let same : i ≡ m = omega arith in
           let there : slice_get keys m ≡ Some q = ap (slice_get keys) (sym same) ∙ here in
           let equal : x ≡ q = cc in
-          rw (← equal) (is_le-from_not_below (cmp k x) (cmp x k) not_above (o.antisymm x k))
-      }
+          rw (← equal) (is_le-from_not_below (cmp k x) (cmp x k) not_above (o.antisymm x k));
+    }
 
   pub IsLastAtMost-at : (k : K) (n i : ℕ) (keys : List K) → i < length keys → n ≡ suc i → IsAtMostBefore cmp k n keys → AllAbove cmp k n keys → IsLastAtMost cmp k i keys
   IsLastAtMost-at k n i keys within next at_most above = record {
-      within = within;
-      here = λ q at. at_most.at_most i q (sym next) at;
-      after = record { above = λ j q from at. above.above j q (omega arith) at }
-    }
+    within = within;
+    here = λ q at. at_most.at_most i q (sym next) at;
+    after = record { above = λ j q from at. above.above j q (omega arith) at };
+  }
 
 pub ruleset min_steps = (IsAtMostBefore-none, AllAbove-end, IsAtMostBefore-from_key, IsLastAtMost-at)

@@ -1,5 +1,5 @@
 -- What an edit of a list of pairs leaves: the keys' order, the length, and that a pair put in comes out again.
-use Rattle.std.proofs.Common.{◌≡◌, ℕ, ◌+◌, ◌<◌, ◌≤◌, inl, inr, Bool, true, false, cond, List, [], ◌∷◌, Option, Some, None, length, zero, suc, refl, sym, ◌∙◌, ap, subst, arith, Ordering}
+use Rattle.std.proofs.Common.{◌≡◌, ℕ, ◌+◌, ◌<◌, ◌≤◌, Bool, true, false, cond, List, [], ◌∷◌, Option, Some, None, length, zero, suc, refl, sym, ◌∙◌, ap, subst, arith, Ordering}
 use Rattle.std.specs.declared.cmp.Ordering.TheVariants.{Less, Equal, Greater}
 use Rattle.std.specs.Prelude.{IsSome, is_some, slice_get}
 use Rattle.std.specs.List.{AllByRecursion, insert, remove}
@@ -13,8 +13,8 @@ use Rattle.std.proofs.lemmas.List.Edits.{length-insert}
 use Rattle.std.proofs.lemmas.List.Sums.{count_by-le-length}
 use Rattle.std.proofs.lemmas.Map.{keys-set_value, length-set_value}
 use Rattle.std.proofs.lemmas.Map.Keys.{sorted_head, sorted_tail}
-use Rattle.std.proofs.lemmas.Option.{slice_get-map, slice_get_within}
-use Rattle.btree_item.specs.Keys.{count_below, has_key, AllBelow, IsNotBelowAt, IsFirstNotBelow}
+use Rattle.std.proofs.lemmas.Option.{slice_get-map}
+use Rattle.btree_item.specs.Keys.{count_below, has_key, AllBelow, IsFirstNotBelow}
 use Rattle.btree_item.specs.Pairs.{Ascends, Fits, before, found, with_value, inserted}
 use Rattle.btree_item.proofs.KeyLemmas.{AllBelow-none, AllBelow-from_key, IsFirstNotBelow-count, count_below-first, has_key-gap, has_key-here}
 use Rattle.btree_item.proofs.PairLemmas.{None-from_is_some, count_below-keys_of, has_key-keys_of}
@@ -48,9 +48,10 @@ keys_of-insert [] (suc p) x = refl
 keys_of-insert (y ∷ xs) (suc p) x = ap (λ l. y.0 ∷ l) (keys_of-insert xs p x)
 
 module _ {K : Type 0} (cmp : K → K → Ordering) where
-  sorted_none : IsStrictlySortedBy cmp []
+  -- `Ascends` of no pairs
+  pub Ascends-none : IsStrictlySortedBy cmp []
   unfolding IsStrictlySortedBy
-  sorted_none = tt
+  Ascends-none = tt
 
   sorted_cons : (k : K) (keys : List K) → AllByRecursion (λ y. cmp k y ≡ Less) keys → IsStrictlySortedBy cmp keys → IsStrictlySortedBy cmp (k ∷ keys)
   unfolding IsStrictlySortedBy
@@ -79,15 +80,12 @@ module _ {K : Type 0} (cmp : K → K → Ordering) where
         let less = below.below zero x (omega arith) refl in
         let rest : AllBelow cmp k p keys = record { below = λ i q lt at. below.below (suc i) q (omega arith) at } in
         sorted_cons x (insert keys p k)
-          (AllByRecursion-insert (λ y. cmp x y ≡ Less) keys p k (sorted_head cmp x keys up) less)
-          (IsStrictlySortedBy-insert k p keys (sorted_tail cmp x keys up) (omega arith) rest above)
+        (AllByRecursion-insert (λ y. cmp x y ≡ Less) keys p k (sorted_head cmp x keys up) less)
+        (IsStrictlySortedBy-insert k p keys (sorted_tail cmp x keys up) (omega arith) rest above)
 
 module _ {K V : Type 0} (cmp : K → K → Ordering) where
-  pub Ascends-none : Ascends {V = V} cmp []
-  Ascends-none = sorted_none cmp
-
   pub Ascends-one : (x : K × V) → Ascends cmp (x ∷ [])
-  Ascends-one x = sorted_cons cmp x.0 [] tt (sorted_none cmp)
+  Ascends-one x = sorted_cons cmp x.0 [] tt (Ascends-none cmp)
 
   pub before-le-length : (k : K) (xs : List (K × V)) → before cmp k xs ≤ length xs
   before-le-length k xs = count_by-le-length (λ x. is_lt (cmp x.0 k)) xs
@@ -148,7 +146,7 @@ module _ {K V : Type 0} (cmp : K → K → Ordering) where
         record {
           within = omega arith;
           before = below_before k p xs up fits;
-          here = record { stops = λ q at. ap is_lt (Greater-from_Less cmp o k q (above_at xs p k q fits.below at)) }
+          here = record { stops = λ q at. ap is_lt (Greater-from_Less cmp o k q (above_at xs p k q fits.below at)) };
         }
 
     -- ---- a key that fits at a place
@@ -170,7 +168,7 @@ module _ {K V : Type 0} (cmp : K → K → Ordering) where
         let within = fits.within in
         let same = length-map xs (λ (x : K × V). x.0) in
         subst P (sym (keys_of-insert xs p (k, w)))
-          (IsStrictlySortedBy-insert cmp o k p (keys_of xs) up (omega arith) (below_before k p xs up fits) (λ q at. above_at xs p k q fits.below at))
+        (IsStrictlySortedBy-insert cmp o k p (keys_of xs) up (omega arith) (below_before k p xs up fits) (λ q at. above_at xs p k q fits.below at))
 
     -- an absent key fits after the smaller ones
     pub Fits-before : (k : K) (xs : List (K × V)) → Ascends cmp xs → found cmp k xs ≡ None → Fits cmp k (before cmp k xs) xs
@@ -182,9 +180,9 @@ module _ {K V : Type 0} (cmp : K → K → Ordering) where
           within = before-le-length k xs;
           above = λ q x next at. first.before.below q x.0 (omega arith) (key_at xs q x at);
           below = λ x at.
-            let key : slice_get (keys_of xs) (count_below cmp k (keys_of xs)) ≡ Some x.0 = ap (slice_get (keys_of xs)) count ∙ key_at xs (before cmp k xs) x at in
-            Less-from_apart cmp o (cmp x.0 k) k x.0 refl (first.here.stops x.0 key)
-              (is_apart (is_eq (cmp x.0 k)) (λ equal. has_key-here o k x.0 (count_below cmp k (keys_of xs)) (keys_of xs) key equal) has_not)
+              let key : slice_get (keys_of xs) (count_below cmp k (keys_of xs)) ≡ Some x.0 = ap (slice_get (keys_of xs)) count ∙ key_at xs (before cmp k xs) x at in
+              Less-from_apart cmp o (cmp x.0 k) k x.0 refl (first.here.stops x.0 key)
+              (is_apart (is_eq (cmp x.0 k)) (λ equal. has_key-here o k x.0 (count_below cmp k (keys_of xs)) (keys_of xs) key equal) has_not);
         }
       where
         is_apart : (b : Bool) → (b ≡ true → has_key cmp k (keys_of xs) ≡ true) → has_key cmp k (keys_of xs) ≡ false → b ≡ false
@@ -201,3 +199,12 @@ module _ {K V : Type 0} (cmp : K → K → Ordering) where
     -- an insertion leaves the keys in order
     pub Ascends-inserted : (k : K) (w : V) (xs : List (K × V)) → Ascends cmp xs → Ascends cmp (inserted cmp k w xs)
     Ascends-inserted k w xs up = inserted_by (found cmp k xs) k w xs refl up
+
+-- what leaves the keys in order
+pub ruleset order_kept = (Ascends-none, Ascends-one, Ascends-with_value, Ascends-insert, Ascends-insert_before, Ascends-inserted)
+
+-- how long an edited list is
+pub ruleset edited_lengths = (before-le-length, length-with_value, length-inserted_absent, length-inserted_present)
+
+-- what was taken out and put back, or put in and taken out
+pub ruleset put_and_taken = (insert-remove, remove-insert, slice_get-insert)

@@ -1,5 +1,5 @@
 -- Where a key is, or would be, in a list of pairs whose keys ascend.
-use Rattle.std.proofs.Common.{◌≡◌, ℕ, ◌+◌, ◌<◌, ◌≤◌, Bool, true, false, cond, List, [], ◌∷◌, Option, Some, None, Ok, Err, Result, length, set, zero, suc, refl, sym, ◌∙◌, ap, arith, Ordering}
+use Rattle.std.proofs.Common.{◌≡◌, ℕ, ◌+◌, Bool, true, false, cond, List, [], ◌∷◌, Option, Some, None, Ok, Err, Result, set, suc, refl, sym, ◌∙◌, ap, arith, Ordering}
 use Rattle.std.specs.declared.cmp.Ordering.TheVariants.{Less, Equal, Greater}
 use Rattle.std.specs.Prelude.{IfOk, OnErr, is_some, slice_get}
 use Rattle.std.specs.List.{insert}
@@ -8,7 +8,7 @@ use Rattle.std.specs.Ordering.{is_eq, is_lt}
 use Rattle.std.specs.Cmp.{IsTotalOrder}
 use Rattle.std.proofs.lemmas.Map.Keys.{sorted_tail}
 use Rattle.btree_item.specs.Keys.{count_below, has_key, key_place}
-use Rattle.btree_item.specs.Pairs.{Ascends, before, found, found_value, place_of, with_value, inserted}
+use Rattle.btree_item.specs.Pairs.{Ascends, before, found, place_of, with_value, inserted}
 use Rattle.btree_item.proofs.KeyLemmas.{count_by-cons, count_below-later, has_key-later}
 
 pub None-from_is_some : {T : Type 0} (o : Option T) → is_some o ≡ false → o ≡ None

@@ -115,8 +115,8 @@ impl<K, V> Item<K, V> {
         (&self.pair.0, &self.pair.1)
     }
 
-    /// Both, to be written. What is written through the two references is the item afterwards, but no clause can say
-    /// so of a pair of references: a caller that has to know it takes `pair_mut`.
+    /// Both, to be written. The item is then what was written, but the contract is silent on that: a
+    /// caller that has to know it takes `pair_mut`.
     pub fn as_pair_mut(&mut self) -> (&mut K, &mut V)
         ensures key { result.0.now ≡ self.old.0 }
         ensures value { result.1.now ≡ self.old.1 }

@@ -19,5 +19,6 @@ pub use searches::{binary_search_min, search};
 pub use slots::Slots;
 pub use slots_iter::SlotsIter;
 
-/// The order of the tree: between edits a leaf holds at most `M` items, and an internal node has at most `M` children.
+/// The order of the tree: between edits a leaf holds at most `M` items, and an internal node has at
+/// most `M` children.
 pub const M: usize = 8;

@@ -8,7 +8,7 @@ use std::cmp::Ordering;
 use std::fmt;
 use std::marker::Model;
 
-/// The offset of an item in a node: -1, or a number below `usize::MAX`. -1 is below every other offset.
+/// The offset of an item in a node: -1, which is below all others, or a number below `usize::MAX`.
 #[derive(Clone, Copy, PartialEq, Eq, PartialOrd, Ord, Hash)]
 pub struct Offset {
     // One more than the offset.
@@ -42,7 +42,7 @@ impl Offset {
     pub fn is_before(&self) -> bool
         ensures { result ≡ is_none self.now }
     {
-        self.above == 0
+        self.value().is_none()
     }
 
     /// The number, and `None` at -1.

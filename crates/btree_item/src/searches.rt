@@ -17,7 +17,12 @@ fn key_at<T: Keyed, const N: usize>(slots: &Slots<T, N>, index: usize) -> &T::Ke
 
 // The first index from `start` to `end` whose key is not below, found from the front.
 #[tactic(auto, using(crate::proofs::KeyLemmas::search_steps))]
-fn first_not_below<T: Keyed, const N: usize>(slots: &Slots<T, N>, key: &T::Key, start: usize, end: usize) -> usize
+fn first_not_below<T: Keyed, const N: usize>(
+    slots: &Slots<T, N>,
+    key: &T::Key,
+    start: usize,
+    end: usize,
+) -> usize
 where
     T::Key: Ord,
     requires ordered { start ≤ end }
@@ -53,9 +58,9 @@ where
     }
 }
 
-/// The place of a key in slots whose keys ascend strictly: Ok where it is there, else Err with the number of smaller
-/// keys. In up to nine slots it compares at most six times: five times by `<`, and then once by `==`.
-#[tactic(auto, using(crate::proofs::KeyLemmas::search_ends))]
+/// The place of a key in slots whose keys ascend strictly: Ok where it is there, else Err with the
+/// number of smaller keys. In up to nine slots it compares at most six times: five times by `<`, and
+/// then once by `==`.
 pub fn search<T: Keyed, const N: usize>(slots: &Slots<T, N>, key: &T::Key) -> Result<usize, usize>
 where
     T::Key: Ord,
@@ -72,14 +77,18 @@ where
     }
 }
 
-/// The last index whose key is at most the given one, in slots whose keys do not descend; equal keys may stand side by
-/// side. It halves the slots until one is left.
+/// The last index whose key is at most the given one, in slots whose keys do not descend; equal keys
+/// may stand side by side. It halves the slots until one is left.
 #[tactic(auto, using(crate::proofs::MinLemmas::min_steps))]
-pub fn binary_search_min<T: Keyed, const N: usize>(slots: &Slots<T, N>, key: &T::Key) -> Option<usize>
+pub fn binary_search_min<T: Keyed, const N: usize>(
+    slots: &Slots<T, N>,
+    key: &T::Key,
+) -> Option<usize>
 where
     T::Key: Ord,
     requires { IsSorted T.Key.cmp (map T.key_of slots.now) }
-    ensures last { IfSome result (λ index. IsLastAtMost T.Key.cmp key.now index (map T.key_of slots.now)) }
+    ensures last { IfSome result (λ index.
+        IsLastAtMost T.Key.cmp key.now index (map T.key_of slots.now)) }
     ensures none { IfNone result (AllAbove T.Key.cmp key.now 0 (map T.key_of slots.now)) }
 {
     let mut low = 0;

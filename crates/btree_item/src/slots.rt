@@ -8,7 +8,8 @@ use crate::SlotsIter;
 use arrayvec::ArrayVec;
 use std::marker::Model;
 
-/// A list of at most `N` values, kept inside and as options, so that it never allocates and a value needs no default.
+/// A list of at most `N` values. They are kept inside, so that it never allocates, and as options, so
+/// that a value needs no default.
 #[derive(Drop)]
 pub struct Slots<T, const N: usize> {
     slots: ArrayVec<Option<T>, N>,

@@ -86,7 +86,10 @@ fn prints(rt: HostRuntime) -> Result<(), Fail> {
         key: 1,
         value: 2,
     };
-    assert_eq!(rt; format!(in rt.alloc(); "{refused:?}")?.as_str(), "Refused { cause: Store, key: 1, value: 2 }");
+    assert_eq!(rt;
+        format!(in rt.alloc(); "{refused:?}")?.as_str(),
+        "Refused { cause: Store, key: 1, value: 2 }"
+    );
     Ok(())
 }
 
@@ -142,7 +145,10 @@ fn writes_items(rt: HostRuntime) -> Result<(), Fail> {
     let copy = clone_of(&item)?;
     assert_eq!(rt; copy.into_pair(), (5, 50));
     assert_eq!(rt; item.set(6, 60), (5, 50));
-    assert_eq!(rt; (clone_of(&item)?.into_key(), clone_of(&item)?.into_value()), (6, 60));
+    assert_eq!(rt;
+        (clone_of(&item)?.into_key(), clone_of(&item)?.into_value()),
+        (6, 60)
+    );
     assert_eq!(rt; item.into_inner(), (6, 60));
     Ok(())
 }

@@ -35,8 +35,9 @@ impl<K: Ord, V, C: SlabMut<LeafNode<K, V>>> Model for BTreeMap<K, V, C> {
 impl<K: Ord, V, C: SlabMut<LeafNode<K, V>>> BTreeMap<K, V, C> {
     ghost use Rattle.btree_node.specs.contracts.leaf.LeafNode.{the_row as leaf_row};
     ghost use Rattle.std.specs.Mem.{FitsInMemory};
-    ghost use Rattle.btree_item.specs.Pairs.{Ascends, found_value};
-    ghost use Rattle.btree_shape.specs.TreeState.{pairs_of};
+    ghost use Rattle.btree_item.specs.Pairs.{found_value};
+    ghost use Rattle.btree_shape.specs.TreeState.{pairs_of, views};
+    ghost use Rattle.btree_shape.specs.WellFormed.{IsWellFormed};
 
     /// A map with no pairs, over an empty store that is made from its origin. It takes no memory.
     ///
@@ -44,8 +45,7 @@ impl<K: Ord, V, C: SlabMut<LeafNode<K, V>>> BTreeMap<K, V, C> {
     pub fn new(origin: C::Origin) -> Self
         requires { FitsInMemory (leaf_row K.row V.row) }
         ensures empty { pairs_of result ≡ [] }
-        ensures nodes { result.nodes ≡ map.empty }
-        ensures refusals { result.refusals ≡ 0 }
+        ensures state { result ≡ record { nodes = map.empty; root = None; len = 0; refusals = 0 } }
     {
         C::note_fits();
         BTreeMap {
@@ -59,7 +59,7 @@ impl<K: Ord, V, C: SlabMut<LeafNode<K, V>>> BTreeMap<K, V, C> {
     /// How many pairs there are.
     pub fn len(&self) -> usize
         ensures value { result ≡ length (pairs_of self.now) }
-        ensures ascends { Ascends K.cmp (pairs_of self.now) }
+        ensures well_formed { IsWellFormed K.cmp (views self.now.nodes) self.now.root self.now.len (pairs_of self.now) }
     {
         self.len
     }

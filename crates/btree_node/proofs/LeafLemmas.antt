@@ -1,8 +1,7 @@
 -- What a leaf ends as, where an item of it is written or put in.
-use Rattle.std.proofs.Common.{◌≡◌, ℕ, List, Option, Some, Ok, Err, Result, refl, sym, ◌∙◌, ap, set, subst, Ordering}
+use Rattle.std.proofs.Common.{◌≡◌, ℕ, List, Option, Some, Ok, Err, Result, sym, ◌∙◌, ap, set, subst, Ordering}
 use Rattle.std.specs.Prelude.{slice_get}
 use Rattle.std.specs.List.{insert}
-use Rattle.std.specs.Option.{option_map}
 use Rattle.std.specs.Cmp.{IsTotalOrder}
 use Rattle.btree_item.specs.Pairs.{Ascends, found, found_value, place_of, with_value, inserted}
 use Rattle.btree_item.proofs.PairLemmas.{set-from_Ok, inserted-from_Ok, inserted-from_Err}

@@ -1,5 +1,5 @@
 -- A leaf as a clause sees it.
-use Rattle.std.specs.Prelude.{◌≡◌, ℕ, ◌-◌, ◌^◌, ◌==◌, List, Option, Some, None, Result, Ok, Err, if◌then◌else◌}
+use Rattle.std.specs.Prelude.{ℕ, ◌-◌, ◌^◌, ◌==◌, List, Option, Some, None, Result, Ok, Err, if◌then◌else◌}
 use Rattle.std.specs.List.{insert}
 use Rattle.btree_item.specs.declared.item.Item.{Item}
 use Rattle.std.specs.Option.{option_and_then}

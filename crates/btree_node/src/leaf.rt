@@ -30,12 +30,9 @@ impl<K: Drop, V: Drop> LeafNode<K, V> {
     pub fn new(parent: Option<usize>, item: Item<K, V>) -> Self
         ensures { result ≡ record { parent = parent_of parent; items = item ∷ [] } }
     {
-        let mut items = Slots::new();
-        items.push(item);
-        LeafNode {
-            parent: parent.unwrap_or(usize::MAX),
-            items,
-        }
+        let mut leaf = LeafNode::empty(parent);
+        leaf.items.push(item);
+        leaf
     }
 
     /// A leaf without items. `Some(usize::MAX)` as the parent is read as none.
@@ -96,7 +93,8 @@ fn place<K: Ord, V>(items: &Slots<Item<K, V>, 9>, key: &K) -> Result<usize, usiz
     ensures place { result ≡ place_of K.cmp key.now items.now }
     ensures within { IsSearchInRange result (length items.now) }
     ensures fits { length items.now ≤ 9 }
-    ensures here { IfOk result (λ index. slice_get items.now index ≡ found K.cmp key.now items.now) }
+    ensures here { IfOk result (λ index.
+        slice_get items.now index ≡ found K.cmp key.now items.now) }
     ensures absent { OnErr result (found K.cmp key.now items.now ≡ None) }
 {
     search(items, key)
@@ -134,7 +132,8 @@ impl<K: Ord, V> LeafNode<K, V> {
         }
     }
 
-    /// The offset of a key where it is there, else how many keys are smaller, found with at most six comparisons.
+    /// The offset of a key where it is there, else how many keys are smaller, found with at most six
+    /// comparisons.
     pub fn offset_of(&self, key: &K) -> Result<Offset, Offset>
         requires { Ascends K.cmp self.now.items }
         ensures { result ≡ as_offset (place_of K.cmp key.now self.now.items) }
@@ -147,14 +146,15 @@ impl<K: Ord, V> LeafNode<K, V> {
 }
 
 impl<K: Ord + Drop, V: Drop> LeafNode<K, V> {
-    /// Puts a value at a key, found with at most six comparisons: a key that is there stays, with the new value, and
-    /// the given key is dropped. Answers the offset, and the value that stood there.
+    /// Puts a value at a key, found with at most six comparisons: a key that is there stays, with the
+    /// new value, and the given key is dropped. Answers the offset, and the value that stood there.
     pub fn insert_by_key(&mut self, key: K, value: V) -> (Offset, Option<V>)
         requires room { length self.old.items < 9 }
         requires ascends { Ascends K.cmp self.old.items }
         ensures offset { result.0 ≡ Some (before K.cmp key self.old.items) }
         ensures answer { result.1 ≡ found_value K.cmp key self.old.items }
-        ensures after { self.new ≡ record self.old { items = inserted K.cmp key value self.old.items } }
+        ensures after { self.new ≡
+            record self.old { items = inserted K.cmp key value self.old.items } }
         ensures ascends { Ascends K.cmp self.new.items }
     {
         match place(&self.items, &key) {
@@ -171,7 +171,8 @@ impl<K: Ord + Drop, V: Drop> LeafNode<K, V> {
 }
 
 impl<K: Drop, V: Drop> LeafNode<K, V> {
-    /// Puts an item at an offset, and moves those from there on up. The order of the keys is up to the caller.
+    /// Puts an item at an offset, and moves those from there on up. The order of the keys is up to
+    /// the caller.
     pub fn insert(&mut self, offset: Offset, item: Item<K, V>)
         requires room { length self.old.items < 9 }
         requires within { IsSomeAnd offset (λ index. index ≤ length self.old.items) }

@@ -2,5 +2,7 @@
 #![tactic(auto)]
 
 mod leaf;
+#[cfg(test)]
+mod tests;
 
 pub use leaf::LeafNode;

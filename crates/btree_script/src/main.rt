@@ -1,4 +1,76 @@
-//! To come.
+//! Reads commands from standard input, one a line, and prints a reply to each.
 #![tactic(auto)]
 
-fn main() {}
+ghost use Rattle.std.specs.Prelude.{◌≡◌, Some};
+ghost use Rattle.btree_script.specs.Ending.{status_of, text_of};
+
+use btree_node::LeafNode;
+use btree_session::{Session, Stop, drive};
+use btree_store::SlabStore;
+use std::process::ExitCode;
+use std::rt::Env;
+use std::{env, fmt, io};
+
+/// How a run ended that did not come to the end of its input.
+#[derive(Clone, Copy, Debug, PartialEq, Eq)]
+pub enum Ending {
+    /// There were arguments.
+    WrongArguments,
+    /// The commands came to a stop.
+    Stopped(Stop),
+}
+
+impl Ending {
+    /// The exit status, which is 0 for no such run.
+    pub fn status(self) -> u8
+        ensures { result ≡ status_of self }
+    {
+        match self {
+            Ending::WrongArguments | Ending::Stopped(Stop::NotACommand(_)) => 1,
+            Ending::Stopped(Stop::Memory) => 2,
+            Ending::Stopped(Stop::Input | Stop::Output) => 3,
+        }
+    }
+}
+
+impl fmt::Display for Ending {
+    ghost output = { λ ending. Some (text_of ending) };
+
+    fn fmt<W: fmt::Write>(&self, f: &mut fmt::Formatter<W>) -> fmt::Result {
+        match self {
+            Ending::WrongArguments => write!(f, "usage: btree_script"),
+            Ending::Stopped(Stop::NotACommand(number)) => {
+                write!(f, "line {number}: not a command")
+            }
+            Ending::Stopped(Stop::Memory) => write!(f, "out of memory"),
+            Ending::Stopped(Stop::Input) => write!(f, "input failed"),
+            Ending::Stopped(Stop::Output) => write!(f, "output failed"),
+        }
+    }
+}
+
+// Arguments that cannot be read are wrong ones.
+fn has_arguments(rt: &(impl Env + Alloc)) -> bool {
+    match env::args(rt) {
+        Ok(words) => words.skip(1).count() > 0,
+        Err(_) => true,
+    }
+}
+
+fn run(rt: &(impl Env + Input + Print + AllocGlobal)) -> Result<(), Ending> {
+    if has_arguments(rt) {
+        return Err(Ending::WrongArguments);
+    }
+    let mut session: Session<SlabStore<LeafNode<u64, u64>>> = Session::new(rt.alloc());
+    let (mut input, mut output) = (rt.reader(), io::writer(rt));
+    drive(rt.alloc(), &mut session, &mut input, &mut output).map_err(Ending::Stopped)
+}
+
+fn main(rt: HostRuntime) -> ExitCode {
+    let Err(ending) = run(&rt) else {
+        return ExitCode::SUCCESS;
+    };
+    // Where standard error fails too, the status alone says how it ended.
+    let _ = rt.eprintln(ending);
+    ExitCode::from(ending.status())
+}

@@ -1,0 +1,4 @@
+pub mod Text
+pub mod Line
+pub mod Machine
+pub mod Script

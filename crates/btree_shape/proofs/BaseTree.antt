@@ -6,8 +6,8 @@ use Rattle.std.specs.List.Sorted.{IsStrictlySortedBy}
 use Rattle.std.specs.Ordering.{nat_cmp}
 use Rattle.btree_shape.specs.View.{View, leaf, internal, Look, size_of, most_of}
 use Rattle.btree_shape.specs.Spells.{Spells, numbers_under, times, spelled}
-use Rattle.btree_shape.specs.WellFormed.{times_used, least_of, IsWellFormed}
-use Rattle.btree_shape.specs.Place.{StandsAt, IsPlace}
+use Rattle.btree_shape.specs.WellFormed.{times_used, least_of, IsNearlySized, IsWellFormed, IsOffByOne}
+use Rattle.btree_shape.specs.Place.{NOWHERE, StandsAt, IsPlace, IsValid}
 
 abbrev Pair : Type 0
 Pair = ℕ × ℕ
@@ -97,3 +97,48 @@ at_root = inl refl
 -- the list by the function
 pub list_of_tree : spelled tree 9 2 ≡ all
 list_of_tree = refl
+
+-- the empty tree: no nodes, and one address
+abbrev nothing : Look Pair
+nothing n = None
+
+pub well_formed_empty : IsWellFormed nat_cmp nothing None 0 []
+unfolding IsStrictlySortedBy
+well_formed_empty = record { ascends = tt; formed = (λ n. refl, refl); counted = refl }
+
+pub at_nowhere : IsPlace nothing None [] NOWHERE (Some 0) 0
+at_nowhere = ((refl, refl, refl), refl)
+
+pub valid_nowhere : IsValid nothing None NOWHERE (Some 0)
+valid_nowhere = inr (refl, refl, refl)
+
+-- a root leaf without items, as a removal leaves it before it is released: both its addresses have place 0
+abbrev bare : Look Pair
+bare zero = Some (leaf None [])
+bare (suc n) = None
+
+bare_sized : (id : ℕ) (node : View Pair) → bare id ≡ Some node → IsNearlySized 0 0 id node
+bare_sized zero node e = let i : leaf None [] ≡ node = cc in rw (← i) (omega arith, omega arith)
+bare_sized (suc n) node e = absurd (cc)
+
+bare_once : (n : ℕ) → times n (numbers_under bare 0 0) ≡ times_used (bare n)
+bare_once zero = refl
+bare_once (suc n) = grind (arith, nat_tests)
+
+pub off_by_one_bare : IsOffByOne nat_cmp bare 0 0 []
+unfolding IsStrictlySortedBy
+off_by_one_bare = record {
+    ascends = tt;
+    rooted = record { height = 0; spells = refl; sized = bare_sized; once = bare_once };
+    low = omega arith;
+    used = refl
+  }
+
+bare_stands : StandsAt bare [] 0 [] 0
+bare_stands = record { front = []; back = []; subtree = record { height = 0; parent = None; spells = refl }; split = refl; counted = refl }
+
+pub before_bare : IsPlace bare (Some 0) [] 0 None 0
+before_bare = ([], bare_stands)
+
+pub after_bare : IsPlace bare (Some 0) [] 0 (Some 0) 0
+after_bare = inr (refl, ([], 0, bare_stands, refl))

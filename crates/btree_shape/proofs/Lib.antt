@@ -2,4 +2,8 @@ pub mod Spelled
 pub mod Listed
 pub mod OneLeaf
 pub mod LeafTree
+pub mod SamePlace
+pub mod Subtrees
+pub mod HasPlace
+pub mod OnePlace
 pub mod BaseTree

@@ -1,5 +1,5 @@
 -- The list of a sound tree.
-use Rattle.std.proofs.Common.{◌≡◌, ℕ, ◌<◌, ◌≤◌, List, [], ◌∷◌, length, Option, Some, None, IsTrue, eqb, refl, sym, ap, ◌∙◌, arith}
+use Rattle.std.proofs.Common.{subst, ◌≡◌, ℕ, ◌<◌, ◌≤◌, List, [], ◌∷◌, length, Option, Some, None, IsTrue, eqb, refl, sym, ap, ◌∙◌, arith}
 use Rattle.std.proofs.lemmas.Bool.Decides.{nat_tests}
 use Rattle.std.specs.declared.cmp.Ordering.{Ordering}
 use Rattle.btree_item.specs.Pairs.{Ascends}
@@ -20,12 +20,9 @@ module _ {K V : Type 0} (cmp : K → K → Ordering) (look : Look (K × V)) wher
       let counted = w.counted in
       spelled-is look w.formed.height len None root xs (omega arith) w.formed.spells
 
-  -- and it is sorted, and as long as is said
-  pub length-pairs : (root : Option ℕ) (len : ℕ) (xs : List (K × V)) → IsWellFormed cmp look root len xs → len ≡ length (pairs_under look root len)
-  length-pairs root len xs w = w.counted ∙ sym (ap length (pairs-well root len xs w))
-
-  pub ascends-pairs : (root : Option ℕ) (len : ℕ) (xs : List (K × V)) → IsWellFormed cmp look root len xs → Ascends cmp (pairs_under look root len)
-  ascends-pairs root len xs w = rw (pairs-well root len xs w) w.ascends
+  -- so it is well formed with the list that its nodes spell
+  pub well-pairs : (root : Option ℕ) (len : ℕ) (xs : List (K × V)) → IsWellFormed cmp look root len xs → IsWellFormed cmp look root len (pairs_under look root len)
+  well-pairs root len xs w = subst (λ ys. IsWellFormed cmp look root len ys) (sym (pairs-well root len xs w)) w
 
 -- a list of no length is empty
 pub empty_by_length : {X : Type 0} (n : ℕ) (xs : List X) → n ≡ length xs → (IsTrue (eqb n 0) → xs ≡ []) × (xs ≡ [] → IsTrue (eqb n 0))

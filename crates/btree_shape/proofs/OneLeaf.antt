@@ -4,7 +4,7 @@ use Rattle.std.proofs.lemmas.Bool.{cases_eq}
 use Rattle.std.proofs.lemmas.Bool.Decides.{nat_tests}
 use Rattle.btree_shape.specs.View.{View, leaf, Look, size_of, most_of}
 use Rattle.btree_shape.specs.Spells.{Spells, numbers_under, times}
-use Rattle.btree_shape.specs.WellFormed.{times_used, least_of, IsRooted}
+use Rattle.btree_shape.specs.WellFormed.{times_used, least_of, IsSized, IsRooted}
 
 -- the only node is a leaf with these items and no parent
 pub record IsOneLeaf {A : Type 0} (look : Look A) (root : ℕ) (xs : List A) : Type 0 where
@@ -30,7 +30,7 @@ module _ {A : Type 0} (look : Look A) (root : ℕ) (xs : List A) where
     | inr differs ↦ let h = one.alone id differs in absurd (cc)
   ]
 
-  pub rooted-one_leaf : IsOneLeaf look root xs → 0 < length xs → length xs ≤ 8 → IsRooted look root xs
+  pub rooted-one_leaf : IsOneLeaf look root xs → 0 < length xs → length xs ≤ 8 → IsRooted (IsSized root) look root xs
   rooted-one_leaf one some few = record {
     height = 0;
     spells = one.here;
@@ -38,7 +38,7 @@ module _ {A : Type 0} (look : Look A) (root : ℕ) (xs : List A) where
     once = λ n. once_here n one;
   }
 
-  pub one_leaf-rooted : AreLeaves look → IsRooted look root xs → IsOneLeaf look root xs
+  pub one_leaf-rooted : AreLeaves look → IsRooted (IsSized root) look root xs → IsOneLeaf look root xs
   one_leaf-rooted leaves r = from r.height r.spells r.once
     where
       others : (n : ℕ) → n ≢ root → times n (root ∷ []) ≡ times_used (look n) → look n ≡ None
@@ -51,7 +51,7 @@ module _ {A : Type 0} (look : Look A) (root : ℕ) (xs : List A) where
       from zero s once = record { here = s; alone = λ n differs. others n differs (once n) }
       from (suc h) s once = let l = leaves root _ s.3 in let i = l.2 in absurd (cc)
 
-  pub few-rooted : AreLeaves look → IsRooted look root xs → (0 < length xs) × (length xs ≤ 8)
+  pub few-rooted : AreLeaves look → IsRooted (IsSized root) look root xs → (0 < length xs) × (length xs ≤ 8)
   few-rooted leaves r =
       let one = one_leaf-rooted leaves r in
       let z = r.sized root (leaf None xs) one.here in

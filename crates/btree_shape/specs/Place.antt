@@ -52,11 +52,15 @@ module _ {A : Type 0} (look : Look A) where
   IsFront (Some node) None = Unit {0}
   IsFront (Some node) (Some offset) = offset < size_of node
 
+  -- the node is a leaf
+  abbrev pub IsLeaf : Option (View A) → Type 0
+  IsLeaf None = ⊥
+  IsLeaf (Some (leaf parent items)) = Unit {0}
+  IsLeaf (Some (internal parent first branches)) = ⊥
+
   -- the address is in a leaf, or nowhere
-  abbrev pub IsLeafAddress : Option (View A) → Type 0
-  IsLeafAddress None = Unit {0}
-  IsLeafAddress (Some (leaf parent items)) = Unit {0}
-  IsLeafAddress (Some (internal parent first branches)) = ⊥
+  abbrev pub IsLeafAddress : Option ℕ → ℕ → Option ℕ → Type 0
+  IsLeafAddress root id offset = IsLeaf (look id) ⊎ IsNowhere root id offset
 
   -- the offset past the last item of a node
   abbrev pub IsEnd : Option (View A) → ℕ → Type 0

@@ -38,7 +38,7 @@ module _ {K V : Type 0} where
   abbrev pub leaf_at : Content (Leaf K V) → ℕ → Leaf K V
   leaf_at nodes id = unwrap_or (map.get nodes id) (record { parent = None; items = [] })
 
-  -- what the nodes under a root spell; a tree has fewer levels than pairs
+  -- what the nodes under a root spell; a tree has at most as many levels as pairs
   abbrev pub pairs_under : Look (K × V) → Option ℕ → ℕ → List (K × V)
   pairs_under look None len = []
   pairs_under look (Some root) len = spelled look len root

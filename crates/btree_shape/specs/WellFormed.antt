@@ -1,5 +1,5 @@
 -- When nodes under numbers are a B-tree.
-use Rattle.std.specs.Prelude.{◌≡◌, ℕ, ◌≤◌, ◌==◌, if◌then◌else◌, List, [], length, Option, Some, None}
+use Rattle.std.specs.Prelude.{◌≡◌, ℕ, ◌+◌, ◌<◌, ◌≤◌, ◌==◌, if◌then◌else◌, List, [], length, Option, Some, None, IsSome}
 use Rattle.std.specs.declared.cmp.Ordering.{Ordering}
 use Rattle.btree_item.specs.Pairs.{Ascends}
 use Rattle.btree_shape.specs.View.{View, Look, size_of, most_of}
@@ -14,22 +14,45 @@ times_used (Some x) = 1
 abbrev pub least_of : (root id : ℕ) → ℕ
 least_of root id = if id == root then 1 else 3
 
--- the nodes form one tree with this root, and it spells the list
-pub record IsRooted {A : Type 0} (look : Look A) (root : ℕ) (xs : List A) : Type 0 where
+-- a node of a tree at rest has enough items and not too many
+abbrev pub IsSized : {A : Type 0} → (root id : ℕ) → View A → Type 0
+IsSized root id node = (least_of root id ≤ size_of node) × (size_of node ≤ most_of node)
+
+-- the fewest items where node `odd` may lack one, and may have none if it is the root
+abbrev pub least_beside : (root odd id : ℕ) → ℕ
+least_beside root odd id = if id == odd then (if odd == root then 0 else 2) else least_of root id
+
+-- how many items more than the most there may be, where node `odd` may have one
+abbrev pub excess_beside : (odd id : ℕ) → ℕ
+excess_beside odd id = if id == odd then 1 else 0
+
+-- the same as `IsSized`, but that node `odd` may have one item too many or one too few
+abbrev pub IsNearlySized : {A : Type 0} → (root odd id : ℕ) → View A → Type 0
+IsNearlySized root odd id node = (least_beside root odd id ≤ size_of node) × (size_of node ≤ most_of node + excess_beside odd id)
+
+-- the nodes form one tree with this root, it spells the list, and each node's number of items is right
+pub record IsRooted {A : Type 0} (is_right : (id : ℕ) → View A → Type 0) (look : Look A) (root : ℕ) (xs : List A) : Type 0 where
   -- how many levels the root is above the leaves
   pub height : ℕ
   pub spells : Spells look height None root xs
-  pub sized : (id : ℕ) (node : View A) → look id ≡ Some node → (least_of root id ≤ size_of node) × (size_of node ≤ most_of node)
+  pub sized : (id : ℕ) (node : View A) → look id ≡ Some node → is_right id node
   -- the numbers under the root are those that are used, each once
   pub once : (n : ℕ) → times n (numbers_under look height root) ≡ times_used (look n)
 
 -- without a root there are no nodes
 abbrev pub IsFormed : {A : Type 0} → Look A → Option ℕ → List A → Type 0
 IsFormed look None xs = ((n : ℕ) → look n ≡ None) × (xs ≡ [])
-IsFormed look (Some root) xs = IsRooted look root xs
+IsFormed look (Some root) xs = IsRooted (IsSized root) look root xs
 
 -- a well formed tree, whose pairs are these
 pub record IsWellFormed {K V : Type 0} (cmp : K → K → Ordering) (look : Look (K × V)) (root : Option ℕ) (len : ℕ) (xs : List (K × V)) : Type 0 where
   pub ascends : Ascends cmp xs
   pub formed : IsFormed look root xs
   pub counted : len ≡ length xs
+
+-- a tree of at most 32 levels, whose pairs are these, off by one at node `odd`: well formed but for the items there and the length
+pub record IsOffByOne {K V : Type 0} (cmp : K → K → Ordering) (look : Look (K × V)) (root odd : ℕ) (xs : List (K × V)) : Type 0 where
+  pub ascends : Ascends cmp xs
+  pub rooted : IsRooted (IsNearlySized root odd) look root xs
+  pub low : rooted.height < 32
+  pub used : IsSome (look odd)

@@ -1,2 +1,44 @@
-//! To come.
+//! An ordered map whose nodes lie in a slab and name one another by numbers.
+//!
+//! This crate gives the public names of the crates below it.
 #![tactic(auto)]
+
+use btree_store::SlabStore;
+
+#[cfg(test)]
+mod tests;
+
+/// A map in nodes that lie in a slab, with memory from the global allocator.
+pub type BTreeMap<K, V> = generic::BTreeMap<K, V, SlabStore<generic::node::LeafNode<K, V>>>;
+
+/// The types over any store of nodes.
+pub mod generic {
+    pub use btree_map::BTreeMap;
+
+    /// The map, and how an insertion is refused.
+    pub mod map {
+        pub use btree_item::{Cause, M, Refused};
+        pub use btree_map::BTreeMap;
+    }
+
+    /// Nodes, their items, and addresses.
+    pub mod node {
+        pub use btree_item::{Address, Item, Keyed, Offset};
+        pub use btree_node::LeafNode;
+    }
+}
+
+/// What a store of nodes promises, and a store.
+pub mod store {
+    pub use btree_store::{Clear, Slab, SlabMut, SlabStore};
+}
+
+/// Sessions of commands over a map.
+pub mod script {
+    pub use btree_session::{Command, Reply, Session, Stop, drive, run};
+}
+
+/// Lists of a fixed capacity, and a search in one.
+pub mod utils {
+    pub use btree_item::{Slots, binary_search_min};
+}

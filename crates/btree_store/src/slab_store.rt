@@ -25,6 +25,8 @@ impl<T, A: Allocator> Slab<T> for SlabStore<T, A> {
     ghost CanHold = { λ _. Unit {0} };
 
     fn len(&self) -> usize {
+        // Each number is below the room, which is a `usize`.
+        let _room = self.slab.capacity();
         self.slab.len()
     }
 

@@ -20,7 +20,8 @@ pub trait Slab<T> {
     /// How many numbers are used.
     fn len(&self) -> usize
         ensures len { result ≡ map.len (content self.now) }
-        ensures can_hold { CanHold (content self.now) };
+        ensures can_hold { CanHold (content self.now) }
+        ensures numbers { (id : ℕ) → IsSome (map.get (content self.now) id) → id < usize.MAX };
 
     /// The value under `id`, if that number is used.
     fn get(&self, id: usize) -> Option<&T>

@@ -1,5 +1,7 @@
-//! To come.
+//! Tests that need several crates.
 #![tactic(auto)]
 
+#[cfg(test)]
+mod map;
 #[cfg(test)]
 mod stores;

@@ -10,5 +10,5 @@ loop-low-preserved-then-lt g c =
       ordered = omega arith;
       within = omega arith;
       at_most = c.loop-low.invariant.at_most;
-      above = AllAbove-from_key g.met.T.Key.Ord.total _ _ _ _ c.requires c.key_at.ensures (Less-from_is_lt _ is_above)
+      above = AllAbove-from_key g.met.T.Key.Ord.total _ _ _ _ c.requires c.key_at.ensures (Less-from_is_lt _ is_above);
     }

@@ -7,8 +7,13 @@ pub first_not_below-requires-then-lt : goal.first_not_below-requires-then-lt
 first_not_below-requires-then-lt g c =
     let fits = c.well_formed in
     let same = length-map c.args.slots.now g.T.Keyed.key_of in
-    let is_below = is_lt-from_partial g.met.T.Key.Ord.matches_partial_cmp _ _ _ c.lt.ensures ∙ c.if-lt.true in
-    (omega arith,
-     (omega arith,
-      (omega arith,
-       (AllBelow-from_key g.met.T.Key.Ord.total _ _ _ _ c.requires c.key_at.ensures is_below, IsNotBelowAt-end _ _ _ (omega arith)))))
+    let is_below = is_lt-from_partial g.met.T.Key.Ord.matches_partial_cmp _ _ _ c.lt.ensures ∙ c.if-lt.true in (
+      omega arith,
+      (
+        omega arith,
+        (
+          omega arith,
+          (AllBelow-from_key g.met.T.Key.Ord.total _ _ _ _ c.requires c.key_at.ensures is_below, IsNotBelowAt-end _ _ _ (omega arith)),
+        ),
+      ),
+    )

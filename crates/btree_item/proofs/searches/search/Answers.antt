@@ -11,9 +11,10 @@ returns-then-eq-clause-place g c =
 
 pub returns-else-place-len-clause-place : goal.returns-else-place-len-clause-place
 returns-else-place-len-clause-place g c = elim c.else-place-len.branch [
-    else-place-len-via-then-place-len+else-eq w ↦
+  | else-place-len-via-then-place-len+else-eq w ↦
       let apart = sym (g.met.T.Key.Ord.matches_eq _ _) ∙ sym w.eq.ensures ∙ w.if-eq.false in
       sym (key_place-between g.met.T.Key.Ord.total _ _ _ _ c.requires c.lower_bound-place.ensures w.key_at.ensures apart)
   | else-place-len-via-else-place-len w ↦
       let same = length-map c.args.slots.now g.T.Keyed.key_of in
-      sym (key_place-end g.met.T.Key.Ord.total _ _ _ c.requires c.lower_bound-place.ensures (omega arith)) ]
+      sym (key_place-end g.met.T.Key.Ord.total _ _ _ c.requires c.lower_bound-place.ensures (omega arith))
+]

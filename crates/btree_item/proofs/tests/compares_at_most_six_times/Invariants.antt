@@ -5,12 +5,12 @@ use Rattle.btree_item.proofs.tests.compares_at_most_six_times.Given as goal
 
 abbrev pub invariant-loop-held : goal.invariant-loop-held
 invariant-loop-held g l = record {
-    ascends : Ascends (on (λ key. key.number) nat_cmp) l.slots;
-    counted : length l.slots ≤ l.held-counter
-  }
+  ascends : Ascends (on (λ key. key.number) nat_cmp) l.slots;
+  counted : length l.slots ≤ l.held-counter;
+}
 
 abbrev pub invariant-loop-number : goal.invariant-loop-number
 invariant-loop-number g l = record {
-    ascends : Ascends (on (λ key. key.number) nat_cmp) l.slots;
-    counted : length l.slots ≤ l.held
-  }
+  ascends : Ascends (on (λ key. key.number) nat_cmp) l.slots;
+  counted : length l.slots ≤ l.held;
+}

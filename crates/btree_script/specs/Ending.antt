@@ -1,0 +1,21 @@
+-- What a run that did not come to the end of its input ends with.
+use Rattle.std.specs.Prelude.{ℕ, List, ◌++◌, codes, decimal}
+use Rattle.btree_session.specs.declared.script.Stop.TheVariants.{NotACommand, Memory, Input, Output}
+use Rattle.btree_script.specs.declared.Ending.{Ending}
+use Rattle.btree_script.specs.declared.Ending.TheVariants.{WrongArguments, Stopped}
+
+-- the exit status
+abbrev pub status_of : Ending → ℕ
+status_of WrongArguments = 1
+status_of (Stopped (NotACommand number)) = 1
+status_of (Stopped Memory) = 2
+status_of (Stopped Input) = 3
+status_of (Stopped Output) = 3
+
+-- the line on standard error
+abbrev pub text_of : Ending → List ℕ
+text_of WrongArguments = codes "usage: btree_script"
+text_of (Stopped (NotACommand number)) = codes "line " ++ decimal number ++ codes ": not a command"
+text_of (Stopped Memory) = codes "out of memory"
+text_of (Stopped Input) = codes "input failed"
+text_of (Stopped Output) = codes "output failed"

@@ -1,0 +1,284 @@
+-- Lines served one after another.
+use Rattle.std.proofs.Common.{◌≡◌, ℕ, ◌+◌, ◌<◌, List, [], ◌∷◌, ◌++◌, take, drop, length, add-one, Option, Some, None, IfSome, Result, Ok, Err, IsTrue, ◌↔◌, Bool, true, false, true≢false, ◌⊎◌, inl, inr, refl, sym, ap, ◌∙◌, arith, append_assoc, append-nil, length-append}
+use Rattle.std.specs.Prelude.{position}
+use Rattle.std.proofs.lemmas.List.Quantifiers.{position-Some}
+use Rattle.std.proofs.lemmas.Grind.{flat_map-append}
+use Rattle.std.specs.Io.BufRead.{take_through, drop_through, strip_last, DropsConsumable, DropsThrough}
+use Rattle.std.specs.Io.KnownBytes.{Appends, Keeps, IsAtEnd, append_known, prepend_known}
+use Rattle.btree_session.specs.declared.command.Command.{Command}
+use Rattle.btree_session.specs.declared.command.Reply.{Reply}
+use Rattle.btree_session.specs.declared.line.Line.{Line}
+use Rattle.btree_session.specs.declared.line.Line.TheVariants.{Other}
+use Rattle.btree_session.specs.declared.script.Stop.{Stop}
+use Rattle.btree_session.specs.declared.script.Stop.TheVariants.{NotACommand, Memory, Input, Output}
+use Rattle.btree_session.specs.Line.{line_words, Says, IsSaid}
+use Rattle.btree_session.specs.Machine.{SessionState, Step, IsRun}
+use Rattle.btree_session.specs.Text.{line_of, lines_of_replies}
+use Rattle.btree_session.specs.Script.{is_newline, lines_of, ReadsLine, SayAll, Serves, EndsAfter, Writes, Drives}
+use Rattle.btree_session.proofs.Lines.{lines_of-cons, cut_at_newline}
+use Rattle.btree_session.proofs.Runs.{IsRun-append}
+
+SayAll-append : (lines more : List (List ℕ)) (cs ds : List Command) → SayAll lines cs → SayAll more ds → SayAll (lines ++ more) (cs ++ ds)
+SayAll-append [] more cs ds first second = let none : cs ≡ [] = first in rw none second
+SayAll-append (line ∷ lines) more cs ds first second = elim first [
+  | inl empty ↦ inl (empty.0, SayAll-append lines more cs ds empty.1 second)
+  | inr said ↦ inr (said.0, said.1 ++ ds, ap (λ all. all ++ ds) said.2, said.3, SayAll-append lines more said.1 ds said.4 second)
+]
+
+-- more lines are served
+Serves-append : (old mid new : SessionState) (lines more : List (List ℕ)) (rs ss : List Reply) → Serves old lines rs mid → Serves mid more ss new → Serves old (lines ++ more) (rs ++ ss) new
+Serves-append old mid new lines more rs ss first second = record {
+  commands = first.commands ++ second.commands;
+  say = SayAll-append lines more first.commands second.commands first.say second.say;
+  run = IsRun-append old mid new first.commands second.commands rs ss first.run second.run
+}
+
+-- a line that says a command
+pub one_served : (old new : SessionState) (command : Command) (before after : List ℕ) → ((reply : Reply) × Step old command reply new × (after ≡ before ++ line_of reply))
+    → (line : List ℕ) → Says (line_words line) command → (given : List Reply) × Serves old (line ∷ []) given new × (after ≡ before ++ lines_of_replies given)
+one_served old new command before after answered line says =
+    (answered.0 ∷ [],
+        record { commands = command ∷ []; say = inr (command, [], refl, says, refl); run = (new, answered.1, refl) },
+        answered.2 ∙ ap (λ text. before ++ text) (sym (append-nil (line_of answered.0))))
+
+-- how far it has come
+pub record Progress (old : SessionState) (input before rest after : Option (List ℕ)) (new : SessionState) (number : ℕ) : Type 0 where
+  pub served : List (List ℕ)
+  pub replies : List Reply
+  pub serves : Serves old served replies new
+  pub writes : Appends before after (lines_of_replies replies)
+  pub known : IfSome input (λ text. (left : List ℕ) × (rest ≡ Some left) × (lines_of text ≡ served ++ lines_of left))
+  pub count : number ≡ length served + 1
+
+Appends-none : (known : Option (List ℕ)) → Appends known known []
+Appends-none None = tt
+Appends-none (Some xs) = sym (append-nil xs)
+
+-- at the start
+pub begun : (old : SessionState) (input before : Option (List ℕ)) → Progress old input before input before old 1
+begun old input before = record {
+  served = [];
+  replies = [];
+  serves = record { commands = []; say = refl; run = refl };
+  writes = Appends-none before;
+  known = at input;
+  count = refl
+} where
+  at : (input : Option (List ℕ)) → IfSome input (λ text. (left : List ℕ) × (input ≡ Some left) × (lines_of text ≡ lines_of left))
+  at None = tt
+  at (Some text) = (text, refl, refl)
+
+Appends-keeps : (before between after : Option (List ℕ)) (bytes : List ℕ) → Appends before between bytes → Keeps between after → Appends before after bytes
+Appends-keeps None between after bytes appends keeps = tt
+Appends-keeps (Some xs) None after bytes appends keeps = absurd appends
+Appends-keeps (Some xs) (Some ys) None bytes appends keeps = absurd keeps
+Appends-keeps (Some xs) (Some ys) (Some zs) bytes appends keeps = keeps ∙ appends
+
+-- some of the text was written out
+pub written : (old new : SessionState) (input before rest between after : Option (List ℕ)) (number : ℕ) →
+    Progress old input before rest between new number → Keeps between after → Progress old input before rest after new number
+written old new input before rest between after number so_far keeps = record {
+  served = so_far.served;
+  replies = so_far.replies;
+  serves = so_far.serves;
+  writes = Appends-keeps before between after (lines_of_replies so_far.replies) so_far.writes keeps;
+  known = so_far.known;
+  count = so_far.count
+}
+
+-- the lines of the input, of which some were served
+pub record Lines (input : Option (List ℕ)) (served more : List (List ℕ)) : Type 0 where
+  pub lines : List (List ℕ)
+  pub known : IfSome input (λ text. lines ≡ lines_of text)
+  pub are : lines ≡ served ++ more
+
+-- a stop that comes at any line
+abbrev pub ComesAnywhere : Stop → Type 0
+ComesAnywhere (NotACommand number) = ⊥
+ComesAnywhere Memory = Unit {0}
+ComesAnywhere Input = Unit {0}
+ComesAnywhere Output = Unit {0}
+
+some_lines : (input rest : Option (List ℕ)) (served : List (List ℕ)) → IfSome input (λ text. (left : List ℕ) × (rest ≡ Some left) × (lines_of text ≡ served ++ lines_of left))
+    → (more : List (List ℕ)) × Lines input served more
+some_lines None rest served known = ([], record { lines = served ++ []; known = tt; are = refl })
+some_lines (Some text) rest served known = (lines_of known.0, record { lines = lines_of text; known = refl; are = known.2 })
+
+these_lines : (input rest : Option (List ℕ)) (served more : List (List ℕ)) → IfSome input (λ text. (left : List ℕ) × (rest ≡ Some left) × (lines_of text ≡ served ++ lines_of left))
+    → IfSome rest (λ left. lines_of left ≡ more) → Lines input served more
+these_lines None rest served more known left_is = record { lines = served ++ more; known = tt; are = refl }
+these_lines (Some text) None served more known left_is = cc
+these_lines (Some text) (Some left) served more known left_is =
+    let same : left ≡ known.0 = cc in
+    record { lines = lines_of text; known = refl; are = known.2 ∙ ap (λ ls. served ++ lines_of ls) (sym same) ∙ ap (λ ls. served ++ ls) left_is }
+
+at_end : (rest : Option (List ℕ)) → IsAtEnd rest → IfSome rest (λ left. lines_of left ≡ [])
+at_end None none = tt
+at_end (Some left) none = ap lines_of none
+
+-- the input came to its end
+pub ended : {A : Type 0} (old new : SessionState) (input before rest after : Option (List ℕ)) (number : ℕ) (x : A) →
+    Progress old input before rest after new number → IsAtEnd rest → Drives old input before (Ok x) after new
+ended old new input before rest after number x so_far none =
+    let all = these_lines input rest so_far.served [] so_far.known (at_end rest none) in
+    record {
+      lines = all.lines;
+      known = all.known;
+      served = so_far.served;
+      ends = all.are ∙ append-nil so_far.served;
+      replies = so_far.replies;
+      serves = so_far.serves;
+      writes = so_far.writes
+    }
+
+ends_anywhere : (A : Type 0) (served lines : List (List ℕ)) (stop : Stop) → ComesAnywhere stop → (rest : List (List ℕ)) × (lines ≡ served ++ rest) → EndsAfter {A = A} served lines (Err stop)
+ends_anywhere A served lines (NotACommand number) anywhere rest = absurd anywhere
+ends_anywhere A served lines Memory anywhere rest = rest
+ends_anywhere A served lines Input anywhere rest = rest
+ends_anywhere A served lines Output anywhere rest = rest
+
+writes_so_far : (A : Type 0) (before after : Option (List ℕ)) (replies : List Reply) (stop : Stop) → Appends before after (lines_of_replies replies) → Writes {A = A} before after replies (Err stop)
+writes_so_far A before after replies (NotACommand number) appends = appends
+writes_so_far A before after replies Memory appends = appends
+writes_so_far A before after replies Input appends = appends
+writes_so_far A before after replies Output appends = tt
+
+-- it stops between two lines
+pub stopped : {A : Type 0} (old new : SessionState) (input before rest after : Option (List ℕ)) (number : ℕ) (stop : Stop) →
+    Progress old input before rest after new number → ComesAnywhere stop → Drives {A = A} old input before (Err stop) after new
+stopped {A} old new input before rest after number stop so_far anywhere =
+    let all = some_lines input rest so_far.served so_far.known in
+    record {
+      lines = all.1.lines;
+      known = all.1.known;
+      served = so_far.served;
+      ends = ends_anywhere A so_far.served all.1.lines stop anywhere (all.0, all.1.are);
+      replies = so_far.replies;
+      serves = so_far.serves;
+      writes = writes_so_far A before after so_far.replies stop so_far.writes
+    }
+
+-- the reader fails, or memory runs out
+pub stops_in : {A : Type 0} (old new : SessionState) (input before rest after : Option (List ℕ)) (number : ℕ) (stop : Stop) →
+    Progress old input before rest after new number → (stop ≡ Memory) ⊎ (stop ≡ Input) → Drives {A = A} old input before (Err stop) after new
+stops_in old new input before rest after number stop so_far cause = elim cause [
+  | inl memory ↦ rw memory (stopped old new input before rest after number Memory so_far tt)
+  | inr failure ↦ rw failure (stopped old new input before rest after number Input so_far tt)
+]
+
+-- the writer fails
+pub failed : {A : Type 0} (old new : SessionState) (input before rest between after : Option (List ℕ)) (number : ℕ) →
+    Progress old input before rest between new number → Drives {A = A} old input before (Err Output) after new
+failed old new input before rest between after number so_far =
+    let all = some_lines input rest so_far.served so_far.known in
+    record {
+      lines = all.1.lines;
+      known = all.1.known;
+      served = so_far.served;
+      ends = (all.0, all.1.are);
+      replies = so_far.replies;
+      serves = so_far.serves;
+      writes = tt
+    }
+
+first_line : (rest next : Option (List ℕ)) (said : Line) (reads : ReadsLine rest next said) → (more : List (List ℕ)) × IfSome rest (λ left. lines_of left ≡ reads.line ∷ more)
+first_line rest next said reads = at rest reads.some reads.first where
+  at : (rest : Option (List ℕ)) → IfSome rest (λ left. 0 < length left) → IfSome rest (λ left. reads.line ≡ strip_last 10 (take_through 10 left))
+      → (more : List (List ℕ)) × IfSome rest (λ left. lines_of left ≡ reads.line ∷ more)
+  at None some first = ([], tt)
+  at (Some left) some first = (lines_of (drop_through 10 left), lines_of-cons left some ∙ ap (λ line. line ∷ lines_of (drop_through 10 left)) (sym first))
+
+-- the next line is no command
+pub not_a_command : {A : Type 0} (old new : SessionState) (input before rest next after : Option (List ℕ)) (number : ℕ) →
+    Progress old input before rest after new number → ReadsLine rest next Other → Drives {A = A} old input before (Err (NotACommand number)) after new
+not_a_command old new input before rest next after number so_far reads =
+    let first = first_line rest next Other reads in
+    let all = these_lines input rest so_far.served (reads.line ∷ first.0) so_far.known first.1 in
+    record {
+      lines = all.lines;
+      known = all.known;
+      served = so_far.served;
+      ends = (reads.line, first.0, all.are, reads.says, so_far.count);
+      replies = so_far.replies;
+      serves = so_far.serves;
+      writes = so_far.writes
+    }
+
+-- at the next line it stops
+pub line_stops : {A : Type 0} (old new : SessionState) (input before rest next after : Option (List ℕ)) (number : ℕ) (said : Line) (stop : Stop) →
+    Progress old input before rest after new number → ReadsLine rest next said
+    → (stop ≡ Memory) ⊎ ((stop ≡ NotACommand number) × (said ≡ Other)) → Drives {A = A} old input before (Err stop) after new
+line_stops old new input before rest next after number said stop so_far reads cause = elim cause [
+  | inl memory ↦ rw memory (stopped old new input before rest after number Memory so_far tt)
+  | inr other ↦ rw other.0 (not_a_command old new input before rest next after number so_far (rw other.1 at reads))
+]
+
+Appends-append : (before between after : Option (List ℕ)) (first second : List ℕ) → Appends before between first → Appends between after second → Appends before after (first ++ second)
+Appends-append None between after first second one two = tt
+Appends-append (Some xs) None after first second one two = absurd one
+Appends-append (Some xs) (Some ys) None first second one two = absurd two
+Appends-append (Some xs) (Some ys) (Some zs) first second one two = two ∙ ap (λ bytes. bytes ++ second) one ∙ append_assoc xs first second
+
+lines_of_replies-append : (rs ss : List Reply) → lines_of_replies (rs ++ ss) ≡ lines_of_replies rs ++ lines_of_replies ss
+lines_of_replies-append rs ss = flat_map-append line_of rs ss
+
+-- text behind known bytes grows
+pub append_known-grows : (known : Option (List ℕ)) (text more added : List ℕ) → more ≡ text ++ added → Appends (append_known known text) (append_known known more) added
+append_known-grows None text more added is = tt
+append_known-grows (Some xs) text more added is = ap (λ bytes. xs ++ bytes) is ∙ sym (append_assoc xs text added)
+
+left_behind : (input rest next : Option (List ℕ)) (served : List (List ℕ)) (line : List ℕ)
+    → IfSome input (λ text. (left : List ℕ) × (rest ≡ Some left) × (lines_of text ≡ served ++ lines_of left))
+    → IfSome rest (λ left. 0 < length left) → IfSome rest (λ left. line ≡ strip_last 10 (take_through 10 left)) → IfSome rest (λ left. next ≡ Some (drop_through 10 left))
+    → IfSome input (λ text. (left : List ℕ) × (next ≡ Some left) × (lines_of text ≡ (served ++ line ∷ []) ++ lines_of left))
+left_behind None rest next served line known some first dropped = tt
+left_behind (Some text) None next served line known some first dropped = cc
+left_behind (Some text) (Some left) next served line known some first dropped =
+    let same : known.0 ≡ left = cc in
+    (drop_through 10 left, dropped,
+        known.2 ∙ ap (λ bytes. served ++ lines_of bytes) same
+        ∙ ap (λ lines. served ++ lines) (lines_of-cons left some ∙ ap (λ is. is ∷ lines_of (drop_through 10 left)) (sym first))
+        ∙ sym (append_assoc served (line ∷ []) (lines_of (drop_through 10 left))))
+
+-- one more line is served
+pub goes_on : (old mid new : SessionState) (input before rest next between after : Option (List ℕ)) (number : ℕ) (said : Line) (reads : ReadsLine rest next said) (given : List Reply) →
+    Progress old input before rest between mid number → Serves mid (reads.line ∷ []) given new → Appends between after (lines_of_replies given)
+    → Progress old input before next after new (number + 1)
+goes_on old mid new input before rest next between after number said reads given so_far serves writes = record {
+  served = so_far.served ++ reads.line ∷ [];
+  replies = so_far.replies ++ given;
+  serves = Serves-append old mid new so_far.served (reads.line ∷ []) so_far.replies given so_far.serves serves;
+  writes = rw (lines_of_replies-append so_far.replies given) (Appends-append before between after (lines_of_replies so_far.replies) (lines_of_replies given) so_far.writes writes);
+  known = left_behind input rest next so_far.served reads.line so_far.known reads.some reads.first reads.rest;
+  count = omega (arith, so_far.count, length-append so_far.served (reads.line ∷ []))
+}
+
+-- a line in the front of known bytes
+pub in_buffer : (known next : Option (List ℕ)) (buffer : List ℕ) (len : ℕ) (said : Line) → position is_newline buffer ≡ Some len → IsSaid (line_words (take len buffer)) said
+    → DropsConsumable (prepend_known buffer known) next (Some (length buffer)) (len + 1) → ReadsLine (prepend_known buffer known) next said
+in_buffer None next buffer len said place says drops = record { line = take len buffer; says = says; some = tt; first = tt; rest = tt }
+in_buffer (Some behind) next buffer len said place says drops =
+    let at = position-Some is_newline buffer len 0 place in
+    let cut = cut_at_newline buffer behind len at.0 at.1 at.2 in
+    record {
+      line = take len buffer;
+      says = says;
+      some = omega (arith, length-append buffer behind, at.0);
+      first = cut.0;
+      rest = drops (omega (arith, at.0)) ∙ ap (λ n. Some (drop n (buffer ++ behind))) (add-one len) ∙ ap (λ left. Some left) cut.1
+    }
+
+-- a line that `read_until` took
+pub read_through : (old new : Option (List ℕ)) (line : List ℕ) (said : Line) → IfSome old (λ text. line ≡ take_through 10 text) → DropsThrough old new 10 → 0 < length line
+    → IsSaid (line_words (strip_last 10 line)) said → ReadsLine old new said
+read_through None new line said taken dropped some says = record { line = strip_last 10 line; says = says; some = tt; first = tt; rest = tt }
+read_through (Some text) new line said taken dropped some says = record {
+  line = strip_last 10 line;
+  says = says;
+  some = has_bytes text (omega (arith, ap length taken));
+  first = ap (strip_last 10) taken;
+  rest = dropped
+} where
+  has_bytes : (text : List ℕ) → 0 < length (take_through 10 text) → 0 < length text
+  has_bytes [] some = some
+  has_bytes (byte ∷ text) some = omega arith

@@ -1,0 +1,8 @@
+use Rattle.std.proofs.Common.{[], ◌∷◌, subst}
+use Rattle.btree_session.proofs.line.two_numbers.Goals as goal
+
+pub returns-in_err-first : goal.returns-in_err-first
+returns-in_err-first c = rw c.from_residual.ensures (λ m n. c.in_err-first.ensures.none m (n ∷ []))
+
+pub returns-in_err-second : goal.returns-in_err-second
+returns-in_err-second c = rw (c.from_residual-in_err-second.ensures, c.in_ok-first.ensures.some.2) (λ m n are_numbers. c.in_err-second.ensures n are_numbers.1)

@@ -1,0 +1,50 @@
+-- What a line says.
+use Rattle.std.specs.Prelude.{◌≡◌, ◌≢◌, ℕ, ◌^◌, ◌<◌, Bool, List, [], ◌∷◌, length, filter, nat_lt, ◌==◌, codes}
+use Rattle.std.specs.List.{slice_split}
+use Rattle.std.specs.Io.BufRead.{strip_last}
+use Rattle.std.specs.Str.Parse.{IsNumeral, digits_value}
+use Rattle.btree_session.specs.declared.command.Command.{Command}
+use Rattle.btree_session.specs.declared.command.Command.TheVariants.{Insert, Get}
+use Rattle.btree_session.specs.declared.line.Line.{Line}
+use Rattle.btree_session.specs.declared.line.Line.TheVariants as lines
+
+-- only a space divides words
+abbrev pub is_space : ℕ → Bool
+is_space byte = byte == 32
+
+-- what one or more spaces divide
+abbrev pub words_of : List ℕ → List (List ℕ)
+words_of text = filter (λ word. nat_lt 0 (length word)) (slice_split is_space text)
+
+-- the words of a line, whose last byte may be a carriage return
+abbrev pub line_words : List ℕ → List (List ℕ)
+line_words line = words_of (strip_last 13 line)
+
+-- the word is this number in decimal digits, one of 64 bits
+pub record IsNumber (number : ℕ) (word : List ℕ) : Type 0 where
+  pub numeral : IsNumeral 10 word
+  pub value : digits_value 10 word ≡ number
+  pub fits : number < 2 ^ 64
+
+-- the words are these numbers, one after another
+abbrev pub AreNumbers : List ℕ → List (List ℕ) → Type 0
+AreNumbers [] [] = Unit {0}
+AreNumbers (number ∷ numbers) (word ∷ words) = IsNumber number word × AreNumbers numbers words
+AreNumbers [] (word ∷ words) = ⊥
+AreNumbers (number ∷ numbers) [] = ⊥
+
+-- the words are a name, and then these numbers
+abbrev pub IsCall : List ℕ → List ℕ → List (List ℕ) → Type 0
+IsCall name numbers [] = ⊥
+IsCall name numbers (word ∷ words) = (word ≡ name) × AreNumbers numbers words
+
+-- the words say the command
+abbrev pub Says : List (List ℕ) → Command → Type 0
+Says words (Insert key value) = IsCall (codes "insert") (key ∷ value ∷ []) words
+Says words (Get key) = IsCall (codes "get") (key ∷ []) words
+
+-- a line with these words says this: nothing, a command, or no command
+abbrev pub IsSaid : List (List ℕ) → Line → Type 0
+IsSaid words lines.Empty = words ≡ []
+IsSaid words (lines.Command said) = Says words said
+IsSaid words lines.Other = (words ≢ []) × ((said : Command) → Says words said → ⊥)

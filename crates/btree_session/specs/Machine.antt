@@ -1,0 +1,57 @@
+-- A session as a machine: what it may reply to a command, and what it is then.
+use Rattle.std.specs.Prelude.{◌≡◌, ℕ, ◌+◌, ◌-◌, ◌^◌, List, [], ◌∷◌, length, insert, Option, Some, None}
+use Rattle.std.specs.Ordering.{nat_cmp}
+use Rattle.btree_item.specs.Pairs.{found, found_value, before, with_value}
+use Rattle.btree_item.specs.declared.refused.Cause.{Cause}
+use Rattle.btree_item.specs.declared.refused.Cause.TheVariants.{Store, Count, Leaf}
+use Rattle.btree_shape.specs.TreeState.{TreeState, pairs_of}
+use Rattle.btree_session.specs.declared.command.Command.{Command}
+use Rattle.btree_session.specs.declared.command.Command.TheVariants.{Insert, Get}
+use Rattle.btree_session.specs.declared.command.Reply.{Reply}
+use Rattle.btree_session.specs.declared.command.Reply.TheVariants.{Nothing, Value, Refused}
+
+-- what a session is: its pairs by ascending keys, the place that it holds, if any, and how often its store has refused
+pub record SessionState : Type 0 where
+  pub pairs : List (ℕ × ℕ)
+  pub place : Option ℕ
+  pub refusals : ℕ
+
+-- after an insertion these are the pairs, and no place is held
+abbrev pub after_insertion : SessionState → List (ℕ × ℕ) → SessionState
+after_insertion old pairs = record { pairs = pairs; place = None; refusals = old.refusals }
+
+-- after a refusal all is as before, but for the store's count of its own refusals
+abbrev pub after_refusal : SessionState → Cause → SessionState
+after_refusal old Store = record old { refusals = old.refusals + 1 }
+after_refusal old Count = old
+after_refusal old Leaf = old
+
+-- when a new pair can be refused for a cause: the store may always refuse
+abbrev pub IsRefusable : SessionState → Cause → Type 0
+IsRefusable old Store = Unit {0}
+IsRefusable old Count = length old.pairs ≡ 2 ^ 64 - 1
+IsRefusable old Leaf = length old.pairs ≡ 8
+
+-- From old, the machine may give this reply to the command and go on to new.
+abbrev pub Step : SessionState → Command → Reply → SessionState → Type 0
+-- a look-up changes nothing
+Step old (Get key) Nothing new = (found nat_cmp key old.pairs ≡ None) × (new ≡ old)
+Step old (Get key) (Value value) new = (found_value nat_cmp key old.pairs ≡ Some value) × (new ≡ old)
+-- a key that is there stays, and its value is exchanged
+Step old (Insert key value) (Value was) new = (found_value nat_cmp key old.pairs ≡ Some was) × (new ≡ after_insertion old (with_value nat_cmp key value old.pairs))
+-- a key that is not there goes in at its place with its value, or both are refused
+Step old (Insert key value) Nothing new = (found nat_cmp key old.pairs ≡ None) × (new ≡ after_insertion old (insert old.pairs (before nat_cmp key old.pairs) (key, value)))
+Step old (Insert key value) (Refused cause) new = (found nat_cmp key old.pairs ≡ None) × IsRefusable old cause × (new ≡ after_refusal old cause)
+-- no other reply is given
+Step old (Get key) (Refused cause) new = ⊥
+
+-- The machine may give these replies to these commands, one step after another.
+abbrev pub IsRun : SessionState → List Command → List Reply → SessionState → Type 0
+IsRun old [] [] new = new ≡ old
+IsRun old (command ∷ commands) (reply ∷ replies) new = (mid : SessionState) × Step old command reply mid × IsRun mid commands replies new
+IsRun old [] (reply ∷ replies) new = ⊥
+IsRun old (command ∷ commands) [] new = ⊥
+
+-- what a session over this map is: no place is held
+abbrev pub state_of : TreeState ℕ ℕ → SessionState
+state_of map = record { pairs = pairs_of map; place = None; refusals = map.refusals }

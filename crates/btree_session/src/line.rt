@@ -1,0 +1,139 @@
+//! Lines of text, and the commands that they say.
+ghost use Rattle.std.specs.Prelude.{◌≡◌, ℕ, ◌<◌, ◌≤◌, List, [], ◌∷◌, ◌↔◌, length, IfSome, IfNone, MatchOption, Some, None, not, position, codes};
+ghost use Rattle.std.specs.Io.BufRead.{strip_last};
+ghost use Rattle.btree_session.specs.Line.{is_space, words_of, line_words, IsNumber, AreNumbers, IsSaid};
+
+use crate::Command;
+
+/// What a line says.
+#[derive(Clone, Copy, Debug, PartialEq, Eq)]
+pub(crate) enum Line {
+    /// Nothing: it has no words.
+    Empty,
+    /// A command.
+    Command(Command),
+    /// Something that is not a command.
+    Other,
+}
+
+/// What a line, without its newline, says.
+pub(crate) fn parse(line: &[u8]) -> Line
+    ensures { IsSaid (line_words line.now) result }
+{
+    let Some((name, rest)) = next_word(without_last(line, b'\r')) else {
+        return Line::Empty;
+    };
+    if name == b"insert".as_slice() {
+        return insertion(rest);
+    }
+    if name == b"get".as_slice() {
+        return look_up(rest);
+    }
+    Line::Other
+}
+
+/// The line without its last byte, if that is `byte`.
+pub(crate) fn without_last(line: &[u8], byte: u8) -> &[u8]
+    ensures { result.now ≡ strip_last byte line.now }
+{
+    match line {
+        [text @ .., last] if *last == byte => text,
+        _ => line,
+    }
+}
+
+/// What a line says that begins with `insert`.
+fn insertion(rest: &[u8]) -> Line
+    ensures { IsSaid (codes "insert" ∷ words_of rest.now) result }
+{
+    match two_numbers(rest) {
+        Some((key, value)) => Line::Command(Command::Insert(key, value)),
+        None => Line::Other,
+    }
+}
+
+/// What a line says that begins with `get`.
+fn look_up(rest: &[u8]) -> Line
+    ensures { IsSaid (codes "get" ∷ words_of rest.now) result }
+{
+    match one_number(rest) {
+        Some(key) => Line::Command(Command::Get(key)),
+        None => Line::Other,
+    }
+}
+
+/// The number, where the text is just one.
+fn one_number(text: &[u8]) -> Option<u64>
+    ensures { MatchOption result ((n : ℕ) → AreNumbers (n ∷ []) (words_of text.now) → ⊥)
+        (λ n. AreNumbers (n ∷ []) (words_of text.now)) }
+{
+    let (number, rest) = next_number(text)?;
+    if next_word(rest).is_some() {
+        return None;
+    }
+    Some(number)
+}
+
+/// The numbers, where the text is just two.
+fn two_numbers(text: &[u8]) -> Option<(u64, u64)>
+    ensures { MatchOption result ((m n : ℕ) → AreNumbers (m ∷ n ∷ []) (words_of text.now) → ⊥)
+        (λ pair. AreNumbers (pair.0 ∷ pair.1 ∷ []) (words_of text.now)) }
+{
+    let (first, rest) = next_number(text)?;
+    let second = one_number(rest)?;
+    Some((first, second))
+}
+
+/// The number that the text begins with and the text behind it, if it begins with one.
+fn next_number(text: &[u8]) -> Option<(u64, &[u8])>
+    ensures none { IfNone result ((n : ℕ) (ns : List ℕ) → AreNumbers (n ∷ ns) (words_of text.now) → ⊥) }
+    ensures some { IfSome result (λ split. (word : List ℕ) × IsNumber split.0 word
+        × (words_of text.now ≡ word ∷ words_of split.1.now)) }
+{
+    let (word, rest) = next_word(text)?;
+    Some((number(word)?, rest))
+}
+
+/// The first word and the text behind it, if there is a word.
+fn next_word(text: &[u8]) -> Option<(&[u8], &[u8])>
+    ensures { MatchOption result (words_of text.now ≡ [])
+        (λ split. words_of text.now ≡ split.0.now ∷ words_of split.1.now) }
+{
+    let spaces = first_byte_of_word(text).unwrap_or(text.len());
+    let (_, start) = text.split_at(spaces);
+    if start.is_empty() {
+        return None;
+    }
+    let len = first_space(start).unwrap_or(start.len());
+    Some(start.split_at(len))
+}
+
+fn first_byte_of_word(text: &[u8]) -> Option<usize>
+    ensures { result ≡ position (λ byte. not (is_space byte)) text.now }
+{
+    text.iter().position(|byte| *byte != b' ')
+}
+
+fn first_space(text: &[u8]) -> Option<usize>
+    ensures { result ≡ position is_space text.now }
+{
+    text.iter().position(|byte| *byte == b' ')
+}
+
+/// The number that a word writes in decimal digits, if it does and the number has 64 bits.
+fn number(word: &[u8]) -> Option<u64>
+    ensures { MatchOption result ((n : ℕ) → IsNumber n word.now → ⊥) (λ n. IsNumber n word.now) }
+{
+    if word.is_empty() {
+        return None;
+    }
+    let mut number = 0u64;
+    for byte in word {
+        if !byte.is_ascii_digit() {
+            return None;
+        }
+        let digit = u64::from(*byte - b'0');
+        number = number.checked_mul(10)?.checked_add(digit)?;
+    }
+    Some(number)
+}

@@ -1,0 +1,207 @@
+//! Commands from lines of text, and replies to lines of text.
+ghost use Rattle.std.specs.Prelude.{◌≡◌, ◌+◌, ◌⊎◌, ◌++◌, ◌<◌, ◌↔◌, ℕ, List, [], ◌∷◌, length, position, IfSome, IfNone, IfOk, IfErr, OnOk, OnErr, vec_len, vec_capacity};
+ghost use Rattle.std.specs.Io.Buffered.{reader_remaining};
+ghost use Rattle.std.specs.Io.KnownBytes.{Keeps, IsAtEnd, append_known};
+ghost use Rattle.btree_session.specs.declared.command.Reply.{Reply};
+ghost use Rattle.btree_session.specs.Line.{line_words, IsSaid};
+ghost use Rattle.btree_session.specs.Machine.{Step, state_of};
+ghost use Rattle.btree_session.specs.Text.{line_of, lines_of_replies};
+ghost use Rattle.btree_session.specs.Script.{is_newline, ReadsLine, Serves, Drives};
+
+use crate::line::{Line, parse, without_last};
+use crate::text::{LONGEST_LINE, push_line};
+use crate::{Command, Reply, Session, run};
+use btree_node::LeafNode;
+use btree_store::SlabMut;
+use std::alloc::{AllocError, Global};
+use std::io::{BufRead, BufReader, ErrorKind, Read, Write};
+
+/// Why driving came to an end before the end of the input.
+#[derive(Clone, Copy, Debug, PartialEq, Eq)]
+pub enum Stop {
+    /// The line with this number, counted from 1, is not a command.
+    NotACommand(u64),
+    /// A line, a reply or a buffer could not be held.
+    Memory,
+    /// The reader failed.
+    Input,
+    /// The writer failed.
+    Output,
+}
+
+/// Reads lines of text, runs the commands that they say, and writes each reply on a line of its own.
+///
+/// The replies so far are written and flushed at the end, before a stop, and before the reader is asked for bytes
+/// while no whole line is left of those that it gave. Commands that were run keep their effect, however it ends.
+///
+/// It takes memory for two buffers, for the longest line, and for the replies to the lines that were read at once, and
+/// none for a line of its own. A reader's error of the kind `OutOfMemory` counts as want of memory. An input of
+/// `u64::MAX` lines or more ends like one that fails.
+pub fn drive<C: SlabMut<LeafNode<u64, u64>>, R: Read, W: Write>(
+    alloc: Global,
+    session: &mut Session<C>,
+    input: &mut R,
+    output: &mut W,
+) -> Result<(), Stop>
+    ensures { Drives (state_of session.old) (R.remaining input.old) (W.contents output.old) result (W.contents output.new) (state_of session.new) }
+{
+    let Ok(mut reader) = BufReader::new(alloc, input) else {
+        return Err(Stop::Memory);
+    };
+    let mut text = Vec::new(alloc);
+    let result = serve(alloc, session, &mut reader, output, &mut text);
+    write_out(&mut text, output)?;
+    result
+}
+
+/// Serves lines until the input ends. What it leaves in `text` is still to be written.
+fn serve<C: SlabMut<LeafNode<u64, u64>>, R: Read, W: Write>(
+    alloc: Global,
+    session: &mut Session<C>,
+    reader: &mut BufReader<R>,
+    output: &mut W,
+    text: &mut Vec<u8>,
+) -> Result<(), Stop>
+    ensures { Drives (state_of session.old) (reader_remaining R.remaining reader.old) (append_known (W.contents output.old) text.old.items)
+        result (append_known (W.contents output.new) text.new.items) (state_of session.new) }
+{
+    let mut line = Vec::new(alloc);
+    let mut replies = Vec::new(alloc);
+    for number in 1..u64::MAX {
+        let Some(said) = next_line(reader, &mut line, text, output)? else {
+            return Ok(());
+        };
+        serve_line(session, said, number, &mut replies, text)?;
+    }
+    Err(Stop::Input)
+}
+
+/// Reads what the next line says, if there is one. Before it asks for more input, it writes the text out.
+fn next_line<R: Read, W: Write>(
+    reader: &mut BufReader<R>,
+    line: &mut Vec<u8>,
+    text: &mut Vec<u8>,
+    output: &mut W,
+) -> Result<Option<Line>, Stop>
+    ensures line { IfOk result (λ next. IfSome next (ReadsLine (reader_remaining R.remaining reader.old) (reader_remaining R.remaining reader.new))) }
+    ensures end { IfOk result (λ next. IfNone next (IsAtEnd (reader_remaining R.remaining reader.old))) }
+    ensures text { OnOk result (Keeps (append_known (W.contents output.old) text.old.items) (append_known (W.contents output.new) text.new.items)) }
+    ensures stop { IfErr result (λ stop. (stop ≡ Stop.Output) ⊎ (((stop ≡ Stop.Memory) ⊎ (stop ≡ Stop.Input))
+        × Keeps (append_known (W.contents output.old) text.old.items) (append_known (W.contents output.new) text.new.items))) }
+{
+    if let Some(said) = buffered_line(reader) {
+        return Ok(Some(said));
+    }
+    write_out(text, output)?;
+    read_line(reader, line)
+}
+
+/// What the next line says, where the reader has the whole of it.
+fn buffered_line<R: Read>(reader: &mut BufReader<R>) -> Option<Line>
+    ensures line { IfSome result (ReadsLine (reader_remaining R.remaining reader.old) (reader_remaining R.remaining reader.new)) }
+    ensures none { IfNone result (reader.new ≡ reader.old) }
+{
+    let len = newline_place(reader.buffer())?;
+    let (line, _) = reader.buffer().split_at(len);
+    let said = parse(line);
+    reader.consume(len + 1);
+    Some(said)
+}
+
+fn newline_place(bytes: &[u8]) -> Option<usize>
+    ensures { result ≡ position is_newline bytes.now }
+{
+    bytes.iter().position(|byte| *byte == b'\n')
+}
+
+/// Reads what the next line says, if there is one. The vector is used for the line.
+fn read_line<R: Read>(
+    reader: &mut BufReader<R>,
+    line: &mut Vec<u8>,
+) -> Result<Option<Line>, Stop>
+    ensures line { IfOk result (λ next. IfSome next (ReadsLine (reader_remaining R.remaining reader.old) (reader_remaining R.remaining reader.new))) }
+    ensures end { IfOk result (λ next. IfNone next (IsAtEnd (reader_remaining R.remaining reader.old))) }
+    ensures stop { IfErr result (λ stop. (stop ≡ Stop.Memory) ⊎ (stop ≡ Stop.Input)) }
+{
+    line.clear();
+    match reader.read_until(b'\n', line) {
+        Ok(0) => Ok(None),
+        Ok(_) => Ok(Some(parse(without_last(line.as_slice(), b'\n')))),
+        Err(error) if error.kind() == ErrorKind::OutOfMemory => Err(Stop::Memory),
+        Err(_) => Err(Stop::Input),
+    }
+}
+
+/// Runs what a line says and puts the reply behind the text. An `Err` changes nothing.
+fn serve_line<C: SlabMut<LeafNode<u64, u64>>>(
+    session: &mut Session<C>,
+    said: Line,
+    number: u64,
+    replies: &mut Vec<Reply>,
+    text: &mut Vec<u8>,
+) -> Result<(), Stop>
+    ensures served { OnOk result ((line : List ℕ) → IsSaid (line_words line) said → (given : List Reply)
+        × Serves (state_of session.old) (line ∷ []) given (state_of session.new) × (text.new.items ≡ text.old.items ++ lines_of_replies given)) }
+    ensures session_kept { OnErr result (session.new ≡ session.old) }
+    ensures text_kept { OnErr result (text.new.items ≡ text.old.items) }
+    ensures stop { IfErr result (λ stop. (stop ≡ Stop.Memory) ⊎ ((stop ≡ Stop.NotACommand number) × (said ≡ Line.Other))) }
+{
+    match said {
+        Line::Empty => Ok(()),
+        Line::Command(command) => match answer(session, command, replies, text) {
+            Ok(()) => Ok(()),
+            Err(_) => Err(Stop::Memory),
+        },
+        Line::Other => Err(Stop::NotACommand(number)),
+    }
+}
+
+/// Runs a command and puts the reply behind the text. Room for the reply is made first.
+fn answer<C: SlabMut<LeafNode<u64, u64>>>(
+    session: &mut Session<C>,
+    command: Command,
+    replies: &mut Vec<Reply>,
+    text: &mut Vec<u8>,
+) -> Result<(), AllocError>
+    ensures answered { OnOk result ((reply : Reply) × Step (state_of session.old) command reply (state_of session.new)
+        × (text.new.items ≡ text.old.items ++ line_of reply)) }
+    ensures session_kept { OnErr result (session.new ≡ session.old) }
+    ensures text_kept { OnErr result (text.new.items ≡ text.old.items) }
+{
+    text.reserve(LONGEST_LINE)?;
+    let reply = reply_to(session, command, replies)?;
+    push_line(text, reply);
+    Ok(())
+}
+
+/// Runs one command. The vector is used for the reply alone.
+fn reply_to<C: SlabMut<LeafNode<u64, u64>>>(
+    session: &mut Session<C>,
+    command: Command,
+    replies: &mut Vec<Reply>,
+) -> Result<Reply, AllocError>
+    ensures step { IfOk result (λ reply. Step (state_of session.old) command reply (state_of session.new)) }
+    ensures session_kept { OnErr result (session.new ≡ session.old) }
+{
+    replies.clear();
+    run(session, &[command], replies)?;
+    Ok(replies.pop().unwrap())
+}
+
+/// Writes the text out and leaves it empty, whether that succeeds or not.
+fn write_out<W: Write>(text: &mut Vec<u8>, output: &mut W) -> Result<(), Stop>
+    ensures empty { text.new.items ≡ [] }
+    ensures ok { OnOk result (Keeps (append_known (W.contents output.old) text.old.items) (append_known (W.contents output.new) text.new.items)) }
+    ensures err { IfErr result (λ stop. stop ≡ Stop.Output) }
+{
+    if text.is_empty() {
+        return Ok(());
+    }
+    let is_written = output.write_all(text.as_slice()).is_ok() && output.flush().is_ok();
+    text.clear();
+    if is_written {
+        Ok(())
+    } else {
+        Err(Stop::Output)
+    }
+}

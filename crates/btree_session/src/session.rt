@@ -1,0 +1,111 @@
+//! A session: a map that commands are run on.
+ghost use Rattle.std.specs.Prelude.{◌≡◌, ◌+◌, ◌≤◌, ◌++◌, List, [], length, vec_len, vec_capacity, IsOk, OnOk, OnErr};
+ghost use Rattle.std.specs.FinMap as map;
+ghost use Rattle.btree_shape.specs.TreeState.{pairs_of};
+ghost use Rattle.btree_session.specs.Machine.{IsRun, Step, state_of};
+ghost use Rattle.btree_session.specs.declared.command.Reply.{Reply};
+
+use crate::{Command, Reply};
+use btree_map::BTreeMap;
+use btree_node::LeafNode;
+use btree_store::SlabMut;
+use std::alloc::{AllocError, Allocator};
+use std::marker::Model;
+
+/// A map from `K` to `V` that commands are run on. Commands are about a [`Session`], where both are `u64`.
+#[derive(Drop)]
+pub struct SessionOver<K: Ord, V, C: SlabMut<LeafNode<K, V>>> {
+    map: BTreeMap<K, V, C>,
+}
+
+impl<K: Ord, V, C: SlabMut<LeafNode<K, V>>> Model for SessionOver<K, V, C> {
+    ghost use Rattle.std.specs.Coded.{codes};
+    ghost use Rattle.btree_shape.specs.TreeState.{TreeState, tree_code};
+
+    ghost Value = { TreeState K V };
+
+    ghost coded = { tree_code (Prim.hlevel codes) };
+
+    ghost view = { λ session. session.map };
+}
+
+/// A map from `u64` to `u64` that commands are run on.
+pub type Session<C> = SessionOver<u64, u64, C>;
+
+impl<C: SlabMut<LeafNode<u64, u64>>> Session<C> {
+    /// A session over an empty map, whose store is made from its origin. It takes no memory.
+    pub fn new(origin: C::Origin) -> Self
+        ensures empty { pairs_of result ≡ [] }
+        ensures nodes { result.nodes ≡ map.empty }
+        ensures refusals { result.refusals ≡ 0 }
+    {
+        SessionOver {
+            map: BTreeMap::new(origin),
+        }
+    }
+
+    /// The map as the commands so far have made it.
+    pub fn map(&self) -> &BTreeMap<u64, u64, C>
+        ensures { result.now ≡ self.now }
+    {
+        &self.map
+    }
+
+    // Runs one command.
+    fn reply_to(&mut self, command: Command) -> Reply
+        ensures { Step (state_of self.old) command result (state_of self.new) }
+    {
+        match command {
+            Command::Insert(key, value) => insert(&mut self.map, key, value),
+            Command::Get(key) => get(&self.map, key),
+        }
+    }
+}
+
+fn insert<C: SlabMut<LeafNode<u64, u64>>>(
+    map: &mut BTreeMap<u64, u64, C>,
+    key: u64,
+    value: u64,
+) -> Reply
+    ensures { Step (state_of map.old) (Command.Insert key value) result (state_of map.new) }
+{
+    match map.insert(key, value) {
+        Ok(Some(was)) => Reply::Value(was),
+        Ok(None) => Reply::Nothing,
+        Err(refused) => {
+            let cause = refused.cause;
+            Reply::Refused(cause)
+        }
+    }
+}
+
+fn get<C: SlabMut<LeafNode<u64, u64>>>(map: &BTreeMap<u64, u64, C>, key: u64) -> Reply
+    ensures { Step (state_of map.now) (Command.Get key) result (state_of map.now) }
+{
+    match map.get(&key) {
+        Some(value) => Reply::Value(*value),
+        None => Reply::Nothing,
+    }
+}
+
+/// Runs the commands in order, and puts a reply to each behind the replies that are there.
+///
+/// Room for the replies is made first, and is all the memory that it takes but for nodes. Where that is refused, no
+/// command is run.
+pub fn run<C: SlabMut<LeafNode<u64, u64>>, B: Allocator>(
+    session: &mut Session<C>,
+    commands: &[Command],
+    replies: &mut Vec<Reply, B>,
+) -> Result<(), AllocError>
+    ensures answered { OnOk result ((given : List Reply) × (replies.new.items ≡ replies.old.items ++ given)
+        × IsRun (state_of session.old) commands.now given (state_of session.new)) }
+    ensures succeeds { vec_len replies.old + length commands.now ≤ vec_capacity replies.old → IsOk result }
+    ensures replies_kept { OnErr result (replies.new.items ≡ replies.old.items) }
+    ensures session_kept { OnErr result (session.new ≡ session.old) }
+{
+    replies.reserve(commands.len())?;
+    for command in commands {
+        replies.push_reserved(session.reply_to(*command));
+    }
+    Ok(())
+}
