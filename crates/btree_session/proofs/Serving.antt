@@ -1,5 +1,5 @@
 -- Lines served one after another.
-use Rattle.std.proofs.Common.{◌≡◌, ℕ, ◌+◌, ◌<◌, List, [], ◌∷◌, ◌++◌, take, drop, length, add-one, Option, Some, None, IfSome, Result, Ok, Err, IsTrue, ◌↔◌, Bool, true, false, true≢false, ◌⊎◌, inl, inr, refl, sym, ap, ◌∙◌, arith, append_assoc, append-nil, length-append}
+use Rattle.std.proofs.Common.{◌≡◌, ℕ, ◌+◌, ◌<◌, List, [], ◌∷◌, ◌++◌, take, drop, length, add-one, Option, Some, None, IfSome, Result, Ok, Err, IsTrue, ◌↔◌, Bool, true, false, cond, true≢false, ◌⊎◌, inl, inr, refl, sym, ap, ◌∙◌, arith, append_assoc, append-nil, length-append}
 use Rattle.std.specs.Prelude.{position}
 use Rattle.std.proofs.lemmas.List.Quantifiers.{position-Some}
 use Rattle.std.proofs.lemmas.Grind.{flat_map-append}
@@ -158,14 +158,6 @@ stopped {A} old new input before rest after number stop so_far anywhere =
       writes = writes_so_far A before after so_far.replies stop so_far.writes
     }
 
--- the reader fails, or memory runs out
-pub stops_in : {A : Type 0} (old new : SessionState) (input before rest after : Option (List ℕ)) (number : ℕ) (stop : Stop) →
-    Progress old input before rest after new number → (stop ≡ Memory) ⊎ (stop ≡ Input) → Drives {A = A} old input before (Err stop) after new
-stops_in old new input before rest after number stop so_far cause = elim cause [
-  | inl memory ↦ rw memory (stopped old new input before rest after number Memory so_far tt)
-  | inr failure ↦ rw failure (stopped old new input before rest after number Input so_far tt)
-]
-
 -- the writer fails
 pub failed : {A : Type 0} (old new : SessionState) (input before rest between after : Option (List ℕ)) (number : ℕ) →
     Progress old input before rest between new number → Drives {A = A} old input before (Err Output) after new
@@ -180,6 +172,17 @@ failed old new input before rest between after number so_far =
       serves = so_far.serves;
       writes = tt
     }
+
+-- it stops while it looks for the next line
+pub between_lines : {A : Type 0} (old new : SessionState) (input before rest between after : Option (List ℕ)) (number : ℕ) (stop : Stop) →
+    Progress old input before rest between new number → (stop ≡ Output) ⊎ (((stop ≡ Memory) ⊎ (stop ≡ Input)) × Keeps between after) → Drives {A = A} old input before (Err stop) after new
+between_lines old new input before rest between after number stop so_far cause = elim cause [
+  | inl output ↦ rw output (failed old new input before rest between after number so_far)
+  | inr other ↦ elim other.0 [
+    | inl memory ↦ rw memory (stopped old new input before rest after number Memory (written old new input before rest between after number so_far other.1) tt)
+    | inr failure ↦ rw failure (stopped old new input before rest after number Input (written old new input before rest between after number so_far other.1) tt)
+  ]
+]
 
 first_line : (rest next : Option (List ℕ)) (said : Line) (reads : ReadsLine rest next said) → (more : List (List ℕ)) × IfSome rest (λ left. lines_of left ≡ reads.line ∷ more)
 first_line rest next said reads = at rest reads.some reads.first where
@@ -205,10 +208,10 @@ not_a_command old new input before rest next after number so_far reads =
     }
 
 -- at the next line it stops
-pub line_stops : {A : Type 0} (old new : SessionState) (input before rest next after : Option (List ℕ)) (number : ℕ) (said : Line) (stop : Stop) →
+pub at_line : {A : Type 0} (old new : SessionState) (input before rest next after : Option (List ℕ)) (number : ℕ) (said : Line) (stop : Stop) →
     Progress old input before rest after new number → ReadsLine rest next said
     → (stop ≡ Memory) ⊎ ((stop ≡ NotACommand number) × (said ≡ Other)) → Drives {A = A} old input before (Err stop) after new
-line_stops old new input before rest next after number said stop so_far reads cause = elim cause [
+at_line old new input before rest next after number said stop so_far reads cause = elim cause [
   | inl memory ↦ rw memory (stopped old new input before rest after number Memory so_far tt)
   | inr other ↦ rw other.0 (not_a_command old new input before rest next after number so_far (rw other.1 at reads))
 ]
@@ -267,6 +270,12 @@ in_buffer (Some behind) next buffer len said place says drops =
       first = cut.0;
       rest = drops (omega (arith, at.0)) ∙ ap (λ n. Some (drop n (buffer ++ behind))) (add-one len) ∙ ap (λ left. Some left) cut.1
     }
+
+-- the same of a reader's bytes, which are not known where it has no buffer
+pub in_reader : (has_none : Bool) (known next : Option (List ℕ)) (buffer : List ℕ) (len : ℕ) (said : Line) → position is_newline buffer ≡ Some len → IsSaid (line_words (take len buffer)) said
+    → DropsConsumable (cond has_none None (prepend_known buffer known)) next (Some (length buffer)) (len + 1) → ReadsLine (cond has_none None (prepend_known buffer known)) next said
+in_reader true known next buffer len said place says drops = record { line = take len buffer; says = says; some = tt; first = tt; rest = tt }
+in_reader false known next buffer len said place says drops = in_buffer known next buffer len said place says drops
 
 -- a line that `read_until` took
 pub read_through : (old new : Option (List ℕ)) (line : List ℕ) (said : Line) → IfSome old (λ text. line ≡ take_through 10 text) → DropsThrough old new 10 → 0 < length line

@@ -4,4 +4,6 @@
 #[cfg(test)]
 mod map;
 #[cfg(test)]
+mod session;
+#[cfg(test)]
 mod stores;
