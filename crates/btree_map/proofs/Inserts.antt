@@ -1,13 +1,13 @@
 -- What an insertion leaves of the map, from what its steps say.
-use Rattle.std.proofs.Common.{◌≡◌, ◌≢◌, ℕ, zero, suc, ◌+◌, ◌<◌, ◌≤◌, List, [], ◌∷◌, length, Option, Some, None, refl, sym, ap, subst, ◌∙◌, arith}
+use Rattle.std.proofs.Common.{◌≡◌, ℕ, ◌+◌, ◌<◌, ◌≤◌, List, [], ◌∷◌, length, Option, Some, None, sym, ap, subst, ◌∙◌, arith}
 use Rattle.std.specs.declared.cmp.Ordering.{Ordering}
 use Rattle.std.specs.Cmp.{IsTotalOrder}
 use Rattle.std.specs.FinMap as map
 use Rattle.btree_store.specs.Content.{Content}
-use Rattle.btree_item.specs.Pairs.{Ascends, found, found_value, inserted, with_value}
+use Rattle.btree_item.specs.Pairs.{found_value, inserted, with_value}
 use Rattle.btree_node.specs.Leaf.{Leaf}
 use Rattle.btree_shape.specs.TreeState.{views, leaf_at, pairs_under, IsSound}
-use Rattle.btree_shape.proofs.LeafTree.{HasLeaf, at_root, pairs-at_root}
+use Rattle.btree_shape.proofs.LeafTree.{at_root, pairs-at_root}
 use Rattle.btree_map.proofs.Edits.{with_items, sound-put, pairs-put, sound-replace, pairs-replace, sound-exchange, pairs-exchange, sound-first, pairs-first}
 
 module _ {K V : Type 0} (cmp : K → K → Ordering) {nodes : Content (Leaf K V)} {root : Option ℕ} {len : ℕ} (r : ℕ) (is_root : root ≡ Some r) (s : IsSound cmp nodes root len) where
@@ -63,4 +63,3 @@ module _ {K V : Type 0} (cmp : K → K → Ordering) {nodes claimed after : Cont
 
   pub first-pairs : pairs_under (views after) (Some r) 1 ≡ (k, w) ∷ []
   first-pairs = rw (put, claim) (pairs-first cmp nodes len at_none r k w)
-

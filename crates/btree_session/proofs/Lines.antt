@@ -1,8 +1,8 @@
 -- The lines of a text, one after another.
-use Rattle.std.proofs.Common.{◌≡◌, ℕ, ◌+◌, ◌-◌, ◌<◌, ◌≤◌, Bool, true, false, cond, List, [], ◌∷◌, ◌++◌, length, length-append, get_or, take, drop, zero, suc, refl, sym, ap, ◌∙◌, inl, inr, arith}
+use Rattle.std.proofs.Common.{◌≡◌, ℕ, ◌<◌, Bool, true, false, cond, List, [], ◌∷◌, ◌++◌, length, length-append, get_or, take, drop, zero, suc, refl, sym, ap, ◌∙◌, inl, inr, arith}
 use Rattle.std.specs.Prelude.{◌==◌}
 use Rattle.std.specs.List.{slice_split, onto_first}
-use Rattle.std.specs.Io.BufRead.{take_through, drop_through, strip_last, ends_with_byte}
+use Rattle.std.specs.Io.BufRead.{take_through, drop_through, strip_last}
 use Rattle.std.proofs.lemmas.Bool.{cases_Bool}
 use Rattle.std.proofs.lemmas.Grind.{common_steps}
 use Rattle.std.proofs.lemmas.List.Splits.{length-slice_split}
@@ -64,7 +64,7 @@ other_first byte (next ∷ text) other rest =
     ap lines_among parts
     ∙ lines_among-onto byte (slice_split is_newline (next ∷ text)) (strip_last 10 (take_through 10 (next ∷ text))) (lines_of (drop_through 10 (next ∷ text))) (rest (omega arith))
     ∙ ap (λ line. line ∷ lines_of (drop_through 10 (next ∷ text)))
-        (sym (strip_last-cons 10 byte (take_through 10 (next ∷ text)) (some_taken (is_newline next) next (take_through 10 text))) ∙ ap (strip_last 10) (sym taken))
+    (sym (strip_last-cons 10 byte (take_through 10 (next ∷ text)) (some_taken (is_newline next) next (take_through 10 text))) ∙ ap (strip_last 10) (sym taken))
     ∙ ap (λ left. strip_last 10 (take_through 10 (byte ∷ next ∷ text)) ∷ lines_of left) (sym dropped)
 
 -- a text with a byte begins with a line

@@ -1,6 +1,5 @@
 -- Words that are a number, and words that are none.
 use Rattle.std.proofs.Common.{◌≡◌, ℕ, ◌+◌, ◌*◌, ◌^◌, ◌<◌, ◌≤◌, List, take, length, get_or, sym, arith}
-use Rattle.std.specs.Char.{digit_value}
 use Rattle.std.specs.Int.{IsInRange}
 use Rattle.std.specs.Str.Parse.{AllDigits, digits_value}
 use Rattle.std.proofs.lemmas.Int.Digits.{digits_value_more, digits_more}
@@ -19,7 +18,7 @@ pub more_digits : (word : List ℕ) (i value next : ℕ) → AreDigits word i va
     → next + 48 ≡ value * 10 + get_or word i 0 → AreDigits word (i + 1) next
 more_digits word i value next so_far within digit is_next = record {
   digits = digits_more 10 word i within so_far.digits (omega (arith, digit_value_digit (get_or word i 0) digit));
-  is_value = omega (arith, digits_value_more 10 word i within, digit_value_digit (get_or word i 0) digit, so_far.is_value)
+  is_value = omega (arith, digits_value_more 10 word i within, digit_value_digit (get_or word i 0) digit, so_far.is_value);
 }
 
 -- all of them
@@ -27,7 +26,7 @@ pub all_digits : (word : List ℕ) (i value : ℕ) → AreDigits word i value �
 all_digits word i value so_far all some fits = record {
   numeral = (some, rw take_all at so_far.digits);
   value = sym (rw take_all at so_far.is_value);
-  fits = fits
+  fits = fits;
 }
 
 -- a byte that is not a digit

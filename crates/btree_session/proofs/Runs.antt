@@ -25,9 +25,10 @@ pub one_more : (old mid new : SessionState) (commands : List Command) (i : ℕ) 
     → Answers old (take (i + 1) commands) before after new
 one_more old mid new commands i d before between after reply so_far within step more =
     rw (take_more commands i d within) (
-        so_far.0 ++ reply ∷ [],
-        more ∙ ap (λ replies. replies ++ reply ∷ []) so_far.1 ∙ append_assoc before so_far.0 (reply ∷ []),
-        IsRun-append old mid new (take i commands) (get_or commands i d ∷ []) so_far.0 (reply ∷ []) so_far.2 (new, step, refl))
+      so_far.0 ++ reply ∷ [],
+      more ∙ ap (λ replies. replies ++ reply ∷ []) so_far.1 ∙ append_assoc before so_far.0 (reply ∷ []),
+      IsRun-append old mid new (take i commands) (get_or commands i d ∷ []) so_far.0 (reply ∷ []) so_far.2 (new, step, refl),
+    )
 
 -- at the end all are
 pub all_answered : (old new : SessionState) (commands : List Command) (i : ℕ) (before after : List Reply)

@@ -1,5 +1,5 @@
 -- Lines served one after another.
-use Rattle.std.proofs.Common.{◌≡◌, ℕ, ◌+◌, ◌<◌, List, [], ◌∷◌, ◌++◌, take, drop, length, add-one, Option, Some, None, IfSome, Result, Ok, Err, IsTrue, ◌↔◌, Bool, true, false, cond, true≢false, ◌⊎◌, inl, inr, refl, sym, ap, ◌∙◌, arith, append_assoc, append-nil, length-append}
+use Rattle.std.proofs.Common.{◌≡◌, ℕ, ◌+◌, ◌<◌, List, [], ◌∷◌, ◌++◌, take, drop, length, add-one, Option, Some, None, IfSome, Ok, Err, Bool, true, false, cond, ◌⊎◌, inl, inr, refl, sym, ap, ◌∙◌, arith, append_assoc, append-nil, length-append}
 use Rattle.std.specs.Prelude.{position}
 use Rattle.std.proofs.lemmas.List.Quantifiers.{position-Some}
 use Rattle.std.proofs.lemmas.Grind.{flat_map-append}
@@ -12,7 +12,7 @@ use Rattle.btree_session.specs.declared.line.Line.TheVariants.{Other}
 use Rattle.btree_session.specs.declared.script.Stop.{Stop}
 use Rattle.btree_session.specs.declared.script.Stop.TheVariants.{NotACommand, Memory, Input, Output}
 use Rattle.btree_session.specs.Line.{line_words, Says, IsSaid}
-use Rattle.btree_session.specs.Machine.{SessionState, Step, IsRun}
+use Rattle.btree_session.specs.Machine.{SessionState, Step}
 use Rattle.btree_session.specs.Text.{line_of, lines_of_replies}
 use Rattle.btree_session.specs.Script.{is_newline, lines_of, ReadsLine, SayAll, Serves, EndsAfter, Writes, Drives}
 use Rattle.btree_session.proofs.Lines.{lines_of-cons, cut_at_newline}
@@ -30,16 +30,17 @@ Serves-append : (old mid new : SessionState) (lines more : List (List ℕ)) (rs 
 Serves-append old mid new lines more rs ss first second = record {
   commands = first.commands ++ second.commands;
   say = SayAll-append lines more first.commands second.commands first.say second.say;
-  run = IsRun-append old mid new first.commands second.commands rs ss first.run second.run
+  run = IsRun-append old mid new first.commands second.commands rs ss first.run second.run;
 }
 
 -- a line that says a command
 pub one_served : (old new : SessionState) (command : Command) (before after : List ℕ) → ((reply : Reply) × Step old command reply new × (after ≡ before ++ line_of reply))
     → (line : List ℕ) → Says (line_words line) command → (given : List Reply) × Serves old (line ∷ []) given new × (after ≡ before ++ lines_of_replies given)
-one_served old new command before after answered line says =
-    (answered.0 ∷ [],
-        record { commands = command ∷ []; say = inr (command, [], refl, says, refl); run = (new, answered.1, refl) },
-        answered.2 ∙ ap (λ text. before ++ text) (sym (append-nil (line_of answered.0))))
+one_served old new command before after answered line says = (
+  answered.0 ∷ [],
+  record { commands = command ∷ []; say = inr (command, [], refl, says, refl); run = (new, answered.1, refl) },
+  answered.2 ∙ ap (λ text. before ++ text) (sym (append-nil (line_of answered.0))),
+)
 
 -- how far it has come
 pub record Progress (old : SessionState) (input before rest after : Option (List ℕ)) (new : SessionState) (number : ℕ) : Type 0 where
@@ -62,7 +63,7 @@ begun old input before = record {
   serves = record { commands = []; say = refl; run = refl };
   writes = Appends-none before;
   known = at input;
-  count = refl
+  count = refl;
 } where
   at : (input : Option (List ℕ)) → IfSome input (λ text. (left : List ℕ) × (input ≡ Some left) × (lines_of text ≡ lines_of left))
   at None = tt
@@ -83,7 +84,7 @@ written old new input before rest between after number so_far keeps = record {
   serves = so_far.serves;
   writes = Appends-keeps before between after (lines_of_replies so_far.replies) so_far.writes keeps;
   known = so_far.known;
-  count = so_far.count
+  count = so_far.count;
 }
 
 -- the lines of the input, of which some were served
@@ -128,7 +129,7 @@ ended old new input before rest after number x so_far none =
       ends = all.are ∙ append-nil so_far.served;
       replies = so_far.replies;
       serves = so_far.serves;
-      writes = so_far.writes
+      writes = so_far.writes;
     }
 
 ends_anywhere : (A : Type 0) (served lines : List (List ℕ)) (stop : Stop) → ComesAnywhere stop → (rest : List (List ℕ)) × (lines ≡ served ++ rest) → EndsAfter {A = A} served lines (Err stop)
@@ -155,7 +156,7 @@ stopped {A} old new input before rest after number stop so_far anywhere =
       ends = ends_anywhere A so_far.served all.1.lines stop anywhere (all.0, all.1.are);
       replies = so_far.replies;
       serves = so_far.serves;
-      writes = writes_so_far A before after so_far.replies stop so_far.writes
+      writes = writes_so_far A before after so_far.replies stop so_far.writes;
     }
 
 -- the writer fails
@@ -170,7 +171,7 @@ failed old new input before rest between after number so_far =
       ends = (all.0, all.1.are);
       replies = so_far.replies;
       serves = so_far.serves;
-      writes = tt
+      writes = tt;
     }
 
 -- it stops while it looks for the next line
@@ -204,7 +205,7 @@ not_a_command old new input before rest next after number so_far reads =
       ends = (reads.line, first.0, all.are, reads.says, so_far.count);
       replies = so_far.replies;
       serves = so_far.serves;
-      writes = so_far.writes
+      writes = so_far.writes;
     }
 
 -- at the next line it stops
@@ -237,11 +238,13 @@ left_behind : (input rest next : Option (List ℕ)) (served : List (List ℕ)) (
 left_behind None rest next served line known some first dropped = tt
 left_behind (Some text) None next served line known some first dropped = cc
 left_behind (Some text) (Some left) next served line known some first dropped =
-    let same : known.0 ≡ left = cc in
-    (drop_through 10 left, dropped,
-        known.2 ∙ ap (λ bytes. served ++ lines_of bytes) same
-        ∙ ap (λ lines. served ++ lines) (lines_of-cons left some ∙ ap (λ is. is ∷ lines_of (drop_through 10 left)) (sym first))
-        ∙ sym (append_assoc served (line ∷ []) (lines_of (drop_through 10 left))))
+    let same : known.0 ≡ left = cc in (
+      drop_through 10 left,
+      dropped,
+      known.2 ∙ ap (λ bytes. served ++ lines_of bytes) same
+          ∙ ap (λ lines. served ++ lines) (lines_of-cons left some ∙ ap (λ is. is ∷ lines_of (drop_through 10 left)) (sym first))
+          ∙ sym (append_assoc served (line ∷ []) (lines_of (drop_through 10 left))),
+    )
 
 -- one more line is served
 pub goes_on : (old mid new : SessionState) (input before rest next between after : Option (List ℕ)) (number : ℕ) (said : Line) (reads : ReadsLine rest next said) (given : List Reply) →
@@ -253,7 +256,7 @@ goes_on old mid new input before rest next between after number said reads given
   serves = Serves-append old mid new so_far.served (reads.line ∷ []) so_far.replies given so_far.serves serves;
   writes = rw (lines_of_replies-append so_far.replies given) (Appends-append before between after (lines_of_replies so_far.replies) (lines_of_replies given) so_far.writes writes);
   known = left_behind input rest next so_far.served reads.line so_far.known reads.some reads.first reads.rest;
-  count = omega (arith, so_far.count, length-append so_far.served (reads.line ∷ []))
+  count = omega (arith, so_far.count, length-append so_far.served (reads.line ∷ []));
 }
 
 -- a line in the front of known bytes
@@ -268,7 +271,7 @@ in_buffer (Some behind) next buffer len said place says drops =
       says = says;
       some = omega (arith, length-append buffer behind, at.0);
       first = cut.0;
-      rest = drops (omega (arith, at.0)) ∙ ap (λ n. Some (drop n (buffer ++ behind))) (add-one len) ∙ ap (λ left. Some left) cut.1
+      rest = drops (omega (arith, at.0)) ∙ ap (λ n. Some (drop n (buffer ++ behind))) (add-one len) ∙ ap (λ left. Some left) cut.1;
     }
 
 -- the same of a reader's bytes, which are not known where it has no buffer
@@ -286,7 +289,7 @@ read_through (Some text) new line said taken dropped some says = record {
   says = says;
   some = has_bytes text (omega (arith, ap length taken));
   first = ap (strip_last 10) taken;
-  rest = dropped
+  rest = dropped;
 } where
   has_bytes : (text : List ℕ) → 0 < length (take_through 10 text) → 0 < length text
   has_bytes [] some = some

@@ -1,5 +1,5 @@
 -- Steps of the machine, by what the map says.
-use Rattle.std.proofs.Common.{◌≡◌, ℕ, ◌+◌, ◌-◌, ◌^◌, List, length, None, refl, ap}
+use Rattle.std.proofs.Common.{◌≡◌, ℕ, None, ap}
 use Rattle.std.specs.Ordering.{nat_cmp}
 use Rattle.btree_item.specs.Pairs.{found}
 use Rattle.btree_item.specs.declared.refused.Cause.{Cause}

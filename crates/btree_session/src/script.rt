@@ -115,10 +115,7 @@ fn newline_place(bytes: &[u8]) -> Option<usize>
 }
 
 /// Reads what the next line says, if there is one. The vector is used for the line.
-fn read_line<R: Read>(
-    reader: &mut BufReader<R>,
-    line: &mut Vec<u8>,
-) -> Result<Option<Line>, Stop>
+fn read_line<R: Read>(reader: &mut BufReader<R>, line: &mut Vec<u8>) -> Result<Option<Line>, Stop>
     ensures line { IfOk result (λ next. IfSome next (ReadsLine (reader_remaining R.remaining reader.old) (reader_remaining R.remaining reader.new))) }
     ensures end { IfOk result (λ next. IfNone next (IsAtEnd (reader_remaining R.remaining reader.old))) }
     ensures stop { IfErr result (λ stop. (stop ≡ Stop.Memory) ⊎ (stop ≡ Stop.Input)) }

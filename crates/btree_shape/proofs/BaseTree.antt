@@ -128,11 +128,11 @@ bare_once (suc n) = grind (arith, nat_tests)
 pub off_by_one_bare : IsOffByOne nat_cmp bare 0 0 []
 unfolding IsStrictlySortedBy
 off_by_one_bare = record {
-    ascends = tt;
-    rooted = record { height = 0; spells = refl; sized = bare_sized; once = bare_once };
-    low = omega arith;
-    used = refl
-  }
+  ascends = tt;
+  rooted = record { height = 0; spells = refl; sized = bare_sized; once = bare_once };
+  low = omega arith;
+  used = refl;
+}
 
 bare_stands : StandsAt bare [] 0 [] 0
 bare_stands = record { front = []; back = []; subtree = record { height = 0; parent = None; spells = refl }; split = refl; counted = refl }

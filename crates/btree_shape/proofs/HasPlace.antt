@@ -1,11 +1,11 @@
 -- Each address in a node of a tree has a place.
-use Rattle.std.proofs.Common.{◌≡◌, ◌≢◌, ◌⊎◌, ℕ, zero, suc, ◌+◌, ◌<◌, ◌≤◌, ◌==◌, List, [], ◌∷◌, ◌++◌, length, map, Option, Some, None, IsSome, refl, sym, ap, subst, ◌∙◌, inl, inr, arith, length-append}
+use Rattle.std.proofs.Common.{◌≡◌, ◌⊎◌, ℕ, zero, suc, ◌+◌, ◌≤◌, List, [], ◌∷◌, ◌++◌, length, map, Option, Some, None, refl, sym, ap, subst, ◌∙◌, inl, inr, arith}
 use Rattle.std.specs.Prelude.{slice_get}
-use Rattle.std.specs.List.{AllByRecursion, flat_map}
-use Rattle.btree_shape.specs.View.{View, leaf, internal, Look, size_of, items_of, item_in}
+use Rattle.std.specs.List.{flat_map}
+use Rattle.btree_shape.specs.View.{View, internal, Look, items_of, item_in}
 use Rattle.btree_shape.specs.Spells.{Spells, numbers_under, times}
 use Rattle.btree_shape.specs.WellFormed.{times_used}
-use Rattle.btree_shape.specs.Place.{IsSubtree, StandsAt, IsPlace, IsPlaceOf, IsEnd, IsPlaceAfter, IsNowhere, IsWithin}
+use Rattle.btree_shape.specs.Place.{IsPlace, IsPlaceOf, IsEnd, IsWithin}
 use Rattle.btree_shape.proofs.Subtrees.{Stands, stands}
 
 module _ {A : Type 0} where
@@ -29,7 +29,7 @@ module _ {A : Type 0} where
   low_or_end : (xs : List A) (o : ℕ) → o ≤ length xs → ((x : A) × (slice_get xs o ≡ Some x)) ⊎ (o ≡ length xs)
   low_or_end [] o low = inr (omega arith)
   low_or_end (x ∷ xs) zero low = inl (x, refl)
-  low_or_end (x ∷ xs) (suc o) low = elim (low_or_end xs o (omega arith)) [ | inl at ↦ inl at | inr e ↦ inr (omega arith) ]
+  low_or_end (x ∷ xs) (suc o) low = elim (low_or_end xs o (omega arith)) [ inl at ↦ inl at | inr e ↦ inr (omega arith) ]
 
 module _ {A : Type 0} (look : Look A) where
   item_among : (h : ℕ) (p : Option ℕ) (n : ℕ) (ys : List A) (o : ℕ) (x : A) → Spells look h p n ys → item_in (look n) o ≡ Some x → (q : ℕ) × (slice_get ys q ≡ Some x)

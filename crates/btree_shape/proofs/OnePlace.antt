@@ -1,16 +1,14 @@
 -- An address of a well formed tree, or of one that is off by one at a node, has one place.
-use Rattle.std.proofs.Common.{◌≡◌, ◌≢◌, ◌⊎◌, ℕ, zero, suc, ◌+◌, ◌<◌, ◌≤◌, ◌==◌, List, [], ◌∷◌, ◌++◌, length, map, Option, Some, None, IsSome, cond, refl, sym, ap, subst, ◌∙◌, inl, inr, arith, length-append}
-use Rattle.std.specs.Prelude.{slice_get, if◌then◌else◌, count_by}
-use Rattle.std.specs.List.{AllByRecursion, flat_map}
+use Rattle.std.proofs.Common.{◌≡◌, ◌⊎◌, ℕ, zero, suc, ◌<◌, ◌≤◌, List, [], ◌∷◌, length, Option, Some, None, refl, sym, ap, ◌∙◌, inl, inr, arith, length-append}
+use Rattle.std.specs.List.{flat_map}
 use Rattle.std.specs.Cmp.{IsTotalOrder}
 use Rattle.std.specs.declared.cmp.Ordering.{Ordering}
 use Rattle.std.proofs.lemmas.Bool.{cases_eq}
 use Rattle.std.proofs.lemmas.Bool.Decides.{nat_tests}
-use Rattle.btree_item.specs.Pairs.{Ascends}
-use Rattle.btree_shape.specs.View.{View, leaf, internal, Look, size_of, most_of, items_of, item_in}
-use Rattle.btree_shape.specs.Spells.{Spells, spelled, numbers_under, times}
-use Rattle.btree_shape.specs.WellFormed.{times_used, least_of, least_beside, IsWellFormed, IsOffByOne}
-use Rattle.btree_shape.specs.Place.{IsSubtree, StandsAt, IsPlace, IsPlaceOf, IsEnd, IsPlaceAfter, IsNowhere, IsWithin, IsValid}
+use Rattle.btree_shape.specs.View.{View, leaf, Look, size_of}
+use Rattle.btree_shape.specs.Spells.{Spells}
+use Rattle.btree_shape.specs.WellFormed.{least_of, least_beside, IsWellFormed, IsOffByOne}
+use Rattle.btree_shape.specs.Place.{IsSubtree, IsPlace}
 use Rattle.btree_shape.proofs.SamePlace.{same_subtree, same_place}
 
 none_or_some : {X : Type 0} (ys : List X) → (0 < length ys) ⊎ (ys ≡ [])
@@ -39,11 +37,11 @@ module _ {K V : Type 0} (cmp : K → K → Ordering) (o : IsTotalOrder cmp) (loo
   pub one_place : (id : ℕ) (offset : Option ℕ) (p q : ℕ) → IsPlace look (Some root) xs id offset p → IsPlace look (Some root) xs id offset q → p ≡ q
   one_place id offset p q s t =
       same_place cmp o look xs w.ascends
-        (λ id ys u. filled look root i xs (record { height = w.rooted.height; parent = None; spells = w.rooted.spells }) (λ id node e. (w.rooted.sized id node e).0) u.height u.parent id ys u.spells)
-        (Some root) id offset p q s t
+      (λ id ys u. filled look root i xs (record { height = w.rooted.height; parent = None; spells = w.rooted.spells }) (λ id node e. (w.rooted.sized id node e).0) u.height u.parent id ys u.spells)
+      (Some root) id offset p q s t
 
 fewer : (root id n : ℕ) → least_of root id ≤ n → least_beside root root id ≤ n
-fewer root id n h = elim (cases_eq id root) [ | inl same ↦ grind (arith, nat_tests) | inr differs ↦ grind (arith, nat_tests) ]
+fewer root id n h = elim (cases_eq id root) [ inl same ↦ grind (arith, nat_tests) | inr differs ↦ grind (arith, nat_tests) ]
 
 module _ {K V : Type 0} (cmp : K → K → Ordering) (o : IsTotalOrder cmp) (look : Look (K × V)) (xs : List (K × V)) (len : ℕ) where
   -- the same of a well formed tree
@@ -51,5 +49,5 @@ module _ {K V : Type 0} (cmp : K → K → Ordering) (o : IsTotalOrder cmp) (loo
   one_place-well None w id offset p q s t = s.1 ∙ sym t.1
   one_place-well (Some root) w id offset p q s t =
       same_place cmp o look xs w.ascends
-        (λ id ys u. filled look root root xs (record { height = w.formed.height; parent = None; spells = w.formed.spells }) (λ id node e. fewer root id (size_of node) (w.formed.sized id node e).0) u.height u.parent id ys u.spells)
-        (Some root) id offset p q s t
+      (λ id ys u. filled look root root xs (record { height = w.formed.height; parent = None; spells = w.formed.spells }) (λ id node e. fewer root id (size_of node) (w.formed.sized id node e).0) u.height u.parent id ys u.spells)
+      (Some root) id offset p q s t

@@ -1,5 +1,5 @@
 -- In a list whose keys ascend strictly an address has one place.
-use Rattle.std.proofs.Common.{◌≡◌, ◌⊎◌, ℕ, zero, suc, ◌+◌, ◌<◌, ◌≤◌, List, [], ◌∷◌, ◌++◌, length, Option, Some, None, refl, sym, ap, subst, ◌∙◌, inl, inr, arith, length-append}
+use Rattle.std.proofs.Common.{◌≡◌, ◌⊎◌, ℕ, zero, suc, ◌+◌, ◌<◌, List, [], ◌∷◌, ◌++◌, length, Option, Some, None, refl, sym, ap, ◌∙◌, inl, inr, arith, length-append}
 use Rattle.std.specs.Prelude.{slice_get}
 use Rattle.std.specs.List.{AllByRecursion}
 use Rattle.std.specs.List.Sorted.{IsStrictlySortedBy}
@@ -9,9 +9,9 @@ use Rattle.std.specs.declared.cmp.Ordering.{Ordering}
 use Rattle.std.specs.declared.cmp.Ordering.TheVariants.{Less, Equal, Greater}
 use Rattle.std.specs.Ordering.{ordering_reverse}
 use Rattle.btree_item.specs.Pairs.{Ascends}
-use Rattle.btree_shape.specs.View.{View, Look, size_of, items_of, item_in}
-use Rattle.btree_shape.specs.Spells.{Spells, spelled}
-use Rattle.btree_shape.specs.Place.{IsSubtree, StandsAt, IsPlace, IsPlaceOf, IsEnd, IsPlaceAfter, IsNowhere}
+use Rattle.btree_shape.specs.View.{View, Look, items_of, item_in}
+use Rattle.btree_shape.specs.Spells.{Spells}
+use Rattle.btree_shape.specs.Place.{IsSubtree, StandsAt, IsPlace, IsPlaceOf, IsEnd}
 use Rattle.btree_shape.proofs.Spelled.{spelled-is}
 
 module _ {A : Type 0} (look : Look A) where
@@ -61,8 +61,8 @@ module _ {K V : Type 0} (cmp : K → K → Ordering) (o : IsTotalOrder cmp) wher
   same_front xs [] front back front2 back2 up (inl some) e f = absurd (omega arith)
   same_front xs (y ∷ ys) front back front2 back2 up (inl some) e f =
       same_index xs (length front) (length front2) y up
-        (ap (λ l. slice_get l (length front)) e ∙ get_in front (y ∷ ys) back)
-        (ap (λ l. slice_get l (length front2)) f ∙ get_in front2 (y ∷ ys) back2)
+      (ap (λ l. slice_get l (length front)) e ∙ get_in front (y ∷ ys) back)
+      (ap (λ l. slice_get l (length front2)) f ∙ get_in front2 (y ∷ ys) back2)
     where
       get_in : (f g h : List (K × V)) → slice_get (f ++ g ++ h) (length f) ≡ slice_get (g ++ h) 0
       get_in [] g h = refl

@@ -1,13 +1,12 @@
 -- Where the items of a node's subtree stand in the list of the tree.
-use Rattle.std.proofs.Common.{◌≡◌, ◌≢◌, ◌⊎◌, ℕ, zero, suc, ◌+◌, ◌<◌, ◌≤◌, ◌==◌, List, [], ◌∷◌, ◌++◌, length, map, Option, Some, None, IsSome, Bool, true, false, cond, refl, sym, ap, subst, ◌∙◌, inl, inr, arith, length-append, append_assoc, append-nil}
-use Rattle.std.specs.Prelude.{slice_get, count_by}
+use Rattle.std.proofs.Common.{◌≡◌, ◌≢◌, ◌⊎◌, ℕ, zero, suc, ◌+◌, ◌<◌, ◌==◌, List, [], ◌∷◌, ◌++◌, length, map, Option, Some, Bool, true, false, cond, refl, sym, ap, subst, ◌∙◌, inl, inr, arith, append_assoc, append-nil}
 use Rattle.std.specs.List.{AllByRecursion, flat_map}
 use Rattle.std.proofs.lemmas.Bool.{cases_eq}
 use Rattle.std.proofs.lemmas.Bool.Decides.{nat_tests}
 use Rattle.std.proofs.lemmas.List.Sums.{sum_by-append, sum_by-cons}
-use Rattle.btree_shape.specs.View.{View, leaf, internal, Look, size_of, items_of, item_in, children_in}
+use Rattle.btree_shape.specs.View.{Look}
 use Rattle.btree_shape.specs.Spells.{Spells, numbers_under, times}
-use Rattle.btree_shape.specs.Place.{IsSubtree, StandsAt, IsPlace, IsPlaceOf, IsEnd, IsPlaceAfter, IsNowhere, IsWithin}
+use Rattle.btree_shape.specs.Place.{StandsAt}
 
 module _ {A : Type 0} (look : Look A) where
   pub record Stands (xs : List A) (id : ℕ) : Type 0 where
@@ -27,8 +26,8 @@ module _ {A : Type 0} (look : Look A) where
           back = r ++ back;
           subtree = s.at.subtree;
           split = ap (λ z. front ++ (z ++ back)) s.at.split ∙ shape front l s.ys r back;
-          counted = refl
-        }
+          counted = refl;
+        };
       }
     where
       shape : (a b c d e : List A) → a ++ ((b ++ c ++ d) ++ e) ≡ (a ++ b) ++ c ++ (d ++ e)
@@ -83,8 +82,8 @@ module _ {A : Type 0} (look : Look A) where
         let e = ap (times id) all in
         let long : List A = flat_map (λ (r : A × ℕ × List A). r.0 ∷ r.2) s.2 in
         subst (λ l. Stands l id) (sym s.6)
-          (elim (split_sum (times id (numbers_under look h s.0)) (times id others) (omega arith)) [
-            | inl here ↦ widen [] s.1 long id (stands h (Some n) id s.0 s.1 s.4 here)
-            | inr there ↦ subst (λ l. Stands (s.1 ++ l) id) (append-nil long) (widen s.1 long [] id (later h (Some n) id (λ m zs t k. stands h (Some n) id m zs t k) s.2 s.5 there))
-          ])
+        (elim (split_sum (times id (numbers_under look h s.0)) (times id others) (omega arith)) [
+          | inl here ↦ widen [] s.1 long id (stands h (Some n) id s.0 s.1 s.4 here)
+          | inr there ↦ subst (λ l. Stands (s.1 ++ l) id) (append-nil long) (widen s.1 long [] id (later h (Some n) id (λ m zs t k. stands h (Some n) id m zs t k) s.2 s.5 there))
+        ])
   ]

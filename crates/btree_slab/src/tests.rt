@@ -19,7 +19,10 @@ fn a_map_of_one_leaf(rt: HostRuntime) -> Result<(), Fail> {
         }
     }
     assert_eq!(rt; map.insert(3, 33).ok(), Some(Some(30)));
-    assert_eq!(rt; (map.get(&3).copied(), map.get(&8).copied()), (Some(33), None));
+    assert_eq!(rt;
+        (map.get(&3).copied(), map.get(&8).copied()),
+        (Some(33), None)
+    );
     assert_eq!(rt; map.len(), 8);
     Ok(())
 }

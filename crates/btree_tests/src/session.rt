@@ -13,7 +13,8 @@ use std::test::Fail;
 
 type Store = SlabStore<LeafNode<u64, u64>>;
 
-const GROWING: &[u8] = b"insert 0 0\ninsert 1 10\ninsert 2 20\ninsert 3 30\ninsert 4 40\ninsert 5 50\ninsert 6 60\n\
+const GROWING: &[u8] =
+    b"insert 0 0\ninsert 1 10\ninsert 2 20\ninsert 3 30\ninsert 4 40\ninsert 5 50\ninsert 6 60\n\
 insert 7 70\ninsert 8 80\nget 8\ninsert 3 33\nget 3\n";
 
 #[test]
@@ -31,13 +32,21 @@ fn lines_are_answered(rt: HostRuntime) -> Result<(), Fail> {
         ),
         (b"", b"", Ok(())),
         (b"insert 1 2\nget 1", b"none\nsome 2\n", Ok(())),
-        (b"insert 18446744073709551616 1\n", b"", Err(Stop::NotACommand(1))),
+        (
+            b"insert 18446744073709551616 1\n",
+            b"",
+            Err(Stop::NotACommand(1)),
+        ),
         (
             b"insert 18446744073709551615 18446744073709551615\nget 00018446744073709551615\n",
             b"none\nsome 18446744073709551615\n",
             Ok(()),
         ),
-        (b"get 1\nget \xff\nget 1\n", b"none\n", Err(Stop::NotACommand(2))),
+        (
+            b"get 1\nget \xff\nget 1\n",
+            b"none\n",
+            Err(Stop::NotACommand(2)),
+        ),
         (
             b" get   1 \r\n\n  \r\n\r\nget 1\r\nget\t1\n",
             b"none\nnone\n",
@@ -60,13 +69,24 @@ fn lines_are_answered(rt: HostRuntime) -> Result<(), Fail> {
 #[test]
 fn other_words_are_no_commands(rt: HostRuntime) -> Result<(), Fail> {
     let lines: [&[u8]; 8] = [
-        b"get", b"got 1", b"Get 1", b"get +1", b"get -1", b"get 0x1", b"get 1a", b"insert 1 2 3",
+        b"get",
+        b"got 1",
+        b"Get 1",
+        b"get +1",
+        b"get -1",
+        b"get 0x1",
+        b"get 1a",
+        b"insert 1 2 3",
     ];
     for line in lines {
         let mut session: Session<Store> = Session::new(rt.alloc());
         let (mut input, mut output) = (line, Vec::new(rt.alloc()));
         let result = drive(rt.alloc(), &mut session, &mut input, &mut output);
-        assert_eq!(rt; (result, output.len()), (Err(Stop::NotACommand(1)), 0), "at {line:?}");
+        assert_eq!(rt;
+            (result, output.len()),
+            (Err(Stop::NotACommand(1)), 0),
+            "at {line:?}"
+        );
     }
     Ok(())
 }
@@ -207,7 +227,11 @@ fn replies_are_written_before_more_is_read(rt: HostRuntime) -> Result<(), Fail> 
         };
         let result = drive(rt.alloc(), &mut session, &mut input, &mut output);
         assert_eq!(rt; result, wanted.end, "in run {number}");
-        assert_eq!(rt; output.written.as_slice(), wanted.written, "in run {number}");
+        assert_eq!(rt;
+            output.written.as_slice(),
+            wanted.written,
+            "in run {number}"
+        );
         assert_eq!(rt; input.seen.as_slice(), wanted.seen, "in run {number}");
         // What was run keeps its effect, whether its reply could be written or not.
         assert_eq!(rt; session.map().get(&1).copied(), Some(10), "in run {number}");
@@ -234,7 +258,10 @@ fn refused_room_for_replies_changes_nothing(rt: HostRuntime) -> Result<(), Fail>
     assert_eq!(rt; session.map().get(&1).copied(), Some(10));
 
     run(&mut session, &commands, &mut replies)?;
-    assert_eq!(rt; (replies.len(), replies.get(1).copied()), (101, Some(Reply::Value(10))));
+    assert_eq!(rt;
+        (replies.len(), replies.get(1).copied()),
+        (101, Some(Reply::Value(10)))
+    );
     assert_eq!(rt; replies.last().copied(), Some(Reply::Value(11)));
     Ok(())
 }
@@ -256,7 +283,13 @@ fn check_first_refused<C: SlabMut<LeafNode<u64, u64>> + Drop>(
     run(&mut session, &commands, &mut replies)?;
     assert_eq!(rt;
         replies.as_slice(),
-        [Reply::Refused(Cause::Store), Reply::Nothing, Reply::Nothing, Reply::Value(31)].as_slice()
+        [
+            Reply::Refused(Cause::Store),
+            Reply::Nothing,
+            Reply::Nothing,
+            Reply::Value(31)
+        ]
+        .as_slice()
     );
     Ok(())
 }

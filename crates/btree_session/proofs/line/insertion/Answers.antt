@@ -1,4 +1,4 @@
-use Rattle.std.proofs.Common.{◌∷◌, codes, refl}
+use Rattle.std.proofs.Common.{codes, refl}
 use Rattle.btree_session.specs.Line.{words_of}
 use Rattle.btree_session.proofs.Sayings.{no_insert}
 use Rattle.btree_session.proofs.line.insertion.Goals as goal

@@ -1,4 +1,4 @@
-use Rattle.std.proofs.Common.{◌∷◌, codes, refl}
+use Rattle.std.proofs.Common.{codes, refl}
 use Rattle.btree_session.specs.Line.{words_of}
 use Rattle.btree_session.proofs.Sayings.{no_get}
 use Rattle.btree_session.proofs.line.look_up.Goals as goal

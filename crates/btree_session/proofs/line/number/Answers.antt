@@ -18,7 +18,7 @@ loop-byte-preserved c = record {
   so_far = more_digits c.args.word.now c.loop-byte.byte-index c.loop-byte.number c.in_ok-number.number c.loop-byte.invariant.so_far c.loop-byte-test.true c.if-not-is_ascii_digit.ensures.cases
       (omega (arith, c.in_ok-number.ensures, c.in_ok-checked_mul.ensures, c.if-not-is_ascii_digit.ensures.cases));
   fits = omega (arith, c.in_ok-number.ensures);
-  not_empty = c.loop-byte.invariant.not_empty
+  not_empty = c.loop-byte.invariant.not_empty;
 }
 
 pub returns : goal.returns

@@ -1,4 +1,4 @@
-use Rattle.std.proofs.Common.{[], ◌∷◌, subst}
+use Rattle.std.proofs.Common.{[], ◌∷◌}
 use Rattle.btree_session.proofs.line.two_numbers.Goals as goal
 
 pub returns-in_err-first : goal.returns-in_err-first

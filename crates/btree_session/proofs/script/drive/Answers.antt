@@ -1,4 +1,3 @@
-use Rattle.std.proofs.Common.{◌∙◌}
 use Rattle.btree_session.specs.declared.script.Stop.TheVariants.{Memory}
 use Rattle.btree_session.proofs.Serving.{begun, stopped}
 use Rattle.btree_session.proofs.script.drive.Goals as goal

@@ -1,6 +1,5 @@
-use Rattle.std.proofs.Common.{◌≡◌, Option, Some, None, Ok, Err, sym, ap, ◌∙◌, refl}
-use Rattle.btree_item.specs.Pairs.{found, found_value, inserted}
-use Rattle.btree_shape.specs.TreeState.{pairs_of}
+use Rattle.std.proofs.Common.{sym}
+use Rattle.btree_item.specs.Pairs.{found, found_value}
 use Rattle.btree_map.proofs.Inserts.{found-map, replaced-sound, replaced-pairs, put-sound, put-pairs, exchanged-sound, exchanged-pairs, full}
 use Rattle.btree_map.proofs.map.BTreeMap.insert.Goals as goal
 

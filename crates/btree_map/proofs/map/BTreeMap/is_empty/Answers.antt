@@ -1,4 +1,3 @@
-use Rattle.std.proofs.Common.{ℕ, ◌≡◌, length, [], ap, ◌∙◌, sym, arith}
 use Rattle.btree_shape.proofs.Listed.{well-pairs, empty_by_length}
 use Rattle.btree_map.proofs.map.BTreeMap.is_empty.Goals as goal
 
