@@ -69,6 +69,18 @@ module _ {T : Type 0} where
   pub AreSome-remove : (slots : List (Option T)) (i : ℕ) → AreSome slots → AreSome (remove slots i)
   AreSome-remove slots i h = AreSome-from_map _ _ (remove_maps slots i h)
 
+  pub somes-take : (slots : List (Option T)) (n : ℕ) → AreSome slots → somes (take n slots) ≡ take n (somes slots)
+  somes-take slots n h = somes_from_map _ _ (take_maps n slots h)
+
+  pub AreSome-take : (slots : List (Option T)) (n : ℕ) → AreSome slots → AreSome (take n slots)
+  AreSome-take slots n h = AreSome-from_map _ _ (take_maps n slots h)
+
+  pub somes-drop : (slots : List (Option T)) (n : ℕ) → AreSome slots → somes (drop n slots) ≡ drop n (somes slots)
+  somes-drop slots n h = somes_from_map _ _ (drop_maps n slots h)
+
+  pub AreSome-drop : (slots : List (Option T)) (n : ℕ) → AreSome slots → AreSome (drop n slots)
+  AreSome-drop slots n h = AreSome-from_map _ _ (drop_maps n slots h)
+
   pub slice_get-somes : (slots : List (Option T)) (i : ℕ) → AreSome slots → slice_get slots i ≡ option_map Some (slice_get (somes slots) i)
   slice_get-somes slots i h = ap (λ l. slice_get l i) h.are ∙ slice_get-map Some (somes slots) i
 
@@ -97,4 +109,4 @@ module _ {T : Type 0} where
   pub AreSome-set_read : (slots : List (Option T)) (i : ℕ) (r : Option T) → AreSome slots → r ≡ get_or slots i r → AreSome (set slots i r)
   AreSome-set_read slots i r h read = rw (set-read slots i r read) h
 
-pub ruleset slot_edits = (somes-map, IsSome-slot, slot_read, AreSome-set_read, length-somes, somes-push, AreSome-push, somes-set, AreSome-set, somes-insert, AreSome-insert, somes-remove, AreSome-remove, slice_get-somes)
+pub ruleset slot_edits = (somes-map, IsSome-slot, slot_read, AreSome-set_read, length-somes, somes-push, AreSome-push, somes-set, AreSome-set, somes-insert, AreSome-insert, somes-remove, AreSome-remove, somes-take, AreSome-take, somes-drop, AreSome-drop, slice_get-somes)

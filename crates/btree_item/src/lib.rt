@@ -8,8 +8,6 @@ mod refused;
 mod searches;
 mod slots;
 mod slots_iter;
-#[cfg(test)]
-mod tests;
 
 pub use address::Address;
 pub use item::{Item, Keyed};

@@ -1,5 +1,5 @@
 //! Lists of at most `N` values, kept inside.
-ghost use Rattle.std.specs.Prelude.{◌≡◌, ◌<◌, ◌≤◌, [], ◌∷◌, ◌++◌, Some, length, slice_get, slice_set};
+ghost use Rattle.std.specs.Prelude.{◌≡◌, ◌-◌, ◌<◌, ◌≤◌, [], ◌∷◌, ◌++◌, Some, length, take, drop, slice_get, slice_set};
 ghost use Rattle.std.specs.List.{insert, remove};
 ghost use Rattle.std.specs.Borrow.{sem};
 ghost use Rattle.std.specs.Option.{option_copied, option_copied_mut};
@@ -103,4 +103,43 @@ impl<T: Drop, const N: usize> Slots<T, N> {
     {
         self.slots.remove(index).unwrap()
     }
+
+    /// Takes the last value out, if there is one.
+    pub fn pop(&mut self) -> Option<T>
+        ensures answer { result ≡ slice_get self.old (length self.old - 1) }
+        ensures after { self.new ≡ take (length self.old - 1) self.old }
+    {
+        match self.slots.pop() {
+            Some(slot) => slot,
+            None => None,
+        }
+    }
+
+    /// Takes the values from an index on out, as slots of their own. Each moves once.
+    pub fn split_off(&mut self, at: usize) -> Self
+        requires { at ≤ length self.old }
+        ensures answer { result ≡ drop at self.old }
+        ensures after { self.new ≡ take at self.old }
+    {
+        Slots {
+            slots: tail_from(&mut self.slots, at),
+        }
+    }
+}
+
+// Moves the values from an index on out.
+fn tail_from<T: Drop, const N: usize>(
+    slots: &mut ArrayVec<Option<T>, N>,
+    at: usize,
+) -> ArrayVec<Option<T>, N>
+    requires { at ≤ length slots.old.items }
+    ensures moved { result.items ≡ drop at slots.old.items }
+    ensures left { slots.new.items ≡ take at slots.old.items }
+{
+    let len = slots.len();
+    let mut tail = ArrayVec::new();
+    for slot in slots.drain(at..len) {
+        tail.push(slot);
+    }
+    tail
 }

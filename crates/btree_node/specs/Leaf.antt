@@ -14,8 +14,8 @@ abbrev pub node_of : ℕ → Option ℕ
 node_of id = if id == 2 ^ 64 - 1 then None else Some id
 
 -- a parent as a node keeps it: `Some(usize::MAX)` is read as none
-abbrev pub parent_of : Option ℕ → Option ℕ
-parent_of parent = option_and_then node_of parent
+abbrev pub kept_parent : Option ℕ → Option ℕ
+kept_parent parent = option_and_then node_of parent
 
 -- a place as an offset
 abbrev pub as_offset : Result ℕ ℕ → Result (Option ℕ) (Option ℕ)

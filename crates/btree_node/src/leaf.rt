@@ -1,11 +1,12 @@
 //! A leaf of the tree.
-ghost use Rattle.std.specs.Prelude.{◌≡◌, ◌<◌, ◌≤◌, [], ◌∷◌, Some, None, IsSomeAnd, IfOk, OnErr, length, slice_get};
+ghost use Rattle.std.specs.Prelude.{◌≡◌, ◌<◌, ◌≤◌, ◌↔◌, [], ◌∷◌, Some, None, IsTrue, IfSome, IsSomeAnd, IfOk, OnErr, length, slice_get};
 ghost use Rattle.std.specs.Borrow.{sem};
 ghost use Rattle.std.specs.List.Sorted.{IsSearchInRange};
-ghost use Rattle.std.specs.Option.{option_copied, option_copied_mut};
+ghost use Rattle.std.specs.Option.{option_and_then, option_copied, option_copied_mut};
 ghost use Rattle.btree_item.specs.Pairs.{Ascends, before, found, found_value, inserted, place_of};
-ghost use Rattle.btree_node.specs.Leaf.{as_offset, insert_at, parent_of};
+ghost use Rattle.btree_node.specs.Leaf.{as_offset, insert_at, kept_parent};
 
+use crate::Balance;
 use btree_item::{Item, Offset, Slots, SlotsIter, search};
 use std::marker::Model;
 
@@ -28,7 +29,7 @@ impl<K, V> Model for LeafNode<K, V> {
 impl<K: Drop, V: Drop> LeafNode<K, V> {
     /// A leaf with one item. `Some(usize::MAX)` as the parent is read as none.
     pub fn new(parent: Option<usize>, item: Item<K, V>) -> Self
-        ensures { result ≡ record { parent = parent_of parent; items = item ∷ [] } }
+        ensures { result ≡ record { parent = kept_parent parent; items = item ∷ [] } }
     {
         let mut leaf = LeafNode::empty(parent);
         leaf.items.push(item);
@@ -37,7 +38,7 @@ impl<K: Drop, V: Drop> LeafNode<K, V> {
 
     /// A leaf without items. `Some(usize::MAX)` as the parent is read as none.
     pub fn empty(parent: Option<usize>) -> Self
-        ensures { result ≡ record { parent = parent_of parent; items = [] } }
+        ensures { result ≡ record { parent = kept_parent parent; items = [] } }
     {
         LeafNode {
             parent: parent.unwrap_or(usize::MAX),
@@ -49,7 +50,8 @@ impl<K: Drop, V: Drop> LeafNode<K, V> {
 impl<K, V> LeafNode<K, V> {
     /// The number of the parent, if there is one.
     pub fn parent(&self) -> Option<usize>
-        ensures { result ≡ self.now.parent }
+        ensures value { result ≡ self.now.parent }
+        ensures bound { IfSome result (λ id. id < usize.MAX) }
     {
         if self.parent == usize::MAX {
             None
@@ -71,6 +73,16 @@ impl<K, V> LeafNode<K, V> {
         &self.items
     }
 
+    /// The item at an offset, and `None` at -1 and past the end.
+    pub fn item(&self, offset: Offset) -> Option<&Item<K, V>>
+        ensures { option_copied result ≡ option_and_then (slice_get self.now.items) offset }
+    {
+        match offset.value() {
+            Some(index) => self.items().get(index),
+            None => None,
+        }
+    }
+
     /// The items in order.
     pub fn iter(&self) -> SlotsIter<'_, Item<K, V>>
         ensures { result ≡ self.now.items }
@@ -79,8 +91,41 @@ impl<K, V> LeafNode<K, V> {
     }
 }
 
+impl<K, V> LeafNode<K, V> {
+    ghost use Rattle.btree_node.specs.Edits.{balance_of, IsOverflowing, IsUnderflowing};
+    ghost use Rattle.btree_node.specs.Node.{leaf_view};
+
+    /// Whether there are too many items, too few, or neither. A root is judged like any other node.
+    pub fn balance(&self) -> Balance
+        ensures { result ≡ balance_of (leaf_view self.now) }
+    {
+        Balance::of(self.item_count(), 8)
+    }
+
+    /// Whether there are more than eight items.
+    pub fn is_overflowing(&self) -> bool
+        ensures { IsTrue result ↔ IsOverflowing (leaf_view self.now) }
+    {
+        self.item_count() > 8
+    }
+
+    /// Whether there are fewer than three items. A root is judged like any other node.
+    pub fn is_underflowing(&self) -> bool
+        ensures { IsTrue result ↔ IsUnderflowing (leaf_view self.now) }
+    {
+        self.item_count() < 3
+    }
+
+    /// Puts the node under another parent. `Some(usize::MAX)` is read as none.
+    pub fn set_parent(&mut self, parent: Option<usize>)
+        ensures { self.new ≡ record self.old { parent = kept_parent parent } }
+    {
+        self.parent = parent.unwrap_or(usize::MAX);
+    }
+}
+
 // The offset at an index of a leaf.
-fn offset_at(index: usize) -> Offset
+pub(crate) fn offset_at(index: usize) -> Offset
     requires { index < usize.MAX }
     ensures { result ≡ Some index }
 {
@@ -138,10 +183,20 @@ impl<K: Ord, V> LeafNode<K, V> {
         requires { Ascends K.cmp self.now.items }
         ensures { result ≡ as_offset (place_of K.cmp key.now self.now.items) }
     {
-        match place(self.items(), key) {
+        match self.find(key) {
             Ok(index) => Ok(offset_at(index)),
             Err(index) => Err(offset_at(index)),
         }
+    }
+
+    // The same as an index.
+    pub(crate) fn find(&self, key: &K) -> Result<usize, usize>
+        requires { Ascends K.cmp self.now.items }
+        ensures place { result ≡ place_of K.cmp key.now self.now.items }
+        ensures within { IsSearchInRange result (length self.now.items) }
+        ensures fits { length self.now.items ≤ 9 }
+    {
+        place(self.items(), key)
     }
 }
 
@@ -171,6 +226,9 @@ impl<K: Ord + Drop, V: Drop> LeafNode<K, V> {
 }
 
 impl<K: Drop, V: Drop> LeafNode<K, V> {
+    ghost use Rattle.btree_node.specs.Edits.{IsOverflowing, IsSplit};
+    ghost use Rattle.btree_node.specs.Node.{leaf_view};
+
     /// Puts an item at an offset, and moves those from there on up. The order of the keys is up to
     /// the caller.
     pub fn insert(&mut self, offset: Offset, item: Item<K, V>)
@@ -179,5 +237,24 @@ impl<K: Drop, V: Drop> LeafNode<K, V> {
         ensures { self.new ≡ record self.old { items = insert_at offset self.old.items item } }
     {
         self.items.insert(offset.unwrap(), item);
+    }
+
+    /// Keeps the first four items of nine. Answers how many are left, the median, and a leaf with the
+    /// items after it, under the same parent.
+    pub fn split(&mut self) -> (usize, Item<K, V>, LeafNode<K, V>)
+        requires { IsOverflowing (leaf_view self.old) }
+        ensures parts { IsSplit (leaf_view self.old) result.1 (leaf_view self.new) (leaf_view result.2) }
+        ensures left { result.0 ≡ 4 }
+        ensures right { length result.2.items ≡ 4 }
+    {
+        // That there are nine at most shows how many the right part has.
+        let _count = self.item_count();
+        let items = self.items.split_off(5);
+        let median = self.items.pop().unwrap();
+        let right = LeafNode {
+            parent: self.parent,
+            items,
+        };
+        (self.items.len(), median, right)
     }
 }

@@ -1,0 +1,47 @@
+-- What a definition sees of a node, and of a store of nodes.
+use Rattle.std.specs.Prelude.{ℕ, List, [], ◌∷◌, length, map, slice_get, Option, Some, None}
+
+-- a leaf: its parent's number and its items; an internal node: its parent's number, its first child's, and its items,
+-- each with the number of the child after it
+pub data View (A : Type 0) : Type 0 where
+  leaf : Option ℕ → List A → View A
+  internal : Option ℕ → ℕ → List (A × ℕ) → View A
+
+-- the nodes under their numbers
+abbrev pub Look : Type 0 → Type 0
+Look A = ℕ → Option (View A)
+
+module _ {A : Type 0} where
+  -- the number of the node above, if there is one
+  abbrev pub parent_of : View A → Option ℕ
+  parent_of (leaf parent items) = parent
+  parent_of (internal parent first branches) = parent
+
+  -- the items, in order
+  abbrev pub items_of : View A → List A
+  items_of (leaf parent items) = items
+  items_of (internal parent first branches) = map (λ b. b.0) branches
+
+  -- the numbers of the children, in order
+  abbrev pub children_of : View A → List ℕ
+  children_of (leaf parent items) = []
+  children_of (internal parent first branches) = first ∷ map (λ b. b.1) branches
+
+  -- how many items there are
+  abbrev pub size_of : View A → ℕ
+  size_of node = length (items_of node)
+
+  -- the most items that such a node holds, but in passing
+  abbrev pub most_of : View A → ℕ
+  most_of (leaf parent items) = 8
+  most_of (internal parent first branches) = 7
+
+  -- the item at an offset of a node, if there is one
+  abbrev pub item_in : Option (View A) → ℕ → Option A
+  item_in None offset = None
+  item_in (Some node) offset = slice_get (items_of node) offset
+
+  -- the children of a node, if there is one
+  abbrev pub children_in : Option (View A) → List ℕ
+  children_in None = []
+  children_in (Some node) = children_of node
