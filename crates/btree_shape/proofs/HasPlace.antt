@@ -2,18 +2,18 @@
 use Rattle.std.proofs.Common.{◌≡◌, ◌⊎◌, ℕ, zero, suc, ◌+◌, ◌≤◌, List, [], ◌∷◌, ◌++◌, length, map, Option, Some, None, refl, sym, ap, subst, ◌∙◌, inl, inr, arith}
 use Rattle.std.specs.Prelude.{slice_get}
 use Rattle.std.specs.List.{flat_map}
-use Rattle.btree_shape.specs.View.{View, internal, Look, items_of, item_in}
+use Rattle.btree_node.specs.View.{View, internal, Look, items_of, item_in}
 use Rattle.btree_shape.specs.Spells.{Spells, numbers_under, times}
 use Rattle.btree_shape.specs.WellFormed.{times_used}
 use Rattle.btree_shape.specs.Place.{IsPlace, IsPlaceOf, IsEnd, IsWithin}
 use Rattle.btree_shape.proofs.Subtrees.{Stands, stands}
 
 module _ {A : Type 0} where
-  behind : (front xs : List A) (q : ℕ) (x : A) → slice_get xs q ≡ Some x → slice_get (front ++ xs) (length front + q) ≡ Some x
+  pub behind : (front xs : List A) (q : ℕ) (x : A) → slice_get xs q ≡ Some x → slice_get (front ++ xs) (length front + q) ≡ Some x
   behind [] xs q x at = let e : length {A = A} [] + q ≡ q = omega arith in ap (slice_get xs) e ∙ at
   behind (y ∷ front) xs q x at = let e : length (y ∷ front) + q ≡ suc (length front + q) = omega arith in ap (slice_get (y ∷ (front ++ xs))) e ∙ behind front xs q x at
 
-  ahead : (xs back : List A) (q : ℕ) (x : A) → slice_get xs q ≡ Some x → slice_get (xs ++ back) q ≡ Some x
+  pub ahead : (xs back : List A) (q : ℕ) (x : A) → slice_get xs q ≡ Some x → slice_get (xs ++ back) q ≡ Some x
   ahead [] back q x at = absurd (cc)
   ahead (y ∷ xs) back zero x at = at
   ahead (y ∷ xs) back (suc q) x at = ahead xs back q x at
@@ -26,7 +26,7 @@ module _ {A : Type 0} where
       let later = among rest o x at in
       (length (r.0 ∷ r.2) + later.0, behind (r.0 ∷ r.2) (flat_map (λ (r : A × ℕ × List A). r.0 ∷ r.2) rest) later.0 x later.1)
 
-  low_or_end : (xs : List A) (o : ℕ) → o ≤ length xs → ((x : A) × (slice_get xs o ≡ Some x)) ⊎ (o ≡ length xs)
+  pub low_or_end : (xs : List A) (o : ℕ) → o ≤ length xs → ((x : A) × (slice_get xs o ≡ Some x)) ⊎ (o ≡ length xs)
   low_or_end [] o low = inr (omega arith)
   low_or_end (x ∷ xs) zero low = inl (x, refl)
   low_or_end (x ∷ xs) (suc o) low = elim (low_or_end xs o (omega arith)) [ inl at ↦ inl at | inr e ↦ inr (omega arith) ]

@@ -6,12 +6,13 @@ use Rattle.std.specs.declared.cmp.Ordering.{Ordering}
 use Rattle.std.specs.FinMap as map
 use Rattle.btree_store.specs.Content.{Content}
 use Rattle.btree_item.specs.Pairs.{Ascends}
-use Rattle.btree_shape.specs.View.{leaf}
+use Rattle.btree_node.specs.View.{leaf}
 use Rattle.btree_shape.specs.Spells.{spelled}
 use Rattle.btree_shape.proofs.OneLeaf.{IsOneLeaf, AreLeaves, rooted-one_leaf, one_leaf-rooted, few-rooted}
 use Rattle.btree_shape.proofs.Spelled.{spelled-is}
 use Rattle.btree_node.specs.Leaf.{Leaf}
-use Rattle.btree_shape.specs.TreeState.{view_of, views, leaf_at, pairs_under, IsSound}
+use Rattle.btree_shape.specs.LeafState.{view_of, views, leaf_at, IsSound}
+use Rattle.btree_shape.specs.TreeState.{pairs_under}
 
 module _ {K V : Type 0} (cmp : K → K → Ordering) where
   -- the one leaf of a tree, its items being the pairs

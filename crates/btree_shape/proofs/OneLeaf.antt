@@ -2,7 +2,7 @@
 use Rattle.std.proofs.Common.{◌≡◌, ◌≢◌, ℕ, zero, suc, ◌<◌, ◌≤◌, List, [], ◌∷◌, length, Option, Some, None, refl, arith, inl, inr}
 use Rattle.std.proofs.lemmas.Bool.{cases_eq}
 use Rattle.std.proofs.lemmas.Bool.Decides.{nat_tests}
-use Rattle.btree_shape.specs.View.{View, leaf, Look, size_of, most_of}
+use Rattle.btree_node.specs.View.{View, leaf, Look, size_of, most_of}
 use Rattle.btree_shape.specs.Spells.{Spells, numbers_under, times}
 use Rattle.btree_shape.specs.WellFormed.{times_used, least_of, IsSized, IsRooted}
 

@@ -1,0 +1,128 @@
+-- A walk through a tree: down to a first leaf, and on to the next item above.
+use Rattle.std.proofs.Common.{◌≡◌, ℕ, zero, suc, ◌+◌, ◌<◌, List, [], ◌∷◌, ◌++◌, length, map, drop, slice_get, Option, Some, None, subst, refl, sym, ap, ◌∙◌, arith, append_assoc, append-nil}
+use Rattle.std.specs.List.{flat_map, AllByRecursion}
+use Rattle.btree_node.specs.View.{View, leaf, internal, Look, items_of, children_of}
+use Rattle.btree_shape.specs.Spells.{Spells, spelled}
+use Rattle.btree_shape.specs.Left.{branches_of, left_in, left_above, IsUnder, AreRows}
+use Rattle.btree_shape.proofs.Spelled.{spelled-is}
+
+-- the next item of a list, at an index
+pub rest-next : {X : Type 0} (xs : List X) (i : ℕ) (x : X) → slice_get xs i ≡ Some x → drop i xs ≡ x ∷ drop (i + 1) xs
+rest-next {X = X} xs i x e = let s : i + 1 ≡ suc i = omega arith in rw s (at xs i e)
+  where
+    at : (ys : List X) (n : ℕ) → slice_get ys n ≡ Some x → drop n ys ≡ x ∷ drop (suc n) ys
+    at [] n h = absurd (cc)
+    at (y ∷ ys) zero h = let same : y ≡ x = cc in rw same refl
+    at (y ∷ ys) (suc n) h = at ys n h
+
+pub rest-none : {X : Type 0} (xs : List X) (i : ℕ) → slice_get xs i ≡ None → drop i xs ≡ []
+rest-none [] zero e = refl
+rest-none [] (suc i) e = refl
+rest-none (x ∷ xs) zero e = absurd (cc)
+rest-none (x ∷ xs) (suc i) e = rest-none xs i e
+
+module _ {A : Type 0} where
+  -- an item and the child after it are a branch
+  both : (row : List (A × ℕ)) (i : ℕ) (x : A) (c : ℕ) → slice_get (map (λ b. b.0) row) i ≡ Some x → slice_get (map (λ b. b.1) row) i ≡ Some c → slice_get row i ≡ Some (x, c)
+  both [] i x c item child = absurd (cc)
+  both ((y, d) ∷ row) zero x c item child = let same : y ≡ x = cc in let next : d ≡ c = cc in cc
+  both (b ∷ row) (suc i) x c item child = both row i x c item child
+
+  no-item : (row : List (A × ℕ)) (i : ℕ) → slice_get (map (λ b. b.0) row) i ≡ None → slice_get row i ≡ None
+  no-item [] i e = refl
+  no-item (b ∷ row) zero e = absurd (cc)
+  no-item (b ∷ row) (suc i) e = no-item row i e
+
+  no-next : (row : List (A × ℕ)) (i : ℕ) → slice_get (map (λ b. b.1) row) i ≡ None → slice_get row i ≡ None
+  no-next [] i e = refl
+  no-next (b ∷ row) zero e = absurd (cc)
+  no-next (b ∷ row) (suc i) e = no-next row i e
+
+  pub branch-next : (v : View A) (i : ℕ) (x : A) (c : ℕ) → slice_get (items_of v) i ≡ Some x → slice_get (children_of v) (i + 1) ≡ Some c → drop i (branches_of v) ≡ (x, c) ∷ drop (i + 1) (branches_of v)
+  branch-next (leaf p ys) i x c item child = absurd (cc)
+  branch-next (internal p first row) i x c item child =
+      let s : i + 1 ≡ suc i = omega arith in
+      let at : slice_get (first ∷ map (λ b. b.1) row) (suc i) ≡ Some c = subst (λ n. slice_get (first ∷ map (λ (b : A × ℕ). b.1) row) n ≡ Some c) s child in
+      rest-next row i (x, c) (both row i x c item at)
+
+  pub branch-none : (v : View A) (i : ℕ) → slice_get (items_of v) i ≡ None → drop i (branches_of v) ≡ []
+  branch-none (leaf p ys) i none = rest-none [] i refl
+  branch-none (internal p first row) i none = rest-none row i (no-item row i none)
+
+  pub branch-end : (v : View A) (i : ℕ) → slice_get (children_of v) (i + 1) ≡ None → drop i (branches_of v) ≡ []
+  branch-end (leaf p ys) i none = rest-none [] i refl
+  branch-end (internal p first row) i none =
+      let s : i + 1 ≡ suc i = omega arith in
+      let at : slice_get (first ∷ map (λ b. b.1) row) (suc i) ≡ None = subst (λ n. slice_get (first ∷ map (λ (b : A × ℕ). b.1) row) n ≡ None) s none in
+      rest-none row i (no-next row i at)
+
+module _ {A : Type 0} (look : Look A) (levels : ℕ) where
+  -- a row put below the others is left first
+  pub left-push : (rows : List (List (A × ℕ))) (row : List (A × ℕ)) → left_above look levels (rows ++ row ∷ []) ≡ left_in look levels row ++ left_above look levels rows
+  left-push [] row = sym (append-nil (left_in look levels row))
+  left-push (r ∷ rows) row = ap (λ l. l ++ left_in look levels r) (left-push rows row) ∙ append_assoc (left_in look levels row) (left_above look levels rows) (left_in look levels r)
+
+  pub rows-push : (depth : ℕ) (rows : List (List (A × ℕ))) (row : List (A × ℕ)) → AreRows look levels depth rows
+      → AllByRecursion (λ (b : A × ℕ). IsUnder look levels (suc (depth + length rows)) b.1) row → AreRows look levels depth (rows ++ row ∷ [])
+  rows-push depth [] row are all = let z : depth + 0 ≡ depth = omega arith in (rw (sym z) all, tt)
+  rows-push depth (r ∷ rows) row are all = let s : suc depth + length rows ≡ depth + suc (length rows) = omega arith in (are.0, rows-push (suc depth) rows row are.1 (rw s all))
+
+  pub record Lowest (depth : ℕ) (rows : List (List (A × ℕ))) (row : List (A × ℕ)) : Type 0 where
+    pub above : AreRows look levels depth rows
+    pub under : AllByRecursion (λ (b : A × ℕ). IsUnder look levels (suc (depth + length rows)) b.1) row
+
+  pub rows-pop : (depth : ℕ) (rows : List (List (A × ℕ))) (row : List (A × ℕ)) → AreRows look levels depth (rows ++ row ∷ []) → Lowest depth rows row
+  rows-pop depth [] row are = let z : depth + 0 ≡ depth = omega arith in record { above = tt; under = rw z are.0 }
+  rows-pop depth (r ∷ rows) row are =
+      let s : depth + suc (length rows) ≡ suc depth + length rows = omega arith in
+      let low = rows-pop (suc depth) rows row are.1 in
+      record { above = (are.0, low.above); under = rw s low.under }
+
+  -- a leaf spells its items
+  pub under-leaf : (depth id : ℕ) (p : Option ℕ) (ys : List A) → IsUnder look levels depth id → look id ≡ Some (leaf p ys) → spelled look levels id ≡ ys
+  under-leaf depth id p ys u e = at u.height u.parent u.list u.low u.room u.spells
+    where
+      at : (height : ℕ) (parent : Option ℕ) (xs : List A) → height < levels → depth + height < 32 → Spells look height parent id xs → spelled look levels id ≡ ys
+      at zero parent xs low room h = let same : xs ≡ ys = cc in spelled-is look zero levels parent id xs (omega arith) h ∙ same
+      at (suc height) parent xs low room h = let was = h.3 in absurd (cc)
+
+  -- an internal node: what its first child spells, and then its row
+  pub record Inside (depth id first : ℕ) (row : List (A × ℕ)) : Type 0 where
+    pub first_under : IsUnder look levels (suc depth) first
+    pub row_under : AllByRecursion (λ (b : A × ℕ). IsUnder look levels (suc depth) b.1) row
+    pub list : spelled look levels id ≡ spelled look levels first ++ left_in look levels row
+
+  module _ (depth height id : ℕ) (low : height < levels) (room : suc depth + height < 32) where
+    abbrev row_of : List (A × ℕ × List A) → List (A × ℕ)
+    row_of rest = map {B = A × ℕ} (λ r. (r.0, r.1)) rest
+
+    row-under : (rest : List (A × ℕ × List A)) → AllByRecursion (λ r. Spells look height (Some id) r.1 r.2) rest → AllByRecursion (λ (b : A × ℕ). IsUnder look levels (suc depth) b.1) (row_of rest)
+    row-under [] all = tt
+    row-under (r ∷ rest) all = (record { height = height; parent = Some id; list = r.2; spells = all.0; low = low; room = room }, row-under rest all.1)
+
+    row-left : (rest : List (A × ℕ × List A)) → AllByRecursion (λ r. Spells look height (Some id) r.1 r.2) rest → left_in look levels (row_of rest) ≡ flat_map (λ r. r.0 ∷ r.2) rest
+    row-left [] all = refl
+    row-left (r ∷ rest) all =
+        let here = spelled-is look height levels (Some id) r.1 r.2 (omega arith) all.0 in
+        let later = row-left rest all.1 in
+        rw (here, later) refl
+
+  pub under-internal : (depth id : ℕ) (p : Option ℕ) (first : ℕ) (row : List (A × ℕ)) → IsUnder look levels depth id → look id ≡ Some (internal p first row) → Inside depth id first row
+  under-internal depth id p first row u e = at u.height u.parent u.list u.low u.room u.spells
+    where
+      at : (height : ℕ) (parent : Option ℕ) (xs : List A) → height < levels → depth + height < 32 → Spells look height parent id xs → Inside depth id first row
+      at zero parent xs low room h = absurd (cc)
+      at (suc height) parent xs low room h =
+          let was = h.3 in
+          let same_first : h.0 ≡ first = cc in
+          let same_row : row_of depth height id (omega arith) (omega arith) h.2 ≡ row = cc in
+          let lower : height < levels = omega arith in
+          let below : suc depth + height < 32 = omega arith in
+          let front = spelled-is look height levels (Some id) h.0 h.1 (omega arith) h.4 in
+          let rest = row-left depth height id lower below h.2 h.5 in
+          let whole = spelled-is look (suc height) levels parent id xs (omega arith) h in
+          rw (← same_first, ← same_row) record {
+            first_under = record { height = height; parent = Some id; list = h.1; spells = h.4; low = lower; room = below };
+            row_under = row-under depth height id lower below h.2 h.5;
+            list = rw (front, rest) (whole ∙ h.6);
+          }

@@ -1,0 +1,147 @@
+-- The tour of the tree under a root, seen from any node, says the same as the public words on addresses.
+use Rattle.std.proofs.Common.{◌≡◌, ◌<◌, ◌≤◌, [], ◌∙◌, ◌+◌, ℕ, inl, inr, List, length, Option, Some, None, refl, sym, ap, subst, arith, append-nil}
+use Rattle.std.specs.Cmp.{IsTotalOrder}
+use Rattle.std.specs.FinMap.{len}
+use Rattle.std.specs.declared.cmp.Ordering.{Ordering}
+use Rattle.btree_item.specs.declared.address.Address.{Address}
+use Rattle.btree_node.specs.View.{Look, View, item_in, size_of}
+use Rattle.btree_shape.specs.OnTour.{IsAddressed, IsOnTour, item_at}
+use Rattle.btree_shape.specs.Place.{IsValid, IsWithin}
+use Rattle.btree_shape.specs.Shape.{Holds, Shape, id_of, view_at}
+use Rattle.btree_shape.specs.Tour.{Asks, In, tour, whole_tour}
+use Rattle.btree_shape.specs.Way.{Above, items_before, parent_above, top}
+use Rattle.btree_shape.specs.WellFormed.{IsNearlySized, IsOffByOne, IsRooted, IsSized, IsWellFormed, times_used}
+use Rattle.btree_shape.specs.Whole.{IsWhole}
+use Rattle.btree_shape.proofs.Frames.{top-view}
+use Rattle.btree_shape.proofs.LeafTree.{at_root}
+use Rattle.btree_shape.proofs.NodePlaces.{items_upto}
+use Rattle.btree_shape.proofs.OnePlace.{one_place, one_place-well}
+use Rattle.btree_shape.proofs.OneTour.{one-tour, plugged}
+use Rattle.btree_shape.proofs.Rooted.{node-rooted, standing-rooted}
+use Rattle.btree_shape.proofs.Sizes.{view-size}
+use Rattle.btree_shape.proofs.Standing.{Standing, stand-root, whole-standing}
+use Rattle.btree_shape.proofs.TourPlaces.{hole-in, in-addressed, top-item, top_item}
+
+module _ (A : Type 0) (look : Look A) where
+  -- the tour seen from a node is that from the root
+  pub root-tour : (spare : List ℕ) (root : ℕ) (xs : List A) (h : ℕ) (c : Above A h) (t : Shape A h)
+      → Standing A look spare root xs h c t
+      → (height : ℕ) (shape : Shape A height) → id_of A height shape ≡ root → Holds A look height None shape
+      → whole_tour A h c t ≡ tour A height shape
+  root-tour spare root xs h c t w height shape at_root holds =
+      let r = plugged A look h c t w.above w.inner in
+      r.same
+      ∙ one-tour A look r.height height None None r.shape shape (r.at_root ∙ (w.root_is ∙ sym at_root)) r.holds holds
+
+  module _ (spare : List ℕ) (root : ℕ) (xs : List A) (asked : Option A) (a : Address) (place : ℕ) where
+    -- what is on the tour seen from a node is on the tree's, and the other way round
+    pub standing-on : (h : ℕ) (c : Above A h) (t : Shape A h) → Standing A look spare root xs h c t
+        → In asked a (whole_tour A h c t) place → IsOnTour A look root asked a place
+    standing-on h c t w i =
+        let r = plugged A look h c t w.above w.inner in
+        record {
+          height = r.height;
+          shape = r.shape;
+          at_root = r.at_root ∙ w.root_is;
+          holds = r.holds;
+          there =
+              subst (λ z. In asked a z place) r.same i;
+        }
+
+    pub on-standing : (h : ℕ) (c : Above A h) (t : Shape A h) → Standing A look spare root xs h c t
+        → IsOnTour A look root asked a place → In asked a (whole_tour A h c t) place
+    on-standing h c t w i = subst (λ z. In asked a z place)
+        (sym (root-tour spare root xs h c t w i.height i.shape i.at_root i.holds)) i.there
+
+    pub whole-on : (h : ℕ) (c : Above A h) (t : Shape A h) → IsWhole A look spare root xs h c t
+        → In asked a (whole_tour A h c t) place → IsOnTour A look root asked a place
+    whole-on h c t w i = standing-on h c t (whole-standing A look spare root xs h c t w) i
+
+    pub on-whole : (h : ℕ) (c : Above A h) (t : Shape A h) → IsWhole A look spare root xs h c t
+        → IsOnTour A look root asked a place → In asked a (whole_tour A h c t) place
+    on-whole h c t w i = on-standing h c t (whole-standing A look spare root xs h c t w) i
+
+    -- an address on the tour is valid, and has its place and the item that is asked for
+    pub standing-addressed : (h : ℕ) (c : Above A h) (t : Shape A h) → Standing A look spare root xs h c t
+        → IsOnTour A look root asked a place → IsAddressed A look root xs asked a place
+    standing-addressed h c t w i =
+        let r = stand-root A look spare root xs h c t w in
+        let n = on-standing r.height top r.shape r.stands i in
+        in-addressed A look spare root xs asked a r.height top r.shape place place r.stands
+        (subst (λ z. In asked a z place) (append-nil (tour A r.height r.shape)) n) (omega arith)
+
+    pub whole-addressed : (h : ℕ) (c : Above A h) (t : Shape A h) → IsWhole A look spare root xs h c t
+        → IsOnTour A look root asked a place → IsAddressed A look root xs asked a place
+    whole-addressed h c t w i = standing-addressed h c t (whole-standing A look spare root xs h c t w) i
+
+  module _ (root : ℕ) (xs : List A) (asked : Option A) (a : Address) where
+    pub tour-addressed : (is_right : (id : ℕ) → View A → Type 0) (place : ℕ) → IsRooted is_right look root xs
+        → IsOnTour A look root asked a place → IsAddressed A look root xs asked a place
+    tour-addressed is_right place r i =
+        let s = standing-rooted A look is_right root xs r in
+        standing-addressed [] root xs asked a place s.height top s.shape s.stands i
+
+    -- and back: a valid address is on the tour, at one of its places
+    pub record OnTour : Type 0 where
+      pub place : ℕ
+      pub on : IsOnTour A look root asked a place
+
+    node-used : (v : Option (View A)) (o : Option ℕ) → IsWithin look v o → 0 < times_used v
+    node-used None o l = absurd l
+    node-used (Some v) o l = omega arith
+
+    -- seen from its own node
+    pub seen-on : (spare : List ℕ) (h : ℕ) (c : Above A h) (t : Shape A h) → id_of A h t ≡ a.id
+        → Standing A look spare root xs h c t
+        → IsWithin look (look a.id) a.offset → Asks asked (item_at look a.id a.offset) → OnTour
+    seen-on spare h c t here w l m = by a.offset refl l m
+      where
+        e : look a.id ≡ Some (view_at A h (parent_above c) t)
+        e = subst (λ i. look i ≡ Some (view_at A h (parent_above c) t)) here
+            (top-view A look h (parent_above c) t w.inner)
+
+        on-at : (o : Option ℕ) → a.offset ≡ o → (p : ℕ)
+            → In asked (record { id = id_of A h t; offset = o }) (whole_tour A h c t) p → OnTour
+        on-at o same p i =
+            record {
+              place = p;
+              on = standing-on spare root xs asked a p h c t w
+                  (subst (λ q. In asked (record { id = a.id; offset = q }) (whole_tour A h c t) p) (sym same)
+                  (subst (λ i. In asked (record { id = i; offset = o }) (whole_tour A h c t) p) here i));
+            }
+
+        by : (o : Option ℕ) → a.offset ≡ o → IsWithin look (look a.id) o → Asks asked (item_at look a.id o) → OnTour
+        by None same k n = on-at None same (length (items_before c) + 0) (hole-in A asked h c t None tt n)
+        by (Some o) same k n =
+            let k2 : o ≤ size_of (view_at A h (parent_above c) t) = subst (λ v. IsWithin look v (Some o)) e k in
+            let z = view-size A h (parent_above c) t in
+            let m2 : Asks asked (top_item A h t (Some o)) =
+            subst (λ i. Asks asked i) (ap (λ v. item_in v o) e ∙ top-item A h (parent_above c) t o) n in
+            on-at (Some o) same (length (items_before c) + items_upto A h t o)
+            (hole-in A asked h c t (Some o) (omega arith) m2)
+
+    pub valid-on : (is_right : (id : ℕ) → View A → Type 0) → IsRooted is_right look root xs
+        → IsValid look (Some root) a.id a.offset → Asks asked (item_at look a.id a.offset) → OnTour
+    valid-on is_right r (inr none) m = let e = none.0 in absurd (cc)
+    valid-on is_right r (inl l) m =
+        let n = node-rooted A look is_right root xs r a.id (node-used (look a.id) a.offset l) in
+        seen-on [] n.height n.way n.shape n.here n.stands l m
+
+module _ {K V : Type 0} (cmp : K → K → Ordering) (laws : IsTotalOrder cmp) (look : Look (K × V)) (root : ℕ)
+    (xs : List (K × V)) (asked : Option (K × V)) (a : Address) (place : ℕ) where
+  -- in a tree whose keys ascend an address has one place, and it is on the tour there
+  pub well-on : (len : ℕ) → IsWellFormed cmp look (Some root) len xs → IsAddressed (K × V) look root xs asked a place
+      → IsOnTour (K × V) look root asked a place
+  well-on len w d =
+      let n = valid-on (K × V) look root xs asked a (IsSized root) w.formed d.valid d.item in
+      let q = tour-addressed (K × V) look root xs asked a (IsSized root) n.place w.formed n.on in
+      subst (λ p. IsOnTour (K × V) look root asked a p)
+      (one_place-well cmp laws look xs len (Some root) w a.id a.offset n.place place q.at_place d.at_place) n.on
+
+  pub odd-on : (odd : ℕ) → IsOffByOne cmp look root odd xs → IsAddressed (K × V) look root xs asked a place
+      → IsOnTour (K × V) look root asked a place
+  odd-on odd w d =
+      let n = valid-on (K × V) look root xs asked a (IsNearlySized root odd) w.rooted d.valid d.item in
+      let q = tour-addressed (K × V) look root xs asked a (IsNearlySized root odd) n.place w.rooted n.on in
+      subst (λ p. IsOnTour (K × V) look root asked a p)
+      (one_place cmp laws look root odd xs w a.id a.offset n.place place q.at_place d.at_place) n.on

@@ -1,0 +1,105 @@
+-- A tree has one tour of its addresses, from whichever of its nodes it is seen.
+use Rattle.std.proofs.Common.{◌≡◌, ◌++◌, ◌∷◌, [], ◌∙◌, ℕ, zero, suc, List, map, Option, Some, None, refl, sym, ap, subst, append_assoc, append-nil}
+use Rattle.std.specs.List.{AllByRecursion}
+use Rattle.btree_node.specs.View.{Look, leaf}
+use Rattle.btree_shape.specs.Shape.{Holds, Shape, id_of, view_at}
+use Rattle.btree_shape.specs.Tour.{branch_key, branch_tour, lead, mark, over, slot, ticks, tour, tour_after, tour_before, way_after, way_before, whole_tour}
+use Rattle.btree_shape.specs.Way.{Above, Frame, HoldsAbove, fill, frame_index, parent_above, root_above, top, under}
+use Rattle.btree_shape.specs.Whole.{IsWhole}
+use Rattle.btree_shape.proofs.Frames.{fill-holds, fill-id}
+use Rattle.btree_shape.proofs.Moves.{tour-fill}
+
+module _ (A : Type 0) where
+  -- the same addresses, seen from the parent
+  pub tour-close : (h : ℕ) (f : Frame A h) (c : Above A (suc h)) (t : Shape A h)
+      → whole_tour A h (under f c) t ≡ whole_tour A (suc h) c (fill f t)
+  tour-close h f c t =
+      append_assoc (way_before A c) (tour_before A f) (tour A h t ++ (tour_after A f (frame_index f) ++ way_after A c))
+      ∙ ap (λ z. way_before A c ++ z)
+      (ap (λ z. tour_before A f ++ z) (sym (append_assoc (tour A h t) (tour_after A f (frame_index f)) (way_after A c)))
+      ∙ sym (append_assoc (tour_before A f) (tour A h t ++ tour_after A f (frame_index f)) (way_after A c))
+      ∙ ap (λ z. z ++ way_after A c) (sym (tour-fill A h f t)))
+
+-- A store has one tree, so its nodes' addresses are the same from wherever it is seen.
+
+module _ (A : Type 0) (look : Look A) where
+  same-ticks : (h g i j o : ℕ) (p q : Option ℕ) → i ≡ j
+      → (below : (t : Shape A h) (u : Shape A g) → id_of A h t ≡ id_of A g u → Holds A look h p t → Holds A look g q u
+      → tour A h t ≡ tour A g u)
+      (bs : List (A × Shape A h)) (cs : List (A × Shape A g)) → map {B = A × ℕ}
+      (λ b. (b.0, id_of A h b.1)) bs ≡ map {B = A × ℕ} (λ b. (b.0, id_of A g b.1)) cs
+      → AllByRecursion (λ b. Holds A look h p b.1) bs → AllByRecursion (λ b. Holds A look g q b.1) cs
+      → ticks (branch_key A h) (branch_tour A h) i o bs ≡ ticks (branch_key A g) (branch_tour A g) j o cs
+  same-ticks h g i j o p q ij below [] [] e d f = ap (λ z. mark (slot z o) None ∷ []) ij
+  same-ticks h g i j o p q ij below [] (c ∷ cs) e d f = absurd (cc)
+  same-ticks h g i j o p q ij below (b ∷ bs) [] e d f = absurd (cc)
+  same-ticks h g i j o p q ij below (b ∷ bs) (c ∷ cs) e d f =
+      let e1 : ◌≡◌ {A = A × ℕ} (b.0, id_of A h b.1) (c.0, id_of A g c.1) = cc in
+      let e2 : map {B = A × ℕ} (λ (b : A × Shape A h). (b.0, id_of A h b.1)) bs ≡ map {B = A × ℕ}
+      (λ (b : A × Shape A g). (b.0, id_of A g b.1)) cs =
+      cc in
+      let x : b.0 ≡ c.0 = ap (λ (m : A × ℕ). m.0) e1 in
+      let y = below b.1 c.1 (ap (λ (m : A × ℕ). m.1) e1) d.0 f.0 in
+      let z = same-ticks h g i j (suc o) p q ij below bs cs e2 d.1 f.1 in
+      ap (λ k. mark (slot k o) (Some b.0) ∷ over ∷ (tour A h b.1 ++ ticks (branch_key A h) (branch_tour A h) i
+      (suc o) bs)) ij
+      ∙ ap (λ k. mark (slot j o) (Some k) ∷ over ∷ (tour A h b.1 ++ ticks (branch_key A h) (branch_tour A h) i
+      (suc o) bs)) x
+      ∙ ap (λ k. mark (slot j o) (Some c.0) ∷ over ∷ (k ++ ticks (branch_key A h) (branch_tour A h) i (suc o) bs)) y
+      ∙ ap (λ k. mark (slot j o) (Some c.0) ∷ over ∷ (tour A g c.1 ++ k)) z
+
+  pub one-tour : (h g : ℕ) (p q : Option ℕ) (t : Shape A h) (u : Shape A g) → id_of A h t ≡ id_of A g u
+      → Holds A look h p t → Holds A look g q u → tour A h t ≡ tour A g u
+  one-tour zero zero p q t u e d f =
+      let k : look t.0 ≡ Some (leaf q u.1) = rw e f in
+      let x : t.1 ≡ u.1 = cc in
+      ap (λ (z : ℕ). tour A 0 (z, t.1)) e ∙ ap (λ (z : List A). tour A 0 (u.0, z)) x
+  one-tour zero (suc g) p q t u e d f = let k : look t.0 ≡ Some (view_at A (suc g) q u) = rw e f.0 in absurd (cc)
+  one-tour (suc h) zero p q t u e d f = let k : look t.0 ≡ Some (leaf q u.1) = rw e f in let l = d.0 in absurd (cc)
+  one-tour (suc h) (suc g) p q t u e d f =
+      let k : look t.0 ≡ Some (view_at A (suc g) q u) = rw e f.0 in
+      let l = d.0 in
+      let i : id_of A h t.1 ≡ id_of A g u.1 = cc in
+      let m : map {B = A × ℕ} (λ (b : A × Shape A h). (b.0, id_of A h b.1)) t.2 ≡ map {B = A × ℕ}
+      (λ (b : A × Shape A g). (b.0, id_of A g b.1)) u.2 =
+      cc in
+      let x = one-tour h g (Some t.0) (Some u.0) t.1 u.1 i d.1 f.1 in
+      let y = same-ticks h g t.0 u.0 0 (Some t.0) (Some u.0) e (one-tour h g (Some t.0) (Some u.0)) t.2 u.2 m d.2 f.2 in
+      ap (λ (z : ℕ). mark (lead z) None ∷ (tour A h t.1 ++ ticks (branch_key A h) (branch_tour A h) t.0 0 t.2)) e
+      ∙ ap (λ z. mark (lead u.0) None ∷ (z ++ ticks (branch_key A h) (branch_tour A h) t.0 0 t.2)) x
+      ∙ ap (λ z. mark (lead u.0) None ∷ (tour A g u.1 ++ z)) y
+
+  pub record Plugged (h : ℕ) (c : Above A h) (t : Shape A h) : Type 0 where
+    pub height : ℕ
+    pub shape : Shape A height
+    pub holds : Holds A look height None shape
+    pub at_root : id_of A height shape ≡ root_above c (id_of A h t)
+    pub same : whole_tour A h c t ≡ tour A height shape
+
+  pub plugged : (h : ℕ) (c : Above A h) (t : Shape A h) → HoldsAbove look c (id_of A h t)
+      → Holds A look h (parent_above c) t → Plugged h c t
+  plugged h top t a d = record { height = h; shape = t; holds = d; at_root = refl; same = append-nil (tour A h t) }
+  plugged h (under f c) t a d =
+      let r =
+      plugged (suc h) c (fill f t) (subst (λ i. HoldsAbove look c i) (sym (fill-id A h f t)) a.2)
+      (fill-holds A look h (parent_above c) f t a.0 a.1 d) in
+      record {
+        height = r.height;
+        shape = r.shape;
+        holds = r.holds;
+        at_root = r.at_root ∙ ap (root_above c)
+            (fill-id A h f t);
+        same = tour-close A h f c t ∙ r.same;
+      }
+
+  module _ (root : ℕ) (xs : List A) where
+    -- all addresses of a tree are the same from each of its nodes
+    pub one-whole-tour : (s1 s2 : List ℕ) (h g : ℕ) (c : Above A h) (t : Shape A h) (d : Above A g) (u : Shape A g)
+        → IsWhole A look s1 root xs h c t → IsWhole A look s2 root xs g d u
+        → whole_tour A h c t ≡ whole_tour A g d u
+    one-whole-tour s1 s2 h g c t d u w v =
+        let a = plugged h c t w.above w.inner in
+        let b = plugged g d u v.above v.inner in
+        a.same
+        ∙ (one-tour a.height b.height None None a.shape b.shape
+        (a.at_root ∙ (w.root_is ∙ (sym v.root_is ∙ sym b.at_root))) a.holds b.holds ∙ sym b.same)

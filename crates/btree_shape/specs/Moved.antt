@@ -1,0 +1,101 @@
+-- What an address becomes when a step of rebalancing moves items: a plain function of the address for each step.
+-- No step changes the place of an address or the item that stands there, and an offset other than -1 stays one.
+use Rattle.std.specs.Prelude.{ℕ, zero, suc, ◌+◌, ◌-◌, ◌==◌, nat_lt, if◌then◌else◌, Option, Some, None}
+use Rattle.btree_item.specs.declared.address.Address.{Address}
+use Rattle.btree_node.specs.View.{View, leaf, internal}
+use Rattle.btree_shape.specs.Place.{NOWHERE}
+use Rattle.btree_shape.specs.Tour.{lead, slot}
+
+-- by whether n is below, equal to or above m
+abbrev pub by_order : {X : Type 0} → (n m : ℕ) → (below equal above : X) → X
+by_order n m below equal above = if nat_lt n m then below else (if n == m then equal else above)
+
+-- in the split node, of which `kept` items stay: those stay where they are, the median goes up between the two parts,
+-- and what stands behind it is in the right part
+abbrev pub in_split : (left right parent index kept : ℕ) → Option ℕ → Address
+in_split left right parent index kept None = lead left
+in_split left right parent index kept (Some offset) =
+    by_order offset kept (slot left offset) (slot parent index) (slot right (offset - suc kept))
+
+-- in its parent, which has one item more
+abbrev pub over_split : (parent index : ℕ) → Option ℕ → Address
+over_split parent index None = lead parent
+over_split parent index (Some offset) = if nat_lt offset index then slot parent offset else slot parent (offset + 1)
+
+-- node `left`, child `index` of `parent`, is split, and its right part is node `right`: any other address stays
+abbrev pub moved_by_split : (left right parent index kept : ℕ) → Address → Address
+moved_by_split left right parent index kept a =
+    if a.id == left then in_split left right parent index kept a.offset
+    else (if a.id == parent then over_split parent index a.offset else a)
+
+-- In the steps below `left` and `right` are neighbouring children of `parent`, with its item at offset `index` between
+-- them; `count` is the number of items of `left` before the step, `child` the first child of `right`, if it has one.
+
+-- offset -1 of a node that has lost its first child is then that child's -1; of a leaf it is another address
+abbrev pub down_to : (child : Option ℕ) → (other : Address) → Address
+down_to None other = other
+down_to (Some child) other = lead child
+
+-- the address of the item between the two goes where that item goes, and the parent's others stay
+abbrev pub at_separator : (parent index : ℕ) → (to : Address) → Option ℕ → Address
+at_separator parent index to None = lead parent
+at_separator parent index to (Some offset) = if offset == index then to else slot parent offset
+
+-- rotation to the left: the first item of `right` goes up to the parent, whose item goes to the end of `left`
+abbrev pub in_right_lender : (right parent index : ℕ) → (child : Option ℕ) → Option ℕ → Address
+in_right_lender right parent index child None = down_to child (slot parent index)
+in_right_lender right parent index child (Some zero) = slot parent index
+in_right_lender right parent index child (Some (suc offset)) = slot right offset
+
+abbrev pub moved_by_rotate_left : (left right parent index count : ℕ) → (child : Option ℕ) → Address → Address
+moved_by_rotate_left left right parent index count child a =
+    if a.id == right then in_right_lender right parent index child a.offset
+    else (if a.id == parent then at_separator parent index (slot left count) a.offset else a)
+
+-- rotation to the right: the last item of `left` goes up to the parent, whose item goes to the front of `right`
+abbrev pub in_left_lender : (left right parent index count : ℕ) → Option ℕ → Address
+in_left_lender left right parent index count None = lead left
+in_left_lender left right parent index count (Some offset) =
+    by_order (suc offset) count (slot left offset) (slot parent index) (slot right 0)
+
+abbrev pub in_right_taker : (right : ℕ) → (child : Option ℕ) → Option ℕ → Address
+in_right_taker right child None = down_to child (slot right 1)
+in_right_taker right child (Some offset) = slot right (1 + offset)
+
+abbrev pub moved_by_rotate_right : (left right parent index count : ℕ) → (child : Option ℕ) → Address → Address
+moved_by_rotate_right left right parent index count child a =
+    if a.id == left then in_left_lender left right parent index count a.offset
+    else (if a.id == right then in_right_taker right child a.offset
+    else (if a.id == parent then at_separator parent index (slot right 0) a.offset else a))
+
+-- merge: the item between the two goes to the end of `left`, and all of `right` behind it; the parent has one item less
+abbrev pub in_merged : (left count : ℕ) → (child : Option ℕ) → Option ℕ → Address
+in_merged left count child None = down_to child (slot left (suc count))
+in_merged left count child (Some offset) = slot left (suc count + offset)
+
+abbrev pub over_merged : (left parent index count : ℕ) → Option ℕ → Address
+over_merged left parent index count None = lead parent
+over_merged left parent index count (Some offset) =
+    by_order offset index (slot parent offset) (slot left count) (slot parent (offset - 1))
+
+abbrev pub moved_by_merge : (left right parent index count : ℕ) → (child : Option ℕ) → Address → Address
+moved_by_merge left right parent index count child a =
+    if a.id == right then in_merged left count child a.offset
+    else (if a.id == parent then over_merged left parent index count a.offset else a)
+
+-- release of an internal root without items: its only child, of `count` items, is then the root
+abbrev pub in_released : (child count : ℕ) → Option ℕ → Address
+in_released child count None = lead child
+in_released child count (Some offset) = slot child count
+
+abbrev pub moved_by_release : (root child count : ℕ) → Address → Address
+moved_by_release root child count a = if a.id == root then in_released child count a.offset else a
+
+-- a root leaf without items is released: each of its addresses becomes nowhere
+abbrev pub moved_by_emptying : Address → Address
+moved_by_emptying a = record { id = NOWHERE; offset = Some 0 }
+
+-- the number of a node's first child, if it has one
+abbrev pub first_in : {A : Type 0} → View A → Option ℕ
+first_in (leaf parent items) = None
+first_in (internal parent first branches) = Some first

@@ -1,0 +1,54 @@
+-- How many nodes an insertion at a node takes, and how many levels stand above it: by the nodes as they are.
+use Rattle.std.specs.Prelude.{◌≡◌, ℕ, zero, suc, ◌+◌, ◌<◌, ◌==◌, if◌then◌else◌, List, length, Option, Some, None}
+use Rattle.btree_node.specs.View.{View, Look, parent_of, size_of, most_of}
+use Rattle.btree_shape.specs.Shape.{most_at, count_at}
+use Rattle.btree_shape.specs.Way.{Above, top, under, frame_count, depth}
+use Rattle.btree_shape.specs.Node.{IsNode}
+
+-- for a node that is split: its right part, and what its parent needs, or a new root
+abbrev pub need_of_split : (ℕ → ℕ) → (parent : Option ℕ) → ℕ
+need_of_split above None = 2
+need_of_split above (Some parent) = suc (above parent)
+
+-- a node that holds as many items as it may is split, any other takes the item
+abbrev pub need_in : {A : Type 0} → (ℕ → ℕ) → Option (View A) → ℕ
+need_in above None = 0
+need_in above (Some node) = if size_of node == most_of node then need_of_split above (parent_of node) else 0
+
+-- the full nodes from node `id` upward without a gap, and one more where the last of them is the root, on at most so many
+-- levels
+abbrev pub need_from : {A : Type 0} → Look A → (most : ℕ) → (id : ℕ) → ℕ
+need_from look zero id = 0
+need_from look (suc most) id = need_in (need_from look most) (look id)
+
+-- the same in a tree of so many items; an empty one takes its first node
+abbrev pub need : {A : Type 0} → Look A → (root : Option ℕ) → (len : ℕ) → (id : ℕ) → ℕ
+need look None len id = 1
+need look (Some root) len id = need_from look len id
+
+-- how many levels stand above a node, by the parents, at most so many
+abbrev pub levels_up : (ℕ → ℕ) → Option ℕ → ℕ
+levels_up above None = 0
+levels_up above (Some parent) = suc (above parent)
+
+abbrev pub levels_over : {A : Type 0} → (ℕ → ℕ) → Option (View A) → ℕ
+levels_over above None = 0
+levels_over above (Some node) = levels_up above (parent_of node)
+
+abbrev pub levels_above : {A : Type 0} → Look A → (most : ℕ) → (id : ℕ) → ℕ
+levels_above look zero id = 0
+levels_above look (suc most) id = levels_over (levels_above look most) (look id)
+
+-- the same on the way above a node: for a split at its end, and for an item put into a node of `count` items there
+abbrev pub wanted : {A : Type 0} {height : ℕ} → Above A height → ℕ
+wanted top = 2
+wanted (under frame way) = suc (if frame_count frame == 7 then wanted way else 0)
+
+abbrev pub needed : {A : Type 0} {height : ℕ} → Above A height → (count : ℕ) → ℕ
+needed {A} {height} way count = if count == most_at height then wanted way else 0
+
+-- a count of the need that has come up to node `id` with `counted` full nodes below it
+pub record IsNeeding (A : Type 0) (look : Look A) (root : ℕ) (xs : List A) (id counted all : ℕ) : Type 0 where
+  pub node : IsNode A look root xs id
+  pub left : counted + needed node.seen.way (count_at A node.seen.height node.seen.shape) ≡ all
+  pub room : counted + depth node.seen.way < length xs

@@ -1,0 +1,61 @@
+-- What calls on a store's nodes leave: one node written, numbers claimed, children under a new parent, a node split.
+use Rattle.std.specs.Prelude.{◌≡◌, ◌≢◌, ℕ, ◌+◌, ◌<◌, List, [], ◌∷◌, Some, None, option_map}
+use Rattle.btree_node.specs.View.{View, internal, Look, parent_of, items_of, children_of}
+use Rattle.btree_node.specs.Edits.{with_parent, is_internal, IsSplit}
+use Rattle.btree_shape.specs.WellFormed.{times_used}
+use Rattle.btree_shape.specs.Shape.{times_listed}
+
+module _ {A : Type 0} (look new : Look A) where
+  -- node `id` is this one now, and no other has changed
+  pub record Puts (id : ℕ) (node : View A) : Type 0 where
+    pub here : new id ≡ Some node
+    pub others : (n : ℕ) → n ≢ id → new n ≡ look n
+
+  -- these numbers were not used and are now, and no other has changed
+  pub record Claims (spare : List ℕ) : Type 0 where
+    pub counted : (n : ℕ) → times_used (new n) ≡ times_used (look n) + times_listed n spare
+    pub kept : (n : ℕ) → times_listed n spare ≡ 0 → new n ≡ look n
+
+  -- these children have a new parent, and no other node has changed
+  pub record Adopts (parent : ℕ) (children : List ℕ) : Type 0 where
+    pub moved : (n : ℕ) → 0 < times_listed n children → new n ≡ option_map (with_parent (Some parent)) (look n)
+    pub kept : (n : ℕ) → times_listed n children ≡ 0 → new n ≡ look n
+
+  -- node i is split: its left part stays there, its right part is node j, whose children name j as their parent, and no
+  -- other node has changed
+  pub record Splits (i j : ℕ) (median : A) : Type 0 where
+    pub node : View A
+    pub left : View A
+    pub right : View A
+    pub here : look i ≡ Some node
+    pub parts : IsSplit node median left right
+    pub at_left : new i ≡ Some left
+    pub at_right : new j ≡ Some right
+    pub moved : (n : ℕ) → n ≢ i → n ≢ j → 0 < times_listed n (children_of right)
+        → new n ≡ option_map (with_parent (Some j)) (look n)
+    pub kept : (n : ℕ) → n ≢ i → n ≢ j → times_listed n (children_of right) ≡ 0 → new n ≡ look n
+
+  -- node r is a new root over the parts i and j of the old one, which name it as their parent; no other node has
+  -- changed
+  pub record Raises (i j r : ℕ) (median : A) : Type 0 where
+    pub root : new r ≡ Some (internal None i ((median, j) ∷ []))
+    pub at_left : new i ≡ option_map (with_parent (Some r)) (look i)
+    pub at_right : new j ≡ option_map (with_parent (Some r)) (look j)
+    pub kept : (n : ℕ) → n ≢ r → n ≢ i → n ≢ j → new n ≡ look n
+
+  -- a number that was not used is now, or one is not any more, and no other node has changed
+  pub record Gains (id : ℕ) : Type 0 where
+    pub vacant : look id ≡ None
+    pub used : times_used (new id) ≡ 1
+    pub others : (n : ℕ) → n ≢ id → new n ≡ look n
+
+  pub record Loses (id : ℕ) : Type 0 where
+    pub gone : new id ≡ None
+    pub others : (n : ℕ) → n ≢ id → new n ≡ look n
+
+-- a node with these items and otherwise as another one
+pub record HasItems {A : Type 0} (old new : View A) (items : List A) : Type 0 where
+  pub kind : is_internal new ≡ is_internal old
+  pub parent : parent_of new ≡ parent_of old
+  pub children : children_of new ≡ children_of old
+  pub items_are : items_of new ≡ items

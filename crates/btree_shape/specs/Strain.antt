@@ -1,0 +1,54 @@
+-- How near the nodes of a tree are to a split or a merge: what pays for the nodes that later steps take or give up.
+use Rattle.std.specs.Prelude.{ℕ, zero, suc, ◌+◌, ◌-◌, ◌==◌, if◌then◌else◌, List, length, Option, Some, None}
+use Rattle.btree_node.specs.View.{View, leaf, internal, Look, size_of}
+use Rattle.btree_shape.specs.Shape.{total, Shape, count_at}
+use Rattle.btree_shape.specs.Way.{Frame, at_first, at_branch, Above, top, under, frame_count}
+
+-- what a leaf of more than 7 items has too much, and an internal node of more than 5
+abbrev pub surplus_of : {A : Type 0} → View A → ℕ
+surplus_of (leaf parent items) = length items - 7
+surplus_of (internal parent first branches) = length branches - 5
+
+-- the strain of a node: its surplus, and what it has fewer than 4 items if it is not the root
+abbrev pub strain_in : {A : Type 0} → (root id : ℕ) → Option (View A) → ℕ
+strain_in root id None = 0
+strain_in root id (Some node) = surplus_of node + (if id == root then 0 else 4 - size_of node)
+
+-- that of the nodes with these numbers
+abbrev pub strain_under : {A : Type 0} → Look A → (root : ℕ) → List ℕ → ℕ
+strain_under look root ids = total (λ id. strain_in root id (look id)) ids
+
+-- the same of a tree in parts: of a node by its height and number of items
+abbrev pub surplus : (height count : ℕ) → ℕ
+surplus zero count = count - 7
+surplus (suc height) count = count - 5
+
+module _ (A : Type 0) where
+  -- of a tree that is not at the root, and of the nodes below its top
+  abbrev pub strain : (height : ℕ) → Shape A height → ℕ
+  strain zero shape = surplus zero (length shape.1) + (4 - length shape.1)
+  strain (suc height) shape =
+      surplus (suc height) (length shape.2) + (4 - length shape.2)
+      + (strain height shape.1 + total (λ b. strain height b.1) shape.2)
+
+  abbrev pub strain_below : (height : ℕ) → Shape A height → ℕ
+  strain_below zero shape = 0
+  strain_below (suc height) shape = strain height shape.1 + total (λ b. strain height b.1) shape.2
+
+  -- of a node with this above it
+  abbrev pub own_strain : {height : ℕ} → Above A height → (count : ℕ) → ℕ
+  own_strain {height} top count = surplus height count
+  own_strain {height} (under frame way) count = surplus height count + (4 - count)
+
+  abbrev pub strain_beside : {height : ℕ} → Frame A height → ℕ
+  strain_beside {height} (at_first id back) = total (λ b. strain height b.1) back
+  strain_beside {height} (at_branch id first front x back) =
+      strain height first + total (λ b. strain height b.1) front + total (λ b. strain height b.1) back
+
+  abbrev pub strain_above : {height : ℕ} → Above A height → ℕ
+  strain_above {height} top = 0
+  strain_above {height} (under frame way) = own_strain way (frame_count frame) + strain_beside frame + strain_above way
+
+  -- of the whole tree, seen from one of its nodes
+  abbrev pub strain_of : (height : ℕ) → Above A height → Shape A height → ℕ
+  strain_of height way shape = strain_above way + (own_strain way (count_at A height shape) + strain_below height shape)

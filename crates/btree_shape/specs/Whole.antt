@@ -1,0 +1,37 @@
+-- A tree seen from one of its nodes, whose own number of items is left open.
+use Rattle.std.specs.Prelude.{◌≡◌, ℕ, ◌+◌, List, ◌++◌, None}
+use Rattle.btree_node.specs.View.{Look}
+use Rattle.btree_shape.specs.WellFormed.{times_used}
+use Rattle.btree_shape.specs.Shape.{times_listed, IsFilled, Shape, id_of, items_under, times_under, Holds, count_at, IsFilledBelow}
+use Rattle.btree_shape.specs.Way.{Above, parent_above, items_before, items_after, times_above, HoldsAbove, AreFilled, root_above}
+
+-- the way above a node and the tree under it are one tree with this root, which spells the list; the numbers in `spare`
+-- are used too, each once, and are no nodes of it
+pub record IsWhole (A : Type 0) (look : Look A) (spare : List ℕ) (root : ℕ) (xs : List A)
+    (height : ℕ) (way : Above A height) (shape : Shape A height) : Type 0 where
+  pub above : HoldsAbove look way (id_of A height shape)
+  pub inner : Holds A look height (parent_above way) shape
+  pub once : (n : ℕ) → times_above n way + (times_under A height n shape + times_listed n spare) ≡ times_used (look n)
+  pub filled : AreFilled way
+  pub below : IsFilledBelow A height shape
+  pub list : xs ≡ items_before way ++ (items_under A height shape ++ items_after way)
+  pub root_is : root_above way (id_of A height shape) ≡ root
+
+-- the same from the root, where each node has its number of items and no number is spare
+pub record IsTree (A : Type 0) (look : Look A) (root : ℕ) (xs : List A) : Type 0 where
+  pub height : ℕ
+  pub shape : Shape A height
+  pub at_root : id_of A height shape ≡ root
+  pub holds : Holds A look height None shape
+  pub once : (n : ℕ) → times_under A height n shape ≡ times_used (look n)
+  pub sized : IsFilled 1 height (count_at A height shape)
+  pub below : IsFilledBelow A height shape
+  pub spells : items_under A height shape ≡ xs
+
+-- a tree can be seen from node `id`
+pub record Seen (A : Type 0) (look : Look A) (spare : List ℕ) (root : ℕ) (xs : List A) (id : ℕ) : Type 0 where
+  pub height : ℕ
+  pub way : Above A height
+  pub shape : Shape A height
+  pub here : id_of A height shape ≡ id
+  pub whole : IsWhole A look spare root xs height way shape
