@@ -1,0 +1,79 @@
+-- The number of levels, counted down the first children.
+use Rattle.std.proofs.Common.{◌≡◌, ℕ, zero, suc, ◌+◌, ◌-◌, ◌*◌, ◌<◌, ◌≤◌, ◌^◌, List, Option, Some, None, IsSome, refl, sym, ap, subst, length, option_map, slice_get, arith}
+use Rattle.std.specs.Prelude.{map as list_map}
+use Rattle.std.specs.FinMap as map
+use Rattle.btree_store.specs.Content.{Content}
+use Rattle.btree_node.specs.declared.node.Node.{Node}
+use Rattle.btree_node.specs.Node.{view_of}
+use Rattle.btree_node.specs.View.{View, Look, leaf, internal, children_of}
+use Rattle.btree_shape.specs.Spells.{Spells}
+use Rattle.btree_shape.specs.TreeState.{views}
+
+-- node `id` is so many levels below the root, and levels are counted down to it
+pub record IsDescending {A : Type 0} (look : Look A) (root : ℕ) (xs : List A) (id levels : ℕ) : Type 0 where
+  pub height : ℕ
+  pub low : height < 32
+  pub spells : Spells look height None root xs
+  pub dense : 2 * 4 ^ height ≤ length xs + 1
+  pub below : ℕ
+  pub parent : Option ℕ
+  pub list : List A
+  pub here : Spells look below parent id list
+  pub counted : levels + below ≡ suc height
+
+-- what the count comes to
+pub record Ends {A : Type 0} (look : Look A) (root : ℕ) (xs : List A) (levels : ℕ) : Type 0 where
+  pub height : ℕ
+  pub spells : Spells look height None root xs
+  pub counted : levels ≡ suc height
+  pub dense : 2 * 4 ^ (levels - 1) ≤ length xs + 1
+
+module _ {K V : Type 0} (nodes : Content (Node K V)) (root : ℕ) (xs : List (K × V)) where
+  pub descending-start : (h : ℕ) → h < 32 → Spells (views nodes) h None root xs → 2 * 4 ^ h ≤ length xs + 1 → IsDescending (views nodes) root xs root 1
+  descending-start h low s dense = record { height = h; low = low; spells = s; dense = dense; below = h; parent = None; list = xs; here = s; counted = omega arith }
+
+  module _ (id levels : ℕ) (d : IsDescending (views nodes) root xs id levels) where
+    pub descending-used : IsSome (map.get nodes id)
+    descending-used = at d.below d.here
+      where
+        some : (o : Option (Node K V)) (v : View (K × V)) → option_map view_of o ≡ Some v → IsSome o
+        some None v e = absurd (cc)
+        some (Some n) v e = refl
+
+        at : (h : ℕ) → Spells (views nodes) h d.parent id d.list → IsSome (map.get nodes id)
+        at zero s = some (map.get nodes id) _ s
+        at (suc h) s = some (map.get nodes id) _ s.3
+
+    module _ (node : Node K V) (at : map.get nodes id ≡ Some node) where
+      here : views nodes id ≡ Some (view_of node)
+      here = ap (option_map view_of) at
+
+      pub descending-end : slice_get (children_of (view_of node)) 0 ≡ None → Ends (views nodes) root xs levels
+      descending-end none = by d.below d.here d.counted
+        where
+          by : (h : ℕ) → Spells (views nodes) h d.parent id d.list → levels + h ≡ suc d.height → Ends (views nodes) root xs levels
+          by zero s e = record { height = d.height; spells = d.spells; counted = omega arith; dense = let q : levels - 1 ≡ d.height = omega arith in rw q d.dense }
+          by (suc h) s e =
+              let q = s.3 in
+              let h2 = here in
+              let same : internal d.parent s.0 (list_map {B = _ × ℕ} (λ r. (r.0, r.1)) s.2) ≡ view_of node = cc in
+              let none2 : slice_get (children_of (internal d.parent s.0 (list_map {B = _ × ℕ} (λ r. (r.0, r.1)) s.2))) 0 ≡ None = subst (λ v. slice_get (children_of v) 0 ≡ None) (sym same) none in
+              absurd (cc)
+
+      pub descending-next : (child : ℕ) → slice_get (children_of (view_of node)) 0 ≡ Some child → IsDescending (views nodes) root xs child (levels + 1) × (levels < 32)
+      descending-next child some = by d.below d.here d.counted
+        where
+          by : (h : ℕ) → Spells (views nodes) h d.parent id d.list → levels + h ≡ suc d.height → IsDescending (views nodes) root xs child (levels + 1) × (levels < 32)
+          by zero s e =
+              let h2 = here in
+              let same : leaf d.parent d.list ≡ view_of node = cc in
+              let some2 : slice_get (children_of (leaf d.parent d.list)) 0 ≡ Some child = subst (λ v. slice_get (children_of v) 0 ≡ Some child) (sym same) some in
+              absurd (cc)
+          by (suc h) s e =
+              let q = s.3 in
+              let h2 = here in
+              let same : internal d.parent s.0 (list_map {B = _ × ℕ} (λ r. (r.0, r.1)) s.2) ≡ view_of node = cc in
+              let some2 : slice_get (children_of (internal d.parent s.0 (list_map {B = _ × ℕ} (λ r. (r.0, r.1)) s.2))) 0 ≡ Some child = subst (λ v. slice_get (children_of v) 0 ≡ Some child) (sym same) some in
+              let is : s.0 ≡ child = cc in
+              let low = d.low in
+              (record { height = d.height; low = d.low; spells = d.spells; dense = d.dense; below = h; parent = Some id; list = s.1; here = subst (λ i. Spells (views nodes) h (Some id) i s.1) is s.4; counted = omega arith }, omega arith)

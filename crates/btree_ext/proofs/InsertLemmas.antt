@@ -1,0 +1,109 @@
+-- An insertion by key: at a key that is there, and at the gap of one that is not.
+use Rattle.std.proofs.Common.{◌≡◌, ℕ, List, Option, Some, None, Ok, Err, IsSome, refl, sym, ap, subst, ◌∙◌, inl, inr, is_some, if◌then◌else◌, arith}
+use Rattle.std.specs.Cmp.{IsTotalOrder}
+use Rattle.std.specs.FinMap as map
+use Rattle.std.specs.declared.cmp.Ordering.{Ordering}
+use Rattle.btree_store.specs.Content.{Content}
+use Rattle.btree_item.proofs.PairEdits.{Fits-before}
+use Rattle.btree_item.proofs.PairLemmas.{inserted-from_Err}
+use Rattle.btree_item.specs.Pairs.{Fits, before, found, inserted, place_of, with_value}
+use Rattle.btree_item.specs.declared.address.Address.{Address}
+use Rattle.btree_node.specs.declared.node.Node.{Node}
+use Rattle.btree_node.specs.View.{items_of}
+use Rattle.btree_shape.specs.Shape.{times_listed}
+use Rattle.btree_shape.specs.Spells.{numbers_under}
+use Rattle.btree_shape.specs.TreeState.{TreeState, views, pairs_under, pairs_of, IsSound}
+use Rattle.btree_shape.specs.WellFormed.{IsWellFormed, times_used}
+use Rattle.btree_shape.proofs.Exchanges.{value-well}
+use Rattle.btree_shape.proofs.Listed.{pairs-well, well-pairs}
+use Rattle.btree_shape.proofs.Numbers.{same-or, times-listed, used-one}
+use Rattle.btree_ext.specs.Answers.{HasKey, IsGapAt}
+use Rattle.btree_ext.specs.Exchange.{Exchanges}
+use Rattle.btree_ext.specs.Insert.{IsGapFor, IsInserted, Took, state}
+use Rattle.btree_ext.proofs.FirstLemmas.{len-views}
+
+ok-some : {X : Type 0} (n m i : ℕ) (o : Option X) → (if is_some o then Ok n else Err m) ≡ Ok i → IsSome o
+ok-some n m i None e = absurd (cc)
+ok-some n m i (Some x) e = refl
+
+err-none : {X : Type 0} (n m i : ℕ) (o : Option X) → (if is_some o then Ok n else Err m) ≡ Err i → (o ≡ None) × (m ≡ i)
+err-none n m i None e = (refl, cc)
+err-none n m i (Some x) e = absurd (cc)
+
+not-both : {X : Type 0} (o : Option X) → IsSome o → o ≡ None → ⊥
+not-both None some none = absurd (cc)
+not-both (Some x) some none = absurd (cc)
+
+if-some : {X Y : Type 0} (o : Option X) (a b : Y) → IsSome o → (if is_some o then a else b) ≡ a
+if-some None a b some = absurd (cc)
+if-some (Some x) a b some = refl
+
+module _ {K V : Type 0} (cmp : K → K → Ordering) (laws : IsTotalOrder cmp) (old : Content (Node K V)) (len r : ℕ) (k : K) (w : V) where
+  abbrev pairs : Option ℕ → List (K × V)
+  pairs top = pairs_under (views old) top len
+
+  -- what the value exchanged makes of the tree
+  pub record IsExchanged (top : Option ℕ) (new : Content (Node K V)) : Type 0 where
+    pub sound : IsSound cmp new top len
+    pub list : pairs_under (views new) top len ≡ inserted cmp k w (pairs top)
+    pub some : IsSome (found cmp k (pairs top))
+    pub nodes : map.len new ≡ map.len old
+
+  exchanged-at : (root : ℕ) → IsWellFormed cmp (views old) (Some root) len (pairs (Some root)) → (place : ℕ) → place_of cmp k (pairs (Some root)) ≡ Ok place → (id : ℕ) → HasKey cmp k (views old) (Some root) (pairs (Some root)) id
+      → (new : Content (Node K V)) → Exchanges cmp k w (views old) (views new) id → IsExchanged (Some root) new
+  exchanged-at root well place is id has new ex =
+      let here = has.here in
+      let was = ex.was in
+      let same : has.node ≡ ex.old = cc in
+      let at : place_of cmp k (items_of ex.old) ≡ Ok has.offset = subst (λ v. place_of cmp k (items_of v) ≡ Ok has.offset) same has.is in
+      let well2 = value-well cmp laws k w (views old) (views new) root len (pairs (Some root)) well id has.offset ex.old ex.node ex.was at ex.items ex.puts in
+      let some = ok-some (before cmp k (pairs (Some root))) (before cmp k (pairs (Some root))) place (found cmp k (pairs (Some root))) is in
+      let used : (n : ℕ) → times_used (views new n) ≡ times_used (views old n) = λ n. elim (same-or n id) [
+        | inl e ↦ let a = used-one (views new id) ex.node ex.puts.here in let b = used-one (views old id) ex.old ex.was in rw e (omega arith)
+        | inr ne ↦ ap times_used (ex.puts.others n ne)
+      ] in
+      let ids = numbers_under (views old) well.formed.height root in
+      let listed : (n : ℕ) → times_listed n ids ≡ times_used (views old n) = λ n. sym (times-listed n ids) ∙ well.formed.once n in
+      record {
+        sound = record { pairs = with_value cmp k w (pairs (Some root)); well = well2 };
+        list = pairs-well cmp (views new) (Some root) len (with_value cmp k w (pairs (Some root))) well2 ∙ sym (if-some (found cmp k (pairs (Some root))) _ _ some);
+        some = some;
+        nodes = len-views new ids (λ n. listed n ∙ sym (used n)) ∙ sym (len-views old ids listed);
+      }
+
+  pub exchanged : (top : Option ℕ) → IsSound cmp old top len → (place : ℕ) → place_of cmp k (pairs top) ≡ Ok place → (id : ℕ) → HasKey cmp k (views old) top (pairs top) id
+      → (new : Content (Node K V)) → Exchanges cmp k w (views old) (views new) id → IsExchanged top new
+  exchanged None sound place is id has new ex =
+      let well = well-pairs cmp (views old) None len sound.pairs sound.well in
+      let here = has.here in
+      let none = well.formed.0 id in
+      absurd (cc)
+  exchanged (Some root) sound place is id has new ex = exchanged-at root (well-pairs cmp (views old) (Some root) len sound.pairs sound.well) place is id has new ex
+
+  pub exchanged-took : (top : Option ℕ) (new : Content (Node K V)) (r2 : ℕ) → IsExchanged top new → Took cmp k (state old top len r) (state new top len r2)
+  exchanged-took top new r2 x = record { absent = λ none. absurd (not-both (found cmp k (pairs top)) x.some none); present = λ some. x.nodes }
+
+  module _ (top : Option ℕ) (sound : IsSound cmp old top len) (a : Address) (gap : IsGapAt cmp k (views old) top (pairs top) a) where
+    nothing : (found cmp k (pairs top) ≡ None) × (before cmp k (pairs top) ≡ gap.place)
+    nothing = err-none (before cmp k (pairs top)) (before cmp k (pairs top)) gap.place (found cmp k (pairs top)) gap.is
+
+    pub gap-for : IsGapFor cmp k (state old top len r) a
+    gap-for = record {
+      place = gap.place;
+      at = gap.at;
+      in_leaf = gap.in_leaf;
+      back = gap.back;
+      fits =
+          subst (λ p. Fits cmp k p (pairs top)) nothing.1
+          (Fits-before cmp laws k (pairs top) (well-pairs cmp (views old) top len sound.pairs sound.well).ascends nothing.0);
+    }
+
+    pub absent : found cmp k (pairs top) ≡ None
+    absent = nothing.0
+
+    module _ (new : TreeState K V) (b : Address) (is : IsInserted cmp (state old top len r) new a b (k, w)) where
+      pub put-pairs : pairs_of new ≡ inserted cmp k w (pairs top)
+      put-pairs = (is.pairs gap.place gap.at).0 ∙ sym (inserted-from_Err cmp k w (pairs top) gap.place gap.is)
+
+      pub put-took : Took cmp k (state old top len r) new
+      put-took = record { absent = λ none. (a, gap, is.nodes); present = λ some. absurd (not-both (found cmp k (pairs top)) some absent) }

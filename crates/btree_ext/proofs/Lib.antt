@@ -1,0 +1,15 @@
+pub mod AdoptLemmas
+pub mod ClaimLemmas
+pub mod ClimbLemmas
+pub mod ExchangeLemmas
+pub mod FirstLemmas
+pub mod GrowLemmas
+pub mod HeightLemmas
+pub mod InsertLemmas
+pub mod LiftLemmas
+pub mod MoreLemmas
+pub mod NeedLemmas
+pub mod OffsetLemmas
+pub mod SearchLemmas
+pub mod StepLemmas
+pub mod TreeLemmas

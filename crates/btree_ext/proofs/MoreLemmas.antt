@@ -1,0 +1,224 @@
+-- A pair put into a leaf of a tree that is not empty: what the steps ask, and what they come to.
+use Rattle.std.proofs.Common.{◌≡◌, ◌≢◌, ℕ, zero, suc, ◌+◌, ◌-◌, ◌^◌, ◌<◌, ◌≤◌, inl, inr, All, List, [], ◌∷◌, ◌++◌, length, length-append, Option, Some, None, IsSome, refl, sym, ap, subst, ◌∙◌, option_map, option_and_then, slice_get, arith}
+use Rattle.std.specs.Cmp.{IsTotalOrder}
+use Rattle.std.specs.FinMap as map
+use Rattle.std.specs.List.{insert}
+use Rattle.std.specs.declared.cmp.Ordering.{Ordering}
+use Rattle.btree_store.specs.Content.{Content}
+use Rattle.btree_store.specs.ContentLaws.{get-insert_same, get-insert_other}
+use Rattle.btree_item.specs.declared.address.Address.{Address}
+use Rattle.btree_node.specs.declared.node.Node.{Node}
+use Rattle.btree_node.specs.Edits.{with_item}
+use Rattle.btree_node.specs.Node.{view_of}
+use Rattle.btree_node.specs.View.{View, Look, leaf, internal, item_in}
+use Rattle.btree_shape.specs.Growing.{IsGrowing, IsGrown}
+use Rattle.btree_shape.specs.Need.{need}
+use Rattle.btree_shape.specs.Place.{IsPlace, IsPlaceOf, IsEnd, IsLeaf, IsBack}
+use Rattle.btree_shape.specs.Shape.{one, times_listed}
+use Rattle.btree_shape.specs.Spells.{numbers_under}
+use Rattle.btree_shape.specs.Step.{Claims, Puts}
+use Rattle.btree_shape.specs.Strain.{strain_under}
+use Rattle.btree_shape.specs.Tour.{slot}
+use Rattle.btree_shape.specs.TreeState.{views, pairs_under, IsSound}
+use Rattle.btree_shape.specs.WellFormed.{IsWellFormed, times_used}
+use Rattle.btree_shape.proofs.Frames.{one-self}
+use Rattle.btree_shape.proofs.Listed.{pairs-well, well-pairs}
+use Rattle.btree_shape.proofs.Numbers.{listed-append, same-or, times-listed, used-low, used-one}
+use Rattle.btree_shape.proofs.OnePlace.{one_place-well}
+use Rattle.btree_shape.proofs.Puts.{leaf-grows, grown-well, grown-address}
+use Rattle.btree_ext.specs.Claimed.{EMPTY, with_claims, AreClaims, IsClaimed}
+use Rattle.btree_ext.specs.Insert.{IsGapFor, IsInserted, state}
+use Rattle.btree_ext.specs.Steps.{AddsItem, AreSplit, CanTake, IsSplitting}
+use Rattle.btree_ext.proofs.AdoptLemmas.{one-other, used-view}
+use Rattle.btree_ext.proofs.FirstLemmas.{len-views}
+
+module _ {K V : Type 0} where
+  -- claims as definitions of the tree see them
+  pub claims-seen : (nodes : Content (Node K V)) (ids : List ℕ) → AreClaims EMPTY nodes ids → Claims (views nodes) (views (with_claims EMPTY nodes ids)) ids
+  claims-seen nodes [] a = record { counted = λ n. omega arith; kept = λ n none. refl }
+  claims-seen nodes (id ∷ ids) a =
+      let rest = claims-seen (map.insert nodes id EMPTY) ids a.2 in
+      let was : views nodes id ≡ None = ap (option_map view_of) a.0 in
+      let is : views (map.insert nodes id EMPTY) id ≡ Some (view_of EMPTY) = ap (option_map view_of) (get-insert_same nodes id EMPTY) in
+      let other : (n : ℕ) → n ≢ id → views (map.insert nodes id EMPTY) n ≡ views nodes n = λ n ne. ap (option_map view_of) (get-insert_other nodes id EMPTY n ne) in
+      record {
+        counted = λ n. elim (same-or n id) [
+          | inl same ↦
+              let u = rest.counted n in
+              let b : times_used (views (map.insert nodes id EMPTY) n) ≡ 1 = ap (λ i. times_used (views (map.insert nodes id EMPTY) i)) same ∙ ap times_used is in
+              let c : times_used (views nodes n) ≡ 0 = ap (λ i. times_used (views nodes i)) same ∙ ap times_used was in
+              let d : one n id ≡ 1 = ap (one n) (sym same) ∙ one-self n in
+              omega arith
+          | inr ne ↦
+              let u = rest.counted n in
+              let b = ap times_used (other n ne) in
+              let d = one-other n id ne in
+              omega arith
+        ];
+        kept = λ n none. elim (same-or n id) [
+          | inl same ↦ let d : one n id ≡ 1 = ap (one n) (sym same) ∙ one-self n in absurd (omega arith)
+          | inr ne ↦ rest.kept n (omega arith) ∙ other n ne
+        ];
+      }
+
+  pub claims-low : (nodes : Content (Node K V)) (ids : List ℕ) → AreClaims EMPTY nodes ids → All (λ id. id < 2 ^ 64 - 1) ids
+  claims-low nodes [] a k d low = absurd (omega arith)
+  claims-low nodes (id ∷ ids) a zero d low = a.1
+  claims-low nodes (id ∷ ids) a (suc k) d low = claims-low (map.insert nodes id EMPTY) ids a.2 k d (omega arith)
+
+  leaf-there : (o : Option (View (K × V))) → IsLeaf (λ n. o) o → (p : Option ℕ) × (ys : List (K × V)) × (o ≡ Some (leaf p ys))
+  leaf-there None is = absurd is
+  leaf-there (Some (leaf p ys)) is = (p, ys, refl)
+  leaf-there (Some (internal p first bs)) is = absurd is
+
+pub some-root : (top : Option ℕ) → top ≢ None → (root : ℕ) × (top ≡ Some root)
+some-root None some = absurd (some refl)
+some-root (Some root) some = (root, refl)
+
+-- an offset that is not -1
+back-some : {A : Type 0} (look : Look A) (o : Option ℕ) → IsBack look o → (n : ℕ) × (o ≡ Some n)
+back-some look None is = absurd is
+back-some look (Some n) is = (n, refl)
+
+get-below : {X : Type 0} (xs : List X) (n : ℕ) (x : X) → slice_get xs n ≡ Some x → n < length xs
+get-below [] n x e = absurd (cc)
+get-below (y ∷ ys) zero x e = omega arith
+get-below (y ∷ ys) (suc n) x e = omega (arith, get-below ys n x e)
+
+module _ {K V : Type 0} (cmp : K → K → Ordering) (laws : IsTotalOrder cmp) (old : Content (Node K V)) (top : Option ℕ) (root len r : ℕ) (is : top ≡ Some root)
+    (sound : IsSound cmp old top len) (k : K) (w : V) (a : Address) (gap : IsGapFor cmp k (state old top len r) a) where
+  abbrev look : Look (K × V)
+  look = views old
+
+  abbrev pairs : List (K × V)
+  pairs = pairs_under look top len
+
+  well : IsWellFormed cmp look (Some root) len pairs
+  well = subst (λ t. IsWellFormed cmp look t len pairs) is (well-pairs cmp look top len sound.pairs sound.well)
+
+  at-root : IsPlace look (Some root) pairs a.id a.offset gap.place
+  at-root = subst (λ t. IsPlace look t pairs a.id a.offset gap.place) is gap.at
+
+  -- the leaf and the offset in it
+  pub record LeafAt : Type 0 where
+    pub parent : Option ℕ
+    pub items : List (K × V)
+    pub here : look a.id ≡ Some (leaf parent items)
+    pub index : ℕ
+    pub offset : a.offset ≡ Some index
+    pub within : index ≤ length items
+    pub few : length items ≤ 8
+    pub place : IsPlace look (Some root) pairs a.id (Some index) gap.place
+
+  pub the-leaf : LeafAt
+  the-leaf = elim gap.in_leaf [
+    | inl in_leaf ↦
+        let l = leaf-there (look a.id) in_leaf in
+        let o = back-some look a.offset gap.back in
+        let at : IsPlace look (Some root) pairs a.id (Some o.0) gap.place = subst (λ q. IsPlace look (Some root) pairs a.id q gap.place) o.1 at-root in
+        let size = (well.formed.sized a.id (leaf l.0 l.1) l.2).1 in
+        record { parent = l.0; items = l.1; here = l.2; index = o.0; offset = o.1; within = low l.0 l.1 o.0 l.2 at; few = size; place = at }
+    | inr nowhere ↦ let none : Some root ≡ None = sym is ∙ nowhere.0 in absurd (cc)
+  ]
+    where
+      low : (p : Option ℕ) (ys : List (K × V)) (n : ℕ) → look a.id ≡ Some (leaf p ys) → IsPlace look (Some root) pairs a.id (Some n) gap.place → n ≤ length ys
+      low p ys n here at = elim at [
+        | inl there ↦ by (item_in (look a.id) n) refl there
+        | inr end ↦ let e : n ≡ length ys = subst (λ v. IsEnd look v n) here end.0 in omega arith
+      ]
+        where
+          by : (o : Option (K × V)) → item_in (look a.id) n ≡ o → IsPlaceOf look pairs o gap.place → n ≤ length ys
+          by None e t = absurd t
+          by (Some x) e t = let g : slice_get ys n ≡ Some x = ap (λ v. item_in v n) (sym here) ∙ e in omega (arith, get-below ys n x g)
+
+  pub leaf-used : IsSome (map.get old a.id)
+  leaf-used = used-view old a.id (let u = used-one (look a.id) (leaf the-leaf.parent the-leaf.items) the-leaf.here in omega arith)
+
+  pub index-is : (n : ℕ) → Some n ≡ a.offset → the-leaf.index ≡ n
+  index-is n e = let o = the-leaf.offset in let both : Some n ≡ Some the-leaf.index = e ∙ o in cc
+
+  -- after the claims, and with the pair in the leaf
+  module _ (ids : List ℕ) (mid : Content (Node K V)) (claimed : IsClaimed EMPTY old mid ids) (count : length ids ≡ need look top len a.id) where
+    claims : Claims look (views mid) ids
+    claims = subst (λ m. Claims look (views m) ids) (sym claimed.after) (claims-seen old ids claimed.claims)
+
+    leaf-kept : views mid a.id ≡ Some (leaf the-leaf.parent the-leaf.items)
+    leaf-kept =
+        let u = used-one (look a.id) (leaf the-leaf.parent the-leaf.items) the-leaf.here in
+        let v = used-low (views mid a.id) in
+        let c = claims.counted a.id in
+        claims.kept a.id (omega arith) ∙ the-leaf.here
+
+    pub can-take : CanTake (views mid) a.id the-leaf.index None
+    can-take = record { node = leaf the-leaf.parent the-leaf.items; here = leaf-kept; room = the-leaf.few; within = the-leaf.within; kind = refl }
+
+    module _ (put : Content (Node K V)) (adds : AddsItem (views mid) (views put) a.id the-leaf.index (k, w) None) where
+      puts : Puts (views mid) (views put) a.id (with_item the-leaf.index (k, w) None (leaf the-leaf.parent the-leaf.items))
+      puts = record { here = adds.here ∙ ap (option_map (with_item the-leaf.index (k, w) None)) leaf-kept; others = adds.others }
+
+      abbrev bound : ℕ
+      bound = suc (strain_under look root (numbers_under look well.formed.height root))
+
+      growing : IsGrowing (K × V) (views put) root (insert pairs gap.place (k, w)) a.id ids (Some (k, w)) a gap.place 0 bound
+      growing =
+          let slot_is : slot a.id the-leaf.index ≡ a = ap (λ o. record { id = a.id; offset = o }) (sym the-leaf.offset) in
+          let enough : length ids ≡ need look (Some root) len a.id = count ∙ ap (λ t. need look t len a.id) is in
+          subst (λ b. IsGrowing (K × V) (views put) root (insert pairs gap.place (k, w)) a.id ids (Some (k, w)) b gap.place 0 bound) slot_is
+          (leaf-grows cmp laws look root len pairs well (views mid) (views put) a.id the-leaf.parent the-leaf.items the-leaf.index gap.place (k, w) ids the-leaf.here the-leaf.within the-leaf.place claims enough puts)
+
+      pub splitting : IsSplitting (views put) top a.id ids a
+      splitting = record { top = root; at_root = is; xs = insert pairs gap.place (k, w); asked = Some (k, w); place = gap.place; gained = 0; bound = bound; growing = growing }
+
+      module _ (new : Content (Node K V)) (new_top : Option ℕ) (b : Address) (split : AreSplit (views put) (views new) top new_top a.id ids a b)
+          (used : (n : ℕ) → times_used (views new n) ≡ times_used (views put n)) (new_len new_r : ℕ) (longer : new_len ≡ len + 1) (uncounted : new_r ≡ r) where
+        grown : IsGrown (K × V) (views new) split.top (insert pairs gap.place (k, w)) (Some (k, w)) b gap.place (0 + length ids) bound
+        grown = split.grown root (insert pairs gap.place (k, w)) (Some (k, w)) gap.place 0 bound is growing
+
+        new-well : IsWellFormed cmp (views new) (Some split.top) (len + 1) (insert pairs gap.place (k, w))
+        new-well = grown-well cmp laws look root len pairs well k w gap.place gap.fits (views new) split.top (Some (k, w)) b (0 + length ids) bound grown
+
+        listed : (n : ℕ) → times_listed n (numbers_under look well.formed.height root ++ ids) ≡ times_used (views new n)
+        listed n =
+            let a1 = listed-append n (numbers_under look well.formed.height root) ids in
+            let a2 = times-listed n (numbers_under look well.formed.height root) in
+            let a3 = well.formed.once n in
+            let a4 = claims.counted n in
+            let a5 = used n in
+            let a6 = put-used n in
+            omega arith
+          where
+            put-used : (n : ℕ) → times_used (views put n) ≡ times_used (views mid n)
+            put-used n = elim (same-or n a.id) [
+              | inl same ↦
+                  let x = used-one (views put a.id) (with_item the-leaf.index (k, w) None (leaf the-leaf.parent the-leaf.items)) puts.here in
+                  let y = used-one (views mid a.id) (leaf the-leaf.parent the-leaf.items) leaf-kept in
+                  rw same (omega arith)
+              | inr ne ↦ ap times_used (puts.others n ne)
+            ]
+
+        was-listed : (n : ℕ) → times_listed n (numbers_under look well.formed.height root) ≡ times_used (look n)
+        was-listed n = sym (times-listed n (numbers_under look well.formed.height root)) ∙ well.formed.once n
+
+        pub more-inserted : IsInserted cmp (state old top len r) (state new new_top new_len new_r) a b (k, w)
+        more-inserted =
+            let e : pairs_under (views new) (Some split.top) (len + 1) ≡ insert pairs gap.place (k, w) = pairs-well cmp (views new) (Some split.top) (len + 1) (insert pairs gap.place (k, w)) new-well in
+            let at = grown-address (K × V) (views new) split.top (insert pairs gap.place (k, w)) (Some (k, w)) b gap.place (0 + length ids) bound grown in
+            let l1 = len-views new (numbers_under look well.formed.height root ++ ids) listed in
+            let l2 = len-views old (numbers_under look well.formed.height root) was-listed in
+            let l3 = length-append (numbers_under look well.formed.height root) ids in
+            let i = at.item (k, w) refl in
+            subst (λ t. IsInserted cmp (state old top len r) (state new t new_len new_r) a b (k, w)) (sym split.at_root)
+            (subst (λ n. IsInserted cmp (state old top len r) (state new (Some split.top) n new_r) a b (k, w)) (sym longer)
+            (record {
+              sound = record { pairs = insert pairs gap.place (k, w); well = new-well };
+              pairs = λ place there.
+                  let same = one_place-well cmp laws look pairs len (Some root) well a.id a.offset gap.place place at-root (subst (λ t. IsPlace look t pairs a.id a.offset place) is there) in (
+                    e ∙ ap (λ p. insert pairs p (k, w)) same,
+                    subst (λ p. IsPlace (views new) (Some split.top) (pairs_under (views new) (Some split.top) (len + 1)) b.id b.offset p) same
+                        (subst (λ l. IsPlace (views new) (Some split.top) l b.id b.offset gap.place) (sym e) at.place),
+                  );
+              item = ap (option_and_then (item_in (views new b.id))) i.1 ∙ i.2;
+              longer = refl;
+              nodes = omega arith;
+              uncounted = uncounted;
+            }))

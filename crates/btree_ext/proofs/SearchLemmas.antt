@@ -1,0 +1,149 @@
+-- A search by key in a sound tree, step by step.
+use Rattle.std.proofs.Common.{◌≡◌, ◌≢◌, ℕ, ◌≤◌, ◌^◌, ◌-◌, inl, List, Option, Some, None, zero, suc, inr, [], ◌∷◌, map, length-append, Ok, Err, IsSome, Result, refl, sym, ap, subst, ◌∙◌, length, is_some, option_map, option_and_then, slice_get, if◌then◌else◌, arith}
+use Rattle.std.proofs.lemmas.List.{length-map}
+use Rattle.std.specs.Cmp.{IsTotalOrder}
+use Rattle.std.specs.FinMap as nodes_map
+use Rattle.std.specs.declared.cmp.Ordering.{Ordering}
+use Rattle.btree_store.specs.Content.{Content}
+use Rattle.btree_item.specs.Pairs.{Ascends, before, found, found_value, place_of}
+use Rattle.btree_item.specs.Offset.{index_offset}
+use Rattle.btree_item.specs.declared.address.Address.{Address}
+use Rattle.btree_node.specs.declared.node.Node.{Node}
+use Rattle.btree_node.specs.LookUp.{placed, offset_in}
+use Rattle.btree_node.specs.Node.{view_of}
+use Rattle.btree_node.specs.View.{View, Look, leaf, internal, items_of, children_of, item_in, size_of}
+use Rattle.btree_shape.specs.Place.{IsOccupied, NOWHERE}
+use Rattle.btree_shape.specs.Search.{IsSearching}
+use Rattle.btree_shape.specs.TreeState.{views, pairs_under, IsSound}
+use Rattle.btree_shape.specs.WellFormed.{IsWellFormed}
+use Rattle.btree_shape.proofs.Descents.{Down, get-after, search-start, search-ascends, search-down}
+use Rattle.btree_shape.proofs.Listed.{well-pairs}
+use Rattle.btree_shape.proofs.LookUps.{search-hit, search-miss}
+use Rattle.btree_shape.proofs.Needs.{need-used, needing-start}
+use Rattle.btree_shape.proofs.Searched.{Rises, place-hit, rises, searched}
+use Rattle.btree_ext.specs.Answers.{HasKey, IsFoundAt, IsGapAt}
+use Rattle.btree_ext.proofs.AdoptLemmas.{used-view}
+use Rattle.btree_ext.proofs.StepLemmas.{most-few}
+
+-- what `placed` says of a place among items
+placed-ok : (r : Result ℕ ℕ) (children : List ℕ) (offset : Option ℕ) → Ok offset ≡ placed r children → (o : ℕ) × (r ≡ Ok o) × (offset ≡ Some o)
+placed-ok (Ok i) children offset e = (i, refl, cc)
+placed-ok (Err i) children offset e = absurd (cc)
+
+placed-err : (r : Result ℕ ℕ) (children : List ℕ) (index : ℕ) (child : Option ℕ) → Err (index, child) ≡ placed r children → (r ≡ Err index) × (slice_get children index ≡ child)
+placed-err (Ok i) children index child e = absurd (cc)
+placed-err (Err i) children index child e =
+    let P : Type 0 = ℕ × Option ℕ in
+    let given : P = (index, child) in
+    let found : P = (i, slice_get children i) in
+    let pair : given ≡ found = cc in
+    let a : index ≡ i = ap (λ (p : P). p.0) pair in
+    let b : child ≡ slice_get children i = ap (λ (p : P). p.1) pair in
+    (ap Err (sym a), ap (slice_get children) a ∙ sym b)
+
+small : (index : ℕ) → index ≤ 9 → index_offset index ≡ Some index
+small index few = let ne : index ≢ 2 ^ 64 - 1 = λ e. omega arith in grind arith
+
+absent-at : {X Y : Type 0} (f : X → Y) (n m p : ℕ) (o : Option X) → (if is_some o then Ok n else Err m) ≡ Err p → None ≡ option_map f o
+absent-at f n m p None e = refl
+absent-at f n m p (Some x) e = absurd (cc)
+
+-- an internal node has a child at each index up to its number of items
+has-child : {A : Type 0} (first : ℕ) (bs : List (A × ℕ)) (index : ℕ) → index ≤ length bs → slice_get (first ∷ map {B = ℕ} (λ b. b.1) bs) index ≡ None → ⊥
+has-child first bs zero few e = absurd (cc)
+has-child first [] (suc index) few e = absurd (omega arith)
+has-child first (b ∷ bs) (suc index) few e = has-child b.1 bs index (omega arith) e
+
+module _ {K V : Type 0} (cmp : K → K → Ordering) (k : K) (laws : IsTotalOrder cmp) (nodes : Content (Node K V)) (top : Option ℕ) (len : ℕ) (sound : IsSound cmp nodes top len) where
+  abbrev look : Look (K × V)
+  look = views nodes
+
+  abbrev pairs : List (K × V)
+  pairs = pairs_under look top len
+
+  -- the empty tree
+  pub no-root : top ≡ None → (a : Address) → a ≡ record { id = NOWHERE; offset = Some 0 } → IsGapAt cmp k look top pairs a
+  no-root none a is =
+      rw (is, none) (record { place = 0; is = refl; at = ((refl, refl, refl), refl); in_leaf = inr (refl, refl, refl); back = tt })
+
+  pub no-value : top ≡ None → None ≡ found_value cmp k pairs
+  no-value none = rw none refl
+
+  module _ (root : ℕ) (is : top ≡ Some root) where
+    well : IsWellFormed cmp look (Some root) len pairs
+    well = subst (λ t. IsWellFormed cmp look t len pairs) is (well-pairs cmp look top len sound.pairs sound.well)
+
+    pub up : Rises cmp pairs
+    up = rises cmp pairs well.ascends
+
+    pub start : IsSearching cmp k look root pairs root
+    start = search-start cmp k laws look root pairs up well.formed
+
+    module _ (id : ℕ) (s : IsSearching cmp k look root pairs id) where
+      pub node-used : IsSome (nodes_map.get nodes id)
+      node-used = used-view nodes id (need-used (K × V) look root pairs id 0 _ (needing-start (K × V) look root pairs id s.node))
+
+      module _ (node : Node K V) (at : nodes_map.get nodes id ≡ Some node) where
+        here : look id ≡ Some (view_of node)
+        here = ap (option_map view_of) at
+
+        pub node-ascends : Ascends cmp (items_of (view_of node))
+        node-ascends = search-ascends cmp k laws look root pairs up id s (view_of node) here
+
+        item-at : (o : ℕ) → place_of cmp k (items_of (view_of node)) ≡ Ok o → IsOccupied look id (Some o)
+        item-at o place =
+            let r = searched cmp k laws (items_of (view_of node)) (Ok o) (rises cmp (items_of (view_of node)) node-ascends) place in
+            (r.1, ap (λ n. item_in n o) here ∙ (ap (λ l. slice_get l o) r.3 ∙ get-after r.0 r.1 r.2 o (sym r.4)))
+
+        pub hit : (offset : Option ℕ) → Ok offset ≡ offset_in cmp k (view_of node) → (a : Address) → a ≡ record { id = id; offset = offset } → IsFoundAt cmp k look top pairs a
+        hit offset e a same =
+            let r = placed-ok (place_of cmp k (items_of (view_of node))) (children_of (view_of node)) offset e in
+            let h = search-hit cmp k laws look root pairs up id s (view_of node) here r.0 r.1 in
+            let f : IsFoundAt cmp k look (Some root) pairs (record { id = id; offset = Some r.0 }) = record { place = h.place; is = h.is; at = h.at; occupied = item-at r.0 r.1 } in
+            rw (same, r.2) (subst (λ t. IsFoundAt cmp k look t pairs (record { id = id; offset = Some r.0 })) (sym is) f)
+
+        pub down : (index child : ℕ) → Err (index, Some child) ≡ offset_in cmp k (view_of node) → Down cmp k laws look root pairs up id child
+        down index child e =
+            let r = placed-err (place_of cmp k (items_of (view_of node))) (children_of (view_of node)) index (Some child) e in
+            search-down cmp k laws look root pairs up id s (view_of node) here index r.0 child r.1
+
+        pub miss : (index : ℕ) → Err (index, None) ≡ offset_in cmp k (view_of node) → (o : Option ℕ) → o ≡ index_offset index → index ≤ size_of (view_of node) → (a : Address) → a ≡ record { id = id; offset = o } → IsGapAt cmp k look top pairs a
+        miss index e o oe few a same =
+            let r = placed-err (place_of cmp k (items_of (view_of node))) (children_of (view_of node)) index None e in
+            let some : o ≡ Some index = oe ∙ small index (omega (arith, few, (well.formed.sized id (view_of node) here).1, most-few (view_of node))) in
+            rw (same, some) (subst (λ t. IsGapAt cmp k look t pairs (record { id = id; offset = Some index })) (sym is) (by (view_of node) here node-ascends r.0 r.1))
+          where
+            by : (v : View (K × V)) → look id ≡ Some v → Ascends cmp (items_of v) → place_of cmp k (items_of v) ≡ Err index → slice_get (children_of v) index ≡ None
+                → IsGapAt cmp k look (Some root) pairs (record { id = id; offset = Some index })
+            by (leaf p ys) h asc place none =
+                let m = search-miss cmp k laws look root pairs up id s p ys h index place in
+                record { place = m.place; is = m.is; at = m.at; in_leaf = inl (rw h tt); back = tt }
+            by (internal p first bs) h asc place none =
+                let r = searched cmp k laws (map {B = K × V} (λ (b : (K × V) × ℕ). b.0) bs) (Err index) (rises cmp (map {B = K × V} (λ (b : (K × V) × ℕ). b.0) bs) asc) place in
+                let n = length-map bs (λ (b : (K × V) × ℕ). b.0) in
+                let a1 = ap length r.2 in
+                let a2 = length-append r.0 r.1 in
+                let a3 = r.3 in
+                absurd (has-child first bs index (omega arith) none)
+
+        -- the item at a place that was found has the value of the key
+        pub hit-value : (offset : Option ℕ) → Ok offset ≡ offset_in cmp k (view_of node) → option_map (λ x. x.1) (option_and_then (slice_get (items_of (view_of node))) offset) ≡ found_value cmp k pairs
+        hit-value offset e =
+            let r = placed-ok (place_of cmp k (items_of (view_of node))) (children_of (view_of node)) offset e in
+            let h = search-hit cmp k laws look root pairs up id s (view_of node) here r.0 r.1 in
+            let a : found cmp k pairs ≡ slice_get (items_of (view_of node)) r.0 = h.item ∙ ap (λ n. item_in n r.0) here in
+            ap (option_map (λ x. x.1)) (ap (option_and_then (slice_get (items_of (view_of node)))) r.2 ∙ sym a)
+
+        pub miss-value : (index : ℕ) → Err (index, None) ≡ offset_in cmp k (view_of node) → index ≤ size_of (view_of node) → None ≡ found_value cmp k pairs
+        miss-value index e few =
+            let m = miss index e (index_offset index) refl few (record { id = id; offset = index_offset index }) refl in
+            absent-at (λ p. p.1) (before cmp k pairs) (before cmp k pairs) m.place (found cmp k pairs) m.is
+
+        pub has-key : (offset : Option ℕ) → Ok offset ≡ offset_in cmp k (view_of node) → HasKey cmp k look top pairs id
+        has-key offset e =
+            let r = placed-ok (place_of cmp k (items_of (view_of node))) (children_of (view_of node)) offset e in
+            let h = search-hit cmp k laws look root pairs up id s (view_of node) here r.0 r.1 in
+            let p = searched cmp k laws (items_of (view_of node)) (Ok r.0) (rises cmp (items_of (view_of node)) node-ascends) r.1 in
+            let own : found cmp k (items_of (view_of node)) ≡ Some p.1 = (place-hit cmp k (items_of (view_of node)) r.0 p).1 in
+            let at : item_in (look id) r.0 ≡ Some p.1 = ap (λ n. item_in n r.0) here ∙ (ap (λ l. slice_get l r.0) p.3 ∙ get-after p.0 p.1 p.2 r.0 (sym p.4)) in
+            record { node = view_of node; here = here; ascends = node-ascends; offset = r.0; is = r.1; same = own ∙ sym (h.item ∙ at) }

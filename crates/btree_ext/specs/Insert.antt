@@ -1,0 +1,60 @@
+-- What an insertion makes of a tree.
+use Rattle.std.specs.Prelude.{◌≡◌, ℕ, ◌+◌, ◌-◌, ◌^◌, Option, Some, None, IsSome}
+use Rattle.std.specs.FinMap as map
+use Rattle.std.specs.List.{insert}
+use Rattle.std.specs.declared.cmp.Ordering.{Ordering}
+use Rattle.btree_store.specs.Content.{Content}
+use Rattle.btree_item.specs.Pairs.{Fits, found}
+use Rattle.btree_item.specs.declared.address.Address.{Address}
+use Rattle.btree_item.specs.declared.refused.Cause.{Cause}
+use Rattle.btree_item.specs.declared.refused.Cause.TheVariants.{Store, Count, Leaf}
+use Rattle.btree_node.specs.declared.node.Node.{Node}
+use Rattle.btree_shape.specs.Need.{need}
+use Rattle.btree_shape.specs.Place.{IsPlace, IsBack, IsLeafAddress}
+use Rattle.btree_shape.specs.TreeState.{TreeState, views, pairs_of, IsSound}
+use Rattle.btree_ext.specs.Answers.{IsGapAt, item_at}
+use Rattle.btree_ext.specs.Claimed.{EMPTY, MayRefuseOneOf}
+
+-- the parts of a tree as one state
+abbrev pub state : {K V : Type 0} → Content (Node K V) → Option ℕ → (len refusals : ℕ) → TreeState K V
+state nodes root len refusals = record { nodes = nodes; root = root; len = len; refusals = refusals }
+
+module _ {K V : Type 0} (cmp : K → K → Ordering) where
+  -- a back address in a leaf, or nowhere in the empty tree, at whose place the key fits
+  pub record IsGapFor (k : K) (s : TreeState K V) (a : Address) : Type 0 where
+    pub place : ℕ
+    pub at : IsPlace (views s.nodes) s.root (pairs_of s) a.id a.offset place
+    pub in_leaf : IsLeafAddress (views s.nodes) s.root a.id a.offset
+    pub back : IsBack (views s.nodes) a.offset
+    pub fits : Fits cmp k place (pairs_of s)
+
+  -- the pair was put at the place of address a, and stands at address b; the store has as many nodes more as were needed
+  pub record IsInserted (old new : TreeState K V) (a b : Address) (x : K × V) : Type 0 where
+    pub sound : IsSound cmp new.nodes new.root new.len
+    pub pairs : (place : ℕ) → IsPlace (views old.nodes) old.root (pairs_of old) a.id a.offset place
+        → (pairs_of new ≡ insert (pairs_of old) place x) × IsPlace (views new.nodes) new.root (pairs_of new) b.id b.offset place
+    pub item : item_at (views new.nodes) b ≡ Some x
+    pub longer : new.len ≡ old.len + 1
+    pub nodes : map.len new.nodes ≡ map.len old.nodes + need (views old.nodes) old.root old.len a.id
+    pub uncounted : new.refusals ≡ old.refusals
+
+-- an insertion at a leaf that was refused: by the store, which counted it, where it may refuse one of the nodes that are needed,
+-- or because there are as many pairs as can be counted; nothing else has changed
+abbrev pub IsRefused : {K V : Type 0} → (Content (Node K V) → Type 0) → (leaf : ℕ) → (old new : TreeState K V) → Cause → Type 0
+IsRefused MayRefuse leaf old new Store =
+    (new ≡ record old { refusals = old.refusals + 1 }) × MayRefuseOneOf EMPTY MayRefuse old.nodes (need (views old.nodes) old.root old.len leaf)
+IsRefused MayRefuse leaf old new Count = (new ≡ old) × (old.len ≡ 2 ^ 64 - 1)
+IsRefused MayRefuse leaf old new Leaf = ⊥
+
+module _ {K V : Type 0} (cmp : K → K → Ordering) (k : K) (old new : TreeState K V) where
+  -- how many nodes an insertion by key took: those that were needed at the gap of an absent key, and none for one that is there
+  pub record Took : Type 0 where
+    pub absent : found cmp k (pairs_of old) ≡ None
+        → (a : Address) × IsGapAt cmp k (views old.nodes) old.root (pairs_of old) a × (map.len new.nodes ≡ map.len old.nodes + need (views old.nodes) old.root old.len a.id)
+    pub present : IsSome (found cmp k (pairs_of old)) → map.len new.nodes ≡ map.len old.nodes
+
+  -- an insertion by key was refused at the gap of the key
+  pub record IsRefusedAtGap (MayRefuse : Content (Node K V) → Type 0) (cause : Cause) : Type 0 where
+    pub gap : Address
+    pub is_gap : IsGapAt cmp k (views old.nodes) old.root (pairs_of old) gap
+    pub refused : IsRefused MayRefuse gap.id old new cause

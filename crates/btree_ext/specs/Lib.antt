@@ -1,0 +1,5 @@
+pub mod Steps
+pub mod Claimed
+pub mod Answers
+pub mod Exchange
+pub mod Insert

@@ -1,0 +1,16 @@
+//! The tree: look-up, insertion and what goes with them, on any lawful store of nodes.
+#![tactic(auto, using(btree_store::specs::ContentLaws::stores))]
+
+mod claims;
+mod exchange;
+mod ext;
+mod grow;
+mod insert;
+mod need;
+mod nodes;
+mod parts;
+mod search;
+mod tree;
+
+pub use ext::BTreeExt;
+pub use tree::Tree;

@@ -1,0 +1,142 @@
+//! The tree, always well formed.
+ghost use Rattle.std.specs.Prelude.{◌≡◌, [], length, None, option_copied, IfOk, OnOk, IfErr, OnErr};
+ghost use Rattle.std.specs.FinMap as map;
+ghost use Rattle.btree_node.specs.contracts.node.Node.{the_row as node_row};
+
+use crate::exchange::exchange;
+use crate::ext::BTreeExt;
+use crate::insert::insert_at_gap;
+use crate::parts::Parts;
+use crate::search;
+use btree_item::{Address, Item, Refused};
+use btree_node::Node;
+use btree_store::{Slab, SlabMut};
+use std::marker::{Model, PhantomData};
+
+/// A well formed tree of nodes in a store: at any time its pairs are a list in the order of the keys.
+#[derive(Drop)]
+pub struct Tree<K: Ord, V, C: SlabMut<Node<K, V>>> {
+    parts: Parts<C>,
+    pairs: PhantomData<(K, V)>,
+}
+
+impl<K: Ord, V, C: SlabMut<Node<K, V>>> Model for Tree<K, V, C> {
+    ghost use Rattle.std.specs.Coded.{codes};
+    ghost use Rattle.btree_shape.specs.TreeState.{TreeState, tree_code, IsSound};
+
+    ghost Value = { TreeState K V };
+
+    ghost coded = { tree_code (Prim.hlevel codes) };
+
+    ghost view = { λ t. record { nodes = C.content t.parts.nodes; root = t.parts.root; len = t.parts.len; refusals = C.refusals t.parts.nodes } };
+
+    ghost invariant = { λ t. IsSound K.cmp (C.content t.parts.nodes) t.parts.root t.parts.len × C.Fits };
+}
+
+impl<K: Ord, V, C: SlabMut<Node<K, V>>> Tree<K, V, C> {
+    ghost use Rattle.std.specs.Mem.{FitsInMemory};
+    ghost use Rattle.btree_item.specs.Pairs.{found_value};
+    ghost use Rattle.btree_shape.specs.TreeState.{pairs_of};
+
+    /// A tree with no pairs, over an empty store that is made from its origin. It takes no memory.
+    ///
+    /// That a node fits in memory is known wherever the types of key and value are.
+    pub fn new(origin: C::Origin) -> Self
+        requires { FitsInMemory (node_row K.row V.row) }
+        ensures empty { pairs_of result ≡ [] }
+        ensures state { result ≡ record { nodes = map.empty; root = None; len = 0; refusals = 0 } }
+    {
+        C::note_fits();
+        Tree {
+            parts: Parts {
+                nodes: C::empty(origin),
+                root: None,
+                len: 0,
+            },
+            pairs: PhantomData,
+        }
+    }
+
+    /// How many pairs there are.
+    pub fn len(&self) -> usize
+        ensures { result ≡ length (pairs_of self.now) }
+    {
+        self.parts.len
+    }
+
+    /// The value at a key that equals the given one. Compares at most six keys a level, copies nothing and takes no memory.
+    pub fn get(&self, key: &K) -> Option<&V>
+        ensures { option_copied result ≡ found_value K.cmp key.now (pairs_of self.now) }
+    {
+        search::get(&self.parts, key)
+    }
+}
+
+impl<K: Ord + Drop, V: Drop, C: SlabMut<Node<K, V>>> Tree<K, V, C> {
+    ghost use Rattle.btree_item.specs.Pairs.{found, found_value, inserted};
+    ghost use Rattle.btree_shape.specs.TreeState.{pairs_of};
+    ghost use Rattle.btree_ext.specs.Insert.{IsRefusedAtGap, Took};
+
+    /// Puts a pair in, or exchanges the value at a key that is there: the stored key stays, and the given one is dropped.
+    ///
+    /// An absent key takes a node for each full node from its leaf upward without a gap, and one more where the last of them is the
+    /// root. It is refused, and the pair comes back, where the store refuses one of these, or where there are `usize::MAX` pairs.
+    pub fn insert(&mut self, key: K, value: V) -> Result<Option<V>, Refused<K, V>>
+        ensures old { IfOk result (λ old. old ≡ found_value K.cmp key (pairs_of self.old)) }
+        ensures inserted { OnOk result (pairs_of self.new ≡ inserted K.cmp key value (pairs_of self.old)) }
+        ensures took { OnOk result (Took K.cmp key self.old self.new) }
+        ensures uncounted { OnOk result (self.new.refusals ≡ self.old.refusals) }
+
+        ensures returned { IfErr result (λ r. (r.key ≡ key) × (r.value ≡ value)) }
+        ensures absent { OnErr result (found K.cmp key (pairs_of self.old) ≡ None) }
+        ensures refused { IfErr result (λ r. IsRefusedAtGap K.cmp key self.old self.new C.MayRefuse r.cause) }
+    {
+        match search::address_of(&self.parts, &key) {
+            Ok(addr) => Ok(Some(exchange(&mut self.parts.nodes, addr.id, &key, value))),
+            Err(addr) => match insert_at_gap(&mut self.parts, addr, Item::new(key, value)) {
+                Ok(_) => Ok(None),
+                Err(refused) => Err(refused),
+            },
+        }
+    }
+}
+
+impl<K: Ord, V, C: SlabMut<Node<K, V>>> BTreeExt<K, V> for Tree<K, V, C> {
+    ghost state = { λ t. t };
+
+    fn root_id(&self) -> Option<usize> {
+        self.parts.root
+    }
+
+    fn has_node(&self, id: usize) -> bool {
+        self.parts.nodes.get(id).is_some()
+    }
+
+    fn node(&self, id: usize) -> &Node<K, V> {
+        match self.parts.nodes.get(id) {
+            Some(node) => node,
+            None => unreachable!(),
+        }
+    }
+
+    fn item(&self, addr: Address) -> Option<&Item<K, V>> {
+        let _ = &self.parts;
+        C::tell_fits();
+        match self.parts.nodes.get(addr.id) {
+            Some(node) => node.item(addr.offset),
+            None => None,
+        }
+    }
+
+    fn height(&self) -> usize {
+        search::height(&self.parts)
+    }
+
+    fn node_count(&self) -> usize {
+        self.parts.nodes.len()
+    }
+
+    fn address_of(&self, key: &K) -> Result<Address, Address> {
+        search::address_of(&self.parts, key)
+    }
+}

@@ -1,0 +1,2 @@
+mod IterLemmas
+mod WalkLemmas

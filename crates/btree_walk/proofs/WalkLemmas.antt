@@ -1,0 +1,189 @@
+-- A walk down to a first leaf, and up to the next item.
+use Rattle.std.proofs.Common.{◌≡◌, ℕ, zero, suc, ◌+◌, ◌-◌, ◌<◌, ◌≤◌, List, [], ◌∷◌, ◌++◌, length, take, drop, Option, Some, None, IsSome, refl, sym, ap, subst, ◌∙◌, option_map, option_and_then, slice_get, arith}
+use Rattle.std.proofs.lemmas.Bool.Decides.{nat_tests}
+use Rattle.btree_item.specs.Offset.{index_offset}
+use Rattle.std.proofs.lemmas.List.{length-map, length_push, map-append, append_assoc}
+use Rattle.std.specs.List.{AllByRecursion}
+use Rattle.std.specs.FinMap as map
+use Rattle.btree_store.specs.Content.{Content}
+use Rattle.btree_node.specs.declared.node.Node.{Node}
+use Rattle.btree_node.specs.Node.{view_of}
+use Rattle.btree_node.specs.View.{View, leaf, internal, items_of, children_of}
+use Rattle.btree_shape.specs.Spells.{Spells, spelled}
+use Rattle.btree_shape.specs.TreeState.{views}
+use Rattle.btree_shape.specs.Left.{branches_of, left_above, left_in, IsUnder, AreRows}
+use Rattle.btree_shape.proofs.Left.{left-push, rows-push, rows-pop, under-leaf, under-internal}
+use Rattle.btree_walk.specs.declared.frames.Frame.{Frame}
+use Rattle.btree_walk.specs.Rows.{rows_of}
+
+pub past : {X : Type 0} (xs : List X) (i : ℕ) → length xs ≤ i → slice_get xs i ≡ None
+past [] i low = refl
+past (x ∷ xs) zero low = absurd (omega arith)
+past (x ∷ xs) (suc i) low = past xs i (omega arith)
+
+offset-is : (i : ℕ) → i < 9 → index_offset i ≡ Some i
+offset-is i low = grind (arith, nat_tests)
+
+pub item-at : {X : Type 0} (xs : List X) (i : ℕ) (o : Option ℕ) (r : Option X) → o ≡ index_offset i → i < 9 → r ≡ option_and_then (slice_get xs) o → slice_get xs i ≡ r
+item-at xs i o r is low e = sym (e ∙ ap (option_and_then (slice_get xs)) (is ∙ offset-is i low))
+
+module _ {K V : Type 0} where
+  abbrev row_of : Frame K V → List ((K × V) × ℕ)
+  row_of f = drop f.passed (branches_of (view_of f.node.now))
+
+  rows-of-push : (frames : List (Frame K V)) (f : Frame K V) → rows_of (frames ++ f ∷ []) ≡ rows_of frames ++ row_of f ∷ []
+  rows-of-push frames f = map-append row_of frames (f ∷ [])
+
+module _ {K V : Type 0} (nodes : Content (Node K V)) (len : ℕ) where
+  abbrev left_over : List (Frame K V) → List (K × V)
+  left_over frames = left_above (views nodes) len (rows_of frames)
+
+  abbrev AreOpen : List (Frame K V) → Type 0
+  AreOpen frames = AreRows (views nodes) len 0 (rows_of frames)
+
+  -- on the way down: the list of the start is still that of a node and of the rows above it
+  pub record IsDown (start : List (K × V)) (frames : List (Frame K V)) (id : ℕ) : Type 0 where
+    pub rows : AreOpen frames
+    pub under : IsUnder (views nodes) len (length (rows_of frames)) id
+    pub list : start ≡ spelled (views nodes) len id ++ left_over frames
+
+  pub under-used : (depth id : ℕ) → IsUnder (views nodes) len depth id → IsSome (map.get nodes id)
+  under-used depth id u = at u.height u.spells
+    where
+      some : (o : Option (Node K V)) (v : View (K × V)) → option_map view_of o ≡ Some v → IsSome o
+      some None v e = absurd (cc)
+      some (Some node) v e = refl
+
+      at : (height : ℕ) → Spells (views nodes) height u.parent id u.list → IsSome (map.get nodes id)
+      at zero h = some (map.get nodes id) _ h
+      at (suc height) h = some (map.get nodes id) _ h.3
+
+  module _ (start : List (K × V)) (frames : List (Frame K V)) (id : ℕ) (d : IsDown start frames id) where
+    pub down-room : length frames < 32
+    down-room = let l = d.under.room in let m = length-map frames (row_of {K = K} {V = V}) in omega arith
+
+    pub down-smaller : (f : Frame K V) (new : List (Frame K V)) → new ≡ frames ++ f ∷ [] → 32 - length new < 32 - length frames
+    down-smaller f new is = let room = down-room in let more = ap length is in let one = length_push frames f in omega arith
+
+    module _ (node : Node K V) (here : map.get nodes id ≡ Some node) where
+      seen : views nodes id ≡ Some (view_of node)
+      seen = ap (option_map view_of) here
+
+      pub down-leaf : None ≡ slice_get (children_of (view_of node)) 0 → start ≡ items_of (view_of node) ++ left_over frames
+      down-leaf none = at (view_of node) seen none
+        where
+          at : (v : View (K × V)) → views nodes id ≡ Some v → None ≡ slice_get (children_of v) 0 → start ≡ items_of v ++ left_over frames
+          at (leaf p ys) e n = d.list ∙ ap (λ zs. zs ++ left_over frames) (under-leaf (views nodes) len (length (rows_of frames)) id p ys d.under e)
+          at (internal p first row) e n = absurd (cc)
+
+      pub down-internal : (child : ℕ) → Some child ≡ slice_get (children_of (view_of node)) 0 → (f : Frame K V) → row_of f ≡ branches_of (view_of node)
+          → (new : List (Frame K V)) → new ≡ frames ++ f ∷ [] → IsDown start new child
+      down-internal child is f row new made =
+          let more : rows_of new ≡ rows_of frames ++ branches_of (view_of node) ∷ [] = ap rows_of made ∙ rows-of-push frames f ∙ ap (λ r. rows_of frames ++ r ∷ []) row in
+          at (view_of node) seen is more
+        where
+          at : (v : View (K × V)) → views nodes id ≡ Some v → Some child ≡ slice_get (children_of v) 0 → rows_of new ≡ rows_of frames ++ branches_of v ∷ [] → IsDown start new child
+          at (leaf p ys) e c more = absurd (cc)
+          at (internal p first bs) e c more =
+              let same : first ≡ child = cc in
+              let i = under-internal (views nodes) len (length (rows_of frames)) id p first bs d.under e in
+              let long : length (rows_of frames ++ bs ∷ []) ≡ suc (length (rows_of frames)) = let q = length_push (rows_of frames) bs in omega arith in
+              let none_more : 0 + length (rows_of frames) ≡ length (rows_of frames) = omega arith in
+              rw (← same) record {
+                rows = subst (λ rows. AreRows (views nodes) len 0 rows) (sym more) (rows-push (views nodes) len 0 (rows_of frames) bs d.rows (rw none_more i.row_under));
+                under = subst (λ depth. IsUnder (views nodes) len depth first) (sym (ap length more ∙ long)) i.first_under;
+                list =
+                    d.list
+                    ∙ ap (λ ys. ys ++ left_over frames) i.list
+                    ∙ append_assoc (spelled (views nodes) len first) (left_in (views nodes) len bs) (left_over frames)
+                    ∙ ap (λ ys. spelled (views nodes) len first ++ ys) (sym (left-push (views nodes) len (rows_of frames) bs))
+                    ∙ ap (λ rows. spelled (views nodes) len first ++ left_above (views nodes) len rows) (sym more);
+              }
+
+  -- on the way up: what the frames that are passed had left is nothing
+  pub record IsUp (start frames : List (Frame K V)) : Type 0 where
+    pub rows : AreOpen frames
+    pub list : left_over start ≡ left_over frames
+
+  -- a frame that was taken off: above it the rest, whose rows are as they were
+  pub record IsOff (frames rest : List (Frame K V)) (f : Frame K V) : Type 0 where
+    pub fewer : length rest < length frames
+    pub rows : AreOpen rest
+    pub under : AllByRecursion (λ (b : (K × V) × ℕ). IsUnder (views nodes) len (suc (length (rows_of rest))) b.1) (row_of f)
+    pub list : left_over frames ≡ left_in (views nodes) len (row_of f) ++ left_over rest
+
+  split-last : (frames : List (Frame K V)) (f : Frame K V) → Some f ≡ slice_get frames (length frames - 1) → frames ≡ take (length frames - 1) frames ++ f ∷ []
+  split-last [] f e = absurd (cc)
+  split-last (g ∷ []) f e = let same : f ≡ g = cc in rw same refl
+  split-last (g ∷ h ∷ gs) f e =
+      let less : length (g ∷ h ∷ gs) - 1 ≡ suc (length (h ∷ gs) - 1) = omega arith in
+      let at : Some f ≡ slice_get (g ∷ h ∷ gs) (suc (length (h ∷ gs) - 1)) = subst (λ n. Some f ≡ slice_get (g ∷ h ∷ gs) n) less e in
+      rw less (ap (λ l. g ∷ l) (split-last (h ∷ gs) f at))
+
+  pub taken-off : (frames rest : List (Frame K V)) (f : Frame K V) → AreOpen frames → Some f ≡ slice_get frames (length frames - 1) → rest ≡ take (length frames - 1) frames → IsOff frames rest f
+  taken-off frames rest f was answer after =
+      let whole : frames ≡ rest ++ f ∷ [] = split-last frames f answer ∙ ap (λ l. l ++ f ∷ []) (sym after) in
+      let rows : rows_of frames ≡ rows_of rest ++ row_of f ∷ [] = ap rows_of whole ∙ rows-of-push rest f in
+      let low = rows-pop (views nodes) len 0 (rows_of rest) (row_of f) (subst (λ r. AreRows (views nodes) len 0 r) rows was) in
+      let none_more : 0 + length (rows_of rest) ≡ length (rows_of rest) = omega arith in
+      record {
+        fewer = let q = length_push rest f in let w = ap length whole in omega arith;
+        rows = low.above;
+        under = subst (λ n. AllByRecursion (λ (b : (K × V) × ℕ). IsUnder (views nodes) len (suc n) b.1) (row_of f)) none_more low.under;
+        list = ap (left_above (views nodes) len) rows ∙ left-push (views nodes) len (rows_of rest) (row_of f);
+      }
+
+  module _ (start frames : List (Frame K V)) (up : IsUp start frames) (rest : List (Frame K V)) (f : Frame K V) (off : IsOff frames rest f) where
+    -- no item was left in it
+    pub up-passed : row_of f ≡ [] → IsUp start rest
+    up-passed none = record { rows = off.rows; list = up.list ∙ off.list ∙ ap (λ row. left_in (views nodes) len row ++ left_over rest) none }
+
+    -- the next item is its own
+    module _ (x : K × V) (child : ℕ) (after : Frame K V) (next : row_of f ≡ (x, child) ∷ row_of after) (new : List (Frame K V)) (made : new ≡ rest ++ after ∷ []) where
+      more : rows_of new ≡ rows_of rest ++ row_of after ∷ []
+      more = ap rows_of made ∙ rows-of-push rest after
+
+      all : AllByRecursion (λ (b : (K × V) × ℕ). IsUnder (views nodes) len (suc (length (rows_of rest))) b.1) ((x, child) ∷ row_of after)
+      all = subst (λ row. AllByRecursion (λ (b : (K × V) × ℕ). IsUnder (views nodes) len (suc (length (rows_of rest))) b.1) row) next off.under
+
+      pub up-rows : AreOpen new
+      up-rows =
+          let none_more : 0 + length (rows_of rest) ≡ length (rows_of rest) = omega arith in
+          subst (λ rows. AreRows (views nodes) len 0 rows) (sym more) (rows-push (views nodes) len 0 (rows_of rest) (row_of after) off.rows (rw none_more all.1))
+
+      pub up-under : IsUnder (views nodes) len (length (rows_of new)) child
+      up-under =
+          let long : length (rows_of new) ≡ suc (length (rows_of rest)) = let q = length_push (rows_of rest) (row_of after) in let m = ap length more in omega arith in
+          rw long all.0
+
+      pub up-list : left_over start ≡ x ∷ (spelled (views nodes) len child ++ left_over new)
+      up-list =
+          up.list ∙ off.list
+          ∙ ap (λ row. left_in (views nodes) len row ++ left_over rest) next
+          ∙ ap (λ l. x ∷ l) (append_assoc (spelled (views nodes) len child) (left_in (views nodes) len (row_of after)) (left_over rest)
+          ∙ ap (λ l. spelled (views nodes) len child ++ l) (sym (ap (left_above (views nodes) len) more ∙ left-push (views nodes) len (rows_of rest) (row_of after))))
+
+      pub up-room : length rest < 32
+      up-room = let r = all.0.room in let m = length-map rest (row_of {K = K} {V = V}) in omega arith
+
+  -- no frame is left
+  pub record IsOver (start rest : List (Frame K V)) : Type 0 where
+    pub rest_none : rest ≡ []
+    pub list : left_over start ≡ []
+
+  none-last : (frames : List (Frame K V)) → None ≡ slice_get frames (length frames - 1) → frames ≡ []
+  none-last [] e = refl
+  none-last (g ∷ []) e = absurd (cc)
+  none-last (g ∷ h ∷ gs) e =
+      let less : length (g ∷ h ∷ gs) - 1 ≡ suc (length (h ∷ gs) - 1) = omega arith in
+      let at : None ≡ slice_get (g ∷ h ∷ gs) (suc (length (h ∷ gs) - 1)) = subst (λ n. None ≡ slice_get (g ∷ h ∷ gs) n) less e in
+      let none : h ∷ gs ≡ [] = none-last (h ∷ gs) at in
+      absurd (cc)
+
+  pub up-over : (start frames : List (Frame K V)) → IsUp start frames → None ≡ slice_get frames (length frames - 1) → (rest : List (Frame K V)) → rest ≡ take (length frames - 1) frames → IsOver start rest
+  up-over start frames up answer rest after =
+      let none : frames ≡ [] = none-last frames answer in
+      record {
+        rest_none = after ∙ ap (λ l. take (length l - 1) l) none;
+        list = up.list ∙ ap left_over none;
+      }

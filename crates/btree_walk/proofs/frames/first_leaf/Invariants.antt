@@ -1,0 +1,14 @@
+use Rattle.std.proofs.Common.{◌++◌, ◌-◌, length}
+use Rattle.btree_shape.specs.Left.{left_above}
+use Rattle.btree_shape.specs.Spells.{spelled}
+use Rattle.btree_shape.specs.TreeState.{views}
+use Rattle.btree_walk.specs.Rows.{rows_of}
+use Rattle.btree_walk.proofs.WalkLemmas.{IsDown}
+use Rattle.btree_walk.proofs.frames.first_leaf.Given as goal
+
+abbrev pub invariant-loop-child : goal.invariant-loop-child
+invariant-loop-child g l =
+    IsDown l.tree.nodes l.tree.len (spelled (views l.tree.nodes) l.tree.len l.fn.top ++ left_above (views l.tree.nodes) l.tree.len (rows_of l.initial.frames)) l.frames l.id
+
+abbrev pub decreases-loop-child : goal.decreases-loop-child
+decreases-loop-child g l = 32 - length l.frames

@@ -1,0 +1,141 @@
+//! The way from the root to the leaf in which a walk stands.
+ghost use Rattle.std.specs.Prelude.{◌≡◌, ◌∷◌, ◌++◌, ◌+◌, ◌<◌, [], Some, None, length, drop, slice_get, OnSome, MatchOption};
+ghost use Rattle.std.specs.Mem.{FitsInMemory};
+ghost use Rattle.btree_node.specs.contracts.node.Node.{the_row as node_row};
+ghost use Rattle.btree_node.specs.Node.{view_of};
+ghost use Rattle.btree_node.specs.View.{items_of};
+ghost use Rattle.btree_shape.specs.Left.{branches_of, left_above, AreRows, IsUnder};
+ghost use Rattle.btree_shape.specs.Spells.{spelled};
+ghost use Rattle.btree_shape.specs.TreeState.{views, pairs_of};
+ghost use Rattle.btree_walk.specs.Rows.{left_in_leaf, rows_of};
+
+use btree_ext::{BTreeExt, Tree};
+use btree_item::{Offset, Slots};
+use btree_node::Node;
+use btree_store::SlabMut;
+
+/// An internal node above the leaf, and how many of its items are passed.
+#[derive(Drop)]
+pub(crate) struct Frame<'a, K, V> {
+    pub node: &'a Node<K, V>,
+    pub passed: usize,
+}
+
+/// The internal nodes above the leaf, from the root down.
+pub(crate) type Frames<'a, K, V> = Slots<Frame<'a, K, V>, 32>;
+
+// The item of a node at an index.
+fn pair_at<K, V>(node: &Node<K, V>, index: usize) -> Option<(&K, &V)>
+    ensures fits { OnSome result (index < 9) }
+    ensures item { MatchOption result (slice_get (items_of (view_of node.now)) index ≡ None)
+        (λ pair. slice_get (items_of (view_of node.now)) index ≡ Some (pair.0.now, pair.1.now)) }
+{
+    if index >= node.item_count() {
+        return None;
+    }
+    match node.item(Offset::from(index)) {
+        Some(item) => Some((item.key(), item.value())),
+        None => None,
+    }
+}
+
+// The item of a leaf after those that are passed.
+pub(crate) fn first_of<'a, K, V>(
+    leaf: Option<&'a Node<K, V>>,
+    passed: usize,
+) -> Option<(&'a K, &'a V)>
+    ensures fits { OnSome result (passed < 9) }
+    ensures first { MatchOption result (left_in_leaf leaf.entry passed ≡ [])
+        (λ pair. left_in_leaf leaf.entry passed ≡ (pair.0.now, pair.1.now) ∷ left_in_leaf leaf.entry (passed + 1)) }
+{
+    match leaf {
+        Some(leaf) => pair_at(leaf, passed),
+        None => None,
+    }
+}
+
+// The item of an internal node at an index, and the number of the child after it.
+fn branch_at<K, V>(node: &Node<K, V>, index: usize) -> Option<((&K, &V), usize)>
+    ensures fits { OnSome result (index < 9) }
+    ensures first { MatchOption result (drop index (branches_of (view_of node.now)) ≡ [])
+        (λ branch. drop index (branches_of (view_of node.now))
+        ≡ ((branch.0.0.now, branch.0.1.now), branch.1) ∷ drop (index + 1) (branches_of (view_of node.now))) }
+{
+    match pair_at(node, index) {
+        Some(pair) => match node.child_id_opt(index + 1) {
+            Some(child) => Some((pair, child)),
+            None => None,
+        },
+        None => None,
+    }
+}
+
+// The first leaf under a node, with the internal nodes on the way put below the frames.
+fn first_leaf<'a, K: Ord + 'a, V: 'a, C: SlabMut<Node<K, V>> + 'a>(
+    tree: &'a Tree<K, V, C>,
+    top: usize,
+    frames: &mut Frames<'a, K, V>,
+) -> &'a Node<K, V>
+    requires fits { FitsInMemory (node_row K.row V.row) }
+    requires rows { AreRows (views tree.now.nodes) tree.now.len 0 (rows_of frames.old) }
+    requires under { IsUnder (views tree.now.nodes) tree.now.len (length (rows_of frames.old)) top }
+    ensures rows { AreRows (views tree.now.nodes) tree.now.len 0 (rows_of frames.new) }
+    ensures left { spelled (views tree.now.nodes) tree.now.len top ++ left_above (views tree.now.nodes) tree.now.len (rows_of frames.old)
+        ≡ items_of (view_of result.now) ++ left_above (views tree.now.nodes) tree.now.len (rows_of frames.new) }
+{
+    let mut id = top;
+    loop {
+        let node = tree.node(id);
+        match node.child_id_opt(0) {
+            Some(child) => {
+                frames.push(Frame { node, passed: 0 });
+                id = child;
+            }
+            None => return node,
+        }
+    }
+}
+
+// The first leaf of a tree, with the internal nodes above it put into the frames.
+pub(crate) fn start<'a, K: Ord + 'a, V: 'a, C: SlabMut<Node<K, V>> + 'a>(
+    tree: &'a Tree<K, V, C>,
+    frames: &mut Frames<'a, K, V>,
+) -> Option<&'a Node<K, V>>
+    requires fits { FitsInMemory (node_row K.row V.row) }
+    requires none { frames.old ≡ [] }
+    ensures rows { AreRows (views tree.now.nodes) tree.now.len 0 (rows_of frames.new) }
+    ensures left { left_in_leaf result 0 ++ left_above (views tree.now.nodes) tree.now.len (rows_of frames.new) ≡ pairs_of tree.now }
+{
+    let _len = tree.len();
+    match tree.root_id() {
+        Some(root) => Some(first_leaf(tree, root, frames)),
+        None => None,
+    }
+}
+
+// The next item of the frames, and the first leaf after it.
+pub(crate) fn next_above<'a, K: Ord + 'a, V: 'a, C: SlabMut<Node<K, V>> + 'a>(
+    tree: &'a Tree<K, V, C>,
+    frames: &mut Frames<'a, K, V>,
+) -> Option<((&'a K, &'a V), &'a Node<K, V>)>
+    requires fits { FitsInMemory (node_row K.row V.row) }
+    requires rows { AreRows (views tree.now.nodes) tree.now.len 0 (rows_of frames.old) }
+    ensures rows { AreRows (views tree.now.nodes) tree.now.len 0 (rows_of frames.new) }
+    ensures left { MatchOption result
+        ((left_above (views tree.now.nodes) tree.now.len (rows_of frames.old) ≡ []) × (rows_of frames.new ≡ []))
+        (λ next. left_above (views tree.now.nodes) tree.now.len (rows_of frames.old)
+        ≡ (next.0.0.now, next.0.1.now) ∷ items_of (view_of next.1.now) ++ left_above (views tree.now.nodes) tree.now.len (rows_of frames.new)) }
+{
+    while let Some(frame) = frames.pop() {
+        let node = frame.node;
+        let passed = frame.passed;
+        if let Some((pair, child)) = branch_at(node, passed) {
+            frames.push(Frame {
+                node,
+                passed: passed + 1,
+            });
+            return Some((pair, first_leaf(tree, child, frames)));
+        }
+    }
+    None
+}

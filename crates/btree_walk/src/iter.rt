@@ -1,0 +1,107 @@
+//! The pairs of a tree in order.
+ghost use Rattle.std.specs.Prelude.{◌≡◌, Some, IfSome, length};
+ghost use Rattle.std.specs.Iterator.SizeHint.{IsWithinCount};
+ghost use Rattle.std.specs.Iterator.{YieldsFirstBy, item_count, UpTo};
+
+use crate::frames::{Frames, first_of, next_above, start};
+use btree_ext::Tree;
+use btree_item::Slots;
+use btree_node::Node;
+use btree_store::SlabMut;
+use std::iter::{ExactSizeIterator, FusedIterator};
+use std::marker::Model;
+
+/// The pairs of a tree in the order of the keys, seen as the list of those that are left. It takes no memory of the heap. Each
+/// node is fetched from the store once in a whole walk, and a step inside a leaf reads that leaf alone.
+#[derive(Drop)]
+pub struct Iter<'a, K: Ord, V, C: SlabMut<Node<K, V>>> {
+    tree: &'a Tree<K, V, C>,
+    // `None` in a tree without pairs.
+    leaf: Option<&'a Node<K, V>>,
+    // How many items of the leaf are passed.
+    passed: usize,
+    frames: Frames<'a, K, V>,
+    left: usize,
+}
+
+impl<'a, K: Ord, V, C: SlabMut<Node<K, V>>> Model for Iter<'a, K, V, C> {
+    ghost use Rattle.std.specs.Prelude.{◌≡◌, List, ◌++◌, length};
+    ghost use Rattle.btree_shape.specs.Left.{left_above, AreRows};
+    ghost use Rattle.btree_shape.specs.TreeState.{views};
+    ghost use Rattle.btree_walk.specs.Rows.{rows_of, left_in_leaf};
+
+    ghost Value = { List (K × V) };
+
+    ghost view = { λ it. left_in_leaf it.leaf it.passed ++ left_above (views it.tree.now.nodes) it.tree.now.len (rows_of it.frames) };
+
+    ghost invariant = { λ it. C.Fits
+        × AreRows (views it.tree.now.nodes) it.tree.now.len 0 (rows_of it.frames)
+        × (it.left ≡ length (left_in_leaf it.leaf it.passed ++ left_above (views it.tree.now.nodes) it.tree.now.len (rows_of it.frames))) };
+}
+
+impl<'a, K: Ord, V, C: SlabMut<Node<K, V>>> Iter<'a, K, V, C> {
+    ghost use Rattle.std.specs.Mem.{FitsInMemory};
+    ghost use Rattle.btree_node.specs.contracts.node.Node.{the_row as node_row};
+    ghost use Rattle.btree_shape.specs.TreeState.{pairs_of};
+
+    /// A walk from the first pair on.
+    pub fn new(tree: &'a Tree<K, V, C>) -> Self
+        requires { FitsInMemory (node_row K.row V.row) }
+        ensures { result ≡ pairs_of tree.now }
+    {
+        C::note_fits();
+        let mut frames = Slots::new();
+        let leaf = start(tree, &mut frames);
+        Iter {
+            tree,
+            leaf,
+            passed: 0,
+            frames,
+            left: tree.len(),
+        }
+    }
+}
+
+impl<'a, K: Ord, V, C: SlabMut<Node<K, V>>> Iterator for Iter<'a, K, V, C> {
+    type Item = (&'a K, &'a V);
+
+    ghost next_gives = { YieldsFirstBy (λ pair. (pair.0.now, pair.1.now)) (λ rest. rest) };
+
+    ghost remaining = { item_count (λ rest. rest) };
+
+    fn next(&mut self) -> Option<(&'a K, &'a V)> {
+        let _left = self.left;
+        C::tell_fits();
+        if let Some(pair) = first_of(self.leaf, self.passed) {
+            self.passed += 1;
+            self.left -= 1;
+            return Some(pair);
+        }
+        match next_above(self.tree, &mut self.frames) {
+            Some((next, leaf)) => {
+                self.leaf = Some(leaf);
+                self.passed = 0;
+                self.left -= 1;
+                Some(next)
+            }
+            None => None,
+        }
+    }
+
+    /// How many pairs are left, twice.
+    fn size_hint(&self) -> (usize, Option<usize>)
+        ensures exact { result ≡ (length self.now, Some (length self.now)) }
+        ensures lower { IsWithinCount result.0 (item_count (λ rest. rest) self.now) }
+        ensures upper { IfSome result.1 (UpTo (item_count (λ rest. rest) self.now)) }
+    {
+        (self.left, Some(self.left))
+    }
+}
+
+impl<'a, K: Ord, V, C: SlabMut<Node<K, V>>> ExactSizeIterator for Iter<'a, K, V, C> {
+    fn len(&self) -> usize {
+        self.left
+    }
+}
+
+impl<'a, K: Ord, V, C: SlabMut<Node<K, V>>> FusedIterator for Iter<'a, K, V, C> {}
