@@ -10,7 +10,8 @@ use Rattle.btree_store.specs.Content.{Content}
 use Rattle.btree_store.specs.ContentLaws.{get-insert_same, get-insert_other}
 use Rattle.btree_item.specs.Pairs.{Ascends, found, found_value, inserted, with_value}
 use Rattle.btree_node.specs.Leaf.{Leaf}
-use Rattle.btree_shape.specs.TreeState.{view_of, views, leaf_at, pairs_under, IsSound}
+use Rattle.btree_shape.specs.LeafState.{view_of, views, leaf_at, IsSound}
+use Rattle.btree_shape.specs.TreeState.{pairs_under}
 use Rattle.btree_item.proofs.PairEdits.{length-with_value, Ascends-with_value, length-inserted_absent, length-inserted_present, Ascends-inserted}
 use Rattle.btree_shape.proofs.LeafTree.{HasLeaf, has_leaf, sound-leaf, pairs-leaf}
 

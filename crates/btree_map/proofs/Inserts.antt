@@ -6,7 +6,8 @@ use Rattle.std.specs.FinMap as map
 use Rattle.btree_store.specs.Content.{Content}
 use Rattle.btree_item.specs.Pairs.{found_value, inserted, with_value}
 use Rattle.btree_node.specs.Leaf.{Leaf}
-use Rattle.btree_shape.specs.TreeState.{views, leaf_at, pairs_under, IsSound}
+use Rattle.btree_shape.specs.LeafState.{views, leaf_at, IsSound}
+use Rattle.btree_shape.specs.TreeState.{pairs_under}
 use Rattle.btree_shape.proofs.LeafTree.{at_root, pairs-at_root}
 use Rattle.btree_map.proofs.Edits.{with_items, sound-put, pairs-put, sound-replace, pairs-replace, sound-exchange, pairs-exchange, sound-first, pairs-first}
 

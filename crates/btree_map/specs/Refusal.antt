@@ -4,7 +4,7 @@ use Rattle.btree_store.specs.Content.{Content}
 use Rattle.btree_item.specs.declared.refused.Cause.{Cause}
 use Rattle.btree_item.specs.declared.refused.Cause.TheVariants.{Store, Count, Leaf}
 use Rattle.btree_node.specs.Leaf as node
-use Rattle.btree_shape.specs.TreeState.{TreeState, pairs_of}
+use Rattle.btree_shape.specs.LeafState.{TreeState, pairs_of}
 
 -- Store: the map had no pairs, and the store refused its first node and counts that; Count: no more pairs can be counted, and
 -- the store has refused nothing; Leaf: the one leaf is full. Nothing else changes

@@ -2,7 +2,7 @@
 ghost use Rattle.std.specs.Prelude.{◌≡◌, ◌+◌, ◌<◌, [], length, Some, None, IfSome, IfNone, IfOk, IfErr, OnOk, OnErr, IsSome};
 ghost use Rattle.std.specs.FinMap as map;
 ghost use Rattle.btree_item.specs.Pairs.{Ascends, found, found_value, with_value, inserted};
-ghost use Rattle.btree_shape.specs.TreeState.{leaf_at};
+ghost use Rattle.btree_shape.specs.LeafState.{leaf_at};
 
 use btree_node::LeafNode;
 use btree_store::SlabMut;

@@ -21,7 +21,7 @@ pub struct BTreeMap<K: Ord, V, C: SlabMut<LeafNode<K, V>>> {
 
 impl<K: Ord, V, C: SlabMut<LeafNode<K, V>>> Model for BTreeMap<K, V, C> {
     ghost use Rattle.std.specs.Coded.{codes};
-    ghost use Rattle.btree_shape.specs.TreeState.{TreeState, tree_code, IsSound};
+    ghost use Rattle.btree_shape.specs.LeafState.{TreeState, tree_code, IsSound};
 
     ghost Value = { TreeState K V };
 
@@ -36,7 +36,7 @@ impl<K: Ord, V, C: SlabMut<LeafNode<K, V>>> BTreeMap<K, V, C> {
     ghost use Rattle.btree_node.specs.contracts.leaf.LeafNode.{the_row as leaf_row};
     ghost use Rattle.std.specs.Mem.{FitsInMemory};
     ghost use Rattle.btree_item.specs.Pairs.{found_value};
-    ghost use Rattle.btree_shape.specs.TreeState.{pairs_of, views};
+    ghost use Rattle.btree_shape.specs.LeafState.{pairs_of, views};
     ghost use Rattle.btree_shape.specs.WellFormed.{IsWellFormed};
 
     /// A map with no pairs, over an empty store that is made from its origin. It takes no memory.
@@ -88,7 +88,7 @@ impl<K: Ord, V, C: SlabMut<LeafNode<K, V>>> BTreeMap<K, V, C> {
 
 impl<K: Ord + Drop, V: Drop, C: SlabMut<LeafNode<K, V>>> BTreeMap<K, V, C> {
     ghost use Rattle.btree_item.specs.Pairs.{found, found_value, inserted};
-    ghost use Rattle.btree_shape.specs.TreeState.{pairs_of};
+    ghost use Rattle.btree_shape.specs.LeafState.{pairs_of};
     ghost use Rattle.btree_map.specs.Refusal.{IsRefused};
 
     /// Puts a pair in, or exchanges the value at a key that is there: the stored key stays, and the given one is dropped.

@@ -1,6 +1,9 @@
 //! Reads commands from standard input, one a line, and prints a reply to each.
 #![tactic(auto)]
 
+#[cfg(test)]
+mod tests;
+
 ghost use Rattle.std.specs.Prelude.{◌≡◌, Some};
 ghost use Rattle.btree_script.specs.Ending.{status_of, text_of};
 
@@ -49,18 +52,16 @@ impl fmt::Display for Ending {
     }
 }
 
-// Arguments that cannot be read are wrong ones.
-fn has_arguments(rt: &(impl Env + Alloc)) -> bool {
-    match env::args(rt) {
-        Ok(words) => words.skip(1).count() > 0,
-        Err(_) => true,
+// No argument is taken, and one that cannot be read is one too many.
+fn check_arguments(rt: &(impl Env + Alloc)) -> Result<(), Ending> {
+    match env::args(rt).map(|words| words.skip(1).count()) {
+        Ok(0) => Ok(()),
+        _ => Err(Ending::WrongArguments),
     }
 }
 
 fn run(rt: &(impl Env + Input + Print + AllocGlobal)) -> Result<(), Ending> {
-    if has_arguments(rt) {
-        return Err(Ending::WrongArguments);
-    }
+    check_arguments(rt)?;
     let mut session: Session<SlabStore<LeafNode<u64, u64>>> = Session::new(rt.alloc());
     let (mut input, mut output) = (rt.reader(), io::writer(rt));
     drive(rt.alloc(), &mut session, &mut input, &mut output).map_err(Ending::Stopped)

@@ -7,7 +7,7 @@ use Rattle.btree_item.specs.declared.refused.Cause.TheVariants.{Store, Count, Le
 use Rattle.btree_store.specs.Content.{Content}
 use Rattle.btree_node.specs.Leaf as node
 use Rattle.btree_map.specs.Refusal.{IsRefused}
-use Rattle.btree_shape.specs.TreeState.{TreeState, pairs_of}
+use Rattle.btree_shape.specs.LeafState.{TreeState, pairs_of}
 use Rattle.btree_session.specs.declared.command.Command.TheVariants.{Insert}
 use Rattle.btree_session.specs.declared.command.Reply.TheVariants.{Refused}
 use Rattle.btree_session.specs.Machine.{Step, state_of}

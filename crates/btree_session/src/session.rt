@@ -1,7 +1,7 @@
 //! A session: a map that commands are run on.
-ghost use Rattle.std.specs.Prelude.{◌≡◌, ◌+◌, ◌≤◌, ◌++◌, List, [], length, vec_len, vec_capacity, IsOk, OnOk, OnErr};
+ghost use Rattle.std.specs.Prelude.{◌≡◌, ◌+◌, ◌≤◌, ◌++◌, List, [], None, length, vec_len, vec_capacity, IsOk, OnOk, OnErr};
 ghost use Rattle.std.specs.FinMap as map;
-ghost use Rattle.btree_shape.specs.TreeState.{pairs_of};
+ghost use Rattle.btree_shape.specs.LeafState.{pairs_of};
 ghost use Rattle.btree_session.specs.Machine.{IsRun, Step, state_of};
 ghost use Rattle.btree_session.specs.declared.command.Reply.{Reply};
 
@@ -20,7 +20,7 @@ pub struct SessionOver<K: Ord, V, C: SlabMut<LeafNode<K, V>>> {
 
 impl<K: Ord, V, C: SlabMut<LeafNode<K, V>>> Model for SessionOver<K, V, C> {
     ghost use Rattle.std.specs.Coded.{codes};
-    ghost use Rattle.btree_shape.specs.TreeState.{TreeState, tree_code};
+    ghost use Rattle.btree_shape.specs.LeafState.{TreeState, tree_code};
 
     ghost Value = { TreeState K V };
 
@@ -36,8 +36,7 @@ impl<C: SlabMut<LeafNode<u64, u64>>> Session<C> {
     /// A session over an empty map, whose store is made from its origin. It takes no memory.
     pub fn new(origin: C::Origin) -> Self
         ensures empty { pairs_of result ≡ [] }
-        ensures nodes { result.nodes ≡ map.empty }
-        ensures refusals { result.refusals ≡ 0 }
+        ensures state { result ≡ record { nodes = map.empty; root = None; len = 0; refusals = 0 } }
     {
         SessionOver {
             map: BTreeMap::new(origin),

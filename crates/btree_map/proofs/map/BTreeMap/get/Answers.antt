@@ -1,6 +1,6 @@
 use Rattle.std.proofs.Common.{sym, ap, ◌∙◌}
 use Rattle.btree_item.specs.Pairs.{found_value}
-use Rattle.btree_shape.specs.TreeState.{pairs_of}
+use Rattle.btree_shape.specs.LeafState.{pairs_of}
 use Rattle.btree_shape.proofs.LeafTree.{leaf_at-get, not_missing, at_root, pairs-at_root}
 use Rattle.btree_map.proofs.map.BTreeMap.get.Goals as goal
 
