@@ -33,6 +33,10 @@ module _ {T : Type 0} where
   drop_maps : (n : ℕ) (slots : List (Option T)) → AreSome slots → drop n slots ≡ map Some (drop n (somes slots))
   drop_maps n slots h = ap (drop n) h.are ∙ drop-map Some n (somes slots)
 
+  append_maps : (slots more : List (Option T)) → AreSome slots → AreSome more → slots ++ more ≡ map Some (somes slots ++ somes more)
+  append_maps slots more h k =
+      ap (λ l. l ++ more) h.are ∙ ap (λ l. map Some (somes slots) ++ l) k.are ∙ sym (map-append Some (somes slots) (somes more))
+
   insert_maps : (slots : List (Option T)) (i : ℕ) (x : T) → AreSome slots → insert slots i (Some x) ≡ map Some (insert (somes slots) i x)
   insert_maps slots i x h =
       ap (λ l. l ++ Some x ∷ drop i slots) (take_maps i slots h)
@@ -81,6 +85,12 @@ module _ {T : Type 0} where
   pub AreSome-drop : (slots : List (Option T)) (n : ℕ) → AreSome slots → AreSome (drop n slots)
   AreSome-drop slots n h = AreSome-from_map _ _ (drop_maps n slots h)
 
+  pub somes-append : (slots more : List (Option T)) → AreSome slots → AreSome more → somes (slots ++ more) ≡ somes slots ++ somes more
+  somes-append slots more h k = somes_from_map _ _ (append_maps slots more h k)
+
+  pub AreSome-append : (slots more : List (Option T)) → AreSome slots → AreSome more → AreSome (slots ++ more)
+  AreSome-append slots more h k = AreSome-from_map _ _ (append_maps slots more h k)
+
   pub slice_get-somes : (slots : List (Option T)) (i : ℕ) → AreSome slots → slice_get slots i ≡ option_map Some (slice_get (somes slots) i)
   slice_get-somes slots i h = ap (λ l. slice_get l i) h.are ∙ slice_get-map Some (somes slots) i
 
@@ -109,4 +119,4 @@ module _ {T : Type 0} where
   pub AreSome-set_read : (slots : List (Option T)) (i : ℕ) (r : Option T) → AreSome slots → r ≡ get_or slots i r → AreSome (set slots i r)
   AreSome-set_read slots i r h read = rw (set-read slots i r read) h
 
-pub ruleset slot_edits = (somes-map, IsSome-slot, slot_read, AreSome-set_read, length-somes, somes-push, AreSome-push, somes-set, AreSome-set, somes-insert, AreSome-insert, somes-remove, AreSome-remove, somes-take, AreSome-take, somes-drop, AreSome-drop, slice_get-somes)
+pub ruleset slot_edits = (somes-map, IsSome-slot, slot_read, AreSome-set_read, length-somes, somes-push, AreSome-push, somes-set, AreSome-set, somes-insert, AreSome-insert, somes-remove, AreSome-remove, somes-take, AreSome-take, somes-drop, AreSome-drop, somes-append, AreSome-append, slice_get-somes)

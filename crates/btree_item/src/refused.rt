@@ -7,8 +7,6 @@ pub enum Cause {
     Store,
     /// The map holds as many pairs as it may.
     Count,
-    /// The map's one leaf is full. For now a leaf is not split.
-    Leaf,
 }
 
 /// A refused insertion: why, and the key and the value, which come back.

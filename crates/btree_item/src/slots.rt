@@ -1,5 +1,5 @@
 //! Lists of at most `N` values, kept inside.
-ghost use Rattle.std.specs.Prelude.{◌≡◌, ◌-◌, ◌<◌, ◌≤◌, [], ◌∷◌, ◌++◌, Some, length, take, drop, slice_get, slice_set};
+ghost use Rattle.std.specs.Prelude.{◌≡◌, ◌+◌, ◌-◌, ◌<◌, ◌≤◌, [], ◌∷◌, ◌++◌, Some, length, take, drop, slice_get, slice_set};
 ghost use Rattle.std.specs.List.{insert, remove};
 ghost use Rattle.std.specs.Borrow.{sem};
 ghost use Rattle.std.specs.Option.{option_copied, option_copied_mut};
@@ -115,6 +115,14 @@ impl<T: Drop, const N: usize> Slots<T, N> {
         }
     }
 
+    /// Appends the other list's values. Each moves once. There has to be room for them.
+    pub fn append(&mut self, other: Self)
+        requires { length self.old + length other ≤ N }
+        ensures { self.new ≡ self.old ++ other }
+    {
+        append_to(&mut self.slots, other.slots);
+    }
+
     /// Takes the values from an index on out, as slots of their own. Each moves once.
     pub fn split_off(&mut self, at: usize) -> Self
         requires { at ≤ length self.old }
@@ -124,6 +132,20 @@ impl<T: Drop, const N: usize> Slots<T, N> {
         Slots {
             slots: tail_from(&mut self.slots, at),
         }
+    }
+}
+
+// Moves the other values behind these.
+fn append_to<T: Drop, const N: usize>(
+    slots: &mut ArrayVec<Option<T>, N>,
+    mut other: ArrayVec<Option<T>, N>,
+)
+    requires { length slots.old.items + length other.items ≤ N }
+    ensures { slots.new.items ≡ slots.old.items ++ other.items }
+{
+    let len = other.len();
+    for slot in other.drain(0..len) {
+        slots.push(slot);
     }
 }
 

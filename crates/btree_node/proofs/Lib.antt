@@ -1,5 +1,3 @@
-pub mod LeafLemmas
-pub mod BranchLemmas
 pub mod LookUpLemmas
 pub mod NodeLemmas
-pub mod Splits
+pub mod SplitSizes

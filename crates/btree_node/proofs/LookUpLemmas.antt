@@ -1,14 +1,9 @@
--- What a look-up in a node answers, by what is found and by the place of the key.
-use Rattle.std.proofs.Common.{◌≡◌, ℕ, ◌+◌, ◌≤◌, List, [], ◌∷◌, Bool, true, false, Option, Some, None, Ok, Err, Result, drop, length, zero, suc, refl, sym, ◌∙◌, ap, arith, inl, inr, Ordering}
-use Rattle.std.specs.Prelude.{slice_get, ◌==◌}
+-- What a look-up in a node answers, by what is found and by the child that may hold the key.
+use Rattle.std.proofs.Common.{◌≡◌, ℕ, Option, Some, None, Ok, Err, Result, refl, sym, ap, Ordering}
 use Rattle.std.specs.Result.{result_map_both}
-use Rattle.std.specs.List.{position, position_from}
-use Rattle.std.proofs.lemmas.Bool.Decides.{eqb_tells}
-use Rattle.std.proofs.lemmas.Iterator.Adapters.{position_from-zero}
-use Rattle.std.proofs.lemmas.List.{drop_all}
-use Rattle.btree_item.specs.Pairs.{before, found, found_value}
-use Rattle.btree_node.specs.LookUp.{looked_up, look_up, found_or, child_for, find_in}
-use Rattle.btree_node.specs.View.{View, items_of, children_of}
+use Rattle.btree_item.specs.Pairs.{found_value}
+use Rattle.btree_view.specs.LookUp.{looked_up, look_up, found_or, child_for, find_in}
+use Rattle.btree_view.specs.View.{View, items_of}
 
 -- what `find_mut` answers as what `get_mut` does
 abbrev pub as_looked_up : {V : Type 0} → Result V (Option ℕ) → Result (Option V) ℕ
@@ -35,15 +30,6 @@ found_or-looked_up None (Some id) (Ok w) is = absurd (cc)
 found_or-looked_up None (Some id) (Err n) is = cc
 
 module _ {K V : Type 0} (cmp : K → K → Ordering) (k : K) (node : View (K × V)) where
-  pub look_up-Ok : (item : K × V) → found cmp k (items_of node) ≡ Some item → look_up cmp k node ≡ Ok (Some item.1)
-  look_up-Ok item finds = rw finds refl
-
-  pub look_up-Err : (i id : ℕ) → found cmp k (items_of node) ≡ None → before cmp k (items_of node) ≡ i → slice_get (children_of node) i ≡ Some id → look_up cmp k node ≡ Err id
-  look_up-Err i id absent count child =
-      let at : slice_get (children_of node) (before cmp k (items_of node)) ≡ Some id = ap (slice_get (children_of node)) count ∙ child in
-      rw (absent, at) refl
-
-module _ {K V : Type 0} (cmp : K → K → Ordering) (k : K) (node : View (K × V)) where
   pub look_up-from_find : (r : Result V (Option ℕ)) → r ≡ find_in cmp k node → as_looked_up r ≡ look_up cmp k node
   unfolding find_in
   look_up-from_find r is = sym (looked_up-found_or (found_value cmp k (items_of node)) (child_for cmp k node) r is)
@@ -57,34 +43,3 @@ module _ {K V : Type 0} (cmp : K → K → Ordering) (k : K) (node : View (K × 
   unfolding find_in
   find_in-from_found None is none = rw (← is, none) refl
   find_in-from_found (Some v) is none = rw (← is) refl
-
-module _ {T : Type 0} (test : T → Bool) where
-  drop_at : (i : ℕ) (xs : List T) (x : T) → slice_get xs i ≡ Some x → drop i xs ≡ x ∷ drop (i + 1) xs
-  drop_at i [] x at = absurd (cc)
-  drop_at zero (y ∷ ys) x at = ap (λ z. z ∷ ys) (cc)
-  drop_at (suc i) (y ∷ ys) x at = let next : suc i + 1 ≡ suc (i + 1) = omega arith in rw next (drop_at i ys x at)
-
-  -- one element further the test still has to pass
-  pub position_from-next : (n i : ℕ) (xs : List T) (x : T) → slice_get xs i ≡ Some x → test x ≡ false → position_from test n (drop i xs) ≡ position_from test (n + 1) (drop (i + 1) xs)
-  position_from-next n i xs x at fails = let here = drop_at i xs x at in rw (here, fails) refl
-
-  pub position_from-here : (n i : ℕ) (xs : List T) (x : T) → slice_get xs i ≡ Some x → test x ≡ true → position_from test n (drop i xs) ≡ Some n
-  position_from-here n i xs x at passes = let here = drop_at i xs x at in rw (here, passes) refl
-
-  pub position_from-end : (n i : ℕ) (xs : List T) → length xs ≤ i → position_from test n (drop i xs) ≡ None
-  position_from-end n i xs past = let none = drop_all i xs past in rw none refl
-
-  pub position-from_Some : (xs : List T) (o : Option ℕ) → position_from test 0 xs ≡ o → o ≡ position test xs
-  position-from_Some xs o is = sym (position_from-zero test xs ∙ is)
-
-pub eq-true : (a b : ℕ) → a ≡ b → (a == b) ≡ true
-eq-true a b same = elim (eqb_tells a b) [
-  | inl is ↦ is.0
-  | inr differs ↦ absurd (differs.1 same)
-]
-
-pub eq-false : (a b : ℕ) → (a ≡ b → ⊥) → (a == b) ≡ false
-eq-false a b apart = elim (eqb_tells a b) [
-  | inl is ↦ absurd (apart is.1)
-  | inr differs ↦ differs.0
-]

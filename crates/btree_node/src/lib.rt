@@ -1,12 +1,14 @@
-//! The nodes of the tree.
+//! The nodes of the tree, of either kind.
 #![tactic(auto)]
 
-mod balance;
-pub mod internal;
-mod leaf;
 mod node;
 
-pub use balance::Balance;
-pub use internal::{Branch, InternalNode};
-pub use leaf::LeafNode;
-pub use node::Node;
+pub use btree_internal::{Branch, InternalNode};
+pub use btree_leaf::LeafNode;
+pub use btree_view::{Balance, WouldUnderflow};
+pub use node::{Node, PoppedItem};
+
+/// Internal nodes, under the path that Rust's crate has for them.
+pub mod internal {
+    pub use btree_internal::{Branch, Internal, InternalNode};
+}

@@ -3,15 +3,20 @@ ghost use Rattle.std.specs.Prelude.{◌≡◌, ◌<◌, ◌≤◌, ◌↔◌, �
 ghost use Rattle.std.specs.Option.{option_and_then, option_copied};
 ghost use Rattle.std.specs.Result.{result_map_both};
 ghost use Rattle.btree_item.specs.Pairs.{Ascends};
-ghost use Rattle.btree_node.specs.Edits.{balance_of, HasChildFor, IsOverflowing, IsSplit, IsUnderflowing, with_item, with_parent};
-ghost use Rattle.btree_node.specs.Leaf.{kept_parent};
-ghost use Rattle.btree_node.specs.LookUp.{look_up, offset_in};
+ghost use Rattle.btree_view.specs.Edits.{balance_of, HasChildFor, IsOverflowing, IsSplit, IsUnderflowing, with_item, with_parent};
+ghost use Rattle.btree_view.specs.Kept.{kept_parent};
+ghost use Rattle.btree_view.specs.LookUp.{look_up, offset_in};
 ghost use Rattle.btree_node.specs.Node.{view_of};
-ghost use Rattle.btree_node.specs.View.{parent_of, items_of, children_of, size_of, most_of};
+ghost use Rattle.btree_view.specs.View.{parent_of, items_of, children_of, size_of, most_of};
 
-use crate::leaf::offset_at;
-use crate::{Balance, InternalNode, LeafNode};
+use btree_internal::InternalNode;
 use btree_item::{Item, Offset};
+use btree_leaf::LeafNode;
+use btree_view::{Balance, WouldUnderflow, offset_at};
+
+/// What `Node::pop_right` takes out: the offset at which the item stood, the item, and the child behind
+/// it, which is there exactly in an internal node.
+pub type PoppedItem<K, V> = (Offset, Item<K, V>, Option<usize>);
 
 /// A node: an internal node or a leaf. Contracts see either as its view.
 #[derive(Drop)]
@@ -21,6 +26,10 @@ pub enum Node<K, V> {
 }
 
 impl<K, V> Node<K, V> {
+    ghost use Rattle.std.specs.Borrow.{sem};
+    ghost use Rattle.std.specs.Option.{option_copied_mut};
+    ghost use Rattle.btree_node.specs.NodeLends.{node_lends_item};
+
     /// The number of the parent, if there is one.
     pub fn parent(&self) -> Option<usize>
         ensures value { result ≡ parent_of (view_of self.now) }
@@ -92,6 +101,18 @@ impl<K, V> Node<K, V> {
         }
     }
 
+    /// The item at an offset, to be written, and `None` at -1 and past the end. The order of the keys is
+    /// then up to the caller.
+    pub fn item_mut(&mut self, offset: Offset) -> Option<&mut Item<K, V>>
+        ensures* writes_back { sem 𝓛 (node_lends_item K.row V.row self.entry offset result) }
+        ensures value { option_copied_mut result ≡ option_and_then (slice_get (items_of (view_of self.old))) offset }
+    {
+        match self {
+            Node::Internal(node) => node.item_mut(offset),
+            Node::Leaf(leaf) => leaf.item_mut(offset),
+        }
+    }
+
     /// Whether there are too many items, too few, or neither. A root is judged like any other node.
     pub fn balance(&self) -> Balance
         ensures { result ≡ balance_of (view_of self.now) }
@@ -137,8 +158,9 @@ impl<K, V> Node<K, V> {
 }
 
 impl<K: Drop, V: Drop> Node<K, V> {
-    ghost use Rattle.std.specs.Prelude.{[], ◌∷◌};
-    ghost use Rattle.btree_node.specs.View.{leaf, internal};
+    ghost use Rattle.std.specs.Prelude.{[], ◌∷◌, ◌+◌, IfOk, OnErr};
+    ghost use Rattle.btree_view.specs.View.{leaf, internal};
+    ghost use Rattle.btree_view.specs.Edits.{HasSpare, HaveRoom, is_internal, joined, pushed_left, pushed_right, with_other_item, without};
 
     /// A leaf with one item. `Some(usize::MAX)` as the parent is read as none.
     pub fn leaf(parent: Option<usize>, item: Item<K, V>) -> Self
@@ -177,6 +199,134 @@ impl<K: Drop, V: Drop> Node<K, V> {
         }
     }
 
+    /// Puts an item in the place of the one at an offset of an internal node, which is answered. The
+    /// children stay; the order of the keys is up to the caller.
+    pub fn replace(&mut self, offset: Offset, item: Item<K, V>) -> Item<K, V>
+        requires kind { IsTrue (is_internal (view_of self.old)) }
+        requires occupied { IsSomeAnd offset (λ index. index < size_of (view_of self.old)) }
+        ensures answer { Some result ≡ option_and_then (slice_get (items_of (view_of self.old))) offset }
+        ensures after { IfSome offset (λ index. view_of self.new ≡ with_other_item index item (view_of self.old)) }
+    {
+        match self {
+            Node::Internal(node) => node.replace(offset, item),
+            Node::Leaf(_) => unreachable!(),
+        }
+    }
+
+    /// Takes the item between two neighbouring children of an internal node out, and the number of the
+    /// right one with it. Answers the left one's index, the numbers of both, the item, and how full the
+    /// node is then.
+    pub fn merge(&mut self, left: usize, right: usize) -> (usize, usize, usize, Item<K, V>, Balance)
+        requires next { right ≡ left + 1 }
+        requires within { right < length (children_of (view_of self.old)) }
+        ensures index { result.0 ≡ left }
+        ensures left { slice_get (children_of (view_of self.old)) left ≡ Some result.1 }
+        ensures right { slice_get (children_of (view_of self.old)) right ≡ Some result.2 }
+        ensures item { slice_get (items_of (view_of self.old)) left ≡ Some result.3 }
+        ensures after { view_of self.new ≡ without left (view_of self.old) }
+        ensures balance { result.4 ≡ balance_of (view_of self.new) }
+    {
+        match self {
+            Node::Internal(node) => node.merge(left, right),
+            Node::Leaf(_) => unreachable!(),
+        }
+    }
+
+    /// Puts the separator and then what the other node, of the same kind, holds behind its own. Each item
+    /// moves once. Answers the separator's offset. The order of the keys, and the children's own parent
+    /// numbers, are up to the caller.
+    pub fn append(&mut self, separator: Item<K, V>, other: Node<K, V>) -> Offset
+        requires kind { is_internal (view_of other) ≡ is_internal (view_of self.old) }
+        requires room { HaveRoom (view_of self.old) (view_of other) }
+        ensures offset { result ≡ Some (size_of (view_of self.old)) }
+        ensures after { view_of self.new ≡ joined (view_of self.old) separator (view_of other) }
+    {
+        match self {
+            Node::Internal(node) => match other {
+                Node::Internal(other) => node.append(separator, other),
+                Node::Leaf(_) => unreachable!(),
+            },
+            Node::Leaf(leaf) => match other {
+                Node::Leaf(other) => leaf.append(separator, other),
+                Node::Internal(_) => unreachable!(),
+            },
+        }
+    }
+
+    /// Puts an item before the others, and in an internal node a child before the others. The order of
+    /// the keys, and the child's own parent number, are up to the caller.
+    pub fn push_left(&mut self, item: Item<K, V>, opt_child: Option<usize>)
+        requires room { size_of (view_of self.old) ≤ most_of (view_of self.old) }
+        requires child { HasChildFor opt_child (view_of self.old) }
+        ensures { view_of self.new ≡ pushed_left item opt_child (view_of self.old) }
+    {
+        match self {
+            Node::Internal(node) => match opt_child {
+                Some(child) => node.push_left(item, child),
+                None => unreachable!(),
+            },
+            Node::Leaf(leaf) => leaf.push_left(item),
+        }
+    }
+
+    /// Puts an item behind the others, and in an internal node a child behind it. Answers the item's
+    /// offset. The order of the keys, and the child's own parent number, are up to the caller.
+    pub fn push_right(&mut self, item: Item<K, V>, opt_child: Option<usize>) -> Offset
+        requires room { size_of (view_of self.old) ≤ most_of (view_of self.old) }
+        requires child { HasChildFor opt_child (view_of self.old) }
+        ensures offset { result ≡ Some (size_of (view_of self.old)) }
+        ensures after { view_of self.new ≡ pushed_right item opt_child (view_of self.old) }
+    {
+        match self {
+            Node::Internal(node) => match opt_child {
+                Some(child) => node.push_right(item, child),
+                None => unreachable!(),
+            },
+            Node::Leaf(leaf) => leaf.push_right(item),
+        }
+    }
+
+    /// Takes the first item out, and the first child of an internal node, where there are four items or
+    /// more.
+    pub fn pop_left(&mut self) -> Result<(Item<K, V>, Option<usize>), WouldUnderflow>
+        ensures spare { IfOk result (λ _. HasSpare (view_of self.old)) }
+        ensures child { IfOk result (λ popped. HasChildFor popped.1 (view_of self.old)) }
+        ensures taken { IfOk result (λ popped. view_of self.old ≡ pushed_left popped.0 popped.1 (view_of self.new)) }
+        ensures short { OnErr result (size_of (view_of self.old) ≤ 3 × self.new ≡ self.old) }
+    {
+        match self {
+            Node::Internal(node) => match node.pop_left() {
+                Ok((item, child)) => Ok((item, Some(child))),
+                Err(short) => Err(short),
+            },
+            Node::Leaf(leaf) => match leaf.pop_left() {
+                Ok(item) => Ok((item, None)),
+                Err(short) => Err(short),
+            },
+        }
+    }
+
+    /// Takes the last item out, and the last child of an internal node, where there are four items or
+    /// more, and answers the offset at which the item stood too.
+    pub fn pop_right(&mut self) -> Result<PoppedItem<K, V>, WouldUnderflow>
+        ensures spare { IfOk result (λ _. HasSpare (view_of self.old)) }
+        ensures offset { IfOk result (λ popped. popped.0 ≡ Some (size_of (view_of self.new))) }
+        ensures child { IfOk result (λ popped. HasChildFor popped.2 (view_of self.old)) }
+        ensures taken { IfOk result (λ popped. view_of self.old ≡ pushed_right popped.1 popped.2 (view_of self.new)) }
+        ensures short { OnErr result (size_of (view_of self.old) ≤ 3 × self.new ≡ self.old) }
+    {
+        match self {
+            Node::Internal(node) => match node.pop_right() {
+                Ok((offset, item, child)) => Ok((offset, item, Some(child))),
+                Err(short) => Err(short),
+            },
+            Node::Leaf(leaf) => match leaf.pop_right() {
+                Ok((offset, item)) => Ok((offset, item, None)),
+                Err(short) => Err(short),
+            },
+        }
+    }
+
     /// Keeps the first items of a node with one too many: four in a leaf, three in an internal node.
     /// Answers how many are left, the median, and a node of the same kind with the items after it, under
     /// the same parent. The children's own parent numbers are up to the caller.
@@ -202,7 +352,7 @@ impl<K: Drop, V: Drop> Node<K, V> {
 impl<K: Ord, V> Node<K, V> {
     ghost use Rattle.std.specs.Borrow.{sem};
     ghost use Rattle.std.specs.Option.{option_copied_mut};
-    ghost use Rattle.btree_node.specs.LookUp.{find_in};
+    ghost use Rattle.btree_view.specs.LookUp.{find_in};
     ghost use Rattle.btree_node.specs.NodeLends.{node_lends};
 
     /// The value at a key, or `None` in a leaf without it, else the number of the child that may hold

@@ -1,22 +1,21 @@
 use borrow.Enum.Known.{at}
 use borrow.Enum.Total.{values_d, values_o}
-use mathlib.Core.Option as maybe
 use denote.Param.{param}
 use Rattle.std.proofs.Common.{◌≡◌, inl, inr, subst, Some, None, Ok, Err, arith, refl, ap, sym, ◌∙◌}
 use Rattle.btree_node.specs.declared.node.Node.{Node}
 use Rattle.btree_node.specs.contracts.node.Node.{enum as node_enum}
-use Rattle.btree_node.specs.Leaf.{Leaf as LeafParts}
-use Rattle.btree_node.specs.Internal.{Internal as InternalParts}
-use Rattle.btree_node.specs.NodeLends.{leaf_with_value, internal_with_value, node_with_value}
-use Rattle.btree_node.specs.LookUp.{find_in}
-use Rattle.btree_node.specs.Node.{leaf_view, internal_view, view_of}
+use Rattle.btree_leaf.specs.Leaf.{Leaf as LeafParts}
+use Rattle.btree_internal.specs.Internal.{Internal as InternalParts}
+use Rattle.btree_leaf.specs.LeafLends.{leaf_with_value}
+use Rattle.btree_internal.specs.InternalLends.{internal_with_value}
+use Rattle.btree_node.specs.NodeLends.{node_with_value}
+use Rattle.btree_view.specs.LookUp.{find_in}
+use Rattle.btree_leaf.specs.Leaf.{leaf_view}
+use Rattle.btree_internal.specs.Internal.{internal_view}
+use Rattle.btree_node.specs.Node.{view_of}
 use Rattle.btree_node.proofs.LookUpLemmas.{find_in-from_look_up, find_in-from_found}
+use Rattle.btree_node.proofs.NodeLemmas.{put_when}
 use Rattle.btree_node.proofs.node.Node.find_mut.Goals as goal
-
--- a payload put where the value has that variant
-abbrev put_when : {D P Y : Type 0} → (Y → P → D) → maybe.Option P → D → Y → D
-put_when make maybe.none x y = x
-put_when make (maybe.some v) x y = make y v
 
 pub get_mut-requires : goal.get_mut-requires
 get_mut-requires g c = let up = rw c.in-Internal.is at c.requires in (omega arith, rw c.in-Internal.node-is up)

@@ -1,6 +1,6 @@
 use Rattle.std.proofs.Common.{arith, sym, ◌∙◌}
 use Rattle.std.proofs.lemmas.List.{length-map}
-use Rattle.btree_node.proofs.Splits.{size-split_internal, size-split_leaf}
+use Rattle.btree_node.proofs.SplitSizes.{size-split_internal, size-split_leaf}
 use Rattle.btree_node.proofs.node.Node.split.Goals as goal
 
 pub split-left-requires : goal.split-left-requires

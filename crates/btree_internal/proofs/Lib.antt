@@ -1,0 +1,3 @@
+pub mod BranchLemmas
+pub mod LookUpLemmas
+pub mod InternalSplit

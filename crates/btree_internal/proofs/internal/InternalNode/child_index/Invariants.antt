@@ -1,0 +1,11 @@
+use Rattle.std.proofs.Common.{◌≡◌, drop}
+use Rattle.std.specs.Prelude.{◌==◌}
+use Rattle.std.specs.List.{position_from}
+use Rattle.btree_internal.specs.Internal.{internal_view}
+use Rattle.btree_view.specs.View.{children_of}
+use Rattle.btree_internal.proofs.internal.InternalNode.child_index.Given as goal
+
+abbrev pub invariant-loop-index : goal.invariant-loop-index
+invariant-loop-index g l =
+    position_from (λ child. child == l.id) 0 (children_of (internal_view l.self))
+    ≡ position_from (λ child. child == l.id) l.index (drop l.index (children_of (internal_view l.self)))

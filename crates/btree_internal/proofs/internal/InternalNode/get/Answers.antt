@@ -1,0 +1,15 @@
+use Rattle.std.proofs.Common.{Some, Ok, ap, sym, ◌∙◌}
+use Rattle.btree_item.proofs.PairLemmas.{before-from_Err}
+use Rattle.btree_internal.specs.Internal.{internal_view}
+use Rattle.btree_internal.proofs.BranchLemmas.{there}
+use Rattle.btree_internal.proofs.LookUpLemmas.{look_up-Ok, look_up-Err}
+use Rattle.btree_internal.proofs.internal.InternalNode.get.Goals as goal
+
+pub returns-in-Ok : goal.returns-in-Ok
+returns-in-Ok g c =
+    let finds = sym c.in-Ok.ensures.here ∙ there c.args.self.now _ c.self.inside.first c.self.inside.branches c.self.view_is c.in-Ok.index c.branch_at.result.now c.branch_at.ensures in
+    ap (λ v. Ok (Some v)) c.value.ensures ∙ sym (look_up-Ok g.K.Ord.cmp c.args.key.now (internal_view c.args.self.now) _ finds)
+
+pub returns-in-Err : goal.returns-in-Err
+returns-in-Err g c =
+    sym (look_up-Err g.K.Ord.cmp c.args.key.now (internal_view c.args.self.now) _ _ c.in-Err.ensures.absent (before-from_Err g.K.Ord.cmp c.args.key.now _ _ (sym c.in-Err.ensures.place)) c.child_id.ensures)

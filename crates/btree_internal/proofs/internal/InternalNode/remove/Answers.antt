@@ -1,0 +1,15 @@
+use Rattle.std.proofs.Common.{sym}
+use Rattle.btree_internal.proofs.BranchLemmas.{child_behind, remove-view, there}
+use Rattle.btree_internal.proofs.internal.InternalNode.remove.Goals as goal
+
+pub returns-clause-item : goal.returns-clause-item
+returns-clause-item g c =
+    rw c.unwrap-index.ensures.value (sym (there c.args.self.now _ c.self.inside.first c.self.inside.branches c.self.view_is c.unwrap-index.result c.remove-item.result c.remove-item.ensures.answer))
+
+pub returns-clause-right : goal.returns-clause-right
+returns-clause-right g c =
+    rw c.unwrap-index.ensures.value (child_behind c.args.self.now _ c.self.inside.first c.self.inside.branches c.self.view_is c.unwrap-index.result c.remove-item.result c.remove-item.ensures.answer)
+
+pub returns-clause-after : goal.returns-clause-after
+returns-clause-after g c =
+    rw c.unwrap-index.ensures.value (remove-view c.args.self.now _ c.self.inside.first c.self.inside.branches c.self.view_is _ c.unwrap-index.result c.remove-item.ensures.after)

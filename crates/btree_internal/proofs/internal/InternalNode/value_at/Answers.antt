@@ -1,0 +1,15 @@
+use Rattle.std.proofs.Common.{Some, inl, ap, sym, ◌∙◌}
+use Rattle.std.specs.Option.{option_map}
+use Rattle.btree_internal.proofs.BranchLemmas.{there, value-at}
+use Rattle.btree_internal.proofs.internal.InternalNode.value_at.Goals as goal
+
+pub returns-in-Some : goal.returns-in-Some
+returns-in-Some g c =
+    let at = sym c.in-Some.ensures.value in
+    let written = value-at c.args.self.now _ c.self.inside.first c.self.inside.branches c.self.view_is c.args.index c.in-Some.branch.now at in (
+      λ j. inl (c.value_mut.result.ghost_name, λ w. written w j),
+      record {
+        writes_back = tt;
+        value = ap (λ v. Some v) c.value_mut.ensures.value ∙ sym (ap (option_map (λ x. x.1)) (there c.args.self.now _ c.self.inside.first c.self.inside.branches c.self.view_is c.args.index c.in-Some.branch.now at));
+      },
+    )

@@ -1,0 +1,576 @@
+//! An internal node of the tree.
+ghost use Rattle.std.specs.Prelude.{◌≡◌, ◌+◌, ◌<◌, ◌≤◌, ◌↔◌, ◌==◌, [], ◌∷◌, Ok, Err, Some, None, IsTrue, IsSomeAnd, IfSome, IfOk, MatchResult, OnErr, length, map, slice_get, position};
+ghost use Rattle.std.proofs.Common.{rules};
+ghost use Rattle.std.specs.Cmp.Rules.{comparing};
+ghost use Rattle.std.specs.Ordering.{on};
+ghost use Rattle.std.specs.List.Sorted.{IsSearchInRange};
+ghost use Rattle.std.specs.Option.{option_and_then, option_copied};
+ghost use Rattle.std.specs.Result.{result_map_both};
+ghost use Rattle.btree_item.specs.Pairs.{Ascends, found, place_of};
+ghost use Rattle.btree_view.specs.Edits.{balance_of, IsOverflowing, IsUnderflowing};
+ghost use Rattle.btree_internal.specs.Internal.{branch_pair};
+ghost use Rattle.btree_view.specs.Kept.{kept_parent};
+ghost use Rattle.btree_view.specs.LookUp.{look_up, offset_in};
+ghost use Rattle.btree_internal.specs.Internal.{internal_view};
+ghost use Rattle.btree_view.specs.View.{items_of, children_of, size_of};
+
+use btree_item::{Item, Keyed, Offset, Slots, search};
+use btree_view::{Balance, WouldUnderflow, offset_at};
+use std::cmp::Ordering;
+use std::marker::Model;
+use std::mem;
+
+/// An item of an internal node, with the number of the child after it. It is compared by the item's
+/// key alone.
+#[derive(Clone, Drop)]
+pub struct Branch<K, V> {
+    pub item: Item<K, V>,
+    pub child: usize,
+}
+
+impl<K, V> Branch<K, V> {
+    ghost use Rattle.std.specs.Borrow.{sem};
+    ghost use Rattle.btree_internal.specs.InternalLends.{branch_lends, branch_lends_item};
+
+    /// The item, as Rust's `as_ref` gives it.
+    pub fn as_item(&self) -> &Item<K, V>
+        ensures { result.now ≡ self.now.item }
+    {
+        &self.item
+    }
+
+    // The item's value, to be written.
+    fn value_mut(&mut self) -> &mut V
+        ensures* writes_back { sem 𝓛 (branch_lends K.row V.row self.entry result) }
+        ensures value { result.now ≡ self.old.item.1 }
+    {
+        self.item.value_mut()
+    }
+
+    // The item, to be written.
+    fn item_mut(&mut self) -> &mut Item<K, V>
+        ensures* writes_back { sem 𝓛 (branch_lends_item K.row V.row self.entry result) }
+        ensures item { result.now ≡ self.old.item }
+    {
+        &mut self.item
+    }
+}
+
+impl<K, V> Keyed for Branch<K, V> {
+    type Key = K;
+
+    ghost key_of = { λ branch. branch.item.0 };
+
+    fn key(&self) -> &K {
+        self.item.key()
+    }
+}
+
+impl<K: PartialEq, V> PartialEq for Branch<K, V> {
+    ghost eq = { on (λ branch. branch.item.0) K.eq };
+
+    ghost laws = { Prim.search (comparing, rules) };
+
+    fn eq(&self, other: &Self) -> bool {
+        self.item == other.item
+    }
+}
+
+impl<K: Eq, V> Eq for Branch<K, V> {
+    ghost laws = { Prim.search (comparing, rules) };
+}
+
+impl<K: PartialOrd, V> PartialOrd for Branch<K, V> {
+    ghost partial_cmp = { on (λ branch. branch.item.0) K.partial_cmp };
+
+    ghost laws = { Prim.search (comparing, rules) };
+
+    fn partial_cmp(&self, other: &Self) -> Option<Ordering> {
+        self.item.partial_cmp(&other.item)
+    }
+}
+
+impl<K: Ord, V> Ord for Branch<K, V> {
+    ghost cmp = { on (λ branch. branch.item.0) K.cmp };
+
+    ghost total = { Prim.search (comparing, rules) };
+
+    ghost matches_partial_cmp = { Prim.search (comparing, rules) };
+
+    ghost matches_eq = { Prim.search (comparing, rules) };
+
+    fn cmp(&self, other: &Self) -> Ordering {
+        self.item.cmp(&other.item)
+    }
+}
+
+/// An internal node: the number of its parent, the number of its first child, and up to eight items,
+/// each with the child after it. At rest it has no more than seven.
+#[derive(Drop)]
+pub struct InternalNode<K, V> {
+    // `usize::MAX` where there is no parent.
+    parent: usize,
+    first: usize,
+    branches: Slots<Branch<K, V>, 8>,
+}
+
+/// The same, under the name that Rust's crate has for it here.
+pub type Internal<K, V> = InternalNode<K, V>;
+
+impl<K, V> Model for InternalNode<K, V> {
+    ghost use Rattle.std.specs.Prelude.{map};
+    ghost use Rattle.btree_internal.specs.Internal.{Internal, branch_pair};
+    ghost use Rattle.btree_view.specs.Kept.{node_of};
+
+    ghost Value = { Internal K V };
+
+    ghost view = { λ node. record { parent = node_of node.parent; first = node.first; branches = map branch_pair node.branches } };
+}
+
+impl<K: Drop, V: Drop> InternalNode<K, V> {
+    /// A node with one item between two children. `Some(usize::MAX)` as the parent is read as none.
+    pub fn binary(
+        parent: Option<usize>,
+        left_id: usize,
+        median: Item<K, V>,
+        right_id: usize,
+    ) -> Self
+        ensures { result ≡ record { parent = kept_parent parent; first = left_id; branches = (median, right_id) ∷ [] } }
+    {
+        let mut branches = Slots::new();
+        branches.push(Branch {
+            item: median,
+            child: right_id,
+        });
+        InternalNode {
+            parent: parent.unwrap_or(usize::MAX),
+            first: left_id,
+            branches,
+        }
+    }
+}
+
+impl<K, V> InternalNode<K, V> {
+    ghost use Rattle.std.specs.Borrow.{sem};
+    ghost use Rattle.std.specs.Option.{option_copied_mut, option_map};
+    ghost use Rattle.btree_internal.specs.InternalLends.{internal_lends_at, internal_lends_item};
+
+    // The value at an index, to be written.
+    fn value_at(&mut self, index: usize) -> Option<&mut V>
+        ensures* writes_back { sem 𝓛 (internal_lends_at K.row V.row self.entry index result) }
+        ensures value { option_copied_mut result ≡ option_map (λ x. x.1) (slice_get (items_of (internal_view self.old)) index) }
+    {
+        match self.branches.get_mut(index) {
+            Some(branch) => Some(branch.value_mut()),
+            None => None,
+        }
+    }
+
+    /// The number of the parent, if there is one.
+    pub fn parent(&self) -> Option<usize>
+        ensures value { result ≡ self.now.parent }
+        ensures bound { IfSome result (λ id. id < usize.MAX) }
+    {
+        if self.parent == usize::MAX {
+            None
+        } else {
+            Some(self.parent)
+        }
+    }
+
+    /// Puts the node under another parent. `Some(usize::MAX)` is read as none.
+    pub fn set_parent(&mut self, parent: Option<usize>)
+        ensures { self.new ≡ record self.old { parent = kept_parent parent } }
+    {
+        self.parent = parent.unwrap_or(usize::MAX);
+    }
+
+    pub fn item_count(&self) -> usize
+        ensures value { result ≡ length self.now.branches }
+        ensures fits { result ≤ 8 }
+    {
+        self.branches.len()
+    }
+
+    /// One more than there are items.
+    pub fn child_count(&self) -> usize
+        ensures value { result ≡ length (children_of (internal_view self.now)) }
+        ensures fits { result ≤ 9 }
+    {
+        self.item_count() + 1
+    }
+
+    pub fn first_child_id(&self) -> usize
+        ensures { result ≡ self.now.first }
+    {
+        self.child_id(0)
+    }
+
+    /// The items in order, each with the child after it.
+    pub fn branches(&self) -> &Slots<Branch<K, V>, 8>
+        ensures { map branch_pair result.now ≡ self.now.branches }
+    {
+        &self.branches
+    }
+
+    /// The first index of a child's number.
+    pub fn child_index(&self, id: usize) -> Option<usize>
+        ensures value { result ≡ position (λ child. child == id) (children_of (internal_view self.now)) }
+        ensures within { IfSome result (λ index. index ≤ length self.now.branches) }
+    {
+        for index in 0..self.child_count() {
+            if self.child_id(index) == id {
+                return Some(index);
+            }
+        }
+        None
+    }
+
+    /// The number of the child at an index, for which `child_id_opt` is the test.
+    pub fn child_id(&self, index: usize) -> usize
+        requires { index ≤ length self.now.branches }
+        ensures { slice_get (children_of (internal_view self.now)) index ≡ Some result }
+    {
+        child_at(self.first, &self.branches, index)
+    }
+
+    /// The number of the child at an index, and `None` past the last.
+    pub fn child_id_opt(&self, index: usize) -> Option<usize>
+        ensures { result ≡ slice_get (children_of (internal_view self.now)) index }
+    {
+        if index == 0 {
+            return Some(self.first);
+        }
+        match self.branches.get(index - 1) {
+            Some(branch) => Some(branch.child),
+            None => None,
+        }
+    }
+
+    /// The item at an offset, and `None` at -1 and past the end.
+    pub fn item(&self, offset: Offset) -> Option<&Item<K, V>>
+        ensures { option_copied result ≡ option_and_then (slice_get (items_of (internal_view self.now))) offset }
+    {
+        match offset.value() {
+            Some(index) => match self.branches.get(index) {
+                Some(branch) => Some(&branch.item),
+                None => None,
+            },
+            None => None,
+        }
+    }
+
+    /// The item at an offset, to be written, and `None` at -1 and past the end. The order of the keys is
+    /// then up to the caller.
+    pub fn item_mut(&mut self, offset: Offset) -> Option<&mut Item<K, V>>
+        ensures* writes_back { sem 𝓛 (internal_lends_item K.row V.row self.entry offset result) }
+        ensures value { option_copied_mut result ≡ option_and_then (slice_get (items_of (internal_view self.old))) offset }
+    {
+        match offset.value() {
+            Some(index) => self.item_at(index),
+            None => None,
+        }
+    }
+
+    // The item at an index, to be written.
+    fn item_at(&mut self, index: usize) -> Option<&mut Item<K, V>>
+        ensures* writes_back { sem 𝓛 (internal_lends_item K.row V.row self.entry (Some index) result) }
+        ensures value { option_copied_mut result ≡ slice_get (items_of (internal_view self.old)) index }
+    {
+        match self.branches.get_mut(index) {
+            Some(branch) => Some(branch.item_mut()),
+            None => None,
+        }
+    }
+
+    /// Whether there are too many items, too few, or neither. A root is judged like any other node.
+    pub fn balance(&self) -> Balance
+        ensures { result ≡ balance_of (internal_view self.now) }
+    {
+        Balance::of(self.item_count(), 7)
+    }
+
+    /// Whether there are more than seven items.
+    pub fn is_overflowing(&self) -> bool
+        ensures { IsTrue result ↔ IsOverflowing (internal_view self.now) }
+    {
+        self.item_count() > 7
+    }
+
+    /// Whether there are fewer than three items. A root is judged like any other node.
+    pub fn is_underflowing(&self) -> bool
+        ensures { IsTrue result ↔ IsUnderflowing (internal_view self.now) }
+    {
+        self.item_count() < 3
+    }
+}
+
+fn branch_at<K, V>(branches: &Slots<Branch<K, V>, 8>, index: usize) -> &Branch<K, V>
+    requires { index < length branches.now }
+    ensures { slice_get branches.now index ≡ Some result.now }
+{
+    branches.get(index).unwrap()
+}
+
+// The number of the child at an index, where `first` is the one before all branches.
+fn child_at<K, V>(first: usize, branches: &Slots<Branch<K, V>, 8>, index: usize) -> usize
+    requires { index ≤ length branches.now }
+    ensures { slice_get (first ∷ map (λ b. b.child) branches.now) index ≡ Some result }
+{
+    if index == 0 {
+        first
+    } else {
+        branch_at(branches, index - 1).child
+    }
+}
+
+// The place of a key among the items.
+fn place<K: Ord, V>(branches: &Slots<Branch<K, V>, 8>, key: &K) -> Result<usize, usize>
+    requires { Ascends K.cmp (map (λ b. b.item) branches.now) }
+    ensures place { result ≡ place_of K.cmp key.now (map (λ b. b.item) branches.now) }
+    ensures within { IsSearchInRange result (length branches.now) }
+    ensures fits { length branches.now ≤ 8 }
+    ensures here { IfOk result (λ index.
+        slice_get (map (λ b. b.item) branches.now) index ≡ found K.cmp key.now (map (λ b. b.item) branches.now)) }
+    ensures absent { OnErr result (found K.cmp key.now (map (λ b. b.item) branches.now) ≡ None) }
+{
+    search(branches, key)
+}
+
+impl<K: Ord, V> InternalNode<K, V> {
+    ghost use Rattle.std.specs.Borrow.{sem};
+    ghost use Rattle.btree_internal.specs.InternalLends.{internal_lends};
+
+    /// The value at a key, or the number of the child that may hold it, found with at most six
+    /// comparisons.
+    pub fn get(&self, key: &K) -> Result<&V, usize>
+        requires { Ascends K.cmp (items_of (internal_view self.now)) }
+        ensures { result_map_both (λ v. Some v.now) (λ id. id) result ≡ look_up K.cmp key.now (internal_view self.now) }
+    {
+        match self.find(key) {
+            Ok(index) => Ok(branch_at(&self.branches, index).item.value()),
+            Err(index) => Err(self.child_id(index)),
+        }
+    }
+
+    // The place of a key among the items.
+    fn find(&self, key: &K) -> Result<usize, usize>
+        requires { Ascends K.cmp (items_of (internal_view self.now)) }
+        ensures place { result ≡ place_of K.cmp key.now (items_of (internal_view self.now)) }
+        ensures within { IsSearchInRange result (length self.now.branches) }
+        ensures sized { size_of (internal_view self.now) ≡ length self.now.branches }
+        ensures here { IfOk result (λ index.
+            slice_get (items_of (internal_view self.now)) index ≡ found K.cmp key.now (items_of (internal_view self.now))) }
+        ensures fits { length self.now.branches ≤ 8 }
+        ensures absent { OnErr result (found K.cmp key.now (items_of (internal_view self.now)) ≡ None) }
+    {
+        place(&self.branches, key)
+    }
+
+    /// The value at a key, to be written, or the number of the child that may hold it, found with at most
+    /// six comparisons.
+    pub fn get_mut(&mut self, key: &K) -> Result<&mut V, usize>
+        requires { Ascends K.cmp (items_of (internal_view self.old)) }
+        ensures* writes_back { sem 𝓛 (internal_lends K.row V.row K.cmp self.entry key.now result) }
+        ensures value { result_map_both (λ v. Some v.now) (λ id. id) result ≡ look_up K.cmp key.now (internal_view self.old) }
+    {
+        match self.find(key) {
+            Ok(index) => match self.value_at(index) {
+                Some(value) => Ok(value),
+                None => unreachable!(),
+            },
+            Err(index) => Err(self.child_id(index)),
+        }
+    }
+
+    /// The offset of a key where it is there, else the index and the number of the child that may hold
+    /// it, found with at most six comparisons.
+    pub fn offset_of(&self, key: &K) -> Result<Offset, (usize, usize)>
+        requires { Ascends K.cmp (items_of (internal_view self.now)) }
+        ensures value { result_map_both (λ offset. offset) (λ gap. (gap.0, Some gap.1)) result
+            ≡ offset_in K.cmp key.now (internal_view self.now) }
+        ensures within { MatchResult result (λ offset. IsSomeAnd offset (λ index. index < size_of (internal_view self.now)))
+            (λ gap. gap.0 ≤ size_of (internal_view self.now)) }
+    {
+        match self.find(key) {
+            Ok(index) => Ok(offset_at(index)),
+            Err(index) => Err((index, self.child_id(index))),
+        }
+    }
+}
+
+impl<K: Drop, V: Drop> InternalNode<K, V> {
+    ghost use Rattle.btree_view.specs.Edits.{HasSpare, HaveRoom, IsSplit, joined, pushed_left, pushed_right, with_other_item, without};
+    ghost use Rattle.btree_view.specs.Kept.{insert_at};
+
+    /// Puts an item at an offset, with a child after it, and moves those from there on up. The order of
+    /// the keys, and the child's own parent number, are up to the caller.
+    pub fn insert(&mut self, offset: Offset, item: Item<K, V>, right_id: usize)
+        requires room { length self.old.branches < 8 }
+        requires within { IsSomeAnd offset (λ index. index ≤ length self.old.branches) }
+        ensures { self.new ≡ record self.old { branches = insert_at offset self.old.branches (item, right_id) } }
+    {
+        self.branches.insert(
+            offset.unwrap(),
+            Branch {
+                item,
+                child: right_id,
+            },
+        );
+    }
+
+    /// Puts an item in the place of the one at an offset, which is answered. The children stay; the order
+    /// of the keys is up to the caller.
+    pub fn replace(&mut self, offset: Offset, item: Item<K, V>) -> Item<K, V>
+        requires { IsSomeAnd offset (λ index. index < length self.old.branches) }
+        ensures answer { Some result ≡ option_and_then (slice_get (items_of (internal_view self.old))) offset }
+        ensures after { IfSome offset (λ index.
+            internal_view self.new ≡ with_other_item index item (internal_view self.old)) }
+    {
+        let index = offset.unwrap();
+        match self.item_at(index) {
+            Some(here) => mem::replace(here, item),
+            None => unreachable!(),
+        }
+    }
+
+    /// Takes the item at an offset out with the child after it, and moves those after it down. Answers
+    /// the number of the child before the item, the item, and the number of the child after it.
+    pub fn remove(&mut self, offset: Offset) -> (usize, Item<K, V>, usize)
+        requires { IsSomeAnd offset (λ index. index < length self.old.branches) }
+        ensures left { Some result.0 ≡ option_and_then (slice_get (children_of (internal_view self.old))) offset }
+        ensures item { Some result.1 ≡ option_and_then (slice_get (items_of (internal_view self.old))) offset }
+        ensures right { IfSome offset (λ index.
+            slice_get (children_of (internal_view self.old)) (index + 1) ≡ Some result.2) }
+        ensures after { IfSome offset (λ index. internal_view self.new ≡ without index (internal_view self.old)) }
+    {
+        let index = offset.unwrap();
+        let left = self.child_id(index);
+        let Branch { item, child } = self.branches.remove(index);
+        (left, item, child)
+    }
+
+    /// Takes the item between two neighbouring children out, and the number of the right one with it.
+    /// Answers the left one's index, the numbers of both, the item, and how full the node is then.
+    pub fn merge(&mut self, left: usize, right: usize) -> (usize, usize, usize, Item<K, V>, Balance)
+        requires next { right ≡ left + 1 }
+        requires within { right ≤ length self.old.branches }
+        ensures index { result.0 ≡ left }
+        ensures left { slice_get (children_of (internal_view self.old)) left ≡ Some result.1 }
+        ensures right { slice_get (children_of (internal_view self.old)) right ≡ Some result.2 }
+        ensures item { slice_get (items_of (internal_view self.old)) left ≡ Some result.3 }
+        ensures after { internal_view self.new ≡ without left (internal_view self.old) }
+        ensures balance { result.4 ≡ balance_of (internal_view self.new) }
+    {
+        let left_id = self.child_id(left);
+        let right_id = self.child_id(right);
+        let item = self.branches.remove(left).item;
+        (left, left_id, right_id, item, self.balance())
+    }
+
+    /// Puts the separator with the other node's first child, and then the other node's branches, behind
+    /// its own. Each moves once. Answers the separator's offset. The order of the keys, and the children's
+    /// own parent numbers, are up to the caller.
+    pub fn append(&mut self, separator: Item<K, V>, other: InternalNode<K, V>) -> Offset
+        requires { HaveRoom (internal_view self.old) (internal_view other) }
+        ensures offset { result ≡ Some (length self.old.branches) }
+        ensures after { internal_view self.new ≡ joined (internal_view self.old) separator (internal_view other) }
+    {
+        let offset = offset_at(self.item_count());
+        self.branches.push(Branch {
+            item: separator,
+            child: other.first,
+        });
+        self.branches.append(other.branches);
+        offset
+    }
+
+    /// Puts an item before the others, and a child before the others. The order of the keys, and the
+    /// child's own parent number, are up to the caller.
+    pub fn push_left(&mut self, item: Item<K, V>, child: usize)
+        requires { length self.old.branches < 8 }
+        ensures { internal_view self.new ≡ pushed_left item (Some child) (internal_view self.old) }
+    {
+        let second = self.first;
+        self.branches.insert(
+            0,
+            Branch {
+                item,
+                child: second,
+            },
+        );
+        self.first = child;
+    }
+
+    /// Puts an item behind the others, and a child behind it. Answers the item's offset. The order of the
+    /// keys, and the child's own parent number, are up to the caller.
+    pub fn push_right(&mut self, item: Item<K, V>, child: usize) -> Offset
+        requires { length self.old.branches < 8 }
+        ensures offset { result ≡ Some (length self.old.branches) }
+        ensures after { internal_view self.new ≡ pushed_right item (Some child) (internal_view self.old) }
+    {
+        let offset = offset_at(self.item_count());
+        self.branches.push(Branch { item, child });
+        offset
+    }
+
+    // Whether there are more items than it has to keep.
+    fn has_spare(&self) -> bool
+        ensures { IsTrue result ↔ HasSpare (internal_view self.now) }
+    {
+        self.item_count() > 3
+    }
+
+    /// Takes the first item out with the first child, where there are four items or more.
+    pub fn pop_left(&mut self) -> Result<(Item<K, V>, usize), WouldUnderflow>
+        ensures spare { IfOk result (λ _. HasSpare (internal_view self.old)) }
+        ensures taken { IfOk result (λ popped.
+            internal_view self.old ≡ pushed_left popped.0 (Some popped.1) (internal_view self.new)) }
+        ensures short { OnErr result (size_of (internal_view self.old) ≤ 3 × self.new ≡ self.old) }
+    {
+        if !self.has_spare() {
+            return Err(WouldUnderflow);
+        }
+        let first = self.first;
+        let Branch { item, child } = self.branches.remove(0);
+        self.first = child;
+        Ok((item, first))
+    }
+
+    /// Takes the last item out with the last child, where there are four items or more, and answers the
+    /// offset at which the item stood too.
+    pub fn pop_right(&mut self) -> Result<(Offset, Item<K, V>, usize), WouldUnderflow>
+        ensures spare { IfOk result (λ _. HasSpare (internal_view self.old)) }
+        ensures offset { IfOk result (λ popped. popped.0 ≡ Some (length self.new.branches)) }
+        ensures taken { IfOk result (λ popped.
+            internal_view self.old ≡ pushed_right popped.1 (Some popped.2) (internal_view self.new)) }
+        ensures short { OnErr result (size_of (internal_view self.old) ≤ 3 × self.new ≡ self.old) }
+    {
+        if !self.has_spare() {
+            return Err(WouldUnderflow);
+        }
+        let Branch { item, child } = self.branches.pop().unwrap();
+        Ok((offset_at(self.item_count()), item, child))
+    }
+
+    /// Keeps the first three items of eight. Answers how many are left, the median, and a node with the
+    /// items after it, which begins with the child after the median and is under the same parent. The
+    /// children's own parent numbers are up to the caller.
+    pub fn split(&mut self) -> (usize, Item<K, V>, InternalNode<K, V>)
+        requires { IsOverflowing (internal_view self.old) }
+        ensures parts { IsSplit (internal_view self.old) result.1 (internal_view self.new) (internal_view result.2) }
+        ensures left { result.0 ≡ 3 }
+        ensures right { length result.2.branches ≡ 4 }
+    {
+        // That there are eight at most shows how many the right part has.
+        let _count = self.item_count();
+        let branches = self.branches.split_off(4);
+        let Branch { item, child } = self.branches.pop().unwrap();
+        let right = InternalNode {
+            parent: self.parent,
+            first: child,
+            branches,
+        };
+        (self.branches.len(), item, right)
+    }
+}

@@ -1,0 +1,22 @@
+use Rattle.std.proofs.Common.{◌≡◌, ℕ, ◌+◌, ◌-◌, ◌<◌, ◌≤◌, List, ◌∷◌, ◌++◌, length, drop, sym, ◌∙◌, ap, arith, length-append, length-drop}
+use Rattle.std.proofs.lemmas.List.{length-take}
+use Rattle.std.specs.Prelude.{slice_range}
+use Rattle.arrayvec.specs.Iter.{drain_items}
+use Rattle.btree_item.proofs.slots.append_to.Goals as goal
+
+has_room : {X : Type 0} (front rest base all xs : List X) (x : X) (end n : ℕ) → front ++ x ∷ rest ≡ base ++ all → all ≡ slice_range xs 0 end → length base + length xs ≤ n → length front < n
+has_room front rest base all xs x end n parts part fits =
+    let long = sym (length-append front (x ∷ rest)) ∙ ap length parts ∙ length-append base all in
+    let some = ap length part ∙ length-take (end - 0) (drop 0 xs) in
+    let short = length-drop 0 xs in
+    omega (arith, long, some, short)
+
+pub push-requires : goal.push-requires
+push-requires g c =
+    let fits = c.well_formed in
+    let began = ap drain_items c.into_iter-slot-iterator.ensures.into_iter_gives ∙ c.drain-slot-items.ensures.rest in
+    let next = c.in-Some.ensures.steps.0 in
+    let parts = ap (λ xs. c.loop-slot.slots.items ++ xs) (sym next) ∙ c.loop-slot.invariant.moved in (
+      omega arith,
+      has_room _ _ c.args.slots.now.items _ c.args.other.items c.in-Some.slot _ g.row.N parts began c.requires,
+    )

@@ -1,0 +1,2 @@
+pub mod LeafLemmas
+pub mod LeafSplit

@@ -1,0 +1,16 @@
+use Rattle.std.proofs.Common.{◌∙◌, inl, sym}
+use Rattle.btree_view.specs.Kept.{node_of}
+use Rattle.btree_leaf.proofs.LeafLemmas.{found_value-at, with_value-at}
+use Rattle.btree_leaf.proofs.leaf.LeafNode.get_mut.Goals as goal
+
+pub returns-in-Some : goal.returns-in-Some
+returns-in-Some g c =
+    let place = sym c.place.ensures.place ∙ c.in-Ok.is in
+    let at = sym c.in-Some.ensures.value in
+    let written = with_value-at g.K.Ord.cmp c.args.self.now (node_of c.self.inside.parent) c.self.inside.items c.self.view_is c.args.key.now c.in-Ok.index g.met.K.Ord.total c.requires place c.in-Some.item.now at in (
+      λ j. inl (c.value_mut.result.ghost_name, λ w. written w j),
+      record {
+        writes_back = tt;
+        value = found_value-at g.K.Ord.cmp c.args.self.now (node_of c.self.inside.parent) c.self.inside.items c.self.view_is c.args.key.now c.in-Ok.index c.in-Some.item.now _ c.in-Ok.ensures.here at c.value_mut.ensures.value;
+      },
+    )

@@ -1,0 +1,2 @@
+pub mod Leaf
+pub mod LeafLends

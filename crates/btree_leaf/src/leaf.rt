@@ -1,0 +1,350 @@
+//! A leaf of the tree.
+ghost use Rattle.std.specs.Prelude.{◌≡◌, ◌<◌, ◌≤◌, ◌↔◌, [], ◌∷◌, Some, None, IsTrue, IfSome, IsSomeAnd, IfOk, OnErr, length, slice_get};
+ghost use Rattle.std.specs.Borrow.{sem};
+ghost use Rattle.std.specs.List.Sorted.{IsSearchInRange};
+ghost use Rattle.std.specs.Option.{option_and_then, option_copied, option_copied_mut};
+ghost use Rattle.btree_item.specs.Pairs.{Ascends, before, found, found_value, inserted, place_of};
+ghost use Rattle.btree_leaf.specs.Leaf.{as_offset};
+ghost use Rattle.btree_view.specs.Kept.{insert_at, kept_parent};
+
+use btree_item::{Item, Offset, Slots, SlotsIter, search};
+use btree_view::{Balance, WouldUnderflow, offset_at};
+use std::marker::Model;
+
+/// A leaf: the number of its parent, and up to nine items. At rest it has no more than eight.
+#[derive(Drop)]
+pub struct LeafNode<K, V> {
+    // `usize::MAX` where there is no parent.
+    parent: usize,
+    items: Slots<Item<K, V>, 9>,
+}
+
+impl<K, V> Model for LeafNode<K, V> {
+    ghost use Rattle.btree_leaf.specs.Leaf.{Leaf};
+    ghost use Rattle.btree_view.specs.Kept.{node_of};
+
+    ghost Value = { Leaf K V };
+
+    ghost view = { λ leaf. record { parent = node_of leaf.parent; items = leaf.items } };
+}
+
+impl<K: Drop, V: Drop> LeafNode<K, V> {
+    /// A leaf with one item. `Some(usize::MAX)` as the parent is read as none.
+    pub fn new(parent: Option<usize>, item: Item<K, V>) -> Self
+        ensures { result ≡ record { parent = kept_parent parent; items = item ∷ [] } }
+    {
+        let mut leaf = LeafNode::empty(parent);
+        leaf.items.push(item);
+        leaf
+    }
+
+    /// A leaf without items. `Some(usize::MAX)` as the parent is read as none.
+    pub fn empty(parent: Option<usize>) -> Self
+        ensures { result ≡ record { parent = kept_parent parent; items = [] } }
+    {
+        LeafNode {
+            parent: parent.unwrap_or(usize::MAX),
+            items: Slots::new(),
+        }
+    }
+}
+
+impl<K, V> LeafNode<K, V> {
+    ghost use Rattle.btree_leaf.specs.LeafLends.{leaf_lends_item};
+
+    /// The number of the parent, if there is one.
+    pub fn parent(&self) -> Option<usize>
+        ensures value { result ≡ self.now.parent }
+        ensures bound { IfSome result (λ id. id < usize.MAX) }
+    {
+        if self.parent == usize::MAX {
+            None
+        } else {
+            Some(self.parent)
+        }
+    }
+
+    pub fn item_count(&self) -> usize
+        ensures value { result ≡ length self.now.items }
+        ensures fits { result ≤ 9 }
+    {
+        self.items().len()
+    }
+
+    pub fn items(&self) -> &Slots<Item<K, V>, 9>
+        ensures { result.now ≡ self.now.items }
+    {
+        &self.items
+    }
+
+    /// The item at an offset, and `None` at -1 and past the end.
+    pub fn item(&self, offset: Offset) -> Option<&Item<K, V>>
+        ensures { option_copied result ≡ option_and_then (slice_get self.now.items) offset }
+    {
+        match offset.value() {
+            Some(index) => self.items().get(index),
+            None => None,
+        }
+    }
+
+    /// The item at an offset, to be written, and `None` at -1 and past the end. The order of the keys is
+    /// then up to the caller.
+    pub fn item_mut(&mut self, offset: Offset) -> Option<&mut Item<K, V>>
+        ensures* writes_back { sem 𝓛 (leaf_lends_item K.row V.row self.entry offset result) }
+        ensures value { option_copied_mut result ≡ option_and_then (slice_get self.old.items) offset }
+    {
+        match offset.value() {
+            Some(index) => self.item_at(index),
+            None => None,
+        }
+    }
+
+    // The item at an index, to be written.
+    fn item_at(&mut self, index: usize) -> Option<&mut Item<K, V>>
+        ensures* writes_back { sem 𝓛 (leaf_lends_item K.row V.row self.entry (Some index) result) }
+        ensures value { option_copied_mut result ≡ slice_get self.old.items index }
+    {
+        self.items.get_mut(index)
+    }
+
+    /// The items in order.
+    pub fn iter(&self) -> SlotsIter<'_, Item<K, V>>
+        ensures { result ≡ self.now.items }
+    {
+        self.items.iter()
+    }
+}
+
+impl<K, V> LeafNode<K, V> {
+    ghost use Rattle.btree_view.specs.Edits.{balance_of, IsOverflowing, IsUnderflowing};
+    ghost use Rattle.btree_leaf.specs.Leaf.{leaf_view};
+
+    /// Whether there are too many items, too few, or neither. A root is judged like any other node.
+    pub fn balance(&self) -> Balance
+        ensures { result ≡ balance_of (leaf_view self.now) }
+    {
+        Balance::of(self.item_count(), 8)
+    }
+
+    /// Whether there are more than eight items.
+    pub fn is_overflowing(&self) -> bool
+        ensures { IsTrue result ↔ IsOverflowing (leaf_view self.now) }
+    {
+        self.item_count() > 8
+    }
+
+    /// Whether there are fewer than three items. A root is judged like any other node.
+    pub fn is_underflowing(&self) -> bool
+        ensures { IsTrue result ↔ IsUnderflowing (leaf_view self.now) }
+    {
+        self.item_count() < 3
+    }
+
+    /// Puts the node under another parent. `Some(usize::MAX)` is read as none.
+    pub fn set_parent(&mut self, parent: Option<usize>)
+        ensures { self.new ≡ record self.old { parent = kept_parent parent } }
+    {
+        self.parent = parent.unwrap_or(usize::MAX);
+    }
+}
+
+// The place of a key among items.
+fn place<K: Ord, V>(items: &Slots<Item<K, V>, 9>, key: &K) -> Result<usize, usize>
+    requires { Ascends K.cmp items.now }
+    ensures place { result ≡ place_of K.cmp key.now items.now }
+    ensures within { IsSearchInRange result (length items.now) }
+    ensures fits { length items.now ≤ 9 }
+    ensures here { IfOk result (λ index.
+        slice_get items.now index ≡ found K.cmp key.now items.now) }
+    ensures absent { OnErr result (found K.cmp key.now items.now ≡ None) }
+{
+    search(items, key)
+}
+
+impl<K: Ord, V> LeafNode<K, V> {
+    ghost use Rattle.btree_leaf.specs.LeafLends.{lends_value};
+
+    /// The value at a key, found with at most six comparisons.
+    pub fn get(&self, key: &K) -> Option<&V>
+        requires { Ascends K.cmp self.now.items }
+        ensures { option_copied result ≡ found_value K.cmp key.now self.now.items }
+    {
+        match place(self.items(), key) {
+            Ok(index) => match self.items().get(index) {
+                Some(item) => Some(item.value()),
+                None => None,
+            },
+            Err(_) => None,
+        }
+    }
+
+    /// The value at a key, to be written, found with at most six comparisons.
+    pub fn get_mut(&mut self, key: &K) -> Option<&mut V>
+        requires { Ascends K.cmp self.old.items }
+        ensures* writes_back { sem 𝓛 (lends_value K.row V.row K.cmp self.entry key.now result) }
+        ensures value { option_copied_mut result ≡ found_value K.cmp key.now self.old.items }
+    {
+        match place(&self.items, key) {
+            Ok(index) => match self.items.get_mut(index) {
+                Some(item) => Some(item.value_mut()),
+                None => None,
+            },
+            Err(_) => None,
+        }
+    }
+
+    /// The offset of a key where it is there, else how many keys are smaller, found with at most six
+    /// comparisons.
+    pub fn offset_of(&self, key: &K) -> Result<Offset, Offset>
+        requires { Ascends K.cmp self.now.items }
+        ensures { result ≡ as_offset (place_of K.cmp key.now self.now.items) }
+    {
+        match self.find(key) {
+            Ok(index) => Ok(offset_at(index)),
+            Err(index) => Err(offset_at(index)),
+        }
+    }
+
+    /// The same as an index.
+    pub fn find(&self, key: &K) -> Result<usize, usize>
+        requires { Ascends K.cmp self.now.items }
+        ensures place { result ≡ place_of K.cmp key.now self.now.items }
+        ensures within { IsSearchInRange result (length self.now.items) }
+        ensures fits { length self.now.items ≤ 9 }
+    {
+        place(self.items(), key)
+    }
+}
+
+impl<K: Ord + Drop, V: Drop> LeafNode<K, V> {
+    /// Puts a value at a key, found with at most six comparisons: a key that is there stays, with the
+    /// new value, and the given key is dropped. Answers the offset, and the value that stood there.
+    pub fn insert_by_key(&mut self, key: K, value: V) -> (Offset, Option<V>)
+        requires room { length self.old.items < 9 }
+        requires ascends { Ascends K.cmp self.old.items }
+        ensures offset { result.0 ≡ Some (before K.cmp key self.old.items) }
+        ensures answer { result.1 ≡ found_value K.cmp key self.old.items }
+        ensures after { self.new ≡
+            record self.old { items = inserted K.cmp key value self.old.items } }
+        ensures ascends { Ascends K.cmp self.new.items }
+    {
+        match place(&self.items, &key) {
+            Ok(index) => {
+                let item = self.items.get_mut(index).unwrap();
+                (offset_at(index), Some(item.set_value(value)))
+            }
+            Err(index) => {
+                self.items.insert(index, Item::new(key, value));
+                (offset_at(index), None)
+            }
+        }
+    }
+}
+
+impl<K: Drop, V: Drop> LeafNode<K, V> {
+    ghost use Rattle.btree_view.specs.Edits.{HasSpare, HaveRoom, IsOverflowing, IsSplit, joined, pushed_left, pushed_right, without};
+    ghost use Rattle.btree_leaf.specs.Leaf.{leaf_view};
+
+    /// Puts an item at an offset, and moves those from there on up. The order of the keys is up to
+    /// the caller.
+    pub fn insert(&mut self, offset: Offset, item: Item<K, V>)
+        requires room { length self.old.items < 9 }
+        requires within { IsSomeAnd offset (λ index. index ≤ length self.old.items) }
+        ensures { self.new ≡ record self.old { items = insert_at offset self.old.items item } }
+    {
+        self.items.insert(offset.unwrap(), item);
+    }
+
+    /// Takes the item at an offset out, and moves those after it down.
+    pub fn remove(&mut self, offset: Offset) -> Item<K, V>
+        requires { IsSomeAnd offset (λ index. index < length self.old.items) }
+        ensures answer { Some result ≡ option_and_then (slice_get self.old.items) offset }
+        ensures after { IfSome offset (λ index. leaf_view self.new ≡ without index (leaf_view self.old)) }
+    {
+        self.items.remove(offset.unwrap())
+    }
+
+    /// Puts the separator and then the other leaf's items behind its own. Each moves once. Answers the
+    /// separator's offset. The order of the keys is up to the caller.
+    pub fn append(&mut self, separator: Item<K, V>, other: LeafNode<K, V>) -> Offset
+        requires { HaveRoom (leaf_view self.old) (leaf_view other) }
+        ensures offset { result ≡ Some (length self.old.items) }
+        ensures after { leaf_view self.new ≡ joined (leaf_view self.old) separator (leaf_view other) }
+    {
+        let offset = offset_at(self.items.len());
+        self.items.push(separator);
+        self.items.append(other.items);
+        offset
+    }
+
+    /// Puts an item before the others. The order of the keys is up to the caller.
+    pub fn push_left(&mut self, item: Item<K, V>)
+        requires { length self.old.items < 9 }
+        ensures { leaf_view self.new ≡ pushed_left item None (leaf_view self.old) }
+    {
+        self.items.insert(0, item);
+    }
+
+    /// Puts an item behind the others, and answers its offset. The order of the keys is up to the caller.
+    pub fn push_right(&mut self, item: Item<K, V>) -> Offset
+        requires { length self.old.items < 9 }
+        ensures offset { result ≡ Some (length self.old.items) }
+        ensures after { leaf_view self.new ≡ pushed_right item None (leaf_view self.old) }
+    {
+        let offset = offset_at(self.items.len());
+        self.items.push(item);
+        offset
+    }
+
+    // Whether there are more items than it has to keep.
+    fn has_spare(&self) -> bool
+        ensures { IsTrue result ↔ HasSpare (leaf_view self.now) }
+    {
+        self.item_count() > 3
+    }
+
+    /// Takes the first item out, of four or more.
+    pub fn pop_left(&mut self) -> Result<Item<K, V>, WouldUnderflow>
+        ensures spare { IfOk result (λ _. HasSpare (leaf_view self.old)) }
+        ensures taken { IfOk result (λ item. leaf_view self.old ≡ pushed_left item None (leaf_view self.new)) }
+        ensures short { OnErr result (length self.old.items ≤ 3 × self.new ≡ self.old) }
+    {
+        if !self.has_spare() {
+            return Err(WouldUnderflow);
+        }
+        Ok(self.items.remove(0))
+    }
+
+    /// Takes the last item out, of four or more, and answers the offset at which it stood.
+    pub fn pop_right(&mut self) -> Result<(Offset, Item<K, V>), WouldUnderflow>
+        ensures spare { IfOk result (λ _. HasSpare (leaf_view self.old)) }
+        ensures offset { IfOk result (λ popped. popped.0 ≡ Some (length self.new.items)) }
+        ensures taken { IfOk result (λ popped. leaf_view self.old ≡ pushed_right popped.1 None (leaf_view self.new)) }
+        ensures short { OnErr result (length self.old.items ≤ 3 × self.new ≡ self.old) }
+    {
+        if !self.has_spare() {
+            return Err(WouldUnderflow);
+        }
+        let item = self.items.pop().unwrap();
+        Ok((offset_at(self.items.len()), item))
+    }
+
+    /// Keeps the first four items of nine. Answers how many are left, the median, and a leaf with the
+    /// items after it, under the same parent.
+    pub fn split(&mut self) -> (usize, Item<K, V>, LeafNode<K, V>)
+        requires { IsOverflowing (leaf_view self.old) }
+        ensures parts { IsSplit (leaf_view self.old) result.1 (leaf_view self.new) (leaf_view result.2) }
+        ensures left { result.0 ≡ 4 }
+        ensures right { length result.2.items ≡ 4 }
+    {
+        // That there are nine at most shows how many the right part has.
+        let _count = self.item_count();
+        let items = self.items.split_off(5);
+        let median = self.items.pop().unwrap();
+        let right = LeafNode {
+            parent: self.parent,
+            items,
+        };
+        (self.items.len(), median, right)
+    }
+}

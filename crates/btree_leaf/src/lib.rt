@@ -1,0 +1,6 @@
+//! The leaves of the tree.
+#![tactic(auto)]
+
+mod leaf;
+
+pub use leaf::LeafNode;

@@ -1,7 +1,0 @@
-use Rattle.std.proofs.Common.{ap, sym, ◌∙◌}
-use Rattle.std.specs.Prelude.{slice_get}
-use Rattle.btree_node.proofs.BranchLemmas.{children_are}
-use Rattle.btree_node.proofs.internal.InternalNode.child_id.Goals as goal
-
-pub returns : goal.returns
-returns g c = ap (λ l. slice_get l c.args.index) (sym (children_are c.args.self.now _ c.self.inside.first c.self.inside.branches c.self.view_is)) ∙ c.child_at.ensures

@@ -1,0 +1,26 @@
+use Rattle.std.proofs.Common.{Some, arith, ap, sym, ◌∙◌}
+use Rattle.std.proofs.lemmas.List.{length-map}
+use Rattle.btree_node.proofs.node.Node.append.Goals as goal
+
+pub append-requires : goal.append-requires
+append-requires g c =
+    let fits = c.well_formed in
+    (omega arith, rw (c.in-Internal.is, c.in-Internal-other.is) at c.requires.room)
+
+pub append-requires-in-Leaf-other-2 : goal.append-requires-in-Leaf-other-2
+append-requires-in-Leaf-other-2 g c =
+    let fits = c.well_formed in
+    (omega arith, rw (c.in-Leaf.is, c.in-Leaf-other-2.is) at c.requires.room)
+
+pub returns-in-Internal-other-clause-offset : goal.returns-in-Internal-other-clause-offset
+returns-in-Internal-other-clause-offset g c =
+    rw c.in-Internal.is (c.append.ensures.offset ∙ ap (λ n. Some n) (sym (length-map c.in-Internal.node.branches (λ b. b.0))))
+
+pub returns-in-Internal-other-clause-after : goal.returns-in-Internal-other-clause-after
+returns-in-Internal-other-clause-after g c = rw (c.in-Internal.is, c.in-Internal-other.is) c.append.ensures.after
+
+pub returns-in-Leaf-other-2-clause-offset : goal.returns-in-Leaf-other-2-clause-offset
+returns-in-Leaf-other-2-clause-offset g c = rw c.in-Leaf.is c.append-in-Leaf-other-2.ensures.offset
+
+pub returns-in-Leaf-other-2-clause-after : goal.returns-in-Leaf-other-2-clause-after
+returns-in-Leaf-other-2-clause-after g c = rw (c.in-Leaf.is, c.in-Leaf-other-2.is) c.append-in-Leaf-other-2.ensures.after

@@ -1,0 +1,24 @@
+use Rattle.std.proofs.Common.{Some, arith, ap, sym, ◌∙◌}
+use Rattle.std.proofs.lemmas.List.{length-map}
+use Rattle.btree_node.specs.declared.node.Node.TheVariants.{Leaf}
+use Rattle.btree_node.proofs.node.Node.pop_right.Goals as goal
+
+pub pop_right-requires : goal.pop_right-requires
+pop_right-requires g c = let fits = c.well_formed in omega arith
+
+pub pop_right-requires-in-Leaf : goal.pop_right-requires-in-Leaf
+pop_right-requires-in-Leaf g c = let fits = c.well_formed in omega arith
+
+pub returns-in-Ok-clause-spare : goal.returns-in-Ok-clause-spare
+returns-in-Ok-clause-spare g c = rw c.in-Internal.is c.in-Ok.ensures.spare
+
+pub returns-in-Ok-clause-offset : goal.returns-in-Ok-clause-offset
+returns-in-Ok-clause-offset g c = c.in-Ok.ensures.offset ∙ ap (λ n. Some n) (sym (length-map c.pop_right.new.self.branches (λ b. b.0)))
+
+pub returns-in-Ok-pop_right-clause-spare : goal.returns-in-Ok-pop_right-clause-spare
+returns-in-Ok-pop_right-clause-spare g c = rw c.in-Leaf.is c.in-Ok-pop_right.ensures.spare
+
+pub returns-in-Err-pop_right-clause-short : goal.returns-in-Err-pop_right-clause-short
+returns-in-Err-pop_right-clause-short g c =
+    let short = c.in-Err-pop_right.ensures.short in
+    rw c.in-Leaf.is (short.0, ap (λ l. Leaf l) short.1)

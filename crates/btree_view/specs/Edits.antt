@@ -1,0 +1,97 @@
+-- What calls on a node make of it.
+use Rattle.std.specs.Prelude.{◌≡◌, ℕ, ◌+◌, ◌<◌, ◌≤◌, List, [], ◌∷◌, ◌++◌, length, map, set, Option, Some, None, is_some, Bool, true, false, nat_lt, ◌==◌, if◌then◌else◌}
+use Rattle.std.specs.List.{insert, remove, zip}
+use Rattle.btree_view.specs.declared.balance.Balance.{Balance}
+use Rattle.btree_view.specs.declared.balance.Balance.TheVariants.{Balanced, Overflow, Underflow}
+use Rattle.btree_view.specs.View.{View, leaf, internal, items_of, size_of, most_of}
+
+module _ {A : Type 0} where
+  -- the node under another parent
+  abbrev pub with_parent : Option ℕ → View A → View A
+  with_parent parent (leaf old items) = leaf parent items
+  with_parent parent (internal old first branches) = internal parent first branches
+
+  -- the node with other items, as many as before
+  abbrev pub with_items : List A → View A → View A
+  with_items xs (leaf parent items) = leaf parent xs
+  with_items xs (internal parent first branches) = internal parent first (zip xs (map (λ b. b.1) branches))
+
+  abbrev pub is_internal : View A → Bool
+  is_internal (leaf parent items) = false
+  is_internal (internal parent first branches) = true
+
+  -- a child is handed over exactly to an internal node
+  abbrev pub HasChildFor : Option ℕ → View A → Type 0
+  HasChildFor child node = is_some child ≡ is_internal node
+
+  -- with an item put at an index, and in an internal node the child after it
+  abbrev pub with_item : ℕ → A → Option ℕ → View A → View A
+  with_item index x child (leaf parent items) = leaf parent (insert items index x)
+  with_item index x None (internal parent first branches) = internal parent first branches
+  with_item index x (Some child) (internal parent first branches) = internal parent first (insert branches index (x, child))
+
+  -- without the item at an index, and in an internal node without the child after it
+  abbrev pub without : ℕ → View A → View A
+  without index (leaf parent items) = leaf parent (remove items index)
+  without index (internal parent first branches) = internal parent first (remove branches index)
+
+  -- with another item at an index; the children stay
+  abbrev pub with_other_item : ℕ → A → View A → View A
+  with_other_item index x node = with_items (set (items_of node) index x) node
+
+  -- with an item before the others, and in an internal node a child before the others
+  abbrev pub pushed_left : A → Option ℕ → View A → View A
+  pushed_left x child (leaf parent items) = leaf parent (x ∷ items)
+  pushed_left x None (internal parent first branches) = internal parent first branches
+  pushed_left x (Some child) (internal parent first branches) = internal parent child ((x, first) ∷ branches)
+
+  -- with an item behind the others, and in an internal node a child behind the others
+  abbrev pub pushed_right : A → Option ℕ → View A → View A
+  pushed_right x child (leaf parent items) = leaf parent (items ++ x ∷ [])
+  pushed_right x None (internal parent first branches) = internal parent first branches
+  pushed_right x (Some child) (internal parent first branches) = internal parent first (branches ++ (x, child) ∷ [])
+
+  -- an item followed by an internal node: the item with the first child, and then the node's branches
+  abbrev pub behind : A → View A → List (A × ℕ)
+  behind x (leaf parent items) = []
+  behind x (internal parent first branches) = (x, first) ∷ branches
+
+  -- with a separator and then what a node of the same kind holds, behind the others
+  abbrev pub joined : View A → A → View A → View A
+  joined (leaf parent items) x other = leaf parent (items ++ x ∷ items_of other)
+  joined (internal parent first branches) x other = internal parent first (branches ++ behind x other)
+
+  -- the two nodes, with a separator between them, hold at most one item more than one does at rest
+  abbrev pub HaveRoom : View A → View A → Type 0
+  HaveRoom node other = size_of node + size_of other ≤ most_of node
+
+  -- the node has more items than it has to keep
+  abbrev pub HasSpare : View A → Type 0
+  HasSpare node = 3 < size_of node
+
+  -- the node has more items than it holds at rest
+  abbrev pub IsOverflowing : View A → Type 0
+  IsOverflowing node = most_of node < size_of node
+
+  -- the node, other than a root, has fewer items than it holds at rest
+  abbrev pub IsUnderflowing : View A → Type 0
+  IsUnderflowing node = size_of node < 3
+
+  -- how the number of items stands to what the node holds at rest, where it is no root
+  abbrev pub balance_of : View A → Balance
+  balance_of node =
+      if nat_lt (most_of node) (size_of node) then Overflow
+      else if nat_lt (size_of node) 3 then Underflow (size_of node == 0)
+      else Balanced
+
+  -- a node in two parts with the median between them: 4 items stay in a leaf and 3 in an internal node;
+  -- the right part has the same parent, and of an internal node it begins with the child after the median
+  abbrev pub IsSplit : View A → A → View A → View A → Type 0
+  IsSplit (leaf parent items) median left right =
+      (front : List A) × (back : List A)
+      × (items ≡ front ++ median ∷ back) × (length front ≡ 4)
+      × (left ≡ leaf parent front) × (right ≡ leaf parent back)
+  IsSplit (internal parent first branches) median left right =
+      (front : List (A × ℕ)) × (middle : ℕ) × (back : List (A × ℕ))
+      × (branches ≡ front ++ (median, middle) ∷ back) × (length front ≡ 3)
+      × (left ≡ internal parent first front) × (right ≡ internal parent middle back)

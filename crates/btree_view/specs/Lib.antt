@@ -1,0 +1,4 @@
+pub mod View
+pub mod Edits
+pub mod Kept
+pub mod LookUp

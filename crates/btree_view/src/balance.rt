@@ -1,0 +1,35 @@
+//! How full a node is.
+ghost use Rattle.std.specs.Prelude.{◌≡◌, nat_lt, ◌==◌, if◌then◌else◌};
+ghost use Rattle.btree_view.specs.declared.balance.Balance.TheVariants.{Balanced, Overflow, Underflow};
+
+/// How the number of a node's items stands to what a node holds at rest. A root is judged like any
+/// other node.
+#[derive(Clone, Copy, Debug, PartialEq, Eq)]
+pub enum Balance {
+    Balanced,
+    Overflow,
+    /// With whether the node has no item at all.
+    Underflow(bool),
+}
+
+/// A node has no item to spare: it would have fewer than three.
+#[derive(Clone, Copy, Debug, PartialEq, Eq)]
+pub struct WouldUnderflow;
+
+impl Balance {
+    /// Of a node with so many items, which holds at most `most` at rest.
+    pub fn of(items: usize, most: usize) -> Balance
+        ensures { result ≡
+            (if nat_lt most items then Overflow
+            else if nat_lt items 3 then Underflow (items == 0)
+            else Balanced) }
+    {
+        if items > most {
+            Balance::Overflow
+        } else if items < 3 {
+            Balance::Underflow(items == 0)
+        } else {
+            Balance::Balanced
+        }
+    }
+}

@@ -1,0 +1,8 @@
+//! What nodes of both kinds share: how they are seen, what calls make of them, and how full one is.
+#![tactic(auto)]
+
+mod balance;
+mod offset;
+
+pub use balance::{Balance, WouldUnderflow};
+pub use offset::offset_at;
