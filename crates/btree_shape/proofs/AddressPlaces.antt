@@ -4,7 +4,7 @@ use Rattle.std.specs.Cmp.{IsTotalOrder}
 use Rattle.std.specs.Prelude.{slice_get}
 use Rattle.std.specs.declared.cmp.Ordering.{Ordering}
 use Rattle.btree_item.specs.declared.address.Address.{Address}
-use Rattle.btree_node.specs.View.{Look, View, item_in, items_of}
+use Rattle.btree_view.specs.View.{Look, View, item_in, items_of}
 use Rattle.btree_shape.specs.OnTour.{IsAddressed, item_at}
 use Rattle.btree_shape.specs.Place.{IsPlace, IsValid, IsWithin}
 use Rattle.btree_shape.specs.Shape.{Shape}

@@ -2,7 +2,7 @@
 use Rattle.std.proofs.Common.{◌+◌, ◌-◌, ◌==◌, if◌then◌else◌, ℕ, zero, suc, Bool, true, false, Option, Some, None}
 use Rattle.std.specs.Prelude.{nat_lt}
 use Rattle.btree_item.specs.declared.address.Address.{Address}
-use Rattle.btree_node.specs.View.{Look}
+use Rattle.btree_view.specs.View.{Look}
 use Rattle.btree_shape.specs.Moved.{at_separator, by_order, in_left_lender, in_merged, in_released, in_right_lender, in_right_taker, in_split, moved_by_merge, moved_by_release, moved_by_rotate_left, moved_by_rotate_right, moved_by_split, over_merged, over_split}
 use Rattle.btree_shape.specs.Place.{IsBack}
 use Rattle.btree_shape.specs.Tour.{slot}

@@ -4,7 +4,7 @@ use Rattle.std.proofs.Common.{◌≡◌, ℕ, zero, suc, ◌≤◌, List, [], �
 use Rattle.std.proofs.lemmas.Bool.Decides.{nat_tests}
 use Rattle.std.specs.List.Sorted.{IsStrictlySortedBy}
 use Rattle.std.specs.Ordering.{nat_cmp}
-use Rattle.btree_node.specs.View.{View, leaf, internal, Look, size_of, most_of}
+use Rattle.btree_view.specs.View.{View, leaf, internal, Look, size_of, most_of}
 use Rattle.btree_shape.specs.Spells.{Spells, numbers_under, times, spelled}
 use Rattle.btree_shape.specs.WellFormed.{times_used, least_of, IsNearlySized, IsWellFormed, IsOffByOne}
 use Rattle.btree_shape.specs.Place.{NOWHERE, StandsAt, IsPlace, IsValid}

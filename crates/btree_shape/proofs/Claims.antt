@@ -1,6 +1,6 @@
 -- Numbers claimed one by one before a change, and given back where one is refused.
 use Rattle.std.proofs.Common.{◌≡◌, ◌<◌, ◌++◌, ◌∷◌, [], ◌∙◌, ◌+◌, ℕ, suc, inl, inr, List, length, None, refl, sym, ap, subst, arith, length-append}
-use Rattle.btree_node.specs.View.{Look}
+use Rattle.btree_view.specs.View.{Look}
 use Rattle.btree_shape.specs.Shape.{Shape, id_of, one, times_listed, times_under}
 use Rattle.btree_shape.specs.Step.{Claims, Gains, Loses}
 use Rattle.btree_shape.specs.Way.{Above, parent_above, times_above}

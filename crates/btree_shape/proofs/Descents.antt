@@ -8,7 +8,7 @@ use Rattle.std.specs.Prelude.{slice_get}
 use Rattle.std.specs.declared.cmp.Ordering.{Ordering}
 use Rattle.std.specs.declared.cmp.Ordering.TheVariants.{Less}
 use Rattle.btree_item.specs.Pairs.{Ascends, place_of}
-use Rattle.btree_node.specs.View.{Look, View, children_of, items_of, leaf}
+use Rattle.btree_view.specs.View.{Look, View, children_of, items_of, leaf}
 use Rattle.btree_shape.specs.Search.{IsSearching, levels_below}
 use Rattle.btree_shape.specs.Shape.{IsFilled, Shape, count_at, id_of, items_under, later_items, view_at}
 use Rattle.btree_shape.specs.Way.{Above, Frame, after_in, at_branch, at_first, before_in, fill, frame_id, items_after, items_before, least_at, parent_above, top, under}

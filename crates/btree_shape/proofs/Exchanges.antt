@@ -11,8 +11,8 @@ use Rattle.std.specs.declared.cmp.Ordering.TheVariants.{Equal}
 use Rattle.btree_item.proofs.PairEdits.{Ascends-with_value, length-with_value}
 use Rattle.btree_item.proofs.PairLemmas.{set-from_Ok}
 use Rattle.btree_item.specs.Pairs.{place_of, with_value}
-use Rattle.btree_node.specs.Edits.{is_internal}
-use Rattle.btree_node.specs.View.{Look, View, children_of, internal, items_of, leaf, parent_of}
+use Rattle.btree_view.specs.Edits.{is_internal}
+use Rattle.btree_view.specs.View.{Look, View, children_of, internal, items_of, leaf, parent_of}
 use Rattle.btree_shape.specs.Node.{IsNode}
 use Rattle.btree_shape.specs.Shape.{Holds, IsFilled, IsFilledBelow, Shape, count_at, id_of, items_under, later_items, one, times_under, total, view_at}
 use Rattle.btree_shape.specs.Step.{HasItems, Puts}

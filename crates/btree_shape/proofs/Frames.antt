@@ -4,7 +4,7 @@ use Rattle.std.proofs.lemmas.Bool.Decides.{nat_tests}
 use Rattle.std.proofs.lemmas.Grind.{flat_map-append}
 use Rattle.std.proofs.lemmas.List.{map-append}
 use Rattle.std.specs.List.{AllByRecursion}
-use Rattle.btree_node.specs.View.{Look, internal}
+use Rattle.btree_view.specs.View.{Look, internal}
 use Rattle.btree_shape.specs.Shape.{Holds, IsFilled, IsFilledBelow, Shape, count_at, id_of, items_under, one, times_under, total, view_at}
 use Rattle.btree_shape.specs.Way.{Above, Frame, HoldsAbove, SiblingsFilled, SiblingsHold, after_in, at_branch, at_first, before_in, fill, frame_count, frame_id, frame_view, times_above, times_beside, times_in, top, under}
 

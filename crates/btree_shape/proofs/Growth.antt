@@ -3,8 +3,8 @@ use Rattle.std.proofs.Common.{◌≡◌, ◌≢◌, ◌<◌, ◌≤◌, ◌++◌
 use Rattle.std.proofs.lemmas.List.{map-append}
 use Rattle.std.specs.Prelude.{IsTrue, option_map, slice_get}
 use Rattle.btree_item.specs.declared.address.Address.{Address}
-use Rattle.btree_node.specs.Edits.{IsSplit, is_internal, with_item, with_parent}
-use Rattle.btree_node.specs.View.{Look, View, children_of, internal, leaf, most_of, parent_of, size_of}
+use Rattle.btree_view.specs.Edits.{IsSplit, is_internal, with_item, with_parent}
+use Rattle.btree_view.specs.View.{Look, View, children_of, internal, leaf, most_of, parent_of, size_of}
 use Rattle.btree_shape.specs.Growing.{IsGrowing, IsGrown}
 use Rattle.btree_shape.specs.Moved.{moved_by_split}
 use Rattle.btree_shape.specs.Need.{wanted}

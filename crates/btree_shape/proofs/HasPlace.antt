@@ -2,7 +2,7 @@
 use Rattle.std.proofs.Common.{◌≡◌, ◌⊎◌, ℕ, zero, suc, ◌+◌, ◌≤◌, List, [], ◌∷◌, ◌++◌, length, map, Option, Some, None, refl, sym, ap, subst, ◌∙◌, inl, inr, arith}
 use Rattle.std.specs.Prelude.{slice_get}
 use Rattle.std.specs.List.{flat_map}
-use Rattle.btree_node.specs.View.{View, internal, Look, items_of, item_in}
+use Rattle.btree_view.specs.View.{View, internal, Look, items_of, item_in}
 use Rattle.btree_shape.specs.Spells.{Spells, numbers_under, times}
 use Rattle.btree_shape.specs.WellFormed.{times_used}
 use Rattle.btree_shape.specs.Place.{IsPlace, IsPlaceOf, IsEnd, IsWithin}

@@ -1,6 +1,6 @@
 -- How high a tree is, and how many items its levels ask for.
 use Rattle.std.proofs.Common.{◌≡◌, ◌<◌, ◌≤◌, ◌++◌, ◌∷◌, [], ℕ, zero, suc, List, length, Option, Some, refl, ap, arith, length-append}
-use Rattle.btree_node.specs.View.{Look}
+use Rattle.btree_view.specs.View.{Look}
 use Rattle.btree_shape.specs.Search.{levels_below}
 use Rattle.btree_shape.specs.Shape.{Holds, IsFilled, IsFilledBelow, Shape, count_at, id_of, items_under, later_items}
 use Rattle.btree_shape.specs.Way.{Above, items_after, items_before, least_at, top, under}

@@ -1,7 +1,7 @@
 -- A walk through a tree: down to a first leaf, and on to the next item above.
 use Rattle.std.proofs.Common.{◌≡◌, ℕ, zero, suc, ◌+◌, ◌<◌, List, [], ◌∷◌, ◌++◌, length, map, drop, slice_get, Option, Some, None, subst, refl, sym, ap, ◌∙◌, arith, append_assoc, append-nil}
 use Rattle.std.specs.List.{flat_map, AllByRecursion}
-use Rattle.btree_node.specs.View.{View, leaf, internal, Look, items_of, children_of}
+use Rattle.btree_view.specs.View.{View, leaf, internal, Look, items_of, children_of}
 use Rattle.btree_shape.specs.Spells.{Spells, spelled}
 use Rattle.btree_shape.specs.Left.{branches_of, left_in, left_above, IsUnder, AreRows}
 use Rattle.btree_shape.proofs.Spelled.{spelled-is}

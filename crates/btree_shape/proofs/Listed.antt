@@ -2,7 +2,7 @@
 use Rattle.std.proofs.Common.{subst, ◌≡◌, ℕ, ◌<◌, ◌≤◌, List, [], ◌∷◌, length, Option, Some, None, IsTrue, eqb, refl, sym, arith}
 use Rattle.std.proofs.lemmas.Bool.Decides.{nat_tests}
 use Rattle.std.specs.declared.cmp.Ordering.{Ordering}
-use Rattle.btree_node.specs.View.{Look, size_of}
+use Rattle.btree_view.specs.View.{Look, size_of}
 use Rattle.btree_shape.specs.WellFormed.{least_of, IsWellFormed}
 use Rattle.btree_shape.proofs.Spelled.{spelled-is, height_below}
 use Rattle.btree_shape.specs.TreeState.{pairs_under}

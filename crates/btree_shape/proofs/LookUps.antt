@@ -7,7 +7,7 @@ use Rattle.std.specs.Prelude.{slice_get}
 use Rattle.std.specs.declared.cmp.Ordering.{Ordering}
 use Rattle.std.specs.declared.cmp.Ordering.TheVariants.{Equal, Greater, Less}
 use Rattle.btree_item.specs.Pairs.{found, place_of}
-use Rattle.btree_node.specs.View.{Look, View, item_in, items_of, leaf}
+use Rattle.btree_view.specs.View.{Look, View, item_in, items_of, leaf}
 use Rattle.btree_shape.specs.Place.{IsPlace}
 use Rattle.btree_shape.specs.Search.{IsSearching}
 use Rattle.btree_shape.specs.Shape.{Shape, id_of, items_under, later_items, view_at}

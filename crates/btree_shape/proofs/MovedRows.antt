@@ -2,7 +2,7 @@
 -- between them is at offset 2 (in a split node 10 is child 2 of node 9), left has 3 items (3 stay in a split), and the
 -- first child of right, if it has one, is 20.
 use Rattle.std.proofs.Common.{◌≡◌, Some, None, refl}
-use Rattle.btree_shape.specs.Moved.{moved_by_merge, moved_by_release, moved_by_rotate_left, moved_by_rotate_right, moved_by_split}
+use Rattle.btree_shape.specs.Moved.{moved_by_merge, moved_by_release, moved_by_rotate_left, moved_by_rotate_right, moved_by_split, moved_by_take}
 use Rattle.btree_shape.specs.Tour.{lead, slot}
 
 -- a split: below the median, at it, above it; in the parent before the child index and from it on; elsewhere
@@ -115,3 +115,19 @@ release_end = refl
 
 pub release_elsewhere : moved_by_release 10 11 4 (slot 12 1) ≡ slot 12 1
 release_elsewhere = refl
+
+-- the item at offset 2 of leaf 10 taken out
+pub take_front : moved_by_take 10 2 (lead 10) ≡ lead 10
+take_front = refl
+
+pub take_before : moved_by_take 10 2 (slot 10 1) ≡ slot 10 1
+take_before = refl
+
+pub take_itself : moved_by_take 10 2 (slot 10 2) ≡ slot 10 2
+take_itself = refl
+
+pub take_after : moved_by_take 10 2 (slot 10 3) ≡ slot 10 2
+take_after = refl
+
+pub take_elsewhere : moved_by_take 10 2 (slot 12 3) ≡ slot 12 3
+take_elsewhere = refl

@@ -1,7 +1,7 @@
 -- The nodes that an insertion takes, counted from a node upward.
 use Rattle.std.proofs.Common.{◌≡◌, ◌≢◌, ◌<◌, ◌≤◌, [], ◌∙◌, ◌+◌, ◌==◌, if◌then◌else◌, ℕ, zero, suc, List, length, Some, None, refl, sym, ap, subst, arith}
 use Rattle.std.proofs.lemmas.Bool.Decides.{nat_tests}
-use Rattle.btree_node.specs.View.{Look, View, most_of, parent_of, size_of}
+use Rattle.btree_view.specs.View.{Look, View, most_of, parent_of, size_of}
 use Rattle.btree_shape.specs.Need.{IsNeeding, levels_above, need_from, need_of_split, needed, wanted}
 use Rattle.btree_shape.specs.Node.{IsNode}
 use Rattle.btree_shape.specs.Shape.{Holds, IsFilled, Shape, count_at, id_of, most_at, view_at}

@@ -2,7 +2,7 @@
 use Rattle.std.proofs.Common.{◌≡◌, ◌≤◌, ◌++◌, ◌∷◌, [], ◌∙◌, ◌+◌, ℕ, zero, suc, inl, inr, List, length, map, take, Option, Some, None, refl, sym, ap, subst, arith, append_assoc, length-append}
 use Rattle.std.proofs.lemmas.List.{take_all}
 use Rattle.std.specs.Prelude.{slice_get}
-use Rattle.btree_node.specs.View.{Look, View, item_in, items_of}
+use Rattle.btree_view.specs.View.{Look, View, item_in, items_of}
 use Rattle.btree_shape.specs.Place.{IsEnd, IsPlace, IsPlaceOf, StandsAt}
 use Rattle.btree_shape.specs.Shape.{Shape, count_at, id_of, items_under, later_items, view_at}
 use Rattle.btree_shape.specs.Way.{Above, items_after, items_before, parent_above}

@@ -3,7 +3,7 @@ use Rattle.std.proofs.Common.{◌≡◌, ◌≢◌, ◌<◌, ◌≤◌, ◌⊎�
 use Rattle.std.proofs.lemmas.Bool.Decides.{nat_tests}
 use Rattle.std.proofs.lemmas.List.Sums.{sum_by-cons}
 use Rattle.std.specs.List.{AllByRecursion, flat_map}
-use Rattle.btree_node.specs.View.{Look, children_in}
+use Rattle.btree_view.specs.View.{Look, children_in}
 use Rattle.btree_shape.specs.Shape.{Holds, Shape, id_of, one, times_listed, times_under, total}
 use Rattle.btree_shape.specs.Spells.{numbers_under, times}
 use Rattle.btree_shape.specs.WellFormed.{times_used}

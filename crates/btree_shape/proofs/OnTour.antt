@@ -4,7 +4,7 @@ use Rattle.std.specs.Cmp.{IsTotalOrder}
 use Rattle.std.specs.FinMap.{len}
 use Rattle.std.specs.declared.cmp.Ordering.{Ordering}
 use Rattle.btree_item.specs.declared.address.Address.{Address}
-use Rattle.btree_node.specs.View.{Look, View, item_in, size_of}
+use Rattle.btree_view.specs.View.{Look, View, item_in, size_of}
 use Rattle.btree_shape.specs.OnTour.{IsAddressed, IsOnTour, item_at}
 use Rattle.btree_shape.specs.Place.{IsValid, IsWithin}
 use Rattle.btree_shape.specs.Shape.{Holds, Shape, id_of, view_at}
@@ -13,7 +13,6 @@ use Rattle.btree_shape.specs.Way.{Above, items_before, parent_above, top}
 use Rattle.btree_shape.specs.WellFormed.{IsNearlySized, IsOffByOne, IsRooted, IsSized, IsWellFormed, times_used}
 use Rattle.btree_shape.specs.Whole.{IsWhole}
 use Rattle.btree_shape.proofs.Frames.{top-view}
-use Rattle.btree_shape.proofs.LeafTree.{at_root}
 use Rattle.btree_shape.proofs.NodePlaces.{items_upto}
 use Rattle.btree_shape.proofs.OnePlace.{one_place, one_place-well}
 use Rattle.btree_shape.proofs.OneTour.{one-tour, plugged}

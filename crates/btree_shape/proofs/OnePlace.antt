@@ -5,7 +5,7 @@ use Rattle.std.specs.Cmp.{IsTotalOrder}
 use Rattle.std.specs.declared.cmp.Ordering.{Ordering}
 use Rattle.std.proofs.lemmas.Bool.{cases_eq}
 use Rattle.std.proofs.lemmas.Bool.Decides.{nat_tests}
-use Rattle.btree_node.specs.View.{View, leaf, Look, size_of}
+use Rattle.btree_view.specs.View.{View, leaf, Look, size_of}
 use Rattle.btree_shape.specs.Spells.{Spells}
 use Rattle.btree_shape.specs.WellFormed.{least_of, least_beside, IsWellFormed, IsOffByOne}
 use Rattle.btree_shape.specs.Place.{IsSubtree, IsPlace}

@@ -1,7 +1,7 @@
 -- A tree has one tour of its addresses, from whichever of its nodes it is seen.
 use Rattle.std.proofs.Common.{◌≡◌, ◌++◌, ◌∷◌, [], ◌∙◌, ℕ, zero, suc, List, map, Option, Some, None, refl, sym, ap, subst, append_assoc, append-nil}
 use Rattle.std.specs.List.{AllByRecursion}
-use Rattle.btree_node.specs.View.{Look, leaf}
+use Rattle.btree_view.specs.View.{Look, leaf}
 use Rattle.btree_shape.specs.Shape.{Holds, Shape, id_of, view_at}
 use Rattle.btree_shape.specs.Tour.{branch_key, branch_tour, lead, mark, over, slot, ticks, tour, tour_after, tour_before, way_after, way_before, whole_tour}
 use Rattle.btree_shape.specs.Way.{Above, Frame, HoldsAbove, fill, frame_index, parent_above, root_above, top, under}

@@ -5,8 +5,8 @@ use Rattle.std.specs.Cmp.{IsTotalOrder}
 use Rattle.std.specs.List.{insert}
 use Rattle.std.specs.declared.cmp.Ordering.{Ordering}
 use Rattle.btree_item.specs.declared.address.Address.{Address}
-use Rattle.btree_node.specs.Edits.{with_item}
-use Rattle.btree_node.specs.View.{Look, leaf}
+use Rattle.btree_view.specs.Edits.{with_item}
+use Rattle.btree_view.specs.View.{Look, leaf}
 use Rattle.btree_shape.specs.OnTour.{Ahead, IsAhead, IsOnTour}
 use Rattle.btree_shape.specs.Place.{IsPlace}
 use Rattle.btree_shape.specs.Shape.{Shape, id_of}

@@ -7,8 +7,8 @@ use Rattle.std.specs.declared.cmp.Ordering.{Ordering}
 use Rattle.btree_item.proofs.PairEdits.{Ascends-insert, Ascends-one, slice_get-insert}
 use Rattle.btree_item.specs.Pairs.{Fits}
 use Rattle.btree_item.specs.declared.address.Address.{Address}
-use Rattle.btree_node.specs.Edits.{with_item}
-use Rattle.btree_node.specs.View.{Look, leaf}
+use Rattle.btree_view.specs.Edits.{with_item}
+use Rattle.btree_view.specs.View.{Look, leaf}
 use Rattle.btree_shape.specs.Growing.{IsGrowing, IsGrown}
 use Rattle.btree_shape.specs.Need.{need, need_from, needed, wanted}
 use Rattle.btree_shape.specs.Node.{IsNode}

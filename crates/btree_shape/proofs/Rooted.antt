@@ -1,7 +1,7 @@
 -- Between the public words on a tree and the tree seen from one of its nodes.
 use Rattle.std.proofs.Common.{◌≡◌, ◌≢◌, ◌<◌, ◌≤◌, [], ◌∙◌, ◌+◌, ℕ, suc, inl, inr, List, Some, None, refl, sym, ap, subst, arith, append-nil}
 use Rattle.std.proofs.lemmas.Bool.Decides.{nat_tests}
-use Rattle.btree_node.specs.View.{Look, View, most_of, size_of}
+use Rattle.btree_view.specs.View.{Look, View, most_of, size_of}
 use Rattle.btree_shape.specs.Node.{IsNode, IsOddNode}
 use Rattle.btree_shape.specs.Shape.{Holds, IsFilled, IsFilledBelow, Shape, count_at, id_of, items_under, most_at, one, times_listed, times_under, view_at}
 use Rattle.btree_shape.specs.Spells.{Spells, numbers_under}

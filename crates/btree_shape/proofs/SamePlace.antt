@@ -9,7 +9,7 @@ use Rattle.std.specs.declared.cmp.Ordering.{Ordering}
 use Rattle.std.specs.declared.cmp.Ordering.TheVariants.{Less, Equal, Greater}
 use Rattle.std.specs.Ordering.{ordering_reverse}
 use Rattle.btree_item.specs.Pairs.{Ascends}
-use Rattle.btree_node.specs.View.{View, Look, items_of, item_in}
+use Rattle.btree_view.specs.View.{View, Look, items_of, item_in}
 use Rattle.btree_shape.specs.Spells.{Spells}
 use Rattle.btree_shape.specs.Place.{IsSubtree, StandsAt, IsPlace, IsPlaceOf, IsEnd}
 use Rattle.btree_shape.proofs.Spelled.{spelled-is}

@@ -1,7 +1,7 @@
 -- The list that a tree spells, as a function of its nodes.
 use Rattle.std.proofs.Common.{◌≡◌, ℕ, zero, suc, ◌<◌, List, [], ◌∷◌, ◌++◌, length, map, Option, Some, refl, sym, ap, arith, length-append}
 use Rattle.std.specs.List.{flat_map, AllByRecursion}
-use Rattle.btree_node.specs.View.{View, leaf, Look, size_of}
+use Rattle.btree_view.specs.View.{View, leaf, Look, size_of}
 use Rattle.btree_shape.specs.Spells.{Spells, spelled}
 
 module _ {A : Type 0} (look : Look A) where

@@ -1,7 +1,7 @@
 -- What nodes spell, as a shape and back.
 use Rattle.std.proofs.Common.{◌≡◌, ◌++◌, ◌∷◌, [], ◌∙◌, ℕ, zero, suc, List, map, Option, Some, refl, sym, ap}
 use Rattle.std.specs.List.{AllByRecursion, flat_map}
-use Rattle.btree_node.specs.View.{Look, internal}
+use Rattle.btree_view.specs.View.{Look, internal}
 use Rattle.btree_shape.specs.Shape.{Holds, Shape, id_of, items_under, later_items}
 use Rattle.btree_shape.specs.Spells.{Spells}
 

@@ -1,6 +1,6 @@
 -- The addresses of a tree through a split: at the parent, or under a new root.
 use Rattle.std.proofs.Common.{◌∷◌, [], ℕ, suc, List, Some, None, sym, subst, arith}
-use Rattle.btree_node.specs.View.{Look}
+use Rattle.btree_view.specs.View.{Look}
 use Rattle.btree_shape.specs.Moved.{moved_by_split}
 use Rattle.btree_shape.specs.Shape.{Shape, count_at, id_of}
 use Rattle.btree_shape.specs.Tour.{Carries, whole_tour}

@@ -4,8 +4,8 @@ use Rattle.std.proofs.lemmas.Grind.{flat_map-append}
 use Rattle.std.proofs.lemmas.List.{length-map, map-append}
 use Rattle.std.specs.List.{AllByRecursion}
 use Rattle.std.specs.Prelude.{option_map}
-use Rattle.btree_node.specs.Edits.{IsSplit, with_parent}
-use Rattle.btree_node.specs.View.{Look, View, children_of, internal, leaf}
+use Rattle.btree_view.specs.Edits.{IsSplit, with_parent}
+use Rattle.btree_view.specs.View.{Look, View, children_of, internal, leaf}
 use Rattle.btree_shape.specs.Shape.{Holds, IsFilled, IsFilledBelow, Shape, count_at, id_of, items_under, later_items, most_at, one, times_listed, times_under, total, view_at}
 use Rattle.btree_shape.specs.Step.{Splits}
 use Rattle.btree_shape.specs.Way.{Above, parent_above}

@@ -1,6 +1,6 @@
 -- A tree seen from one of its nodes, whatever the numbers of items: up to the root and down to any node.
 use Rattle.std.proofs.Common.{◌≡◌, ◌<◌, ◌++◌, ◌∙◌, ◌+◌, ℕ, zero, suc, inl, inr, List, sym, ap, subst, arith, append_assoc}
-use Rattle.btree_node.specs.View.{Look}
+use Rattle.btree_view.specs.View.{Look}
 use Rattle.btree_shape.specs.Shape.{Holds, IsFilledBelow, Shape, id_of, items_under, times_listed, times_under}
 use Rattle.btree_shape.specs.Way.{Above, AreFilled, Frame, HoldsAbove, after_in, at_branch, at_first, before_in, fill, items_after, items_before, parent_above, root_above, times_above, top, under}
 use Rattle.btree_shape.specs.WellFormed.{times_used}

@@ -2,8 +2,8 @@
 use Rattle.std.proofs.Common.{◌≡◌, ◌<◌, [], ◌+◌, ℕ, suc, List, length, Option, Some, None, subst}
 use Rattle.std.specs.Prelude.{slice_get}
 use Rattle.btree_item.specs.declared.address.Address.{Address}
-use Rattle.btree_node.specs.Edits.{with_item}
-use Rattle.btree_node.specs.View.{Look, View, children_of, most_of, parent_of, size_of}
+use Rattle.btree_view.specs.Edits.{with_item}
+use Rattle.btree_view.specs.View.{Look, View, children_of, most_of, parent_of, size_of}
 use Rattle.btree_shape.specs.Growing.{IsGrowing, IsGrown}
 use Rattle.btree_shape.specs.Moved.{moved_by_split}
 use Rattle.btree_shape.specs.OnTour.{CarriesPlaces, IsAddressed, IsOnTour}

@@ -2,7 +2,7 @@
 use Rattle.std.proofs.Common.{◌≡◌, ◌≢◌, ◌≤◌, ◌∷◌, [], ◌∙◌, ◌+◌, ◌-◌, ◌==◌, if◌then◌else◌, ℕ, zero, suc, List, length, map, Option, Some, None, refl, sym, ap, subst, arith}
 use Rattle.std.proofs.lemmas.List.{length-map}
 use Rattle.std.specs.List.{AllByRecursion, flat_map}
-use Rattle.btree_node.specs.View.{Look, children_in}
+use Rattle.btree_view.specs.View.{Look, View, children_in}
 use Rattle.btree_shape.specs.Search.{levels_below}
 use Rattle.btree_shape.specs.Shape.{Holds, Shape, count_at, id_of, one, times_under, total, view_at}
 use Rattle.btree_shape.specs.Spells.{numbers_under}
@@ -14,8 +14,8 @@ use Rattle.btree_shape.proofs.Frames.{one-self, top-view, total-append}
 use Rattle.btree_shape.proofs.Heights.{levels-is}
 use Rattle.btree_shape.proofs.Needs.{full-no, full-yes}
 use Rattle.btree_shape.proofs.Numbers.{used-low}
-use Rattle.btree_shape.proofs.Rooted.{rooted-shape}
 use Rattle.btree_shape.proofs.Sizes.{view-size}
+use Rattle.btree_shape.proofs.SpelledShapes.{shape-of}
 use Rattle.btree_shape.proofs.Standing.{Standing, stand-up, whole-standing}
 use Rattle.btree_shape.proofs.Strains.{strain-close}
 
@@ -133,19 +133,26 @@ module _ (A : Type 0) where
         let r = branch-strains h (Some t.0) (tree-strain h (Some t.0)) t.2 d.2 (omega arith) in
         omega arith
 
-  -- the strain of a well formed tree, by its nodes
-  pub strain-rooted : (look : Look A) (root : ℕ) (xs : List A) (r : IsRooted (IsSized root) look root xs) (h : ℕ)
-      (c : Above A h) (t : Shape A h)
-      → IsWhole A look [] root xs h c t
+  -- the strain of a tree, by its nodes
+  pub strain-standing : (is_right : (id : ℕ) → View A → Type 0) (look : Look A) (root : ℕ) (xs : List A)
+      (r : IsRooted is_right look root xs) (h : ℕ) (c : Above A h) (t : Shape A h)
+      → Standing A look [] root xs h c t
       → strain_of A h c t ≡ strain_under look root (numbers_under look r.height root)
-  strain-rooted look root xs r h c t w =
-      let s = rooted-shape A look root xs r in
-      let a = root-strain look [] root xs h c t (whole-standing A look [] root xs h c t w) in
+  strain-standing is_right look root xs r h c t w =
+      let s = shape-of A look r.height None root xs r.spells in
+      let a = root-strain look [] root xs h c t w in
       let b =
       strain-of-root look root a.height a.shape a.stands.root_is a.stands.inner
       (λ n. let o = a.stands.once n in let k = used-low (look n) in omega arith) in
       let l1 = levels-is A look a.height (a.height + r.height) None a.shape (omega arith) a.stands.inner in
       let l2 = levels-is A look r.height (a.height + r.height) None s.shape (omega arith) s.holds in
-      let e : id_of A a.height a.shape ≡ id_of A r.height s.shape = a.stands.root_is ∙ sym s.at_root in
+      let e : id_of A a.height a.shape ≡ id_of A r.height s.shape = a.stands.root_is ∙ sym s.here in
       let same : a.height ≡ r.height = sym l1 ∙ (ap (levels_below look (a.height + r.height)) e ∙ l2) in
       a.is ∙ (sym b ∙ ap (λ k. strain_under look root (numbers_under look k root)) same)
+
+  pub strain-rooted : (look : Look A) (root : ℕ) (xs : List A) (r : IsRooted (IsSized root) look root xs) (h : ℕ)
+      (c : Above A h) (t : Shape A h)
+      → IsWhole A look [] root xs h c t
+      → strain_of A h c t ≡ strain_under look root (numbers_under look r.height root)
+  strain-rooted look root xs r h c t w =
+      strain-standing (IsSized root) look root xs r h c t (whole-standing A look [] root xs h c t w)

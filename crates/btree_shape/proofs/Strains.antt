@@ -13,19 +13,19 @@ module _ (A : Type 0) where
   strain-is zero t = omega arith
   strain-is (suc h) t = refl
 
-  fill-strain : (h : ℕ) (f : Frame A h) (t : Shape A h)
+  pub fill-strain : (h : ℕ) (f : Frame A h) (t : Shape A h)
       → strain_below A (suc h) (fill f t) ≡ strain_beside A f + strain A h t
   fill-strain h (at_first n back) t = omega arith
   fill-strain h (at_branch n first front x back) t =
       omega (arith, total-append (λ b. strain A h b.1) front ((x, t) ∷ back))
 
-  fill_two-strain : (h : ℕ) (f : Frame A h) (a : Shape A h) (x : A) (b : Shape A h)
+  pub fill_two-strain : (h : ℕ) (f : Frame A h) (a : Shape A h) (x : A) (b : Shape A h)
       → strain_below A (suc h) (fill_two f a x b) ≡ strain_beside A f + (strain A h a + strain A h b)
   fill_two-strain h (at_first n back) a x b = omega arith
   fill_two-strain h (at_branch n first front y back) a x b =
       omega (arith, total-append (λ b. strain A h b.1) front ((y, a) ∷ (x, b) ∷ back))
 
-  join-strain : (h : ℕ) (a : Shape A h) (x : A) (b : Shape A h)
+  pub join-strain : (h : ℕ) (a : Shape A h) (x : A) (b : Shape A h)
       → strain_below A h (join A h a x b) ≡ strain_below A h a + strain_below A h b
   join-strain zero a x b = omega arith
   join-strain (suc h) a x b = omega (arith, total-append (λ b. strain A h b.1) a.2 ((x, b.1) ∷ b.2))

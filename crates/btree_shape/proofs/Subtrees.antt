@@ -4,7 +4,7 @@ use Rattle.std.specs.List.{AllByRecursion, flat_map}
 use Rattle.std.proofs.lemmas.Bool.{cases_eq}
 use Rattle.std.proofs.lemmas.Bool.Decides.{nat_tests}
 use Rattle.std.proofs.lemmas.List.Sums.{sum_by-append, sum_by-cons}
-use Rattle.btree_node.specs.View.{Look}
+use Rattle.btree_view.specs.View.{Look}
 use Rattle.btree_shape.specs.Spells.{Spells, numbers_under, times}
 use Rattle.btree_shape.specs.Place.{StandsAt}
 

@@ -2,7 +2,7 @@
 use Rattle.std.proofs.Common.{◌≡◌, ◌≤◌, ◌⊎◌, ◌++◌, ◌∷◌, [], ◌∙◌, ◌+◌, ℕ, zero, suc, inl, inr, List, length, map, take, Option, Some, None, refl, sym, ap, subst, arith, length-append}
 use Rattle.std.specs.Prelude.{slice_get}
 use Rattle.btree_item.specs.declared.address.Address.{Address}
-use Rattle.btree_node.specs.View.{Look, item_in, items_of, size_of}
+use Rattle.btree_view.specs.View.{Look, item_in, items_of, size_of}
 use Rattle.btree_shape.specs.OnTour.{IsAddressed}
 use Rattle.btree_shape.specs.Place.{IsPlace, IsWithin}
 use Rattle.btree_shape.specs.Shape.{Shape, count_at, id_of, items_under, later_items, total, view_at}

@@ -1,6 +1,6 @@
 -- From a node to the one above it and down to a child: the tree stays the same.
 use Rattle.std.proofs.Common.{◌≡◌, ◌++◌, ◌∷◌, [], ◌∙◌, ℕ, suc, List, sym, ap, subst, arith, append_assoc, append-nil}
-use Rattle.btree_node.specs.View.{Look}
+use Rattle.btree_view.specs.View.{Look}
 use Rattle.btree_shape.specs.Shape.{IsFilled, IsFilledBelow, Shape, count_at, items_under}
 use Rattle.btree_shape.specs.Way.{Above, Frame, HoldsAbove, SiblingsFilled, after_in, at_branch, at_first, before_in, fill, frame_count, items_after, items_before, least_at, parent_above, root_above, top, under}
 use Rattle.btree_shape.specs.Whole.{IsTree, IsWhole}

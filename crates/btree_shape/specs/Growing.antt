@@ -1,7 +1,7 @@
 -- The states of a climb that splits nodes, with the address that it follows and what it has paid.
 use Rattle.std.specs.Prelude.{◌≡◌, ℕ, suc, ◌+◌, ◌≤◌, List, length, Option}
 use Rattle.btree_item.specs.declared.address.Address.{Address}
-use Rattle.btree_node.specs.View.{Look}
+use Rattle.btree_view.specs.View.{Look}
 use Rattle.btree_shape.specs.Shape.{most_at, count_at}
 use Rattle.btree_shape.specs.Way.{least_at}
 use Rattle.btree_shape.specs.Whole.{Seen}
@@ -22,7 +22,7 @@ pub record IsGrowing (A : Type 0) (look : Look A) (root : ℕ) (xs : List A) (id
   pub there : In asked a (whole_tour A seen.height seen.way seen.shape) place
   pub paid : gained + strain_of A seen.height seen.way seen.shape ≤ bound
 
--- the climb is over: no node has an item too many
+-- the climb is over, as is one that mends nodes with too few items: each node has its number of items
 pub record IsGrown (A : Type 0) (look : Look A) (root : ℕ) (xs : List A)
     (asked : Option A) (a : Address) (place gained bound : ℕ) : Type 0 where
   pub id : ℕ

@@ -1,7 +1,7 @@
 -- What is left of a walk through a tree in order, from the front.
 use Rattle.std.specs.Prelude.{ℕ, suc, ◌+◌, ◌<◌, List, [], ◌∷◌, ◌++◌, Option}
 use Rattle.std.specs.List.{flat_map, AllByRecursion}
-use Rattle.btree_node.specs.View.{View, leaf, internal, Look}
+use Rattle.btree_view.specs.View.{View, leaf, internal, Look}
 use Rattle.btree_shape.specs.Spells.{Spells, spelled}
 
 -- the items of an internal node, each with the child after it

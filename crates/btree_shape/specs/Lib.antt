@@ -3,7 +3,6 @@ pub mod WellFormed
 pub mod Place
 pub mod Pair
 pub mod OnTour
-pub mod LeafState
 pub mod TreeState
 pub mod Shape
 pub mod Way
@@ -17,3 +16,5 @@ pub mod Moved
 pub mod Strain
 pub mod Growing
 pub mod Left
+pub mod Mend
+pub mod Shrinking

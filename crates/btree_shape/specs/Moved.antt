@@ -2,7 +2,7 @@
 -- No step changes the place of an address or the item that stands there, and an offset other than -1 stays one.
 use Rattle.std.specs.Prelude.{ℕ, zero, suc, ◌+◌, ◌-◌, ◌==◌, nat_lt, if◌then◌else◌, Option, Some, None}
 use Rattle.btree_item.specs.declared.address.Address.{Address}
-use Rattle.btree_node.specs.View.{View, leaf, internal}
+use Rattle.btree_view.specs.View.{View, leaf, internal}
 use Rattle.btree_shape.specs.Place.{NOWHERE}
 use Rattle.btree_shape.specs.Tour.{lead, slot}
 
@@ -94,6 +94,15 @@ moved_by_release root child count a = if a.id == root then in_released child cou
 -- a root leaf without items is released: each of its addresses becomes nowhere
 abbrev pub moved_by_emptying : Address → Address
 moved_by_emptying a = record { id = NOWHERE; offset = Some 0 }
+
+-- the item at an offset of a leaf is taken out: what stands behind it in that leaf moves up by one
+abbrev pub in_shortened : (leaf_id offset : ℕ) → Option ℕ → Address
+in_shortened leaf_id offset None = lead leaf_id
+in_shortened leaf_id offset (Some other) =
+    by_order other offset (slot leaf_id other) (slot leaf_id offset) (slot leaf_id (other - 1))
+
+abbrev pub moved_by_take : (leaf_id offset : ℕ) → Address → Address
+moved_by_take leaf_id offset a = if a.id == leaf_id then in_shortened leaf_id offset a.offset else a
 
 -- the number of a node's first child, if it has one
 abbrev pub first_in : {A : Type 0} → View A → Option ℕ

@@ -1,6 +1,6 @@
 -- How many nodes an insertion at a node takes, and how many levels stand above it: by the nodes as they are.
-use Rattle.std.specs.Prelude.{◌≡◌, ℕ, zero, suc, ◌+◌, ◌<◌, ◌==◌, if◌then◌else◌, List, length, Option, Some, None}
-use Rattle.btree_node.specs.View.{View, Look, parent_of, size_of, most_of}
+use Rattle.std.specs.Prelude.{◌≡◌, ℕ, zero, suc, ◌+◌, ◌<◌, ◌==◌, nat_lt, if◌then◌else◌, List, length, Option, Some, None}
+use Rattle.btree_view.specs.View.{View, Look, parent_of, size_of, most_of}
 use Rattle.btree_shape.specs.Shape.{most_at, count_at}
 use Rattle.btree_shape.specs.Way.{Above, top, under, frame_count, depth}
 use Rattle.btree_shape.specs.Node.{IsNode}
@@ -26,6 +26,16 @@ abbrev pub need : {A : Type 0} → Look A → (root : Option ℕ) → (len : ℕ
 need look None len id = 1
 need look (Some root) len id = need_from look len id
 
+-- what the splits take that begin at node `id`, where it has an item too many: the nodes from there upward without a gap
+-- that have at least as many items as they may, and one more where the last of them is the root
+abbrev pub climb_in : {A : Type 0} → (ℕ → ℕ) → Option (View A) → ℕ
+climb_in above None = 0
+climb_in above (Some node) = if nat_lt (size_of node) (most_of node) then 0 else need_of_split above (parent_of node)
+
+abbrev pub climb : {A : Type 0} → Look A → (most : ℕ) → (id : ℕ) → ℕ
+climb look zero id = 0
+climb look (suc most) id = climb_in (climb look most) (look id)
+
 -- how many levels stand above a node, by the parents, at most so many
 abbrev pub levels_up : (ℕ → ℕ) → Option ℕ → ℕ
 levels_up above None = 0
@@ -46,6 +56,10 @@ wanted (under frame way) = suc (if frame_count frame == 7 then wanted way else 0
 
 abbrev pub needed : {A : Type 0} {height : ℕ} → Above A height → (count : ℕ) → ℕ
 needed {A} {height} way count = if count == most_at height then wanted way else 0
+
+-- the same, where the node may have an item too many
+abbrev pub climbed : {A : Type 0} {height : ℕ} → Above A height → (count : ℕ) → ℕ
+climbed {A} {height} way count = if nat_lt count (most_at height) then 0 else wanted way
 
 -- a count of the need that has come up to node `id` with `counted` full nodes below it
 pub record IsNeeding (A : Type 0) (look : Look A) (root : ℕ) (xs : List A) (id counted all : ℕ) : Type 0 where

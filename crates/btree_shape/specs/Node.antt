@@ -1,6 +1,6 @@
 -- A node of a tree at rest, and a node that may have one item too many or one too few.
 use Rattle.std.specs.Prelude.{ℕ, suc, ◌≤◌, List, []}
-use Rattle.btree_node.specs.View.{Look}
+use Rattle.btree_view.specs.View.{Look}
 use Rattle.btree_shape.specs.Shape.{most_at, IsFilled, count_at}
 use Rattle.btree_shape.specs.Way.{least_at}
 use Rattle.btree_shape.specs.Whole.{Seen}

@@ -1,7 +1,7 @@
 -- The tour of the tree under a root, wherever it is seen from, and the public words on an address of that tree.
 use Rattle.std.specs.Prelude.{◌≡◌, ◌≢◌, ℕ, suc, ◌⊎◌, List, [], ◌∷◌, Option, Some, None}
 use Rattle.btree_item.specs.declared.address.Address.{Address}
-use Rattle.btree_node.specs.View.{Look, item_in}
+use Rattle.btree_view.specs.View.{Look, item_in}
 use Rattle.btree_shape.specs.Place.{IsValid, IsPlace}
 use Rattle.btree_shape.specs.Shape.{Shape, id_of, Holds}
 use Rattle.btree_shape.specs.Tour.{Tick, mark, over, Asks, In, tour}

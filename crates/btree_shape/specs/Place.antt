@@ -1,6 +1,6 @@
 -- The addresses of a tree, their kinds, and their places in its list.
 use Rattle.std.specs.Prelude.{◌≡◌, ℕ, ◌+◌, ◌^◌, ◌-◌, ◌<◌, ◌≤◌, ◌⊎◌, List, ◌++◌, length, slice_get, Option, Some, None}
-use Rattle.btree_node.specs.View.{View, leaf, internal, Look, size_of, item_in}
+use Rattle.btree_view.specs.View.{View, leaf, internal, Look, size_of, item_in}
 use Rattle.btree_shape.specs.Spells.{Spells}
 
 -- the number of the address that stands for no node

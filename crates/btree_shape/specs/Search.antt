@@ -3,7 +3,7 @@ use Rattle.std.specs.Prelude.{◌≡◌, ℕ, zero, suc, List, Option, Some, Non
 use Rattle.std.specs.List.{AllByRecursion}
 use Rattle.std.specs.declared.cmp.Ordering.{Ordering}
 use Rattle.std.specs.declared.cmp.Ordering.TheVariants.{Less, Greater}
-use Rattle.btree_node.specs.View.{View, leaf, internal, Look}
+use Rattle.btree_view.specs.View.{View, leaf, internal, Look}
 use Rattle.btree_shape.specs.Way.{items_before, items_after}
 use Rattle.btree_shape.specs.Node.{IsNode}
 

@@ -1,7 +1,7 @@
 -- What nodes under numbers spell.
 use Rattle.std.specs.Prelude.{◌≡◌, ℕ, zero, suc, ◌==◌, List, [], ◌∷◌, ◌++◌, map, count_by, Option, Some, None}
 use Rattle.std.specs.List.{flat_map, AllByRecursion}
-use Rattle.btree_node.specs.View.{View, leaf, internal, Look, children_in}
+use Rattle.btree_view.specs.View.{View, leaf, internal, Look, children_in}
 
 module _ {A : Type 0} (look : Look A) where
   -- node `id` has this parent, is `height` levels above the leaves, and it and the nodes below it spell the list:

@@ -1,7 +1,7 @@
 -- What calls on a store's nodes leave: one node written, numbers claimed, children under a new parent, a node split.
 use Rattle.std.specs.Prelude.{◌≡◌, ◌≢◌, ℕ, ◌+◌, ◌<◌, List, [], ◌∷◌, Some, None, option_map}
-use Rattle.btree_node.specs.View.{View, internal, Look, parent_of, items_of, children_of}
-use Rattle.btree_node.specs.Edits.{with_parent, is_internal, IsSplit}
+use Rattle.btree_view.specs.View.{View, internal, Look, parent_of, items_of, children_of}
+use Rattle.btree_view.specs.Edits.{with_parent, is_internal, IsSplit}
 use Rattle.btree_shape.specs.WellFormed.{times_used}
 use Rattle.btree_shape.specs.Shape.{times_listed}
 

@@ -2,7 +2,7 @@
 -- tree.
 use Rattle.std.specs.Prelude.{◌≡◌, ℕ, suc, ◌+◌, List, [], ◌∷◌, ◌++◌, length, map, Option, Some, None}
 use Rattle.std.specs.List.{AllByRecursion}
-use Rattle.btree_node.specs.View.{View, internal, Look}
+use Rattle.btree_view.specs.View.{View, internal, Look}
 use Rattle.btree_shape.specs.Shape.{total, Shape, id_of, items_under, later_items, one, times_under, Holds, count_at, IsFilled, IsFilledBelow}
 
 -- a node without one of its children, the hole: that is the first child, or one after an item

@@ -1,6 +1,6 @@
 -- A tree seen from one of its nodes, whose own number of items is left open.
 use Rattle.std.specs.Prelude.{◌≡◌, ℕ, ◌+◌, List, ◌++◌, None}
-use Rattle.btree_node.specs.View.{Look}
+use Rattle.btree_view.specs.View.{Look}
 use Rattle.btree_shape.specs.WellFormed.{times_used}
 use Rattle.btree_shape.specs.Shape.{times_listed, IsFilled, Shape, id_of, items_under, times_under, Holds, count_at, IsFilledBelow}
 use Rattle.btree_shape.specs.Way.{Above, parent_above, items_before, items_after, times_above, HoldsAbove, AreFilled, root_above}

@@ -1,0 +1,224 @@
+-- A tree that is off by one at a node, in the public words: where its mending begins, and how it ends.
+use Rattle.std.proofs.Common.{◌≡◌, ◌<◌, ◌≤◌, ◌++◌, [], ◌∙◌, ◌+◌, ◌==◌, if◌then◌else◌, ℕ, zero, suc, List, length, Option, Some, None, IsSome, refl, sym, ap, subst, arith, length-append}
+use Rattle.std.specs.Cmp.{IsTotalOrder}
+use Rattle.std.specs.declared.cmp.Ordering.{Ordering}
+use Rattle.btree_item.specs.declared.address.Address.{Address}
+use Rattle.btree_view.specs.View.{Look, View, most_of, size_of}
+use Rattle.btree_shape.specs.Growing.{IsGrowing, IsGrown}
+use Rattle.btree_shape.specs.Need.{climb, climbed, wanted}
+use Rattle.btree_shape.specs.Node.{IsOddNode}
+use Rattle.btree_shape.specs.OnTour.{IsAddressed, IsOnTour}
+use Rattle.btree_shape.specs.Search.{levels_below}
+use Rattle.btree_shape.specs.Shape.{Shape, count_at, items_under, most_at, view_at}
+use Rattle.btree_shape.specs.Shrinking.{IsShrinking, owed, owed_by}
+use Rattle.btree_shape.specs.Spells.{numbers_under}
+use Rattle.btree_shape.specs.Step.{Claims}
+use Rattle.btree_shape.specs.Strain.{strain_of, strain_under}
+use Rattle.btree_shape.specs.Way.{Above, depth, fill, items_after, items_before, least_at, parent_above, top, under}
+use Rattle.btree_shape.specs.WellFormed.{IsFormed, IsNearlySized, IsOffByOne, IsRooted, IsWellFormed, times_used}
+use Rattle.btree_shape.proofs.Beside.{most-some}
+use Rattle.btree_shape.proofs.Claims.{claimed}
+use Rattle.btree_shape.proofs.Climbs.{deep-enough}
+use Rattle.btree_shape.proofs.Frames.{top-view}
+use Rattle.btree_shape.proofs.Heights.{high-enough, levels-is}
+use Rattle.btree_shape.proofs.Lent.{some-is}
+use Rattle.btree_shape.proofs.OnTour.{odd-on, on-whole, whole-addressed, whole-on}
+use Rattle.btree_shape.proofs.Overflows.{IsClimbing, climb-is, climbing-start, less-no}
+use Rattle.btree_shape.proofs.Puts.{grown-rooted}
+use Rattle.btree_shape.proofs.Rooted.{odd-at}
+use Rattle.btree_shape.proofs.Sizes.{view-most, view-size}
+use Rattle.btree_shape.proofs.SpelledShapes.{shape-of}
+use Rattle.btree_shape.proofs.Standing.{Standing, stand-up, whole-standing}
+use Rattle.btree_shape.proofs.StrainSums.{strain-standing}
+
+some-used : {X : Type 0} (o : Option X) → IsSome o → 0 < times_used o
+some-used None i = absurd (cc)
+some-used (Some x) i = omega arith
+
+module _ (A : Type 0) where
+  owed-low : (h : ℕ) (c : Above A h) (n : ℕ) → owed c n ≤ (if n == 0 then 1 else 0)
+  owed-low h top zero = omega arith
+  owed-low h top (suc n) = omega arith
+  owed-low h (under f c) n = omega arith
+
+  module _ (look : Look A) (root : ℕ) (xs : List A) where
+    -- the levels above a node and below it are those of the tree
+    record Levels (sum : ℕ) : Type 0 where
+      shape : Shape A sum
+      stands : Standing A look [] root xs sum top shape
+
+    levels : (h : ℕ) (c : Above A h) (t : Shape A h) → Standing A look [] root xs h c t → Levels (depth c + h)
+    levels h top t s =
+        subst (λ n. Levels n) (let q : h ≡ 0 + h = omega arith in q) (record { shape = t; stands = s })
+    levels h (under f c) t s =
+        subst (λ n. Levels n) (let q : depth c + suc h ≡ suc (depth c) + h = omega arith in q)
+        (levels (suc h) c (fill f t) (stand-up A look [] root xs h f c t s))
+
+    pub levels-rooted : (is_right : (id : ℕ) → View A → Type 0) (r : IsRooted is_right look root xs) (h : ℕ) (c : Above A h)
+        (t : Shape A h) → Standing A look [] root xs h c t → depth c + h ≡ r.height
+    levels-rooted is_right r h c t s =
+        let a = levels h c t s in
+        let b = shape-of A look r.height None root xs r.spells in
+        let most : ℕ = depth c + h + r.height in
+        let l1 = levels-is A look (depth c + h) most None a.shape (omega arith) a.stands.inner in
+        let l2 = levels-is A look r.height most None b.shape (omega arith) b.holds in
+        sym l1 ∙ (ap (levels_below look most) (a.stands.root_is ∙ sym b.here) ∙ l2)
+
+-- the address that the climb follows is on the tour, valid, at its place and item
+module _ (A : Type 0) (look : Look A) (root : ℕ) (xs : List A) (id : ℕ) (asked : Option A) (a : Address)
+    (place given bound : ℕ) (g : IsShrinking A look root xs id asked a place given bound) where
+  pub shrinking-on : IsOnTour A look root asked a place
+  shrinking-on = whole-on A look [] root xs asked a place g.seen.height g.seen.way g.seen.shape g.seen.whole g.there
+
+  pub shrinking-addressed : IsAddressed A look root xs asked a place
+  shrinking-addressed =
+      whole-addressed A look [] root xs asked a place g.seen.height g.seen.way g.seen.shape g.seen.whole shrinking-on
+
+  -- any other address could be followed in its place
+  pub shrinking-other : (other : Option A) (b : Address) (q : ℕ) → IsOnTour A look root other b q
+      → IsShrinking A look root xs id other b q given bound
+  shrinking-other other b q i = record {
+    seen = g.seen;
+    low = g.low;
+    high = g.high;
+    there = on-whole A look [] root xs other b q g.seen.height g.seen.way g.seen.shape g.seen.whole i;
+    paid = g.paid;
+  }
+
+module _ {K V : Type 0} (cmp : K → K → Ordering) (laws : IsTotalOrder cmp) (look : Look (K × V)) (root odd : ℕ)
+    (xs : List (K × V)) (w : IsOffByOne cmp look root odd xs) (v : View (K × V)) (e : look odd ≡ Some v) where
+  -- the strain of the tree, by its nodes
+  abbrev pub strain_before : ℕ
+  strain_before = strain_under look root (numbers_under look w.rooted.height root)
+
+  node : IsOddNode (K × V) look root xs odd
+  node = odd-at (K × V) look root xs odd w.rooted (some-used (look odd) w.used)
+
+  stands : Standing (K × V) look [] root xs node.seen.height node.seen.way node.seen.shape
+  stands = whole-standing (K × V) look [] root xs node.seen.height node.seen.way node.seen.shape node.seen.whole
+
+  view-is : v ≡ view_at (K × V) node.seen.height (parent_above node.seen.way) node.seen.shape
+  view-is =
+      let n : View (K × V) = view_at (K × V) node.seen.height (parent_above node.seen.way) node.seen.shape in
+      some-is v n (sym e ∙ subst (λ i. look i ≡ Some n) node.seen.here
+      (top-view (K × V) look node.seen.height (parent_above node.seen.way) node.seen.shape node.seen.whole.inner))
+
+  size-is : size_of v ≡ count_at (K × V) node.seen.height node.seen.shape
+  size-is = ap size_of view-is ∙ view-size (K × V) node.seen.height (parent_above node.seen.way) node.seen.shape
+
+  most-is : most_of v ≡ most_at node.seen.height
+  most-is = ap most_of view-is ∙ view-most (K × V) node.seen.height (parent_above node.seen.way) node.seen.shape
+
+  strain-is : strain_of (K × V) node.seen.height node.seen.way node.seen.shape ≡ strain_before
+  strain-is = strain-standing (K × V) (IsNearlySized root odd) look root xs w.rooted node.seen.height node.seen.way
+      node.seen.shape stands
+
+  depth-low : depth node.seen.way ≤ w.rooted.height
+  depth-low =
+      let l =
+      levels-rooted (K × V) look root xs (IsNearlySized root odd) w.rooted node.seen.height node.seen.way
+      node.seen.shape stands in
+      omega arith
+
+  -- a tree with an item there has fewer levels than items
+  pub odd-height : 0 < size_of v → w.rooted.height < length xs
+  odd-height some =
+      let l =
+      levels-rooted (K × V) look root xs (IsNearlySized root odd) w.rooted node.seen.height node.seen.way
+      node.seen.shape stands in
+      let c = node.seen.way in
+      let s = size-is in
+      let d = deep-enough (K × V) node.seen.height c node.seen.whole.filled in
+      let h = high-enough (K × V) node.seen.height node.seen.shape (omega arith) node.seen.whole.below in
+      let e = ap length node.seen.whole.list in
+      let inner : List (K × V) = items_under (K × V) node.seen.height node.seen.shape in
+      let a = length-append (items_before c) (inner ++ items_after c) in
+      let b = length-append inner (items_after c) in
+      omega arith
+
+  -- the node has no item too many: a climb that mends it if it has one too few, and that is over if it has not
+  pub odd-shrinks : size_of v ≤ most_of v → (asked : Option (K × V)) (a : Address) (place : ℕ)
+      → IsAddressed (K × V) look root xs asked a place
+      → IsShrinking (K × V) look root xs odd asked a place 0 (strain_before + owed_by v)
+  odd-shrinks fits asked a place d =
+      let on = odd-on cmp laws look root xs asked a place odd w d in
+      let s = size-is in
+      let m = most-is in
+      let st = strain-is in
+      let ow = owed-low (K × V) node.seen.height node.seen.way
+      (count_at (K × V) node.seen.height node.seen.shape) in
+      let o : owed_by v ≡ (if count_at (K × V) node.seen.height node.seen.shape == 0 then 1 else 0) =
+      ap (λ n. if n == 0 then 1 else 0) s in
+      record {
+        seen = node.seen;
+        low = node.low;
+        high = omega arith;
+        there = on-whole (K × V) look [] root xs asked a place node.seen.height node.seen.way node.seen.shape
+            node.seen.whole on;
+        paid = omega arith;
+      }
+
+  -- the nodes that its splits take, counted from it upward
+  pub odd-climbs : (most : ℕ) → w.rooted.height < most
+      → IsClimbing (K × V) look root xs most odd 0 (climb look most odd)
+  odd-climbs most lt =
+      let d = depth-low in
+      subst (λ i. IsClimbing (K × V) look root xs most i 0 (climb look most i)) node.seen.here
+      (climbing-start (K × V) look root xs most node.seen.height node.seen.way node.seen.shape stands
+      node.seen.whole.filled (omega arith))
+
+  -- the node has an item too many, and a number was claimed for each node that the splits take: they begin
+  pub odd-grows : most_of v < size_of v → (most : ℕ) → w.rooted.height < most → (mid : Look (K × V)) (spare : List ℕ)
+      → Claims look mid spare → length spare ≡ climb look most odd
+      → (asked : Option (K × V)) (a : Address) (place : ℕ) → IsAddressed (K × V) look root xs asked a place
+      → IsGrowing (K × V) mid root xs odd spare asked a place 0 strain_before
+  odd-grows over most lt mid spare cl enough asked a place d =
+      let on = odd-on cmp laws look root xs asked a place odd w d in
+      let s = size-is in
+      let m = most-is in
+      let st = strain-is in
+      let dl = depth-low in
+      let c =
+      climb-is (K × V) look node.seen.height most node.seen.way node.seen.shape (omega arith) stands.above stands.inner
+      node.seen.whole.filled in
+      let c2 : climb look most odd ≡ climbed node.seen.way (count_at (K × V) node.seen.height node.seen.shape) =
+      subst (λ i. climb look most i ≡ climbed node.seen.way (count_at (K × V) node.seen.height node.seen.shape))
+      node.seen.here c in
+      let hi = node.high in
+      let f =
+      less-no (count_at (K × V) node.seen.height node.seen.shape) (most_at node.seen.height) 0 (wanted node.seen.way)
+      (omega arith) in
+      record {
+        seen = record {
+          height = node.seen.height;
+          way = node.seen.way;
+          shape = node.seen.shape;
+          here = node.seen.here;
+          whole = claimed (K × V) look mid spare root xs node.seen.height node.seen.way node.seen.shape cl
+              node.seen.whole;
+        };
+        low = (let l = least node.seen.height node.seen.way in let k = most-some node.seen.height in omega arith);
+        high = hi;
+        enough = λ full. enough ∙ (c2 ∙ f);
+        none = λ few. absurd (omega arith);
+        there = on-whole (K × V) look [] root xs asked a place node.seen.height node.seen.way node.seen.shape
+            node.seen.whole on;
+        paid = omega arith;
+      }
+    where
+      least : (h : ℕ) (c : Above (K × V) h) → least_at c ≤ 3
+      least h top = omega arith
+      least h (under f c) = omega arith
+
+  -- at the end the tree is well formed with the same list
+  pub mended-well : (new : Look (K × V)) (r : ℕ) (asked : Option (K × V)) (a : Address) (place given bound : ℕ)
+      → IsGrown (K × V) new r xs asked a place given bound → IsWellFormed cmp new (Some r) (length xs) xs
+  mended-well new r asked a place given bound g = record {
+    ascends = w.ascends;
+    formed = grown-rooted (K × V) new r xs asked a place given bound g;
+    counted = refl;
+  }
+
+  -- or it is empty
+  pub emptied-well : (new : Look (K × V)) → IsFormed new None xs → IsWellFormed cmp new None (length xs) xs
+  emptied-well new f = record { ascends = w.ascends; formed = f; counted = refl }

@@ -1,0 +1,249 @@
+-- A climb that mends nodes with too few items: from a node to a neighbour of it, or to the end.
+use Rattle.std.proofs.Common.{◌≡◌, ◌≢◌, ◌<◌, ◌≤◌, ◌∷◌, [], ◌∙◌, ◌+◌, ℕ, zero, suc, inr, true, false, List, Option, Some, None, refl, sym, ap, subst, arith, append-nil}
+use Rattle.std.specs.Prelude.{IsTrue, slice_get}
+use Rattle.btree_item.specs.declared.address.Address.{Address}
+use Rattle.btree_view.specs.Edits.{is_internal}
+use Rattle.btree_view.specs.View.{Look, View, children_of, most_of, parent_of, size_of}
+use Rattle.btree_shape.specs.Growing.{IsGrown}
+use Rattle.btree_shape.specs.Mend.{Releases}
+use Rattle.btree_shape.specs.Moved.{moved_by_emptying, moved_by_release}
+use Rattle.btree_shape.specs.Place.{IsPlace, IsValid}
+use Rattle.btree_shape.specs.Shape.{Shape, count_at, id_of, most_at, one, times_under, view_at}
+use Rattle.btree_shape.specs.Shrinking.{IsShrinking, owed}
+use Rattle.btree_shape.specs.Step.{Loses}
+use Rattle.btree_shape.specs.Strain.{strain_of}
+use Rattle.btree_shape.specs.Tour.{In, tour, whole_tour}
+use Rattle.btree_shape.specs.Way.{Above, frame_id, frame_index, frame_view, least_at, parent_above, top, under}
+use Rattle.btree_shape.specs.WellFormed.{IsFormed, times_used}
+use Rattle.btree_shape.specs.Whole.{IsWhole}
+use Rattle.btree_shape.proofs.Beside.{Beside}
+use Rattle.btree_shape.proofs.Climbs.{index-fits, index-here}
+use Rattle.btree_shape.proofs.Frames.{one-self, top-view}
+use Rattle.btree_shape.proofs.Lent.{some-is}
+use Rattle.btree_shape.proofs.Numbers.{times-own, used-low, used-one}
+use Rattle.btree_shape.proofs.PairStrains.{release-strain}
+use Rattle.btree_shape.proofs.PairTours.{emptied-place, release-places}
+use Rattle.btree_shape.proofs.Released.{emptied, released}
+use Rattle.btree_shape.proofs.Sides.{go-after, go-before, inner-is}
+use Rattle.btree_shape.proofs.Sizes.{frame-size, view-most, view-parent, view-size}
+
+module _ (A : Type 0) (look : Look A) (root : ℕ) (xs : List A) (id : ℕ) (asked : Option A) (a : Address)
+    (place given bound : ℕ) (g : IsShrinking A look root xs id asked a place given bound) where
+  -- the node is used, and it stands here
+  pub shrinks-node : look id ≡ Some (view_at A g.seen.height (parent_above g.seen.way) g.seen.shape)
+  shrinks-node =
+      subst (λ n. look n ≡ Some (view_at A g.seen.height (parent_above g.seen.way) g.seen.shape)) g.seen.here
+      (top-view A look g.seen.height (parent_above g.seen.way) g.seen.shape g.seen.whole.inner)
+
+  pub shrinks-used : 0 < times_used (look id)
+  shrinks-used =
+      let u = used-one (look id) (view_at A g.seen.height (parent_above g.seen.way) g.seen.shape) shrinks-node in
+      omega arith
+
+  module _ (v : View A) (e : look id ≡ Some v) where
+    view-is : v ≡ view_at A g.seen.height (parent_above g.seen.way) g.seen.shape
+    view-is = some-is v (view_at A g.seen.height (parent_above g.seen.way) g.seen.shape) (sym e ∙ shrinks-node)
+
+    size-is : size_of v ≡ count_at A g.seen.height g.seen.shape
+    size-is = ap size_of view-is ∙ view-size A g.seen.height (parent_above g.seen.way) g.seen.shape
+
+    pub shrinks-most : size_of v ≤ most_of v
+    shrinks-most =
+        let s = size-is in
+        let m = ap most_of view-is ∙ view-most A g.seen.height (parent_above g.seen.way) g.seen.shape in
+        let h = g.high in
+        omega arith
+
+    at-rest : least_at g.seen.way ≤ count_at A g.seen.height g.seen.shape
+        → IsGrown A look root xs asked a place given bound
+    at-rest low =
+        let p = g.paid in
+        record {
+          id = id;
+          node = record { seen = g.seen; sized = (low, g.high) };
+          there = g.there;
+          paid = omega arith;
+        }
+
+    -- no item too few: the climb is over
+    pub shrinks-done : 3 ≤ size_of v → IsGrown A look root xs asked a place given bound
+    shrinks-done enough = at-rest (let s = size-is in let l = low g.seen.height g.seen.way in omega arith)
+      where
+        low : (h : ℕ) (c : Above A h) → least_at c ≤ 3
+        low h top = omega arith
+        low h (under f c) = omega arith
+
+    pub shrinks-done-root : parent_of v ≡ None → 0 < size_of v → IsGrown A look root xs asked a place given bound
+    shrinks-done-root up some =
+        at-rest (let s = size-is in let l = low g.seen.height g.seen.way g.seen.shape
+        (ap parent_of (sym view-is) ∙ up) in omega arith)
+      where
+        low : (h : ℕ) (c : Above A h) (t : Shape A h) → parent_of (view_at A h (parent_above c) t) ≡ None
+            → least_at c ≡ 1
+        low h top t q = refl
+        low h (under f c) t q = let e = view-parent A h (Some (frame_id f)) t in absurd (cc)
+
+    -- the node above, with the child's index, and the neighbours of the child
+    pub record Over (p : ℕ) : Type 0 where
+      pub node : View A
+      pub here : look p ≡ Some node
+      pub inner : IsTrue (is_internal node)
+      pub some : 0 < size_of node
+      pub least : 2 ≤ size_of v
+      pub index : ℕ
+      pub child : slice_get (children_of node) index ≡ Some id
+      pub within : index ≤ size_of node
+      pub after : (k j : ℕ) → slice_get (children_of node) k ≡ Some id → slice_get (children_of node) (suc k) ≡ Some j
+          → Beside A look root xs asked a place given bound p k id j
+      pub before : (k i : ℕ) → slice_get (children_of node) k ≡ Some i → slice_get (children_of node) (suc k) ≡ Some id
+          → Beside A look root xs asked a place given bound p k i id
+
+    pub to-over : (p : ℕ) → parent_of v ≡ Some p → Over p
+    to-over p up =
+        at g.seen.height g.seen.way g.seen.shape g.seen.here g.seen.whole (ap parent_of (sym view-is) ∙ up) g.there
+        g.paid g.low g.high size-is
+      where
+        at : (h : ℕ) (c : Above A h) (t : Shape A h) → id_of A h t ≡ id → IsWhole A look [] root xs h c t
+            → parent_of (view_at A h (parent_above c) t) ≡ Some p → In asked a (whole_tour A h c t) place
+            → given + (strain_of A h c t + owed c (count_at A h t)) ≤ bound
+            → least_at c ≤ suc (count_at A h t) → count_at A h t ≤ most_at h → size_of v ≡ count_at A h t → Over p
+        at h top t here w q th pd lo hi sz = let e = view-parent A h None t in absurd (cc)
+        at h (under f c) t here w q th pd lo hi sz =
+            let e = view-parent A h (Some (frame_id f)) t in
+            let ps : frame_id f ≡ p = some-is (frame_id f) p (sym e ∙ q) in
+            let fs = frame-size A h (parent_above c) f (id_of A h t) in
+            let fm = w.filled.0.0 in
+            let fi = index-fits A h f in
+            subst (λ z. Over z) ps
+            (record {
+              node = frame_view (parent_above c) f (id_of A h t);
+              here = w.above.0;
+              inner = inner-is A look root xs id asked a place given bound h f c t here w th pd (omega arith) hi f;
+              some = (let l = low h c in omega arith);
+              least = omega arith;
+              index = frame_index f;
+              child = index-here A h (parent_above c) f (id_of A h t) ∙ ap Some here;
+              within = omega arith;
+              after = go-after A look root xs id asked a place given bound h f c t here w th pd (omega arith) hi;
+              before = go-before A look root xs id asked a place given bound h f c t here w th pd (omega arith) hi;
+            })
+          where
+            low : (h : ℕ) (c : Above A (suc h)) → 1 ≤ least_at c
+            low h top = omega arith
+            low h (under f c) = omega arith
+
+    -- the root without an item, and its only child, which is the next root
+    pub record OnlyChild : Type 0 where
+      pub child : ℕ
+      pub only : children_of v ≡ child ∷ []
+      pub node : View A
+      pub here : look child ≡ Some node
+      pub apart : child ≢ id
+      pub next : (new : Look A) → Releases look new id child
+          → IsGrown A new child xs asked (moved_by_release id child (size_of node) a) place (suc given) bound
+
+    pub to-child : parent_of v ≡ None → size_of v ≡ 0 → IsTrue (is_internal v) → OnlyChild
+    to-child up none inner =
+        at g.seen.height g.seen.way g.seen.shape g.seen.here g.seen.whole view-is g.there g.paid
+        (let s = size-is in omega arith)
+      where
+        released-child : (h n : ℕ) (u : Shape A h) → n ≡ id → IsWhole A look [] root xs (suc h) top (n, u, [])
+            → v ≡ view_at A (suc h) None (n, u, [])
+            → In asked a (whole_tour A (suc h) top (n, u, [])) place
+            → given + (strain_of A (suc h) top (n, u, []) + 1) ≤ bound → OnlyChild
+        released-child h n u here w is th pd =
+            let root_is : n ≡ root = w.root_is in
+            let sum : (m : ℕ) → one m n + times_under A h m u ≤ 1 =
+            λ m. let o = w.once m in let k = used-low (look m) in omega arith in
+            let node : View A = view_at A h (Some n) u in
+            let size = view-size A h (Some n) u in
+            let below = w.below.0 in
+            let b0 = below.0 in
+            let st = release-strain A h n u in
+            record {
+              child = id_of A h u;
+              only = ap children_of is;
+              node = node;
+              here = top-view A look h (Some n) u w.inner.1;
+              apart = λ e.
+                  let s = sum (id_of A h u) in
+                  let o = times-own A h u in
+                  let k : one (id_of A h u) n ≡ 1 = subst (λ z. one (id_of A h u) z ≡ 1) (e ∙ sym here)
+                  (one-self (id_of A h u)) in
+                  omega arith;
+              next = λ new r.
+                  let w2 = subst (λ z. IsWhole A look [] z xs (suc h) top (n, u, [])) (sym root_is) w in
+                  let r2 = subst (λ z. Releases look new z (id_of A h u)) (sym here) r in
+                  let there = release-places A h n u sum asked a place th in
+                  record {
+                    id = id_of A h u;
+                    node = record {
+                      seen = record {
+                        height = h;
+                        way = top;
+                        shape = u;
+                        here = refl;
+                        whole = released A look new xs n h u w2 (id_of A h u) r2;
+                      };
+                      sized = (omega arith, below.1);
+                    };
+                    there = subst (λ z. In asked (moved_by_release z (id_of A h u) (size_of node) a)
+                        (whole_tour A h top u) place) here
+                        (subst (λ z. In asked (moved_by_release n (id_of A h u) z a) (whole_tour A h top u) place)
+                        (sym size) there);
+                    paid = omega arith;
+                  };
+            }
+
+        at : (h : ℕ) (c : Above A h) (t : Shape A h) → id_of A h t ≡ id → IsWhole A look [] root xs h c t
+            → v ≡ view_at A h (parent_above c) t → In asked a (whole_tour A h c t) place
+            → given + (strain_of A h c t + owed c (count_at A h t)) ≤ bound → count_at A h t ≡ 0 → OnlyChild
+        at h (under f c) t here w is th pd z =
+            let e = view-parent A h (Some (frame_id f)) t in
+            let q : parent_of v ≡ Some (frame_id f) = ap parent_of is ∙ e in
+            absurd (cc)
+        at zero top t here w is th pd z = absurd (let q : is_internal v ≡ false = ap is_internal is in cc)
+        at (suc h) top (n, u, b ∷ bs) here w is th pd z = absurd (omega arith)
+        at (suc h) top (n, u, []) here w is th pd z = released-child h n u here w is th pd
+
+    -- the root is a leaf without an item: the tree is empty, and the address was at place 0
+    pub record Emptied (new : Look A) : Type 0 where
+      pub formed : IsFormed new None xs
+      pub at_zero : place ≡ 0
+      pub valid : IsValid new None (moved_by_emptying a).id (moved_by_emptying a).offset
+      pub at_place : IsPlace new None xs (moved_by_emptying a).id (moved_by_emptying a).offset place
+      pub paid : suc given ≤ bound
+
+    pub to-nothing : parent_of v ≡ None → size_of v ≡ 0 → is_internal v ≡ false → (new : Look A) → Loses look new id
+        → Emptied new
+    to-nothing up none leafy new lo =
+        at g.seen.height g.seen.way g.seen.shape g.seen.here g.seen.whole view-is g.there g.paid
+        (let s = size-is in omega arith)
+      where
+        gone : (n : ℕ) → n ≡ id → IsWhole A look [] root xs 0 top (n, [])
+            → In asked a (whole_tour A 0 top (n, [])) place
+            → given + (strain_of A 0 top (n, []) + 1) ≤ bound → Emptied new
+        gone n here w th pd =
+            let root_is : n ≡ root = w.root_is in
+            let w2 = subst (λ z. IsWhole A look [] z xs 0 top (n, [])) (sym root_is) w in
+            let z : place ≡ 0 =
+            emptied-place A n asked a place
+            (subst (λ l. In asked a l place) (append-nil (tour A 0 (n, []))) th) in
+            record {
+              formed = emptied A look new xs n w2 (subst (λ i. Loses look new i) (sym here) lo);
+              at_zero = z;
+              valid = inr (refl, refl, refl);
+              at_place = ((refl, refl, refl), z);
+              paid = omega arith;
+            }
+
+        at : (h : ℕ) (c : Above A h) (t : Shape A h) → id_of A h t ≡ id → IsWhole A look [] root xs h c t
+            → v ≡ view_at A h (parent_above c) t → In asked a (whole_tour A h c t) place
+            → given + (strain_of A h c t + owed c (count_at A h t)) ≤ bound → count_at A h t ≡ 0 → Emptied new
+        at h (under f c) t here w is th pd z =
+            let e = view-parent A h (Some (frame_id f)) t in
+            let q : parent_of v ≡ Some (frame_id f) = ap parent_of is ∙ e in
+            absurd (cc)
+        at (suc h) top t here w is th pd z = absurd (let q : is_internal v ≡ true = ap is_internal is in cc)
+        at zero top (n, x ∷ ys) here w is th pd z = absurd (omega arith)
+        at zero top (n, []) here w is th pd z = gone n here w th pd
