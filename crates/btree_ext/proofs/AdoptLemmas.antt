@@ -4,9 +4,9 @@ use Rattle.std.proofs.lemmas.List.{take_all}
 use Rattle.std.specs.FinMap as map
 use Rattle.btree_store.specs.Content.{Content}
 use Rattle.btree_node.specs.declared.node.Node.{Node}
-use Rattle.btree_node.specs.Edits.{with_parent}
+use Rattle.btree_view.specs.Edits.{with_parent}
 use Rattle.btree_node.specs.Node.{view_of}
-use Rattle.btree_node.specs.View.{View, Look, leaf, internal, children_in, children_of}
+use Rattle.btree_view.specs.View.{View, Look, leaf, internal, children_in, children_of}
 use Rattle.btree_shape.specs.Shape.{one, times_listed}
 use Rattle.btree_shape.specs.Step.{Adopts}
 use Rattle.btree_shape.specs.TreeState.{views}

@@ -5,8 +5,8 @@ use Rattle.std.specs.FinMap as map
 use Rattle.btree_store.specs.Content.{Content}
 use Rattle.btree_node.specs.declared.node.Node.{Node}
 use Rattle.btree_node.specs.Node.{view_of}
-use Rattle.btree_node.specs.Edits.{IsOverflowing, with_item, with_parent}
-use Rattle.btree_node.specs.View.{View, Look, children_in, children_of, internal, most_of, parent_of, size_of}
+use Rattle.btree_view.specs.Edits.{IsOverflowing, with_item, with_parent}
+use Rattle.btree_view.specs.View.{View, Look, children_in, children_of, internal, most_of, parent_of, size_of}
 use Rattle.btree_shape.specs.Growing.{IsGrowing, IsGrown}
 use Rattle.btree_shape.specs.Moved.{moved_by_split}
 use Rattle.btree_shape.specs.Place.{IsBack}
@@ -38,11 +38,11 @@ none-listed : (ids : List ℕ) → length ids ≡ 0 → (n : ℕ) → times_list
 none-listed [] none n = refl
 none-listed (x ∷ ids) none n = absurd (omega arith)
 
-back-some : {A : Type 0} (look : Look A) (o : Option ℕ) → IsSome o → IsBack look o
+pub back-some : {A : Type 0} (look : Look A) (o : Option ℕ) → IsSome o → IsBack look o
 back-some look None is = absurd (cc)
 back-some look (Some o) is = tt
 
-some-back : {A : Type 0} (look : Look A) (o : Option ℕ) → IsBack look o → IsSome o
+pub some-back : {A : Type 0} (look : Look A) (o : Option ℕ) → IsBack look o → IsSome o
 some-back look None is = absurd is
 some-back look (Some o) is = refl
 

@@ -9,10 +9,12 @@ use Rattle.btree_item.proofs.PairEdits.{length-with_value}
 use Rattle.btree_item.specs.Pairs.{Ascends, before, found, found_value, with_value}
 use Rattle.btree_node.specs.declared.node.Node.{Node}
 use Rattle.btree_node.specs.declared.node.Node.TheVariants.{Leaf, Internal}
-use Rattle.btree_node.specs.LookUp.{found_or, find_in, child_for}
+use Rattle.btree_view.specs.LookUp.{found_or, find_in, child_for}
 use Rattle.btree_node.specs.Node.{view_of}
-use Rattle.btree_node.specs.NodeLends.{node_with_value, leaf_with_value, internal_with_value}
-use Rattle.btree_node.specs.View.{items_of}
+use Rattle.btree_node.specs.NodeLends.{node_with_value}
+use Rattle.btree_leaf.specs.LeafLends.{leaf_with_value}
+use Rattle.btree_internal.specs.InternalLends.{internal_with_value}
+use Rattle.btree_view.specs.View.{items_of}
 use Rattle.btree_shape.specs.Step.{HasItems}
 use Rattle.btree_shape.specs.TreeState.{views}
 use Rattle.btree_ext.specs.Exchange.{CanExchange, Exchanges, items_in}

@@ -8,7 +8,7 @@ use Rattle.btree_store.specs.ContentLaws.{get-insert_other}
 use Rattle.btree_item.specs.declared.address.Address.{Address}
 use Rattle.btree_node.specs.declared.node.Node.{Node}
 use Rattle.btree_node.specs.Node.{view_of}
-use Rattle.btree_node.specs.View.{leaf, item_in}
+use Rattle.btree_view.specs.View.{leaf, item_in}
 use Rattle.btree_shape.specs.Place.{IsPlace, IsPlaceOf}
 use Rattle.btree_shape.specs.Shape.{one, times_listed}
 use Rattle.btree_shape.specs.Step.{Puts}

@@ -5,7 +5,7 @@ use Rattle.std.specs.FinMap as map
 use Rattle.btree_store.specs.Content.{Content}
 use Rattle.btree_node.specs.declared.node.Node.{Node}
 use Rattle.btree_node.specs.Node.{view_of}
-use Rattle.btree_node.specs.View.{View, Look, leaf, internal, children_of}
+use Rattle.btree_view.specs.View.{View, Look, leaf, internal, children_of}
 use Rattle.btree_shape.specs.Spells.{Spells}
 use Rattle.btree_shape.specs.TreeState.{views}
 

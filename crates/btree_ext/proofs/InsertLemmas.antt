@@ -9,7 +9,7 @@ use Rattle.btree_item.proofs.PairLemmas.{inserted-from_Err}
 use Rattle.btree_item.specs.Pairs.{Fits, before, found, inserted, place_of, with_value}
 use Rattle.btree_item.specs.declared.address.Address.{Address}
 use Rattle.btree_node.specs.declared.node.Node.{Node}
-use Rattle.btree_node.specs.View.{items_of}
+use Rattle.btree_view.specs.View.{items_of}
 use Rattle.btree_shape.specs.Shape.{times_listed}
 use Rattle.btree_shape.specs.Spells.{numbers_under}
 use Rattle.btree_shape.specs.TreeState.{TreeState, views, pairs_under, pairs_of, IsSound}

@@ -6,10 +6,15 @@ pub mod FirstLemmas
 pub mod GrowLemmas
 pub mod HeightLemmas
 pub mod InsertLemmas
+pub mod LendLemmas
 pub mod LiftLemmas
+pub mod MendLemmas
 pub mod MoreLemmas
 pub mod NeedLemmas
 pub mod OffsetLemmas
 pub mod SearchLemmas
+pub mod ShrinkLemmas
 pub mod StepLemmas
 pub mod TreeLemmas
+pub mod RawLemmas
+pub mod TurnLemmas

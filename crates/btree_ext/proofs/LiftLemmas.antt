@@ -9,9 +9,9 @@ use Rattle.std.specs.FinMap as map
 use Rattle.std.specs.List.{position, position_from}
 use Rattle.btree_store.specs.Content.{Content}
 use Rattle.btree_node.specs.declared.node.Node.{Node}
-use Rattle.btree_node.specs.Edits.{is_internal, with_item}
+use Rattle.btree_view.specs.Edits.{is_internal, with_item}
 use Rattle.btree_node.specs.Node.{view_of}
-use Rattle.btree_node.specs.View.{View, leaf, internal, children_of, most_of, size_of}
+use Rattle.btree_view.specs.View.{View, leaf, internal, children_of, most_of, size_of}
 use Rattle.btree_shape.specs.Shape.{one, times_listed}
 use Rattle.btree_shape.specs.TreeState.{views}
 use Rattle.btree_shape.proofs.Numbers.{same-or}

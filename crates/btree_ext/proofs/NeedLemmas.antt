@@ -8,10 +8,10 @@ use Rattle.std.specs.declared.cmp.Ordering.{Ordering}
 use Rattle.btree_store.specs.Content.{Content}
 use Rattle.btree_node.specs.declared.node.Node.{Node}
 use Rattle.btree_node.specs.declared.node.Node.TheVariants.{Internal, Leaf}
-use Rattle.btree_node.specs.Internal.{Internal as InternalParts}
-use Rattle.btree_node.specs.Leaf.{Leaf as LeafParts}
+use Rattle.btree_internal.specs.Internal.{Internal as InternalParts}
+use Rattle.btree_leaf.specs.Leaf.{Leaf as LeafParts}
 use Rattle.btree_node.specs.Node.{view_of}
-use Rattle.btree_node.specs.View.{Look, most_of, parent_of, size_of}
+use Rattle.btree_view.specs.View.{Look, most_of, parent_of, size_of}
 use Rattle.btree_shape.specs.Need.{IsNeeding, levels_above, need, need_from, needed, wanted}
 use Rattle.btree_shape.specs.Node.{IsNode}
 use Rattle.btree_shape.specs.Shape.{IsFilled, IsFilledBelow, Shape, count_at, items_under, later_items, most_at}

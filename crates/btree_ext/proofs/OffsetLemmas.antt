@@ -2,7 +2,7 @@
 use Rattle.std.proofs.Common.{ℕ, zero, suc, ◌+◌, ◌<◌, ◌≤◌, ◌^◌, ◌-◌, inl, inr, List, [], ◌∷◌, ◌++◌, length, Option, Some, None, IfSome, sym, subst, arith}
 use Rattle.std.specs.List.{AllByRecursion}
 use Rattle.btree_item.specs.declared.address.Address.{Address}
-use Rattle.btree_node.specs.View.{Look}
+use Rattle.btree_view.specs.View.{Look}
 use Rattle.btree_shape.specs.Growing.{IsGrowing}
 use Rattle.btree_shape.specs.Shape.{IsFilled, IsFilledBelow, Shape, count_at, most_at}
 use Rattle.btree_shape.specs.Tour.{In, Tick, branch_key, branch_tour, lead, mark, over, slot, ticks, ticks_to, tour, tour_after, tour_before, way_after, way_before, whole_tour}

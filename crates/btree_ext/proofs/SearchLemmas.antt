@@ -9,9 +9,9 @@ use Rattle.btree_item.specs.Pairs.{Ascends, before, found, found_value, place_of
 use Rattle.btree_item.specs.Offset.{index_offset}
 use Rattle.btree_item.specs.declared.address.Address.{Address}
 use Rattle.btree_node.specs.declared.node.Node.{Node}
-use Rattle.btree_node.specs.LookUp.{placed, offset_in}
+use Rattle.btree_view.specs.LookUp.{placed, offset_in}
 use Rattle.btree_node.specs.Node.{view_of}
-use Rattle.btree_node.specs.View.{View, Look, leaf, internal, items_of, children_of, item_in, size_of}
+use Rattle.btree_view.specs.View.{View, Look, leaf, internal, items_of, children_of, item_in, size_of}
 use Rattle.btree_shape.specs.Place.{IsOccupied, NOWHERE}
 use Rattle.btree_shape.specs.Search.{IsSearching}
 use Rattle.btree_shape.specs.TreeState.{views, pairs_under, IsSound}

@@ -5,9 +5,9 @@ use Rattle.btree_store.specs.Content.{Content}
 use Rattle.btree_store.specs.ContentLaws.{get-insert_same, get-insert_other}
 use Rattle.btree_item.specs.Offset.{index_offset}
 use Rattle.btree_node.specs.declared.node.Node.{Node}
-use Rattle.btree_node.specs.Edits.{HasChildFor, IsOverflowing, IsSplit}
+use Rattle.btree_view.specs.Edits.{HasChildFor, IsOverflowing, IsSplit}
 use Rattle.btree_node.specs.Node.{view_of}
-use Rattle.btree_node.specs.View.{View, leaf, internal, size_of, most_of}
+use Rattle.btree_view.specs.View.{View, leaf, internal, size_of, most_of}
 use Rattle.btree_shape.specs.Step.{Puts}
 use Rattle.btree_shape.specs.TreeState.{views}
 use Rattle.btree_ext.specs.Steps.{CanTake, CanSplit, Halves}

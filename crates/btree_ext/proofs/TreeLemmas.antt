@@ -7,7 +7,7 @@ use Rattle.btree_store.specs.Content.{Content}
 use Rattle.btree_store.specs.ContentLaws.{same_content}
 use Rattle.btree_item.proofs.PairEdits.{Ascends-none}
 use Rattle.btree_item.specs.declared.address.Address.{Address}
-use Rattle.btree_node.specs.View.{items_of, item_in}
+use Rattle.btree_view.specs.View.{items_of, item_in}
 use Rattle.btree_ext.specs.Answers.{item_at}
 use Rattle.btree_node.specs.declared.node.Node.{Node}
 use Rattle.btree_node.specs.Node.{view_of}

@@ -4,7 +4,7 @@ use Rattle.std.specs.Option.{option_and_then}
 use Rattle.std.specs.declared.cmp.Ordering.{Ordering}
 use Rattle.btree_item.specs.Pairs.{Ascends, found, place_of}
 use Rattle.btree_item.specs.declared.address.Address.{Address}
-use Rattle.btree_node.specs.View.{View, Look, items_of, item_in}
+use Rattle.btree_view.specs.View.{View, Look, items_of, item_in}
 use Rattle.btree_shape.specs.Spells.{Spells}
 use Rattle.btree_shape.specs.Place.{IsPlace, IsOccupied, IsBack, IsLeafAddress}
 

@@ -2,7 +2,7 @@
 use Rattle.std.specs.Prelude.{◌≡◌, ℕ, List, [], Option, Some, None, Ok}
 use Rattle.std.specs.declared.cmp.Ordering.{Ordering}
 use Rattle.btree_item.specs.Pairs.{Ascends, place_of, with_value}
-use Rattle.btree_node.specs.View.{View, Look, items_of}
+use Rattle.btree_view.specs.View.{View, Look, items_of}
 use Rattle.btree_shape.specs.Step.{Puts, HasItems}
 
 -- the items of a node, if there is one

@@ -7,7 +7,7 @@ use Rattle.btree_store.specs.Content.{Content}
 use Rattle.btree_item.specs.Pairs.{Fits, found}
 use Rattle.btree_item.specs.declared.address.Address.{Address}
 use Rattle.btree_item.specs.declared.refused.Cause.{Cause}
-use Rattle.btree_item.specs.declared.refused.Cause.TheVariants.{Store, Count, Leaf}
+use Rattle.btree_item.specs.declared.refused.Cause.TheVariants.{Store, Count}
 use Rattle.btree_node.specs.declared.node.Node.{Node}
 use Rattle.btree_shape.specs.Need.{need}
 use Rattle.btree_shape.specs.Place.{IsPlace, IsBack, IsLeafAddress}
@@ -44,7 +44,6 @@ abbrev pub IsRefused : {K V : Type 0} → (Content (Node K V) → Type 0) → (l
 IsRefused MayRefuse leaf old new Store =
     (new ≡ record old { refusals = old.refusals + 1 }) × MayRefuseOneOf EMPTY MayRefuse old.nodes (need (views old.nodes) old.root old.len leaf)
 IsRefused MayRefuse leaf old new Count = (new ≡ old) × (old.len ≡ 2 ^ 64 - 1)
-IsRefused MayRefuse leaf old new Leaf = ⊥
 
 module _ {K V : Type 0} (cmp : K → K → Ordering) (k : K) (old new : TreeState K V) where
   -- how many nodes an insertion by key took: those that were needed at the gap of an absent key, and none for one that is there

@@ -1,8 +1,8 @@
 -- Changes of single nodes: what they ask, and what is there afterwards.
 use Rattle.std.specs.Prelude.{◌≡◌, ◌≢◌, ℕ, ◌+◌, ◌<◌, ◌≤◌, List, length, slice_get, Option, Some, option_map, IsTrue}
 use Rattle.btree_item.specs.declared.address.Address.{Address}
-use Rattle.btree_node.specs.View.{View, Look, size_of, most_of, children_in, children_of}
-use Rattle.btree_node.specs.Edits.{with_parent, with_item, is_internal, HasChildFor, IsOverflowing, IsSplit}
+use Rattle.btree_view.specs.View.{View, Look, size_of, most_of, children_in, children_of}
+use Rattle.btree_view.specs.Edits.{with_parent, with_item, is_internal, HasChildFor, IsOverflowing, IsSplit}
 use Rattle.btree_shape.specs.Growing.{IsGrowing, IsGrown}
 use Rattle.btree_shape.specs.Shape.{times_listed}
 use Rattle.btree_shape.specs.Step.{Puts}

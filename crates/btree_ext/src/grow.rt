@@ -133,7 +133,7 @@ fn moved_by_split(
 
 /// Splits a node that has an item too many, and so on upward, into claimed nodes. Answers where the address is then.
 pub(crate) fn split_up<K: Drop, V: Drop, C: SlabMut<Node<K, V>>>(
-    tree: &mut Parts<C>,
+    tree: &mut Parts<K, V, C>,
     start: usize,
     addr: Address,
     claims: &mut Claims,

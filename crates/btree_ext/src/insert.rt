@@ -21,7 +21,7 @@ fn refused<K, V>(cause: Cause, item: Item<K, V>) -> Refused<K, V>
 
 // Puts the first pair into a tree that is empty.
 fn insert_first<K: Ord + Drop, V: Drop, C: SlabMut<Node<K, V>>>(
-    tree: &mut Parts<C>,
+    tree: &mut Parts<K, V, C>,
     addr: Address,
     item: Item<K, V>,
 ) -> Result<Address, Refused<K, V>>
@@ -46,7 +46,7 @@ fn insert_first<K: Ord + Drop, V: Drop, C: SlabMut<Node<K, V>>>(
 
 // Puts a pair whose key fits into a leaf of a tree that is not empty.
 fn insert_more<K: Ord + Drop, V: Drop, C: SlabMut<Node<K, V>>>(
-    tree: &mut Parts<C>,
+    tree: &mut Parts<K, V, C>,
     addr: Address,
     item: Item<K, V>,
 ) -> Result<Address, Refused<K, V>>
@@ -73,7 +73,7 @@ fn insert_more<K: Ord + Drop, V: Drop, C: SlabMut<Node<K, V>>>(
 // Puts a pair at the address of a gap that its key fits. It is refused, and nothing changes, where the store refuses a node that is
 // needed, or where there are as many pairs as can be counted.
 pub(crate) fn insert_at_gap<K: Ord + Drop, V: Drop, C: SlabMut<Node<K, V>>>(
-    tree: &mut Parts<C>,
+    tree: &mut Parts<K, V, C>,
     addr: Address,
     item: Item<K, V>,
 ) -> Result<Address, Refused<K, V>>

@@ -6,11 +6,17 @@ mod exchange;
 mod ext;
 mod grow;
 mod insert;
+mod lend;
+mod mend;
+mod moved;
 mod need;
 mod nodes;
 mod parts;
+mod raw;
 mod search;
+mod shrink;
 mod tree;
 
 pub use ext::BTreeExt;
+pub use raw::RawBTree;
 pub use tree::Tree;

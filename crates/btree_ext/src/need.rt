@@ -2,7 +2,7 @@
 ghost use Rattle.std.specs.Prelude.{◌≡◌, ◌≤◌, ◌↔◌, IsSome, IsTrue};
 ghost use Rattle.std.specs.FinMap as map;
 ghost use Rattle.btree_node.specs.Node.{view_of};
-ghost use Rattle.btree_node.specs.View.{size_of, most_of};
+ghost use Rattle.btree_view.specs.View.{size_of, most_of};
 ghost use Rattle.btree_shape.specs.Need as needs;
 ghost use Rattle.btree_shape.specs.TreeState.{views, IsSound};
 
@@ -23,7 +23,7 @@ fn is_full<K, V>(node: &Node<K, V>) -> bool
 
 /// How many nodes an insertion in a leaf takes: one for each full node from there upward without a gap, and one more where
 /// the last of them is the root.
-pub(crate) fn need<K: Ord, V, C: SlabMut<Node<K, V>>>(tree: &Parts<C>, start: usize) -> usize
+pub(crate) fn need<K: Ord, V, C: SlabMut<Node<K, V>>>(tree: &Parts<K, V, C>, start: usize) -> usize
     requires fits { C.Fits }
     requires sound { IsSound K.cmp (C.content tree.now.nodes) tree.now.root tree.now.len }
     requires used { IsSome (map.get (C.content tree.now.nodes) start) }

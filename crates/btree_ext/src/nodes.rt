@@ -1,9 +1,9 @@
 //! Single changes of nodes in a store.
 ghost use Rattle.std.specs.Prelude.{◌≡◌, ◌<◌, ◌≤◌, Some, None, IsSome, IsSomeAnd, length, option_map};
 ghost use Rattle.std.specs.FinMap as map;
-ghost use Rattle.btree_node.specs.Edits.{HasChildFor, with_item};
+ghost use Rattle.btree_view.specs.Edits.{HasChildFor, with_item};
 ghost use Rattle.btree_node.specs.Node.{view_of};
-ghost use Rattle.btree_node.specs.View.{children_in};
+ghost use Rattle.btree_view.specs.View.{children_in};
 ghost use Rattle.btree_shape.specs.Step.{Puts, Adopts};
 ghost use Rattle.btree_shape.specs.TreeState.{views};
 ghost use Rattle.btree_ext.specs.Steps.{CanAdopt, CanSplit, CanTake, SetsParent, AddsItem, Halves};

@@ -1,9 +1,12 @@
 //! What a tree is made of.
+use std::marker::PhantomData;
 
-/// The nodes of a tree in their store, the number of its root, and how many pairs it has.
+/// Nodes in a store, the number of a root, and a length, of which nothing is known. The crate's functions work on these, and their
+/// contracts speak of them.
 #[derive(Drop)]
-pub(crate) struct Parts<C> {
-    pub nodes: C,
-    pub root: Option<usize>,
-    pub len: usize,
+pub(crate) struct Parts<K, V, C> {
+    pub(crate) nodes: C,
+    pub(crate) root: Option<usize>,
+    pub(crate) len: usize,
+    pub(crate) pairs: PhantomData<(K, V)>,
 }

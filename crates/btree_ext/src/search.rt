@@ -3,7 +3,7 @@ ghost use Rattle.std.specs.Prelude.{◌≡◌, ◌*◌, ◌+◌, ◌-◌, ◌^�
 ghost use Rattle.std.specs.Option.{option_and_then};
 ghost use Rattle.btree_item.specs.Pairs.{found_value};
 ghost use Rattle.btree_node.specs.Node.{view_of};
-ghost use Rattle.btree_node.specs.View.{items_of};
+ghost use Rattle.btree_view.specs.View.{items_of};
 ghost use Rattle.btree_shape.specs.TreeState.{views, pairs_under, IsSound};
 ghost use Rattle.btree_ext.specs.Answers.{HasKey, IsAddressOf, AreLevels};
 
@@ -15,7 +15,7 @@ use btree_store::SlabMut;
 
 // The address of a key that is there, else the address in a leaf where it would go.
 pub(crate) fn address_of<K: Ord, V, C: SlabMut<Node<K, V>>>(
-    tree: &Parts<C>,
+    tree: &Parts<K, V, C>,
     key: &K,
 ) -> Result<Address, Address>
     requires fits { C.Fits }
@@ -48,7 +48,7 @@ fn value_at<K, V>(node: &Node<K, V>, offset: Offset) -> Option<&V>
 
 // The value at a key.
 pub(crate) fn get<'a, K: Ord + 'a, V: 'a, C: SlabMut<Node<K, V>>>(
-    tree: &'a Parts<C>,
+    tree: &'a Parts<K, V, C>,
     key: &K,
 ) -> Option<&'a V>
     requires fits { C.Fits }
@@ -73,7 +73,7 @@ pub(crate) fn get<'a, K: Ord + 'a, V: 'a, C: SlabMut<Node<K, V>>>(
 }
 
 // How many levels of nodes there are.
-pub(crate) fn height<K: Ord, V, C: SlabMut<Node<K, V>>>(tree: &Parts<C>) -> usize
+pub(crate) fn height<K: Ord, V, C: SlabMut<Node<K, V>>>(tree: &Parts<K, V, C>) -> usize
     requires fits { C.Fits }
     requires sound { IsSound K.cmp (C.content tree.now.nodes) tree.now.root tree.now.len }
     ensures levels { AreLevels (views (C.content tree.now.nodes)) tree.now.root (pairs_under (views (C.content tree.now.nodes)) tree.now.root tree.now.len) result }

@@ -16,8 +16,7 @@ use std::marker::{Model, PhantomData};
 /// A well formed tree of nodes in a store: at any time its pairs are a list in the order of the keys.
 #[derive(Drop)]
 pub struct Tree<K: Ord, V, C: SlabMut<Node<K, V>>> {
-    parts: Parts<C>,
-    pairs: PhantomData<(K, V)>,
+    raw: Parts<K, V, C>,
 }
 
 impl<K: Ord, V, C: SlabMut<Node<K, V>>> Model for Tree<K, V, C> {
@@ -28,9 +27,9 @@ impl<K: Ord, V, C: SlabMut<Node<K, V>>> Model for Tree<K, V, C> {
 
     ghost coded = { tree_code (Prim.hlevel codes) };
 
-    ghost view = { λ t. record { nodes = C.content t.parts.nodes; root = t.parts.root; len = t.parts.len; refusals = C.refusals t.parts.nodes } };
+    ghost view = { λ t. record { nodes = C.content t.raw.nodes; root = t.raw.root; len = t.raw.len; refusals = C.refusals t.raw.nodes } };
 
-    ghost invariant = { λ t. IsSound K.cmp (C.content t.parts.nodes) t.parts.root t.parts.len × C.Fits };
+    ghost invariant = { λ t. IsSound K.cmp (C.content t.raw.nodes) t.raw.root t.raw.len × C.Fits };
 }
 
 impl<K: Ord, V, C: SlabMut<Node<K, V>>> Tree<K, V, C> {
@@ -48,27 +47,35 @@ impl<K: Ord, V, C: SlabMut<Node<K, V>>> Tree<K, V, C> {
     {
         C::note_fits();
         Tree {
-            parts: Parts {
+            raw: Parts {
                 nodes: C::empty(origin),
                 root: None,
                 len: 0,
+                pairs: PhantomData,
             },
-            pairs: PhantomData,
         }
+    }
+
+    /// Tells that a node fits in memory, where the types of key and value are parameters. It does nothing when it runs.
+    pub fn tell_fits(&self)
+        ensures { FitsInMemory (node_row K.row V.row) }
+    {
+        let _ = &self.raw;
+        C::tell_fits();
     }
 
     /// How many pairs there are.
     pub fn len(&self) -> usize
         ensures { result ≡ length (pairs_of self.now) }
     {
-        self.parts.len
+        self.raw.len
     }
 
     /// The value at a key that equals the given one. Compares at most six keys a level, copies nothing and takes no memory.
     pub fn get(&self, key: &K) -> Option<&V>
         ensures { option_copied result ≡ found_value K.cmp key.now (pairs_of self.now) }
     {
-        search::get(&self.parts, key)
+        search::get(&self.raw, key)
     }
 }
 
@@ -91,9 +98,9 @@ impl<K: Ord + Drop, V: Drop, C: SlabMut<Node<K, V>>> Tree<K, V, C> {
         ensures absent { OnErr result (found K.cmp key (pairs_of self.old) ≡ None) }
         ensures refused { IfErr result (λ r. IsRefusedAtGap K.cmp key self.old self.new C.MayRefuse r.cause) }
     {
-        match search::address_of(&self.parts, &key) {
-            Ok(addr) => Ok(Some(exchange(&mut self.parts.nodes, addr.id, &key, value))),
-            Err(addr) => match insert_at_gap(&mut self.parts, addr, Item::new(key, value)) {
+        match search::address_of(&self.raw, &key) {
+            Ok(addr) => Ok(Some(exchange(&mut self.raw.nodes, addr.id, &key, value))),
+            Err(addr) => match insert_at_gap(&mut self.raw, addr, Item::new(key, value)) {
                 Ok(_) => Ok(None),
                 Err(refused) => Err(refused),
             },
@@ -105,38 +112,38 @@ impl<K: Ord, V, C: SlabMut<Node<K, V>>> BTreeExt<K, V> for Tree<K, V, C> {
     ghost state = { λ t. t };
 
     fn root_id(&self) -> Option<usize> {
-        self.parts.root
+        self.raw.root
     }
 
     fn has_node(&self, id: usize) -> bool {
-        self.parts.nodes.get(id).is_some()
+        self.raw.nodes.get(id).is_some()
     }
 
     fn node(&self, id: usize) -> &Node<K, V> {
-        match self.parts.nodes.get(id) {
+        match self.raw.nodes.get(id) {
             Some(node) => node,
             None => unreachable!(),
         }
     }
 
     fn item(&self, addr: Address) -> Option<&Item<K, V>> {
-        let _ = &self.parts;
+        let _ = &self.raw;
         C::tell_fits();
-        match self.parts.nodes.get(addr.id) {
+        match self.raw.nodes.get(addr.id) {
             Some(node) => node.item(addr.offset),
             None => None,
         }
     }
 
     fn height(&self) -> usize {
-        search::height(&self.parts)
+        search::height(&self.raw)
     }
 
     fn node_count(&self) -> usize {
-        self.parts.nodes.len()
+        self.raw.nodes.len()
     }
 
     fn address_of(&self, key: &K) -> Result<Address, Address> {
-        search::address_of(&self.parts, key)
+        search::address_of(&self.raw, key)
     }
 }

@@ -3,7 +3,7 @@ use Rattle.std.proofs.Common.{◌≡◌, ℕ, ◌+◌, ◌-◌, ◌^◌, ◌<◌
 use Rattle.std.proofs.lemmas.Bool.Decides.{nat_tests}
 use Rattle.std.specs.Prelude.{MatchOption}
 use Rattle.std.specs.declared.cmp.Ordering.{Ordering}
-use Rattle.btree_node.specs.View.{Look, size_of}
+use Rattle.btree_view.specs.View.{Look, size_of}
 use Rattle.btree_shape.specs.WellFormed.{least_of, IsWellFormed}
 use Rattle.btree_shape.specs.Left.{IsUnder}
 use Rattle.btree_shape.proofs.Left.{rest-next, rest-none}

@@ -8,7 +8,7 @@ use Rattle.std.specs.FinMap as map
 use Rattle.btree_store.specs.Content.{Content}
 use Rattle.btree_node.specs.declared.node.Node.{Node}
 use Rattle.btree_node.specs.Node.{view_of}
-use Rattle.btree_node.specs.View.{View, leaf, internal, items_of, children_of}
+use Rattle.btree_view.specs.View.{View, leaf, internal, items_of, children_of}
 use Rattle.btree_shape.specs.Spells.{Spells, spelled}
 use Rattle.btree_shape.specs.TreeState.{views}
 use Rattle.btree_shape.specs.Left.{branches_of, left_above, left_in, IsUnder, AreRows}

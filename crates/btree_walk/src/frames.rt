@@ -3,7 +3,7 @@ ghost use Rattle.std.specs.Prelude.{◌≡◌, ◌∷◌, ◌++◌, ◌+◌, ◌
 ghost use Rattle.std.specs.Mem.{FitsInMemory};
 ghost use Rattle.btree_node.specs.contracts.node.Node.{the_row as node_row};
 ghost use Rattle.btree_node.specs.Node.{view_of};
-ghost use Rattle.btree_node.specs.View.{items_of};
+ghost use Rattle.btree_view.specs.View.{items_of};
 ghost use Rattle.btree_shape.specs.Left.{branches_of, left_above, AreRows, IsUnder};
 ghost use Rattle.btree_shape.specs.Spells.{spelled};
 ghost use Rattle.btree_shape.specs.TreeState.{views, pairs_of};

@@ -40,15 +40,13 @@ impl<'a, K: Ord, V, C: SlabMut<Node<K, V>>> Model for Iter<'a, K, V, C> {
 }
 
 impl<'a, K: Ord, V, C: SlabMut<Node<K, V>>> Iter<'a, K, V, C> {
-    ghost use Rattle.std.specs.Mem.{FitsInMemory};
-    ghost use Rattle.btree_node.specs.contracts.node.Node.{the_row as node_row};
     ghost use Rattle.btree_shape.specs.TreeState.{pairs_of};
 
     /// A walk from the first pair on.
     pub fn new(tree: &'a Tree<K, V, C>) -> Self
-        requires { FitsInMemory (node_row K.row V.row) }
         ensures { result ≡ pairs_of tree.now }
     {
+        tree.tell_fits();
         C::note_fits();
         let mut frames = Slots::new();
         let leaf = start(tree, &mut frames);

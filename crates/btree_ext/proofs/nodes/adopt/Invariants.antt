@@ -1,5 +1,5 @@
 use Rattle.std.proofs.Common.{◌≡◌, take}
-use Rattle.btree_node.specs.View.{children_in}
+use Rattle.btree_view.specs.View.{children_in}
 use Rattle.btree_shape.specs.Step.{Adopts}
 use Rattle.btree_shape.specs.TreeState.{views}
 use Rattle.btree_ext.proofs.nodes.adopt.Given as goal

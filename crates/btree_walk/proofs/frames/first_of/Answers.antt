@@ -1,5 +1,5 @@
 use Rattle.btree_node.specs.Node.{view_of}
-use Rattle.btree_node.specs.View.{items_of}
+use Rattle.btree_view.specs.View.{items_of}
 use Rattle.btree_walk.proofs.IterLemmas.{first-left}
 use Rattle.btree_walk.proofs.frames.first_of.Goals as goal
 

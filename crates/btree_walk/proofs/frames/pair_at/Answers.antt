@@ -1,6 +1,6 @@
 use Rattle.std.proofs.Common.{arith}
 use Rattle.btree_node.specs.Node.{view_of}
-use Rattle.btree_node.specs.View.{items_of}
+use Rattle.btree_view.specs.View.{items_of}
 use Rattle.btree_walk.proofs.WalkLemmas.{past, item-at}
 use Rattle.btree_walk.proofs.frames.pair_at.Goals as goal
 
