@@ -1,7 +1,6 @@
 //! The ordered map.
-#![tactic(auto, using(btree_store::specs::ContentLaws::stores))]
+#![tactic(auto)]
 
-mod leaf_steps;
 mod map;
 
 pub use map::BTreeMap;

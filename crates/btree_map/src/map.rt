@@ -1,151 +1,130 @@
 //! The map.
-ghost use Rattle.std.specs.Prelude.{◌≡◌, ◌+◌, ◌↔◌, [], ◌∷◌, length, IsTrue, IfOk, IfErr, OnOk, OnErr, None, option_copied};
+ghost use Rattle.std.specs.Prelude.{◌≡◌, ◌↔◌, [], length, IsTrue, IfOk, IfErr, OnOk, OnErr, None, option_copied};
 ghost use Rattle.std.specs.FinMap as map;
 
-use crate::leaf_steps::{claim_leaf, exchange, put};
-use btree_item::{Cause, M, Refused};
-use btree_node::LeafNode;
+use btree_ext::{BTreeExt, Tree};
+use btree_item::{Address, Item, Refused};
+use btree_node::Node;
 use btree_store::SlabMut;
-use std::marker::{Model, PhantomData};
+use btree_walk::Iter;
+use std::marker::Model;
 
-/// A map from keys to values in the order of the keys, its nodes in a store.
-///
-/// For now the tree is empty or one leaf, so a map holds at most eight pairs.
+/// A map from keys to values in the order of the keys: a B-tree whose nodes lie in a store.
 #[derive(Drop)]
-pub struct BTreeMap<K: Ord, V, C: SlabMut<LeafNode<K, V>>> {
-    nodes: C,
-    root: Option<usize>,
-    len: usize,
-    pairs: PhantomData<(K, V)>,
+pub struct BTreeMap<K: Ord, V, C: SlabMut<Node<K, V>>> {
+    tree: Tree<K, V, C>,
 }
 
-impl<K: Ord, V, C: SlabMut<LeafNode<K, V>>> Model for BTreeMap<K, V, C> {
+impl<K: Ord, V, C: SlabMut<Node<K, V>>> Model for BTreeMap<K, V, C> {
     ghost use Rattle.std.specs.Coded.{codes};
-    ghost use Rattle.btree_shape.specs.LeafState.{TreeState, tree_code, IsSound};
+    ghost use Rattle.btree_shape.specs.TreeState.{TreeState, tree_code};
 
     ghost Value = { TreeState K V };
 
     ghost coded = { tree_code (Prim.hlevel codes) };
 
-    ghost view = { λ m. record { nodes = C.content m.nodes; root = m.root; len = m.len; refusals = C.refusals m.nodes } };
-
-    ghost invariant = { λ m. IsSound K.cmp (C.content m.nodes) m.root m.len × C.Fits };
+    ghost view = { λ m. m.tree };
 }
 
-impl<K: Ord, V, C: SlabMut<LeafNode<K, V>>> BTreeMap<K, V, C> {
-    ghost use Rattle.btree_node.specs.contracts.leaf.LeafNode.{the_row as leaf_row};
+impl<K: Ord, V, C: SlabMut<Node<K, V>>> BTreeMap<K, V, C> {
     ghost use Rattle.std.specs.Mem.{FitsInMemory};
+    ghost use Rattle.btree_node.specs.contracts.node.Node.{the_row as node_row};
     ghost use Rattle.btree_item.specs.Pairs.{found_value};
-    ghost use Rattle.btree_shape.specs.LeafState.{pairs_of, views};
-    ghost use Rattle.btree_shape.specs.WellFormed.{IsWellFormed};
+    ghost use Rattle.btree_shape.specs.TreeState.{pairs_of};
 
     /// A map with no pairs, over an empty store that is made from its origin. It takes no memory.
     ///
     /// That a node fits in memory is known wherever the types of key and value are.
     pub fn new(origin: C::Origin) -> Self
-        requires { FitsInMemory (leaf_row K.row V.row) }
+        requires { FitsInMemory (node_row K.row V.row) }
         ensures empty { pairs_of result ≡ [] }
         ensures state { result ≡ record { nodes = map.empty; root = None; len = 0; refusals = 0 } }
     {
-        C::note_fits();
         BTreeMap {
-            nodes: C::empty(origin),
-            root: None,
-            len: 0,
-            pairs: PhantomData,
+            tree: Tree::new(origin),
         }
     }
 
     /// How many pairs there are.
     pub fn len(&self) -> usize
-        ensures value { result ≡ length (pairs_of self.now) }
-        ensures well_formed { IsWellFormed K.cmp (views self.now.nodes) self.now.root self.now.len (pairs_of self.now) }
+        ensures { result ≡ length (pairs_of self.now) }
     {
-        self.len
+        self.tree.len()
     }
 
     /// Whether there are no pairs.
     pub fn is_empty(&self) -> bool
         ensures { IsTrue result ↔ (pairs_of self.now ≡ []) }
     {
-        self.len == 0
+        self.len() == 0
     }
 
-    /// The value at a key that equals the given one. Compares at most six keys a node, copies nothing and takes no memory.
+    /// The value at a key that equals the given one. Compares at most six keys a level, copies nothing and takes no memory.
     pub fn get(&self, key: &K) -> Option<&V>
         ensures { option_copied result ≡ found_value K.cmp key.now (pairs_of self.now) }
     {
-        let Some(root) = self.root else {
-            return None;
-        };
-        C::tell_fits();
-        match self.nodes.get(root) {
-            Some(leaf) => leaf.get(key),
-            None => unreachable!(),
-        }
+        self.tree.get(key)
+    }
+
+    /// The pairs in the order of the keys. A whole walk fetches each node once, and takes no memory.
+    pub fn iter(&self) -> Iter<'_, K, V, C>
+        ensures { result ≡ pairs_of self.now }
+    {
+        Iter::new(&self.tree)
     }
 }
 
-impl<K: Ord + Drop, V: Drop, C: SlabMut<LeafNode<K, V>>> BTreeMap<K, V, C> {
+impl<K: Ord + Drop, V: Drop, C: SlabMut<Node<K, V>>> BTreeMap<K, V, C> {
     ghost use Rattle.btree_item.specs.Pairs.{found, found_value, inserted};
-    ghost use Rattle.btree_shape.specs.LeafState.{pairs_of};
-    ghost use Rattle.btree_map.specs.Refusal.{IsRefused};
+    ghost use Rattle.btree_shape.specs.TreeState.{pairs_of};
+    ghost use Rattle.btree_ext.specs.Insert.{IsRefusedAtGap, Took};
 
     /// Puts a pair in, or exchanges the value at a key that is there: the stored key stays, and the given one is dropped.
     ///
-    /// It is refused where the key is absent and the store refuses a node, or the leaf is full; the pair comes back then.
+    /// An absent key takes a node for each full node from its leaf upward without a gap, and one more where the last of them is the
+    /// root. It is refused, and the pair comes back, where the store refuses one of these, or where there are `usize::MAX` pairs.
     pub fn insert(&mut self, key: K, value: V) -> Result<Option<V>, Refused<K, V>>
         ensures old { IfOk result (λ old. old ≡ found_value K.cmp key (pairs_of self.old)) }
         ensures inserted { OnOk result (pairs_of self.new ≡ inserted K.cmp key value (pairs_of self.old)) }
+        ensures took { OnOk result (Took K.cmp key self.old self.new) }
         ensures uncounted { OnOk result (self.new.refusals ≡ self.old.refusals) }
 
         ensures returned { IfErr result (λ r. (r.key ≡ key) × (r.value ≡ value)) }
         ensures absent { OnErr result (found K.cmp key (pairs_of self.old) ≡ None) }
-        ensures refused { IfErr result (λ r. IsRefused C.MayRefuse self.old self.new r.cause) }
+        ensures refused { IfErr result (λ r. IsRefusedAtGap K.cmp key self.old self.new C.MayRefuse r.cause) }
     {
-        let Some(root) = self.root else {
-            return self.insert_first(key, value);
-        };
-        if self.len < M {
-            match put(&mut self.nodes, root, key, value) {
-                Some(old) => return Ok(Some(old)),
-                None => {
-                    self.len += 1;
-                    return Ok(None);
-                }
-            }
-        }
-        let old = match exchange(&mut self.nodes, root, &key, value) {
-            Ok(old) => old,
-            Err(value) => {
-                let cause = Cause::Leaf;
-                return Err(Refused { cause, key, value });
-            }
-        };
-        Ok(Some(old))
+        self.tree.insert(key, value)
+    }
+}
+
+impl<K: Ord, V, C: SlabMut<Node<K, V>>> BTreeExt<K, V> for BTreeMap<K, V, C> {
+    ghost state = { λ m. m };
+
+    fn root_id(&self) -> Option<usize> {
+        self.tree.root_id()
     }
 
-    // Makes the root of an empty map, with one pair.
-    fn insert_first(&mut self, key: K, value: V) -> Result<Option<V>, Refused<K, V>>
-        requires { self.old.root ≡ None }
-        ensures old { IfOk result (λ old. old ≡ None) }
-        ensures inserted { OnOk result (pairs_of self.new ≡ (key, value) ∷ []) }
-        ensures uncounted { OnOk result (self.new.refusals ≡ self.old.refusals) }
-        ensures refused { IfErr result (λ r. (r.cause ≡ Cause.Store) × (r.key ≡ key) × (r.value ≡ value)) }
-        ensures allowed { OnErr result (C.MayRefuse self.old.nodes) }
-        ensures counted { OnErr result (self.new ≡ record self.old { refusals = self.old.refusals + 1 }) }
-    {
-        match claim_leaf(&mut self.nodes) {
-            Some(root) => {
-                put(&mut self.nodes, root, key, value);
-                self.root = Some(root);
-                self.len = 1;
-                Ok(None)
-            }
-            None => {
-                let cause = Cause::Store;
-                Err(Refused { cause, key, value })
-            }
-        }
+    fn has_node(&self, id: usize) -> bool {
+        self.tree.has_node(id)
+    }
+
+    fn node(&self, id: usize) -> &Node<K, V> {
+        self.tree.node(id)
+    }
+
+    fn item(&self, addr: Address) -> Option<&Item<K, V>> {
+        self.tree.item(addr)
+    }
+
+    fn height(&self) -> usize {
+        self.tree.height()
+    }
+
+    fn node_count(&self) -> usize {
+        self.tree.node_count()
+    }
+
+    fn address_of(&self, key: &K) -> Result<Address, Address> {
+        self.tree.address_of(key)
     }
 }

@@ -9,22 +9,30 @@ use btree_store::SlabStore;
 mod tests;
 
 /// A map in nodes that lie in a slab, with memory from the global allocator.
-pub type BTreeMap<K, V> = generic::BTreeMap<K, V, SlabStore<generic::node::LeafNode<K, V>>>;
+pub type BTreeMap<K, V> = generic::BTreeMap<K, V, SlabStore<generic::Node<K, V>>>;
 
 /// The types over any store of nodes.
 pub mod generic {
     pub use btree_map::BTreeMap;
+    pub use btree_node::Node;
 
-    /// The map, and how an insertion is refused.
+    /// The map and the tree in it, and how an insertion is refused.
     pub mod map {
+        pub use btree_ext::{BTreeExt, RawBTree, Tree};
         pub use btree_item::{Cause, M, Refused};
         pub use btree_map::BTreeMap;
+        pub use btree_walk::Iter;
     }
 
     /// Nodes, their items, and addresses.
     pub mod node {
         pub use btree_item::{Address, Item, Keyed, Offset};
-        pub use btree_node::LeafNode;
+        pub use btree_node::{Balance, InternalNode, LeafNode, Node, PoppedItem, WouldUnderflow};
+
+        /// Nodes with children.
+        pub mod internal {
+            pub use btree_node::internal::{Branch, Internal};
+        }
     }
 }
 
