@@ -7,7 +7,7 @@ mod tests;
 ghost use Rattle.std.specs.Prelude.{◌≡◌, Some};
 ghost use Rattle.btree_script.specs.Ending.{status_of, text_of};
 
-use btree_node::LeafNode;
+use btree_node::Node;
 use btree_session::{Session, Stop, drive};
 use btree_store::SlabStore;
 use std::process::ExitCode;
@@ -62,7 +62,7 @@ fn check_arguments(rt: &(impl Env + Alloc)) -> Result<(), Ending> {
 
 fn run(rt: &(impl Env + Input + Print + AllocGlobal)) -> Result<(), Ending> {
     check_arguments(rt)?;
-    let mut session: Session<SlabStore<LeafNode<u64, u64>>> = Session::new(rt.alloc());
+    let mut session: Session<SlabStore<Node<u64, u64>>> = Session::new(rt.alloc());
     let (mut input, mut output) = (rt.reader(), io::writer(rt));
     drive(rt.alloc(), &mut session, &mut input, &mut output).map_err(Ending::Stopped)
 }

@@ -6,3 +6,4 @@ pub mod Sayings
 pub mod Digits
 pub mod Lines
 pub mod Serving
+pub mod Printing

@@ -2,52 +2,44 @@
 use Rattle.std.proofs.Common.{◌≡◌, ℕ, ◌+◌, ◌<◌, List, [], ◌∷◌, ◌++◌, take, drop, length, add-one, Option, Some, None, IfSome, Ok, Err, Bool, true, false, cond, ◌⊎◌, inl, inr, refl, sym, ap, ◌∙◌, arith, append_assoc, append-nil, length-append}
 use Rattle.std.specs.Prelude.{position}
 use Rattle.std.proofs.lemmas.List.Quantifiers.{position-Some}
-use Rattle.std.proofs.lemmas.Grind.{flat_map-append}
 use Rattle.std.specs.Io.BufRead.{take_through, drop_through, strip_last, DropsConsumable, DropsThrough}
 use Rattle.std.specs.Io.KnownBytes.{Appends, Keeps, IsAtEnd, append_known, prepend_known}
-use Rattle.btree_session.specs.declared.command.Command.{Command}
-use Rattle.btree_session.specs.declared.command.Reply.{Reply}
 use Rattle.btree_session.specs.declared.line.Line.{Line}
 use Rattle.btree_session.specs.declared.line.Line.TheVariants.{Other}
 use Rattle.btree_session.specs.declared.script.Stop.{Stop}
 use Rattle.btree_session.specs.declared.script.Stop.TheVariants.{NotACommand, Memory, Input, Output}
-use Rattle.btree_session.specs.Line.{line_words, Says, IsSaid}
-use Rattle.btree_session.specs.Machine.{SessionState, Step}
-use Rattle.btree_session.specs.Text.{line_of, lines_of_replies}
-use Rattle.btree_session.specs.Script.{is_newline, lines_of, ReadsLine, SayAll, Serves, EndsAfter, Writes, Drives}
+use Rattle.btree_session.specs.Line.{line_words, IsSaid}
+use Rattle.btree_store.specs.Content.{Content}
+use Rattle.btree_node.specs.declared.node.Node.{Node}
+use Rattle.btree_shape.specs.TreeState.{TreeState}
+use Rattle.btree_session.specs.Script.{is_newline, lines_of, ReadsLine, Does, Serves, EndsAfter, Writes, Drives}
 use Rattle.btree_session.proofs.Lines.{lines_of-cons, cut_at_newline}
-use Rattle.btree_session.proofs.Runs.{IsRun-append}
-
-SayAll-append : (lines more : List (List ℕ)) (cs ds : List Command) → SayAll lines cs → SayAll more ds → SayAll (lines ++ more) (cs ++ ds)
-SayAll-append [] more cs ds first second = let none : cs ≡ [] = first in rw none second
-SayAll-append (line ∷ lines) more cs ds first second = elim first [
-  | inl empty ↦ inl (empty.0, SayAll-append lines more cs ds empty.1 second)
-  | inr said ↦ inr (said.0, said.1 ++ ds, ap (λ all. all ++ ds) said.2, said.3, SayAll-append lines more said.1 ds said.4 second)
-]
 
 -- more lines are served
-Serves-append : (old mid new : SessionState) (lines more : List (List ℕ)) (rs ss : List Reply) → Serves old lines rs mid → Serves mid more ss new → Serves old (lines ++ more) (rs ++ ss) new
-Serves-append old mid new lines more rs ss first second = record {
-  commands = first.commands ++ second.commands;
-  say = SayAll-append lines more first.commands second.commands first.say second.say;
-  run = IsRun-append old mid new first.commands second.commands rs ss first.run second.run;
-}
-
--- a line that says a command
-pub one_served : (old new : SessionState) (command : Command) (before after : List ℕ) → ((reply : Reply) × Step old command reply new × (after ≡ before ++ line_of reply))
-    → (line : List ℕ) → Says (line_words line) command → (given : List Reply) × Serves old (line ∷ []) given new × (after ≡ before ++ lines_of_replies given)
-one_served old new command before after answered line says = (
-  answered.0 ∷ [],
-  record { commands = command ∷ []; say = inr (command, [], refl, says, refl); run = (new, answered.1, refl) },
-  answered.2 ∙ ap (λ text. before ++ text) (sym (append-nil (line_of answered.0))),
+Serves-append : (May : Content (Node ℕ ℕ) → Type 0) (old mid new : TreeState ℕ ℕ) (lines more : List (List ℕ)) (first second : List ℕ) → Serves May old lines first mid → Serves May mid more second new → Serves May old (lines ++ more) (first ++ second) new
+Serves-append May old mid new [] more first second served next =
+    let none : first ≡ [] = served.0 in let same : mid ≡ old = served.1 in rw (none, ← same) next
+Serves-append May old mid new (line ∷ lines) more first second served next = (
+  served.0,
+  served.1,
+  served.2,
+  served.3 ++ second,
+  served.4,
+  served.5,
+  Serves-append May served.1 mid new lines more served.3 second served.6 next,
+  ap (λ text. text ++ second) served.7 ∙ append_assoc served.2 served.3 second,
 )
 
+-- one line is served
+Serves-one : (May : Content (Node ℕ ℕ) → Type 0) (old new : TreeState ℕ ℕ) (line : List ℕ) (said : Line) (printed : List ℕ) → IsSaid (line_words line) said → Does May old said printed new → Serves May old (line ∷ []) printed new
+Serves-one May old new line said printed says does = (said, new, printed, [], says, does, (refl, refl), sym (append-nil printed))
+
 -- how far it has come
-pub record Progress (old : SessionState) (input before rest after : Option (List ℕ)) (new : SessionState) (number : ℕ) : Type 0 where
+pub record Progress (May : Content (Node ℕ ℕ) → Type 0) (old : TreeState ℕ ℕ) (input before rest after : Option (List ℕ)) (new : TreeState ℕ ℕ) (number : ℕ) : Type 0 where
   pub served : List (List ℕ)
-  pub replies : List Reply
-  pub serves : Serves old served replies new
-  pub writes : Appends before after (lines_of_replies replies)
+  pub printed : List ℕ
+  pub serves : Serves May old served printed new
+  pub writes : Appends before after printed
   pub known : IfSome input (λ text. (left : List ℕ) × (rest ≡ Some left) × (lines_of text ≡ served ++ lines_of left))
   pub count : number ≡ length served + 1
 
@@ -56,11 +48,11 @@ Appends-none None = tt
 Appends-none (Some xs) = sym (append-nil xs)
 
 -- at the start
-pub begun : (old : SessionState) (input before : Option (List ℕ)) → Progress old input before input before old 1
-begun old input before = record {
+pub begun : (May : Content (Node ℕ ℕ) → Type 0) (old : TreeState ℕ ℕ) (input before : Option (List ℕ)) → Progress May old input before input before old 1
+begun May old input before = record {
   served = [];
-  replies = [];
-  serves = record { commands = []; say = refl; run = refl };
+  printed = [];
+  serves = (refl, refl);
   writes = Appends-none before;
   known = at input;
   count = refl;
@@ -76,13 +68,13 @@ Appends-keeps (Some xs) (Some ys) None bytes appends keeps = absurd keeps
 Appends-keeps (Some xs) (Some ys) (Some zs) bytes appends keeps = keeps ∙ appends
 
 -- some of the text was written out
-pub written : (old new : SessionState) (input before rest between after : Option (List ℕ)) (number : ℕ) →
-    Progress old input before rest between new number → Keeps between after → Progress old input before rest after new number
-written old new input before rest between after number so_far keeps = record {
+pub written : (May : Content (Node ℕ ℕ) → Type 0) (old new : TreeState ℕ ℕ) (input before rest between after : Option (List ℕ)) (number : ℕ) →
+    Progress May old input before rest between new number → Keeps between after → Progress May old input before rest after new number
+written May old new input before rest between after number so_far keeps = record {
   served = so_far.served;
-  replies = so_far.replies;
+  printed = so_far.printed;
   serves = so_far.serves;
-  writes = Appends-keeps before between after (lines_of_replies so_far.replies) so_far.writes keeps;
+  writes = Appends-keeps before between after so_far.printed so_far.writes keeps;
   known = so_far.known;
   count = so_far.count;
 }
@@ -118,16 +110,16 @@ at_end None none = tt
 at_end (Some left) none = ap lines_of none
 
 -- the input came to its end
-pub ended : {A : Type 0} (old new : SessionState) (input before rest after : Option (List ℕ)) (number : ℕ) (x : A) →
-    Progress old input before rest after new number → IsAtEnd rest → Drives old input before (Ok x) after new
-ended old new input before rest after number x so_far none =
+pub ended : {A : Type 0} (May : Content (Node ℕ ℕ) → Type 0) (old new : TreeState ℕ ℕ) (input before rest after : Option (List ℕ)) (number : ℕ) (x : A) →
+    Progress May old input before rest after new number → IsAtEnd rest → Drives May old input before (Ok x) after new
+ended May old new input before rest after number x so_far none =
     let all = these_lines input rest so_far.served [] so_far.known (at_end rest none) in
     record {
       lines = all.lines;
       known = all.known;
       served = so_far.served;
       ends = all.are ∙ append-nil so_far.served;
-      replies = so_far.replies;
+      printed = so_far.printed;
       serves = so_far.serves;
       writes = so_far.writes;
     }
@@ -138,50 +130,50 @@ ends_anywhere A served lines Memory anywhere rest = rest
 ends_anywhere A served lines Input anywhere rest = rest
 ends_anywhere A served lines Output anywhere rest = rest
 
-writes_so_far : (A : Type 0) (before after : Option (List ℕ)) (replies : List Reply) (stop : Stop) → Appends before after (lines_of_replies replies) → Writes {A = A} before after replies (Err stop)
-writes_so_far A before after replies (NotACommand number) appends = appends
-writes_so_far A before after replies Memory appends = appends
-writes_so_far A before after replies Input appends = appends
-writes_so_far A before after replies Output appends = tt
+writes_so_far : (A : Type 0) (before after : Option (List ℕ)) (printed : List ℕ) (stop : Stop) → Appends before after printed → Writes {A = A} before after printed (Err stop)
+writes_so_far A before after printed (NotACommand number) appends = appends
+writes_so_far A before after printed Memory appends = appends
+writes_so_far A before after printed Input appends = appends
+writes_so_far A before after printed Output appends = tt
 
 -- it stops between two lines
-pub stopped : {A : Type 0} (old new : SessionState) (input before rest after : Option (List ℕ)) (number : ℕ) (stop : Stop) →
-    Progress old input before rest after new number → ComesAnywhere stop → Drives {A = A} old input before (Err stop) after new
-stopped {A} old new input before rest after number stop so_far anywhere =
+pub stopped : {A : Type 0} (May : Content (Node ℕ ℕ) → Type 0) (old new : TreeState ℕ ℕ) (input before rest after : Option (List ℕ)) (number : ℕ) (stop : Stop) →
+    Progress May old input before rest after new number → ComesAnywhere stop → Drives {A = A} May old input before (Err stop) after new
+stopped {A} May old new input before rest after number stop so_far anywhere =
     let all = some_lines input rest so_far.served so_far.known in
     record {
       lines = all.1.lines;
       known = all.1.known;
       served = so_far.served;
       ends = ends_anywhere A so_far.served all.1.lines stop anywhere (all.0, all.1.are);
-      replies = so_far.replies;
+      printed = so_far.printed;
       serves = so_far.serves;
-      writes = writes_so_far A before after so_far.replies stop so_far.writes;
+      writes = writes_so_far A before after so_far.printed stop so_far.writes;
     }
 
 -- the writer fails
-pub failed : {A : Type 0} (old new : SessionState) (input before rest between after : Option (List ℕ)) (number : ℕ) →
-    Progress old input before rest between new number → Drives {A = A} old input before (Err Output) after new
-failed old new input before rest between after number so_far =
+pub failed : {A : Type 0} (May : Content (Node ℕ ℕ) → Type 0) (old new : TreeState ℕ ℕ) (input before rest between after : Option (List ℕ)) (number : ℕ) →
+    Progress May old input before rest between new number → Drives {A = A} May old input before (Err Output) after new
+failed May old new input before rest between after number so_far =
     let all = some_lines input rest so_far.served so_far.known in
     record {
       lines = all.1.lines;
       known = all.1.known;
       served = so_far.served;
       ends = (all.0, all.1.are);
-      replies = so_far.replies;
+      printed = so_far.printed;
       serves = so_far.serves;
       writes = tt;
     }
 
 -- it stops while it looks for the next line
-pub between_lines : {A : Type 0} (old new : SessionState) (input before rest between after : Option (List ℕ)) (number : ℕ) (stop : Stop) →
-    Progress old input before rest between new number → (stop ≡ Output) ⊎ (((stop ≡ Memory) ⊎ (stop ≡ Input)) × Keeps between after) → Drives {A = A} old input before (Err stop) after new
-between_lines old new input before rest between after number stop so_far cause = elim cause [
-  | inl output ↦ rw output (failed old new input before rest between after number so_far)
+pub between_lines : {A : Type 0} (May : Content (Node ℕ ℕ) → Type 0) (old new : TreeState ℕ ℕ) (input before rest between after : Option (List ℕ)) (number : ℕ) (stop : Stop) →
+    Progress May old input before rest between new number → (stop ≡ Output) ⊎ (((stop ≡ Memory) ⊎ (stop ≡ Input)) × Keeps between after) → Drives {A = A} May old input before (Err stop) after new
+between_lines May old new input before rest between after number stop so_far cause = elim cause [
+  | inl output ↦ rw output (failed May old new input before rest between after number so_far)
   | inr other ↦ elim other.0 [
-    | inl memory ↦ rw memory (stopped old new input before rest after number Memory (written old new input before rest between after number so_far other.1) tt)
-    | inr failure ↦ rw failure (stopped old new input before rest after number Input (written old new input before rest between after number so_far other.1) tt)
+    | inl memory ↦ rw memory (stopped May old new input before rest after number Memory (written May old new input before rest between after number so_far other.1) tt)
+    | inr failure ↦ rw failure (stopped May old new input before rest after number Input (written May old new input before rest between after number so_far other.1) tt)
   ]
 ]
 
@@ -193,9 +185,9 @@ first_line rest next said reads = at rest reads.some reads.first where
   at (Some left) some first = (lines_of (drop_through 10 left), lines_of-cons left some ∙ ap (λ line. line ∷ lines_of (drop_through 10 left)) (sym first))
 
 -- the next line is no command
-pub not_a_command : {A : Type 0} (old new : SessionState) (input before rest next after : Option (List ℕ)) (number : ℕ) →
-    Progress old input before rest after new number → ReadsLine rest next Other → Drives {A = A} old input before (Err (NotACommand number)) after new
-not_a_command old new input before rest next after number so_far reads =
+pub not_a_command : {A : Type 0} (May : Content (Node ℕ ℕ) → Type 0) (old new : TreeState ℕ ℕ) (input before rest next after : Option (List ℕ)) (number : ℕ) →
+    Progress May old input before rest after new number → ReadsLine rest next Other → Drives {A = A} May old input before (Err (NotACommand number)) after new
+not_a_command May old new input before rest next after number so_far reads =
     let first = first_line rest next Other reads in
     let all = these_lines input rest so_far.served (reads.line ∷ first.0) so_far.known first.1 in
     record {
@@ -203,18 +195,18 @@ not_a_command old new input before rest next after number so_far reads =
       known = all.known;
       served = so_far.served;
       ends = (reads.line, first.0, all.are, reads.says, so_far.count);
-      replies = so_far.replies;
+      printed = so_far.printed;
       serves = so_far.serves;
       writes = so_far.writes;
     }
 
 -- at the next line it stops
-pub at_line : {A : Type 0} (old new : SessionState) (input before rest next after : Option (List ℕ)) (number : ℕ) (said : Line) (stop : Stop) →
-    Progress old input before rest after new number → ReadsLine rest next said
-    → (stop ≡ Memory) ⊎ ((stop ≡ NotACommand number) × (said ≡ Other)) → Drives {A = A} old input before (Err stop) after new
-at_line old new input before rest next after number said stop so_far reads cause = elim cause [
-  | inl memory ↦ rw memory (stopped old new input before rest after number Memory so_far tt)
-  | inr other ↦ rw other.0 (not_a_command old new input before rest next after number so_far (rw other.1 at reads))
+pub at_line : {A : Type 0} (May : Content (Node ℕ ℕ) → Type 0) (old new : TreeState ℕ ℕ) (input before rest next after : Option (List ℕ)) (number : ℕ) (said : Line) (stop : Stop) →
+    Progress May old input before rest after new number → ReadsLine rest next said
+    → (stop ≡ Memory) ⊎ ((stop ≡ NotACommand number) × (said ≡ Other)) → Drives {A = A} May old input before (Err stop) after new
+at_line May old new input before rest next after number said stop so_far reads cause = elim cause [
+  | inl memory ↦ rw memory (stopped May old new input before rest after number Memory so_far tt)
+  | inr other ↦ rw other.0 (not_a_command May old new input before rest next after number so_far (rw other.1 at reads))
 ]
 
 Appends-append : (before between after : Option (List ℕ)) (first second : List ℕ) → Appends before between first → Appends between after second → Appends before after (first ++ second)
@@ -222,9 +214,6 @@ Appends-append None between after first second one two = tt
 Appends-append (Some xs) None after first second one two = absurd one
 Appends-append (Some xs) (Some ys) None first second one two = absurd two
 Appends-append (Some xs) (Some ys) (Some zs) first second one two = two ∙ ap (λ bytes. bytes ++ second) one ∙ append_assoc xs first second
-
-lines_of_replies-append : (rs ss : List Reply) → lines_of_replies (rs ++ ss) ≡ lines_of_replies rs ++ lines_of_replies ss
-lines_of_replies-append rs ss = flat_map-append line_of rs ss
 
 -- text behind known bytes grows
 pub append_known-grows : (known : Option (List ℕ)) (text more added : List ℕ) → more ≡ text ++ added → Appends (append_known known text) (append_known known more) added
@@ -247,14 +236,13 @@ left_behind (Some text) (Some left) next served line known some first dropped =
     )
 
 -- one more line is served
-pub goes_on : (old mid new : SessionState) (input before rest next between after : Option (List ℕ)) (number : ℕ) (said : Line) (reads : ReadsLine rest next said) (given : List Reply) →
-    Progress old input before rest between mid number → Serves mid (reads.line ∷ []) given new → Appends between after (lines_of_replies given)
-    → Progress old input before next after new (number + 1)
-goes_on old mid new input before rest next between after number said reads given so_far serves writes = record {
+pub goes_on : (May : Content (Node ℕ ℕ) → Type 0) (old mid new : TreeState ℕ ℕ) (input before rest next between after : Option (List ℕ)) (number : ℕ) (said : Line) (reads : ReadsLine rest next said) (printed : List ℕ) →
+    Progress May old input before rest between mid number → Does May mid said printed new → Appends between after printed → Progress May old input before next after new (number + 1)
+goes_on May old mid new input before rest next between after number said reads printed so_far does writes = record {
   served = so_far.served ++ reads.line ∷ [];
-  replies = so_far.replies ++ given;
-  serves = Serves-append old mid new so_far.served (reads.line ∷ []) so_far.replies given so_far.serves serves;
-  writes = rw (lines_of_replies-append so_far.replies given) (Appends-append before between after (lines_of_replies so_far.replies) (lines_of_replies given) so_far.writes writes);
+  printed = so_far.printed ++ printed;
+  serves = Serves-append May old mid new so_far.served (reads.line ∷ []) so_far.printed printed so_far.serves (Serves-one May mid new reads.line said printed reads.says does);
+  writes = Appends-append before between after so_far.printed printed so_far.writes writes;
   known = left_behind input rest next so_far.served reads.line so_far.known reads.some reads.first reads.rest;
   count = omega (arith, so_far.count, length-append so_far.served (reads.line ∷ []));
 }

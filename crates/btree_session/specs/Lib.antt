@@ -1,4 +1,5 @@
 pub mod Text
 pub mod Line
 pub mod Machine
+pub mod Answer
 pub mod Script

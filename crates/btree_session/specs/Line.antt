@@ -6,6 +6,8 @@ use Rattle.std.specs.Str.Parse.{IsNumeral, digits_value}
 use Rattle.btree_session.specs.declared.command.Command.{Command}
 use Rattle.btree_session.specs.declared.command.Command.TheVariants.{Insert, Get}
 use Rattle.btree_session.specs.declared.line.Line.{Line}
+use Rattle.btree_session.specs.declared.question.Question.{Question}
+use Rattle.btree_session.specs.declared.question.Question.TheVariants as questions
 use Rattle.btree_session.specs.declared.line.Line.TheVariants as lines
 
 -- only a space divides words
@@ -43,8 +45,20 @@ abbrev pub Says : List (List ℕ) → Command → Type 0
 Says words (Insert key value) = IsCall (codes "insert") (key ∷ value ∷ []) words
 Says words (Get key) = IsCall (codes "get") (key ∷ []) words
 
--- a line with these words says this: nothing, a command, or no command
+-- the name of a question
+abbrev pub name_of : Question → List ℕ
+name_of questions.List = codes "list"
+name_of questions.Len = codes "len"
+name_of questions.Nodes = codes "nodes"
+name_of questions.Shape = codes "shape"
+
+-- the words ask the question
+abbrev pub Asks : List (List ℕ) → Question → Type 0
+Asks words question = words ≡ name_of question ∷ []
+
+-- a line with these words says this: nothing, a command, a question, or neither
 abbrev pub IsSaid : List (List ℕ) → Line → Type 0
 IsSaid words lines.Empty = words ≡ []
 IsSaid words (lines.Command said) = Says words said
-IsSaid words lines.Other = (words ≢ []) × ((said : Command) → Says words said → ⊥)
+IsSaid words (lines.Question asked) = Asks words asked
+IsSaid words lines.Other = (words ≢ []) × ((said : Command) → Says words said → ⊥) × ((asked : Question) → Asks words asked → ⊥)

@@ -1,17 +1,20 @@
 -- What driving a session by lines of text does.
-use Rattle.std.specs.Prelude.{◌≡◌, ℕ, ◌+◌, ◌<◌, Bool, List, [], ◌∷◌, ◌++◌, length, Option, Some, Result, Ok, Err, IfSome, ⊤, ◌⊎◌, ◌==◌}
+use Rattle.std.specs.Prelude.{◌≡◌, ℕ, ◌+◌, ◌<◌, Bool, List, [], ◌∷◌, ◌++◌, length, Option, Some, Result, Ok, Err, IfSome, ⊤, ◌==◌}
 use Rattle.std.specs.List.{slice_split}
 use Rattle.std.specs.Io.BufRead.{take_through, drop_through, strip_last}
 use Rattle.std.specs.Io.KnownBytes.{Appends}
-use Rattle.btree_session.specs.declared.command.Command.{Command}
+use Rattle.btree_store.specs.Content.{Content}
+use Rattle.btree_node.specs.declared.node.Node.{Node}
+use Rattle.btree_shape.specs.TreeState.{TreeState}
 use Rattle.btree_session.specs.declared.command.Reply.{Reply}
 use Rattle.btree_session.specs.declared.line.Line.{Line}
-use Rattle.btree_session.specs.declared.line.Line.TheVariants.{Other}
+use Rattle.btree_session.specs.declared.line.Line.TheVariants.{Empty, Command, Question, Other}
 use Rattle.btree_session.specs.declared.script.Stop.{Stop}
 use Rattle.btree_session.specs.declared.script.Stop.TheVariants.{NotACommand, Memory, Input, Output}
-use Rattle.btree_session.specs.Line.{line_words, Says, IsSaid}
-use Rattle.btree_session.specs.Machine.{SessionState, IsRun}
-use Rattle.btree_session.specs.Text.{lines_of_replies}
+use Rattle.btree_session.specs.Answer.{answer_text}
+use Rattle.btree_session.specs.Line.{line_words, IsSaid}
+use Rattle.btree_session.specs.Machine.{IsStep}
+use Rattle.btree_session.specs.Text.{as_line, line_of}
 
 -- a byte that ends a line
 abbrev pub is_newline : ℕ → Bool
@@ -40,20 +43,24 @@ pub record ReadsLine (old new : Option (List ℕ)) (said : Line) : Type 0 where
   pub first : IfSome old (λ text. line ≡ strip_last 10 (take_through 10 text))
   pub rest : IfSome old (λ text. new ≡ Some (drop_through 10 text))
 
--- the lines say these commands, one after another, where a line without words says none
-abbrev pub SayAll : List (List ℕ) → List Command → Type 0
-SayAll [] commands = commands ≡ []
-SayAll (line ∷ lines) commands =
-    ((line_words line ≡ []) × SayAll lines commands)
-    ⊎ ((command : Command) × (rest : List Command) × (commands ≡ command ∷ rest) × Says (line_words line) command × SayAll lines rest)
+-- over stores that may refuse a node in these contents
+module _ (MayRefuse : Content (Node ℕ ℕ) → Type 0) where
+  -- What a line says was done, and this was printed: for a command the reply of a step, for a question the answer, each on a line of its
+  -- own. A question changes nothing.
+  abbrev pub Does : (old : TreeState ℕ ℕ) → Line → (printed : List ℕ) → (new : TreeState ℕ ℕ) → Type 0
+  Does old Empty printed new = (printed ≡ []) × (new ≡ old)
+  Does old (Command command) printed new = (reply : Reply) × IsStep MayRefuse old command reply new × (printed ≡ line_of reply)
+  Does old (Question question) printed new = (printed ≡ as_line (answer_text old question)) × (new ≡ old)
+  Does old Other printed new = ⊥
 
--- the replies are those to the commands that the lines say
-pub record Serves (old : SessionState) (lines : List (List ℕ)) (replies : List Reply) (new : SessionState) : Type 0 where
-  pub commands : List Command
-  pub say : SayAll lines commands
-  pub run : IsRun old commands replies new
+  -- what the lines say was done, one after another, and this was printed
+  abbrev pub Serves : (old : TreeState ℕ ℕ) → (lines : List (List ℕ)) → (printed : List ℕ) → (new : TreeState ℕ ℕ) → Type 0
+  Serves old [] printed new = (printed ≡ []) × (new ≡ old)
+  Serves old (line ∷ lines) printed new =
+      (said : Line) × (mid : TreeState ℕ ℕ) × (first : List ℕ) × (rest : List ℕ)
+      × IsSaid (line_words line) said × Does old said first mid × Serves mid lines rest new × (printed ≡ first ++ rest)
 
--- the lines that were served, of all, where it ends so: all of them, or those before the first that is no command, or only some
+-- the lines that were served, of all, where it ends so: all of them, or those before the first that says neither, or only some
 abbrev pub EndsAfter : {A : Type 0} → List (List ℕ) → List (List ℕ) → Result A Stop → Type 0
 EndsAfter served all (Ok _) = all ≡ served
 EndsAfter served all (Err (NotACommand number)) = (line : List ℕ) × (rest : List (List ℕ)) × (all ≡ served ++ line ∷ rest) × IsSaid (line_words line) Other × (number ≡ length served + 1)
@@ -61,20 +68,20 @@ EndsAfter served all (Err Memory) = (rest : List (List ℕ)) × (all ≡ served 
 EndsAfter served all (Err Input) = (rest : List (List ℕ)) × (all ≡ served ++ rest)
 EndsAfter served all (Err Output) = (rest : List (List ℕ)) × (all ≡ served ++ rest)
 
--- known bytes have grown by the lines of the replies, unless the writer failed
-abbrev pub Writes : {A : Type 0} → Option (List ℕ) → Option (List ℕ) → List Reply → Result A Stop → Type 0
-Writes old new replies (Ok _) = Appends old new (lines_of_replies replies)
-Writes old new replies (Err (NotACommand number)) = Appends old new (lines_of_replies replies)
-Writes old new replies (Err Memory) = Appends old new (lines_of_replies replies)
-Writes old new replies (Err Input) = Appends old new (lines_of_replies replies)
-Writes old new replies (Err Output) = ⊤
+-- known bytes have grown by what was printed, unless the writer failed
+abbrev pub Writes : {A : Type 0} → Option (List ℕ) → Option (List ℕ) → List ℕ → Result A Stop → Type 0
+Writes old new printed (Ok _) = Appends old new printed
+Writes old new printed (Err (NotACommand number)) = Appends old new printed
+Writes old new printed (Err Memory) = Appends old new printed
+Writes old new printed (Err Input) = Appends old new printed
+Writes old new printed (Err Output) = ⊤
 
--- Lines of the input were served, and their replies were written. Where the bytes of the input are known, the lines are theirs.
-pub record Drives {A : Type 0} (old : SessionState) (input before : Option (List ℕ)) (result : Result A Stop) (after : Option (List ℕ)) (new : SessionState) : Type 0 where
+-- Lines of the input were served, and what they print was written. Where the bytes of the input are known, the lines are theirs.
+pub record Drives {A : Type 0} (MayRefuse : Content (Node ℕ ℕ) → Type 0) (old : TreeState ℕ ℕ) (input before : Option (List ℕ)) (result : Result A Stop) (after : Option (List ℕ)) (new : TreeState ℕ ℕ) : Type 0 where
   pub lines : List (List ℕ)
   pub known : IfSome input (λ text. lines ≡ lines_of text)
   pub served : List (List ℕ)
   pub ends : EndsAfter served lines result
-  pub replies : List Reply
-  pub serves : Serves old served replies new
-  pub writes : Writes before after replies result
+  pub printed : List ℕ
+  pub serves : Serves MayRefuse old served printed new
+  pub writes : Writes before after printed result

@@ -34,7 +34,6 @@ impl fmt::Display for Reply {
             Reply::Value(value) => write!(f, "some {value}"),
             Reply::Refused(Cause::Store) => write!(f, "refused store"),
             Reply::Refused(Cause::Count) => write!(f, "refused count"),
-            Reply::Refused(Cause::Leaf) => write!(f, "refused leaf"),
         }
     }
 }

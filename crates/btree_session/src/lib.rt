@@ -6,6 +6,7 @@
 
 mod command;
 mod line;
+mod question;
 mod script;
 mod session;
 mod text;

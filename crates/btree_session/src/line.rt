@@ -1,9 +1,11 @@
 //! Lines of text, and the commands that they say.
-ghost use Rattle.std.specs.Prelude.{◌≡◌, ℕ, ◌<◌, ◌≤◌, List, [], ◌∷◌, ◌↔◌, length, IfSome, IfNone, MatchOption, Some, None, not, position, codes};
+ghost use Rattle.std.specs.Prelude.{◌≡◌, ◌≢◌, ℕ, ◌<◌, ◌≤◌, List, [], ◌∷◌, ◌↔◌, length, IfSome, IfNone, MatchOption, Some, None, not, position, codes};
 ghost use Rattle.std.specs.Io.BufRead.{strip_last};
-ghost use Rattle.btree_session.specs.Line.{is_space, words_of, line_words, IsNumber, AreNumbers, IsSaid};
+ghost use Rattle.btree_session.specs.declared.question.Question.{Question};
+ghost use Rattle.btree_session.specs.Line.{is_space, words_of, line_words, IsNumber, AreNumbers, IsSaid, name_of};
 
 use crate::Command;
+use crate::question::Question;
 
 /// What a line says.
 #[derive(Clone, Copy, Debug, PartialEq, Eq)]
@@ -12,7 +14,9 @@ pub(crate) enum Line {
     Empty,
     /// A command.
     Command(Command),
-    /// Something that is not a command.
+    /// A question.
+    Question(Question),
+    /// Something else.
     Other,
 }
 
@@ -29,7 +33,7 @@ pub(crate) fn parse(line: &[u8]) -> Line
     if name == b"get".as_slice() {
         return look_up(rest);
     }
-    Line::Other
+    question(name, rest)
 }
 
 /// The line without its last byte, if that is `byte`.
@@ -60,6 +64,37 @@ fn look_up(rest: &[u8]) -> Line
         Some(key) => Line::Command(Command::Get(key)),
         None => Line::Other,
     }
+}
+
+/// What a line says that begins with another word.
+fn question(name: &[u8], rest: &[u8]) -> Line
+    requires no_insertion { name.now ≢ codes "insert" }
+    requires no_look_up { name.now ≢ codes "get" }
+    ensures { IsSaid (name.now ∷ words_of rest.now) result }
+{
+    match question_named(name) {
+        Some(asked) if next_word(rest).is_none() => Line::Question(asked),
+        _ => Line::Other,
+    }
+}
+
+/// The question with a name.
+fn question_named(name: &[u8]) -> Option<Question>
+    ensures { MatchOption result ((asked : Question) → name.now ≢ name_of asked) (λ asked. name.now ≡ name_of asked) }
+{
+    if name == b"list".as_slice() {
+        return Some(Question::List);
+    }
+    if name == b"len".as_slice() {
+        return Some(Question::Len);
+    }
+    if name == b"nodes".as_slice() {
+        return Some(Question::Nodes);
+    }
+    if name == b"shape".as_slice() {
+        return Some(Question::Shape);
+    }
+    None
 }
 
 /// The number, where the text is just one.

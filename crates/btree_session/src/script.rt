@@ -4,14 +4,16 @@ ghost use Rattle.std.specs.Io.Buffered.{reader_remaining};
 ghost use Rattle.std.specs.Io.KnownBytes.{Keeps, IsAtEnd, append_known};
 ghost use Rattle.btree_session.specs.declared.command.Reply.{Reply};
 ghost use Rattle.btree_session.specs.Line.{line_words, IsSaid};
-ghost use Rattle.btree_session.specs.Machine.{Step, state_of};
-ghost use Rattle.btree_session.specs.Text.{line_of, lines_of_replies};
-ghost use Rattle.btree_session.specs.Script.{is_newline, ReadsLine, Serves, Drives};
+ghost use Rattle.btree_session.specs.Machine.{IsStep};
+ghost use Rattle.btree_session.specs.Answer.{answer_text};
+ghost use Rattle.btree_session.specs.Text.{as_line};
+ghost use Rattle.btree_session.specs.Script.{is_newline, ReadsLine, Does, Drives};
 
 use crate::line::{Line, parse, without_last};
+use crate::question::{Question, push_answer_line};
 use crate::text::{LONGEST_LINE, push_line};
 use crate::{Command, Reply, Session, run};
-use btree_node::LeafNode;
+use btree_node::Node;
 use btree_store::SlabMut;
 use std::alloc::{AllocError, Global};
 use std::io::{BufRead, BufReader, ErrorKind, Read, Write};
@@ -19,7 +21,7 @@ use std::io::{BufRead, BufReader, ErrorKind, Read, Write};
 /// Why driving came to an end before the end of the input.
 #[derive(Clone, Copy, Debug, PartialEq, Eq)]
 pub enum Stop {
-    /// The line with this number, counted from 1, is not a command.
+    /// The line with this number, counted from 1, is neither a command nor a question.
     NotACommand(u64),
     /// A line, a reply or a buffer could not be held.
     Memory,
@@ -29,7 +31,7 @@ pub enum Stop {
     Output,
 }
 
-/// Reads lines of text, runs the commands that they say, and writes each reply on a line of its own.
+/// Reads lines of text, runs the commands and answers the questions that they say, and writes each reply on a line of its own.
 ///
 /// The replies so far are written and flushed at the end, before a stop, and before the reader is asked for bytes
 /// while no whole line is left of those that it gave. Commands that were run keep their effect, however it ends.
@@ -37,13 +39,13 @@ pub enum Stop {
 /// It takes memory for two buffers, for the longest line, and for the replies to the lines that were read at once, and
 /// none for a line of its own. A reader's error of the kind `OutOfMemory` counts as want of memory. An input of
 /// `u64::MAX` lines or more ends like one that fails.
-pub fn drive<C: SlabMut<LeafNode<u64, u64>>, R: Read, W: Write>(
+pub fn drive<C: SlabMut<Node<u64, u64>>, R: Read, W: Write>(
     alloc: Global,
     session: &mut Session<C>,
     input: &mut R,
     output: &mut W,
 ) -> Result<(), Stop>
-    ensures { Drives (state_of session.old) (R.remaining input.old) (W.contents output.old) result (W.contents output.new) (state_of session.new) }
+    ensures { Drives C.MayRefuse session.old (R.remaining input.old) (W.contents output.old) result (W.contents output.new) session.new }
 {
     let Ok(mut reader) = BufReader::new(alloc, input) else {
         return Err(Stop::Memory);
@@ -55,15 +57,15 @@ pub fn drive<C: SlabMut<LeafNode<u64, u64>>, R: Read, W: Write>(
 }
 
 /// Serves lines until the input ends. What it leaves in `text` is still to be written.
-fn serve<C: SlabMut<LeafNode<u64, u64>>, R: Read, W: Write>(
+fn serve<C: SlabMut<Node<u64, u64>>, R: Read, W: Write>(
     alloc: Global,
     session: &mut Session<C>,
     reader: &mut BufReader<R>,
     output: &mut W,
     text: &mut Vec<u8>,
 ) -> Result<(), Stop>
-    ensures { Drives (state_of session.old) (reader_remaining R.remaining reader.old) (append_known (W.contents output.old) text.old.items)
-        result (append_known (W.contents output.new) text.new.items) (state_of session.new) }
+    ensures { Drives C.MayRefuse session.old (reader_remaining R.remaining reader.old) (append_known (W.contents output.old) text.old.items)
+        result (append_known (W.contents output.new) text.new.items) session.new }
 {
     let mut line = Vec::new(alloc);
     let mut replies = Vec::new(alloc);
@@ -130,22 +132,25 @@ fn read_line<R: Read>(reader: &mut BufReader<R>, line: &mut Vec<u8>) -> Result<O
 }
 
 /// Runs what a line says and puts the reply behind the text. An `Err` changes nothing.
-fn serve_line<C: SlabMut<LeafNode<u64, u64>>>(
+fn serve_line<C: SlabMut<Node<u64, u64>>>(
     session: &mut Session<C>,
     said: Line,
     number: u64,
     replies: &mut Vec<Reply>,
     text: &mut Vec<u8>,
 ) -> Result<(), Stop>
-    ensures served { OnOk result ((line : List ℕ) → IsSaid (line_words line) said → (given : List Reply)
-        × Serves (state_of session.old) (line ∷ []) given (state_of session.new) × (text.new.items ≡ text.old.items ++ lines_of_replies given)) }
+    ensures served { OnOk result ((printed : List ℕ) × Does C.MayRefuse session.old said printed session.new × (text.new.items ≡ text.old.items ++ printed)) }
     ensures session_kept { OnErr result (session.new ≡ session.old) }
     ensures text_kept { OnErr result (text.new.items ≡ text.old.items) }
     ensures stop { IfErr result (λ stop. (stop ≡ Stop.Memory) ⊎ ((stop ≡ Stop.NotACommand number) × (said ≡ Line.Other))) }
 {
     match said {
         Line::Empty => Ok(()),
-        Line::Command(command) => match answer(session, command, replies, text) {
+        Line::Command(command) => match obey(session, command, replies, text) {
+            Ok(()) => Ok(()),
+            Err(_) => Err(Stop::Memory),
+        },
+        Line::Question(question) => match answer(session, question, text) {
             Ok(()) => Ok(()),
             Err(_) => Err(Stop::Memory),
         },
@@ -154,14 +159,14 @@ fn serve_line<C: SlabMut<LeafNode<u64, u64>>>(
 }
 
 /// Runs a command and puts the reply behind the text. Room for the reply is made first.
-fn answer<C: SlabMut<LeafNode<u64, u64>>>(
+fn obey<C: SlabMut<Node<u64, u64>>>(
     session: &mut Session<C>,
     command: Command,
     replies: &mut Vec<Reply>,
     text: &mut Vec<u8>,
 ) -> Result<(), AllocError>
-    ensures answered { OnOk result ((reply : Reply) × Step (state_of session.old) command reply (state_of session.new)
-        × (text.new.items ≡ text.old.items ++ line_of reply)) }
+    ensures done { OnOk result ((printed : List ℕ) × Does C.MayRefuse session.old (Line.Command command) printed session.new
+        × (text.new.items ≡ text.old.items ++ printed)) }
     ensures session_kept { OnErr result (session.new ≡ session.old) }
     ensures text_kept { OnErr result (text.new.items ≡ text.old.items) }
 {
@@ -171,13 +176,32 @@ fn answer<C: SlabMut<LeafNode<u64, u64>>>(
     Ok(())
 }
 
+/// Puts the answer to a question behind the text. An `Err` changes nothing.
+fn answer<C: SlabMut<Node<u64, u64>>>(
+    session: &Session<C>,
+    question: Question,
+    text: &mut Vec<u8>,
+) -> Result<(), AllocError>
+    ensures answered { OnOk result (text.new.items ≡ text.old.items ++ as_line (answer_text session.now question)) }
+    ensures text_kept { OnErr result (text.new.items ≡ text.old.items) }
+{
+    let len = text.len();
+    match push_answer_line(session.map(), question, text) {
+        Ok(()) => Ok(()),
+        Err(error) => {
+            text.truncate(len);
+            Err(error)
+        }
+    }
+}
+
 /// Runs one command. The vector is used for the reply alone.
-fn reply_to<C: SlabMut<LeafNode<u64, u64>>>(
+fn reply_to<C: SlabMut<Node<u64, u64>>>(
     session: &mut Session<C>,
     command: Command,
     replies: &mut Vec<Reply>,
 ) -> Result<Reply, AllocError>
-    ensures step { IfOk result (λ reply. Step (state_of session.old) command reply (state_of session.new)) }
+    ensures step { IfOk result (λ reply. IsStep C.MayRefuse session.old command reply session.new) }
     ensures session_kept { OnErr result (session.new ≡ session.old) }
 {
     replies.clear();

@@ -1,26 +1,27 @@
 //! A session: a map that commands are run on.
 ghost use Rattle.std.specs.Prelude.{◌≡◌, ◌+◌, ◌≤◌, ◌++◌, List, [], None, length, vec_len, vec_capacity, IsOk, OnOk, OnErr};
 ghost use Rattle.std.specs.FinMap as map;
-ghost use Rattle.btree_shape.specs.LeafState.{pairs_of};
-ghost use Rattle.btree_session.specs.Machine.{IsRun, Step, state_of};
+ghost use Rattle.btree_shape.specs.TreeState.{pairs_of};
+ghost use Rattle.btree_session.specs.Machine.{IsRun, IsStep};
 ghost use Rattle.btree_session.specs.declared.command.Reply.{Reply};
 
 use crate::{Command, Reply};
+use btree_ext::BTreeExt;
 use btree_map::BTreeMap;
-use btree_node::LeafNode;
+use btree_node::Node;
 use btree_store::SlabMut;
 use std::alloc::{AllocError, Allocator};
 use std::marker::Model;
 
 /// A map from `K` to `V` that commands are run on. Commands are about a [`Session`], where both are `u64`.
 #[derive(Drop)]
-pub struct SessionOver<K: Ord, V, C: SlabMut<LeafNode<K, V>>> {
+pub struct SessionOver<K: Ord, V, C: SlabMut<Node<K, V>>> {
     map: BTreeMap<K, V, C>,
 }
 
-impl<K: Ord, V, C: SlabMut<LeafNode<K, V>>> Model for SessionOver<K, V, C> {
+impl<K: Ord, V, C: SlabMut<Node<K, V>>> Model for SessionOver<K, V, C> {
     ghost use Rattle.std.specs.Coded.{codes};
-    ghost use Rattle.btree_shape.specs.LeafState.{TreeState, tree_code};
+    ghost use Rattle.btree_shape.specs.TreeState.{TreeState, tree_code};
 
     ghost Value = { TreeState K V };
 
@@ -32,7 +33,7 @@ impl<K: Ord, V, C: SlabMut<LeafNode<K, V>>> Model for SessionOver<K, V, C> {
 /// A map from `u64` to `u64` that commands are run on.
 pub type Session<C> = SessionOver<u64, u64, C>;
 
-impl<C: SlabMut<LeafNode<u64, u64>>> Session<C> {
+impl<C: SlabMut<Node<u64, u64>>> Session<C> {
     /// A session over an empty map, whose store is made from its origin. It takes no memory.
     pub fn new(origin: C::Origin) -> Self
         ensures empty { pairs_of result ≡ [] }
@@ -52,7 +53,7 @@ impl<C: SlabMut<LeafNode<u64, u64>>> Session<C> {
 
     // Runs one command.
     fn reply_to(&mut self, command: Command) -> Reply
-        ensures { Step (state_of self.old) command result (state_of self.new) }
+        ensures { IsStep C.MayRefuse self.old command result self.new }
     {
         match command {
             Command::Insert(key, value) => insert(&mut self.map, key, value),
@@ -61,14 +62,16 @@ impl<C: SlabMut<LeafNode<u64, u64>>> Session<C> {
     }
 }
 
-fn insert<C: SlabMut<LeafNode<u64, u64>>>(
+fn insert<C: SlabMut<Node<u64, u64>>>(
     map: &mut BTreeMap<u64, u64, C>,
     key: u64,
     value: u64,
 ) -> Reply
-    ensures { Step (state_of map.old) (Command.Insert key value) result (state_of map.new) }
+    ensures { IsStep C.MayRefuse map.old (Command.Insert key value) result map.new }
 {
-    match map.insert(key, value) {
+    let outcome = map.insert(key, value);
+    let _root = map.root_id(); // it tells that the map is a well formed tree
+    match outcome {
         Ok(Some(was)) => Reply::Value(was),
         Ok(None) => Reply::Nothing,
         Err(refused) => {
@@ -78,9 +81,10 @@ fn insert<C: SlabMut<LeafNode<u64, u64>>>(
     }
 }
 
-fn get<C: SlabMut<LeafNode<u64, u64>>>(map: &BTreeMap<u64, u64, C>, key: u64) -> Reply
-    ensures { Step (state_of map.now) (Command.Get key) result (state_of map.now) }
+fn get<C: SlabMut<Node<u64, u64>>>(map: &BTreeMap<u64, u64, C>, key: u64) -> Reply
+    ensures { IsStep C.MayRefuse map.now (Command.Get key) result map.now }
 {
+    let _root = map.root_id(); // it tells that the map is a well formed tree
     match map.get(&key) {
         Some(value) => Reply::Value(*value),
         None => Reply::Nothing,
@@ -91,13 +95,13 @@ fn get<C: SlabMut<LeafNode<u64, u64>>>(map: &BTreeMap<u64, u64, C>, key: u64) ->
 ///
 /// Room for the replies is made first, and is all the memory that it takes but for nodes. Where that is refused, no
 /// command is run.
-pub fn run<C: SlabMut<LeafNode<u64, u64>>, B: Allocator>(
+pub fn run<C: SlabMut<Node<u64, u64>>, B: Allocator>(
     session: &mut Session<C>,
     commands: &[Command],
     replies: &mut Vec<Reply, B>,
 ) -> Result<(), AllocError>
     ensures answered { OnOk result ((given : List Reply) × (replies.new.items ≡ replies.old.items ++ given)
-        × IsRun (state_of session.old) commands.now given (state_of session.new)) }
+        × IsRun C.MayRefuse session.old commands.now given session.new) }
     ensures succeeds { vec_len replies.old + length commands.now ≤ vec_capacity replies.old → IsOk result }
     ensures replies_kept { OnErr result (replies.new.items ≡ replies.old.items) }
     ensures session_kept { OnErr result (session.new ≡ session.old) }

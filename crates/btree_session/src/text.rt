@@ -1,12 +1,17 @@
-//! The text of replies.
-ghost use Rattle.std.specs.Prelude.{◌≡◌, ◌+◌, ◌≤◌, ◌++◌, length, vec_len, vec_capacity, codes, decimal};
+//! The text of replies, and pieces of the text of answers.
+ghost use Rattle.std.specs.Prelude.{◌≡◌, ◌+◌, ◌≤◌, ◌++◌, length, vec_len, vec_capacity, codes, decimal, OnOk, OnErr};
+ghost use Rattle.btree_session.specs.Answer.{pair_text};
 ghost use Rattle.btree_session.specs.Text.{cause_text, line_of};
 
 use crate::Reply;
 use btree_item::Cause;
+use std::alloc::AllocError;
 
 /// The most bytes that a reply's line has.
 pub(crate) const LONGEST_LINE: usize = 26;
+
+/// The most digits that a number has.
+const LONGEST_NUMBER: usize = 20;
 
 /// Puts a reply on a line of its own behind the text, in room that is there.
 #[tactic(auto, using(crate::proofs::Digits::decimals))]
@@ -29,6 +34,65 @@ pub(crate) fn push_line(text: &mut Vec<u8>, reply: Reply)
     }
 }
 
+/// Puts bytes behind the text.
+pub(crate) fn push_text(text: &mut Vec<u8>, bytes: &[u8]) -> Result<(), AllocError>
+    ensures put { OnOk result (text.new.items ≡ text.old.items ++ bytes.now) }
+    ensures kept { OnErr result (text.new.items ≡ text.old.items) }
+{
+    text.extend_from_slice(bytes)
+}
+
+/// Puts a number behind the text.
+#[tactic(auto, using(crate::proofs::Digits::decimals))]
+pub(crate) fn push_number(text: &mut Vec<u8>, number: u64) -> Result<(), AllocError>
+    ensures put { OnOk result (text.new.items ≡ text.old.items ++ decimal number) }
+    ensures kept { OnErr result (text.new.items ≡ text.old.items) }
+{
+    text.reserve(LONGEST_NUMBER)?;
+    push_decimal(text, number);
+    Ok(())
+}
+
+/// Puts a key behind the text, with at most a byte before and after it.
+#[tactic(auto, using(crate::proofs::Digits::decimals))]
+pub(crate) fn push_key(
+    text: &mut Vec<u8>,
+    before: &[u8],
+    key: u64,
+    after: &[u8],
+) -> Result<(), AllocError>
+    requires before { length before.now ≤ 1 }
+    requires after { length after.now ≤ 1 }
+    ensures put { OnOk result (text.new.items ≡ text.old.items ++ (before.now ++ decimal key ++ after.now)) }
+    ensures kept { OnErr result (text.new.items ≡ text.old.items) }
+{
+    text.reserve(LONGEST_NUMBER + 2)?;
+    push_all(text, before);
+    push_decimal(text, key);
+    push_all(text, after);
+    Ok(())
+}
+
+/// Puts a pair behind the text, with at most a byte before it.
+#[tactic(auto, using(crate::proofs::Digits::decimals))]
+pub(crate) fn push_pair(
+    text: &mut Vec<u8>,
+    before: &[u8],
+    key: u64,
+    value: u64,
+) -> Result<(), AllocError>
+    requires { length before.now ≤ 1 }
+    ensures put { OnOk result (text.new.items ≡ text.old.items ++ (before.now ++ pair_text (key, value))) }
+    ensures kept { OnErr result (text.new.items ≡ text.old.items) }
+{
+    text.reserve(LONGEST_NUMBER + LONGEST_NUMBER + 2)?;
+    push_all(text, before);
+    push_decimal(text, key);
+    push_all(text, b"=");
+    push_decimal(text, value);
+    Ok(())
+}
+
 fn word_of(cause: Cause) -> &'static [u8]
     ensures word { result.now ≡ cause_text cause }
     ensures short { length result.now ≤ 5 }
@@ -36,7 +100,6 @@ fn word_of(cause: Cause) -> &'static [u8]
     match cause {
         Cause::Store => b"store",
         Cause::Count => b"count",
-        Cause::Leaf => b"leaf",
     }
 }
 

@@ -4,25 +4,25 @@ use Rattle.btree_session.proofs.Serving.{begun, written, stopped, between_lines,
 use Rattle.btree_session.proofs.script.serve.Goals as goal
 
 pub loop-number-init : goal.loop-number-init
-loop-number-init g c = begun _ _ _
+loop-number-init g c = begun _ _ _ _
 
 pub returns-in_err-said : goal.returns-in_err-said
 returns-in_err-said g c =
     let exit = err_from_is_err_and c.from_residual.result c.from_residual.ensures.1 in
-    rw (exit.1, exit.2) (between_lines _ _ _ _ _ _ _ _ _ c.loop-number.invariant c.in_err-said.ensures.stop)
+    rw (exit.1, exit.2) (between_lines _ _ _ _ _ _ _ _ _ _ c.loop-number.invariant c.in_err-said.ensures.stop)
 
 pub returns-in_err-serve_line : goal.returns-in_err-serve_line
 returns-in_err-serve_line g c =
     let exit = err_from_is_err_and c.from_residual-in_err-serve_line.result c.from_residual-in_err-serve_line.ensures.1 in
     rw (exit.1, exit.2, c.in_err-serve_line.ensures.session_kept, c.in_err-serve_line.ensures.text_kept)
-    (at_line _ _ _ _ _ _ _ _ _ _ (written _ _ _ _ _ _ _ _ c.loop-number.invariant c.in_ok-said.ensures.text)
+    (at_line _ _ _ _ _ _ _ _ _ _ _ (written _ _ _ _ _ _ _ _ _ c.loop-number.invariant c.in_ok-said.ensures.text)
     (rw c.in-Some.is at c.in_ok-said.ensures.line) c.in_err-serve_line.ensures.stop)
 
 pub loop-number-preserved : goal.loop-number-preserved
 loop-number-preserved g c =
     let reads = rw c.in-Some.is at c.in_ok-said.ensures.line in
-    let served = c.in_ok-serve_line.ensures.served reads.line reads.says in
-    goes_on _ _ _ _ _ _ _ _ _ _ _ reads served.0 (written _ _ _ _ _ _ _ _ c.loop-number.invariant c.in_ok-said.ensures.text) served.1 (append_known-grows _ _ _ _ served.2)
+    let served = c.in_ok-serve_line.ensures.served in
+    goes_on _ _ _ _ _ _ _ _ _ _ _ _ reads served.0 (written _ _ _ _ _ _ _ _ _ c.loop-number.invariant c.in_ok-said.ensures.text) served.1 (append_known-grows _ _ _ _ served.2)
 
 pub returns : goal.returns
-returns g c = stopped _ _ _ _ _ _ _ Input c.loop-number.invariant tt
+returns g c = stopped _ _ _ _ _ _ _ _ Input c.loop-number.invariant tt

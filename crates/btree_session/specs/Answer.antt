@@ -1,0 +1,46 @@
+-- What is printed for a question about the map.
+use Rattle.std.specs.Prelude.{ℕ, zero, suc, List, [], ◌∷◌, ◌++◌, length, map, Option, Some, None, codes}
+use Rattle.std.specs.FinMap as finite
+use Rattle.std.specs.Fmt.{decimal}
+use Rattle.std.specs.List.{flat_map, join_with_byte}
+use Rattle.btree_view.specs.View.{View, leaf, internal, Look}
+use Rattle.btree_shape.specs.TreeState.{TreeState, pairs_of, views}
+use Rattle.btree_session.specs.declared.question.Question.{Question}
+use Rattle.btree_session.specs.declared.question.Question.TheVariants as questions
+
+-- the text of a pair
+abbrev pub pair_text : ℕ × ℕ → List ℕ
+pair_text pair = decimal pair.0 ++ codes "=" ++ decimal pair.1
+
+-- the text of a list: its pairs with one space between
+abbrev pub list_text : List (ℕ × ℕ) → List ℕ
+list_text [] = codes "empty"
+list_text (pair ∷ pairs) = join_with_byte 32 (map pair_text (pair ∷ pairs))
+
+-- texts in brackets, with one space between
+abbrev pub bracketed : List (List ℕ) → List ℕ
+bracketed texts = codes "(" ++ join_with_byte 32 texts ++ codes ")"
+
+-- the text of a node, given that of each child: a leaf's keys, or an internal node's children and keys in turn
+abbrev pub shape_in : (ℕ → List ℕ) → Option (View (ℕ × ℕ)) → List ℕ
+shape_in below None = []
+shape_in below (Some (leaf parent items)) = bracketed (map (λ pair. decimal pair.0) items)
+shape_in below (Some (internal parent first branches)) =
+    bracketed (below first ∷ flat_map (λ b. decimal b.0.0 ∷ below b.1 ∷ []) branches)
+
+-- the text of a node and of those below it, by at most so many levels
+abbrev pub shape_under : Look (ℕ × ℕ) → (levels : ℕ) → (id : ℕ) → List ℕ
+shape_under look zero id = []
+shape_under look (suc levels) id = shape_in (shape_under look levels) (look id)
+
+-- the text of a tree's nodes; a tree has at most as many levels as pairs
+abbrev pub shape_text : Look (ℕ × ℕ) → (root : Option ℕ) → (len : ℕ) → List ℕ
+shape_text look None len = codes "()"
+shape_text look (Some root) len = shape_under look len root
+
+-- the answer to a question about a map
+abbrev pub answer_text : TreeState ℕ ℕ → Question → List ℕ
+answer_text m questions.List = list_text (pairs_of m)
+answer_text m questions.Len = decimal (length (pairs_of m))
+answer_text m questions.Nodes = decimal (finite.len m.nodes)
+answer_text m questions.Shape = shape_text (views m.nodes) m.root m.len

@@ -1,0 +1,116 @@
+//! Questions about a session's map, and their answers as text.
+ghost use Rattle.std.specs.Prelude.{◌≡◌, ◌++◌, OnOk, OnErr, map, decimal};
+ghost use Rattle.btree_shape.specs.TreeState.{pairs_of, views};
+ghost use Rattle.btree_session.specs.Answer.{list_text, bracketed, shape_under, answer_text};
+ghost use Rattle.btree_session.specs.Text.{Grows, as_line};
+
+use crate::text::{push_key, push_number, push_pair, push_text};
+use btree_ext::BTreeExt;
+use btree_leaf::LeafNode;
+use btree_map::BTreeMap;
+use btree_node::Node;
+use btree_store::SlabMut;
+use std::alloc::AllocError;
+
+/// What a line may ask of the map, which stays as it is.
+#[derive(Clone, Copy, Debug, PartialEq, Eq)]
+pub(crate) enum Question {
+    /// The pairs.
+    List,
+    /// How many pairs there are.
+    Len,
+    /// How many nodes there are.
+    Nodes,
+    /// Which keys stand in which node.
+    Shape,
+}
+
+/// Puts the answer on a line of its own behind the text. Where memory for it is refused, some of it may stand there.
+pub(crate) fn push_answer_line<C: SlabMut<Node<u64, u64>>>(
+    map: &BTreeMap<u64, u64, C>,
+    question: Question,
+    text: &mut Vec<u8>,
+) -> Result<(), AllocError>
+    ensures put { OnOk result (text.new.items ≡ text.old.items ++ as_line (answer_text map.now question)) }
+    ensures kept { OnErr result (Grows text.old.items text.new.items) }
+{
+    push_answer(map, question, text)?;
+    push_text(text, b"\n")
+}
+
+fn push_answer<C: SlabMut<Node<u64, u64>>>(
+    map: &BTreeMap<u64, u64, C>,
+    question: Question,
+    text: &mut Vec<u8>,
+) -> Result<(), AllocError>
+    ensures put { OnOk result (text.new.items ≡ text.old.items ++ answer_text map.now question) }
+    ensures kept { OnErr result (Grows text.old.items text.new.items) }
+{
+    match question {
+        Question::List => push_list(map, text),
+        Question::Len => push_number(text, map.len() as u64),
+        Question::Nodes => push_number(text, map.node_count() as u64),
+        Question::Shape => match map.root_id() {
+            Some(root) => push_shape(map, map.len(), root, text),
+            None => push_text(text, b"()"),
+        },
+    }
+}
+
+fn push_list<C: SlabMut<Node<u64, u64>>>(
+    map: &BTreeMap<u64, u64, C>,
+    text: &mut Vec<u8>,
+) -> Result<(), AllocError>
+    ensures put { OnOk result (text.new.items ≡ text.old.items ++ list_text (pairs_of map.now)) }
+    ensures kept { OnErr result (Grows text.old.items text.new.items) }
+{
+    if map.is_empty() {
+        return push_text(text, b"empty");
+    }
+    let mut before = b"".as_slice();
+    for (key, value) in map.iter() {
+        push_pair(text, before, *key, *value)?;
+        before = b" ".as_slice();
+    }
+    Ok(())
+}
+
+// Puts the text of a node and of those below it, by at most so many levels. In a well formed tree as many levels as pairs
+// suffice, and each number is used.
+fn push_shape<C: SlabMut<Node<u64, u64>>>(
+    map: &BTreeMap<u64, u64, C>,
+    levels: usize,
+    id: usize,
+    text: &mut Vec<u8>,
+) -> Result<(), AllocError>
+    ensures put { OnOk result (text.new.items ≡ text.old.items ++ shape_under (views map.now.nodes) levels id) }
+    ensures kept { OnErr result (Grows text.old.items text.new.items) }
+{
+    if levels == 0 || !map.has_node(id) {
+        return Ok(());
+    }
+    let node = match map.node(id) {
+        Node::Leaf(leaf) => return push_leaf(leaf, text),
+        Node::Internal(node) => node,
+    };
+    push_text(text, b"(")?;
+    push_shape(map, levels - 1, node.first_child_id(), text)?;
+    for branch in node.branches().iter() {
+        push_key(text, b" ", *branch.item.key(), b" ")?;
+        push_shape(map, levels - 1, branch.child, text)?;
+    }
+    push_text(text, b")")
+}
+
+fn push_leaf(leaf: &LeafNode<u64, u64>, text: &mut Vec<u8>) -> Result<(), AllocError>
+    ensures put { OnOk result (text.new.items ≡ text.old.items ++ bracketed (map (λ pair. decimal pair.0) leaf.now.items)) }
+    ensures kept { OnErr result (Grows text.old.items text.new.items) }
+{
+    push_text(text, b"(")?;
+    let mut before = b"".as_slice();
+    for item in leaf.iter() {
+        push_key(text, before, *item.key(), b"")?;
+        before = b" ".as_slice();
+    }
+    push_text(text, b")")
+}
