@@ -1,0 +1,136 @@
+//! Times insertion, look-up and a walk in the kit's map and in ours.
+//!
+//! Without an argument it runs over 1000 keys and prints the sum of each phase. With a number of keys as its argument it prints, for
+//! each phase, its name, the nanoseconds that it took, and its sum.
+#![tactic(auto)]
+
+mod random;
+mod tables;
+
+use crate::random::{Numbers, drawn, shuffle};
+use crate::tables::{KitMap, SlabMap, Table};
+use std::alloc::{AllocError, Global};
+use std::env::Env;
+use std::process::ExitCode;
+use std::time::{Clock, Instant};
+use std::{env, io};
+
+// The keys in the order in which they are put in, the same in the order in which they are looked up, and keys that are absent.
+#[derive(Drop)]
+struct Keys {
+    put: Vec<u64>,
+    present: Vec<u64>,
+    absent: Vec<u64>,
+}
+
+fn make_keys(count: usize, alloc: Global) -> Result<Keys, AllocError> {
+    let mut numbers = Numbers::from_state(0x9e37_79b9_7f4a_7c15);
+    let put = drawn(&mut numbers, count, alloc)?;
+    let absent = drawn(&mut numbers, count, alloc)?;
+    let mut present = put.clone()?;
+    shuffle(present.as_mut_slice(), &mut numbers);
+    Ok(Keys {
+        put,
+        present,
+        absent,
+    })
+}
+
+// Puts each key in with its index, and counts those that were there.
+fn put_all(table: &mut impl Table, keys: &[u64]) -> Result<u64, AllocError> {
+    let mut present = 0u64;
+    let mut index = 0u64;
+    for key in keys {
+        if table.put(*key, index)? {
+            present = present.wrapping_add(1);
+        }
+        index = index.wrapping_add(1);
+    }
+    Ok(present)
+}
+
+// The sum of the values at the keys that are there.
+fn sum_at(table: &impl Table, keys: &[u64]) -> u64 {
+    let mut sum = 0u64;
+    for key in keys {
+        if let Some(value) = table.value_at(*key) {
+            sum = sum.wrapping_add(value);
+        }
+    }
+    sum
+}
+
+fn report(
+    rt: &(impl Print + Clock),
+    is_timed: bool,
+    (map, phase): (&str, &str),
+    since: Instant,
+    sum: u64,
+) -> io::Result<()> {
+    let nanos = since.elapsed(rt)?.as_nanos();
+    if is_timed {
+        rt.println(format_args!("{map}.{phase} {nanos} {sum}"))
+    } else {
+        rt.println(format_args!("{map}.{phase} {sum}"))
+    }
+}
+
+fn measure(
+    rt: &(impl Print + Clock),
+    is_timed: bool,
+    map: &str,
+    table: &mut impl Table,
+    keys: &Keys,
+) -> io::Result<()> {
+    let since = Instant::now(rt)?;
+    let sum = put_all(table, keys.put.as_slice())?;
+    report(rt, is_timed, (map, "insert"), since, sum)?;
+    let since = Instant::now(rt)?;
+    let sum = sum_at(table, keys.present.as_slice());
+    report(rt, is_timed, (map, "get_present"), since, sum)?;
+    let since = Instant::now(rt)?;
+    let sum = sum_at(table, keys.absent.as_slice());
+    report(rt, is_timed, (map, "get_absent"), since, sum)?;
+    let since = Instant::now(rt)?;
+    let sum = table.sum();
+    report(rt, is_timed, (map, "iterate"), since, sum)
+}
+
+fn measure_both(
+    rt: &(impl Print + Clock + AllocGlobal),
+    count: usize,
+    is_timed: bool,
+) -> io::Result<()> {
+    let keys = make_keys(count, rt.alloc())?;
+    let mut kit = KitMap::new(rt.alloc());
+    measure(rt, is_timed, "std", &mut kit, &keys)?;
+    let mut ours = SlabMap::new(rt.alloc());
+    measure(rt, is_timed, "btree_slab", &mut ours, &keys)
+}
+
+// How many keys the arguments ask for, and whether times are printed; nothing where they say something else.
+fn read_arguments(rt: &(impl Env + Alloc)) -> Option<(usize, bool)> {
+    let mut words = env::args(rt).ok()?.skip(1);
+    let Some(word) = words.next() else {
+        return Some((1000, false));
+    };
+    let count = word.as_str().parse::<usize>().ok()?;
+    match words.next() {
+        Some(_) => None,
+        None => Some((count, true)),
+    }
+}
+
+fn main(rt: HostRuntime) -> ExitCode {
+    let Some((count, is_timed)) = read_arguments(&rt) else {
+        let _ = rt.eprintln("usage: btree_bench [number of keys]");
+        return ExitCode::from(1);
+    };
+    match measure_both(&rt, count, is_timed) {
+        Ok(()) => ExitCode::SUCCESS,
+        Err(error) => {
+            let _ = rt.eprintln(format_args!("{error}"));
+            ExitCode::from(2)
+        }
+    }
+}

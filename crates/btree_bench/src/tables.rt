@@ -1,0 +1,63 @@
+//! The maps that are measured.
+use btree_map::BTreeMap;
+use btree_node::Node;
+use btree_store::SlabStore;
+use std::alloc::AllocError;
+use std::collections;
+
+/// The map of this repository, in a slab.
+pub type SlabMap = BTreeMap<u64, u64, SlabStore<Node<u64, u64>>>;
+
+/// The map of the kit's std.
+pub type KitMap = collections::BTreeMap<u64, u64>;
+
+/// A map that is measured.
+pub trait Table {
+    /// Puts a pair in, and answers whether the key was there.
+    fn put(&mut self, key: u64, value: u64) -> Result<bool, AllocError>;
+
+    /// The value at a key.
+    fn value_at(&self, key: u64) -> Option<u64>;
+
+    /// The sum of all keys and values, by a walk.
+    fn sum(&self) -> u64;
+}
+
+impl Table for KitMap {
+    fn put(&mut self, key: u64, value: u64) -> Result<bool, AllocError> {
+        Ok(self.insert(key, value)?.is_some())
+    }
+
+    fn value_at(&self, key: u64) -> Option<u64> {
+        self.get(&key).copied()
+    }
+
+    fn sum(&self) -> u64 {
+        let mut sum = 0u64;
+        for (key, value) in self.iter() {
+            sum = sum.wrapping_add(*key).wrapping_add(*value);
+        }
+        sum
+    }
+}
+
+impl Table for SlabMap {
+    fn put(&mut self, key: u64, value: u64) -> Result<bool, AllocError> {
+        match self.insert(key, value) {
+            Ok(old) => Ok(old.is_some()),
+            Err(_) => Err(AllocError),
+        }
+    }
+
+    fn value_at(&self, key: u64) -> Option<u64> {
+        self.get(&key).copied()
+    }
+
+    fn sum(&self) -> u64 {
+        let mut sum = 0u64;
+        for (key, value) in self.iter() {
+            sum = sum.wrapping_add(*key).wrapping_add(*value);
+        }
+        sum
+    }
+}

@@ -1,0 +1,46 @@
+//! A map in use: what is in stock, by the number of the part.
+#![tactic(auto)]
+
+ghost use Rattle.std.specs.Prelude.{◌≡◌, ◌+◌, OnOk, OnErr, unwrap_or};
+ghost use Rattle.std.specs.Ordering.{nat_cmp};
+ghost use Rattle.btree_item.specs.Pairs.{found_value, inserted};
+ghost use Rattle.btree_shape.specs.TreeState.{pairs_of};
+
+use btree_slab::BTreeMap;
+use btree_slab::generic::map::Refused;
+use std::alloc::AllocError;
+use std::io;
+
+/// Puts parts into the stock, or exchanges how many there are.
+///
+/// A caller knows from the map's contract what the stock holds afterwards, and that nothing is lost where memory is refused.
+fn set_stock(stock: &mut BTreeMap<u32, u64>, part: u32, count: u64) -> Result<(), Refused<u32, u64>>
+    ensures set { OnOk result (pairs_of stock.new ≡ inserted nat_cmp part count (pairs_of stock.old)) }
+    ensures kept { OnErr result (pairs_of stock.new ≡ pairs_of stock.old) }
+{
+    stock.insert(part, count)?;
+    Ok(())
+}
+
+/// How many of a part there are, 0 of one that was never in stock.
+fn in_stock(stock: &BTreeMap<u32, u64>, part: u32) -> u64
+    ensures { result ≡ unwrap_or (found_value nat_cmp part (pairs_of stock.now)) 0 }
+{
+    stock.get(&part).copied().unwrap_or(0)
+}
+
+fn main(rt: HostRuntime) -> io::Result<()> {
+    let mut stock: BTreeMap<u32, u64> = BTreeMap::new(rt.alloc());
+    for (part, count) in [(408, 20), (17, 350), (1203, 4), (17, 349)] {
+        let Ok(()) = set_stock(&mut stock, part, count) else {
+            return Err(AllocError.into());
+        };
+    }
+    rt.println(format_args!("parts: {}", stock.len()))?;
+    rt.println(format_args!("part 408: {}", in_stock(&stock, 408)))?;
+    rt.println(format_args!("part 409: {}", in_stock(&stock, 409)))?;
+    for (part, count) in stock.iter() {
+        rt.println(format_args!("{part} {count}"))?;
+    }
+    Ok(())
+}

@@ -1,0 +1,5 @@
+//! Tests of the map.
+#![tactic(auto)]
+
+#[cfg(test)]
+mod map;

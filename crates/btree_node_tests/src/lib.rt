@@ -1,0 +1,11 @@
+//! Tests of nodes.
+#![tactic(auto)]
+
+#[cfg(test)]
+mod item_mut;
+#[cfg(test)]
+mod leaves;
+#[cfg(test)]
+mod node_ends;
+#[cfg(test)]
+mod nodes;

@@ -1,0 +1,280 @@
+ghost use Rattle.std.specs.Prelude.{◌≡◌, ◌<◌, ◌≤◌, Some, length};
+ghost use Rattle.std.specs.Ordering.{nat_cmp, on};
+ghost use Rattle.btree_item.specs.Pairs.{Ascends};
+ghost use Rattle.btree_internal.specs.Internal.{internal_view};
+ghost use Rattle.btree_node.specs.Node.{view_of};
+ghost use Rattle.btree_view.specs.View.{items_of};
+
+use btree_counted::Counted;
+use btree_item::{Item, Keyed, Offset};
+use btree_node::{Balance, Branch, InternalNode, LeafNode, Node, internal};
+use std::cell::Cell;
+use std::cmp::Ordering;
+use std::process::Abort;
+use std::test::Fail;
+
+fn at(index: usize) -> Offset
+    requires { index < usize.MAX }
+    ensures { result ≡ Some index }
+{
+    Offset::from(index)
+}
+
+// A leaf under node 5 with the keys 0, 10, 20 and so on.
+fn leaf_of(rt: &impl Abort, items: u32) -> LeafNode<u32, char> {
+    let mut leaf = LeafNode::empty(Some(5));
+    for number in 0..items {
+        let count = leaf.item_count();
+        assert!(rt; count < 9);
+        leaf.insert(at(count), Item::new(number.wrapping_mul(10), 'v'));
+    }
+    leaf
+}
+
+// An internal node under node 6 with the keys 0, 10, 20 and so on, between the children 100, 101, 102 and so on.
+fn internal_of(rt: &impl Abort, items: u32) -> InternalNode<u32, char> {
+    let mut node = InternalNode::binary(Some(6), 100, Item::new(0, 'v'), 101);
+    for number in 1..items {
+        let count = node.item_count();
+        assert!(rt; count < 8);
+        node.insert(
+            at(count),
+            Item::new(number.wrapping_mul(10), 'v'),
+            count + 101,
+        );
+    }
+    node
+}
+
+fn key_at(node: &Node<u32, char>, index: usize) -> Option<u32>
+    requires { index < usize.MAX }
+{
+    node.item(at(index)).map(|item| *item.key())
+}
+
+#[test]
+fn splits_a_leaf_of_nine(rt: HostRuntime) {
+    let mut node = Node::Leaf(leaf_of(&rt, 9));
+    assert!(rt; node.is_overflowing());
+    assert_eq!(rt; node.balance(), Balance::Overflow);
+    let (left, median, right) = node.split();
+    assert_eq!(rt; (left, *median.key()), (4, 40));
+    assert_eq!(rt; (node.parent(), right.parent()), (Some(5), Some(5)));
+    assert_eq!(rt; (node.item_count(), right.item_count()), (4, 4));
+    assert_eq!(rt;
+        (
+            node.child_count(),
+            node.child_id_opt(0),
+            node.child_index(0)
+        ),
+        (0, None, None)
+    );
+    for index in 0..4 {
+        let key = (index as u32) * 10;
+        assert_eq!(rt; key_at(&node, index), Some(key));
+        assert_eq!(rt; key_at(&right, index), Some(key + 50));
+    }
+    assert_eq!(rt; node.item(Offset::before()).map(|item| *item.key()), None);
+}
+
+#[test]
+fn splits_an_internal_node_of_eight(rt: HostRuntime) {
+    let mut node = Node::Internal(internal_of(&rt, 8));
+    assert!(rt; node.is_overflowing());
+    let (left, median, right) = node.split();
+    assert_eq!(rt; (left, *median.key()), (3, 30));
+    assert_eq!(rt; (node.parent(), right.parent()), (Some(6), Some(6)));
+    assert_eq!(rt; (node.child_count(), right.child_count()), (4, 5));
+    for index in 0..4 {
+        assert_eq!(rt; node.child_id_opt(index), Some(100 + index));
+        assert_eq!(rt; key_at(&right, index), Some((index as u32) * 10 + 40));
+    }
+    for index in 0..5 {
+        assert_eq!(rt; right.child_id_opt(index), Some(104 + index));
+        assert_eq!(rt; right.child_index(104 + index), Some(index));
+    }
+    assert_eq!(rt; node.child_id_opt(4), None);
+    assert_eq!(rt;
+        (node.balance(), node.is_underflowing()),
+        (Balance::Balanced, false)
+    );
+}
+
+#[test]
+fn tells_how_full_a_node_is(rt: HostRuntime) {
+    assert_eq!(rt;
+        LeafNode::<u32, char>::empty(None).balance(),
+        Balance::Underflow(true)
+    );
+    for (items, balance) in [
+        (2, Balance::Underflow(false)),
+        (3, Balance::Balanced),
+        (7, Balance::Balanced),
+        (8, Balance::Balanced),
+        (9, Balance::Overflow),
+    ] {
+        let leaf = leaf_of(&rt, items);
+        assert_eq!(rt; leaf.balance(), balance, "{items}");
+        assert_eq!(rt; leaf.is_overflowing(), balance == Balance::Overflow);
+        assert_eq!(rt; leaf.is_underflowing(), items < 3);
+    }
+    for (items, balance) in [
+        (1, Balance::Underflow(false)),
+        (3, Balance::Balanced),
+        (7, Balance::Balanced),
+        (8, Balance::Overflow),
+    ] {
+        let node = internal_of(&rt, items);
+        assert_eq!(rt; node.balance(), balance, "{items}");
+        assert_eq!(rt; node.is_overflowing(), balance == Balance::Overflow);
+        assert_eq!(rt; node.is_underflowing(), items < 3);
+    }
+}
+
+#[test]
+fn changes_nodes(rt: HostRuntime) {
+    let mut leaf = Node::leaf(None, Item::new(20, 'b'));
+    leaf.insert(Offset::from(0), Item::new(10, 'a'), None);
+    leaf.insert(Offset::from(2), Item::new(30, 'c'), None);
+    leaf.set_parent(Some(4));
+    assert_eq!(rt; (leaf.parent(), leaf.item_count()), (Some(4), 3));
+    let mut node = Node::binary(Some(8), 1, Item::new(20, 'b'), 3);
+    node.insert(Offset::from(0), Item::new(10, 'a'), Some(2));
+    node.set_parent(None);
+    assert_eq!(rt; (node.parent(), node.child_count()), (None, 3));
+    for index in 0..3 {
+        assert_eq!(rt; node.child_id_opt(index), Some(index + 1));
+        assert_eq!(rt; key_at(&leaf, index), Some((index as u32) * 10 + 10));
+    }
+    assert_eq!(rt;
+        (key_at(&node, 0), key_at(&node, 1), key_at(&node, 2)),
+        (Some(10), Some(20), None)
+    );
+}
+
+// An internal node with the key 20 alone, between the children 1 and 2.
+#[tactic(auto, using(btree_item::proofs::PairEdits::order_kept))]
+fn node_of_one() -> Node<u32, char>
+    ensures { Ascends nat_cmp (items_of (view_of result)) }
+{
+    Node::binary(None, 1, Item::new(20, 'b'), 2)
+}
+
+// A leaf with the key 20 alone.
+#[tactic(auto, using(btree_item::proofs::PairEdits::order_kept))]
+fn leaf_of_one() -> Node<u32, char>
+    ensures { Ascends nat_cmp (items_of (view_of result)) }
+{
+    Node::leaf(None, Item::new(20, 'b'))
+}
+
+fn value_of(node: &Node<u32, char>) -> Option<char> {
+    node.item(Offset::from(0)).map(|item| *item.value())
+}
+
+#[test]
+fn finds_a_key_in_an_internal_node(rt: HostRuntime) {
+    let node = node_of_one();
+    assert_eq!(rt; node.get(&20), Ok(Some(&'b')));
+    assert_eq!(rt; (node.get(&10), node.get(&30)), (Err(1), Err(2)));
+    assert_eq!(rt; node.offset_of(&20), Ok(Offset::from(0)));
+    assert_eq!(rt; node.offset_of(&30), Err((1, Some(2))));
+    let mut written = node_of_one();
+    match written.find_mut(&20) {
+        Ok(value) => *value = 'c',
+        Err(_) => assert!(rt; false),
+    }
+    assert_eq!(rt; value_of(&written), Some('c'));
+    let mut absent = node_of_one();
+    match absent.get_mut(&30) {
+        Ok(_) => assert!(rt; false),
+        Err(child) => assert_eq!(rt; child, 2),
+    }
+}
+
+#[test]
+fn finds_a_key_in_a_leaf(rt: HostRuntime) {
+    let leaf = leaf_of_one();
+    assert_eq!(rt; (leaf.get(&10), leaf.get(&20)), (Ok(None), Ok(Some(&'b'))));
+    assert_eq!(rt; leaf.offset_of(&20), Ok(Offset::from(0)));
+    assert_eq!(rt; leaf.offset_of(&30), Err((1, None)));
+    let mut absent = leaf_of_one();
+    match absent.find_mut(&10) {
+        Ok(_) => assert!(rt; false),
+        Err(child) => assert_eq!(rt; child, None),
+    }
+    let mut written = leaf_of_one();
+    match written.get_mut(&20) {
+        Ok(Some(value)) => *value = 'c',
+        _ => assert!(rt; false),
+    }
+    assert_eq!(rt; value_of(&written), Some('c'));
+}
+
+#[test]
+fn compares_branches_by_key(rt: HostRuntime) {
+    let node: internal::Internal<u32, char> = InternalNode::binary(None, 1, Item::new(20, 'b'), 2);
+    let other = Branch {
+        item: Item::new(20, 'x'),
+        child: 7,
+    };
+    let first = node.branches().get(0).map(|branch| {
+        (
+            *branch.key(),
+            *branch.as_item().value(),
+            *branch == other,
+            branch.cmp(&other),
+        )
+    });
+    assert_eq!(rt; first, Some((20, 'b', true, Ordering::Equal)));
+    assert_eq!(rt; (node.first_child_id(), node.child_id(1)), (1, 2));
+}
+
+// Puts an item with a new key where it belongs.
+fn put<K: Ord + Drop, V: Drop>(
+    node: &mut InternalNode<K, V>,
+    key: K,
+    value: V,
+    right_id: usize,
+) -> bool
+    requires { Ascends K.cmp (items_of (internal_view node.old)) }
+    ensures { Ascends K.cmp (items_of (internal_view node.new)) }
+{
+    match node.offset_of(&key) {
+        Ok(_) => false,
+        Err((index, _)) => {
+            if node.item_count() < 8 {
+                node.insert(at(index), Item::new(key, value), right_id);
+                true
+            } else {
+                false
+            }
+        }
+    }
+}
+
+// The keys are 1, 3, 5, up to seven of them; each of these and each number between is sought.
+#[test]
+#[tactic(auto, using(btree_item::proofs::PairEdits::order_kept))]
+fn compares_at_most_six_times(rt: HostRuntime) {
+    let compared = Cell::new(0);
+    let key = |number: u32| Counted {
+        number,
+        compared: &compared,
+    };
+    let mut node = InternalNode::binary(None, 100, Item::new(key(1), 0), 101);
+    for held in 1..8u32 {
+        for number in 0..2 * held + 2 {
+            compared.set(0);
+            let found = node.get(&key(number)).copied();
+            assert!(rt; compared.get() <= 6, "{number} among {held}");
+            let is_held = number % 2 == 1 && number < 2 * held;
+            let child = ((number / 2) as usize) + 100;
+            assert_eq!(rt; found, if is_held { Ok(number / 2) } else { Err(child) });
+        }
+        if held < 7 {
+            assert!(rt; put(&mut node, key(2 * held + 1), held, (held as usize) + 101));
+        }
+    }
+    assert_eq!(rt; node.item_count(), 7);
+}

@@ -1,0 +1,5 @@
+//! Tests of sessions.
+#![tactic(auto)]
+
+#[cfg(test)]
+mod session;

@@ -1,0 +1,464 @@
+//! Sessions: commands as values over memory that is refused, and lines of text from readers and to writers that fail.
+use btree_item::Cause;
+use btree_node::Node;
+use btree_refusing::Refusing;
+use btree_session::{Command, Reply, Session, Stop, drive, run};
+use btree_store::{SlabMut, SlabStore};
+use std::alloc::Global;
+use std::cell::Cell;
+use std::io;
+use std::io::{ErrorKind, Read, Write};
+use std::process::Abort;
+use std::test::Fail;
+
+type Store = SlabStore<Node<u64, u64>>;
+
+const GROWING: &[u8] =
+    b"insert 0 0\ninsert 1 10\ninsert 2 20\ninsert 3 30\ninsert 4 40\ninsert 5 50\ninsert 6 60\n\
+insert 7 70\ninsert 8 80\nget 8\ninsert 3 33\nget 3\n";
+
+const FOURTEEN: &[u8] =
+    b"insert 0 0\ninsert 1 1\ninsert 2 2\ninsert 3 3\ninsert 4 4\ninsert 5 5\ninsert 6 6\n\
+insert 7 7\ninsert 8 8\ninsert 9 9\ninsert 10 10\ninsert 11 11\ninsert 12 12\ninsert 13 13\nshape\nnodes\nlen\n";
+
+// What is written for lines that are all served.
+fn written_for<C: SlabMut<Node<u64, u64>>>(
+    session: &mut Session<C>,
+    lines: &[u8],
+    alloc: Global,
+) -> Result<Vec<u8>, Fail> {
+    let (mut input, mut output) = (lines, Vec::new(alloc));
+    match drive(alloc, session, &mut input, &mut output) {
+        Ok(()) => Ok(output),
+        Err(_) => Err(Fail::from("stopped")),
+    }
+}
+
+#[test]
+fn lines_are_answered(rt: HostRuntime) -> Result<(), Fail> {
+    let runs: [(&[u8], &[u8], Result<(), Stop>); 12] = [
+        (
+            b"insert 3 30\nget 3\ninsert 3 31\nget 4\n",
+            b"none\nsome 30\nsome 30\nnone\n",
+            Ok(()),
+        ),
+        (
+            GROWING,
+            b"none\nnone\nnone\nnone\nnone\nnone\nnone\nnone\nnone\nsome 80\nsome 30\nsome 33\n",
+            Ok(()),
+        ),
+        (b"", b"", Ok(())),
+        (b"insert 1 2\nget 1", b"none\nsome 2\n", Ok(())),
+        (
+            b"insert 18446744073709551616 1\n",
+            b"",
+            Err(Stop::NotACommand(1)),
+        ),
+        (
+            b"insert 18446744073709551615 18446744073709551615\nget 00018446744073709551615\n",
+            b"none\nsome 18446744073709551615\n",
+            Ok(()),
+        ),
+        (
+            b"get 1\nget \xff\nget 1\n",
+            b"none\n",
+            Err(Stop::NotACommand(2)),
+        ),
+        (
+            b" get   1 \r\n\n  \r\n\r\nget 1\r\nget\t1\n",
+            b"none\nnone\n",
+            Err(Stop::NotACommand(6)),
+        ),
+        (b"get 1\r \n", b"", Err(Stop::NotACommand(1))),
+        (b"get 1\r\r\n", b"", Err(Stop::NotACommand(1))),
+        (b"get 1 2\n", b"", Err(Stop::NotACommand(1))),
+        (b"insert 1\n", b"", Err(Stop::NotACommand(1))),
+    ];
+    for (text, written, end) in runs {
+        let mut session: Session<Store> = Session::new(rt.alloc());
+        let (mut input, mut output) = (text, Vec::new(rt.alloc()));
+        let result = drive(rt.alloc(), &mut session, &mut input, &mut output);
+        assert_eq!(rt; (result, output.as_slice()), (end, written), "at {text:?}");
+    }
+    Ok(())
+}
+
+#[test]
+fn questions_are_answered(rt: HostRuntime) -> Result<(), Fail> {
+    let runs: [(&[u8], &[u8]); 5] = [
+        (b"list\nlen\nnodes\nshape\n", b"empty\n0\n0\n()\n"),
+        (
+            b"insert 7 70\nlist\nlen\nnodes\nshape\n",
+            b"none\n7=70\n1\n1\n(7)\n",
+        ),
+        (
+            b"insert 7 70\ninsert 5 50\nlist\nshape\n list \r\n",
+            b"none\nnone\n5=50 7=70\n(5 7)\n5=50 7=70\n",
+        ),
+        (
+            b"insert 18446744073709551615 18446744073709551615\nlist\nget 18446744073709551615\nshape",
+            b"none\n18446744073709551615=18446744073709551615\nsome 18446744073709551615\n(18446744073709551615)\n",
+        ),
+        (
+            FOURTEEN,
+            b"none\nnone\nnone\nnone\nnone\nnone\nnone\nnone\nnone\nnone\nnone\nnone\nnone\nnone\n\
+((0 1 2 3) 4 (5 6 7 8) 9 (10 11 12 13))\n4\n14\n",
+        ),
+    ];
+    for (text, written) in runs {
+        let mut session: Session<Store> = Session::new(rt.alloc());
+        assert_eq!(rt;
+            written_for(&mut session, text, rt.alloc())?.as_slice(),
+            written,
+            "at {text:?}"
+        );
+    }
+    Ok(())
+}
+
+#[test]
+fn other_words_are_no_commands(rt: HostRuntime) -> Result<(), Fail> {
+    let lines: [&[u8]; 13] = [
+        b"get",
+        b"got 1",
+        b"Get 1",
+        b"get +1",
+        b"get -1",
+        b"get 0x1",
+        b"get 1a",
+        b"insert 1 2 3",
+        b"list 1",
+        b"List",
+        b"lens",
+        b"nodes nodes",
+        b"shape 0",
+    ];
+    for line in lines {
+        let mut session: Session<Store> = Session::new(rt.alloc());
+        let (mut input, mut output) = (line, Vec::new(rt.alloc()));
+        let result = drive(rt.alloc(), &mut session, &mut input, &mut output);
+        assert_eq!(rt;
+            (result, output.len()),
+            (Err(Stop::NotACommand(1)), 0),
+            "at {line:?}"
+        );
+    }
+    Ok(())
+}
+
+// What one read gives.
+#[derive(Clone, Copy)]
+enum Piece<'a> {
+    Bytes(&'a [u8]),
+    Fails(ErrorKind),
+}
+
+// Gives one piece a read, and notes how many bytes had been flushed whenever it was asked.
+#[derive(Drop)]
+struct Pieces<'a> {
+    pieces: &'a [Piece<'a>],
+    next: usize,
+    flushed: &'a Cell<usize>,
+    seen: Vec<usize>,
+}
+
+impl Read for Pieces<'_> {
+    fn read(&mut self, buf: &mut [u8]) -> io::Result<usize> {
+        self.seen.push(self.flushed.get())?;
+        let at = self.next;
+        self.next = at.saturating_add(1);
+        match self.pieces.get(at).copied() {
+            Some(Piece::Bytes(bytes)) => {
+                let mut left = bytes;
+                left.read(buf)
+            }
+            Some(Piece::Fails(kind)) => Err(io::Error::from(kind)),
+            None => Ok(0),
+        }
+    }
+}
+
+// Takes at most three bytes a write, counts what is flushed, and fails once so many bytes are written.
+#[derive(Drop)]
+struct Slow<'a> {
+    written: Vec<u8>,
+    flushed: &'a Cell<usize>,
+    most: usize,
+}
+
+impl Write for Slow<'_> {
+    fn write(&mut self, buf: &[u8]) -> io::Result<usize> {
+        if self.written.len() >= self.most {
+            return Err(io::Error::from(ErrorKind::BrokenPipe));
+        }
+        let len = buf.len().min(3);
+        let (front, _) = buf.split_at(len);
+        self.written.extend_from_slice(front)?;
+        Ok(len)
+    }
+
+    fn flush(&mut self) -> io::Result<()> {
+        self.flushed.set(self.written.len());
+        Ok(())
+    }
+}
+
+// One run over pieces of input: how it ends, what is written and flushed, and how much was flushed at each read.
+#[derive(Drop)]
+struct Run<'a> {
+    pieces: &'a [Piece<'a>],
+    most: usize,
+    end: Result<(), Stop>,
+    written: &'a [u8],
+    seen: &'a [usize],
+}
+
+#[test]
+fn replies_are_written_before_more_is_read(rt: HostRuntime) -> Result<(), Fail> {
+    let runs = [
+        Run {
+            pieces: &[
+                Piece::Bytes(b"insert 1 10\nget 1\nge"),
+                Piece::Bytes(b"t 2"),
+                Piece::Fails(ErrorKind::Interrupted),
+                Piece::Bytes(b"\r\n"),
+                Piece::Bytes(b"get 1"),
+            ],
+            most: 100,
+            end: Ok(()),
+            written: b"none\nsome 10\nnone\nsome 10\n",
+            seen: &[0, 13, 13, 13, 18, 18, 26],
+        },
+        Run {
+            pieces: &[
+                Piece::Bytes(b"insert 1 10\nget"),
+                Piece::Fails(ErrorKind::ConnectionReset),
+                Piece::Bytes(b" 1\n"),
+            ],
+            most: 100,
+            end: Err(Stop::Input),
+            written: b"none\n",
+            seen: &[0, 5],
+        },
+        Run {
+            pieces: &[
+                Piece::Bytes(b"insert 1 10\n"),
+                Piece::Bytes(b"get 1\nget 1\n"),
+                Piece::Bytes(b"get 1\n"),
+            ],
+            most: 9,
+            end: Err(Stop::Output),
+            written: b"none\nsome 1",
+            seen: &[0, 5],
+        },
+        Run {
+            pieces: &[Piece::Bytes(b"insert 1 10\njump\nget 1\n")],
+            most: 100,
+            end: Err(Stop::NotACommand(2)),
+            written: b"none\n",
+            seen: &[0],
+        },
+        Run {
+            pieces: &[Piece::Bytes(b"insert 1 10\njump\n")],
+            most: 0,
+            end: Err(Stop::Output),
+            written: b"",
+            seen: &[0],
+        },
+    ];
+    for (number, wanted) in runs.iter().enumerate() {
+        let flushed = Cell::new(0);
+        let mut session: Session<Store> = Session::new(rt.alloc());
+        let mut input = Pieces {
+            pieces: wanted.pieces,
+            next: 0,
+            flushed: &flushed,
+            seen: Vec::new(rt.alloc()),
+        };
+        let mut output = Slow {
+            written: Vec::new(rt.alloc()),
+            flushed: &flushed,
+            most: wanted.most,
+        };
+        let result = drive(rt.alloc(), &mut session, &mut input, &mut output);
+        assert_eq!(rt; result, wanted.end, "in run {number}");
+        assert_eq!(rt;
+            output.written.as_slice(),
+            wanted.written,
+            "in run {number}"
+        );
+        assert_eq!(rt; input.seen.as_slice(), wanted.seen, "in run {number}");
+        // What was run keeps its effect, whether its reply could be written or not.
+        assert_eq!(rt; session.map().get(&1).copied(), Some(10), "in run {number}");
+        if result != Err(Stop::Output) {
+            assert_eq!(rt; flushed.get(), wanted.written.len(), "in run {number}");
+        }
+    }
+    Ok(())
+}
+
+#[test]
+fn refused_room_for_replies_changes_nothing(rt: HostRuntime) -> Result<(), Fail> {
+    let memory = Refusing::over(rt.alloc(), 0);
+    let mut replies: Vec<Reply, &Refusing<Global>> = Vec::new(&memory);
+    let mut session: Session<Store> = Session::new(rt.alloc());
+    run(&mut session, &[Command::Insert(1, 10)], &mut replies)?;
+    assert_eq!(rt; replies.as_slice(), [Reply::Nothing].as_slice());
+
+    let commands = [Command::Insert(1, 11); 100];
+    memory.refuse(1);
+    assert!(rt; run(&mut session, &commands, &mut replies).is_err());
+    assert_eq!(rt; memory.refuses(), 0);
+    assert_eq!(rt; replies.as_slice(), [Reply::Nothing].as_slice());
+    assert_eq!(rt; session.map().get(&1).copied(), Some(10));
+
+    run(&mut session, &commands, &mut replies)?;
+    assert_eq!(rt;
+        (replies.len(), replies.get(1).copied()),
+        (101, Some(Reply::Value(10)))
+    );
+    assert_eq!(rt; replies.last().copied(), Some(Reply::Value(11)));
+    Ok(())
+}
+
+// The store refuses the first node.
+fn check_first_refused<C: SlabMut<Node<u64, u64>> + Drop>(
+    rt: &impl Abort,
+    alloc: Global,
+    origin: C::Origin,
+) -> Result<(), Fail> {
+    let mut session: Session<C> = Session::new(origin);
+    let mut replies = Vec::new(alloc);
+    let commands = [
+        Command::Insert(3, 30),
+        Command::Get(3),
+        Command::Insert(3, 31),
+        Command::Get(3),
+    ];
+    run(&mut session, &commands, &mut replies)?;
+    assert_eq!(rt;
+        replies.as_slice(),
+        [
+            Reply::Refused(Cause::Store),
+            Reply::Nothing,
+            Reply::Nothing,
+            Reply::Value(31)
+        ]
+        .as_slice()
+    );
+    Ok(())
+}
+
+#[test]
+fn a_refused_node_is_a_reply(rt: HostRuntime) -> Result<(), Fail> {
+    let memory = Refusing::over(rt.alloc(), 1);
+    check_first_refused::<SlabStore<Node<u64, u64>, &Refusing<Global>>>(&rt, rt.alloc(), &memory)?;
+    assert_eq!(rt; memory.refuses(), 0);
+    Ok(())
+}
+
+// Lines that put in each key from 0 to 43, but for one.
+fn insertions_but(left_out: Option<u64>, alloc: Global) -> Result<String, Fail> {
+    let mut lines = String::new(alloc);
+    for key in 0..44u64 {
+        if Some(key) != left_out {
+            write!(lines, "insert {key} {key}\n")?;
+        }
+    }
+    Ok(lines)
+}
+
+// The replies to those lines where one key is refused.
+fn replies_but(refused: u64, alloc: Global) -> Result<String, Fail> {
+    let mut replies = String::new(alloc);
+    for key in 0..44u64 {
+        if key == refused {
+            replies.push_str("refused store\n")?;
+        } else {
+            replies.push_str("none\n")?;
+        }
+    }
+    Ok(replies)
+}
+
+// All is as if the line with this key had not been said.
+fn check_left_out<C: SlabMut<Node<u64, u64>>>(
+    rt: &impl Abort,
+    session: &mut Session<C>,
+    refused: u64,
+    alloc: Global,
+) -> Result<(), Fail> {
+    let questions = b"list\nlen\nnodes\nshape\n".as_slice();
+    let lines = insertions_but(Some(refused), alloc)?;
+    let mut other: Session<Store> = Session::new(alloc);
+    written_for(&mut other, lines.as_bytes(), alloc)?;
+    let wanted = written_for(&mut other, questions, alloc)?;
+    let written = written_for(session, questions, alloc)?;
+    assert_eq!(rt; written.as_slice(), wanted.as_slice());
+    Ok(())
+}
+
+// The line with this key is taken when it is said again.
+fn check_taken<C: SlabMut<Node<u64, u64>>>(
+    rt: &impl Abort,
+    session: &mut Session<C>,
+    refused: u64,
+    alloc: Global,
+) -> Result<(), Fail> {
+    let line = format!(in alloc; "insert {refused} {refused}\nlen\n")?;
+    let written = written_for(session, line.as_bytes(), alloc)?;
+    assert_eq!(rt; written.as_slice(), b"none\n44\n".as_slice());
+    Ok(())
+}
+
+// Drives 44 insertions, and answers which key was refused, if one was.
+fn refused_of_44<C: SlabMut<Node<u64, u64>>>(
+    rt: &impl Abort,
+    session: &mut Session<C>,
+    alloc: Global,
+) -> Result<Option<u64>, Fail> {
+    let lines = insertions_but(None, alloc)?;
+    let replies = written_for(session, lines.as_bytes(), alloc)?;
+    let Some(place) = replies.iter().position(|byte| *byte == b'r') else {
+        return Ok(None);
+    };
+    // Each reply before it is `none` with its newline.
+    let refused = place as u64 / 5;
+    let wanted = replies_but(refused, alloc)?;
+    assert_eq!(rt; replies.as_slice(), wanted.as_bytes());
+    Ok(Some(refused))
+}
+
+// Drives 44 insertions. Answers whether one was refused, and checks then what it left.
+fn meets_refusal<C: SlabMut<Node<u64, u64>> + Drop>(
+    rt: &impl Abort,
+    origin: C::Origin,
+    alloc: Global,
+) -> Result<bool, Fail> {
+    let mut session: Session<C> = Session::new(origin);
+    let Some(refused) = refused_of_44(rt, &mut session, alloc)? else {
+        return Ok(false);
+    };
+    check_left_out(rt, &mut session, refused, alloc)?;
+    check_taken(rt, &mut session, refused, alloc)?;
+    Ok(true)
+}
+
+// Each allocation of the store in a run of 44 insertions is refused in turn, until a run meets none.
+#[test]
+fn a_refused_line_changes_nothing(rt: HostRuntime) -> Result<(), Fail> {
+    for nth in 1..44u64 {
+        let memory = Refusing::over(rt.alloc(), nth);
+        let refused = meets_refusal::<SlabStore<Node<u64, u64>, &Refusing<Global>>>(
+            &rt,
+            &memory,
+            rt.alloc(),
+        )?;
+        if !refused {
+            assert!(rt; nth > 1 && memory.refuses() > 0);
+            return Ok(());
+        }
+        assert_eq!(rt; memory.refuses(), 0, "at {nth}");
+    }
+    Err(Fail::from("each run met a refusal"))
+}

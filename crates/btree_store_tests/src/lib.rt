@@ -1,0 +1,5 @@
+//! Tests of stores, with an allocator that refuses.
+#![tactic(auto)]
+
+#[cfg(test)]
+mod stores;
