@@ -1,5 +1,5 @@
 -- Where a key is, or would be, in a list of keys that ascend.
-use Rattle.std.proofs.Common.{◌≡◌, ℕ, ◌+◌, ◌<◌, ◌≤◌, inl, inr, Bool, true, false, cond, List, [], ◌∷◌, Option, Some, Ok, Err, length, zero, suc, refl, sym, ◌∙◌, ap, arith, Ordering}
+use Rattle.std.proofs.Common.{◌≡◌, ℕ, ◌+◌, ◌<◌, ◌≤◌, inl, inr, Bool, true, false, cond, List, [], ◌∷◌, Option, Some, Ok, Err, length, zero, suc, refl, sym, ◌∙◌, ap, arith, subst, Ordering}
 use Rattle.std.specs.declared.cmp.Ordering.TheVariants.{Less, Equal, Greater}
 use Rattle.std.specs.Prelude.{slice_get, ◌||◌}
 use Rattle.std.specs.Ordering.{is_eq, is_lt, is_some_and, ordering_reverse, partial_lt}
@@ -60,6 +60,15 @@ module _ {K : Type 0} {cmp : K → K → Ordering} where
 
   pub IsNotBelowAt-end : (k : K) (i : ℕ) (keys : List K) → length keys ≤ i → IsNotBelowAt cmp k i keys
   IsNotBelowAt-end k i keys past = record { stops = λ p here. absurd (omega (arith, slice_get_within keys i p here)) }
+
+  -- a place that stands, or is reached, is not below where the key that is read next is not
+  pub IsNotBelowAt-next : (k q : K) (n i : ℕ) (keys : List K) → (n < i → IsNotBelowAt cmp k n keys) → n ≤ i → slice_get keys i ≡ Some q → is_lt (cmp q k) ≡ false → n < i + 1 → IsNotBelowAt cmp k n keys
+  IsNotBelowAt-next k q n i keys stood reached at not_below within = elim (cases_lt n i) [
+    | inl earlier ↦ stood earlier
+    | inr later ↦
+        let same : i ≡ n = omega arith in
+        subst (λ j. IsNotBelowAt cmp k j keys) same (IsNotBelowAt-from_key k q i keys at not_below)
+  ]
 
   tail_is_first : (k q : K) (i : ℕ) (keys : List K) → IsFirstNotBelow cmp k (suc i) (q ∷ keys) → IsFirstNotBelow cmp k i keys
   tail_is_first k q i keys first = record {

@@ -15,7 +15,7 @@ fn key_at<T: Keyed, const N: usize>(slots: &Slots<T, N>, index: usize) -> &T::Ke
     slots.get(index).unwrap().key()
 }
 
-// The first index from `start` to `end` whose key is not below, found from the front.
+// The first index from `start` to `end` whose key is not below. It compares all of these, so that no branch depends on where that is.
 #[tactic(auto, using(crate::proofs::KeyLemmas::search_steps))]
 fn first_not_below<T: Keyed, const N: usize>(
     slots: &Slots<T, N>,
@@ -27,17 +27,18 @@ where
     T::Key: Ord,
     requires ordered { start ≤ end }
     requires within { end ≤ length slots.now }
+    requires ascends { IsStrictlySortedBy T.Key.cmp (map T.key_of slots.now) }
     requires before { AllBelow T.Key.cmp key.now start (map T.key_of slots.now) }
     requires here { IsNotBelowAt T.Key.cmp key.now end (map T.key_of slots.now) }
     ensures { IsFirstNotBelow T.Key.cmp key.now result (map T.key_of slots.now) }
 {
+    let mut place = start;
     for i in start..end {
-        let is_below = key_at(slots, i) < key;
-        if !is_below {
-            return i;
+        if key_at(slots, i) < key {
+            place = i + 1;
         }
     }
-    end
+    place
 }
 
 // The same over all slots. The key in the middle says which half to look through.

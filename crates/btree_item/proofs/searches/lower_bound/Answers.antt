@@ -13,7 +13,7 @@ first_not_below-requires-then-lt g c =
         omega arith,
         (
           omega arith,
-          (AllBelow-from_key g.met.T.Key.Ord.total _ _ _ _ c.requires c.key_at.ensures is_below, IsNotBelowAt-end _ _ _ (omega arith)),
+          (c.requires, (AllBelow-from_key g.met.T.Key.Ord.total _ _ _ _ c.requires c.key_at.ensures is_below, IsNotBelowAt-end _ _ _ (omega arith))),
         ),
       ),
     )

@@ -1,0 +1,25 @@
+use Rattle.std.proofs.Common.{◌∙◌, arith}
+use Rattle.btree_item.proofs.KeyLemmas.{AllBelow-from_key, IsNotBelowAt-next, is_lt-from_partial}
+use Rattle.btree_item.proofs.searches.first_not_below.Goals as goal
+use Rattle.btree_item.proofs.searches.first_not_below.Goals.{then-lt, else-lt}
+
+pub loop-i-preserved : goal.loop-i-preserved
+loop-i-preserved g c = elim c.if-lt.branch [
+  | then-lt w ↦
+      let is_below = is_lt-from_partial g.met.T.Key.Ord.matches_partial_cmp _ _ _ c.lt.ensures ∙ w.if-lt.true in
+      let moved = w.place-is in
+      record {
+        reached = omega arith;
+        before = rw moved (AllBelow-from_key g.met.T.Key.Ord.total _ _ _ _ c.requires.ascends c.key_at.ensures is_below);
+        here = λ earlier. absurd (omega arith);
+      }
+  | else-lt w ↦
+      let not_below = is_lt-from_partial g.met.T.Key.Ord.matches_partial_cmp _ _ _ c.lt.ensures ∙ w.if-lt.false in
+      let stays = w.place-is in
+      let reached = c.loop-i.invariant.reached in
+      record {
+        reached = omega arith;
+        before = rw stays c.loop-i.invariant.before;
+        here = rw stays (IsNotBelowAt-next _ _ _ _ _ c.loop-i.invariant.here reached c.key_at.ensures not_below);
+      }
+]
