@@ -18,7 +18,7 @@ use Rattle.btree_view.specs.View.{items_of}
 use Rattle.btree_shape.specs.Step.{HasItems}
 use Rattle.btree_shape.specs.TreeState.{views}
 use Rattle.btree_ext.specs.Exchange.{CanExchange, Exchanges, items_in}
-use Rattle.btree_ext.proofs.StepLemmas.{puts, view-at}
+use Rattle.btree_shape.proofs.Stores.{puts, view-at}
 
 zip-first : {X Y : Type 0} (xs : List X) (ys : List Y) → length xs ≡ length ys → map {B = X} (λ p. p.0) (zip xs ys) ≡ xs
 zip-first [] [] e = refl

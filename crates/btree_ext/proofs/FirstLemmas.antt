@@ -1,5 +1,5 @@
 -- The first pair of a tree.
-use Rattle.std.proofs.Common.{◌≡◌, ◌≢◌, ℕ, inl, inr, List, [], ◌∷◌, length, Option, Some, None, refl, sym, ap, subst, ◌∙◌, option_map, arith}
+use Rattle.std.proofs.Common.{◌≡◌, ◌≢◌, ℕ, inl, inr, [], ◌∷◌, length, Option, Some, None, refl, sym, ap, subst, ◌∙◌, option_map, arith}
 use Rattle.std.specs.FinMap as map
 use Rattle.std.specs.List.{insert}
 use Rattle.std.specs.declared.cmp.Ordering.{Ordering}
@@ -14,23 +14,16 @@ use Rattle.btree_shape.specs.Shape.{one, times_listed}
 use Rattle.btree_shape.specs.Step.{Puts}
 use Rattle.btree_shape.specs.TreeState.{views, pairs_under, IsSound}
 use Rattle.btree_shape.specs.WellFormed.{IsWellFormed, times_used}
-use Rattle.btree_shape.proofs.Density.{len-listed}
-use Rattle.btree_shape.proofs.Frames.{one-self}
+use Rattle.btree_shape.proofs.Frames.{one-self, one-other}
 use Rattle.btree_shape.proofs.Listed.{pairs-well, well-pairs}
+use Rattle.btree_shape.specs.Strain.{IsStrain, strain_under}
+use Rattle.btree_shape.proofs.Needs.{full-yes}
 use Rattle.btree_shape.proofs.Numbers.{same-or}
 use Rattle.btree_shape.proofs.Puts.{first-well}
-use Rattle.btree_ext.specs.Claimed.{EMPTY}
-use Rattle.btree_ext.specs.Insert.{IsInserted, state}
-use Rattle.btree_ext.proofs.AdoptLemmas.{one-other}
-
-module _ {K V : Type 0} where
-  used-view : (o : Option (Node K V)) → times_used (option_map view_of o) ≡ times_used o
-  used-view None = refl
-  used-view (Some n) = refl
-
-  -- how many nodes there are, by their numbers
-  pub len-views : (nodes : Content (Node K V)) (ids : List ℕ) → ((n : ℕ) → times_listed n ids ≡ times_used (views nodes n)) → map.len nodes ≡ length ids
-  len-views nodes ids each = len-listed ids nodes (λ n. each n ∙ used-view (map.get nodes n))
+use Rattle.btree_balance.specs.Claimed.{EMPTY}
+use Rattle.btree_shape.specs.TreeState.{state}
+use Rattle.btree_ext.specs.Insert.{IsInserted, IsPaid}
+use Rattle.btree_shape.proofs.Stores.{len-views}
 
 module _ {K V : Type 0} (cmp : K → K → Ordering) (old mid new : Content (Node K V)) (top : Option ℕ) (len r r2 root : ℕ) (empty : top ≡ None) (sound : IsSound cmp old top len)
     (node : Node K V) (x : K × V) (claimed : mid ≡ map.insert old root EMPTY) (puts : Puts (views mid) (views new) root (view_of node)) (is : view_of node ≡ leaf None (x ∷ []))
@@ -62,6 +55,18 @@ module _ {K V : Type 0} (cmp : K → K → Ordering) (old mid new : Content (Nod
   place-new : IsPlace (views new) (Some root) (x ∷ []) root (Some 0) 0
   place-new = inl (subst (λ o. IsPlaceOf (views new) (x ∷ []) o 0) (sym (ap (λ v. item_in v 0) here)) refl)
 
+  calm : strain_under (views new) root (root ∷ []) ≡ 0
+  calm = rw here (let s = full-yes root root 0 3 refl in omega arith)
+
+  is-paid : map.len old ≡ 0 → map.len new ≡ 1 → IsPaid (state old top len r) (state new (Some root) 1 r2)
+  is-paid old_len new_len = record {
+    before = 0;
+    after = 0;
+    strain_before = subst (λ t. IsStrain (views old) t 0) (sym empty) refl;
+    strain_after = (root ∷ [], used-new, sym calm);
+    paid = omega arith;
+  }
+
   pub first-inserted : IsInserted cmp (state old top len r) (state new (Some root) 1 r2) a b x
   first-inserted =
       let old_len : map.len old ≡ 0 = len-views old [] (λ n. sym (ap times_used (no-nodes n))) in
@@ -79,5 +84,6 @@ module _ {K V : Type 0} (cmp : K → K → Ordering) (old mid new : Content (Nod
         item = rw b_is (ap (λ v. item_in v 0) here);
         longer = omega arith;
         nodes = rw empty (omega arith);
+        strain = is-paid old_len new_len;
         uncounted = uncounted;
       }

@@ -19,8 +19,9 @@ use Rattle.btree_shape.proofs.Listed.{pairs-well, well-pairs}
 use Rattle.btree_shape.proofs.Numbers.{same-or, times-listed, used-one}
 use Rattle.btree_ext.specs.Answers.{HasKey, IsGapAt}
 use Rattle.btree_ext.specs.Exchange.{Exchanges}
-use Rattle.btree_ext.specs.Insert.{IsGapFor, IsInserted, Took, state}
-use Rattle.btree_ext.proofs.FirstLemmas.{len-views}
+use Rattle.btree_shape.specs.TreeState.{state}
+use Rattle.btree_ext.specs.Insert.{IsGapFor, IsInserted, Took}
+use Rattle.btree_shape.proofs.Stores.{len-views}
 
 ok-some : {X : Type 0} (n m i : ℕ) (o : Option X) → (if is_some o then Ok n else Err m) ≡ Ok i → IsSome o
 ok-some n m i None e = absurd (cc)
@@ -81,7 +82,7 @@ module _ {K V : Type 0} (cmp : K → K → Ordering) (laws : IsTotalOrder cmp) (
   exchanged (Some root) sound place is id has new ex = exchanged-at root (well-pairs cmp (views old) (Some root) len sound.pairs sound.well) place is id has new ex
 
   pub exchanged-took : (top : Option ℕ) (new : Content (Node K V)) (r2 : ℕ) → IsExchanged top new → Took cmp k (state old top len r) (state new top len r2)
-  exchanged-took top new r2 x = record { absent = λ none. absurd (not-both (found cmp k (pairs top)) x.some none); present = λ some. x.nodes }
+  exchanged-took top new r2 x = record { absent = λ none. absurd (not-both (found cmp k (pairs top)) x.some none); paid = λ none. absurd (not-both (found cmp k (pairs top)) x.some none); present = λ some. x.nodes }
 
   module _ (top : Option ℕ) (sound : IsSound cmp old top len) (a : Address) (gap : IsGapAt cmp k (views old) top (pairs top) a) where
     nothing : (found cmp k (pairs top) ≡ None) × (before cmp k (pairs top) ≡ gap.place)
@@ -106,4 +107,4 @@ module _ {K V : Type 0} (cmp : K → K → Ordering) (laws : IsTotalOrder cmp) (
       put-pairs = (is.pairs gap.place gap.at).0 ∙ sym (inserted-from_Err cmp k w (pairs top) gap.place gap.is)
 
       pub put-took : Took cmp k (state old top len r) new
-      put-took = record { absent = λ none. (a, gap, is.nodes); present = λ some. absurd (not-both (found cmp k (pairs top)) some absent) }
+      put-took = record { absent = λ none. (a, gap, is.nodes); paid = λ none. is.strain; present = λ some. absurd (not-both (found cmp k (pairs top)) some absent) }

@@ -1,71 +1,37 @@
 -- A pair put into a leaf of a tree that is not empty: what the steps ask, and what they come to.
-use Rattle.std.proofs.Common.{◌≡◌, ◌≢◌, ℕ, zero, suc, ◌+◌, ◌-◌, ◌^◌, ◌<◌, ◌≤◌, inl, inr, All, List, [], ◌∷◌, ◌++◌, length, length-append, Option, Some, None, IsSome, refl, sym, ap, subst, ◌∙◌, option_map, option_and_then, slice_get, arith}
+use Rattle.std.proofs.Common.{◌≡◌, ◌≢◌, ℕ, zero, suc, ◌+◌, ◌<◌, ◌≤◌, inl, inr, List, [], ◌∷◌, ◌++◌, length, length-append, Option, Some, None, IsSome, refl, sym, ap, subst, ◌∙◌, option_map, option_and_then, slice_get, arith}
 use Rattle.std.specs.Cmp.{IsTotalOrder}
 use Rattle.std.specs.FinMap as map
 use Rattle.std.specs.List.{insert}
 use Rattle.std.specs.declared.cmp.Ordering.{Ordering}
 use Rattle.btree_store.specs.Content.{Content}
-use Rattle.btree_store.specs.ContentLaws.{get-insert_same, get-insert_other}
 use Rattle.btree_item.specs.declared.address.Address.{Address}
 use Rattle.btree_node.specs.declared.node.Node.{Node}
 use Rattle.btree_view.specs.Edits.{with_item}
-use Rattle.btree_node.specs.Node.{view_of}
-use Rattle.btree_view.specs.View.{View, Look, leaf, internal, item_in}
+use Rattle.btree_view.specs.View.{View, Look, leaf, internal, item_in, most_of, size_of}
 use Rattle.btree_shape.specs.Growing.{IsGrowing, IsGrown}
 use Rattle.btree_shape.specs.Need.{need}
 use Rattle.btree_shape.specs.Place.{IsPlace, IsPlaceOf, IsEnd, IsLeaf, IsBack}
-use Rattle.btree_shape.specs.Shape.{one, times_listed}
+use Rattle.btree_shape.specs.Shape.{times_listed}
 use Rattle.btree_shape.specs.Spells.{numbers_under}
 use Rattle.btree_shape.specs.Step.{Claims, Puts}
-use Rattle.btree_shape.specs.Strain.{strain_under}
+use Rattle.btree_shape.specs.Strain.{IsStrain, strain_under}
 use Rattle.btree_shape.specs.Tour.{slot}
 use Rattle.btree_shape.specs.TreeState.{views, pairs_under, IsSound}
 use Rattle.btree_shape.specs.WellFormed.{IsWellFormed, times_used}
-use Rattle.btree_shape.proofs.Frames.{one-self}
 use Rattle.btree_shape.proofs.Listed.{pairs-well, well-pairs}
-use Rattle.btree_shape.proofs.Numbers.{listed-append, same-or, times-listed, used-low, used-one}
+use Rattle.btree_shape.proofs.Numbers.{less-or, listed-append, same-or, times-listed, used-low, used-one}
 use Rattle.btree_shape.proofs.OnePlace.{one_place-well}
-use Rattle.btree_shape.proofs.Puts.{leaf-grows, grown-well, grown-address}
-use Rattle.btree_ext.specs.Claimed.{EMPTY, with_claims, AreClaims, IsClaimed}
-use Rattle.btree_ext.specs.Insert.{IsGapFor, IsInserted, state}
-use Rattle.btree_ext.specs.Steps.{AddsItem, AreSplit, CanTake, IsSplitting}
-use Rattle.btree_ext.proofs.AdoptLemmas.{one-other, used-view}
-use Rattle.btree_ext.proofs.FirstLemmas.{len-views}
+use Rattle.btree_shape.proofs.Puts.{leaf-grows, grown-well, grown-address, grown-paid, grown-rooted}
+use Rattle.btree_balance.proofs.ClaimLemmas.{claims-low, claims-seen}
+use Rattle.btree_balance.proofs.ClimbLemmas.{climb-done, climb-left, climb-start}
+use Rattle.btree_balance.specs.Claimed.{EMPTY, IsClaimed}
+use Rattle.btree_shape.specs.TreeState.{state}
+use Rattle.btree_ext.specs.Insert.{IsGapFor, IsInserted, IsPaid}
+use Rattle.btree_balance.specs.Steps.{AddsItem, AreSplit, CanTake, IsSplitting}
+use Rattle.btree_shape.proofs.Stores.{used-view, len-views}
 
 module _ {K V : Type 0} where
-  -- claims as definitions of the tree see them
-  pub claims-seen : (nodes : Content (Node K V)) (ids : List ℕ) → AreClaims EMPTY nodes ids → Claims (views nodes) (views (with_claims EMPTY nodes ids)) ids
-  claims-seen nodes [] a = record { counted = λ n. omega arith; kept = λ n none. refl }
-  claims-seen nodes (id ∷ ids) a =
-      let rest = claims-seen (map.insert nodes id EMPTY) ids a.2 in
-      let was : views nodes id ≡ None = ap (option_map view_of) a.0 in
-      let is : views (map.insert nodes id EMPTY) id ≡ Some (view_of EMPTY) = ap (option_map view_of) (get-insert_same nodes id EMPTY) in
-      let other : (n : ℕ) → n ≢ id → views (map.insert nodes id EMPTY) n ≡ views nodes n = λ n ne. ap (option_map view_of) (get-insert_other nodes id EMPTY n ne) in
-      record {
-        counted = λ n. elim (same-or n id) [
-          | inl same ↦
-              let u = rest.counted n in
-              let b : times_used (views (map.insert nodes id EMPTY) n) ≡ 1 = ap (λ i. times_used (views (map.insert nodes id EMPTY) i)) same ∙ ap times_used is in
-              let c : times_used (views nodes n) ≡ 0 = ap (λ i. times_used (views nodes i)) same ∙ ap times_used was in
-              let d : one n id ≡ 1 = ap (one n) (sym same) ∙ one-self n in
-              omega arith
-          | inr ne ↦
-              let u = rest.counted n in
-              let b = ap times_used (other n ne) in
-              let d = one-other n id ne in
-              omega arith
-        ];
-        kept = λ n none. elim (same-or n id) [
-          | inl same ↦ let d : one n id ≡ 1 = ap (one n) (sym same) ∙ one-self n in absurd (omega arith)
-          | inr ne ↦ rest.kept n (omega arith) ∙ other n ne
-        ];
-      }
-
-  pub claims-low : (nodes : Content (Node K V)) (ids : List ℕ) → AreClaims EMPTY nodes ids → All (λ id. id < 2 ^ 64 - 1) ids
-  claims-low nodes [] a k d low = absurd (omega arith)
-  claims-low nodes (id ∷ ids) a zero d low = a.1
-  claims-low nodes (id ∷ ids) a (suc k) d low = claims-low (map.insert nodes id EMPTY) ids a.2 k d (omega arith)
-
   leaf-there : (o : Option (View (K × V))) → IsLeaf (λ n. o) o → (p : Option ℕ) × (ys : List (K × V)) × (o ≡ Some (leaf p ys))
   leaf-there None is = absurd is
   leaf-there (Some (leaf p ys)) is = (p, ys, refl)
@@ -169,6 +135,18 @@ module _ {K V : Type 0} (cmp : K → K → Ordering) (laws : IsTotalOrder cmp) (
       pub splitting : IsSplitting (views put) top a.id ids a
       splitting = record { top = root; at_root = is; xs = insert pairs gap.place (k, w); asked = Some (k, w); place = gap.place; gained = 0; bound = bound; growing = growing }
 
+      abbrev grown-leaf : View (K × V)
+      grown-leaf = with_item the-leaf.index (k, w) None (leaf the-leaf.parent the-leaf.items)
+
+      -- where no node is needed, none is split
+      pub unsplit : length ids ≡ 0 → AreSplit (views put) (views put) top top a.id ids a a
+      unsplit none =
+          let start = climb-start (K × V) (views put) top a.id ids a (claims-low old ids claimed.claims) in
+          elim (less-or (most_of grown-leaf) (size_of grown-leaf)) [
+            | inl over ↦ let left = climb-left (K × V) (views put) (views put) top a.id a.id ids ids a a splitting start grown-leaf puts.here over in absurd (omega arith)
+            | inr room ↦ climb-done (K × V) (views put) (views put) top a.id a.id ids ids a a splitting start grown-leaf puts.here (elim room [ inl same ↦ omega arith | inr less ↦ omega arith ])
+          ]
+
       module _ (new : Content (Node K V)) (new_top : Option ℕ) (b : Address) (split : AreSplit (views put) (views new) top new_top a.id ids a b)
           (used : (n : ℕ) → times_used (views new n) ≡ times_used (views put n)) (new_len new_r : ℕ) (longer : new_len ≡ len + 1) (uncounted : new_r ≡ r) where
         grown : IsGrown (K × V) (views new) split.top (insert pairs gap.place (k, w)) (Some (k, w)) b gap.place (0 + length ids) bound
@@ -199,6 +177,23 @@ module _ {K V : Type 0} (cmp : K → K → Ordering) (laws : IsTotalOrder cmp) (
         was-listed : (n : ℕ) → times_listed n (numbers_under look well.formed.height root) ≡ times_used (look n)
         was-listed n = sym (times-listed n (numbers_under look well.formed.height root)) ∙ well.formed.once n
 
+        is-paid : IsPaid (state old top len r) (state new (Some split.top) (len + 1) new_r)
+        is-paid =
+            let rooted = grown-rooted (K × V) (views new) split.top (insert pairs gap.place (k, w)) (Some (k, w)) b gap.place (0 + length ids) bound grown in
+            let all : List ℕ = numbers_under (views new) rooted.height split.top in
+            let each : (n : ℕ) → times_listed n all ≡ times_used (views new n) = λ n. sym (times-listed n all) ∙ rooted.once n in
+            let paid = grown-paid (K × V) (views new) split.top (insert pairs gap.place (k, w)) (Some (k, w)) b gap.place (0 + length ids) bound grown in
+            let l1 = len-views new (numbers_under look well.formed.height root ++ ids) listed in
+            let l2 = len-views old (numbers_under look well.formed.height root) was-listed in
+            let l3 = length-append (numbers_under look well.formed.height root) ids in
+            record {
+              before = strain_under look root (numbers_under look well.formed.height root);
+              after = strain_under (views new) split.top all;
+              strain_before = subst (λ t. IsStrain look t (strain_under look root (numbers_under look well.formed.height root))) (sym is) (numbers_under look well.formed.height root, was-listed, refl);
+              strain_after = (all, each, refl);
+              paid = omega arith;
+            }
+
         pub more-inserted : IsInserted cmp (state old top len r) (state new new_top new_len new_r) a b (k, w)
         more-inserted =
             let e : pairs_under (views new) (Some split.top) (len + 1) ≡ insert pairs gap.place (k, w) = pairs-well cmp (views new) (Some split.top) (len + 1) (insert pairs gap.place (k, w)) new-well in
@@ -220,5 +215,6 @@ module _ {K V : Type 0} (cmp : K → K → Ordering) (laws : IsTotalOrder cmp) (
               item = ap (option_and_then (item_in (views new b.id))) i.1 ∙ i.2;
               longer = refl;
               nodes = omega arith;
+              strain = is-paid;
               uncounted = uncounted;
             }))

@@ -19,11 +19,10 @@ use Rattle.btree_shape.specs.WellFormed.{IsWellFormed}
 use Rattle.btree_shape.proofs.Descents.{Down, get-after, search-start, search-ascends, search-down}
 use Rattle.btree_shape.proofs.Listed.{well-pairs}
 use Rattle.btree_shape.proofs.LookUps.{search-hit, search-miss}
-use Rattle.btree_shape.proofs.Needs.{need-used, needing-start}
+use Rattle.btree_shape.proofs.Needs.{seen-used}
 use Rattle.btree_shape.proofs.Searched.{Rises, place-hit, rises, searched}
 use Rattle.btree_ext.specs.Answers.{HasKey, IsFoundAt, IsGapAt}
-use Rattle.btree_ext.proofs.AdoptLemmas.{used-view}
-use Rattle.btree_ext.proofs.StepLemmas.{most-few}
+use Rattle.btree_shape.proofs.Stores.{used-view, most-few}
 
 -- what `placed` says of a place among items
 placed-ok : (r : Result ℕ ℕ) (children : List ℕ) (offset : Option ℕ) → Ok offset ≡ placed r children → (o : ℕ) × (r ≡ Ok o) × (offset ≡ Some o)
@@ -81,7 +80,7 @@ module _ {K V : Type 0} (cmp : K → K → Ordering) (k : K) (laws : IsTotalOrde
 
     module _ (id : ℕ) (s : IsSearching cmp k look root pairs id) where
       pub node-used : IsSome (nodes_map.get nodes id)
-      node-used = used-view nodes id (need-used (K × V) look root pairs id 0 _ (needing-start (K × V) look root pairs id s.node))
+      node-used = used-view nodes id (seen-used (K × V) look root pairs id s.node)
 
       module _ (node : Node K V) (at : nodes_map.get nodes id ≡ Some node) where
         here : look id ≡ Some (view_of node)

@@ -1,14 +1,11 @@
 -- What a sound tree is, in the words of its public contract.
-use Rattle.std.proofs.Common.{◌≡◌, ℕ, ◌+◌, ◌*◌, ◌^◌, ◌<◌, ◌≤◌, List, [], length, Option, Some, None, refl, sym, ap, subst, ◌∙◌, option_map, option_and_then, slice_get, arith}
+use Rattle.std.proofs.Common.{◌≡◌, ℕ, ◌+◌, ◌*◌, ◌^◌, ◌<◌, ◌≤◌, List, [], length, Option, Some, None, refl, sym, ap, subst, ◌∙◌, option_map, arith}
 use Rattle.std.specs.FinMap as map
 use Rattle.std.specs.Ordering.{nat_cmp}
 use Rattle.std.specs.declared.cmp.Ordering.{Ordering}
 use Rattle.btree_store.specs.Content.{Content}
 use Rattle.btree_store.specs.ContentLaws.{same_content}
 use Rattle.btree_item.proofs.PairEdits.{Ascends-none}
-use Rattle.btree_item.specs.declared.address.Address.{Address}
-use Rattle.btree_view.specs.View.{items_of, item_in}
-use Rattle.btree_ext.specs.Answers.{item_at}
 use Rattle.btree_node.specs.declared.node.Node.{Node}
 use Rattle.btree_node.specs.Node.{view_of}
 use Rattle.btree_shape.specs.TreeState.{views, pairs_under, IsSound}
@@ -16,17 +13,6 @@ use Rattle.btree_shape.specs.WellFormed.{IsWellFormed}
 use Rattle.btree_shape.proofs.Density.{few-used, height-dense, height-low}
 use Rattle.btree_shape.proofs.Listed.{well-pairs}
 use Rattle.btree_ext.proofs.HeightLemmas.{IsDescending, descending-start}
-
-module _ {K V : Type 0} (nodes : Content (Node K V)) (a : Address) where
-  pub item-some : (node : Node K V) → map.get nodes a.id ≡ Some node → (r : Option (K × V)) → r ≡ option_and_then (slice_get (items_of (view_of node))) a.offset → r ≡ item_at (views nodes) a
-  item-some node at r is = is ∙ sym (ap (λ v. option_and_then (item_in v) a.offset) (ap (option_map view_of) at))
-
-  no-item : (o : Option ℕ) → None ≡ option_and_then (item_in {A = K × V} None) o
-  no-item None = refl
-  no-item (Some n) = refl
-
-  pub item-none : map.get nodes a.id ≡ None → None ≡ item_at (views nodes) a
-  item-none at = no-item a.offset ∙ sym (ap (λ v. option_and_then (item_in v) a.offset) (ap (option_map view_of) at))
 
 module _ {K V : Type 0} (cmp : K → K → Ordering) where
   unused : (nodes : Content (Node K V)) → ((n : ℕ) → views nodes n ≡ None) → nodes ≡ map.empty

@@ -1,10 +1,9 @@
 -- What calls by key answer.
 use Rattle.std.specs.Prelude.{◌≡◌, ℕ, suc, List, Option, Some, None, Result, Ok, Err}
-use Rattle.std.specs.Option.{option_and_then}
 use Rattle.std.specs.declared.cmp.Ordering.{Ordering}
 use Rattle.btree_item.specs.Pairs.{Ascends, found, place_of}
 use Rattle.btree_item.specs.declared.address.Address.{Address}
-use Rattle.btree_view.specs.View.{View, Look, items_of, item_in}
+use Rattle.btree_view.specs.View.{View, Look, items_of}
 use Rattle.btree_shape.specs.Spells.{Spells}
 use Rattle.btree_shape.specs.Place.{IsPlace, IsOccupied, IsBack, IsLeafAddress}
 
@@ -42,7 +41,3 @@ module _ {K V : Type 0} (cmp : K → K → Ordering) (k : K) (look : Look (K × 
 abbrev pub AreLevels : {A : Type 0} → Look A → Option ℕ → List A → ℕ → Type 0
 AreLevels look None xs levels = levels ≡ 0
 AreLevels look (Some root) xs levels = (height : ℕ) × Spells look height None root xs × (levels ≡ suc height)
-
--- the item at an address, if one stands there
-abbrev pub item_at : {A : Type 0} → Look A → Address → Option A
-item_at look a = option_and_then (item_in (look a.id)) a.offset

@@ -1,5 +1,5 @@
 -- What an insertion makes of a tree.
-use Rattle.std.specs.Prelude.{◌≡◌, ℕ, ◌+◌, ◌-◌, ◌^◌, Option, Some, None, IsSome}
+use Rattle.std.specs.Prelude.{◌≡◌, ℕ, ◌+◌, ◌-◌, ◌^◌, ◌≤◌, Some, None, IsSome}
 use Rattle.std.specs.FinMap as map
 use Rattle.std.specs.List.{insert}
 use Rattle.std.specs.declared.cmp.Ordering.{Ordering}
@@ -11,13 +11,19 @@ use Rattle.btree_item.specs.declared.refused.Cause.TheVariants.{Store, Count}
 use Rattle.btree_node.specs.declared.node.Node.{Node}
 use Rattle.btree_shape.specs.Need.{need}
 use Rattle.btree_shape.specs.Place.{IsPlace, IsBack, IsLeafAddress}
+use Rattle.btree_shape.specs.Strain.{IsStrain}
 use Rattle.btree_shape.specs.TreeState.{TreeState, views, pairs_of, IsSound}
-use Rattle.btree_ext.specs.Answers.{IsGapAt, item_at}
-use Rattle.btree_ext.specs.Claimed.{EMPTY, MayRefuseOneOf}
+use Rattle.btree_shape.specs.Place.{item_at}
+use Rattle.btree_ext.specs.Answers.{IsGapAt}
+use Rattle.btree_balance.specs.Claimed.{EMPTY, MayRefuseOneOf}
 
--- the parts of a tree as one state
-abbrev pub state : {K V : Type 0} → Content (Node K V) → Option ℕ → (len refusals : ℕ) → TreeState K V
-state nodes root len refusals = record { nodes = nodes; root = root; len = len; refusals = refusals }
+-- the nodes taken and the strain afterwards are at most the strain before and one
+pub record IsPaid {K V : Type 0} (old new : TreeState K V) : Type 0 where
+  pub before : ℕ
+  pub after : ℕ
+  pub strain_before : IsStrain (views old.nodes) old.root before
+  pub strain_after : IsStrain (views new.nodes) new.root after
+  pub paid : map.len new.nodes + after ≤ map.len old.nodes + (before + 1)
 
 module _ {K V : Type 0} (cmp : K → K → Ordering) where
   -- a back address in a leaf, or nowhere in the empty tree, at whose place the key fits
@@ -36,6 +42,7 @@ module _ {K V : Type 0} (cmp : K → K → Ordering) where
     pub item : item_at (views new.nodes) b ≡ Some x
     pub longer : new.len ≡ old.len + 1
     pub nodes : map.len new.nodes ≡ map.len old.nodes + need (views old.nodes) old.root old.len a.id
+    pub strain : IsPaid old new
     pub uncounted : new.refusals ≡ old.refusals
 
 -- an insertion at a leaf that was refused: by the store, which counted it, where it may refuse one of the nodes that are needed,
@@ -50,6 +57,7 @@ module _ {K V : Type 0} (cmp : K → K → Ordering) (k : K) (old new : TreeStat
   pub record Took : Type 0 where
     pub absent : found cmp k (pairs_of old) ≡ None
         → (a : Address) × IsGapAt cmp k (views old.nodes) old.root (pairs_of old) a × (map.len new.nodes ≡ map.len old.nodes + need (views old.nodes) old.root old.len a.id)
+    pub paid : found cmp k (pairs_of old) ≡ None → IsPaid old new
     pub present : IsSome (found cmp k (pairs_of old)) → map.len new.nodes ≡ map.len old.nodes
 
   -- an insertion by key was refused at the gap of the key

@@ -3,7 +3,8 @@ ghost use Rattle.std.specs.Prelude.{◌≡◌, ◌↔◌, ◌*◌, ◌+◌, ◌-
 ghost use Rattle.std.specs.FinMap as map;
 ghost use Rattle.btree_shape.specs.TreeState.{TreeState, pairs_of, views};
 ghost use Rattle.btree_shape.specs.WellFormed.{IsWellFormed};
-ghost use Rattle.btree_ext.specs.Answers.{IsAddressOf, AreLevels, item_at};
+ghost use Rattle.btree_shape.specs.Place.{item_at};
+ghost use Rattle.btree_ext.specs.Answers.{IsAddressOf, AreLevels};
 
 use btree_item::{Address, Item};
 use btree_node::Node;

@@ -7,8 +7,7 @@ ghost use Rattle.btree_view.specs.View.{items_of};
 ghost use Rattle.btree_shape.specs.TreeState.{views, pairs_under, IsSound};
 ghost use Rattle.btree_ext.specs.Answers.{HasKey, IsAddressOf, AreLevels};
 
-use crate::nodes::node_at;
-use crate::parts::Parts;
+use btree_balance::{Parts, node_at};
 use btree_item::{Address, Offset};
 use btree_node::Node;
 use btree_store::SlabMut;

@@ -4,7 +4,8 @@ use Rattle.std.specs.List.{AllByRecursion}
 use Rattle.std.specs.Prelude.{IsTrue, option_map}
 use Rattle.btree_item.specs.declared.address.Address.{Address}
 use Rattle.btree_view.specs.Edits.{HasChildFor, is_internal, with_parent}
-use Rattle.btree_view.specs.View.{Look, View, children_of, internal, leaf, most_of, parent_of, size_of}
+use Rattle.btree_view.specs.View.{Look, View, children_of, internal, leaf, size_of}
+use Rattle.btree_shape.specs.Beside.{Beside}
 use Rattle.btree_shape.specs.Growing.{IsGrown}
 use Rattle.btree_shape.specs.Mend.{Merges, RotatesLeft, RotatesRight, as_list}
 use Rattle.btree_shape.specs.Moved.{first_in, moved_by_merge, moved_by_rotate_left, moved_by_rotate_right}
@@ -77,50 +78,6 @@ module _ (A : Type 0) where
           ]
 
   module _ (look : Look A) (root : ℕ) (xs : List A) (asked : Option A) (a : Address) (place given bound : ℕ) where
-    -- children `left` and `right` of node `parent`, with its item at `index` between them, of which one may have an item
-    -- too few: what stands there, and which step leads where
-    pub record Beside (parent index left right : ℕ) : Type 0 where
-      pub node : View A
-      pub low : View A
-      pub high : View A
-      pub at_parent : look parent ≡ Some node
-      pub at_left : look left ≡ Some low
-      pub at_right : look right ≡ Some high
-      pub inner : IsTrue (is_internal node)
-      pub one_kind : is_internal low ≡ is_internal high
-      pub low_parent : parent_of low ≡ Some parent
-      pub high_parent : parent_of high ≡ Some parent
-      pub apart : (left ≢ right) × (left ≢ parent) × (right ≢ parent)
-      pub between : index < size_of node
-      pub node_most : size_of node ≤ 7
-      pub low_least : 2 ≤ size_of low
-      pub low_most : size_of low ≤ most_of low
-      pub high_least : 2 ≤ size_of high
-      pub high_most : size_of high ≤ most_of high
-      pub both_least : 5 ≤ size_of low + size_of high
-      -- their children are other nodes
-      pub children_used : (n : ℕ) → 0 < times_listed n (children_of low) + times_listed n (children_of high)
-          → (0 < times_used (look n)) × (n ≢ parent) × (n ≢ left) × (n ≢ right)
-      pub low_children : (n : ℕ) → 0 < times_listed n (children_of low)
-          → option_map (with_parent (Some left)) (look n) ≡ look n
-      -- the right one lends an item, or the left one, and the tree is at rest
-      pub rotate_left : (new : Look A) → RotatesLeft look new parent index left right → size_of low ≤ 2
-          → 3 < size_of high
-          → IsGrown A new root xs asked
-          (moved_by_rotate_left left right parent index (size_of low) (first_in high) a) place given bound
-      pub rotate_right : (new : Look A) → RotatesRight look new parent index left right → size_of high ≤ 2
-          → 3 < size_of low
-          → IsGrown A new root xs asked
-          (moved_by_rotate_right left right parent index (size_of low) (first_in high) a) place given bound
-      -- the two are merged, and the parent may have an item too few
-      pub merge : (new : Look A) → Merges look new parent index left right → size_of low + size_of high ≤ 5
-          → IsShrinking A new root xs parent asked
-          (moved_by_merge left right parent index (size_of low) (first_in high) a) place (suc given) bound
-      -- so the climb comes to an end
-      pub lower : (new : Look A) → Merges look new parent index left right → size_of low + size_of high ≤ 5
-          → (levels_above new (length xs) parent < levels_above look (length xs) left)
-          × (levels_above new (length xs) parent < levels_above look (length xs) right)
-
     module _ (h : ℕ) (f : Frame A h) (c : Above A (suc h)) (l : Shape A h) (x : A) (r : Shape A h)
         (p : IsPair A look root xs h f c l x r) (z : IsFilled (least_at c) (suc h) (suc (frame_count f)))
         (th : In asked a (whole_tour A (suc h) c (fill_two f l x r)) place)
@@ -324,7 +281,7 @@ module _ (A : Type 0) where
           let b = levels-child r p.right (length xs) d in
           (omega arith, omega arith)
 
-      pub beside : Beside P S I J
+      pub beside : Beside A look root xs asked a place given bound P S I J
       beside =
           let ls = low-size in
           let hs = high-size in

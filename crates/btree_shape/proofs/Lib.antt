@@ -68,3 +68,4 @@ pub mod Replaced
 pub mod ReplacedTrees
 pub mod ClimbRows
 pub mod TakenInner
+pub mod Stores

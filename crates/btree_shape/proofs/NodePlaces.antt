@@ -6,12 +6,12 @@ use Rattle.btree_view.specs.View.{Look, View, item_in, items_of}
 use Rattle.btree_shape.specs.Place.{IsEnd, IsPlace, IsPlaceOf, StandsAt}
 use Rattle.btree_shape.specs.Shape.{Shape, count_at, id_of, items_under, later_items, view_at}
 use Rattle.btree_shape.specs.Way.{Above, items_after, items_before, parent_above}
-use Rattle.btree_shape.specs.Whole.{IsWhole}
+use Rattle.btree_shape.specs.Whole.{Standing, IsWhole}
 use Rattle.btree_shape.proofs.Frames.{top-view}
 use Rattle.btree_shape.proofs.HasPlace.{ahead, behind, low_or_end}
 use Rattle.btree_shape.proofs.Sizes.{view-size}
 use Rattle.btree_shape.proofs.SpelledShapes.{spells-of}
-use Rattle.btree_shape.proofs.Standing.{Standing, whole-standing}
+use Rattle.btree_shape.proofs.Standing.{whole-standing}
 
 module _ (A : Type 0) where
   -- the number of items of a subtree before an offset of its top

@@ -4,8 +4,9 @@ use Rattle.std.specs.Cmp.{IsTotalOrder}
 use Rattle.std.specs.declared.cmp.Ordering.{Ordering}
 use Rattle.btree_item.specs.declared.address.Address.{Address}
 use Rattle.btree_view.specs.View.{Look, View, most_of, size_of}
+use Rattle.btree_shape.specs.Whole.{Standing}
 use Rattle.btree_shape.specs.Growing.{IsGrowing, IsGrown}
-use Rattle.btree_shape.specs.Need.{climb, climbed, wanted}
+use Rattle.btree_shape.specs.Need.{IsClimbing, climb, climbed, wanted}
 use Rattle.btree_shape.specs.Node.{IsOddNode}
 use Rattle.btree_shape.specs.OnTour.{IsAddressed, IsOnTour}
 use Rattle.btree_shape.specs.Search.{levels_below}
@@ -23,12 +24,12 @@ use Rattle.btree_shape.proofs.Frames.{top-view}
 use Rattle.btree_shape.proofs.Heights.{high-enough, levels-is}
 use Rattle.btree_shape.proofs.Lent.{some-is}
 use Rattle.btree_shape.proofs.OnTour.{odd-on, on-whole, whole-addressed, whole-on}
-use Rattle.btree_shape.proofs.Overflows.{IsClimbing, climb-is, climbing-start, less-no}
+use Rattle.btree_shape.proofs.Overflows.{climb-is, climbing-start, less-no}
 use Rattle.btree_shape.proofs.Puts.{grown-rooted}
 use Rattle.btree_shape.proofs.Rooted.{odd-at}
 use Rattle.btree_shape.proofs.Sizes.{view-most, view-size}
 use Rattle.btree_shape.proofs.SpelledShapes.{shape-of}
-use Rattle.btree_shape.proofs.Standing.{Standing, stand-up, whole-standing}
+use Rattle.btree_shape.proofs.Standing.{stand-up, whole-standing}
 use Rattle.btree_shape.proofs.StrainSums.{strain-standing}
 
 some-used : {X : Type 0} (o : Option X) → IsSome o → 0 < times_used o

@@ -11,14 +11,14 @@ use Rattle.btree_shape.specs.Shape.{Holds, Shape, id_of, view_at}
 use Rattle.btree_shape.specs.Tour.{Asks, In, tour, whole_tour}
 use Rattle.btree_shape.specs.Way.{Above, items_before, parent_above, top}
 use Rattle.btree_shape.specs.WellFormed.{IsNearlySized, IsOffByOne, IsRooted, IsSized, IsWellFormed, times_used}
-use Rattle.btree_shape.specs.Whole.{IsWhole}
+use Rattle.btree_shape.specs.Whole.{Standing, IsWhole}
 use Rattle.btree_shape.proofs.Frames.{top-view}
 use Rattle.btree_shape.proofs.NodePlaces.{items_upto}
 use Rattle.btree_shape.proofs.OnePlace.{one_place, one_place-well}
 use Rattle.btree_shape.proofs.OneTour.{one-tour, plugged}
 use Rattle.btree_shape.proofs.Rooted.{node-rooted, standing-rooted}
 use Rattle.btree_shape.proofs.Sizes.{view-size}
-use Rattle.btree_shape.proofs.Standing.{Standing, stand-root, whole-standing}
+use Rattle.btree_shape.proofs.Standing.{stand-root, whole-standing}
 use Rattle.btree_shape.proofs.TourPlaces.{hole-in, in-addressed, top-item, top_item}
 
 module _ (A : Type 0) (look : Look A) where

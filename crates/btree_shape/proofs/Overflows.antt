@@ -3,7 +3,8 @@ use Rattle.std.proofs.Common.{◌≡◌, ◌<◌, ◌≤◌, [], ◌∙◌, ◌+
 use Rattle.std.proofs.lemmas.Bool.Decides.{nat_tests}
 use Rattle.std.specs.Prelude.{nat_lt}
 use Rattle.btree_view.specs.View.{Look, View, most_of, parent_of, size_of}
-use Rattle.btree_shape.specs.Need.{climb, climbed, levels_above, need_of_split, wanted}
+use Rattle.btree_shape.specs.Whole.{Standing}
+use Rattle.btree_shape.specs.Need.{IsClimbing, climb, climbed, levels_above, need_of_split, wanted}
 use Rattle.btree_shape.specs.Shape.{Holds, Shape, count_at, id_of, most_at, view_at}
 use Rattle.btree_shape.specs.Way.{Above, AreFilled, HoldsAbove, depth, fill, frame_count, frame_id, frame_view, parent_above, top, under}
 use Rattle.btree_shape.specs.WellFormed.{times_used}
@@ -13,7 +14,7 @@ use Rattle.btree_shape.proofs.Lent.{some-is}
 use Rattle.btree_shape.proofs.Needs.{full-no, full-yes}
 use Rattle.btree_shape.proofs.Numbers.{same-or, used-one}
 use Rattle.btree_shape.proofs.Sizes.{frame-most, frame-parent, frame-size, view-most, view-parent, view-size}
-use Rattle.btree_shape.proofs.Standing.{Standing, stand-up}
+use Rattle.btree_shape.proofs.Standing.{stand-up}
 
 less-yes : (m n x y : ℕ) → m < n → (if nat_lt m n then x else y) ≡ x
 less-yes m n x y l = grind (arith, nat_tests)
@@ -55,19 +56,8 @@ module _ (A : Type 0) where
       rw (v, s, l, p, r) refl
 
   module _ (look : Look A) (root : ℕ) (xs : List A) (most : ℕ) where
-    -- a count that has come up to node `id`, with so many counted below it; there are at most so many levels
-    pub record IsClimbing (id counted all : ℕ) : Type 0 where
-      pub height : ℕ
-      pub way : Above A height
-      pub shape : Shape A height
-      pub here : id_of A height shape ≡ id
-      pub stands : Standing A look [] root xs height way shape
-      pub filled : AreFilled way
-      pub left : counted + climbed way (count_at A height shape) ≡ all
-      pub room : depth way < most
-
     pub climbing-start : (h : ℕ) (c : Above A h) (t : Shape A h) → Standing A look [] root xs h c t → AreFilled c
-        → depth c < most → IsClimbing (id_of A h t) 0 (climb look most (id_of A h t))
+        → depth c < most → IsClimbing A look root xs most (id_of A h t) 0 (climb look most (id_of A h t))
     climbing-start h c t s z r =
         let e = climb-is look h most c t r s.above s.inner z in
         record {
@@ -81,7 +71,7 @@ module _ (A : Type 0) where
           room = r;
         }
 
-    module _ (id counted all : ℕ) (s : IsClimbing id counted all) where
+    module _ (id counted all : ℕ) (s : IsClimbing A look root xs most id counted all) where
       climbing-view : look id ≡ Some (view_at A s.height (parent_above s.way) s.shape)
       climbing-view = subst (λ z. look z ≡ Some (view_at A s.height (parent_above s.way) s.shape)) s.here
           (top-view A look s.height (parent_above s.way) s.shape s.stands.inner)
@@ -128,14 +118,14 @@ module _ (A : Type 0) where
 
         -- a full node below another: one more, and on to that
         pub climbing-up : (p : ℕ) → most_of v ≤ size_of v → parent_of v ≡ Some p
-            → IsClimbing p (counted + 1) all × (levels_above look most p < levels_above look most id)
+            → IsClimbing A look root xs most p (counted + 1) all × (levels_above look most p < levels_above look most id)
         climbing-up p le up = at s.height s.way s.shape s.here s.stands s.filled (full-is le)
             (ap parent_of (sym v-is) ∙ up) s.room
           where
             at : (h : ℕ) (c : Above A h) (t : Shape A h) → id_of A h t ≡ id → Standing A look [] root xs h c t
                 → AreFilled c → counted + wanted c ≡ all → parent_of (view_at A h (parent_above c) t) ≡ Some p
                 → depth c < most
-                → IsClimbing p (counted + 1) all × (levels_above look most p < levels_above look most id)
+                → IsClimbing A look root xs most p (counted + 1) all × (levels_above look most p < levels_above look most id)
             at h top t here w z q e room = let e' = view-parent A h None t in absurd (cc)
             at h (under f c) t here w z q e room =
                 let e' = view-parent A h (Some (frame_id f)) t in

@@ -5,6 +5,7 @@ use Rattle.std.specs.Prelude.{slice_get}
 use Rattle.btree_item.specs.declared.address.Address.{Address}
 use Rattle.btree_view.specs.Edits.{is_internal}
 use Rattle.btree_view.specs.View.{Look, View, children_of, internal, items_of, leaf, most_of, size_of}
+use Rattle.btree_shape.specs.Whole.{Standing}
 use Rattle.btree_shape.specs.OnTour.{IsOnTour}
 use Rattle.btree_shape.specs.Place.{IsPlace}
 use Rattle.btree_shape.specs.Shape.{Shape, count_at, id_of, items_under, one, times_under, view_at}
@@ -23,7 +24,6 @@ use Rattle.btree_shape.proofs.OddNodes.{levels-rooted}
 use Rattle.btree_shape.proofs.OnTour.{on-standing, standing-on}
 use Rattle.btree_shape.proofs.Rooted.{node-rooted, rooted-standing}
 use Rattle.btree_shape.proofs.Splits.{times-top}
-use Rattle.btree_shape.proofs.Standing.{Standing}
 use Rattle.btree_shape.proofs.StrainSums.{strain-standing}
 use Rattle.btree_shape.proofs.Swaps.{Swapped, swapped}
 use Rattle.btree_shape.proofs.TourPlaces.{item-in}

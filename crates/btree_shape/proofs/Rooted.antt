@@ -7,12 +7,12 @@ use Rattle.btree_shape.specs.Shape.{Holds, IsFilled, IsFilledBelow, Shape, count
 use Rattle.btree_shape.specs.Spells.{Spells, numbers_under}
 use Rattle.btree_shape.specs.Way.{Above, AreFilled, Frame, HoldsAbove, frame_id, frame_view, least_at, parent_above, root_above, times_above, times_beside, top, under}
 use Rattle.btree_shape.specs.WellFormed.{IsNearlySized, IsRooted, IsSized, excess_beside, least_beside, least_of, times_used}
-use Rattle.btree_shape.specs.Whole.{IsTree, IsWhole}
+use Rattle.btree_shape.specs.Whole.{Standing, IsTree, IsWhole}
 use Rattle.btree_shape.proofs.Frames.{one-other, one-self, one-zero, times_in-is, top-view}
 use Rattle.btree_shape.proofs.Numbers.{numbers-shape, same-or, times-has, times-listed, used-low, used-one, zero-or}
 use Rattle.btree_shape.proofs.Sizes.{above-sized, below-filled, below-middle, frame-most, frame-size, frames-filled, least-low, least-other, least-root, root-there, view-most, view-size}
 use Rattle.btree_shape.proofs.SpelledShapes.{shape-of, spells-of}
-use Rattle.btree_shape.proofs.Standing.{AtNode, AtRoot, Standing, stand-at, stand-root, standing-whole, whole-standing}
+use Rattle.btree_shape.proofs.Standing.{AtNode, AtRoot, stand-at, stand-root, standing-whole, whole-standing}
 use Rattle.btree_shape.proofs.Subtrees.{stands}
 use Rattle.btree_shape.proofs.Wholes.{from-tree}
 

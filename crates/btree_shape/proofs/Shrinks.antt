@@ -16,7 +16,7 @@ use Rattle.btree_shape.specs.Tour.{In, tour, whole_tour}
 use Rattle.btree_shape.specs.Way.{Above, frame_id, frame_index, frame_view, least_at, parent_above, top, under}
 use Rattle.btree_shape.specs.WellFormed.{IsFormed, times_used}
 use Rattle.btree_shape.specs.Whole.{IsWhole}
-use Rattle.btree_shape.proofs.Beside.{Beside}
+use Rattle.btree_shape.specs.Beside.{Beside}
 use Rattle.btree_shape.proofs.Climbs.{index-fits, index-here}
 use Rattle.btree_shape.proofs.Frames.{one-self, top-view}
 use Rattle.btree_shape.proofs.Lent.{some-is}

@@ -10,7 +10,8 @@ use Rattle.btree_shape.specs.Strain.{strain_of}
 use Rattle.btree_shape.specs.Tour.{In, whole_tour}
 use Rattle.btree_shape.specs.Way.{Above, Frame, at_branch, at_first, fill, fill_two, frame_count, frame_id, frame_index, frame_view, parent_above, under}
 use Rattle.btree_shape.specs.Whole.{IsWhole}
-use Rattle.btree_shape.proofs.Beside.{Beside, beside}
+use Rattle.btree_shape.specs.Beside.{Beside}
+use Rattle.btree_shape.proofs.Beside.{beside}
 use Rattle.btree_shape.proofs.Climbs.{index-is}
 use Rattle.btree_shape.proofs.Descents.{get-after}
 use Rattle.btree_shape.proofs.Frames.{fill-view, times_in-is}

@@ -1,24 +1,15 @@
 -- A tree seen from one of its nodes, whatever the numbers of items: up to the root and down to any node.
-use Rattle.std.proofs.Common.{◌≡◌, ◌<◌, ◌++◌, ◌∙◌, ◌+◌, ℕ, zero, suc, inl, inr, List, sym, ap, subst, arith, append_assoc}
+use Rattle.std.proofs.Common.{◌≡◌, ◌<◌, ◌++◌, ◌∙◌, ℕ, zero, suc, inl, inr, List, sym, ap, subst, arith, append_assoc}
 use Rattle.btree_view.specs.View.{Look}
-use Rattle.btree_shape.specs.Shape.{Holds, IsFilledBelow, Shape, id_of, items_under, times_listed, times_under}
-use Rattle.btree_shape.specs.Way.{Above, AreFilled, Frame, HoldsAbove, after_in, at_branch, at_first, before_in, fill, items_after, items_before, parent_above, root_above, times_above, top, under}
-use Rattle.btree_shape.specs.WellFormed.{times_used}
-use Rattle.btree_shape.specs.Whole.{IsWhole}
+use Rattle.btree_shape.specs.Shape.{IsFilledBelow, Shape, id_of, items_under, times_under}
+use Rattle.btree_shape.specs.Way.{Above, AreFilled, Frame, HoldsAbove, after_in, at_branch, at_first, before_in, fill, items_after, items_before, parent_above, root_above, top, under}
+use Rattle.btree_shape.specs.Whole.{IsWhole, Standing}
 use Rattle.btree_shape.proofs.Frames.{fill-holds, fill-id, fill-items, fill-times, one-other, open-holds}
 use Rattle.btree_shape.proofs.Numbers.{pick, same-or, zero-or}
 
 module _ (A : Type 0) where
-  pub record Standing (look : Look A) (spare : List ℕ) (root : ℕ) (xs : List A) (h : ℕ) (c : Above A h)
-      (t : Shape A h) : Type 0 where
-    pub above : HoldsAbove look c (id_of A h t)
-    pub inner : Holds A look h (parent_above c) t
-    pub once : (n : ℕ) → times_above n c + (times_under A h n t + times_listed n spare) ≡ times_used (look n)
-    pub list : xs ≡ items_before c ++ (items_under A h t ++ items_after c)
-    pub root_is : root_above c (id_of A h t) ≡ root
-
   pub whole-standing : (look : Look A) (spare : List ℕ) (root : ℕ) (xs : List A) (h : ℕ) (c : Above A h) (t : Shape A h)
-      → IsWhole A look spare root xs h c t → Standing look spare root xs h c t
+      → IsWhole A look spare root xs h c t → Standing A look spare root xs h c t
   whole-standing look spare root xs h c t w = record {
     above = w.above;
     inner = w.inner;
@@ -28,7 +19,7 @@ module _ (A : Type 0) where
   }
 
   pub standing-whole : (look : Look A) (spare : List ℕ) (root : ℕ) (xs : List A) (h : ℕ) (c : Above A h) (t : Shape A h)
-      → Standing look spare root xs h c t → AreFilled c → IsFilledBelow A h t
+      → Standing A look spare root xs h c t → AreFilled c → IsFilledBelow A h t
       → IsWhole A look spare root xs h c t
   standing-whole look spare root xs h c t s f b = record {
     above = s.above;
@@ -45,7 +36,7 @@ module _ (A : Type 0) where
 
   module _ (look : Look A) (spare : List ℕ) (root : ℕ) (xs : List A) where
     pub stand-up : (h : ℕ) (f : Frame A h) (c : Above A (suc h)) (t : Shape A h)
-        → Standing look spare root xs h (under f c) t → Standing look spare root xs (suc h) c (fill f t)
+        → Standing A look spare root xs h (under f c) t → Standing A look spare root xs (suc h) c (fill f t)
     stand-up h f c t w =
         record {
           above = subst (λ i. HoldsAbove look c i) (sym (fill-id A h f t)) w.above.2;
@@ -57,7 +48,7 @@ module _ (A : Type 0) where
         }
 
     pub stand-down : (h : ℕ) (f : Frame A h) (c : Above A (suc h)) (t : Shape A h)
-        → Standing look spare root xs (suc h) c (fill f t) → Standing look spare root xs h (under f c) t
+        → Standing A look spare root xs (suc h) c (fill f t) → Standing A look spare root xs h (under f c) t
     stand-down h f c t w =
         let o = open-holds A look h (parent_above c) f t w.inner in
         record {
@@ -73,9 +64,9 @@ module _ (A : Type 0) where
     pub record AtRoot : Type 0 where
       pub height : ℕ
       pub shape : Shape A height
-      pub stands : Standing look spare root xs height top shape
+      pub stands : Standing A look spare root xs height top shape
 
-    pub stand-root : (h : ℕ) (c : Above A h) (t : Shape A h) → Standing look spare root xs h c t → AtRoot
+    pub stand-root : (h : ℕ) (c : Above A h) (t : Shape A h) → Standing A look spare root xs h c t → AtRoot
     stand-root h top t s = record { height = h; shape = t; stands = s }
     stand-root h (under f c) t s = stand-root (suc h) c (fill f t) (stand-up h f c t s)
 
@@ -85,9 +76,9 @@ module _ (A : Type 0) where
       pub way : Above A height
       pub shape : Shape A height
       pub here : id_of A height shape ≡ id
-      pub stands : Standing look spare root xs height way shape
+      pub stands : Standing A look spare root xs height way shape
 
-    pub stand-at : (id h : ℕ) (c : Above A h) (t : Shape A h) → Standing look spare root xs h c t
+    pub stand-at : (id h : ℕ) (c : Above A h) (t : Shape A h) → Standing A look spare root xs h c t
         → 0 < times_under A h id t → AtNode id
     stand-at id zero c t w p =
         elim (same-or id t.0) [
@@ -103,8 +94,8 @@ module _ (A : Type 0) where
                 let o = one-other id t.0 ne in
                 let k = pick (λ (b : A × Shape A h). times_under A h id b.1) t.2 (omega arith) in
                 let f : Frame A h = at_branch t.0 t.1 k.front k.found.0 k.back in
-                let w' : Standing look spare root xs (suc h) c (fill f k.found.1) =
-                subst (λ (bs : List (A × Shape A h)). Standing look spare root xs (suc h) c (t.0, t.1, bs)) k.is w in
+                let w' : Standing A look spare root xs (suc h) c (fill f k.found.1) =
+                subst (λ (bs : List (A × Shape A h)). Standing A look spare root xs (suc h) c (t.0, t.1, bs)) k.is w in
                 stand-at id h (under f c) k.found.1 (stand-down h f c k.found.1 w') k.some
           ]
         ]

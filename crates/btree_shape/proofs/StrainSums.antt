@@ -9,14 +9,14 @@ use Rattle.btree_shape.specs.Spells.{numbers_under}
 use Rattle.btree_shape.specs.Strain.{strain, strain_in, strain_of, strain_under, surplus, surplus_of}
 use Rattle.btree_shape.specs.Way.{Above, fill, top, under}
 use Rattle.btree_shape.specs.WellFormed.{IsRooted, IsSized}
-use Rattle.btree_shape.specs.Whole.{IsWhole}
+use Rattle.btree_shape.specs.Whole.{Standing, IsWhole}
 use Rattle.btree_shape.proofs.Frames.{one-self, top-view, total-append}
 use Rattle.btree_shape.proofs.Heights.{levels-is}
 use Rattle.btree_shape.proofs.Needs.{full-no, full-yes}
 use Rattle.btree_shape.proofs.Numbers.{used-low}
 use Rattle.btree_shape.proofs.Sizes.{view-size}
 use Rattle.btree_shape.proofs.SpelledShapes.{shape-of}
-use Rattle.btree_shape.proofs.Standing.{Standing, stand-up, whole-standing}
+use Rattle.btree_shape.proofs.Standing.{stand-up, whole-standing}
 use Rattle.btree_shape.proofs.Strains.{strain-close}
 
 module _ (A : Type 0) where

@@ -3,6 +3,7 @@ use Rattle.std.proofs.Common.{◌≡◌, ◌≤◌, ◌⊎◌, ◌++◌, ◌∷�
 use Rattle.std.specs.Prelude.{slice_get}
 use Rattle.btree_item.specs.declared.address.Address.{Address}
 use Rattle.btree_view.specs.View.{Look, item_in, items_of, size_of}
+use Rattle.btree_shape.specs.Whole.{Standing}
 use Rattle.btree_shape.specs.OnTour.{IsAddressed}
 use Rattle.btree_shape.specs.Place.{IsPlace, IsWithin}
 use Rattle.btree_shape.specs.Shape.{Shape, count_at, id_of, items_under, later_items, total, view_at}
@@ -12,7 +13,7 @@ use Rattle.btree_shape.proofs.Carried.{row-passed, tour-passed}
 use Rattle.btree_shape.proofs.Frames.{top-view}
 use Rattle.btree_shape.proofs.NodePlaces.{items_upto, standing-place, standing-stands}
 use Rattle.btree_shape.proofs.Sizes.{view-size}
-use Rattle.btree_shape.proofs.Standing.{Standing, stand-down}
+use Rattle.btree_shape.proofs.Standing.{stand-down}
 use Rattle.btree_shape.proofs.Tours.{in-cases, in-left, in-right, passed-append, passed-ticks_to}
 
 -- rows

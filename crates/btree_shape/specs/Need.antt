@@ -1,9 +1,9 @@
 -- How many nodes an insertion at a node takes, and how many levels stand above it: by the nodes as they are.
-use Rattle.std.specs.Prelude.{◌≡◌, ℕ, zero, suc, ◌+◌, ◌<◌, ◌==◌, nat_lt, if◌then◌else◌, List, length, Option, Some, None}
+use Rattle.std.specs.Prelude.{◌≡◌, ℕ, zero, suc, ◌+◌, ◌<◌, ◌==◌, nat_lt, if◌then◌else◌, List, [], Option, Some, None}
 use Rattle.btree_view.specs.View.{View, Look, parent_of, size_of, most_of}
-use Rattle.btree_shape.specs.Shape.{most_at, count_at}
-use Rattle.btree_shape.specs.Way.{Above, top, under, frame_count, depth}
-use Rattle.btree_shape.specs.Node.{IsNode}
+use Rattle.btree_shape.specs.Shape.{Shape, most_at, count_at, id_of}
+use Rattle.btree_shape.specs.Way.{Above, AreFilled, top, under, frame_count, depth}
+use Rattle.btree_shape.specs.Whole.{Standing}
 
 -- for a node that is split: its right part, and what its parent needs, or a new root
 abbrev pub need_of_split : (ℕ → ℕ) → (parent : Option ℕ) → ℕ
@@ -61,8 +61,13 @@ needed {A} {height} way count = if count == most_at height then wanted way else 
 abbrev pub climbed : {A : Type 0} {height : ℕ} → Above A height → (count : ℕ) → ℕ
 climbed {A} {height} way count = if nat_lt count (most_at height) then 0 else wanted way
 
--- a count of the need that has come up to node `id` with `counted` full nodes below it
-pub record IsNeeding (A : Type 0) (look : Look A) (root : ℕ) (xs : List A) (id counted all : ℕ) : Type 0 where
-  pub node : IsNode A look root xs id
-  pub left : counted + needed node.seen.way (count_at A node.seen.height node.seen.shape) ≡ all
-  pub room : counted + depth node.seen.way < length xs
+-- a count of what the splits take has come up to node `id`, with so many counted below it; there are at most so many levels
+pub record IsClimbing (A : Type 0) (look : Look A) (root : ℕ) (xs : List A) (most id counted all : ℕ) : Type 0 where
+  pub height : ℕ
+  pub way : Above A height
+  pub shape : Shape A height
+  pub here : id_of A height shape ≡ id
+  pub stands : Standing A look [] root xs height way shape
+  pub filled : AreFilled way
+  pub left : counted + climbed way (count_at A height shape) ≡ all
+  pub room : depth way < most

@@ -1,5 +1,7 @@
 -- The addresses of a tree, their kinds, and their places in its list.
 use Rattle.std.specs.Prelude.{◌≡◌, ℕ, ◌+◌, ◌^◌, ◌-◌, ◌<◌, ◌≤◌, ◌⊎◌, List, ◌++◌, length, slice_get, Option, Some, None}
+use Rattle.std.specs.Option.{option_and_then}
+use Rattle.btree_item.specs.declared.address.Address.{Address}
 use Rattle.btree_view.specs.View.{View, leaf, internal, Look, size_of, item_in}
 use Rattle.btree_shape.specs.Spells.{Spells}
 
@@ -86,3 +88,7 @@ module _ {A : Type 0} (look : Look A) where
   IsPlace (Some root) xs id None place = IsPlaceBefore xs id place
   IsPlace (Some root) xs id (Some offset) place =
       IsPlaceOf xs (item_in (look id) offset) place ⊎ (IsEnd (look id) offset × IsPlaceAfter xs id place)
+
+-- the item at an address, if one stands there
+abbrev pub item_at : {A : Type 0} → Look A → Address → Option A
+item_at look a = option_and_then (item_in (look a.id)) a.offset

@@ -1,8 +1,9 @@
 -- How near the nodes of a tree are to a split or a merge: what pays for the nodes that later steps take or give up.
-use Rattle.std.specs.Prelude.{ℕ, zero, suc, ◌+◌, ◌-◌, ◌==◌, if◌then◌else◌, List, length, Option, Some, None}
+use Rattle.std.specs.Prelude.{◌≡◌, ℕ, zero, suc, ◌+◌, ◌-◌, ◌==◌, if◌then◌else◌, List, length, Option, Some, None}
 use Rattle.btree_view.specs.View.{View, leaf, internal, Look, size_of}
-use Rattle.btree_shape.specs.Shape.{total, Shape, count_at}
+use Rattle.btree_shape.specs.Shape.{total, Shape, count_at, times_listed}
 use Rattle.btree_shape.specs.Way.{Frame, at_first, at_branch, Above, top, under, frame_count}
+use Rattle.btree_shape.specs.WellFormed.{times_used}
 
 -- what a leaf of more than 7 items has too much, and an internal node of more than 5
 abbrev pub surplus_of : {A : Type 0} → View A → ℕ
@@ -17,6 +18,11 @@ strain_in root id (Some node) = surplus_of node + (if id == root then 0 else 4 -
 -- that of the nodes with these numbers
 abbrev pub strain_under : {A : Type 0} → Look A → (root : ℕ) → List ℕ → ℕ
 strain_under look root ids = total (λ id. strain_in root id (look id)) ids
+
+-- that of the tree with this root: of its nodes, each listed once; without a root there is none
+abbrev pub IsStrain : {A : Type 0} → Look A → Option ℕ → ℕ → Type 0
+IsStrain look None strain = strain ≡ 0
+IsStrain look (Some root) strain = (ids : List ℕ) × ((n : ℕ) → times_listed n ids ≡ times_used (look n)) × (strain ≡ strain_under look root ids)
 
 -- the same of a tree in parts: of a node by its height and number of items
 abbrev pub surplus : (height count : ℕ) → ℕ

@@ -44,3 +44,7 @@ module _ {K V : Type 0} where
   pub record IsSound (cmp : K → K → Ordering) (nodes : Content (Node K V)) (root : Option ℕ) (len : ℕ) : Type 0 where
     pub pairs : List (K × V)
     pub well : IsWellFormed cmp (views nodes) root len pairs
+
+-- the parts of a tree as one state
+abbrev pub state : {K V : Type 0} → Content (Node K V) → Option ℕ → (len refusals : ℕ) → TreeState K V
+state nodes root len refusals = record { nodes = nodes; root = root; len = len; refusals = refusals }

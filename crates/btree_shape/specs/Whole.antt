@@ -17,7 +17,16 @@ pub record IsWhole (A : Type 0) (look : Look A) (spare : List ℕ) (root : ℕ) 
   pub list : xs ≡ items_before way ++ (items_under A height shape ++ items_after way)
   pub root_is : root_above way (id_of A height shape) ≡ root
 
--- the same from the root, where each node has its number of items and no number is spare
+-- the same, whatever the numbers of items
+pub record Standing (A : Type 0) (look : Look A) (spare : List ℕ) (root : ℕ) (xs : List A)
+    (height : ℕ) (way : Above A height) (shape : Shape A height) : Type 0 where
+  pub above : HoldsAbove look way (id_of A height shape)
+  pub inner : Holds A look height (parent_above way) shape
+  pub once : (n : ℕ) → times_above n way + (times_under A height n shape + times_listed n spare) ≡ times_used (look n)
+  pub list : xs ≡ items_before way ++ (items_under A height shape ++ items_after way)
+  pub root_is : root_above way (id_of A height shape) ≡ root
+
+-- a tree seen from its root, where each node has its number of items and no number is spare
 pub record IsTree (A : Type 0) (look : Look A) (root : ℕ) (xs : List A) : Type 0 where
   pub height : ℕ
   pub shape : Shape A height

@@ -2,8 +2,8 @@ use Rattle.std.proofs.Common.{◌∙◌, ap}
 use Rattle.std.specs.FinMap as map
 use Rattle.btree_node.specs.NodeLends.{node_with_value}
 use Rattle.btree_ext.proofs.ExchangeLemmas.{asks, not-absent, old-value, exchanged}
-use Rattle.btree_ext.proofs.StepLemmas.{used-at}
 use Rattle.btree_ext.proofs.exchange.exchange.Goals as goal
+use Rattle.btree_shape.proofs.Stores.{used-at}
 
 pub find_mut-requires : goal.find_mut-requires
 find_mut-requires g c = (c.tell_fits.ensures, asks g.K.Ord.cmp c.args.key.now (g.C.Slab.content c.args.nodes.now) c.args.id c.in-Some.node.now c.in-Some.ensures.value c.requires.can)

@@ -1,6 +1,6 @@
 use Rattle.std.proofs.Common.{◌∙◌, refl}
 use Rattle.btree_store.specs.ContentLaws.{get-insert_same}
-use Rattle.btree_ext.specs.Claimed.{EMPTY}
+use Rattle.btree_balance.specs.Claimed.{EMPTY}
 use Rattle.btree_ext.proofs.FirstLemmas.{first-inserted}
 use Rattle.btree_ext.proofs.insert.insert_first.Goals as goal
 

@@ -1,0 +1,14 @@
+pub mod AdoptLemmas
+pub mod ClaimLemmas
+pub mod ClimbLemmas
+pub mod CountLemmas
+pub mod GrowLemmas
+pub mod LendLemmas
+pub mod LiftLemmas
+pub mod MendLemmas
+pub mod MendedLemmas
+pub mod NeedLemmas
+pub mod OffsetLemmas
+pub mod ShrinkLemmas
+pub mod StepLemmas
+pub mod TurnLemmas

@@ -1,0 +1,169 @@
+-- The count of the nodes that an insertion takes, step by step.
+use Rattle.std.proofs.Common.{◌≡◌, ◌↔◌, IsTrue, true, false, leb, ◌==◌, if◌then◌else◌, ℕ, zero, suc, ◌+◌, ◌<◌, ◌≤◌, ◌^◌, inl, inr, List, [], ◌∷◌, Option, Some, None, IsSome, length, option_map, length-append, refl, sym, ap, subst, ◌∙◌, arith}
+use Rattle.std.proofs.lemmas.Bool.Decides.{nat_tests}
+use Rattle.std.proofs.lemmas.List.{length-map}
+use Rattle.std.proofs.Math.Nat.{pow-le-pow_right}
+use Rattle.std.specs.FinMap as map
+use Rattle.std.specs.declared.cmp.Ordering.{Ordering}
+use Rattle.btree_store.specs.Content.{Content}
+use Rattle.btree_node.specs.declared.node.Node.{Node}
+use Rattle.btree_node.specs.declared.node.Node.TheVariants.{Internal, Leaf}
+use Rattle.btree_internal.specs.Internal.{Internal as InternalParts}
+use Rattle.btree_leaf.specs.Leaf.{Leaf as LeafParts}
+use Rattle.btree_node.specs.Node.{view_of}
+use Rattle.btree_view.specs.View.{Look, most_of, size_of}
+use Rattle.std.specs.Prelude.{nat_lt}
+use Rattle.btree_shape.specs.Need.{IsClimbing, climb, climbed, need, need_from, needed, wanted}
+use Rattle.btree_shape.specs.Node.{IsNode}
+use Rattle.btree_shape.specs.Shape.{IsFilled, IsFilledBelow, Shape, count_at, items_under, later_items, most_at}
+use Rattle.btree_shape.specs.TreeState.{views, pairs_under, IsSound}
+use Rattle.btree_shape.specs.Way.{Above, depth, fill, frame_count, least_at, top, under}
+use Rattle.btree_shape.specs.WellFormed.{IsFormed, IsWellFormed, times_used}
+use Rattle.btree_shape.specs.Whole.{IsWhole}
+use Rattle.btree_shape.proofs.Density.{dense}
+use Rattle.btree_shape.proofs.Frames.{fill-count}
+use Rattle.btree_shape.proofs.Listed.{well-pairs}
+use Rattle.btree_shape.proofs.Climbs.{depth-fits}
+use Rattle.btree_shape.proofs.Needs.{full-no, full-yes, need-node}
+use Rattle.btree_shape.proofs.Overflows.{climb-is, climbing-start}
+use Rattle.btree_shape.proofs.Standing.{whole-standing}
+use Rattle.btree_balance.specs.Steps.{IsCounting}
+use Rattle.btree_shape.proofs.Numbers.{less-or, same-or}
+use Rattle.btree_shape.proofs.Rooted.{node-at}
+use Rattle.btree_shape.proofs.Wholes.{close}
+
+-- the test of a node
+pub full-internal : {K V : Type 0} (node : Node K V) (n : InternalParts K V) (count : ℕ) → node ≡ Internal n → count ≡ length n.branches
+    → (IsTrue (leb 7 count) → most_of (view_of node) ≤ size_of (view_of node)) × (most_of (view_of node) ≤ size_of (view_of node) → IsTrue (leb 7 count))
+full-internal {K} {V} node n count e counted =
+    rw e
+    (let l = length-map {A = (K × V) × ℕ} {B = K × V} n.branches (λ b. b.0) in
+    ((λ t. let q : 7 ≤ count = grind (arith, nat_tests) in omega arith), (λ low. let q : 7 ≤ count = omega arith in grind (arith, nat_tests))))
+
+pub full-leaf : {K V : Type 0} (node : Node K V) (n : LeafParts K V) (count : ℕ) → node ≡ Leaf n → count ≡ length n.items
+    → (IsTrue (leb 8 count) → most_of (view_of node) ≤ size_of (view_of node)) × (most_of (view_of node) ≤ size_of (view_of node) → IsTrue (leb 8 count))
+full-leaf node n count e counted =
+    rw e ((λ t. let q : 8 ≤ count = grind (arith, nat_tests) in omega arith), (λ low. let q : 8 ≤ count = omega arith in grind (arith, nat_tests)))
+
+pub is-full : {K V : Type 0} (node : Node K V) → (IsTrue true ↔ (most_of (view_of node) ≤ size_of (view_of node))) → most_of (view_of node) ≤ size_of (view_of node)
+is-full node e = e.0 refl
+
+pub not-full : {K V : Type 0} (node : Node K V) → (IsTrue false ↔ (most_of (view_of node) ≤ size_of (view_of node))) → size_of (view_of node) < most_of (view_of node)
+not-full node e = elim (less-or (size_of (view_of node)) (most_of (view_of node))) [
+  | inl low ↦ low
+  | inr other ↦ let full : most_of (view_of node) ≤ size_of (view_of node) = elim other [ inl same ↦ omega arith | inr more ↦ omega arith ] in let q : false ≡ true = e.1 full in absurd (cc)
+]
+
+module _ (A : Type 0) where
+  -- a tree whose length a `usize` can hold has at most 32 levels
+  levels-few : (h : ℕ) (t : Shape A h) → 1 ≤ count_at A h t → IsFilledBelow A h t → length (items_under A h t) < 2 ^ 64 → h ≤ 31
+  levels-few zero t some filled low = omega arith
+  levels-few (suc h) (id, first, []) some filled low = absurd (omega arith)
+  levels-few (suc h) (id, first, b ∷ bs) some filled low =
+      let d = dense A h first filled.0.0 filled.1 in
+      let l = length-append (items_under A h first) (later_items A h (b ∷ bs)) in
+      let m = length-append (items_under A h b.1) (later_items A h bs) in
+      elim (less-or h 31) [
+        | inl less ↦ omega arith
+        | inr other ↦
+            let at_least : 32 ≤ suc h = elim other [ inl same ↦ omega arith | inr more ↦ omega arith ] in
+            let p : 4 ^ 32 ≤ 4 ^ suc h = pow-le-pow_right (omega arith) at_least in
+            absurd (omega arith)
+      ]
+
+  levels-above-few : (look : Look A) (root : ℕ) (xs : List A) (h : ℕ) (c : Above A h) (t : Shape A h) → IsWhole A look [] root xs h c t
+      → IsFilled (least_at c) h (count_at A h t) → length xs < 2 ^ 64 → depth c + h ≤ 31
+  levels-above-few look root xs h top t w z low =
+      let l = ap length w.list in
+      let n = length-append (items_under A h t) [] in
+      let d : depth {A = A} {height = h} top ≡ 0 = refl in
+      let f = levels-few h t z.0 w.below (omega arith) in
+      omega arith
+  levels-above-few look root xs h (under f c) t w z low =
+      let r = levels-above-few look root xs (suc h) c (fill f t) (close A look [] root xs h f c t w z) (subst (λ n. IsFilled (least_at c) (suc h) n) (sym (fill-count A h f t)) w.filled.0) low in
+      omega arith
+
+  pub wanted-few : (h : ℕ) (c : Above A h) → wanted c ≤ depth c + 2
+  wanted-few h top = omega arith
+  wanted-few h (under f c) =
+      let r = wanted-few (suc h) c in
+      elim (same-or (frame_count f) 7) [
+        | inl same ↦ let q = full-yes (frame_count f) 7 (wanted c) 0 same in omega arith
+        | inr other ↦ let q = full-no (frame_count f) 7 (wanted c) 0 other in omega arith
+      ]
+
+  needed-few : (h : ℕ) (c : Above A h) (n : ℕ) → needed c n ≤ depth c + 2
+  needed-few h c n = elim (same-or n (most_at h)) [
+    | inl same ↦ let q = full-yes n (most_at h) (wanted c) 0 same in omega (arith, wanted-few h c)
+    | inr other ↦ let q = full-no n (most_at h) (wanted c) 0 other in omega arith
+  ]
+
+-- a node at rest has no item too many
+climbed-is : (k most w : ℕ) → k ≤ most → (if nat_lt k most then 0 else w) ≡ (if k == most then w else 0)
+climbed-is k most w l = grind (arith, nat_tests)
+
+module _ {K V : Type 0} (cmp : K → K → Ordering) (nodes : Content (Node K V)) (root : Option ℕ) (len start : ℕ) (sound : IsSound cmp nodes root len) (low : len < 2 ^ 64) (used : IsSome (map.get nodes start)) where
+  abbrev sight : Look (K × V)
+  sight = views nodes
+
+  abbrev listed : List (K × V)
+  listed = pairs_under sight root len
+
+  well : IsWellFormed cmp sight root len listed
+  well = well-pairs cmp sight root len sound.pairs sound.well
+
+  start-used : 0 < times_used (sight start)
+  start-used = at (map.get nodes start) used
+    where
+      at : (o : Option (Node K V)) → IsSome o → 0 < times_used (option_map view_of o)
+      at None is = absurd (cc)
+      at (Some node) is = omega arith
+
+  root-is : (r : Option ℕ) → IsFormed sight r listed → (number : ℕ) × (r ≡ Some number)
+  root-is None f = absurd (let e = f.0 start in let u = start-used in let z : times_used (sight start) ≡ 0 = ap times_used e in omega arith)
+  root-is (Some number) f = (number, refl)
+
+  first : (number : ℕ) → root ≡ Some number → IsNode (K × V) sight number listed start
+  first number is = node-at (K × V) sight number listed (subst (λ r. IsFormed sight r listed) is well.formed) start start-used
+
+  all-few : need_from sight (length listed) start ≤ 33
+  all-few =
+      let r = root-is root well.formed in
+      let n = first r.0 r.1 in
+      let a = need-node (K × V) sight r.0 listed start n in
+      let b = needed-few (K × V) n.seen.height n.seen.way (count_at (K × V) n.seen.height n.seen.shape) in
+      let k = well.counted in
+      let d = levels-above-few (K × V) sight r.0 listed n.seen.height n.seen.way n.seen.shape n.seen.whole n.sized (omega arith) in
+      omega arith
+
+  -- the same count, as that of the splits' nodes
+  pub need-climb : climb sight len start ≡ need sight root len start
+  need-climb =
+      let r = root-is root well.formed in
+      let n = first r.0 r.1 in
+      let k : length listed ≡ len = sym well.counted in
+      let a = need-node (K × V) sight r.0 listed start n in
+      let d = depth-fits (K × V) sight r.0 listed n.seen.height n.seen.way n.seen.shape n.seen.whole n.sized in
+      let c = climb-is (K × V) sight n.seen.height (length listed) n.seen.way n.seen.shape d n.seen.whole.above n.seen.whole.inner n.seen.whole.filled in
+      let e = climbed-is (count_at (K × V) n.seen.height n.seen.shape) (most_at n.seen.height) (wanted n.seen.way) n.sized.1 in
+      let c2 : climb sight (length listed) start ≡ climbed n.seen.way (count_at (K × V) n.seen.height n.seen.shape) =
+      subst (λ i. climb sight (length listed) i ≡ climbed n.seen.way (count_at (K × V) n.seen.height n.seen.shape)) n.seen.here c in
+      ap (λ m. climb sight m start) (sym k) ∙ (c2 ∙ (e ∙ (sym a ∙ (ap (λ m. need_from sight m start) k ∙ sym (ap (λ t. need sight t len start) r.1)))))
+
+  pub need-counting : IsCounting sight len start start 0
+  need-counting =
+      let r = root-is root well.formed in
+      let n = first r.0 r.1 in
+      let k : length listed ≡ len = sym well.counted in
+      let f = all-few in
+      let e = need-climb in
+      let q : need sight root len start ≡ need_from sight (length listed) start =
+      ap (λ t. need sight t len start) r.1 ∙ ap (λ m. need_from sight m start) (sym k) in
+      let d = depth-fits (K × V) sight r.0 listed n.seen.height n.seen.way n.seen.shape n.seen.whole n.sized in
+      let s = climbing-start (K × V) sight r.0 listed len n.seen.height n.seen.way n.seen.shape (whole-standing (K × V) sight [] r.0 listed n.seen.height n.seen.way n.seen.shape n.seen.whole) n.seen.whole.filled (omega arith) in
+      record {
+        root = r.0;
+        xs = listed;
+        climbing = subst (λ i. IsClimbing (K × V) sight r.0 listed len i 0 (climb sight len i)) n.seen.here s;
+        few = omega arith;
+      }

@@ -1,0 +1,4 @@
+pub mod Claimed
+pub mod Mend
+pub mod Shrink
+pub mod Steps

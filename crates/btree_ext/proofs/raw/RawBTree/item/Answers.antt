@@ -1,9 +1,0 @@
-use Rattle.std.proofs.Common.{sym}
-use Rattle.btree_ext.proofs.TreeLemmas.{item-some, item-none}
-use Rattle.btree_ext.proofs.raw.RawBTree.item.Goals as goal
-
-pub returns-in-Some : goal.returns-in-Some
-returns-in-Some g c = rw (← c.self.view_is) (item-some (g.C.Slab.content c.self.inside.parts.nodes) c.args.addr c.in-Some.node.now (sym c.in-Some.ensures.value) _ c.item.ensures)
-
-pub returns-in-None : goal.returns-in-None
-returns-in-None g c = rw (← c.self.view_is) (item-none (g.C.Slab.content c.self.inside.parts.nodes) c.args.addr (sym c.in-None.ensures.value))
