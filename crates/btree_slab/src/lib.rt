@@ -18,9 +18,10 @@ pub mod generic {
 
     /// The map and the tree in it, and how an insertion is refused.
     pub mod map {
-        pub use btree_ext::{BTreeExt, RawBTree, Tree};
+        pub use btree_ext::{BTreeExt, Tree};
         pub use btree_item::{Cause, M, Refused};
         pub use btree_map::BTreeMap;
+        pub use btree_raw::RawBTree;
         pub use btree_walk::Iter;
     }
 

@@ -1,0 +1,63 @@
+-- The tests by which a walk comes to a node.
+use Rattle.std.proofs.Common.{◌≡◌, ◌<◌, ◌≤◌, ◌+◌, ◌∙◌, ◌∷◌, [], ℕ, zero, suc, List, length, slice_get, option_and_then, true, false, not, eqb, leb, Option, Some, None, IsTrue, refl, sym, ap, arith}
+use Rattle.std.specs.Option.{option_eq}
+use Rattle.std.proofs.lemmas.Bool.Decides.{nat_tests}
+use Rattle.btree_item.specs.Offset.{index_offset}
+use Rattle.btree_view.specs.View.{View, most_of, parent_of, size_of}
+use Rattle.btree_shape.specs.WellFormed.{IsNearlySized, excess_beside, least_beside}
+
+same-number : (m n : ℕ) → eqb m n ≡ true → m ≡ n
+same-number m n e = grind (arith, nat_tests)
+
+number-same : (m n : ℕ) → m ≡ n → eqb m n ≡ true
+number-same m n e = grind (arith, nat_tests)
+
+pub same-parent : (a b : Option ℕ) → false ≡ not (option_eq eqb a b) → a ≡ b
+same-parent None None e = refl
+same-parent None (Some n) e = absurd (cc)
+same-parent (Some m) None e = absurd (cc)
+same-parent (Some m) (Some n) e = ap Some (same-number m n (by (eqb m n) e)) where
+  by : (c : _) → false ≡ not c → c ≡ true
+  by true f = refl
+  by false f = absurd (cc)
+
+pub parent-same : (a b : Option ℕ) → true ≡ not (option_eq eqb a b) → a ≡ b → ⊥
+parent-same None None e same = absurd (cc)
+parent-same None (Some n) e same = absurd (cc)
+parent-same (Some m) None e same = absurd (cc)
+parent-same (Some m) (Some n) e same =
+    let is : m ≡ n = cc in
+    let q = number-same m n is in
+    absurd (cc)
+
+at-most : (m n : ℕ) → IsTrue (leb m n) → m ≤ n
+at-most m n e = grind (arith, nat_tests)
+
+most-at : (m n : ℕ) → m ≤ n → IsTrue (leb m n)
+most-at m n e = grind (arith, nat_tests)
+
+module _ {A : Type 0} (v : View A) (root odd id left : ℕ) (parent : Option ℕ) where
+  abbrev MayEnter : Type 0
+  MayEnter = (0 < left) × (parent_of v ≡ parent) × IsNearlySized root odd id v
+
+  pub enters : (count most : ℕ) → count ≡ size_of v → most ≡ most_of v + excess_beside odd id → (left ≡ 0 → ⊥) → parent_of v ≡ parent → (least : ℕ) → least ≡ least_beside root odd id → least ≤ count
+      → (IsTrue (leb count most) → MayEnter) × (MayEnter → IsTrue (leb count most))
+  enters count most c m some up least is low = (
+    λ yes. let l = at-most count most yes in (positive left some, up, (omega arith, omega arith)),
+    λ p. let l = p.2.1 in most-at count most (omega arith),
+  )
+    where
+      positive : (n : ℕ) → (n ≡ 0 → ⊥) → 0 < n
+      positive n f = grind arith
+
+-- an item at an index, by its offset
+pub past : {X : Type 0} (xs : List X) (i : ℕ) → length xs ≤ i → slice_get xs i ≡ None
+past [] i low = refl
+past (x ∷ xs) zero low = absurd (omega arith)
+past (x ∷ xs) (suc i) low = past xs i (omega arith)
+
+offset-is : (i : ℕ) → i < 9 → index_offset i ≡ Some i
+offset-is i low = grind (arith, nat_tests)
+
+pub item-at : {X : Type 0} (xs : List X) (i : ℕ) (o : Option ℕ) (r : Option X) → o ≡ index_offset i → i < 9 → r ≡ option_and_then (slice_get xs) o → slice_get xs i ≡ r
+item-at xs i o r is low e = sym (e ∙ ap (option_and_then (slice_get xs)) (is ∙ offset-is i low))

@@ -1,0 +1,9 @@
+pub mod LevelLemmas
+pub mod RawLemmas
+pub mod RebalanceLemmas
+pub mod OrderLemmas
+pub mod PassLemmas
+pub mod EnterLemmas
+pub mod NodeLemmas
+pub mod OnceLemmas
+pub mod OffLemmas

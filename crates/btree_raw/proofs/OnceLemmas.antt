@@ -1,0 +1,251 @@
+-- That numbers are used, each once, where keys ascend and there are as many of them as nodes.
+use Rattle.std.proofs.Common.{◌≡◌, ◌≢◌, ◌∷◌, [], ◌∙◌, ◌+◌, ◌<◌, ◌≤◌, ℕ, zero, suc, inl, inr, false, List, length, map, is_some, Option, Some, None, refl, sym, ap, subst, arith}
+use Rattle.std.proofs.lemmas.Bool.Decides.{nat_tests}
+use Rattle.std.specs.Cmp.{IsTotalOrder, nat_cmp_total}
+use Rattle.std.specs.FinMap.{get, insert, len, len-insert, remove}
+use Rattle.std.specs.List.{AllByRecursion}
+use Rattle.std.specs.Ordering.{ordering_reverse}
+use Rattle.std.specs.declared.cmp.Ordering.{Ordering}
+use Rattle.std.specs.declared.cmp.Ordering.TheVariants.{Equal, Greater, Less}
+use Rattle.btree_store.specs.Content.{Content}
+use Rattle.btree_store.specs.ContentLaws.{get-remove_other, get-remove_same, is_insert}
+use Rattle.btree_view.specs.View.{Look, View, internal, items_of, leaf, parent_of}
+use Rattle.btree_shape.specs.Shape.{Holds, Shape, id_of, items_under, later_items, one, times_listed, times_under, total}
+use Rattle.btree_shape.specs.WellFormed.{IsNearlySized, least_beside, times_used}
+use Rattle.btree_shape.proofs.Frames.{one-other, one-self, total-append}
+use Rattle.btree_shape.proofs.Numbers.{same-or, used-low, used-one, zero-or}
+use Rattle.btree_shape.proofs.Searched.{Rises}
+
+-- as many numbers as a content has, each used and none twice, are all that it has
+module _ {T : Type 0} where
+  without-one : (m : Content T) (i : ℕ) (u : T) → get m i ≡ Some u → len m ≡ len (remove m i) + 1
+  without-one m i u at =
+      let back : m ≡ insert (remove m i) i u = is_insert (remove m i) m i u at (λ q ne. sym (get-remove_other m i q ne)) in
+      let gone : is_some (get (remove m i) i) ≡ false = ap is_some (get-remove_same m i) in
+      ap len back ∙ (len-insert nat_cmp_total (remove m i) i u ∙ rw gone refl)
+
+  none-used : (m : Content T) (n : ℕ) (o : Option T) → get m n ≡ o → len m ≡ 0 → times_used o ≡ 0
+  none-used m n None at none = refl
+  none-used m n (Some u) at none = let l = without-one m n u at in absurd (omega arith)
+
+  used-at : (o : Option T) → 0 < times_used o → (u : T) × (o ≡ Some u)
+  used-at None some = absurd (omega arith)
+  used-at (Some u) some = (u, refl)
+
+  pub all-used : (ns : List ℕ) (m : Content T) → ((n : ℕ) → times_listed n ns ≤ times_used (get m n)) → len m ≡ length ns
+      → (n : ℕ) → times_listed n ns ≡ times_used (get m n)
+  all-used [] m few same n = sym (none-used m n (get m n) refl same)
+  all-used (i ∷ ns) m few same n =
+      let u = used-at (get m i) (let f = few i in let s = one-self i in omega arith) in
+      let l = without-one m i u.0 u.1 in
+      let rest = all-used ns (remove m i) (λ n. elim (same-or n i) [
+        | inl at ↦
+            let f = few n in
+            let s : one n i ≡ 1 = subst (λ z. one n z ≡ 1) at (one-self n) in
+            let w = used-low (get m n) in
+            omega arith
+        | inr other ↦
+            let g : times_used (get (remove m i) n) ≡ times_used (get m n) = ap times_used (get-remove_other m i n other) in
+            let f = few n in
+            let z = one-other n i other in
+            omega arith
+      ]) (omega arith) in
+      elim (same-or n i) [
+        | inl at ↦
+            let g : times_used (get (remove m i) n) ≡ 0 = rw (at, get-remove_same m i) refl in
+            let r = rest n in
+            let s : one n i ≡ 1 = subst (λ z. one n z ≡ 1) at (one-self n) in
+            let v : times_used (get m n) ≡ 1 = rw at (used-one (get m i) u.0 u.1) in
+            omega arith
+        | inr other ↦
+            let g : times_used (get (remove m i) n) ≡ times_used (get m n) = ap times_used (get-remove_other m i n other) in
+            let r = rest n in
+            let z = one-other n i other in
+            omega arith
+      ]
+
+-- 1 where two keys are equal
+abbrev alike : Ordering → ℕ
+alike Less = 0
+alike Equal = 1
+alike Greater = 0
+
+self-equal : (c : Ordering) → c ≡ ordering_reverse c → alike c ≡ 1
+self-equal Less e = absurd (cc)
+self-equal Equal e = refl
+self-equal Greater e = absurd (cc)
+
+none-alike : (c : Ordering) → c ≡ ordering_reverse Less → alike c ≡ 0
+none-alike Less e = refl
+none-alike Equal e = absurd (cc)
+none-alike Greater e = refl
+
+module _ {K V : Type 0} (cmp : K → K → Ordering) (laws : IsTotalOrder cmp) (key : K) where
+  -- how many pairs have a key that is equal to this one
+  abbrev at-key : List (K × V) → ℕ
+  at-key xs = total (λ x. alike (cmp x.0 key)) xs
+
+  none-behind : (y : K) → cmp y key ≡ Equal → (xs : List (K × V)) → AllByRecursion (λ z. cmp y z.0 ≡ Less) xs → at-key xs ≡ 0
+  none-behind y e [] all = refl
+  none-behind y e (x ∷ xs) all =
+      let a : cmp key x.0 ≡ Less = sym (laws.congr y key x.0 e) ∙ all.0 in
+      let b : cmp x.0 key ≡ ordering_reverse Less = laws.antisymm x.0 key ∙ ap ordering_reverse a in
+      let z = none-alike (cmp x.0 key) b in
+      let r = none-behind y e xs all.1 in
+      omega arith
+
+  by-first : (c : Ordering) (y : K) (xs : List (K × V)) → cmp y key ≡ c → AllByRecursion (λ z. cmp y z.0 ≡ Less) xs → at-key xs ≤ 1 → alike c + at-key xs ≤ 1
+  by-first Less y xs e all low = omega arith
+  by-first Equal y xs e all low = let r = none-behind y e xs all in omega arith
+  by-first Greater y xs e all low = omega arith
+
+  -- in ascending pairs at most one
+  key-once : (xs : List (K × V)) → Rises cmp xs → at-key xs ≤ 1
+  key-once [] up = omega arith
+  key-once (x ∷ xs) up = by-first (cmp x.0 key) x.0 xs refl up.0 (key-once xs up.1)
+
+  module _ (look : Look (K × V)) (n : ℕ) (v : View (K × V)) (there : look n ≡ Some v) (value : V) (more : List (K × V)) (first : items_of v ≡ (key, value) ∷ more) where
+    first-is : (w : View (K × V)) → look n ≡ Some w → items_of w ≡ (key, value) ∷ more
+    first-is w at = let is : v ≡ w = cc in subst (λ u. items_of u ≡ (key, value) ∷ more) is first
+
+    own-key : (xs : List (K × V)) → xs ≡ (key, value) ∷ more → 1 ≤ at-key xs
+    own-key xs e = let a = self-equal (cmp key key) (laws.antisymm key key) in let b = ap at-key e in omega arith
+
+    own-branch : (h : ℕ) (bs : List ((K × V) × Shape (K × V) h)) → map {B = K × V} (λ b. b.0) (map {B = (K × V) × ℕ} (λ (b : (K × V) × Shape (K × V) h). (b.0, id_of (K × V) h b.1)) bs) ≡ (key, value) ∷ more
+        → 1 ≤ total (λ b. alike (cmp b.0.0 key)) bs
+    own-branch h [] e = absurd (cc)
+    own-branch h (b ∷ bs) e =
+        let is : b.0 ≡ (key, value) = cc in
+        let a = self-equal (cmp key key) (laws.antisymm key key) in
+        let c : alike (cmp b.0.0 key) ≡ alike (cmp key key) = ap (λ x. alike (cmp x.0 key)) is in
+        omega arith
+
+    later-keys : (h : ℕ) (bs : List ((K × V) × Shape (K × V) h)) (p : Option ℕ)
+        → ((t : Shape (K × V) h) → Holds (K × V) look h p t → times_under (K × V) h n t ≤ at-key (items_under (K × V) h t))
+        → AllByRecursion (λ b. Holds (K × V) look h p b.1) bs
+        → total (λ b. alike (cmp b.0.0 key)) bs + total (λ b. times_under (K × V) h n b.1) bs ≤ at-key (later_items (K × V) h bs)
+    later-keys h [] p each all = omega arith
+    later-keys h (b ∷ bs) p each all =
+        let a = each b.1 all.0 in
+        let r = later-keys h bs p each all.1 in
+        let l = total-append (λ x. alike (cmp x.0 key)) (items_under (K × V) h b.1) (later_items (K × V) h bs) in
+        omega arith
+
+    -- a node stands at most as often in a tree as its first key
+    times-keys : (h : ℕ) (p : Option ℕ) (t : Shape (K × V) h) → Holds (K × V) look h p t → times_under (K × V) h n t ≤ at-key (items_under (K × V) h t)
+    times-keys zero p t d = elim (same-or n t.0) [
+      | inl same ↦
+          let f = first-is (leaf p t.1) (subst (λ i. look i ≡ Some (leaf p t.1)) (sym same) d) in
+          let k = own-key t.1 f in
+          let s : one n t.0 ≡ 1 = subst (λ z. one n z ≡ 1) same (one-self n) in
+          omega arith
+      | inr other ↦ let z = one-other n t.0 other in omega arith
+    ]
+    times-keys (suc h) p t d =
+        let a = times-keys h (Some t.0) t.1 d.1 in
+        let r = later-keys h t.2 (Some t.0) (times-keys h (Some t.0)) d.2 in
+        let l = total-append (λ x. alike (cmp x.0 key)) (items_under (K × V) h t.1) (later_items (K × V) h t.2) in
+        elim (same-or n t.0) [
+          | inl same ↦
+              let w : View (K × V) = internal p (id_of (K × V) h t.1) (map (λ b. (b.0, id_of (K × V) h b.1)) t.2) in
+              let f = first-is w (subst (λ i. look i ≡ Some w) (sym same) d.0) in
+              let k = own-branch h t.2 f in
+              let s : one n t.0 ≡ 1 = subst (λ z. one n z ≡ 1) same (one-self n) in
+              omega arith
+          | inr other ↦ let z = one-other n t.0 other in omega arith
+        ]
+
+    pub times-once : (h : ℕ) (p : Option ℕ) (t : Shape (K × V) h) → Holds (K × V) look h p t → Rises cmp (items_under (K × V) h t) → times_under (K × V) h n t ≤ 1
+    times-once h p t d up = let a = times-keys h p t d in let b = key-once (items_under (K × V) h t) up in omega arith
+
+module _ {A : Type 0} (look : Look A) (n : ℕ) (apart : (p : ℕ) (v : View A) → look n ≡ Some v → parent_of v ≡ Some p → ⊥) where
+  none-in : (h : ℕ) (p : ℕ) (bs : List (A × Shape A h)) → ((t : Shape A h) → Holds A look h (Some p) t → times_under A h n t ≡ 0)
+      → AllByRecursion (λ b. Holds A look h (Some p) b.1) bs → total (λ b. times_under A h n b.1) bs ≡ 0
+  none-in h p [] each all = refl
+  none-in h p (b ∷ bs) each all = let a = each b.1 all.0 in let r = none-in h p bs each all.1 in omega arith
+
+  -- a number of no node, or of one without a parent, is not below a parent
+  pub none-below : (h : ℕ) (p : ℕ) (t : Shape A h) → Holds A look h (Some p) t → times_under A h n t ≡ 0
+  none-below zero p t d = elim (same-or n t.0) [
+    | inl same ↦ absurd (apart p (leaf (Some p) t.1) (subst (λ i. look i ≡ Some (leaf (Some p) t.1)) (sym same) d) refl)
+    | inr other ↦ one-other n t.0 other
+  ]
+  none-below (suc h) p t d = elim (same-or n t.0) [
+    | inl same ↦
+        let w : View A = internal (Some p) (id_of A h t.1) (map (λ b. (b.0, id_of A h b.1)) t.2) in
+        absurd (apart p w (subst (λ i. look i ≡ Some w) (sym same) d.0) refl)
+    | inr other ↦
+        let z = one-other n t.0 other in
+        let a = none-below h t.0 t.1 d.1 in
+        let r = none-in h t.0 t.2 (none-below h t.0) d.2 in
+        omega arith
+  ]
+
+  -- so it is at most the root
+  pub at-root : (h : ℕ) (p : Option ℕ) (t : Shape A h) → Holds A look h p t → times_under A h n t ≡ one n (id_of A h t)
+  at-root zero p t d = refl
+  at-root (suc h) p t d =
+      let a = none-below h t.0 t.1 d.1 in
+      let r = none-in h t.0 t.2 (none-below h t.0) d.2 in
+      omega arith
+
+module _ {K V : Type 0} (cmp : K → K → Ordering) (laws : IsTotalOrder cmp) (look : Look (K × V)) (root odd : ℕ) where
+  two-items : (n : ℕ) → n ≢ root → 2 ≤ least_beside root odd n
+  two-items n other = elim (same-or n odd) [
+    | inl same ↦ grind (arith, nat_tests)
+    | inr apart ↦ grind (arith, nat_tests)
+  ]
+
+  first-item : (xs : List (K × V)) → 2 ≤ length xs → (x : K × V) × (more : List (K × V)) × (xs ≡ x ∷ more)
+  first-item [] some = absurd (omega arith)
+  first-item (x ∷ xs) some = (x, xs, refl)
+
+  module _ (h : ℕ) (t : Shape (K × V) h) (here : id_of (K × V) h t ≡ root) (d : Holds (K × V) look h None t) (up : Rises cmp (items_under (K × V) h t))
+      (sized : (n : ℕ) (v : View (K × V)) → 0 < times_under (K × V) h n t → look n ≡ Some v → IsNearlySized root odd n v) where
+    root-view : (v : View (K × V)) → look root ≡ Some v → parent_of v ≡ None
+    root-view v at = by h t d here where
+      by : (h : ℕ) (t : Shape (K × V) h) → Holds (K × V) look h None t → id_of (K × V) h t ≡ root → parent_of v ≡ None
+      by zero t d same =
+          let e : look root ≡ Some (leaf None t.1) = subst (λ i. look i ≡ Some (leaf None t.1)) same d in
+          let is : v ≡ leaf None t.1 = cc in
+          ap parent_of is
+      by (suc h) t d same =
+          let w : View (K × V) = internal None (id_of (K × V) h t.1) (map (λ b. (b.0, id_of (K × V) h b.1)) t.2) in
+          let e : look root ≡ Some w = subst (λ i. look i ≡ Some w) same d.0 in
+          let is : v ≡ w = cc in
+          ap parent_of is
+
+    used-root : (h : ℕ) (t : Shape (K × V) h) → Holds (K × V) look h None t → times_used (look (id_of (K × V) h t)) ≡ 1
+    used-root zero t d = rw d refl
+    used-root (suc h) t d = rw d.0 refl
+
+    few-at : (n : ℕ) (o : Option (View (K × V))) → look n ≡ o → times_under (K × V) h n t ≤ times_used o
+    few-at n None at =
+        let a = at-root look n (λ p v e q. (let f : None ≡ Some v = sym at ∙ e in cc)) h None t d in
+        elim (same-or n (id_of (K × V) h t)) [
+          | inl same ↦ let u = used-root h t d in let z : times_used (look (id_of (K × V) h t)) ≡ 0 = rw (← same) (ap times_used at) in absurd (omega arith)
+          | inr other ↦ let z = one-other n (id_of (K × V) h t) other in omega arith
+        ]
+    few-at n (Some v) at = elim (same-or n root) [
+      | inl same ↦
+          let up_none = root-view v (subst (λ i. look i ≡ Some v) same at) in
+          let a = at-root look n (λ p w e q. (let is : v ≡ w = (let f : Some v ≡ Some w = sym at ∙ e in cc) in let g : Some p ≡ None = sym q ∙ (ap parent_of (sym is) ∙ up_none) in cc)) h None t d in
+          let l = low n (id_of (K × V) h t) in
+          omega arith
+      | inr other ↦ elim (zero-or (times_under (K × V) h n t)) [
+        | inl none ↦ omega arith
+        | inr some ↦
+            let s = sized n v some at in
+            let s0 = s.0 in
+            let two = two-items n other in
+            let f = first-item (items_of v) (omega arith) in
+            times-once cmp laws f.0.0 look n v at f.0.1 f.1 f.2 h None t d up
+      ]
+    ]
+      where
+        low : (m i : ℕ) → one m i ≤ 1
+        low m i = elim (same-or m i) [ inl same ↦ grind (arith, nat_tests) | inr apart ↦ let z = one-other m i apart in omega arith ]
+
+    -- no number stands twice under the root, and each is used
+    pub few : (n : ℕ) → times_under (K × V) h n t ≤ times_used (look n)
+    few n = few-at n (look n) refl

@@ -1,0 +1,56 @@
+-- A node that is put into a store of any content, and makes itself the parent of its children.
+use Rattle.std.proofs.Common.{◌≡◌, ◌≢◌, ℕ, ◌<◌, inl, inr, List, Option, Some, None, IsSome, refl, ap, subst, ◌∙◌, option_map, arith}
+use Rattle.std.specs.FinMap as map
+use Rattle.btree_store.specs.Content.{Content}
+use Rattle.btree_node.specs.declared.node.Node.{Node}
+use Rattle.btree_node.specs.Node.{view_of}
+use Rattle.btree_view.specs.View.{children_in, children_of}
+use Rattle.btree_shape.specs.Shape.{times_listed}
+use Rattle.btree_shape.specs.Step.{Adopts}
+use Rattle.btree_shape.specs.TreeState.{views}
+use Rattle.btree_shape.specs.WellFormed.{times_used}
+use Rattle.btree_shape.proofs.Numbers.{zero-or}
+use Rattle.btree_raw.specs.Raw.{AreUsed}
+use Rattle.btree_balance.specs.Steps.{CanAdopt}
+use Rattle.btree_shape.proofs.Stores.{puts}
+
+module _ {K V : Type 0} where
+  used-some : (o : Option (Node K V)) → IsSome o → 0 < times_used (option_map view_of o)
+  used-some None some = absurd (cc)
+  used-some (Some node) some = omega arith
+
+  not-both : (o : Option (Node K V)) → o ≡ None → IsSome o → ⊥
+  not-both None none some = cc
+  not-both (Some node) none some = cc
+
+module _ {K V : Type 0} (nodes : Content (Node K V)) (id : ℕ) (node : Node K V) (unused : map.get nodes id ≡ None) (children : AreUsed nodes (children_of (view_of node))) where
+  child-apart : (n : ℕ) → 0 < times_listed n (children_of (view_of node)) → n ≢ id
+  child-apart n listed same = not-both (map.get nodes n) (ap (map.get nodes) same ∙ unused) (children n listed)
+
+  none-listed : times_listed id (children_of (view_of node)) ≡ 0
+  none-listed = elim (zero-or (times_listed id (children_of (view_of node)))) [
+    | inl none ↦ none
+    | inr some ↦ absurd (child-apart id some refl)
+  ]
+
+  module _ (after : Content (Node K V)) (is : after ≡ map.insert nodes id node) where
+    here : views after id ≡ Some (view_of node)
+    here = (puts nodes after id node is).here
+
+    child-used : (n : ℕ) → 0 < times_listed n (children_of (view_of node)) → 0 < times_used (views after n)
+    child-used n listed =
+        let kept = (puts nodes after id node is).others n (child-apart n listed) in
+        rw kept (used-some (map.get nodes n) (children n listed))
+
+    pub can-adopt : CanAdopt (views after) id
+    can-adopt = record {
+      used = rw here (omega arith);
+      children = λ n listed. child-used n (rw here at listed);
+      apart = rw here none-listed;
+    }
+
+    pub adopts : (last : Content (Node K V)) → Adopts (views after) (views last) id (children_in (views after id)) → Adopts (views (map.insert nodes id node)) (views last) id (children_of (view_of node))
+    adopts last a =
+        let P : List ℕ → Type 0 = λ l. Adopts (views after) (views last) id l in
+        let Q : Content (Node K V) → Type 0 = λ m. Adopts (views m) (views last) id (children_of (view_of node)) in
+        subst Q is (subst P (ap children_in here) a)
