@@ -1,7 +1,17 @@
-//! Tests of the tree and its walk.
+//! Tests of the tree and its walk, and of raw trees and rebalancing.
 #![tactic(auto)]
 
 #[cfg(test)]
+mod drawn;
+#[cfg(test)]
+mod odd;
+#[cfg(test)]
+mod places;
+#[cfg(test)]
 mod raw;
+#[cfg(test)]
+mod rebalance;
+#[cfg(test)]
+mod refused;
 #[cfg(test)]
 mod trees;

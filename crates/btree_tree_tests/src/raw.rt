@@ -3,9 +3,9 @@ ghost use Rattle.std.specs.Prelude.{◌≡◌, []};
 ghost use Rattle.btree_node.specs.Node.{view_of};
 ghost use Rattle.btree_view.specs.View.{children_of};
 
-use btree_ext::RawBTree;
 use btree_item::{Address, Item, Offset};
 use btree_node::{LeafNode, Node};
+use btree_raw::RawBTree;
 use btree_store::SlabStore;
 use std::process::Abort;
 

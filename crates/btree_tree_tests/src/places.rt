@@ -1,0 +1,261 @@
+//! Every address of trees that are off by one at a node, through rebalancing: found by a walk, it has the same place as before.
+use crate::drawn::{Stop, Walked, drawn, follow, keys_of, walk};
+use btree_item::Address;
+use btree_node::Node;
+use btree_raw::RawBTree;
+use btree_store::SlabStore;
+use std::alloc::Global;
+use std::process::Abort;
+use std::test::Fail;
+
+type Raw = RawBTree<u64, u64, SlabStore<Node<u64, u64>>>;
+
+// A tree that is off by one at a node: its text, the way down to the node, child by child, and how many addresses and nodes it has.
+#[derive(Clone, Copy)]
+struct Before<'a> {
+    text: &'a str,
+    way: &'a [usize],
+    addresses: usize,
+    nodes: usize,
+}
+
+// What rebalancing makes of it: its text, the keys of its root, and how many nodes it has.
+#[derive(Clone, Copy)]
+struct After<'a> {
+    text: &'a str,
+    root_keys: &'a str,
+    nodes: usize,
+}
+
+// A row of a table: the fields of `Before`, and those of `After`.
+type Row<'a> = (&'a str, &'a [usize], usize, usize, &'a str, &'a str, usize);
+
+// The answered address is found with the place of the asked one, at its item if it has one, and not at -1 unless that one was.
+fn check_place(rt: &impl Abort, walked: &Walked, asked: &Stop, answer: Address) {
+    for found in &walked.stops {
+        if found.addr == answer {
+            assert_eq!(rt; found.place, asked.place, "{}", asked.addr);
+            assert!(rt;
+                asked.key.is_none() || found.key == asked.key,
+                "{}",
+                asked.addr
+            );
+            assert!(rt;
+                asked.addr.offset.is_before() || !answer.offset.is_before(),
+                "{}",
+                asked.addr
+            );
+            return;
+        }
+    }
+    panic!(rt; "{} is not found again", asked.addr);
+}
+
+// Each item's key is its place.
+fn check_keys(rt: &impl Abort, walked: &Walked) {
+    for stop in &walked.stops {
+        if let Some(key) = stop.key {
+            assert_eq!(rt; key, stop.place);
+        }
+    }
+}
+
+// Draws a tree, and rebalances it with one address.
+fn rebalanced(
+    rt: &impl Abort,
+    before: &Before<'_>,
+    asked: Address,
+    alloc: Global,
+) -> Result<(Raw, Address), Fail> {
+    let mut raw: Raw = drawn(rt, alloc, before.text, alloc)?;
+    let id = follow(rt, &raw, before.way);
+    assert!(rt; raw.is_off_by_one(id), "{}", before.text);
+    assert!(rt; raw.is_valid(asked), "{} at {asked}", before.text);
+    match raw.rebalance(id, asked) {
+        Ok(answer) => Ok((raw, answer)),
+        Err(_) => panic!(rt; "refused"),
+    }
+}
+
+fn check_address(
+    rt: &impl Abort,
+    before: &Before<'_>,
+    after: &After<'_>,
+    asked: &Stop,
+    alloc: Global,
+) -> Result<(), Fail> {
+    let (raw, answer) = rebalanced(rt, before, asked.addr, alloc)?;
+    let walked = walk(&raw, alloc)?;
+    assert_eq!(rt;
+        walked.text.as_str(),
+        after.text,
+        "{} at {}",
+        before.text,
+        asked.addr
+    );
+    assert_eq!(rt;
+        (raw.node_count(), raw.len()),
+        (after.nodes, 77),
+        "{}",
+        before.text
+    );
+    let root = follow(rt, &raw, &[]);
+    assert_eq!(rt; keys_of(&raw, root, alloc)?.as_str(), after.root_keys);
+    check_keys(rt, &walked);
+    check_place(rt, &walked, asked, answer);
+    Ok(())
+}
+
+// Every address of a tree is followed through its rebalancing.
+fn check(rt: &impl Abort, before: Before<'_>, after: After<'_>, alloc: Global) -> Result<(), Fail> {
+    let raw: Raw = drawn(rt, alloc, before.text, alloc)?;
+    let walked = walk(&raw, alloc)?;
+    assert_eq!(rt; walked.text.as_str(), before.text);
+    assert_eq!(rt;
+        (walked.stops.len(), raw.node_count()),
+        (before.addresses, before.nodes),
+        "{}",
+        before.text
+    );
+    for asked in &walked.stops {
+        check_address(rt, &before, &after, asked, alloc)?;
+    }
+    Ok(())
+}
+
+fn check_rows(rt: &impl Abort, rows: &[Row<'_>], alloc: Global) -> Result<(), Fail> {
+    for (text, way, addresses, nodes, result, root_keys, result_nodes) in rows {
+        let before = Before {
+            text,
+            way,
+            addresses: *addresses,
+            nodes: *nodes,
+        };
+        let after = After {
+            text: result,
+            root_keys,
+            nodes: *result_nodes,
+        };
+        check(rt, before, after, alloc)?;
+    }
+    Ok(())
+}
+
+#[test]
+fn a_leaf_splits(rt: HostRuntime) -> Result<(), Fail> {
+    let rows: [Row<'_>; 4] = [
+        ("(93)", &[0], 19, 3, "(443)", "4 9 ", 4),
+        ("(93333333)", &[0], 55, 9, "((4433)(33333))", "17 ", 12),
+        ("(33393333)", &[3], 55, 9, "((3334)(43333))", "16 ", 12),
+        (
+            "((93333333)(3333))",
+            &[0, 0],
+            83,
+            15,
+            "((4433)(33333)(3333))",
+            "17 37 ",
+            17,
+        ),
+    ];
+    check_rows(&rt, &rows, rt.alloc())
+}
+
+#[test]
+fn a_leaf_is_mended(rt: HostRuntime) -> Result<(), Fail> {
+    let rows: [Row<'_>; 4] = [
+        ("(24)", &[0], 13, 3, "(33)", "3 ", 3),
+        ("(42)", &[1], 13, 3, "(33)", "3 ", 3),
+        ("(233)", &[0], 18, 4, "(63)", "6 ", 3),
+        ("(323)", &[1], 18, 4, "(63)", "6 ", 3),
+    ];
+    check_rows(&rt, &rows, rt.alloc())
+}
+
+#[test]
+fn an_empty_root_goes(rt: HostRuntime) -> Result<(), Fail> {
+    let rows: [Row<'_>; 2] = [
+        ("(3)", &[], 7, 2, "3", "0 1 2 ", 1),
+        ("((3333))", &[], 27, 6, "(3333)", "3 7 11 ", 5),
+    ];
+    check_rows(&rt, &rows, rt.alloc())
+}
+
+#[test]
+fn a_merge_below_is_mended_above(rt: HostRuntime) -> Result<(), Fail> {
+    let rows: [Row<'_>; 5] = [
+        (
+            "((2333)(33333))",
+            &[0, 0],
+            58,
+            12,
+            "((6333)(3333))",
+            "18 ",
+            11,
+        ),
+        (
+            "((33333)(3332))",
+            &[1, 3],
+            58,
+            12,
+            "((3333)(3336))",
+            "15 ",
+            11,
+        ),
+        (
+            "((3333)(3233))",
+            &[1, 1],
+            52,
+            11,
+            "(3333633)",
+            "3 7 11 15 22 26 ",
+            8,
+        ),
+        (
+            "((2333)(3333)(3333))",
+            &[0, 0],
+            78,
+            16,
+            "((6333333)(3333))",
+            "30 ",
+            14,
+        ),
+        (
+            "((3333)(3333)(2333))",
+            &[2, 0],
+            78,
+            16,
+            "((3333)(3333633))",
+            "15 ",
+            14,
+        ),
+    ];
+    check_rows(&rt, &rows, rt.alloc())
+}
+
+#[test]
+fn an_internal_node_is_mended_or_splits(rt: HostRuntime) -> Result<(), Fail> {
+    let rows: [Row<'_>; 5] = [
+        ("((333)(33333))", &[0], 53, 11, "((3333)(3333))", "15 ", 11),
+        ("((33333)(333))", &[1], 53, 11, "((3333)(3333))", "15 ", 11),
+        (
+            "((333)(3333))",
+            &[0],
+            47,
+            10,
+            "(3333333)",
+            "3 7 11 15 19 23 ",
+            8,
+        ),
+        (
+            "((333333333)(3333))",
+            &[0],
+            83,
+            16,
+            "((3333)(33333)(3333))",
+            "15 35 ",
+            17,
+        ),
+        ("(333333333)", &[], 55, 10, "((3333)(33333))", "15 ", 12),
+    ];
+    check_rows(&rt, &rows, rt.alloc())
+}

@@ -1,0 +1,209 @@
+//! Trees that are off by one at a node, rebalanced: rows of addresses, and memory that is refused.
+ghost use Rattle.std.specs.Prelude.{◌≡◌, []};
+ghost use Rattle.btree_node.specs.Node.{view_of};
+ghost use Rattle.btree_view.specs.View.{children_of};
+
+use crate::drawn::{keys_of, put};
+use btree_item::{Address, Item, Offset};
+use btree_node::{LeafNode, Node};
+use btree_raw::RawBTree;
+use btree_store::SlabStore;
+use std::alloc::Global;
+use std::process::Abort;
+use std::test::Fail;
+
+pub(crate) type Raw = RawBTree<u64, u64, SlabStore<Node<u64, u64>>>;
+
+pub(crate) fn leaf_of(rt: &impl Abort, keys: &[u64]) -> Node<u64, u64>
+    ensures { children_of (view_of result) ≡ [] }
+{
+    let mut leaf = LeafNode::empty(None);
+    for key in keys {
+        assert!(rt; leaf.item_count() < 9);
+        leaf.push_right(Item::new(*key, *key));
+    }
+    Node::Leaf(leaf)
+}
+
+// A root leaf.
+fn one(rt: &impl Abort, alloc: Global, keys: &[u64]) -> (Raw, usize) {
+    let mut raw = Raw::new(alloc);
+    let id = put(rt, &mut raw, leaf_of(rt, keys));
+    raw.set_root_id(Some(id));
+    raw.set_len(77);
+    (raw, id)
+}
+
+// A root with one item over two leaves: the tree, and the numbers of the root and the leaves.
+pub(crate) fn two(
+    rt: &impl Abort,
+    alloc: Global,
+    left: &[u64],
+    key: u64,
+    right: &[u64],
+) -> (Raw, usize, usize, usize) {
+    let mut raw = Raw::new(alloc);
+    let low = put(rt, &mut raw, leaf_of(rt, left));
+    let high = put(rt, &mut raw, leaf_of(rt, right));
+    assert!(rt; raw.has_node(low));
+    assert!(rt; raw.has_node(high));
+    let root = put(
+        rt,
+        &mut raw,
+        Node::binary(None, low, Item::new(key, key), high),
+    );
+    raw.set_root_id(Some(root));
+    raw.set_len(77);
+    (raw, root, low, high)
+}
+
+fn at(id: usize, offset: usize) -> Address {
+    Address::new(id, Offset::from(offset))
+}
+
+fn before(id: usize) -> Address {
+    Address::new(id, Offset::before())
+}
+
+// Rebalances a tree at a node, where its tests allow it.
+fn rebalanced(rt: &impl Abort, raw: &mut Raw, id: usize, addr: Address) -> Address {
+    assert!(rt; raw.is_off_by_one(id));
+    assert!(rt; raw.is_valid(addr), "{addr}");
+    match raw.rebalance(id, addr) {
+        Ok(answer) => answer,
+        Err(_) => panic!(rt; "refused"),
+    }
+}
+
+// The tree has this root, so many nodes, and among them these numbers with these keys.
+fn check_tree(
+    rt: &impl Abort,
+    raw: &Raw,
+    alloc: Global,
+    root: Option<usize>,
+    count: usize,
+    nodes: &[(usize, &str)],
+) -> Result<(), Fail> {
+    assert_eq!(rt;
+        (raw.root_id(), raw.node_count(), raw.len()),
+        (root, count, 77)
+    );
+    for (id, keys) in nodes {
+        assert_eq!(rt; keys_of(raw, *id, alloc)?.as_str(), *keys);
+    }
+    Ok(())
+}
+
+fn rotates_left(rt: &impl Abort, alloc: Global, case: usize) -> Result<(), Fail> {
+    let (mut raw, t, l, r) = two(rt, alloc, &[0, 1], 3, &[4, 5, 6, 7]);
+    let from = [at(r, 0), before(r), at(r, 2), at(t, 0), at(l, 2)];
+    let to = [at(t, 0), at(t, 0), at(r, 1), at(l, 2), at(l, 2)];
+    assert!(rt; case < 5);
+    assert_eq!(rt; rebalanced(rt, &mut raw, l, from[case]), to[case], "{case}");
+    check_tree(
+        rt,
+        &raw,
+        alloc,
+        Some(t),
+        3,
+        &[(t, "4 "), (l, "0 1 3 "), (r, "5 6 7 ")],
+    )
+}
+
+#[test]
+fn rotates_to_the_left(rt: HostRuntime) -> Result<(), Fail> {
+    for case in 0..5usize {
+        rotates_left(&rt, rt.alloc(), case)?;
+    }
+    Ok(())
+}
+
+fn rotates_right(rt: &impl Abort, alloc: Global, case: usize) -> Result<(), Fail> {
+    let (mut raw, t, l, r) = two(rt, alloc, &[0, 1, 2, 3], 4, &[5, 6]);
+    let from = [at(l, 3), at(l, 4), before(r)];
+    let to = [at(t, 0), at(r, 0), at(r, 1)];
+    assert!(rt; case < 3);
+    assert_eq!(rt; rebalanced(rt, &mut raw, r, from[case]), to[case], "{case}");
+    check_tree(
+        rt,
+        &raw,
+        alloc,
+        Some(t),
+        3,
+        &[(t, "3 "), (l, "0 1 2 "), (r, "4 5 6 ")],
+    )
+}
+
+#[test]
+fn rotates_to_the_right(rt: HostRuntime) -> Result<(), Fail> {
+    for case in 0..3usize {
+        rotates_right(&rt, rt.alloc(), case)?;
+    }
+    Ok(())
+}
+
+fn merges(rt: &impl Abort, alloc: Global, case: usize) -> Result<(), Fail> {
+    let (mut raw, t, l, r) = two(rt, alloc, &[0, 1, 2], 3, &[4, 5]);
+    let from = [before(r), at(t, 1), at(t, 0), before(t)];
+    let to = [at(l, 4), at(l, 6), at(l, 3), before(l)];
+    assert!(rt; case < 4);
+    assert_eq!(rt; rebalanced(rt, &mut raw, r, from[case]), to[case], "{case}");
+    check_tree(rt, &raw, alloc, Some(l), 1, &[(l, "0 1 2 3 4 5 ")])
+}
+
+#[test]
+fn merges_below_a_root(rt: HostRuntime) -> Result<(), Fail> {
+    for case in 0..4usize {
+        merges(&rt, rt.alloc(), case)?;
+    }
+    Ok(())
+}
+
+// The root's number, and that of its second child, where there are such.
+fn root_and_second(raw: &Raw) -> Option<(usize, usize)> {
+    let root = raw.root_id()?;
+    if !raw.has_node(root) {
+        return None;
+    }
+    let second = raw.node(root).child_id_opt(1)?;
+    Some((root, second))
+}
+
+fn splits(rt: &impl Abort, alloc: Global, case: usize) -> Result<(), Fail> {
+    let (mut raw, l) = one(rt, alloc, &[0, 1, 2, 3, 4, 5, 6, 7, 8]);
+    let from = [at(l, 3), at(l, 4), at(l, 5), at(l, 9), before(l)];
+    assert!(rt; case < 5);
+    let answer = rebalanced(rt, &mut raw, l, from[case]);
+    let Some((t, y)) = root_and_second(&raw) else {
+        panic!(rt; "no root with two children");
+    };
+    let to = [at(l, 3), at(t, 0), at(y, 0), at(y, 4), before(l)];
+    assert_eq!(rt; answer, to[case], "{case}");
+    check_tree(
+        rt,
+        &raw,
+        alloc,
+        Some(t),
+        3,
+        &[(t, "4 "), (l, "0 1 2 3 "), (y, "5 6 7 8 ")],
+    )
+}
+
+#[test]
+fn splits_a_root_leaf(rt: HostRuntime) -> Result<(), Fail> {
+    for case in 0..5usize {
+        splits(&rt, rt.alloc(), case)?;
+    }
+    Ok(())
+}
+
+#[test]
+fn lets_an_empty_root_leaf_go(rt: HostRuntime) {
+    for case in 0..2usize {
+        let (mut raw, l) = one(&rt, rt.alloc(), &[]);
+        let from = [before(l), at(l, 0)];
+        let answer = rebalanced(&rt, &mut raw, l, from[case]);
+        assert_eq!(rt; answer, Address::nowhere(), "{case}");
+        assert_eq!(rt; (raw.root_id(), raw.node_count(), raw.len()), (None, 0, 77));
+    }
+}
