@@ -11,20 +11,16 @@ use Rattle.btree_shape.specs.Shape.{one, times_listed}
 use Rattle.btree_shape.specs.Step.{Adopts}
 use Rattle.btree_shape.specs.TreeState.{views}
 use Rattle.btree_shape.specs.WellFormed.{times_used}
-use Rattle.btree_shape.proofs.Frames.{one-self, one-zero, one-other}
-use Rattle.btree_shape.proofs.Numbers.{listed-append, same-or, zero-or}
+use Rattle.btree_shape.proofs.Frames.{one-zero, one-other}
+use Rattle.btree_shape.proofs.Numbers.{listed-append, same-or, used-mapped, zero-or}
 use Rattle.btree_balance.specs.Steps.{CanAdopt, SetsParent}
+use Rattle.btree_shape.proofs.Climbs.{get-times}
 use Rattle.btree_shape.proofs.Stores.{used-view}
 
 times-take : (n i : ℕ) (ids : List ℕ) → times_listed n (take i ids) ≤ times_listed n ids
 times-take n zero ids = omega arith
 times-take n (suc i) [] = omega arith
 times-take n (suc i) (id ∷ ids) = omega (arith, times-take n i ids)
-
-times-get : (i : ℕ) (ids : List ℕ) (id : ℕ) → slice_get ids i ≡ Some id → 0 < times_listed id ids
-times-get i [] id e = absurd (cc)
-times-get zero (x ∷ ids) id e = let s : x ≡ id = cc in rw s (omega (arith, one-self id))
-times-get (suc i) (x ∷ ids) id e = omega (arith, times-get i ids id e)
 
 take-next : (i : ℕ) (ids : List ℕ) (id : ℕ) → slice_get ids i ≡ Some id → take (suc i) ids ≡ take i ids ++ id ∷ []
 take-next i [] id e = absurd (cc)
@@ -33,10 +29,6 @@ take-next (suc i) (x ∷ ids) id e = ap (λ l. x ∷ l) (take-next i ids id e)
 
 take-more : (i : ℕ) (ids : List ℕ) (id : ℕ) → slice_get ids i ≡ Some id → take (i + 1) ids ≡ take i ids ++ id ∷ []
 take-more i ids id e = let n : i + 1 ≡ suc i = omega arith in rw n (take-next i ids id e)
-
-pub used-mapped : {A : Type 0} (f : View A → View A) (o : Option (View A)) → times_used (option_map f o) ≡ times_used o
-used-mapped f None = refl
-used-mapped f (Some v) = refl
 
 twice : {A : Type 0} (p : ℕ) (o : Option (View A)) → option_map (with_parent (Some p)) (option_map (with_parent (Some p)) o) ≡ option_map (with_parent (Some p)) o
 twice p None = refl
@@ -57,7 +49,7 @@ module _ {A : Type 0} (look : Look A) (id : ℕ) (can : CanAdopt look id) where
     module _ (child : ℕ) (is : slice_get children index ≡ Some child) where
       pub adoptee-used : 0 < times_used (now child)
       adoptee-used =
-          let used = can.children child (times-get index children child is) in
+          let used = can.children child (get-times children index child is) in
           elim (zero-or (times_listed child (take index children))) [
             | inl none ↦ rw (partly.kept child none) used
             | inr some ↦ rw (partly.moved child some, used-mapped (with_parent (Some id)) (look child)) used

@@ -2,7 +2,7 @@
 use Rattle.std.proofs.Common.{◌≡◌, ◌≢◌, ℕ, zero, suc, ◌<◌, ◌^◌, ◌-◌, ◌++◌, ◌∷◌, [], inl, inr, All, List, Some, None, IsSome, refl, sym, ap, subst, ◌∙◌, option_map, arith}
 use Rattle.std.specs.FinMap as map
 use Rattle.btree_store.specs.Content.{Content}
-use Rattle.btree_store.specs.ContentLaws.{get-insert_same, get-insert_other, is_remove}
+use Rattle.btree_store.specs.ContentLaws.{get-insert_other, get-insert_same, remove-insert}
 use Rattle.btree_balance.specs.Claimed.{EMPTY, with_claims, AreClaims, IsClaimed}
 use Rattle.btree_node.specs.Node.{view_of}
 use Rattle.btree_node.specs.declared.node.Node.{Node}
@@ -28,9 +28,6 @@ module _ {N : Type 0} (empty : N) where
   are-one_less nodes [] id a = (tt, a.0)
   are-one_less nodes (i ∷ ids) id a = let r = are-one_less (map.insert nodes i empty) ids id a.2 in ((a.0, a.1, r.0), r.1)
 
-  insert-remove : (m : Content N) (id : ℕ) (x : N) → map.get m id ≡ None → m ≡ map.remove (map.insert m id x) id
-  insert-remove m id x unused = is_remove (map.insert m id x) m id unused (λ q differs. sym (get-insert_other m id x q differs))
-
   pub record Back (base : Content N) (now : Content N) (ids : List ℕ) (id : ℕ) : Type 0 where
     pub used : IsSome (map.get now id)
     pub less : IsClaimed empty base (map.remove now id) ids
@@ -42,7 +39,7 @@ module _ {N : Type 0} (empty : N) where
       let is : now ≡ map.insert (with_claims empty base ids) id empty = c.after ∙ (ap (with_claims empty base) e ∙ with-one_more base ids id) in
       record {
         used = rw (is, get-insert_same (with_claims empty base ids) id empty) refl;
-        less = record { claims = r.0; after = ap (λ m. map.remove m id) is ∙ sym (insert-remove (with_claims empty base ids) id empty r.1) };
+        less = record { claims = r.0; after = ap (λ m. map.remove m id) is ∙ remove-insert (with_claims empty base ids) id empty r.1 };
       }
 
   pub one-more : (base now : Content N) (ids : List ℕ) (id : ℕ) → IsClaimed empty base now ids → map.get now id ≡ None → id < 2 ^ 64 - 1

@@ -19,10 +19,9 @@ use Rattle.btree_shape.proofs.Claims.{push-spare}
 use Rattle.btree_shape.proofs.Climbs.{get-times}
 use Rattle.btree_shape.proofs.Frames.{one-self}
 use Rattle.btree_shape.proofs.Growth.{UpTo, child-apart, child-used, grows-done, grows-node, grows-spare, grows-used, new-root, root-spare, spare-apart, spare-used, to-parent}
-use Rattle.btree_shape.proofs.Numbers.{less-or, same-or, times-has, used-low, used-one, zero-or}
+use Rattle.btree_shape.proofs.Numbers.{less-or, none-listed, same-or, times-has, used-low, used-mapped, used-one, zero-or}
 use Rattle.btree_shape.proofs.Sizes.{view-most, view-size}
 use Rattle.btree_balance.specs.Steps.{AreSplit, CanLift, CanRaise, CanSplitInto, IsSplitting, LeavesAt, Lifts}
-use Rattle.btree_balance.proofs.AdoptLemmas.{used-mapped}
 use Rattle.btree_balance.proofs.LiftLemmas.{one-more}
 use Rattle.btree_balance.proofs.OffsetLemmas.{grows-low}
 
@@ -33,10 +32,6 @@ all-listed P (x ∷ ids) all n some = elim (same-or n x) [
   | inl e ↦ subst P (sym e) (all 0 x (omega arith))
   | inr ne ↦ all-listed P ids (λ k d low. all (suc k) d (omega arith)) n (let o : one n x ≡ 0 = grind arith in omega arith)
 ]
-
-none-listed : (ids : List ℕ) → length ids ≡ 0 → (n : ℕ) → times_listed n ids ≡ 0
-none-listed [] none n = refl
-none-listed (x ∷ ids) none n = absurd (omega arith)
 
 pub back-some : {A : Type 0} (look : Look A) (o : Option ℕ) → IsSome o → IsBack look o
 back-some look None is = absurd (cc)

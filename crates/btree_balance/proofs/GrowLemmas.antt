@@ -6,14 +6,8 @@ use Rattle.btree_shape.specs.Shape.{times_listed}
 use Rattle.btree_shape.specs.Step.{Adopts, Puts, Raises, Splits}
 use Rattle.btree_shape.specs.WellFormed.{times_used}
 use Rattle.btree_shape.proofs.Growth.{right-children, splits-made}
-use Rattle.btree_shape.proofs.Numbers.{same-or}
+use Rattle.btree_shape.proofs.Numbers.{same-or, used-same, used-there}
 use Rattle.btree_balance.specs.Steps.{CanAdopt, CanRaise, CanSplitInto, Halves, LeavesAt, SetsParent}
-
-used-there : {A : Type 0} (look : Look A) (n : ℕ) (v : View A) → look n ≡ Some v → 0 < times_used (look n)
-used-there look n v e = rw e (omega arith)
-
-used-same : {A : Type 0} (look new : Look A) (n : ℕ) → new n ≡ look n → 0 < times_used (look n) → 0 < times_used (new n)
-used-same look new n e u = rw e u
 
 module _ {A : Type 0} (look mid : Look A) (id right count : ℕ) (median : A) (part : View A) (can : CanSplitInto look id right) (half : Halves look mid id count median part) where
   parts : IsSplit can.can.node median half.left part

@@ -3,6 +3,7 @@ pub mod ClaimLemmas
 pub mod ClimbLemmas
 pub mod CountLemmas
 pub mod GrowLemmas
+pub mod ItemLemmas
 pub mod LendLemmas
 pub mod LiftLemmas
 pub mod MendLemmas

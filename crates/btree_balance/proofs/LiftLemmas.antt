@@ -1,5 +1,5 @@
 -- The index of a child in its parent, which takes an item and a child there.
-use Rattle.std.proofs.Common.{◌≡◌, ◌≢◌, ℕ, ◌+◌, ◌<◌, ◌≤◌, ◌==◌, true, false, inl, inr, List, [], ◌∷◌, length, get_or, slice_get, Option, Some, None, IsSome, IsTrue, refl, sym, ap, subst, ◌∙◌, option_map, arith}
+use Rattle.std.proofs.Common.{◌≡◌, ℕ, ◌+◌, ◌<◌, ◌≤◌, ◌==◌, true, inl, inr, List, [], ◌∷◌, length, get_or, slice_get, Option, Some, None, IsSome, IsTrue, refl, sym, ap, subst, ◌∙◌, option_map, arith}
 use Rattle.std.proofs.lemmas.Bool.Decides.{nat_tests}
 use Rattle.std.proofs.lemmas.Iterator.Adapters.{position_from-zero}
 use Rattle.std.proofs.lemmas.List.{length-map}
@@ -12,28 +12,21 @@ use Rattle.btree_node.specs.declared.node.Node.{Node}
 use Rattle.btree_view.specs.Edits.{is_internal, with_item}
 use Rattle.btree_node.specs.Node.{view_of}
 use Rattle.btree_view.specs.View.{View, leaf, internal, children_of, most_of, size_of}
-use Rattle.btree_shape.specs.Shape.{one, times_listed}
+use Rattle.btree_shape.specs.Shape.{times_listed}
 use Rattle.btree_shape.specs.TreeState.{views}
 use Rattle.btree_shape.proofs.Numbers.{same-or}
 use Rattle.btree_balance.specs.Steps.{AddsItem, CanLift, CanTake, Lifts}
-
-equal-yes : (m n : ℕ) → m ≡ n → (m == n) ≡ true
-equal-yes m n e = grind (arith, nat_tests)
-
-equal-no : (m n : ℕ) → m ≢ n → (m == n) ≡ false
-equal-no m n ne = grind (arith, nat_tests)
+use Rattle.btree_shape.proofs.Frames.{one-other}
+use Rattle.btree_shape.proofs.Moves.{other-test, same-test}
 
 are-equal : (m n : ℕ) → (m == n) ≡ true → m ≡ n
 are-equal m n e = grind (arith, nat_tests)
 
-one-other : (n id : ℕ) → n ≢ id → one n id ≡ 0
-one-other n id ne = grind arith
-
 index-from : (id n : ℕ) (ids : List ℕ) → 0 < times_listed id ids → IsSome (position_from (λ child. child == id) n ids)
 index-from id n [] some = absurd (omega arith)
 index-from id n (x ∷ ids) some = elim (same-or x id) [
-  | inl e ↦ rw (equal-yes x id e) refl
-  | inr ne ↦ rw (equal-no x id ne) (index-from id (n + 1) ids (omega (arith, one-other id x (λ e. ne (sym e)))))
+  | inl e ↦ rw (same-test x id e) refl
+  | inr ne ↦ rw (other-test x id ne) (index-from id (n + 1) ids (omega (arith, one-other id x (λ e. ne (sym e)))))
 ]
 
 pub has-index : (id : ℕ) (ids : List ℕ) (o : Option ℕ) → 0 < times_listed id ids → o ≡ position (λ child. child == id) ids → IsSome o

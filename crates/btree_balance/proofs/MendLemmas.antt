@@ -1,5 +1,5 @@
 -- Single nodes of a store in the steps that mend, as definitions see them.
-use Rattle.std.proofs.Common.{◌≡◌, ◌≢◌, ℕ, zero, suc, inl, inr, ◌+◌, ◌<◌, ◌≤◌, ◌^◌, ◌-◌, ◌==◌, false, List, [], ◌∷◌, ◌++◌, length, map, set, Option, Some, None, IfSome, IsSomeAnd, IsTrue, refl, sym, ap, subst, ◌∙◌, option_map, slice_get, arith}
+use Rattle.std.proofs.Common.{◌≡◌, ℕ, suc, inl, inr, ◌+◌, ◌<◌, ◌≤◌, ◌^◌, ◌-◌, List, [], ◌∷◌, ◌++◌, length, map, set, Option, Some, None, IfSome, IsSomeAnd, IsTrue, refl, sym, ap, subst, ◌∙◌, option_map, slice_get, arith}
 use Rattle.std.proofs.lemmas.List.{length-map, length-set, map-append}
 use Rattle.std.proofs.lemmas.Slice.Zip.{firsts-zip, seconds-zip}
 use Rattle.std.specs.FinMap as nodes_map
@@ -21,13 +21,10 @@ use Rattle.btree_shape.proofs.Numbers.{same-or}
 use Rattle.btree_shape.specs.TreeState.{views}
 use Rattle.btree_balance.specs.Mend.{CanLend, CanRelease, ChangesItem, ClearsParent, GainsAll, GainsFirst, GainsLast, HasBetween, HasRoomFor, HasRoomForAll, LosesBetween, LosesFirst, LosesLast}
 use Rattle.btree_balance.specs.Steps.{SetsParent}
+use Rattle.btree_shape.proofs.Moves.{other-test}
 use Rattle.btree_shape.proofs.Stores.{most-few, puts, view-at}
-
-map-remove : {X Y : Type 0} (f : X → Y) (xs : List X) (i : ℕ) → map f (remove xs i) ≡ remove (map f xs) i
-map-remove f [] zero = refl
-map-remove f [] (suc i) = refl
-map-remove f (x ∷ xs) zero = refl
-map-remove f (x ∷ xs) (suc i) = ap (λ l. f x ∷ l) (map-remove f xs i)
+use Rattle.btree_balance.proofs.LiftLemmas.{one-more}
+use Rattle.btree_internal.proofs.BranchLemmas.{map_remove}
 
 -- what stands in a node's new place, in items and children
 module _ {A : Type 0} where
@@ -75,8 +72,8 @@ module _ {A : Type 0} where
   remade-without i (internal p u bs) inner = record {
     kind = refl;
     parent = refl;
-    items_are = map-remove (λ b. b.0) bs i;
-    children_are = ap (λ l. u ∷ l) (map-remove (λ b. b.1) bs i);
+    items_are = map_remove (λ b. b.0) bs i;
+    children_are = ap (λ l. u ∷ l) (map_remove (λ b. b.1) bs i);
   }
 
   pub remade-joined : (x : A) (v w : View A) → is_internal v ≡ is_internal w → IsRemade v (joined v x w) (items_of v ++ x ∷ items_of w) (children_of v ++ children_of w)
@@ -94,17 +91,9 @@ module _ {A : Type 0} where
   same-size p (leaf q xs) = refl
   same-size p (internal q u bs) = refl
 
-  -- one child more than items
-  children-many : (v : View A) → IsTrue (is_internal v) → (length (children_of v) ≡ size_of v + 1) × (most_of v ≡ 7)
-  children-many (leaf parent items) inner = absurd (cc)
-  children-many (internal parent first bs) inner = (let a = length-map {A = A × ℕ} {B = A} bs (λ b. b.0) in let b = length-map {A = A × ℕ} {B = ℕ} bs (λ b. b.1) in omega arith, refl)
-
 -- an index that is small is an offset
-index-is : (index : ℕ) (o : Option ℕ) → index < 2 ^ 64 - 1 → o ≡ index_offset index → o ≡ Some index
-index-is index o low e = e ∙ rw (equal-no index (2 ^ 64 - 1) (omega arith)) refl
-  where
-    equal-no : (m k : ℕ) → m ≢ k → (m == k) ≡ false
-    equal-no m k ne = grind arith
+pub index-is : (index : ℕ) (o : Option ℕ) → index < 2 ^ 64 - 1 → o ≡ index_offset index → o ≡ Some index
+index-is index o low e = e ∙ rw (other-test index (2 ^ 64 - 1) (omega arith)) refl
 
 module _ {K V : Type 0} (nodes : Content (Node K V)) (id : ℕ) (node : Node K V) (at : Some node ≡ nodes_map.get nodes id) where
   here-at : views nodes id ≡ Some (view_of node)
@@ -133,7 +122,7 @@ module _ {K V : Type 0} (nodes : Content (Node K V)) (id : ℕ) (node : Node K V
     next-small = omega (arith, small)
 
     pub next-within : (next : ℕ) → next ≡ index + 1 → next < length (children_of (view_of node))
-    next-within next e = let k = (children-many can.node can.inner).0 in rw same (omega (arith, can.within))
+    next-within next e = let k = (one-more can.node can.inner).0 in rw same (omega (arith, can.within))
 
     pub changes-item : (new : Content (Node K V)) (after : Node K V) (o : Option ℕ) → o ≡ index_offset index → (old x : K × V)
         → Some old ≡ option_and_then (slice_get (items_of (view_of node))) o → IfSome o (λ i. view_of after ≡ with_other_item i x (view_of node))

@@ -12,31 +12,23 @@ use Rattle.btree_shape.specs.Growing.{IsGrown}
 use Rattle.btree_shape.specs.Mend.{Releases}
 use Rattle.btree_shape.specs.Moved.{first_in, moved_by_emptying, moved_by_release}
 use Rattle.btree_shape.specs.Need.{levels_above}
-use Rattle.btree_shape.specs.Shape.{one, times_listed}
+use Rattle.btree_shape.specs.Shape.{times_listed}
 use Rattle.btree_shape.specs.Shrinking.{IsShrinking}
 use Rattle.btree_shape.specs.Step.{Loses}
 use Rattle.btree_shape.specs.WellFormed.{times_used}
 use Rattle.btree_shape.proofs.Backs.{release-back}
-use Rattle.btree_shape.proofs.Frames.{one-other, one-self, total-append}
-use Rattle.btree_shape.proofs.Numbers.{same-or, used-one}
-use Rattle.btree_shape.proofs.Shrinks.{shrinks-done, shrinks-done-root, shrinks-node, shrinks-used, to-child, to-nothing}
+use Rattle.btree_shape.proofs.Frames.{one-other, one-self}
+use Rattle.btree_shape.proofs.Numbers.{listed-append, same-or, used-mapped, used-one, used-there}
+use Rattle.btree_shape.proofs.Shrinks.{shrinks-done, shrinks-done-root, shrinks-used, to-child, to-nothing}
 use Rattle.btree_balance.specs.Mend.{CanRelease}
 use Rattle.btree_balance.specs.Shrink.{AreMended, IsFollowed, IsMending, MendsAbove, MendsHere, Rests}
 use Rattle.btree_balance.specs.Steps.{LeavesAt}
-use Rattle.btree_balance.proofs.AdoptLemmas.{used-mapped}
 use Rattle.btree_balance.proofs.ClimbLemmas.{back-some, some-back}
+use Rattle.btree_balance.proofs.LendLemmas.{followed-node, followed-under}
 use Rattle.btree_balance.proofs.OffsetLemmas.{shrinks-low}
-
-listed-both : (n : ℕ) (xs ys : List ℕ) → times_listed n (xs ++ ys) ≡ times_listed n xs + times_listed n ys
-listed-both n xs ys = total-append (λ i. one n i) xs ys
+use Rattle.btree_balance.proofs.StepLemmas.{size-at}
 
 module _ {A : Type 0} where
-  sized : (look : Look A) (id count : ℕ) (v : View A) → look id ≡ Some v → LeavesAt look id count → size_of v ≡ count
-  sized look id count v e l = let q : Some (size_of v) ≡ Some count = sym (ap (option_map size_of) e) ∙ l in cc
-
-  there : (look : Look A) (id : ℕ) (v : View A) → look id ≡ Some v → 0 < times_used (look id)
-  there look id v e = rw e (omega arith)
-
   first-inner : (v : View A) (child : ℕ) → first_in v ≡ Some child → IsTrue (is_internal v)
   first-inner (leaf p xs) child e = absurd (cc)
   first-inner (internal p u bs) child e = refl
@@ -58,14 +50,14 @@ module _ {A : Type 0} (look : Look A) (root : Option ℕ) (id : ℕ) (a : Addres
   abbrev f : IsFollowed look id a
   f = s.followed
 
-  at-node : (v : View A) × (look id ≡ Some v)
-  at-node = (_, shrinks-node A look f.root f.xs id f.asked a f.place f.given f.bound f.shrinking)
+  abbrev at-node : (v : View A) × (look id ≡ Some v)
+  at-node = followed-node look id a f
 
   up : parent_of at-node.0 ≡ None
-  up = let q : Some (parent_of at-node.0) ≡ Some None = sym (ap (option_map parent_of) at-node.1) ∙ top in cc
+  up = followed-under look id a f None top
 
   pub root-there : 0 < times_used (look id)
-  root-there = there look id at-node.0 at-node.1
+  root-there = used-there look id at-node.0 at-node.1
 
   pub root-rests : 0 < count → AreMended look look root root id a a
   root-rests some = record {
@@ -75,12 +67,12 @@ module _ {A : Type 0} (look : Look A) (root : Option ℕ) (id : ℕ) (a : Addres
         let z : given ≡ given + 0 = omega arith in
         subst (λ m. Rests look root xs asked a place m bound) z
         (same-known look look root t xs asked a place given bound is
-        (shrinks-done-root A look t xs id asked a place given bound g at-node.0 at-node.1 up (let e = sized look id count at-node.0 at-node.1 counted in omega arith)));
+        (shrinks-done-root A look t xs id asked a place given bound g at-node.0 at-node.1 up (let e = size-at look id count at-node.0 at-node.1 counted in omega arith)));
   }
 
   module _ (none : count ≤ 0) where
     empty : size_of at-node.0 ≡ 0
-    empty = let e = sized look id count at-node.0 at-node.1 counted in omega arith
+    empty = let e = size-at look id count at-node.0 at-node.1 counted in omega arith
 
     module _ (child : ℕ) (first : option_map first_in (look id) ≡ Some (Some child)) where
       first-here : first_in at-node.0 ≡ Some child
@@ -97,7 +89,7 @@ module _ {A : Type 0} (look : Look A) (root : Option ℕ) (id : ℕ) (a : Addres
             node = at-node.0;
             here = at-node.1;
             only = subst (λ k. children_of at-node.0 ≡ k ∷ []) same o.only;
-            used = subst (λ k. 0 < times_used (look k)) same (there look o.child o.node o.here);
+            used = subst (λ k. 0 < times_used (look k)) same (used-there look o.child o.node o.here);
             apart = subst (λ k. k ≢ id) same o.apart;
           }
 
@@ -114,7 +106,7 @@ module _ {A : Type 0} (look : Look A) (root : Option ℕ) (id : ℕ) (a : Addres
         mended = λ t xs asked place given bound is g.
             let o = to-child A look t xs id asked a place given bound g at-node.0 at-node.1 up empty inner in
             let same = first-only at-node.0 child o.child first-here o.only in
-            let size : size_of o.node ≡ held = sized look child held o.node (subst (λ k. look k ≡ Some o.node) same o.here) holds in
+            let size : size_of o.node ≡ held = size-at look child held o.node (subst (λ k. look k ≡ Some o.node) same o.here) holds in
             let n : suc given ≡ given + 1 = omega arith in
             subst (λ m. IsGrown A new child xs asked (moved_by_release id child held a) place m bound) n
             (subst (λ m. IsGrown A new child xs asked (moved_by_release id child m a) place (suc given) bound) size
@@ -209,7 +201,7 @@ module _ {A : Type 0} (old now : Look A) (root : Option ℕ) (start id : ℕ) (a
   pub mends-root : (new : Look A) (new_root : Option ℕ) (d : Address) → AreMended now new root new_root id b d → AreMended old new root new_root start a d
   mends-root new new_root d m = record {
     gone = c.gone ++ m.gone;
-    counted = λ n. let k = c.counted n in let u = m.counted n in let l = listed-both n c.gone m.gone in omega arith;
+    counted = λ n. let k = c.counted n in let u = m.counted n in let l = listed-append n c.gone m.gone in omega arith;
     mended = λ top xs asked place given bound is g.
         let l = length-append c.gone m.gone in
         let e : (given + length c.gone) + length m.gone ≡ given + length (c.gone ++ m.gone) = omega arith in
@@ -222,7 +214,7 @@ module _ {A : Type 0} (old now : Look A) (root : Option ℕ) (start id : ℕ) (a
     pub mends-above : (IsSome b.offset → IsSome d.offset) → Mends A old new root start p a d
     mends-above back = record {
       gone = c.gone ++ m.gone ∷ [];
-      counted = λ n. let k = c.counted n in let u = m.used n in let l = listed-both n c.gone (m.gone ∷ []) in omega arith;
+      counted = λ n. let k = c.counted n in let u = m.used n in let l = listed-append n c.gone (m.gone ∷ []) in omega arith;
       next = λ top xs asked place given bound is g.
           let l = length-append c.gone (m.gone ∷ []) in
           let e : suc (given + length c.gone) ≡ given + length (c.gone ++ m.gone ∷ []) = omega arith in

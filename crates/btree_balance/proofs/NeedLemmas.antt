@@ -1,5 +1,5 @@
 -- The count of the nodes that an insertion takes, step by step.
-use Rattle.std.proofs.Common.{◌≡◌, ◌↔◌, IsTrue, true, false, leb, ◌==◌, if◌then◌else◌, ℕ, zero, suc, ◌+◌, ◌<◌, ◌≤◌, ◌^◌, inl, inr, List, [], ◌∷◌, Option, Some, None, IsSome, length, option_map, length-append, refl, sym, ap, subst, ◌∙◌, arith}
+use Rattle.std.proofs.Common.{◌≡◌, ◌↔◌, IsTrue, true, false, leb, ℕ, zero, suc, ◌+◌, ◌<◌, ◌≤◌, ◌^◌, inl, inr, List, [], ◌∷◌, Option, Some, None, IsSome, length, length-append, refl, sym, ap, subst, arith}
 use Rattle.std.proofs.lemmas.Bool.Decides.{nat_tests}
 use Rattle.std.proofs.lemmas.List.{length-map}
 use Rattle.std.proofs.Math.Nat.{pow-le-pow_right}
@@ -12,8 +12,7 @@ use Rattle.btree_internal.specs.Internal.{Internal as InternalParts}
 use Rattle.btree_leaf.specs.Leaf.{Leaf as LeafParts}
 use Rattle.btree_node.specs.Node.{view_of}
 use Rattle.btree_view.specs.View.{Look, most_of, size_of}
-use Rattle.std.specs.Prelude.{nat_lt}
-use Rattle.btree_shape.specs.Need.{IsClimbing, climb, climbed, need, need_from, needed, wanted}
+use Rattle.btree_shape.specs.Need.{IsClimbing, climb, climbed, need, wanted}
 use Rattle.btree_shape.specs.Node.{IsNode}
 use Rattle.btree_shape.specs.Shape.{IsFilled, IsFilledBelow, Shape, count_at, items_under, later_items, most_at}
 use Rattle.btree_shape.specs.TreeState.{views, pairs_under, IsSound}
@@ -24,12 +23,13 @@ use Rattle.btree_shape.proofs.Density.{dense}
 use Rattle.btree_shape.proofs.Frames.{fill-count}
 use Rattle.btree_shape.proofs.Listed.{well-pairs}
 use Rattle.btree_shape.proofs.Climbs.{depth-fits}
-use Rattle.btree_shape.proofs.Needs.{full-no, full-yes, need-node}
-use Rattle.btree_shape.proofs.Overflows.{climb-is, climbing-start}
+use Rattle.btree_shape.proofs.Needs.{less-no, less-yes}
+use Rattle.btree_shape.proofs.Overflows.{climb-node, climbing-start}
 use Rattle.btree_shape.proofs.Standing.{whole-standing}
 use Rattle.btree_balance.specs.Steps.{IsCounting}
-use Rattle.btree_shape.proofs.Numbers.{less-or, same-or}
+use Rattle.btree_shape.proofs.Numbers.{less-or}
 use Rattle.btree_shape.proofs.Rooted.{node-at}
+use Rattle.btree_shape.proofs.Stores.{some-used}
 use Rattle.btree_shape.proofs.Wholes.{close}
 
 -- the test of a node
@@ -87,20 +87,20 @@ module _ (A : Type 0) where
   wanted-few h top = omega arith
   wanted-few h (under f c) =
       let r = wanted-few (suc h) c in
-      elim (same-or (frame_count f) 7) [
-        | inl same ↦ let q = full-yes (frame_count f) 7 (wanted c) 0 same in omega arith
-        | inr other ↦ let q = full-no (frame_count f) 7 (wanted c) 0 other in omega arith
+      elim (less-or (frame_count f) 7) [
+        | inl low ↦ let q = less-yes (frame_count f) 7 0 (wanted c) low in omega arith
+        | inr other ↦
+            let full : 7 ≤ frame_count f = elim other [ inl same ↦ omega arith | inr more ↦ omega arith ] in
+            let q = less-no (frame_count f) 7 0 (wanted c) full in omega arith
       ]
 
-  needed-few : (h : ℕ) (c : Above A h) (n : ℕ) → needed c n ≤ depth c + 2
-  needed-few h c n = elim (same-or n (most_at h)) [
-    | inl same ↦ let q = full-yes n (most_at h) (wanted c) 0 same in omega (arith, wanted-few h c)
-    | inr other ↦ let q = full-no n (most_at h) (wanted c) 0 other in omega arith
+  pub climbed-few : (h : ℕ) (c : Above A h) (n : ℕ) → climbed c n ≤ depth c + 2
+  climbed-few h c n = elim (less-or n (most_at h)) [
+    | inl low ↦ let q = less-yes n (most_at h) 0 (wanted c) low in omega arith
+    | inr other ↦
+        let full : most_at h ≤ n = elim other [ inl same ↦ omega arith | inr more ↦ omega arith ] in
+        let q = less-no n (most_at h) 0 (wanted c) full in omega (arith, wanted-few h c)
   ]
-
--- a node at rest has no item too many
-climbed-is : (k most w : ℕ) → k ≤ most → (if nat_lt k most then 0 else w) ≡ (if k == most then w else 0)
-climbed-is k most w l = grind (arith, nat_tests)
 
 module _ {K V : Type 0} (cmp : K → K → Ordering) (nodes : Content (Node K V)) (root : Option ℕ) (len start : ℕ) (sound : IsSound cmp nodes root len) (low : len < 2 ^ 64) (used : IsSome (map.get nodes start)) where
   abbrev sight : Look (K × V)
@@ -113,11 +113,7 @@ module _ {K V : Type 0} (cmp : K → K → Ordering) (nodes : Content (Node K V)
   well = well-pairs cmp sight root len sound.pairs sound.well
 
   start-used : 0 < times_used (sight start)
-  start-used = at (map.get nodes start) used
-    where
-      at : (o : Option (Node K V)) → IsSome o → 0 < times_used (option_map view_of o)
-      at None is = absurd (cc)
-      at (Some node) is = omega arith
+  start-used = some-used (map.get nodes start) used
 
   root-is : (r : Option ℕ) → IsFormed sight r listed → (number : ℕ) × (r ≡ Some number)
   root-is None f = absurd (let e = f.0 start in let u = start-used in let z : times_used (sight start) ≡ 0 = ap times_used e in omega arith)
@@ -126,29 +122,19 @@ module _ {K V : Type 0} (cmp : K → K → Ordering) (nodes : Content (Node K V)
   first : (number : ℕ) → root ≡ Some number → IsNode (K × V) sight number listed start
   first number is = node-at (K × V) sight number listed (subst (λ r. IsFormed sight r listed) is well.formed) start start-used
 
-  all-few : need_from sight (length listed) start ≤ 33
+  all-few : climb sight (length listed) start ≤ 33
   all-few =
       let r = root-is root well.formed in
       let n = first r.0 r.1 in
-      let a = need-node (K × V) sight r.0 listed start n in
-      let b = needed-few (K × V) n.seen.height n.seen.way (count_at (K × V) n.seen.height n.seen.shape) in
+      let a = climb-node (K × V) sight r.0 listed start n in
+      let b = climbed-few (K × V) n.seen.height n.seen.way (count_at (K × V) n.seen.height n.seen.shape) in
       let k = well.counted in
       let d = levels-above-few (K × V) sight r.0 listed n.seen.height n.seen.way n.seen.shape n.seen.whole n.sized (omega arith) in
       omega arith
 
-  -- the same count, as that of the splits' nodes
+  -- there is a root, since a node is used
   pub need-climb : climb sight len start ≡ need sight root len start
-  need-climb =
-      let r = root-is root well.formed in
-      let n = first r.0 r.1 in
-      let k : length listed ≡ len = sym well.counted in
-      let a = need-node (K × V) sight r.0 listed start n in
-      let d = depth-fits (K × V) sight r.0 listed n.seen.height n.seen.way n.seen.shape n.seen.whole n.sized in
-      let c = climb-is (K × V) sight n.seen.height (length listed) n.seen.way n.seen.shape d n.seen.whole.above n.seen.whole.inner n.seen.whole.filled in
-      let e = climbed-is (count_at (K × V) n.seen.height n.seen.shape) (most_at n.seen.height) (wanted n.seen.way) n.sized.1 in
-      let c2 : climb sight (length listed) start ≡ climbed n.seen.way (count_at (K × V) n.seen.height n.seen.shape) =
-      subst (λ i. climb sight (length listed) i ≡ climbed n.seen.way (count_at (K × V) n.seen.height n.seen.shape)) n.seen.here c in
-      ap (λ m. climb sight m start) (sym k) ∙ (c2 ∙ (e ∙ (sym a ∙ (ap (λ m. need_from sight m start) k ∙ sym (ap (λ t. need sight t len start) r.1)))))
+  need-climb = let r = root-is root well.formed in sym (ap (λ t. need sight t len start) r.1)
 
   pub need-counting : IsCounting sight len start start 0
   need-counting =
@@ -156,11 +142,9 @@ module _ {K V : Type 0} (cmp : K → K → Ordering) (nodes : Content (Node K V)
       let n = first r.0 r.1 in
       let k : length listed ≡ len = sym well.counted in
       let f = all-few in
-      let e = need-climb in
-      let q : need sight root len start ≡ need_from sight (length listed) start =
-      ap (λ t. need sight t len start) r.1 ∙ ap (λ m. need_from sight m start) (sym k) in
+      let q : climb sight len start ≡ climb sight (length listed) start = ap (λ m. climb sight m start) (sym k) in
       let d = depth-fits (K × V) sight r.0 listed n.seen.height n.seen.way n.seen.shape n.seen.whole n.sized in
-      let s = climbing-start (K × V) sight r.0 listed len n.seen.height n.seen.way n.seen.shape (whole-standing (K × V) sight [] r.0 listed n.seen.height n.seen.way n.seen.shape n.seen.whole) n.seen.whole.filled (omega arith) in
+      let s = climbing-start (K × V) sight r.0 listed len n.seen.height n.seen.way n.seen.shape (whole-standing (K × V) sight [] r.0 listed n.seen.height n.seen.way n.seen.shape n.seen.whole) (omega arith) in
       record {
         root = r.0;
         xs = listed;

@@ -3,33 +3,19 @@ use Rattle.std.proofs.Common.{◌≡◌, ◌≢◌, ℕ, ◌+◌, ◌<◌, ◌�
 use Rattle.btree_view.specs.Edits.{HasChildFor, is_internal, joined, pushed_left, pushed_right, with_other_item, without}
 use Rattle.btree_view.specs.View.{Look, View, children_in, children_of, items_of}
 use Rattle.btree_shape.specs.Mend.{IsRemade, Merges, RotatesLeft, RotatesRight, as_list}
-use Rattle.btree_shape.specs.Shape.{one, times_listed}
+use Rattle.btree_shape.specs.Shape.{times_listed}
 use Rattle.btree_shape.specs.Step.{Adopts, Loses, Puts}
 use Rattle.btree_shape.specs.WellFormed.{times_used}
-use Rattle.btree_shape.proofs.Frames.{one-self, total-append}
-use Rattle.btree_shape.proofs.Lent.{some-is}
-use Rattle.btree_shape.proofs.Numbers.{zero-or}
+use Rattle.btree_shape.proofs.Frames.{one-self}
+use Rattle.btree_shape.proofs.Numbers.{listed-append, same-node, used-same, used-there, zero-or}
 use Rattle.btree_shape.proofs.Written.{left-written, merge-written, right-written}
 use Rattle.btree_balance.specs.Mend.{AreNeighbours, CanMerge, CanRotateLeft, CanRotateRight, ChangesItem, GainsAll, GainsFirst, GainsLast, HasBetween, HasRoomFor, HasRoomForAll, LosesBetween, LosesFirst, LosesLast}
 use Rattle.btree_balance.specs.Steps.{CanAdopt}
 use Rattle.btree_balance.proofs.MendLemmas.{kind-left, kind-right, remade-joined, remade-left, remade-other, remade-right, remade-without}
 
-listed-append : (n : ℕ) (xs ys : List ℕ) → times_listed n (xs ++ ys) ≡ times_listed n xs + times_listed n ys
-listed-append n xs ys = total-append (λ i. one n i) xs ys
-
 one-child : (child : Option ℕ) (P : ℕ → Type 0) → ((n : ℕ) → 0 < times_listed n (as_list child) → P n) → IfSome child P
 one-child None P all = tt
 one-child (Some n) P all = all n (omega (arith, one-self n))
-
-module _ {A : Type 0} where
-  used-same : (look new : Look A) (n : ℕ) → new n ≡ look n → 0 < times_used (look n) → 0 < times_used (new n)
-  used-same look new n e u = rw e u
-
-  used-there : (look : Look A) (n : ℕ) (v : View A) → look n ≡ Some v → 0 < times_used (look n)
-  used-there look n v e = rw e (omega arith)
-
-  same-node : (look : Look A) (id : ℕ) (v w : View A) → look id ≡ Some v → look id ≡ Some w → v ≡ w
-  same-node look id v w e f = some-is v w (sym e ∙ f)
 
 -- what two neighbours have in common
 module _ {A : Type 0} (look : Look A) (parent index left right : ℕ) (pair : AreNeighbours look parent index left right) where

@@ -1,10 +1,10 @@
 //! One step of a climb that mends nodes with too few items, between two neighbours, with an address that is followed.
-ghost use Rattle.std.specs.Prelude.{◌≡◌, ◌<◌, ◌≤◌, IfSome, IsSome, Some, option_map};
+ghost use Rattle.std.specs.Prelude.{◌≡◌, ℕ, ◌<◌, ◌≤◌, IfSome, IsSome, Some, option_map};
 ghost use Rattle.std.specs.FinMap as map;
 ghost use Rattle.btree_shape.specs.Moved.{first_in};
 ghost use Rattle.btree_shape.specs.TreeState.{views};
 ghost use Rattle.btree_balance.specs.Mend.{CanLend};
-ghost use Rattle.btree_balance.specs.Shrink.{AreBeside, AreEven, AreJoined, HaveFew, IsShort};
+ghost use Rattle.btree_balance.specs.Shrink.{AreBeside, HaveFew, IsShort, MendsAbove, MendsHere};
 ghost use Rattle.btree_balance.specs.Steps.{LeavesAt};
 
 use crate::mend::{merge, rotate_left, rotate_right};
@@ -35,12 +35,12 @@ pub(crate) fn lend_left<K: Drop, V: Drop, C: SlabMut<Node<K, V>>>(
     addr: Address,
 ) -> Address
     requires fits { C.Fits }
-    requires beside { AreBeside (views (C.content nodes.old)) parent index left right addr }
+    requires beside { AreBeside (views (C.content nodes.old)) parent index left right left addr }
     requires short { IsShort (views (C.content nodes.old)) left }
     requires lender { CanLend (views (C.content nodes.old)) right }
     requires count { LeavesAt (views (C.content nodes.old)) left count }
     requires number { left < usize.MAX }
-    ensures even { AreEven (views (C.content nodes.old)) (views (C.content nodes.new)) parent index left right addr result }
+    ensures even { MendsHere (views (C.content nodes.old)) (views (C.content nodes.new)) left addr result }
     ensures uncounted { C.refusals nodes.new ≡ C.refusals nodes.old }
     ensures back { IsSome addr.offset → IsSome result.offset }
 {
@@ -61,13 +61,13 @@ pub(crate) fn lend_right<K: Drop, V: Drop, C: SlabMut<Node<K, V>>>(
     addr: Address,
 ) -> Address
     requires fits { C.Fits }
-    requires beside { AreBeside (views (C.content nodes.old)) parent index left right addr }
+    requires beside { AreBeside (views (C.content nodes.old)) parent index left right right addr }
     requires short { IsShort (views (C.content nodes.old)) right }
     requires lender { CanLend (views (C.content nodes.old)) left }
     requires count { LeavesAt (views (C.content nodes.old)) left count }
     requires low { IfSome addr.offset (λ n. n ≤ 9) }
     requires number { right < usize.MAX }
-    ensures even { AreEven (views (C.content nodes.old)) (views (C.content nodes.new)) parent index left right addr result }
+    ensures even { MendsHere (views (C.content nodes.old)) (views (C.content nodes.new)) right addr result }
     ensures uncounted { C.refusals nodes.new ≡ C.refusals nodes.old }
     ensures back { IsSome addr.offset → IsSome result.offset }
 {
@@ -88,11 +88,11 @@ pub(crate) fn join<K: Drop, V: Drop, C: SlabMut<Node<K, V>>>(
     addr: Address,
 ) -> Address
     requires fits { C.Fits }
-    requires beside { AreBeside (views (C.content nodes.old)) parent index left right addr }
+    requires beside { (id : ℕ) × AreBeside (views (C.content nodes.old)) parent index left right id addr }
     requires few { HaveFew (views (C.content nodes.old)) left right }
     requires count { LeavesAt (views (C.content nodes.old)) left count }
     requires low { IfSome addr.offset (λ n. n ≤ 9) }
-    ensures joined { AreJoined (views (C.content nodes.old)) (views (C.content nodes.new)) parent index left right addr result }
+    ensures joined { (id : ℕ) → AreBeside (views (C.content nodes.old)) parent index left right id addr → MendsAbove (views (C.content nodes.old)) (views (C.content nodes.new)) id parent addr result }
     ensures uncounted { C.refusals nodes.new ≡ C.refusals nodes.old }
     ensures back { IsSome addr.offset → IsSome result.offset }
 {

@@ -4,6 +4,7 @@
 mod claims;
 mod demand;
 mod grow;
+mod items;
 mod lend;
 mod mend;
 mod moved;
@@ -14,6 +15,7 @@ mod shrink;
 pub use claims::{Claims, claim, claim_one};
 pub use demand::{climb, is_full, need};
 pub use grow::split_up;
+pub use items::{branch_at, item_at};
 pub use nodes::{add_item, adopt, node_at, put};
 pub use parts::Parts;
 pub use shrink::mend_up;

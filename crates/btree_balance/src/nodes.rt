@@ -6,7 +6,7 @@ ghost use Rattle.btree_node.specs.Node.{view_of};
 ghost use Rattle.btree_view.specs.View.{children_in};
 ghost use Rattle.btree_shape.specs.Step.{Puts, Adopts};
 ghost use Rattle.btree_shape.specs.TreeState.{views};
-ghost use Rattle.btree_balance.specs.Steps.{CanAdopt, CanSplit, CanTake, SetsParent, AddsItem, Halves};
+ghost use Rattle.btree_balance.specs.Steps.{CanAdopt, CanTake, Overflows, SetsParent, AddsItem, Halves};
 
 use btree_item::{Item, Offset};
 use btree_node::Node;
@@ -80,7 +80,7 @@ pub(crate) fn split_node<K: Drop, V: Drop, C: SlabMut<Node<K, V>>>(
     id: usize,
 ) -> (usize, Item<K, V>, Node<K, V>)
     requires fits { C.Fits }
-    requires can { CanSplit (views (C.content nodes.old)) id }
+    requires over { Overflows (views (C.content nodes.old)) id }
     ensures after { Halves (views (C.content nodes.old)) (views (C.content nodes.new)) id result.0 result.1 (view_of result.2) }
     ensures uncounted { C.refusals nodes.new ≡ C.refusals nodes.old }
 {

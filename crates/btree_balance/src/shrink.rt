@@ -4,7 +4,7 @@ ghost use Rattle.std.specs.FinMap as map;
 ghost use Rattle.btree_view.specs.View.{parent_of};
 ghost use Rattle.btree_shape.specs.TreeState.{views};
 ghost use Rattle.btree_shape.specs.WellFormed.{times_used};
-ghost use Rattle.btree_balance.specs.Shrink.{AreBeside, AreEven, AreJoined, AreMended, AreSiblings, IsChild, IsFollowed, IsMending, IsMendingOf, IsShort, MendsAbove, MendsHere};
+ghost use Rattle.btree_balance.specs.Shrink.{AreBeside, AreMended, AreSiblings, IsChild, IsFollowed, IsMending, IsMendingOf, IsShort, MendsAbove, MendsHere};
 ghost use Rattle.btree_balance.specs.Steps.{LeavesAt};
 
 use crate::lend::{first_child, join, lend_left, lend_right};
@@ -61,12 +61,12 @@ fn mend_left<K: Drop, V: Drop, C: SlabMut<Node<K, V>>>(
     addr: Address,
 ) -> (Address, bool)
     requires fits { C.Fits }
-    requires beside { AreBeside (views (C.content nodes.old)) parent index left id addr }
+    requires beside { AreBeside (views (C.content nodes.old)) parent index left id id addr }
     requires short { IsShort (views (C.content nodes.old)) id }
     requires low { IfSome addr.offset (λ n. n ≤ 9) }
     requires number { id < usize.MAX }
-    ensures even { result.1 ≡ false → AreEven (views (C.content nodes.old)) (views (C.content nodes.new)) parent index left id addr result.0 }
-    ensures joined { result.1 ≡ true → AreJoined (views (C.content nodes.old)) (views (C.content nodes.new)) parent index left id addr result.0 }
+    ensures even { result.1 ≡ false → MendsHere (views (C.content nodes.old)) (views (C.content nodes.new)) id addr result.0 }
+    ensures joined { result.1 ≡ true → MendsAbove (views (C.content nodes.old)) (views (C.content nodes.new)) id parent addr result.0 }
     ensures uncounted { C.refusals nodes.new ≡ C.refusals nodes.old }
     ensures back { IsSome addr.offset → IsSome result.0.offset }
 {

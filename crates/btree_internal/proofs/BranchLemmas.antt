@@ -25,7 +25,7 @@ map_insert f xs i x =
     ∙ ap (λ l. l ++ f x ∷ map f (drop i xs)) (sym (take-map f i xs))
     ∙ ap (λ l. take i (map f xs) ++ f x ∷ l) (sym (drop-map f i xs))
 
-map_remove : {A B : Type 0} (f : A → B) (xs : List A) (i : ℕ) → map f (remove xs i) ≡ remove (map f xs) i
+pub map_remove : {A B : Type 0} (f : A → B) (xs : List A) (i : ℕ) → map f (remove xs i) ≡ remove (map f xs) i
 map_remove f xs i =
     map-append f (take i xs) (drop (suc i) xs)
     ∙ ap (λ l. l ++ map f (drop (suc i) xs)) (sym (take-map f i xs))

@@ -1,8 +1,7 @@
 -- The tests by which a walk comes to a node.
-use Rattle.std.proofs.Common.{◌≡◌, ◌<◌, ◌≤◌, ◌+◌, ◌∙◌, ◌∷◌, [], ℕ, zero, suc, List, length, slice_get, option_and_then, true, false, not, eqb, leb, Option, Some, None, IsTrue, refl, sym, ap, arith}
+use Rattle.std.proofs.Common.{◌≡◌, ◌<◌, ◌≤◌, ◌+◌, ℕ, true, false, not, eqb, leb, Option, Some, None, IsTrue, refl, ap, arith}
 use Rattle.std.specs.Option.{option_eq}
 use Rattle.std.proofs.lemmas.Bool.Decides.{nat_tests}
-use Rattle.btree_item.specs.Offset.{index_offset}
 use Rattle.btree_view.specs.View.{View, most_of, parent_of, size_of}
 use Rattle.btree_shape.specs.WellFormed.{IsNearlySized, excess_beside, least_beside}
 
@@ -49,15 +48,3 @@ module _ {A : Type 0} (v : View A) (root odd id left : ℕ) (parent : Option ℕ
     where
       positive : (n : ℕ) → (n ≡ 0 → ⊥) → 0 < n
       positive n f = grind arith
-
--- an item at an index, by its offset
-pub past : {X : Type 0} (xs : List X) (i : ℕ) → length xs ≤ i → slice_get xs i ≡ None
-past [] i low = refl
-past (x ∷ xs) zero low = absurd (omega arith)
-past (x ∷ xs) (suc i) low = past xs i (omega arith)
-
-offset-is : (i : ℕ) → i < 9 → index_offset i ≡ Some i
-offset-is i low = grind (arith, nat_tests)
-
-pub item-at : {X : Type 0} (xs : List X) (i : ℕ) (o : Option ℕ) (r : Option X) → o ≡ index_offset i → i < 9 → r ≡ option_and_then (slice_get xs) o → slice_get xs i ≡ r
-item-at xs i o r is low e = sym (e ∙ ap (option_and_then (slice_get xs)) (is ∙ offset-is i low))

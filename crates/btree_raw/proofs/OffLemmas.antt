@@ -10,10 +10,10 @@ use Rattle.btree_node.specs.Node.{view_of}
 use Rattle.btree_node.specs.declared.node.Node.{Node}
 use Rattle.btree_view.specs.View.{Look, View}
 use Rattle.btree_shape.specs.Shape.{times_listed, times_under}
-use Rattle.btree_shape.specs.Spells.{Spells, numbers_under, spelled, times}
+use Rattle.btree_shape.specs.Spells.{Spells, numbers_under, spelled}
 use Rattle.btree_shape.specs.TreeState.{state, views}
 use Rattle.btree_shape.specs.WellFormed.{IsOffByOne, times_used}
-use Rattle.btree_shape.proofs.Numbers.{less-or, numbers-shape, times-listed, used-one}
+use Rattle.btree_shape.proofs.Numbers.{less-or, numbers-shape, used-mapped, used-one}
 use Rattle.btree_shape.proofs.Searched.{Rises, rises}
 use Rattle.btree_shape.proofs.Spelled.{spelled-is}
 use Rattle.btree_shape.proofs.SpelledShapes.{shape-of}
@@ -33,10 +33,6 @@ module _ {K V : Type 0} (cmp : K → K → Ordering) (nodes : Content (Node K V)
   abbrev pairs : List (K × V)
   pairs = spelled look (suc height) root
 
-  seen : (o : Option (Node K V)) → times_used (option_map view_of o) ≡ times_used o
-  seen None = refl
-  seen (Some node) = refl
-
   module _ (laws : IsTotalOrder cmp) (last : Option K) (left : ℕ) (p : PassesUnder cmp look root odd height None root (map.len nodes) None left last) (none : left ≡ 0) where
     each-once : (n : ℕ) → times_listed n ids ≡ times_used (look n)
     each-once n =
@@ -48,8 +44,8 @@ module _ {K V : Type 0} (cmp : K → K → Ordering) (nodes : Content (Node K V)
         let low = few cmp laws look root odd height s.shape s.here s.holds (subst (λ l. Rises cmp l) (sym s.list) up)
         (λ m v some at. p.sized m v (let q = same m in omega arith) at) in
         let paid = p.paid in
-        let all = all-used ids nodes (λ m. let q = same m in let l = low m in let z = seen (map.get nodes m) in omega arith) (omega arith) n in
-        all ∙ sym (seen (map.get nodes n))
+        let all = all-used ids nodes (λ m. let q = same m in let l = low m in let z = used-mapped view_of (map.get nodes m) in omega arith) (omega arith) n in
+        all ∙ sym (used-mapped view_of (map.get nodes n))
 
     -- all nodes were passed
     pub off-found : IsOffAt cmp look root odd height
@@ -60,7 +56,7 @@ module _ {K V : Type 0} (cmp : K → K → Ordering) (nodes : Content (Node K V)
         height = height;
         spells = p.right;
         sized = λ id node at. p.sized id node (let e = each-once id in let u = used-one (look id) node at in omega arith) at;
-        once = λ n. times-listed n ids ∙ each-once n;
+        once = each-once;
       },
       refl,
     )
@@ -70,7 +66,7 @@ module _ {K V : Type 0} (cmp : K → K → Ordering) (nodes : Content (Node K V)
     spelled-pairs = let r = off.2 in spelled-is look height (suc height) None root off.0 (omega arith) (subst (λ h. Spells look h None root off.0) off.3 r.spells)
 
     all-listed : (n : ℕ) → times_listed n ids ≡ times_used (look n)
-    all-listed n = sym (times-listed n ids) ∙ subst (λ h. times n (numbers_under look h root) ≡ times_used (look n)) off.3 (off.2.once n)
+    all-listed n = subst (λ h. times_listed n (numbers_under look h root) ≡ times_used (look n)) off.3 (off.2.once n)
 
     -- as many numbers as nodes
     pub all-counted : map.len nodes ≡ length ids

@@ -1,5 +1,5 @@
 -- A node that is put into a store of any content, and makes itself the parent of its children.
-use Rattle.std.proofs.Common.{◌≡◌, ◌≢◌, ℕ, ◌<◌, inl, inr, List, Option, Some, None, IsSome, refl, ap, subst, ◌∙◌, option_map, arith}
+use Rattle.std.proofs.Common.{◌≡◌, ◌≢◌, ℕ, ◌<◌, inl, inr, List, Option, Some, None, IsSome, refl, ap, subst, ◌∙◌, arith}
 use Rattle.std.specs.FinMap as map
 use Rattle.btree_store.specs.Content.{Content}
 use Rattle.btree_node.specs.declared.node.Node.{Node}
@@ -12,13 +12,9 @@ use Rattle.btree_shape.specs.WellFormed.{times_used}
 use Rattle.btree_shape.proofs.Numbers.{zero-or}
 use Rattle.btree_raw.specs.Raw.{AreUsed}
 use Rattle.btree_balance.specs.Steps.{CanAdopt}
-use Rattle.btree_shape.proofs.Stores.{puts}
+use Rattle.btree_shape.proofs.Stores.{puts, some-used}
 
 module _ {K V : Type 0} where
-  used-some : (o : Option (Node K V)) → IsSome o → 0 < times_used (option_map view_of o)
-  used-some None some = absurd (cc)
-  used-some (Some node) some = omega arith
-
   not-both : (o : Option (Node K V)) → o ≡ None → IsSome o → ⊥
   not-both None none some = cc
   not-both (Some node) none some = cc
@@ -40,7 +36,7 @@ module _ {K V : Type 0} (nodes : Content (Node K V)) (id : ℕ) (node : Node K V
     child-used : (n : ℕ) → 0 < times_listed n (children_of (view_of node)) → 0 < times_used (views after n)
     child-used n listed =
         let kept = (puts nodes after id node is).others n (child-apart n listed) in
-        rw kept (used-some (map.get nodes n) (children n listed))
+        rw kept (some-used (map.get nodes n) (children n listed))
 
     pub can-adopt : CanAdopt (views after) id
     can-adopt = record {

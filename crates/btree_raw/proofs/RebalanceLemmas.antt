@@ -1,8 +1,7 @@
 -- Rebalancing: where its climbs begin, and what they come to.
-use Rattle.std.proofs.Common.{◌≡◌, ◌∙◌, ◌+◌, ◌<◌, ◌≤◌, ◌++◌, [], ◌∷◌, ℕ, zero, suc, inl, inr, List, length, length-append, Option, Some, None, IsSome, refl, sym, ap, subst, arith, slice_get}
+use Rattle.std.proofs.Common.{◌≡◌, ◌∙◌, ◌+◌, ◌<◌, ◌≤◌, ◌++◌, [], ℕ, inl, inr, List, length, length-append, Option, Some, None, IsSome, refl, sym, ap, subst, arith, slice_get}
 use Rattle.std.specs.Cmp.{IsTotalOrder}
 use Rattle.std.specs.FinMap as map
-use Rattle.std.specs.Option.{option_and_then}
 use Rattle.std.specs.declared.cmp.Ordering.{Ordering}
 use Rattle.btree_store.specs.Content.{Content}
 use Rattle.btree_item.specs.declared.address.Address.{Address}
@@ -12,7 +11,6 @@ use Rattle.btree_view.specs.Edits.{IsOverflowing}
 use Rattle.btree_view.specs.View.{View, Look, item_in, items_of, most_of, size_of}
 use Rattle.btree_shape.specs.Growing.{IsGrowing, IsGrown}
 use Rattle.btree_shape.specs.Need.{climb}
-use Rattle.btree_shape.specs.OnTour as tour
 use Rattle.btree_shape.specs.OnTour.{IsAddressed}
 use Rattle.btree_shape.specs.Place.{IsEnd, IsPlace, IsPlaceOf, IsValid}
 use Rattle.btree_shape.specs.Shape.{times_listed}
@@ -23,7 +21,7 @@ use Rattle.btree_shape.specs.Strain.{IsStrain, strain_under}
 use Rattle.btree_shape.specs.Tour.{Asks}
 use Rattle.btree_shape.specs.TreeState.{TreeState, views}
 use Rattle.btree_shape.specs.WellFormed.{IsNearlySized, IsOffByOne, IsWellFormed, times_used}
-use Rattle.btree_shape.proofs.Numbers.{listed-append, times-listed}
+use Rattle.btree_shape.proofs.Numbers.{listed-append}
 use Rattle.btree_shape.proofs.OddNodes.{emptied-well, mended-well, odd-climbs, odd-grows, odd-height, odd-shrinks}
 use Rattle.btree_shape.proofs.OnTour.{tour-addressed, valid-on}
 use Rattle.btree_shape.proofs.Puts.{grown-paid, grown-rooted}
@@ -39,19 +37,11 @@ use Rattle.btree_balance.specs.Steps.{AreSplit, IsSplitting}
 use Rattle.btree_raw.proofs.LevelLemmas.{climb-few, items-are, items-under}
 use Rattle.btree_shape.proofs.Stores.{used-view, len-views}
 use Rattle.btree_balance.proofs.ClaimLemmas.{claims-seen}
+use Rattle.std.proofs.lemmas.Option.{slice_get_within}
 
 some-there : {X : Type 0} (o : Option X) → IsSome o → (x : X) × (o ≡ Some x)
 some-there None is = absurd (cc)
 some-there (Some x) is = (x, refl)
-
--- the item at an address, in the words of tours and in those of answers
-to-asked : {A : Type 0} (look : Look A) (id : ℕ) (o : Option ℕ) (x : A) → option_and_then (item_in (look id)) o ≡ Some x → Asks (Some x) (tour.item_at look id o)
-to-asked look id None x e = absurd (cc)
-to-asked look id (Some o) x e = e
-
-from-asked : {A : Type 0} (look : Look A) (id : ℕ) (o : Option ℕ) (x : A) → Asks (Some x) (tour.item_at look id o) → option_and_then (item_in (look id)) o ≡ Some x
-from-asked look id None x e = absurd (cc)
-from-asked look id (Some o) x e = e
 
 module _ {A : Type 0} where
   -- the numbers of nodes, and those that were taken or given up beside them
@@ -70,14 +60,9 @@ nothing-there {A} look root id (Some o) place x d = elim d.at_place [
     none : (p : ℕ) → slice_get [] p ≡ Some x → ⊥
     none p e = absurd (cc)
 
-    low : (ys : List A) (n : ℕ) → slice_get ys n ≡ Some x → n < length ys
-    low [] n e = absurd (cc)
-    low (y ∷ ys) zero e = omega arith
-    low (y ∷ ys) (suc n) e = omega (arith, low ys n e)
-
     past : (v : Option (View A)) → item_in v o ≡ Some x → IsEnd look v o → ⊥
     past None e end = absurd end
-    past (Some v) e end = let l = low (items_of v) o e in absurd (omega arith)
+    past (Some v) e end = let l = slice_get_within (items_of v) o x e in absurd (omega arith)
 
 module _ {K V : Type 0} (cmp : K → K → Ordering) (look new : Look (K × V)) (root : ℕ) (xs : List (K × V)) (a b : Address) where
   -- the address at the end: valid, at the place, and at the item that is asked for
@@ -100,7 +85,7 @@ module _ {K V : Type 0} (cmp : K → K → Ordering) (look new : Look (K × V)) 
   grown-follows t place asked d = record {
     valid = d.valid;
     at_place = d.at_place;
-    item = λ x q. from-asked new b.id b.offset x (subst (λ o. Asks o (tour.item_at new b.id b.offset)) q d.item);
+    item = λ x q. subst (λ o. Asks o (item_at new b)) q d.item;
   }
 
   pub grown-ends : (t place gained bound : ℕ) → IsWellFormed cmp new (Some t) (length xs) xs → IsGrown (K × V) new t xs None b place gained bound
@@ -108,7 +93,7 @@ module _ {K V : Type 0} (cmp : K → K → Ordering) (look new : Look (K × V)) 
   grown-ends t place gained bound well g all =
       let rooted = grown-rooted (K × V) new t xs None b place gained bound g in
       let ids : List ℕ = numbers_under new rooted.height t in
-      let each : (n : ℕ) → times_listed n ids ≡ times_used (new n) = λ n. sym (times-listed n ids) ∙ rooted.once n in
+      let each : (n : ℕ) → times_listed n ids ≡ times_used (new n) = rooted.once in
       record {
         well = well;
         ids = ids;
@@ -131,7 +116,7 @@ module _ {K V : Type 0} (cmp : K → K → Ordering) (laws : IsTotalOrder cmp) (
   strain = strain_under (views old) root numbers
 
   listed : (n : ℕ) → times_listed n numbers ≡ times_used (look n)
-  listed n = sym (times-listed n numbers) ∙ w.rooted.once n
+  listed n = w.rooted.once n
 
   pub odd-node : (v : View (K × V)) × (look id ≡ Some v)
   odd-node = some-there (look id) w.used
@@ -153,7 +138,7 @@ module _ {K V : Type 0} (cmp : K → K → Ordering) (laws : IsTotalOrder cmp) (
     valid-root : IsValid look (Some root) a.id a.offset
     valid-root = subst (λ t. IsValid look t a.id a.offset) is valid
 
-    place-of : (asked : Option (K × V)) → Asks asked (tour.item_at look a.id a.offset) → (place : ℕ) × IsAddressed (K × V) look root xs asked a place
+    place-of : (asked : Option (K × V)) → Asks asked (item_at look a) → (place : ℕ) × IsAddressed (K × V) look root xs asked a place
     place-of asked m =
         let n = valid-on (K × V) look root xs asked a (IsNearlySized root id) w.rooted valid-root m in
         (n.place, tour-addressed (K × V) look root xs asked a (IsNearlySized root id) n.place w.rooted n.on)
@@ -179,7 +164,7 @@ module _ {K V : Type 0} (cmp : K → K → Ordering) (laws : IsTotalOrder cmp) (
         valid = (e.follow None at-some.0 at-some.1).valid;
         place = λ q at.
             (e.follow None q (record { valid = valid-root; at_place = subst (λ t. IsPlace look t xs a.id a.offset q) is at; item = tt })).at_place;
-        item = λ x q. let p = place-of (Some x) (to-asked look a.id a.offset x q) in (e.follow (Some x) p.0 p.1).item x refl;
+        item = λ x q. let p = place-of (Some x) q in (e.follow (Some x) p.0 p.1).item x refl;
         back = back;
         before = strain;
         after = e.after;
@@ -289,7 +274,7 @@ module _ {K V : Type 0} (cmp : K → K → Ordering) (laws : IsTotalOrder cmp) (
             (record {
               store = refl;
               unchanged = rw (same, counted) refl;
-              over = (v, here, over);
+              over = record { node = v; here = here; over = over };
               may = subst (λ n. MayRefuseOneOf EMPTY MayRefuse old n) (count_is ∙ ap (λ n. climb look n id) (sym most-is)) may;
             })
 

@@ -1,5 +1,5 @@
 -- What rebalancing makes of a tree that is off by one at a node.
-use Rattle.std.specs.Prelude.{◌≡◌, ℕ, ◌+◌, ◌≤◌, List, length, Option, Some, None, IsSome}
+use Rattle.std.specs.Prelude.{◌≡◌, ℕ, ◌+◌, ◌≤◌, List, length, Some, IsSome}
 use Rattle.std.specs.FinMap as map
 use Rattle.std.specs.declared.cmp.Ordering.{Ordering}
 use Rattle.btree_store.specs.Content.{Content}
@@ -11,19 +11,15 @@ use Rattle.btree_view.specs.Edits.{IsOverflowing}
 use Rattle.btree_view.specs.View.{View, Look, most_of, size_of}
 use Rattle.btree_shape.specs.Need.{climb}
 use Rattle.btree_shape.specs.Place.{IsPlace, IsValid}
-use Rattle.btree_shape.specs.Shape.{times_listed}
 use Rattle.btree_shape.specs.Shrinking.{owed_by}
 use Rattle.btree_shape.specs.Strain.{IsStrain}
 use Rattle.btree_shape.specs.TreeState.{TreeState, views}
-use Rattle.btree_shape.specs.WellFormed.{IsOffByOne, IsWellFormed, times_used}
+use Rattle.btree_shape.specs.WellFormed.{IsOffByOne, IsWellFormed}
 use Rattle.btree_shape.specs.Place.{item_at}
 use Rattle.btree_balance.specs.Claimed.{EMPTY, MayRefuseOneOf}
+use Rattle.btree_balance.specs.Steps.{Overflows}
 
 module _ {A : Type 0} (look : Look A) where
-  -- node `id` has an item too many
-  abbrev pub Overflows : (id : ℕ) → Type 0
-  Overflows id = (node : View A) × (look id ≡ Some node) × IsOverflowing node
-
   -- node `id` has no item too many
   abbrev pub HasRoom : (id : ℕ) → Type 0
   HasRoom id = (node : View A) × (look id ≡ Some node) × (size_of node ≤ most_of node)

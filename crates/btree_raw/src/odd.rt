@@ -1,15 +1,14 @@
 //! Whether a tree of any content is off by one at a node.
-ghost use Rattle.std.specs.Prelude.{◌≡◌, ℕ, ◌+◌, ◌↔◌, ◌<◌, IfSome, IsTrue, IsSome, List, MatchOption, None, OnSome, drop, [], ◌∷◌, option_copied};
+ghost use Rattle.std.specs.Prelude.{◌≡◌, ℕ, ◌+◌, ◌↔◌, ◌<◌, IfSome, IsTrue, IsSome, List, None, option_copied};
 ghost use Rattle.btree_node.specs.Node.{view_of};
 ghost use Rattle.btree_view.specs.View.{items_of, leaf, most_of, parent_of};
-ghost use Rattle.btree_shape.specs.Left.{branches_of};
 ghost use Rattle.btree_shape.specs.TreeState.{views};
 ghost use Rattle.btree_shape.specs.WellFormed.{IsNearlySized, excess_beside, least_beside};
 ghost use Rattle.btree_raw.specs.Odd.{CanOrder, CanPassUnder, IsAbove, IsOffAt, Orders, PassesUnder};
 ghost use Rattle.btree_raw.specs.Rebalance.{IsOff};
 
 use crate::raw::RawBTree;
-use btree_item::{Item, Offset};
+use btree_balance::branch_at;
 use btree_node::Node;
 use btree_store::SlabMut;
 use std::cmp::Ordering;
@@ -74,24 +73,6 @@ fn may_enter<K, V>(
         return false;
     }
     count <= most_items(node, odd, id)
-}
-
-// The item of an internal node at an index, and the number of the child after it.
-fn branch_at<K, V>(node: &Node<K, V>, index: usize) -> Option<(&Item<K, V>, usize)>
-    ensures fits { OnSome result (index < 9) }
-    ensures first { MatchOption result (drop index (branches_of (view_of node.now)) ≡ [])
-        (λ branch. drop index (branches_of (view_of node.now)) ≡ (branch.0.now, branch.1) ∷ drop (index + 1) (branches_of (view_of node.now))) }
-{
-    if index >= node.item_count() {
-        return None;
-    }
-    match node.item(Offset::from(index)) {
-        Some(item) => match node.child_id_opt(index + 1) {
-            Some(child) => Some((item, child)),
-            None => None,
-        },
-        None => None,
-    }
 }
 
 // Passes the items of a leaf, if each key is above the one before it.

@@ -13,7 +13,7 @@ use btree_node::Node;
 use btree_store::{Slab, SlabMut};
 use std::marker::{Model, PhantomData};
 
-/// Nodes in a store, the number of a root, and a length, of which nothing is known: a [`Tree`](crate::Tree) is one that is well formed.
+/// Nodes in a store, the number of a root, and a length, of which nothing is known. Rebalancing asks what it needs of them.
 #[derive(Drop)]
 pub struct RawBTree<K, V, C: SlabMut<Node<K, V>>> {
     pub(crate) parts: Parts<K, V, C>,

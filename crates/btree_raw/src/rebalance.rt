@@ -2,7 +2,8 @@
 ghost use Rattle.std.specs.Prelude.{List, IfOk, IfErr};
 ghost use Rattle.btree_shape.specs.Place.{IsValid};
 ghost use Rattle.btree_shape.specs.TreeState.{views, state};
-ghost use Rattle.btree_raw.specs.Rebalance.{HasRoom, IsOff, IsRebalanced, IsRefusal, Overflows};
+ghost use Rattle.btree_balance.specs.Steps.{Overflows};
+ghost use Rattle.btree_raw.specs.Rebalance.{HasRoom, IsOff, IsRebalanced, IsRefusal};
 
 use crate::raw::RawBTree;
 use btree_balance::{Parts, claim, climb, mend_up, node_at, split_up};

@@ -1,12 +1,12 @@
 -- The tour of a tree, seen from a node, and the public words on addresses and places say the same.
-use Rattle.std.proofs.Common.{◌≡◌, ◌<◌, ◌≤◌, ◌∷◌, [], ◌∙◌, ℕ, zero, suc, inl, inr, List, length, Option, Some, None, refl, arith}
+use Rattle.std.proofs.Common.{◌≡◌, ◌<◌, ◌≤◌, ◌∷◌, [], ◌∙◌, ℕ, zero, suc, inl, inr, List, length, Option, Some, None, refl, arith, option_and_then}
 use Rattle.std.specs.Cmp.{IsTotalOrder}
 use Rattle.std.specs.Prelude.{slice_get}
 use Rattle.std.specs.declared.cmp.Ordering.{Ordering}
 use Rattle.btree_item.specs.declared.address.Address.{Address}
 use Rattle.btree_view.specs.View.{Look, View, item_in, items_of}
-use Rattle.btree_shape.specs.OnTour.{IsAddressed, item_at}
-use Rattle.btree_shape.specs.Place.{IsPlace, IsValid, IsWithin}
+use Rattle.btree_shape.specs.OnTour.{IsAddressed}
+use Rattle.btree_shape.specs.Place.{IsPlace, IsValid, IsWithin, item_at}
 use Rattle.btree_shape.specs.Shape.{Shape}
 use Rattle.btree_shape.specs.Tour.{Asks, In, Tick, slot, whole_tour}
 use Rattle.btree_shape.specs.Way.{Above}
@@ -14,6 +14,7 @@ use Rattle.btree_shape.specs.WellFormed.{IsWellFormed, times_used}
 use Rattle.btree_shape.specs.Whole.{IsWhole, Seen}
 use Rattle.btree_shape.proofs.OnTour.{on-whole, seen-on, well-on, whole-addressed, whole-on}
 use Rattle.btree_shape.proofs.Standing.{whole-standing}
+use Rattle.btree_shape.proofs.Stores.{within-used}
 
 module _ {A : Type 0} (look : Look A) where
   get-low : (xs : List A) (o : ℕ) (x : A) → slice_get xs o ≡ Some x → o ≤ length xs
@@ -34,15 +35,11 @@ module _ (A : Type 0) (look : Look A) (root : ℕ) (xs : List A) where
     pub place : IsPlace look (Some root) xs a.id a.offset p
     pub item : (x : A) → asked ≡ Some x → (o : ℕ) × (a.offset ≡ Some o) × (item_in (look a.id) o ≡ Some x)
 
-  within-used : (v : Option (View A)) (o : Option ℕ) → IsWithin look v o → 0 < times_used v
-  within-used None o l = absurd l
-  within-used (Some v) o l = omega arith
-
   valid-within : (id : ℕ) (o : Option ℕ) → IsValid look (Some root) id o → IsWithin look (look id) o
   valid-within id o (inl l) = l
   valid-within id o (inr n) = let e = n.0 in absurd (cc)
 
-  asked-item : (asked : Option A) (id : ℕ) (offset : Option ℕ) → Asks asked (item_at look id offset) → (x : A)
+  asked-item : (asked : Option A) (id : ℕ) (offset : Option ℕ) → Asks asked (option_and_then (item_in (look id)) offset) → (x : A)
       → asked ≡ Some x → (o : ℕ) × (offset ≡ Some o) × (item_in (look id) o ≡ Some x)
   asked-item None id offset m x e = absurd (cc)
   asked-item (Some y) id None m x e = absurd (cc)
@@ -53,7 +50,7 @@ module _ (A : Type 0) (look : Look A) (root : ℕ) (xs : List A) where
   addressed-in asked a p d =
       let l = valid-within a.id a.offset d.valid in
       record {
-        used = within-used (look a.id) a.offset l;
+        used = within-used look (look a.id) a.offset l;
         within = l;
         place = d.at_place;
         item =
@@ -74,7 +71,7 @@ module _ (A : Type 0) (look : Look A) (root : ℕ) (xs : List A) where
 
   module _ (s : List ℕ) (h : ℕ) (c : Above A h) (t : Shape A h) (w : IsWhole A look s root xs h c t) where
     tour-at : (s2 : List ℕ) (asked : Option A) (a : Address) → Seen A look s2 root xs a.id
-        → IsWithin look (look a.id) a.offset → Asks asked (item_at look a.id a.offset)
+        → IsWithin look (look a.id) a.offset → Asks asked (item_at look a)
         → TourAt (whole_tour A h c t) asked a
     tour-at s2 asked a n l m =
         let r =

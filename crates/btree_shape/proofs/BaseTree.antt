@@ -5,9 +5,10 @@ use Rattle.std.proofs.lemmas.Bool.Decides.{nat_tests}
 use Rattle.std.specs.List.Sorted.{IsStrictlySortedBy}
 use Rattle.std.specs.Ordering.{nat_cmp}
 use Rattle.btree_view.specs.View.{View, leaf, internal, Look, size_of, most_of}
-use Rattle.btree_shape.specs.Spells.{Spells, numbers_under, times, spelled}
+use Rattle.btree_shape.specs.Spells.{Spells, numbers_under, spelled}
 use Rattle.btree_shape.specs.WellFormed.{times_used, least_of, IsNearlySized, IsWellFormed, IsOffByOne}
 use Rattle.btree_shape.specs.Place.{NOWHERE, StandsAt, IsPlace, IsValid}
+use Rattle.btree_shape.specs.Shape.{times_listed}
 
 abbrev Pair : Type 0
 Pair = ℕ × ℕ
@@ -36,7 +37,7 @@ sized_tree (suc zero) node e = let i : leaf (Some 2) rights ≡ node = cc in rw 
 sized_tree (suc (suc zero)) node e = let i : internal None 0 (((4, 40), 1) ∷ []) ≡ node = cc in rw (← i) (omega arith, omega arith)
 sized_tree (suc (suc (suc n))) node e = absurd (cc)
 
-once_tree : (n : ℕ) → times n (numbers_under tree 1 2) ≡ times_used (tree n)
+once_tree : (n : ℕ) → times_listed n (numbers_under tree 1 2) ≡ times_used (tree n)
 once_tree zero = refl
 once_tree (suc zero) = refl
 once_tree (suc (suc zero)) = refl
@@ -121,7 +122,7 @@ bare_sized : (id : ℕ) (node : View Pair) → bare id ≡ Some node → IsNearl
 bare_sized zero node e = let i : leaf None [] ≡ node = cc in rw (← i) (omega arith, omega arith)
 bare_sized (suc n) node e = absurd (cc)
 
-bare_once : (n : ℕ) → times n (numbers_under bare 0 0) ≡ times_used (bare n)
+bare_once : (n : ℕ) → times_listed n (numbers_under bare 0 0) ≡ times_used (bare n)
 bare_once zero = refl
 bare_once (suc n) = grind (arith, nat_tests)
 

@@ -4,8 +4,7 @@ use Rattle.std.specs.List.{AllByRecursion}
 use Rattle.std.specs.Prelude.{IsTrue, option_map}
 use Rattle.btree_item.specs.declared.address.Address.{Address}
 use Rattle.btree_view.specs.Edits.{HasChildFor, is_internal, with_parent}
-use Rattle.btree_view.specs.View.{Look, View, children_of, internal, leaf, size_of}
-use Rattle.btree_shape.specs.Beside.{Beside}
+use Rattle.btree_view.specs.View.{Look, View, children_of, internal, leaf, size_of, most_of}
 use Rattle.btree_shape.specs.Growing.{IsGrown}
 use Rattle.btree_shape.specs.Mend.{Merges, RotatesLeft, RotatesRight, as_list}
 use Rattle.btree_shape.specs.Moved.{first_in, moved_by_merge, moved_by_rotate_left, moved_by_rotate_right}
@@ -18,6 +17,7 @@ use Rattle.btree_shape.specs.Tour.{In, whole_tour}
 use Rattle.btree_shape.specs.Way.{Above, Frame, after_in, at_branch, at_first, before_in, depth, fill, fill_two, frame_count, frame_id, frame_index, items_after, items_before, least_at, parent_above}
 use Rattle.btree_shape.specs.WellFormed.{times_used}
 use Rattle.btree_shape.proofs.Climbs.{deep-enough, levels-above-is}
+use Rattle.btree_shape.proofs.Descents.{cons-parts}
 use Rattle.btree_shape.proofs.Frames.{fill-count, fill-id, one-other, one-zero, top-view}
 use Rattle.btree_shape.proofs.Growth.{children-below}
 use Rattle.btree_shape.proofs.LocalMoves.{ids-apart}
@@ -30,7 +30,47 @@ use Rattle.btree_shape.proofs.Rotations.{turn-left, turn-right}
 use Rattle.btree_shape.proofs.Sizes.{view-most, view-parent, view-size}
 use Rattle.btree_shape.proofs.SplitTrees.{fill_two-count, fill_two-id}
 use Rattle.btree_shape.proofs.Splits.{join, times-top}
-use Rattle.btree_shape.proofs.Turned.{cons-parts, kind-is, turned}
+use Rattle.btree_shape.proofs.Turned.{kind-is, turned}
+
+module _ (A : Type 0) (look : Look A) (root : ℕ) (xs : List A) (asked : Option A) (a : Address) (place given bound : ℕ) where
+  -- children `left` and `right` of node `parent`, with its item at `index` between them, of which one may have an item
+  -- too few: what stands there, and which step leads where
+  pub record Beside (parent index left right : ℕ) : Type 0 where
+    pub node : View A
+    pub low : View A
+    pub high : View A
+    pub at_parent : look parent ≡ Some node
+    pub at_left : look left ≡ Some low
+    pub at_right : look right ≡ Some high
+    pub inner : IsTrue (is_internal node)
+    pub one_kind : is_internal low ≡ is_internal high
+    pub apart : (left ≢ right) × (left ≢ parent) × (right ≢ parent)
+    pub between : index < size_of node
+    pub node_most : size_of node ≤ 7
+    pub low_most : size_of low ≤ most_of low
+    pub high_most : size_of high ≤ most_of high
+    -- their children are other nodes
+    pub children_used : (n : ℕ) → 0 < times_listed n (children_of low) + times_listed n (children_of high)
+        → (0 < times_used (look n)) × (n ≢ parent) × (n ≢ left) × (n ≢ right)
+    pub low_children : (n : ℕ) → 0 < times_listed n (children_of low)
+        → option_map (with_parent (Some left)) (look n) ≡ look n
+    -- the right one lends an item, or the left one, and the tree is at rest
+    pub rotate_left : (new : Look A) → RotatesLeft look new parent index left right → size_of low ≤ 2
+        → 3 < size_of high
+        → IsGrown A new root xs asked
+        (moved_by_rotate_left left right parent index (size_of low) (first_in high) a) place given bound
+    pub rotate_right : (new : Look A) → RotatesRight look new parent index left right → size_of high ≤ 2
+        → 3 < size_of low
+        → IsGrown A new root xs asked
+        (moved_by_rotate_right left right parent index (size_of low) (first_in high) a) place given bound
+    -- the two are merged, and the parent may have an item too few
+    pub merge : (new : Look A) → Merges look new parent index left right → size_of low + size_of high ≤ 5
+        → IsShrinking A new root xs parent asked
+        (moved_by_merge left right parent index (size_of low) (first_in high) a) place (suc given) bound
+    -- so the climb comes to an end
+    pub lower : (new : Look A) → Merges look new parent index left right → size_of low + size_of high ≤ 5
+        → (levels_above new (length xs) parent < levels_above look (length xs) left)
+        × (levels_above new (length xs) parent < levels_above look (length xs) right)
 
 -- the child that a node gives away at its front is its first one
 pub first-child : {A : Type 0} (v : View A) (child : Option ℕ) (rest : List ℕ) → HasChildFor child v
@@ -300,16 +340,11 @@ module _ (A : Type 0) where
             at_right = top-view A look h (Some P) r p.right;
             inner = frame-inner;
             one_kind = kind-is A h (Some P) (Some P) l r;
-            low_parent = view-parent A h (Some P) l;
-            high_parent = view-parent A h (Some P) r;
             apart = ids-apart A h P l r (pair-near A look root xs h f c l x r p);
             between = omega arith;
             node_most = omega arith;
-            low_least = omega arith;
             low_most = omega arith;
-            high_least = omega arith;
             high_most = omega arith;
-            both_least = omega arith;
             children_used = children-apart;
             low_children = own-children;
             rotate_left = turned-left;

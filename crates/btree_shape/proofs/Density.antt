@@ -14,7 +14,7 @@ use Rattle.btree_shape.specs.WellFormed.{IsRooted, IsSized, times_used}
 use Rattle.btree_store.specs.Content.{Content}
 use Rattle.btree_store.specs.ContentLaws.{get-remove_other, get-remove_same, is_insert, same_content}
 use Rattle.btree_shape.proofs.Frames.{one-other, one-self}
-use Rattle.btree_shape.proofs.Numbers.{less-or, same-or, times-listed, used-low, used-none, used-some}
+use Rattle.btree_shape.proofs.Numbers.{less-or, same-or, used-low, used-mapped, used-none, used-some}
 use Rattle.btree_shape.proofs.Rooted.{rooted-shape}
 
 module _ (A : Type 0) where
@@ -191,9 +191,5 @@ few-used {A} {T} view m root xs r =
     let ns : List ℕ = numbers_under look r.height root in
     let few = nodes-few A look root xs r in
     let same : len m ≡ length ns =
-    len-listed ns m (λ n. sym (times-listed n ns) ∙ (r.once n ∙ mapped (get m n))) in
+    len-listed ns m (λ n. r.once n ∙ used-mapped view (get m n)) in
     omega arith
-  where
-    mapped : (o : Option T) → times_used (option_map view o) ≡ times_used o
-    mapped None = refl
-    mapped (Some x) = refl

@@ -28,14 +28,14 @@ pub record Halves {X Y : Type 0} (f : X → Y) (xs : List X) (ys zs : List Y) : 
   pub first : map f left ≡ ys
   pub second : map f right ≡ zs
 
-cons-both : {X : Type 0} {x y : X} {xs ys : List X} → x ∷ xs ≡ y ∷ ys → (x ≡ y) × (xs ≡ ys)
-cons-both e = (cc, cc)
+pub cons-parts : {X : Type 0} {x y : X} {xs ys : List X} → x ∷ xs ≡ y ∷ ys → (x ≡ y) × (xs ≡ ys)
+cons-parts e = (cc, cc)
 
 pub halves : {X Y : Type 0} (f : X → Y) (xs : List X) (ys zs : List Y) → map f xs ≡ ys ++ zs → Halves f xs ys zs
 halves f xs [] zs e = record { left = []; right = xs; is = refl; first = refl; second = e }
 halves f [] (y ∷ ys) zs e = absurd (cc)
 halves f (x ∷ xs) (y ∷ ys) zs e =
-    let b = cons-both e in
+    let b = cons-parts e in
     let r = halves f xs ys zs b.1 in
     record {
       left = x ∷ r.left;

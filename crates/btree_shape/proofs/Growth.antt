@@ -17,8 +17,8 @@ use Rattle.btree_shape.specs.WellFormed.{times_used}
 use Rattle.btree_shape.specs.Whole.{IsWhole}
 use Rattle.btree_shape.proofs.Climbs.{index-fits, index-here, index-is}
 use Rattle.btree_shape.proofs.Frames.{one-self, one-zero, times_in-is, top-view, total-append}
-use Rattle.btree_shape.proofs.Needs.{full-no, full-yes}
-use Rattle.btree_shape.proofs.Numbers.{times-has, times-own, used-low, used-one}
+use Rattle.btree_shape.proofs.Needs.{less-no, less-yes}
+use Rattle.btree_shape.proofs.Numbers.{none-listed, times-has, times-own, used-low, used-one}
 use Rattle.btree_shape.proofs.Sizes.{frame-size, view-most, view-parent, view-size}
 use Rattle.btree_shape.proofs.SplitTours.{split-carries, split-top-carries}
 use Rattle.btree_shape.proofs.SplitTrees.{fill_two-count, fill_two-id, fill_two-view, split-top, split-up}
@@ -39,10 +39,6 @@ respare A look s s' root xs h c t e w =
       list = w.list;
       root_is = w.root_is;
     }
-
-no-times : (s : List ℕ) → length s ≡ 0 → (n : ℕ) → times_listed n s ≡ 0
-no-times [] z n = refl
-no-times (x ∷ s) z n = absurd (omega arith)
 
 module _ (A : Type 0) where
   -- the numbers of the children stand below the top
@@ -123,7 +119,7 @@ module _ (A : Type 0) where
                 shape = g.seen.shape;
                 here = g.seen.here;
                 whole = respare A look spare [] root xs g.seen.height g.seen.way g.seen.shape
-                    (no-times spare (g.none c)) g.seen.whole;
+                    (none-listed spare (g.none c)) g.seen.whole;
               };
               sized = (g.low, c);
             };
@@ -325,8 +321,8 @@ module _ (A : Type 0) where
                         };
                         low = omega arith;
                         high = omega arith;
-                        enough = λ full. let y = full-yes (frame_count f) 7 (wanted c) 0 (omega arith) in omega arith;
-                        none = λ few. let y = full-no (frame_count f) 7 (wanted c) 0 (λ e. omega arith) in omega arith;
+                        enough = λ full. let y = less-no (frame_count f) 7 0 (wanted c) (omega arith) in omega arith;
+                        none = λ few. let y = less-yes (frame_count f) 7 0 (wanted c) (omega arith) in omega arith;
                         there = carried2;
                         paid = omega arith;
                       }

@@ -3,10 +3,12 @@ use Rattle.std.proofs.Common.{◌≡◌, ◌⊎◌, ℕ, zero, suc, ◌+◌, ◌
 use Rattle.std.specs.Prelude.{slice_get}
 use Rattle.std.specs.List.{flat_map}
 use Rattle.btree_view.specs.View.{View, internal, Look, items_of, item_in}
-use Rattle.btree_shape.specs.Spells.{Spells, numbers_under, times}
+use Rattle.btree_shape.specs.Spells.{Spells, numbers_under}
 use Rattle.btree_shape.specs.WellFormed.{times_used}
 use Rattle.btree_shape.specs.Place.{IsPlace, IsPlaceOf, IsEnd, IsWithin}
 use Rattle.btree_shape.proofs.Subtrees.{Stands, stands}
+use Rattle.btree_shape.proofs.Numbers.{used-one}
+use Rattle.btree_shape.specs.Shape.{times_listed}
 
 module _ {A : Type 0} where
   pub behind : (front xs : List A) (q : ℕ) (x : A) → slice_get xs q ≡ Some x → slice_get (front ++ xs) (length front + q) ≡ Some x
@@ -39,13 +41,9 @@ module _ {A : Type 0} (look : Look A) where
       let there = among s.2 o x e in
       (length s.1 + there.0, ap (λ l. slice_get l (length s.1 + there.0)) s.6 ∙ behind s.1 (flat_map (λ (r : A × ℕ × List A). r.0 ∷ r.2) s.2) there.0 x there.1)
 
-  used_count : (o : Option (View A)) (v : View A) → o ≡ Some v → times_used o ≡ 1
-  used_count None v e = absurd (cc)
-  used_count (Some w) v e = refl
-
-  module _ (root height : ℕ) (xs : List A) (top : Spells look height None root xs) (once : (n : ℕ) → times n (numbers_under look height root) ≡ times_used (look n)) where
+  module _ (root height : ℕ) (xs : List A) (top : Spells look height None root xs) (once : (n : ℕ) → times_listed n (numbers_under look height root) ≡ times_used (look n)) where
     at_node : (id : ℕ) (v : View A) → look id ≡ Some v → Stands look xs id
-    at_node id v e = let c = used_count (look id) v e in let d = once id in stands look height None id root xs top (omega arith)
+    at_node id v e = let c = used-one (look id) v e in let d = once id in stands look height None id root xs top (omega arith)
 
     -- an address in a node of the tree has a place
     pub has_place : (id : ℕ) (v : View A) (offset : Option ℕ) → look id ≡ Some v → IsWithin look (Some v) offset → (p : ℕ) × IsPlace look (Some root) xs id offset p

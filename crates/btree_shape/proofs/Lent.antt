@@ -11,15 +11,13 @@ use Rattle.btree_shape.specs.Mend.{IsRemade, as_list}
 use Rattle.btree_shape.specs.Pair.{first_of}
 use Rattle.btree_shape.specs.Shape.{Holds, Shape, id_of, one, times_listed, times_under, total, view_at}
 use Rattle.btree_shape.specs.Way.{Frame, at_branch, at_first, fill, fill_two, frame_index}
-use Rattle.btree_shape.proofs.Descents.{get-after}
+use Rattle.btree_shape.proofs.Descents.{cons-parts, get-after}
 use Rattle.btree_shape.proofs.Frames.{AllByRecursion-append, AllByRecursion-left, AllByRecursion-right, eachs-same, holds-same, one-self, one-zero, total-append}
 use Rattle.btree_shape.proofs.LocalMoves.{Apart}
 use Rattle.btree_shape.proofs.Sizes.{view-parent}
 use Rattle.btree_shape.proofs.Splits.{adopt, times-top, times_below}
-use Rattle.btree_shape.proofs.Turned.{children_at, children_at-is, cons-parts, ids-append, items_at, items_at-is, keys-append, kind-is, numbered, view-same}
-
-pub some-is : {X : Type 0} (x y : X) → Some x ≡ Some y → x ≡ y
-some-is x y e = cc
+use Rattle.btree_shape.proofs.Turned.{children_at, children_at-is, ids-append, items_at, items_at-is, keys-append, kind-is, numbered, view-same}
+use Rattle.std.proofs.lemmas.Option.{same_Some}
 
 pub set-seam : {X : Type 0} (front : List X) (x : X) (back : List X) (n : ℕ) (y : X) → length front ≡ n
     → set (front ++ x ∷ back) n y ≡ front ++ y ∷ back
@@ -121,7 +119,7 @@ module _ (A : Type 0) where
       let k = frame-parts h f in
       let i1 : items_of old ≡ k.front ++ x ∷ k.back =
       ap items_of e ∙ (items_at-is A (suc h) p (fill_two f a x b) ∙ k.items_are a x b) in
-      some-is down x (sym g ∙ (ap (λ l. slice_get l (frame_index f)) i1
+      same_Some down x (sym g ∙ (ap (λ l. slice_get l (frame_index f)) i1
       ∙ get-after k.front x k.back (frame_index f) (sym k.front_count)))
 
   -- the first child, where there is one

@@ -46,7 +46,6 @@ pub mod Growth
 pub mod StrainSums
 pub mod Claims
 pub mod Puts
-pub mod Exchanges
 pub mod Left
 pub mod Neighbours
 pub mod Turned

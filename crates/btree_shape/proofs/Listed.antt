@@ -7,15 +7,15 @@ use Rattle.btree_shape.specs.WellFormed.{least_of, IsWellFormed}
 use Rattle.btree_shape.proofs.Spelled.{spelled-is, height_below}
 use Rattle.btree_shape.specs.TreeState.{pairs_under}
 
-module _ {K V : Type 0} (cmp : K → K → Ordering) (look : Look (K × V)) where
-  some_item : (root id size : ℕ) → least_of root id ≤ size → 0 < size
-  some_item root id size h = grind (arith, nat_tests)
+pub some-item : (root id size : ℕ) → least_of root id ≤ size → 0 < size
+some-item root id size h = grind (arith, nat_tests)
 
+module _ {K V : Type 0} (cmp : K → K → Ordering) (look : Look (K × V)) where
   -- the list of a well formed tree is the one that its nodes spell
   pub pairs-well : (root : Option ℕ) (len : ℕ) (xs : List (K × V)) → IsWellFormed cmp look root len xs → pairs_under look root len ≡ xs
   pairs-well None len xs w = sym w.formed.1
   pairs-well (Some root) len xs w =
-      let high = height_below look w.formed.height None root xs (λ i node e. some_item root i (size_of node) (w.formed.sized i node e).0) w.formed.spells in
+      let high = height_below look w.formed.height None root xs (λ i node e. some-item root i (size_of node) (w.formed.sized i node e).0) w.formed.spells in
       let counted = w.counted in
       spelled-is look w.formed.height len None root xs (omega arith) w.formed.spells
 

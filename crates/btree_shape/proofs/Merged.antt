@@ -12,13 +12,14 @@ use Rattle.btree_shape.specs.Whole.{IsWhole}
 use Rattle.btree_shape.proofs.Carried.{join-items}
 use Rattle.btree_shape.proofs.Frames.{AllByRecursion-append, above-same, eachs-same, fill-filled, fill-holds, fill-id, fill-items, fill-times, fill-view, holds-same, one-other, one-self, one-zero, siblings-same, times_in-is, top-view}
 use Rattle.btree_shape.proofs.Growth.{children-below}
-use Rattle.btree_shape.proofs.Lent.{down-between, frame-parts, remade-view, remove-seam, some-is}
+use Rattle.btree_shape.proofs.Lent.{down-between, frame-parts, remade-view, remove-seam}
 use Rattle.btree_shape.proofs.LocalMoves.{Apart}
 use Rattle.btree_shape.proofs.Neighbours.{IsPair, pair-alone, pair-near}
-use Rattle.btree_shape.proofs.Numbers.{same-or, used-low, used-one, zero-or}
-use Rattle.btree_shape.proofs.Splits.{adopt, adopts, join, times-top, times_below, total-top, used-mapped}
+use Rattle.btree_shape.proofs.Numbers.{same-or, used-low, used-mapped, used-one, zero-or}
+use Rattle.btree_shape.proofs.Splits.{adopt, adopts, join, times-top, times_below, total-top}
 use Rattle.btree_shape.proofs.Strains.{join-count}
 use Rattle.btree_shape.proofs.Turned.{children_at, children_at-is, items_at, items_at-is, join-below, join-id, join-times, join-views, numbered}
+use Rattle.std.proofs.lemmas.Option.{same_Some}
 
 module _ (A : Type 0) where
   -- the parent without the item and the child after it
@@ -95,13 +96,13 @@ module _ (A : Type 0) (look new : Look A) where
     J = join A h a x b
 
     low-is : r.low ≡ view_at A h (Some Q) a
-    low-is = some-is r.low (view_at A h (Some Q) a) (sym r.at_left ∙ top-view A look h (Some Q) a p.left)
+    low-is = same_Some r.low (view_at A h (Some Q) a) (sym r.at_left ∙ top-view A look h (Some Q) a p.left)
 
     high-is : r.high ≡ view_at A h (Some Q) b
-    high-is = some-is r.high (view_at A h (Some Q) b) (sym r.at_right ∙ top-view A look h (Some Q) b p.right)
+    high-is = same_Some r.high (view_at A h (Some Q) b) (sym r.at_right ∙ top-view A look h (Some Q) b p.right)
 
     top-is : r.top ≡ view_at A (suc h) (parent_above c) (fill_two f a x b)
-    top-is = some-is r.top (view_at A (suc h) (parent_above c) (fill_two f a x b)) (sym r.at_parent ∙ p.parent)
+    top-is = same_Some r.top (view_at A (suc h) (parent_above c) (fill_two f a x b)) (sym r.at_parent ∙ p.parent)
 
     down-is : r.down ≡ x
     down-is = down-between A h (parent_above c) f a x b r.top r.down top-is r.down_is
@@ -133,7 +134,7 @@ module _ (A : Type 0) (look new : Look A) where
             | inr na ↦ elim (zero-or (times_listed n (children_of r.high))) [
               | inl z ↦ ap times_used (r.kept n np na nb z)
               | inr m ↦ ap times_used (r.moved n np na nb m)
-                  ∙ used-mapped A (with_parent (Some (id_of A h a))) (look n)
+                  ∙ used-mapped (with_parent (Some (id_of A h a))) (look n)
             ]
           ]
         ]

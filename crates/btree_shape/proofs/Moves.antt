@@ -18,10 +18,10 @@ lt-test n m h = grind (arith, nat_tests)
 ge-test : (n m : ℕ) → m ≤ n → nat_lt n m ≡ false
 ge-test n m h = grind (arith, nat_tests)
 
-same-test : (n m : ℕ) → n ≡ m → (n == m) ≡ true
+pub same-test : (n m : ℕ) → n ≡ m → (n == m) ≡ true
 same-test n m h = grind (arith, nat_tests)
 
-other-test : (n m : ℕ) → n ≢ m → (n == m) ≡ false
+pub other-test : (n m : ℕ) → n ≢ m → (n == m) ≡ false
 other-test n m h = grind (arith, nat_tests)
 
 module _ {X : Type 0} (l e g : X) where

@@ -1,11 +1,9 @@
 -- Numbers in lists and under nodes, counted.
-use Rattle.std.proofs.Common.{◌≡◌, ◌≢◌, ◌<◌, ◌≤◌, ◌⊎◌, ◌++◌, ◌∷◌, [], ◌+◌, ◌==◌, ℕ, zero, suc, inl, inr, cond, List, map, Option, Some, None, refl, ap, arith}
-use Rattle.std.proofs.lemmas.Bool.Decides.{nat_tests}
-use Rattle.std.proofs.lemmas.List.Sums.{sum_by-cons}
+use Rattle.std.proofs.Common.{◌≡◌, ◌≢◌, ◌<◌, ◌≤◌, ◌⊎◌, ◌++◌, ◌∷◌, [], ◌+◌, ℕ, zero, suc, inl, inr, List, length, map, Option, Some, None, refl, ap, arith, option_map}
 use Rattle.std.specs.List.{AllByRecursion, flat_map}
-use Rattle.btree_view.specs.View.{Look, children_in}
+use Rattle.btree_view.specs.View.{Look, children_in, View}
 use Rattle.btree_shape.specs.Shape.{Holds, Shape, id_of, one, times_listed, times_under, total}
-use Rattle.btree_shape.specs.Spells.{numbers_under, times}
+use Rattle.btree_shape.specs.Spells.{numbers_under}
 use Rattle.btree_shape.specs.WellFormed.{times_used}
 use Rattle.btree_shape.proofs.Frames.{one-self, total-append}
 
@@ -40,6 +38,19 @@ pub used-some : {X : Type 0} (o : Option X) → 0 < times_used o → (x : X) × 
 used-some None e = absurd (omega arith)
 used-some (Some x) e = (x, refl)
 
+pub used-mapped : {X Y : Type 0} (f : X → Y) (o : Option X) → times_used (option_map f o) ≡ times_used o
+used-mapped f None = refl
+used-mapped f (Some x) = refl
+
+pub used-there : {A : Type 0} (look : Look A) (n : ℕ) (v : View A) → look n ≡ Some v → 0 < times_used (look n)
+used-there look n v e = rw e (omega arith)
+
+pub used-same : {A : Type 0} (look new : Look A) (n : ℕ) → new n ≡ look n → 0 < times_used (look n) → 0 < times_used (new n)
+used-same look new n e u = rw e u
+
+pub same-node : {A : Type 0} (look : Look A) (id : ℕ) (v w : View A) → look id ≡ Some v → look id ≡ Some w → v ≡ w
+same-node look id v w e f = cc
+
 pub used-one : {X : Type 0} (o : Option X) (x : X) → o ≡ Some x → times_used o ≡ 1
 used-one None x e = absurd (cc)
 used-one (Some y) x e = refl
@@ -67,17 +78,9 @@ pick f (x ∷ xs) p =
       | inr q ↦ record { front = []; found = x; back = xs; is = refl; some = q }
     ]
 
-one-is : (m n : ℕ) → cond (m == n) 1 0 ≡ one n m
-one-is m n = elim (same-or m n) [ inl e ↦ grind (arith, nat_tests) | inr e ↦ grind (arith, nat_tests) ]
-
--- the two ways to count a number in a list
-pub times-listed : (n : ℕ) (ns : List ℕ) → times n ns ≡ times_listed n ns
-times-listed n [] = refl
-times-listed n (m ∷ ns) =
-    let a = sum_by-cons (λ m. cond (m == n) 1 0) m ns in
-    let b = times-listed n ns in
-    let c = one-is m n in
-    omega arith
+pub none-listed : (ns : List ℕ) → length ns ≡ 0 → (n : ℕ) → times_listed n ns ≡ 0
+none-listed [] none n = refl
+none-listed (m ∷ ns) none n = absurd (omega arith)
 
 pub listed-append : (n : ℕ) (ns ms : List ℕ) → times_listed n (ns ++ ms) ≡ times_listed n ns + times_listed n ms
 listed-append n ns ms = total-append (λ i. one n i) ns ms

@@ -22,15 +22,16 @@ use Rattle.btree_shape.proofs.Claims.{claimed}
 use Rattle.btree_shape.proofs.Climbs.{deep-enough}
 use Rattle.btree_shape.proofs.Frames.{top-view}
 use Rattle.btree_shape.proofs.Heights.{high-enough, levels-is}
-use Rattle.btree_shape.proofs.Lent.{some-is}
 use Rattle.btree_shape.proofs.OnTour.{odd-on, on-whole, whole-addressed, whole-on}
-use Rattle.btree_shape.proofs.Overflows.{climb-is, climbing-start, less-no}
+use Rattle.btree_shape.proofs.Needs.{less-no}
+use Rattle.btree_shape.proofs.Overflows.{climb-is, climbing-start}
 use Rattle.btree_shape.proofs.Puts.{grown-rooted}
 use Rattle.btree_shape.proofs.Rooted.{odd-at}
 use Rattle.btree_shape.proofs.Sizes.{view-most, view-size}
 use Rattle.btree_shape.proofs.SpelledShapes.{shape-of}
 use Rattle.btree_shape.proofs.Standing.{stand-up, whole-standing}
 use Rattle.btree_shape.proofs.StrainSums.{strain-standing}
+use Rattle.std.proofs.lemmas.Option.{same_Some}
 
 some-used : {X : Type 0} (o : Option X) → IsSome o → 0 < times_used o
 some-used None i = absurd (cc)
@@ -101,7 +102,7 @@ module _ {K V : Type 0} (cmp : K → K → Ordering) (laws : IsTotalOrder cmp) (
   view-is : v ≡ view_at (K × V) node.seen.height (parent_above node.seen.way) node.seen.shape
   view-is =
       let n : View (K × V) = view_at (K × V) node.seen.height (parent_above node.seen.way) node.seen.shape in
-      some-is v n (sym e ∙ subst (λ i. look i ≡ Some n) node.seen.here
+      same_Some v n (sym e ∙ subst (λ i. look i ≡ Some n) node.seen.here
       (top-view (K × V) look node.seen.height (parent_above node.seen.way) node.seen.shape node.seen.whole.inner))
 
   size-is : size_of v ≡ count_at (K × V) node.seen.height node.seen.shape
@@ -166,7 +167,7 @@ module _ {K V : Type 0} (cmp : K → K → Ordering) (laws : IsTotalOrder cmp) (
       let d = depth-low in
       subst (λ i. IsClimbing (K × V) look root xs most i 0 (climb look most i)) node.seen.here
       (climbing-start (K × V) look root xs most node.seen.height node.seen.way node.seen.shape stands
-      node.seen.whole.filled (omega arith))
+      (omega arith))
 
   -- the node has an item too many, and a number was claimed for each node that the splits take: they begin
   pub odd-grows : most_of v < size_of v → (most : ℕ) → w.rooted.height < most → (mid : Look (K × V)) (spare : List ℕ)
@@ -181,7 +182,7 @@ module _ {K V : Type 0} (cmp : K → K → Ordering) (laws : IsTotalOrder cmp) (
       let dl = depth-low in
       let c =
       climb-is (K × V) look node.seen.height most node.seen.way node.seen.shape (omega arith) stands.above stands.inner
-      node.seen.whole.filled in
+      in
       let c2 : climb look most odd ≡ climbed node.seen.way (count_at (K × V) node.seen.height node.seen.shape) =
       subst (λ i. climb look most i ≡ climbed node.seen.way (count_at (K × V) node.seen.height node.seen.shape))
       node.seen.here c in

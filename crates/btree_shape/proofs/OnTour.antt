@@ -1,16 +1,16 @@
 -- The tour of the tree under a root, seen from any node, says the same as the public words on addresses.
-use Rattle.std.proofs.Common.{◌≡◌, ◌<◌, ◌≤◌, [], ◌∙◌, ◌+◌, ℕ, inl, inr, List, length, Option, Some, None, refl, sym, ap, subst, arith, append-nil}
+use Rattle.std.proofs.Common.{◌≡◌, ◌≤◌, [], ◌∙◌, ◌+◌, ℕ, inl, inr, List, length, Option, Some, None, refl, sym, ap, subst, arith, append-nil, option_and_then}
 use Rattle.std.specs.Cmp.{IsTotalOrder}
 use Rattle.std.specs.FinMap.{len}
 use Rattle.std.specs.declared.cmp.Ordering.{Ordering}
 use Rattle.btree_item.specs.declared.address.Address.{Address}
 use Rattle.btree_view.specs.View.{Look, View, item_in, size_of}
-use Rattle.btree_shape.specs.OnTour.{IsAddressed, IsOnTour, item_at}
-use Rattle.btree_shape.specs.Place.{IsValid, IsWithin}
+use Rattle.btree_shape.specs.OnTour.{IsAddressed, IsOnTour}
+use Rattle.btree_shape.specs.Place.{IsValid, IsWithin, item_at}
 use Rattle.btree_shape.specs.Shape.{Holds, Shape, id_of, view_at}
 use Rattle.btree_shape.specs.Tour.{Asks, In, tour, whole_tour}
 use Rattle.btree_shape.specs.Way.{Above, items_before, parent_above, top}
-use Rattle.btree_shape.specs.WellFormed.{IsNearlySized, IsOffByOne, IsRooted, IsSized, IsWellFormed, times_used}
+use Rattle.btree_shape.specs.WellFormed.{IsNearlySized, IsOffByOne, IsRooted, IsSized, IsWellFormed}
 use Rattle.btree_shape.specs.Whole.{Standing, IsWhole}
 use Rattle.btree_shape.proofs.Frames.{top-view}
 use Rattle.btree_shape.proofs.NodePlaces.{items_upto}
@@ -19,6 +19,7 @@ use Rattle.btree_shape.proofs.OneTour.{one-tour, plugged}
 use Rattle.btree_shape.proofs.Rooted.{node-rooted, standing-rooted}
 use Rattle.btree_shape.proofs.Sizes.{view-size}
 use Rattle.btree_shape.proofs.Standing.{stand-root, whole-standing}
+use Rattle.btree_shape.proofs.Stores.{within-used}
 use Rattle.btree_shape.proofs.TourPlaces.{hole-in, in-addressed, top-item, top_item}
 
 module _ (A : Type 0) (look : Look A) where
@@ -85,14 +86,10 @@ module _ (A : Type 0) (look : Look A) where
       pub place : ℕ
       pub on : IsOnTour A look root asked a place
 
-    node-used : (v : Option (View A)) (o : Option ℕ) → IsWithin look v o → 0 < times_used v
-    node-used None o l = absurd l
-    node-used (Some v) o l = omega arith
-
     -- seen from its own node
     pub seen-on : (spare : List ℕ) (h : ℕ) (c : Above A h) (t : Shape A h) → id_of A h t ≡ a.id
         → Standing A look spare root xs h c t
-        → IsWithin look (look a.id) a.offset → Asks asked (item_at look a.id a.offset) → OnTour
+        → IsWithin look (look a.id) a.offset → Asks asked (item_at look a) → OnTour
     seen-on spare h c t here w l m = by a.offset refl l m
       where
         e : look a.id ≡ Some (view_at A h (parent_above c) t)
@@ -109,7 +106,7 @@ module _ (A : Type 0) (look : Look A) where
                   (subst (λ i. In asked (record { id = i; offset = o }) (whole_tour A h c t) p) here i));
             }
 
-        by : (o : Option ℕ) → a.offset ≡ o → IsWithin look (look a.id) o → Asks asked (item_at look a.id o) → OnTour
+        by : (o : Option ℕ) → a.offset ≡ o → IsWithin look (look a.id) o → Asks asked (option_and_then (item_in (look a.id)) o) → OnTour
         by None same k n = on-at None same (length (items_before c) + 0) (hole-in A asked h c t None tt n)
         by (Some o) same k n =
             let k2 : o ≤ size_of (view_at A h (parent_above c) t) = subst (λ v. IsWithin look v (Some o)) e k in
@@ -120,10 +117,10 @@ module _ (A : Type 0) (look : Look A) where
             (hole-in A asked h c t (Some o) (omega arith) m2)
 
     pub valid-on : (is_right : (id : ℕ) → View A → Type 0) → IsRooted is_right look root xs
-        → IsValid look (Some root) a.id a.offset → Asks asked (item_at look a.id a.offset) → OnTour
+        → IsValid look (Some root) a.id a.offset → Asks asked (item_at look a) → OnTour
     valid-on is_right r (inr none) m = let e = none.0 in absurd (cc)
     valid-on is_right r (inl l) m =
-        let n = node-rooted A look is_right root xs r a.id (node-used (look a.id) a.offset l) in
+        let n = node-rooted A look is_right root xs r a.id (within-used look (look a.id) a.offset l) in
         seen-on [] n.height n.way n.shape n.here n.stands l m
 
 module _ {K V : Type 0} (cmp : K → K → Ordering) (laws : IsTotalOrder cmp) (look : Look (K × V)) (root : ℕ)

@@ -3,7 +3,7 @@ use Rattle.std.proofs.Common.{◌≡◌, ◌≢◌, ℕ, ◌<◌, ◌≤◌, Lis
 use Rattle.std.proofs.lemmas.Bool.{cases_eq}
 use Rattle.std.proofs.lemmas.Bool.Decides.{nat_tests}
 use Rattle.btree_view.specs.View.{View, leaf, Look, size_of, most_of}
-use Rattle.btree_shape.specs.Spells.{times}
+use Rattle.btree_shape.specs.Shape.{times_listed}
 use Rattle.btree_shape.specs.WellFormed.{times_used, least_of, IsSized, IsRooted}
 
 -- the only node is a leaf with these items and no parent
@@ -12,7 +12,7 @@ pub record IsOneLeaf {A : Type 0} (look : Look A) (root : ℕ) (xs : List A) : T
   pub alone : (n : ℕ) → n ≢ root → look n ≡ None
 
 module _ {A : Type 0} (look : Look A) (root : ℕ) (xs : List A) where
-  once_here : (n : ℕ) → IsOneLeaf look root xs → times n (root ∷ []) ≡ times_used (look n)
+  once_here : (n : ℕ) → IsOneLeaf look root xs → times_listed n (root ∷ []) ≡ times_used (look n)
   once_here n one = elim (cases_eq n root) [
     | inl same ↦ rw (same, one.here) (grind (arith, nat_tests))
     | inr differs ↦ rw (one.alone n differs) (grind (arith, nat_tests))

@@ -10,7 +10,7 @@ use Rattle.btree_item.specs.declared.address.Address.{Address}
 use Rattle.btree_view.specs.Edits.{with_item}
 use Rattle.btree_view.specs.View.{Look, leaf}
 use Rattle.btree_shape.specs.Growing.{IsGrowing, IsGrown}
-use Rattle.btree_shape.specs.Need.{need, need_from, needed, wanted}
+use Rattle.btree_shape.specs.Need.{climb, climbed, need, wanted}
 use Rattle.btree_shape.specs.Node.{IsNode}
 use Rattle.btree_shape.specs.Place.{IsPlace}
 use Rattle.btree_shape.specs.Shape.{IsFilled, Shape, count_at, id_of, one}
@@ -24,11 +24,12 @@ use Rattle.btree_shape.specs.Whole.{IsWhole}
 use Rattle.btree_shape.proofs.AddressPlaces.{AddressIn, address-in}
 use Rattle.btree_shape.proofs.Claims.{claimed}
 use Rattle.btree_shape.proofs.Frames.{above-same, one-zero}
-use Rattle.btree_shape.proofs.Needs.{full-no, full-yes, need-node}
+use Rattle.btree_shape.proofs.Needs.{less-no, less-yes}
 use Rattle.btree_shape.proofs.NodePlaces.{hole-place}
 use Rattle.btree_shape.proofs.Numbers.{same-or, used-low, used-one}
 use Rattle.btree_shape.proofs.OneLeaf.{rooted-one_leaf}
 use Rattle.btree_shape.proofs.OnePlace.{one_place-well}
+use Rattle.btree_shape.proofs.Overflows.{climb-node}
 use Rattle.btree_shape.proofs.Rooted.{node-at, rooted-node}
 use Rattle.btree_shape.proofs.StrainSums.{strain-rooted}
 use Rattle.btree_shape.proofs.Strains.{own-more}
@@ -86,7 +87,7 @@ module _ (A : Type 0) where
   module _ (look mid new : Look A) (root : ℕ) (xs : List A) (id : ℕ) (p : Option ℕ) (ys : List A) (o : ℕ) (x : A)
       (spare : List ℕ)
       (node : IsNode A look root xs id) (here : look id ≡ Some (leaf p ys)) (low : o ≤ length ys)
-      (cl : Claims look mid spare) (enough : length spare ≡ need_from look (length xs) id)
+      (cl : Claims look mid spare) (enough : length spare ≡ climb look (length xs) id)
       (pu : Puts mid new id (with_item o x None (leaf p ys))) where
     -- the place in the list, the tree with the item, and what it has gained
     pub record PutAt : Type 0 where
@@ -98,11 +99,11 @@ module _ (A : Type 0) where
 
     pub put-grows : PutAt
     put-grows = at node.seen.height node.seen.way node.seen.shape node.seen.here node.seen.whole node.sized
-        (need-node A look root xs id node) refl
+        (climb-node A look root xs id node) refl
       where
         at : (h : ℕ) (c : Above A h) (t : Shape A h) → id_of A h t ≡ id → IsWhole A look [] root xs h c t
             → IsFilled (least_at c) h (count_at A h t)
-            → need_from look (length xs) id ≡ needed c (count_at A h t)
+            → climb look (length xs) id ≡ climbed c (count_at A h t)
             → strain_of A h c t ≡ strain_of A node.seen.height node.seen.way node.seen.shape → PutAt
         at (suc h) c t is w z nd st =
             let d = w.inner.0 in let e2 : look t.0 ≡ Some (leaf p ys) = rw is here in absurd (cc)
@@ -131,8 +132,8 @@ module _ (A : Type 0) where
                 seen = record { height = 0; way = c; shape = (id, insert ys o x); here = refl; whole = w2 };
                 low = omega arith;
                 high = omega arith;
-                enough = λ full. let y = full-yes (length t.1) 8 (wanted c) 0 (omega arith) in enough ∙ (nd ∙ y);
-                none = λ few. let y = full-no (length t.1) 8 (wanted c) 0 (λ e. omega arith) in enough ∙ (nd ∙ y);
+                enough = λ full. let y = less-no (length t.1) 8 0 (wanted c) (omega arith) in enough ∙ (nd ∙ y);
+                none = λ few. let y = less-yes (length t.1) 8 0 (wanted c) (omega arith) in enough ∙ (nd ∙ y);
                 there = item-in A 0 c (parent_above c) (id, insert ys o x) o x (slice_get-insert ys o x low)
                     (omega arith);
                 paid = let q = put-strain c id ys o x low in let r : strain_of A 0 c t ≡ strain_of A 0 c (id, ys) =
@@ -172,7 +173,7 @@ module _ {K V : Type 0} (cmp : K → K → Ordering) (laws : IsTotalOrder cmp) (
       let node =
       node-at (K × V) look root xs well.formed id (let u = used-one (look id) (leaf p ys) here in omega arith) in
       let counted = well.counted in
-      let enough2 : length spare ≡ need_from look (length xs) id = enough ∙ ap (λ n. need_from look n id) counted in
+      let enough2 : length spare ≡ climb look (length xs) id = enough ∙ ap (λ n. climb look n id) counted in
       let r = put-grows (K × V) look mid new root xs id p ys o x spare node here low cl enough2 pu in
       let same = one_place-well cmp laws look xs len (Some root) well id (Some o) r.place place r.is is in
       let st : r.strain ≡ strain_under look root (numbers_under look well.formed.height root) =

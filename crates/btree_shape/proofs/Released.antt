@@ -10,17 +10,17 @@ use Rattle.btree_shape.specs.Way.{top}
 use Rattle.btree_shape.specs.WellFormed.{times_used}
 use Rattle.btree_shape.specs.Whole.{IsWhole}
 use Rattle.btree_shape.proofs.Frames.{one-other, one-self, one-zero}
-use Rattle.btree_shape.proofs.Lent.{some-is}
-use Rattle.btree_shape.proofs.Numbers.{same-or, used-low, used-none}
-use Rattle.btree_shape.proofs.Splits.{adopt, times-top, times_below, used-mapped}
-use Rattle.btree_shape.proofs.Turned.{cons-parts}
+use Rattle.btree_shape.proofs.Numbers.{same-or, used-low, used-mapped, used-none}
+use Rattle.btree_shape.proofs.Splits.{adopt, times-top, times_below}
+use Rattle.btree_shape.proofs.Descents.{cons-parts}
+use Rattle.std.proofs.lemmas.Option.{same_Some}
 
 module _ (A : Type 0) (look new : Look A) (xs : List A) (n : ℕ) where
   module _ (h : ℕ) (u : Shape A h) (w : IsWhole A look [] n xs (suc h) top (n, u, [])) (child : ℕ)
       (r : Releases look new n child) where
     pub child-is-only : child ≡ id_of A h u
     child-is-only =
-        (cons-parts {X = ℕ} (sym r.only ∙ ap children_of (some-is r.node _ (sym r.at_root ∙ w.inner.0)))).0
+        (cons-parts {X = ℕ} (sym r.only ∙ ap children_of (same_Some r.node _ (sym r.at_root ∙ w.inner.0)))).0
 
     sum : (m : ℕ) → one m n + (one m (id_of A h u) + times_below A h m u) ≤ 1
     sum m = let o = w.once m in let k = used-low (look m) in let t = times-top A h m u in omega arith
@@ -49,7 +49,7 @@ module _ (A : Type 0) (look new : Look A) (xs : List A) (n : ℕ) where
                 | inr ne ↦
                     let k : times_used (new m) ≡ times_used (look m) =
                     elim (same-or m (id_of A h u)) [
-                      | inl e ↦ rw (e, here) (used-mapped A (with_parent None) (look (id_of A h u)))
+                      | inl e ↦ rw (e, here) (used-mapped (with_parent None) (look (id_of A h u)))
                       | inr nu ↦ ap times_used (kept m ne nu)
                     ] in
                     let z = one-other m n ne in

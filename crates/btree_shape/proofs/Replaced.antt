@@ -17,7 +17,7 @@ use Rattle.btree_shape.specs.Way.{Above, HoldsAbove, items_after, items_before, 
 use Rattle.btree_shape.specs.WellFormed.{IsRooted, times_used}
 use Rattle.btree_shape.proofs.Carried.{tour-passed}
 use Rattle.btree_shape.proofs.Frames.{above-same, one-zero, top-view}
-use Rattle.btree_shape.proofs.Lent.{remade-view, some-is}
+use Rattle.btree_shape.proofs.Lent.{remade-view}
 use Rattle.btree_shape.proofs.NodePlaces.{items_upto, standing-place}
 use Rattle.btree_shape.proofs.Numbers.{same-or, times-has, used-low, used-one}
 use Rattle.btree_shape.proofs.OddNodes.{levels-rooted}
@@ -29,6 +29,7 @@ use Rattle.btree_shape.proofs.Swaps.{Swapped, swapped}
 use Rattle.btree_shape.proofs.TourPlaces.{item-in}
 use Rattle.btree_shape.proofs.Tours.{in-cases, in-left, in-right}
 use Rattle.btree_shape.proofs.Turned.{children_at-is, items_at, items_at-is}
+use Rattle.std.proofs.lemmas.Option.{same_Some}
 
 kind-most : {A : Type 0} (v w : View A) → is_internal v ≡ is_internal w → most_of v ≡ most_of w
 kind-most (leaf p xs) (leaf q ys) e = refl
@@ -57,7 +58,7 @@ module _ (A : Type 0) (is_right : (id : ℕ) → View A → Type 0)
 
   module _ (h : ℕ) (c : Above A h) (t : Shape A h) (is : id_of A h t ≡ n) (s : Standing A look [] root xs h c t) where
     view-is : v ≡ view_at A h (parent_above c) t
-    view-is = some-is v (view_at A h (parent_above c) t)
+    view-is = same_Some v (view_at A h (parent_above c) t)
         (sym here ∙ subst (λ i. look i ≡ Some (view_at A h (parent_above c) t)) is
         (top-view A look h (parent_above c) t s.inner))
 
@@ -143,7 +144,7 @@ module _ (A : Type 0) (is_right : (id : ℕ) → View A → Type 0)
     sized i u e =
         elim (same-or i n) [
           | inl at ↦
-              let same : w ≡ u = some-is w u (sym put.here ∙ (ap new (sym at) ∙ e)) in
+              let same : w ≡ u = same_Some w u (sym put.here ∙ (ap new (sym at) ∙ e)) in
               let size : size_of w ≡ size_of v = ap length has.items_are ∙ length-set (items_of v) k y in
               subst (λ z. is_right i z) same (subst (λ j. is_right j w) (sym at)
               (by_size n v w size (kind-most w v has.kind) (r.sized n v here)))

@@ -9,7 +9,7 @@ use Rattle.btree_shape.specs.Way.{Above, AreFilled, Frame, HoldsAbove, frame_id,
 use Rattle.btree_shape.specs.WellFormed.{IsNearlySized, IsRooted, IsSized, excess_beside, least_beside, least_of, times_used}
 use Rattle.btree_shape.specs.Whole.{Standing, IsTree, IsWhole}
 use Rattle.btree_shape.proofs.Frames.{one-other, one-self, one-zero, times_in-is, top-view}
-use Rattle.btree_shape.proofs.Numbers.{numbers-shape, same-or, times-has, times-listed, used-low, used-one, zero-or}
+use Rattle.btree_shape.proofs.Numbers.{numbers-shape, same-or, times-has, used-low, used-one, zero-or}
 use Rattle.btree_shape.proofs.Sizes.{above-sized, below-filled, below-middle, frame-most, frame-size, frames-filled, least-low, least-other, least-root, root-there, view-most, view-size}
 use Rattle.btree_shape.proofs.SpelledShapes.{shape-of, spells-of}
 use Rattle.btree_shape.proofs.Standing.{AtNode, AtRoot, stand-at, stand-root, standing-whole, whole-standing}
@@ -22,23 +22,17 @@ module _ (root odd : ℕ) where
   least-odd id e = elim (same-or odd root) [ inl s ↦ grind (arith, nat_tests) | inr s ↦ grind (arith, nat_tests) ]
 
   module _ {A : Type 0} (id : ℕ) (v : View A) (away : id ≢ odd) where
-    nearly-sized : IsNearlySized root odd id v → IsSized root id v
-    nearly-sized z = let a = is_away in let b = no_more in let z0 = z.0 in let z1 = z.1 in (omega arith, omega arith)
-      where
-        is_away : least_beside root odd id ≡ least_of root id
-        is_away = grind (arith, nat_tests)
+    is-away : least_beside root odd id ≡ least_of root id
+    is-away = grind (arith, nat_tests)
 
-        no_more : excess_beside odd id ≡ 0
-        no_more = grind (arith, nat_tests)
+    no-more : excess_beside odd id ≡ 0
+    no-more = grind (arith, nat_tests)
+
+    nearly-sized : IsNearlySized root odd id v → IsSized root id v
+    nearly-sized z = let a = is-away in let b = no-more in let z0 = z.0 in let z1 = z.1 in (omega arith, omega arith)
 
     sized-nearly : IsSized root id v → IsNearlySized root odd id v
-    sized-nearly z = let a = is_away in let b = no_more in let z0 = z.0 in let z1 = z.1 in (omega arith, omega arith)
-      where
-        is_away : least_beside root odd id ≡ least_of root id
-        is_away = grind (arith, nat_tests)
-
-        no_more : excess_beside odd id ≡ 0
-        no_more = grind (arith, nat_tests)
+    sized-nearly z = let a = is-away in let b = no-more in let z0 = z.0 in let z1 = z.1 in (omega arith, omega arith)
 
 excess-odd : (odd id : ℕ) → id ≡ odd → excess_beside odd id ≡ 1
 excess-odd odd id e = grind (arith, nat_tests)
@@ -99,7 +93,6 @@ module _ (A : Type 0) (look : Look A) where
               (spells-of A look r.height None r.shape r.stands.inner));
           sized = z;
           once = λ n.
-              let a = times-listed n (numbers_under look r.height root) in
               let b =
               subst (λ i. times_listed n (numbers_under look r.height i) ≡ times_under A r.height n r.shape) top
               (numbers-shape A look n r.height None r.shape r.stands.inner) in
@@ -118,7 +111,6 @@ module _ (A : Type 0) (look : Look A) where
             above = tt;
             inner = s.holds;
             once = λ n.
-                let a = times-listed n (numbers_under look r.height root) in
                 let b =
                 subst (λ i. times_listed n (numbers_under look r.height i) ≡ times_under A r.height n s.shape) s.here
                 (numbers-shape A look n r.height None s.shape s.holds) in

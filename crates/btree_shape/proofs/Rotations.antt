@@ -10,13 +10,15 @@ use Rattle.btree_shape.specs.Way.{Above, Frame, after_in, before_in, fill_two, f
 use Rattle.btree_shape.specs.WellFormed.{times_used}
 use Rattle.btree_shape.proofs.Frames.{above-same, one-zero, siblings-same, top-view}
 use Rattle.btree_shape.proofs.LocalMoves.{Apart}
-use Rattle.btree_shape.proofs.Lent.{child-is, down-between, exchanged-view, first-inside, remade-view, some-is, to-left, to-right}
+use Rattle.btree_shape.proofs.Lent.{child-is, down-between, exchanged-view, first-inside, remade-view, to-left, to-right}
 use Rattle.btree_shape.proofs.Neighbours.{IsPair, pair-alone, pair-near}
-use Rattle.btree_shape.proofs.Numbers.{same-or, used-one, zero-or}
+use Rattle.btree_shape.proofs.Numbers.{same-or, used-mapped, used-one, zero-or}
 use Rattle.btree_shape.proofs.PairTours.{turn-join}
 use Rattle.btree_shape.proofs.Sizes.{view-size}
-use Rattle.btree_shape.proofs.Splits.{append_same, join, times-top, used-mapped}
-use Rattle.btree_shape.proofs.Turned.{children_at, children_at-is, cons-parts, items_at, items_at-is, kind-is, same-below, same-items, same-times, turned, turns-left, turns-right}
+use Rattle.btree_shape.proofs.Splits.{append_same, join, times-top}
+use Rattle.btree_shape.proofs.Turned.{children_at, children_at-is, items_at, items_at-is, kind-is, same-below, same-items, same-times, turned, turns-left, turns-right}
+use Rattle.btree_shape.proofs.Descents.{cons-parts}
+use Rattle.std.proofs.lemmas.Option.{same_Some}
 
 snoc-parts : {X : Type 0} (l l' : List X) (x x' : X) → l ++ x ∷ [] ≡ l' ++ x' ∷ [] → (l ≡ l') × (x ≡ x')
 snoc-parts l l' x x' e =
@@ -127,7 +129,7 @@ module _ (A : Type 0) (look new : Look A) (root : ℕ) (xs : List A) (h : ℕ) (
               | inl e ↦ by n (id_of A h b) high new_high e w.at_right w.new_right
               | inr nb ↦ elim (zero-or (times_listed n (as_list child))) [
                 | inl z ↦ ap times_used (w.kept n np na nb z)
-                | inr m ↦ ap times_used (w.moved n np na nb m) ∙ used-mapped A (with_parent (Some adopter)) (look n)
+                | inr m ↦ ap times_used (w.moved n np na nb m) ∙ used-mapped (with_parent (Some adopter)) (look n)
               ]
             ]
           ]
@@ -177,13 +179,13 @@ module _ (A : Type 0) (look new : Look A) (root : ℕ) (xs : List A) (h : ℕ) (
   FId = frame_id f
 
   left-view : (v : View A) → look (id_of A h a) ≡ Some v → v ≡ view_at A h (Some FId) a
-  left-view v e = some-is v (view_at A h (Some FId) a) (sym e ∙ top-view A look h (Some FId) a p.left)
+  left-view v e = same_Some v (view_at A h (Some FId) a) (sym e ∙ top-view A look h (Some FId) a p.left)
 
   right-view : (v : View A) → look (id_of A h b) ≡ Some v → v ≡ view_at A h (Some FId) b
-  right-view v e = some-is v (view_at A h (Some FId) b) (sym e ∙ top-view A look h (Some FId) b p.right)
+  right-view v e = same_Some v (view_at A h (Some FId) b) (sym e ∙ top-view A look h (Some FId) b p.right)
 
   parent-view : (v : View A) → look FId ≡ Some v → v ≡ view_at A (suc h) (parent_above c) (fill_two f a x b)
-  parent-view v e = some-is v (view_at A (suc h) (parent_above c) (fill_two f a x b)) (sym e ∙ p.parent)
+  parent-view v e = same_Some v (view_at A (suc h) (parent_above c) (fill_two f a x b)) (sym e ∙ p.parent)
 
   -- after a rotation to the left
   pub record LeftTurn : Type 0 where

@@ -13,6 +13,7 @@ use Rattle.btree_view.specs.View.{View, Look, items_of, item_in}
 use Rattle.btree_shape.specs.Spells.{Spells}
 use Rattle.btree_shape.specs.Place.{IsSubtree, StandsAt, IsPlace, IsPlaceOf, IsEnd}
 use Rattle.btree_shape.proofs.Spelled.{spelled-is}
+use Rattle.std.proofs.lemmas.Option.{slice_get_past}
 
 module _ {A : Type 0} (look : Look A) where
   same_spells : (h k : ℕ) (p q : Option ℕ) (id : ℕ) (ys zs : List A) → Spells look h p id ys → Spells look k q id zs → ys ≡ zs
@@ -22,16 +23,6 @@ module _ {A : Type 0} (look : Look A) where
   -- a node spells one list
   pub same_subtree : (id : ℕ) (ys zs : List A) → IsSubtree look id ys → IsSubtree look id zs → ys ≡ zs
   same_subtree id ys zs s t = same_spells s.height t.height s.parent t.parent id ys zs s.spells t.spells
-
-module _ {X : Type 0} where
-  past : (zs : List X) (n : ℕ) → n ≡ length zs → slice_get zs n ≡ None
-  past [] n e = refl
-  past (z ∷ zs) zero e = absurd (omega arith)
-  past (z ∷ zs) (suc n) e = past zs n (omega arith)
-
-  get_past : (front : List X) (y : X) (more : List X) → slice_get (front ++ y ∷ more) (length front) ≡ Some y
-  get_past [] y more = refl
-  get_past (x ∷ front) y more = get_past front y more
 
 not_below_itself : (c : Ordering) → c ≡ ordering_reverse c → c ≡ Less → ⊥
 not_below_itself Less e l = absurd (cc)
@@ -103,7 +94,7 @@ module _ {K V : Type 0} (cmp : K → K → Ordering) (o : IsTotalOrder cmp) wher
 
         apart_at : (n : ℕ) (v : Option (View (K × V))) → IsPlaceOf look xs (item_in v i) n → IsEnd look v i → ⊥
         apart_at n None a e = absurd e
-        apart_at n (Some node) a e = let none = past (items_of node) i e in absurd (rw none at a)
+        apart_at n (Some node) a e = let none = slice_get_past (items_of node) i (omega arith) in absurd (rw none at a)
 
         apart_end : (n : ℕ) → IsPlaceOf look xs (item_in (look id) i) n → IsEnd look (look id) i → ⊥
         apart_end n a e = apart_at n (look id) a e

@@ -2,6 +2,7 @@
 use Rattle.std.proofs.Common.{◌≡◌, ◌≢◌, ◌<◌, ◌≤◌, ◌∷◌, [], ◌∙◌, ◌+◌, ℕ, zero, suc, inr, true, false, List, Option, Some, None, refl, sym, ap, subst, arith, append-nil}
 use Rattle.std.specs.Prelude.{IsTrue, slice_get}
 use Rattle.btree_item.specs.declared.address.Address.{Address}
+use Rattle.btree_shape.proofs.Beside.{Beside}
 use Rattle.btree_view.specs.Edits.{is_internal}
 use Rattle.btree_view.specs.View.{Look, View, children_of, most_of, parent_of, size_of}
 use Rattle.btree_shape.specs.Growing.{IsGrown}
@@ -16,16 +17,15 @@ use Rattle.btree_shape.specs.Tour.{In, tour, whole_tour}
 use Rattle.btree_shape.specs.Way.{Above, frame_id, frame_index, frame_view, least_at, parent_above, top, under}
 use Rattle.btree_shape.specs.WellFormed.{IsFormed, times_used}
 use Rattle.btree_shape.specs.Whole.{IsWhole}
-use Rattle.btree_shape.specs.Beside.{Beside}
 use Rattle.btree_shape.proofs.Climbs.{index-fits, index-here}
 use Rattle.btree_shape.proofs.Frames.{one-self, top-view}
-use Rattle.btree_shape.proofs.Lent.{some-is}
 use Rattle.btree_shape.proofs.Numbers.{times-own, used-low, used-one}
 use Rattle.btree_shape.proofs.PairStrains.{release-strain}
 use Rattle.btree_shape.proofs.PairTours.{emptied-place, release-places}
 use Rattle.btree_shape.proofs.Released.{emptied, released}
 use Rattle.btree_shape.proofs.Sides.{go-after, go-before, inner-is}
 use Rattle.btree_shape.proofs.Sizes.{frame-size, view-most, view-parent, view-size}
+use Rattle.std.proofs.lemmas.Option.{same_Some}
 
 module _ (A : Type 0) (look : Look A) (root : ℕ) (xs : List A) (id : ℕ) (asked : Option A) (a : Address)
     (place given bound : ℕ) (g : IsShrinking A look root xs id asked a place given bound) where
@@ -42,7 +42,7 @@ module _ (A : Type 0) (look : Look A) (root : ℕ) (xs : List A) (id : ℕ) (ask
 
   module _ (v : View A) (e : look id ≡ Some v) where
     view-is : v ≡ view_at A g.seen.height (parent_above g.seen.way) g.seen.shape
-    view-is = some-is v (view_at A g.seen.height (parent_above g.seen.way) g.seen.shape) (sym e ∙ shrinks-node)
+    view-is = same_Some v (view_at A g.seen.height (parent_above g.seen.way) g.seen.shape) (sym e ∙ shrinks-node)
 
     size-is : size_of v ≡ count_at A g.seen.height g.seen.shape
     size-is = ap size_of view-is ∙ view-size A g.seen.height (parent_above g.seen.way) g.seen.shape
@@ -110,7 +110,7 @@ module _ (A : Type 0) (look : Look A) (root : ℕ) (xs : List A) (id : ℕ) (ask
         at h top t here w q th pd lo hi sz = let e = view-parent A h None t in absurd (cc)
         at h (under f c) t here w q th pd lo hi sz =
             let e = view-parent A h (Some (frame_id f)) t in
-            let ps : frame_id f ≡ p = some-is (frame_id f) p (sym e ∙ q) in
+            let ps : frame_id f ≡ p = same_Some (frame_id f) p (sym e ∙ q) in
             let fs = frame-size A h (parent_above c) f (id_of A h t) in
             let fm = w.filled.0.0 in
             let fi = index-fits A h f in

@@ -1,6 +1,6 @@
 -- A node and the children before and after it under its parent, by the numbers that the parent names.
 use Rattle.std.proofs.Common.{◌≡◌, ◌≤◌, ◌++◌, ◌∷◌, [], ◌∙◌, ◌+◌, ℕ, suc, List, length, map, Option, Some, refl, sym, ap, subst, arith, append_assoc, length-append}
-use Rattle.std.proofs.lemmas.Option.{slice_get_within}
+use Rattle.std.proofs.lemmas.Option.{same_Some, slice_get_within}
 use Rattle.std.specs.Prelude.{IsTrue, slice_get}
 use Rattle.btree_item.specs.declared.address.Address.{Address}
 use Rattle.btree_view.specs.Edits.{is_internal}
@@ -10,12 +10,11 @@ use Rattle.btree_shape.specs.Strain.{strain_of}
 use Rattle.btree_shape.specs.Tour.{In, whole_tour}
 use Rattle.btree_shape.specs.Way.{Above, Frame, at_branch, at_first, fill, fill_two, frame_count, frame_id, frame_index, frame_view, parent_above, under}
 use Rattle.btree_shape.specs.Whole.{IsWhole}
-use Rattle.btree_shape.specs.Beside.{Beside}
-use Rattle.btree_shape.proofs.Beside.{beside}
+use Rattle.btree_shape.proofs.Beside.{beside, Beside}
 use Rattle.btree_shape.proofs.Climbs.{index-is}
 use Rattle.btree_shape.proofs.Descents.{get-after}
 use Rattle.btree_shape.proofs.Frames.{fill-view, times_in-is}
-use Rattle.btree_shape.proofs.Lent.{frame-parts, some-is}
+use Rattle.btree_shape.proofs.Lent.{frame-parts}
 use Rattle.btree_shape.proofs.Neighbours.{AfterIt, BeforeIt, after-it, before-it}
 use Rattle.btree_shape.proofs.Numbers.{times-own, used-low}
 use Rattle.btree_shape.proofs.OneTour.{tour-close}
@@ -112,7 +111,7 @@ module _ (A : Type 0) (look : Look A) (root : ℕ) (xs : List A) (id : ℕ) (ask
         (tour-two n.frame t n.between n.right n.same) (paid-two n.frame t n.between n.right n.same) lo hi
         (let q = n.right_filled.0 in omega arith) n.right_filled.1 (let q = n.right_filled.0 in omega arith) in
         let ji : id_of A h n.right ≡ j =
-        some-is (id_of A h n.right) j
+        same_Some (id_of A h n.right) j
         (sym (second-of-two n.frame t n.between n.right n.same)
         ∙ (ap (λ m. slice_get (children_of Node) (suc m)) (n.index_is ∙ sym ki) ∙ ej)) in
         subst (λ m. Beside A look root xs asked a place given bound m k id j) n.id_is
@@ -135,7 +134,7 @@ module _ (A : Type 0) (look : Look A) (root : ℕ) (xs : List A) (id : ℕ) (ask
         (let q = n.left_filled.0 in omega arith) n.left_filled.1 lo hi (let q = n.left_filled.0 in omega arith) in
         let same : frame_index n.frame ≡ k = (let q = n.index_is in omega arith) in
         let ii : id_of A h n.left ≡ i =
-        some-is (id_of A h n.left) i
+        same_Some (id_of A h n.left) i
         (sym (first-of-two n.frame n.left n.between t n.same)
         ∙ (ap (λ m. slice_get (children_of Node) m) same ∙ ei)) in
         subst (λ m. Beside A look root xs asked a place given bound m k i id) n.id_is

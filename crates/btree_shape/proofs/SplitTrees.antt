@@ -12,8 +12,8 @@ use Rattle.btree_shape.specs.Way.{Above, Frame, HoldsAbove, SiblingsFilled, Sibl
 use Rattle.btree_shape.specs.WellFormed.{times_used}
 use Rattle.btree_shape.specs.Whole.{IsWhole}
 use Rattle.btree_shape.proofs.Frames.{AllByRecursion-append, above-same, holds-same, one-other, one-self, one-zero, siblings-same, times_in-is, total-append}
-use Rattle.btree_shape.proofs.Numbers.{same-or, used-low}
-use Rattle.btree_shape.proofs.Splits.{Parted, adopt, right-filled, times-top, times_below, used-mapped}
+use Rattle.btree_shape.proofs.Numbers.{same-or, used-low, used-mapped}
+use Rattle.btree_shape.proofs.Splits.{Parted, adopt, right-filled, times-top, times_below}
 
 module _ (A : Type 0) where
   pub fill_two-items : (h : ℕ) (f : Frame A h) (a : Shape A h) (x : A) (b : Shape A h)
@@ -173,10 +173,10 @@ module _ (A : Type 0) where
             | inr nr ↦
                 let k : times_used (new n) ≡ times_used (look n) =
                 elim (same-or n (id_of A h t)) [
-                  | inl is ↦ rw (is, ei) (used-mapped A (with_parent (Some r)) (mid (id_of A h t)) ∙ m.as_used
+                  | inl is ↦ rw (is, ei) (used-mapped (with_parent (Some r)) (mid (id_of A h t)) ∙ m.as_used
                       (id_of A h t))
                   | inr ni ↦ elim (same-or n j) [
-                    | inl is ↦ rw (is, ej) (used-mapped A (with_parent (Some r)) (mid j) ∙ m.as_used j)
+                    | inl is ↦ rw (is, ej) (used-mapped (with_parent (Some r)) (mid j) ∙ m.as_used j)
                     | inr nj ↦ ap times_used (same n nr ni nj) ∙ m.as_used n
                   ]
                 ] in

@@ -1,5 +1,5 @@
 -- A node with an item too many in two parts: what each part holds.
-use Rattle.std.proofs.Common.{◌≡◌, ◌≢◌, ◌<◌, ◌≤◌, ◌++◌, ◌∷◌, [], ◌∙◌, ◌+◌, ℕ, zero, suc, inl, inr, List, length, map, Option, Some, None, refl, sym, ap, subst, arith, append_assoc, length-append}
+use Rattle.std.proofs.Common.{◌≡◌, ◌≢◌, ◌<◌, ◌≤◌, ◌++◌, ◌∷◌, [], ◌∙◌, ◌+◌, ℕ, zero, suc, inl, inr, List, length, map, Option, Some, refl, sym, ap, subst, arith, append_assoc, length-append}
 use Rattle.std.proofs.lemmas.Grind.{flat_map-append}
 use Rattle.std.proofs.lemmas.List.{length-map, map-append}
 use Rattle.std.specs.List.{AllByRecursion}
@@ -13,7 +13,7 @@ use Rattle.btree_shape.specs.WellFormed.{times_used}
 use Rattle.btree_shape.specs.Whole.{IsWhole}
 use Rattle.btree_shape.proofs.Descents.{halves}
 use Rattle.btree_shape.proofs.Frames.{AllByRecursion-left, AllByRecursion-right, eachs-same, holds-same, one-self, one-zero, total-append}
-use Rattle.btree_shape.proofs.Numbers.{same-or, used-low, zero-or}
+use Rattle.btree_shape.proofs.Numbers.{same-or, used-low, used-mapped, zero-or}
 
 pub append_same : {X : Type 0} (l r l' r' : List X) → l ++ r ≡ l' ++ r' → length l ≡ length l' → (l ≡ l') × (r ≡ r')
 append_same [] r [] r' e n = (refl, e)
@@ -282,10 +282,6 @@ module _ (A : Type 0) where
               left_holds = parts.0;
               right_holds = parts.1;
             }
-
-  pub used-mapped : (f : View A → View A) (o : Option (View A)) → times_used (option_map f o) ≡ times_used o
-  used-mapped f None = refl
-  used-mapped f (Some v) = refl
 
   module _ (look new : Look A) (i j : ℕ) (x : A) where
     adopts-used : (cs : List ℕ) → AdoptsBeside look new i j cs → (n : ℕ) → n ≢ i → n ≢ j

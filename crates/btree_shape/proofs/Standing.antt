@@ -1,11 +1,12 @@
 -- A tree seen from one of its nodes, whatever the numbers of items: up to the root and down to any node.
-use Rattle.std.proofs.Common.{◌≡◌, ◌<◌, ◌++◌, ◌∙◌, ℕ, zero, suc, inl, inr, List, sym, ap, subst, arith, append_assoc}
+use Rattle.std.proofs.Common.{◌≡◌, ◌<◌, ◌++◌, ◌∙◌, ℕ, zero, suc, inl, inr, List, sym, ap, subst, arith}
 use Rattle.btree_view.specs.View.{Look}
 use Rattle.btree_shape.specs.Shape.{IsFilledBelow, Shape, id_of, items_under, times_under}
 use Rattle.btree_shape.specs.Way.{Above, AreFilled, Frame, HoldsAbove, after_in, at_branch, at_first, before_in, fill, items_after, items_before, parent_above, root_above, top, under}
 use Rattle.btree_shape.specs.Whole.{IsWhole, Standing}
 use Rattle.btree_shape.proofs.Frames.{fill-holds, fill-id, fill-items, fill-times, one-other, open-holds}
 use Rattle.btree_shape.proofs.Numbers.{pick, same-or, zero-or}
+use Rattle.btree_shape.proofs.Wholes.{regroup}
 
 module _ (A : Type 0) where
   pub whole-standing : (look : Look A) (spare : List ℕ) (root : ℕ) (xs : List A) (h : ℕ) (c : Above A h) (t : Shape A h)
@@ -31,9 +32,6 @@ module _ (A : Type 0) where
     root_is = s.root_is;
   }
 
-  regroup : (a b x c d : List A) → a ++ ((b ++ (x ++ c)) ++ d) ≡ (a ++ b) ++ (x ++ (c ++ d))
-  regroup a b x c d = simp append_assoc
-
   module _ (look : Look A) (spare : List ℕ) (root : ℕ) (xs : List A) where
     pub stand-up : (h : ℕ) (f : Frame A h) (c : Above A (suc h)) (t : Shape A h)
         → Standing A look spare root xs h (under f c) t → Standing A look spare root xs (suc h) c (fill f t)
@@ -42,7 +40,7 @@ module _ (A : Type 0) where
           above = subst (λ i. HoldsAbove look c i) (sym (fill-id A h f t)) w.above.2;
           inner = fill-holds A look h (parent_above c) f t w.above.0 w.above.1 w.inner;
           once = λ n. omega (arith, w.once n, fill-times A h n f t);
-          list = w.list ∙ sym (ap (λ ys. items_before c ++ (ys ++ items_after c)) (fill-items A h f t) ∙ regroup
+          list = w.list ∙ sym (ap (λ ys. items_before c ++ (ys ++ items_after c)) (fill-items A h f t) ∙ regroup A
               (items_before c) (before_in f) (items_under A h t) (after_in f) (items_after c));
           root_is = ap (root_above c) (fill-id A h f t) ∙ w.root_is;
         }
@@ -55,7 +53,7 @@ module _ (A : Type 0) where
           above = (o.node, o.beside, subst (λ i. HoldsAbove look c i) (fill-id A h f t) w.above);
           inner = o.inner;
           once = λ n. omega (arith, w.once n, fill-times A h n f t);
-          list = w.list ∙ (ap (λ ys. items_before c ++ (ys ++ items_after c)) (fill-items A h f t) ∙ regroup
+          list = w.list ∙ (ap (λ ys. items_before c ++ (ys ++ items_after c)) (fill-items A h f t) ∙ regroup A
               (items_before c) (before_in f) (items_under A h t) (after_in f) (items_after c));
           root_is = sym (ap (root_above c) (fill-id A h f t)) ∙ w.root_is;
         }

@@ -6,17 +6,23 @@ use Rattle.btree_store.specs.ContentLaws.{get-insert_same, get-insert_other}
 use Rattle.btree_item.specs.declared.address.Address.{Address}
 use Rattle.btree_node.specs.declared.node.Node.{Node}
 use Rattle.btree_node.specs.Node.{view_of}
-use Rattle.btree_view.specs.View.{View, leaf, internal, items_of, item_in, most_of}
-use Rattle.btree_shape.specs.Place.{item_at}
+use Rattle.btree_view.specs.View.{View, leaf, internal, items_of, item_in, most_of, Look}
+use Rattle.btree_shape.specs.Place.{item_at, IsWithin}
 use Rattle.btree_shape.specs.Shape.{times_listed}
 use Rattle.btree_shape.specs.Step.{Puts}
 use Rattle.btree_shape.specs.TreeState.{views}
 use Rattle.btree_shape.specs.WellFormed.{times_used}
 use Rattle.btree_shape.proofs.Density.{len-listed}
+use Rattle.btree_shape.proofs.Numbers.{used-mapped}
 
 pub most-few : {A : Type 0} (v : View A) → most_of v ≤ 8
 most-few (leaf parent items) = omega arith
 most-few (internal parent first branches) = omega arith
+
+-- an offset is within a node that is there
+pub within-used : {A : Type 0} (look : Look A) (v : Option (View A)) (o : Option ℕ) → IsWithin look v o → 0 < times_used v
+within-used look None o l = absurd l
+within-used look (Some v) o l = omega arith
 
 module _ {K V : Type 0} where
   pub puts : (old new : Content (Node K V)) (id : ℕ) (node : Node K V) → new ≡ map.insert old id node → Puts (views old) (views new) id (view_of node)
@@ -38,13 +44,13 @@ module _ {K V : Type 0} where
       at None u = absurd (omega arith)
       at (Some node) u = refl
 
-  used-seen : (o : Option (Node K V)) → times_used (option_map view_of o) ≡ times_used o
-  used-seen None = refl
-  used-seen (Some n) = refl
+  pub some-used : (o : Option (Node K V)) → IsSome o → 0 < times_used (option_map view_of o)
+  some-used None some = absurd (cc)
+  some-used (Some node) some = omega arith
 
   -- how many nodes there are, by their numbers
   pub len-views : (nodes : Content (Node K V)) (ids : List ℕ) → ((n : ℕ) → times_listed n ids ≡ times_used (views nodes n)) → map.len nodes ≡ length ids
-  len-views nodes ids each = len-listed ids nodes (λ n. each n ∙ used-seen (map.get nodes n))
+  len-views nodes ids each = len-listed ids nodes (λ n. each n ∙ used-mapped view_of (map.get nodes n))
 
 module _ {K V : Type 0} (nodes : Content (Node K V)) (a : Address) where
   pub item-some : (node : Node K V) → map.get nodes a.id ≡ Some node → (r : Option (K × V)) → r ≡ option_and_then (slice_get (items_of (view_of node))) a.offset → r ≡ item_at (views nodes) a

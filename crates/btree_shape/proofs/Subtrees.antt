@@ -1,12 +1,14 @@
 -- Where the items of a node's subtree stand in the list of the tree.
-use Rattle.std.proofs.Common.{◌≡◌, ◌≢◌, ◌⊎◌, ℕ, zero, suc, ◌+◌, ◌<◌, ◌==◌, List, [], ◌∷◌, ◌++◌, length, map, Option, Some, Bool, true, false, cond, refl, sym, ap, subst, ◌∙◌, inl, inr, arith, append_assoc, append-nil}
+use Rattle.std.proofs.Common.{◌≡◌, ◌⊎◌, ℕ, zero, suc, ◌+◌, ◌<◌, List, [], ◌∷◌, ◌++◌, length, map, Option, Some, refl, sym, ap, subst, ◌∙◌, inl, inr, arith, append_assoc, append-nil}
 use Rattle.std.specs.List.{AllByRecursion, flat_map}
 use Rattle.std.proofs.lemmas.Bool.{cases_eq}
 use Rattle.std.proofs.lemmas.Bool.Decides.{nat_tests}
-use Rattle.std.proofs.lemmas.List.Sums.{sum_by-append, sum_by-cons}
 use Rattle.btree_view.specs.View.{Look}
-use Rattle.btree_shape.specs.Spells.{Spells, numbers_under, times}
+use Rattle.btree_shape.specs.Spells.{Spells, numbers_under}
 use Rattle.btree_shape.specs.Place.{StandsAt}
+use Rattle.btree_shape.proofs.Numbers.{listed-append}
+use Rattle.btree_shape.proofs.Frames.{one-other}
+use Rattle.btree_shape.specs.Shape.{times_listed}
 
 module _ {A : Type 0} (look : Look A) where
   pub record Stands (xs : List A) (id : ℕ) : Type 0 where
@@ -34,40 +36,27 @@ module _ {A : Type 0} (look : Look A) where
       shape [] b c d e = append_assoc (b ++ c) d e
       shape (x ∷ a) b c d e = ap (λ z. x ∷ z) (shape a b c d e)
 
-  times-append : (n : ℕ) (ns ms : List ℕ) → times n (ns ++ ms) ≡ times n ns + times n ms
-  times-append n ns ms = sum_by-append (λ m. cond (m == n) 1 0) ns ms
-
-  tested : (b : Bool) (n : ℕ) → b ≡ false → cond b 1 0 + n ≡ n
-  tested true n e = absurd (cc)
-  tested false n e = omega arith
-
-  is_other : (n id : ℕ) → n ≢ id → (n == id) ≡ false
-  is_other n id differs = grind (arith, nat_tests)
-
-  times-other : (id n : ℕ) (ns : List ℕ) → n ≢ id → times id (n ∷ ns) ≡ times id ns
-  times-other id n ns differs = sum_by-cons (λ m. cond (m == id) 1 0) n ns ∙ tested (n == id) (times id ns) (is_other n id differs)
-
   split_sum : (a b : ℕ) → 0 < a + b → (0 < a) ⊎ (0 < b)
   split_sum zero b h = inr (omega arith)
   split_sum (suc a) b h = inl (omega arith)
 
   later : (h : ℕ) (p : Option ℕ) (id : ℕ)
-      → ((n : ℕ) (ys : List A) → Spells look h p n ys → 0 < times id (numbers_under look h n) → Stands ys id)
+      → ((n : ℕ) (ys : List A) → Spells look h p n ys → 0 < times_listed id (numbers_under look h n) → Stands ys id)
       → (rest : List (A × ℕ × List A)) → AllByRecursion (λ r. Spells look h p r.1 r.2) rest
-      → 0 < times id (flat_map (numbers_under look h) (map {B = ℕ} (λ b. b.1) (map {B = A × ℕ} (λ r. (r.0, r.1)) rest)))
+      → 0 < times_listed id (flat_map (numbers_under look h) (map {B = ℕ} (λ b. b.1) (map {B = A × ℕ} (λ r. (r.0, r.1)) rest)))
       → Stands (flat_map (λ r. r.0 ∷ r.2) rest) id
   later h p id each [] all many = absurd (omega arith)
   later h p id each (r ∷ rest) all many =
       let others : List ℕ = flat_map (numbers_under look h) (map {B = ℕ} (λ b. b.1) (map {B = A × ℕ} (λ r. (r.0, r.1)) rest)) in
-      let sum = times-append id (numbers_under look h r.1) others in
+      let sum = listed-append id (numbers_under look h r.1) others in
       let long : List A = flat_map (λ (r : A × ℕ × List A). r.0 ∷ r.2) rest in
-      elim (split_sum (times id (numbers_under look h r.1)) (times id others) (omega arith)) [
+      elim (split_sum (times_listed id (numbers_under look h r.1)) (times_listed id others) (omega arith)) [
         | inl here ↦ widen (r.0 ∷ []) r.2 long id (each r.1 r.2 all.0 here)
         | inr there ↦ subst (λ l. Stands (r.0 ∷ (r.2 ++ l)) id) (append-nil long) (widen (r.0 ∷ r.2) long [] id (later h p id each rest all.1 there))
       ]
 
   -- a number under a node is that of a node whose items stand among those of the node
-  pub stands : (h : ℕ) (p : Option ℕ) (id n : ℕ) (ys : List A) → Spells look h p n ys → 0 < times id (numbers_under look h n) → Stands ys id
+  pub stands : (h : ℕ) (p : Option ℕ) (id n : ℕ) (ys : List A) → Spells look h p n ys → 0 < times_listed id (numbers_under look h n) → Stands ys id
   stands zero p id n ys s many =
       let same : n ≡ id = grind (arith, nat_tests) in
       record { ys = ys; before = 0; at = record { front = []; back = []; subtree = record { height = 0; parent = p; spells = rw (← same) s }; split = sym (append-nil ys); counted = refl } }
@@ -77,12 +66,12 @@ module _ {A : Type 0} (look : Look A) where
         let others : List ℕ = flat_map (numbers_under look h) (map {B = ℕ} (λ b. b.1) (map {B = A × ℕ} (λ r. (r.0, r.1)) s.2)) in
         let below : List ℕ = numbers_under look h s.0 ++ others in
         let all : numbers_under look (suc h) n ≡ n ∷ below = rw s.3 refl in
-        let count : times id (n ∷ below) ≡ times id below = times-other id n below differs in
-        let sum = times-append id (numbers_under look h s.0) others in
-        let e = ap (times id) all in
+        let apart = one-other id n (λ e. differs (sym e)) in
+        let sum = listed-append id (numbers_under look h s.0) others in
+        let e = ap (times_listed id) all in
         let long : List A = flat_map (λ (r : A × ℕ × List A). r.0 ∷ r.2) s.2 in
         subst (λ l. Stands l id) (sym s.6)
-        (elim (split_sum (times id (numbers_under look h s.0)) (times id others) (omega arith)) [
+        (elim (split_sum (times_listed id (numbers_under look h s.0)) (times_listed id others) (omega arith)) [
           | inl here ↦ widen [] s.1 long id (stands h (Some n) id s.0 s.1 s.4 here)
           | inr there ↦ subst (λ l. Stands (s.1 ++ l) id) (append-nil long) (widen s.1 long [] id (later h (Some n) id (λ m zs t k. stands h (Some n) id m zs t k) s.2 s.5 there))
         ])

@@ -6,12 +6,9 @@ use Rattle.btree_shape.specs.Mend.{as_list}
 use Rattle.btree_shape.specs.Pair.{Turns, first_of}
 use Rattle.btree_shape.specs.Shape.{IsFilled, IsFilledBelow, Shape, count_at, id_of, items_under, one, times_under, view_at}
 use Rattle.btree_shape.proofs.Carried.{join-items}
-use Rattle.btree_shape.proofs.Descents.{snoc}
+use Rattle.btree_shape.proofs.Descents.{cons-parts, snoc}
 use Rattle.btree_shape.proofs.Frames.{AllByRecursion-append, AllByRecursion-left, AllByRecursion-right, total-append}
 use Rattle.btree_shape.proofs.Splits.{join}
-
-pub cons-parts : {X : Type 0} {x y : X} {xs ys : List X} → x ∷ xs ≡ y ∷ ys → (x ≡ y) × (xs ≡ ys)
-cons-parts e = (cc, cc)
 
 branches-same : {A : Type 0} (bs cs : List (A × ℕ)) → map {B = A} (λ b. b.0) bs ≡ map {B = A} (λ b. b.0) cs
     → map {B = ℕ} (λ b. b.1) bs ≡ map {B = ℕ} (λ b. b.1) cs → bs ≡ cs

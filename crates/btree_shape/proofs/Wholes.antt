@@ -7,7 +7,7 @@ use Rattle.btree_shape.specs.Whole.{IsTree, IsWhole}
 use Rattle.btree_shape.proofs.Frames.{AllByRecursion-left, AllByRecursion-right, fill-count, fill-filled, fill-holds, fill-id, fill-items, fill-times, open-holds}
 
 module _ (A : Type 0) where
-  regroup : (a b x c d : List A) → a ++ ((b ++ (x ++ c)) ++ d) ≡ (a ++ b) ++ (x ++ (c ++ d))
+  pub regroup : (a b x c d : List A) → a ++ ((b ++ (x ++ c)) ++ d) ≡ (a ++ b) ++ (x ++ (c ++ d))
   regroup a b x c d = simp append_assoc
 
   module _ (look : Look A) (spare : List ℕ) (root : ℕ) (xs : List A) where

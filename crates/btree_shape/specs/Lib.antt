@@ -18,4 +18,3 @@ pub mod Growing
 pub mod Left
 pub mod Mend
 pub mod Shrinking
-pub mod Beside

@@ -1,8 +1,8 @@
 -- How many nodes an insertion at a node takes, and how many levels stand above it: by the nodes as they are.
-use Rattle.std.specs.Prelude.{◌≡◌, ℕ, zero, suc, ◌+◌, ◌<◌, ◌==◌, nat_lt, if◌then◌else◌, List, [], Option, Some, None}
+use Rattle.std.specs.Prelude.{◌≡◌, ℕ, zero, suc, ◌+◌, ◌<◌, nat_lt, if◌then◌else◌, List, [], Option, Some, None}
 use Rattle.btree_view.specs.View.{View, Look, parent_of, size_of, most_of}
 use Rattle.btree_shape.specs.Shape.{Shape, most_at, count_at, id_of}
-use Rattle.btree_shape.specs.Way.{Above, AreFilled, top, under, frame_count, depth}
+use Rattle.btree_shape.specs.Way.{Above, top, under, frame_count, depth}
 use Rattle.btree_shape.specs.Whole.{Standing}
 
 -- for a node that is split: its right part, and what its parent needs, or a new root
@@ -10,31 +10,22 @@ abbrev pub need_of_split : (ℕ → ℕ) → (parent : Option ℕ) → ℕ
 need_of_split above None = 2
 need_of_split above (Some parent) = suc (above parent)
 
--- a node that holds as many items as it may is split, any other takes the item
-abbrev pub need_in : {A : Type 0} → (ℕ → ℕ) → Option (View A) → ℕ
-need_in above None = 0
-need_in above (Some node) = if size_of node == most_of node then need_of_split above (parent_of node) else 0
-
--- the full nodes from node `id` upward without a gap, and one more where the last of them is the root, on at most so many
--- levels
-abbrev pub need_from : {A : Type 0} → Look A → (most : ℕ) → (id : ℕ) → ℕ
-need_from look zero id = 0
-need_from look (suc most) id = need_in (need_from look most) (look id)
-
--- the same in a tree of so many items; an empty one takes its first node
-abbrev pub need : {A : Type 0} → Look A → (root : Option ℕ) → (len : ℕ) → (id : ℕ) → ℕ
-need look None len id = 1
-need look (Some root) len id = need_from look len id
-
--- what the splits take that begin at node `id`, where it has an item too many: the nodes from there upward without a gap
--- that have at least as many items as they may, and one more where the last of them is the root
+-- a node with room for an item takes it, any other is split
 abbrev pub climb_in : {A : Type 0} → (ℕ → ℕ) → Option (View A) → ℕ
 climb_in above None = 0
 climb_in above (Some node) = if nat_lt (size_of node) (most_of node) then 0 else need_of_split above (parent_of node)
 
+-- what the splits take that begin at node `id`, where it is full or has an item too many: the nodes from there upward
+-- without a gap that have at least as many items as they may, and one more where the last of them is the root, on at most
+-- so many levels
 abbrev pub climb : {A : Type 0} → Look A → (most : ℕ) → (id : ℕ) → ℕ
 climb look zero id = 0
 climb look (suc most) id = climb_in (climb look most) (look id)
+
+-- what an insertion at node `id` takes in a tree of so many items; an empty one takes its first node
+abbrev pub need : {A : Type 0} → Look A → (root : Option ℕ) → (len : ℕ) → (id : ℕ) → ℕ
+need look None len id = 1
+need look (Some root) len id = climb look len id
 
 -- how many levels stand above a node, by the parents, at most so many
 abbrev pub levels_up : (ℕ → ℕ) → Option ℕ → ℕ
@@ -49,15 +40,11 @@ abbrev pub levels_above : {A : Type 0} → Look A → (most : ℕ) → (id : ℕ
 levels_above look zero id = 0
 levels_above look (suc most) id = levels_over (levels_above look most) (look id)
 
--- the same on the way above a node: for a split at its end, and for an item put into a node of `count` items there
+-- what splits take on the way above a node: for a split at its end, and for an item put into a node of `count` items there
 abbrev pub wanted : {A : Type 0} {height : ℕ} → Above A height → ℕ
 wanted top = 2
-wanted (under frame way) = suc (if frame_count frame == 7 then wanted way else 0)
+wanted (under frame way) = suc (if nat_lt (frame_count frame) 7 then 0 else wanted way)
 
-abbrev pub needed : {A : Type 0} {height : ℕ} → Above A height → (count : ℕ) → ℕ
-needed {A} {height} way count = if count == most_at height then wanted way else 0
-
--- the same, where the node may have an item too many
 abbrev pub climbed : {A : Type 0} {height : ℕ} → Above A height → (count : ℕ) → ℕ
 climbed {A} {height} way count = if nat_lt count (most_at height) then 0 else wanted way
 
@@ -68,6 +55,5 @@ pub record IsClimbing (A : Type 0) (look : Look A) (root : ℕ) (xs : List A) (m
   pub shape : Shape A height
   pub here : id_of A height shape ≡ id
   pub stands : Standing A look [] root xs height way shape
-  pub filled : AreFilled way
   pub left : counted + climbed way (count_at A height shape) ≡ all
   pub room : depth way < most

@@ -1,8 +1,8 @@
 -- The tour of the tree under a root, wherever it is seen from, and the public words on an address of that tree.
 use Rattle.std.specs.Prelude.{◌≡◌, ◌≢◌, ℕ, suc, ◌⊎◌, List, [], ◌∷◌, Option, Some, None}
 use Rattle.btree_item.specs.declared.address.Address.{Address}
-use Rattle.btree_view.specs.View.{Look, item_in}
-use Rattle.btree_shape.specs.Place.{IsValid, IsPlace}
+use Rattle.btree_view.specs.View.{Look}
+use Rattle.btree_shape.specs.Place.{IsValid, IsPlace, item_at}
 use Rattle.btree_shape.specs.Shape.{Shape, id_of, Holds}
 use Rattle.btree_shape.specs.Tour.{Tick, mark, over, Asks, In, tour}
 
@@ -37,15 +37,10 @@ CarriesPlaces A look root new new_root moved =
     (asked : Option A) (a : Address) (place : ℕ)
     → IsOnTour A look root asked a place → IsOnTour A new new_root asked (moved a) place
 
--- the item at an offset of a node, if one stands there
-abbrev pub item_at : {A : Type 0} → Look A → ℕ → Option ℕ → Option A
-item_at look id None = None
-item_at look id (Some offset) = item_in (look id) offset
-
 -- in the public words: the address is valid and has this place in the list, and the item that is asked for, if one is,
 -- stands there
 pub record IsAddressed (A : Type 0) (look : Look A) (root : ℕ) (xs : List A) (asked : Option A) (a : Address)
     (place : ℕ) : Type 0 where
   pub valid : IsValid look (Some root) a.id a.offset
   pub at_place : IsPlace look (Some root) xs a.id a.offset place
-  pub item : Asks asked (item_at look a.id a.offset)
+  pub item : Asks asked (item_at look a)

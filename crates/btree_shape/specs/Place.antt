@@ -1,5 +1,5 @@
 -- The addresses of a tree, their kinds, and their places in its list.
-use Rattle.std.specs.Prelude.{◌≡◌, ℕ, ◌+◌, ◌^◌, ◌-◌, ◌<◌, ◌≤◌, ◌⊎◌, List, ◌++◌, length, slice_get, Option, Some, None}
+use Rattle.std.specs.Prelude.{◌≡◌, ℕ, ◌+◌, ◌^◌, ◌-◌, ◌≤◌, ◌⊎◌, List, ◌++◌, length, slice_get, Option, Some, None}
 use Rattle.std.specs.Option.{option_and_then}
 use Rattle.btree_item.specs.declared.address.Address.{Address}
 use Rattle.btree_view.specs.View.{View, leaf, internal, Look, size_of, item_in}
@@ -47,12 +47,6 @@ module _ {A : Type 0} (look : Look A) where
   abbrev pub IsBack : Option ℕ → Type 0
   IsBack None = ⊥
   IsBack (Some offset) = Unit {0}
-
-  -- the offset is below the number of items
-  abbrev pub IsFront : Option (View A) → Option ℕ → Type 0
-  IsFront None offset = ⊥
-  IsFront (Some node) None = Unit {0}
-  IsFront (Some node) (Some offset) = offset < size_of node
 
   -- the node is a leaf
   abbrev pub IsLeaf : Option (View A) → Type 0

@@ -1,5 +1,5 @@
 -- What nodes under numbers spell.
-use Rattle.std.specs.Prelude.{◌≡◌, ℕ, zero, suc, ◌==◌, List, [], ◌∷◌, ◌++◌, map, count_by, Option, Some, None}
+use Rattle.std.specs.Prelude.{◌≡◌, ℕ, zero, suc, List, [], ◌∷◌, ◌++◌, map, Option, Some, None}
 use Rattle.std.specs.List.{flat_map, AllByRecursion}
 use Rattle.btree_view.specs.View.{View, leaf, internal, Look, children_in}
 
@@ -19,10 +19,6 @@ module _ {A : Type 0} (look : Look A) where
   abbrev pub numbers_under : (height : ℕ) → (id : ℕ) → List ℕ
   numbers_under zero id = id ∷ []
   numbers_under (suc height) id = id ∷ flat_map (numbers_under height) (children_in (look id))
-
--- how often a number is in a list
-abbrev pub times : ℕ → List ℕ → ℕ
-times n ns = count_by (λ m. m == n) ns
 
 -- what one node spells, given what each of its children does
 abbrev pub spelled_in : {A : Type 0} → (ℕ → List A) → Option (View A) → List A

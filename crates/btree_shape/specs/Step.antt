@@ -43,12 +43,7 @@ module _ {A : Type 0} (look new : Look A) where
     pub at_right : new j ≡ option_map (with_parent (Some r)) (look j)
     pub kept : (n : ℕ) → n ≢ r → n ≢ i → n ≢ j → new n ≡ look n
 
-  -- a number that was not used is now, or one is not any more, and no other node has changed
-  pub record Gains (id : ℕ) : Type 0 where
-    pub vacant : look id ≡ None
-    pub used : times_used (new id) ≡ 1
-    pub others : (n : ℕ) → n ≢ id → new n ≡ look n
-
+  -- a number that was used is not any more, and no other node has changed
   pub record Loses (id : ℕ) : Type 0 where
     pub gone : new id ≡ None
     pub others : (n : ℕ) → n ≢ id → new n ≡ look n

@@ -2,8 +2,9 @@
 use Rattle.std.specs.Prelude.{◌≡◌, ℕ, ◌+◌, ◌<◌, ◌≤◌, ◌==◌, if◌then◌else◌, List, [], length, Option, Some, None, IsSome}
 use Rattle.std.specs.declared.cmp.Ordering.{Ordering}
 use Rattle.btree_item.specs.Pairs.{Ascends}
+use Rattle.btree_shape.specs.Shape.{times_listed}
 use Rattle.btree_view.specs.View.{View, Look, size_of, most_of}
-use Rattle.btree_shape.specs.Spells.{Spells, numbers_under, times}
+use Rattle.btree_shape.specs.Spells.{Spells, numbers_under}
 
 -- how often a store has a number: once if it is used
 abbrev pub times_used : {X : Type 0} → Option X → ℕ
@@ -37,7 +38,7 @@ pub record IsRooted {A : Type 0} (is_right : (id : ℕ) → View A → Type 0) (
   pub spells : Spells look height None root xs
   pub sized : (id : ℕ) (node : View A) → look id ≡ Some node → is_right id node
   -- the numbers under the root are those that are used, each once
-  pub once : (n : ℕ) → times n (numbers_under look height root) ≡ times_used (look n)
+  pub once : (n : ℕ) → times_listed n (numbers_under look height root) ≡ times_used (look n)
 
 -- without a root there are no nodes
 abbrev pub IsFormed : {A : Type 0} → Look A → Option ℕ → List A → Type 0

@@ -1,7 +1,5 @@
 -- A walk down to a first leaf, and up to the next item.
-use Rattle.std.proofs.Common.{◌≡◌, ℕ, zero, suc, ◌+◌, ◌-◌, ◌<◌, ◌≤◌, List, [], ◌∷◌, ◌++◌, length, take, drop, Option, Some, None, IsSome, refl, sym, ap, subst, ◌∙◌, option_map, option_and_then, slice_get, arith}
-use Rattle.std.proofs.lemmas.Bool.Decides.{nat_tests}
-use Rattle.btree_item.specs.Offset.{index_offset}
+use Rattle.std.proofs.Common.{◌≡◌, ℕ, zero, suc, ◌+◌, ◌-◌, ◌<◌, List, [], ◌∷◌, ◌++◌, length, take, drop, Option, Some, None, IsSome, refl, sym, ap, subst, ◌∙◌, option_map, slice_get, arith}
 use Rattle.std.proofs.lemmas.List.{length-map, length_push, map-append, append_assoc}
 use Rattle.std.specs.List.{AllByRecursion}
 use Rattle.std.specs.FinMap as map
@@ -15,17 +13,6 @@ use Rattle.btree_shape.specs.Left.{branches_of, left_above, left_in, IsUnder, Ar
 use Rattle.btree_shape.proofs.Left.{left-push, rows-push, rows-pop, under-leaf, under-internal}
 use Rattle.btree_walk.specs.declared.frames.Frame.{Frame}
 use Rattle.btree_walk.specs.Rows.{rows_of}
-
-pub past : {X : Type 0} (xs : List X) (i : ℕ) → length xs ≤ i → slice_get xs i ≡ None
-past [] i low = refl
-past (x ∷ xs) zero low = absurd (omega arith)
-past (x ∷ xs) (suc i) low = past xs i (omega arith)
-
-offset-is : (i : ℕ) → i < 9 → index_offset i ≡ Some i
-offset-is i low = grind (arith, nat_tests)
-
-pub item-at : {X : Type 0} (xs : List X) (i : ℕ) (o : Option ℕ) (r : Option X) → o ≡ index_offset i → i < 9 → r ≡ option_and_then (slice_get xs) o → slice_get xs i ≡ r
-item-at xs i o r is low e = sym (e ∙ ap (option_and_then (slice_get xs)) (is ∙ offset-is i low))
 
 module _ {K V : Type 0} where
   abbrev row_of : Frame K V → List ((K × V) × ℕ)

@@ -1,16 +1,17 @@
 //! The way from the root to the leaf in which a walk stands.
-ghost use Rattle.std.specs.Prelude.{◌≡◌, ◌∷◌, ◌++◌, ◌+◌, ◌<◌, [], Some, None, length, drop, slice_get, OnSome, MatchOption};
+ghost use Rattle.std.specs.Prelude.{◌≡◌, ◌∷◌, ◌++◌, ◌+◌, ◌<◌, [], Some, None, length, OnSome, MatchOption};
 ghost use Rattle.std.specs.Mem.{FitsInMemory};
 ghost use Rattle.btree_node.specs.contracts.node.Node.{the_row as node_row};
 ghost use Rattle.btree_node.specs.Node.{view_of};
 ghost use Rattle.btree_view.specs.View.{items_of};
-ghost use Rattle.btree_shape.specs.Left.{branches_of, left_above, AreRows, IsUnder};
+ghost use Rattle.btree_shape.specs.Left.{left_above, AreRows, IsUnder};
 ghost use Rattle.btree_shape.specs.Spells.{spelled};
 ghost use Rattle.btree_shape.specs.TreeState.{views, pairs_of};
 ghost use Rattle.btree_walk.specs.Rows.{left_in_leaf, rows_of};
 
+use btree_balance::{branch_at, item_at};
 use btree_ext::{BTreeExt, Tree};
-use btree_item::{Offset, Slots};
+use btree_item::Slots;
 use btree_node::Node;
 use btree_store::SlabMut;
 
@@ -24,21 +25,6 @@ pub(crate) struct Frame<'a, K, V> {
 /// The internal nodes above the leaf, from the root down.
 pub(crate) type Frames<'a, K, V> = Slots<Frame<'a, K, V>, 32>;
 
-// The item of a node at an index.
-fn pair_at<K, V>(node: &Node<K, V>, index: usize) -> Option<(&K, &V)>
-    ensures fits { OnSome result (index < 9) }
-    ensures item { MatchOption result (slice_get (items_of (view_of node.now)) index ≡ None)
-        (λ pair. slice_get (items_of (view_of node.now)) index ≡ Some (pair.0.now, pair.1.now)) }
-{
-    if index >= node.item_count() {
-        return None;
-    }
-    match node.item(Offset::from(index)) {
-        Some(item) => Some((item.key(), item.value())),
-        None => None,
-    }
-}
-
 // The item of a leaf after those that are passed.
 pub(crate) fn first_of<'a, K, V>(
     leaf: Option<&'a Node<K, V>>,
@@ -49,21 +35,8 @@ pub(crate) fn first_of<'a, K, V>(
         (λ pair. left_in_leaf leaf.entry passed ≡ (pair.0.now, pair.1.now) ∷ left_in_leaf leaf.entry (passed + 1)) }
 {
     match leaf {
-        Some(leaf) => pair_at(leaf, passed),
-        None => None,
-    }
-}
-
-// The item of an internal node at an index, and the number of the child after it.
-fn branch_at<K, V>(node: &Node<K, V>, index: usize) -> Option<((&K, &V), usize)>
-    ensures fits { OnSome result (index < 9) }
-    ensures first { MatchOption result (drop index (branches_of (view_of node.now)) ≡ [])
-        (λ branch. drop index (branches_of (view_of node.now))
-        ≡ ((branch.0.0.now, branch.0.1.now), branch.1) ∷ drop (index + 1) (branches_of (view_of node.now))) }
-{
-    match pair_at(node, index) {
-        Some(pair) => match node.child_id_opt(index + 1) {
-            Some(child) => Some((pair, child)),
+        Some(leaf) => match item_at(leaf, passed) {
+            Some(item) => Some((item.key(), item.value())),
             None => None,
         },
         None => None,
@@ -129,11 +102,12 @@ pub(crate) fn next_above<'a, K: Ord + 'a, V: 'a, C: SlabMut<Node<K, V>> + 'a>(
     while let Some(frame) = frames.pop() {
         let node = frame.node;
         let passed = frame.passed;
-        if let Some((pair, child)) = branch_at(node, passed) {
+        if let Some((item, child)) = branch_at(node, passed) {
             frames.push(Frame {
                 node,
                 passed: passed + 1,
             });
+            let pair = (item.key(), item.value());
             return Some((pair, first_leaf(tree, child, frames)));
         }
     }

@@ -5,19 +5,19 @@ use Rattle.btree_balance.proofs.lend.join.Goals as goal
 use Rattle.btree_shape.proofs.Stores.{used-view}
 
 pub first_child-child-requires-clause-used : goal.first_child-child-requires-clause-used
-first_child-child-requires-clause-used g c = used-view (g.C.Slab.content c.args.nodes.now) c.args.right (right-there (views (g.C.Slab.content c.args.nodes.now)) c.args.parent c.args.index c.args.left c.args.right c.args.addr c.requires.beside)
+first_child-child-requires-clause-used g c = used-view (g.C.Slab.content c.args.nodes.now) c.args.right (right-there (views (g.C.Slab.content c.args.nodes.now)) c.args.parent c.args.index c.args.left c.args.right c.requires.beside.0 c.args.addr c.requires.beside.1)
 
 pub merge-requires-clause-can : goal.merge-requires-clause-can
-merge-requires-clause-can g c = can-merge (views (g.C.Slab.content c.args.nodes.now)) c.args.parent c.args.index c.args.left c.args.right c.args.addr c.requires.beside c.requires.few
+merge-requires-clause-can g c = can-merge (views (g.C.Slab.content c.args.nodes.now)) c.args.parent c.args.index c.args.left c.args.right c.requires.beside.0 c.args.addr c.requires.beside.1 c.requires.few
 
 pub returns-clause-joined : goal.returns-clause-joined
-returns-clause-joined g c = rw c.moved_by_merge.ensures (joined-both (views (g.C.Slab.content c.args.nodes.now)) c.args.parent c.args.index c.args.left c.args.right c.args.addr c.requires.beside c.args.count c.requires.count c.first_child-child.result c.first_child-child.ensures c.requires.few (views (g.C.Slab.content c.merge.new.nodes)) c.merge.ensures.merges)
+returns-clause-joined g c = λ id s. rw c.moved_by_merge.ensures (joined-both (views (g.C.Slab.content c.args.nodes.now)) c.args.parent c.args.index c.args.left c.args.right id c.args.addr s c.args.count c.requires.count c.first_child-child.result c.first_child-child.ensures c.requires.few (views (g.C.Slab.content c.merge.new.nodes)) c.merge.ensures.merges)
 
 pub returns-clause-back : goal.returns-clause-back
 returns-clause-back g c = λ is. rw c.moved_by_merge.ensures (joined-back c.args.left c.args.right c.args.parent c.args.index c.args.count c.first_child-child.result c.args.addr is)
 
 pub moved_by_merge-requires-clause-count : goal.moved_by_merge-requires-clause-count
-moved_by_merge-requires-clause-count g c = let l = count-low (views (g.C.Slab.content c.args.nodes.now)) c.args.parent c.args.index c.args.left c.args.right c.args.addr c.requires.beside c.args.count c.requires.count in omega arith
+moved_by_merge-requires-clause-count g c = let l = count-low (views (g.C.Slab.content c.args.nodes.now)) c.args.parent c.args.index c.args.left c.args.right c.requires.beside.0 c.args.addr c.requires.beside.1 c.args.count c.requires.count in omega arith
 
 pub moved_by_merge-requires-clause-offset : goal.moved_by_merge-requires-clause-offset
-moved_by_merge-requires-clause-offset g c = offset-far c.args.count (count-low (views (g.C.Slab.content c.args.nodes.now)) c.args.parent c.args.index c.args.left c.args.right c.args.addr c.requires.beside c.args.count c.requires.count) c.args.addr.offset c.requires.low
+moved_by_merge-requires-clause-offset g c = offset-far c.args.count (count-low (views (g.C.Slab.content c.args.nodes.now)) c.args.parent c.args.index c.args.left c.args.right c.requires.beside.0 c.args.addr c.requires.beside.1 c.args.count c.requires.count) c.args.addr.offset c.requires.low

@@ -1,22 +1,23 @@
 use Rattle.btree_shape.specs.TreeState.{views}
-use Rattle.btree_balance.proofs.LendLemmas.{can-right, even-right, right-back, right-there, index-few, offset-next}
+use Rattle.btree_balance.proofs.LendLemmas.{can-right, even-right, right-back, right-there, index-few}
+use Rattle.btree_balance.proofs.OffsetLemmas.{offset-next}
 use Rattle.btree_balance.proofs.lend.lend_right.Goals as goal
 use Rattle.btree_shape.proofs.Stores.{used-view}
 
 pub first_child-child-requires-clause-used : goal.first_child-child-requires-clause-used
-first_child-child-requires-clause-used g c = used-view (g.C.Slab.content c.args.nodes.now) c.args.right (right-there (views (g.C.Slab.content c.args.nodes.now)) c.args.parent c.args.index c.args.left c.args.right c.args.addr c.requires.beside)
+first_child-child-requires-clause-used g c = used-view (g.C.Slab.content c.args.nodes.now) c.args.right (right-there (views (g.C.Slab.content c.args.nodes.now)) c.args.parent c.args.index c.args.left c.args.right c.args.right c.args.addr c.requires.beside)
 
 pub rotate_right-requires-clause-can : goal.rotate_right-requires-clause-can
-rotate_right-requires-clause-can g c = can-right (views (g.C.Slab.content c.args.nodes.now)) c.args.parent c.args.index c.args.left c.args.right c.args.addr c.requires.beside c.requires.short c.requires.lender
+rotate_right-requires-clause-can g c = can-right (views (g.C.Slab.content c.args.nodes.now)) c.args.parent c.args.index c.args.left c.args.right c.args.right c.args.addr c.requires.beside c.requires.short c.requires.lender
 
 pub returns-clause-even : goal.returns-clause-even
-returns-clause-even g c = rw c.moved_by_rotate_right.ensures (even-right (views (g.C.Slab.content c.args.nodes.now)) c.args.parent c.args.index c.args.left c.args.right c.args.addr c.requires.beside c.args.count c.requires.count c.first_child-child.result c.first_child-child.ensures c.requires.short c.requires.lender (views (g.C.Slab.content c.rotate_right.new.nodes)) c.rotate_right.ensures.rotates)
+returns-clause-even g c = rw c.moved_by_rotate_right.ensures (even-right (views (g.C.Slab.content c.args.nodes.now)) c.args.parent c.args.index c.args.left c.args.right c.args.right c.args.addr c.requires.beside c.args.count c.requires.count c.first_child-child.result c.first_child-child.ensures c.requires.short c.requires.lender (views (g.C.Slab.content c.rotate_right.new.nodes)) c.rotate_right.ensures.rotates)
 
 pub returns-clause-back : goal.returns-clause-back
 returns-clause-back g c = λ is. rw c.moved_by_rotate_right.ensures (right-back c.args.left c.args.right c.args.parent c.args.index c.args.count c.first_child-child.result c.args.addr is)
 
 pub moved_by_rotate_right-requires-clause-index : goal.moved_by_rotate_right-requires-clause-index
-moved_by_rotate_right-requires-clause-index g c = index-few (views (g.C.Slab.content c.args.nodes.now)) c.args.parent c.args.index c.args.left c.args.right c.args.addr c.requires.beside
+moved_by_rotate_right-requires-clause-index g c = index-few (views (g.C.Slab.content c.args.nodes.now)) c.args.parent c.args.index c.args.left c.args.right c.args.right c.args.addr c.requires.beside
 
 pub moved_by_rotate_right-requires-clause-offset : goal.moved_by_rotate_right-requires-clause-offset
 moved_by_rotate_right-requires-clause-offset g c = offset-next c.args.addr.offset c.requires.low

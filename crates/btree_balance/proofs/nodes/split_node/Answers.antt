@@ -3,7 +3,7 @@ use Rattle.btree_balance.proofs.nodes.split_node.Goals as goal
 use Rattle.btree_shape.proofs.Stores.{used-at}
 
 pub split-requires : goal.split-requires
-split-requires g c = (c.tell_fits.ensures, split-over (g.C.Slab.content c.args.nodes.now) c.args.id c.in-Some.node.now c.in-Some.ensures.value c.requires.can)
+split-requires g c = (c.tell_fits.ensures, split-over (g.C.Slab.content c.args.nodes.now) c.args.id c.in-Some.node.now c.in-Some.ensures.value c.requires.over)
 
 pub returns-clause-after : goal.returns-clause-after
 returns-clause-after g c =

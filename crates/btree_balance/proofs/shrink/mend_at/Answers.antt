@@ -1,5 +1,5 @@
 use Rattle.btree_shape.specs.TreeState.{views}
-use Rattle.btree_balance.proofs.ShrinkLemmas.{is-child, is-short, before-there, index-some, are-after, after-there, after-lends, after-few, here-after, above-after, are-before, here-before, above-before}
+use Rattle.btree_balance.proofs.ShrinkLemmas.{is-child, is-short, before-there, index-some, are-after, after-there, after-lends, after-few, are-before}
 use Rattle.btree_balance.proofs.shrink.mend_at.Goals as goal
 
 pub siblings-index-requires-clause-child : goal.siblings-index-requires-clause-child
@@ -26,15 +26,6 @@ mend_left-requires-clause-beside g c = are-before (views (g.C.Slab.content c.arg
 pub mend_left-requires-clause-short : goal.mend_left-requires-clause-short
 mend_left-requires-clause-short g c = is-short (views (g.C.Slab.content c.args.nodes.now)) c.args.id c.args.parent c.args.addr c.requires.followed c.requires.under c.args.count c.requires.count c.requires.short
 
-pub returns-in_default-clause-here : goal.returns-in_default-clause-here
-returns-in_default-clause-here g c = λ no. here-before (views (g.C.Slab.content c.args.nodes.now)) c.args.id c.args.parent c.args.addr c.requires.followed c.requires.under c.siblings-index.result.0 c.siblings-index.result.1 c.siblings-index.result.2 c.siblings-index.ensures.are c.unwrap-left.result c.unwrap-left.ensures (views (g.C.Slab.content c.mend_left.new.nodes)) c.mend_left.result.0 (c.mend_left.ensures.even no)
-
-pub returns-in_default-clause-above : goal.returns-in_default-clause-above
-returns-in_default-clause-above g c = λ yes. above-before (views (g.C.Slab.content c.args.nodes.now)) c.args.id c.args.parent c.args.addr c.requires.followed c.requires.under c.siblings-index.result.0 c.siblings-index.result.1 c.siblings-index.result.2 c.siblings-index.ensures.are c.unwrap-left.result c.unwrap-left.ensures (views (g.C.Slab.content c.mend_left.new.nodes)) c.mend_left.result.0 (c.mend_left.ensures.joined yes)
-
-pub returns-then-held-gt3-clause-here : goal.returns-then-held-gt3-clause-here
-returns-then-held-gt3-clause-here g c = λ no. here-after (views (g.C.Slab.content c.args.nodes.now)) c.args.id c.args.parent c.args.addr c.requires.followed c.requires.under c.siblings-index.result.0 c.siblings-index.result.1 c.siblings-index.result.2 c.siblings-index.ensures.are c.in-Some.right c.in-Some.is (views (g.C.Slab.content c.lend_left.new.nodes)) c.lend_left.result c.lend_left.ensures.even
-
 pub overflow_sub-index-in-Some-before : goal.overflow_sub-index-in-Some-before
 overflow_sub-index-in-Some-before g c = index-some (views (g.C.Slab.content c.args.nodes.now)) c.args.id c.args.parent c.args.addr c.requires.followed c.requires.under c.siblings-index.result.0 c.siblings-index.result.1 c.siblings-index.result.2 c.siblings-index.ensures.are c.in-Some-before.left c.in-Some-before.is
 
@@ -45,16 +36,10 @@ pub mend_left-requires-in-Some-before-clause-short : goal.mend_left-requires-in-
 mend_left-requires-in-Some-before-clause-short g c = is-short (views (g.C.Slab.content c.args.nodes.now)) c.args.id c.args.parent c.args.addr c.requires.followed c.requires.under c.args.count c.requires.count c.requires.short
 
 pub join-requires-clause-beside : goal.join-requires-clause-beside
-join-requires-clause-beside g c = are-after (views (g.C.Slab.content c.args.nodes.now)) c.args.id c.args.parent c.args.addr c.requires.followed c.requires.under c.siblings-index.result.0 c.siblings-index.result.1 c.siblings-index.result.2 c.siblings-index.ensures.are c.in-Some.right c.in-Some.is
+join-requires-clause-beside g c = (c.args.id, are-after (views (g.C.Slab.content c.args.nodes.now)) c.args.id c.args.parent c.args.addr c.requires.followed c.requires.under c.siblings-index.result.0 c.siblings-index.result.1 c.siblings-index.result.2 c.siblings-index.ensures.are c.in-Some.right c.in-Some.is)
 
 pub join-requires-clause-few : goal.join-requires-clause-few
 join-requires-clause-few g c = after-few (views (g.C.Slab.content c.args.nodes.now)) c.args.id c.args.parent c.args.addr c.requires.followed c.requires.under c.siblings-index.result.0 c.siblings-index.result.1 c.siblings-index.result.2 c.siblings-index.ensures.are c.in-Some.right c.in-Some.is c.count_of-held.result c.args.count c.count_of-held.ensures.count c.if-held-gt3.false c.requires.count c.requires.short
 
-pub returns-in-Some-before-clause-here : goal.returns-in-Some-before-clause-here
-returns-in-Some-before-clause-here g c = λ no. here-before (views (g.C.Slab.content c.args.nodes.now)) c.args.id c.args.parent c.args.addr c.requires.followed c.requires.under c.siblings-index.result.0 c.siblings-index.result.1 c.siblings-index.result.2 c.siblings-index.ensures.are c.in-Some-before.left c.in-Some-before.is (views (g.C.Slab.content c.mend_left-in-Some-before.new.nodes)) c.mend_left-in-Some-before.result.0 (c.mend_left-in-Some-before.ensures.even no)
-
-pub returns-in-Some-before-clause-above : goal.returns-in-Some-before-clause-above
-returns-in-Some-before-clause-above g c = λ yes. above-before (views (g.C.Slab.content c.args.nodes.now)) c.args.id c.args.parent c.args.addr c.requires.followed c.requires.under c.siblings-index.result.0 c.siblings-index.result.1 c.siblings-index.result.2 c.siblings-index.ensures.are c.in-Some-before.left c.in-Some-before.is (views (g.C.Slab.content c.mend_left-in-Some-before.new.nodes)) c.mend_left-in-Some-before.result.0 (c.mend_left-in-Some-before.ensures.joined yes)
-
 pub returns-in-None-clause-above : goal.returns-in-None-clause-above
-returns-in-None-clause-above g c = λ yes. above-after (views (g.C.Slab.content c.args.nodes.now)) c.args.id c.args.parent c.args.addr c.requires.followed c.requires.under c.siblings-index.result.0 c.siblings-index.result.1 c.siblings-index.result.2 c.siblings-index.ensures.are c.in-Some.right c.in-Some.is (views (g.C.Slab.content c.join.new.nodes)) c.join.result c.join.ensures.joined
+returns-in-None-clause-above g c = λ yes. c.join.ensures.joined c.args.id (are-after (views (g.C.Slab.content c.args.nodes.now)) c.args.id c.args.parent c.args.addr c.requires.followed c.requires.under c.siblings-index.result.0 c.siblings-index.result.1 c.siblings-index.result.2 c.siblings-index.ensures.are c.in-Some.right c.in-Some.is)

@@ -1,7 +1,10 @@
 use Rattle.btree_node.specs.Node.{view_of}
 use Rattle.btree_view.specs.View.{items_of}
-use Rattle.btree_walk.proofs.IterLemmas.{first-left}
+use Rattle.btree_shape.proofs.Left.{rest-next, rest-none}
 use Rattle.btree_walk.proofs.frames.first_of.Goals as goal
 
-pub returns-in-Some-clause-first : goal.returns-in-Some-clause-first
-returns-in-Some-clause-first g c = rw c.in-Some.is (first-left (λ pair. (pair.0.now, pair.1.now)) (items_of (view_of c.in-Some.leaf.now)) c.args.passed c.pair_at.result c.pair_at.ensures.item)
+pub returns-in-Some-item_at-clause-first : goal.returns-in-Some-item_at-clause-first
+returns-in-Some-item_at-clause-first g c = rw (c.in-Some.is, c.key.ensures, c.value.ensures) (rest-next (items_of (view_of c.in-Some.leaf.now)) c.args.passed _ c.in-Some-item_at.ensures.item)
+
+pub returns-in-None-item_at-clause-first : goal.returns-in-None-item_at-clause-first
+returns-in-None-item_at-clause-first g c = rw c.in-Some.is (rest-none (items_of (view_of c.in-Some.leaf.now)) c.args.passed c.in-None-item_at.ensures.item)

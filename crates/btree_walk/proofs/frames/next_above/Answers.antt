@@ -31,7 +31,7 @@ pub returns-in-Some-branch_at-clause-left : goal.returns-in-Some-branch_at-claus
 returns-in-Some-branch_at-clause-left g c =
     let off = taken-off c.args.tree.now.nodes c.args.tree.now.len c.loop-frame.frames c.pop.new.self c.in-Some.frame c.loop-frame.invariant.rows c.in-Some.ensures.answer c.in-Some.ensures.after in
     up-list c.args.tree.now.nodes c.args.tree.now.len _ c.loop-frame.frames c.loop-frame.invariant c.pop.new.self c.in-Some.frame off _ _ _ c.in-Some-branch_at.ensures.first c.push.new.self c.push.ensures
-    ∙ ap (λ l. (c.in-Some-branch_at.pair.0.now, c.in-Some-branch_at.pair.1.now) ∷ l) c.first_leaf.ensures.left
+    ∙ rw (c.key.ensures, c.value.ensures) (ap (λ l. c.in-Some-branch_at.item.now ∷ l) c.first_leaf.ensures.left)
 
 pub loop-frame-smaller : goal.loop-frame-smaller
 loop-frame-smaller g c =
