@@ -1,13 +1,16 @@
 -- The number of levels, counted down the first children.
-use Rattle.std.proofs.Common.{◌≡◌, ℕ, zero, suc, ◌+◌, ◌-◌, ◌*◌, ◌<◌, ◌≤◌, ◌^◌, List, Option, Some, None, IsSome, refl, sym, ap, subst, length, option_map, slice_get, arith}
+use Rattle.std.proofs.Common.{◌≡◌, ℕ, zero, suc, ◌+◌, ◌-◌, ◌*◌, ◌<◌, ◌≤◌, ◌^◌, List, Option, Some, None, IsSome, sym, ap, subst, length, option_map, slice_get, arith}
 use Rattle.std.specs.Prelude.{map as list_map}
 use Rattle.std.specs.FinMap as map
 use Rattle.btree_store.specs.Content.{Content}
 use Rattle.btree_node.specs.declared.node.Node.{Node}
 use Rattle.btree_node.specs.Node.{view_of}
-use Rattle.btree_view.specs.View.{View, Look, leaf, internal, children_of}
+use Rattle.btree_view.specs.View.{Look, leaf, internal, children_of}
 use Rattle.btree_shape.specs.Spells.{Spells}
 use Rattle.btree_shape.specs.TreeState.{views}
+use Rattle.btree_shape.proofs.Numbers.{used-one}
+use Rattle.btree_shape.proofs.Stores.{used-view}
+use Rattle.btree_ext.proofs.AddressLemmas.{spells-node}
 
 -- node `id` is so many levels below the root, and levels are counted down to it
 pub record IsDescending {A : Type 0} (look : Look A) (root : ℕ) (xs : List A) (id levels : ℕ) : Type 0 where
@@ -34,15 +37,9 @@ module _ {K V : Type 0} (nodes : Content (Node K V)) (root : ℕ) (xs : List (K 
 
   module _ (id levels : ℕ) (d : IsDescending (views nodes) root xs id levels) where
     pub descending-used : IsSome (map.get nodes id)
-    descending-used = at d.below d.here
-      where
-        some : (o : Option (Node K V)) (v : View (K × V)) → option_map view_of o ≡ Some v → IsSome o
-        some None v e = absurd (cc)
-        some (Some n) v e = refl
-
-        at : (h : ℕ) → Spells (views nodes) h d.parent id d.list → IsSome (map.get nodes id)
-        at zero s = some (map.get nodes id) _ s
-        at (suc h) s = some (map.get nodes id) _ s.3
+    descending-used =
+        let v = spells-node (views nodes) d.below d.parent id d.list d.here in
+        used-view nodes id (let u = used-one (views nodes id) v.0 v.1 in omega arith)
 
     module _ (node : Node K V) (at : map.get nodes id ≡ Some node) where
       here : views nodes id ≡ Some (view_of node)

@@ -1,7 +1,10 @@
+pub mod AddressLemmas
 pub mod ExchangeLemmas
 pub mod FirstLemmas
 pub mod HeightLemmas
 pub mod InsertLemmas
+pub mod KeepLemmas
+pub mod LevelLemmas
 pub mod MoreLemmas
 pub mod SearchLemmas
 pub mod TreeLemmas

@@ -1,5 +1,6 @@
 -- A pair put into a leaf of a tree that is not empty: what the steps ask, and what they come to.
-use Rattle.std.proofs.Common.{◌≡◌, ◌≢◌, ℕ, zero, suc, ◌+◌, ◌<◌, ◌≤◌, inl, inr, List, [], ◌∷◌, ◌++◌, length, length-append, Option, Some, None, IsSome, refl, sym, ap, subst, ◌∙◌, option_map, option_and_then, slice_get, arith}
+use Rattle.std.proofs.Common.{◌≡◌, ◌≢◌, ℕ, suc, ◌+◌, ◌≤◌, inl, inr, List, ◌++◌, length, length-append, Option, Some, None, IsSome, refl, sym, ap, subst, ◌∙◌, option_map, option_and_then, slice_get, arith}
+use Rattle.std.proofs.lemmas.Option.{slice_get_within}
 use Rattle.std.specs.Cmp.{IsTotalOrder}
 use Rattle.std.specs.FinMap as map
 use Rattle.std.specs.List.{insert}
@@ -20,7 +21,7 @@ use Rattle.btree_shape.specs.Tour.{slot}
 use Rattle.btree_shape.specs.TreeState.{views, pairs_under, IsSound}
 use Rattle.btree_shape.specs.WellFormed.{IsWellFormed, times_used}
 use Rattle.btree_shape.proofs.Listed.{pairs-well, well-pairs}
-use Rattle.btree_shape.proofs.Numbers.{less-or, listed-append, same-or, times-listed, used-low, used-one}
+use Rattle.btree_shape.proofs.Numbers.{less-or, listed-append, same-or, used-low, used-one}
 use Rattle.btree_shape.proofs.OnePlace.{one_place-well}
 use Rattle.btree_shape.proofs.Puts.{leaf-grows, grown-well, grown-address, grown-paid, grown-rooted}
 use Rattle.btree_balance.proofs.ClaimLemmas.{claims-low, claims-seen}
@@ -45,11 +46,6 @@ some-root (Some root) some = (root, refl)
 back-some : {A : Type 0} (look : Look A) (o : Option ℕ) → IsBack look o → (n : ℕ) × (o ≡ Some n)
 back-some look None is = absurd is
 back-some look (Some n) is = (n, refl)
-
-get-below : {X : Type 0} (xs : List X) (n : ℕ) (x : X) → slice_get xs n ≡ Some x → n < length xs
-get-below [] n x e = absurd (cc)
-get-below (y ∷ ys) zero x e = omega arith
-get-below (y ∷ ys) (suc n) x e = omega (arith, get-below ys n x e)
 
 module _ {K V : Type 0} (cmp : K → K → Ordering) (laws : IsTotalOrder cmp) (old : Content (Node K V)) (top : Option ℕ) (root len r : ℕ) (is : top ≡ Some root)
     (sound : IsSound cmp old top len) (k : K) (w : V) (a : Address) (gap : IsGapFor cmp k (state old top len r) a) where
@@ -95,7 +91,7 @@ module _ {K V : Type 0} (cmp : K → K → Ordering) (laws : IsTotalOrder cmp) (
         where
           by : (o : Option (K × V)) → item_in (look a.id) n ≡ o → IsPlaceOf look pairs o gap.place → n ≤ length ys
           by None e t = absurd t
-          by (Some x) e t = let g : slice_get ys n ≡ Some x = ap (λ v. item_in v n) (sym here) ∙ e in omega (arith, get-below ys n x g)
+          by (Some x) e t = let g : slice_get ys n ≡ Some x = ap (λ v. item_in v n) (sym here) ∙ e in omega (arith, slice_get_within ys n x g)
 
   pub leaf-used : IsSome (map.get old a.id)
   leaf-used = used-view old a.id (let u = used-one (look a.id) (leaf the-leaf.parent the-leaf.items) the-leaf.here in omega arith)
@@ -158,7 +154,6 @@ module _ {K V : Type 0} (cmp : K → K → Ordering) (laws : IsTotalOrder cmp) (
         listed : (n : ℕ) → times_listed n (numbers_under look well.formed.height root ++ ids) ≡ times_used (views new n)
         listed n =
             let a1 = listed-append n (numbers_under look well.formed.height root) ids in
-            let a2 = times-listed n (numbers_under look well.formed.height root) in
             let a3 = well.formed.once n in
             let a4 = claims.counted n in
             let a5 = used n in
@@ -175,13 +170,13 @@ module _ {K V : Type 0} (cmp : K → K → Ordering) (laws : IsTotalOrder cmp) (
             ]
 
         was-listed : (n : ℕ) → times_listed n (numbers_under look well.formed.height root) ≡ times_used (look n)
-        was-listed n = sym (times-listed n (numbers_under look well.formed.height root)) ∙ well.formed.once n
+        was-listed n = well.formed.once n
 
         is-paid : IsPaid (state old top len r) (state new (Some split.top) (len + 1) new_r)
         is-paid =
             let rooted = grown-rooted (K × V) (views new) split.top (insert pairs gap.place (k, w)) (Some (k, w)) b gap.place (0 + length ids) bound grown in
             let all : List ℕ = numbers_under (views new) rooted.height split.top in
-            let each : (n : ℕ) → times_listed n all ≡ times_used (views new n) = λ n. sym (times-listed n all) ∙ rooted.once n in
+            let each : (n : ℕ) → times_listed n all ≡ times_used (views new n) = rooted.once in
             let paid = grown-paid (K × V) (views new) split.top (insert pairs gap.place (k, w)) (Some (k, w)) b gap.place (0 + length ids) bound grown in
             let l1 = len-views new (numbers_under look well.formed.height root ++ ids) listed in
             let l2 = len-views old (numbers_under look well.formed.height root) was-listed in

@@ -20,8 +20,9 @@ use Rattle.btree_shape.proofs.Descents.{Down, get-after, search-start, search-as
 use Rattle.btree_shape.proofs.Listed.{well-pairs}
 use Rattle.btree_shape.proofs.LookUps.{search-hit, search-miss}
 use Rattle.btree_shape.proofs.Needs.{seen-used}
-use Rattle.btree_shape.proofs.Searched.{Rises, place-hit, rises, searched}
-use Rattle.btree_ext.specs.Answers.{HasKey, IsFoundAt, IsGapAt}
+use Rattle.btree_shape.proofs.Searched.{Rises, rises, searched}
+use Rattle.btree_ext.specs.Answers.{IsFoundAt, IsGapAt}
+use Rattle.btree_ext.proofs.AddressLemmas.{place-valid}
 use Rattle.btree_shape.proofs.Stores.{used-view, most-few}
 
 -- what `placed` says of a place among items
@@ -63,7 +64,7 @@ module _ {K V : Type 0} (cmp : K → K → Ordering) (k : K) (laws : IsTotalOrde
   -- the empty tree
   pub no-root : top ≡ None → (a : Address) → a ≡ record { id = NOWHERE; offset = Some 0 } → IsGapAt cmp k look top pairs a
   no-root none a is =
-      rw (is, none) (record { place = 0; is = refl; at = ((refl, refl, refl), refl); in_leaf = inr (refl, refl, refl); back = tt })
+      rw (is, none) (record { valid = inr (refl, refl, refl); place = 0; is = refl; at = ((refl, refl, refl), refl); in_leaf = inr (refl, refl, refl); back = tt })
 
   pub no-value : top ≡ None → None ≡ found_value cmp k pairs
   no-value none = rw none refl
@@ -98,7 +99,7 @@ module _ {K V : Type 0} (cmp : K → K → Ordering) (k : K) (laws : IsTotalOrde
         hit offset e a same =
             let r = placed-ok (place_of cmp k (items_of (view_of node))) (children_of (view_of node)) offset e in
             let h = search-hit cmp k laws look root pairs up id s (view_of node) here r.0 r.1 in
-            let f : IsFoundAt cmp k look (Some root) pairs (record { id = id; offset = Some r.0 }) = record { place = h.place; is = h.is; at = h.at; occupied = item-at r.0 r.1 } in
+            let f : IsFoundAt cmp k look (Some root) pairs (record { id = id; offset = Some r.0 }) = record { valid = place-valid look (Some root) pairs id (Some r.0) h.place h.at; place = h.place; is = h.is; at = h.at; occupied = item-at r.0 r.1 } in
             rw (same, r.2) (subst (λ t. IsFoundAt cmp k look t pairs (record { id = id; offset = Some r.0 })) (sym is) f)
 
         pub down : (index child : ℕ) → Err (index, Some child) ≡ offset_in cmp k (view_of node) → Down cmp k laws look root pairs up id child
@@ -116,7 +117,7 @@ module _ {K V : Type 0} (cmp : K → K → Ordering) (k : K) (laws : IsTotalOrde
                 → IsGapAt cmp k look (Some root) pairs (record { id = id; offset = Some index })
             by (leaf p ys) h asc place none =
                 let m = search-miss cmp k laws look root pairs up id s p ys h index place in
-                record { place = m.place; is = m.is; at = m.at; in_leaf = inl (rw h tt); back = tt }
+                record { valid = place-valid look (Some root) pairs id (Some index) m.place m.at; place = m.place; is = m.is; at = m.at; in_leaf = inl (rw h tt); back = tt }
             by (internal p first bs) h asc place none =
                 let r = searched cmp k laws (map {B = K × V} (λ (b : (K × V) × ℕ). b.0) bs) (Err index) (rises cmp (map {B = K × V} (λ (b : (K × V) × ℕ). b.0) bs) asc) place in
                 let n = length-map bs (λ (b : (K × V) × ℕ). b.0) in
@@ -137,12 +138,3 @@ module _ {K V : Type 0} (cmp : K → K → Ordering) (k : K) (laws : IsTotalOrde
         miss-value index e few =
             let m = miss index e (index_offset index) refl few (record { id = id; offset = index_offset index }) refl in
             absent-at (λ p. p.1) (before cmp k pairs) (before cmp k pairs) m.place (found cmp k pairs) m.is
-
-        pub has-key : (offset : Option ℕ) → Ok offset ≡ offset_in cmp k (view_of node) → HasKey cmp k look top pairs id
-        has-key offset e =
-            let r = placed-ok (place_of cmp k (items_of (view_of node))) (children_of (view_of node)) offset e in
-            let h = search-hit cmp k laws look root pairs up id s (view_of node) here r.0 r.1 in
-            let p = searched cmp k laws (items_of (view_of node)) (Ok r.0) (rises cmp (items_of (view_of node)) node-ascends) r.1 in
-            let own : found cmp k (items_of (view_of node)) ≡ Some p.1 = (place-hit cmp k (items_of (view_of node)) r.0 p).1 in
-            let at : item_in (look id) r.0 ≡ Some p.1 = ap (λ n. item_in n r.0) here ∙ (ap (λ l. slice_get l r.0) p.3 ∙ get-after p.0 p.1 p.2 r.0 (sym p.4)) in
-            record { node = view_of node; here = here; ascends = node-ascends; offset = r.0; is = r.1; same = own ∙ sym (h.item ∙ at) }

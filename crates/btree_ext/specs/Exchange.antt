@@ -1,28 +1,17 @@
--- A value exchanged at a key that is there.
-use Rattle.std.specs.Prelude.{◌≡◌, ℕ, List, [], Option, Some, None, Ok}
-use Rattle.std.specs.declared.cmp.Ordering.{Ordering}
-use Rattle.btree_item.specs.Pairs.{Ascends, place_of, with_value}
+-- A value exchanged at an address.
+use Rattle.std.specs.Prelude.{◌≡◌, ℕ, Some, set, slice_get}
+use Rattle.btree_item.specs.declared.address.Address.{Address}
 use Rattle.btree_view.specs.View.{View, Look, items_of}
 use Rattle.btree_shape.specs.Step.{Puts, HasItems}
 
--- the items of a node, if there is one
-abbrev pub items_in : {A : Type 0} → Option (View A) → List A
-items_in None = []
-items_in (Some node) = items_of node
-
-module _ {K V : Type 0} (cmp : K → K → Ordering) (k : K) where
-  -- node `id` has the key
-  pub record CanExchange (look : Look (K × V)) (id : ℕ) : Type 0 where
-    pub node : View (K × V)
-    pub here : look id ≡ Some node
-    pub ascends : Ascends cmp (items_of node)
-    pub offset : ℕ
-    pub is : place_of cmp k (items_of node) ≡ Ok offset
-
-  -- node `id` has the value at the key, and nothing else has changed
-  pub record Exchanges (w : V) (look new : Look (K × V)) (id : ℕ) : Type 0 where
-    pub old : View (K × V)
-    pub was : look id ≡ Some old
-    pub node : View (K × V)
-    pub items : HasItems old node (with_value cmp k w (items_of old))
-    pub puts : Puts look new id node
+-- the item at the address has this value, and nothing else has changed
+pub record Exchanges {K V : Type 0} (w : V) (look new : Look (K × V)) (a : Address) : Type 0 where
+  pub old : View (K × V)
+  pub was : look a.id ≡ Some old
+  pub offset : ℕ
+  pub at : a.offset ≡ Some offset
+  pub item : K × V
+  pub stood : slice_get (items_of old) offset ≡ Some item
+  pub node : View (K × V)
+  pub items : HasItems old node (set (items_of old) offset (item.0, w))
+  pub puts : Puts look new a.id node

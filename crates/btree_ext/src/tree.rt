@@ -99,7 +99,7 @@ impl<K: Ord + Drop, V: Drop, C: SlabMut<Node<K, V>>> Tree<K, V, C> {
         ensures refused { IfErr result (λ r. IsRefusedAtGap K.cmp key self.old self.new C.MayRefuse r.cause) }
     {
         match search::address_of(&self.raw, &key) {
-            Ok(addr) => Ok(Some(exchange(&mut self.raw.nodes, addr.id, &key, value))),
+            Ok(addr) => Ok(Some(exchange(&mut self.raw.nodes, addr, value))),
             Err(addr) => match insert_at_gap(&mut self.raw, addr, Item::new(key, value)) {
                 Ok(_) => Ok(None),
                 Err(refused) => Err(refused),

@@ -1,8 +1,8 @@
-use Rattle.btree_ext.proofs.SearchLemmas.{no-root, start, node-used, node-ascends, has-key, hit, down, miss}
+use Rattle.btree_ext.proofs.SearchLemmas.{no-root, start, node-used, node-ascends, hit, down, miss}
 use Rattle.btree_ext.proofs.search.address_of.Goals as goal
 
-pub returns-in_default-clause-address : goal.returns-in_default-clause-address
-returns-in_default-clause-address g c = no-root g.K.Ord.cmp c.args.key.now g.met.K.Ord.total (g.C.Slab.content c.args.tree.now.nodes) c.args.tree.now.root c.args.tree.now.len c.requires.sound c.in_default.is c.nowhere.result c.nowhere.ensures
+pub returns-in_default : goal.returns-in_default
+returns-in_default g c = record { address = no-root g.K.Ord.cmp c.args.key.now g.met.K.Ord.total (g.C.Slab.content c.args.tree.now.nodes) c.args.tree.now.root c.args.tree.now.len c.requires.sound c.in_default.is c.nowhere.result c.nowhere.ensures }
 
 pub loop-offset-init : goal.loop-offset-init
 loop-offset-init g c = start g.K.Ord.cmp c.args.key.now g.met.K.Ord.total (g.C.Slab.content c.args.tree.now.nodes) c.args.tree.now.root c.args.tree.now.len c.requires.sound c.in-Some.root c.in-Some.is
@@ -13,11 +13,8 @@ node_at-requires g c = (c.tell_fits.ensures, node-used g.K.Ord.cmp c.args.key.no
 pub offset_of-requires : goal.offset_of-requires
 offset_of-requires g c = (c.tell_fits.ensures, node-ascends g.K.Ord.cmp c.args.key.now g.met.K.Ord.total (g.C.Slab.content c.args.tree.now.nodes) c.args.tree.now.root c.args.tree.now.len c.requires.sound c.in-Some.root c.in-Some.is c.loop-offset.id c.loop-offset.invariant c.node_at.result.now c.node_at.ensures.value)
 
-pub returns-in-Ok-clause-address : goal.returns-in-Ok-clause-address
-returns-in-Ok-clause-address g c = hit g.K.Ord.cmp c.args.key.now g.met.K.Ord.total (g.C.Slab.content c.args.tree.now.nodes) c.args.tree.now.root c.args.tree.now.len c.requires.sound c.in-Some.root c.in-Some.is c.loop-offset.id c.loop-offset.invariant c.node_at.result.now c.node_at.ensures.value c.in-Ok.offset c.in-Ok.ensures.value c.new.result c.new.ensures
-
-pub returns-in-Ok-clause-node : goal.returns-in-Ok-clause-node
-returns-in-Ok-clause-node g c = rw c.new.ensures (has-key g.K.Ord.cmp c.args.key.now g.met.K.Ord.total (g.C.Slab.content c.args.tree.now.nodes) c.args.tree.now.root c.args.tree.now.len c.requires.sound c.in-Some.root c.in-Some.is c.loop-offset.id c.loop-offset.invariant c.node_at.result.now c.node_at.ensures.value c.in-Ok.offset c.in-Ok.ensures.value)
+pub returns-in-Ok : goal.returns-in-Ok
+returns-in-Ok g c = record { address = hit g.K.Ord.cmp c.args.key.now g.met.K.Ord.total (g.C.Slab.content c.args.tree.now.nodes) c.args.tree.now.root c.args.tree.now.len c.requires.sound c.in-Some.root c.in-Some.is c.loop-offset.id c.loop-offset.invariant c.node_at.result.now c.node_at.ensures.value c.in-Ok.offset c.in-Ok.ensures.value c.new.result c.new.ensures }
 
 pub loop-offset-smaller : goal.loop-offset-smaller
 loop-offset-smaller g c = (down g.K.Ord.cmp c.args.key.now g.met.K.Ord.total (g.C.Slab.content c.args.tree.now.nodes) c.args.tree.now.root c.args.tree.now.len c.requires.sound c.in-Some.root c.in-Some.is c.loop-offset.id c.loop-offset.invariant c.node_at.result.now c.node_at.ensures.value c.in-Err-default-Some.field-0-0 c.in-Err-default-Some.child (rw (← c.in-Err-default-Some.field-0-1-is) c.in-Err-default-Some.ensures.value)).smaller
@@ -25,5 +22,5 @@ loop-offset-smaller g c = (down g.K.Ord.cmp c.args.key.now g.met.K.Ord.total (g.
 pub loop-offset-preserved : goal.loop-offset-preserved
 loop-offset-preserved g c = (down g.K.Ord.cmp c.args.key.now g.met.K.Ord.total (g.C.Slab.content c.args.tree.now.nodes) c.args.tree.now.root c.args.tree.now.len c.requires.sound c.in-Some.root c.in-Some.is c.loop-offset.id c.loop-offset.invariant c.node_at.result.now c.node_at.ensures.value c.in-Err-default-Some.field-0-0 c.in-Err-default-Some.child (rw (← c.in-Err-default-Some.field-0-1-is) c.in-Err-default-Some.ensures.value)).next
 
-pub returns-in-Err-default-None-clause-address : goal.returns-in-Err-default-None-clause-address
-returns-in-Err-default-None-clause-address g c = miss g.K.Ord.cmp c.args.key.now g.met.K.Ord.total (g.C.Slab.content c.args.tree.now.nodes) c.args.tree.now.root c.args.tree.now.len c.requires.sound c.in-Some.root c.in-Some.is c.loop-offset.id c.loop-offset.invariant c.node_at.result.now c.node_at.ensures.value c.in-Err-default-None.index (rw (← c.in-Err-default-None.field-0-1-is) c.in-Err-default-None.ensures.value) c.from.result c.from.ensures c.in-Err-default-None.ensures.within c.new-in-Err-default-None.result c.new-in-Err-default-None.ensures
+pub returns-in-Err-default-None : goal.returns-in-Err-default-None
+returns-in-Err-default-None g c = record { address = miss g.K.Ord.cmp c.args.key.now g.met.K.Ord.total (g.C.Slab.content c.args.tree.now.nodes) c.args.tree.now.root c.args.tree.now.len c.requires.sound c.in-Some.root c.in-Some.is c.loop-offset.id c.loop-offset.invariant c.node_at.result.now c.node_at.ensures.value c.in-Err-default-None.index (rw (← c.in-Err-default-None.field-0-1-is) c.in-Err-default-None.ensures.value) c.from.result c.from.ensures c.in-Err-default-None.ensures.within c.new-in-Err-default-None.result c.new-in-Err-default-None.ensures }
