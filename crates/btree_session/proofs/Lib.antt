@@ -7,3 +7,4 @@ pub mod Digits
 pub mod Lines
 pub mod Serving
 pub mod Printing
+pub mod Shapes

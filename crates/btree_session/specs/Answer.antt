@@ -1,8 +1,8 @@
 -- What is printed for a question about the map.
-use Rattle.std.specs.Prelude.{ℕ, zero, suc, List, [], ◌∷◌, ◌++◌, length, map, Option, Some, None, codes}
+use Rattle.std.specs.Prelude.{◌≡◌, ℕ, zero, suc, List, [], ◌∷◌, ◌++◌, length, map, Option, Some, None, codes}
 use Rattle.std.specs.FinMap as finite
 use Rattle.std.specs.Fmt.{decimal}
-use Rattle.std.specs.List.{flat_map, join_with_byte}
+use Rattle.std.specs.List.{flat_map, join_with_byte, AllByRecursion}
 use Rattle.btree_view.specs.View.{View, leaf, internal, Look}
 use Rattle.btree_shape.specs.TreeState.{TreeState, pairs_of, views}
 use Rattle.btree_session.specs.declared.question.Question.{Question}
@@ -21,6 +21,32 @@ list_text (pair ∷ pairs) = join_with_byte 32 (map pair_text (pair ∷ pairs))
 abbrev pub bracketed : List (List ℕ) → List ℕ
 bracketed texts = codes "(" ++ join_with_byte 32 texts ++ codes ")"
 
+-- Node `id`, `height` levels above the leaves, is written so with all below it: a leaf as its keys; an internal node as its
+-- first child, and then each key and the child after it.
+abbrev pub IsWritten : Look (ℕ × ℕ) → (height : ℕ) → (id : ℕ) → List ℕ → Type 0
+IsWritten look zero id text =
+    (parent : Option ℕ) × (items : List (ℕ × ℕ)) × (look id ≡ Some (leaf parent items)) × (text ≡ bracketed (map (λ pair. decimal pair.0) items))
+IsWritten look (suc height) id text =
+    (parent : Option ℕ) × (first : ℕ) × (front : List ℕ) × (rest : List ((ℕ × ℕ) × ℕ × List ℕ))
+    × (look id ≡ Some (internal parent first (map (λ r. (r.0, r.1)) rest)))
+    × IsWritten look height first front
+    × AllByRecursion (λ r. IsWritten look height r.1 r.2) rest
+    × (text ≡ bracketed (front ∷ flat_map (λ r. decimal r.0.0 ∷ r.2 ∷ []) rest))
+
+-- a tree is written as its root, whatever its height, and one without pairs as two brackets
+abbrev pub IsShapeOf : Look (ℕ × ℕ) → (root : Option ℕ) → List ℕ → Type 0
+IsShapeOf look None text = text ≡ codes "()"
+IsShapeOf look (Some root) text = (height : ℕ) × IsWritten look height root text
+
+-- the answer to a question about a map
+abbrev pub IsAnswer : TreeState ℕ ℕ → Question → List ℕ → Type 0
+IsAnswer m questions.List text = text ≡ list_text (pairs_of m)
+IsAnswer m questions.Len text = text ≡ decimal (length (pairs_of m))
+IsAnswer m questions.Nodes text = text ≡ decimal (finite.len m.nodes)
+IsAnswer m questions.Shape text = IsShapeOf (views m.nodes) m.root text
+
+-- Below, the same as a function, in the steps in which it is printed.
+
 -- the text of a node, given that of each child: a leaf's keys, or an internal node's children and keys in turn
 abbrev pub shape_in : (ℕ → List ℕ) → Option (View (ℕ × ℕ)) → List ℕ
 shape_in below None = []
@@ -38,7 +64,7 @@ abbrev pub shape_text : Look (ℕ × ℕ) → (root : Option ℕ) → (len : ℕ
 shape_text look None len = codes "()"
 shape_text look (Some root) len = shape_under look len root
 
--- the answer to a question about a map
+-- the text of the answer to a question
 abbrev pub answer_text : TreeState ℕ ℕ → Question → List ℕ
 answer_text m questions.List = list_text (pairs_of m)
 answer_text m questions.Len = decimal (length (pairs_of m))

@@ -11,7 +11,7 @@ use Rattle.btree_session.specs.declared.line.Line.{Line}
 use Rattle.btree_session.specs.declared.line.Line.TheVariants.{Empty, Command, Question, Other}
 use Rattle.btree_session.specs.declared.script.Stop.{Stop}
 use Rattle.btree_session.specs.declared.script.Stop.TheVariants.{NotACommand, Memory, Input, Output}
-use Rattle.btree_session.specs.Answer.{answer_text}
+use Rattle.btree_session.specs.Answer.{IsAnswer}
 use Rattle.btree_session.specs.Line.{line_words, IsSaid}
 use Rattle.btree_session.specs.Machine.{IsStep}
 use Rattle.btree_session.specs.Text.{as_line, line_of}
@@ -50,7 +50,7 @@ module _ (MayRefuse : Content (Node ℕ ℕ) → Type 0) where
   abbrev pub Does : (old : TreeState ℕ ℕ) → Line → (printed : List ℕ) → (new : TreeState ℕ ℕ) → Type 0
   Does old Empty printed new = (printed ≡ []) × (new ≡ old)
   Does old (Command command) printed new = (reply : Reply) × IsStep MayRefuse old command reply new × (printed ≡ line_of reply)
-  Does old (Question question) printed new = (printed ≡ as_line (answer_text old question)) × (new ≡ old)
+  Does old (Question question) printed new = (answer : List ℕ) × IsAnswer old question answer × (printed ≡ as_line answer) × (new ≡ old)
   Does old Other printed new = ⊥
 
   -- what the lines say was done, one after another, and this was printed

@@ -1,7 +1,7 @@
 //! Questions about a session's map, and their answers as text.
-ghost use Rattle.std.specs.Prelude.{◌≡◌, ◌++◌, OnOk, OnErr, map, decimal};
+ghost use Rattle.std.specs.Prelude.{◌≡◌, ◌++◌, List, ℕ, OnOk, OnErr, map, decimal};
 ghost use Rattle.btree_shape.specs.TreeState.{pairs_of, views};
-ghost use Rattle.btree_session.specs.Answer.{list_text, bracketed, shape_under, answer_text};
+ghost use Rattle.btree_session.specs.Answer.{IsAnswer, list_text, bracketed, shape_under, answer_text};
 ghost use Rattle.btree_session.specs.Text.{Grows, as_line};
 
 use crate::text::{push_key, push_number, push_pair, push_text};
@@ -31,7 +31,7 @@ pub(crate) fn push_answer_line<C: SlabMut<Node<u64, u64>>>(
     question: Question,
     text: &mut Vec<u8>,
 ) -> Result<(), AllocError>
-    ensures put { OnOk result (text.new.items ≡ text.old.items ++ as_line (answer_text map.now question)) }
+    ensures put { OnOk result ((answer : List ℕ) × IsAnswer map.now question answer × (text.new.items ≡ text.old.items ++ as_line answer)) }
     ensures kept { OnErr result (Grows text.old.items text.new.items) }
 {
     push_answer(map, question, text)?;
@@ -43,14 +43,16 @@ fn push_answer<C: SlabMut<Node<u64, u64>>>(
     question: Question,
     text: &mut Vec<u8>,
 ) -> Result<(), AllocError>
+    ensures answer { IsAnswer map.now question (answer_text map.now question) }
     ensures put { OnOk result (text.new.items ≡ text.old.items ++ answer_text map.now question) }
     ensures kept { OnErr result (Grows text.old.items text.new.items) }
 {
+    let root = map.root_id();
     match question {
         Question::List => push_list(map, text),
         Question::Len => push_number(text, map.len() as u64),
         Question::Nodes => push_number(text, map.node_count() as u64),
-        Question::Shape => match map.root_id() {
+        Question::Shape => match root {
             Some(root) => push_shape(map, map.len(), root, text),
             None => push_text(text, b"()"),
         },

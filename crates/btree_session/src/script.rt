@@ -5,7 +5,7 @@ ghost use Rattle.std.specs.Io.KnownBytes.{Keeps, IsAtEnd, append_known};
 ghost use Rattle.btree_session.specs.declared.command.Reply.{Reply};
 ghost use Rattle.btree_session.specs.Line.{line_words, IsSaid};
 ghost use Rattle.btree_session.specs.Machine.{IsStep};
-ghost use Rattle.btree_session.specs.Answer.{answer_text};
+ghost use Rattle.btree_session.specs.Answer.{IsAnswer};
 ghost use Rattle.btree_session.specs.Text.{as_line};
 ghost use Rattle.btree_session.specs.Script.{is_newline, ReadsLine, Does, Drives};
 
@@ -182,7 +182,7 @@ fn answer<C: SlabMut<Node<u64, u64>>>(
     question: Question,
     text: &mut Vec<u8>,
 ) -> Result<(), AllocError>
-    ensures answered { OnOk result (text.new.items ≡ text.old.items ++ as_line (answer_text session.now question)) }
+    ensures answered { OnOk result ((answer : List ℕ) × IsAnswer session.now question answer × (text.new.items ≡ text.old.items ++ as_line answer)) }
     ensures text_kept { OnErr result (text.new.items ≡ text.old.items) }
 {
     let len = text.len();

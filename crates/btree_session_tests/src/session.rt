@@ -34,47 +34,48 @@ fn written_for<C: SlabMut<Node<u64, u64>>>(
     }
 }
 
+const LINES: [(&[u8], &[u8], Result<(), Stop>); 12] = [
+    (
+        b"insert 3 30\nget 3\ninsert 3 31\nget 4\n",
+        b"none\nsome 30\nsome 30\nnone\n",
+        Ok(()),
+    ),
+    (
+        GROWING,
+        b"none\nnone\nnone\nnone\nnone\nnone\nnone\nnone\nnone\nsome 80\nsome 30\nsome 33\n",
+        Ok(()),
+    ),
+    (b"", b"", Ok(())),
+    (b"insert 1 2\nget 1", b"none\nsome 2\n", Ok(())),
+    (
+        b"insert 18446744073709551616 1\n",
+        b"",
+        Err(Stop::NotACommand(1)),
+    ),
+    (
+        b"insert 18446744073709551615 18446744073709551615\nget 00018446744073709551615\n",
+        b"none\nsome 18446744073709551615\n",
+        Ok(()),
+    ),
+    (
+        b"get 1\nget \xff\nget 1\n",
+        b"none\n",
+        Err(Stop::NotACommand(2)),
+    ),
+    (
+        b" get   1 \r\n\n  \r\n\r\nget 1\r\nget\t1\n",
+        b"none\nnone\n",
+        Err(Stop::NotACommand(6)),
+    ),
+    (b"get 1\r \n", b"", Err(Stop::NotACommand(1))),
+    (b"get 1\r\r\n", b"", Err(Stop::NotACommand(1))),
+    (b"get 1 2\n", b"", Err(Stop::NotACommand(1))),
+    (b"insert 1\n", b"", Err(Stop::NotACommand(1))),
+];
+
 #[test]
 fn lines_are_answered(rt: HostRuntime) -> Result<(), Fail> {
-    let runs: [(&[u8], &[u8], Result<(), Stop>); 12] = [
-        (
-            b"insert 3 30\nget 3\ninsert 3 31\nget 4\n",
-            b"none\nsome 30\nsome 30\nnone\n",
-            Ok(()),
-        ),
-        (
-            GROWING,
-            b"none\nnone\nnone\nnone\nnone\nnone\nnone\nnone\nnone\nsome 80\nsome 30\nsome 33\n",
-            Ok(()),
-        ),
-        (b"", b"", Ok(())),
-        (b"insert 1 2\nget 1", b"none\nsome 2\n", Ok(())),
-        (
-            b"insert 18446744073709551616 1\n",
-            b"",
-            Err(Stop::NotACommand(1)),
-        ),
-        (
-            b"insert 18446744073709551615 18446744073709551615\nget 00018446744073709551615\n",
-            b"none\nsome 18446744073709551615\n",
-            Ok(()),
-        ),
-        (
-            b"get 1\nget \xff\nget 1\n",
-            b"none\n",
-            Err(Stop::NotACommand(2)),
-        ),
-        (
-            b" get   1 \r\n\n  \r\n\r\nget 1\r\nget\t1\n",
-            b"none\nnone\n",
-            Err(Stop::NotACommand(6)),
-        ),
-        (b"get 1\r \n", b"", Err(Stop::NotACommand(1))),
-        (b"get 1\r\r\n", b"", Err(Stop::NotACommand(1))),
-        (b"get 1 2\n", b"", Err(Stop::NotACommand(1))),
-        (b"insert 1\n", b"", Err(Stop::NotACommand(1))),
-    ];
-    for (text, written, end) in runs {
+    for (text, written, end) in LINES {
         let mut session: Session<Store> = Session::new(rt.alloc());
         let (mut input, mut output) = (text, Vec::new(rt.alloc()));
         let result = drive(rt.alloc(), &mut session, &mut input, &mut output);
@@ -213,60 +214,61 @@ struct Run<'a> {
     seen: &'a [usize],
 }
 
+const READS: [Run<'static>; 5] = [
+    Run {
+        pieces: &[
+            Piece::Bytes(b"insert 1 10\nget 1\nge"),
+            Piece::Bytes(b"t 2"),
+            Piece::Fails(ErrorKind::Interrupted),
+            Piece::Bytes(b"\r\n"),
+            Piece::Bytes(b"get 1"),
+        ],
+        most: 100,
+        end: Ok(()),
+        written: b"none\nsome 10\nnone\nsome 10\n",
+        seen: &[0, 13, 13, 13, 18, 18, 26],
+    },
+    Run {
+        pieces: &[
+            Piece::Bytes(b"insert 1 10\nget"),
+            Piece::Fails(ErrorKind::ConnectionReset),
+            Piece::Bytes(b" 1\n"),
+        ],
+        most: 100,
+        end: Err(Stop::Input),
+        written: b"none\n",
+        seen: &[0, 5],
+    },
+    Run {
+        pieces: &[
+            Piece::Bytes(b"insert 1 10\n"),
+            Piece::Bytes(b"get 1\nget 1\n"),
+            Piece::Bytes(b"get 1\n"),
+        ],
+        most: 9,
+        end: Err(Stop::Output),
+        written: b"none\nsome 1",
+        seen: &[0, 5],
+    },
+    Run {
+        pieces: &[Piece::Bytes(b"insert 1 10\njump\nget 1\n")],
+        most: 100,
+        end: Err(Stop::NotACommand(2)),
+        written: b"none\n",
+        seen: &[0],
+    },
+    Run {
+        pieces: &[Piece::Bytes(b"insert 1 10\njump\n")],
+        most: 0,
+        end: Err(Stop::Output),
+        written: b"",
+        seen: &[0],
+    },
+];
+
 #[test]
 fn replies_are_written_before_more_is_read(rt: HostRuntime) -> Result<(), Fail> {
-    let runs = [
-        Run {
-            pieces: &[
-                Piece::Bytes(b"insert 1 10\nget 1\nge"),
-                Piece::Bytes(b"t 2"),
-                Piece::Fails(ErrorKind::Interrupted),
-                Piece::Bytes(b"\r\n"),
-                Piece::Bytes(b"get 1"),
-            ],
-            most: 100,
-            end: Ok(()),
-            written: b"none\nsome 10\nnone\nsome 10\n",
-            seen: &[0, 13, 13, 13, 18, 18, 26],
-        },
-        Run {
-            pieces: &[
-                Piece::Bytes(b"insert 1 10\nget"),
-                Piece::Fails(ErrorKind::ConnectionReset),
-                Piece::Bytes(b" 1\n"),
-            ],
-            most: 100,
-            end: Err(Stop::Input),
-            written: b"none\n",
-            seen: &[0, 5],
-        },
-        Run {
-            pieces: &[
-                Piece::Bytes(b"insert 1 10\n"),
-                Piece::Bytes(b"get 1\nget 1\n"),
-                Piece::Bytes(b"get 1\n"),
-            ],
-            most: 9,
-            end: Err(Stop::Output),
-            written: b"none\nsome 1",
-            seen: &[0, 5],
-        },
-        Run {
-            pieces: &[Piece::Bytes(b"insert 1 10\njump\nget 1\n")],
-            most: 100,
-            end: Err(Stop::NotACommand(2)),
-            written: b"none\n",
-            seen: &[0],
-        },
-        Run {
-            pieces: &[Piece::Bytes(b"insert 1 10\njump\n")],
-            most: 0,
-            end: Err(Stop::Output),
-            written: b"",
-            seen: &[0],
-        },
-    ];
-    for (number, wanted) in runs.iter().enumerate() {
+    for (number, wanted) in READS.iter().enumerate() {
         let flushed = Cell::new(0);
         let mut session: Session<Store> = Session::new(rt.alloc());
         let mut input = Pieces {
