@@ -149,7 +149,8 @@ fn append_to<T: Drop, const N: usize>(
     }
 }
 
-// Moves the values from an index on out.
+// Moves the values from an index on out. Not inlined, so that they are written once into the caller's place.
+#[inline(never)]
 fn tail_from<T: Drop, const N: usize>(
     slots: &mut ArrayVec<Option<T>, N>,
     at: usize,

@@ -405,6 +405,7 @@ impl<K: Ord, V> Node<K, V> {
 
     /// The offset of a key where it is there, else the number of smaller keys, which is the index of
     /// the child that may hold it, and the child's number. Found with at most six comparisons.
+    #[inline(always)]
     pub fn offset_of(&self, key: &K) -> Result<Offset, (usize, Option<usize>)>
         requires { Ascends K.cmp (items_of (view_of self.now)) }
         ensures value { result ≡ offset_in K.cmp key.now (view_of self.now) }
