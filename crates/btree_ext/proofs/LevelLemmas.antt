@@ -10,7 +10,7 @@ use Rattle.btree_shape.specs.Spells.{Spells}
 use Rattle.btree_shape.specs.WellFormed.{IsSized, IsWellFormed, times_used}
 use Rattle.btree_shape.proofs.Heights.{levels-is}
 use Rattle.btree_shape.proofs.Overflows.{climb-node}
-use Rattle.btree_shape.proofs.OddNodes.{levels-rooted}
+use Rattle.btree_shape.proofs.Levels.{levels-rooted}
 use Rattle.btree_shape.proofs.Rooted.{node-at}
 use Rattle.btree_shape.proofs.SpelledShapes.{shape-of}
 use Rattle.btree_shape.proofs.Standing.{whole-standing}

@@ -1,3 +1,4 @@
 pub mod LookUpLemmas
 pub mod NodeLemmas
 pub mod SplitSizes
+pub mod NodeSizes

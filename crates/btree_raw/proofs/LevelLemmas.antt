@@ -1,34 +1,13 @@
 -- How many pairs and levels a tree has that is off by one at a node.
-use Rattle.std.proofs.Common.{◌≡◌, ◌+◌, ◌<◌, ◌≤◌, if◌then◌else◌, Bool, true, false, ℕ, List, length, Option, Some, None, sym, ap, arith}
+use Rattle.std.proofs.Common.{◌+◌, ◌≤◌, if◌then◌else◌, Bool, true, false, ℕ, List, arith}
 use Rattle.std.specs.Prelude.{nat_lt}
 use Rattle.std.specs.declared.cmp.Ordering.{Ordering}
 use Rattle.btree_view.specs.View.{Look}
 use Rattle.btree_shape.specs.Need.{IsClimbing, wanted}
 use Rattle.btree_shape.specs.Shape.{count_at, most_at}
-use Rattle.btree_shape.specs.Spells.{spelled}
 use Rattle.btree_shape.specs.WellFormed.{IsNearlySized, IsOffByOne}
-use Rattle.btree_shape.proofs.OddNodes.{levels-rooted}
-use Rattle.btree_shape.proofs.Spelled.{spelled-is}
-use Rattle.btree_balance.proofs.NeedLemmas.{wanted-few}
-
--- a tree has at most so many levels
-levels : ℕ
-levels = 32
-
-levels-are : (h : ℕ) → h < 32 → h < levels
-unfolding levels
-levels-are h low = low
-
--- how many pairs the tree with this root has
-pub items-under : {A : Type 0} → Look A → Option ℕ → ℕ
-items-under look None = 0
-items-under look (Some root) = length (spelled look levels root)
-
-pub items-are : {K V : Type 0} (cmp : K → K → Ordering) (look : Look (K × V)) (root odd : ℕ) (xs : List (K × V))
-    → IsOffByOne cmp look root odd xs → length xs ≡ items-under look (Some root)
-unfolding items-under
-items-are cmp look root odd xs w =
-    ap length (sym (spelled-is look w.rooted.height levels None root xs (levels-are w.rooted.height w.low) w.rooted.spells))
+use Rattle.btree_shape.proofs.Levels.{levels-rooted}
+use Rattle.btree_raw.proofs.NeedLemmas.{wanted-few}
 
 either-low : (b : Bool) (x y : ℕ) → (if b then x else y) ≤ x + y
 either-low true x y = omega arith

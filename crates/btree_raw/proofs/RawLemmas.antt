@@ -1,17 +1,20 @@
 -- A node that is put into a store of any content, and makes itself the parent of its children.
-use Rattle.std.proofs.Common.{◌≡◌, ◌≢◌, ℕ, ◌<◌, inl, inr, List, Option, Some, None, IsSome, refl, ap, subst, ◌∙◌, arith}
+use Rattle.std.proofs.Common.{◌≡◌, ◌≢◌, ℕ, ◌<◌, inl, inr, List, Option, Some, None, IsSome, IsTrue, Bool, false, refl, ap, subst, ◌∙◌, arith}
 use Rattle.std.specs.FinMap as map
+use Rattle.std.specs.declared.cmp.Ordering.{Ordering}
 use Rattle.btree_store.specs.Content.{Content}
 use Rattle.btree_node.specs.declared.node.Node.{Node}
 use Rattle.btree_node.specs.Node.{view_of}
 use Rattle.btree_view.specs.View.{children_in, children_of}
 use Rattle.btree_shape.specs.Shape.{times_listed}
 use Rattle.btree_shape.specs.Step.{Adopts}
-use Rattle.btree_shape.specs.TreeState.{views}
-use Rattle.btree_shape.specs.WellFormed.{times_used}
+use Rattle.btree_shape.specs.TreeState.{TreeState, IsOff, looks, pairs_of, views}
+use Rattle.btree_shape.specs.WellFormed.{IsOffByOne, times_used}
+use Rattle.btree_shape.proofs.TreeStates.{is-off}
+use Rattle.btree_valid.specs.Odd.{IsOffAmong}
 use Rattle.btree_shape.proofs.Numbers.{zero-or}
 use Rattle.btree_raw.specs.Raw.{AreUsed}
-use Rattle.btree_balance.specs.Steps.{CanAdopt}
+use Rattle.btree_raw.specs.Steps.{CanAdopt}
 use Rattle.btree_shape.proofs.Stores.{puts, some-used}
 
 module _ {K V : Type 0} where
@@ -50,3 +53,16 @@ module _ {K V : Type 0} (nodes : Content (Node K V)) (id : ℕ) (node : Node K V
         let P : List ℕ → Type 0 = λ l. Adopts (views after) (views last) id l in
         let Q : Content (Node K V) → Type 0 = λ m. Adopts (views m) (views last) id (children_of (view_of node)) in
         subst Q is (subst P (ap children_in here) a)
+
+module _ {K V : Type 0} (cmp : K → K → Ordering) (s : TreeState K V) (id : ℕ) where
+  -- the walk of the nodes under the root tells whether the tree is off by one
+  pub off-found : (root : ℕ) → s.root ≡ Some root → (result : Bool)
+      → (IsTrue result → IsOffAmong cmp s.nodes root id) × (IsOffAmong cmp s.nodes root id → IsTrue result)
+      → (IsTrue result → IsOff cmp s id) × (IsOff cmp s id → IsTrue result)
+  off-found root at result walk = (
+    λ yes. let off = walk.0 yes in is-off cmp s root id off.0 at off.1,
+    λ o. let same : o.root ≡ root = (let e = o.at_root in cc) in walk.1 (pairs_of s, subst (λ r. IsOffByOne cmp (looks s) r id (pairs_of s)) same o.off),
+  )
+
+  pub no-root-off : s.root ≡ None → (IsTrue false → IsOff cmp s id) × (IsOff cmp s id → IsTrue false)
+  no-root-off none = (λ no. absurd (cc), λ o. let e = o.at_root in absurd (cc))

@@ -1,5 +1,5 @@
 -- Rebalancing: where its climbs begin, and what they come to.
-use Rattle.std.proofs.Common.{◌≡◌, ◌∙◌, ◌+◌, ◌<◌, ◌≤◌, ◌++◌, [], ℕ, inl, inr, List, length, length-append, Option, Some, None, IsSome, refl, sym, ap, subst, arith, slice_get}
+use Rattle.std.proofs.Common.{◌≡◌, ◌∙◌, ◌+◌, ◌<◌, ◌≤◌, ◌++◌, [], ℕ, suc, inl, inr, List, length, length-append, Option, Some, None, IsSome, refl, sym, ap, subst, arith, slice_get}
 use Rattle.std.specs.Cmp.{IsTotalOrder}
 use Rattle.std.specs.FinMap as map
 use Rattle.std.specs.declared.cmp.Ordering.{Ordering}
@@ -7,36 +7,39 @@ use Rattle.btree_store.specs.Content.{Content}
 use Rattle.btree_item.specs.declared.address.Address.{Address}
 use Rattle.btree_item.specs.declared.refused.Cause.TheVariants.{Store}
 use Rattle.btree_node.specs.declared.node.Node.{Node}
-use Rattle.btree_view.specs.Edits.{IsOverflowing}
 use Rattle.btree_view.specs.View.{View, Look, item_in, items_of, most_of, size_of}
 use Rattle.btree_shape.specs.Growing.{IsGrowing, IsGrown}
+use Rattle.btree_shape.specs.Mending.{IsMended}
 use Rattle.btree_shape.specs.Need.{climb}
 use Rattle.btree_shape.specs.OnTour.{IsAddressed}
 use Rattle.btree_shape.specs.Place.{IsEnd, IsPlace, IsPlaceOf, IsValid}
 use Rattle.btree_shape.specs.Shape.{times_listed}
 use Rattle.btree_shape.specs.Shrinking.{IsShrinking, owed_by}
-use Rattle.btree_shape.specs.Spells.{numbers_under}
+use Rattle.btree_shape.specs.Spells.{Spells, numbers_under}
 use Rattle.btree_shape.specs.Step.{Claims}
 use Rattle.btree_shape.specs.Strain.{IsStrain, strain_under}
 use Rattle.btree_shape.specs.Tour.{Asks}
-use Rattle.btree_shape.specs.TreeState.{TreeState, views}
-use Rattle.btree_shape.specs.WellFormed.{IsNearlySized, IsOffByOne, IsWellFormed, times_used}
+use Rattle.btree_shape.specs.TreeState.{TreeState, HasLevels, HasLevelsUnder, IsOff, IsUsed, IsValidIn, looks, nodes_for_splits, pairs_of, views}
+use Rattle.btree_shape.specs.WellFormed.{IsNearlySized, IsWellFormed, times_used}
+use Rattle.btree_shape.proofs.Mendings.{shrinks-levels}
 use Rattle.btree_shape.proofs.Numbers.{listed-append}
-use Rattle.btree_shape.proofs.OddNodes.{emptied-well, mended-well, odd-climbs, odd-grows, odd-height, odd-shrinks}
+use Rattle.btree_shape.proofs.OddNodes.{emptied-well, mended-well, odd-climbs, odd-grows, odd-shrinks}
 use Rattle.btree_shape.proofs.OnTour.{tour-addressed, valid-on}
 use Rattle.btree_shape.proofs.Puts.{grown-paid, grown-rooted}
-use Rattle.btree_shape.proofs.SamePlace.{same_subtree}
 use Rattle.btree_shape.proofs.StepTours.{grown-addressed}
 use Rattle.btree_shape.specs.Place.{item_at}
-use Rattle.btree_balance.specs.Claimed.{EMPTY, IsClaimed, MayRefuseOneOf}
-use Rattle.btree_shape.specs.TreeState.{state}
-use Rattle.btree_balance.specs.Steps.{IsCounting}
-use Rattle.btree_raw.specs.Rebalance.{HasGiven, HasTaken, IsOff, IsRebalanced, IsRefusal}
-use Rattle.btree_balance.specs.Shrink.{AreMended, IsMendingOf, Rests}
-use Rattle.btree_balance.specs.Steps.{AreSplit, IsSplitting}
-use Rattle.btree_raw.proofs.LevelLemmas.{climb-few, items-are, items-under}
+use Rattle.btree_raw.specs.Claimed.{EMPTY, MayRefuseOneOf}
+use Rattle.btree_raw.specs.Steps.{IsCounting}
+use Rattle.btree_raw.specs.Claimed.{AreClaimed}
+use Rattle.btree_raw.specs.Raw.{Refuses}
+use Rattle.btree_raw.specs.Rebalance.{HasGiven, HasRoom, HasTaken, IsRebalanced, IsRefusal}
+use Rattle.btree_raw.specs.Shrink.{AreMended, IsMendingOf, MendsUp, Rests}
+use Rattle.btree_raw.specs.Steps.{IsSplitting, Overflows, SplitsUp}
+use Rattle.btree_raw.proofs.LevelLemmas.{climb-few}
+use Rattle.btree_shape.proofs.TreeStates.{height_held, is-tree-but-length, pairs-tree}
 use Rattle.btree_shape.proofs.Stores.{used-view, len-views}
-use Rattle.btree_balance.proofs.ClaimLemmas.{claims-seen}
+use Rattle.btree_raw.proofs.ClaimLemmas.{claims-seen}
+use Rattle.btree_raw.proofs.StateLemmas.{same-len, same-refusals, same-root}
 use Rattle.std.proofs.lemmas.Option.{slice_get_within}
 
 some-there : {X : Type 0} (o : Option X) → IsSome o → (x : X) × (o ≡ Some x)
@@ -104,224 +107,228 @@ module _ {K V : Type 0} (cmp : K → K → Ordering) (look new : Look (K × V)) 
         follow = λ asked q d. grown-follows t q asked (grown-addressed (K × V) new t xs asked b q gained bound (all asked q d));
       }
 
-module _ {K V : Type 0} (cmp : K → K → Ordering) (laws : IsTotalOrder cmp) (old : Content (Node K V)) (top : Option ℕ) (root len r id : ℕ) (is : top ≡ Some root)
-    (xs : List (K × V)) (w : IsOffByOne cmp (views old) root id xs) where
+module _ {K V : Type 0} (cmp : K → K → Ordering) (laws : IsTotalOrder cmp) (old : TreeState K V) (id : ℕ) (o : IsOff cmp old id) where
   abbrev look : Look (K × V)
-  look = views old
+  look = looks old
+
+  abbrev xs : List (K × V)
+  xs = pairs_of old
 
   abbrev numbers : List ℕ
-  numbers = numbers_under (views old) w.rooted.height root
+  numbers = numbers_under look o.off.rooted.height o.root
 
   abbrev strain : ℕ
-  strain = strain_under (views old) root numbers
+  strain = strain_under look o.root numbers
 
   listed : (n : ℕ) → times_listed n numbers ≡ times_used (look n)
-  listed n = w.rooted.once n
+  listed n = o.off.rooted.once n
 
   pub odd-node : (v : View (K × V)) × (look id ≡ Some v)
-  odd-node = some-there (look id) w.used
+  odd-node = some-there (look id) o.off.used
 
-  pub odd-used : IsSome (map.get old id)
-  odd-used = used-view old id (rw odd-node.1 (omega arith))
+  pub odd-used : IsUsed old id
+  odd-used = used-view old.nodes id (rw odd-node.1 (omega arith))
 
-  -- the tree spells one list
-  pub one-list : (ys : List (K × V)) → IsOff cmp (state old top len r) id ys → xs ≡ ys
-  one-list ys o =
-      let same : o.0 ≡ root = (let e = o.1 in cc) in
-      let other : IsOffByOne cmp look root id ys = subst (λ t. IsOffByOne cmp look t id ys) same o.2 in
-      same_subtree look root xs ys (record { height = w.rooted.height; parent = None; spells = w.rooted.spells }) (record { height = other.rooted.height; parent = None; spells = other.rooted.spells })
+  module _ (a : Address) (valid : IsValidIn old a) where
+    valid-root : IsValid look (Some o.root) a.id a.offset
+    valid-root = subst (λ t. IsValid look t a.id a.offset) o.at_root valid
 
-  most-is : length xs ≡ items-under look top
-  most-is = items-are cmp look root id xs w ∙ ap (items-under look) (sym is)
-
-  module _ (a : Address) (valid : IsValid look top a.id a.offset) where
-    valid-root : IsValid look (Some root) a.id a.offset
-    valid-root = subst (λ t. IsValid look t a.id a.offset) is valid
-
-    place-of : (asked : Option (K × V)) → Asks asked (item_at look a) → (place : ℕ) × IsAddressed (K × V) look root xs asked a place
+    place-of : (asked : Option (K × V)) → Asks asked (item_at look a) → (place : ℕ) × IsAddressed (K × V) look o.root xs asked a place
     place-of asked m =
-        let n = valid-on (K × V) look root xs asked a (IsNearlySized root id) w.rooted valid-root m in
-        (n.place, tour-addressed (K × V) look root xs asked a (IsNearlySized root id) n.place w.rooted n.on)
+        let n = valid-on (K × V) look o.root xs asked a (IsNearlySized o.root id) o.off.rooted valid-root m in
+        (n.place, tour-addressed (K × V) look o.root xs asked a (IsNearlySized o.root id) n.place o.off.rooted n.on)
 
-    at-some : (place : ℕ) × IsAddressed (K × V) look root xs None a place
+    at-some : (place : ℕ) × IsAddressed (K × V) look o.root xs None a place
     at-some = place-of None tt
 
-    module _ (new : Content (Node K V)) (new_top : Option ℕ) (b : Address) (new_len new_r : ℕ) (same_len : new_len ≡ len) (uncounted : new_r ≡ r)
-        (back : IsSome a.offset → IsSome b.offset) (gained bound : ℕ) (e : Ends cmp look (views new) root xs a b new_top gained bound) where
-      abbrev before-state : TreeState K V
-      before-state = state old top len r
+    module _ (new : TreeState K V) (b : Address) (same_len : new.len ≡ old.len) (uncounted : new.refusals ≡ old.refusals)
+        (back : IsSome a.offset → IsSome b.offset) (gained bound : ℕ) (e : Ends cmp look (looks new) o.root xs a b new.root gained bound) where
+      same-pairs : pairs_of new ≡ xs
+      same-pairs = pairs-tree cmp new (length xs) xs e.well
 
-      abbrev after-state : TreeState K V
-      after-state = state new new_top new_len new_r
-
-      rebalanced : ((node : View (K × V)) → look id ≡ Some node → IsOverflowing node → HasTaken cmp xs before-state after-state id strain e.after)
-          → ((node : View (K × V)) → look id ≡ Some node → size_of node ≤ most_of node → HasGiven cmp xs before-state after-state id node strain e.after)
-          → IsRebalanced cmp xs before-state after-state id a b
-      rebalanced taken given = record {
-        well = e.well;
+      rebalanced : (Overflows look id → HasTaken old new id strain e.after) → ((room : HasRoom look id) → HasGiven old new id room.node strain e.after)
+          → (HasRoom look id → (t : ℕ) → old.root ≡ Some t → IsMended look (looks new) t new.root id)
+          → IsRebalanced old new id cmp a b
+      rebalanced taken given steps = record {
+        well = is-tree-but-length cmp new xs e.well;
+        pairs = same-pairs;
         len = same_len;
         uncounted = uncounted;
         valid = (e.follow None at-some.0 at-some.1).valid;
         place = λ q at.
-            (e.follow None q (record { valid = valid-root; at_place = subst (λ t. IsPlace look t xs a.id a.offset q) is at; item = tt })).at_place;
+            subst (λ l. IsPlace (looks new) new.root l b.id b.offset q) (sym same-pairs)
+            (e.follow None q (record { valid = valid-root; at_place = subst (λ t. IsPlace look t xs a.id a.offset q) o.at_root at; item = tt })).at_place;
         item = λ x q. let p = place-of (Some x) q in (e.follow (Some x) p.0 p.1).item x refl;
         back = back;
+        mended = steps;
         before = strain;
         after = e.after;
-        strain_before = subst (λ t. IsStrain look t strain) (sym is) (numbers, listed, refl);
+        strain_before = subst (λ t. IsStrain look t strain) (sym o.at_root) (numbers, listed, refl);
         strain_after = e.strain;
         taken = taken;
         given = given;
       }
 
-    module _ (v : View (K × V)) (here : look id ≡ Some v) where
-      same-node : (node : View (K × V)) → look id ≡ Some node → v ≡ node
-      same-node node q = let h = here in cc
+    same-node : (v node : View (K × V)) → look id ≡ Some v → look id ≡ Some node → v ≡ node
+    same-node v node here q = cc
 
-      -- no item too many
-      module _ (room : size_of v ≤ most_of v) where
-        abbrev bound : ℕ
-        bound = strain + owed_by v
+    -- no item too many
+    module _ (fits : HasRoom look id) where
+      abbrev low-bound : ℕ
+      low-bound = strain + owed_by fits.node
 
-        shrinks : (asked : Option (K × V)) (place : ℕ) → IsAddressed (K × V) look root xs asked a place → IsShrinking (K × V) look root xs id asked a place 0 bound
-        shrinks asked place d = odd-shrinks cmp laws look root id xs w v here room asked a place d
+      shrinks : (asked : Option (K × V)) (place : ℕ) → IsAddressed (K × V) look o.root xs asked a place → IsShrinking (K × V) look o.root xs id asked a place 0 low-bound
+      shrinks asked place d = odd-shrinks cmp laws look o.root id xs o.off fits.node fits.here fits.room asked a place d
 
-        pub mending : IsMendingOf look top id a (items-under look top)
+      pub mending : IsMendingOf look old.root id a (length xs)
+      mending = record {
         mending = record {
-          mending = record {
-            followed = record {
-              root = root;
-              xs = xs;
-              asked = None;
-              place = at-some.0;
-              given = 0;
-              bound = bound;
-              shrinking = shrinks None at-some.0 at-some.1;
-            };
-            at_root = is;
-          };
-          items = most-is;
-        }
-
-        module _ (new : Content (Node K V)) (new_top : Option ℕ) (b : Address) (m : AreMended look (views new) top new_top id a b) where
-          abbrev Rest : Option ℕ → Type 0
-          Rest t = (asked : Option (K × V)) (place : ℕ) → IsAddressed (K × V) look root xs asked a place → Rests (views new) t xs asked b place (0 + length m.gone) bound
-
-          mended-ends : (t : Option ℕ) → Rest t → Ends cmp look (views new) root xs a b t (0 + length m.gone) bound
-          mended-ends (Some t) f =
-              let g = f None at-some.0 at-some.1 in
-              grown-ends cmp look (views new) root xs a b t at-some.0 (0 + length m.gone) bound
-              (mended-well cmp laws look root id xs w v here (views new) t None b at-some.0 (0 + length m.gone) bound g) g f
-          mended-ends None f =
-              let g = f None at-some.0 at-some.1 in
-              let p = g.3 in
-              record {
-                well = emptied-well cmp laws look root id xs w v here (views new) g.0;
-                ids = [];
-                each = λ n. sym (ap times_used (g.0.0 n));
-                after = 0;
-                strain = refl;
-                paid = omega arith;
-                follow = λ asked place d.
-                    let f2 = f asked place d in
-                    record {
-                      valid = f2.1;
-                      at_place = f2.2;
-                      item = λ x q.
-                          let d2 : IsAddressed (K × V) look root xs (Some x) a place = subst (λ o. IsAddressed (K × V) look root xs o a place) q d in
-                          absurd (nothing-there look root a.id a.offset place x (subst (λ l. IsAddressed (K × V) look root l (Some x) a place) g.0.1 d2));
-                    };
-              }
-
-          ends : Ends cmp look (views new) root xs a b new_top (0 + length m.gone) bound
-          ends = mended-ends new_top (λ asked place d. m.mended root xs asked place 0 bound is (shrinks asked place d))
-
-          fewer : map.len old ≡ map.len new + length m.gone
-          fewer =
-              let l1 = len-views old (ends.ids ++ m.gone) (listed-both look (views new) ends.ids m.gone ends.each m.counted) in
-              let l2 = len-views new ends.ids ends.each in
-              let l3 = length-append ends.ids m.gone in
-              omega arith
-
-          pub mended : (new_len new_r : ℕ) → new_len ≡ len → new_r ≡ r → (IsSome a.offset → IsSome b.offset)
-              → (ys : List (K × V)) → IsOff cmp (state old top len r) id ys → IsRebalanced cmp ys (state old top len r) (state new new_top new_len new_r) id a b
-          mended new_len new_r same_len uncounted back ys o =
-              subst (λ l. IsRebalanced cmp l (state old top len r) (state new new_top new_len new_r) id a b) (one-list ys o)
-              (rebalanced new new_top b new_len new_r same_len uncounted back (0 + length m.gone) bound ends
-              (λ node q over. let s = same-node node q in let z = ap size_of s in let y = ap most_of s in absurd (omega arith))
-              (λ node q fits.
-              subst (λ n. HasGiven cmp xs (state old top len r) (state new new_top new_len new_r) id n strain ends.after) (same-node node q)
-              (record { given = length m.gone; fewer = fewer; paid = (let p = ends.paid in omega arith) })))
-
-      -- an item too many
-      module _ (over : most_of v < size_of v) where
-        abbrev most : ℕ
-        most = items-under look top
-
-        high : w.rooted.height < most
-        high = let h = odd-height cmp laws look root id xs w v here (omega arith) in let m = most-is in omega arith
-
-        pub counting : IsCounting look most id id 0
-        counting =
-            let s = odd-climbs cmp laws look root id xs w v here most high in
-            record { root = root; xs = xs; climbing = s; few = climb-few cmp look root id most id (climb look most id) xs w s }
-
-        pub refusal : (MayRefuse : Content (Node K V) → Type 0) (mid : Content (Node K V)) (new_r count : ℕ) → count ≡ climb look most id → mid ≡ old → new_r ≡ r + 1
-            → MayRefuseOneOf EMPTY MayRefuse old count
-            → (ys : List (K × V)) → IsOff cmp (state old top len r) id ys → IsRefusal cmp ys (state old top len r) (state mid top len new_r) id MayRefuse Store
-        refusal MayRefuse mid new_r count count_is same counted may ys o =
-            subst (λ l. IsRefusal cmp l (state old top len r) (state mid top len new_r) id MayRefuse Store) (one-list ys o)
-            (record {
-              store = refl;
-              unchanged = rw (same, counted) refl;
-              over = record { node = v; here = here; over = over };
-              may = subst (λ n. MayRefuseOneOf EMPTY MayRefuse old n) (count_is ∙ ap (λ n. climb look n id) (sym most-is)) may;
-            })
-
-        module _ (ids : List ℕ) (mid : Content (Node K V)) (claimed : IsClaimed EMPTY old mid ids) (count : length ids ≡ climb look most id) where
-          claims : Claims look (views mid) ids
-          claims = subst (λ m. Claims look (views m) ids) (sym claimed.after) (claims-seen old ids claimed.claims)
-
-          grows : (asked : Option (K × V)) (place : ℕ) → IsAddressed (K × V) look root xs asked a place → IsGrowing (K × V) (views mid) root xs id ids asked a place 0 strain
-          grows asked place d = odd-grows cmp laws look root id xs w v here over most high (views mid) ids claims count asked a place d
-
-          pub splitting : IsSplitting (views mid) top id ids a
-          splitting = record {
-            top = root;
-            at_root = is;
+          followed = record {
+            root = o.root;
             xs = xs;
             asked = None;
             place = at-some.0;
-            gained = 0;
-            bound = strain;
-            growing = grows None at-some.0 at-some.1;
-          }
+            given = 0;
+            bound = low-bound;
+            shrinking = shrinks None at-some.0 at-some.1;
+          };
+          at_root = o.at_root;
+        };
+        items = refl;
+      }
 
-          module _ (new : Content (Node K V)) (new_top : Option ℕ) (b : Address) (split : AreSplit (views mid) (views new) top new_top id ids a b)
-              (used : (n : ℕ) → times_used (views new n) ≡ times_used (views mid n)) where
-            grown : (asked : Option (K × V)) (place : ℕ) → IsAddressed (K × V) look root xs asked a place → IsGrown (K × V) (views new) split.top xs asked b place (0 + length ids) strain
-            grown asked place d = split.grown root xs asked place 0 strain is (grows asked place d)
+      module _ (new : TreeState K V) (b : Address) (u : MendsUp old new id a b) where
+        abbrev m : AreMended look (looks new) old.root new.root id a b
+        m = u.mended
 
-            split-ends : Ends cmp look (views new) root xs a b new_top (0 + length ids) strain
-            split-ends =
-                let g = grown None at-some.0 at-some.1 in
-                subst (λ t. Ends cmp look (views new) root xs a b t (0 + length ids) strain) (sym split.at_root)
-                (grown-ends cmp look (views new) root xs a b split.top at-some.0 (0 + length ids) strain
-                (mended-well cmp laws look root id xs w v here (views new) split.top None b at-some.0 (0 + length ids) strain g) g grown)
+        abbrev Rest : Option ℕ → Type 0
+        Rest t = (asked : Option (K × V)) (place : ℕ) → IsAddressed (K × V) look o.root xs asked a place → Rests (looks new) t xs asked b place (0 + length m.gone) low-bound
 
-            more : map.len new ≡ map.len old + length ids
-            more =
-                let l1 = len-views new (numbers ++ ids)
-                (λ n. let x = listed-append n numbers ids in let y = listed n in let z = claims.counted n in let u = used n in omega arith) in
-                let l2 = len-views old numbers listed in
-                let l3 = length-append numbers ids in
-                omega arith
+        mended-ends : (t : Option ℕ) → Rest t → Ends cmp look (looks new) o.root xs a b t (0 + length m.gone) low-bound
+        mended-ends (Some t) f =
+            let g = f None at-some.0 at-some.1 in
+            grown-ends cmp look (looks new) o.root xs a b t at-some.0 (0 + length m.gone) low-bound
+            (mended-well cmp laws look o.root id xs o.off fits.node fits.here (looks new) t None b at-some.0 (0 + length m.gone) low-bound g) g f
+        mended-ends None f =
+            let g = f None at-some.0 at-some.1 in
+            let p = g.3 in
+            record {
+              well = emptied-well cmp laws look o.root id xs o.off fits.node fits.here (looks new) g.0;
+              ids = [];
+              each = λ n. sym (ap times_used (g.0.0 n));
+              after = 0;
+              strain = refl;
+              paid = omega arith;
+              follow = λ asked place d.
+                  let f2 = f asked place d in
+                  record {
+                    valid = f2.1;
+                    at_place = f2.2;
+                    item = λ x q.
+                        let d2 : IsAddressed (K × V) look o.root xs (Some x) a place = subst (λ r. IsAddressed (K × V) look o.root xs r a place) q d in
+                        absurd (nothing-there look o.root a.id a.offset place x (subst (λ l. IsAddressed (K × V) look o.root l (Some x) a place) g.0.1 d2));
+                  };
+            }
 
-            pub is-split : (new_len new_r : ℕ) → new_len ≡ len → new_r ≡ r → (IsSome a.offset → IsSome b.offset)
-                → (ys : List (K × V)) → IsOff cmp (state old top len r) id ys → IsRebalanced cmp ys (state old top len r) (state new new_top new_len new_r) id a b
-            is-split new_len new_r same_len uncounted back ys o =
-                let many : climb look (length xs) id ≡ length ids = ap (λ n. climb look n id) most-is ∙ sym count in
-                subst (λ l. IsRebalanced cmp l (state old top len r) (state new new_top new_len new_r) id a b) (one-list ys o)
-                (rebalanced new new_top b new_len new_r same_len uncounted back (0 + length ids) strain split-ends
-                (λ node q full. record { more = (let m = more in omega arith); paid = (let p = split-ends.paid in omega arith) })
-                (λ node q fits. let s = same-node node q in let z = ap size_of s in let y = ap most_of s in absurd (omega arith)))
+        ends : Ends cmp look (looks new) o.root xs a b new.root (0 + length m.gone) low-bound
+        ends = mended-ends new.root (λ asked place d. m.mended o.root xs asked place 0 low-bound o.at_root (shrinks asked place d))
+
+        fewer : map.len old.nodes ≡ map.len new.nodes + length m.gone
+        fewer =
+            let l1 = len-views old.nodes (ends.ids ++ m.gone) (listed-both look (looks new) ends.ids m.gone ends.each m.counted) in
+            let l2 = len-views new.nodes ends.ids ends.each in
+            let l3 = length-append ends.ids m.gone in
+            omega arith
+
+        within-root : (height : ℕ) → Spells look height None o.root xs → length m.gone ≤ suc height
+        within-root height spells =
+            let g = shrinks None at-some.0 at-some.1 in
+            let f = m.few o.root xs None at-some.0 0 low-bound o.at_root g in
+            let l = shrinks-levels (K × V) look o.root xs id None a at-some.0 0 low-bound g (IsNearlySized o.root id) o.off.rooted height spells in
+            omega arith
+
+        within : (levels : ℕ) → HasLevels old levels → length m.gone ≤ levels
+        within levels has =
+            let h : HasLevelsUnder old (Some o.root) levels = subst (λ t. HasLevelsUnder old t levels) o.at_root has in
+            let e = h.2 in
+            let w = within-root h.0 h.1 in
+            omega arith
+
+        pub mended : (IsSome a.offset → IsSome b.offset) → IsRebalanced old new id cmp a b
+        mended back =
+            rebalanced new b u.len u.uncounted back (0 + length m.gone) low-bound ends
+            (λ over. let s = same-node over.node fits.node over.here fits.here in let z = ap size_of s in let y = ap most_of s in let f = fits.room in let g = over.over in absurd (omega arith))
+            (λ room.
+            subst (λ n. HasGiven old new id n strain ends.after) (same-node fits.node room.node fits.here room.here)
+            (record { given = length m.gone; fewer = fewer; within = within; paid = (let p = ends.paid in omega arith) }))
+            (λ room t same. m.steps t same)
+
+    -- an item too many
+    module _ (over : Overflows look id) where
+      abbrev most : ℕ
+      most = map.len old.nodes
+
+      high : o.off.rooted.height < most
+      high = height_held old (IsNearlySized o.root id) o.root xs o.off.rooted
+
+      pub counting : IsCounting look most id id 0
+      counting =
+          let s = odd-climbs cmp laws look o.root id xs o.off over.node over.here most high in
+          record { root = o.root; xs = xs; climbing = s; few = climb-few cmp look o.root id most id (climb look most id) xs o.off s }
+
+      pub refusal : (MayRefuse : Content (Node K V) → Type 0) (new : TreeState K V) (count : ℕ) → count ≡ nodes_for_splits old id → Refuses old new
+          → MayRefuseOneOf EMPTY MayRefuse old.nodes count → IsRefusal old new id MayRefuse Store
+      refusal MayRefuse new count count_is refuses may = record {
+        store = refl;
+        unchanged = refuses;
+        over = over;
+        may = subst (λ n. MayRefuseOneOf EMPTY MayRefuse old.nodes n) count_is may;
+      }
+
+      module _ (ids : List ℕ) (mid : TreeState K V) (claimed : AreClaimed old mid ids) (count : length ids ≡ nodes_for_splits old id) where
+        claims : Claims look (looks mid) ids
+        claims = subst (λ n. Claims look (views n) ids) (sym claimed.claimed.after) (claims-seen old.nodes ids claimed.claimed.claims)
+
+        grows : (asked : Option (K × V)) (place : ℕ) → IsAddressed (K × V) look o.root xs asked a place → IsGrowing (K × V) (looks mid) o.root xs id ids asked a place 0 strain
+        grows asked place d = odd-grows cmp laws look o.root id xs o.off over.node over.here over.over most high (looks mid) ids claims count asked a place d
+
+        same-top : mid.root ≡ Some o.root
+        same-top = same-root claimed.rest ∙ o.at_root
+
+        pub splitting : IsSplitting (looks mid) mid.root id ids a
+        splitting = record {
+          top = o.root;
+          at_root = same-top;
+          xs = xs;
+          asked = None;
+          place = at-some.0;
+          gained = 0;
+          bound = strain;
+          growing = grows None at-some.0 at-some.1;
+        }
+
+        module _ (new : TreeState K V) (b : Address) (s : SplitsUp mid new id ids a b) where
+          grown : (asked : Option (K × V)) (place : ℕ) → IsAddressed (K × V) look o.root xs asked a place → IsGrown (K × V) (looks new) s.split.top xs asked b place (0 + length ids) strain
+          grown asked place d = s.split.grown o.root xs asked place 0 strain same-top (grows asked place d)
+
+          split-ends : Ends cmp look (looks new) o.root xs a b new.root (0 + length ids) strain
+          split-ends =
+              let g = grown None at-some.0 at-some.1 in
+              subst (λ t. Ends cmp look (looks new) o.root xs a b t (0 + length ids) strain) (sym s.split.at_root)
+              (grown-ends cmp look (looks new) o.root xs a b s.split.top at-some.0 (0 + length ids) strain
+              (mended-well cmp laws look o.root id xs o.off over.node over.here (looks new) s.split.top None b at-some.0 (0 + length ids) strain g) g grown)
+
+          more : map.len new.nodes ≡ map.len old.nodes + length ids
+          more =
+              let l1 = len-views new.nodes (numbers ++ ids)
+              (λ n. let x = listed-append n numbers ids in let y = listed n in let z = claims.counted n in let u = s.used n in omega arith) in
+              let l2 = len-views old.nodes numbers listed in
+              let l3 = length-append numbers ids in
+              omega arith
+
+          pub is-split : (IsSome a.offset → IsSome b.offset) → IsRebalanced old new id cmp a b
+          is-split back =
+              rebalanced new b (s.len ∙ same-len claimed.rest) (s.uncounted ∙ same-refusals claimed.rest) back (0 + length ids) strain split-ends
+              (λ full. record { more = (let m = more in omega arith); paid = (let p = split-ends.paid in omega arith) })
+              (λ room. let t = same-node over.node room.node over.here room.here in let z = ap size_of t in let y = ap most_of t in let f = room.room in let g = over.over in absurd (omega arith))
+              (λ room t same. let q = same-node over.node room.node over.here room.here in let z = ap size_of q in let y = ap most_of q in let f = room.room in let g = over.over in absurd (omega arith))

@@ -1,5 +1,5 @@
 -- What calls of a tree of any content ask, and leave.
-use Rattle.std.specs.Prelude.{◌≡◌, ℕ, ◌<◌, List, None, IsSome}
+use Rattle.std.specs.Prelude.{◌≡◌, ℕ, ◌+◌, ◌<◌, List, None, IsSome}
 use Rattle.std.specs.FinMap as map
 use Rattle.btree_store.specs.Content.{Content}
 use Rattle.btree_node.specs.declared.node.Node.{Node}
@@ -7,17 +7,25 @@ use Rattle.btree_node.specs.Node.{view_of}
 use Rattle.btree_view.specs.View.{children_of}
 use Rattle.btree_shape.specs.Shape.{times_listed}
 use Rattle.btree_shape.specs.Step.{Adopts}
-use Rattle.btree_shape.specs.TreeState.{TreeState, views}
+use Rattle.btree_shape.specs.Place.{IsWithin}
+use Rattle.btree_shape.specs.TreeState.{TreeState, KeepsRest, looks, views}
+use Rattle.btree_item.specs.declared.address.Address.{Address}
 
 module _ {K V : Type 0} where
   -- each of these numbers is a node's
   abbrev pub AreUsed : Content (Node K V) → List ℕ → Type 0
   AreUsed nodes ids = (n : ℕ) → 0 < times_listed n ids → IsSome (map.get nodes n)
 
+  -- nothing has changed, but that a refusal was counted
+  abbrev pub Refuses : (old new : TreeState K V) → Type 0
+  Refuses old new = new ≡ record old { refusals = old.refusals + 1 }
+
+  -- the address is in a node, from -1 to the number of its items
+  abbrev pub IsWithinNode : TreeState K V → Address → Type 0
+  IsWithinNode s a = IsWithin (looks s) (looks s a.id) a.offset
+
   -- a node is there under a number that was not used, and its children name it as their parent; nothing else has changed
   pub record GainsNode (old new : TreeState K V) (id : ℕ) (node : Node K V) : Type 0 where
     pub vacant : map.get old.nodes id ≡ None
-    pub adopted : Adopts (views (map.insert old.nodes id node)) (views new.nodes) id (children_of (view_of node))
-    pub root : new.root ≡ old.root
-    pub len : new.len ≡ old.len
-    pub refusals : new.refusals ≡ old.refusals
+    pub adopted : Adopts (views (map.insert old.nodes id node)) (looks new) id (children_of (view_of node))
+    pub rest : KeepsRest old new

@@ -1,25 +1,30 @@
 //! A tree of any content.
-ghost use Rattle.std.specs.Prelude.{◌≡◌, ◌↔◌, ◌+◌, ◌<◌, None, IsSome, IsTrue, Some, option_copied, IfOk, OnOk, IfErr, OnErr};
+ghost use Rattle.std.specs.Prelude.{◌≡◌, ◌↔◌, ◌+◌, ◌<◌, None, IsTrue, Some, option_copied, IfOk, OnOk, IfErr, OnErr};
 ghost use Rattle.std.specs.FinMap as map;
 ghost use Rattle.std.specs.Borrow.{Lends, sem};
+ghost use Rattle.std.specs.Mem.{FitsInMemory};
 ghost use Rattle.btree_node.specs.Node.{view_of};
 ghost use Rattle.btree_node.specs.contracts.node.Node.{the_row as node_row};
-ghost use Rattle.btree_shape.specs.Place.{IsWithin};
-ghost use Rattle.btree_shape.specs.TreeState.{views};
+ghost use Rattle.btree_raw.specs.Raw.{IsWithinNode};
 
-use btree_balance::{Parts, adopt, node_at};
+use crate::nodes::adopt;
 use btree_item::{Address, Item};
 use btree_node::Node;
-use btree_store::{Slab, SlabMut};
+use btree_nodes::{Nodes, NodesMut};
+use btree_valid::is_off;
 use std::marker::{Model, PhantomData};
 
-/// Nodes in a store, the number of a root, and a length, of which nothing is known. Rebalancing asks what it needs of them.
+/// Nodes in a store, the number of a root, and a length, of which nothing is known: a tree in the middle of a change, or one from
+/// elsewhere. Contracts see it as a `TreeState`.
 #[derive(Drop)]
-pub struct RawBTree<K, V, C: SlabMut<Node<K, V>>> {
-    pub(crate) parts: Parts<K, V, C>,
+pub struct RawBTree<K, V, C: NodesMut<K, V>> {
+    store: C,
+    root: Option<usize>,
+    len: usize,
+    pairs: PhantomData<(K, V)>,
 }
 
-impl<K, V, C: SlabMut<Node<K, V>>> Model for RawBTree<K, V, C> {
+impl<K, V, C: NodesMut<K, V>> Model for RawBTree<K, V, C> {
     ghost use Rattle.std.specs.Coded.{codes};
     ghost use Rattle.btree_shape.specs.TreeState.{TreeState, tree_code};
 
@@ -27,16 +32,15 @@ impl<K, V, C: SlabMut<Node<K, V>>> Model for RawBTree<K, V, C> {
 
     ghost coded = { tree_code (Prim.hlevel codes) };
 
-    ghost view = { λ t. record { nodes = C.content t.parts.nodes; root = t.parts.root; len = t.parts.len; refusals = C.refusals t.parts.nodes } };
+    ghost view = { λ t. record { nodes = C.content t.store; root = t.root; len = t.len; refusals = C.refusals t.store } };
 
     ghost invariant = { λ _. C.Fits };
 }
 
-impl<K, V, C: SlabMut<Node<K, V>>> RawBTree<K, V, C> {
-    ghost use Rattle.std.specs.Mem.{FitsInMemory};
+impl<K, V, C: NodesMut<K, V>> RawBTree<K, V, C> {
     ghost use Rattle.btree_view.specs.View.{children_of};
-    ghost use Rattle.btree_shape.specs.Place.{IsValid, item_at};
-    ghost use Rattle.btree_raw.specs.Raw.{AreUsed, GainsNode};
+    ghost use Rattle.btree_shape.specs.TreeState.{IsUsed, IsValidIn, item_of};
+    ghost use Rattle.btree_raw.specs.Raw.{AreUsed, GainsNode, Refuses};
     ghost use Rattle.btree_raw.specs.contracts.raw.RawBTree.{the_row};
 
     /// No root, the length 0, and an empty store that is made from its origin. It takes no memory.
@@ -48,58 +52,68 @@ impl<K, V, C: SlabMut<Node<K, V>>> RawBTree<K, V, C> {
     {
         C::note_fits();
         RawBTree {
-            parts: Parts {
-                nodes: C::empty(origin),
-                root: None,
-                len: 0,
-                pairs: PhantomData,
-            },
+            store: C::empty(origin),
+            root: None,
+            len: 0,
+            pairs: PhantomData,
         }
+    }
+
+    /// Tells that a node fits in memory, where the types of key and value are parameters. It does nothing when it runs.
+    pub fn tell_fits(&self)
+        ensures { FitsInMemory (node_row K.row V.row) }
+    {
+        let _ = &self.store;
+        C::tell_fits();
     }
 
     /// The length, which is what it was last set to.
     pub fn len(&self) -> usize
         ensures { result ≡ self.now.len }
     {
-        self.parts.len
+        self.len
     }
 
     /// The number of the root, which need not be a node's.
     pub fn root_id(&self) -> Option<usize>
         ensures { result ≡ self.now.root }
     {
-        self.parts.root
+        self.root
     }
 
     /// How many nodes there are.
     pub fn node_count(&self) -> usize
         ensures { result ≡ map.len self.now.nodes }
     {
-        self.parts.nodes.len()
+        self.store.len()
     }
 
     /// Whether a node has this number.
     pub fn has_node(&self, id: usize) -> bool
-        ensures { IsTrue result ↔ IsSome (map.get self.now.nodes id) }
+        ensures { IsTrue result ↔ IsUsed self.now id }
     {
-        self.parts.nodes.get(id).is_some()
+        self.tell_fits();
+        self.store.get(id).is_some()
     }
 
-    /// The node with a number, for which `has_node` is the test.
+    /// The node with a number, for which `has_node` is the test. The number is below `usize::MAX`.
     pub fn node(&self, id: usize) -> &Node<K, V>
-        requires { IsSome (map.get self.now.nodes id) }
-        ensures { map.get self.now.nodes id ≡ Some result.now }
+        requires { IsUsed self.now id }
+        ensures value { map.get self.now.nodes id ≡ Some result.now }
+        ensures number { id < usize.MAX }
     {
-        node_at(&self.parts.nodes, id)
+        match self.store.get(id) {
+            Some(node) => node,
+            None => unreachable!(),
+        }
     }
 
     /// The item at an address, and `None` where none stands: at -1, past the last, nowhere, or at an address of no node.
     pub fn item(&self, addr: Address) -> Option<&Item<K, V>>
-        ensures { option_copied result ≡ item_at (views self.now.nodes) addr }
+        ensures { option_copied result ≡ item_of self.now addr }
     {
-        let _ = &self.parts;
-        C::tell_fits();
-        match self.parts.nodes.get(addr.id) {
+        self.tell_fits();
+        match self.store.get(addr.id) {
             Some(node) => node.item(addr.offset),
             None => None,
         }
@@ -107,40 +121,40 @@ impl<K, V, C: SlabMut<Node<K, V>>> RawBTree<K, V, C> {
 
     /// Whether an address is in a node, from -1 to the number of its items, or is the one of nowhere and there is no root.
     pub fn is_valid(&self, addr: Address) -> bool
-        ensures { IsTrue result ↔ IsValid (views self.now.nodes) self.now.root addr.id addr.offset }
+        ensures { IsTrue result ↔ IsValidIn self.now addr }
     {
-        if is_within(&self.parts.nodes, addr) {
+        if is_within(self, addr) {
             return true;
         }
-        self.parts.root.is_none() && addr == Address::nowhere()
+        self.root.is_none() && addr == Address::nowhere()
     }
 
     /// Sets the length, and nothing else.
     pub fn set_len(&mut self, len: usize)
         ensures { self.new ≡ record self.old { len = len } }
     {
-        self.parts.len = len;
+        self.len = len;
     }
 
     /// Sets the number of the root, and nothing else.
     pub fn set_root_id(&mut self, id: Option<usize>)
         ensures { self.new ≡ record self.old { root = id } }
     {
-        self.parts.root = id;
+        self.root = id;
     }
 
     /// The node with a number, to be written, for which `has_node` is the test.
     pub fn node_mut(&mut self, id: usize) -> &mut Node<K, V>
-        requires { IsSome (map.get self.old.nodes id) }
+        requires { IsUsed self.old id }
         ensures* writes_back { sem 𝓛 (Lends
             (the_row K.row V.row C.row C.Origin.row
             (record { MayRefuse = C.MayRefuse; Fits = C.Fits; written = C.written })
             (record { content = C.content; refusals = C.refusals; CanHold = C.CanHold }))
             (node_row K.row V.row) self.entry result
             (λ node. record self.old { nodes = map.insert self.old.nodes id node })) }
-        ensures value { map.get self.old.nodes id ≡ Some result.now }
+        ensures value { Some result.now ≡ map.get self.old.nodes id }
     {
-        match self.parts.nodes.get_mut(id) {
+        match self.store.get_mut(id) {
             Some(node) => node,
             None => unreachable!(),
         }
@@ -148,11 +162,24 @@ impl<K, V, C: SlabMut<Node<K, V>>> RawBTree<K, V, C> {
 
     /// Takes a node out of the store, for which `has_node` is the test. Nothing else changes.
     pub fn release_node(&mut self, id: usize) -> Node<K, V>
-        requires { IsSome (map.get self.old.nodes id) }
+        requires { IsUsed self.old id }
         ensures node { map.get self.old.nodes id ≡ Some result }
         ensures after { self.new ≡ record self.old { nodes = map.remove self.old.nodes id } }
     {
-        self.parts.nodes.remove(id)
+        self.store.remove(id)
+    }
+
+    // Puts a node into the store, as it is.
+    pub(crate) fn store_node(&mut self, node: Node<K, V>) -> Result<usize, Node<K, V>>
+        ensures number { IfOk result (λ id. id < usize.MAX) }
+        ensures unused { IfOk result (λ id. map.get self.old.nodes id ≡ None) }
+        ensures stored { IfOk result (λ id.
+            self.new ≡ record self.old { nodes = map.insert self.old.nodes id node }) }
+        ensures returned { IfErr result (λ back. back ≡ node) }
+        ensures refused { OnErr result (Refuses self.old self.new) }
+        ensures may_refuse { OnErr result (C.MayRefuse self.old.nodes) }
+    {
+        self.store.insert(node)
     }
 
     /// Puts a node into the store, and makes it the parent of its children. A refused node comes back, and is counted.
@@ -161,14 +188,12 @@ impl<K, V, C: SlabMut<Node<K, V>>> RawBTree<K, V, C> {
         ensures gained { IfOk result (λ id. GainsNode self.old self.new id node) }
         ensures number { IfOk result (λ id. id < usize.MAX) }
         ensures returned { IfErr result (λ back. back ≡ node) }
-        ensures unchanged { OnErr result (self.new ≡ record self.old { refusals = self.old.refusals + 1 }) }
+        ensures unchanged { OnErr result (Refuses self.old self.new) }
         ensures may_refuse { OnErr result (C.MayRefuse self.old.nodes) }
     {
-        let _ = &self.parts;
-        C::tell_fits();
-        match self.parts.nodes.insert(node) {
+        match self.store_node(node) {
             Ok(id) => {
-                adopt(&mut self.parts.nodes, id);
+                adopt(self, id);
                 Ok(id)
             }
             Err(node) => Err(node),
@@ -176,17 +201,34 @@ impl<K, V, C: SlabMut<Node<K, V>>> RawBTree<K, V, C> {
     }
 }
 
+impl<K: Ord, V, C: NodesMut<K, V>> RawBTree<K, V, C> {
+    ghost use Rattle.btree_shape.specs.TreeState.{IsOff};
+
+    /// Whether the tree has a root and is well formed but for its length and the number of items of one node: that one may have one item
+    /// too many or too few, and none if it is the root. It is what `rebalance` requires of the tree.
+    ///
+    /// It takes no memory but the stack. For each of the 32 heights that such a tree may have it looks at no more nodes than there are.
+    pub fn is_off_by_one(&self, id: usize) -> bool
+        ensures { IsTrue result ↔ IsOff K.cmp self.now id }
+    {
+        self.tell_fits();
+        match self.root {
+            Some(root) => is_off(&self.store, root, id),
+            None => false,
+        }
+    }
+}
+
 // Whether an address is in a node, from -1 to the number of its items.
-fn is_within<K, V, C: SlabMut<Node<K, V>>>(nodes: &C, addr: Address) -> bool
-    requires { C.Fits }
-    ensures { IsTrue result ↔ IsWithin (views (C.content nodes.now)) (views (C.content nodes.now) addr.id) addr.offset }
+fn is_within<K, V, C: NodesMut<K, V>>(tree: &RawBTree<K, V, C>, addr: Address) -> bool
+    ensures { IsTrue result ↔ IsWithinNode tree.now addr }
 {
-    C::tell_fits();
-    match nodes.get(addr.id) {
-        Some(node) => match addr.offset.value() {
-            Some(offset) => offset <= node.item_count(),
-            None => true,
-        },
-        None => false,
+    tree.tell_fits();
+    if !tree.has_node(addr.id) {
+        return false;
+    }
+    match addr.offset.value() {
+        Some(offset) => offset <= tree.node(addr.id).item_count(),
+        None => true,
     }
 }

@@ -19,6 +19,7 @@ pub mod Rooted
 pub mod NodePlaces
 pub mod Searched
 pub mod Heights
+pub mod Levels
 pub mod Descents
 pub mod LookUps
 pub mod Density
@@ -68,3 +69,5 @@ pub mod ReplacedTrees
 pub mod ClimbRows
 pub mod TakenInner
 pub mod Stores
+pub mod TreeStates
+pub mod Mendings

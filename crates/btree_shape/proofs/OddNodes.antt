@@ -9,27 +9,26 @@ use Rattle.btree_shape.specs.Growing.{IsGrowing, IsGrown}
 use Rattle.btree_shape.specs.Need.{IsClimbing, climb, climbed, wanted}
 use Rattle.btree_shape.specs.Node.{IsOddNode}
 use Rattle.btree_shape.specs.OnTour.{IsAddressed, IsOnTour}
-use Rattle.btree_shape.specs.Search.{levels_below}
-use Rattle.btree_shape.specs.Shape.{Shape, count_at, items_under, most_at, view_at}
+use Rattle.btree_shape.specs.Shape.{count_at, items_under, most_at, view_at}
 use Rattle.btree_shape.specs.Shrinking.{IsShrinking, owed, owed_by}
 use Rattle.btree_shape.specs.Spells.{numbers_under}
 use Rattle.btree_shape.specs.Step.{Claims}
 use Rattle.btree_shape.specs.Strain.{strain_of, strain_under}
-use Rattle.btree_shape.specs.Way.{Above, depth, fill, items_after, items_before, least_at, parent_above, top, under}
-use Rattle.btree_shape.specs.WellFormed.{IsFormed, IsNearlySized, IsOffByOne, IsRooted, IsWellFormed, times_used}
+use Rattle.btree_shape.specs.Way.{Above, depth, items_after, items_before, least_at, parent_above, top, under}
+use Rattle.btree_shape.specs.WellFormed.{IsFormed, IsNearlySized, IsOffByOne, IsWellFormed, times_used}
 use Rattle.btree_shape.proofs.Beside.{most-some}
 use Rattle.btree_shape.proofs.Claims.{claimed}
 use Rattle.btree_shape.proofs.Climbs.{deep-enough}
 use Rattle.btree_shape.proofs.Frames.{top-view}
-use Rattle.btree_shape.proofs.Heights.{high-enough, levels-is}
+use Rattle.btree_shape.proofs.Heights.{high-enough}
 use Rattle.btree_shape.proofs.OnTour.{odd-on, on-whole, whole-addressed, whole-on}
+use Rattle.btree_shape.proofs.Levels.{levels-rooted}
 use Rattle.btree_shape.proofs.Needs.{less-no}
 use Rattle.btree_shape.proofs.Overflows.{climb-is, climbing-start}
 use Rattle.btree_shape.proofs.Puts.{grown-rooted}
 use Rattle.btree_shape.proofs.Rooted.{odd-at}
 use Rattle.btree_shape.proofs.Sizes.{view-most, view-size}
-use Rattle.btree_shape.proofs.SpelledShapes.{shape-of}
-use Rattle.btree_shape.proofs.Standing.{stand-up, whole-standing}
+use Rattle.btree_shape.proofs.Standing.{whole-standing}
 use Rattle.btree_shape.proofs.StrainSums.{strain-standing}
 use Rattle.std.proofs.lemmas.Option.{same_Some}
 
@@ -42,29 +41,6 @@ module _ (A : Type 0) where
   owed-low h top zero = omega arith
   owed-low h top (suc n) = omega arith
   owed-low h (under f c) n = omega arith
-
-  module _ (look : Look A) (root : ℕ) (xs : List A) where
-    -- the levels above a node and below it are those of the tree
-    record Levels (sum : ℕ) : Type 0 where
-      shape : Shape A sum
-      stands : Standing A look [] root xs sum top shape
-
-    levels : (h : ℕ) (c : Above A h) (t : Shape A h) → Standing A look [] root xs h c t → Levels (depth c + h)
-    levels h top t s =
-        subst (λ n. Levels n) (let q : h ≡ 0 + h = omega arith in q) (record { shape = t; stands = s })
-    levels h (under f c) t s =
-        subst (λ n. Levels n) (let q : depth c + suc h ≡ suc (depth c) + h = omega arith in q)
-        (levels (suc h) c (fill f t) (stand-up A look [] root xs h f c t s))
-
-    pub levels-rooted : (is_right : (id : ℕ) → View A → Type 0) (r : IsRooted is_right look root xs) (h : ℕ) (c : Above A h)
-        (t : Shape A h) → Standing A look [] root xs h c t → depth c + h ≡ r.height
-    levels-rooted is_right r h c t s =
-        let a = levels h c t s in
-        let b = shape-of A look r.height None root xs r.spells in
-        let most : ℕ = depth c + h + r.height in
-        let l1 = levels-is A look (depth c + h) most None a.shape (omega arith) a.stands.inner in
-        let l2 = levels-is A look r.height most None b.shape (omega arith) b.holds in
-        sym l1 ∙ (ap (levels_below look most) (a.stands.root_is ∙ sym b.here) ∙ l2)
 
 -- the address that the climb follows is on the tour, valid, at its place and item
 module _ (A : Type 0) (look : Look A) (root : ℕ) (xs : List A) (id : ℕ) (asked : Option A) (a : Address)

@@ -1,5 +1,5 @@
 -- The nodes that the splits take which begin at a node with an item too many, counted from it upward.
-use Rattle.std.proofs.Common.{◌≡◌, ◌<◌, ◌≤◌, [], ◌∙◌, ◌+◌, ℕ, zero, suc, List, length, Some, None, refl, sym, ap, subst, arith}
+use Rattle.std.proofs.Common.{◌≡◌, ◌<◌, ◌≤◌, [], ◌∙◌, ◌+◌, ℕ, zero, suc, List, Some, None, refl, sym, ap, subst, arith}
 use Rattle.btree_view.specs.View.{Look, View, most_of, parent_of, size_of}
 use Rattle.btree_shape.specs.Whole.{Standing}
 use Rattle.btree_shape.specs.Need.{IsClimbing, climb, climbed, levels_above, need_of_split, wanted}
@@ -7,7 +7,7 @@ use Rattle.btree_shape.specs.Node.{IsNode}
 use Rattle.btree_shape.specs.Shape.{Holds, Shape, count_at, id_of, most_at, view_at}
 use Rattle.btree_shape.specs.Way.{Above, HoldsAbove, depth, fill, frame_count, frame_id, frame_view, parent_above, top, under}
 use Rattle.btree_shape.specs.WellFormed.{times_used}
-use Rattle.btree_shape.proofs.Climbs.{depth-fits, levels-above-is}
+use Rattle.btree_shape.proofs.Climbs.{levels-above-is}
 use Rattle.btree_shape.proofs.Frames.{fill-count, fill-id, top-view}
 use Rattle.btree_shape.proofs.Needs.{less-no, less-yes}
 use Rattle.btree_shape.proofs.Numbers.{used-one}
@@ -41,13 +41,12 @@ module _ (A : Type 0) where
       rw (v, s, l, p, r) refl
 
   -- from a node of a tree at rest
-  pub climb-node : (look : Look A) (root : ℕ) (xs : List A) (id : ℕ) (n : IsNode A look root xs id)
-      → climb look (length xs) id ≡ climbed n.seen.way (count_at A n.seen.height n.seen.shape)
-  climb-node look root xs id n =
+  pub climb-node : (look : Look A) (root : ℕ) (xs : List A) (id : ℕ) (n : IsNode A look root xs id) (most : ℕ) → depth n.seen.way < most
+      → climb look most id ≡ climbed n.seen.way (count_at A n.seen.height n.seen.shape)
+  climb-node look root xs id n most deep =
       let w = n.seen.whole in
-      let d = depth-fits A look root xs n.seen.height n.seen.way n.seen.shape w n.sized in
-      subst (λ z. climb look (length xs) z ≡ climbed n.seen.way (count_at A n.seen.height n.seen.shape)) n.seen.here
-      (climb-is look n.seen.height (length xs) n.seen.way n.seen.shape d w.above w.inner)
+      subst (λ z. climb look most z ≡ climbed n.seen.way (count_at A n.seen.height n.seen.shape)) n.seen.here
+      (climb-is look n.seen.height most n.seen.way n.seen.shape deep w.above w.inner)
 
   module _ (look : Look A) (root : ℕ) (xs : List A) (most : ℕ) where
     pub climbing-start : (h : ℕ) (c : Above A h) (t : Shape A h) → Standing A look [] root xs h c t → depth c < most → IsClimbing A look root xs most (id_of A h t) 0 (climb look most (id_of A h t))

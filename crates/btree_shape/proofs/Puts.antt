@@ -1,5 +1,5 @@
 -- An item put into a leaf.
-use Rattle.std.proofs.Common.{◌≡◌, ◌≢◌, ◌≤◌, ◌++◌, ◌∷◌, [], ◌∙◌, ◌+◌, ◌-◌, ℕ, zero, suc, inl, inr, List, length, Option, Some, None, refl, sym, ap, subst, arith}
+use Rattle.std.proofs.Common.{◌≡◌, ◌≢◌, ◌<◌, ◌≤◌, ◌++◌, ◌∷◌, [], ◌∙◌, ◌+◌, ◌-◌, ℕ, zero, suc, inl, inr, List, length, Option, Some, None, refl, sym, ap, subst, arith}
 use Rattle.std.proofs.lemmas.List.Edits.{insert-append_left, insert-append_right, length-insert}
 use Rattle.std.specs.Cmp.{IsTotalOrder}
 use Rattle.std.specs.List.{insert}
@@ -18,12 +18,14 @@ use Rattle.btree_shape.specs.Spells.{numbers_under}
 use Rattle.btree_shape.specs.Step.{Claims, Puts}
 use Rattle.btree_shape.specs.Strain.{own_strain, strain_of, strain_under}
 use Rattle.btree_shape.specs.Tour.{slot}
-use Rattle.btree_shape.specs.Way.{Above, items_after, items_before, least_at, parent_above, times_above}
+use Rattle.btree_shape.specs.Way.{Above, depth, items_after, items_before, least_at, parent_above, times_above}
 use Rattle.btree_shape.specs.WellFormed.{IsRooted, IsSized, IsWellFormed, times_used}
 use Rattle.btree_shape.specs.Whole.{IsWhole}
 use Rattle.btree_shape.proofs.AddressPlaces.{AddressIn, address-in}
 use Rattle.btree_shape.proofs.Claims.{claimed}
 use Rattle.btree_shape.proofs.Frames.{above-same, one-zero}
+use Rattle.btree_shape.proofs.Levels.{levels-rooted}
+use Rattle.btree_shape.proofs.Standing.{whole-standing}
 use Rattle.btree_shape.proofs.Needs.{less-no, less-yes}
 use Rattle.btree_shape.proofs.NodePlaces.{hole-place}
 use Rattle.btree_shape.proofs.Numbers.{same-or, used-low, used-one}
@@ -87,7 +89,7 @@ module _ (A : Type 0) where
   module _ (look mid new : Look A) (root : ℕ) (xs : List A) (id : ℕ) (p : Option ℕ) (ys : List A) (o : ℕ) (x : A)
       (spare : List ℕ)
       (node : IsNode A look root xs id) (here : look id ≡ Some (leaf p ys)) (low : o ≤ length ys)
-      (cl : Claims look mid spare) (enough : length spare ≡ climb look (length xs) id)
+      (most : ℕ) (deep : depth node.seen.way < most) (cl : Claims look mid spare) (enough : length spare ≡ climb look most id)
       (pu : Puts mid new id (with_item o x None (leaf p ys))) where
     -- the place in the list, the tree with the item, and what it has gained
     pub record PutAt : Type 0 where
@@ -99,11 +101,11 @@ module _ (A : Type 0) where
 
     pub put-grows : PutAt
     put-grows = at node.seen.height node.seen.way node.seen.shape node.seen.here node.seen.whole node.sized
-        (climb-node A look root xs id node) refl
+        (climb-node A look root xs id node most deep) refl
       where
         at : (h : ℕ) (c : Above A h) (t : Shape A h) → id_of A h t ≡ id → IsWhole A look [] root xs h c t
             → IsFilled (least_at c) h (count_at A h t)
-            → climb look (length xs) id ≡ climbed c (count_at A h t)
+            → climb look most id ≡ climbed c (count_at A h t)
             → strain_of A h c t ≡ strain_of A node.seen.height node.seen.way node.seen.shape → PutAt
         at (suc h) c t is w z nd st =
             let d = w.inner.0 in let e2 : look t.0 ≡ Some (leaf p ys) = rw is here in absurd (cc)
@@ -165,16 +167,17 @@ module _ {K V : Type 0} (cmp : K → K → Ordering) (laws : IsTotalOrder cmp) (
   pub leaf-grows : (mid new : Look (K × V)) (id : ℕ) (p : Option ℕ) (ys : List (K × V)) (o place : ℕ) (x : K × V)
       (spare : List ℕ)
       → look id ≡ Some (leaf p ys) → o ≤ length ys
-      → IsPlace look (Some root) xs id (Some o) place → Claims look mid spare
-      → length spare ≡ need look (Some root) len id → Puts mid new id (with_item o x None (leaf p ys))
+      → IsPlace look (Some root) xs id (Some o) place → (most : ℕ) → well.formed.height < most → Claims look mid spare
+      → length spare ≡ need look (Some root) most id → Puts mid new id (with_item o x None (leaf p ys))
       → IsGrowing (K × V) new root (insert xs place x) id spare (Some x) (slot id o) place 0
       (suc (strain_under look root (numbers_under look well.formed.height root)))
-  leaf-grows mid new id p ys o place x spare here low is cl enough pu =
+  leaf-grows mid new id p ys o place x spare here low is most deep cl enough pu =
       let node =
       node-at (K × V) look root xs well.formed id (let u = used-one (look id) (leaf p ys) here in omega arith) in
-      let counted = well.counted in
-      let enough2 : length spare ≡ climb look (length xs) id = enough ∙ ap (λ n. climb look n id) counted in
-      let r = put-grows (K × V) look mid new root xs id p ys o x spare node here low cl enough2 pu in
+      let levels =
+      levels-rooted (K × V) look root xs (IsSized root) well.formed node.seen.height node.seen.way node.seen.shape
+      (whole-standing (K × V) look [] root xs node.seen.height node.seen.way node.seen.shape node.seen.whole) in
+      let r = put-grows (K × V) look mid new root xs id p ys o x spare node here low most (omega arith) cl enough pu in
       let same = one_place-well cmp laws look xs len (Some root) well id (Some o) r.place place r.is is in
       let st : r.strain ≡ strain_under look root (numbers_under look well.formed.height root) =
       r.strain_is ∙ strain-rooted (K × V) look root xs well.formed node.seen.height node.seen.way node.seen.shape

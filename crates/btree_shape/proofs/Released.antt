@@ -66,7 +66,7 @@ module _ (A : Type 0) (look new : Look A) (xs : List A) (n : ℕ) where
   pub emptied : IsWhole A look [] n xs 0 top (n, []) → Loses look new n → ((m : ℕ) → new m ≡ None) × (xs ≡ [])
   emptied w r = (
     λ m. elim (same-or m n) [
-      | inl e ↦ rw e r.gone
+      | inl e ↦ rw e r.here
       | inr ne ↦ r.others m ne
           ∙ used-none (look m) (let o = w.once m in let z = one-other m n ne in let k : times_used (look m) ≡ 0 =
           omega arith in k)

@@ -20,7 +20,7 @@ use Rattle.btree_shape.proofs.Frames.{above-same, one-zero, top-view}
 use Rattle.btree_shape.proofs.Lent.{remade-view}
 use Rattle.btree_shape.proofs.NodePlaces.{items_upto, standing-place}
 use Rattle.btree_shape.proofs.Numbers.{same-or, times-has, used-low, used-one}
-use Rattle.btree_shape.proofs.OddNodes.{levels-rooted}
+use Rattle.btree_shape.proofs.Levels.{levels-rooted}
 use Rattle.btree_shape.proofs.OnTour.{on-standing, standing-on}
 use Rattle.btree_shape.proofs.Rooted.{node-rooted, rooted-standing}
 use Rattle.btree_shape.proofs.Splits.{times-top}

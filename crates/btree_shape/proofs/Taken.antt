@@ -27,7 +27,7 @@ use Rattle.btree_shape.proofs.Lent.{remove-seam}
 use Rattle.btree_shape.proofs.Needs.{full-no}
 use Rattle.btree_shape.proofs.NodePlaces.{hole-place}
 use Rattle.btree_shape.proofs.Numbers.{used-low, used-one}
-use Rattle.btree_shape.proofs.OddNodes.{levels-rooted}
+use Rattle.btree_shape.proofs.Levels.{levels-rooted}
 use Rattle.btree_shape.proofs.OnTour.{on-whole, root-tour, whole-on}
 use Rattle.btree_shape.proofs.OnePlace.{one_place-well}
 use Rattle.btree_shape.proofs.PutTours.{ahead-before, smaller-before}

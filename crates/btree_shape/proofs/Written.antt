@@ -107,7 +107,7 @@ module _ {A : Type 0} (look one_look two three new : Look A) (parent left right 
               ∙ (c.others parent (λ e. apart.1 (sym e)) ∙ (b.others parent (λ e. apart.2 (sym e)) ∙ a.here));
           new_left = adopts.kept left (none-of children_of_both left (λ n m. (other n m).1)) ∙ c.here;
           gone = adopts.kept right (none-of children_of_both right (λ n m. (other n m).2))
-              ∙ (c.others right (λ e. apart.0 (sym e)) ∙ b.gone);
+              ∙ (c.others right (λ e. apart.0 (sym e)) ∙ b.here);
           moved = λ n np nl nr m.
               adopts.moved n (let b = both-parts n in omega arith)
               ∙ ap (option_map (with_parent (Some left))) (still n np nl nr);

@@ -18,3 +18,4 @@ pub mod Growing
 pub mod Left
 pub mod Mend
 pub mod Shrinking
+pub mod Mending

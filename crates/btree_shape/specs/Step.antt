@@ -1,15 +1,21 @@
 -- What calls on a store's nodes leave: one node written, numbers claimed, children under a new parent, a node split.
-use Rattle.std.specs.Prelude.{◌≡◌, ◌≢◌, ℕ, ◌+◌, ◌<◌, List, [], ◌∷◌, Some, None, option_map}
+use Rattle.std.specs.Prelude.{◌≡◌, ◌≢◌, ℕ, ◌+◌, ◌<◌, List, [], ◌∷◌, Option, Some, None, option_map}
 use Rattle.btree_view.specs.View.{View, internal, Look, parent_of, items_of, children_of}
 use Rattle.btree_view.specs.Edits.{with_parent, is_internal, IsSplit}
 use Rattle.btree_shape.specs.WellFormed.{times_used}
 use Rattle.btree_shape.specs.Shape.{times_listed}
 
 module _ {A : Type 0} (look new : Look A) where
-  -- node `id` is this one now, and no other has changed
-  pub record Puts (id : ℕ) (node : View A) : Type 0 where
-    pub here : new id ≡ Some node
+  -- this is under number `id` now, a node or nothing, and no other node has changed
+  pub record Becomes (id : ℕ) (node : Option (View A)) : Type 0 where
+    pub here : new id ≡ node
     pub others : (n : ℕ) → n ≢ id → new n ≡ look n
+
+  abbrev pub Puts : (id : ℕ) → View A → Type 0
+  Puts id node = Becomes id (Some node)
+
+  abbrev pub Loses : (id : ℕ) → Type 0
+  Loses id = Becomes id None
 
   -- these numbers were not used and are now, and no other has changed
   pub record Claims (spare : List ℕ) : Type 0 where
@@ -42,11 +48,6 @@ module _ {A : Type 0} (look new : Look A) where
     pub at_left : new i ≡ option_map (with_parent (Some r)) (look i)
     pub at_right : new j ≡ option_map (with_parent (Some r)) (look j)
     pub kept : (n : ℕ) → n ≢ r → n ≢ i → n ≢ j → new n ≡ look n
-
-  -- a number that was used is not any more, and no other node has changed
-  pub record Loses (id : ℕ) : Type 0 where
-    pub gone : new id ≡ None
-    pub others : (n : ℕ) → n ≢ id → new n ≡ look n
 
 -- a node with these items and otherwise as another one
 pub record HasItems {A : Type 0} (old new : View A) (items : List A) : Type 0 where

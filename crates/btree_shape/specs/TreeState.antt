@@ -1,14 +1,18 @@
--- What a contract sees of a tree, and its list.
-use Rattle.std.specs.Prelude.{ℕ, List, [], Option, Some, None, option_map, refl}
+-- What a contract sees of a tree, its list, and the words on it.
+use Rattle.std.specs.Prelude.{◌≡◌, ℕ, suc, List, [], length, Option, Some, None, IsSome, option_map, refl}
 use Rattle.std.specs.Coded.{Coded, code_by, coded×, coded_ℕ, coded_option}
 use Rattle.std.specs.declared.cmp.Ordering.{Ordering}
 use Rattle.std.specs.FinMap as map
 use Rattle.btree_store.specs.Content.{Content}
+use Rattle.btree_item.specs.declared.address.Address.{Address}
 use Rattle.btree_node.specs.declared.node.Node.{Node}
 use Rattle.btree_node.specs.Node.{view_of}
 use Rattle.btree_view.specs.View.{Look}
-use Rattle.btree_shape.specs.Spells.{spelled}
-use Rattle.btree_shape.specs.WellFormed.{IsWellFormed}
+use Rattle.btree_shape.specs.Need as needs
+use Rattle.btree_shape.specs.Place.{IsLeafAddress, IsOccupied, IsPlace, IsValid, item_at}
+use Rattle.btree_shape.specs.Spells.{Spells, spelled}
+use Rattle.btree_shape.specs.Strain.{IsStrain}
+use Rattle.btree_shape.specs.WellFormed.{IsOffByOne, IsWellFormed}
 
 -- the nodes under their numbers, the root's number, the number of pairs, and how often the store refused a node
 pub record TreeState (K V : Type 0) : Type 0 where
@@ -31,20 +35,84 @@ module _ {K V : Type 0} where
   abbrev pub views : Content (Node K V) → Look (K × V)
   views nodes id = option_map view_of (map.get nodes id)
 
-  -- what the nodes under a root spell; a tree has at most as many levels as pairs
-  abbrev pub pairs_under : Look (K × V) → Option ℕ → ℕ → List (K × V)
-  pairs_under look None len = []
-  pairs_under look (Some root) len = spelled look len root
+  -- what the nodes under a root spell, by at most so many levels
+  abbrev pub pairs_under : Look (K × V) → Option ℕ → (levels : ℕ) → List (K × V)
+  pairs_under look None levels = []
+  pairs_under look (Some root) levels = spelled look levels root
 
-  -- the sorted list of a tree
-  abbrev pub pairs_of : TreeState K V → List (K × V)
-  pairs_of s = pairs_under (views s.nodes) s.root s.len
+  -- two states differ in their nodes alone
+  pub record KeepsRest (old new : TreeState K V) : Type 0 where
+    pub rest : new ≡ record old { nodes = new.nodes }
 
-  -- it is well formed
-  pub record IsSound (cmp : K → K → Ordering) (nodes : Content (Node K V)) (root : Option ℕ) (len : ℕ) : Type 0 where
-    pub pairs : List (K × V)
-    pub well : IsWellFormed cmp (views nodes) root len pairs
+module _ {K V : Type 0} (s : TreeState K V) where
+  -- the nodes as definitions see them
+  abbrev pub looks : Look (K × V)
+  looks = views s.nodes
 
--- the parts of a tree as one state
-abbrev pub state : {K V : Type 0} → Content (Node K V) → Option ℕ → (len refusals : ℕ) → TreeState K V
-state nodes root len refusals = record { nodes = nodes; root = root; len = len; refusals = refusals }
+  -- the list of the tree; a tree has at most as many levels as nodes
+  abbrev pub pairs_of : List (K × V)
+  pairs_of = pairs_under looks s.root (map.len s.nodes)
+
+  -- a node has this number
+  abbrev pub IsUsed : ℕ → Type 0
+  IsUsed id = IsSome (map.get s.nodes id)
+
+  -- the address is one of the tree
+  abbrev pub IsValidIn : Address → Type 0
+  IsValidIn a = IsValid looks s.root a.id a.offset
+
+  -- the place of an address in the list
+  abbrev pub IsPlaceIn : Address → ℕ → Type 0
+  IsPlaceIn a place = IsPlace looks s.root pairs_of a.id a.offset place
+
+  -- an item stands at the address
+  abbrev pub IsOccupiedIn : Address → Type 0
+  IsOccupiedIn a = IsOccupied looks a.id a.offset
+
+  -- the address is in a leaf, or nowhere in the empty tree
+  abbrev pub IsLeafAddressIn : Address → Type 0
+  IsLeafAddressIn a = IsLeafAddress looks s.root a.id a.offset
+
+  -- the item at an address, if one stands there
+  abbrev pub item_of : Address → Option (K × V)
+  item_of a = item_at looks a
+
+  -- how many nodes an insertion at a leaf takes
+  abbrev pub nodes_needed : ℕ → ℕ
+  nodes_needed leaf = needs.need looks s.root (map.len s.nodes) leaf
+
+  -- how many nodes the splits take that begin at a node with an item too many
+  abbrev pub nodes_for_splits : ℕ → ℕ
+  nodes_for_splits id = needs.climb looks (map.len s.nodes) id
+
+  -- the strain of the tree
+  abbrev pub HasStrain : ℕ → Type 0
+  HasStrain strain = IsStrain looks s.root strain
+
+  -- how many levels of nodes there are under a root: one more than the root is above the leaves
+  abbrev pub HasLevelsUnder : Option ℕ → ℕ → Type 0
+  HasLevelsUnder None levels = levels ≡ 0
+  HasLevelsUnder (Some root) levels = (height : ℕ) × Spells looks height None root pairs_of × (levels ≡ suc height)
+
+  abbrev pub HasLevels : ℕ → Type 0
+  HasLevels levels = HasLevelsUnder s.root levels
+
+module _ {K V : Type 0} (cmp : K → K → Ordering) where
+  -- the tree is well formed
+  abbrev pub IsBTree : TreeState K V → Type 0
+  IsBTree s = IsWellFormed cmp (looks s) s.root s.len (pairs_of s)
+
+  -- the same but for its length
+  abbrev pub IsBTreeButLength : TreeState K V → Type 0
+  IsBTreeButLength s = IsWellFormed cmp (looks s) s.root (length (pairs_of s)) (pairs_of s)
+
+  -- the tree has a root, and is off by one at node `id`
+  pub record IsOff (s : TreeState K V) (id : ℕ) : Type 0 where
+    pub root : ℕ
+    pub at_root : s.root ≡ Some root
+    pub off : IsOffByOne cmp (looks s) root id (pairs_of s)
+
+-- the nodes have changed so, and nothing else has
+pub record Changes {K V : Type 0} (How : Look (K × V) → Look (K × V) → Type 0) (old new : TreeState K V) : Type 0 where
+  pub nodes : How (looks old) (looks new)
+  pub rest : KeepsRest old new

@@ -1,16 +1,17 @@
-use Rattle.std.proofs.Common.{Some, arith, ap, sym, ◌∙◌}
+use Rattle.btree_node.proofs.NodeSizes.{fits-internal, fits-leaf}
+use Rattle.std.proofs.Common.{Some, ap, sym, ◌∙◌}
 use Rattle.std.proofs.lemmas.List.{length-map}
 use Rattle.btree_node.proofs.node.Node.append.Goals as goal
 
 pub append-requires : goal.append-requires
 append-requires g c =
     let fits = c.well_formed in
-    (omega arith, rw (c.in-Internal.is, c.in-Internal-other.is) at c.requires.room)
+    (search fits-internal, rw (c.in-Internal.is, c.in-Internal-other.is) at c.requires.room)
 
 pub append-requires-in-Leaf-other-2 : goal.append-requires-in-Leaf-other-2
 append-requires-in-Leaf-other-2 g c =
     let fits = c.well_formed in
-    (omega arith, rw (c.in-Leaf.is, c.in-Leaf-other-2.is) at c.requires.room)
+    (search fits-leaf, rw (c.in-Leaf.is, c.in-Leaf-other-2.is) at c.requires.room)
 
 pub returns-in-Internal-other-clause-offset : goal.returns-in-Internal-other-clause-offset
 returns-in-Internal-other-clause-offset g c =

@@ -1,5 +1,5 @@
-use Rattle.std.proofs.Common.{arith}
+use Rattle.btree_node.proofs.NodeSizes.{fits-internal}
 use Rattle.btree_node.proofs.node.Node.binary.Goals as goal
 
 pub binary-requires : goal.binary-requires
-binary-requires g c = let fits = c.well_formed in omega arith
+binary-requires g c = let fits = c.well_formed in search fits-internal

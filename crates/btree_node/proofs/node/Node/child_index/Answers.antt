@@ -1,5 +1,5 @@
-use Rattle.std.proofs.Common.{arith}
+use Rattle.btree_node.proofs.NodeSizes.{fits-internal}
 use Rattle.btree_node.proofs.node.Node.child_index.Goals as goal
 
 pub child_index-requires : goal.child_index-requires
-child_index-requires g c = omega arith
+child_index-requires g c = search fits-internal

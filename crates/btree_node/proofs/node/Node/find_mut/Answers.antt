@@ -1,7 +1,8 @@
+use Rattle.btree_node.proofs.NodeSizes.{fits-internal, fits-leaf}
 use borrow.Enum.Known.{at}
 use borrow.Enum.Total.{values_d, values_o}
 use denote.Param.{param}
-use Rattle.std.proofs.Common.{◌≡◌, inl, inr, subst, Some, None, Ok, Err, arith, refl, ap, sym, ◌∙◌}
+use Rattle.std.proofs.Common.{◌≡◌, inl, inr, subst, Some, None, Ok, Err, refl, ap, sym, ◌∙◌}
 use Rattle.btree_node.specs.declared.node.Node.{Node}
 use Rattle.btree_node.specs.contracts.node.Node.{enum as node_enum}
 use Rattle.btree_leaf.specs.Leaf.{Leaf as LeafParts}
@@ -18,10 +19,10 @@ use Rattle.btree_node.proofs.NodeLemmas.{put_when}
 use Rattle.btree_node.proofs.node.Node.find_mut.Goals as goal
 
 pub get_mut-requires : goal.get_mut-requires
-get_mut-requires g c = let up = rw c.in-Internal.is at c.requires in (omega arith, rw c.in-Internal.node-is up)
+get_mut-requires g c = let up = rw c.in-Internal.is at c.requires in (search fits-internal, rw c.in-Internal.node-is up)
 
 pub get_mut-requires-in-Leaf : goal.get_mut-requires-in-Leaf
-get_mut-requires-in-Leaf g c = let up = rw c.in-Leaf.is at c.requires in (omega arith, rw c.in-Leaf.leaf-is up)
+get_mut-requires-in-Leaf g c = let up = rw c.in-Leaf.is at c.requires in (search fits-leaf, rw c.in-Leaf.leaf-is up)
 
 pub returns-in-Ok : goal.returns-in-Ok
 returns-in-Ok g c =

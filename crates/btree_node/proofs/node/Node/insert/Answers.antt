@@ -1,3 +1,4 @@
+use Rattle.btree_node.proofs.NodeSizes.{fits-internal, fits-leaf}
 use Rattle.std.proofs.Common.{arith}
 use Rattle.std.proofs.lemmas.List.{length-map}
 use Rattle.btree_node.proofs.NodeLemmas.{with_item-internal, with_item-leaf}
@@ -8,12 +9,12 @@ insert-requires g c =
     let long = length-map c.in-Internal.node.branches (λ b. b.0) in
     let room = rw c.in-Internal.is at c.requires.room in
     let within = rw c.in-Internal.is at c.requires.within in
-    (omega arith, (omega (arith, room, long), rw long at within))
+    (search fits-internal, (omega (arith, room, long), rw long at within))
 
 pub insert-requires-in-Leaf : goal.insert-requires-in-Leaf
 insert-requires-in-Leaf g c =
     let room = rw c.in-Leaf.is at c.requires.room in
-    (omega arith, (omega (arith, room), rw c.in-Leaf.is at c.requires.within))
+    (search fits-leaf, (omega (arith, room), rw c.in-Leaf.is at c.requires.within))
 
 pub returns-in-Some : goal.returns-in-Some
 returns-in-Some g c = rw (c.in-Internal.is, c.in-Some.is) (with_item-internal c.in-Internal.node c.args.offset c.args.item c.in-Some.right_id _ c.insert.ensures)

@@ -1,11 +1,11 @@
-use Rattle.std.proofs.Common.{arith}
+use Rattle.btree_node.proofs.NodeSizes.{fits-internal, fits-leaf}
 use Rattle.btree_node.proofs.node.Node.is_underflowing.Goals as goal
 
 pub is_underflowing-requires : goal.is_underflowing-requires
-is_underflowing-requires g c = omega arith
+is_underflowing-requires g c = search fits-internal
 
 pub is_underflowing-requires-in-Leaf : goal.is_underflowing-requires-in-Leaf
-is_underflowing-requires-in-Leaf g c = omega arith
+is_underflowing-requires-in-Leaf g c = search fits-leaf
 
 pub returns-in-Internal : goal.returns-in-Internal
 returns-in-Internal g c = rw c.in-Internal.is c.is_underflowing.ensures

@@ -1,11 +1,11 @@
-use Rattle.std.proofs.Common.{arith}
+use Rattle.btree_node.proofs.NodeSizes.{fits-internal, fits-leaf}
 use Rattle.btree_node.proofs.node.Node.item.Goals as goal
 
 pub item-requires : goal.item-requires
-item-requires g c = omega arith
+item-requires g c = search fits-internal
 
 pub item-requires-in-Leaf : goal.item-requires-in-Leaf
-item-requires-in-Leaf g c = omega arith
+item-requires-in-Leaf g c = search fits-leaf
 
 pub returns-in-Internal : goal.returns-in-Internal
 returns-in-Internal g c = rw c.in-Internal.is c.item.ensures

@@ -1,8 +1,9 @@
+use Rattle.btree_node.proofs.NodeSizes.{fits-internal, fits-leaf}
 use borrow.Enum.Known.{at}
 use borrow.Enum.Total.{values_d, values_o}
 use borrow.Follows.Closed.{read_of}
 use denote.Param.{param}
-use Rattle.std.proofs.Common.{◌≡◌, subst, arith, refl, ap, sym, ◌∙◌}
+use Rattle.std.proofs.Common.{◌≡◌, subst, refl, ap, sym, ◌∙◌}
 use Rattle.std.specs.Option.{ghost_name_of, option_and_then}
 use Rattle.std.specs.Prelude.{slice_get}
 use Rattle.btree_node.specs.declared.node.Node.{Node}
@@ -20,10 +21,10 @@ use Rattle.btree_node.proofs.NodeLemmas.{put_when}
 use Rattle.btree_node.proofs.node.Node.item_mut.Goals as goal
 
 pub item_mut-requires : goal.item_mut-requires
-item_mut-requires g c = omega arith
+item_mut-requires g c = search fits-internal
 
 pub item_mut-requires-in-Leaf : goal.item_mut-requires-in-Leaf
-item_mut-requires-in-Leaf g c = omega arith
+item_mut-requires-in-Leaf g c = search fits-leaf
 
 pub returns-in-Internal : goal.returns-in-Internal
 returns-in-Internal g c =

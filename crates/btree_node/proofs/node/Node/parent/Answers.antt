@@ -1,8 +1,8 @@
-use Rattle.std.proofs.Common.{arith}
+use Rattle.btree_node.proofs.NodeSizes.{fits-internal, fits-leaf}
 use Rattle.btree_node.proofs.node.Node.parent.Goals as goal
 
 pub parent-requires : goal.parent-requires
-parent-requires g c = omega arith
+parent-requires g c = search fits-internal
 
 pub parent-requires-in-Leaf : goal.parent-requires-in-Leaf
-parent-requires-in-Leaf g c = omega arith
+parent-requires-in-Leaf g c = search fits-leaf

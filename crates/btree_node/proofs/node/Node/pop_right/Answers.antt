@@ -1,13 +1,14 @@
-use Rattle.std.proofs.Common.{Some, arith, ap, sym, ◌∙◌}
+use Rattle.btree_node.proofs.NodeSizes.{fits-internal, fits-leaf}
+use Rattle.std.proofs.Common.{Some, ap, sym, ◌∙◌}
 use Rattle.std.proofs.lemmas.List.{length-map}
 use Rattle.btree_node.specs.declared.node.Node.TheVariants.{Leaf}
 use Rattle.btree_node.proofs.node.Node.pop_right.Goals as goal
 
 pub pop_right-requires : goal.pop_right-requires
-pop_right-requires g c = let fits = c.well_formed in omega arith
+pop_right-requires g c = let fits = c.well_formed in search fits-internal
 
 pub pop_right-requires-in-Leaf : goal.pop_right-requires-in-Leaf
-pop_right-requires-in-Leaf g c = let fits = c.well_formed in omega arith
+pop_right-requires-in-Leaf g c = let fits = c.well_formed in search fits-leaf
 
 pub returns-in-Ok-clause-spare : goal.returns-in-Ok-clause-spare
 returns-in-Ok-clause-spare g c = rw c.in-Internal.is c.in-Ok.ensures.spare

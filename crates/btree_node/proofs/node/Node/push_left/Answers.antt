@@ -1,3 +1,4 @@
+use Rattle.btree_node.proofs.NodeSizes.{fits-internal, fits-leaf}
 use Rattle.std.proofs.Common.{arith}
 use Rattle.std.proofs.lemmas.List.{length-map}
 use Rattle.btree_node.proofs.node.Node.push_left.Goals as goal
@@ -6,9 +7,9 @@ pub push_left-requires : goal.push_left-requires
 push_left-requires g c =
     let long = length-map c.in-Internal.node.branches (λ b. b.0) in
     let room = rw c.in-Internal.is at c.requires.room in
-    (omega arith, omega (arith, room, long))
+    (search fits-internal, omega (arith, room, long))
 
 pub push_left-requires-in-Leaf : goal.push_left-requires-in-Leaf
 push_left-requires-in-Leaf g c =
     let room = rw c.in-Leaf.is at c.requires.room in
-    (omega arith, omega (arith, room))
+    (search fits-leaf, omega (arith, room))

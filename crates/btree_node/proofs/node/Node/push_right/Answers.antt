@@ -1,3 +1,4 @@
+use Rattle.btree_node.proofs.NodeSizes.{fits-internal, fits-leaf}
 use Rattle.std.proofs.Common.{Some, arith, ap, sym, ◌∙◌}
 use Rattle.std.proofs.lemmas.List.{length-map}
 use Rattle.btree_node.proofs.node.Node.push_right.Goals as goal
@@ -6,12 +7,12 @@ pub push_right-requires : goal.push_right-requires
 push_right-requires g c =
     let long = length-map c.in-Internal.node.branches (λ b. b.0) in
     let room = rw c.in-Internal.is at c.requires.room in
-    (omega arith, omega (arith, room, long))
+    (search fits-internal, omega (arith, room, long))
 
 pub push_right-requires-in-Leaf : goal.push_right-requires-in-Leaf
 push_right-requires-in-Leaf g c =
     let room = rw c.in-Leaf.is at c.requires.room in
-    (omega arith, omega (arith, room))
+    (search fits-leaf, omega (arith, room))
 
 pub returns-in-Some-clause-offset : goal.returns-in-Some-clause-offset
 returns-in-Some-clause-offset g c =

@@ -1,4 +1,4 @@
-use Rattle.std.proofs.Common.{arith}
+use Rattle.btree_node.proofs.NodeSizes.{fits-internal}
 use Rattle.std.proofs.lemmas.List.{length-map}
 use Rattle.btree_node.proofs.node.Node.replace.Goals as goal
 
@@ -6,7 +6,7 @@ pub replace-requires : goal.replace-requires
 replace-requires g c =
     let long = length-map c.in-Internal.node.branches (λ b. b.0) in
     let within = rw c.in-Internal.is at c.requires.occupied in
-    (omega arith, rw long at within)
+    (search fits-internal, rw long at within)
 
 pub returns-clause-answer : goal.returns-clause-answer
 returns-clause-answer g c = rw c.in-Internal.is c.replace.ensures.answer

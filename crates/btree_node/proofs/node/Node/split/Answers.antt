@@ -1,13 +1,14 @@
-use Rattle.std.proofs.Common.{arith, sym, ◌∙◌}
+use Rattle.btree_node.proofs.NodeSizes.{fits-internal, fits-leaf}
+use Rattle.std.proofs.Common.{sym, ◌∙◌}
 use Rattle.std.proofs.lemmas.List.{length-map}
 use Rattle.btree_node.proofs.SplitSizes.{size-split_internal, size-split_leaf}
 use Rattle.btree_node.proofs.node.Node.split.Goals as goal
 
 pub split-left-requires : goal.split-left-requires
-split-left-requires g c = let fits = c.well_formed in (omega arith, rw c.in-Internal.is at c.requires)
+split-left-requires g c = let fits = c.well_formed in (search fits-internal, rw c.in-Internal.is at c.requires)
 
 pub split-left-requires-in-Leaf : goal.split-left-requires-in-Leaf
-split-left-requires-in-Leaf g c = let fits = c.well_formed in (omega arith, rw c.in-Leaf.is at c.requires)
+split-left-requires-in-Leaf g c = let fits = c.well_formed in (search fits-leaf, rw c.in-Leaf.is at c.requires)
 
 pub returns-in-Internal-clause-left : goal.returns-in-Internal-clause-left
 returns-in-Internal-clause-left g c = c.split-left.ensures.left ∙ sym (size-split_internal c.in-Internal.node _ _ _ c.split-left.ensures.parts)

@@ -1,5 +1,0 @@
-use Rattle.std.proofs.Common.{arith}
-use Rattle.btree_balance.proofs.claims.empty_leaf.Goals as goal
-
-pub empty-requires : goal.empty-requires
-empty-requires g c = let fits = c.well_formed in omega arith

@@ -1,4 +1,0 @@
-pub mod Claimed
-pub mod Mend
-pub mod Shrink
-pub mod Steps

@@ -1,0 +1,8 @@
+//! Where an address of a tree is after a step that changes its nodes: arithmetic on addresses alone.
+#![tactic(auto)]
+
+mod moved;
+mod split;
+
+pub use moved::{moved_by_merge, moved_by_release, moved_by_rotate_left, moved_by_rotate_right};
+pub use split::moved_by_split;

@@ -1,0 +1,58 @@
+//! Where an address is after a split.
+ghost use Rattle.std.specs.Prelude.{◌≡◌, ◌+◌, ◌<◌, IfSome};
+ghost use Rattle.btree_shape.specs.Moved as moved;
+
+use btree_item::{Address, Offset};
+
+// Where an offset of a node is that was split, and of which so many items are left.
+fn in_split(
+    offset: Offset,
+    left: usize,
+    right: usize,
+    parent: usize,
+    index: usize,
+    kept: usize,
+) -> Address
+    requires { index < usize.MAX }
+    ensures { result ≡ moved.in_split left right parent index kept offset }
+{
+    match offset.value() {
+        Some(offset) if offset == kept => Address::new(parent, Offset::from(index)),
+        Some(offset) if kept < offset => Address::new(right, Offset::from(offset - kept - 1)),
+        _ => Address::new(left, offset),
+    }
+}
+
+// Where an offset is of a node that has one item more, at the index.
+fn over_split(offset: Offset, parent: usize, index: usize) -> Address
+    requires { IfSome offset (λ n. n + 1 < usize.MAX) }
+    ensures { result ≡ moved.over_split parent index offset }
+{
+    match offset.value() {
+        Some(offset) if index <= offset => Address::new(parent, Offset::from(offset + 1)),
+        _ => Address::new(parent, offset),
+    }
+}
+
+/// Where an address is once node `left`, a child of `parent` at the index, is split and the median is in the parent: `kept` items stay in
+/// `left`, and those behind the median are in `right`.
+pub fn moved_by_split(
+    addr: Address,
+    left: usize,
+    right: usize,
+    parent: usize,
+    index: usize,
+    kept: usize,
+) -> Address
+    requires index { index < usize.MAX }
+    requires offset { IfSome addr.offset (λ n. n + 1 < usize.MAX) }
+    ensures { result ≡ moved.moved_by_split left right parent index kept addr }
+{
+    if addr.id == left {
+        in_split(addr.offset, left, right, parent, index, kept)
+    } else if addr.id == parent {
+        over_split(addr.offset, parent, index)
+    } else {
+        addr
+    }
+}

@@ -1,0 +1,101 @@
+-- A node that makes itself the parent of its children, one after another.
+use Rattle.std.proofs.Common.{◌≡◌, ℕ, zero, suc, ◌+◌, ◌<◌, ◌≤◌, inl, inr, List, [], ◌∷◌, ◌++◌, length, take, slice_get, Option, Some, None, IsSome, refl, sym, ap, subst, ◌∙◌, option_map, arith}
+use Rattle.std.proofs.lemmas.List.{take_all}
+use Rattle.std.specs.FinMap as map
+use Rattle.btree_store.specs.Content.{Content}
+use Rattle.btree_node.specs.declared.node.Node.{Node}
+use Rattle.btree_view.specs.Edits.{with_parent}
+use Rattle.btree_node.specs.Node.{view_of}
+use Rattle.btree_view.specs.View.{View, Look, leaf, internal, children_in, children_of}
+use Rattle.btree_shape.specs.Shape.{one, times_listed}
+use Rattle.btree_shape.specs.Step.{Adopts}
+use Rattle.btree_shape.specs.TreeState.{views}
+use Rattle.btree_shape.specs.WellFormed.{times_used}
+use Rattle.btree_shape.proofs.Frames.{one-zero, one-other}
+use Rattle.btree_shape.proofs.Numbers.{listed-append, same-or, used-mapped, zero-or}
+use Rattle.btree_raw.specs.Steps.{CanAdopt, SetsParent}
+use Rattle.btree_shape.proofs.Climbs.{get-times}
+use Rattle.btree_shape.proofs.Stores.{used-view}
+
+times-take : (n i : ℕ) (ids : List ℕ) → times_listed n (take i ids) ≤ times_listed n ids
+times-take n zero ids = omega arith
+times-take n (suc i) [] = omega arith
+times-take n (suc i) (id ∷ ids) = omega (arith, times-take n i ids)
+
+take-next : (i : ℕ) (ids : List ℕ) (id : ℕ) → slice_get ids i ≡ Some id → take (suc i) ids ≡ take i ids ++ id ∷ []
+take-next i [] id e = absurd (cc)
+take-next zero (x ∷ ids) id e = let s : x ≡ id = cc in rw s refl
+take-next (suc i) (x ∷ ids) id e = ap (λ l. x ∷ l) (take-next i ids id e)
+
+take-more : (i : ℕ) (ids : List ℕ) (id : ℕ) → slice_get ids i ≡ Some id → take (i + 1) ids ≡ take i ids ++ id ∷ []
+take-more i ids id e = let n : i + 1 ≡ suc i = omega arith in rw n (take-next i ids id e)
+
+twice : {A : Type 0} (p : ℕ) (o : Option (View A)) → option_map (with_parent (Some p)) (option_map (with_parent (Some p)) o) ≡ option_map (with_parent (Some p)) o
+twice p None = refl
+twice p (Some (leaf q xs)) = refl
+twice p (Some (internal q first bs)) = refl
+
+module _ {A : Type 0} (look : Look A) (id : ℕ) (can : CanAdopt look id) where
+  abbrev children : List ℕ
+  children = children_in (look id)
+
+  pub adopts-none : Adopts look look id []
+  adopts-none = record { moved = λ n some. absurd (omega arith); kept = λ n none. refl }
+
+  module _ (now : Look A) (index : ℕ) (partly : Adopts look now id (take index children)) where
+    pub adopter-kept : now id ≡ look id
+    adopter-kept = partly.kept id (let z = can.apart in omega (arith, times-take id index children))
+
+    module _ (child : ℕ) (is : slice_get children index ≡ Some child) where
+      pub adoptee-used : 0 < times_used (now child)
+      adoptee-used =
+          let used = can.children child (get-times children index child is) in
+          elim (zero-or (times_listed child (take index children))) [
+            | inl none ↦ rw (partly.kept child none) used
+            | inr some ↦ rw (partly.moved child some, used-mapped (with_parent (Some id)) (look child)) used
+          ]
+
+      pub adopts-more : (new : Look A) → SetsParent now new child id → Adopts look new id (take (index + 1) children)
+      adopts-more new s =
+          let sum : (n : ℕ) → times_listed n (take (index + 1) children) ≡ times_listed n (take index children) + one n child =
+          λ n. ap (times_listed n) (take-more index children child is) ∙ (let q = listed-append n (take index children) (child ∷ []) in omega arith) in
+          record {
+            kept = λ n none. let q = sum n in s.others n (one-zero n child (omega arith)) ∙ partly.kept n (omega arith);
+            moved = λ n some. elim (same-or n child) [
+              | inl same ↦ rw same (s.here ∙ elim (zero-or (times_listed child (take index children))) [
+                | inl z ↦ ap (option_map (with_parent (Some id))) (partly.kept child z)
+                | inr p ↦ ap (option_map (with_parent (Some id))) (partly.moved child p) ∙ twice id (look child)
+              ])
+              | inr ne ↦ let q = sum n in let o = one-other n child ne in s.others n ne ∙ partly.moved n (omega arith)
+            ];
+          }
+
+  pub adopts-all : (new : Look A) (count : ℕ) → count ≡ length children → Adopts look new id (take count children) → Adopts look new id children
+  adopts-all new count e all = subst (λ ids. Adopts look new id ids) (take_all count children (omega arith)) all
+
+module _ {K V : Type 0} where
+  -- the children of the node at a number
+  pub children-at : (nodes : Content (Node K V)) (id : ℕ) (node : Node K V) → map.get nodes id ≡ Some node → children_in (views nodes id) ≡ children_of (view_of node)
+  children-at nodes id node at = rw at refl
+
+  -- one turn of the loop: the node as it was and as it is now
+  module _ (old now : Content (Node K V)) (id : ℕ) (can : CanAdopt (views old) id) (index : ℕ) (partly : Adopts (views old) (views now) id (take index (children_in (views old id)))) where
+    pub still-used : IsSome (map.get now id)
+    still-used = used-view now id (rw (adopter-kept (views old) id can (views now) index partly) can.used)
+
+    module _ (node : Node K V) (at : map.get now id ≡ Some node) where
+      same-children : children_of (view_of node) ≡ children_in (views old id)
+      same-children = sym (children-at now id node at) ∙ ap children_in (adopter-kept (views old) id can (views now) index partly)
+
+      pub index-below : (first : Node K V) (count : ℕ) → map.get old id ≡ Some first → count ≡ length (children_of (view_of first)) → index < count → index < length (children_of (view_of node))
+      index-below first count was many below = let a = ap length same-children in let b = ap length (children-at old id first was) in omega arith
+
+      module _ (child : ℕ) (is : slice_get (children_of (view_of node)) index ≡ Some child) where
+        the-child : slice_get (children_in (views old id)) index ≡ Some child
+        the-child = ap (λ ids. slice_get ids index) (sym same-children) ∙ is
+
+        pub child-used : IsSome (map.get now child)
+        child-used = used-view now child (adoptee-used (views old) id can (views now) index partly child the-child)
+
+        pub child-adopted : (new : Content (Node K V)) → SetsParent (views now) (views new) child id → Adopts (views old) (views new) id (take (index + 1) (children_in (views old id)))
+        child-adopted new s = adopts-more (views old) id can (views now) index partly child the-child (views new) s

@@ -1,0 +1,234 @@
+-- Two neighbours of which one has too few items: what the steps between them ask, and what is known afterwards.
+use Rattle.std.proofs.Common.{◌≡◌, ◌≢◌, ℕ, suc, ◌+◌, ◌<◌, ◌≤◌, ◌^◌, ◌-◌, inl, inr, Option, Some, None, IfSome, IsSome, List, refl, sym, ap, subst, ◌∙◌, option_map, slice_get, arith, length}
+use Rattle.std.specs.FinMap as nodes_map
+use Rattle.btree_store.specs.Content.{Content}
+use Rattle.btree_item.specs.declared.address.Address.{Address}
+use Rattle.btree_node.specs.declared.node.Node.{Node}
+use Rattle.btree_node.specs.Node.{view_of}
+use Rattle.btree_view.specs.Edits.{with_parent}
+use Rattle.btree_view.specs.View.{Look, View, leaf, internal, children_of, most_of, size_of, parent_of}
+use Rattle.btree_shape.specs.Growing.{IsGrown}
+use Rattle.btree_shape.specs.Shrinking.{IsShrinking}
+use Rattle.btree_shape.specs.Mend.{Merges, RotatesLeft, RotatesRight, Writes, as_list}
+use Rattle.btree_shape.specs.Moved.{first_in, moved_by_merge, moved_by_rotate_left, moved_by_rotate_right}
+use Rattle.btree_shape.specs.Shape.{one, times_listed}
+use Rattle.btree_shape.specs.TreeState.{views}
+use Rattle.btree_shape.specs.WellFormed.{times_used}
+use Rattle.btree_shape.proofs.Backs.{merge-back, rotate-left-back, rotate-right-back}
+use Rattle.btree_shape.proofs.Frames.{one-other, one-self}
+use Rattle.btree_shape.proofs.Numbers.{same-node, same-or, used-mapped, used-one, zero-or}
+use Rattle.btree_raw.specs.NodeSteps.{AreNeighbours, CanLend, CanMerge, CanRotateLeft, CanRotateRight}
+use Rattle.btree_raw.specs.Shrink.{AreBeside, HaveFew, IsShort, MendsAbove, MendsHere, IsFollowed}
+use Rattle.btree_raw.specs.Steps.{LeavesAt}
+use Rattle.btree_raw.proofs.ClimbLemmas.{back-some, some-back}
+use Rattle.btree_raw.proofs.StepLemmas.{size-at}
+use Rattle.btree_shape.proofs.Beside.{Beside}
+use Rattle.btree_shape.proofs.Shrinks.{shrinks-node, to-over}
+use Rattle.btree_shape.specs.Need.{levels_above}
+
+pub first-at : {K V : Type 0} (nodes : Content (Node K V)) (id : ℕ) (node : Node K V) (o : Option ℕ) → nodes_map.get nodes id ≡ Some node
+    → o ≡ slice_get (children_of (view_of node)) 0 → option_map first_in (views nodes id) ≡ Some o
+first-at {K} {V} nodes id node o at is = ap (λ n. option_map first_in (option_map view_of n)) at ∙ ap Some (first (view_of node) ∙ sym is)
+  where
+    first : (v : View (K × V)) → first_in v ≡ slice_get (children_of v) 0
+    first (leaf p xs) = refl
+    first (internal p u bs) = refl
+
+-- the node at which a followed climb stands
+module _ {A : Type 0} (look : Look A) (id : ℕ) (a : Address) (s : IsFollowed look id a) where
+  pub followed-node : (v : View A) × (look id ≡ Some v)
+  followed-node = (_, shrinks-node A look s.root s.xs id s.asked a s.place s.given s.bound s.shrinking)
+
+  pub followed-under : (o : Option ℕ) → option_map parent_of (look id) ≡ Some o → parent_of followed-node.0 ≡ o
+  followed-under o under = let q : Some (parent_of followed-node.0) ≡ Some o = sym (ap (option_map parent_of) followed-node.1) ∙ under in cc
+
+module _ {A : Type 0} where
+  most-some : (v : View A) → 7 ≤ most_of v
+  most-some (leaf p xs) = omega arith
+  most-some (internal p u bs) = omega arith
+
+  first-is : (look : Look A) (id : ℕ) (child : Option ℕ) (v : View A) → look id ≡ Some v → option_map first_in (look id) ≡ Some child → first_in v ≡ child
+  first-is look id child v e l = let q : Some (first_in v) ≡ Some child = sym (ap (option_map first_in) e) ∙ l in cc
+
+  both-used : (look new : Look A) (n : ℕ) (v w : View A) → look n ≡ Some v → new n ≡ Some w → times_used (new n) ≡ times_used (look n)
+  both-used look new n v w e f = let a = used-one (look n) v e in let b = used-one (new n) w f in omega arith
+
+  -- what is written keeps the numbers in use
+  writes-used : (look new : Look A) (p l r : ℕ) (top low high t2 l2 h2 : View A) (kids : List ℕ) (to : ℕ) → Writes look new p l r top low high t2 l2 h2 kids to
+      → (n : ℕ) → times_used (new n) ≡ times_used (look n)
+  writes-used look new p l r top low high t2 l2 h2 kids to w n = elim (same-or n p) [
+    | inl e ↦ rw e (both-used look new p top t2 w.at_parent w.new_parent)
+    | inr np ↦ elim (same-or n l) [
+      | inl e ↦ rw e (both-used look new l low l2 w.at_left w.new_left)
+      | inr nl ↦ elim (same-or n r) [
+        | inl e ↦ rw e (both-used look new r high h2 w.at_right w.new_right)
+        | inr nr ↦ elim (zero-or (times_listed n kids)) [
+          | inl z ↦ ap times_used (w.kept n np nl nr z)
+          | inr m ↦ ap times_used (w.moved n np nl nr m) ∙ used-mapped (with_parent (Some to)) (look n)
+        ]
+      ]
+    ]
+  ]
+
+  -- a merge takes one number out of use
+  merge-used : (look new : Look A) (p s l r : ℕ) → (l ≢ r) × (l ≢ p) × (r ≢ p) → Merges look new p s l r → (n : ℕ) → times_used (look n) ≡ times_used (new n) + one n r
+  merge-used look new p s l r apart w n = elim (same-or n r) [
+    | inl e ↦ rw e (let a = used-one (look r) w.high w.at_right in let b = ap times_used w.gone in let c = one-self r in omega arith)
+    | inr nr ↦ let o = one-other n r nr in elim (same-or n p) [
+      | inl e ↦ let u = both-used look new p w.top w.new_top w.at_parent w.new_parent in let q = subst (λ k. one k r ≡ 0) e o in rw e (omega arith)
+      | inr np ↦ elim (same-or n l) [
+        | inl e ↦ let u = both-used look new l w.low w.new_low w.at_left w.new_left in let q = subst (λ k. one k r ≡ 0) e o in rw e (omega arith)
+        | inr nl ↦ elim (zero-or (times_listed n (children_of w.high))) [
+          | inl z ↦ let u = ap times_used (w.kept n np nl nr z) in omega arith
+          | inr m ↦ let u = ap times_used (w.moved n np nl nr m) ∙ used-mapped (with_parent (Some l)) (look n) in omega arith
+        ]
+      ]
+    ]
+  ]
+
+module _ {A : Type 0} (look : Look A) (parent index left right id : ℕ) (a : Address) (s : AreBeside look parent index left right id a) where
+  abbrev short-node : (v : View A) × (look id ≡ Some v)
+  short-node = followed-node look id a s.followed
+
+  short-up : parent_of short-node.0 ≡ Some parent
+  short-up = followed-under look id a s.followed (Some parent) s.under
+
+  -- what is known of the two in whatever tree they stand
+  beside : (root : ℕ) (xs : List A) (asked : Option A) (place given bound : ℕ) → IsShrinking A look root xs id asked a place given bound
+      → Beside A look root xs asked a place given bound parent index left right
+  beside root xs asked place given bound g =
+      let o = to-over A look root xs id asked a place given bound g short-node.0 short-node.1 parent short-up in
+      let same : s.node ≡ o.node = same-node look parent s.node o.node s.here o.here in
+      let l : slice_get (children_of o.node) index ≡ Some left = subst (λ n. slice_get (children_of n) index ≡ Some left) same s.at_left in
+      let r : slice_get (children_of o.node) (suc index) ≡ Some right = subst (λ n. slice_get (children_of n) (suc index) ≡ Some right) same s.at_right in
+      elim s.one_of [
+        | inl e ↦ subst (λ k. Beside A look root xs asked a place given bound parent index k right) e (o.after index right (l ∙ ap Some (sym e)) r)
+        | inr e ↦ subst (λ k. Beside A look root xs asked a place given bound parent index left k) e (o.before index left l (r ∙ ap Some (sym e)))
+      ]
+
+  pub pair : Beside A look s.followed.root s.followed.xs s.followed.asked a s.followed.place s.followed.given s.followed.bound parent index left right
+  pair = beside s.followed.root s.followed.xs s.followed.asked s.followed.place s.followed.given s.followed.bound s.followed.shrinking
+
+  abbrev neighbours : AreNeighbours look parent index left right
+  neighbours = record {
+    top = pair.node;
+    low = pair.low;
+    high = pair.high;
+    at_parent = pair.at_parent;
+    at_left = pair.at_left;
+    at_right = pair.at_right;
+    inner = pair.inner;
+    one_kind = pair.one_kind;
+    between = pair.between;
+    most = omega (arith, pair.node_most, most-some pair.node);
+    apart = pair.apart;
+    children = pair.children_used;
+  }
+
+  pub right-there : 0 < times_used (look right)
+  right-there = rw pair.at_right (omega arith)
+
+  pub index-few : index < 2 ^ 64 - 1
+  index-few = omega (arith, pair.between, pair.node_most)
+
+  count-few : (v : View A) → size_of v ≤ most_of v → size_of v ≤ 8
+  count-few (leaf p xs) m = omega arith
+  count-few (internal p u bs) m = omega arith
+
+  module _ (count : ℕ) (counted : LeavesAt look left count) where
+    pub count-low : count ≤ 8
+    count-low = let e = size-at look left count pair.low pair.at_left counted in let m = count-few pair.low pair.low_most in omega arith
+
+    module _ (child : Option ℕ) (first : option_map first_in (look right) ≡ Some child) where
+      -- what is told of an address in the step's own words
+      so : (g : ℕ → Option ℕ → Address) (low high : View A) → look left ≡ Some low → look right ≡ Some high → (P : Address → Type 0) → P (g (size_of low) (first_in high)) → P (g count child)
+      so g low high l h P p = subst (λ n. P (g n child)) (size-at look left count low l counted)
+          (subst (λ k. P (g (size_of low) k)) (first-is look right child high h first) p)
+
+      module _ (short : IsShort look left) (lender : CanLend look right) (new : Look A) (rot : RotatesLeft look new parent index left right) where
+        pub even-left : MendsHere look new id a (moved_by_rotate_left left right parent index count child a)
+        even-left = record {
+          grown = λ root xs asked place given bound g.
+              let b = beside root xs asked place given bound g in
+              so (λ n k. moved_by_rotate_left left right parent index n k a) b.low b.high b.at_left b.at_right (λ v. IsGrown A new root xs asked v place given bound)
+              (b.rotate_left new rot (subst (λ v. size_of v ≤ 2) (same-node look left short.node b.low short.here b.at_left) short.few)
+              (subst (λ v. 3 < size_of v) (same-node look right lender.node b.high lender.here b.at_right) lender.spare));
+          used = writes-used look new parent left right rot.top rot.low rot.high rot.new_top rot.new_low rot.new_high (as_list rot.child) left rot.writes;
+        }
+
+      module _ (short : IsShort look right) (lender : CanLend look left) (new : Look A) (rot : RotatesRight look new parent index left right) where
+        pub even-right : MendsHere look new id a (moved_by_rotate_right left right parent index count child a)
+        even-right = record {
+          grown = λ root xs asked place given bound g.
+              let b = beside root xs asked place given bound g in
+              so (λ n k. moved_by_rotate_right left right parent index n k a) b.low b.high b.at_left b.at_right (λ v. IsGrown A new root xs asked v place given bound)
+              (b.rotate_right new rot (subst (λ v. size_of v ≤ 2) (same-node look right short.node b.high short.here b.at_right) short.few)
+              (subst (λ v. 3 < size_of v) (same-node look left lender.node b.low lender.here b.at_left) lender.spare));
+          used = writes-used look new parent left right rot.top rot.low rot.high rot.new_top rot.new_low rot.new_high (as_list rot.child) right rot.writes;
+        }
+
+      module _ (few : HaveFew look left right) (new : Look A) (mg : Merges look new parent index left right) where
+        sum-few : (low high : View A) → look left ≡ Some low → look right ≡ Some high → size_of low + size_of high ≤ 5
+        sum-few low high l h =
+            let a1 = ap size_of (same-node look left few.low low few.at_left l) in
+            let a2 = ap size_of (same-node look right few.high high few.at_right h) in
+            let f = few.few in omega arith
+
+        pub joined-both : MendsAbove look new id parent a (moved_by_merge left right parent index count child a)
+        joined-both = record {
+          shrinking = λ root xs asked place given bound g.
+              let b = beside root xs asked place given bound g in
+              let f = sum-few b.low b.high b.at_left b.at_right in
+              let low = b.lower new mg f in (
+                so (λ n k. moved_by_merge left right parent index n k a) b.low b.high b.at_left b.at_right (λ v. IsShrinking A new root xs parent asked v place (suc given) bound) (b.merge new mg f),
+                elim s.one_of [
+                  | inl e ↦ subst (λ k. levels_above new (length xs) parent < levels_above look (length xs) k) (sym e) low.0
+                  | inr e ↦ subst (λ k. levels_above new (length xs) parent < levels_above look (length xs) k) (sym e) low.1
+                ],
+              );
+          gone = right;
+          used = merge-used look new parent index left right pair.apart mg;
+        }
+
+  pub can-left : IsShort look left → CanLend look right → CanRotateLeft look parent index left right
+  can-left short lender = record {
+    pair = neighbours;
+    room = pair.low_most;
+    spare = subst (λ v. 3 < size_of v) (same-node look right lender.node pair.high lender.here pair.at_right) lender.spare;
+  }
+
+  pub can-right : IsShort look right → CanLend look left → CanRotateRight look parent index left right
+  can-right short lender = record {
+    pair = neighbours;
+    room = pair.high_most;
+    spare = subst (λ v. 3 < size_of v) (same-node look left lender.node pair.low lender.here pair.at_left) lender.spare;
+  }
+
+  pub can-merge : HaveFew look left right → CanMerge look parent index left right
+  can-merge few = record {
+    pair = neighbours;
+    room =
+        let a1 = ap size_of (same-node look left few.low pair.low few.at_left pair.at_left) in
+        let a2 = ap size_of (same-node look right few.high pair.high few.at_right pair.at_right) in
+        let f = few.few in let m = most-some pair.low in omega arith;
+    own = pair.low_children;
+  }
+
+-- an offset other than -1 stays one
+module _ (left right parent index count : ℕ) (child : Option ℕ) (a : Address) (is : IsSome a.offset) where
+  none : Look ℕ
+  none n = None
+
+  pub left-back : IsSome (moved_by_rotate_left left right parent index count child a).offset
+  left-back = some-back none (moved_by_rotate_left left right parent index count child a).offset (rotate-left-back none left right parent index count child a (back-some none a.offset is))
+
+  pub right-back : IsSome (moved_by_rotate_right left right parent index count child a).offset
+  right-back = some-back none (moved_by_rotate_right left right parent index count child a).offset (rotate-right-back none left right parent index count child a (back-some none a.offset is))
+
+  pub joined-back : IsSome (moved_by_merge left right parent index count child a).offset
+  joined-back = some-back none (moved_by_merge left right parent index count child a).offset (merge-back none left right parent index count child a (back-some none a.offset is))
+
+-- a small offset, some steps on
+pub offset-far : (count : ℕ) → count ≤ 8 → (o : Option ℕ) → IfSome o (λ n. n ≤ 9) → IfSome o (λ n. n + count + 1 < 2 ^ 64 - 1)
+offset-far count low None few = tt
+offset-far count low (Some n) few = omega arith

@@ -1,0 +1,147 @@
+-- The count of the nodes that an insertion takes, step by step.
+use Rattle.std.proofs.Common.{◌≡◌, ◌↔◌, IsTrue, true, false, leb, ℕ, zero, suc, ◌+◌, ◌<◌, ◌≤◌, ◌^◌, inl, inr, List, [], ◌∷◌, Option, Some, None, length, length-append, refl, sym, ap, subst, arith}
+use Rattle.std.proofs.lemmas.Bool.Decides.{nat_tests}
+use Rattle.std.proofs.lemmas.List.{length-map}
+use Rattle.std.proofs.Math.Nat.{pow-le-pow_right}
+use Rattle.std.specs.FinMap as map
+use Rattle.std.specs.declared.cmp.Ordering.{Ordering}
+use Rattle.btree_node.specs.declared.node.Node.{Node}
+use Rattle.btree_node.specs.declared.node.Node.TheVariants.{Internal, Leaf}
+use Rattle.btree_internal.specs.Internal.{Internal as InternalParts}
+use Rattle.btree_leaf.specs.Leaf.{Leaf as LeafParts}
+use Rattle.btree_node.specs.Node.{view_of}
+use Rattle.btree_view.specs.View.{Look, most_of, size_of}
+use Rattle.btree_shape.specs.Need.{IsClimbing, climb, climbed, need, wanted}
+use Rattle.btree_shape.specs.Node.{IsNode}
+use Rattle.btree_shape.specs.Shape.{IsFilled, IsFilledBelow, Shape, count_at, items_under, later_items, most_at}
+use Rattle.btree_shape.specs.TreeState.{TreeState, IsBTree, IsUsed, looks, nodes_for_splits, nodes_needed, pairs_of}
+use Rattle.btree_shape.specs.Way.{Above, depth, fill, frame_count, least_at, top, under}
+use Rattle.btree_shape.specs.WellFormed.{IsFormed, IsRooted, IsSized, times_used}
+use Rattle.btree_shape.specs.Whole.{IsWhole}
+use Rattle.btree_shape.proofs.Density.{dense}
+use Rattle.btree_shape.proofs.Frames.{fill-count}
+use Rattle.btree_shape.proofs.Levels.{levels-rooted}
+use Rattle.btree_shape.proofs.TreeStates.{height_held}
+use Rattle.btree_shape.proofs.Needs.{less-no, less-yes}
+use Rattle.btree_shape.proofs.Overflows.{climb-node, climbing-start}
+use Rattle.btree_shape.proofs.Standing.{whole-standing}
+use Rattle.btree_raw.specs.Steps.{IsCounting}
+use Rattle.btree_shape.proofs.Numbers.{less-or}
+use Rattle.btree_shape.proofs.Rooted.{node-at}
+use Rattle.btree_shape.proofs.Stores.{some-used}
+use Rattle.btree_shape.proofs.Wholes.{close}
+
+-- the test of a node
+pub full-internal : {K V : Type 0} (node : Node K V) (n : InternalParts K V) (count : ℕ) → node ≡ Internal n → count ≡ length n.branches
+    → (IsTrue (leb 7 count) → most_of (view_of node) ≤ size_of (view_of node)) × (most_of (view_of node) ≤ size_of (view_of node) → IsTrue (leb 7 count))
+full-internal {K} {V} node n count e counted =
+    rw e
+    (let l = length-map {A = (K × V) × ℕ} {B = K × V} n.branches (λ b. b.0) in
+    ((λ t. let q : 7 ≤ count = grind (arith, nat_tests) in omega arith), (λ low. let q : 7 ≤ count = omega arith in grind (arith, nat_tests))))
+
+pub full-leaf : {K V : Type 0} (node : Node K V) (n : LeafParts K V) (count : ℕ) → node ≡ Leaf n → count ≡ length n.items
+    → (IsTrue (leb 8 count) → most_of (view_of node) ≤ size_of (view_of node)) × (most_of (view_of node) ≤ size_of (view_of node) → IsTrue (leb 8 count))
+full-leaf node n count e counted =
+    rw e ((λ t. let q : 8 ≤ count = grind (arith, nat_tests) in omega arith), (λ low. let q : 8 ≤ count = omega arith in grind (arith, nat_tests)))
+
+pub is-full : {K V : Type 0} (node : Node K V) → (IsTrue true ↔ (most_of (view_of node) ≤ size_of (view_of node))) → most_of (view_of node) ≤ size_of (view_of node)
+is-full node e = e.0 refl
+
+pub not-full : {K V : Type 0} (node : Node K V) → (IsTrue false ↔ (most_of (view_of node) ≤ size_of (view_of node))) → size_of (view_of node) < most_of (view_of node)
+not-full node e = elim (less-or (size_of (view_of node)) (most_of (view_of node))) [
+  | inl low ↦ low
+  | inr other ↦ let full : most_of (view_of node) ≤ size_of (view_of node) = elim other [ inl same ↦ omega arith | inr more ↦ omega arith ] in let q : false ≡ true = e.1 full in absurd (cc)
+]
+
+module _ (A : Type 0) where
+  -- a tree whose length a `usize` can hold has at most 32 levels
+  levels-few : (h : ℕ) (t : Shape A h) → 1 ≤ count_at A h t → IsFilledBelow A h t → length (items_under A h t) < 2 ^ 64 → h ≤ 31
+  levels-few zero t some filled low = omega arith
+  levels-few (suc h) (id, first, []) some filled low = absurd (omega arith)
+  levels-few (suc h) (id, first, b ∷ bs) some filled low =
+      let d = dense A h first filled.0.0 filled.1 in
+      let l = length-append (items_under A h first) (later_items A h (b ∷ bs)) in
+      let m = length-append (items_under A h b.1) (later_items A h bs) in
+      elim (less-or h 31) [
+        | inl less ↦ omega arith
+        | inr other ↦
+            let at_least : 32 ≤ suc h = elim other [ inl same ↦ omega arith | inr more ↦ omega arith ] in
+            let p : 4 ^ 32 ≤ 4 ^ suc h = pow-le-pow_right (omega arith) at_least in
+            absurd (omega arith)
+      ]
+
+  levels-above-few : (look : Look A) (root : ℕ) (xs : List A) (h : ℕ) (c : Above A h) (t : Shape A h) → IsWhole A look [] root xs h c t
+      → IsFilled (least_at c) h (count_at A h t) → length xs < 2 ^ 64 → depth c + h ≤ 31
+  levels-above-few look root xs h top t w z low =
+      let l = ap length w.list in
+      let n = length-append (items_under A h t) [] in
+      let d : depth {A = A} {height = h} top ≡ 0 = refl in
+      let f = levels-few h t z.0 w.below (omega arith) in
+      omega arith
+  levels-above-few look root xs h (under f c) t w z low =
+      let r = levels-above-few look root xs (suc h) c (fill f t) (close A look [] root xs h f c t w z) (subst (λ n. IsFilled (least_at c) (suc h) n) (sym (fill-count A h f t)) w.filled.0) low in
+      omega arith
+
+  pub wanted-few : (h : ℕ) (c : Above A h) → wanted c ≤ depth c + 2
+  wanted-few h top = omega arith
+  wanted-few h (under f c) =
+      let r = wanted-few (suc h) c in
+      elim (less-or (frame_count f) 7) [
+        | inl low ↦ let q = less-yes (frame_count f) 7 0 (wanted c) low in omega arith
+        | inr other ↦
+            let full : 7 ≤ frame_count f = elim other [ inl same ↦ omega arith | inr more ↦ omega arith ] in
+            let q = less-no (frame_count f) 7 0 (wanted c) full in omega arith
+      ]
+
+  pub climbed-few : (h : ℕ) (c : Above A h) (n : ℕ) → climbed c n ≤ depth c + 2
+  climbed-few h c n = elim (less-or n (most_at h)) [
+    | inl low ↦ let q = less-yes n (most_at h) 0 (wanted c) low in omega arith
+    | inr other ↦
+        let full : most_at h ≤ n = elim other [ inl same ↦ omega arith | inr more ↦ omega arith ] in
+        let q = less-no n (most_at h) 0 (wanted c) full in omega (arith, wanted-few h c)
+  ]
+
+module _ {K V : Type 0} (cmp : K → K → Ordering) (s : TreeState K V) (start : ℕ) (sound : IsBTree cmp s) where
+  abbrev sight : Look (K × V)
+  sight = looks s
+
+  abbrev listed : List (K × V)
+  listed = pairs_of s
+
+  module _ (used : IsUsed s start) where
+    start-used : 0 < times_used (sight start)
+    start-used = some-used (map.get s.nodes start) used
+
+    root-is : (r : Option ℕ) → IsFormed sight r listed → (number : ℕ) × (r ≡ Some number)
+    root-is None f = absurd (let e = f.0 start in let u = start-used in let z : times_used (sight start) ≡ 0 = ap times_used e in omega arith)
+    root-is (Some number) f = (number, refl)
+
+    rooted : (number : ℕ) → s.root ≡ Some number → IsRooted (IsSized number) sight number listed
+    rooted number is = subst (λ r. IsFormed sight r listed) is sound.formed
+
+    first : (number : ℕ) → s.root ≡ Some number → IsNode (K × V) sight number listed start
+    first number is = node-at (K × V) sight number listed (rooted number is) start start-used
+
+    -- there is a root, since a node is used
+    pub need-climb : nodes_for_splits s start ≡ nodes_needed s start
+    need-climb = let r = root-is s.root sound.formed in sym (ap (λ t. need sight t (map.len s.nodes) start) r.1)
+
+  pub need-counting : s.len < 2 ^ 64 → (used : IsUsed s start) → IsCounting sight (map.len s.nodes) start start 0
+  need-counting low used =
+      let r = root-is used s.root sound.formed in
+      let n = first used r.0 r.1 in
+      let up = rooted used r.0 r.1 in
+      let w = whole-standing (K × V) sight [] r.0 listed n.seen.height n.seen.way n.seen.shape n.seen.whole in
+      let levels = levels-rooted (K × V) sight r.0 listed (IsSized r.0) up n.seen.height n.seen.way n.seen.shape w in
+      let deep = height_held s (IsSized r.0) r.0 listed up in
+      let a = climb-node (K × V) sight r.0 listed start n (map.len s.nodes) (omega arith) in
+      let b = climbed-few (K × V) n.seen.height n.seen.way (count_at (K × V) n.seen.height n.seen.shape) in
+      let k = sound.counted in
+      let d = levels-above-few (K × V) sight r.0 listed n.seen.height n.seen.way n.seen.shape n.seen.whole n.sized (omega arith) in
+      let c = climbing-start (K × V) sight r.0 listed (map.len s.nodes) n.seen.height n.seen.way n.seen.shape w (omega arith) in
+      record {
+        root = r.0;
+        xs = listed;
+        climbing = subst (λ i. IsClimbing (K × V) sight r.0 listed (map.len s.nodes) i 0 (climb sight (map.len s.nodes) i)) n.seen.here c;
+        few = omega arith;
+      }

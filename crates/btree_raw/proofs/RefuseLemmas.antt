@@ -1,0 +1,37 @@
+-- Claims on the way: one more, one given back, all given back.
+use Rattle.std.proofs.Common.{◌≡◌, ℕ, ◌+◌, ◌<◌, ◌^◌, ◌-◌, List, [], ◌∷◌, ◌++◌, IsSome, None, ap, sym, subst, ◌∙◌}
+use Rattle.std.specs.FinMap as map
+use Rattle.btree_shape.specs.TreeState.{TreeState}
+use Rattle.btree_raw.specs.Claimed.{AreClaimed, EMPTY, IsClaimed}
+use Rattle.btree_raw.specs.Raw.{Refuses}
+use Rattle.btree_raw.proofs.ClaimLemmas.{given-back, one-more}
+use Rattle.btree_raw.proofs.StateLemmas.{with_nodes}
+
+module _ {K V : Type 0} where
+  abbrev counted : TreeState K V → TreeState K V
+  counted s = record s { refusals = s.refusals + 1 }
+
+  -- a refusal is counted in what the claims are given back to
+  pub refused-claims : (base now mid : TreeState K V) (ids : List ℕ) → AreClaimed base now ids → Refuses now mid → AreClaimed (record base { refusals = base.refusals + 1 }) mid ids
+  refused-claims base now mid ids c r = subst (λ s. AreClaimed (record base { refusals = base.refusals + 1 }) s ids) (sym r) (record { claimed = c.claimed; rest = record { rest = ap counted c.rest.rest } })
+
+  pub more-claims : (base now mid : TreeState K V) (ids all : List ℕ) (id : ℕ) → AreClaimed base now ids → map.get now.nodes id ≡ None → id < 2 ^ 64 - 1
+      → mid ≡ record now { nodes = map.insert now.nodes id EMPTY } → all ≡ ids ++ id ∷ [] → AreClaimed base mid all
+  more-claims base now mid ids all id c unused low is e =
+      subst (λ s. AreClaimed base s all) (sym is) (record {
+        claimed = subst (λ l. IsClaimed EMPTY base.nodes (map.insert now.nodes id EMPTY) l) (sym e) (one-more EMPTY base.nodes now.nodes ids id c.claimed unused low);
+        rest = record { rest = ap (with_nodes (map.insert now.nodes id EMPTY)) c.rest.rest };
+      })
+
+  pub claim-used : (base now : TreeState K V) (all ids : List ℕ) (id : ℕ) → all ≡ ids ++ id ∷ [] → AreClaimed base now all → IsSome (map.get now.nodes id)
+  claim-used base now all ids id e c = (given-back EMPTY base.nodes now.nodes all ids id e c.claimed).used
+
+  pub less-claims : (base now mid : TreeState K V) (all ids : List ℕ) (id : ℕ) → all ≡ ids ++ id ∷ [] → mid ≡ record now { nodes = map.remove now.nodes id }
+      → AreClaimed base now all → AreClaimed base mid ids
+  less-claims base now mid all ids id e is c = subst (λ s. AreClaimed base s ids) (sym is) (record {
+    claimed = (given-back EMPTY base.nodes now.nodes all ids id e c.claimed).less;
+    rest = record { rest = ap (with_nodes (map.remove now.nodes id)) c.rest.rest };
+  })
+
+  pub no-claims : (base now : TreeState K V) (ids : List ℕ) → ids ≡ [] → AreClaimed base now ids → now ≡ base
+  no-claims base now ids e c = let d = subst (λ l. AreClaimed base now l) e c in d.rest.rest ∙ ap (λ n. with_nodes n base) d.claimed.after

@@ -1,0 +1,69 @@
+-- Changes of a tree's nodes, one after another, and single nodes written.
+use Rattle.std.proofs.Common.{◌≡◌, ℕ, ◌<◌, ◌^◌, ◌-◌, Option, Some, IfSome, IsSome, refl, sym, ap, subst, ◌∙◌, option_map, arith}
+use Rattle.std.specs.FinMap as map
+use Rattle.btree_store.specs.Content.{Content}
+use Rattle.btree_item.specs.Offset.{index_offset}
+use Rattle.btree_node.specs.declared.node.Node.{Node}
+use Rattle.btree_node.specs.Node.{view_of}
+use Rattle.btree_view.specs.Edits.{with_parent, with_item}
+use Rattle.btree_view.specs.Kept.{kept_parent}
+use Rattle.btree_view.specs.View.{View}
+use Rattle.btree_shape.specs.TreeState.{TreeState, KeepsRest, views}
+use Rattle.btree_shape.proofs.Moves.{other-test}
+use Rattle.btree_shape.proofs.Numbers.{used-one}
+use Rattle.btree_shape.proofs.Stores.{most-few, puts, used-view}
+use Rattle.btree_raw.specs.Steps.{AddsItem, CanTake, SetsParent}
+
+module _ {K V : Type 0} where
+  -- a state with other nodes
+  abbrev pub with_nodes : Content (Node K V) → TreeState K V → TreeState K V
+  with_nodes nodes s = record s { nodes = nodes }
+
+  -- what the rest keeps over one change and over the next it keeps over both
+  pub then : {a b d : TreeState K V} → KeepsRest a b → KeepsRest b d → KeepsRest a d
+  then {a} {b} {d} p q = record { rest = q.rest ∙ ap (with_nodes d.nodes) p.rest }
+
+  pub same-root : {a b : TreeState K V} → KeepsRest a b → b.root ≡ a.root
+  same-root {a} {b} p = let f : TreeState K V → Option ℕ = λ s. s.root in ap f p.rest
+
+  pub same-len : {a b : TreeState K V} → KeepsRest a b → b.len ≡ a.len
+  same-len {a} {b} p = let f : TreeState K V → ℕ = λ s. s.len in ap f p.rest
+
+  pub same-refusals : {a b : TreeState K V} → KeepsRest a b → b.refusals ≡ a.refusals
+  same-refusals {a} {b} p = let f : TreeState K V → ℕ = λ s. s.refusals in ap f p.rest
+
+  pub nodes-of : {a b : TreeState K V} → a ≡ b → a.nodes ≡ b.nodes
+  nodes-of e = let f : TreeState K V → Content (Node K V) = λ s. s.nodes in ap f e
+
+  -- a node that was taken out
+  pub removed : {a b : TreeState K V} (id : ℕ) → b ≡ record a { nodes = map.remove a.nodes id } → KeepsRest a b
+  removed {a} {b} id e = record { rest = e ∙ ap (λ n. with_nodes n a) (sym (nodes-of e)) }
+
+  -- a node that was put in
+  pub inserted : {a b : TreeState K V} (id : ℕ) (node : Node K V) → b ≡ record a { nodes = map.insert a.nodes id node } → KeepsRest a b
+  inserted {a} {b} id node e = record { rest = e ∙ ap (λ n. with_nodes n a) (sym (nodes-of e)) }
+
+  pub used-here : (nodes : Content (Node K V)) (id : ℕ) (v : View (K × V)) → views nodes id ≡ Some v → IsSome (map.get nodes id)
+  used-here nodes id v at = used-view nodes id (let u = used-one (views nodes id) v at in omega arith)
+
+  module _ (nodes : Content (Node K V)) (id : ℕ) (node : Node K V) (at : Some node ≡ map.get nodes id) (after : Node K V) where
+    seen : views nodes id ≡ Some (view_of node)
+    seen = ap (option_map view_of) (sym at)
+
+    pub sets-parent : (parent : ℕ) → parent < 2 ^ 64 - 1 → view_of after ≡ with_parent (kept_parent (Some parent)) (view_of node) → SetsParent (views nodes) (views (map.insert nodes id after)) id parent
+    sets-parent parent low is =
+        let p = puts nodes (map.insert nodes id after) id after refl in
+        let so : kept_parent (Some parent) ≡ Some parent = rw (other-test parent (2 ^ 64 - 1) (omega arith)) refl in
+        let e : view_of after ≡ with_parent (Some parent) (view_of node) = is ∙ ap (λ q. with_parent q (view_of node)) so in
+        record { here = p.here ∙ (ap Some e ∙ sym (ap (option_map (with_parent (Some parent))) seen)); others = p.others }
+
+    pub adds-item : (index : ℕ) (x : K × V) (child : Option ℕ) → CanTake (views nodes) id index child → (o : Option ℕ) → o ≡ index_offset index
+        → IfSome o (λ i. view_of after ≡ with_item i x child (view_of node)) → AddsItem (views nodes) (views (map.insert nodes id after)) id index x child
+    adds-item index x child can o e is =
+        let p = puts nodes (map.insert nodes id after) id after refl in
+        let low : index < 2 ^ 64 - 1 = omega (arith, can.room, can.within, most-few can.node) in
+        let so : o ≡ Some index = e ∙ rw (other-test index (2 ^ 64 - 1) (omega arith)) refl in
+        record {
+          here = p.here ∙ (ap Some (subst (λ o. IfSome o (λ i. view_of after ≡ with_item i x child (view_of node))) so is) ∙ sym (ap (option_map (with_item index x child)) seen));
+          others = p.others;
+        }

@@ -1,0 +1,42 @@
+-- Single nodes of a store, changed, as definitions see them.
+use Rattle.std.proofs.Common.{◌≡◌, ℕ, ◌<◌, ◌≤◌, ◌^◌, ◌-◌, Option, Some, IsSomeAnd, arith, sym, ap, ◌∙◌, option_map}
+use Rattle.std.specs.FinMap as map
+use Rattle.btree_store.specs.Content.{Content}
+use Rattle.btree_item.specs.Offset.{index_offset}
+use Rattle.btree_node.specs.declared.node.Node.{Node}
+use Rattle.btree_view.specs.Edits.{HasChildFor, IsOverflowing, IsSplit}
+use Rattle.btree_node.specs.Node.{view_of}
+use Rattle.btree_view.specs.View.{size_of, most_of, View, Look}
+use Rattle.btree_shape.specs.TreeState.{views}
+use Rattle.btree_raw.specs.Steps.{CanTake, Overflows, Halves, LeavesAt}
+use Rattle.btree_shape.proofs.Moves.{other-test}
+use Rattle.btree_shape.proofs.Stores.{most-few, puts, view-at}
+
+-- an index that is not too great is an offset
+index-small : (n index : ℕ) (o : Option ℕ) → index < 2 ^ 64 - 1 → index ≤ n → o ≡ index_offset index → IsSomeAnd o (λ i. i ≤ n)
+index-small n index o low within e = rw (e, other-test index (2 ^ 64 - 1) (omega arith)) within
+
+-- how many items stand in a node
+pub size-at : {A : Type 0} (look : Look A) (id count : ℕ) (v : View A) → look id ≡ Some v → LeavesAt look id count → size_of v ≡ count
+size-at look id count v e l = let q : Some (size_of v) ≡ Some count = sym (ap (option_map size_of) e) ∙ l in cc
+
+module _ {K V : Type 0} where
+  module _ (nodes : Content (Node K V)) (id : ℕ) (node : Node K V) (at : Some node ≡ map.get nodes id) where
+    -- what `insert` of a node asks
+    pub take-room : (index : ℕ) (child : Option ℕ) (o : Option ℕ) → o ≡ index_offset index → CanTake (views nodes) id index child
+        → (size_of (view_of node) ≤ most_of (view_of node)) × (IsSomeAnd o (λ i. i ≤ size_of (view_of node)) × HasChildFor child (view_of node))
+    take-room index child o e can =
+        let is = view-at nodes id node can.node at can.here in
+        rw is (can.room, (index-small (size_of can.node) index o (omega (arith, can.room, can.within, most-few can.node)) can.within e, can.kind))
+
+    pub split-over : Overflows (views nodes) id → IsOverflowing (view_of node)
+    split-over can = rw (view-at nodes id node can.node at can.here) can.over
+
+    pub halves : (new : Content (Node K V)) (left right : Node K V) (count : ℕ) (median : K × V) → count ≡ size_of (view_of left) → IsSplit (view_of node) median (view_of left) (view_of right)
+        → new ≡ map.insert nodes id left → Halves (views nodes) (views new) id count median (view_of right)
+    halves new left right count median counted parts e = record {
+      left = view_of left;
+      counted = counted;
+      parts = λ v here. rw (← view-at nodes id node v at here) parts;
+      puts = puts nodes new id left e;
+    }

@@ -1,0 +1,221 @@
+-- Rotations and merges of two neighbours, call by call.
+use Rattle.std.proofs.Common.{◌≡◌, ◌≢◌, ℕ, ◌+◌, ◌<◌, ◌≤◌, inl, inr, List, [], ◌∷◌, ◌++◌, Option, Some, None, IfSome, refl, sym, ap, subst, ◌∙◌, slice_get, arith}
+use Rattle.btree_view.specs.Edits.{HasChildFor, is_internal, joined, pushed_left, pushed_right, with_other_item, without}
+use Rattle.btree_view.specs.View.{Look, View, children_in, children_of, items_of}
+use Rattle.btree_shape.specs.Mend.{IsRemade, Merges, RotatesLeft, RotatesRight, as_list}
+use Rattle.btree_shape.specs.Shape.{times_listed}
+use Rattle.btree_shape.specs.Step.{Adopts, Loses, Puts}
+use Rattle.btree_shape.specs.WellFormed.{times_used}
+use Rattle.btree_shape.proofs.Frames.{one-self}
+use Rattle.btree_shape.proofs.Numbers.{listed-append, same-node, used-same, used-there, zero-or}
+use Rattle.btree_shape.proofs.Written.{left-written, merge-written, right-written}
+use Rattle.btree_raw.specs.NodeSteps.{AreNeighbours, CanMerge, CanRotateLeft, CanRotateRight, ChangesItem, GainsAll, GainsFirst, GainsLast, HasBetween, HasRoomFor, HasRoomForAll, LosesBetween, LosesFirst, LosesLast}
+use Rattle.btree_raw.specs.Steps.{CanAdopt}
+use Rattle.btree_raw.proofs.MendLemmas.{kind-left, kind-right, remade-joined, remade-left, remade-other, remade-right, remade-without}
+
+one-child : (child : Option ℕ) (P : ℕ → Type 0) → ((n : ℕ) → 0 < times_listed n (as_list child) → P n) → IfSome child P
+one-child None P all = tt
+one-child (Some n) P all = all n (omega (arith, one-self n))
+
+-- what two neighbours have in common
+module _ {A : Type 0} (look : Look A) (parent index left right : ℕ) (pair : AreNeighbours look parent index left right) where
+  pub between-here : HasBetween look parent index
+  between-here = record { node = pair.top; here = pair.at_parent; inner = pair.inner; most = pair.most; within = pair.between }
+
+  between-other : (new : Look A) → new parent ≡ look parent → HasBetween new parent index
+  between-other new e = record { node = pair.top; here = e ∙ pair.at_parent; inner = pair.inner; most = pair.most; within = pair.between }
+
+  module _ (child : Option ℕ) (listed : (n : ℕ) → times_listed n (as_list child) ≤ times_listed n (children_of pair.low) + times_listed n (children_of pair.high)) where
+    child-away : (n : ℕ) → 0 < times_listed n (as_list child) → (n ≢ parent) × (n ≢ left) × (n ≢ right)
+    child-away n m = let l = listed n in let c = pair.children n (omega arith) in (c.1, c.2, c.3)
+
+    child-there : (new : Look A) → ((n : ℕ) → n ≢ parent → n ≢ left → n ≢ right → new n ≡ look n) → IfSome child (λ n. 0 < times_used (new n))
+    child-there new still = one-child child (λ n. 0 < times_used (new n)) (λ n m.
+        let l = listed n in
+        let c = pair.children n (omega arith) in
+        used-same look new n (still n c.1 c.2 c.3) c.0)
+
+-- a rotation to the left
+module _ {A : Type 0} (look : Look A) (parent index left right : ℕ) (can : CanRotateLeft look parent index left right) where
+  module _ (one_look : Look A) (up : A) (child : Option ℕ) (a : LosesFirst look one_look right up child) where
+    high-left : can.pair.high ≡ pushed_left up child a.rest
+    high-left = same-node look right can.pair.high (pushed_left up child a.rest) can.pair.at_right a.was
+
+    kind-high : HasChildFor child can.pair.high
+    kind-high = a.kind ∙ sym (ap is_internal high-left ∙ kind-left up child a.rest)
+
+    listed-left : (n : ℕ) → times_listed n (as_list child) ≤ times_listed n (children_of can.pair.low) + times_listed n (children_of can.pair.high)
+    listed-left n =
+        let e = ap (times_listed n) (ap children_of high-left ∙ (remade-left up child a.rest a.kind).children_are) in
+        let s = listed-append n (as_list child) (children_of a.rest) in
+        omega arith
+
+    pub left-between : HasBetween one_look parent index
+    left-between = between-other look parent index left right can.pair one_look (a.puts.others parent (λ e. can.pair.apart.2 (sym e)))
+
+    module _ (two : Look A) (down : A) (b : ChangesItem one_look two parent index down up) where
+      at-left : two left ≡ Some can.pair.low
+      at-left = b.puts.others left can.pair.apart.1 ∙ (a.puts.others left can.pair.apart.0 ∙ can.pair.at_left)
+
+      top-left : b.node ≡ can.pair.top
+      unfolding left-between between-other
+      top-left = same-node one_look parent b.node can.pair.top b.here left-between.here
+
+      pub left-room : HasRoomFor two left child
+      left-room = record { node = can.pair.low; here = at-left; room = can.room; kind = kind-high ∙ sym can.pair.one_kind }
+
+      module _ (three : Look A) (c : GainsLast two three left down child) where
+        low-left : c.node ≡ can.pair.low
+        low-left = same-node two left c.node can.pair.low c.here at-left
+
+        pub left-child : IfSome child (λ n. 0 < times_used (three n))
+        left-child = child-there look parent index left right can.pair child listed-left three
+            (λ n np nl nr. c.puts.others n nl ∙ (b.puts.others n np ∙ a.puts.others n nr))
+
+        pub turns-left : (new : Look A) → Adopts three new left (as_list child) → RotatesLeft look new parent index left right
+        turns-left new d = record {
+          top = can.pair.top;
+          low = can.pair.low;
+          high = can.pair.high;
+          new_top = with_other_item index up can.pair.top;
+          new_low = pushed_right down child can.pair.low;
+          new_high = a.rest;
+          down = down;
+          up = up;
+          child = child;
+          down_is = subst (λ v. slice_get (items_of v) index ≡ Some down) top-left b.was;
+          child_for = kind-high;
+          top_is = remade-other index up can.pair.top;
+          low_is = remade-right down child can.pair.low (kind-high ∙ sym can.pair.one_kind);
+          high_is = subst (λ v. IsRemade a.rest v (up ∷ items_of a.rest) (as_list child ++ children_of a.rest)) (sym high-left) (remade-left up child a.rest a.kind);
+          writes =
+              left-written look one_look two three new parent left right can.pair.apart can.pair.top can.pair.low can.pair.high
+              (with_other_item index up can.pair.top) (pushed_right down child can.pair.low) a.rest (as_list child) left
+              (child-away look parent index left right can.pair child listed-left) can.pair.at_parent can.pair.at_left can.pair.at_right d a.puts
+              (subst (λ v. Puts one_look two parent (with_other_item index up v)) top-left b.puts)
+              (subst (λ v. Puts two three left (pushed_right down child v)) low-left c.puts);
+        }
+
+-- a rotation to the right
+module _ {A : Type 0} (look : Look A) (parent index left right : ℕ) (can : CanRotateRight look parent index left right) where
+  module _ (one_look : Look A) (up : A) (child : Option ℕ) (a : LosesLast look one_look left up child) where
+    low-right : can.pair.low ≡ pushed_right up child a.rest
+    low-right = same-node look left can.pair.low (pushed_right up child a.rest) can.pair.at_left a.was
+
+    kind-low : HasChildFor child can.pair.low
+    kind-low = a.kind ∙ sym (ap is_internal low-right ∙ kind-right up child a.rest)
+
+    listed-right : (n : ℕ) → times_listed n (as_list child) ≤ times_listed n (children_of can.pair.low) + times_listed n (children_of can.pair.high)
+    listed-right n =
+        let e = ap (times_listed n) (ap children_of low-right ∙ (remade-right up child a.rest a.kind).children_are) in
+        let s = listed-append n (children_of a.rest) (as_list child) in
+        omega arith
+
+    pub right-between : HasBetween one_look parent index
+    right-between = between-other look parent index left right can.pair one_look (a.puts.others parent (λ e. can.pair.apart.1 (sym e)))
+
+    module _ (two : Look A) (down : A) (b : ChangesItem one_look two parent index down up) where
+      at-right : two right ≡ Some can.pair.high
+      at-right = b.puts.others right can.pair.apart.2 ∙ (a.puts.others right (λ e. can.pair.apart.0 (sym e)) ∙ can.pair.at_right)
+
+      top-right : b.node ≡ can.pair.top
+      unfolding right-between between-other
+      top-right = same-node one_look parent b.node can.pair.top b.here right-between.here
+
+      pub right-room : HasRoomFor two right child
+      right-room = record { node = can.pair.high; here = at-right; room = can.room; kind = kind-low ∙ can.pair.one_kind }
+
+      module _ (three : Look A) (c : GainsFirst two three right down child) where
+        high-right : c.node ≡ can.pair.high
+        high-right = same-node two right c.node can.pair.high c.here at-right
+
+        pub right-child : IfSome child (λ n. 0 < times_used (three n))
+        right-child = child-there look parent index left right can.pair child listed-right three
+            (λ n np nl nr. c.puts.others n nr ∙ (b.puts.others n np ∙ a.puts.others n nl))
+
+        pub turns-right : (new : Look A) → Adopts three new right (as_list child) → RotatesRight look new parent index left right
+        turns-right new d = record {
+          top = can.pair.top;
+          low = can.pair.low;
+          high = can.pair.high;
+          new_top = with_other_item index up can.pair.top;
+          new_low = a.rest;
+          new_high = pushed_left down child can.pair.high;
+          down = down;
+          up = up;
+          child = child;
+          down_is = subst (λ v. slice_get (items_of v) index ≡ Some down) top-right b.was;
+          child_for = kind-low;
+          top_is = remade-other index up can.pair.top;
+          low_is = subst (λ v. IsRemade a.rest v (items_of a.rest ++ up ∷ []) (children_of a.rest ++ as_list child)) (sym low-right) (remade-right up child a.rest a.kind);
+          high_is = remade-left down child can.pair.high (kind-low ∙ can.pair.one_kind);
+          writes =
+              right-written look one_look two three new parent left right can.pair.apart can.pair.top can.pair.low can.pair.high
+              (with_other_item index up can.pair.top) a.rest (pushed_left down child can.pair.high) (as_list child) right
+              (child-away look parent index left right can.pair child listed-right) can.pair.at_parent can.pair.at_left can.pair.at_right d a.puts
+              (subst (λ v. Puts one_look two parent (with_other_item index up v)) top-right b.puts)
+              (subst (λ v. Puts two three right (pushed_left down child v)) high-right c.puts);
+        }
+
+-- a merge
+module _ {A : Type 0} (look : Look A) (parent index left right : ℕ) (can : CanMerge look parent index left right) where
+  abbrev both : List ℕ
+  both = children_of can.pair.low ++ children_of can.pair.high
+
+  apart-both : (n : ℕ) → 0 < times_listed n both → (0 < times_used (look n)) × (n ≢ parent) × (n ≢ left) × (n ≢ right)
+  apart-both n m = can.pair.children n (let s = listed-append n (children_of can.pair.low) (children_of can.pair.high) in omega arith)
+
+  module _ (one_look : Look A) (down : A) (a : LosesBetween look one_look parent index down) where
+    top-both : a.node ≡ can.pair.top
+    top-both = same-node look parent a.node can.pair.top a.here can.pair.at_parent
+
+    pub at-other : one_look right ≡ Some can.pair.high
+    at-other = a.puts.others right can.pair.apart.2 ∙ can.pair.at_right
+
+    pub other-there : 0 < times_used (one_look right)
+    other-there = used-there one_look right can.pair.high at-other
+
+    module _ (two : Look A) (b : Loses one_look two right) (other : View A) (is : one_look right ≡ Some other) where
+      same-other : other ≡ can.pair.high
+      same-other = same-node one_look right other can.pair.high is at-other
+
+      at-low : two left ≡ Some can.pair.low
+      at-low = b.others left can.pair.apart.0 ∙ (a.puts.others left can.pair.apart.1 ∙ can.pair.at_left)
+
+      pub room-both : HasRoomForAll two left other
+      room-both = rw same-other (record { node = can.pair.low; here = at-low; kind = sym can.pair.one_kind; room = can.room })
+
+      module _ (three : Look A) (c : GainsAll two three left down other) where
+        low-both : c.node ≡ can.pair.low
+        low-both = same-node two left c.node can.pair.low c.here at-low
+
+        puts-both : Puts two three left (joined can.pair.low down can.pair.high)
+        puts-both = subst (λ v. Puts two three left (joined v down can.pair.high)) low-both
+            (subst (λ w. Puts two three left (joined c.node down w)) same-other c.puts)
+
+        remade-both : IsRemade can.pair.low (joined can.pair.low down can.pair.high) (items_of can.pair.low ++ down ∷ items_of can.pair.high) both
+        remade-both = remade-joined down can.pair.low can.pair.high can.pair.one_kind
+
+        children-both : children_in (three left) ≡ both
+        children-both = ap children_in puts-both.here ∙ remade-both.children_are
+
+        pub adopts-both : CanAdopt three left
+        adopts-both = record {
+          used = used-there three left (joined can.pair.low down can.pair.high) puts-both.here;
+          children = λ n m.
+              let e = ap (times_listed n) children-both in
+              let s = apart-both n (omega arith) in
+              used-same look three n (c.puts.others n s.2 ∙ (b.others n s.3 ∙ a.puts.others n s.1)) s.0;
+          apart = elim (zero-or (times_listed left (children_in (three left)))) [
+            | inl z ↦ z
+            | inr m ↦ absurd (let e = ap (times_listed left) children-both in (apart-both left (omega arith)).2 refl)
+          ];
+        }
+
+        pub merges : (new : Look A) → Adopts three new left (children_in (three left)) → Merges look new parent index left right
+        merges new d =
+            merge-written look one_look two three new parent left right can.pair.apart index can.pair.top can.pair.low can.pair.high
+            (without index can.pair.top) (joined can.pair.low down can.pair.high) down (λ n m. let k = can.pair.children n m in (k.1, k.2, k.3)) can.own
+            can.pair.at_parent can.pair.at_left can.pair.at_right (subst (λ v. slice_get (items_of v) index ≡ Some down) top-both a.was)
+            (remade-without index can.pair.top can.pair.inner) remade-both (subst (λ v. Puts look one_look parent (without index v)) top-both a.puts) b puts-both
+            (subst (λ l. Adopts three new left l) children-both d)

@@ -1,0 +1,5 @@
+use Rattle.std.proofs.Common.{arith}
+use Rattle.btree_raw.proofs.claims.empty_leaf.Goals as goal
+
+pub empty-requires : goal.empty-requires
+empty-requires g c = let fits = c.well_formed in omega arith

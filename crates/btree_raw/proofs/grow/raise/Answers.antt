@@ -1,0 +1,32 @@
+use Rattle.std.proofs.Common.{subst}
+use Rattle.btree_shape.specs.Step.{Puts}
+use Rattle.btree_shape.specs.TreeState.{looks}
+use Rattle.btree_raw.proofs.GrowLemmas.{left-there, right-still, raises}
+use Rattle.btree_raw.proofs.StateLemmas.{then}
+use Rattle.btree_raw.proofs.grow.raise.Goals as goal
+use Rattle.btree_shape.proofs.Stores.{used-view}
+
+pub put-requires : goal.put-requires
+put-requires g c = (c.tell_fits.ensures, used-view c.args.tree.now.nodes c.args.root c.requires.can.root_used)
+
+pub set_parent-requires-clause-used : goal.set_parent-requires-clause-used
+set_parent-requires-clause-used g c =
+    used-view c.put.new.tree.nodes c.args.left
+    (left-there (looks c.args.tree.now) c.args.left c.args.right c.args.root c.args.median c.requires.can (looks c.put.new.tree)
+    (subst (λ v. Puts (looks c.args.tree.now) (looks c.put.new.tree) c.args.root v) c.binary.ensures c.put.ensures.nodes))
+
+pub set_parent-requires-2-clause-used : goal.set_parent-requires-2-clause-used
+set_parent-requires-2-clause-used g c =
+    used-view c.set_parent.new.tree.nodes c.args.right
+    (right-still (looks c.args.tree.now) c.args.left c.args.right c.args.root c.args.median c.requires.can (looks c.put.new.tree)
+    (subst (λ v. Puts (looks c.args.tree.now) (looks c.put.new.tree) c.args.root v) c.binary.ensures c.put.ensures.nodes)
+    (looks c.set_parent.new.tree) c.set_parent.ensures.nodes)
+
+pub returns : goal.returns
+returns g c = record {
+  nodes =
+    raises (looks c.args.tree.now) c.args.left c.args.right c.args.root c.args.median c.requires.can (looks c.put.new.tree)
+    (subst (λ v. Puts (looks c.args.tree.now) (looks c.put.new.tree) c.args.root v) c.binary.ensures c.put.ensures.nodes)
+    (looks c.set_parent.new.tree) c.set_parent.ensures.nodes (looks c.set_parent-2.new.tree) c.set_parent-2.ensures.nodes;
+  rest = then (then c.put.ensures.rest c.set_parent.ensures.rest) c.set_parent-2.ensures.rest;
+}

@@ -1,0 +1,17 @@
+use Rattle.btree_shape.specs.TreeState.{looks}
+use Rattle.btree_shape.proofs.Stores.{used-view}
+use Rattle.btree_raw.proofs.MendLemmas.{child-used, loses, releases}
+use Rattle.btree_raw.proofs.StateLemmas.{nodes-of, removed, then, used-here}
+use Rattle.btree_raw.proofs.mend.release_root.Goals as goal
+
+pub release_node-requires : goal.release_node-requires
+release_node-requires g c = (c.tell_fits.ensures, used-here c.args.tree.now.nodes c.args.root c.requires.node c.requires.here)
+
+pub clear_parent-requires : goal.clear_parent-requires
+clear_parent-requires g c = used-view c.release_node.new.self.nodes c.args.child (child-used (looks c.args.tree.now) (looks c.release_node.new.self) c.args.root c.args.child c.requires (loses c.args.tree.now.nodes c.release_node.new.self.nodes c.args.root (nodes-of c.release_node.ensures.after)))
+
+pub returns : goal.returns
+returns g c = record {
+  nodes = releases (looks c.args.tree.now) (looks c.release_node.new.self) c.args.root c.args.child c.requires (loses c.args.tree.now.nodes c.release_node.new.self.nodes c.args.root (nodes-of c.release_node.ensures.after)) (looks c.clear_parent.new.tree) c.clear_parent.ensures.nodes;
+  rest = then (removed c.args.root c.release_node.ensures.after) c.clear_parent.ensures.rest;
+}

@@ -1,0 +1,7 @@
+use Rattle.std.proofs.Common.{refl, ap}
+use Rattle.std.specs.FinMap as map
+use Rattle.btree_shape.proofs.Stores.{puts}
+use Rattle.btree_raw.proofs.nodes.put.Goals as goal
+
+pub returns : goal.returns
+returns g c = record { nodes = puts c.args.tree.now.nodes (map.insert c.args.tree.now.nodes c.args.id c.replace.new.dest) c.args.id c.args.node (ap (map.insert c.args.tree.now.nodes c.args.id) c.replace.ensures.after); rest = record { rest = refl } }

@@ -1,0 +1,40 @@
+use Rattle.std.proofs.Common.{◌∙◌, Some, ap, refl}
+use Rattle.btree_shape.specs.TreeState.{looks}
+use Rattle.btree_shape.proofs.Stores.{used-view}
+use Rattle.btree_raw.proofs.MendLemmas.{loses}
+use Rattle.btree_raw.proofs.MendedLemmas.{root-there, root-rests, can-release, released, emptied}
+use Rattle.btree_raw.proofs.StateLemmas.{nodes-of, removed, same-len, same-refusals}
+use Rattle.btree_raw.proofs.shrink.mend_root.Goals as goal
+
+pub first_child-requires : goal.first_child-requires
+first_child-requires g c = used-view c.args.tree.now.nodes c.args.id (root-there (looks c.args.tree.now) c.args.tree.now.root c.args.id c.args.addr c.requires.mending c.requires.top c.args.count c.requires.count)
+
+pub returns-then-count-gt0-clause-mended : goal.returns-then-count-gt0-clause-mended
+returns-then-count-gt0-clause-mended g c = record { mended = root-rests (looks c.args.tree.now) c.args.tree.now.root c.args.id c.args.addr c.requires.mending c.requires.top c.args.count c.requires.count c.if-count-gt0.true; len = refl; uncounted = refl }
+
+pub release_node-requires : goal.release_node-requires
+release_node-requires g c = (c.tell_fits.ensures, used-view c.args.tree.now.nodes c.args.id (root-there (looks c.args.tree.now) c.args.tree.now.root c.args.id c.args.addr c.requires.mending c.requires.top c.args.count c.requires.count))
+
+pub returns-in_default-clause-mended : goal.returns-in_default-clause-mended
+returns-in_default-clause-mended g c =
+    rw (c.nowhere.ensures, c.set_root_id.ensures)
+    (record {
+      mended = emptied (looks c.args.tree.now) c.args.tree.now.root c.args.id c.args.addr c.requires.mending c.requires.top c.args.count c.requires.count c.if-count-gt0.false (c.first_child.ensures ∙ ap Some c.in_default.is) (looks c.release_node.new.self) (loses c.args.tree.now.nodes c.release_node.new.self.nodes c.args.id (nodes-of c.release_node.ensures.after));
+      len = same-len (removed c.args.id c.release_node.ensures.after);
+      uncounted = same-refusals (removed c.args.id c.release_node.ensures.after);
+    })
+
+pub count_of-held-requires : goal.count_of-held-requires
+count_of-held-requires g c = (can-release (looks c.args.tree.now) c.args.tree.now.root c.args.id c.args.addr c.requires.mending c.requires.top c.args.count c.requires.count c.if-count-gt0.false c.in-Some.child (c.first_child.ensures ∙ ap Some c.in-Some.is)).used
+
+pub release_root-requires : goal.release_root-requires
+release_root-requires g c = can-release (looks c.args.tree.now) c.args.tree.now.root c.args.id c.args.addr c.requires.mending c.requires.top c.args.count c.requires.count c.if-count-gt0.false c.in-Some.child (c.first_child.ensures ∙ ap Some c.in-Some.is)
+
+pub returns-clause-mended : goal.returns-clause-mended
+returns-clause-mended g c =
+    rw (c.moved_by_release.ensures, c.set_root_id-2.ensures)
+    (record {
+      mended = released (looks c.args.tree.now) c.args.tree.now.root c.args.id c.args.addr c.requires.mending c.requires.top c.args.count c.requires.count c.if-count-gt0.false c.in-Some.child (c.first_child.ensures ∙ ap Some c.in-Some.is) (looks c.release_root.new.tree) c.release_root.ensures.nodes c.count_of-held.result c.count_of-held.ensures.count;
+      len = same-len c.release_root.ensures.rest;
+      uncounted = same-refusals c.release_root.ensures.rest;
+    })

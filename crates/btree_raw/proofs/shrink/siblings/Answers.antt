@@ -1,0 +1,19 @@
+use Rattle.std.proofs.Common.{arith}
+use Rattle.btree_raw.proofs.ShrinkLemmas.{child-parent, index-there, index-at, siblings-first, siblings-next}
+use Rattle.btree_raw.proofs.shrink.siblings.Goals as goal
+use Rattle.btree_shape.proofs.Stores.{used-view}
+
+pub node-node-requires : goal.node-node-requires
+node-node-requires g c = (c.tell_fits.ensures, used-view c.args.tree.now.nodes c.args.parent (child-parent c.args.tree.now.nodes c.args.parent c.args.id c.requires))
+
+pub unwrap-index-requires : goal.unwrap-index-requires
+unwrap-index-requires g c = index-there c.args.tree.now.nodes c.args.parent c.args.id c.requires c.node-node.result.now c.node-node.ensures.value c.child_index.result c.child_index.ensures.value
+
+pub overflow_add-index : goal.overflow_add-index
+overflow_add-index g c = let l = (index-at c.args.tree.now.nodes c.args.parent c.args.id c.requires c.node-node.result.now c.node-node.ensures.value c.child_index.result c.child_index.ensures.value c.unwrap-index.result c.unwrap-index.ensures).0 in let v = c.child_count-few.ensures.value in let f = c.child_count-few.ensures.fits in omega arith
+
+pub returns-then-index-eq0 : goal.returns-then-index-eq0
+returns-then-index-eq0 g c = siblings-first c.args.tree.now.nodes c.args.parent c.args.id c.requires c.node-node.result.now c.node-node.ensures.value c.child_index.result c.child_index.ensures.value c.unwrap-index.result c.unwrap-index.ensures c.child_id_opt-after.result c.child_id_opt-after.ensures c.if-index-eq0.true
+
+pub returns : goal.returns
+returns g c = siblings-next c.args.tree.now.nodes c.args.parent c.args.id c.requires c.node-node.result.now c.node-node.ensures.value c.child_index.result c.child_index.ensures.value c.unwrap-index.result c.unwrap-index.ensures c.child_id_opt.result c.child_id_opt-after.result c.child_id_opt-after.ensures c.child_id_opt.ensures c.if-index-eq0.false

@@ -1,0 +1,134 @@
+-- What the steps that mend a node with too few items ask of a store's nodes, and what each call leaves.
+use Rattle.std.specs.Prelude.{◌≡◌, ◌≢◌, ℕ, ◌+◌, ◌<◌, ◌≤◌, [], ◌∷◌, slice_get, Option, Some, None, IfSome, option_map, IsTrue}
+use Rattle.btree_view.specs.View.{View, Look, size_of, most_of, items_of, children_of}
+use Rattle.btree_view.specs.Edits.{with_parent, with_other_item, without, joined, pushed_left, pushed_right, is_internal, HasChildFor, HaveRoom, HasSpare}
+use Rattle.btree_shape.specs.Shape.{times_listed}
+use Rattle.btree_shape.specs.Step.{Becomes, Puts}
+use Rattle.btree_shape.specs.WellFormed.{times_used}
+
+module _ {A : Type 0} (look : Look A) where
+  -- node `id` has an item to spare
+  pub record CanLend (id : ℕ) : Type 0 where
+    pub node : View A
+    pub here : look id ≡ Some node
+    pub spare : HasSpare node
+
+  -- node `id` is an internal node with an item at the index, and with no item too many
+  pub record HasBetween (id index : ℕ) : Type 0 where
+    pub node : View A
+    pub here : look id ≡ Some node
+    pub inner : IsTrue (is_internal node)
+    pub most : size_of node ≤ most_of node
+    pub within : index < size_of node
+
+  -- node `id` has room for an item, and a child comes with it exactly if it is an internal node
+  pub record HasRoomFor (id : ℕ) (child : Option ℕ) : Type 0 where
+    pub node : View A
+    pub here : look id ≡ Some node
+    pub room : size_of node ≤ most_of node
+    pub kind : HasChildFor child node
+
+  -- node `id` has room for an item and what another node of its kind holds
+  pub record HasRoomForAll (id : ℕ) (other : View A) : Type 0 where
+    pub node : View A
+    pub here : look id ≡ Some node
+    pub kind : is_internal other ≡ is_internal node
+    pub room : HaveRoom node other
+
+  module _ (new : Look A) where
+    -- the first item of node `id` was taken out, with the first child of an internal node; nothing else has changed
+    pub record LosesFirst (id : ℕ) (x : A) (child : Option ℕ) : Type 0 where
+      pub rest : View A
+      pub was : look id ≡ Some (pushed_left x child rest)
+      pub kind : HasChildFor child rest
+      pub puts : Puts look new id rest
+
+    -- the same of the last item and the last child
+    pub record LosesLast (id : ℕ) (x : A) (child : Option ℕ) : Type 0 where
+      pub rest : View A
+      pub was : look id ≡ Some (pushed_right x child rest)
+      pub kind : HasChildFor child rest
+      pub puts : Puts look new id rest
+
+    -- node `id` has another item at the index, where the old one stood; nothing else has changed
+    pub record ChangesItem (id index : ℕ) (old x : A) : Type 0 where
+      pub node : View A
+      pub here : look id ≡ Some node
+      pub was : slice_get (items_of node) index ≡ Some old
+      pub puts : Puts look new id (with_other_item index x node)
+
+    -- node `id` has the item before the others, with the child; nothing else has changed
+    pub record GainsFirst (id : ℕ) (x : A) (child : Option ℕ) : Type 0 where
+      pub node : View A
+      pub here : look id ≡ Some node
+      pub puts : Puts look new id (pushed_left x child node)
+
+    -- node `id` has the item behind the others, with the child; nothing else has changed
+    pub record GainsLast (id : ℕ) (x : A) (child : Option ℕ) : Type 0 where
+      pub node : View A
+      pub here : look id ≡ Some node
+      pub puts : Puts look new id (pushed_right x child node)
+
+    -- node `id` has the item and then what the other node held behind the others; nothing else has changed
+    pub record GainsAll (id : ℕ) (x : A) (other : View A) : Type 0 where
+      pub node : View A
+      pub here : look id ≡ Some node
+      pub puts : Puts look new id (joined node x other)
+
+    -- node `id` was left without the item at an index and the child after it; nothing else has changed
+    pub record LosesBetween (id index : ℕ) (x : A) : Type 0 where
+      pub node : View A
+      pub here : look id ≡ Some node
+      pub was : slice_get (items_of node) index ≡ Some x
+      pub puts : Puts look new id (without index node)
+
+    -- node `id` has no parent; nothing else has changed
+    abbrev pub ClearsParent : (id : ℕ) → Type 0
+    ClearsParent id = Becomes look new id (option_map (with_parent None) (look id))
+
+  -- `left` and `right` are children of `parent` with its item at the index between them, of one kind; their children are there, and are
+  -- other nodes
+  pub record AreNeighbours (parent index left right : ℕ) : Type 0 where
+    pub top : View A
+    pub low : View A
+    pub high : View A
+    pub at_parent : look parent ≡ Some top
+    pub at_left : look left ≡ Some low
+    pub at_right : look right ≡ Some high
+    pub inner : IsTrue (is_internal top)
+    pub one_kind : is_internal low ≡ is_internal high
+    pub between : index < size_of top
+    pub most : size_of top ≤ most_of top
+    pub apart : (left ≢ right) × (left ≢ parent) × (right ≢ parent)
+    pub children : (n : ℕ) → 0 < times_listed n (children_of low) + times_listed n (children_of high)
+        → (0 < times_used (look n)) × (n ≢ parent) × (n ≢ left) × (n ≢ right)
+
+  -- the right one has an item to spare, and the left one room for one
+  pub record CanRotateLeft (parent index left right : ℕ) : Type 0 where
+    pub pair : AreNeighbours parent index left right
+    pub room : size_of pair.low ≤ most_of pair.low
+    pub spare : HasSpare pair.high
+
+  -- the left one has an item to spare, and the right one room for one
+  pub record CanRotateRight (parent index left right : ℕ) : Type 0 where
+    pub pair : AreNeighbours parent index left right
+    pub room : size_of pair.high ≤ most_of pair.high
+    pub spare : HasSpare pair.low
+
+  -- the two and the item between them fit into one node, and the children of the left one name it as their parent
+  pub record CanMerge (parent index left right : ℕ) : Type 0 where
+    pub pair : AreNeighbours parent index left right
+    pub room : HaveRoom pair.low pair.high
+    pub own : (n : ℕ) → 0 < times_listed n (children_of pair.low) → option_map (with_parent (Some left)) (look n) ≡ look n
+
+  -- the node is there, if one is named
+  abbrev pub IsThere : Option ℕ → Type 0
+  IsThere child = IfSome child (λ id. 0 < times_used (look id))
+
+  -- node `root` has one child, which is another node
+  pub record CanRelease (root child : ℕ) : Type 0 where
+    pub node : View A
+    pub here : look root ≡ Some node
+    pub only : children_of node ≡ child ∷ []
+    pub used : 0 < times_used (look child)
+    pub apart : child ≢ root

@@ -1,0 +1,74 @@
+//! Nodes that are claimed before a change.
+ghost use Rattle.std.specs.Prelude.{◌≡◌, ◌<◌, ◌≤◌, [], length, None, IfSome, IfNone};
+ghost use Rattle.std.specs.FinMap as map;
+ghost use Rattle.btree_shape.specs.TreeState.{TreeState};
+ghost use Rattle.btree_raw.specs.Claimed.{AreClaimed, EMPTY, MayRefuseOneOf};
+ghost use Rattle.btree_raw.specs.Raw.{Refuses};
+
+use crate::raw::RawBTree;
+use arrayvec::ArrayVec;
+use btree_node::{LeafNode, Node};
+use btree_nodes::NodesMut;
+
+/// The numbers of claimed nodes. An insertion claims at most one for each of at most 32 levels, and a root.
+pub type ClaimedIds = ArrayVec<usize, 33>;
+
+// Gives claimed nodes back, so that the tree is as before they were claimed.
+pub(crate) fn release<K: Drop, V: Drop, C: NodesMut<K, V>>(
+    tree: &mut RawBTree<K, V, C>,
+    claims: &mut ClaimedIds,
+)
+    requires { (base : TreeState K V) × AreClaimed base tree.old claims.old.items }
+    ensures back { (base : TreeState K V) → AreClaimed base tree.old claims.old.items → tree.new ≡ base }
+    ensures none { claims.new.items ≡ [] }
+{
+    tree.tell_fits();
+    while let Some(id) = claims.pop() {
+        drop(tree.release_node(id));
+    }
+}
+
+fn empty_leaf<K: Drop, V: Drop>() -> Node<K, V>
+    ensures { result ≡ EMPTY }
+{
+    Node::Leaf(LeafNode::empty(None))
+}
+
+/// Claims one node as an empty leaf, or none where the store refuses it.
+pub fn claim_one<K: Drop, V: Drop, C: NodesMut<K, V>>(
+    tree: &mut RawBTree<K, V, C>,
+) -> Option<usize>
+    ensures number { IfSome result (λ id. id < usize.MAX) }
+    ensures unused { IfSome result (λ id. map.get tree.old.nodes id ≡ None) }
+    ensures claimed { IfSome result (λ id.
+        tree.new ≡ record tree.old { nodes = map.insert tree.old.nodes id EMPTY }) }
+    ensures refused { IfNone result (Refuses tree.old tree.new) }
+    ensures may_refuse { IfNone result (C.MayRefuse tree.old.nodes) }
+{
+    tree.tell_fits();
+    tree.store_node(empty_leaf()).ok()
+}
+
+/// Claims so many nodes as empty leaves, or none where the store refuses one.
+pub fn claim<K: Drop, V: Drop, C: NodesMut<K, V>>(
+    tree: &mut RawBTree<K, V, C>,
+    count: usize,
+) -> Option<ClaimedIds>
+    requires { count ≤ 33 }
+    ensures claimed { IfSome result (λ claims. AreClaimed tree.old tree.new claims.items) }
+    ensures count { IfSome result (λ claims. length claims.items ≡ count) }
+    ensures refused { IfNone result (Refuses tree.old tree.new) }
+    ensures may_refuse { IfNone result (MayRefuseOneOf EMPTY C.MayRefuse tree.old.nodes count) }
+{
+    let mut claims = ClaimedIds::new();
+    for index in 0..count {
+        match claim_one(tree) {
+            Some(id) => claims.push(id),
+            None => {
+                release(tree, &mut claims);
+                return None;
+            }
+        }
+    }
+    Some(claims)
+}

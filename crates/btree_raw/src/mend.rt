@@ -1,0 +1,203 @@
+//! Steps that mend a node with too few items.
+ghost use Rattle.std.specs.Prelude.{◌<◌};
+ghost use Rattle.btree_node.specs.Node.{view_of};
+ghost use Rattle.btree_shape.specs.Mend.{Merges, Releases, RotatesLeft, RotatesRight, as_list};
+ghost use Rattle.btree_shape.specs.Step.{Adopts};
+ghost use Rattle.btree_shape.specs.TreeState.{Changes, IsUsed, looks};
+ghost use Rattle.btree_raw.specs.NodeSteps.{CanLend, HasRoomFor, HasRoomForAll, HasBetween, LosesFirst, LosesLast, ChangesItem, GainsFirst, GainsLast, GainsAll, LosesBetween, ClearsParent, CanRotateLeft, CanRotateRight, CanMerge, CanRelease, IsThere};
+
+use crate::nodes::{adopt, set_parent};
+use crate::raw::RawBTree;
+use btree_item::{Item, Offset};
+use btree_node::Node;
+use btree_nodes::NodesMut;
+
+// Takes the first item out of a node that has one to spare, with the first child.
+fn take_first<K: Drop, V: Drop, C: NodesMut<K, V>>(
+    tree: &mut RawBTree<K, V, C>,
+    id: usize,
+) -> (Item<K, V>, Option<usize>)
+    requires { CanLend (looks tree.old) id }
+    ensures { Changes (λ a b. LosesFirst a b id result.0 result.1) tree.old tree.new }
+{
+    tree.tell_fits();
+    tree.node_mut(id).pop_left().unwrap()
+}
+
+// Takes the last item out of a node that has one to spare, with the last child.
+fn take_last<K: Drop, V: Drop, C: NodesMut<K, V>>(
+    tree: &mut RawBTree<K, V, C>,
+    id: usize,
+) -> (Item<K, V>, Option<usize>)
+    requires { CanLend (looks tree.old) id }
+    ensures { Changes (λ a b. LosesLast a b id result.0 result.1) tree.old tree.new }
+{
+    tree.tell_fits();
+    let (_offset, item, child) = tree.node_mut(id).pop_right().unwrap();
+    (item, child)
+}
+
+// Exchanges the item at an index of an internal node.
+fn change_item<K: Drop, V: Drop, C: NodesMut<K, V>>(
+    tree: &mut RawBTree<K, V, C>,
+    id: usize,
+    index: usize,
+    item: Item<K, V>,
+) -> Item<K, V>
+    requires { HasBetween (looks tree.old) id index }
+    ensures { Changes (λ a b. ChangesItem a b id index result item) tree.old tree.new }
+{
+    tree.tell_fits();
+    tree
+        .node_mut(id)
+        .replace(Offset::from(index), item)
+}
+
+// Puts an item before the others of a node, with a child.
+fn put_first<K: Drop, V: Drop, C: NodesMut<K, V>>(
+    tree: &mut RawBTree<K, V, C>,
+    id: usize,
+    item: Item<K, V>,
+    child: Option<usize>,
+)
+    requires { HasRoomFor (looks tree.old) id child }
+    ensures { Changes (λ a b. GainsFirst a b id item child) tree.old tree.new }
+{
+    tree.tell_fits();
+    tree.node_mut(id).push_left(item, child);
+}
+
+// Puts an item behind the others of a node, with a child.
+fn put_last<K: Drop, V: Drop, C: NodesMut<K, V>>(
+    tree: &mut RawBTree<K, V, C>,
+    id: usize,
+    item: Item<K, V>,
+    child: Option<usize>,
+)
+    requires { HasRoomFor (looks tree.old) id child }
+    ensures { Changes (λ a b. GainsLast a b id item child) tree.old tree.new }
+{
+    tree.tell_fits();
+    let _offset = tree.node_mut(id).push_right(item, child);
+}
+
+// Takes an item out of an internal node, with the child after it.
+fn take_between<K: Drop, V: Drop, C: NodesMut<K, V>>(
+    tree: &mut RawBTree<K, V, C>,
+    id: usize,
+    index: usize,
+) -> Item<K, V>
+    requires { HasBetween (looks tree.old) id index }
+    ensures { Changes (λ a b. LosesBetween a b id index result) tree.old tree.new }
+{
+    tree.tell_fits();
+    let (_index, _left, _right, item, _balance) = tree.node_mut(id).merge(index, index + 1);
+    item
+}
+
+// Puts a separator and then what another node holds behind the items of a node.
+fn put_all<K: Drop, V: Drop, C: NodesMut<K, V>>(
+    tree: &mut RawBTree<K, V, C>,
+    id: usize,
+    separator: Item<K, V>,
+    other: Node<K, V>,
+)
+    requires { HasRoomForAll (looks tree.old) id (view_of other) }
+    ensures { Changes (λ a b. GainsAll a b id separator (view_of other)) tree.old tree.new }
+{
+    tree.tell_fits();
+    let _offset = tree.node_mut(id).append(separator, other);
+}
+
+// Puts a moved child, if there is one, under its new parent.
+fn move_child<K, V, C: NodesMut<K, V>>(
+    tree: &mut RawBTree<K, V, C>,
+    child: Option<usize>,
+    parent: usize,
+)
+    requires there { IsThere (looks tree.old) child }
+    requires number { parent < usize.MAX }
+    ensures { Changes (λ a b. Adopts a b parent (as_list child)) tree.old tree.new }
+{
+    match child {
+        Some(id) => set_parent(tree, id, parent),
+        None => {}
+    }
+}
+
+// Takes a node's parent away.
+fn clear_parent<K, V, C: NodesMut<K, V>>(tree: &mut RawBTree<K, V, C>, id: usize)
+    requires { IsUsed tree.old id }
+    ensures { Changes (λ a b. ClearsParent a b id) tree.old tree.new }
+{
+    tree.tell_fits();
+    tree.node_mut(id).set_parent(None);
+}
+
+/// Rotation to the left: the first item of the right neighbour goes up, and the parent's item down to the end of the left one.
+pub(crate) fn rotate_left<K: Drop, V: Drop, C: NodesMut<K, V>>(
+    tree: &mut RawBTree<K, V, C>,
+    parent: usize,
+    index: usize,
+    left: usize,
+    right: usize,
+)
+    requires can { CanRotateLeft (looks tree.old) parent index left right }
+    requires number { left < usize.MAX }
+    ensures { Changes (λ a b. RotatesLeft a b parent index left right) tree.old tree.new }
+{
+    let (up, child) = take_first(tree, right);
+    let down = change_item(tree, parent, index, up);
+    put_last(tree, left, down, child);
+    move_child(tree, child, left);
+}
+
+/// Rotation to the right: the last item of the left neighbour goes up, and the parent's item down to the front of the right one.
+pub(crate) fn rotate_right<K: Drop, V: Drop, C: NodesMut<K, V>>(
+    tree: &mut RawBTree<K, V, C>,
+    parent: usize,
+    index: usize,
+    left: usize,
+    right: usize,
+)
+    requires can { CanRotateRight (looks tree.old) parent index left right }
+    requires number { right < usize.MAX }
+    ensures { Changes (λ a b. RotatesRight a b parent index left right) tree.old tree.new }
+{
+    let (up, child) = take_last(tree, left);
+    let down = change_item(tree, parent, index, up);
+    put_first(tree, right, down, child);
+    move_child(tree, child, right);
+}
+
+/// Merge: the parent's item and what the right neighbour holds go behind what the left one holds, and the right one leaves the store.
+pub(crate) fn merge<K: Drop, V: Drop, C: NodesMut<K, V>>(
+    tree: &mut RawBTree<K, V, C>,
+    parent: usize,
+    index: usize,
+    left: usize,
+    right: usize,
+)
+    requires { CanMerge (looks tree.old) parent index left right }
+    ensures { Changes (λ a b. Merges a b parent index left right) tree.old tree.new }
+{
+    tree.tell_fits();
+    let down = take_between(tree, parent, index);
+    let other = tree.release_node(right);
+    put_all(tree, left, down, other);
+    adopt(tree, left);
+}
+
+/// Release of an internal root without items, whose only child is then the root.
+pub(crate) fn release_root<K: Drop, V: Drop, C: NodesMut<K, V>>(
+    tree: &mut RawBTree<K, V, C>,
+    root: usize,
+    child: usize,
+)
+    requires { CanRelease (looks tree.old) root child }
+    ensures { Changes (λ a b. Releases a b root child) tree.old tree.new }
+{
+    tree.tell_fits();
+    drop(tree.release_node(root));
+    clear_parent(tree, child);
+}

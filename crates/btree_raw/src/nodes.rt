@@ -1,0 +1,81 @@
+//! Single changes of a tree's nodes.
+ghost use Rattle.std.specs.Prelude.{◌<◌};
+ghost use Rattle.btree_node.specs.Node.{view_of};
+ghost use Rattle.btree_view.specs.View.{children_in};
+ghost use Rattle.btree_shape.specs.Step.{Adopts, Puts};
+ghost use Rattle.btree_shape.specs.TreeState.{Changes, IsUsed, looks};
+ghost use Rattle.btree_raw.specs.Steps.{CanAdopt, CanTake, Overflows, SetsParent, AddsItem, Halves};
+
+use crate::raw::RawBTree;
+use btree_item::{Item, Offset};
+use btree_node::Node;
+use btree_nodes::NodesMut;
+use std::mem;
+
+/// Puts a node in the place of one that is let go.
+pub fn put<K: Drop, V: Drop, C: NodesMut<K, V>>(
+    tree: &mut RawBTree<K, V, C>,
+    id: usize,
+    node: Node<K, V>,
+)
+    requires { IsUsed tree.old id }
+    ensures { Changes (λ a b. Puts a b id (view_of node)) tree.old tree.new }
+{
+    drop(mem::replace(tree.node_mut(id), node));
+}
+
+// Puts a node under another parent.
+pub(crate) fn set_parent<K, V, C: NodesMut<K, V>>(
+    tree: &mut RawBTree<K, V, C>,
+    id: usize,
+    parent: usize,
+)
+    requires used { IsUsed tree.old id }
+    requires number { parent < usize.MAX }
+    ensures { Changes (λ a b. SetsParent a b id parent) tree.old tree.new }
+{
+    tree.tell_fits();
+    tree.node_mut(id).set_parent(Some(parent));
+}
+
+/// Puts an item into a node, and a child after it where one is given.
+pub fn add_item<K: Drop, V: Drop, C: NodesMut<K, V>>(
+    tree: &mut RawBTree<K, V, C>,
+    id: usize,
+    index: usize,
+    item: Item<K, V>,
+    child: Option<usize>,
+)
+    requires { CanTake (looks tree.old) id index child }
+    ensures { Changes (λ a b. AddsItem a b id index item child) tree.old tree.new }
+{
+    tree.tell_fits();
+    tree
+        .node_mut(id)
+        .insert(Offset::from(index), item, child);
+}
+
+// Splits a node, of which the left part stays. Returns how many items stay, the median and the right part.
+pub(crate) fn split_node<K: Drop, V: Drop, C: NodesMut<K, V>>(
+    tree: &mut RawBTree<K, V, C>,
+    id: usize,
+) -> (usize, Item<K, V>, Node<K, V>)
+    requires { Overflows (looks tree.old) id }
+    ensures { Changes (λ a b. Halves a b id result.0 result.1 (view_of result.2)) tree.old tree.new }
+{
+    tree.tell_fits();
+    tree.node_mut(id).split()
+}
+
+// Makes a node the parent of its children.
+pub(crate) fn adopt<K, V, C: NodesMut<K, V>>(tree: &mut RawBTree<K, V, C>, id: usize)
+    requires { CanAdopt (looks tree.old) id }
+    ensures { Changes (λ a b. Adopts a b id (children_in (looks tree.old id))) tree.old tree.new }
+{
+    tree.tell_fits();
+    let count = tree.node(id).child_count();
+    for index in 0..count {
+        let child = tree.node(id).child_id(index);
+        set_parent(tree, child, id);
+    }
+}

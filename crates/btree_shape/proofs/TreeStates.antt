@@ -1,0 +1,60 @@
+-- The words on a tree's state, from those on its nodes: the list is the one that the nodes spell.
+use Rattle.std.proofs.Common.{◌≡◌, ℕ, zero, suc, ◌<◌, List, ◌++◌, length, map, Option, Some, None, sym, ap, subst, ◌∙◌, arith, length-append}
+use Rattle.std.specs.FinMap as finite
+use Rattle.std.specs.List.{flat_map}
+use Rattle.std.specs.declared.cmp.Ordering.{Ordering}
+use Rattle.btree_view.specs.View.{Look, View, children_in}
+use Rattle.btree_shape.specs.Spells.{Spells, numbers_under}
+use Rattle.btree_shape.specs.TreeState.{TreeState, IsBTree, IsBTreeButLength, IsOff, looks, pairs_of, pairs_under}
+use Rattle.btree_shape.specs.WellFormed.{IsOffByOne, IsRooted, IsWellFormed}
+use Rattle.btree_shape.proofs.Spelled.{spelled-is}
+use Rattle.btree_shape.proofs.Stores.{len-views}
+
+module _ {A : Type 0} (look : Look A) where
+  -- a tree has more nodes than levels above its leaves
+  pub height_listed : (height : ℕ) (parent : Option ℕ) (id : ℕ) (xs : List A) → Spells look height parent id xs → height < length (numbers_under look height id)
+  height_listed zero parent id xs s = omega arith
+  height_listed (suc height) parent id xs s =
+      let first = height_listed height (Some id) s.0 s.1 s.4 in
+      let later : List ℕ = flat_map (numbers_under look height) (map {B = ℕ} (λ b. b.1) (map {B = A × ℕ} (λ r. (r.0, r.1)) s.2)) in
+      let e : length (flat_map (numbers_under look height) (children_in (look id))) ≡ length (numbers_under look height s.0 ++ later) =
+      ap (λ v. length (flat_map (numbers_under look height) (children_in v))) s.3 in
+      omega (arith, length-append (numbers_under look height s.0) later)
+
+module _ {K V : Type 0} (s : TreeState K V) where
+  -- a tree with a root has as many nodes as numbers under it, more than levels above the leaves
+  pub height_held : (is_right : (id : ℕ) → View (K × V) → Type 0) (root : ℕ) (xs : List (K × V)) (r : IsRooted is_right (looks s) root xs) → r.height < finite.len s.nodes
+  height_held is_right root xs r =
+      let many = height_listed (looks s) r.height None root xs r.spells in
+      let count = len-views s.nodes (numbers_under (looks s) r.height root) r.once in
+      omega arith
+
+  pub pairs-rooted : (is_right : (id : ℕ) → View (K × V) → Type 0) (root : ℕ) (xs : List (K × V)) → IsRooted is_right (looks s) root xs → pairs_under (looks s) (Some root) (finite.len s.nodes) ≡ xs
+  pairs-rooted is_right root xs r = spelled-is (looks s) r.height (finite.len s.nodes) None root xs (height_held is_right root xs r) r.spells
+
+module _ {K V : Type 0} (cmp : K → K → Ordering) where
+  pub pairs-formed : (s : TreeState K V) (top : Option ℕ) (len : ℕ) (xs : List (K × V)) → IsWellFormed cmp (looks s) top len xs → pairs_under (looks s) top (finite.len s.nodes) ≡ xs
+  pairs-formed s None len xs w = sym w.formed.1
+  pairs-formed s (Some root) len xs w = pairs-rooted s _ root xs w.formed
+
+  -- the list of a well formed tree
+  pub pairs-tree : (s : TreeState K V) (len : ℕ) (xs : List (K × V)) → IsWellFormed cmp (looks s) s.root len xs → pairs_of s ≡ xs
+  pairs-tree s len xs w = pairs-formed s s.root len xs w
+
+  -- so it is well formed with its own list
+  pub is-tree : (s : TreeState K V) (xs : List (K × V)) → IsWellFormed cmp (looks s) s.root s.len xs → IsBTree cmp s
+  is-tree s xs w = subst (λ ys. IsWellFormed cmp (looks s) s.root s.len ys) (sym (pairs-tree s s.len xs w)) w
+
+  pub is-tree-but-length : (s : TreeState K V) (xs : List (K × V)) → IsWellFormed cmp (looks s) s.root (length xs) xs → IsBTreeButLength cmp s
+  is-tree-but-length s xs w = subst (λ ys. IsWellFormed cmp (looks s) s.root (length ys) ys) (sym (pairs-tree s (length xs) xs w)) w
+
+  -- the list of a tree that is off by one at a node
+  pub pairs-off : (s : TreeState K V) (root id : ℕ) (xs : List (K × V)) → s.root ≡ Some root → IsOffByOne cmp (looks s) root id xs → pairs_of s ≡ xs
+  pairs-off s root id xs at o = ap (λ top. pairs_under (looks s) top (finite.len s.nodes)) at ∙ pairs-rooted s _ root xs o.rooted
+
+  pub is-off : (s : TreeState K V) (root id : ℕ) (xs : List (K × V)) → s.root ≡ Some root → IsOffByOne cmp (looks s) root id xs → IsOff cmp s id
+  is-off s root id xs at o = record {
+    root = root;
+    at_root = at;
+    off = subst (λ ys. IsOffByOne cmp (looks s) root id ys) (sym (pairs-off s root id xs at o)) o;
+  }

@@ -1,0 +1,7 @@
+pub mod ItemLemmas
+pub mod OrderLemmas
+pub mod PassLemmas
+pub mod EnterLemmas
+pub mod NodeLemmas
+pub mod OnceLemmas
+pub mod OffLemmas

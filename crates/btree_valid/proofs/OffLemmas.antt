@@ -1,0 +1,151 @@
+-- A walk of all nodes, and whether the tree is off by one at a node.
+use Rattle.std.proofs.Common.{◌≡◌, [], ◌∙◌, ◌+◌, ◌<◌, ℕ, suc, List, length, IsTrue, Bool, false, true, eqb, inl, inr, Option, Some, None, IsSome, option_map, refl, sym, subst, arith}
+use Rattle.std.proofs.lemmas.Bool.Decides.{nat_tests}
+use Rattle.std.specs.Cmp.{IsTotalOrder}
+use Rattle.std.specs.FinMap as map
+use Rattle.std.specs.declared.cmp.Ordering.{Ordering}
+use Rattle.btree_store.specs.Content.{Content}
+use Rattle.btree_item.specs.Pairs.{Ascends}
+use Rattle.btree_node.specs.Node.{view_of}
+use Rattle.btree_node.specs.declared.node.Node.{Node}
+use Rattle.btree_view.specs.View.{Look, View}
+use Rattle.btree_shape.specs.Shape.{times_listed, times_under}
+use Rattle.btree_shape.specs.Spells.{Spells, numbers_under, spelled}
+use Rattle.btree_shape.specs.TreeState.{views}
+use Rattle.btree_shape.specs.WellFormed.{IsOffByOne, times_used}
+use Rattle.btree_shape.proofs.Numbers.{less-or, numbers-shape, used-mapped, used-one}
+use Rattle.btree_shape.proofs.Searched.{Rises, rises}
+use Rattle.btree_shape.proofs.Spelled.{spelled-is}
+use Rattle.btree_shape.proofs.SpelledShapes.{shape-of}
+use Rattle.btree_shape.proofs.Stores.{len-views}
+use Rattle.btree_valid.specs.Odd.{CanPassUnder, IsOffAmong, IsOffAt, IsOffAtHeight, PassesUnder}
+use Rattle.btree_valid.proofs.OnceLemmas.{all-used, few}
+use Rattle.btree_valid.proofs.OrderLemmas.{passed-none}
+
+module _ {K V : Type 0} (cmp : K → K → Ordering) (nodes : Content (Node K V)) (root odd height : ℕ) where
+  abbrev look : Look (K × V)
+  look = views nodes
+
+  abbrev ids : List ℕ
+  ids = numbers_under look height root
+
+  abbrev pairs : List (K × V)
+  pairs = spelled look (suc height) root
+
+  module _ (laws : IsTotalOrder cmp) (last : Option K) (left : ℕ) (p : PassesUnder cmp look root odd height None root (map.len nodes) None left last) (none : left ≡ 0) where
+    each-once : (n : ℕ) → times_listed n ids ≡ times_used (look n)
+    each-once n =
+        let s = shape-of (K × V) look height None root pairs p.right in
+        let same : (m : ℕ) → times_listed m ids ≡ times_under (K × V) height m s.shape =
+        λ m. subst (λ i. times_listed m (numbers_under look height i) ≡ times_under (K × V) height m s.shape) s.here (numbers-shape (K × V) look m height None s.shape s.holds) in
+        let order = p.order [] (passed-none cmp) in
+        let up = rises cmp pairs order.ascends in
+        let low = few cmp laws look root odd height s.shape s.here s.holds (subst (λ l. Rises cmp l) (sym s.list) up)
+        (λ m v some at. p.sized m v (let q = same m in omega arith) at) in
+        let paid = p.paid in
+        let all = all-used ids nodes (λ m. let q = same m in let l = low m in let z = used-mapped view_of (map.get nodes m) in omega arith) (omega arith) n in
+        all ∙ sym (used-mapped view_of (map.get nodes n))
+
+    -- all nodes were passed
+    pub off-found : IsOffAt cmp look root odd height
+    off-found = (
+      pairs,
+      (p.order [] (passed-none cmp)).ascends,
+      record {
+        height = height;
+        spells = p.right;
+        sized = λ id node at. p.sized id node (let e = each-once id in let u = used-one (look id) node at in omega arith) at;
+        once = each-once;
+      },
+      refl,
+    )
+
+  module _ (off : IsOffAt cmp look root odd height) where
+    spelled-pairs : pairs ≡ off.0
+    spelled-pairs = let r = off.2 in spelled-is look height (suc height) None root off.0 (omega arith) (subst (λ h. Spells look h None root off.0) off.3 r.spells)
+
+    all-listed : (n : ℕ) → times_listed n ids ≡ times_used (look n)
+    all-listed n = subst (λ h. times_listed n (numbers_under look h root) ≡ times_used (look n)) off.3 (off.2.once n)
+
+    -- as many numbers as nodes
+    pub all-counted : map.len nodes ≡ length ids
+    all-counted = len-views nodes ids all-listed
+
+    used-here : (o : Option (View (K × V))) → 0 < times_used o → (v : View (K × V)) × (o ≡ Some v)
+    used-here None some = absurd (omega arith)
+    used-here (Some v) some = (v, refl)
+
+    -- such a tree can be passed from its root
+    pub off-can : CanPassUnder cmp look root odd height None root (map.len nodes) None
+    off-can = record {
+      right = subst (λ l. Spells look height None root l) (sym spelled-pairs) (subst (λ h. Spells look h None root off.0) off.3 off.2.spells);
+      sized = λ n node some at. off.2.sized n node at;
+      order = ([], passed-none cmp, subst (λ l. Ascends cmp l) (sym spelled-pairs) off.1);
+      enough = let e = all-counted in omega arith;
+    }
+
+    -- and no node is left
+    pub none-left : (last : Option K) (left : ℕ) → PassesUnder cmp look root odd height None root (map.len nodes) None left last → left ≡ 0
+    none-left last left p = let e = all-counted in let q = p.paid in omega arith
+
+module _ {K V : Type 0} (cmp : K → K → Ordering) (nodes : Content (Node K V)) (root odd height : ℕ) where
+  -- the end of the walk
+  pub at-end : IsTotalOrder cmp → (count : ℕ) → count ≡ map.len nodes → (last : Option K) (left : ℕ) → PassesUnder cmp (views nodes) root odd height None root count None left last
+      → (IsTrue (eqb left 0) → IsOffAt cmp (views nodes) root odd height) × (IsOffAt cmp (views nodes) root odd height → IsTrue (eqb left 0))
+  at-end laws count is last left p =
+      let q = subst (λ n. PassesUnder cmp (views nodes) root odd height None root n None left last) is p in (
+        λ yes. off-found cmp nodes root odd height laws last left q (grind (arith, nat_tests)),
+        λ off. let none = none-left cmp nodes root odd height off last left q in grind (arith, nat_tests),
+      )
+
+  pub not-passed : (count : ℕ) → count ≡ map.len nodes → (CanPassUnder cmp (views nodes) root odd height None root count None → IsTrue false)
+      → (IsTrue false → IsOffAt cmp (views nodes) root odd height) × (IsOffAt cmp (views nodes) root odd height → IsTrue false)
+  not-passed count is not = (
+    λ no. absurd (cc),
+    λ off. not (subst (λ n. CanPassUnder cmp (views nodes) root odd height None root n None) (sym is) (off-can cmp nodes root odd height off)),
+  )
+
+module _ {K V : Type 0} (cmp : K → K → Ordering) (look : Look (K × V)) (root odd : ℕ) where
+  -- off by one, at one of 32 heights
+  pub is-off : (height : ℕ) → height < 32 → IsOffAt cmp look root odd height → IsSome (look odd) → (xs : List (K × V)) × IsOffByOne cmp look root odd xs
+  is-off height low off used = (off.0, record { ascends = off.1; rooted = off.2; low = let e = off.3 in omega arith; used = used })
+
+  pub off-is : (xs : List (K × V)) → IsOffByOne cmp look root odd xs → (height : ℕ) × (height < 32) × IsOffAt cmp look root odd height
+  off-is xs w = (w.rooted.height, w.low, (xs, w.ascends, w.rooted, refl))
+
+pub next-height : (P : ℕ → Type 0) (n : ℕ) → ((h : ℕ) → h < n → P h → ⊥) → (P n → IsTrue false) → (h : ℕ) → h < n + 1 → P h → ⊥
+next-height P n before here h low p = elim (less-or h n) [
+  | inl less ↦ before h less p
+  | inr other ↦ elim other [
+    | inl same ↦ let no : false ≡ true = here (subst P same p) in absurd (cc)
+    | inr more ↦ absurd (omega arith)
+  ]
+]
+
+module _ {K V : Type 0} (cmp : K → K → Ordering) (nodes : Content (Node K V)) (id : ℕ) where
+  -- the node that is off by one is there
+  pub off-there : (root : ℕ) (xs : List (K × V)) → IsOffByOne cmp (views nodes) root id xs → IsSome (map.get nodes id)
+  off-there root xs w = by (map.get nodes id) w.used where
+    by : (o : Option (Node K V)) → IsSome (option_map view_of o) → IsSome o
+    by None some = absurd (cc)
+    by (Some node) some = refl
+
+  is-there : (o : Option (Node K V)) → IsSome o → IsSome (option_map view_of o)
+  is-there None some = absurd (cc)
+  is-there (Some node) some = refl
+
+  -- it is off by one there, at one of the heights that such a tree may have
+  pub found-off : (root : ℕ) (result : Bool) → IsSome (map.get nodes id)
+      → (IsTrue result → (height : ℕ) × (height < 32) × IsOffAtHeight cmp nodes root id height)
+      → ((height : ℕ) → height < 32 → IsOffAtHeight cmp nodes root id height → IsTrue result)
+      → (IsTrue result → IsOffAmong cmp nodes root id) × (IsOffAmong cmp nodes root id → IsTrue result)
+  found-off root result there only always = (
+    λ yes. let h = only yes in is-off cmp (views nodes) root id h.0 h.1 h.2 (is-there (map.get nodes id) there),
+    λ off. let h = off-is cmp (views nodes) root id off.0 off.1 in always h.0 h.1 h.2,
+  )
+
+  pub not-there : (root : ℕ) → map.get nodes id ≡ None → (IsTrue false → IsOffAmong cmp nodes root id) × (IsOffAmong cmp nodes root id → IsTrue false)
+  not-there root none = (
+    λ no. absurd (cc),
+    λ off. let Holds : Option (Node K V) → Type 0 = λ o. IsSome o in let some : Holds None = subst Holds none (off-there root off.0 off.1) in absurd (cc),
+  )

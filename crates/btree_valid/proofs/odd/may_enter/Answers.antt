@@ -1,0 +1,11 @@
+use Rattle.std.proofs.Common.{sym, ◌∙◌}
+use Rattle.btree_node.specs.Node.{view_of}
+use Rattle.btree_valid.proofs.EnterLemmas.{enters, parent-same, same-parent}
+use Rattle.btree_valid.proofs.odd.may_enter.Goals as goal
+
+pub returns-then-ne : goal.returns-then-ne
+returns-then-ne g c = (λ no. absurd (cc), λ p. absurd (parent-same c.parent.result c.args.parent (c.if-ne.ensures) (c.parent.ensures.value ∙ p.1)))
+
+pub returns : goal.returns
+returns g c = enters (view_of c.args.node.now) c.args.root c.args.odd c.args.id c.args.left c.args.parent c.item_count-count.result c.most_items.result
+    c.item_count-count.ensures.value c.most_items.ensures c.if-left-eq0.false (sym c.parent.ensures.value ∙ same-parent c.parent.result c.args.parent (c.if-ne.ensures)) c.least_items.result c.least_items.ensures c.if-count-least_items.false

@@ -1,0 +1,20 @@
+use Rattle.std.proofs.Common.{◌∙◌, sym, ap, arith, option_copied, refl}
+use Rattle.btree_node.specs.Node.{view_of}
+use Rattle.btree_view.specs.View.{items_of}
+use Rattle.btree_valid.proofs.OrderLemmas.{way-end, way-next, way-start, way-stops}
+use Rattle.btree_valid.proofs.odd.pass_items.Goals as goal
+
+pub iter-item-items-requires : goal.iter-item-items-requires
+iter-item-items-requires g c = let fits = c.well_formed in omega arith
+
+pub loop-item-init : goal.loop-item-init
+loop-item-init g c = way-start g.K.Ord.cmp (items_of (view_of c.args.node.now)) c.into_iter-item-iterator.result (option_copied c.args.seen.last) (c.into_iter-item-iterator.ensures.into_iter_gives ∙ c.iter-item-items.ensures ∙ ap (λ n. items_of (view_of n)) (sym c.in-Leaf.is))
+
+pub returns-then-not-is_above-clause-always : goal.returns-then-not-is_above-clause-always
+returns-then-not-is_above-clause-always g c = λ can. absurd (way-stops g.K.Ord.cmp (items_of (view_of c.args.node.now)) c.loop-item.item-iterator c.next.new.self (option_copied c.args.seen.last) (option_copied c.loop-item.last) c.in-Some.item.now c.key-key.result.now c.in-Some.ensures.steps c.key-key.ensures c.loop-item.invariant c.if-not-is_above.ensures.1 can)
+
+pub loop-item-preserved : goal.loop-item-preserved
+loop-item-preserved g c = way-next g.K.Ord.cmp (items_of (view_of c.args.node.now)) c.loop-item.item-iterator c.next.new.self (option_copied c.args.seen.last) (option_copied c.loop-item.last) c.in-Some.item.now c.key-key.result.now c.in-Some.ensures.steps c.key-key.ensures c.loop-item.invariant g.met.K.Ord.total (c.if-not-is_above.ensures.0 refl)
+
+pub returns-clause-order : goal.returns-clause-order
+returns-clause-order g c = way-end g.K.Ord.cmp (items_of (view_of c.args.node.now)) c.loop-item.item-iterator (option_copied c.args.seen.last) (option_copied c.loop-item.last) c.in-None.ensures.steps.0 c.loop-item.invariant
