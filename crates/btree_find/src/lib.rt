@@ -1,2 +1,6 @@
-//! x
-#![tactic(auto)]
+//! Look-up in a well formed tree, on any lawful store of nodes.
+#![tactic(auto, using(btree_store::specs::ContentLaws::stores))]
+
+mod search;
+
+pub use search::{address_of, get, height};

@@ -71,3 +71,4 @@ pub mod TakenInner
 pub mod Stores
 pub mod TreeStates
 pub mod Mendings
+pub mod PlacesValid

@@ -1,13 +1,20 @@
 -- The words on a tree's state, from those on its nodes: the list is the one that the nodes spell.
-use Rattle.std.proofs.Common.{◌≡◌, ℕ, zero, suc, ◌<◌, List, ◌++◌, length, map, Option, Some, None, sym, ap, subst, ◌∙◌, arith, length-append}
+use Rattle.std.proofs.Common.{◌≡◌, ℕ, zero, suc, ◌+◌, ◌*◌, ◌<◌, ◌≤◌, List, [], ◌++◌, length, map, Option, Some, None, option_map, refl, sym, ap, subst, ◌∙◌, arith, length-append}
 use Rattle.std.specs.FinMap as finite
+use Rattle.std.specs.Ordering.{nat_cmp}
 use Rattle.std.specs.List.{flat_map}
 use Rattle.std.specs.declared.cmp.Ordering.{Ordering}
+use Rattle.btree_store.specs.Content.{Content}
+use Rattle.btree_store.specs.ContentLaws.{same_content}
+use Rattle.btree_item.proofs.PairEdits.{Ascends-none}
+use Rattle.btree_node.specs.Node.{view_of}
+use Rattle.btree_node.specs.declared.node.Node.{Node}
 use Rattle.btree_view.specs.View.{Look, View, children_in}
 use Rattle.btree_shape.specs.Spells.{Spells, numbers_under}
-use Rattle.btree_shape.specs.TreeState.{TreeState, IsBTree, IsBTreeButLength, IsOff, looks, pairs_of, pairs_under}
-use Rattle.btree_shape.specs.WellFormed.{IsOffByOne, IsRooted, IsWellFormed}
+use Rattle.btree_shape.specs.TreeState.{TreeState, IsBTree, IsBTreeButLength, IsOff, looks, pairs_of, pairs_under, views}
+use Rattle.btree_shape.specs.WellFormed.{IsFormed, IsOffByOne, IsRooted, IsWellFormed}
 use Rattle.btree_shape.proofs.Spelled.{spelled-is}
+use Rattle.btree_shape.proofs.Density.{few-used}
 use Rattle.btree_shape.proofs.Stores.{len-views}
 
 module _ {A : Type 0} (look : Look A) where
@@ -58,3 +65,33 @@ module _ {K V : Type 0} (cmp : K → K → Ordering) where
     at_root = at;
     off = subst (λ ys. IsOffByOne cmp (looks s) root id ys) (sym (pairs-off s root id xs at o)) o;
   }
+
+module _ {K V : Type 0} where
+  unused : (nodes : Content (Node K V)) → ((n : ℕ) → views nodes n ≡ None) → nodes ≡ finite.empty
+  unused nodes none = same_content nodes finite.empty (λ n. at (finite.get nodes n) (none n) ∙ sym (finite.get-empty nat_cmp n))
+    where
+      at : (o : Option (Node K V)) → option_map view_of o ≡ None → o ≡ None
+      at None e = refl
+      at (Some x) e = absurd (cc)
+
+  -- the empty tree
+  pub empty-tree : (cmp : K → K → Ordering) (s : TreeState K V) → s.nodes ≡ finite.empty → s.root ≡ None → s.len ≡ 0 → IsBTree cmp s
+  empty-tree cmp s none root len = is-tree cmp s [] (record {
+    ascends = Ascends-none cmp;
+    formed = subst (λ t. IsFormed (looks s) t []) (sym root) (λ n. rw (none, finite.get-empty nat_cmp n) refl, refl);
+    counted = len;
+  })
+
+  pub few-formed : (cmp : K → K → Ordering) (s : TreeState K V) (top : Option ℕ) (len : ℕ) (xs : List (K × V)) → IsWellFormed cmp (looks s) top len xs → 3 * finite.len s.nodes ≤ length xs + 2
+  few-formed cmp s None len xs w = let e = unused s.nodes w.formed.0 in let z = finite.len-empty nat_cmp (Node K V) in rw (e, z) (omega arith)
+  few-formed cmp s (Some root) len xs w = few-used view_of s.nodes root xs w.formed
+
+  -- at most a third of the number of pairs and two
+  pub few-nodes : (cmp : K → K → Ordering) (s : TreeState K V) → IsBTree cmp s → 3 * finite.len s.nodes ≤ length (pairs_of s) + 2
+  few-nodes cmp s w = few-formed cmp s s.root s.len (pairs_of s) w
+
+  -- without a root there is no pair
+  pub no-pair : (cmp : K → K → Ordering) (s : TreeState K V) → s.root ≡ None → IsBTree cmp s → s.len ≡ 0
+  no-pair cmp s none w =
+      let f : IsFormed (looks s) None (pairs_of s) = subst (λ t. IsFormed (looks s) t (pairs_of s)) none w.formed in
+      w.counted ∙ ap length f.1

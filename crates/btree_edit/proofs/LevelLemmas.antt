@@ -1,12 +1,15 @@
 -- What an insertion takes, beside the number of levels.
 use Rattle.std.proofs.Common.{◌≡◌, ◌<◌, ◌≤◌, ◌∙◌, ◌+◌, ℕ, inl, inr, List, [], length, Option, Some, None, sym, ap, arith}
+use Rattle.std.specs.FinMap as map
 use Rattle.std.specs.declared.cmp.Ordering.{Ordering}
+use Rattle.btree_item.specs.declared.address.Address.{Address}
 use Rattle.btree_view.specs.View.{View, Look, leaf, internal}
-use Rattle.btree_shape.specs.Need.{need, climb}
+use Rattle.btree_shape.specs.Need.{need}
 use Rattle.btree_shape.specs.Place.{IsLeaf, IsLeafAddress}
 use Rattle.btree_shape.specs.Search.{levels_below}
 use Rattle.btree_shape.specs.Shape.{count_at}
 use Rattle.btree_shape.specs.Spells.{Spells}
+use Rattle.btree_shape.specs.TreeState.{TreeState, HasLevels, HasLevelsUnder, IsBTree, IsLeafAddressIn, looks, nodes_needed, pairs_of}
 use Rattle.btree_shape.specs.WellFormed.{IsSized, IsWellFormed, times_used}
 use Rattle.btree_shape.proofs.Heights.{levels-is}
 use Rattle.btree_shape.proofs.Overflows.{climb-node}
@@ -14,8 +17,8 @@ use Rattle.btree_shape.proofs.Levels.{levels-rooted}
 use Rattle.btree_shape.proofs.Rooted.{node-at}
 use Rattle.btree_shape.proofs.SpelledShapes.{shape-of}
 use Rattle.btree_shape.proofs.Standing.{whole-standing}
-use Rattle.btree_balance.proofs.NeedLemmas.{climbed-few}
-use Rattle.btree_ext.specs.Answers.{AreLevels}
+use Rattle.btree_shape.proofs.TreeStates.{height_held}
+use Rattle.btree_raw.proofs.NeedLemmas.{climbed-few}
 
 -- a root has one height
 one-height : {A : Type 0} (look : Look A) (root : ℕ) (xs : List A) (h g : ℕ) → Spells look h None root xs → Spells look g None root xs → h ≡ g
@@ -31,20 +34,26 @@ leaf-used look None is = absurd is
 leaf-used look (Some (leaf p ys)) is = omega arith
 leaf-used look (Some (internal p first bs)) is = absurd is
 
-module _ {K V : Type 0} (cmp : K → K → Ordering) (look : Look (K × V)) (len : ℕ) (xs : List (K × V)) where
-  pub need-levels : (root : Option ℕ) → IsWellFormed cmp look root len xs → (id : ℕ) (offset : Option ℕ) → IsLeafAddress look root id offset
-      → (levels : ℕ) → AreLevels look root xs levels → need look root len id ≤ levels + 1
-  need-levels None w id offset at levels are = omega arith
-  need-levels (Some root) w id offset at levels are = elim at [
+module _ {K V : Type 0} (cmp : K → K → Ordering) (s : TreeState K V) where
+  levels-under : (top : Option ℕ) → IsWellFormed cmp (looks s) top s.len (pairs_of s) → (id : ℕ) (offset : Option ℕ) → IsLeafAddress (looks s) top id offset
+      → (levels : ℕ) → HasLevelsUnder s top levels → need (looks s) top (map.len s.nodes) id ≤ levels + 1
+  levels-under None w id offset at levels are = omega arith
+  levels-under (Some root) w id offset at levels are = elim at [
     | inl in_leaf ↦
+        let look : Look (K × V) = looks s in
+        let xs : List (K × V) = pairs_of s in
         let n = node-at (K × V) look root xs w.formed id (leaf-used look (look id) in_leaf) in
-        let s = whole-standing (K × V) look [] root xs n.seen.height n.seen.way n.seen.shape n.seen.whole in
-        let d = levels-rooted (K × V) look root xs (IsSized root) w.formed n.seen.height n.seen.way n.seen.shape s in
+        let t = whole-standing (K × V) look [] root xs n.seen.height n.seen.way n.seen.shape n.seen.whole in
+        let d = levels-rooted (K × V) look root xs (IsSized root) w.formed n.seen.height n.seen.way n.seen.shape t in
         let e = one-height look root xs w.formed.height are.0 w.formed.spells are.1 in
         let f = climbed-few (K × V) n.seen.height n.seen.way (count_at (K × V) n.seen.height n.seen.shape) in
-        let k = climb-node (K × V) look root xs id n in
-        let c : climb look len id ≡ climb look (length xs) id = ap (λ m. climb look m id) w.counted in
+        let h = height_held s (IsSized root) root xs w.formed in
+        let k = climb-node (K × V) look root xs id n (map.len s.nodes) (omega arith) in
         let l = are.2 in
         omega arith
     | inr nowhere ↦ let none = nowhere.0 in absurd (cc)
   ]
+
+  -- at most one more than there are levels
+  pub need-levels : IsBTree cmp s → (a : Address) → IsLeafAddressIn s a → (levels : ℕ) → HasLevels s levels → nodes_needed s a.id ≤ levels + 1
+  need-levels tree a at levels are = levels-under s.root tree a.id a.offset at levels are

@@ -7,10 +7,13 @@ use Rattle.btree_node.specs.declared.node.Node.{Node}
 use Rattle.btree_node.specs.Node.{view_of}
 use Rattle.btree_view.specs.View.{Look, leaf, internal, children_of}
 use Rattle.btree_shape.specs.Spells.{Spells}
-use Rattle.btree_shape.specs.TreeState.{views}
+use Rattle.btree_shape.specs.TreeState.{TreeState, IsBTree, looks, pairs_of, views}
+use Rattle.btree_shape.specs.WellFormed.{IsWellFormed}
+use Rattle.btree_shape.proofs.Density.{height-dense, height-low}
+use Rattle.std.specs.declared.cmp.Ordering.{Ordering}
 use Rattle.btree_shape.proofs.Numbers.{used-one}
 use Rattle.btree_shape.proofs.Stores.{used-view}
-use Rattle.btree_ext.proofs.AddressLemmas.{spells-node}
+use Rattle.btree_shape.proofs.PlacesValid.{spells-node}
 
 -- node `id` is so many levels below the root, and levels are counted down to it
 pub record IsDescending {A : Type 0} (look : Look A) (root : ℕ) (xs : List A) (id levels : ℕ) : Type 0 where
@@ -74,3 +77,11 @@ module _ {K V : Type 0} (nodes : Content (Node K V)) (root : ℕ) (xs : List (K 
               let is : s.0 ≡ child = cc in
               let low = d.low in
               (record { height = d.height; low = d.low; spells = d.spells; dense = d.dense; below = h; parent = Some id; list = s.1; here = subst (λ i. Spells (views nodes) h (Some id) i s.1) is s.4; counted = omega arith }, omega arith)
+
+-- at the root
+pub levels-start : {K V : Type 0} (cmp : K → K → Ordering) (s : TreeState K V) (root : ℕ) → s.root ≡ Some root → s.len < 2 ^ 64 → IsBTree cmp s
+    → IsDescending (looks s) root (pairs_of s) root 1
+levels-start {K} {V} cmp s root is low tree =
+    let w : IsWellFormed cmp (looks s) (Some root) s.len (pairs_of s) = subst (λ t. IsWellFormed cmp (looks s) t s.len (pairs_of s)) is tree in
+    let c = w.counted in
+    descending-start s.nodes root (pairs_of s) w.formed.height (height-low (K × V) (looks s) root (pairs_of s) w.formed (omega arith)) w.formed.spells (height-dense (K × V) (looks s) root (pairs_of s) w.formed)

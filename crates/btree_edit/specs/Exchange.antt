@@ -1,0 +1,46 @@
+-- An item exchanged for another one at an address.
+use Rattle.std.specs.Prelude.{◌≡◌, ◌≢◌, ℕ, Some, set, slice_get}
+use Rattle.std.specs.FinMap as map
+use Rattle.std.specs.declared.cmp.Ordering.{Ordering}
+use Rattle.btree_item.specs.declared.address.Address.{Address}
+use Rattle.btree_view.specs.View.{View, Look, items_of}
+use Rattle.btree_shape.specs.Step.{Puts, HasItems}
+use Rattle.btree_shape.specs.TreeState.{TreeState, IsBTree, IsPlaceIn, IsValidIn, item_of, pairs_of}
+
+-- another item stands at the address, in a node that is otherwise as it was; no other node has changed
+pub record ExchangesAt {A : Type 0} (look new : Look A) (a : Address) (was is : A) : Type 0 where
+  pub old : View A
+  pub here : look a.id ≡ Some old
+  pub offset : ℕ
+  pub at : a.offset ≡ Some offset
+  pub stood : slice_get (items_of old) offset ≡ Some was
+  pub node : View A
+  pub items : HasItems old node (set (items_of old) offset is)
+  pub puts : Puts look new a.id node
+
+module _ {K V : Type 0} (old new : TreeState K V) (a : Address) where
+  -- every address is valid where it was, at the same place, and the item there is the same, or there is none as before; but at address `a`
+  -- another item may stand
+  pub record KeepsAddresses : Type 0 where
+    pub root : new.root ≡ old.root
+    pub len : new.len ≡ old.len
+    pub nodes : map.len new.nodes ≡ map.len old.nodes
+    pub valid : (b : Address) → IsValidIn old b → IsValidIn new b
+    pub places : (b : Address) (place : ℕ) → IsPlaceIn old b place → IsPlaceIn new b place
+    pub others : (b : Address) → b ≢ a → item_of new b ≡ item_of old b
+
+  -- the item at address `a` became this one, in the list at the place of the address; every address stays
+  pub record IsExchanged (cmp : K → K → Ordering) (x : K × V) : Type 0 where
+    pub tree : IsBTree cmp new
+    pub place : ℕ
+    pub at : IsPlaceIn old a place
+    pub pairs : pairs_of new ≡ set (pairs_of old) place x
+    pub item : item_of new a ≡ Some x
+    pub keeps : KeepsAddresses
+    pub uncounted : new.refusals ≡ old.refusals
+
+  -- the same, where the key stays: this value stood there, and that one does now
+  pub record IsValueExchanged (cmp : K → K → Ordering) (was is : V) : Type 0 where
+    pub key : K
+    pub had : item_of old a ≡ Some (key, was)
+    pub exchanged : IsExchanged cmp (key, is)

@@ -1,0 +1,71 @@
+-- What an insertion makes of a tree.
+use Rattle.std.specs.Prelude.{◌≡◌, ℕ, ◌+◌, ◌-◌, ◌^◌, ◌<◌, ◌≤◌, Some, None, IsSome}
+use Rattle.std.specs.FinMap as map
+use Rattle.std.specs.List.{insert}
+use Rattle.std.specs.declared.cmp.Ordering.{Ordering}
+use Rattle.btree_store.specs.Content.{Content}
+use Rattle.btree_item.specs.Pairs.{Fits, found}
+use Rattle.btree_item.specs.declared.address.Address.{Address}
+use Rattle.btree_item.specs.declared.refused.Cause.{Cause}
+use Rattle.btree_item.specs.declared.refused.Cause.TheVariants.{Store, Count}
+use Rattle.btree_node.specs.declared.node.Node.{Node}
+use Rattle.btree_shape.specs.TreeState.{TreeState, HasLevels, HasStrain, IsBTree, IsLeafAddressIn, IsPlaceIn, item_of, nodes_needed, pairs_of}
+use Rattle.btree_raw.specs.Claimed.{EMPTY, MayRefuseOneOf}
+use Rattle.btree_raw.specs.Raw.{Refuses}
+use Rattle.btree_find.specs.Answers.{IsFoundAt, IsGapAt}
+use Rattle.btree_edit.specs.Exchange.{IsValueExchanged}
+
+-- the nodes taken and the strain afterwards are at most the strain before and one
+pub record IsPaid {K V : Type 0} (old new : TreeState K V) : Type 0 where
+  pub before : ℕ
+  pub after : ℕ
+  pub strain_before : HasStrain old before
+  pub strain_after : HasStrain new after
+  pub paid : map.len new.nodes + after ≤ map.len old.nodes + (before + 1)
+
+module _ {K V : Type 0} (cmp : K → K → Ordering) where
+  -- a back address in a leaf, or nowhere in the empty tree, at whose place the key fits
+  pub record IsGapFor (k : K) (s : TreeState K V) (a : Address) : Type 0 where
+    pub place : ℕ
+    pub at : IsPlaceIn s a place
+    pub in_leaf : IsLeafAddressIn s a
+    pub back : IsSome a.offset
+    pub fits : Fits cmp k place (pairs_of s)
+
+  -- the pair was put at the place of address a, and stands at address b; the store has as many nodes more as were needed
+  pub record IsInserted (old new : TreeState K V) (a b : Address) (x : K × V) : Type 0 where
+    pub tree : IsBTree cmp new
+    pub pairs : (place : ℕ) → IsPlaceIn old a place → (pairs_of new ≡ insert (pairs_of old) place x) × IsPlaceIn new b place
+    pub item : item_of new b ≡ Some x
+    pub longer : new.len ≡ old.len + 1
+    pub nodes : map.len new.nodes ≡ map.len old.nodes + nodes_needed old a.id
+    pub strain : IsPaid old new
+    pub uncounted : new.refusals ≡ old.refusals
+
+-- an insertion at a leaf that was refused: by the store, which counted it, where it may refuse one of the nodes that are needed
+-- and another pair can be counted, or because there are as many pairs as can be counted; nothing else has changed
+abbrev pub IsRefused : {K V : Type 0} → (Content (Node K V) → Type 0) → (leaf : ℕ) → (old new : TreeState K V) → Cause → Type 0
+IsRefused MayRefuse leaf old new Store =
+    Refuses old new × MayRefuseOneOf EMPTY MayRefuse old.nodes (nodes_needed old leaf) × (old.len < 2 ^ 64 - 1)
+IsRefused MayRefuse leaf old new Count = (new ≡ old) × (old.len ≡ 2 ^ 64 - 1)
+
+module _ {K V : Type 0} (cmp : K → K → Ordering) (k : K) (old new : TreeState K V) where
+  -- the item with the key has another value, and nothing else has changed: the key that was there stays, and so does every address
+  pub record ExchangesValueAt (was is : V) : Type 0 where
+    pub at : Address
+    pub found_at : IsFoundAt cmp k old at
+    pub exchanged : IsValueExchanged old new at cmp was is
+
+  -- how many nodes an insertion of a value by key took: those that were needed at the gap of an absent key, at most one more than there were
+  -- levels; for one that is there none, and every address stays
+  pub record Took (value : V) : Type 0 where
+    pub absent : found cmp k (pairs_of old) ≡ None → (a : Address) × IsGapAt cmp k old a × (map.len new.nodes ≡ map.len old.nodes + nodes_needed old a.id)
+    pub few : (levels : ℕ) → HasLevels old levels → map.len new.nodes ≤ map.len old.nodes + (levels + 1)
+    pub paid : found cmp k (pairs_of old) ≡ None → IsPaid old new
+    pub present : IsSome (found cmp k (pairs_of old)) → (was : V) × ExchangesValueAt was value
+
+  -- an insertion by key was refused at the gap of the key
+  pub record IsRefusedAtGap (MayRefuse : Content (Node K V) → Type 0) (cause : Cause) : Type 0 where
+    pub gap : Address
+    pub is_gap : IsGapAt cmp k old gap
+    pub refused : IsRefused MayRefuse gap.id old new cause

@@ -1,0 +1,134 @@
+//! Insertion.
+ghost use Rattle.std.specs.Prelude.{◌≡◌, ◌≢◌, ◌<◌, ◌≤◌, None, IfOk, IfErr};
+ghost use Rattle.btree_shape.specs.TreeState.{IsBTree, nodes_needed};
+ghost use Rattle.btree_edit.specs.Insert.{IsGapFor, IsInserted, IsRefused};
+
+use btree_item::{Address, Cause, Item, Offset, Refused};
+use btree_node::Node;
+use btree_nodes::NodesMut;
+use btree_raw::{RawBTree, add_item, claim, claim_one, need, put, split_up};
+
+fn refused<K, V>(cause: Cause, item: Item<K, V>) -> Refused<K, V>
+    ensures { result ≡ record { cause = cause; key = item.0; value = item.1 } }
+{
+    let (key, value) = item.into_pair();
+    Refused { cause, key, value }
+}
+
+// Puts the first pair into a tree that is empty.
+fn insert_first<K: Ord + Drop, V: Drop, C: NodesMut<K, V>>(
+    tree: &mut RawBTree<K, V, C>,
+    addr: Address,
+    item: Item<K, V>,
+) -> Result<Address, Refused<K, V>>
+    requires tree { IsBTree K.cmp tree.old }
+    requires empty { tree.old.root ≡ None }
+    ensures inserted { IfOk result (λ b. IsInserted K.cmp tree.old tree.new addr b item) }
+    ensures returned { IfErr result (λ r. (r.key, r.value) ≡ item) }
+    ensures refused { IfErr result (λ r. IsRefused C.MayRefuse addr.id tree.old tree.new r.cause) }
+{
+    tree.tell_fits();
+    match claim_one(tree) {
+        Some(root) => {
+            put(tree, root, Node::leaf(None, item));
+            tree.set_root_id(Some(root));
+            tree.set_len(1);
+            Ok(Address::new(root, Offset::from(0)))
+        }
+        None => Err(refused(Cause::Store, item)),
+    }
+}
+
+// Puts a pair whose key fits into a leaf that has room for it. It then stands at the address.
+fn insert_in_room<K: Ord + Drop, V: Drop, C: NodesMut<K, V>>(
+    tree: &mut RawBTree<K, V, C>,
+    addr: Address,
+    item: Item<K, V>,
+) -> Address
+    requires tree { IsBTree K.cmp tree.old }
+    requires some { tree.old.root ≢ None }
+    requires gap { IsGapFor K.cmp item.0 tree.old addr }
+    requires room { tree.old.len < usize.MAX }
+    requires enough { nodes_needed tree.old addr.id ≡ 0 }
+    ensures { IsInserted K.cmp tree.old tree.new addr result item }
+{
+    tree.tell_fits();
+    let index = addr.offset.unwrap();
+    add_item(tree, addr.id, index, item, None);
+    tree.set_len(tree.len() + 1);
+    addr
+}
+
+// Puts a pair whose key fits into a full leaf, which is split. Not inlined, so that the usual insertion keeps its values in registers.
+#[inline(never)]
+fn insert_and_split<K: Ord + Drop, V: Drop, C: NodesMut<K, V>>(
+    tree: &mut RawBTree<K, V, C>,
+    addr: Address,
+    item: Item<K, V>,
+    count: usize,
+) -> Result<Address, Refused<K, V>>
+    requires tree { IsBTree K.cmp tree.old }
+    requires some { tree.old.root ≢ None }
+    requires gap { IsGapFor K.cmp item.0 tree.old addr }
+    requires room { tree.old.len < usize.MAX }
+    requires enough { count ≡ nodes_needed tree.old addr.id }
+    requires few { count ≤ 33 }
+    ensures inserted { IfOk result (λ b. IsInserted K.cmp tree.old tree.new addr b item) }
+    ensures returned { IfErr result (λ r. (r.key, r.value) ≡ item) }
+    ensures refused { IfErr result (λ r. IsRefused C.MayRefuse addr.id tree.old tree.new r.cause) }
+{
+    tree.tell_fits();
+    let Some(mut claims) = claim(tree, count) else {
+        return Err(refused(Cause::Store, item));
+    };
+    add_item(tree, addr.id, addr.offset.unwrap(), item, None);
+    let at = split_up(tree, addr.id, addr, &mut claims);
+    tree.set_len(tree.len() + 1);
+    Ok(at)
+}
+
+// Puts a pair whose key fits into a leaf of a tree that is not empty.
+fn insert_more<K: Ord + Drop, V: Drop, C: NodesMut<K, V>>(
+    tree: &mut RawBTree<K, V, C>,
+    addr: Address,
+    item: Item<K, V>,
+) -> Result<Address, Refused<K, V>>
+    requires tree { IsBTree K.cmp tree.old }
+    requires some { tree.old.root ≢ None }
+    requires gap { IsGapFor K.cmp item.0 tree.old addr }
+    requires room { tree.old.len < usize.MAX }
+    ensures inserted { IfOk result (λ b. IsInserted K.cmp tree.old tree.new addr b item) }
+    ensures returned { IfErr result (λ r. (r.key, r.value) ≡ item) }
+    ensures refused { IfErr result (λ r. IsRefused C.MayRefuse addr.id tree.old tree.new r.cause) }
+{
+    tree.tell_fits();
+    let count = need(tree, addr.id);
+    if count == 0 {
+        Ok(insert_in_room(tree, addr, item))
+    } else {
+        insert_and_split(tree, addr, item, count)
+    }
+}
+
+/// Puts a pair at the address of a gap that its key fits. It is refused, and nothing changes, where the store refuses a node that is
+/// needed, or where there are as many pairs as can be counted.
+pub fn insert_at_gap<K: Ord + Drop, V: Drop, C: NodesMut<K, V>>(
+    tree: &mut RawBTree<K, V, C>,
+    addr: Address,
+    item: Item<K, V>,
+) -> Result<Address, Refused<K, V>>
+    requires tree { IsBTree K.cmp tree.old }
+    requires gap { IsGapFor K.cmp item.0 tree.old addr }
+    ensures inserted { IfOk result (λ b. IsInserted K.cmp tree.old tree.new addr b item) }
+    ensures returned { IfErr result (λ r. (r.key, r.value) ≡ item) }
+    ensures refused { IfErr result (λ r. IsRefused C.MayRefuse addr.id tree.old tree.new r.cause) }
+{
+    tree.tell_fits();
+    if tree.len() == usize::MAX {
+        return Err(refused(Cause::Count, item));
+    }
+    if tree.root_id().is_none() {
+        return insert_first(tree, addr, item);
+    }
+    insert_more(tree, addr, item)
+}

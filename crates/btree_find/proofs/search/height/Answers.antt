@@ -1,0 +1,18 @@
+use Rattle.std.proofs.Common.{arith, subst, sym, ◌∙◌}
+use Rattle.btree_shape.specs.TreeState.{HasLevelsUnder}
+use Rattle.btree_find.proofs.HeightLemmas.{descending-used, descending-next, descending-end, levels-start}
+use Rattle.btree_find.proofs.search.height.Goals as goal
+
+pub loop-child-init : goal.loop-child-init
+loop-child-init g c = levels-start g.K.Ord.cmp c.args.tree.now c.in-Some.root (sym c.root_id.ensures ∙ c.in-Some.is) (let w = c.well_formed in omega arith) c.requires
+
+pub node-requires : goal.node-requires
+node-requires g c = (c.tell_fits.ensures, descending-used c.args.tree.now.nodes c.in-Some.root _ c.loop-child.id c.loop-child.levels c.loop-child.invariant)
+
+pub loop-child-preserved : goal.loop-child-preserved
+loop-child-preserved g c = (descending-next c.args.tree.now.nodes c.in-Some.root _ c.loop-child.id c.loop-child.levels c.loop-child.invariant c.node.result.now c.node.ensures.value c.in-Some-child_id_opt.child (sym c.in-Some-child_id_opt.ensures)).0
+
+pub returns-in-None-clause-levels : goal.returns-in-None-clause-levels
+returns-in-None-clause-levels g c =
+    let e = descending-end c.args.tree.now.nodes c.in-Some.root _ c.loop-child.id c.loop-child.levels c.loop-child.invariant c.node.result.now c.node.ensures.value (sym c.in-None.ensures) in
+    subst (λ t. HasLevelsUnder c.args.tree.now t c.loop-child.levels) (sym (sym c.root_id.ensures ∙ c.in-Some.is)) (e.height, e.spells, e.counted)

@@ -1,0 +1,29 @@
+-- What a search by key answers.
+use Rattle.std.specs.Prelude.{◌≡◌, ℕ, IsSome, Result, Ok, Err}
+use Rattle.std.specs.declared.cmp.Ordering.{Ordering}
+use Rattle.btree_item.specs.Pairs.{place_of}
+use Rattle.btree_item.specs.declared.address.Address.{Address}
+use Rattle.btree_shape.specs.TreeState.{TreeState, IsLeafAddressIn, IsOccupiedIn, IsPlaceIn, IsValidIn, pairs_of}
+
+module _ {K V : Type 0} (cmp : K → K → Ordering) (k : K) (s : TreeState K V) where
+  -- an address at which the item with the key stands
+  pub record IsFoundAt (a : Address) : Type 0 where
+    pub valid : IsValidIn s a
+    pub place : ℕ
+    pub is : place_of cmp k (pairs_of s) ≡ Ok place
+    pub at : IsPlaceIn s a place
+    pub occupied : IsOccupiedIn s a
+
+  -- a back address in a leaf, whose place is the number of smaller keys, where no key is equal
+  pub record IsGapAt (a : Address) : Type 0 where
+    pub valid : IsValidIn s a
+    pub place : ℕ
+    pub is : place_of cmp k (pairs_of s) ≡ Err place
+    pub at : IsPlaceIn s a place
+    pub in_leaf : IsLeafAddressIn s a
+    pub back : IsSome a.offset
+
+  -- the address of a key that is there, or of the gap in which it would go
+  abbrev pub IsAddressOf : Result Address Address → Type 0
+  IsAddressOf (Ok a) = IsFoundAt a
+  IsAddressOf (Err a) = IsGapAt a

@@ -1,0 +1,94 @@
+//! Look-up by key, and how many levels there are.
+ghost use Rattle.std.specs.Prelude.{◌≡◌, ◌*◌, ◌+◌, ◌-◌, ◌^◌, ◌<◌, ◌≤◌, length, slice_get, option_copied, option_map};
+ghost use Rattle.std.specs.Option.{option_and_then};
+ghost use Rattle.btree_item.specs.Pairs.{found_value};
+ghost use Rattle.btree_node.specs.Node.{view_of};
+ghost use Rattle.btree_view.specs.View.{items_of};
+ghost use Rattle.btree_shape.specs.TreeState.{HasLevels, IsBTree, pairs_of};
+ghost use Rattle.btree_find.specs.Answers.{IsAddressOf};
+
+use btree_item::{Address, Offset};
+use btree_node::Node;
+use btree_nodes::NodesMut;
+use btree_raw::RawBTree;
+
+/// The address of a key that is there, else the address in a leaf where it would go. Compares at most six keys a level.
+pub fn address_of<K: Ord, V, C: NodesMut<K, V>>(
+    tree: &RawBTree<K, V, C>,
+    key: &K,
+) -> Result<Address, Address>
+    requires { IsBTree K.cmp tree.now }
+    ensures { IsAddressOf K.cmp key.now tree.now result }
+{
+    let Some(root) = tree.root_id() else {
+        return Err(Address::nowhere());
+    };
+    tree.tell_fits();
+    let mut id = root;
+    loop {
+        match tree.node(id).offset_of(key) {
+            Ok(offset) => return Ok(Address::new(id, offset)),
+            Err((_, Some(child))) => id = child,
+            Err((index, None)) => return Err(Address::new(id, Offset::from(index))),
+        }
+    }
+}
+
+fn value_at<K, V>(node: &Node<K, V>, offset: Offset) -> Option<&V>
+    ensures { option_copied result ≡ option_map (λ x. x.1) (option_and_then (slice_get (items_of (view_of node.now))) offset) }
+{
+    match node.item(offset) {
+        Some(item) => Some(item.value()),
+        None => None,
+    }
+}
+
+/// The value at a key. Compares at most six keys a level, copies nothing and takes no memory.
+pub fn get<'a, K: Ord + 'a, V: 'a, C: NodesMut<K, V>>(
+    tree: &'a RawBTree<K, V, C>,
+    key: &K,
+) -> Option<&'a V>
+    requires { IsBTree K.cmp tree.now }
+    ensures { option_copied result ≡ found_value K.cmp key.now (pairs_of tree.now) }
+{
+    let Some(root) = tree.root_id() else {
+        return None;
+    };
+    tree.tell_fits();
+    let mut id = root;
+    loop {
+        let node = tree.node(id);
+        match node.offset_of(key) {
+            Ok(offset) => return value_at(node, offset),
+            Err((index, next)) => match next {
+                Some(child) => id = child,
+                None => return None,
+            },
+        }
+    }
+}
+
+/// How many levels of nodes there are: it goes down the first children.
+pub fn height<K: Ord, V, C: NodesMut<K, V>>(tree: &RawBTree<K, V, C>) -> usize
+    requires { IsBTree K.cmp tree.now }
+    ensures levels { HasLevels tree.now result }
+    ensures few { result ≤ 32 }
+    ensures dense { 0 < tree.now.len → 2 * 4 ^ (result - 1) ≤ length (pairs_of tree.now) + 1 }
+{
+    let _len = tree.len();
+    let Some(root) = tree.root_id() else {
+        return 0;
+    };
+    tree.tell_fits();
+    let mut id = root;
+    let mut levels = 1;
+    loop {
+        match tree.node(id).child_id_opt(0) {
+            Some(child) => {
+                id = child;
+                levels += 1;
+            }
+            None => return levels,
+        }
+    }
+}
