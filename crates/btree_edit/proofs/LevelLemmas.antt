@@ -6,28 +6,16 @@ use Rattle.btree_item.specs.declared.address.Address.{Address}
 use Rattle.btree_view.specs.View.{View, Look, leaf, internal}
 use Rattle.btree_shape.specs.Need.{need}
 use Rattle.btree_shape.specs.Place.{IsLeaf, IsLeafAddress}
-use Rattle.btree_shape.specs.Search.{levels_below}
 use Rattle.btree_shape.specs.Shape.{count_at}
-use Rattle.btree_shape.specs.Spells.{Spells}
 use Rattle.btree_shape.specs.TreeState.{TreeState, HasLevels, HasLevelsUnder, IsBTree, IsLeafAddressIn, looks, nodes_needed, pairs_of}
 use Rattle.btree_shape.specs.WellFormed.{IsSized, IsWellFormed, times_used}
-use Rattle.btree_shape.proofs.Heights.{levels-is}
 use Rattle.btree_shape.proofs.Overflows.{climb-node}
 use Rattle.btree_shape.proofs.Levels.{levels-rooted}
+use Rattle.btree_shape.proofs.Mendings.{one-height}
 use Rattle.btree_shape.proofs.Rooted.{node-at}
-use Rattle.btree_shape.proofs.SpelledShapes.{shape-of}
 use Rattle.btree_shape.proofs.Standing.{whole-standing}
 use Rattle.btree_shape.proofs.TreeStates.{height_held}
 use Rattle.btree_raw.proofs.NeedLemmas.{climbed-few}
-
--- a root has one height
-one-height : {A : Type 0} (look : Look A) (root : ℕ) (xs : List A) (h g : ℕ) → Spells look h None root xs → Spells look g None root xs → h ≡ g
-one-height {A} look root xs h g s t =
-    let a = shape-of A look h None root xs s in
-    let b = shape-of A look g None root xs t in
-    let most : ℕ = h + g in
-    sym (levels-is A look h most None a.shape (omega arith) a.holds)
-    ∙ (ap (levels_below look most) (a.here ∙ sym b.here) ∙ levels-is A look g most None b.shape (omega arith) b.holds)
 
 leaf-used : {A : Type 0} (look : Look A) (o : Option (View A)) → IsLeaf look o → 0 < times_used o
 leaf-used look None is = absurd is

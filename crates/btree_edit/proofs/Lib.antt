@@ -1,0 +1,4 @@
+pub mod FirstLemmas
+pub mod MoreLemmas
+pub mod LevelLemmas
+pub mod ExchangeLemmas

@@ -1,5 +1,5 @@
 -- A pair put into a leaf of a tree that is not empty: what the steps ask, and what they come to.
-use Rattle.std.proofs.Common.{◌≡◌, ◌≢◌, ℕ, suc, ◌+◌, ◌<◌, ◌≤◌, inl, inr, List, ◌++◌, length, length-append, Option, Some, None, IsSome, refl, sym, ap, subst, ◌∙◌, option_map, option_and_then, slice_get, arith}
+use Rattle.std.proofs.Common.{◌≡◌, ◌≢◌, ℕ, suc, ◌+◌, ◌<◌, ◌≤◌, inl, inr, List, [], ◌++◌, length, length-append, Option, Some, None, IsSome, refl, sym, ap, subst, ◌∙◌, option_map, option_and_then, slice_get, arith}
 use Rattle.std.proofs.lemmas.Option.{slice_get_within}
 use Rattle.std.specs.Cmp.{IsTotalOrder}
 use Rattle.std.specs.FinMap as map
@@ -242,3 +242,7 @@ module _ {K V : Type 0} (cmp : K → K → Ordering) (laws : IsTotalOrder cmp) (
               strain = is-paid;
               uncounted = s.uncounted ∙ (same-refusals adds.rest ∙ same-refusals claimed.rest);
             }
+
+-- no node is claimed
+pub none-claimed : {K V : Type 0} (s : TreeState K V) → AreClaimed s s []
+none-claimed s = record { claimed = record { claims = tt; after = refl }; rest = record { rest = refl } }

@@ -127,8 +127,8 @@ pub fn insert_at_gap<K: Ord + Drop, V: Drop, C: NodesMut<K, V>>(
     if tree.len() == usize::MAX {
         return Err(refused(Cause::Count, item));
     }
-    if tree.root_id().is_none() {
-        return insert_first(tree, addr, item);
+    match tree.root_id() {
+        None => insert_first(tree, addr, item),
+        Some(_) => insert_more(tree, addr, item),
     }
-    insert_more(tree, addr, item)
 }

@@ -25,7 +25,7 @@ use Rattle.btree_shape.proofs.Standing.{whole-standing}
 
 module _ {A : Type 0} where
   -- a root has one height
-  one-height : (look : Look A) (root : ℕ) (xs : List A) (h g : ℕ) → Spells look h None root xs
+  pub one-height : (look : Look A) (root : ℕ) (xs : List A) (h g : ℕ) → Spells look h None root xs
       → Spells look g None root xs → h ≡ g
   one-height look root xs h g s t =
       let a = shape-of A look h None root xs s in
