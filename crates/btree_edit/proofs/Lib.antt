@@ -2,3 +2,4 @@ pub mod FirstLemmas
 pub mod MoreLemmas
 pub mod LevelLemmas
 pub mod ExchangeLemmas
+pub mod InsertLemmas

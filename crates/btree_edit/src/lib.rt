@@ -1,8 +1,8 @@
 //! Changes of a well formed tree on any lawful store of nodes: insertion at a gap, and the exchange of a value.
 #![tactic(auto, using(btree_store::specs::ContentLaws::stores))]
 
-mod insert;
+mod insertion;
 mod values;
 
-pub use insert::insert_at_gap;
+pub use insertion::{insert, insert_at_gap};
 pub use values::exchange;

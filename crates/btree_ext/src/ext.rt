@@ -1,10 +1,8 @@
 //! Reading a tree by its nodes and addresses.
-ghost use Rattle.std.specs.Prelude.{◌≡◌, ◌↔◌, ◌*◌, ◌+◌, ◌-◌, ◌^◌, ◌<◌, ◌≤◌, length, IsSome, IsTrue, Some, option_copied};
+ghost use Rattle.std.specs.Prelude.{◌≡◌, ◌↔◌, ◌*◌, ◌+◌, ◌-◌, ◌^◌, ◌<◌, ◌≤◌, length, IsTrue, Some, option_copied};
 ghost use Rattle.std.specs.FinMap as map;
-ghost use Rattle.btree_shape.specs.TreeState.{TreeState, pairs_of, views};
-ghost use Rattle.btree_shape.specs.WellFormed.{IsWellFormed};
-ghost use Rattle.btree_shape.specs.Place.{item_at};
-ghost use Rattle.btree_ext.specs.Answers.{IsAddressOf, AreLevels};
+ghost use Rattle.btree_shape.specs.TreeState.{TreeState, HasLevels, IsBTree, IsUsed, item_of, pairs_of};
+ghost use Rattle.btree_find.specs.Answers.{IsAddressOf};
 
 use btree_item::{Address, Item};
 use btree_node::Node;
@@ -17,26 +15,27 @@ pub trait BTreeExt<K: Ord, V> {
     /// The number of the root, and `None` where there are no pairs.
     fn root_id(&self) -> Option<usize>
         ensures value { result ≡ (state self.now).root }
-        ensures well_formed { IsWellFormed K.cmp (views (state self.now).nodes) (state self.now).root (state self.now).len (pairs_of (state self.now)) };
+        ensures well_formed { IsBTree K.cmp (state self.now) };
 
     /// Whether a node has this number.
     fn has_node(&self, id: usize) -> bool
-        ensures { IsTrue result ↔ IsSome (map.get (state self.now).nodes id) };
+        ensures { IsTrue result ↔ IsUsed (state self.now) id };
 
     /// The node with a number, for which `has_node` is the test.
     fn node(&self, id: usize) -> &Node<K, V>
-        requires { IsSome (map.get (state self.now).nodes id) }
+        requires { IsUsed (state self.now) id }
         ensures { map.get (state self.now).nodes id ≡ Some result.now };
 
     /// The item at an address, and `None` where none stands: at -1, past the last, nowhere, or at an address of no node.
     fn item(&self, addr: Address) -> Option<&Item<K, V>>
-        ensures { option_copied result ≡ item_at (views (state self.now).nodes) addr };
+        ensures { option_copied result ≡ item_of (state self.now) addr };
 
     /// How many levels of nodes there are: none without pairs, and at most 32.
     fn height(&self) -> usize
-        ensures value { AreLevels (views (state self.now).nodes) (state self.now).root (pairs_of (state self.now)) result }
+        ensures value { HasLevels (state self.now) result }
         ensures few { result ≤ 32 }
-        ensures dense { 0 < (state self.now).len → 2 * 4 ^ (result - 1) ≤ length (pairs_of (state self.now)) + 1 };
+        ensures dense { 0 < (state self.now).len →
+            2 * 4 ^ (result - 1) ≤ length (pairs_of (state self.now)) + 1 };
 
     /// How many nodes there are: at most (n+2)/3 for n pairs.
     fn node_count(&self) -> usize
@@ -46,5 +45,5 @@ pub trait BTreeExt<K: Ord, V> {
     /// The address of a key that is there, else the back address of a leaf whose place is the number of smaller keys. Compares
     /// at most six keys a level.
     fn address_of(&self, key: &K) -> Result<Address, Address>
-        ensures { IsAddressOf K.cmp key.now (views (state self.now).nodes) (state self.now).root (pairs_of (state self.now)) result };
+        ensures { IsAddressOf K.cmp key.now (state self.now) result };
 }

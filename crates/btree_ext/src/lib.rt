@@ -1,10 +1,7 @@
 //! The tree: look-up, insertion and what goes with them, on any lawful store of nodes.
 #![tactic(auto, using(btree_store::specs::ContentLaws::stores))]
 
-mod exchange;
 mod ext;
-mod insert;
-mod search;
 mod tree;
 
 pub use ext::BTreeExt;

@@ -3,36 +3,35 @@ ghost use Rattle.std.specs.Prelude.{◌≡◌, [], length, None, option_copied, 
 ghost use Rattle.std.specs.FinMap as map;
 ghost use Rattle.btree_node.specs.contracts.node.Node.{the_row as node_row};
 
-use crate::exchange::exchange;
 use crate::ext::BTreeExt;
-use crate::insert::insert_at_gap;
-use crate::search;
-use btree_balance::Parts;
+use btree_edit::insert;
+use btree_find::{address_of, get, height};
 use btree_item::{Address, Item, Refused};
 use btree_node::Node;
-use btree_store::{Slab, SlabMut};
-use std::marker::{Model, PhantomData};
+use btree_nodes::NodesMut;
+use btree_raw::RawBTree;
+use std::marker::Model;
 
 /// A well formed tree of nodes in a store: at any time its pairs are a list in the order of the keys.
 #[derive(Drop)]
-pub struct Tree<K: Ord, V, C: SlabMut<Node<K, V>>> {
-    raw: Parts<K, V, C>,
+pub struct Tree<K: Ord, V, C: NodesMut<K, V>> {
+    raw: RawBTree<K, V, C>,
 }
 
-impl<K: Ord, V, C: SlabMut<Node<K, V>>> Model for Tree<K, V, C> {
+impl<K: Ord, V, C: NodesMut<K, V>> Model for Tree<K, V, C> {
     ghost use Rattle.std.specs.Coded.{codes};
-    ghost use Rattle.btree_shape.specs.TreeState.{TreeState, tree_code, IsSound};
+    ghost use Rattle.btree_shape.specs.TreeState.{TreeState, IsBTree, tree_code};
 
     ghost Value = { TreeState K V };
 
     ghost coded = { tree_code (Prim.hlevel codes) };
 
-    ghost view = { λ t. record { nodes = C.content t.raw.nodes; root = t.raw.root; len = t.raw.len; refusals = C.refusals t.raw.nodes } };
+    ghost view = { λ t. t.raw };
 
-    ghost invariant = { λ t. IsSound K.cmp (C.content t.raw.nodes) t.raw.root t.raw.len × C.Fits };
+    ghost invariant = { λ t. IsBTree K.cmp t.raw };
 }
 
-impl<K: Ord, V, C: SlabMut<Node<K, V>>> Tree<K, V, C> {
+impl<K: Ord, V, C: NodesMut<K, V>> Tree<K, V, C> {
     ghost use Rattle.std.specs.Mem.{FitsInMemory};
     ghost use Rattle.btree_item.specs.Pairs.{found_value};
     ghost use Rattle.btree_shape.specs.TreeState.{pairs_of};
@@ -45,14 +44,8 @@ impl<K: Ord, V, C: SlabMut<Node<K, V>>> Tree<K, V, C> {
         ensures empty { pairs_of result ≡ [] }
         ensures state { result ≡ record { nodes = map.empty; root = None; len = 0; refusals = 0 } }
     {
-        C::note_fits();
         Tree {
-            raw: Parts {
-                nodes: C::empty(origin),
-                root: None,
-                len: 0,
-                pairs: PhantomData,
-            },
+            raw: RawBTree::new(origin),
         }
     }
 
@@ -60,29 +53,28 @@ impl<K: Ord, V, C: SlabMut<Node<K, V>>> Tree<K, V, C> {
     pub fn tell_fits(&self)
         ensures { FitsInMemory (node_row K.row V.row) }
     {
-        let _ = &self.raw;
-        C::tell_fits();
+        self.raw.tell_fits();
     }
 
     /// How many pairs there are.
     pub fn len(&self) -> usize
         ensures { result ≡ length (pairs_of self.now) }
     {
-        self.raw.len
+        self.raw.len()
     }
 
     /// The value at a key that equals the given one. Compares at most six keys a level, copies nothing and takes no memory.
     pub fn get(&self, key: &K) -> Option<&V>
         ensures { option_copied result ≡ found_value K.cmp key.now (pairs_of self.now) }
     {
-        search::get(&self.raw, key)
+        get(&self.raw, key)
     }
 }
 
-impl<K: Ord + Drop, V: Drop, C: SlabMut<Node<K, V>>> Tree<K, V, C> {
+impl<K: Ord + Drop, V: Drop, C: NodesMut<K, V>> Tree<K, V, C> {
     ghost use Rattle.btree_item.specs.Pairs.{found, found_value, inserted};
     ghost use Rattle.btree_shape.specs.TreeState.{pairs_of};
-    ghost use Rattle.btree_ext.specs.Insert.{IsRefusedAtGap, Took};
+    ghost use Rattle.btree_edit.specs.Insert.{IsRefusedAtGap, Took};
 
     /// Puts a pair in, or exchanges the value at a key that is there: the stored key stays, and the given one is dropped.
     ///
@@ -91,59 +83,46 @@ impl<K: Ord + Drop, V: Drop, C: SlabMut<Node<K, V>>> Tree<K, V, C> {
     pub fn insert(&mut self, key: K, value: V) -> Result<Option<V>, Refused<K, V>>
         ensures old { IfOk result (λ old. old ≡ found_value K.cmp key (pairs_of self.old)) }
         ensures inserted { OnOk result (pairs_of self.new ≡ inserted K.cmp key value (pairs_of self.old)) }
-        ensures took { OnOk result (Took K.cmp key self.old self.new) }
+        ensures took { OnOk result (Took K.cmp key self.old self.new value) }
         ensures uncounted { OnOk result (self.new.refusals ≡ self.old.refusals) }
 
         ensures returned { IfErr result (λ r. (r.key ≡ key) × (r.value ≡ value)) }
         ensures absent { OnErr result (found K.cmp key (pairs_of self.old) ≡ None) }
-        ensures refused { IfErr result (λ r. IsRefusedAtGap K.cmp key self.old self.new C.MayRefuse r.cause) }
+        ensures refused { IfErr result (λ r.
+            IsRefusedAtGap K.cmp key self.old self.new C.MayRefuse r.cause) }
     {
-        match search::address_of(&self.raw, &key) {
-            Ok(addr) => Ok(Some(exchange(&mut self.raw.nodes, addr, value))),
-            Err(addr) => match insert_at_gap(&mut self.raw, addr, Item::new(key, value)) {
-                Ok(_) => Ok(None),
-                Err(refused) => Err(refused),
-            },
-        }
+        insert(&mut self.raw, key, value)
     }
 }
 
-impl<K: Ord, V, C: SlabMut<Node<K, V>>> BTreeExt<K, V> for Tree<K, V, C> {
+impl<K: Ord, V, C: NodesMut<K, V>> BTreeExt<K, V> for Tree<K, V, C> {
     ghost state = { λ t. t };
 
     fn root_id(&self) -> Option<usize> {
-        self.raw.root
+        self.raw.root_id()
     }
 
     fn has_node(&self, id: usize) -> bool {
-        self.raw.nodes.get(id).is_some()
+        self.raw.has_node(id)
     }
 
     fn node(&self, id: usize) -> &Node<K, V> {
-        match self.raw.nodes.get(id) {
-            Some(node) => node,
-            None => unreachable!(),
-        }
+        self.raw.node(id)
     }
 
     fn item(&self, addr: Address) -> Option<&Item<K, V>> {
-        let _ = &self.raw;
-        C::tell_fits();
-        match self.raw.nodes.get(addr.id) {
-            Some(node) => node.item(addr.offset),
-            None => None,
-        }
+        self.raw.item(addr)
     }
 
     fn height(&self) -> usize {
-        search::height(&self.raw)
+        height(&self.raw)
     }
 
     fn node_count(&self) -> usize {
-        self.raw.nodes.len()
+        self.raw.node_count()
     }
 
     fn address_of(&self, key: &K) -> Result<Address, Address> {
-        search::address_of(&self.raw, key)
+        address_of(&self.raw, key)
     }
 }

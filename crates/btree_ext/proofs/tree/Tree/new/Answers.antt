@@ -1,5 +1,8 @@
-use Rattle.btree_ext.proofs.TreeLemmas.{sound-empty}
+use Rattle.std.proofs.Common.{ap}
+use Rattle.btree_shape.specs.TreeState.{TreeState}
+use Rattle.btree_shape.proofs.TreeStates.{empty-tree}
 use Rattle.btree_ext.proofs.tree.Tree.new.Goals as goal
 
 pub invariant_of-result : goal.invariant_of-result
-invariant_of-result g c = (sound-empty g.K.Ord.cmp _ c.empty.ensures.content, c.note_fits.ensures)
+invariant_of-result g c =
+    empty-tree g.K.Ord.cmp c.new.result (ap (λ (s : TreeState _ _). s.nodes) c.new.ensures) (ap (λ (s : TreeState _ _). s.root) c.new.ensures) (ap (λ (s : TreeState _ _). s.len) c.new.ensures)

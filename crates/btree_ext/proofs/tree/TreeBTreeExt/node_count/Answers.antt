@@ -1,5 +1,5 @@
-use Rattle.btree_ext.proofs.TreeLemmas.{sound-few}
+use Rattle.btree_shape.proofs.TreeStates.{few-nodes}
 use Rattle.btree_ext.proofs.tree.TreeBTreeExt.node_count.Goals as goal
 
 pub returns-clause-dense : goal.returns-clause-dense
-returns-clause-dense g c = rw (← c.self.view_is, c.len.ensures.len) (sound-few g.K.Ord.cmp _ _ _ c.self.invariant.0)
+returns-clause-dense g c = rw (← c.self.view_is, c.node_count.ensures) (few-nodes g.K.Ord.cmp c.self.inside.raw c.self.invariant)

@@ -1,8 +1,12 @@
 //! Insertion.
 ghost use Rattle.std.specs.Prelude.{◌≡◌, ◌≢◌, ◌<◌, ◌≤◌, None, IfOk, IfErr};
-ghost use Rattle.btree_shape.specs.TreeState.{IsBTree, nodes_needed};
-ghost use Rattle.btree_edit.specs.Insert.{IsGapFor, IsInserted, IsRefused};
+ghost use Rattle.std.specs.Prelude.{OnOk, OnErr};
+ghost use Rattle.btree_item.specs.Pairs.{found, found_value, inserted};
+ghost use Rattle.btree_shape.specs.TreeState.{IsBTree, nodes_needed, pairs_of};
+ghost use Rattle.btree_edit.specs.Insert.{IsGapFor, IsInserted, IsRefused, IsRefusedAtGap, Took};
 
+use crate::values::exchange;
+use btree_find::address_of;
 use btree_item::{Address, Cause, Item, Offset, Refused};
 use btree_node::Node;
 use btree_nodes::NodesMut;
@@ -130,5 +134,33 @@ pub fn insert_at_gap<K: Ord + Drop, V: Drop, C: NodesMut<K, V>>(
     match tree.root_id() {
         None => insert_first(tree, addr, item),
         Some(_) => insert_more(tree, addr, item),
+    }
+}
+
+/// Puts a pair in by its key, or exchanges the value at a key that is there: the stored key stays, and the given one is dropped.
+/// Returns the value that was exchanged. A pair that is refused comes back.
+pub fn insert<K: Ord + Drop, V: Drop, C: NodesMut<K, V>>(
+    tree: &mut RawBTree<K, V, C>,
+    key: K,
+    value: V,
+) -> Result<Option<V>, Refused<K, V>>
+    requires tree { IsBTree K.cmp tree.old }
+    ensures tree { IsBTree K.cmp tree.new }
+    ensures old { IfOk result (λ old. old ≡ found_value K.cmp key (pairs_of tree.old)) }
+    ensures inserted { OnOk result (pairs_of tree.new ≡ inserted K.cmp key value (pairs_of tree.old)) }
+    ensures took { OnOk result (Took K.cmp key tree.old tree.new value) }
+    ensures uncounted { OnOk result (tree.new.refusals ≡ tree.old.refusals) }
+
+    ensures returned { IfErr result (λ r. (r.key ≡ key) × (r.value ≡ value)) }
+    ensures absent { OnErr result (found K.cmp key (pairs_of tree.old) ≡ None) }
+    ensures refused { IfErr result (λ r.
+        IsRefusedAtGap K.cmp key tree.old tree.new C.MayRefuse r.cause) }
+{
+    match address_of(tree, &key) {
+        Ok(addr) => Ok(Some(exchange(tree, addr, value))),
+        Err(addr) => match insert_at_gap(tree, addr, Item::new(key, value)) {
+            Ok(_) => Ok(None),
+            Err(refused) => Err(refused),
+        },
     }
 }

@@ -2,7 +2,7 @@ use Rattle.std.proofs.Common.{refl}
 use Rattle.btree_store.specs.ContentLaws.{get-insert_same}
 use Rattle.btree_raw.specs.Claimed.{EMPTY}
 use Rattle.btree_edit.proofs.FirstLemmas.{first-inserted}
-use Rattle.btree_edit.proofs.insert.insert_first.Goals as goal
+use Rattle.btree_edit.proofs.insertion.insert_first.Goals as goal
 
 pub returns-in-Some-clause-inserted : goal.returns-in-Some-clause-inserted
 returns-in-Some-clause-inserted g c =

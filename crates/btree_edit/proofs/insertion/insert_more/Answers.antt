@@ -1,5 +1,5 @@
 use Rattle.btree_edit.proofs.MoreLemmas.{leaf-used}
-use Rattle.btree_edit.proofs.insert.insert_more.Goals as goal
+use Rattle.btree_edit.proofs.insertion.insert_more.Goals as goal
 
 pub need-count-requires-clause-used : goal.need-count-requires-clause-used
 need-count-requires-clause-used g c =

@@ -1,6 +1,6 @@
 use Rattle.std.proofs.Common.{[], refl, sym}
 use Rattle.btree_edit.proofs.MoreLemmas.{can-take, more-inserted, none-claimed, the-leaf, unsplit}
-use Rattle.btree_edit.proofs.insert.insert_in_room.Goals as goal
+use Rattle.btree_edit.proofs.insertion.insert_in_room.Goals as goal
 
 pub unwrap-index-requires : goal.unwrap-index-requires
 unwrap-index-requires g c =

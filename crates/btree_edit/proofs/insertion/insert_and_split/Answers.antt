@@ -1,7 +1,7 @@
 use Rattle.std.proofs.Common.{◌∙◌, refl, sym}
 use Rattle.btree_raw.proofs.ClaimLemmas.{claims-low}
 use Rattle.btree_edit.proofs.MoreLemmas.{can-take, more-inserted, splitting, the-leaf}
-use Rattle.btree_edit.proofs.insert.insert_and_split.Goals as goal
+use Rattle.btree_edit.proofs.insertion.insert_and_split.Goals as goal
 
 pub unwrap-requires : goal.unwrap-requires
 unwrap-requires g c =

@@ -1,0 +1,110 @@
+-- An insertion by key: at a key that is there, and at the gap of one that is not.
+use Rattle.std.proofs.Common.{◌≡◌, ℕ, List, Option, Some, None, Ok, Err, IsSome, refl, sym, ap, subst, ◌∙◌, inl, inr, is_some, if◌then◌else◌, length, slice_get, option_map, option_and_then, arith}
+use Rattle.std.proofs.lemmas.Option.{slice_get_within}
+use Rattle.std.specs.Cmp.{IsTotalOrder}
+use Rattle.std.specs.declared.cmp.Ordering.{Ordering}
+use Rattle.btree_item.proofs.PairEdits.{Fits-before}
+use Rattle.btree_item.proofs.PairLemmas.{inserted-from_Err, set-from_Ok, slice_get-from_Ok}
+use Rattle.btree_item.specs.Pairs.{Fits, before, found, found_value, inserted, with_value}
+use Rattle.btree_item.specs.declared.address.Address.{Address}
+use Rattle.btree_view.specs.View.{View, item_in, items_of, size_of}
+use Rattle.btree_shape.specs.Place.{IsEnd, IsPlace, IsPlaceOf, item_at}
+use Rattle.btree_shape.specs.TreeState.{TreeState, IsBTree, IsPlaceIn, item_of, looks, pairs_of}
+use Rattle.btree_shape.specs.WellFormed.{IsWellFormed}
+use Rattle.btree_shape.proofs.OnePlace.{one_place-well}
+use Rattle.btree_find.specs.Answers.{IsFoundAt, IsGapAt}
+use Rattle.btree_edit.specs.Exchange.{IsValueExchanged}
+use Rattle.btree_edit.specs.Insert.{IsGapFor, IsInserted, Took}
+use Rattle.btree_edit.proofs.LevelLemmas.{need-levels}
+
+err-none : {X : Type 0} (n m i : ℕ) (o : Option X) → (if is_some o then Ok n else Err m) ≡ Err i → (o ≡ None) × (m ≡ i)
+err-none n m i None e = (refl, cc)
+err-none n m i (Some x) e = absurd (cc)
+
+not-both : {X : Type 0} (o : Option X) → IsSome o → o ≡ None → ⊥
+not-both None some none = absurd (cc)
+not-both (Some x) some none = absurd (cc)
+
+if-some : {X Y : Type 0} (o : Option X) (a b : Y) → IsSome o → (if is_some o then a else b) ≡ a
+if-some None a b some = absurd (cc)
+if-some (Some x) a b some = refl
+
+module _ {K V : Type 0} (cmp : K → K → Ordering) (s : TreeState K V) (x : K × V) (a : Address) where
+  not-end : (n : ℕ) (o : Option (View (K × V))) → item_in o n ≡ Some x → IsEnd (looks s) o n → ⊥
+  not-end n None e end = absurd end
+  not-end n (Some v) e end = let l = slice_get_within (items_of v) n x e in let f : n ≡ size_of v = end in absurd (omega arith)
+
+  placed-under : (top : Option ℕ) → IsWellFormed cmp (looks s) top s.len (pairs_of s) → (o : Option ℕ) (place : ℕ)
+      → IsPlace (looks s) top (pairs_of s) a.id o place → option_and_then (item_in (looks s a.id)) o ≡ Some x → slice_get (pairs_of s) place ≡ Some x
+  placed-under top w None place at e = absurd (cc)
+  placed-under None w (Some n) place at e = let none = w.formed.0 a.id in let f : item_in (looks s a.id) n ≡ None = ap (λ v. item_in v n) none in absurd (cc)
+  placed-under (Some root) w (Some n) place at e = elim at [
+    | inl there ↦ subst (λ o. IsPlaceOf (looks s) (pairs_of s) o place) e there
+    | inr end ↦ absurd (not-end n (looks s a.id) e end.0)
+  ]
+
+  -- an item that stands at an address is that of the place in the list
+  pub placed-item : IsBTree cmp s → (place : ℕ) → IsPlaceIn s a place → item_of s a ≡ Some x → slice_get (pairs_of s) place ≡ Some x
+  placed-item tree place at e = placed-under s.root tree a.offset place at e
+
+module _ {K V : Type 0} (cmp : K → K → Ordering) (laws : IsTotalOrder cmp) (old : TreeState K V) (k : K) (w : V) (tree : IsBTree cmp old) where
+  abbrev xs : List (K × V)
+  xs = pairs_of old
+
+  module _ (new : TreeState K V) (a : Address) (f : IsFoundAt cmp k old a) (was : V) (x : IsValueExchanged old new a cmp was w) where
+    listed : slice_get xs f.place ≡ Some (x.key, was)
+    listed = placed-item cmp old (x.key, was) a tree f.place f.at x.had
+
+    is-found : found cmp k xs ≡ Some (x.key, was)
+    is-found = sym (slice_get-from_Ok cmp laws k xs f.place tree.ascends f.is) ∙ listed
+
+    is-some : IsSome (found cmp k xs)
+    is-some = rw is-found refl
+
+    pub old-value : Some was ≡ found_value cmp k xs
+    old-value = rw is-found refl
+
+    pub exchanged-pairs : pairs_of new ≡ inserted cmp k w xs
+    exchanged-pairs =
+        let same : x.exchanged.place ≡ f.place = one_place-well cmp laws (looks old) xs old.len old.root tree a.id a.offset x.exchanged.place f.place x.exchanged.at f.at in
+        let set_is = set-from_Ok cmp laws k w xs f.place (x.key, was) tree.ascends f.is listed in
+        x.exchanged.pairs ∙ (rw same set_is ∙ sym (if-some (found cmp k xs) _ _ is-some))
+
+    pub exchanged-took : Took cmp k old new w
+    exchanged-took = record {
+      absent = λ none. absurd (not-both (found cmp k xs) is-some none);
+      few = λ levels are. let e = x.exchanged.keeps.nodes in omega arith;
+      paid = λ none. absurd (not-both (found cmp k xs) is-some none);
+      present = λ some. (was, record { at = a; found_at = f; exchanged = x });
+    }
+
+  module _ (a : Address) (gap : IsGapAt cmp k old a) where
+    nothing : (found cmp k xs ≡ None) × (before cmp k xs ≡ gap.place)
+    nothing = err-none (before cmp k xs) (before cmp k xs) gap.place (found cmp k xs) gap.is
+
+    pub gap-for : IsGapFor cmp k old a
+    gap-for = record {
+      place = gap.place;
+      at = gap.at;
+      in_leaf = gap.in_leaf;
+      back = gap.back;
+      fits = subst (λ p. Fits cmp k p xs) nothing.1 (Fits-before cmp laws k xs tree.ascends nothing.0);
+    }
+
+    pub absent : found cmp k xs ≡ None
+    absent = nothing.0
+
+    module _ (new : TreeState K V) (b : Address) (is : IsInserted cmp old new a b (k, w)) where
+      pub put-pairs : pairs_of new ≡ inserted cmp k w xs
+      put-pairs = (is.pairs gap.place gap.at).0 ∙ sym (inserted-from_Err cmp k w xs gap.place gap.is)
+
+      pub put-took : Took cmp k old new w
+      put-took = record {
+        absent = λ none. (a, gap, is.nodes);
+        few = λ levels are.
+            let e = is.nodes in
+            let n = need-levels cmp old tree a gap.in_leaf levels are in
+            omega arith;
+        paid = λ none. is.strain;
+        present = λ some. absurd (not-both (found cmp k xs) some absent);
+      }
