@@ -1,7 +1,7 @@
 pub mod Runs
-pub mod Steps
+pub mod Refusals
 pub mod Words
-pub mod Numbers
+pub mod Numerals
 pub mod Sayings
 pub mod Digits
 pub mod Lines

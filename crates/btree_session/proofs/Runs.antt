@@ -16,16 +16,16 @@ IsRun-append May old mid new [] ds (r ∷ rs) ss first second = absurd first
 IsRun-append May old mid new (c ∷ cs) ds [] ss first second = absurd first
 
 -- behind the replies of before stand those to a run
-abbrev pub Answers : (Content (Node ℕ ℕ) → Type 0) → TreeState ℕ ℕ → List Command → List Reply → List Reply → TreeState ℕ ℕ → Type 0
-Answers May old commands before after new = (given : List Reply) × (after ≡ before ++ given) × IsRun May old commands given new
+abbrev pub HasAnswered : (Content (Node ℕ ℕ) → Type 0) → TreeState ℕ ℕ → List Command → List Reply → List Reply → TreeState ℕ ℕ → Type 0
+HasAnswered May old commands before after new = (given : List Reply) × (after ≡ before ++ given) × IsRun May old commands given new
 
-pub none_answered : (May : Content (Node ℕ ℕ) → Type 0) (old : TreeState ℕ ℕ) (before : List Reply) → Answers May old [] before before old
+pub none_answered : (May : Content (Node ℕ ℕ) → Type 0) (old : TreeState ℕ ℕ) (before : List Reply) → HasAnswered May old [] before before old
 none_answered May old before = ([], sym (append-nil before), refl)
 
 -- the next command is answered too
 pub one_more : (May : Content (Node ℕ ℕ) → Type 0) (old mid new : TreeState ℕ ℕ) (commands : List Command) (i : ℕ) (d : Command) (before between after : List Reply) (reply : Reply)
-    → Answers May old (take i commands) before between mid → i < length commands → IsStep May mid (get_or commands i d) reply new → after ≡ between ++ reply ∷ []
-    → Answers May old (take (i + 1) commands) before after new
+    → HasAnswered May old (take i commands) before between mid → i < length commands → IsStep May mid (get_or commands i d) reply new → after ≡ between ++ reply ∷ []
+    → HasAnswered May old (take (i + 1) commands) before after new
 one_more May old mid new commands i d before between after reply so_far within step more =
     rw (take_more commands i d within) (
       so_far.0 ++ reply ∷ [],
@@ -35,5 +35,5 @@ one_more May old mid new commands i d before between after reply so_far within s
 
 -- at the end all are
 pub all_answered : (May : Content (Node ℕ ℕ) → Type 0) (old new : TreeState ℕ ℕ) (commands : List Command) (i : ℕ) (before after : List Reply)
-    → Answers May old (take i commands) before after new → length commands ≤ i → Answers May old commands before after new
+    → HasAnswered May old (take i commands) before after new → length commands ≤ i → HasAnswered May old commands before after new
 all_answered May old new commands i before after so_far all = rw take_all at so_far

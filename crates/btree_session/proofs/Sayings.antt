@@ -4,7 +4,7 @@ use Rattle.btree_session.specs.declared.command.Command.{Command}
 use Rattle.btree_session.specs.declared.command.Command.TheVariants.{Insert, Get}
 use Rattle.btree_session.specs.declared.question.Question.{Question}
 use Rattle.btree_session.specs.declared.question.Question.TheVariants as questions
-use Rattle.btree_session.specs.Line.{AreNumbers, Says, Asks, name_of}
+use Rattle.btree_session.specs.Line.{AreNumbers, Says, IsQuestion, name_of}
 
 -- another name
 pub other_name : (name : List ℕ) (words : List (List ℕ)) → name ≢ codes "insert" → name ≢ codes "get" → (said : Command) → Says (name ∷ words) said → ⊥
@@ -22,13 +22,13 @@ no_get name words is_get none (Insert key value) says = cc
 no_get name words is_get none (Get key) says = none key says.1
 
 -- a command's name is no question's
-pub insert_asks_nothing : (words : List (List ℕ)) (asked : Question) → Asks (codes "insert" ∷ words) asked → ⊥
+pub insert_asks_nothing : (words : List (List ℕ)) (asked : Question) → IsQuestion (codes "insert" ∷ words) asked → ⊥
 insert_asks_nothing words questions.List asks = cc
 insert_asks_nothing words questions.Len asks = cc
 insert_asks_nothing words questions.Nodes asks = cc
 insert_asks_nothing words questions.Shape asks = cc
 
-pub get_asks_nothing : (words : List (List ℕ)) (asked : Question) → Asks (codes "get" ∷ words) asked → ⊥
+pub get_asks_nothing : (words : List (List ℕ)) (asked : Question) → IsQuestion (codes "get" ∷ words) asked → ⊥
 get_asks_nothing words questions.List asks = cc
 get_asks_nothing words questions.Len asks = let first = ap (λ ws. get_or (get_or ws 0 []) 0 0) asks in absurd (omega (arith, first))
 get_asks_nothing words questions.Nodes asks = cc
@@ -42,9 +42,9 @@ no_name name not_list not_len not_nodes not_shape questions.Nodes = not_nodes
 no_name name not_list not_len not_nodes not_shape questions.Shape = not_shape
 
 -- another name asks nothing
-pub unnamed : (name : List ℕ) (words : List (List ℕ)) → ((asked : Question) → name ≢ name_of asked) → (asked : Question) → Asks (name ∷ words) asked → ⊥
+pub unnamed : (name : List ℕ) (words : List (List ℕ)) → ((asked : Question) → name ≢ name_of asked) → (asked : Question) → IsQuestion (name ∷ words) asked → ⊥
 unnamed name words none asked asks = none asked cc
 
 -- nor does a name with a word behind it
-pub more_words : (name word : List ℕ) (words rest : List (List ℕ)) → words ≡ word ∷ rest → (asked : Question) → Asks (name ∷ words) asked → ⊥
+pub more_words : (name word : List ℕ) (words rest : List (List ℕ)) → words ≡ word ∷ rest → (asked : Question) → IsQuestion (name ∷ words) asked → ⊥
 more_words name word words rest more asked asks = cc

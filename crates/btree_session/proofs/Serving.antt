@@ -12,7 +12,7 @@ use Rattle.btree_session.specs.Line.{line_words, IsSaid}
 use Rattle.btree_store.specs.Content.{Content}
 use Rattle.btree_node.specs.declared.node.Node.{Node}
 use Rattle.btree_shape.specs.TreeState.{TreeState}
-use Rattle.btree_session.specs.Script.{is_newline, lines_of, ReadsLine, Does, Serves, EndsAfter, Writes, Drives}
+use Rattle.btree_session.specs.Script.{is_newline, lines_of, ReadsLine, Does, Serves, EndsAfter, HasWritten, Drives}
 use Rattle.btree_session.proofs.Lines.{lines_of-cons, cut_at_newline}
 
 -- more lines are served
@@ -130,7 +130,7 @@ ends_anywhere A served lines Memory anywhere rest = rest
 ends_anywhere A served lines Input anywhere rest = rest
 ends_anywhere A served lines Output anywhere rest = rest
 
-writes_so_far : (A : Type 0) (before after : Option (List ℕ)) (printed : List ℕ) (stop : Stop) → Appends before after printed → Writes {A = A} before after printed (Err stop)
+writes_so_far : (A : Type 0) (before after : Option (List ℕ)) (printed : List ℕ) (stop : Stop) → Appends before after printed → HasWritten {A = A} before after printed (Err stop)
 writes_so_far A before after printed (NotACommand number) appends = appends
 writes_so_far A before after printed Memory appends = appends
 writes_so_far A before after printed Input appends = appends

@@ -26,7 +26,7 @@ line_words line = words_of (strip_last 13 line)
 pub record IsNumber (number : ℕ) (word : List ℕ) : Type 0 where
   pub numeral : IsNumeral 10 word
   pub value : digits_value 10 word ≡ number
-  pub fits : number < 2 ^ 64
+  pub is_u64 : number < 2 ^ 64
 
 -- the words are these numbers, one after another
 abbrev pub AreNumbers : List ℕ → List (List ℕ) → Type 0
@@ -52,13 +52,13 @@ name_of questions.Len = codes "len"
 name_of questions.Nodes = codes "nodes"
 name_of questions.Shape = codes "shape"
 
--- the words ask the question
-abbrev pub Asks : List (List ℕ) → Question → Type 0
-Asks words question = words ≡ name_of question ∷ []
+-- the words ask the question: its name alone
+abbrev pub IsQuestion : List (List ℕ) → Question → Type 0
+IsQuestion words question = words ≡ name_of question ∷ []
 
 -- a line with these words says this: nothing, a command, a question, or neither
 abbrev pub IsSaid : List (List ℕ) → Line → Type 0
 IsSaid words lines.Empty = words ≡ []
 IsSaid words (lines.Command said) = Says words said
-IsSaid words (lines.Question asked) = Asks words asked
-IsSaid words lines.Other = (words ≢ []) × ((said : Command) → Says words said → ⊥) × ((asked : Question) → Asks words asked → ⊥)
+IsSaid words (lines.Question asked) = IsQuestion words asked
+IsSaid words lines.Other = (words ≢ []) × ((said : Command) → Says words said → ⊥) × ((asked : Question) → IsQuestion words asked → ⊥)

@@ -35,17 +35,17 @@ IsRefusable old Store = Unit {0}
 IsRefusable old Count = length old.pairs ≡ 2 ^ 64 - 1
 
 -- From old, the machine may give this reply to the command and go on to new.
-abbrev pub Step : SessionState → Command → Reply → SessionState → Type 0
+abbrev pub MachineStep : SessionState → Command → Reply → SessionState → Type 0
 -- a look-up changes nothing
-Step old (Get key) Nothing new = (found nat_cmp key old.pairs ≡ None) × (new ≡ old)
-Step old (Get key) (Value value) new = (found_value nat_cmp key old.pairs ≡ Some value) × (new ≡ old)
+MachineStep old (Get key) Nothing new = (found nat_cmp key old.pairs ≡ None) × (new ≡ old)
+MachineStep old (Get key) (Value value) new = (found_value nat_cmp key old.pairs ≡ Some value) × (new ≡ old)
 -- a key that is there stays, and its value is exchanged
-Step old (Insert key value) (Value was) new = (found_value nat_cmp key old.pairs ≡ Some was) × (new ≡ after_insertion old (with_value nat_cmp key value old.pairs))
+MachineStep old (Insert key value) (Value was) new = (found_value nat_cmp key old.pairs ≡ Some was) × (new ≡ after_insertion old (with_value nat_cmp key value old.pairs))
 -- a key that is not there goes in at its place with its value, or both are refused
-Step old (Insert key value) Nothing new = (found nat_cmp key old.pairs ≡ None) × (new ≡ after_insertion old (insert old.pairs (before nat_cmp key old.pairs) (key, value)))
-Step old (Insert key value) (Refused cause) new = (found nat_cmp key old.pairs ≡ None) × IsRefusable old cause × (new ≡ after_refusal old cause)
+MachineStep old (Insert key value) Nothing new = (found nat_cmp key old.pairs ≡ None) × (new ≡ after_insertion old (insert old.pairs (before nat_cmp key old.pairs) (key, value)))
+MachineStep old (Insert key value) (Refused cause) new = (found nat_cmp key old.pairs ≡ None) × IsRefusable old cause × (new ≡ after_refusal old cause)
 -- no other reply is given
-Step old (Get key) (Refused cause) new = ⊥
+MachineStep old (Get key) (Refused cause) new = ⊥
 
 -- what a session over this map is: no place is held
 abbrev pub state_of : TreeState ℕ ℕ → SessionState
@@ -67,7 +67,7 @@ module _ (MayRefuse : Content (Node ℕ ℕ) → Type 0) where
 
   -- From old, the session may give this reply to the command and go on to new: a step of the machine, to a well formed tree.
   pub record IsStep (old : TreeState ℕ ℕ) (command : Command) (reply : Reply) (new : TreeState ℕ ℕ) : Type 0 where
-    pub step : Step (state_of old) command reply (state_of new)
+    pub step : MachineStep (state_of old) command reply (state_of new)
     pub nodes : Handles old command reply new
     pub tree : IsTree new
 

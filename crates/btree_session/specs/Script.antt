@@ -69,12 +69,12 @@ EndsAfter served all (Err Input) = (rest : List (List ℕ)) × (all ≡ served +
 EndsAfter served all (Err Output) = (rest : List (List ℕ)) × (all ≡ served ++ rest)
 
 -- known bytes have grown by what was printed, unless the writer failed
-abbrev pub Writes : {A : Type 0} → Option (List ℕ) → Option (List ℕ) → List ℕ → Result A Stop → Type 0
-Writes old new printed (Ok _) = Appends old new printed
-Writes old new printed (Err (NotACommand number)) = Appends old new printed
-Writes old new printed (Err Memory) = Appends old new printed
-Writes old new printed (Err Input) = Appends old new printed
-Writes old new printed (Err Output) = ⊤
+abbrev pub HasWritten : {A : Type 0} → Option (List ℕ) → Option (List ℕ) → List ℕ → Result A Stop → Type 0
+HasWritten old new printed (Ok _) = Appends old new printed
+HasWritten old new printed (Err (NotACommand number)) = Appends old new printed
+HasWritten old new printed (Err Memory) = Appends old new printed
+HasWritten old new printed (Err Input) = Appends old new printed
+HasWritten old new printed (Err Output) = ⊤
 
 -- Lines of the input were served, and what they print was written. Where the bytes of the input are known, the lines are theirs.
 pub record Drives {A : Type 0} (MayRefuse : Content (Node ℕ ℕ) → Type 0) (old : TreeState ℕ ℕ) (input before : Option (List ℕ)) (result : Result A Stop) (after : Option (List ℕ)) (new : TreeState ℕ ℕ) : Type 0 where
@@ -84,4 +84,4 @@ pub record Drives {A : Type 0} (MayRefuse : Content (Node ℕ ℕ) → Type 0) (
   pub ends : EndsAfter served lines result
   pub printed : List ℕ
   pub serves : Serves MayRefuse old served printed new
-  pub writes : Writes before after printed result
+  pub writes : HasWritten before after printed result

@@ -12,10 +12,10 @@ cause_text Store = codes "store"
 cause_text Count = codes "count"
 
 -- the text of a reply
-abbrev pub text_of : Reply → List ℕ
-text_of Nothing = codes "none"
-text_of (Value value) = codes "some " ++ decimal value
-text_of (Refused cause) = codes "refused " ++ cause_text cause
+abbrev pub reply_text : Reply → List ℕ
+reply_text Nothing = codes "none"
+reply_text (Value value) = codes "some " ++ decimal value
+reply_text (Refused cause) = codes "refused " ++ cause_text cause
 
 -- a text with something more behind it
 abbrev pub Grows : (old new : List ℕ) → Type 0
@@ -27,4 +27,4 @@ as_line text = text ++ 10 ∷ []
 
 -- a reply on a line of its own
 abbrev pub line_of : Reply → List ℕ
-line_of reply = as_line (text_of reply)
+line_of reply = as_line (reply_text reply)

@@ -1,6 +1,6 @@
 //! What a session is told, and what it replies.
 ghost use Rattle.std.specs.Prelude.{Some};
-ghost use Rattle.btree_session.specs.Text.{text_of};
+ghost use Rattle.btree_session.specs.Text.{reply_text};
 
 use btree_item::Cause;
 use std::fmt;
@@ -26,7 +26,7 @@ pub enum Reply {
 }
 
 impl fmt::Display for Reply {
-    ghost output = { λ reply. Some (text_of reply) };
+    ghost output = { λ reply. Some (reply_text reply) };
 
     fn fmt<W: fmt::Write>(&self, f: &mut fmt::Formatter<W>) -> fmt::Result {
         match self {

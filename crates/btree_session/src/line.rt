@@ -28,12 +28,12 @@ pub(crate) fn parse(line: &[u8]) -> Line
         return Line::Empty;
     };
     if name == b"insert".as_slice() {
-        return insertion(rest);
+        return parse_insert(rest);
     }
     if name == b"get".as_slice() {
-        return look_up(rest);
+        return parse_get(rest);
     }
-    question(name, rest)
+    parse_question(name, rest)
 }
 
 /// The line without its last byte, if that is `byte`.
@@ -47,7 +47,7 @@ pub(crate) fn without_last(line: &[u8], byte: u8) -> &[u8]
 }
 
 /// What a line says that begins with `insert`.
-fn insertion(rest: &[u8]) -> Line
+fn parse_insert(rest: &[u8]) -> Line
     ensures { IsSaid (codes "insert" ∷ words_of rest.now) result }
 {
     match two_numbers(rest) {
@@ -57,7 +57,7 @@ fn insertion(rest: &[u8]) -> Line
 }
 
 /// What a line says that begins with `get`.
-fn look_up(rest: &[u8]) -> Line
+fn parse_get(rest: &[u8]) -> Line
     ensures { IsSaid (codes "get" ∷ words_of rest.now) result }
 {
     match one_number(rest) {
@@ -67,9 +67,9 @@ fn look_up(rest: &[u8]) -> Line
 }
 
 /// What a line says that begins with another word.
-fn question(name: &[u8], rest: &[u8]) -> Line
-    requires no_insertion { name.now ≢ codes "insert" }
-    requires no_look_up { name.now ≢ codes "get" }
+fn parse_question(name: &[u8], rest: &[u8]) -> Line
+    requires not_insert { name.now ≢ codes "insert" }
+    requires not_get { name.now ≢ codes "get" }
     ensures { IsSaid (name.now ∷ words_of rest.now) result }
 {
     match question_named(name) {
@@ -80,7 +80,8 @@ fn question(name: &[u8], rest: &[u8]) -> Line
 
 /// The question with a name.
 fn question_named(name: &[u8]) -> Option<Question>
-    ensures { MatchOption result ((asked : Question) → name.now ≢ name_of asked) (λ asked. name.now ≡ name_of asked) }
+    ensures { MatchOption result ((asked : Question) → name.now ≢ name_of asked)
+        (λ asked. name.now ≡ name_of asked) }
 {
     if name == b"list".as_slice() {
         return Some(Question::List);
@@ -121,7 +122,8 @@ fn two_numbers(text: &[u8]) -> Option<(u64, u64)>
 
 /// The number that the text begins with and the text behind it, if it begins with one.
 fn next_number(text: &[u8]) -> Option<(u64, &[u8])>
-    ensures none { IfNone result ((n : ℕ) (ns : List ℕ) → AreNumbers (n ∷ ns) (words_of text.now) → ⊥) }
+    ensures none { IfNone result ((n : ℕ) (ns : List ℕ)
+        → AreNumbers (n ∷ ns) (words_of text.now) → ⊥) }
     ensures some { IfSome result (λ split. (word : List ℕ) × IsNumber split.0 word
         × (words_of text.now ≡ word ∷ words_of split.1.now)) }
 {

@@ -31,7 +31,8 @@ pub(crate) fn push_answer_line<C: SlabMut<Node<u64, u64>>>(
     question: Question,
     text: &mut Vec<u8>,
 ) -> Result<(), AllocError>
-    ensures put { OnOk result ((answer : List ℕ) × IsAnswer map.now question answer × (text.new.items ≡ text.old.items ++ as_line answer)) }
+    ensures put { OnOk result ((answer : List ℕ) × IsAnswer map.now question answer
+        × (text.new.items ≡ text.old.items ++ as_line answer)) }
     ensures kept { OnErr result (Grows text.old.items text.new.items) }
 {
     push_answer(map, question, text)?;
@@ -85,7 +86,8 @@ fn push_shape<C: SlabMut<Node<u64, u64>>>(
     id: usize,
     text: &mut Vec<u8>,
 ) -> Result<(), AllocError>
-    ensures put { OnOk result (text.new.items ≡ text.old.items ++ shape_under (views map.now.nodes) levels id) }
+    ensures put { OnOk result (text.new.items
+        ≡ text.old.items ++ shape_under (views map.now.nodes) levels id) }
     ensures kept { OnErr result (Grows text.old.items text.new.items) }
 {
     if levels == 0 || !map.has_node(id) {
@@ -105,7 +107,8 @@ fn push_shape<C: SlabMut<Node<u64, u64>>>(
 }
 
 fn push_leaf(leaf: &LeafNode<u64, u64>, text: &mut Vec<u8>) -> Result<(), AllocError>
-    ensures put { OnOk result (text.new.items ≡ text.old.items ++ bracketed (map (λ pair. decimal pair.0) leaf.now.items)) }
+    ensures put { OnOk result (text.new.items
+        ≡ text.old.items ++ bracketed (map (λ pair. decimal pair.0) leaf.now.items)) }
     ensures kept { OnErr result (Grows text.old.items text.new.items) }
 {
     push_text(text, b"(")?;

@@ -1,10 +1,8 @@
 //! Commands from lines of text, and replies to lines of text.
-ghost use Rattle.std.specs.Prelude.{◌≡◌, ◌+◌, ◌⊎◌, ◌++◌, ◌<◌, ◌↔◌, ℕ, List, [], ◌∷◌, length, position, IfSome, IfNone, IfOk, IfErr, OnOk, OnErr, vec_len, vec_capacity};
+ghost use Rattle.std.specs.Prelude.{◌≡◌, ◌⊎◌, ◌++◌, ℕ, List, [], position, IfSome, IfNone, IfOk, IfErr, OnOk, OnErr};
 ghost use Rattle.std.specs.Io.Buffered.{reader_remaining};
 ghost use Rattle.std.specs.Io.KnownBytes.{Keeps, IsAtEnd, append_known};
-ghost use Rattle.btree_session.specs.declared.command.Reply.{Reply};
 ghost use Rattle.btree_session.specs.Line.{line_words, IsSaid};
-ghost use Rattle.btree_session.specs.Machine.{IsStep};
 ghost use Rattle.btree_session.specs.Answer.{IsAnswer};
 ghost use Rattle.btree_session.specs.Text.{as_line};
 ghost use Rattle.btree_session.specs.Script.{is_newline, ReadsLine, Does, Drives};
@@ -12,7 +10,7 @@ ghost use Rattle.btree_session.specs.Script.{is_newline, ReadsLine, Does, Drives
 use crate::line::{Line, parse, without_last};
 use crate::question::{Question, push_answer_line};
 use crate::text::{LONGEST_LINE, push_line};
-use crate::{Command, Reply, Session, run};
+use crate::{Command, Session};
 use btree_node::Node;
 use btree_store::SlabMut;
 use std::alloc::{AllocError, Global};
@@ -23,7 +21,7 @@ use std::io::{BufRead, BufReader, ErrorKind, Read, Write};
 pub enum Stop {
     /// The line with this number, counted from 1, is neither a command nor a question.
     NotACommand(u64),
-    /// A line, a reply or a buffer could not be held.
+    /// Memory for a buffer, for a line or for a text to be written was refused.
     Memory,
     /// The reader failed.
     Input,
@@ -36,16 +34,17 @@ pub enum Stop {
 /// The replies so far are written and flushed at the end, before a stop, and before the reader is asked for bytes
 /// while no whole line is left of those that it gave. Commands that were run keep their effect, however it ends.
 ///
-/// It takes memory for two buffers, for the longest line, and for the replies to the lines that were read at once, and
-/// none for a line of its own. A reader's error of the kind `OutOfMemory` counts as want of memory. An input of
-/// `u64::MAX` lines or more ends like one that fails.
+/// But for nodes it takes memory for three buffers alone: the reader's, one for a line that no single read gave whole, and
+/// one for the replies to the lines that were read at once. A reader's error of the kind `OutOfMemory` counts as want of
+/// memory. An input of `u64::MAX` lines or more ends like one that fails.
 pub fn drive<C: SlabMut<Node<u64, u64>>, R: Read, W: Write>(
     alloc: Global,
     session: &mut Session<C>,
     input: &mut R,
     output: &mut W,
 ) -> Result<(), Stop>
-    ensures { Drives C.MayRefuse session.old (R.remaining input.old) (W.contents output.old) result (W.contents output.new) session.new }
+    ensures { Drives C.MayRefuse session.old (R.remaining input.old) (W.contents output.old) result
+        (W.contents output.new) session.new }
 {
     let Ok(mut reader) = BufReader::new(alloc, input) else {
         return Err(Stop::Memory);
@@ -64,16 +63,16 @@ fn serve<C: SlabMut<Node<u64, u64>>, R: Read, W: Write>(
     output: &mut W,
     text: &mut Vec<u8>,
 ) -> Result<(), Stop>
-    ensures { Drives C.MayRefuse session.old (reader_remaining R.remaining reader.old) (append_known (W.contents output.old) text.old.items)
-        result (append_known (W.contents output.new) text.new.items) session.new }
+    ensures { Drives C.MayRefuse session.old (reader_remaining R.remaining reader.old)
+        (append_known (W.contents output.old) text.old.items) result
+        (append_known (W.contents output.new) text.new.items) session.new }
 {
     let mut line = Vec::new(alloc);
-    let mut replies = Vec::new(alloc);
     for number in 1..u64::MAX {
         let Some(said) = next_line(reader, &mut line, text, output)? else {
             return Ok(());
         };
-        serve_line(session, said, number, &mut replies, text)?;
+        serve_line(session, said, number, text)?;
     }
     Err(Stop::Input)
 }
@@ -85,11 +84,16 @@ fn next_line<R: Read, W: Write>(
     text: &mut Vec<u8>,
     output: &mut W,
 ) -> Result<Option<Line>, Stop>
-    ensures line { IfOk result (λ next. IfSome next (ReadsLine (reader_remaining R.remaining reader.old) (reader_remaining R.remaining reader.new))) }
-    ensures end { IfOk result (λ next. IfNone next (IsAtEnd (reader_remaining R.remaining reader.old))) }
-    ensures text { OnOk result (Keeps (append_known (W.contents output.old) text.old.items) (append_known (W.contents output.new) text.new.items)) }
-    ensures stop { IfErr result (λ stop. (stop ≡ Stop.Output) ⊎ (((stop ≡ Stop.Memory) ⊎ (stop ≡ Stop.Input))
-        × Keeps (append_known (W.contents output.old) text.old.items) (append_known (W.contents output.new) text.new.items))) }
+    ensures line { IfOk result (λ next. IfSome next (ReadsLine
+        (reader_remaining R.remaining reader.old) (reader_remaining R.remaining reader.new))) }
+    ensures end { IfOk result (λ next. IfNone next
+        (IsAtEnd (reader_remaining R.remaining reader.old))) }
+    ensures text { OnOk result (Keeps (append_known (W.contents output.old) text.old.items)
+        (append_known (W.contents output.new) text.new.items)) }
+    ensures stop { IfErr result (λ stop. (stop ≡ Stop.Output)
+        ⊎ (((stop ≡ Stop.Memory) ⊎ (stop ≡ Stop.Input))
+        × Keeps (append_known (W.contents output.old) text.old.items)
+        (append_known (W.contents output.new) text.new.items))) }
 {
     if let Some(said) = buffered_line(reader) {
         return Ok(Some(said));
@@ -100,7 +104,8 @@ fn next_line<R: Read, W: Write>(
 
 /// What the next line says, where the reader has the whole of it.
 fn buffered_line<R: Read>(reader: &mut BufReader<R>) -> Option<Line>
-    ensures line { IfSome result (ReadsLine (reader_remaining R.remaining reader.old) (reader_remaining R.remaining reader.new)) }
+    ensures line { IfSome result (ReadsLine (reader_remaining R.remaining reader.old)
+        (reader_remaining R.remaining reader.new)) }
     ensures none { IfNone result (reader.new ≡ reader.old) }
 {
     let len = newline_place(reader.buffer())?;
@@ -118,8 +123,10 @@ fn newline_place(bytes: &[u8]) -> Option<usize>
 
 /// Reads what the next line says, if there is one. The vector is used for the line.
 fn read_line<R: Read>(reader: &mut BufReader<R>, line: &mut Vec<u8>) -> Result<Option<Line>, Stop>
-    ensures line { IfOk result (λ next. IfSome next (ReadsLine (reader_remaining R.remaining reader.old) (reader_remaining R.remaining reader.new))) }
-    ensures end { IfOk result (λ next. IfNone next (IsAtEnd (reader_remaining R.remaining reader.old))) }
+    ensures line { IfOk result (λ next. IfSome next (ReadsLine
+        (reader_remaining R.remaining reader.old) (reader_remaining R.remaining reader.new))) }
+    ensures end { IfOk result (λ next. IfNone next
+        (IsAtEnd (reader_remaining R.remaining reader.old))) }
     ensures stop { IfErr result (λ stop. (stop ≡ Stop.Memory) ⊎ (stop ≡ Stop.Input)) }
 {
     line.clear();
@@ -136,17 +143,19 @@ fn serve_line<C: SlabMut<Node<u64, u64>>>(
     session: &mut Session<C>,
     said: Line,
     number: u64,
-    replies: &mut Vec<Reply>,
     text: &mut Vec<u8>,
 ) -> Result<(), Stop>
-    ensures served { OnOk result ((printed : List ℕ) × Does C.MayRefuse session.old said printed session.new × (text.new.items ≡ text.old.items ++ printed)) }
+    ensures served { OnOk result ((printed : List ℕ)
+        × Does C.MayRefuse session.old said printed session.new
+        × (text.new.items ≡ text.old.items ++ printed)) }
     ensures session_kept { OnErr result (session.new ≡ session.old) }
     ensures text_kept { OnErr result (text.new.items ≡ text.old.items) }
-    ensures stop { IfErr result (λ stop. (stop ≡ Stop.Memory) ⊎ ((stop ≡ Stop.NotACommand number) × (said ≡ Line.Other))) }
+    ensures stop { IfErr result (λ stop. (stop ≡ Stop.Memory)
+        ⊎ ((stop ≡ Stop.NotACommand number) × (said ≡ Line.Other))) }
 {
     match said {
         Line::Empty => Ok(()),
-        Line::Command(command) => match obey(session, command, replies, text) {
+        Line::Command(command) => match obey(session, command, text) {
             Ok(()) => Ok(()),
             Err(_) => Err(Stop::Memory),
         },
@@ -158,20 +167,21 @@ fn serve_line<C: SlabMut<Node<u64, u64>>>(
     }
 }
 
-/// Runs a command and puts the reply behind the text. Room for the reply is made first.
+/// Runs a command and puts the reply behind the text. Room for the reply is made first, and where that is refused, the
+/// command is not run.
 fn obey<C: SlabMut<Node<u64, u64>>>(
     session: &mut Session<C>,
     command: Command,
-    replies: &mut Vec<Reply>,
     text: &mut Vec<u8>,
 ) -> Result<(), AllocError>
-    ensures done { OnOk result ((printed : List ℕ) × Does C.MayRefuse session.old (Line.Command command) printed session.new
+    ensures done { OnOk result ((printed : List ℕ)
+        × Does C.MayRefuse session.old (Line.Command command) printed session.new
         × (text.new.items ≡ text.old.items ++ printed)) }
     ensures session_kept { OnErr result (session.new ≡ session.old) }
     ensures text_kept { OnErr result (text.new.items ≡ text.old.items) }
 {
     text.reserve(LONGEST_LINE)?;
-    let reply = reply_to(session, command, replies)?;
+    let reply = session.execute(command);
     push_line(text, reply);
     Ok(())
 }
@@ -182,7 +192,8 @@ fn answer<C: SlabMut<Node<u64, u64>>>(
     question: Question,
     text: &mut Vec<u8>,
 ) -> Result<(), AllocError>
-    ensures answered { OnOk result ((answer : List ℕ) × IsAnswer session.now question answer × (text.new.items ≡ text.old.items ++ as_line answer)) }
+    ensures answered { OnOk result ((answer : List ℕ) × IsAnswer session.now question answer
+        × (text.new.items ≡ text.old.items ++ as_line answer)) }
     ensures text_kept { OnErr result (text.new.items ≡ text.old.items) }
 {
     let len = text.len();
@@ -195,24 +206,11 @@ fn answer<C: SlabMut<Node<u64, u64>>>(
     }
 }
 
-/// Runs one command. The vector is used for the reply alone.
-fn reply_to<C: SlabMut<Node<u64, u64>>>(
-    session: &mut Session<C>,
-    command: Command,
-    replies: &mut Vec<Reply>,
-) -> Result<Reply, AllocError>
-    ensures step { IfOk result (λ reply. IsStep C.MayRefuse session.old command reply session.new) }
-    ensures session_kept { OnErr result (session.new ≡ session.old) }
-{
-    replies.clear();
-    run(session, &[command], replies)?;
-    Ok(replies.pop().unwrap())
-}
-
 /// Writes the text out and leaves it empty, whether that succeeds or not.
 fn write_out<W: Write>(text: &mut Vec<u8>, output: &mut W) -> Result<(), Stop>
     ensures empty { text.new.items ≡ [] }
-    ensures ok { OnOk result (Keeps (append_known (W.contents output.old) text.old.items) (append_known (W.contents output.new) text.new.items)) }
+    ensures ok { OnOk result (Keeps (append_known (W.contents output.old) text.old.items)
+        (append_known (W.contents output.new) text.new.items)) }
     ensures err { IfErr result (λ stop. stop ≡ Stop.Output) }
 {
     if text.is_empty() {

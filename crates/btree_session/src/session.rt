@@ -51,8 +51,8 @@ impl<C: SlabMut<Node<u64, u64>>> Session<C> {
         &self.map
     }
 
-    // Runs one command.
-    fn reply_to(&mut self, command: Command) -> Reply
+    /// Runs one command. It takes no memory but for nodes.
+    pub(crate) fn execute(&mut self, command: Command) -> Reply
         ensures { IsStep C.MayRefuse self.old command result self.new }
     {
         match command {
@@ -100,15 +100,17 @@ pub fn run<C: SlabMut<Node<u64, u64>>, B: Allocator>(
     commands: &[Command],
     replies: &mut Vec<Reply, B>,
 ) -> Result<(), AllocError>
-    ensures answered { OnOk result ((given : List Reply) × (replies.new.items ≡ replies.old.items ++ given)
+    ensures answered { OnOk result ((given : List Reply)
+        × (replies.new.items ≡ replies.old.items ++ given)
         × IsRun C.MayRefuse session.old commands.now given session.new) }
-    ensures succeeds { vec_len replies.old + length commands.now ≤ vec_capacity replies.old → IsOk result }
+    ensures succeeds { vec_len replies.old + length commands.now ≤ vec_capacity replies.old
+        → IsOk result }
     ensures replies_kept { OnErr result (replies.new.items ≡ replies.old.items) }
     ensures session_kept { OnErr result (session.new ≡ session.old) }
 {
     replies.reserve(commands.len())?;
     for command in commands {
-        replies.push_reserved(session.reply_to(*command));
+        replies.push_reserved(session.execute(*command));
     }
     Ok(())
 }

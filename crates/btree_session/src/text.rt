@@ -63,7 +63,8 @@ pub(crate) fn push_key(
 ) -> Result<(), AllocError>
     requires before { length before.now ≤ 1 }
     requires after { length after.now ≤ 1 }
-    ensures put { OnOk result (text.new.items ≡ text.old.items ++ (before.now ++ decimal key ++ after.now)) }
+    ensures put { OnOk result (text.new.items
+        ≡ text.old.items ++ (before.now ++ decimal key ++ after.now)) }
     ensures kept { OnErr result (text.new.items ≡ text.old.items) }
 {
     text.reserve(LONGEST_NUMBER + 2)?;
@@ -82,7 +83,8 @@ pub(crate) fn push_pair(
     value: u64,
 ) -> Result<(), AllocError>
     requires { length before.now ≤ 1 }
-    ensures put { OnOk result (text.new.items ≡ text.old.items ++ (before.now ++ pair_text (key, value))) }
+    ensures put { OnOk result (text.new.items
+        ≡ text.old.items ++ (before.now ++ pair_text (key, value))) }
     ensures kept { OnErr result (text.new.items ≡ text.old.items) }
 {
     text.reserve(LONGEST_NUMBER + LONGEST_NUMBER + 2)?;

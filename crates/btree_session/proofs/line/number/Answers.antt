@@ -1,5 +1,5 @@
 use Rattle.std.proofs.Common.{arith, rules}
-use Rattle.btree_session.proofs.Numbers.{more_digits, all_digits, no_digit, too_large}
+use Rattle.btree_session.proofs.Numerals.{more_digits, all_digits, no_digit, too_large}
 use Rattle.btree_session.proofs.line.number.Goals as goal
 
 pub returns-then-not-is_ascii_digit : goal.returns-then-not-is_ascii_digit

@@ -1,5 +1,5 @@
 use Rattle.std.proofs.Common.{◌^◌, ◌<◌, length}
-use Rattle.btree_session.proofs.Numbers.{AreDigits}
+use Rattle.btree_session.proofs.Numerals.{AreDigits}
 use Rattle.btree_session.proofs.line.number.Given as goal
 
 abbrev pub invariant-loop-byte : goal.invariant-loop-byte

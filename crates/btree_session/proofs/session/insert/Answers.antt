@@ -1,4 +1,4 @@
-use Rattle.btree_session.proofs.Steps.{refused_insert}
+use Rattle.btree_session.proofs.Refusals.{refused_insert}
 use Rattle.btree_session.proofs.session.insert.Goals as goal
 
 pub returns-in-Err : goal.returns-in-Err

@@ -26,7 +26,7 @@ pub all_digits : (word : List ℕ) (i value : ℕ) → AreDigits word i value �
 all_digits word i value so_far all some fits = record {
   numeral = (some, rw take_all at so_far.digits);
   value = sym (rw take_all at so_far.is_value);
-  fits = fits;
+  is_u64 = fits;
 }
 
 -- a byte that is not a digit
@@ -37,4 +37,4 @@ no_digit word i n within other is_number = other (digit_at word i is_number.nume
 pub too_large : (word : List ℕ) (i value n : ℕ) → AreDigits word i value → i < length word → IsInRange 48 57 (get_or word i 0)
     → 2 ^ 64 + 48 ≤ value * 10 + get_or word i 0 → IsNumber n word → ⊥
 too_large word i value n so_far within digit large is_number =
-    omega (arith, digits_value_more 10 word i within, digits_value-take-le 10 word (i + 1) (omega arith), digit_value_digit (get_or word i 0) digit, so_far.is_value, is_number.value, is_number.fits)
+    omega (arith, digits_value_more 10 word i within, digits_value-take-le 10 word (i + 1) (omega arith), digit_value_digit (get_or word i 0) digit, so_far.is_value, is_number.value, is_number.is_u64)
