@@ -2,3 +2,4 @@ pub mod LookUpLemmas
 pub mod NodeLemmas
 pub mod SplitSizes
 pub mod NodeSizes
+pub mod RoomLemmas

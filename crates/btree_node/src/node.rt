@@ -1,5 +1,5 @@
 //! A node of the tree.
-ghost use Rattle.std.specs.Prelude.{◌≡◌, ◌<◌, ◌≤◌, ◌↔◌, ◌==◌, Some, IsTrue, IsSomeAnd, IfSome, MatchResult, length, slice_get, position};
+ghost use Rattle.std.specs.Prelude.{◌≡◌, ◌<◌, ◌≤◌, ◌↔◌, ◌==◌, Some, None, IsTrue, IsSomeAnd, IfSome, OnSome, MatchOption, MatchResult, length, slice_get, position};
 ghost use Rattle.std.specs.Option.{option_and_then, option_copied};
 ghost use Rattle.std.specs.Result.{result_map_both};
 ghost use Rattle.btree_item.specs.Pairs.{Ascends};
@@ -26,8 +26,10 @@ pub enum Node<K, V> {
 }
 
 impl<K, V> Node<K, V> {
+    ghost use Rattle.std.specs.Prelude.{[], ◌∷◌, ◌+◌, drop};
     ghost use Rattle.std.specs.Borrow.{sem};
     ghost use Rattle.std.specs.Option.{option_copied_mut};
+    ghost use Rattle.btree_view.specs.View.{branches_of};
     ghost use Rattle.btree_node.specs.NodeLends.{node_lends_item};
 
     /// The number of the parent, if there is one.
@@ -113,6 +115,38 @@ impl<K, V> Node<K, V> {
         }
     }
 
+    /// The item at an index, and `None` past the last.
+    pub fn item_at_index(&self, index: usize) -> Option<&Item<K, V>>
+        ensures fits { OnSome result (index < 9) }
+        ensures item { MatchOption result (slice_get (items_of (view_of self.now)) index ≡ None)
+            (λ item. slice_get (items_of (view_of self.now)) index ≡ Some item.now) }
+    {
+        if index >= self.item_count() {
+            return None;
+        }
+        self.item(offset_at(index))
+    }
+
+    /// The item of an internal node at an index and the number of the child after it, and `None` past the
+    /// last. A leaf has none.
+    pub fn branch_at_index(&self, index: usize) -> Option<(&Item<K, V>, usize)>
+        ensures fits { OnSome result (index < 9) }
+        ensures first { MatchOption result (drop index (branches_of (view_of self.now)) ≡ [])
+            (λ branch. drop index (branches_of (view_of self.now))
+            ≡ (branch.0.now, branch.1) ∷ drop (index + 1) (branches_of (view_of self.now))) }
+    {
+        let Node::Internal(node) = self else {
+            return None;
+        };
+        if index >= node.item_count() {
+            return None;
+        }
+        match node.branches().get(index) {
+            Some(branch) => Some((&branch.item, branch.child)),
+            None => None,
+        }
+    }
+
     /// Whether there are too many items, too few, or neither. A root is judged like any other node.
     pub fn balance(&self) -> Balance
         ensures { result ≡ balance_of (view_of self.now) }
@@ -120,6 +154,17 @@ impl<K, V> Node<K, V> {
         match self {
             Node::Internal(node) => node.balance(),
             Node::Leaf(leaf) => leaf.balance(),
+        }
+    }
+
+    /// Whether one more item would be too many at rest: there are at least eight in a leaf, seven in an
+    /// internal node.
+    pub fn is_full(&self) -> bool
+        ensures { IsTrue result ↔ (most_of (view_of self.now) ≤ size_of (view_of self.now)) }
+    {
+        match self {
+            Node::Internal(node) => node.item_count() >= 7,
+            Node::Leaf(leaf) => leaf.item_count() >= 8,
         }
     }
 

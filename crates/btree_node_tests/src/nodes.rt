@@ -106,28 +106,58 @@ fn tells_how_full_a_node_is(rt: HostRuntime) {
         LeafNode::<u32, char>::empty(None).balance(),
         Balance::Underflow(true)
     );
-    for (items, balance) in [
-        (2, Balance::Underflow(false)),
-        (3, Balance::Balanced),
-        (7, Balance::Balanced),
-        (8, Balance::Balanced),
-        (9, Balance::Overflow),
+    for (items, balance, is_full) in [
+        (2, Balance::Underflow(false), false),
+        (3, Balance::Balanced, false),
+        (7, Balance::Balanced, false),
+        (8, Balance::Balanced, true),
+        (9, Balance::Overflow, true),
     ] {
         let leaf = leaf_of(&rt, items);
         assert_eq!(rt; leaf.balance(), balance, "{items}");
         assert_eq!(rt; leaf.is_overflowing(), balance == Balance::Overflow);
         assert_eq!(rt; leaf.is_underflowing(), items < 3);
+        assert_eq!(rt; Node::Leaf(leaf).is_full(), is_full, "{items}");
     }
-    for (items, balance) in [
-        (1, Balance::Underflow(false)),
-        (3, Balance::Balanced),
-        (7, Balance::Balanced),
-        (8, Balance::Overflow),
+    for (items, balance, is_full) in [
+        (1, Balance::Underflow(false), false),
+        (3, Balance::Balanced, false),
+        (6, Balance::Balanced, false),
+        (7, Balance::Balanced, true),
+        (8, Balance::Overflow, true),
     ] {
         let node = internal_of(&rt, items);
         assert_eq!(rt; node.balance(), balance, "{items}");
         assert_eq!(rt; node.is_overflowing(), balance == Balance::Overflow);
         assert_eq!(rt; node.is_underflowing(), items < 3);
+        assert_eq!(rt; Node::Internal(node).is_full(), is_full, "{items}");
+    }
+}
+
+fn key_at_index(node: &Node<u32, char>, index: usize) -> Option<u32> {
+    node.item_at_index(index).map(|item| *item.key())
+}
+
+fn branch_at_index(node: &Node<u32, char>, index: usize) -> Option<(u32, usize)> {
+    node.branch_at_index(index)
+        .map(|(item, child)| (*item.key(), child))
+}
+
+#[test]
+fn reads_items_and_branches_by_index(rt: HostRuntime) {
+    let leaf = Node::Leaf(leaf_of(&rt, 3));
+    let node = Node::Internal(internal_of(&rt, 3));
+    for (index, key, branch) in [
+        (0, Some(0), Some((0, 101))),
+        (1, Some(10), Some((10, 102))),
+        (2, Some(20), Some((20, 103))),
+        (3, None, None),
+        (usize::MAX, None, None),
+    ] {
+        assert_eq!(rt; key_at_index(&leaf, index), key, "{index}");
+        assert_eq!(rt; key_at_index(&node, index), key, "{index}");
+        assert_eq!(rt; branch_at_index(&leaf, index), None, "{index}");
+        assert_eq!(rt; branch_at_index(&node, index), branch, "{index}");
     }
 }
 

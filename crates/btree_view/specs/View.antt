@@ -27,6 +27,11 @@ module _ {A : Type 0} where
   children_of (leaf parent items) = []
   children_of (internal parent first branches) = first ∷ map (λ b. b.1) branches
 
+  -- the items of an internal node, each with the child after it
+  abbrev pub branches_of : View A → List (A × ℕ)
+  branches_of (leaf parent items) = []
+  branches_of (internal parent first branches) = branches
+
   -- how many items there are
   abbrev pub size_of : View A → ℕ
   size_of node = length (items_of node)
