@@ -5,17 +5,17 @@ ghost use Rattle.std.specs.FinMap as map;
 use btree_ext::{BTreeExt, Tree};
 use btree_item::{Address, Item, Refused};
 use btree_node::Node;
-use btree_store::SlabMut;
+use btree_nodes::NodesMut;
 use btree_walk::Iter;
 use std::marker::Model;
 
 /// A map from keys to values in the order of the keys: a B-tree whose nodes lie in a store.
 #[derive(Drop)]
-pub struct BTreeMap<K: Ord, V, C: SlabMut<Node<K, V>>> {
+pub struct BTreeMap<K: Ord, V, C: NodesMut<K, V>> {
     tree: Tree<K, V, C>,
 }
 
-impl<K: Ord, V, C: SlabMut<Node<K, V>>> Model for BTreeMap<K, V, C> {
+impl<K: Ord, V, C: NodesMut<K, V>> Model for BTreeMap<K, V, C> {
     ghost use Rattle.std.specs.Coded.{codes};
     ghost use Rattle.btree_shape.specs.TreeState.{TreeState, tree_code};
 
@@ -26,7 +26,7 @@ impl<K: Ord, V, C: SlabMut<Node<K, V>>> Model for BTreeMap<K, V, C> {
     ghost view = { λ m. m.tree };
 }
 
-impl<K: Ord, V, C: SlabMut<Node<K, V>>> BTreeMap<K, V, C> {
+impl<K: Ord, V, C: NodesMut<K, V>> BTreeMap<K, V, C> {
     ghost use Rattle.std.specs.Mem.{FitsInMemory};
     ghost use Rattle.btree_node.specs.contracts.node.Node.{the_row as node_row};
     ghost use Rattle.btree_item.specs.Pairs.{found_value};
@@ -74,10 +74,10 @@ impl<K: Ord, V, C: SlabMut<Node<K, V>>> BTreeMap<K, V, C> {
     }
 }
 
-impl<K: Ord + Drop, V: Drop, C: SlabMut<Node<K, V>>> BTreeMap<K, V, C> {
+impl<K: Ord + Drop, V: Drop, C: NodesMut<K, V>> BTreeMap<K, V, C> {
     ghost use Rattle.btree_item.specs.Pairs.{found, found_value, inserted};
     ghost use Rattle.btree_shape.specs.TreeState.{pairs_of};
-    ghost use Rattle.btree_ext.specs.Insert.{IsRefusedAtGap, Took};
+    ghost use Rattle.btree_edit.specs.Insert.{IsRefusedAtGap, Took};
 
     /// Puts a pair in, or exchanges the value at a key that is there: the stored key stays, and the given one is dropped.
     ///
@@ -86,18 +86,19 @@ impl<K: Ord + Drop, V: Drop, C: SlabMut<Node<K, V>>> BTreeMap<K, V, C> {
     pub fn insert(&mut self, key: K, value: V) -> Result<Option<V>, Refused<K, V>>
         ensures old { IfOk result (λ old. old ≡ found_value K.cmp key (pairs_of self.old)) }
         ensures inserted { OnOk result (pairs_of self.new ≡ inserted K.cmp key value (pairs_of self.old)) }
-        ensures took { OnOk result (Took K.cmp key self.old self.new) }
+        ensures took { OnOk result (Took K.cmp key self.old self.new value) }
         ensures uncounted { OnOk result (self.new.refusals ≡ self.old.refusals) }
 
         ensures returned { IfErr result (λ r. (r.key ≡ key) × (r.value ≡ value)) }
         ensures absent { OnErr result (found K.cmp key (pairs_of self.old) ≡ None) }
-        ensures refused { IfErr result (λ r. IsRefusedAtGap K.cmp key self.old self.new C.MayRefuse r.cause) }
+        ensures refused { IfErr result (λ r.
+            IsRefusedAtGap K.cmp key self.old self.new C.MayRefuse r.cause) }
     {
         self.tree.insert(key, value)
     }
 }
 
-impl<K: Ord, V, C: SlabMut<Node<K, V>>> BTreeExt<K, V> for BTreeMap<K, V, C> {
+impl<K: Ord, V, C: NodesMut<K, V>> BTreeExt<K, V> for BTreeMap<K, V, C> {
     ghost state = { λ m. m };
 
     fn root_id(&self) -> Option<usize> {

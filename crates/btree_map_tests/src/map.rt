@@ -3,13 +3,14 @@ use btree_item::Cause;
 use btree_map::BTreeMap;
 use btree_node::Node;
 use btree_refusing::Refusing;
-use btree_store::{SlabMut, SlabStore};
+use btree_nodes::NodesMut;
+use btree_store::SlabStore;
 use std::alloc::Global;
 use std::process::Abort;
 use std::test::Fail;
 
 // The store refuses the first node, and no other.
-fn check_refused_once<C: SlabMut<Node<u64, u64>> + Drop>(
+fn check_refused_once<C: NodesMut<u64, u64> + Drop>(
     rt: &impl Abort,
     origin: C::Origin,
 ) -> Result<(), Fail> {

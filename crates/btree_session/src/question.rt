@@ -9,7 +9,7 @@ use btree_ext::BTreeExt;
 use btree_leaf::LeafNode;
 use btree_map::BTreeMap;
 use btree_node::Node;
-use btree_store::SlabMut;
+use btree_nodes::NodesMut;
 use std::alloc::AllocError;
 
 /// What a line may ask of the map, which stays as it is.
@@ -26,7 +26,7 @@ pub(crate) enum Question {
 }
 
 /// Puts the answer on a line of its own behind the text. Where memory for it is refused, some of it may stand there.
-pub(crate) fn push_answer_line<C: SlabMut<Node<u64, u64>>>(
+pub(crate) fn push_answer_line<C: NodesMut<u64, u64>>(
     map: &BTreeMap<u64, u64, C>,
     question: Question,
     text: &mut Vec<u8>,
@@ -39,7 +39,7 @@ pub(crate) fn push_answer_line<C: SlabMut<Node<u64, u64>>>(
     push_text(text, b"\n")
 }
 
-fn push_answer<C: SlabMut<Node<u64, u64>>>(
+fn push_answer<C: NodesMut<u64, u64>>(
     map: &BTreeMap<u64, u64, C>,
     question: Question,
     text: &mut Vec<u8>,
@@ -60,7 +60,7 @@ fn push_answer<C: SlabMut<Node<u64, u64>>>(
     }
 }
 
-fn push_list<C: SlabMut<Node<u64, u64>>>(
+fn push_list<C: NodesMut<u64, u64>>(
     map: &BTreeMap<u64, u64, C>,
     text: &mut Vec<u8>,
 ) -> Result<(), AllocError>
@@ -80,7 +80,7 @@ fn push_list<C: SlabMut<Node<u64, u64>>>(
 
 // Puts the text of a node and of those below it, by at most so many levels. In a well formed tree as many levels as pairs
 // suffice, and each number is used.
-fn push_shape<C: SlabMut<Node<u64, u64>>>(
+fn push_shape<C: NodesMut<u64, u64>>(
     map: &BTreeMap<u64, u64, C>,
     levels: usize,
     id: usize,

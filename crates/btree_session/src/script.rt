@@ -12,7 +12,7 @@ use crate::question::{Question, push_answer_line};
 use crate::text::{LONGEST_LINE, push_line};
 use crate::{Command, Session};
 use btree_node::Node;
-use btree_store::SlabMut;
+use btree_nodes::NodesMut;
 use std::alloc::{AllocError, Global};
 use std::io::{BufRead, BufReader, ErrorKind, Read, Write};
 
@@ -37,7 +37,7 @@ pub enum Stop {
 /// But for nodes it takes memory for three buffers alone: the reader's, one for a line that no single read gave whole, and
 /// one for the replies to the lines that were read at once. A reader's error of the kind `OutOfMemory` counts as want of
 /// memory. An input of `u64::MAX` lines or more ends like one that fails.
-pub fn drive<C: SlabMut<Node<u64, u64>>, R: Read, W: Write>(
+pub fn drive<C: NodesMut<u64, u64>, R: Read, W: Write>(
     alloc: Global,
     session: &mut Session<C>,
     input: &mut R,
@@ -56,7 +56,7 @@ pub fn drive<C: SlabMut<Node<u64, u64>>, R: Read, W: Write>(
 }
 
 /// Serves lines until the input ends. What it leaves in `text` is still to be written.
-fn serve<C: SlabMut<Node<u64, u64>>, R: Read, W: Write>(
+fn serve<C: NodesMut<u64, u64>, R: Read, W: Write>(
     alloc: Global,
     session: &mut Session<C>,
     reader: &mut BufReader<R>,
@@ -139,7 +139,7 @@ fn read_line<R: Read>(reader: &mut BufReader<R>, line: &mut Vec<u8>) -> Result<O
 }
 
 /// Runs what a line says and puts the reply behind the text. An `Err` changes nothing.
-fn serve_line<C: SlabMut<Node<u64, u64>>>(
+fn serve_line<C: NodesMut<u64, u64>>(
     session: &mut Session<C>,
     said: Line,
     number: u64,
@@ -169,7 +169,7 @@ fn serve_line<C: SlabMut<Node<u64, u64>>>(
 
 /// Runs a command and puts the reply behind the text. Room for the reply is made first, and where that is refused, the
 /// command is not run.
-fn obey<C: SlabMut<Node<u64, u64>>>(
+fn obey<C: NodesMut<u64, u64>>(
     session: &mut Session<C>,
     command: Command,
     text: &mut Vec<u8>,
@@ -187,7 +187,7 @@ fn obey<C: SlabMut<Node<u64, u64>>>(
 }
 
 /// Puts the answer to a question behind the text. An `Err` changes nothing.
-fn answer<C: SlabMut<Node<u64, u64>>>(
+fn answer<C: NodesMut<u64, u64>>(
     session: &Session<C>,
     question: Question,
     text: &mut Vec<u8>,

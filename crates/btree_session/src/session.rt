@@ -9,7 +9,7 @@ use crate::{Command, Reply};
 use btree_ext::BTreeExt;
 use btree_map::BTreeMap;
 use btree_node::Node;
-use btree_store::SlabMut;
+use btree_nodes::NodesMut;
 use std::alloc::{AllocError, Allocator};
 use std::marker::Model;
 
@@ -33,7 +33,7 @@ impl<K: Ord, V, C: SlabMut<Node<K, V>>> Model for SessionOver<K, V, C> {
 /// A map from `u64` to `u64` that commands are run on.
 pub type Session<C> = SessionOver<u64, u64, C>;
 
-impl<C: SlabMut<Node<u64, u64>>> Session<C> {
+impl<C: NodesMut<u64, u64>> Session<C> {
     /// A session over an empty map, whose store is made from its origin. It takes no memory.
     pub fn new(origin: C::Origin) -> Self
         ensures empty { pairs_of result ≡ [] }
@@ -62,7 +62,7 @@ impl<C: SlabMut<Node<u64, u64>>> Session<C> {
     }
 }
 
-fn insert<C: SlabMut<Node<u64, u64>>>(
+fn insert<C: NodesMut<u64, u64>>(
     map: &mut BTreeMap<u64, u64, C>,
     key: u64,
     value: u64,
@@ -81,7 +81,7 @@ fn insert<C: SlabMut<Node<u64, u64>>>(
     }
 }
 
-fn get<C: SlabMut<Node<u64, u64>>>(map: &BTreeMap<u64, u64, C>, key: u64) -> Reply
+fn get<C: NodesMut<u64, u64>>(map: &BTreeMap<u64, u64, C>, key: u64) -> Reply
     ensures { IsStep C.MayRefuse map.now (Command.Get key) result map.now }
 {
     let _root = map.root_id(); // it tells that the map is a well formed tree
@@ -95,7 +95,7 @@ fn get<C: SlabMut<Node<u64, u64>>>(map: &BTreeMap<u64, u64, C>, key: u64) -> Rep
 ///
 /// Room for the replies is made first, and is all the memory that it takes but for nodes. Where that is refused, no
 /// command is run.
-pub fn run<C: SlabMut<Node<u64, u64>>, B: Allocator>(
+pub fn run<C: NodesMut<u64, u64>, B: Allocator>(
     session: &mut Session<C>,
     commands: &[Command],
     replies: &mut Vec<Reply, B>,

@@ -3,7 +3,8 @@ use btree_item::Cause;
 use btree_node::Node;
 use btree_refusing::Refusing;
 use btree_session::{Command, Reply, Session, Stop, drive, run};
-use btree_store::{SlabMut, SlabStore};
+use btree_nodes::NodesMut;
+use btree_store::SlabStore;
 use std::alloc::Global;
 use std::cell::Cell;
 use std::io;
@@ -22,7 +23,7 @@ const FOURTEEN: &[u8] =
 insert 7 7\ninsert 8 8\ninsert 9 9\ninsert 10 10\ninsert 11 11\ninsert 12 12\ninsert 13 13\nshape\nnodes\nlen\n";
 
 // What is written for lines that are all served.
-fn written_for<C: SlabMut<Node<u64, u64>>>(
+fn written_for<C: NodesMut<u64, u64>>(
     session: &mut Session<C>,
     lines: &[u8],
     alloc: Global,
@@ -324,7 +325,7 @@ fn refused_room_for_replies_changes_nothing(rt: HostRuntime) -> Result<(), Fail>
 }
 
 // The store refuses the first node.
-fn check_first_refused<C: SlabMut<Node<u64, u64>> + Drop>(
+fn check_first_refused<C: NodesMut<u64, u64> + Drop>(
     rt: &impl Abort,
     alloc: Global,
     origin: C::Origin,
@@ -384,7 +385,7 @@ fn replies_but(refused: u64, alloc: Global) -> Result<String, Fail> {
 }
 
 // All is as if the line with this key had not been said.
-fn check_left_out<C: SlabMut<Node<u64, u64>>>(
+fn check_left_out<C: NodesMut<u64, u64>>(
     rt: &impl Abort,
     session: &mut Session<C>,
     refused: u64,
@@ -401,7 +402,7 @@ fn check_left_out<C: SlabMut<Node<u64, u64>>>(
 }
 
 // The line with this key is taken when it is said again.
-fn check_taken<C: SlabMut<Node<u64, u64>>>(
+fn check_taken<C: NodesMut<u64, u64>>(
     rt: &impl Abort,
     session: &mut Session<C>,
     refused: u64,
@@ -414,7 +415,7 @@ fn check_taken<C: SlabMut<Node<u64, u64>>>(
 }
 
 // Drives 44 insertions, and answers which key was refused, if one was.
-fn refused_of_44<C: SlabMut<Node<u64, u64>>>(
+fn refused_of_44<C: NodesMut<u64, u64>>(
     rt: &impl Abort,
     session: &mut Session<C>,
     alloc: Global,
@@ -432,7 +433,7 @@ fn refused_of_44<C: SlabMut<Node<u64, u64>>>(
 }
 
 // Drives 44 insertions. Answers whether one was refused, and checks then what it left.
-fn meets_refusal<C: SlabMut<Node<u64, u64>> + Drop>(
+fn meets_refusal<C: NodesMut<u64, u64> + Drop>(
     rt: &impl Abort,
     origin: C::Origin,
     alloc: Global,

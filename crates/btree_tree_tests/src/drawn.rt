@@ -8,7 +8,7 @@ ghost use Rattle.btree_raw.specs.Raw.{AreUsed};
 use btree_item::{Address, Item, Offset};
 use btree_node::{LeafNode, Node};
 use btree_raw::RawBTree;
-use btree_store::SlabMut;
+use btree_nodes::NodesMut;
 use std::alloc::Global;
 use std::process::Abort;
 use std::test::Fail;
@@ -57,7 +57,7 @@ fn keep_key(open: &mut Vec<Open>, key: u64) -> u64 {
 }
 
 /// Allocates a node of which no child is missing.
-pub(crate) fn put<C: SlabMut<Node<u64, u64>>>(
+pub(crate) fn put<C: NodesMut<u64, u64>>(
     rt: &impl Abort,
     raw: &mut RawBTree<u64, u64, C>,
     node: Node<u64, u64>,
@@ -71,7 +71,7 @@ pub(crate) fn put<C: SlabMut<Node<u64, u64>>>(
 }
 
 // Puts one more child into a node, behind a key; makes the node with its first child.
-fn put_child<C: SlabMut<Node<u64, u64>>>(
+fn put_child<C: NodesMut<u64, u64>>(
     rt: &impl Abort,
     raw: &mut RawBTree<u64, u64, C>,
     open: Open,
@@ -91,7 +91,7 @@ fn put_child<C: SlabMut<Node<u64, u64>>>(
 }
 
 // Puts a node that is drawn to its end under the one around it; the outermost one is the root.
-fn close<C: SlabMut<Node<u64, u64>>>(
+fn close<C: NodesMut<u64, u64>>(
     rt: &impl Abort,
     raw: &mut RawBTree<u64, u64, C>,
     open: &mut Vec<Open>,
@@ -110,7 +110,7 @@ fn close<C: SlabMut<Node<u64, u64>>>(
 }
 
 // Reads one letter of a text: the key after it.
-fn draw<C: SlabMut<Node<u64, u64>>>(
+fn draw<C: NodesMut<u64, u64>>(
     rt: &impl Abort,
     raw: &mut RawBTree<u64, u64, C>,
     open: &mut Vec<Open>,
@@ -137,7 +137,7 @@ fn draw<C: SlabMut<Node<u64, u64>>>(
 }
 
 /// The tree of a text, with 77 as its length.
-pub(crate) fn drawn<C: SlabMut<Node<u64, u64>> + Drop>(
+pub(crate) fn drawn<C: NodesMut<u64, u64> + Drop>(
     rt: &impl Abort,
     origin: C::Origin,
     text: &str,
@@ -203,7 +203,7 @@ fn pass(node: &Node<u64, u64>, id: usize, passed: usize, walked: &mut Walked) ->
 }
 
 /// Walks over a tree from its front.
-pub(crate) fn walk<C: SlabMut<Node<u64, u64>>>(
+pub(crate) fn walk<C: NodesMut<u64, u64>>(
     raw: &RawBTree<u64, u64, C>,
     alloc: Global,
 ) -> Result<Walked, Fail> {
@@ -236,7 +236,7 @@ pub(crate) fn walk<C: SlabMut<Node<u64, u64>>>(
 }
 
 /// The keys of a node, each with a blank behind it, and `-` where there is no node.
-pub(crate) fn keys_of<C: SlabMut<Node<u64, u64>>>(
+pub(crate) fn keys_of<C: NodesMut<u64, u64>>(
     raw: &RawBTree<u64, u64, C>,
     id: usize,
     alloc: Global,
@@ -256,7 +256,7 @@ pub(crate) fn keys_of<C: SlabMut<Node<u64, u64>>>(
 }
 
 /// The node at the end of a way down from the root, child by child.
-pub(crate) fn follow<C: SlabMut<Node<u64, u64>>>(
+pub(crate) fn follow<C: NodesMut<u64, u64>>(
     rt: &impl Abort,
     raw: &RawBTree<u64, u64, C>,
     way: &[usize],
@@ -276,7 +276,7 @@ pub(crate) fn follow<C: SlabMut<Node<u64, u64>>>(
 }
 
 /// Puts so many leaves beside the tree, and takes them out again.
-pub(crate) fn put_spare<C: SlabMut<Node<u64, u64>>>(
+pub(crate) fn put_spare<C: NodesMut<u64, u64>>(
     rt: &impl Abort,
     raw: &mut RawBTree<u64, u64, C>,
     count: usize,

@@ -4,7 +4,8 @@ use btree_item::{Address, Cause, Offset};
 use btree_node::Node;
 use btree_raw::RawBTree;
 use btree_refusing::Refusing;
-use btree_store::{SlabMut, SlabStore};
+use btree_nodes::NodesMut;
+use btree_store::SlabStore;
 use std::alloc::Global;
 use std::process::Abort;
 use std::test::Fail;
@@ -20,7 +21,7 @@ fn check_unchanged(rt: &impl Abort, old: &Walked, new: &Walked) {
 }
 
 // Rebalances a tree at a node, where its tests allow it.
-fn rebalanced<C: SlabMut<Node<u64, u64>>>(
+fn rebalanced<C: NodesMut<u64, u64>>(
     rt: &impl Abort,
     raw: &mut RawBTree<u64, u64, C>,
     id: usize,
@@ -33,7 +34,7 @@ fn rebalanced<C: SlabMut<Node<u64, u64>>>(
 
 // The leaf of 9 items splits, and the node above it, where the next allocation is refused: with an error nothing has changed, and it
 // does not come again. Answers whether it came.
-fn is_refused<C: SlabMut<Node<u64, u64>> + Drop>(
+fn is_refused<C: NodesMut<u64, u64> + Drop>(
     rt: &impl Abort,
     origin: C::Origin,
     memory: &Refusing<Global>,

@@ -3,14 +3,15 @@ use btree_ext::{BTreeExt, Tree};
 use btree_item::{Cause, Offset};
 use btree_node::Node;
 use btree_refusing::Refusing;
-use btree_store::{SlabMut, SlabStore};
+use btree_nodes::NodesMut;
+use btree_store::SlabStore;
 use btree_walk::Iter;
 use std::alloc::{AllocError, Global};
 use std::process::Abort;
 use std::test::Fail;
 
 // The keys of each node, level by level from the root, `|` behind each node and `/` behind each level.
-fn levels_of<C: SlabMut<Node<u64, u64>>>(
+fn levels_of<C: NodesMut<u64, u64>>(
     tree: &Tree<u64, u64, C>,
     alloc: Global,
 ) -> Result<String, AllocError> {
@@ -31,7 +32,7 @@ fn levels_of<C: SlabMut<Node<u64, u64>>>(
 }
 
 // Writes the keys of one node, and adds its children to the next level.
-fn write_node<C: SlabMut<Node<u64, u64>>>(
+fn write_node<C: NodesMut<u64, u64>>(
     tree: &Tree<u64, u64, C>,
     id: usize,
     alloc: Global,
@@ -58,7 +59,7 @@ fn write_node<C: SlabMut<Node<u64, u64>>>(
 
 // Puts the keys from 0 on into a new tree. A refused pair comes back with the tree as before, and is taken when it is put again.
 // Answers the tree, and how many pairs were refused.
-fn grow<C: SlabMut<Node<u64, u64>> + Drop>(
+fn grow<C: NodesMut<u64, u64> + Drop>(
     rt: &impl Abort,
     origin: C::Origin,
     keys: u64,
@@ -150,7 +151,7 @@ fn looks_keys_up(rt: HostRuntime) -> Result<(), Fail> {
 }
 
 // Puts 44 keys into a tree, and answers how many were refused once.
-fn refusals_of_44<C: SlabMut<Node<u64, u64>> + Drop>(
+fn refusals_of_44<C: NodesMut<u64, u64> + Drop>(
     rt: &impl Abort,
     origin: C::Origin,
     alloc: Global,

@@ -1,12 +1,12 @@
 -- A step of the iterator, and where it starts.
 use Rattle.std.proofs.Common.{◌≡◌, ℕ, ◌-◌, ◌^◌, ◌<◌, ◌≤◌, List, ◌∷◌, length, Some, None, ap, arith}
+use Rattle.std.specs.FinMap as map
 use Rattle.std.specs.declared.cmp.Ordering.{Ordering}
-use Rattle.btree_view.specs.View.{Look, size_of}
-use Rattle.btree_shape.specs.WellFormed.{IsWellFormed}
+use Rattle.btree_shape.specs.TreeState.{TreeState, looks, pairs_of}
+use Rattle.btree_shape.specs.WellFormed.{IsSized, IsWellFormed}
 use Rattle.btree_shape.specs.Left.{IsUnder}
 use Rattle.btree_shape.proofs.Density.{height-low}
-use Rattle.btree_shape.proofs.Listed.{some-item}
-use Rattle.btree_shape.proofs.Spelled.{height_below}
+use Rattle.btree_shape.proofs.TreeStates.{height_held}
 
 module _ {B : Type 0} (whole rest : List B) (x : B) (left : ℕ) (counted : left ≡ length whole) (is : whole ≡ x ∷ rest) where
   pub some-left : 1 ≤ left
@@ -15,11 +15,10 @@ module _ {B : Type 0} (whole rest : List B) (x : B) (left : ℕ) (counted : left
   pub one-less : left - 1 ≡ length rest
   one-less = let n = ap length is in omega arith
 
-module _ {K V : Type 0} (cmp : K → K → Ordering) (look : Look (K × V)) (root len : ℕ) (xs : List (K × V)) where
+module _ {K V : Type 0} (cmp : K → K → Ordering) (s : TreeState K V) (root : ℕ) where
   -- the root has no node above it
-  pub root-under : length xs < 2 ^ 64 → IsWellFormed cmp look (Some root) len xs → IsUnder look len 0 root
+  pub root-under : length (pairs_of s) < 2 ^ 64 → IsWellFormed cmp (looks s) (Some root) s.len (pairs_of s) → IsUnder (looks s) (map.len s.nodes) 0 root
   root-under low w =
-      let c = w.counted in
-      let high = height_below look w.formed.height None root xs (λ i node e. some-item root i (size_of node) (w.formed.sized i node e).0) w.formed.spells in
-      let few = height-low (K × V) look root xs w.formed (omega arith) in
-      record { height = w.formed.height; parent = None; list = xs; spells = w.formed.spells; low = omega arith; room = omega arith }
+      let high = height_held s (IsSized root) root (pairs_of s) w.formed in
+      let few = height-low (K × V) (looks s) root (pairs_of s) w.formed (omega arith) in
+      record { height = w.formed.height; parent = None; list = pairs_of s; spells = w.formed.spells; low = omega arith; room = omega arith }

@@ -6,10 +6,10 @@ use Rattle.std.specs.FinMap as map
 use Rattle.btree_store.specs.Content.{Content}
 use Rattle.btree_node.specs.declared.node.Node.{Node}
 use Rattle.btree_node.specs.Node.{view_of}
-use Rattle.btree_view.specs.View.{View, leaf, internal, items_of, children_of}
+use Rattle.btree_view.specs.View.{View, leaf, internal, branches_of, items_of, children_of}
 use Rattle.btree_shape.specs.Spells.{Spells, spelled}
 use Rattle.btree_shape.specs.TreeState.{views}
-use Rattle.btree_shape.specs.Left.{branches_of, left_above, left_in, IsUnder, AreRows}
+use Rattle.btree_shape.specs.Left.{left_above, left_in, IsUnder, AreRows}
 use Rattle.btree_shape.proofs.Left.{left-push, rows-push, rows-pop, under-leaf, under-internal}
 use Rattle.btree_walk.specs.declared.frames.Frame.{Frame}
 use Rattle.btree_walk.specs.Rows.{rows_of}
@@ -93,7 +93,7 @@ module _ {K V : Type 0} (nodes : Content (Node K V)) (len : ℕ) where
     pub list : left_over start ≡ left_over frames
 
   -- a frame that was taken off: above it the rest, whose rows are as they were
-  pub record IsOff (frames rest : List (Frame K V)) (f : Frame K V) : Type 0 where
+  pub record IsTakenOff (frames rest : List (Frame K V)) (f : Frame K V) : Type 0 where
     pub fewer : length rest < length frames
     pub rows : AreOpen rest
     pub under : AllByRecursion (λ (b : (K × V) × ℕ). IsUnder (views nodes) len (suc (length (rows_of rest))) b.1) (row_of f)
@@ -107,7 +107,7 @@ module _ {K V : Type 0} (nodes : Content (Node K V)) (len : ℕ) where
       let at : Some f ≡ slice_get (g ∷ h ∷ gs) (suc (length (h ∷ gs) - 1)) = subst (λ n. Some f ≡ slice_get (g ∷ h ∷ gs) n) less e in
       rw less (ap (λ l. g ∷ l) (split-last (h ∷ gs) f at))
 
-  pub taken-off : (frames rest : List (Frame K V)) (f : Frame K V) → AreOpen frames → Some f ≡ slice_get frames (length frames - 1) → rest ≡ take (length frames - 1) frames → IsOff frames rest f
+  pub taken-off : (frames rest : List (Frame K V)) (f : Frame K V) → AreOpen frames → Some f ≡ slice_get frames (length frames - 1) → rest ≡ take (length frames - 1) frames → IsTakenOff frames rest f
   taken-off frames rest f was answer after =
       let whole : frames ≡ rest ++ f ∷ [] = split-last frames f answer ∙ ap (λ l. l ++ f ∷ []) (sym after) in
       let rows : rows_of frames ≡ rows_of rest ++ row_of f ∷ [] = ap rows_of whole ∙ rows-of-push rest f in
@@ -120,7 +120,7 @@ module _ {K V : Type 0} (nodes : Content (Node K V)) (len : ℕ) where
         list = ap (left_above (views nodes) len) rows ∙ left-push (views nodes) len (rows_of rest) (row_of f);
       }
 
-  module _ (start frames : List (Frame K V)) (up : IsUp start frames) (rest : List (Frame K V)) (f : Frame K V) (off : IsOff frames rest f) where
+  module _ (start frames : List (Frame K V)) (up : IsUp start frames) (rest : List (Frame K V)) (f : Frame K V) (off : IsTakenOff frames rest f) where
     -- no item was left in it
     pub up-passed : row_of f ≡ [] → IsUp start rest
     up-passed none = record { rows = off.rows; list = up.list ∙ off.list ∙ ap (λ row. left_in (views nodes) len row ++ left_over rest) none }

@@ -3,8 +3,7 @@ use Rattle.std.specs.Prelude.{ℕ, List, [], map, drop, Option, Some, None}
 use Rattle.std.specs.Borrow.{Bor}
 use Rattle.btree_node.specs.declared.node.Node.{Node}
 use Rattle.btree_node.specs.Node.{view_of}
-use Rattle.btree_view.specs.View.{items_of}
-use Rattle.btree_shape.specs.Left.{branches_of}
+use Rattle.btree_view.specs.View.{branches_of, items_of}
 use Rattle.btree_walk.specs.declared.frames.Frame.{Frame}
 
 module _ {K V : Type 0} where

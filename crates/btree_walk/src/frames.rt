@@ -1,19 +1,19 @@
 //! The way from the root to the leaf in which a walk stands.
 ghost use Rattle.std.specs.Prelude.{◌≡◌, ◌∷◌, ◌++◌, ◌+◌, ◌<◌, [], Some, None, length, OnSome, MatchOption};
+ghost use Rattle.std.specs.FinMap as map;
 ghost use Rattle.std.specs.Mem.{FitsInMemory};
 ghost use Rattle.btree_node.specs.contracts.node.Node.{the_row as node_row};
 ghost use Rattle.btree_node.specs.Node.{view_of};
 ghost use Rattle.btree_view.specs.View.{items_of};
 ghost use Rattle.btree_shape.specs.Left.{left_above, AreRows, IsUnder};
 ghost use Rattle.btree_shape.specs.Spells.{spelled};
-ghost use Rattle.btree_shape.specs.TreeState.{views, pairs_of};
+ghost use Rattle.btree_shape.specs.TreeState.{looks, pairs_of};
 ghost use Rattle.btree_walk.specs.Rows.{left_in_leaf, rows_of};
 
-use btree_balance::{branch_at, item_at};
 use btree_ext::{BTreeExt, Tree};
 use btree_item::Slots;
 use btree_node::Node;
-use btree_store::SlabMut;
+use btree_nodes::NodesMut;
 
 /// An internal node above the leaf, and how many of its items are passed.
 #[derive(Drop)]
@@ -35,7 +35,7 @@ pub(crate) fn first_of<'a, K, V>(
         (λ pair. left_in_leaf leaf.entry passed ≡ (pair.0.now, pair.1.now) ∷ left_in_leaf leaf.entry (passed + 1)) }
 {
     match leaf {
-        Some(leaf) => match item_at(leaf, passed) {
+        Some(leaf) => match leaf.item_at_index(passed) {
             Some(item) => Some((item.key(), item.value())),
             None => None,
         },
@@ -44,17 +44,17 @@ pub(crate) fn first_of<'a, K, V>(
 }
 
 // The first leaf under a node, with the internal nodes on the way put below the frames.
-fn first_leaf<'a, K: Ord + 'a, V: 'a, C: SlabMut<Node<K, V>> + 'a>(
+fn first_leaf<'a, K: Ord + 'a, V: 'a, C: NodesMut<K, V> + 'a>(
     tree: &'a Tree<K, V, C>,
     top: usize,
     frames: &mut Frames<'a, K, V>,
 ) -> &'a Node<K, V>
     requires fits { FitsInMemory (node_row K.row V.row) }
-    requires rows { AreRows (views tree.now.nodes) tree.now.len 0 (rows_of frames.old) }
-    requires under { IsUnder (views tree.now.nodes) tree.now.len (length (rows_of frames.old)) top }
-    ensures rows { AreRows (views tree.now.nodes) tree.now.len 0 (rows_of frames.new) }
-    ensures left { spelled (views tree.now.nodes) tree.now.len top ++ left_above (views tree.now.nodes) tree.now.len (rows_of frames.old)
-        ≡ items_of (view_of result.now) ++ left_above (views tree.now.nodes) tree.now.len (rows_of frames.new) }
+    requires rows { AreRows (looks tree.now) (map.len tree.now.nodes) 0 (rows_of frames.old) }
+    requires under { IsUnder (looks tree.now) (map.len tree.now.nodes) (length (rows_of frames.old)) top }
+    ensures rows { AreRows (looks tree.now) (map.len tree.now.nodes) 0 (rows_of frames.new) }
+    ensures left { spelled (looks tree.now) (map.len tree.now.nodes) top ++ left_above (looks tree.now) (map.len tree.now.nodes) (rows_of frames.old)
+        ≡ items_of (view_of result.now) ++ left_above (looks tree.now) (map.len tree.now.nodes) (rows_of frames.new) }
 {
     let mut id = top;
     loop {
@@ -70,14 +70,14 @@ fn first_leaf<'a, K: Ord + 'a, V: 'a, C: SlabMut<Node<K, V>> + 'a>(
 }
 
 // The first leaf of a tree, with the internal nodes above it put into the frames.
-pub(crate) fn start<'a, K: Ord + 'a, V: 'a, C: SlabMut<Node<K, V>> + 'a>(
+pub(crate) fn start<'a, K: Ord + 'a, V: 'a, C: NodesMut<K, V> + 'a>(
     tree: &'a Tree<K, V, C>,
     frames: &mut Frames<'a, K, V>,
 ) -> Option<&'a Node<K, V>>
     requires fits { FitsInMemory (node_row K.row V.row) }
     requires none { frames.old ≡ [] }
-    ensures rows { AreRows (views tree.now.nodes) tree.now.len 0 (rows_of frames.new) }
-    ensures left { left_in_leaf result 0 ++ left_above (views tree.now.nodes) tree.now.len (rows_of frames.new) ≡ pairs_of tree.now }
+    ensures rows { AreRows (looks tree.now) (map.len tree.now.nodes) 0 (rows_of frames.new) }
+    ensures left { left_in_leaf result 0 ++ left_above (looks tree.now) (map.len tree.now.nodes) (rows_of frames.new) ≡ pairs_of tree.now }
 {
     let _len = tree.len();
     match tree.root_id() {
@@ -87,22 +87,22 @@ pub(crate) fn start<'a, K: Ord + 'a, V: 'a, C: SlabMut<Node<K, V>> + 'a>(
 }
 
 // The next item of the frames, and the first leaf after it.
-pub(crate) fn next_above<'a, K: Ord + 'a, V: 'a, C: SlabMut<Node<K, V>> + 'a>(
+pub(crate) fn next_above<'a, K: Ord + 'a, V: 'a, C: NodesMut<K, V> + 'a>(
     tree: &'a Tree<K, V, C>,
     frames: &mut Frames<'a, K, V>,
 ) -> Option<((&'a K, &'a V), &'a Node<K, V>)>
     requires fits { FitsInMemory (node_row K.row V.row) }
-    requires rows { AreRows (views tree.now.nodes) tree.now.len 0 (rows_of frames.old) }
-    ensures rows { AreRows (views tree.now.nodes) tree.now.len 0 (rows_of frames.new) }
+    requires rows { AreRows (looks tree.now) (map.len tree.now.nodes) 0 (rows_of frames.old) }
+    ensures rows { AreRows (looks tree.now) (map.len tree.now.nodes) 0 (rows_of frames.new) }
     ensures left { MatchOption result
-        ((left_above (views tree.now.nodes) tree.now.len (rows_of frames.old) ≡ []) × (rows_of frames.new ≡ []))
-        (λ next. left_above (views tree.now.nodes) tree.now.len (rows_of frames.old)
-        ≡ (next.0.0.now, next.0.1.now) ∷ items_of (view_of next.1.now) ++ left_above (views tree.now.nodes) tree.now.len (rows_of frames.new)) }
+        ((left_above (looks tree.now) (map.len tree.now.nodes) (rows_of frames.old) ≡ []) × (rows_of frames.new ≡ []))
+        (λ next. left_above (looks tree.now) (map.len tree.now.nodes) (rows_of frames.old)
+        ≡ (next.0.0.now, next.0.1.now) ∷ items_of (view_of next.1.now) ++ left_above (looks tree.now) (map.len tree.now.nodes) (rows_of frames.new)) }
 {
     while let Some(frame) = frames.pop() {
         let node = frame.node;
         let passed = frame.passed;
-        if let Some((item, child)) = branch_at(node, passed) {
+        if let Some((item, child)) = node.branch_at_index(passed) {
             frames.push(Frame {
                 node,
                 passed: passed + 1,

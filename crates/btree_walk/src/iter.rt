@@ -7,14 +7,14 @@ use crate::frames::{Frames, first_of, next_above, start};
 use btree_ext::Tree;
 use btree_item::Slots;
 use btree_node::Node;
-use btree_store::SlabMut;
+use btree_nodes::NodesMut;
 use std::iter::{ExactSizeIterator, FusedIterator};
 use std::marker::Model;
 
 /// The pairs of a tree in the order of the keys, seen as the list of those that are left. It takes no memory of the heap. Each
 /// node is fetched from the store once in a whole walk, and a step inside a leaf reads that leaf alone.
 #[derive(Drop)]
-pub struct Iter<'a, K: Ord, V, C: SlabMut<Node<K, V>>> {
+pub struct Iter<'a, K: Ord, V, C: NodesMut<K, V>> {
     tree: &'a Tree<K, V, C>,
     // `None` in a tree without pairs.
     leaf: Option<&'a Node<K, V>>,
@@ -24,22 +24,23 @@ pub struct Iter<'a, K: Ord, V, C: SlabMut<Node<K, V>>> {
     left: usize,
 }
 
-impl<'a, K: Ord, V, C: SlabMut<Node<K, V>>> Model for Iter<'a, K, V, C> {
+impl<'a, K: Ord, V, C: NodesMut<K, V>> Model for Iter<'a, K, V, C> {
+    ghost use Rattle.std.specs.FinMap as map;
     ghost use Rattle.std.specs.Prelude.{◌≡◌, List, ◌++◌, length};
     ghost use Rattle.btree_shape.specs.Left.{left_above, AreRows};
-    ghost use Rattle.btree_shape.specs.TreeState.{views};
+    ghost use Rattle.btree_shape.specs.TreeState.{looks};
     ghost use Rattle.btree_walk.specs.Rows.{rows_of, left_in_leaf};
 
     ghost Value = { List (K × V) };
 
-    ghost view = { λ it. left_in_leaf it.leaf it.passed ++ left_above (views it.tree.now.nodes) it.tree.now.len (rows_of it.frames) };
+    ghost view = { λ it. left_in_leaf it.leaf it.passed ++ left_above (looks it.tree.now) (map.len it.tree.now.nodes) (rows_of it.frames) };
 
     ghost invariant = { λ it. C.Fits
-        × AreRows (views it.tree.now.nodes) it.tree.now.len 0 (rows_of it.frames)
-        × (it.left ≡ length (left_in_leaf it.leaf it.passed ++ left_above (views it.tree.now.nodes) it.tree.now.len (rows_of it.frames))) };
+        × AreRows (looks it.tree.now) (map.len it.tree.now.nodes) 0 (rows_of it.frames)
+        × (it.left ≡ length (left_in_leaf it.leaf it.passed ++ left_above (looks it.tree.now) (map.len it.tree.now.nodes) (rows_of it.frames))) };
 }
 
-impl<'a, K: Ord, V, C: SlabMut<Node<K, V>>> Iter<'a, K, V, C> {
+impl<'a, K: Ord, V, C: NodesMut<K, V>> Iter<'a, K, V, C> {
     ghost use Rattle.btree_shape.specs.TreeState.{pairs_of};
 
     /// A walk from the first pair on.
@@ -60,7 +61,7 @@ impl<'a, K: Ord, V, C: SlabMut<Node<K, V>>> Iter<'a, K, V, C> {
     }
 }
 
-impl<'a, K: Ord, V, C: SlabMut<Node<K, V>>> Iterator for Iter<'a, K, V, C> {
+impl<'a, K: Ord, V, C: NodesMut<K, V>> Iterator for Iter<'a, K, V, C> {
     type Item = (&'a K, &'a V);
 
     ghost next_gives = { YieldsFirstBy (λ pair. (pair.0.now, pair.1.now)) (λ rest. rest) };
@@ -96,10 +97,10 @@ impl<'a, K: Ord, V, C: SlabMut<Node<K, V>>> Iterator for Iter<'a, K, V, C> {
     }
 }
 
-impl<'a, K: Ord, V, C: SlabMut<Node<K, V>>> ExactSizeIterator for Iter<'a, K, V, C> {
+impl<'a, K: Ord, V, C: NodesMut<K, V>> ExactSizeIterator for Iter<'a, K, V, C> {
     fn len(&self) -> usize {
         self.left
     }
 }
 
-impl<'a, K: Ord, V, C: SlabMut<Node<K, V>>> FusedIterator for Iter<'a, K, V, C> {}
+impl<'a, K: Ord, V, C: NodesMut<K, V>> FusedIterator for Iter<'a, K, V, C> {}

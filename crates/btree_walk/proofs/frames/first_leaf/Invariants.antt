@@ -1,4 +1,5 @@
 use Rattle.std.proofs.Common.{◌++◌, ◌-◌, length}
+use Rattle.std.specs.FinMap as map
 use Rattle.btree_shape.specs.Left.{left_above}
 use Rattle.btree_shape.specs.Spells.{spelled}
 use Rattle.btree_shape.specs.TreeState.{views}
@@ -8,7 +9,7 @@ use Rattle.btree_walk.proofs.frames.first_leaf.Given as goal
 
 abbrev pub invariant-loop-child : goal.invariant-loop-child
 invariant-loop-child g l =
-    IsDown l.tree.nodes l.tree.len (spelled (views l.tree.nodes) l.tree.len l.fn.top ++ left_above (views l.tree.nodes) l.tree.len (rows_of l.initial.frames)) l.frames l.id
+    IsDown l.tree.nodes (map.len l.tree.nodes) (spelled (views l.tree.nodes) (map.len l.tree.nodes) l.fn.top ++ left_above (views l.tree.nodes) (map.len l.tree.nodes) (rows_of l.initial.frames)) l.frames l.id
 
 abbrev pub decreases-loop-child : goal.decreases-loop-child
 decreases-loop-child g l = 32 - length l.frames

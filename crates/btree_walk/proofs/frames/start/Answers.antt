@@ -1,7 +1,8 @@
 use Rattle.std.proofs.Common.{sym, ap, subst, ◌∙◌, ◌++◌, arith, append-nil}
+use Rattle.std.specs.FinMap as map
 use Rattle.btree_shape.specs.Left.{left_above}
 use Rattle.btree_shape.specs.Spells.{spelled}
-use Rattle.btree_shape.specs.TreeState.{views, pairs_under, pairs_of}
+use Rattle.btree_shape.specs.TreeState.{looks, pairs_under, pairs_of}
 use Rattle.btree_shape.specs.WellFormed.{IsWellFormed}
 use Rattle.btree_walk.specs.Rows.{rows_of}
 use Rattle.btree_walk.proofs.IterLemmas.{root-under}
@@ -9,7 +10,7 @@ use Rattle.btree_walk.proofs.frames.start.Goals as goal
 
 pub first_leaf-requires : goal.first_leaf-requires
 first_leaf-requires g c =
-    let well = subst (λ r. IsWellFormed g.K.Ord.cmp (views c.args.tree.now.nodes) r c.args.tree.now.len (pairs_of c.args.tree.now)) (sym c.in-Some.ensures.value) c.in-Some.ensures.well_formed in
+    let well = subst (λ r. IsWellFormed g.K.Ord.cmp (looks c.args.tree.now) r c.args.tree.now.len (pairs_of c.args.tree.now)) (sym c.in-Some.ensures.value) c.in-Some.ensures.well_formed in
     let fits = c.len-len.type_inv in
     let is = c.len-len.ensures in (
       omega arith,
@@ -19,7 +20,7 @@ first_leaf-requires g c =
           c.requires.fits,
           (
             rw c.requires.none tt,
-            rw c.requires.none (root-under g.K.Ord.cmp (views c.args.tree.now.nodes) c.in-Some.root c.args.tree.now.len (pairs_of c.args.tree.now) (rw (← is) fits) well),
+            rw c.requires.none (root-under g.K.Ord.cmp c.args.tree.now c.in-Some.root (rw (← is) fits) well),
           ),
         ),
       ),
@@ -28,6 +29,6 @@ first_leaf-requires g c =
 pub returns-in-Some-clause-left : goal.returns-in-Some-clause-left
 returns-in-Some-clause-left g c =
     sym c.first_leaf.ensures.left
-    ∙ ap (λ fs. spelled (views c.args.tree.now.nodes) c.args.tree.now.len c.in-Some.root ++ left_above (views c.args.tree.now.nodes) c.args.tree.now.len (rows_of fs)) c.requires.none
-    ∙ append-nil (spelled (views c.args.tree.now.nodes) c.args.tree.now.len c.in-Some.root)
-    ∙ ap (λ r. pairs_under (views c.args.tree.now.nodes) r c.args.tree.now.len) c.in-Some.ensures.value
+    ∙ ap (λ fs. spelled (looks c.args.tree.now) (map.len c.args.tree.now.nodes) c.in-Some.root ++ left_above (looks c.args.tree.now) (map.len c.args.tree.now.nodes) (rows_of fs)) c.requires.none
+    ∙ append-nil (spelled (looks c.args.tree.now) (map.len c.args.tree.now.nodes) c.in-Some.root)
+    ∙ ap (λ r. pairs_under (looks c.args.tree.now) r (map.len c.args.tree.now.nodes)) c.in-Some.ensures.value
