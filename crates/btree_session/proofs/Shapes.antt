@@ -6,7 +6,7 @@ use Rattle.std.specs.Fmt.{decimal}
 use Rattle.std.specs.declared.cmp.Ordering.{Ordering}
 use Rattle.btree_view.specs.View.{Look, size_of}
 use Rattle.btree_shape.specs.Spells.{Spells}
-use Rattle.btree_shape.specs.TreeState.{TreeState, pairs_of, views}
+use Rattle.btree_shape.specs.TreeState.{TreeState, IsBTree, looks, pairs_of}
 use Rattle.btree_shape.specs.WellFormed.{IsWellFormed, least_of}
 use Rattle.btree_shape.proofs.Spelled.{height_below}
 use Rattle.btree_session.specs.Answer.{shape_under, shape_text, IsWritten, IsShapeOf, IsAnswer, answer_text}
@@ -49,15 +49,15 @@ some_item : (root id size : ℕ) → least_of root id ≤ size → 0 < size
 some_item root id size low = grind (arith, nat_tests)
 
 module _ (cmp : ℕ → ℕ → Ordering) (m : TreeState ℕ ℕ) where
-  shape : (root : Option ℕ) → IsWellFormed cmp (views m.nodes) root m.len (pairs_of m) → IsShapeOf (views m.nodes) root (shape_text (views m.nodes) root m.len)
+  shape : (root : Option ℕ) → IsWellFormed cmp (looks m) root m.len (pairs_of m) → IsShapeOf (looks m) root (shape_text (looks m) root m.len)
   shape None w = refl
   shape (Some root) w =
       let r = w.formed in
-      let low = height_below (views m.nodes) r.height None root (pairs_of m) (λ i node e. some_item root i (size_of node) (r.sized i node e).0) r.spells in
-      (r.height, written (views m.nodes) r.height m.len None root (pairs_of m) (rw w.counted low) r.spells)
+      let low = height_below (looks m) r.height None root (pairs_of m) (λ i node e. some_item root i (size_of node) (r.sized i node e).0) r.spells in
+      (r.height, written (looks m) r.height m.len None root (pairs_of m) (rw w.counted low) r.spells)
 
   -- what is printed is the answer
-  pub is-answer : (question : Question) → IsWellFormed cmp (views m.nodes) m.root m.len (pairs_of m) → IsAnswer m question (answer_text m question)
+  pub is-answer : (question : Question) → IsBTree cmp m → IsAnswer m question (answer_text m question)
   is-answer questions.List w = refl
   is-answer questions.Len w = refl
   is-answer questions.Nodes w = refl

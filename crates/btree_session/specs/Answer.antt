@@ -4,7 +4,7 @@ use Rattle.std.specs.FinMap as finite
 use Rattle.std.specs.Fmt.{decimal}
 use Rattle.std.specs.List.{flat_map, join_with_byte, AllByRecursion}
 use Rattle.btree_view.specs.View.{View, leaf, internal, Look}
-use Rattle.btree_shape.specs.TreeState.{TreeState, pairs_of, views}
+use Rattle.btree_shape.specs.TreeState.{TreeState, looks, pairs_of}
 use Rattle.btree_session.specs.declared.question.Question.{Question}
 use Rattle.btree_session.specs.declared.question.Question.TheVariants as questions
 
@@ -43,7 +43,7 @@ abbrev pub IsAnswer : TreeState ℕ ℕ → Question → List ℕ → Type 0
 IsAnswer m questions.List text = text ≡ list_text (pairs_of m)
 IsAnswer m questions.Len text = text ≡ decimal (length (pairs_of m))
 IsAnswer m questions.Nodes text = text ≡ decimal (finite.len m.nodes)
-IsAnswer m questions.Shape text = IsShapeOf (views m.nodes) m.root text
+IsAnswer m questions.Shape text = IsShapeOf (looks m) m.root text
 
 -- Below, the same as a function, in the steps in which it is printed.
 
@@ -69,4 +69,4 @@ abbrev pub answer_text : TreeState ℕ ℕ → Question → List ℕ
 answer_text m questions.List = list_text (pairs_of m)
 answer_text m questions.Len = decimal (length (pairs_of m))
 answer_text m questions.Nodes = decimal (finite.len m.nodes)
-answer_text m questions.Shape = shape_text (views m.nodes) m.root m.len
+answer_text m questions.Shape = shape_text (looks m) m.root m.len

@@ -6,9 +6,8 @@ use Rattle.btree_item.specs.declared.refused.Cause.{Cause}
 use Rattle.btree_item.specs.declared.refused.Cause.TheVariants.{Store, Count}
 use Rattle.btree_store.specs.Content.{Content}
 use Rattle.btree_node.specs.declared.node.Node.{Node}
-use Rattle.btree_shape.specs.TreeState.{TreeState, pairs_of, views}
-use Rattle.btree_shape.specs.WellFormed.{IsWellFormed}
-use Rattle.btree_ext.specs.Insert.{IsRefusedAtGap, Took}
+use Rattle.btree_shape.specs.TreeState.{TreeState, IsBTree, pairs_of}
+use Rattle.btree_edit.specs.Insert.{IsRefusedAtGap, Took}
 use Rattle.btree_session.specs.declared.command.Command.{Command}
 use Rattle.btree_session.specs.declared.command.Command.TheVariants.{Insert, Get}
 use Rattle.btree_session.specs.declared.command.Reply.{Reply}
@@ -51,25 +50,21 @@ MachineStep old (Get key) (Refused cause) new = ⊥
 abbrev pub state_of : TreeState ℕ ℕ → SessionState
 state_of map = record { pairs = pairs_of map; place = None; refusals = map.refusals }
 
--- the map is a well formed tree
-abbrev pub IsTree : TreeState ℕ ℕ → Type 0
-IsTree map = IsWellFormed nat_cmp (views map.nodes) map.root map.len (pairs_of map)
-
 -- over stores that may refuse a node in these contents
 module _ (MayRefuse : Content (Node ℕ ℕ) → Type 0) where
   -- What a command that is so replied does to the nodes: a look-up nothing; an insertion takes those that it needs; a refused one nothing,
   -- and it comes only where the store may refuse one of those that are needed, or at the greatest count.
   abbrev pub Handles : (old : TreeState ℕ ℕ) → Command → Reply → (new : TreeState ℕ ℕ) → Type 0
   Handles old (Get key) reply new = new ≡ old
-  Handles old (Insert key value) Nothing new = Took nat_cmp key old new
-  Handles old (Insert key value) (Value was) new = Took nat_cmp key old new
+  Handles old (Insert key value) Nothing new = Took nat_cmp key old new value
+  Handles old (Insert key value) (Value was) new = Took nat_cmp key old new value
   Handles old (Insert key value) (Refused cause) new = IsRefusedAtGap nat_cmp key old new MayRefuse cause
 
   -- From old, the session may give this reply to the command and go on to new: a step of the machine, to a well formed tree.
   pub record IsStep (old : TreeState ℕ ℕ) (command : Command) (reply : Reply) (new : TreeState ℕ ℕ) : Type 0 where
     pub step : MachineStep (state_of old) command reply (state_of new)
     pub nodes : Handles old command reply new
-    pub tree : IsTree new
+    pub tree : IsBTree nat_cmp new
 
   -- The session may give these replies to these commands, one step after another.
   abbrev pub IsRun : (old : TreeState ℕ ℕ) → List Command → List Reply → (new : TreeState ℕ ℕ) → Type 0

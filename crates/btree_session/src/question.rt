@@ -1,6 +1,6 @@
 //! Questions about a session's map, and their answers as text.
 ghost use Rattle.std.specs.Prelude.{◌≡◌, ◌++◌, List, ℕ, OnOk, OnErr, map, decimal};
-ghost use Rattle.btree_shape.specs.TreeState.{pairs_of, views};
+ghost use Rattle.btree_shape.specs.TreeState.{looks, pairs_of};
 ghost use Rattle.btree_session.specs.Answer.{IsAnswer, list_text, bracketed, shape_under, answer_text};
 ghost use Rattle.btree_session.specs.Text.{Grows, as_line};
 
@@ -87,7 +87,7 @@ fn push_shape<C: NodesMut<u64, u64>>(
     text: &mut Vec<u8>,
 ) -> Result<(), AllocError>
     ensures put { OnOk result (text.new.items
-        ≡ text.old.items ++ shape_under (views map.now.nodes) levels id) }
+        ≡ text.old.items ++ shape_under (looks map.now) levels id) }
     ensures kept { OnErr result (Grows text.old.items text.new.items) }
 {
     if levels == 0 || !map.has_node(id) {

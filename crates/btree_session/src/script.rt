@@ -11,7 +11,6 @@ use crate::line::{Line, parse, without_last};
 use crate::question::{Question, push_answer_line};
 use crate::text::{LONGEST_LINE, push_line};
 use crate::{Command, Session};
-use btree_node::Node;
 use btree_nodes::NodesMut;
 use std::alloc::{AllocError, Global};
 use std::io::{BufRead, BufReader, ErrorKind, Read, Write};

@@ -8,18 +8,17 @@ ghost use Rattle.btree_session.specs.declared.command.Reply.{Reply};
 use crate::{Command, Reply};
 use btree_ext::BTreeExt;
 use btree_map::BTreeMap;
-use btree_node::Node;
 use btree_nodes::NodesMut;
 use std::alloc::{AllocError, Allocator};
 use std::marker::Model;
 
 /// A map from `K` to `V` that commands are run on. Commands are about a [`Session`], where both are `u64`.
 #[derive(Drop)]
-pub struct SessionOver<K: Ord, V, C: SlabMut<Node<K, V>>> {
+pub struct SessionOver<K: Ord, V, C: NodesMut<K, V>> {
     map: BTreeMap<K, V, C>,
 }
 
-impl<K: Ord, V, C: SlabMut<Node<K, V>>> Model for SessionOver<K, V, C> {
+impl<K: Ord, V, C: NodesMut<K, V>> Model for SessionOver<K, V, C> {
     ghost use Rattle.std.specs.Coded.{codes};
     ghost use Rattle.btree_shape.specs.TreeState.{TreeState, tree_code};
 

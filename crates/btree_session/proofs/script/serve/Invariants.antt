@@ -5,7 +5,7 @@ use Rattle.btree_session.proofs.script.serve.Given as goal
 
 abbrev pub invariant-loop-number : goal.invariant-loop-number
 invariant-loop-number g l = Progress
-    g.C.SlabMut.MayRefuse
+    g.C.NodesMut.MayRefuse
     l.initial.session
     (reader_remaining g.R.Read.remaining l.initial.reader)
     (append_known (g.W.Write.contents l.initial.output) l.initial.text.items)

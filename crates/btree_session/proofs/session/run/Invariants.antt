@@ -5,5 +5,5 @@ use Rattle.btree_session.proofs.session.run.Given as goal
 abbrev pub invariant-loop-command : goal.invariant-loop-command
 invariant-loop-command g l = record {
   room : vec_len l.replies + length l.commands ≤ vec_capacity l.replies + l.command-index;
-  given : HasAnswered g.C.SlabMut.MayRefuse l.initial.session (take l.command-index l.commands) l.initial.replies.items l.replies.items l.session;
+  given : HasAnswered g.C.NodesMut.MayRefuse l.initial.session (take l.command-index l.commands) l.initial.replies.items l.replies.items l.session;
 }
