@@ -1,14 +1,9 @@
 -- The count of the nodes that an insertion takes, step by step.
-use Rattle.std.proofs.Common.{◌≡◌, ◌↔◌, IsTrue, true, false, leb, ℕ, zero, suc, ◌+◌, ◌<◌, ◌≤◌, ◌^◌, inl, inr, List, [], ◌∷◌, Option, Some, None, length, length-append, refl, sym, ap, subst, arith}
-use Rattle.std.proofs.lemmas.Bool.Decides.{nat_tests}
-use Rattle.std.proofs.lemmas.List.{length-map}
+use Rattle.std.proofs.Common.{◌≡◌, ◌↔◌, IsTrue, true, false, ℕ, zero, suc, ◌+◌, ◌<◌, ◌≤◌, ◌^◌, inl, inr, List, [], ◌∷◌, Option, Some, None, length, length-append, refl, sym, ap, subst, arith}
 use Rattle.std.proofs.Math.Nat.{pow-le-pow_right}
 use Rattle.std.specs.FinMap as map
 use Rattle.std.specs.declared.cmp.Ordering.{Ordering}
 use Rattle.btree_node.specs.declared.node.Node.{Node}
-use Rattle.btree_node.specs.declared.node.Node.TheVariants.{Internal, Leaf}
-use Rattle.btree_internal.specs.Internal.{Internal as InternalParts}
-use Rattle.btree_leaf.specs.Leaf.{Leaf as LeafParts}
 use Rattle.btree_node.specs.Node.{view_of}
 use Rattle.btree_view.specs.View.{Look, most_of, size_of}
 use Rattle.btree_shape.specs.Need.{IsClimbing, climb, climbed, need, wanted}
@@ -32,18 +27,6 @@ use Rattle.btree_shape.proofs.Stores.{some-used}
 use Rattle.btree_shape.proofs.Wholes.{close}
 
 -- the test of a node
-pub full-internal : {K V : Type 0} (node : Node K V) (n : InternalParts K V) (count : ℕ) → node ≡ Internal n → count ≡ length n.branches
-    → (IsTrue (leb 7 count) → most_of (view_of node) ≤ size_of (view_of node)) × (most_of (view_of node) ≤ size_of (view_of node) → IsTrue (leb 7 count))
-full-internal {K} {V} node n count e counted =
-    rw e
-    (let l = length-map {A = (K × V) × ℕ} {B = K × V} n.branches (λ b. b.0) in
-    ((λ t. let q : 7 ≤ count = grind (arith, nat_tests) in omega arith), (λ low. let q : 7 ≤ count = omega arith in grind (arith, nat_tests))))
-
-pub full-leaf : {K V : Type 0} (node : Node K V) (n : LeafParts K V) (count : ℕ) → node ≡ Leaf n → count ≡ length n.items
-    → (IsTrue (leb 8 count) → most_of (view_of node) ≤ size_of (view_of node)) × (most_of (view_of node) ≤ size_of (view_of node) → IsTrue (leb 8 count))
-full-leaf node n count e counted =
-    rw e ((λ t. let q : 8 ≤ count = grind (arith, nat_tests) in omega arith), (λ low. let q : 8 ≤ count = omega arith in grind (arith, nat_tests)))
-
 pub is-full : {K V : Type 0} (node : Node K V) → (IsTrue true ↔ (most_of (view_of node) ≤ size_of (view_of node))) → most_of (view_of node) ≤ size_of (view_of node)
 is-full node e = e.0 refl
 

@@ -35,9 +35,7 @@ fn empty_leaf<K: Drop, V: Drop>() -> Node<K, V>
 }
 
 /// Claims one node as an empty leaf, or none where the store refuses it.
-pub fn claim_one<K: Drop, V: Drop, C: NodesMut<K, V>>(
-    tree: &mut RawBTree<K, V, C>,
-) -> Option<usize>
+pub fn claim_one<K: Drop, V: Drop, C: NodesMut<K, V>>(tree: &mut RawBTree<K, V, C>) -> Option<usize>
     ensures number { IfSome result (λ id. id < usize.MAX) }
     ensures unused { IfSome result (λ id. map.get tree.old.nodes id ≡ None) }
     ensures claimed { IfSome result (λ id.

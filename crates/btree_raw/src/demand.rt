@@ -1,24 +1,11 @@
 //! How many nodes splits take.
-ghost use Rattle.std.specs.Prelude.{◌≡◌, ◌≤◌, ◌↔◌, IsTrue};
+ghost use Rattle.std.specs.Prelude.{◌≡◌, ◌≤◌};
 ghost use Rattle.std.specs.FinMap as map;
-ghost use Rattle.btree_node.specs.Node.{view_of};
-ghost use Rattle.btree_view.specs.View.{size_of, most_of};
 ghost use Rattle.btree_shape.specs.TreeState.{IsBTree, IsUsed, looks, nodes_for_splits, nodes_needed};
 ghost use Rattle.btree_raw.specs.Steps.{IsCounting};
 
 use crate::raw::RawBTree;
-use btree_node::Node;
 use btree_nodes::NodesMut;
-
-/// Whether there are as many items as the node holds at rest.
-pub fn is_full<K, V>(node: &Node<K, V>) -> bool
-    ensures { IsTrue result ↔ (most_of (view_of node.now) ≤ size_of (view_of node.now)) }
-{
-    match node {
-        Node::Internal(node) => node.item_count() >= 7,
-        Node::Leaf(leaf) => leaf.item_count() >= 8,
-    }
-}
 
 /// How many nodes the splits take that begin at a node with an item too many: one for each full node from there upward without a gap,
 /// and one more where the last of them is the root.
@@ -32,7 +19,7 @@ pub fn climb<K, V, C: NodesMut<K, V>>(tree: &RawBTree<K, V, C>, start: usize) ->
     let mut counted = 0usize;
     loop {
         let node = tree.node(id);
-        if !is_full(node) {
+        if !node.is_full() {
             return counted;
         }
         let Some(parent) = node.parent() else {

@@ -48,9 +48,7 @@ fn change_item<K: Drop, V: Drop, C: NodesMut<K, V>>(
     ensures { Changes (λ a b. ChangesItem a b id index result item) tree.old tree.new }
 {
     tree.tell_fits();
-    tree
-        .node_mut(id)
-        .replace(Offset::from(index), item)
+    tree.node_mut(id).replace(Offset::from(index), item)
 }
 
 // Puts an item before the others of a node, with a child.

@@ -50,9 +50,7 @@ pub fn add_item<K: Drop, V: Drop, C: NodesMut<K, V>>(
     ensures { Changes (λ a b. AddsItem a b id index item child) tree.old tree.new }
 {
     tree.tell_fits();
-    tree
-        .node_mut(id)
-        .insert(Offset::from(index), item, child);
+    tree.node_mut(id).insert(Offset::from(index), item, child);
 }
 
 // Splits a node, of which the left part stays. Returns how many items stay, the median and the right part.

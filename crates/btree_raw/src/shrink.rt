@@ -73,10 +73,7 @@ fn mend_left<K: Drop, V: Drop, C: NodesMut<K, V>>(
     tree.tell_fits();
     let held = count_of(tree, left);
     if held > 3 {
-        return (
-            lend_right(tree, parent, index, left, id, held, addr),
-            false,
-        );
+        return (lend_right(tree, parent, index, left, id, held, addr), false);
     }
     (join(tree, parent, index, left, id, held, addr), true)
 }

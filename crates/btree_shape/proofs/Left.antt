@@ -1,9 +1,9 @@
 -- A walk through a tree: down to a first leaf, and on to the next item above.
-use Rattle.std.proofs.Common.{◌≡◌, ℕ, zero, suc, ◌+◌, ◌<◌, List, [], ◌∷◌, ◌++◌, length, map, drop, slice_get, Option, Some, None, subst, refl, sym, ap, ◌∙◌, arith, append_assoc, append-nil}
+use Rattle.std.proofs.Common.{◌≡◌, ℕ, zero, suc, ◌+◌, ◌<◌, List, [], ◌∷◌, ◌++◌, length, map, drop, slice_get, Option, Some, None, refl, sym, ap, ◌∙◌, arith, append_assoc, append-nil}
 use Rattle.std.specs.List.{flat_map, AllByRecursion}
-use Rattle.btree_view.specs.View.{View, leaf, internal, Look, items_of, children_of}
+use Rattle.btree_view.specs.View.{leaf, internal, Look}
 use Rattle.btree_shape.specs.Spells.{Spells, spelled}
-use Rattle.btree_shape.specs.Left.{branches_of, left_in, left_above, IsUnder, AreRows}
+use Rattle.btree_shape.specs.Left.{left_in, left_above, IsUnder, AreRows}
 use Rattle.btree_shape.proofs.Spelled.{spelled-is}
 
 -- the next item of a list, at an index
@@ -20,41 +20,6 @@ rest-none [] zero e = refl
 rest-none [] (suc i) e = refl
 rest-none (x ∷ xs) zero e = absurd (cc)
 rest-none (x ∷ xs) (suc i) e = rest-none xs i e
-
-module _ {A : Type 0} where
-  -- an item and the child after it are a branch
-  both : (row : List (A × ℕ)) (i : ℕ) (x : A) (c : ℕ) → slice_get (map (λ b. b.0) row) i ≡ Some x → slice_get (map (λ b. b.1) row) i ≡ Some c → slice_get row i ≡ Some (x, c)
-  both [] i x c item child = absurd (cc)
-  both ((y, d) ∷ row) zero x c item child = let same : y ≡ x = cc in let next : d ≡ c = cc in cc
-  both (b ∷ row) (suc i) x c item child = both row i x c item child
-
-  no-item : (row : List (A × ℕ)) (i : ℕ) → slice_get (map (λ b. b.0) row) i ≡ None → slice_get row i ≡ None
-  no-item [] i e = refl
-  no-item (b ∷ row) zero e = absurd (cc)
-  no-item (b ∷ row) (suc i) e = no-item row i e
-
-  no-next : (row : List (A × ℕ)) (i : ℕ) → slice_get (map (λ b. b.1) row) i ≡ None → slice_get row i ≡ None
-  no-next [] i e = refl
-  no-next (b ∷ row) zero e = absurd (cc)
-  no-next (b ∷ row) (suc i) e = no-next row i e
-
-  pub branch-next : (v : View A) (i : ℕ) (x : A) (c : ℕ) → slice_get (items_of v) i ≡ Some x → slice_get (children_of v) (i + 1) ≡ Some c → drop i (branches_of v) ≡ (x, c) ∷ drop (i + 1) (branches_of v)
-  branch-next (leaf p ys) i x c item child = absurd (cc)
-  branch-next (internal p first row) i x c item child =
-      let s : i + 1 ≡ suc i = omega arith in
-      let at : slice_get (first ∷ map (λ b. b.1) row) (suc i) ≡ Some c = subst (λ n. slice_get (first ∷ map (λ (b : A × ℕ). b.1) row) n ≡ Some c) s child in
-      rest-next row i (x, c) (both row i x c item at)
-
-  pub branch-none : (v : View A) (i : ℕ) → slice_get (items_of v) i ≡ None → drop i (branches_of v) ≡ []
-  branch-none (leaf p ys) i none = rest-none [] i refl
-  branch-none (internal p first row) i none = rest-none row i (no-item row i none)
-
-  pub branch-end : (v : View A) (i : ℕ) → slice_get (children_of v) (i + 1) ≡ None → drop i (branches_of v) ≡ []
-  branch-end (leaf p ys) i none = rest-none [] i refl
-  branch-end (internal p first row) i none =
-      let s : i + 1 ≡ suc i = omega arith in
-      let at : slice_get (first ∷ map (λ b. b.1) row) (suc i) ≡ None = subst (λ n. slice_get (first ∷ map (λ (b : A × ℕ). b.1) row) n ≡ None) s none in
-      rest-none row i (no-next row i at)
 
 module _ {A : Type 0} (look : Look A) (levels : ℕ) where
   -- a row put below the others is left first

@@ -1,13 +1,8 @@
 -- What is left of a walk through a tree in order, from the front.
 use Rattle.std.specs.Prelude.{ℕ, suc, ◌+◌, ◌<◌, List, [], ◌∷◌, ◌++◌, Option}
 use Rattle.std.specs.List.{flat_map, AllByRecursion}
-use Rattle.btree_view.specs.View.{View, leaf, internal, Look}
+use Rattle.btree_view.specs.View.{Look}
 use Rattle.btree_shape.specs.Spells.{Spells, spelled}
-
--- the items of an internal node, each with the child after it
-abbrev pub branches_of : {A : Type 0} → View A → List (A × ℕ)
-branches_of (leaf parent items) = []
-branches_of (internal parent first branches) = branches
 
 -- A row is what is left of one internal node: the items that are not passed yet, each with the child after it. The rows of a
 -- place go from the root down to it.

@@ -1,4 +1,3 @@
-pub mod ItemLemmas
 pub mod OrderLemmas
 pub mod PassLemmas
 pub mod EnterLemmas

@@ -7,7 +7,6 @@ ghost use Rattle.btree_view.specs.View.{items_of, leaf, most_of, parent_of};
 ghost use Rattle.btree_shape.specs.WellFormed.{IsNearlySized, excess_beside, least_beside};
 ghost use Rattle.btree_valid.specs.Odd.{CanOrder, CanPassFrom, IsAbove, IsOffAmong, IsOffAtHeight, Orders, PassesFrom};
 
-use crate::items::branch_at;
 use btree_node::Node;
 use btree_nodes::Nodes;
 use std::cmp::Ordering;
@@ -132,7 +131,7 @@ fn pass_node<'a, K: Ord + 'a, V: 'a, C: Nodes<K, V>>(
     }
     let mut passed = pass_node(nodes, root, odd, height - 1, Some(id), first, entered)?;
     let mut index = 0;
-    while let Some((item, child)) = branch_at(node, index) {
+    while let Some((item, child)) = node.branch_at_index(index) {
         let key = item.key();
         if !is_above(passed.last, key) {
             return None;
@@ -148,12 +147,7 @@ fn pass_node<'a, K: Ord + 'a, V: 'a, C: Nodes<K, V>>(
 }
 
 // Whether the tree is off by one at node `odd`, its root so many levels above the leaves: then a walk passes all nodes.
-fn is_off_at<K: Ord, V, C: Nodes<K, V>>(
-    nodes: &C,
-    root: usize,
-    odd: usize,
-    height: usize,
-) -> bool
+fn is_off_at<K: Ord, V, C: Nodes<K, V>>(nodes: &C, root: usize, odd: usize, height: usize) -> bool
     requires { FitsInMemory (node_row K.row V.row) }
     ensures { IsTrue result ↔ IsOffAtHeight K.cmp (C.content nodes.now) root odd height }
 {

@@ -19,8 +19,8 @@ add_item-requires g c =
 pub returns-clause-lifts : goal.returns-clause-lifts
 returns-clause-lifts g c = record {
   nodes =
-    lifts c.args.tree.now.nodes c.args.above c.args.id c.requires c.node.result.now c.node.ensures.value c.child_index.result c.child_index.ensures.value
-    c.unwrap-index.result c.unwrap-index.ensures c.add_item.new.tree.nodes c.args.median c.args.right c.add_item.ensures.nodes;
+      lifts c.args.tree.now.nodes c.args.above c.args.id c.requires c.node.result.now c.node.ensures.value c.child_index.result c.child_index.ensures.value
+      c.unwrap-index.result c.unwrap-index.ensures c.add_item.new.tree.nodes c.args.median c.args.right c.add_item.ensures.nodes;
   rest = c.add_item.ensures.rest;
 }
 

@@ -25,8 +25,8 @@ set_parent-requires-2-clause-used g c =
 pub returns : goal.returns
 returns g c = record {
   nodes =
-    raises (looks c.args.tree.now) c.args.left c.args.right c.args.root c.args.median c.requires.can (looks c.put.new.tree)
-    (subst (λ v. Puts (looks c.args.tree.now) (looks c.put.new.tree) c.args.root v) c.binary.ensures c.put.ensures.nodes)
-    (looks c.set_parent.new.tree) c.set_parent.ensures.nodes (looks c.set_parent-2.new.tree) c.set_parent-2.ensures.nodes;
+      raises (looks c.args.tree.now) c.args.left c.args.right c.args.root c.args.median c.requires.can (looks c.put.new.tree)
+      (subst (λ v. Puts (looks c.args.tree.now) (looks c.put.new.tree) c.args.root v) c.binary.ensures c.put.ensures.nodes)
+      (looks c.set_parent.new.tree) c.set_parent.ensures.nodes (looks c.set_parent-2.new.tree) c.set_parent-2.ensures.nodes;
   rest = then (then c.put.ensures.rest c.set_parent.ensures.rest) c.set_parent-2.ensures.rest;
 }

@@ -8,9 +8,9 @@ use Rattle.btree_shape.proofs.Stores.{used-view}
 pub put-requires : goal.put-requires
 put-requires g c = (
   c.tell_fits.ensures,
-    used-view c.split_node-count.new.tree.nodes c.args.right
-        (right-there (looks c.args.tree.now) (looks c.split_node-count.new.tree) c.args.id c.args.right c.split_node-count.result.0 c.split_node-count.result.1
-        (view_of c.split_node-count.result.2) c.requires c.split_node-count.ensures.nodes),
+  used-view c.split_node-count.new.tree.nodes c.args.right
+      (right-there (looks c.args.tree.now) (looks c.split_node-count.new.tree) c.args.id c.args.right c.split_node-count.result.0 c.split_node-count.result.1
+      (view_of c.split_node-count.result.2) c.requires c.split_node-count.ensures.nodes),
 )
 
 pub adopt-requires : goal.adopt-requires
@@ -21,9 +21,9 @@ adopt-requires g c =
 pub returns-clause-splits : goal.returns-clause-splits
 returns-clause-splits g c = record {
   nodes =
-    splits (looks c.args.tree.now) (looks c.split_node-count.new.tree) c.args.id c.args.right c.split_node-count.result.0 c.split_node-count.result.1
-    (view_of c.split_node-count.result.2) c.requires c.split_node-count.ensures.nodes (looks c.put.new.tree) c.put.ensures.nodes
-    (looks c.adopt.new.tree) c.adopt.ensures.nodes;
+      splits (looks c.args.tree.now) (looks c.split_node-count.new.tree) c.args.id c.args.right c.split_node-count.result.0 c.split_node-count.result.1
+      (view_of c.split_node-count.result.2) c.requires c.split_node-count.ensures.nodes (looks c.put.new.tree) c.put.ensures.nodes
+      (looks c.adopt.new.tree) c.adopt.ensures.nodes;
   rest = then (then c.split_node-count.ensures.rest c.put.ensures.rest) c.adopt.ensures.rest;
 }
 

@@ -72,15 +72,15 @@ returns-in_default-clause-split g c =
     rw (c.set_root_id.ensures, c.moved_by_split.ensures)
     (record {
       split = (climb-root _ (looks c.args.tree.now) (looks c.loop-tree.tree) c.args.tree.now.root c.args.start c.loop-tree.id c.args.claims.now.items c.loop-tree.claims.items c.args.addr c.loop-tree.at c.requires.splitting c.loop-tree.invariant.climbs
-    (view_of c.node.result.now) (ap (option_map view_of) c.node.ensures.value) (is-over (view_of c.node.result.now) c.loop-tree-test.ensures)
-    c.take_claim-right.new.claims.items c.take_claim-right.result c.take_claim-right.ensures (looks c.split_at-kept.new.tree) c.split_at-kept.result.1 c.split_at-kept.result.0 c.split_at-kept.ensures.splits.nodes c.split_at-kept.ensures.left
-    (same-parent c.loop-tree.tree.nodes c.loop-tree.id c.node.result.now c.node-in-loop-tree.result.now c.node.ensures.value c.node-in-loop-tree.ensures.value c.parent-parent.result c.parent-parent.ensures.value None c.in_default.is)
-    c.take_claim-root.new.claims.items c.take_claim-root.result c.take_claim-root.ensures (looks c.raise.new.tree) c.raise.ensures.nodes);
+          (view_of c.node.result.now) (ap (option_map view_of) c.node.ensures.value) (is-over (view_of c.node.result.now) c.loop-tree-test.ensures)
+          c.take_claim-right.new.claims.items c.take_claim-right.result c.take_claim-right.ensures (looks c.split_at-kept.new.tree) c.split_at-kept.result.1 c.split_at-kept.result.0 c.split_at-kept.ensures.splits.nodes c.split_at-kept.ensures.left
+          (same-parent c.loop-tree.tree.nodes c.loop-tree.id c.node.result.now c.node-in-loop-tree.result.now c.node.ensures.value c.node-in-loop-tree.ensures.value c.parent-parent.result c.parent-parent.ensures.value None c.in_default.is)
+          c.take_claim-root.new.claims.items c.take_claim-root.result c.take_claim-root.ensures (looks c.raise.new.tree) c.raise.ensures.nodes);
       used = climb-used-end _ (looks c.args.tree.now) (looks c.loop-tree.tree) c.args.tree.now.root c.args.start c.loop-tree.id c.args.claims.now.items c.loop-tree.claims.items c.args.addr c.loop-tree.at c.requires.splitting c.loop-tree.invariant.climbs
-    (view_of c.node.result.now) (ap (option_map view_of) c.node.ensures.value) (is-over (view_of c.node.result.now) c.loop-tree-test.ensures)
-    c.take_claim-right.new.claims.items c.take_claim-right.result c.take_claim-right.ensures (looks c.split_at-kept.new.tree) c.split_at-kept.result.1 c.split_at-kept.result.0 c.split_at-kept.ensures.splits.nodes c.split_at-kept.ensures.left
-    (same-parent c.loop-tree.tree.nodes c.loop-tree.id c.node.result.now c.node-in-loop-tree.result.now c.node.ensures.value c.node-in-loop-tree.ensures.value c.parent-parent.result c.parent-parent.ensures.value None c.in_default.is)
-    c.take_claim-root.new.claims.items c.take_claim-root.result c.take_claim-root.ensures (looks c.raise.new.tree) c.raise.ensures.nodes;
+          (view_of c.node.result.now) (ap (option_map view_of) c.node.ensures.value) (is-over (view_of c.node.result.now) c.loop-tree-test.ensures)
+          c.take_claim-right.new.claims.items c.take_claim-right.result c.take_claim-right.ensures (looks c.split_at-kept.new.tree) c.split_at-kept.result.1 c.split_at-kept.result.0 c.split_at-kept.ensures.splits.nodes c.split_at-kept.ensures.left
+          (same-parent c.loop-tree.tree.nodes c.loop-tree.id c.node.result.now c.node-in-loop-tree.result.now c.node.ensures.value c.node-in-loop-tree.ensures.value c.parent-parent.result c.parent-parent.ensures.value None c.in_default.is)
+          c.take_claim-root.new.claims.items c.take_claim-root.result c.take_claim-root.ensures (looks c.raise.new.tree) c.raise.ensures.nodes;
       len = same-len (then (then c.loop-tree.invariant.rest c.split_at-kept.ensures.splits.rest) c.raise.ensures.rest);
       uncounted = same-refusals (then (then c.loop-tree.invariant.rest c.split_at-kept.ensures.splits.rest) c.raise.ensures.rest);
     })
@@ -125,7 +125,7 @@ returns-clause-split g c = record {
   split =
       rw (same-root c.loop-tree.invariant.rest)
       (climb-done _ (looks c.args.tree.now) (looks c.loop-tree.tree) c.args.tree.now.root c.args.start c.loop-tree.id c.args.claims.now.items c.loop-tree.claims.items c.args.addr c.loop-tree.at c.requires.splitting c.loop-tree.invariant.climbs
-    (view_of c.node.result.now) (ap (option_map view_of) c.node.ensures.value) (not-over (view_of c.node.result.now) c.loop-tree-test.ensures));
+      (view_of c.node.result.now) (ap (option_map view_of) c.node.ensures.value) (not-over (view_of c.node.result.now) c.loop-tree-test.ensures));
   used = c.loop-tree.invariant.climbs.used;
   len = same-len c.loop-tree.invariant.rest;
   uncounted = same-refusals c.loop-tree.invariant.rest;

@@ -16,10 +16,10 @@ node-node-requires g c = (c.tell_fits.ensures, used-view c.loop-node.tree.nodes 
 
 pub returns-then-count-gt2-clause-mended : goal.returns-then-count-gt2-clause-mended
 returns-then-count-gt2-clause-mended g c = record {
-      mended = rw (same-root c.loop-node.invariant.rest) (mends-done (looks c.args.tree.now) (looks c.loop-node.tree) c.args.tree.now.root c.args.start c.loop-node.id c.args.addr c.loop-node.at c.requires.1.1.1.1.mending c.loop-node.invariant.mends (view_of c.node-node.result.now) (ap (option_map view_of) c.node-node.ensures.value) (subst (λ n. 2 < n) c.item_count-count.ensures.value c.if-count-gt2.true));
-      len = same-len c.loop-node.invariant.rest;
-      uncounted = same-refusals c.loop-node.invariant.rest;
-    }
+  mended = rw (same-root c.loop-node.invariant.rest) (mends-done (looks c.args.tree.now) (looks c.loop-node.tree) c.args.tree.now.root c.args.start c.loop-node.id c.args.addr c.loop-node.at c.requires.1.1.1.1.mending c.loop-node.invariant.mends (view_of c.node-node.result.now) (ap (option_map view_of) c.node-node.ensures.value) (subst (λ n. 2 < n) c.item_count-count.ensures.value c.if-count-gt2.true));
+  len = same-len c.loop-node.invariant.rest;
+  uncounted = same-refusals c.loop-node.invariant.rest;
+}
 
 pub returns-then-count-gt2-clause-back : goal.returns-then-count-gt2-clause-back
 returns-then-count-gt2-clause-back g c = c.loop-node.invariant.mends.back
@@ -37,7 +37,7 @@ pub returns-in_default-clause-mended : goal.returns-in_default-clause-mended
 returns-in_default-clause-mended g c =
     record {
       mended = mends-root (looks c.args.tree.now) (looks c.loop-node.tree) c.args.tree.now.root c.args.start c.loop-node.id c.args.addr c.loop-node.at c.requires.1.1.1.1.mending c.loop-node.invariant.mends (looks c.mend_root.new.tree) c.mend_root.new.tree.root c.mend_root.result
-    (subst (λ r. AreMended (looks c.loop-node.tree) (looks c.mend_root.new.tree) r c.mend_root.new.tree.root c.loop-node.id c.loop-node.at c.mend_root.result) (same-root c.loop-node.invariant.rest) c.mend_root.ensures.mended.mended);
+          (subst (λ r. AreMended (looks c.loop-node.tree) (looks c.mend_root.new.tree) r c.mend_root.new.tree.root c.loop-node.id c.loop-node.at c.mend_root.result) (same-root c.loop-node.invariant.rest) c.mend_root.ensures.mended.mended);
       len = c.mend_root.ensures.mended.len ∙ same-len c.loop-node.invariant.rest;
       uncounted = c.mend_root.ensures.mended.uncounted ∙ same-refusals c.loop-node.invariant.rest;
     }
@@ -59,13 +59,13 @@ mend_at-moved-requires-clause-low g c = mends-low (looks c.args.tree.now) (looks
 
 pub returns-then-not-up-clause-mended : goal.returns-then-not-up-clause-mended
 returns-then-not-up-clause-mended g c = record {
-      mended = rw (same-root (then c.loop-node.invariant.rest c.mend_at-moved.ensures.rest)) (mends-here (looks c.args.tree.now) (looks c.loop-node.tree) c.args.tree.now.root c.args.start c.loop-node.id c.args.addr c.loop-node.at c.requires.1.1.1.1.mending c.loop-node.invariant.mends (looks c.mend_at-moved.new.tree) c.mend_at-moved.result.0 (c.mend_at-moved.ensures.here c.if-not-up.true)
-    c.in-Some.parent c.item_count-count.result (at-parent c.loop-node.tree.nodes c.loop-node.id c.node-node.result.now c.node-node.ensures.value c.parent.result c.parent.ensures.value (Some c.in-Some.parent) c.in-Some.is)
-    (ap (option_map size_of) (ap (option_map view_of) c.node-node.ensures.value) ∙ ap Some (sym c.item_count-count.ensures.value))
-    c.if-count-gt2.false (c.mend_at-moved.ensures.borrows c.if-not-up.true));
-      len = same-len (then c.loop-node.invariant.rest c.mend_at-moved.ensures.rest);
-      uncounted = same-refusals (then c.loop-node.invariant.rest c.mend_at-moved.ensures.rest);
-    }
+  mended = rw (same-root (then c.loop-node.invariant.rest c.mend_at-moved.ensures.rest)) (mends-here (looks c.args.tree.now) (looks c.loop-node.tree) c.args.tree.now.root c.args.start c.loop-node.id c.args.addr c.loop-node.at c.requires.1.1.1.1.mending c.loop-node.invariant.mends (looks c.mend_at-moved.new.tree) c.mend_at-moved.result.0 (c.mend_at-moved.ensures.here c.if-not-up.true)
+      c.in-Some.parent c.item_count-count.result (at-parent c.loop-node.tree.nodes c.loop-node.id c.node-node.result.now c.node-node.ensures.value c.parent.result c.parent.ensures.value (Some c.in-Some.parent) c.in-Some.is)
+      (ap (option_map size_of) (ap (option_map view_of) c.node-node.ensures.value) ∙ ap Some (sym c.item_count-count.ensures.value))
+      c.if-count-gt2.false (c.mend_at-moved.ensures.borrows c.if-not-up.true));
+  len = same-len (then c.loop-node.invariant.rest c.mend_at-moved.ensures.rest);
+  uncounted = same-refusals (then c.loop-node.invariant.rest c.mend_at-moved.ensures.rest);
+}
 
 pub returns-then-not-up-clause-back : goal.returns-then-not-up-clause-back
 returns-then-not-up-clause-back g c = λ is. c.mend_at-moved.ensures.back (c.loop-node.invariant.mends.back is)

@@ -1,6 +1,6 @@
 use Rattle.std.proofs.Common.{◌-◌, suc, drop, option_copied}
 use Rattle.btree_node.specs.Node.{view_of}
-use Rattle.btree_shape.specs.Left.{branches_of}
+use Rattle.btree_view.specs.View.{branches_of}
 use Rattle.btree_shape.specs.Spells.{Spells, numbers_under, spelled}
 use Rattle.btree_shape.specs.TreeState.{views}
 use Rattle.btree_valid.proofs.PassLemmas.{IsInNode}
