@@ -3,3 +3,5 @@
 
 #[cfg(test)]
 mod map;
+#[cfg(test)]
+mod owner;

@@ -229,13 +229,16 @@ module _ {A : Type 0} (look : Look A) (id p : ℕ) (a : Address) (s : IsFollowed
       low-after j held there counted low =
           two-after (low-at look p (suc index) j held (child-here look p (suc index) sib.node (Some j) sib.here (sib.after_is ∙ there)) counted low)
 
-    -- without a neighbour on the left it is the first child
-    first-child : before ≡ None → (n : ℕ) → index ≡ n → n ≡ 0
-    first-child none zero e = refl
-    first-child none (suc n) e =
+    first-from : before ≡ None → (n : ℕ) → index ≡ n → n ≡ 0
+    first-from none zero e = refl
+    first-from none (suc n) e =
         let m = slice_get_within (children_of sib.node) index id sib.child in
         let g = get-some (children_of sib.node) n (omega arith) in
         absurd (none-some (slice_get (children_of sib.node) n) (sib.before_is n e ∙ none) g)
+
+    -- without a neighbour on the left it is the first child
+    pub first-child : before ≡ None → index ≡ 0
+    first-child none = first-from none index refl
 
     -- which step it is with the neighbour on the right
     module _ (j held : ℕ) (there : after ≡ Some j) (counted : LeavesAt look j held) (new : Look A) where
@@ -250,7 +253,7 @@ module _ {A : Type 0} (look : Look A) (id p : ℕ) (a : Address) (s : IsFollowed
 
       pub right-joins : held ≤ 3 → before ≡ None → Merges look new p index id j → Joins look new p id
       right-joins low first step =
-          let z : index ≡ 0 = first-child first index refl in
+          let z : index ≡ 0 = first-child first in
           with_right j (subst (λ k. child_at look p k ≡ Some id) z self-at) (subst (λ k. child_at look p (suc k) ≡ Some j) z right-at)
           (low-at look p 1 j held (subst (λ k. child_at look p (suc k) ≡ Some j) z right-at) counted low)
           (subst (λ k. Merges look new p k id j) z step)

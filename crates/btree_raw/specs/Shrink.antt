@@ -95,15 +95,16 @@ module _ {A : Type 0} (look : Look A) where
     pub items : length mending.followed.xs ≡ most
 
   -- what was so mended: whatever was known of the tree and of address `a` holds of the tree under the new root and of address `b`, no node
-  -- has an item too few, and the nodes that are listed were given up, at most one on each level from node `id` up to the root; which steps
-  -- were taken is told by the nodes as they were
+  -- has an item too few, and the nodes that are listed were given up, at most as many as there are levels from node `id` up to the root;
+  -- the steps are those of `IsMended`, in their order
   pub record AreMended (new : Look A) (root new_root : Option ℕ) (id : ℕ) (a b : Address) : Type 0 where
     pub gone : List ℕ
     pub counted : (n : ℕ) → times_used (look n) ≡ times_used (new n) + times_listed n gone
     pub mended : (top : ℕ) (xs : List A) (asked : Option A) (place given bound : ℕ) → root ≡ Some top
         → IsShrinking A look top xs id asked a place given bound → Rests new new_root xs asked b place (given + length gone) bound
     pub few : (top : ℕ) (xs : List A) (asked : Option A) (place given bound : ℕ) → root ≡ Some top
-        → IsShrinking A look top xs id asked a place given bound → length gone ≤ suc (levels_above look (length xs) id)
+        → IsShrinking A look top xs id asked a place given bound
+        → length gone ≤ suc (levels_above look (length xs) id)
     pub steps : (top : ℕ) → root ≡ Some top → IsMended look new top new_root id
 
 -- the same of the whole tree: nothing but its nodes and its root has changed

@@ -166,3 +166,16 @@ module _ {A : Type 0} (new : Look A) (root : ℕ) (new_root : Option ℕ) where
       absurd (short.apart same)
   mended-right look id (empties _ _ same none step is) parent index right short child only spare =
       absurd (short.apart same)
+
+  -- so it has an item less then
+  pub mended-right-less : (look : Look A) (id : ℕ) → Mending root new new_root look id → (parent index right : ℕ)
+      → IsShortUnder look root parent id → child_at look parent index ≡ Some id
+      → ((k : ℕ) → child_at look parent k ≡ Some id → k ≡ index) → CanSpare look parent (suc index) right
+      → size_in (look right) ≡ suc (size_in (new right))
+  mended-right-less look id m parent index right short child only spare =
+      let r : RotatesLeft look new parent index id right =
+      (mended-right look id m parent index right short child only spare).0 in
+      let a = ap size_in r.writes.at_right in
+      let b = ap size_in r.writes.new_right in
+      let c = ap length r.high_is.items_are in
+      omega arith

@@ -19,3 +19,6 @@ pub mod Left
 pub mod Mend
 pub mod Shrinking
 pub mod Mending
+pub mod Addresses
+pub mod AddressLaws
+pub mod Visits

@@ -1,6 +1,6 @@
 use Rattle.std.proofs.Common.{arith}
 use Rattle.btree_shape.specs.TreeState.{looks}
-use Rattle.btree_raw.proofs.ShrinkLemmas.{is-child, is-short, before-there, index-some, are-after, after-there, after-lends, after-few, are-before, low-after, none-after, right-borrows, right-joins}
+use Rattle.btree_raw.proofs.ShrinkLemmas.{is-child, is-short, before-there, index-some, are-after, after-there, after-lends, after-few, are-before, first-child, low-after, none-after, right-borrows, right-joins}
 use Rattle.btree_raw.proofs.shrink.mend_at.Goals as goal
 
 pub siblings-index-requires : goal.siblings-index-requires
@@ -40,7 +40,7 @@ pub join-requires-clause-beside : goal.join-requires-clause-beside
 join-requires-clause-beside g c = (c.args.id, are-after (looks c.args.tree.now) c.args.id c.args.parent c.args.addr c.requires.followed c.requires.under c.siblings-index.result.0 c.siblings-index.result.1 c.siblings-index.result.2 c.siblings-index.ensures c.in-Some.right c.in-Some.is)
 
 pub join-requires-clause-few : goal.join-requires-clause-few
-join-requires-clause-few g c = after-few (looks c.args.tree.now) c.args.id c.args.parent c.args.addr c.requires.followed c.requires.under c.siblings-index.result.0 c.siblings-index.result.1 c.siblings-index.result.2 c.siblings-index.ensures c.in-Some.right c.in-Some.is c.count_of-held.result c.args.count c.count_of-held.ensures.count (omega arith) c.requires.count c.requires.short
+join-requires-clause-few g c = after-few (looks c.args.tree.now) c.args.id c.args.parent c.args.addr c.requires.followed c.requires.under c.siblings-index.result.0 c.siblings-index.result.1 c.siblings-index.result.2 c.siblings-index.ensures c.in-Some.right c.in-Some.is c.count_of-held.result c.args.count c.count_of-held.ensures.count (let first = first-child (looks c.args.tree.now) c.args.id c.args.parent c.args.addr c.requires.followed c.requires.under c.siblings-index.result.0 c.siblings-index.result.1 c.siblings-index.result.2 c.siblings-index.ensures c.in-None.is in omega arith) c.requires.count c.requires.short
 
 pub returns-in-None-clause-above : goal.returns-in-None-clause-above
 returns-in-None-clause-above g c = λ yes. c.join.ensures.joined c.args.id (are-after (looks c.args.tree.now) c.args.id c.args.parent c.args.addr c.requires.followed c.requires.under c.siblings-index.result.0 c.siblings-index.result.1 c.siblings-index.result.2 c.siblings-index.ensures c.in-Some.right c.in-Some.is)
@@ -55,4 +55,4 @@ pub returns-then-held-gt3-clause-borrows : goal.returns-then-held-gt3-clause-bor
 returns-then-held-gt3-clause-borrows g c = λ yes. right-borrows (looks c.args.tree.now) c.args.id c.args.parent c.args.addr c.requires.followed c.requires.under c.siblings-index.result.0 c.siblings-index.result.1 c.siblings-index.result.2 c.siblings-index.ensures c.in-Some.right c.count_of-held.result c.in-Some.is c.count_of-held.ensures.count (looks c.lend_left.new.tree) (omega arith) c.lend_left.ensures.rotates.nodes
 
 pub returns-in-None-clause-joins : goal.returns-in-None-clause-joins
-returns-in-None-clause-joins g c = λ yes. right-joins (looks c.args.tree.now) c.args.id c.args.parent c.args.addr c.requires.followed c.requires.under c.siblings-index.result.0 c.siblings-index.result.1 c.siblings-index.result.2 c.siblings-index.ensures c.in-Some.right c.count_of-held.result c.in-Some.is c.count_of-held.ensures.count (looks c.join.new.tree) (omega arith) c.in-None.is c.join.ensures.merges.nodes
+returns-in-None-clause-joins g c = λ yes. right-joins (looks c.args.tree.now) c.args.id c.args.parent c.args.addr c.requires.followed c.requires.under c.siblings-index.result.0 c.siblings-index.result.1 c.siblings-index.result.2 c.siblings-index.ensures c.in-Some.right c.count_of-held.result c.in-Some.is c.count_of-held.ensures.count (looks c.join.new.tree) (let first = first-child (looks c.args.tree.now) c.args.id c.args.parent c.args.addr c.requires.followed c.requires.under c.siblings-index.result.0 c.siblings-index.result.1 c.siblings-index.result.2 c.siblings-index.ensures c.in-None.is in omega arith) c.in-None.is c.join.ensures.merges.nodes

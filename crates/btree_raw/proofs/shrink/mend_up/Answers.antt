@@ -1,4 +1,4 @@
-use Rattle.std.proofs.Common.{◌<◌, ◌∙◌, Some, None, refl, sym, ap, subst, option_map}
+use Rattle.std.proofs.Common.{◌<◌, ◌∙◌, Some, None, refl, sym, ap, subst, option_map, arith}
 use Rattle.btree_node.specs.Node.{view_of}
 use Rattle.btree_view.specs.View.{size_of}
 use Rattle.btree_shape.specs.TreeState.{looks}
@@ -16,7 +16,7 @@ node-node-requires g c = (c.tell_fits.ensures, used-view c.loop-node.tree.nodes 
 
 pub returns-then-count-gt2-clause-mended : goal.returns-then-count-gt2-clause-mended
 returns-then-count-gt2-clause-mended g c = record {
-  mended = rw (same-root c.loop-node.invariant.rest) (mends-done (looks c.args.tree.now) (looks c.loop-node.tree) c.args.tree.now.root c.args.start c.loop-node.id c.args.addr c.loop-node.at c.requires.1.1.1.1.mending c.loop-node.invariant.mends (view_of c.node-node.result.now) (ap (option_map view_of) c.node-node.ensures.value) (subst (λ n. 2 < n) c.item_count-count.ensures.value c.if-count-gt2.true));
+  mended = rw (same-root c.loop-node.invariant.rest) (mends-done (looks c.args.tree.now) (looks c.loop-node.tree) c.args.tree.now.root c.args.start c.loop-node.id c.args.addr c.loop-node.at c.requires.1.1.1.1.mending c.loop-node.invariant.mends (view_of c.node-node.result.now) (ap (option_map view_of) c.node-node.ensures.value) (let e = c.item_count-count.ensures.value in omega arith));
   len = same-len c.loop-node.invariant.rest;
   uncounted = same-refusals c.loop-node.invariant.rest;
 }
@@ -62,7 +62,7 @@ returns-then-not-up-clause-mended g c = record {
   mended = rw (same-root (then c.loop-node.invariant.rest c.mend_at-moved.ensures.rest)) (mends-here (looks c.args.tree.now) (looks c.loop-node.tree) c.args.tree.now.root c.args.start c.loop-node.id c.args.addr c.loop-node.at c.requires.1.1.1.1.mending c.loop-node.invariant.mends (looks c.mend_at-moved.new.tree) c.mend_at-moved.result.0 (c.mend_at-moved.ensures.here c.if-not-up.true)
       c.in-Some.parent c.item_count-count.result (at-parent c.loop-node.tree.nodes c.loop-node.id c.node-node.result.now c.node-node.ensures.value c.parent.result c.parent.ensures.value (Some c.in-Some.parent) c.in-Some.is)
       (ap (option_map size_of) (ap (option_map view_of) c.node-node.ensures.value) ∙ ap Some (sym c.item_count-count.ensures.value))
-      c.if-count-gt2.false (c.mend_at-moved.ensures.borrows c.if-not-up.true));
+      (omega arith) (c.mend_at-moved.ensures.borrows c.if-not-up.true));
   len = same-len (then c.loop-node.invariant.rest c.mend_at-moved.ensures.rest);
   uncounted = same-refusals (then c.loop-node.invariant.rest c.mend_at-moved.ensures.rest);
 }
@@ -78,6 +78,6 @@ loop-node-preserved g c = record {
   mends = mends-above (looks c.args.tree.now) (looks c.loop-node.tree) c.args.tree.now.root c.args.start c.loop-node.id c.args.addr c.loop-node.at c.requires.1.1.1.1.mending c.loop-node.invariant.mends (looks c.mend_at-moved.new.tree) c.in-Some.parent c.mend_at-moved.result.0 (c.mend_at-moved.ensures.above c.if-not-up.false) c.mend_at-moved.ensures.back
       c.item_count-count.result (at-parent c.loop-node.tree.nodes c.loop-node.id c.node-node.result.now c.node-node.ensures.value c.parent.result c.parent.ensures.value (Some c.in-Some.parent) c.in-Some.is)
       (ap (option_map size_of) (ap (option_map view_of) c.node-node.ensures.value) ∙ ap Some (sym c.item_count-count.ensures.value))
-      c.if-count-gt2.false (c.mend_at-moved.ensures.joins c.if-not-up.false);
+      (omega arith) (c.mend_at-moved.ensures.joins c.if-not-up.false);
   rest = then c.loop-node.invariant.rest c.mend_at-moved.ensures.rest;
 }

@@ -1,0 +1,52 @@
+//! A map over any store of nodes can be kept in a caller's type, and handed on by value.
+use btree_map::BTreeMap;
+use btree_node::Node;
+use btree_nodes::NodesMut;
+use btree_store::SlabStore;
+use std::test::Fail;
+
+// Keeps a value of any type.
+struct Owner<T> {
+    inner: T,
+}
+
+impl<T> Owner<T> {
+    fn new(inner: T) -> Self
+        ensures { result.inner ≡ inner }
+    {
+        Owner { inner }
+    }
+
+    fn into_inner(self) -> T
+        ensures { result ≡ self.inner }
+    {
+        let Owner { inner } = self;
+        inner
+    }
+}
+
+fn take<C: NodesMut<u64, u64> + Drop>(map: BTreeMap<u64, u64, C>) -> usize {
+    map.len()
+}
+
+// Keeps a map and hands it on, for any store.
+fn keep_and_take<C: NodesMut<u64, u64> + Drop>(map: BTreeMap<u64, u64, C>) -> usize {
+    let owner = Owner::new(map);
+    take(owner.into_inner())
+}
+
+#[test]
+fn a_map_is_kept_and_handed_on_by_value(rt: HostRuntime) -> Result<(), Fail> {
+    for (keys, taken) in [(0, 0), (1, 1), (40, 40)] {
+        let mut first: BTreeMap<u64, u64, SlabStore<Node<u64, u64>>> = BTreeMap::new(rt.alloc());
+        let mut second: BTreeMap<u64, u64, SlabStore<Node<u64, u64>>> = BTreeMap::new(rt.alloc());
+        for key in 0..keys {
+            assert_eq!(rt; first.insert(key, key).ok(), Some(None));
+            assert_eq!(rt; second.insert(key, key).ok(), Some(None));
+        }
+        let owner = Owner::new(first);
+        assert_eq!(rt; take(owner.into_inner()), taken);
+        assert_eq!(rt; keep_and_take(second), taken);
+    }
+    Ok(())
+}

@@ -1,0 +1,108 @@
+-- What is kept of the tour of a tree is in order, each address once; and how many nodes and items a tree has.
+use Rattle.std.proofs.Common.{◌≡◌, ◌≤◌, ◌∷◌, ◌+◌, ◌∙◌, [], ℕ, zero, suc, inl, inr, Bool, List, length, map, Option, Some, None, refl, sym, ap, subst, arith, length-append}
+use Rattle.std.specs.List.{AllByRecursion, flat_map}
+use Rattle.std.specs.Prelude.{slice_get}
+use Rattle.btree_item.specs.declared.address.Address.{Address}
+use Rattle.btree_view.specs.View.{Look, children_in}
+use Rattle.btree_shape.specs.AddressLaws.{IsInOrder, IsPlaced, IsPlacedUnder, numbers_of}
+use Rattle.btree_shape.specs.Place.{IsValid, IsWithin}
+use Rattle.btree_shape.specs.Shape.{Holds, Shape, id_of, items_under, later_items, times_listed, times_under, total}
+use Rattle.btree_shape.specs.Spells.{numbers_under}
+use Rattle.btree_shape.specs.Tour.{tour}
+use Rattle.btree_shape.specs.WellFormed.{times_used}
+use Rattle.btree_shape.proofs.Density.{nodes_in}
+use Rattle.btree_shape.proofs.Kept.{kept, passed-rise}
+use Rattle.btree_shape.proofs.KeptOnce.{kept-once}
+use Rattle.btree_shape.proofs.Numbers.{numbers-shape, used-low}
+use Rattle.btree_shape.proofs.Placed.{Toured, kept-addressed, ticks_of}
+
+module _ (A : Type 0) where
+  -- the lengths of what is kept of the branches, where each tree has as many as items and nodes
+  pub branch-sum : (keep : Address → Option A → Bool) (h : ℕ)
+      → ((t : Shape A h) → length (kept keep (tour A h t)) ≡ length (items_under A h t) + nodes_in A h t)
+      → (bs : List (A × Shape A h))
+      → total (λ (b : A × Shape A h). suc (length (kept keep (tour A h b.1)))) bs
+      ≡ length (later_items A h bs) + total (λ (b : A × Shape A h). nodes_in A h b.1) bs
+  branch-sum keep h each [] = refl
+  branch-sum keep h each (b ∷ bs) =
+      let q = each b.1 in
+      let r = branch-sum keep h each bs in
+      let l = length-append (items_under A h b.1) (later_items A h bs) in
+      omega arith
+
+  module _ (look : Look A) where
+    branch-numbers : (h : ℕ) (p : Option ℕ)
+        → ((t : Shape A h) → Holds A look h p t → length (numbers_under look h (id_of A h t)) ≡ nodes_in A h t)
+        → (bs : List (A × Shape A h)) → AllByRecursion (λ b. Holds A look h p b.1) bs
+        → length (flat_map (numbers_under look h)
+        (map {B = ℕ} (λ b. b.1) (map {B = A × ℕ} (λ (b : A × Shape A h). (b.0, id_of A h b.1)) bs)))
+        ≡ total (λ (b : A × Shape A h). nodes_in A h b.1) bs
+    branch-numbers h p each [] d = refl
+    branch-numbers h p each (b ∷ bs) d =
+        let q =
+        length-append (numbers_under look h (id_of A h b.1))
+        (flat_map (numbers_under look h)
+        (map {B = ℕ} (λ b. b.1) (map {B = A × ℕ} (λ (b : A × Shape A h). (b.0, id_of A h b.1)) bs))) in
+        let a = each b.1 d.0 in
+        let r = branch-numbers h p each bs d.1 in
+        omega arith
+
+    pub shape-numbers : (h : ℕ) (p : Option ℕ) (t : Shape A h) → Holds A look h p t
+        → length (numbers_under look h (id_of A h t)) ≡ nodes_in A h t
+    shape-numbers zero p t d = refl
+    shape-numbers (suc h) p t d =
+        let ns : List ℕ = map {B = ℕ} (λ b. b.1) (map {B = A × ℕ} (λ (b : A × Shape A h). (b.0, id_of A h b.1)) t.2) in
+        let q = length-append (numbers_under look h (id_of A h t.1)) (flat_map (numbers_under look h) ns) in
+        let a = shape-numbers h (Some t.0) t.1 d.1 in
+        let r = branch-numbers h (Some t.0) (shape-numbers h (Some t.0)) t.2 d.2 in
+        let e : children_in (look t.0) ≡ id_of A h t.1 ∷ ns = ap children_in d.0 in
+        let f : length (flat_map (numbers_under look h) (children_in (look t.0)))
+        ≡ length (flat_map (numbers_under look h) (id_of A h t.1 ∷ ns)) =
+        ap (λ l. length (flat_map (numbers_under look h) l)) e in
+        omega arith
+
+module _ {A : Type 0} (look : Look A) where
+  -- an address of a tree with a root is in one of its nodes
+  pub valid-within : (root id : ℕ) (offset : Option ℕ) → IsValid look (Some root) id offset → IsWithin look (look id) offset
+  valid-within root id offset (inl l) = l
+  valid-within root id offset (inr n) = let e = n.0 in absurd (cc)
+
+  -- the numbers of the nodes are those that are used, each once
+  pub numbers-once : (levels : ℕ) (root : Option ℕ) (xs : List A) (p : IsPlacedUnder look levels root xs) (n : ℕ)
+      → times_listed n (numbers_of look levels root xs p) ≡ times_used (look n)
+  numbers-once levels None xs p n = sym (ap times_used (p.0 n))
+  numbers-once levels (Some root) xs p n = p.rooted.once n
+
+  module _ (levels root : ℕ) (xs : List A) (p : IsPlaced look levels root xs) (t : Toured look levels root xs p) where
+    pub times-few : (n : ℕ) → times_under A p.rooted.height n t.shape ≤ 1
+    times-few n =
+        let b =
+        subst (λ i. times_listed n (numbers_under look p.rooted.height i) ≡ times_under A p.rooted.height n t.shape) t.here
+        (numbers-shape A look n p.rooted.height None t.shape t.holds) in
+        let o = p.rooted.once n in
+        let u = used-low (look n) in
+        omega arith
+
+    pub numbers-counted : length (numbers_under look p.rooted.height root) ≡ nodes_in A p.rooted.height t.shape
+    numbers-counted =
+        subst (λ i. length (numbers_under look p.rooted.height i) ≡ nodes_in A p.rooted.height t.shape) t.here
+        (shape-numbers A look p.rooted.height None t.shape t.holds)
+
+    -- what is kept of the tour is in order
+    pub kept-order : (keep : Address → Option A → Bool) (list : List Address)
+        → list ≡ kept keep (ticks_of look levels root xs p t) → IsInOrder look (Some root) xs list
+    kept-order keep list e = record {
+      once = λ i j a f g.
+          kept-once A a keep p.rooted.height t.shape (times-few a.id) i j (ap (λ l. slice_get l i) (sym e) ∙ f)
+          (ap (λ l. slice_get l j) (sym e) ∙ g);
+      rising = λ i j a b m n l f g k q.
+          let u = (kept-addressed look levels root xs p t keep i a (ap (λ l. slice_get l i) (sym e) ∙ f)).is None tt in
+          let v = (kept-addressed look levels root xs p t keep j b (ap (λ l. slice_get l j) (sym e) ∙ g)).is None tt in
+          let same = p.one a.id a.offset _ m u.at_place k in
+          let other = p.one b.id b.offset _ n v.at_place q in
+          let r = passed-rise keep (ticks_of look levels root xs p t) i j l in
+          omega arith;
+      placed = λ i a f.
+          let u = (kept-addressed look levels root xs p t keep i a (ap (λ l. slice_get l i) (sym e) ∙ f)).is None tt in
+          (_, u.at_place);
+    }

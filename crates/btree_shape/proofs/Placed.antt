@@ -1,0 +1,145 @@
+-- A tree each of whose addresses has one place: which trees are so, and what is kept of its tour.
+use Rattle.std.proofs.Common.{◌≡◌, ◌<◌, ◌≤◌, ◌∙◌, ◌+◌, ℕ, Bool, true, List, length, Option, Some, None, sym, ap, subst, arith}
+use Rattle.std.proofs.lemmas.Option.{slice_get_within}
+use Rattle.std.specs.Cmp.{IsTotalOrder}
+use Rattle.std.specs.Prelude.{slice_get}
+use Rattle.std.specs.declared.cmp.Ordering.{Ordering}
+use Rattle.btree_item.specs.declared.address.Address.{Address}
+use Rattle.btree_view.specs.View.{Look, View, size_of}
+use Rattle.btree_shape.specs.AddressLaws.{IsPlaced, IsPlacedUnder}
+use Rattle.btree_shape.specs.OnTour.{IsAddressed, IsOnTour}
+use Rattle.btree_shape.specs.Shape.{Holds, Shape, id_of, items_under}
+use Rattle.btree_shape.specs.Tour.{Asks, Tick, In, tour, passed}
+use Rattle.btree_shape.specs.WellFormed.{IsOffByOne, IsRooted, IsWellFormed}
+use Rattle.btree_shape.proofs.Carried.{tour-passed}
+use Rattle.btree_shape.proofs.Kept.{IndexOf, Strung, kept, kept-at, kept-of, passed_to, strung-index, strung-length}
+use Rattle.btree_shape.proofs.Listed.{some-item}
+use Rattle.btree_shape.proofs.OnePlace.{one_place, one_place-well}
+use Rattle.btree_shape.proofs.OneTour.{one-tour}
+use Rattle.btree_shape.proofs.OnTour.{tour-addressed, valid-on}
+use Rattle.btree_shape.proofs.SpelledShapes.{shape-of}
+use Rattle.btree_shape.proofs.Spelled.{height_below}
+
+-- the sizes of nodes are let go
+pub any-sized : {A : Type 0} (is_right : (id : ℕ) → View A → Type 0) (look : Look A) (root : ℕ) (xs : List A)
+    → IsRooted is_right look root xs → IsRooted (λ id node. Unit {0}) look root xs
+any-sized is_right look root xs r = record { height = r.height; spells = r.spells; sized = λ id node e. tt; once = r.once }
+
+module _ {K V : Type 0} (cmp : K → K → Ordering) (laws : IsTotalOrder cmp) (look : Look (K × V)) (levels : ℕ) (xs : List (K × V)) where
+  -- a well formed tree is so, for more levels than its height, and so for as many as it has pairs
+  abbrev pub placed-formed : (root len : ℕ) (w : IsWellFormed cmp look (Some root) len xs) → w.formed.height < levels → IsPlaced look levels root xs
+  placed-formed root len w l =
+      record {
+        rooted = record { height = w.formed.height; spells = w.formed.spells; sized = λ id node e. tt; once = w.formed.once };
+        low = l;
+        one = λ id offset p q s t. one_place-well cmp laws look xs len (Some root) w id offset p q s t;
+      }
+
+  abbrev pub placed-well : (root : Option ℕ) (len : ℕ) → IsWellFormed cmp look root len xs → len ≤ levels → IsPlacedUnder look levels root xs
+  placed-well None len w l = w.formed
+  placed-well (Some root) len w l =
+      let high = height_below look w.formed.height None root xs
+      (λ i node e. some-item root i (size_of node) (w.formed.sized i node e).0) w.formed.spells in
+      let counted = w.counted in
+      placed-formed root len w (omega arith)
+
+  -- and so is one that is off by one at a node
+  abbrev pub placed-odd : (root odd : ℕ) (w : IsOffByOne cmp look root odd xs) → w.rooted.height < levels → IsPlaced look levels root xs
+  placed-odd root odd w l =
+      record {
+        rooted = record { height = w.rooted.height; spells = w.rooted.spells; sized = λ id node e. tt; once = w.rooted.once };
+        low = l;
+        one = λ id offset p q s t. one_place cmp laws look root odd xs w id offset p q s t;
+      }
+
+module _ {A : Type 0} (look : Look A) (levels root : ℕ) (xs : List A) (p : IsPlaced look levels root xs) where
+  -- the shape of the tree, and its tour
+  pub record Toured : Type 0 where
+    pub shape : Shape A p.rooted.height
+    pub here : id_of A p.rooted.height shape ≡ root
+    pub holds : Holds A look p.rooted.height None shape
+    pub list : items_under A p.rooted.height shape ≡ xs
+
+  pub toured : Toured
+  toured =
+      let s = shape-of A look p.rooted.height None root xs p.rooted.spells in
+      record { shape = s.shape; here = s.here; holds = s.holds; list = s.list }
+
+  module _ (t : Toured) where
+    abbrev pub ticks_of : List (Tick A)
+    ticks_of = tour A p.rooted.height t.shape
+
+    pub ticks-passed : passed ticks_of ≡ length xs
+    ticks-passed = tour-passed A p.rooted.height t.shape ∙ ap length t.list
+
+    pub on-tour : (asked : Option A) (a : Address) (place : ℕ) → In asked a ticks_of place → IsOnTour A look root asked a place
+    on-tour asked a place i = record { height = p.rooted.height; shape = t.shape; at_root = t.here; holds = t.holds; there = i }
+
+    pub in-tour : (asked : Option A) (a : Address) (place : ℕ) → IsOnTour A look root asked a place → In asked a ticks_of place
+    in-tour asked a place i =
+        subst (λ z. In asked a z place)
+        (one-tour A look i.height p.rooted.height None None i.shape t.shape (i.at_root ∙ sym t.here) i.holds t.holds) i.there
+
+    pub same-tour : (height : ℕ) (shape : Shape A height) → id_of A height shape ≡ root → Holds A look height None shape
+        → tour A height shape ≡ ticks_of
+    same-tour height shape e d = one-tour A look height p.rooted.height None None shape t.shape (e ∙ sym t.here) d t.holds
+
+    pub in-addressed : (asked : Option A) (a : Address) (place : ℕ) → In asked a ticks_of place
+        → IsAddressed A look root xs asked a place
+    in-addressed asked a place i =
+        tour-addressed A look root xs asked a (λ id node. Unit {0}) place p.rooted (on-tour asked a place i)
+
+    pub addressed-in : (asked : Option A) (a : Address) (place : ℕ) → IsAddressed A look root xs asked a place
+        → In asked a ticks_of place
+    addressed-in asked a place d =
+        let n = valid-on A look root xs asked a (λ id node. Unit {0}) p.rooted d.valid d.item in
+        let q = tour-addressed A look root xs asked a (λ id node. Unit {0}) n.place p.rooted n.on in
+        subst (λ z. In asked a ticks_of z) (p.one a.id a.offset n.place place q.at_place d.at_place)
+        (in-tour asked a n.place n.on)
+
+    module _ (keep : Address → Option A → Bool) where
+      -- a kept address is one of the tree, at its place
+      pub record Addressed (a : Address) (place : ℕ) : Type 0 where
+        pub item : Option A
+        pub keeps : keep a item ≡ true
+        pub is : (asked : Option A) → Asks asked item → IsAddressed A look root xs asked a place
+
+      pub kept-addressed : (i : ℕ) (a : Address) → slice_get (kept keep ticks_of) i ≡ Some a
+          → Addressed a (passed_to keep ticks_of i)
+      kept-addressed i a at =
+          let k = kept-at keep ticks_of i a at in
+          record {
+            item = k.item;
+            keeps = k.keeps;
+            is = λ asked m. in-addressed asked a (passed_to keep ticks_of i) (k.there asked m);
+          }
+
+      pub addressed-kept : (asked : Option A) (a : Address) (place : ℕ)
+          → ((item : Option A) → Asks asked item → keep a item ≡ true) → IsAddressed A look root xs asked a place
+          → IndexOf keep ticks_of a place
+      addressed-kept asked a place k d = kept-of keep asked a ticks_of place k (addressed-in asked a place d)
+
+      -- where one address is kept between any two items, the index is the place
+      pub strung-addressed : (m : ℕ) → Strung keep 0 ticks_of m → (i : ℕ) (a : Address)
+          → slice_get (kept keep ticks_of) i ≡ Some a → Addressed a i
+      strung-addressed m s i a at =
+          let e : passed_to keep ticks_of i ≡ i =
+          strung-index keep 0 m ticks_of s i (slice_get_within (kept keep ticks_of) i a at)
+          ∙ (let q : 0 + i ≡ i = omega arith in q) in
+          subst (λ z. Addressed a z) e (kept-addressed i a at)
+
+      pub addressed-strung : (m : ℕ) → Strung keep 0 ticks_of m → (asked : Option A) (a : Address) (place : ℕ)
+          → ((item : Option A) → Asks asked item → keep a item ≡ true) → IsAddressed A look root xs asked a place
+          → slice_get (kept keep ticks_of) place ≡ Some a
+      addressed-strung m s asked a place k d =
+          let r = addressed-kept asked a place k d in
+          let e = strung-index keep 0 m ticks_of s r.index (slice_get_within (kept keep ticks_of) r.index a r.at) in
+          let q = r.is in
+          let same : r.index ≡ place = omega arith in
+          ap (slice_get (kept keep ticks_of)) (sym same) ∙ r.at
+
+      pub strung-counted : (m : ℕ) → Strung keep 0 ticks_of m → length (kept keep ticks_of) ≡ length xs + m
+      strung-counted m s =
+          let q = strung-length keep 0 m ticks_of s in
+          let e = ticks-passed in
+          omega arith
