@@ -29,7 +29,7 @@ use Rattle.btree_shape.proofs.ReplacedTrees.{ReplacedWell, replaced-well}
 use Rattle.btree_shape.proofs.Stores.{len-views, puts, used-view, within-used}
 use Rattle.btree_shape.proofs.TreeStates.{is-tree, pairs-tree}
 use Rattle.btree_raw.proofs.StateLemmas.{same-len, same-refusals, same-root}
-use Rattle.btree_edit.specs.Exchange.{ExchangesAt, IsExchanged, IsValueExchanged, KeepsAddresses}
+use Rattle.btree_edit.specs.Exchange.{ExchangesAt, IsExchanged, IsValueExchanged}
 
 -- an item set at an index, and the others
 get-set_same : {X : Type 0} (xs : List X) (n : ℕ) (x y : X) → slice_get xs n ≡ Some x → slice_get (set xs n y) n ≡ Some y

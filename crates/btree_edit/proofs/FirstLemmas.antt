@@ -1,5 +1,5 @@
 -- The first pair of a tree.
-use Rattle.std.proofs.Common.{◌≡◌, ◌≢◌, ℕ, inl, inr, [], ◌∷◌, length, Option, Some, None, refl, sym, ap, subst, ◌∙◌, option_map, arith}
+use Rattle.std.proofs.Common.{◌≡◌, ◌≢◌, ℕ, inl, inr, [], ◌∷◌, length, Some, None, refl, sym, ap, subst, ◌∙◌, option_map, arith}
 use Rattle.std.specs.FinMap as map
 use Rattle.std.specs.List.{insert}
 use Rattle.std.specs.declared.cmp.Ordering.{Ordering}

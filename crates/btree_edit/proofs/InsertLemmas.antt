@@ -1,14 +1,14 @@
 -- An insertion by key: at a key that is there, and at the gap of one that is not.
-use Rattle.std.proofs.Common.{◌≡◌, ℕ, List, Option, Some, None, Ok, Err, IsSome, refl, sym, ap, subst, ◌∙◌, inl, inr, is_some, if◌then◌else◌, length, slice_get, option_map, option_and_then, arith}
+use Rattle.std.proofs.Common.{◌≡◌, ℕ, List, Option, Some, None, Ok, Err, IsSome, refl, sym, ap, subst, ◌∙◌, inl, inr, is_some, if◌then◌else◌, slice_get, option_and_then, arith}
 use Rattle.std.proofs.lemmas.Option.{slice_get_within}
 use Rattle.std.specs.Cmp.{IsTotalOrder}
 use Rattle.std.specs.declared.cmp.Ordering.{Ordering}
 use Rattle.btree_item.proofs.PairEdits.{Fits-before}
 use Rattle.btree_item.proofs.PairLemmas.{inserted-from_Err, set-from_Ok, slice_get-from_Ok}
-use Rattle.btree_item.specs.Pairs.{Fits, before, found, found_value, inserted, with_value}
+use Rattle.btree_item.specs.Pairs.{Fits, before, found, found_value, inserted}
 use Rattle.btree_item.specs.declared.address.Address.{Address}
 use Rattle.btree_view.specs.View.{View, item_in, items_of, size_of}
-use Rattle.btree_shape.specs.Place.{IsEnd, IsPlace, IsPlaceOf, item_at}
+use Rattle.btree_shape.specs.Place.{IsEnd, IsPlace, IsPlaceOf}
 use Rattle.btree_shape.specs.TreeState.{TreeState, IsBTree, IsPlaceIn, item_of, looks, pairs_of}
 use Rattle.btree_shape.specs.WellFormed.{IsWellFormed}
 use Rattle.btree_shape.proofs.OnePlace.{one_place-well}

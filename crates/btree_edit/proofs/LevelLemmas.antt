@@ -1,5 +1,5 @@
 -- What an insertion takes, beside the number of levels.
-use Rattle.std.proofs.Common.{◌≡◌, ◌<◌, ◌≤◌, ◌∙◌, ◌+◌, ℕ, inl, inr, List, [], length, Option, Some, None, sym, ap, arith}
+use Rattle.std.proofs.Common.{◌<◌, ◌≤◌, ◌+◌, ℕ, inl, inr, List, [], Option, Some, None, arith}
 use Rattle.std.specs.FinMap as map
 use Rattle.std.specs.declared.cmp.Ordering.{Ordering}
 use Rattle.btree_item.specs.declared.address.Address.{Address}

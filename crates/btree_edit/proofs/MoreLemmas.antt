@@ -1,5 +1,5 @@
 -- A pair put into a leaf of a tree that is not empty: what the steps ask, and what they come to.
-use Rattle.std.proofs.Common.{◌≡◌, ◌≢◌, ℕ, suc, ◌+◌, ◌<◌, ◌≤◌, inl, inr, List, [], ◌++◌, length, length-append, Option, Some, None, IsSome, refl, sym, ap, subst, ◌∙◌, option_map, option_and_then, slice_get, arith}
+use Rattle.std.proofs.Common.{◌≡◌, ◌≢◌, ℕ, suc, ◌+◌, ◌≤◌, inl, inr, List, [], ◌++◌, length, length-append, Option, Some, None, IsSome, refl, sym, ap, subst, ◌∙◌, option_map, option_and_then, slice_get, arith}
 use Rattle.std.proofs.lemmas.Option.{slice_get_within}
 use Rattle.std.specs.Cmp.{IsTotalOrder}
 use Rattle.std.specs.FinMap as map
@@ -16,7 +16,7 @@ use Rattle.btree_shape.specs.Spells.{numbers_under}
 use Rattle.btree_shape.specs.Step.{Claims, Puts}
 use Rattle.btree_shape.specs.Strain.{IsStrain, strain_under}
 use Rattle.btree_shape.specs.Tour.{slot}
-use Rattle.btree_shape.specs.TreeState.{TreeState, Changes, IsBTree, IsPlaceIn, IsUsed, KeepsRest, looks, nodes_needed, pairs_of, views}
+use Rattle.btree_shape.specs.TreeState.{TreeState, Changes, IsBTree, IsPlaceIn, IsUsed, looks, nodes_needed, pairs_of, views}
 use Rattle.btree_shape.specs.WellFormed.{IsSized, IsWellFormed, times_used}
 use Rattle.btree_shape.proofs.Numbers.{less-or, listed-append, same-or, used-low, used-one}
 use Rattle.btree_shape.proofs.OnePlace.{one_place-well}

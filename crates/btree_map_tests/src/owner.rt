@@ -1,4 +1,6 @@
 //! A map over any store of nodes can be kept in a caller's type, and handed on by value.
+ghost use Rattle.std.specs.Prelude.{◌≡◌};
+
 use btree_map::BTreeMap;
 use btree_node::Node;
 use btree_nodes::NodesMut;

@@ -3,6 +3,7 @@
 //! [`Nodes`] and [`NodesMut`] are [`Slab`] and [`SlabMut`] for nodes, as bounds on a tree's store: their parameters are the tree's own. Every
 //! store of nodes has them, so a store of one's own needs the traits of `btree_store` alone.
 #![tactic(auto)]
+
 ghost use Rattle.std.specs.Prelude.{◌≡◌, ℕ, ◌+◌, ◌<◌, Some, None, IsSome, IfOk, IfErr, OnOk, OnErr, OnSome, option_copied};
 ghost use Rattle.std.specs.Option.{option_copied_mut};
 ghost use Rattle.std.specs.FinMap as map;

@@ -61,11 +61,7 @@ impl<C: NodesMut<u64, u64>> Session<C> {
     }
 }
 
-fn insert<C: NodesMut<u64, u64>>(
-    map: &mut BTreeMap<u64, u64, C>,
-    key: u64,
-    value: u64,
-) -> Reply
+fn insert<C: NodesMut<u64, u64>>(map: &mut BTreeMap<u64, u64, C>, key: u64, value: u64) -> Reply
     ensures { IsStep C.MayRefuse map.old (Command.Insert key value) result map.new }
 {
     let outcome = map.insert(key, value);

@@ -1,9 +1,9 @@
 //! Sessions: commands as values over memory that is refused, and lines of text from readers and to writers that fail.
 use btree_item::Cause;
 use btree_node::Node;
+use btree_nodes::NodesMut;
 use btree_refusing::Refusing;
 use btree_session::{Command, Reply, Session, Stop, drive, run};
-use btree_nodes::NodesMut;
 use btree_store::SlabStore;
 use std::alloc::Global;
 use std::cell::Cell;

@@ -7,8 +7,8 @@ ghost use Rattle.btree_raw.specs.Raw.{AreUsed};
 
 use btree_item::{Address, Item, Offset};
 use btree_node::{LeafNode, Node};
-use btree_raw::RawBTree;
 use btree_nodes::NodesMut;
+use btree_raw::RawBTree;
 use std::alloc::Global;
 use std::process::Abort;
 use std::test::Fail;

@@ -2,9 +2,9 @@
 use crate::drawn::{Walked, drawn, follow, put_spare, walk};
 use btree_item::{Address, Cause, Offset};
 use btree_node::Node;
+use btree_nodes::NodesMut;
 use btree_raw::RawBTree;
 use btree_refusing::Refusing;
-use btree_nodes::NodesMut;
 use btree_store::SlabStore;
 use std::alloc::Global;
 use std::process::Abort;

@@ -2,8 +2,8 @@
 use btree_ext::{BTreeExt, Tree};
 use btree_item::{Cause, Offset};
 use btree_node::Node;
-use btree_refusing::Refusing;
 use btree_nodes::NodesMut;
+use btree_refusing::Refusing;
 use btree_store::SlabStore;
 use btree_walk::Iter;
 use std::alloc::{AllocError, Global};

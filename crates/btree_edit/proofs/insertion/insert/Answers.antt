@@ -1,5 +1,4 @@
-use Rattle.std.proofs.Common.{sym}
-use Rattle.btree_edit.proofs.InsertLemmas.{exchanged-pairs, exchanged-took, gap-for, old-value, put-took}
+use Rattle.btree_edit.proofs.InsertLemmas.{exchanged-pairs, gap-for, old-value, put-took}
 use Rattle.btree_edit.proofs.insertion.insert.Goals as goal
 
 pub insert_at_gap-requires-clause-gap : goal.insert_at_gap-requires-clause-gap

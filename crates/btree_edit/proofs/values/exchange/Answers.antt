@@ -1,6 +1,5 @@
 use Rattle.std.proofs.Common.{◌∙◌, ap, sym}
 use Rattle.std.specs.Option.{option_copied_mut}
-use Rattle.btree_node.specs.NodeLends.{node_with_item_at}
 use Rattle.btree_edit.proofs.ExchangeLemmas.{exchanges-at, occupied-some, occupied-used, value-exchanged}
 use Rattle.btree_edit.proofs.values.exchange.Goals as goal
 
