@@ -58,12 +58,13 @@ fn mend_left<K: Drop, V: Drop, C: NodesMut<K, V>>(
 ) -> (Address, bool)
     requires beside { AreBeside (looks tree.old) parent index left id id addr }
     requires short { IsShort (looks tree.old) id }
-    // The neighbour on the right, if there is one, has no item to spare.
-    requires none { NoneSpares (looks tree.old) parent (suc (suc index)) }
     requires low { IfSome addr.offset (λ n. n ≤ 9) }
     requires number { id < usize.MAX }
-    ensures borrows { result.1 ≡ false → Borrows (looks tree.old) (looks tree.new) parent id }
-    ensures joins { result.1 ≡ true → Joins (looks tree.old) (looks tree.new) parent id }
+    // It is the step of the order where the right sibling, if there is one, has no item to spare.
+    ensures borrows { result.1 ≡ false → NoneSpares (looks tree.old) parent (suc (suc index))
+        → Borrows (looks tree.old) (looks tree.new) parent id }
+    ensures joins { result.1 ≡ true → NoneSpares (looks tree.old) parent (suc (suc index))
+        → Joins (looks tree.old) (looks tree.new) parent id }
     ensures even { result.1 ≡ false → MendsHere (looks tree.old) (looks tree.new) id addr result.0 }
     ensures joined { result.1 ≡ true
         → MendsAbove (looks tree.old) (looks tree.new) id parent addr result.0 }

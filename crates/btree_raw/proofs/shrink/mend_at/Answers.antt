@@ -45,14 +45,24 @@ join-requires-clause-few g c = after-few (looks c.args.tree.now) c.args.id c.arg
 pub returns-in-None-clause-above : goal.returns-in-None-clause-above
 returns-in-None-clause-above g c = λ yes. c.join.ensures.joined c.args.id (are-after (looks c.args.tree.now) c.args.id c.args.parent c.args.addr c.requires.followed c.requires.under c.siblings-index.result.0 c.siblings-index.result.1 c.siblings-index.result.2 c.siblings-index.ensures c.in-Some.right c.in-Some.is)
 
-pub mend_left-requires-clause-none : goal.mend_left-requires-clause-none
-mend_left-requires-clause-none g c = none-after (looks c.args.tree.now) c.args.id c.args.parent c.args.addr c.requires.followed c.requires.under c.siblings-index.result.0 c.siblings-index.result.1 c.siblings-index.result.2 c.siblings-index.ensures c.unwrap-left.result c.unwrap-left.ensures c.in_default.is
-
-pub mend_left-requires-in-Some-before-clause-none : goal.mend_left-requires-in-Some-before-clause-none
-mend_left-requires-in-Some-before-clause-none g c = low-after (looks c.args.tree.now) c.args.id c.args.parent c.args.addr c.requires.followed c.requires.under c.siblings-index.result.0 c.siblings-index.result.1 c.siblings-index.result.2 c.siblings-index.ensures c.in-Some-before.left c.in-Some-before.is c.in-Some.right c.count_of-held.result c.in-Some.is c.count_of-held.ensures.count (omega arith)
-
 pub returns-then-held-gt3-clause-borrows : goal.returns-then-held-gt3-clause-borrows
 returns-then-held-gt3-clause-borrows g c = λ yes. right-borrows (looks c.args.tree.now) c.args.id c.args.parent c.args.addr c.requires.followed c.requires.under c.siblings-index.result.0 c.siblings-index.result.1 c.siblings-index.result.2 c.siblings-index.ensures c.in-Some.right c.count_of-held.result c.in-Some.is c.count_of-held.ensures.count (looks c.lend_left.new.tree) (omega arith) c.lend_left.ensures.rotates.nodes
 
 pub returns-in-None-clause-joins : goal.returns-in-None-clause-joins
 returns-in-None-clause-joins g c = λ yes. right-joins (looks c.args.tree.now) c.args.id c.args.parent c.args.addr c.requires.followed c.requires.under c.siblings-index.result.0 c.siblings-index.result.1 c.siblings-index.result.2 c.siblings-index.ensures c.in-Some.right c.count_of-held.result c.in-Some.is c.count_of-held.ensures.count (looks c.join.new.tree) (let first = first-child (looks c.args.tree.now) c.args.id c.args.parent c.args.addr c.requires.followed c.requires.under c.siblings-index.result.0 c.siblings-index.result.1 c.siblings-index.result.2 c.siblings-index.ensures c.in-None.is in omega arith) c.in-None.is c.join.ensures.merges.nodes
+
+pub returns-in_default-clause-borrows : goal.returns-in_default-clause-borrows
+returns-in_default-clause-borrows g c =
+    λ yes. c.mend_left.ensures.borrows yes (none-after (looks c.args.tree.now) c.args.id c.args.parent c.args.addr c.requires.followed c.requires.under c.siblings-index.result.0 c.siblings-index.result.1 c.siblings-index.result.2 c.siblings-index.ensures c.unwrap-left.result c.unwrap-left.ensures c.in_default.is)
+
+pub returns-in-Some-before-clause-borrows : goal.returns-in-Some-before-clause-borrows
+returns-in-Some-before-clause-borrows g c =
+    λ yes. c.mend_left-in-Some-before.ensures.borrows yes (low-after (looks c.args.tree.now) c.args.id c.args.parent c.args.addr c.requires.followed c.requires.under c.siblings-index.result.0 c.siblings-index.result.1 c.siblings-index.result.2 c.siblings-index.ensures c.in-Some-before.left c.in-Some-before.is c.in-Some.right c.count_of-held.result c.in-Some.is c.count_of-held.ensures.count (omega arith))
+
+pub returns-in_default-clause-joins : goal.returns-in_default-clause-joins
+returns-in_default-clause-joins g c =
+    λ yes. c.mend_left.ensures.joins yes (none-after (looks c.args.tree.now) c.args.id c.args.parent c.args.addr c.requires.followed c.requires.under c.siblings-index.result.0 c.siblings-index.result.1 c.siblings-index.result.2 c.siblings-index.ensures c.unwrap-left.result c.unwrap-left.ensures c.in_default.is)
+
+pub returns-in-Some-before-clause-joins : goal.returns-in-Some-before-clause-joins
+returns-in-Some-before-clause-joins g c =
+    λ yes. c.mend_left-in-Some-before.ensures.joins yes (low-after (looks c.args.tree.now) c.args.id c.args.parent c.args.addr c.requires.followed c.requires.under c.siblings-index.result.0 c.siblings-index.result.1 c.siblings-index.result.2 c.siblings-index.ensures c.in-Some-before.left c.in-Some-before.is c.in-Some.right c.count_of-held.result c.in-Some.is c.count_of-held.ensures.count (omega arith))

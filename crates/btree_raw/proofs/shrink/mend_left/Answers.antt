@@ -20,7 +20,7 @@ pub returns-clause-joined : goal.returns-clause-joined
 returns-clause-joined g c = λ yes. c.join.ensures.joined c.args.id c.requires.beside
 
 pub returns-then-held-gt3-clause-borrows : goal.returns-then-held-gt3-clause-borrows
-returns-then-held-gt3-clause-borrows g c = λ yes. left-borrows (looks c.args.tree.now) c.args.parent c.args.index c.args.left c.args.id c.args.addr c.requires.beside c.count_of-held.result c.count_of-held.ensures.count c.requires.none (looks c.lend_right.new.tree) (omega arith) c.lend_right.ensures.rotates.nodes
+returns-then-held-gt3-clause-borrows g c = λ yes none. left-borrows (looks c.args.tree.now) c.args.parent c.args.index c.args.left c.args.id c.args.addr c.requires.beside c.count_of-held.result c.count_of-held.ensures.count none (looks c.lend_right.new.tree) (omega arith) c.lend_right.ensures.rotates.nodes
 
 pub returns-clause-joins : goal.returns-clause-joins
-returns-clause-joins g c = λ yes. left-joins (looks c.args.tree.now) c.args.parent c.args.index c.args.left c.args.id c.args.addr c.requires.beside c.count_of-held.result c.count_of-held.ensures.count c.requires.none (looks c.join.new.tree) (omega arith) c.join.ensures.merges.nodes
+returns-clause-joins g c = λ yes none. left-joins (looks c.args.tree.now) c.args.parent c.args.index c.args.left c.args.id c.args.addr c.requires.beside c.count_of-held.result c.count_of-held.ensures.count none (looks c.join.new.tree) (omega arith) c.join.ensures.merges.nodes
