@@ -37,8 +37,9 @@ pub mod generic {
     }
 }
 
-/// What a store of nodes promises, and a store.
+/// What a store of nodes promises, as bounds on any store and on one of nodes, and a store.
 pub mod store {
+    pub use btree_nodes::{ClearNodes, Nodes, NodesMut};
     pub use btree_store::{Clear, Slab, SlabMut, SlabStore};
 }
 
