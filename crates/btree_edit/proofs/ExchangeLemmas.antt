@@ -12,11 +12,12 @@ use Rattle.btree_node.specs.declared.node.Node.{Node}
 use Rattle.btree_node.specs.Node.{view_of}
 use Rattle.btree_node.specs.NodeLends.{node_with_item_at}
 use Rattle.btree_node.proofs.NodeLemmas.{item_at-children, item_at-items, item_at-kind, item_at-parent}
-use Rattle.btree_view.specs.View.{Look, item_in, items_of}
+use Rattle.btree_view.specs.View.{Look, View, item_in, items_of}
 use Rattle.btree_shape.specs.OnTour.{IsOnTour}
 use Rattle.btree_shape.specs.Place.{IsEnd, IsOccupied, IsPlace, IsPlaceOf, IsValid}
-use Rattle.btree_shape.specs.Shape.{times_listed}
+use Rattle.btree_shape.specs.Lists.{times_listed}
 use Rattle.btree_shape.specs.Spells.{numbers_under}
+use Rattle.btree_shape.specs.Step.{HasItems, Puts}
 use Rattle.btree_shape.specs.Tour.{slot}
 use Rattle.btree_shape.specs.TreeState.{TreeState, Changes, IsBTree, IsOccupiedIn, IsPlaceIn, IsUsed, IsValidIn, item_of, looks, pairs_of}
 use Rattle.btree_shape.specs.WellFormed.{IsSized, IsWellFormed, times_used}
@@ -29,7 +30,18 @@ use Rattle.btree_shape.proofs.ReplacedTrees.{ReplacedWell, replaced-well}
 use Rattle.btree_shape.proofs.Stores.{len-views, puts, used-view, within-used}
 use Rattle.btree_shape.proofs.TreeStates.{is-tree, pairs-tree}
 use Rattle.btree_raw.proofs.StateLemmas.{same-len, same-refusals, same-root}
-use Rattle.btree_edit.specs.Exchange.{ExchangesAt, IsExchanged, IsValueExchanged}
+use Rattle.btree_edit.specs.Exchange.{IsExchanged, IsValueExchanged}
+
+-- another item stands at the address, in a node that is otherwise as it was; no other node has changed
+pub record ExchangesAt {A : Type 0} (look new : Look A) (a : Address) (was is : A) : Type 0 where
+  pub old : View A
+  pub here : look a.id ≡ Some old
+  pub offset : ℕ
+  pub at : a.offset ≡ Some offset
+  pub stood : slice_get (items_of old) offset ≡ Some was
+  pub node : View A
+  pub items : HasItems old node (set (items_of old) offset is)
+  pub puts : Puts look new a.id node
 
 -- an item set at an index, and the others
 get-set_same : {X : Type 0} (xs : List X) (n : ℕ) (x y : X) → slice_get xs n ≡ Some x → slice_get (set xs n y) n ≡ Some y

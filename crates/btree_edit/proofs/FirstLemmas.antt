@@ -9,7 +9,7 @@ use Rattle.btree_node.specs.declared.node.Node.{Node}
 use Rattle.btree_node.specs.Node.{view_of}
 use Rattle.btree_view.specs.View.{leaf, item_in}
 use Rattle.btree_shape.specs.Place.{IsPlace, IsPlaceOf}
-use Rattle.btree_shape.specs.Shape.{one, times_listed}
+use Rattle.btree_shape.specs.Lists.{one, times_listed}
 use Rattle.btree_shape.specs.Step.{Puts}
 use Rattle.btree_shape.specs.Strain.{IsStrain, strain_under}
 use Rattle.btree_shape.specs.TreeState.{TreeState, Changes, IsBTree, looks, pairs_of}

@@ -3,9 +3,9 @@ use Rattle.std.proofs.Common.{◌≡◌, ℕ, List, Option, Some, None, Ok, Err,
 use Rattle.std.proofs.lemmas.Option.{slice_get_within}
 use Rattle.std.specs.Cmp.{IsTotalOrder}
 use Rattle.std.specs.declared.cmp.Ordering.{Ordering}
-use Rattle.btree_item.proofs.PairEdits.{Fits-before}
+use Rattle.btree_item.proofs.PairEdits.{KeyFits-before}
 use Rattle.btree_item.proofs.PairLemmas.{inserted-from_Err, set-from_Ok, slice_get-from_Ok}
-use Rattle.btree_item.specs.Pairs.{Fits, before, found, found_value, inserted}
+use Rattle.btree_item.specs.Pairs.{KeyFits, before, found, found_value, inserted}
 use Rattle.btree_item.specs.declared.address.Address.{Address}
 use Rattle.btree_view.specs.View.{View, item_in, items_of, size_of}
 use Rattle.btree_shape.specs.Place.{IsEnd, IsPlace, IsPlaceOf}
@@ -88,7 +88,7 @@ module _ {K V : Type 0} (cmp : K → K → Ordering) (laws : IsTotalOrder cmp) (
       at = gap.at;
       in_leaf = gap.in_leaf;
       back = gap.back;
-      fits = subst (λ p. Fits cmp k p xs) nothing.1 (Fits-before cmp laws k xs tree.ascends nothing.0);
+      fits = subst (λ p. KeyFits cmp k p xs) nothing.1 (KeyFits-before cmp laws k xs tree.ascends nothing.0);
     }
 
     pub absent : found cmp k xs ≡ None

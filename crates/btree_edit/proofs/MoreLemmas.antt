@@ -11,7 +11,7 @@ use Rattle.btree_view.specs.View.{View, Look, leaf, internal, item_in, most_of, 
 use Rattle.btree_shape.specs.Growing.{IsGrowing, IsGrown}
 use Rattle.btree_shape.specs.Need.{need}
 use Rattle.btree_shape.specs.Place.{IsPlace, IsPlaceOf, IsEnd, IsLeaf}
-use Rattle.btree_shape.specs.Shape.{times_listed}
+use Rattle.btree_shape.specs.Lists.{times_listed}
 use Rattle.btree_shape.specs.Spells.{numbers_under}
 use Rattle.btree_shape.specs.Step.{Claims, Puts}
 use Rattle.btree_shape.specs.Strain.{IsStrain, strain_under}

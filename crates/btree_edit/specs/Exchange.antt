@@ -1,22 +1,9 @@
 -- An item exchanged for another one at an address.
-use Rattle.std.specs.Prelude.{◌≡◌, ◌≢◌, ℕ, Some, set, slice_get}
+use Rattle.std.specs.Prelude.{◌≡◌, ◌≢◌, ℕ, Some, set}
 use Rattle.std.specs.FinMap as map
 use Rattle.std.specs.declared.cmp.Ordering.{Ordering}
 use Rattle.btree_item.specs.declared.address.Address.{Address}
-use Rattle.btree_view.specs.View.{View, Look, items_of}
-use Rattle.btree_shape.specs.Step.{Puts, HasItems}
 use Rattle.btree_shape.specs.TreeState.{TreeState, IsBTree, IsPlaceIn, IsValidIn, item_of, pairs_of}
-
--- another item stands at the address, in a node that is otherwise as it was; no other node has changed
-pub record ExchangesAt {A : Type 0} (look new : Look A) (a : Address) (was is : A) : Type 0 where
-  pub old : View A
-  pub here : look a.id ≡ Some old
-  pub offset : ℕ
-  pub at : a.offset ≡ Some offset
-  pub stood : slice_get (items_of old) offset ≡ Some was
-  pub node : View A
-  pub items : HasItems old node (set (items_of old) offset is)
-  pub puts : Puts look new a.id node
 
 module _ {K V : Type 0} (old new : TreeState K V) (a : Address) where
   -- every address is valid where it was, at the same place, and the item there is the same, or there is none as before; but at address `a`

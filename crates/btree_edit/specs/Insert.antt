@@ -4,7 +4,7 @@ use Rattle.std.specs.FinMap as map
 use Rattle.std.specs.List.{insert}
 use Rattle.std.specs.declared.cmp.Ordering.{Ordering}
 use Rattle.btree_store.specs.Content.{Content}
-use Rattle.btree_item.specs.Pairs.{Fits, found}
+use Rattle.btree_item.specs.Pairs.{KeyFits, found}
 use Rattle.btree_item.specs.declared.address.Address.{Address}
 use Rattle.btree_item.specs.declared.refused.Cause.{Cause}
 use Rattle.btree_item.specs.declared.refused.Cause.TheVariants.{Store, Count}
@@ -30,7 +30,7 @@ module _ {K V : Type 0} (cmp : K → K → Ordering) where
     pub at : IsPlaceIn s a place
     pub in_leaf : IsLeafAddressIn s a
     pub back : IsSome a.offset
-    pub fits : Fits cmp k place (pairs_of s)
+    pub fits : KeyFits cmp k place (pairs_of s)
 
   -- the pair was put at the place of address a, and stands at address b; the store has as many nodes more as were needed
   pub record IsInserted (old new : TreeState K V) (a b : Address) (x : K × V) : Type 0 where

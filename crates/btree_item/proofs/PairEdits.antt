@@ -15,7 +15,7 @@ use Rattle.std.proofs.lemmas.Map.{keys-set_value, length-set_value}
 use Rattle.std.proofs.lemmas.Map.Keys.{sorted_head, sorted_tail}
 use Rattle.std.proofs.lemmas.Option.{slice_get-map}
 use Rattle.btree_item.specs.Keys.{count_below, has_key, AllBelow, IsFirstNotBelow}
-use Rattle.btree_item.specs.Pairs.{Ascends, Fits, before, found, with_value, inserted}
+use Rattle.btree_item.specs.Pairs.{Ascends, KeyFits, before, found, with_value, inserted}
 use Rattle.btree_item.proofs.KeyLemmas.{AllBelow-none, AllBelow-from_key, IsFirstNotBelow-count, count_below-first, has_key-gap, has_key-here}
 use Rattle.btree_item.proofs.PairLemmas.{None-from_is_some, count_below-keys_of, has_key-keys_of}
 
@@ -130,7 +130,7 @@ module _ {K V : Type 0} (cmp : K → K → Ordering) where
     above_at (x ∷ xs) zero k q below at = let same : x.0 ≡ q = cc in rw (← same) (below x refl)
     above_at (x ∷ xs) (suc p) k q below at = above_at xs p k q below at
 
-    below_before : (k : K) (p : ℕ) (xs : List (K × V)) → Ascends cmp xs → Fits cmp k p xs → AllBelow cmp k p (keys_of xs)
+    below_before : (k : K) (p : ℕ) (xs : List (K × V)) → Ascends cmp xs → KeyFits cmp k p xs → AllBelow cmp k p (keys_of xs)
     below_before k zero xs up fits = AllBelow-none k (keys_of xs)
     below_before k (suc p) xs up fits =
         let within = fits.within in
@@ -139,8 +139,8 @@ module _ {K V : Type 0} (cmp : K → K → Ordering) where
         let all = AllBelow-from_key o k last.0.0 p (keys_of xs) up (key_at xs p last.0 last.1) (ap is_lt less) in
         record { below = λ i q lt at. all.below i q (omega arith) at }
 
-    IsFirstNotBelow-from_Fits : (k : K) (p : ℕ) (xs : List (K × V)) → Ascends cmp xs → Fits cmp k p xs → IsFirstNotBelow cmp k p (keys_of xs)
-    IsFirstNotBelow-from_Fits k p xs up fits =
+    IsFirstNotBelow-from_KeyFits : (k : K) (p : ℕ) (xs : List (K × V)) → Ascends cmp xs → KeyFits cmp k p xs → IsFirstNotBelow cmp k p (keys_of xs)
+    IsFirstNotBelow-from_KeyFits k p xs up fits =
         let within = fits.within in
         let same = length-map xs (λ (x : K × V). x.0) in
         record {
@@ -151,18 +151,18 @@ module _ {K V : Type 0} (cmp : K → K → Ordering) where
 
     -- ---- a key that fits at a place
     -- a key that fits at a place has as many smaller keys
-    pub before-from_Fits : (k : K) (p : ℕ) (xs : List (K × V)) → Ascends cmp xs → Fits cmp k p xs → before cmp k xs ≡ p
-    before-from_Fits k p xs up fits =
-        sym (count_below-keys_of cmp k xs) ∙ count_below-first o k p (keys_of xs) up (IsFirstNotBelow-from_Fits k p xs up fits)
+    pub before-from_KeyFits : (k : K) (p : ℕ) (xs : List (K × V)) → Ascends cmp xs → KeyFits cmp k p xs → before cmp k xs ≡ p
+    before-from_KeyFits k p xs up fits =
+        sym (count_below-keys_of cmp k xs) ∙ count_below-first o k p (keys_of xs) up (IsFirstNotBelow-from_KeyFits k p xs up fits)
 
     -- a key that fits at a place is absent
-    pub found-from_Fits : (k : K) (p : ℕ) (xs : List (K × V)) → Ascends cmp xs → Fits cmp k p xs → found cmp k xs ≡ None
-    found-from_Fits k p xs up fits =
-        let gap = has_key-gap o k p (keys_of xs) up (IsFirstNotBelow-from_Fits k p xs up fits) (λ q at. ap is_eq (Greater-from_Less cmp o k q (above_at xs p k q fits.below at))) in
+    pub found-from_KeyFits : (k : K) (p : ℕ) (xs : List (K × V)) → Ascends cmp xs → KeyFits cmp k p xs → found cmp k xs ≡ None
+    found-from_KeyFits k p xs up fits =
+        let gap = has_key-gap o k p (keys_of xs) up (IsFirstNotBelow-from_KeyFits k p xs up fits) (λ q at. ap is_eq (Greater-from_Less cmp o k q (above_at xs p k q fits.below at))) in
         None-from_is_some (found cmp k xs) (sym (has_key-keys_of cmp k xs) ∙ gap)
 
     -- a pair that is put in where its key fits leaves the keys in order
-    pub Ascends-insert : (k : K) (w : V) (p : ℕ) (xs : List (K × V)) → Ascends cmp xs → Fits cmp k p xs → Ascends cmp (insert xs p (k, w))
+    pub Ascends-insert : (k : K) (w : V) (p : ℕ) (xs : List (K × V)) → Ascends cmp xs → KeyFits cmp k p xs → Ascends cmp (insert xs p (k, w))
     Ascends-insert k w p xs up fits =
         let P : List K → Type 0 = λ keys. IsStrictlySortedBy cmp keys in
         let within = fits.within in
@@ -171,8 +171,8 @@ module _ {K V : Type 0} (cmp : K → K → Ordering) where
         (IsStrictlySortedBy-insert cmp o k p (keys_of xs) up (omega arith) (below_before k p xs up fits) (λ q at. above_at xs p k q fits.below at))
 
     -- an absent key fits after the smaller ones
-    pub Fits-before : (k : K) (xs : List (K × V)) → Ascends cmp xs → found cmp k xs ≡ None → Fits cmp k (before cmp k xs) xs
-    Fits-before k xs up absent =
+    pub KeyFits-before : (k : K) (xs : List (K × V)) → Ascends cmp xs → found cmp k xs ≡ None → KeyFits cmp k (before cmp k xs) xs
+    KeyFits-before k xs up absent =
         let count = count_below-keys_of cmp k xs in
         let first = IsFirstNotBelow-count o k (keys_of xs) up in
         let has_not : has_key cmp k (keys_of xs) ≡ false = has_key-keys_of cmp k xs ∙ ap is_some absent in
@@ -190,7 +190,7 @@ module _ {K V : Type 0} (cmp : K → K → Ordering) where
         is_apart false present absent = refl
 
     pub Ascends-insert_before : (k : K) (w : V) (xs : List (K × V)) → Ascends cmp xs → found cmp k xs ≡ None → Ascends cmp (insert xs (before cmp k xs) (k, w))
-    Ascends-insert_before k w xs up absent = Ascends-insert k w (before cmp k xs) xs up (Fits-before k xs up absent)
+    Ascends-insert_before k w xs up absent = Ascends-insert k w (before cmp k xs) xs up (KeyFits-before k xs up absent)
 
     inserted_by : (o : Option (K × V)) (k : K) (w : V) (xs : List (K × V)) → found cmp k xs ≡ o → Ascends cmp xs → Ascends cmp (inserted cmp k w xs)
     inserted_by None k w xs is up = rw is (Ascends-insert_before k w xs up is)

@@ -38,7 +38,7 @@ module _ {K V : Type 0} (cmp : K → K → Ordering) where
   inserted k w xs = if is_some (found k xs) then with_value k w xs else insert xs (before k xs) (k, w)
 
   -- a key fits at a place: above the key before it, below the key there
-  pub record Fits (k : K) (p : ℕ) (xs : List (K × V)) : Type 0 where
+  pub record KeyFits (k : K) (p : ℕ) (xs : List (K × V)) : Type 0 where
     pub within : p ≤ length xs
     pub above : (q : ℕ) (x : K × V) → suc q ≡ p → slice_get xs q ≡ Some x → cmp x.0 k ≡ Less
     pub below : (x : K × V) → slice_get xs p ≡ Some x → cmp k x.0 ≡ Less

@@ -6,7 +6,7 @@ use Rattle.btree_store.specs.ContentLaws.{get-insert_other, get-insert_same, rem
 use Rattle.btree_raw.specs.Claimed.{EMPTY, with_claims, AreClaims, IsClaimed}
 use Rattle.btree_node.specs.Node.{view_of}
 use Rattle.btree_node.specs.declared.node.Node.{Node}
-use Rattle.btree_shape.specs.Shape.{one}
+use Rattle.btree_shape.specs.Lists.{one}
 use Rattle.btree_shape.specs.Step.{Claims}
 use Rattle.btree_shape.specs.TreeState.{views}
 use Rattle.btree_shape.specs.WellFormed.{times_used}

@@ -10,7 +10,8 @@ use Rattle.btree_view.specs.View.{View, Look, children_in, children_of, internal
 use Rattle.btree_shape.specs.Growing.{IsGrowing, IsGrown}
 use Rattle.btree_shape.specs.Moved.{moved_by_split}
 use Rattle.btree_shape.specs.Place.{IsBack}
-use Rattle.btree_shape.specs.Shape.{count_at, one, times_listed, times_under, view_at}
+use Rattle.btree_shape.specs.Lists.{one, times_listed}
+use Rattle.btree_shape.specs.Shape.{count_at, times_under, view_at}
 use Rattle.btree_shape.specs.Step.{Puts, Raises, Splits}
 use Rattle.btree_shape.specs.Way.{parent_above}
 use Rattle.btree_shape.specs.WellFormed.{times_used}

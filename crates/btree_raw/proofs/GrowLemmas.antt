@@ -2,7 +2,7 @@
 use Rattle.std.proofs.Common.{◌≡◌, ℕ, ◌<◌, ◌≤◌, inl, inr, [], ◌∷◌, Some, None, sym, ap, subst, ◌∙◌, option_map, arith}
 use Rattle.btree_view.specs.Edits.{IsSplit, with_parent}
 use Rattle.btree_view.specs.View.{View, Look, internal, children_of, children_in}
-use Rattle.btree_shape.specs.Shape.{times_listed}
+use Rattle.btree_shape.specs.Lists.{times_listed}
 use Rattle.btree_shape.specs.Step.{Adopts, Puts, Raises, Splits}
 use Rattle.btree_shape.specs.WellFormed.{times_used}
 use Rattle.btree_shape.proofs.Growth.{right-children, splits-made}

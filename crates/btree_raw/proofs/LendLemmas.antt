@@ -9,9 +9,9 @@ use Rattle.btree_view.specs.Edits.{with_parent}
 use Rattle.btree_view.specs.View.{Look, View, leaf, internal, children_of, most_of, size_of, parent_of}
 use Rattle.btree_shape.specs.Growing.{IsGrown}
 use Rattle.btree_shape.specs.Shrinking.{IsShrinking}
-use Rattle.btree_shape.specs.Mend.{Merges, RotatesLeft, RotatesRight, Writes, as_list}
+use Rattle.btree_shape.specs.Lists.{as_list, one, times_listed}
+use Rattle.btree_shape.specs.Mend.{Merges, RotatesLeft, RotatesRight, Writes}
 use Rattle.btree_shape.specs.Moved.{first_in, moved_by_merge, moved_by_rotate_left, moved_by_rotate_right}
-use Rattle.btree_shape.specs.Shape.{one, times_listed}
 use Rattle.btree_shape.specs.TreeState.{views}
 use Rattle.btree_shape.specs.WellFormed.{times_used}
 use Rattle.btree_shape.proofs.Backs.{merge-back, rotate-left-back, rotate-right-back}

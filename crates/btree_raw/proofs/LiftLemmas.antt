@@ -12,7 +12,7 @@ use Rattle.btree_node.specs.declared.node.Node.{Node}
 use Rattle.btree_view.specs.Edits.{is_internal, with_item}
 use Rattle.btree_node.specs.Node.{view_of}
 use Rattle.btree_view.specs.View.{View, leaf, internal, children_of, most_of, size_of}
-use Rattle.btree_shape.specs.Shape.{times_listed}
+use Rattle.btree_shape.specs.Lists.{times_listed}
 use Rattle.btree_shape.specs.TreeState.{views}
 use Rattle.btree_shape.proofs.Numbers.{same-or}
 use Rattle.btree_raw.specs.Steps.{AddsItem, CanLift, CanTake, Lifts}

@@ -12,8 +12,8 @@ use Rattle.btree_node.specs.declared.node.Node.{Node}
 use Rattle.btree_node.specs.Node.{view_of}
 use Rattle.btree_view.specs.Edits.{HasChildFor, HasSpare, HaveRoom, is_internal, joined, pushed_left, pushed_right, with_other_item, with_parent, without}
 use Rattle.btree_view.specs.View.{Look, View, leaf, internal, children_of, items_of, most_of, size_of}
-use Rattle.btree_shape.specs.Mend.{IsRemade, Releases, as_list}
-use Rattle.btree_shape.specs.Shape.{one}
+use Rattle.btree_shape.specs.Lists.{as_list, one}
+use Rattle.btree_shape.specs.Mend.{IsRemade, Releases}
 use Rattle.btree_shape.specs.Step.{Adopts, Loses}
 use Rattle.btree_shape.specs.WellFormed.{times_used}
 use Rattle.btree_shape.proofs.Frames.{one-other, one-self}

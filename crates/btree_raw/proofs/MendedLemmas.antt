@@ -13,7 +13,7 @@ use Rattle.btree_shape.specs.Mend.{Releases}
 use Rattle.btree_shape.specs.Mending.{Borrows, IsMended, IsShortUnder, Joins, borrows, empties, joins, releases, rests, size_in}
 use Rattle.btree_shape.specs.Moved.{first_in, moved_by_emptying, moved_by_release}
 use Rattle.btree_shape.specs.Need.{levels_above}
-use Rattle.btree_shape.specs.Shape.{times_listed}
+use Rattle.btree_shape.specs.Lists.{times_listed}
 use Rattle.btree_shape.specs.Shrinking.{IsShrinking}
 use Rattle.btree_shape.specs.Step.{Loses}
 use Rattle.btree_shape.specs.WellFormed.{times_used}

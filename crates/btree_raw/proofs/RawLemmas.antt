@@ -6,7 +6,7 @@ use Rattle.btree_store.specs.Content.{Content}
 use Rattle.btree_node.specs.declared.node.Node.{Node}
 use Rattle.btree_node.specs.Node.{view_of}
 use Rattle.btree_view.specs.View.{children_in, children_of}
-use Rattle.btree_shape.specs.Shape.{times_listed}
+use Rattle.btree_shape.specs.Lists.{times_listed}
 use Rattle.btree_shape.specs.Step.{Adopts}
 use Rattle.btree_shape.specs.TreeState.{TreeState, IsOff, looks, pairs_of, views}
 use Rattle.btree_shape.specs.WellFormed.{IsOffByOne, times_used}

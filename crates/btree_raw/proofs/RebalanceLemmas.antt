@@ -13,7 +13,7 @@ use Rattle.btree_shape.specs.Mending.{IsMended}
 use Rattle.btree_shape.specs.Need.{climb}
 use Rattle.btree_shape.specs.OnTour.{IsAddressed}
 use Rattle.btree_shape.specs.Place.{IsEnd, IsPlace, IsPlaceOf, IsValid}
-use Rattle.btree_shape.specs.Shape.{times_listed}
+use Rattle.btree_shape.specs.Lists.{times_listed}
 use Rattle.btree_shape.specs.Shrinking.{IsShrinking, owed_by}
 use Rattle.btree_shape.specs.Spells.{Spells, numbers_under}
 use Rattle.btree_shape.specs.Step.{Claims}

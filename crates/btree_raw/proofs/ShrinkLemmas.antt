@@ -11,7 +11,7 @@ use Rattle.std.specs.Prelude.{IfSome}
 use Rattle.btree_view.specs.View.{Look, View, leaf, internal, children_in, children_of, parent_of, size_of}
 use Rattle.btree_shape.specs.Mend.{Merges, RotatesLeft, RotatesRight}
 use Rattle.btree_shape.specs.Mending.{Borrows, Joins, NoneSpares, child_at, from_left, from_right, size_in, with_left, with_right}
-use Rattle.btree_shape.specs.Shape.{times_listed}
+use Rattle.btree_shape.specs.Lists.{times_listed}
 use Rattle.btree_shape.specs.TreeState.{views}
 use Rattle.btree_shape.specs.WellFormed.{times_used}
 use Rattle.btree_shape.proofs.Climbs.{get-times}

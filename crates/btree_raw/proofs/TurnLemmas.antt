@@ -2,8 +2,8 @@
 use Rattle.std.proofs.Common.{◌≡◌, ◌≢◌, ℕ, ◌+◌, ◌<◌, ◌≤◌, inl, inr, List, [], ◌∷◌, ◌++◌, Option, Some, None, IfSome, refl, sym, ap, subst, ◌∙◌, slice_get, arith}
 use Rattle.btree_view.specs.Edits.{HasChildFor, is_internal, joined, pushed_left, pushed_right, with_other_item, without}
 use Rattle.btree_view.specs.View.{Look, View, children_in, children_of, items_of}
-use Rattle.btree_shape.specs.Mend.{IsRemade, Merges, RotatesLeft, RotatesRight, as_list}
-use Rattle.btree_shape.specs.Shape.{times_listed}
+use Rattle.btree_shape.specs.Lists.{as_list, times_listed}
+use Rattle.btree_shape.specs.Mend.{IsRemade, Merges, RotatesLeft, RotatesRight}
 use Rattle.btree_shape.specs.Step.{Adopts, Loses, Puts}
 use Rattle.btree_shape.specs.WellFormed.{times_used}
 use Rattle.btree_shape.proofs.Frames.{one-self}

@@ -2,7 +2,7 @@
 use Rattle.std.specs.Prelude.{◌≡◌, ◌≢◌, ℕ, ◌+◌, ◌<◌, ◌≤◌, [], ◌∷◌, slice_get, Option, Some, None, IfSome, option_map, IsTrue}
 use Rattle.btree_view.specs.View.{View, Look, size_of, most_of, items_of, children_of}
 use Rattle.btree_view.specs.Edits.{with_parent, with_other_item, without, joined, pushed_left, pushed_right, is_internal, HasChildFor, HaveRoom, HasSpare}
-use Rattle.btree_shape.specs.Shape.{times_listed}
+use Rattle.btree_shape.specs.Lists.{times_listed}
 use Rattle.btree_shape.specs.Step.{Becomes, Puts}
 use Rattle.btree_shape.specs.WellFormed.{times_used}
 

@@ -6,7 +6,7 @@ use Rattle.btree_shape.specs.Growing.{IsGrown}
 use Rattle.btree_shape.specs.Mending.{IsMended}
 use Rattle.btree_shape.specs.Need.{levels_above}
 use Rattle.btree_shape.specs.Place.{IsPlace, IsValid}
-use Rattle.btree_shape.specs.Shape.{one, times_listed}
+use Rattle.btree_shape.specs.Lists.{one, times_listed}
 use Rattle.btree_shape.specs.Shrinking.{IsShrinking}
 use Rattle.btree_shape.specs.TreeState.{TreeState, looks}
 use Rattle.btree_shape.specs.WellFormed.{IsFormed, times_used}

@@ -5,7 +5,7 @@ use Rattle.btree_view.specs.View.{View, Look, size_of, most_of, children_in, chi
 use Rattle.btree_view.specs.Edits.{with_parent, with_item, is_internal, HasChildFor, IsOverflowing, IsSplit}
 use Rattle.btree_shape.specs.Growing.{IsGrowing, IsGrown}
 use Rattle.btree_shape.specs.Need.{IsClimbing, climb}
-use Rattle.btree_shape.specs.Shape.{times_listed}
+use Rattle.btree_shape.specs.Lists.{times_listed}
 use Rattle.btree_shape.specs.Step.{Becomes, Puts}
 use Rattle.btree_shape.specs.TreeState.{TreeState, looks}
 use Rattle.btree_shape.specs.WellFormed.{times_used}

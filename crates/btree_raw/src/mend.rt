@@ -1,7 +1,8 @@
 //! Steps that mend a node with too few items.
 ghost use Rattle.std.specs.Prelude.{◌<◌};
 ghost use Rattle.btree_node.specs.Node.{view_of};
-ghost use Rattle.btree_shape.specs.Mend.{Merges, Releases, RotatesLeft, RotatesRight, as_list};
+ghost use Rattle.btree_shape.specs.Lists.{as_list};
+ghost use Rattle.btree_shape.specs.Mend.{Merges, Releases, RotatesLeft, RotatesRight};
 ghost use Rattle.btree_shape.specs.Step.{Adopts};
 ghost use Rattle.btree_shape.specs.TreeState.{Changes, IsUsed, looks};
 ghost use Rattle.btree_raw.specs.NodeSteps.{CanLend, HasRoomFor, HasRoomForAll, HasBetween, LosesFirst, LosesLast, ChangesItem, GainsFirst, GainsLast, GainsAll, LosesBetween, ClearsParent, CanRotateLeft, CanRotateRight, CanMerge, CanRelease, IsThere};

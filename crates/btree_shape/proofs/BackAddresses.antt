@@ -8,7 +8,8 @@ use Rattle.btree_view.specs.View.{Look}
 use Rattle.btree_shape.specs.Addresses.{backs_under}
 use Rattle.btree_shape.specs.AddressLaws.{IsPlaced, IsPlacedUnder, ListsBacks, numbers_of}
 use Rattle.btree_shape.specs.Place.{IsBack, IsValid, IsWithin}
-use Rattle.btree_shape.specs.Shape.{Shape, items_under, later_items, total}
+use Rattle.btree_shape.specs.Lists.{total}
+use Rattle.btree_shape.specs.Shape.{Shape, items_under, later_items}
 use Rattle.btree_shape.specs.Spells.{numbers_under}
 use Rattle.btree_shape.specs.Tour.{Tick, branch_key, branch_tour, ticks, tour}
 use Rattle.btree_shape.specs.WellFormed.{IsOffByOne, IsWellFormed}

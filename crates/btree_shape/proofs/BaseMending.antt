@@ -3,7 +3,7 @@ use Rattle.std.proofs.Common.{◌≡◌, ◌≢◌, ℕ, zero, suc, [], ◌∷�
 use Rattle.btree_view.specs.View.{leaf, internal, Look}
 use Rattle.btree_shape.specs.Mend.{Merges, Releases, RotatesLeft}
 use Rattle.btree_shape.specs.Mending.{IsMended, borrows, empties, from_right, joins, releases, with_right}
-use Rattle.btree_shape.specs.Shape.{times_listed}
+use Rattle.btree_shape.specs.Lists.{times_listed}
 
 -- the middle leaf has two items, and both its siblings have one to spare: it takes one from the right one
 abbrev short : Look ℕ

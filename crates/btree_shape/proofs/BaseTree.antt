@@ -8,7 +8,7 @@ use Rattle.btree_view.specs.View.{View, leaf, internal, Look, size_of, most_of}
 use Rattle.btree_shape.specs.Spells.{Spells, numbers_under, spelled}
 use Rattle.btree_shape.specs.WellFormed.{times_used, least_of, IsNearlySized, IsWellFormed, IsOffByOne}
 use Rattle.btree_shape.specs.Place.{NOWHERE, StandsAt, IsPlace, IsValid}
-use Rattle.btree_shape.specs.Shape.{times_listed}
+use Rattle.btree_shape.specs.Lists.{times_listed}
 
 abbrev Pair : Type 0
 Pair = ℕ × ℕ

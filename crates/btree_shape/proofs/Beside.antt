@@ -6,11 +6,12 @@ use Rattle.btree_item.specs.declared.address.Address.{Address}
 use Rattle.btree_view.specs.Edits.{HasChildFor, is_internal, with_parent}
 use Rattle.btree_view.specs.View.{Look, View, children_of, internal, leaf, size_of, most_of}
 use Rattle.btree_shape.specs.Growing.{IsGrown}
-use Rattle.btree_shape.specs.Mend.{Merges, RotatesLeft, RotatesRight, as_list}
+use Rattle.btree_shape.specs.Lists.{as_list, times_listed}
+use Rattle.btree_shape.specs.Mend.{Merges, RotatesLeft, RotatesRight}
 use Rattle.btree_shape.specs.Moved.{first_in, moved_by_merge, moved_by_rotate_left, moved_by_rotate_right}
 use Rattle.btree_shape.specs.Need.{levels_above}
 use Rattle.btree_shape.specs.Pair.{first_of}
-use Rattle.btree_shape.specs.Shape.{Holds, IsFilled, Shape, count_at, id_of, items_under, most_at, times_listed, view_at}
+use Rattle.btree_shape.specs.Shape.{Holds, IsFilled, Shape, count_at, id_of, items_under, most_at, view_at}
 use Rattle.btree_shape.specs.Shrinking.{IsShrinking, owed}
 use Rattle.btree_shape.specs.Strain.{strain_of}
 use Rattle.btree_shape.specs.Tour.{In, whole_tour}

@@ -3,7 +3,8 @@ use Rattle.std.proofs.Common.{◌≡◌, ◌≢◌, ◌<◌, ◌≤◌, ◌++◌
 use Rattle.std.proofs.lemmas.Grind.{flat_map-append}
 use Rattle.btree_item.specs.declared.address.Address.{Address}
 use Rattle.btree_shape.specs.Moved.{moved_by_split}
-use Rattle.btree_shape.specs.Shape.{Shape, count_at, id_of, items_under, later_items, one, times_under, total}
+use Rattle.btree_shape.specs.Lists.{one, total}
+use Rattle.btree_shape.specs.Shape.{Shape, count_at, id_of, items_under, later_items, times_under}
 use Rattle.btree_shape.specs.Tour.{Carries, Tick, branch_key, branch_tour, lead, mark, over, passed, slot, ticks, tour, tour_after, tour_before, way_after, way_before, whole_tour}
 use Rattle.btree_shape.specs.Way.{Above, Frame, fill, fill_two, frame_id, frame_index, times_above, times_beside, top}
 use Rattle.btree_shape.proofs.Frames.{one-zero}

@@ -1,7 +1,8 @@
 -- Numbers claimed before a change: the last of them, and a tree in which they are claimed.
 use Rattle.std.proofs.Common.{◌≡◌, ◌<◌, ◌++◌, ◌∷◌, [], ◌∙◌, ◌+◌, ℕ, suc, List, length, ap, arith, length-append}
 use Rattle.btree_view.specs.View.{Look}
-use Rattle.btree_shape.specs.Shape.{Shape, id_of, one, times_listed, times_under}
+use Rattle.btree_shape.specs.Lists.{one, times_listed}
+use Rattle.btree_shape.specs.Shape.{Shape, id_of, times_under}
 use Rattle.btree_shape.specs.Step.{Claims}
 use Rattle.btree_shape.specs.Way.{Above, parent_above, times_above}
 use Rattle.btree_shape.specs.Whole.{IsWhole}

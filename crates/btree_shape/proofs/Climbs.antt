@@ -4,7 +4,8 @@ use Rattle.std.proofs.lemmas.List.{map-append}
 use Rattle.std.specs.Prelude.{slice_get}
 use Rattle.btree_view.specs.View.{Look, View, children_of, parent_of}
 use Rattle.btree_shape.specs.Need.{levels_above}
-use Rattle.btree_shape.specs.Shape.{IsFilled, Shape, count_at, id_of, items_under, later_items, one, times_listed, times_under, total}
+use Rattle.btree_shape.specs.Lists.{one, times_listed, total}
+use Rattle.btree_shape.specs.Shape.{IsFilled, Shape, count_at, id_of, items_under, later_items, times_under}
 use Rattle.btree_shape.specs.Way.{Above, AreFilled, Frame, HoldsAbove, after_in, at_branch, at_first, before_in, depth, frame_count, frame_id, frame_index, frame_view, items_after, items_before, least_at, parent_above, times_beside, top, under}
 use Rattle.btree_shape.specs.Whole.{IsWhole}
 use Rattle.btree_shape.proofs.Descents.{get-after}

@@ -8,7 +8,8 @@ use Rattle.std.specs.List.{AllByRecursion, flat_map}
 use Rattle.std.specs.Ordering.{nat_cmp}
 use Rattle.std.specs.Prelude.{is_some, option_map}
 use Rattle.btree_view.specs.View.{Look, View, children_in}
-use Rattle.btree_shape.specs.Shape.{Holds, IsFilled, IsFilledBelow, Shape, count_at, id_of, items_under, later_items, one, times_listed, total}
+use Rattle.btree_shape.specs.Lists.{one, times_listed, total}
+use Rattle.btree_shape.specs.Shape.{Holds, IsFilled, IsFilledBelow, Shape, count_at, id_of, items_under, later_items}
 use Rattle.btree_shape.specs.Spells.{numbers_under}
 use Rattle.btree_shape.specs.WellFormed.{IsRooted, IsSized, times_used}
 use Rattle.btree_store.specs.Content.{Content}

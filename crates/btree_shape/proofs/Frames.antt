@@ -5,7 +5,8 @@ use Rattle.std.proofs.lemmas.Grind.{flat_map-append}
 use Rattle.std.proofs.lemmas.List.{map-append}
 use Rattle.std.specs.List.{AllByRecursion}
 use Rattle.btree_view.specs.View.{Look, internal}
-use Rattle.btree_shape.specs.Shape.{Holds, IsFilled, IsFilledBelow, Shape, count_at, id_of, items_under, one, times_under, total, view_at}
+use Rattle.btree_shape.specs.Lists.{one, total}
+use Rattle.btree_shape.specs.Shape.{Holds, IsFilled, IsFilledBelow, Shape, count_at, id_of, items_under, times_under, view_at}
 use Rattle.btree_shape.specs.Way.{Above, Frame, HoldsAbove, SiblingsFilled, SiblingsHold, after_in, at_branch, at_first, before_in, fill, frame_count, frame_id, frame_view, times_above, times_beside, times_in, top, under}
 
 pub AllByRecursion-append : {X : Type 0} (P : X → Type 0) (xs ys : List X) → AllByRecursion P xs → AllByRecursion P ys

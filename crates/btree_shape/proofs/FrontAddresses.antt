@@ -9,7 +9,8 @@ use Rattle.btree_shape.specs.Addresses.{fronts_under}
 use Rattle.btree_shape.specs.AddressLaws.{IsFront, IsPlaced, IsPlacedUnder, ListsFronts, numbers_of}
 use Rattle.btree_shape.specs.OnTour.{IsAddressed}
 use Rattle.btree_shape.specs.Place.{IsPlace, IsWithin}
-use Rattle.btree_shape.specs.Shape.{Shape, items_under, later_items, total}
+use Rattle.btree_shape.specs.Lists.{total}
+use Rattle.btree_shape.specs.Shape.{Shape, items_under, later_items}
 use Rattle.btree_shape.specs.Spells.{numbers_under}
 use Rattle.btree_shape.specs.Tour.{Asks, Tick, branch_key, branch_tour, ticks, tour}
 use Rattle.btree_shape.specs.WellFormed.{IsOffByOne, IsWellFormed}

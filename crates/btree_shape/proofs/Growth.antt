@@ -8,7 +8,8 @@ use Rattle.btree_view.specs.View.{Look, View, children_of, internal, leaf, most_
 use Rattle.btree_shape.specs.Growing.{IsGrowing, IsGrown}
 use Rattle.btree_shape.specs.Moved.{moved_by_split}
 use Rattle.btree_shape.specs.Need.{wanted}
-use Rattle.btree_shape.specs.Shape.{Shape, count_at, id_of, most_at, one, times_listed, times_under, view_at}
+use Rattle.btree_shape.specs.Lists.{one, times_listed}
+use Rattle.btree_shape.specs.Shape.{Shape, count_at, id_of, most_at, times_under, view_at}
 use Rattle.btree_shape.specs.Step.{Adopts, Puts, Raises, Splits}
 use Rattle.btree_shape.specs.Strain.{strain_of}
 use Rattle.btree_shape.specs.Tour.{In, whole_tour}

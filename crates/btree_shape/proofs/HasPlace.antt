@@ -8,7 +8,7 @@ use Rattle.btree_shape.specs.WellFormed.{times_used}
 use Rattle.btree_shape.specs.Place.{IsPlace, IsPlaceOf, IsEnd, IsWithin}
 use Rattle.btree_shape.proofs.Subtrees.{Stands, stands}
 use Rattle.btree_shape.proofs.Numbers.{used-one}
-use Rattle.btree_shape.specs.Shape.{times_listed}
+use Rattle.btree_shape.specs.Lists.{times_listed}
 
 module _ {A : Type 0} where
   pub behind : (front xs : List A) (q : ℕ) (x : A) → slice_get xs q ≡ Some x → slice_get (front ++ xs) (length front + q) ≡ Some x

@@ -2,7 +2,8 @@
 use Rattle.std.proofs.Common.{◌≡◌, ◌<◌, ◌≤◌, ◌++◌, ◌∷◌, ◌+◌, ◌∙◌, [], ℕ, zero, suc, inl, inr, Bool, true, false, List, Option, Some, None, refl, sym, ap, subst, arith}
 use Rattle.std.specs.Prelude.{slice_get}
 use Rattle.btree_item.specs.declared.address.Address.{Address}
-use Rattle.btree_shape.specs.Shape.{Shape, one, times_under, total}
+use Rattle.btree_shape.specs.Lists.{one, total}
+use Rattle.btree_shape.specs.Shape.{Shape, times_under}
 use Rattle.btree_shape.specs.Tour.{Tick, branch_key, branch_tour, lead, mark, over, slot, ticks, tour}
 use Rattle.btree_shape.proofs.Frames.{one-other, one-self}
 use Rattle.btree_shape.proofs.Kept.{kept, put}

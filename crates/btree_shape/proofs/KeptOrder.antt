@@ -6,7 +6,8 @@ use Rattle.btree_item.specs.declared.address.Address.{Address}
 use Rattle.btree_view.specs.View.{Look, children_in}
 use Rattle.btree_shape.specs.AddressLaws.{IsInOrder, IsPlaced, IsPlacedUnder, numbers_of}
 use Rattle.btree_shape.specs.Place.{IsValid, IsWithin}
-use Rattle.btree_shape.specs.Shape.{Holds, Shape, id_of, items_under, later_items, times_listed, times_under, total}
+use Rattle.btree_shape.specs.Lists.{times_listed, total}
+use Rattle.btree_shape.specs.Shape.{Holds, Shape, id_of, items_under, later_items, times_under}
 use Rattle.btree_shape.specs.Spells.{numbers_under}
 use Rattle.btree_shape.specs.Tour.{tour}
 use Rattle.btree_shape.specs.WellFormed.{times_used}

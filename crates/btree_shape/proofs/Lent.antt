@@ -7,9 +7,10 @@ use Rattle.std.specs.List.{remove}
 use Rattle.std.specs.Prelude.{option_map, slice_get}
 use Rattle.btree_view.specs.Edits.{HasChildFor, is_internal, with_parent}
 use Rattle.btree_view.specs.View.{Look, View, children_of, items_of, parent_of}
-use Rattle.btree_shape.specs.Mend.{IsRemade, as_list}
+use Rattle.btree_shape.specs.Lists.{as_list, one, times_listed, total}
+use Rattle.btree_shape.specs.Mend.{IsRemade}
 use Rattle.btree_shape.specs.Pair.{first_of}
-use Rattle.btree_shape.specs.Shape.{Holds, Shape, id_of, one, times_listed, times_under, total, view_at}
+use Rattle.btree_shape.specs.Shape.{Holds, Shape, id_of, times_under, view_at}
 use Rattle.btree_shape.specs.Way.{Frame, at_branch, at_first, fill, fill_two, frame_index}
 use Rattle.btree_shape.proofs.Descents.{cons-parts, get-after}
 use Rattle.btree_shape.proofs.Frames.{AllByRecursion-append, AllByRecursion-left, AllByRecursion-right, eachs-same, holds-same, one-self, one-zero, total-append}

@@ -2,7 +2,8 @@
 use Rattle.std.proofs.Common.{◌≡◌, ◌≢◌, ◌<◌, ◌≤◌, ◌++◌, ◌∷◌, [], ◌∙◌, ◌+◌, ◌-◌, ◌==◌, if◌then◌else◌, ℕ, zero, suc, inl, List, length, Option, Some, None, refl, sym, ap, subst, arith}
 use Rattle.btree_item.specs.declared.address.Address.{Address}
 use Rattle.btree_shape.specs.Moved.{in_split, moved_by_split, over_split}
-use Rattle.btree_shape.specs.Shape.{Shape, count_at, id_of, one, times_under}
+use Rattle.btree_shape.specs.Lists.{one}
+use Rattle.btree_shape.specs.Shape.{Shape, count_at, id_of, times_under}
 use Rattle.btree_shape.specs.Tour.{Carries, In, Tick, branch_key, branch_tour, lead, mark, over, slot, tour}
 use Rattle.btree_shape.proofs.Frames.{one-self, one-zero}
 use Rattle.btree_shape.proofs.Moves.{by-equal, by-less, by-more, each-nothing, if-other, if-same, tour-same, tours-same}

@@ -5,7 +5,8 @@ use Rattle.std.specs.Prelude.{option_map}
 use Rattle.btree_view.specs.Edits.{with_parent}
 use Rattle.btree_view.specs.View.{Look, View, children_of, items_of}
 use Rattle.btree_shape.specs.Mend.{IsRemade, Merges}
-use Rattle.btree_shape.specs.Shape.{Holds, IsFilled, Shape, count_at, id_of, one, times_listed, times_under, total, view_at}
+use Rattle.btree_shape.specs.Lists.{one, times_listed, total}
+use Rattle.btree_shape.specs.Shape.{Holds, IsFilled, Shape, count_at, id_of, times_under, view_at}
 use Rattle.btree_shape.specs.Way.{Above, Frame, HoldsAbove, after_in, before_in, fill, fill_two, frame_id, frame_index, items_after, items_before, parent_above, root_above, times_above}
 use Rattle.btree_shape.specs.WellFormed.{times_used}
 use Rattle.btree_shape.specs.Whole.{IsWhole}

@@ -6,7 +6,8 @@ use Rattle.std.specs.List.{AllByRecursion}
 use Rattle.std.specs.Prelude.{nat_lt}
 use Rattle.btree_item.specs.declared.address.Address.{Address}
 use Rattle.btree_shape.specs.Moved.{by_order}
-use Rattle.btree_shape.specs.Shape.{Shape, one, times_under, total}
+use Rattle.btree_shape.specs.Lists.{one, total}
+use Rattle.btree_shape.specs.Shape.{Shape, times_under}
 use Rattle.btree_shape.specs.Tour.{Carries, Tick, branch_key, branch_tour, branches_after, lead, mark, over, passed, slot, ticks, ticks_to, tour, tour_after, tour_before, way_after, way_before}
 use Rattle.btree_shape.specs.Way.{Above, Frame, at_branch, at_first, fill, fill_two, frame_id, frame_index, times_above, times_beside, top, under}
 use Rattle.btree_shape.proofs.Frames.{one-self, times_in-is}

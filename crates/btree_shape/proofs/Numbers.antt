@@ -2,7 +2,8 @@
 use Rattle.std.proofs.Common.{◌≡◌, ◌≢◌, ◌<◌, ◌≤◌, ◌⊎◌, ◌++◌, ◌∷◌, [], ◌+◌, ℕ, zero, suc, inl, inr, List, length, map, Option, Some, None, refl, ap, arith, option_map}
 use Rattle.std.specs.List.{AllByRecursion, flat_map}
 use Rattle.btree_view.specs.View.{Look, children_in, View}
-use Rattle.btree_shape.specs.Shape.{Holds, Shape, id_of, one, times_listed, times_under, total}
+use Rattle.btree_shape.specs.Lists.{one, times_listed, total}
+use Rattle.btree_shape.specs.Shape.{Holds, Shape, id_of, times_under}
 use Rattle.btree_shape.specs.Spells.{numbers_under}
 use Rattle.btree_shape.specs.WellFormed.{times_used}
 use Rattle.btree_shape.proofs.Frames.{one-self, total-append}

@@ -3,7 +3,8 @@ use Rattle.std.proofs.Common.{◌≡◌, ◌≢◌, ◌<◌, ◌++◌, ◌∷◌
 use Rattle.btree_item.specs.declared.address.Address.{Address}
 use Rattle.btree_shape.specs.Moved.{at_separator, in_left_lender, in_merged, in_right_lender, in_right_taker, moved_by_merge, moved_by_rotate_left, moved_by_rotate_right, over_merged}
 use Rattle.btree_shape.specs.Pair.{Turns, first_of}
-use Rattle.btree_shape.specs.Shape.{Shape, count_at, id_of, times_under, total}
+use Rattle.btree_shape.specs.Lists.{total}
+use Rattle.btree_shape.specs.Shape.{Shape, count_at, id_of, times_under}
 use Rattle.btree_shape.specs.Tour.{Carries, In, branch_key, branch_tour, lead, mark, over, slot, ticks, tour}
 use Rattle.btree_shape.proofs.Frames.{total-append}
 use Rattle.btree_shape.proofs.LocalMoves.{Apart, below-kept, ids-apart, pair_row, tour-first}

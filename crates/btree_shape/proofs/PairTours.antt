@@ -3,7 +3,8 @@ use Rattle.std.proofs.Common.{◌≡◌, ◌≢◌, ◌≤◌, ◌++◌, ◌∷�
 use Rattle.btree_item.specs.declared.address.Address.{Address}
 use Rattle.btree_shape.specs.Moved.{at_separator, in_released, moved_by_merge, moved_by_release, moved_by_rotate_left, moved_by_rotate_right}
 use Rattle.btree_shape.specs.Pair.{Turns, first_of}
-use Rattle.btree_shape.specs.Shape.{Shape, count_at, id_of, one, times_under}
+use Rattle.btree_shape.specs.Lists.{one}
+use Rattle.btree_shape.specs.Shape.{Shape, count_at, id_of, times_under}
 use Rattle.btree_shape.specs.Tour.{Carries, In, Tick, branch_key, branch_tour, lead, mark, passed, slot, ticks, tour, tour_after, tour_before, way_after, way_before, whole_tour}
 use Rattle.btree_shape.specs.Way.{Above, Frame, fill, fill_two, frame_id, frame_index, top}
 use Rattle.btree_shape.proofs.Carried.{Alone, elsewhere, near, pair-passed}

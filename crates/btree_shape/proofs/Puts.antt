@@ -5,7 +5,7 @@ use Rattle.std.specs.Cmp.{IsTotalOrder}
 use Rattle.std.specs.List.{insert}
 use Rattle.std.specs.declared.cmp.Ordering.{Ordering}
 use Rattle.btree_item.proofs.PairEdits.{Ascends-insert, Ascends-one, slice_get-insert}
-use Rattle.btree_item.specs.Pairs.{Fits}
+use Rattle.btree_item.specs.Pairs.{KeyFits}
 use Rattle.btree_item.specs.declared.address.Address.{Address}
 use Rattle.btree_view.specs.Edits.{with_item}
 use Rattle.btree_view.specs.View.{Look, leaf}
@@ -13,7 +13,8 @@ use Rattle.btree_shape.specs.Growing.{IsGrowing, IsGrown}
 use Rattle.btree_shape.specs.Need.{climb, climbed, need, wanted}
 use Rattle.btree_shape.specs.Node.{IsNode}
 use Rattle.btree_shape.specs.Place.{IsPlace}
-use Rattle.btree_shape.specs.Shape.{IsFilled, Shape, count_at, id_of, one}
+use Rattle.btree_shape.specs.Lists.{one}
+use Rattle.btree_shape.specs.Shape.{IsFilled, Shape, count_at, id_of}
 use Rattle.btree_shape.specs.Spells.{numbers_under}
 use Rattle.btree_shape.specs.Step.{Claims, Puts}
 use Rattle.btree_shape.specs.Strain.{own_strain, strain_of, strain_under}
@@ -188,7 +189,7 @@ module _ {K V : Type 0} (cmp : K → K → Ordering) (laws : IsTotalOrder cmp) (
       r.grows)
 
   -- and the tree after the climb
-  pub grown-well : (k : K) (w : V) (place : ℕ) → Fits cmp k place xs
+  pub grown-well : (k : K) (w : V) (place : ℕ) → KeyFits cmp k place xs
       → (new : Look (K × V)) (r : ℕ) (asked : Option (K × V)) (a : Address) (gained bound : ℕ)
       → IsGrown (K × V) new r (insert xs place (k, w)) asked a place gained bound
       → IsWellFormed cmp new (Some r) (len + 1) (insert xs place (k, w))

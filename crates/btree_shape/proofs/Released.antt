@@ -4,7 +4,8 @@ use Rattle.std.specs.Prelude.{option_map}
 use Rattle.btree_view.specs.Edits.{with_parent}
 use Rattle.btree_view.specs.View.{Look, children_of}
 use Rattle.btree_shape.specs.Mend.{Releases}
-use Rattle.btree_shape.specs.Shape.{Shape, id_of, one}
+use Rattle.btree_shape.specs.Lists.{one}
+use Rattle.btree_shape.specs.Shape.{Shape, id_of}
 use Rattle.btree_shape.specs.Step.{Loses}
 use Rattle.btree_shape.specs.Way.{top}
 use Rattle.btree_shape.specs.WellFormed.{times_used}

@@ -8,7 +8,8 @@ use Rattle.btree_view.specs.View.{Look, View, children_of, internal, items_of, l
 use Rattle.btree_shape.specs.Whole.{Standing}
 use Rattle.btree_shape.specs.OnTour.{IsOnTour}
 use Rattle.btree_shape.specs.Place.{IsPlace}
-use Rattle.btree_shape.specs.Shape.{Shape, count_at, id_of, items_under, one, times_under, view_at}
+use Rattle.btree_shape.specs.Lists.{one}
+use Rattle.btree_shape.specs.Shape.{Shape, count_at, id_of, items_under, times_under, view_at}
 use Rattle.btree_shape.specs.Spells.{numbers_under}
 use Rattle.btree_shape.specs.Step.{HasItems, Puts}
 use Rattle.btree_shape.specs.Strain.{own_strain, strain_under}

@@ -3,7 +3,8 @@ use Rattle.std.proofs.Common.{◌≡◌, ◌≢◌, ◌<◌, ◌≤◌, [], ◌�
 use Rattle.std.proofs.lemmas.Bool.Decides.{nat_tests}
 use Rattle.btree_view.specs.View.{Look, View, most_of, size_of}
 use Rattle.btree_shape.specs.Node.{IsNode, IsOddNode}
-use Rattle.btree_shape.specs.Shape.{Holds, IsFilled, IsFilledBelow, Shape, count_at, id_of, items_under, most_at, one, times_listed, times_under, view_at}
+use Rattle.btree_shape.specs.Lists.{one, times_listed}
+use Rattle.btree_shape.specs.Shape.{Holds, IsFilled, IsFilledBelow, Shape, count_at, id_of, items_under, most_at, times_under, view_at}
 use Rattle.btree_shape.specs.Spells.{Spells, numbers_under}
 use Rattle.btree_shape.specs.Way.{Above, AreFilled, Frame, HoldsAbove, frame_id, frame_view, least_at, parent_above, root_above, times_above, times_beside, top, under}
 use Rattle.btree_shape.specs.WellFormed.{IsNearlySized, IsRooted, IsSized, excess_beside, least_beside, least_of, times_used}

@@ -3,9 +3,10 @@ use Rattle.std.proofs.Common.{◌≡◌, ◌≢◌, ◌<◌, ◌≤◌, ◌++◌
 use Rattle.std.specs.Prelude.{is_some, option_map}
 use Rattle.btree_view.specs.Edits.{HasChildFor, is_internal, with_parent}
 use Rattle.btree_view.specs.View.{Look, View, children_of, items_of, size_of}
-use Rattle.btree_shape.specs.Mend.{IsRemade, RotatesLeft, RotatesRight, Writes, as_list}
+use Rattle.btree_shape.specs.Lists.{as_list, one, times_listed}
+use Rattle.btree_shape.specs.Mend.{IsRemade, RotatesLeft, RotatesRight, Writes}
 use Rattle.btree_shape.specs.Pair.{Turns, first_of}
-use Rattle.btree_shape.specs.Shape.{Holds, Shape, count_at, id_of, one, times_listed, times_under, view_at}
+use Rattle.btree_shape.specs.Shape.{Holds, Shape, count_at, id_of, times_under, view_at}
 use Rattle.btree_shape.specs.Way.{Above, Frame, after_in, before_in, fill_two, frame_id, frame_index, items_after, items_before, parent_above}
 use Rattle.btree_shape.specs.WellFormed.{times_used}
 use Rattle.btree_shape.proofs.Frames.{above-same, one-zero, siblings-same, top-view}

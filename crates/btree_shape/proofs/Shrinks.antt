@@ -9,7 +9,8 @@ use Rattle.btree_shape.specs.Growing.{IsGrown}
 use Rattle.btree_shape.specs.Mend.{Releases}
 use Rattle.btree_shape.specs.Moved.{moved_by_emptying, moved_by_release}
 use Rattle.btree_shape.specs.Place.{IsPlace, IsValid}
-use Rattle.btree_shape.specs.Shape.{Shape, count_at, id_of, most_at, one, times_under, view_at}
+use Rattle.btree_shape.specs.Lists.{one}
+use Rattle.btree_shape.specs.Shape.{Shape, count_at, id_of, most_at, times_under, view_at}
 use Rattle.btree_shape.specs.Shrinking.{IsShrinking, owed}
 use Rattle.btree_shape.specs.Step.{Loses}
 use Rattle.btree_shape.specs.Strain.{strain_of}

@@ -3,7 +3,8 @@ use Rattle.std.proofs.Common.{◌≡◌, ◌≢◌, ◌<◌, ◌≤◌, ◌++◌
 use Rattle.std.proofs.lemmas.Bool.Decides.{nat_tests}
 use Rattle.std.specs.List.{AllByRecursion}
 use Rattle.btree_view.specs.View.{Look, View, most_of, parent_of, size_of}
-use Rattle.btree_shape.specs.Shape.{Holds, IsFilled, IsFilledBelow, Shape, count_at, id_of, most_at, one, times_under, total, view_at}
+use Rattle.btree_shape.specs.Lists.{one, total}
+use Rattle.btree_shape.specs.Shape.{Holds, IsFilled, IsFilledBelow, Shape, count_at, id_of, most_at, times_under, view_at}
 use Rattle.btree_shape.specs.Way.{Above, AreFilled, Frame, HoldsAbove, SiblingsFilled, SiblingsHold, at_branch, at_first, frame_count, frame_id, frame_view, least_at, parent_above, root_above, times_above, times_beside, top, under}
 use Rattle.btree_shape.specs.WellFormed.{IsSized, least_of}
 use Rattle.btree_shape.proofs.Frames.{one-other, one-self, times_in-is, top-view}

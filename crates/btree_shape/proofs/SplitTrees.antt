@@ -7,7 +7,8 @@ use Rattle.std.specs.List.{insert}
 use Rattle.std.specs.Prelude.{option_map}
 use Rattle.btree_view.specs.Edits.{with_item, with_parent}
 use Rattle.btree_view.specs.View.{Look, internal}
-use Rattle.btree_shape.specs.Shape.{Holds, IsFilled, IsFilledBelow, Shape, count_at, id_of, items_under, one, times_listed, times_under, view_at}
+use Rattle.btree_shape.specs.Lists.{one, times_listed}
+use Rattle.btree_shape.specs.Shape.{Holds, IsFilled, IsFilledBelow, Shape, count_at, id_of, items_under, times_under, view_at}
 use Rattle.btree_shape.specs.Way.{Above, Frame, HoldsAbove, SiblingsFilled, SiblingsHold, after_in, at_branch, at_first, before_in, fill_two, frame_count, frame_id, frame_index, frame_view, items_after, items_before, parent_above, root_above, times_above, times_beside, times_in, top, under}
 use Rattle.btree_shape.specs.WellFormed.{times_used}
 use Rattle.btree_shape.specs.Whole.{IsWhole}

@@ -6,7 +6,8 @@ use Rattle.std.specs.List.{AllByRecursion}
 use Rattle.std.specs.Prelude.{option_map}
 use Rattle.btree_view.specs.Edits.{IsSplit, with_parent}
 use Rattle.btree_view.specs.View.{Look, View, children_of, internal, leaf}
-use Rattle.btree_shape.specs.Shape.{Holds, IsFilled, IsFilledBelow, Shape, count_at, id_of, items_under, later_items, most_at, one, times_listed, times_under, total, view_at}
+use Rattle.btree_shape.specs.Lists.{one, times_listed, total}
+use Rattle.btree_shape.specs.Shape.{Holds, IsFilled, IsFilledBelow, Shape, count_at, id_of, items_under, later_items, most_at, times_under, view_at}
 use Rattle.btree_shape.specs.Step.{Splits}
 use Rattle.btree_shape.specs.Way.{Above, parent_above}
 use Rattle.btree_shape.specs.WellFormed.{times_used}

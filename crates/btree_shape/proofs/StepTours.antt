@@ -7,7 +7,8 @@ use Rattle.btree_view.specs.View.{Look, View, children_of, most_of, parent_of, s
 use Rattle.btree_shape.specs.Growing.{IsGrowing, IsGrown}
 use Rattle.btree_shape.specs.Moved.{moved_by_split}
 use Rattle.btree_shape.specs.OnTour.{CarriesPlaces, IsAddressed, IsOnTour}
-use Rattle.btree_shape.specs.Shape.{Shape, one, times_listed}
+use Rattle.btree_shape.specs.Lists.{one, times_listed}
+use Rattle.btree_shape.specs.Shape.{Shape}
 use Rattle.btree_shape.specs.Step.{Claims, Puts, Raises, Splits}
 use Rattle.btree_shape.specs.Way.{Above}
 use Rattle.btree_shape.specs.Whole.{IsWhole}

@@ -8,7 +8,7 @@ use Rattle.btree_node.specs.declared.node.Node.{Node}
 use Rattle.btree_node.specs.Node.{view_of}
 use Rattle.btree_view.specs.View.{View, leaf, internal, items_of, item_in, most_of, Look}
 use Rattle.btree_shape.specs.Place.{item_at, IsWithin}
-use Rattle.btree_shape.specs.Shape.{times_listed}
+use Rattle.btree_shape.specs.Lists.{times_listed}
 use Rattle.btree_shape.specs.Step.{Puts}
 use Rattle.btree_shape.specs.TreeState.{views}
 use Rattle.btree_shape.specs.WellFormed.{times_used}

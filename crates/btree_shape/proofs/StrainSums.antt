@@ -4,7 +4,8 @@ use Rattle.std.proofs.lemmas.List.{length-map}
 use Rattle.std.specs.List.{AllByRecursion, flat_map}
 use Rattle.btree_view.specs.View.{Look, View, children_in}
 use Rattle.btree_shape.specs.Search.{levels_below}
-use Rattle.btree_shape.specs.Shape.{Holds, Shape, count_at, id_of, one, times_under, total, view_at}
+use Rattle.btree_shape.specs.Lists.{one, total}
+use Rattle.btree_shape.specs.Shape.{Holds, Shape, count_at, id_of, times_under, view_at}
 use Rattle.btree_shape.specs.Spells.{numbers_under}
 use Rattle.btree_shape.specs.Strain.{strain, strain_in, strain_of, strain_under, surplus, surplus_of}
 use Rattle.btree_shape.specs.Way.{Above, fill, top, under}

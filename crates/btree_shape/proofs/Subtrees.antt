@@ -8,7 +8,7 @@ use Rattle.btree_shape.specs.Spells.{Spells, numbers_under}
 use Rattle.btree_shape.specs.Place.{StandsAt}
 use Rattle.btree_shape.proofs.Numbers.{listed-append}
 use Rattle.btree_shape.proofs.Frames.{one-other}
-use Rattle.btree_shape.specs.Shape.{times_listed}
+use Rattle.btree_shape.specs.Lists.{times_listed}
 
 module _ {A : Type 0} (look : Look A) where
   pub record Stands (xs : List A) (id : ℕ) : Type 0 where

@@ -4,7 +4,7 @@ use Rattle.std.specs.List.{remove}
 use Rattle.btree_item.specs.declared.address.Address.{Address}
 use Rattle.btree_view.specs.View.{Look, leaf}
 use Rattle.btree_shape.specs.Moved.{in_shortened, moved_by_take}
-use Rattle.btree_shape.specs.Shape.{one}
+use Rattle.btree_shape.specs.Lists.{one}
 use Rattle.btree_shape.specs.Shrinking.{owed}
 use Rattle.btree_shape.specs.Step.{Puts}
 use Rattle.btree_shape.specs.Strain.{own_strain, strain_of}

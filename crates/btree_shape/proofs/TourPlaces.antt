@@ -6,7 +6,8 @@ use Rattle.btree_view.specs.View.{Look, item_in, items_of, size_of}
 use Rattle.btree_shape.specs.Whole.{Standing}
 use Rattle.btree_shape.specs.OnTour.{IsAddressed}
 use Rattle.btree_shape.specs.Place.{IsPlace, IsWithin}
-use Rattle.btree_shape.specs.Shape.{Shape, count_at, id_of, items_under, later_items, total, view_at}
+use Rattle.btree_shape.specs.Lists.{total}
+use Rattle.btree_shape.specs.Shape.{Shape, count_at, id_of, items_under, later_items, view_at}
 use Rattle.btree_shape.specs.Tour.{Asks, In, Tick, branch_key, branch_tour, mark, over, passed, slot, ticks, ticks_to, tour, tour_before, way_after, way_before, whole_tour}
 use Rattle.btree_shape.specs.Way.{Above, Frame, at_branch, at_first, before_in, fill, items_before, parent_above, top, under}
 use Rattle.btree_shape.proofs.Carried.{row-passed, tour-passed}

@@ -2,7 +2,7 @@
 use Rattle.std.proofs.Common.{◌≡◌, ◌<◌, ◌≤◌, ◌⊎◌, ◌++◌, ◌∷◌, [], ◌∙◌, ◌+◌, ℕ, suc, inl, inr, List, length, Option, Some, None, refl, sym, ap, subst, arith, append_assoc, append-nil}
 use Rattle.std.specs.List.{AllByRecursion}
 use Rattle.btree_item.specs.declared.address.Address.{Address}
-use Rattle.btree_shape.specs.Shape.{total}
+use Rattle.btree_shape.specs.Lists.{total}
 use Rattle.btree_shape.specs.Tour.{Asks, Carries, In, Tick, mark, over, passed, slot, ticks, ticks_to}
 
 -- lists of ticks

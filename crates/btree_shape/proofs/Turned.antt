@@ -2,9 +2,9 @@
 use Rattle.std.proofs.Common.{◌≡◌, ◌<◌, ◌++◌, ◌∷◌, [], ◌∙◌, ◌+◌, ℕ, zero, suc, List, length, map, Option, None, refl, sym, ap, subst, arith, length-append}
 use Rattle.btree_view.specs.Edits.{is_internal}
 use Rattle.btree_view.specs.View.{View, children_of, internal, items_of, leaf, parent_of}
-use Rattle.btree_shape.specs.Mend.{as_list}
+use Rattle.btree_shape.specs.Lists.{as_list, one}
 use Rattle.btree_shape.specs.Pair.{Turns, first_of}
-use Rattle.btree_shape.specs.Shape.{IsFilled, IsFilledBelow, Shape, count_at, id_of, items_under, one, times_under, view_at}
+use Rattle.btree_shape.specs.Shape.{IsFilled, IsFilledBelow, Shape, count_at, id_of, items_under, times_under, view_at}
 use Rattle.btree_shape.proofs.Carried.{join-items}
 use Rattle.btree_shape.proofs.Descents.{cons-parts, snoc}
 use Rattle.btree_shape.proofs.Frames.{AllByRecursion-append, AllByRecursion-left, AllByRecursion-right, total-append}

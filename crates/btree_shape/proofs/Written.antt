@@ -6,7 +6,7 @@ use Rattle.std.specs.List.{remove}
 use Rattle.btree_view.specs.Edits.{with_parent}
 use Rattle.btree_view.specs.View.{Look, View, children_of, items_of}
 use Rattle.btree_shape.specs.Mend.{IsRemade, Merges, Writes}
-use Rattle.btree_shape.specs.Shape.{one, times_listed}
+use Rattle.btree_shape.specs.Lists.{one, times_listed}
 use Rattle.btree_shape.specs.Step.{Adopts, Loses, Puts}
 use Rattle.btree_shape.proofs.Frames.{total-append}
 use Rattle.btree_shape.proofs.Numbers.{zero-or}

@@ -5,7 +5,7 @@ use Rattle.btree_view.specs.View.{Look, View, size_of}
 use Rattle.btree_shape.specs.Place.{IsWithin, IsValid, IsOccupied, IsBack, IsLeafAddress, IsPlace, item_at}
 use Rattle.btree_shape.specs.Spells.{numbers_under}
 use Rattle.btree_shape.specs.WellFormed.{IsRooted, times_used}
-use Rattle.btree_shape.specs.Shape.{times_listed}
+use Rattle.btree_shape.specs.Lists.{times_listed}
 
 module _ {A : Type 0} (look : Look A) where
   -- the nodes are one tree of at most so many levels, whatever their numbers of items, and each of its addresses has one place

@@ -1,3 +1,4 @@
+pub mod Lists
 pub mod Spells
 pub mod WellFormed
 pub mod Place

@@ -4,12 +4,7 @@ use Rattle.std.specs.Prelude.{◌≡◌, ◌≢◌, ℕ, suc, ◌<◌, List, [],
 use Rattle.std.specs.List.{remove}
 use Rattle.btree_view.specs.View.{View, Look, parent_of, items_of, children_of}
 use Rattle.btree_view.specs.Edits.{with_parent, is_internal, HasChildFor}
-use Rattle.btree_shape.specs.Shape.{times_listed}
-
--- a child, if there is one, as a list
-abbrev pub as_list : Option ℕ → List ℕ
-as_list None = []
-as_list (Some child) = child ∷ []
+use Rattle.btree_shape.specs.Lists.{as_list, times_listed}
 
 -- a node with these items and children, and otherwise as another one
 pub record IsRemade {A : Type 0} (old new : View A) (items : List A) (children : List ℕ) : Type 0 where

@@ -22,10 +22,10 @@ abbrev pub climb : {A : Type 0} → Look A → (most : ℕ) → (id : ℕ) → �
 climb look zero id = 0
 climb look (suc most) id = climb_in (climb look most) (look id)
 
--- what an insertion at node `id` takes in a tree of so many items; an empty one takes its first node
+-- what an insertion at node `id` takes in a tree of at most so many levels; an empty one takes its first node
 abbrev pub need : {A : Type 0} → Look A → (root : Option ℕ) → (len : ℕ) → (id : ℕ) → ℕ
-need look None len id = 1
-need look (Some root) len id = climb look len id
+need look None most id = 1
+need look (Some root) most id = climb look most id
 
 -- how many levels stand above a node, by the parents, at most so many
 abbrev pub levels_up : (ℕ → ℕ) → Option ℕ → ℕ

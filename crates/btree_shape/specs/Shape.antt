@@ -2,19 +2,7 @@
 use Rattle.std.specs.Prelude.{◌≡◌, ℕ, zero, suc, ◌+◌, ◌≤◌, ◌==◌, if◌then◌else◌, List, [], ◌∷◌, ◌++◌, length, map, Option, Some}
 use Rattle.std.specs.List.{flat_map, AllByRecursion}
 use Rattle.btree_view.specs.View.{View, leaf, internal, Look}
-
--- the sum of a function over a list
-abbrev pub total : {X : Type 0} → (X → ℕ) → List X → ℕ
-total f [] = 0
-total f (x ∷ xs) = f x + total f xs
-
--- 1 where two numbers are the same
-abbrev pub one : ℕ → ℕ → ℕ
-one n id = if n == id then 1 else 0
-
--- how often a number is in a list
-abbrev pub times_listed : ℕ → List ℕ → ℕ
-times_listed n ns = total (λ id. one n id) ns
+use Rattle.btree_shape.specs.Lists.{one, total}
 
 -- the most items of a node so many levels above the leaves
 abbrev pub most_at : ℕ → ℕ

@@ -3,7 +3,7 @@ use Rattle.std.specs.Prelude.{◌≡◌, ◌≢◌, ℕ, ◌+◌, ◌<◌, List,
 use Rattle.btree_view.specs.View.{View, internal, Look, parent_of, items_of, children_of}
 use Rattle.btree_view.specs.Edits.{with_parent, is_internal, IsSplit}
 use Rattle.btree_shape.specs.WellFormed.{times_used}
-use Rattle.btree_shape.specs.Shape.{times_listed}
+use Rattle.btree_shape.specs.Lists.{times_listed}
 
 module _ {A : Type 0} (look new : Look A) where
   -- this is under number `id` now, a node or nothing, and no other node has changed

@@ -1,7 +1,8 @@
 -- How near the nodes of a tree are to a split or a merge: what pays for the nodes that later steps take or give up.
 use Rattle.std.specs.Prelude.{◌≡◌, ℕ, zero, suc, ◌+◌, ◌-◌, ◌==◌, if◌then◌else◌, List, length, Option, Some, None}
 use Rattle.btree_view.specs.View.{View, leaf, internal, Look, size_of}
-use Rattle.btree_shape.specs.Shape.{total, Shape, count_at, times_listed}
+use Rattle.btree_shape.specs.Lists.{times_listed, total}
+use Rattle.btree_shape.specs.Shape.{Shape, count_at}
 use Rattle.btree_shape.specs.Way.{Frame, at_first, at_branch, Above, top, under, frame_count}
 use Rattle.btree_shape.specs.WellFormed.{times_used}
 

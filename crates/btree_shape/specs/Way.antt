@@ -3,7 +3,8 @@
 use Rattle.std.specs.Prelude.{◌≡◌, ℕ, suc, ◌+◌, List, [], ◌∷◌, ◌++◌, length, map, Option, Some, None}
 use Rattle.std.specs.List.{AllByRecursion}
 use Rattle.btree_view.specs.View.{View, internal, Look}
-use Rattle.btree_shape.specs.Shape.{total, Shape, id_of, items_under, later_items, one, times_under, Holds, count_at, IsFilled, IsFilledBelow}
+use Rattle.btree_shape.specs.Lists.{one, total}
+use Rattle.btree_shape.specs.Shape.{Shape, id_of, items_under, later_items, times_under, Holds, count_at, IsFilled, IsFilledBelow}
 
 -- a node without one of its children, the hole: that is the first child, or one after an item
 pub data Frame (A : Type 0) (height : ℕ) : Type 0 where

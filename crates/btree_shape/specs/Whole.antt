@@ -2,7 +2,8 @@
 use Rattle.std.specs.Prelude.{◌≡◌, ℕ, ◌+◌, List, ◌++◌, None}
 use Rattle.btree_view.specs.View.{Look}
 use Rattle.btree_shape.specs.WellFormed.{times_used}
-use Rattle.btree_shape.specs.Shape.{times_listed, IsFilled, Shape, id_of, items_under, times_under, Holds, count_at, IsFilledBelow}
+use Rattle.btree_shape.specs.Lists.{times_listed}
+use Rattle.btree_shape.specs.Shape.{IsFilled, Shape, id_of, items_under, times_under, Holds, count_at, IsFilledBelow}
 use Rattle.btree_shape.specs.Way.{Above, parent_above, items_before, items_after, times_above, HoldsAbove, AreFilled, root_above}
 
 -- the way above a node and the tree under it are one tree with this root, which spells the list; the numbers in `spare`

@@ -9,7 +9,8 @@ use Rattle.btree_item.specs.Pairs.{Ascends}
 use Rattle.btree_node.specs.Node.{view_of}
 use Rattle.btree_node.specs.declared.node.Node.{Node}
 use Rattle.btree_view.specs.View.{Look, View}
-use Rattle.btree_shape.specs.Shape.{times_listed, times_under}
+use Rattle.btree_shape.specs.Lists.{times_listed}
+use Rattle.btree_shape.specs.Shape.{times_under}
 use Rattle.btree_shape.specs.Spells.{Spells, numbers_under, spelled}
 use Rattle.btree_shape.specs.TreeState.{views}
 use Rattle.btree_shape.specs.WellFormed.{IsOffByOne, times_used}

@@ -10,7 +10,8 @@ use Rattle.std.specs.declared.cmp.Ordering.TheVariants.{Equal, Greater, Less}
 use Rattle.btree_store.specs.Content.{Content}
 use Rattle.btree_store.specs.ContentLaws.{get-remove_other, get-remove_same, is_insert}
 use Rattle.btree_view.specs.View.{Look, View, internal, items_of, leaf, parent_of}
-use Rattle.btree_shape.specs.Shape.{Holds, Shape, id_of, items_under, later_items, one, times_listed, times_under, total}
+use Rattle.btree_shape.specs.Lists.{one, times_listed, total}
+use Rattle.btree_shape.specs.Shape.{Holds, Shape, id_of, items_under, later_items, times_under}
 use Rattle.btree_shape.specs.WellFormed.{IsNearlySized, least_beside, times_used}
 use Rattle.btree_shape.proofs.Frames.{one-other, one-self, total-append}
 use Rattle.btree_shape.proofs.Numbers.{same-or, used-low, used-one, zero-or}

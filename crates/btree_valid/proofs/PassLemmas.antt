@@ -4,7 +4,7 @@ use Rattle.std.specs.Cmp.{IsTotalOrder}
 use Rattle.std.specs.List.{AllByRecursion, flat_map}
 use Rattle.std.specs.declared.cmp.Ordering.{Ordering}
 use Rattle.btree_view.specs.View.{Look, View, children_in, internal, leaf}
-use Rattle.btree_shape.specs.Shape.{times_listed}
+use Rattle.btree_shape.specs.Lists.{times_listed}
 use Rattle.btree_shape.specs.Spells.{Spells, numbers_under, spelled, spelled_in}
 use Rattle.btree_shape.specs.WellFormed.{IsNearlySized}
 use Rattle.btree_shape.proofs.Frames.{one-other}
