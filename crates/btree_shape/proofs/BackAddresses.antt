@@ -1,8 +1,6 @@
 -- The list of the back addresses of a tree: each is in it once, and in order.
-use Rattle.std.proofs.Common.{◌≡◌, ◌<◌, ◌≤◌, ◌∷◌, ◌+◌, ◌∙◌, [], ℕ, zero, suc, inl, true, List, length, Option, Some, None, refl, sym, ap, subst, arith, length-append}
-use Rattle.std.specs.Cmp.{IsTotalOrder}
+use Rattle.std.proofs.Common.{◌≡◌, ◌∷◌, ◌+◌, ◌∙◌, [], ℕ, zero, suc, inl, true, List, length, Option, Some, None, refl, sym, ap, subst, arith, length-append}
 use Rattle.std.specs.Prelude.{slice_get, is_some}
-use Rattle.std.specs.declared.cmp.Ordering.{Ordering}
 use Rattle.btree_item.specs.declared.address.Address.{Address}
 use Rattle.btree_view.specs.View.{Look}
 use Rattle.btree_shape.specs.Addresses.{backs_under}
@@ -12,14 +10,13 @@ use Rattle.btree_shape.specs.Lists.{total}
 use Rattle.btree_shape.specs.Shape.{Shape, items_under, later_items}
 use Rattle.btree_shape.specs.Spells.{numbers_under}
 use Rattle.btree_shape.specs.Tour.{Tick, branch_key, branch_tour, ticks, tour}
-use Rattle.btree_shape.specs.WellFormed.{IsOffByOne, IsWellFormed}
 use Rattle.btree_shape.proofs.AddressTours.{back-tour, keep_back}
 use Rattle.btree_shape.proofs.Density.{nodes_in}
 use Rattle.btree_shape.proofs.HasPlace.{has_place}
 use Rattle.btree_shape.proofs.Kept.{kept, kept-append}
 use Rattle.btree_shape.proofs.KeptOrder.{branch-sum, kept-order, numbers-counted, numbers-once, valid-within}
 use Rattle.btree_shape.proofs.Numbers.{used-some}
-use Rattle.btree_shape.proofs.Placed.{addressed-kept, kept-addressed, placed-formed, placed-odd, placed-well, ticks_of, toured}
+use Rattle.btree_shape.proofs.Placed.{addressed-kept, kept-addressed, ticks_of, toured}
 use Rattle.btree_shape.proofs.Stores.{within-used}
 
 -- in a row one more than its entries and what is below them
@@ -117,25 +114,3 @@ module _ {A : Type 0} (look : Look A) where
       → ListsBacks look (Some root) xs list numbers → (a : Address) → IsValid look (Some root) a.id a.offset
       → IsBack look a.offset → (i : ℕ) × (slice_get list i ≡ Some a)
   valid-back root xs list numbers law a v b = law.each a (valid-within look root a.id a.offset v) b
-
--- the law of a well formed tree, by as many levels as it has pairs or more
-pub backs-well : {K V : Type 0} (cmp : K → K → Ordering) (laws : IsTotalOrder cmp) (look : Look (K × V)) (levels : ℕ)
-    (xs : List (K × V)) (root : Option ℕ) (len : ℕ) (w : IsWellFormed cmp look root len xs) (l : len ≤ levels)
-    → ListsBacks look root xs (backs_under look levels root)
-    (numbers_of look levels root xs (placed-well cmp laws look levels xs root len w l))
-backs-well cmp laws look levels xs root len w l =
-    backs-listed look levels root xs (placed-well cmp laws look levels xs root len w l)
-
--- by more levels than its height
-pub backs-formed : {K V : Type 0} (cmp : K → K → Ordering) (laws : IsTotalOrder cmp) (look : Look (K × V)) (levels : ℕ)
-    (xs : List (K × V)) (root len : ℕ) (w : IsWellFormed cmp look (Some root) len xs) → w.formed.height < levels
-    → ListsBacks look (Some root) xs (backs_under look levels (Some root)) (numbers_under look w.formed.height root)
-backs-formed cmp laws look levels xs root len w l =
-    backs-listed look levels (Some root) xs (placed-formed cmp laws look levels xs root len w l)
-
--- and of one that is off by one, by more levels than its height
-pub backs-odd : {K V : Type 0} (cmp : K → K → Ordering) (laws : IsTotalOrder cmp) (look : Look (K × V)) (levels : ℕ)
-    (xs : List (K × V)) (root odd : ℕ) (w : IsOffByOne cmp look root odd xs) → w.rooted.height < levels
-    → ListsBacks look (Some root) xs (backs_under look levels (Some root)) (numbers_under look w.rooted.height root)
-backs-odd cmp laws look levels xs root odd w l =
-    backs-listed look levels (Some root) xs (placed-odd cmp laws look levels xs root odd w l)

@@ -1,8 +1,6 @@
 -- How the back addresses of a tree follow one another.
-use Rattle.std.proofs.Common.{◌≡◌, ◌<◌, ◌∙◌, ◌+◌, [], ℕ, zero, suc, List, length, Option, Some, None, sym, ap, subst, arith, append-nil, ◌≤◌}
-use Rattle.std.specs.Cmp.{IsTotalOrder}
+use Rattle.std.proofs.Common.{◌≡◌, ◌<◌, ◌∙◌, ◌+◌, [], ℕ, zero, suc, List, length, Option, Some, None, sym, ap, subst, arith, append-nil}
 use Rattle.std.specs.Prelude.{slice_get}
-use Rattle.std.specs.declared.cmp.Ordering.{Ordering}
 use Rattle.btree_item.specs.declared.address.Address.{Address}
 use Rattle.btree_view.specs.View.{Look, View, leaf, children_in, parent_of, size_of}
 use Rattle.btree_shape.specs.Addresses.{backs_under, first_leaf}
@@ -11,7 +9,6 @@ use Rattle.btree_shape.specs.Shape.{Shape, count_at, id_of, view_at}
 use Rattle.btree_shape.specs.Tour.{slot, tour, tour_after, tour_before}
 use Rattle.btree_shape.specs.Visits.{VisitsBacks}
 use Rattle.btree_shape.specs.Way.{Above, frame_id, frame_index, parent_above, top, under}
-use Rattle.btree_shape.specs.WellFormed.{IsOffByOne, IsWellFormed}
 use Rattle.btree_shape.specs.Whole.{Standing}
 use Rattle.btree_shape.proofs.AddressTours.{back-tour, keep_back}
 use Rattle.btree_shape.proofs.Adjacent.{Adjacent, adjacent-down, adjacent-node, adjacent-up, after-is, end-is, kept-parts, no-higher, row-next}
@@ -20,7 +17,7 @@ use Rattle.btree_shape.proofs.ChildAt.{back-after, back-before, child-at}
 use Rattle.btree_shape.proofs.Frames.{top-view}
 use Rattle.btree_shape.proofs.Kept.{kept}
 use Rattle.btree_shape.proofs.Numbers.{used-there}
-use Rattle.btree_shape.proofs.Placed.{Toured, placed-formed, placed-odd, placed-well, ticks_of, toured}
+use Rattle.btree_shape.proofs.Placed.{Toured, ticks_of, toured}
 use Rattle.btree_shape.proofs.Rooted.{node-rooted}
 use Rattle.btree_shape.proofs.Sizes.{view-parent, view-size}
 use Rattle.btree_shape.proofs.TourEnds.{Begins, Ends, tour-ends, tour-first}
@@ -134,19 +131,3 @@ module _ {A : Type 0} (look : Look A) (levels root : ℕ) (xs : List A) (p : IsP
         last = λ i id offset node v o none g.
             end-is list once (slot id offset) (subst (λ l. Ends (slot id offset) l) (sym e) (go-out t id offset node v o none)) i g;
       }
-
--- the law of a well formed tree, by as many levels as it has pairs or more
-module _ {K V : Type 0} (cmp : K → K → Ordering) (laws : IsTotalOrder cmp) (look : Look (K × V)) (levels : ℕ) (xs : List (K × V)) (root : ℕ) where
-  pub back-visits-well : (len : ℕ) → IsWellFormed cmp look (Some root) len xs → len ≤ levels
-      → VisitsBacks look levels root (backs_under look levels (Some root))
-  back-visits-well len w l = backs-visited look levels root xs (placed-well cmp laws look levels xs (Some root) len w l)
-
-  -- by more levels than its height
-  pub back-visits-formed : (len : ℕ) (w : IsWellFormed cmp look (Some root) len xs) → w.formed.height < levels
-      → VisitsBacks look levels root (backs_under look levels (Some root))
-  back-visits-formed len w l = backs-visited look levels root xs (placed-formed cmp laws look levels xs root len w l)
-
-  -- and of one that is off by one
-  pub back-visits-odd : (odd : ℕ) (w : IsOffByOne cmp look root odd xs) → w.rooted.height < levels
-      → VisitsBacks look levels root (backs_under look levels (Some root))
-  back-visits-odd odd w l = backs-visited look levels root xs (placed-odd cmp laws look levels xs root odd w l)

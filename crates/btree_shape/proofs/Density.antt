@@ -106,7 +106,8 @@ module _ (A : Type 0) where
         let r = branch-lengths h p each bs d.1 in
         omega arith
 
-    node-numbers : (h : ℕ) (p : Option ℕ) (t : Shape A h) → Holds A look h p t
+    -- a tree has as many numbers as nodes
+    pub node-numbers : (h : ℕ) (p : Option ℕ) (t : Shape A h) → Holds A look h p t
         → length (numbers_under look h (id_of A h t)) ≡ nodes_in h t
     node-numbers zero p t d = refl
     node-numbers (suc h) p t d =

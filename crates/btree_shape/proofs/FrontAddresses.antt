@@ -1,9 +1,7 @@
 -- The list of the front addresses of a tree: each is in it once, and in order.
-use Rattle.std.proofs.Common.{◌≡◌, ◌<◌, ◌≤◌, ◌∷◌, ◌+◌, ◌∙◌, [], ℕ, zero, suc, inl, inr, true, List, length, Option, Some, None, refl, sym, ap, subst, arith, length-append}
+use Rattle.std.proofs.Common.{◌≡◌, ◌≤◌, ◌∷◌, ◌+◌, ◌∙◌, [], ℕ, zero, suc, inl, inr, true, List, length, Option, Some, None, refl, sym, ap, subst, arith, length-append}
 use Rattle.std.proofs.lemmas.Option.{slice_get_cases, slice_get_within}
-use Rattle.std.specs.Cmp.{IsTotalOrder}
 use Rattle.std.specs.Prelude.{slice_get, is_some}
-use Rattle.std.specs.declared.cmp.Ordering.{Ordering}
 use Rattle.btree_view.specs.View.{Look, View, item_in, items_of}
 use Rattle.btree_shape.specs.Addresses.{fronts_under}
 use Rattle.btree_shape.specs.AddressLaws.{IsFront, IsPlaced, IsPlacedUnder, ListsFronts, numbers_of}
@@ -13,14 +11,13 @@ use Rattle.btree_shape.specs.Lists.{total}
 use Rattle.btree_shape.specs.Shape.{Shape, items_under, later_items}
 use Rattle.btree_shape.specs.Spells.{numbers_under}
 use Rattle.btree_shape.specs.Tour.{Asks, Tick, branch_key, branch_tour, ticks, tour}
-use Rattle.btree_shape.specs.WellFormed.{IsOffByOne, IsWellFormed}
 use Rattle.btree_shape.proofs.AddressTours.{front-tour, is_front, keep_front}
 use Rattle.btree_shape.proofs.Density.{nodes_in}
 use Rattle.btree_shape.proofs.HasPlace.{has_place}
 use Rattle.btree_shape.proofs.Kept.{IndexOf, kept, kept-append}
 use Rattle.btree_shape.proofs.KeptOrder.{branch-sum, kept-order, numbers-counted, numbers-once, valid-within}
 use Rattle.btree_shape.proofs.Numbers.{used-some}
-use Rattle.btree_shape.proofs.Placed.{Toured, addressed-kept, kept-addressed, placed-formed, placed-odd, placed-well, ticks_of, toured}
+use Rattle.btree_shape.proofs.Placed.{Toured, addressed-kept, kept-addressed, ticks_of, toured}
 use Rattle.btree_shape.proofs.Stores.{within-used}
 
 -- in a row as many as its entries and what is below them
@@ -144,25 +141,3 @@ module _ {A : Type 0} (look : Look A) where
     };
   }
   fronts-listed levels (Some root) xs p = fronts-placed levels root xs p
-
--- the law of a well formed tree, by as many levels as it has pairs or more
-pub fronts-well : {K V : Type 0} (cmp : K → K → Ordering) (laws : IsTotalOrder cmp) (look : Look (K × V)) (levels : ℕ)
-    (xs : List (K × V)) (root : Option ℕ) (len : ℕ) (w : IsWellFormed cmp look root len xs) (l : len ≤ levels)
-    → ListsFronts look root xs (fronts_under look levels root)
-    (numbers_of look levels root xs (placed-well cmp laws look levels xs root len w l))
-fronts-well cmp laws look levels xs root len w l =
-    fronts-listed look levels root xs (placed-well cmp laws look levels xs root len w l)
-
--- by more levels than its height
-pub fronts-formed : {K V : Type 0} (cmp : K → K → Ordering) (laws : IsTotalOrder cmp) (look : Look (K × V)) (levels : ℕ)
-    (xs : List (K × V)) (root len : ℕ) (w : IsWellFormed cmp look (Some root) len xs) → w.formed.height < levels
-    → ListsFronts look (Some root) xs (fronts_under look levels (Some root)) (numbers_under look w.formed.height root)
-fronts-formed cmp laws look levels xs root len w l =
-    fronts-listed look levels (Some root) xs (placed-formed cmp laws look levels xs root len w l)
-
--- and of one that is off by one, by more levels than its height
-pub fronts-odd : {K V : Type 0} (cmp : K → K → Ordering) (laws : IsTotalOrder cmp) (look : Look (K × V)) (levels : ℕ)
-    (xs : List (K × V)) (root odd : ℕ) (w : IsOffByOne cmp look root odd xs) → w.rooted.height < levels
-    → ListsFronts look (Some root) xs (fronts_under look levels (Some root)) (numbers_under look w.rooted.height root)
-fronts-odd cmp laws look levels xs root odd w l =
-    fronts-listed look levels (Some root) xs (placed-odd cmp laws look levels xs root odd w l)

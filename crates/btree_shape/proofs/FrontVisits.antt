@@ -1,8 +1,6 @@
 -- How the front addresses of a tree follow one another backwards.
-use Rattle.std.proofs.Common.{◌≡◌, ◌<◌, ◌∙◌, [], ℕ, zero, suc, List, length, Option, Some, None, sym, ap, subst, arith, append-nil, ◌≤◌}
-use Rattle.std.specs.Cmp.{IsTotalOrder}
+use Rattle.std.proofs.Common.{◌≡◌, ◌<◌, ◌∙◌, [], ℕ, zero, suc, List, length, Option, Some, None, sym, ap, subst, arith, append-nil}
 use Rattle.std.specs.Prelude.{slice_get}
-use Rattle.std.specs.declared.cmp.Ordering.{Ordering}
 use Rattle.btree_item.specs.declared.address.Address.{Address}
 use Rattle.btree_view.specs.View.{Look, View, leaf, children_in, parent_of, size_of}
 use Rattle.btree_shape.specs.Addresses.{fronts_under, last_item, slot_before}
@@ -11,7 +9,6 @@ use Rattle.btree_shape.specs.Shape.{Shape, id_of, view_at}
 use Rattle.btree_shape.specs.Tour.{lead, slot, tour, tour_after, tour_before}
 use Rattle.btree_shape.specs.Visits.{VisitsFronts}
 use Rattle.btree_shape.specs.Way.{Above, frame_count, frame_id, frame_index, frame_view, parent_above, top, under}
-use Rattle.btree_shape.specs.WellFormed.{IsOffByOne, IsWellFormed}
 use Rattle.btree_shape.specs.Whole.{Standing}
 use Rattle.btree_shape.proofs.AddressTours.{front-tour, keep_front}
 use Rattle.btree_shape.proofs.Adjacent.{Adjacent, adjacent-down, adjacent-node, adjacent-up, before-is, end-before, kept-parts, no-higher, row-prior, start-is}
@@ -20,7 +17,7 @@ use Rattle.btree_shape.proofs.Frames.{top-view}
 use Rattle.btree_shape.proofs.FrontAddresses.{fronts-listed}
 use Rattle.btree_shape.proofs.Kept.{kept}
 use Rattle.btree_shape.proofs.Numbers.{used-there}
-use Rattle.btree_shape.proofs.Placed.{Toured, placed-formed, placed-odd, placed-well, ticks_of, toured}
+use Rattle.btree_shape.proofs.Placed.{Toured, ticks_of, toured}
 use Rattle.btree_shape.proofs.Rooted.{node-rooted}
 use Rattle.btree_shape.proofs.Sizes.{frame-size, view-parent}
 use Rattle.btree_shape.proofs.TourEnds.{Begins, Ends, tour-begins-front, tour-last}
@@ -132,19 +129,3 @@ module _ {A : Type 0} (look : Look A) (levels root : ℕ) (xs : List A) (p : IsP
         first = λ i id node v none g.
             start-is list once (lead id) (subst (λ l. Begins (lead id) l) (sym e) (go-out t id node v none)) i g;
       }
-
--- the law of a well formed tree, by as many levels as it has pairs or more
-module _ {K V : Type 0} (cmp : K → K → Ordering) (laws : IsTotalOrder cmp) (look : Look (K × V)) (levels : ℕ) (xs : List (K × V)) (root : ℕ) where
-  pub front-visits-well : (len : ℕ) → IsWellFormed cmp look (Some root) len xs → len ≤ levels
-      → VisitsFronts look levels root (fronts_under look levels (Some root))
-  front-visits-well len w l = fronts-visited look levels root xs (placed-well cmp laws look levels xs (Some root) len w l)
-
-  -- by more levels than its height
-  pub front-visits-formed : (len : ℕ) (w : IsWellFormed cmp look (Some root) len xs) → w.formed.height < levels
-      → VisitsFronts look levels root (fronts_under look levels (Some root))
-  front-visits-formed len w l = fronts-visited look levels root xs (placed-formed cmp laws look levels xs root len w l)
-
-  -- and of one that is off by one
-  pub front-visits-odd : (odd : ℕ) (w : IsOffByOne cmp look root odd xs) → w.rooted.height < levels
-      → VisitsFronts look levels root (fronts_under look levels (Some root))
-  front-visits-odd odd w l = fronts-visited look levels root xs (placed-odd cmp laws look levels xs root odd w l)

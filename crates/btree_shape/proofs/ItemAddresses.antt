@@ -1,10 +1,8 @@
 -- The list of the occupied addresses of a tree: each stands at the index that is its place.
 use Rattle.std.proofs.Common.{◌≡◌, ◌<◌, ◌≤◌, ◌∙◌, ◌∷◌, [], ℕ, zero, suc, inl, inr, true, List, length, Option, Some, None, refl, sym, ap, subst, arith, option_and_then}
 use Rattle.std.proofs.lemmas.Option.{slice_get_cases, slice_get_within}
-use Rattle.std.specs.Cmp.{IsTotalOrder}
 use Rattle.std.specs.List.{AllByRecursion}
 use Rattle.std.specs.Prelude.{slice_get, is_some}
-use Rattle.std.specs.declared.cmp.Ordering.{Ordering}
 use Rattle.btree_item.specs.declared.address.Address.{Address}
 use Rattle.btree_view.specs.View.{Look, View, item_in, items_of}
 use Rattle.btree_shape.specs.Addresses.{item_addresses_under}
@@ -12,11 +10,10 @@ use Rattle.btree_shape.specs.AddressLaws.{IsPlaced, IsPlacedUnder, ListsItems}
 use Rattle.btree_shape.specs.Place.{IsEnd, IsOccupied, IsPlace, IsPlaceOf, item_at}
 use Rattle.btree_shape.specs.Shape.{Shape}
 use Rattle.btree_shape.specs.Tour.{Tick, branch_key, branch_tour, ticks, tour}
-use Rattle.btree_shape.specs.WellFormed.{IsOffByOne, IsWellFormed}
 use Rattle.btree_shape.proofs.AddressPlaces.{item-within}
 use Rattle.btree_shape.proofs.AddressTours.{item-tour, keep_item}
 use Rattle.btree_shape.proofs.Kept.{Strung, kept, strung-append}
-use Rattle.btree_shape.proofs.Placed.{Toured, addressed-strung, placed-formed, placed-odd, placed-well, strung-addressed, strung-counted, ticks_of, toured}
+use Rattle.btree_shape.proofs.Placed.{Toured, addressed-strung, strung-addressed, strung-counted, ticks_of, toured}
 
 -- between two items of a tour one occupied address comes
 module _ {A : Type 0} where
@@ -163,23 +160,3 @@ module _ {A : Type 0} (look : Look A) where
               record { address = c.0; listed = c.2; occupied = r.0; at_place = r.1; item = r.2 }
           | inr c ↦ (let k : length list ≤ place = c.0 in absurd (omega arith))
         ]
-
--- the law of a well formed tree, by as many levels as it has pairs or more
-pub items-well : {K V : Type 0} (cmp : K → K → Ordering) (laws : IsTotalOrder cmp) (look : Look (K × V)) (levels : ℕ)
-    (xs : List (K × V)) (root : Option ℕ) (len : ℕ) → IsWellFormed cmp look root len xs → len ≤ levels
-    → ListsItems look root xs (item_addresses_under look levels root)
-items-well cmp laws look levels xs root len w l = items-listed look levels root xs (placed-well cmp laws look levels xs root len w l)
-
--- by more levels than its height
-pub items-formed : {K V : Type 0} (cmp : K → K → Ordering) (laws : IsTotalOrder cmp) (look : Look (K × V)) (levels : ℕ)
-    (xs : List (K × V)) (root len : ℕ) (w : IsWellFormed cmp look (Some root) len xs) → w.formed.height < levels
-    → ListsItems look (Some root) xs (item_addresses_under look levels (Some root))
-items-formed cmp laws look levels xs root len w l =
-    items-listed look levels (Some root) xs (placed-formed cmp laws look levels xs root len w l)
-
--- and of one that is off by one, by more levels than its height
-pub items-odd : {K V : Type 0} (cmp : K → K → Ordering) (laws : IsTotalOrder cmp) (look : Look (K × V)) (levels : ℕ)
-    (xs : List (K × V)) (root odd : ℕ) (w : IsOffByOne cmp look root odd xs) → w.rooted.height < levels
-    → ListsItems look (Some root) xs (item_addresses_under look levels (Some root))
-items-odd cmp laws look levels xs root odd w l =
-    items-listed look levels (Some root) xs (placed-odd cmp laws look levels xs root odd w l)

@@ -1,17 +1,16 @@
 -- What is kept of the tour of a tree is in order, each address once; and how many nodes and items a tree has.
-use Rattle.std.proofs.Common.{◌≡◌, ◌≤◌, ◌∷◌, ◌+◌, ◌∙◌, [], ℕ, zero, suc, inl, inr, Bool, List, length, map, Option, Some, None, refl, sym, ap, subst, arith, length-append}
-use Rattle.std.specs.List.{AllByRecursion, flat_map}
+use Rattle.std.proofs.Common.{◌≡◌, ◌≤◌, ◌∷◌, ◌+◌, ◌∙◌, [], ℕ, suc, inl, inr, Bool, List, length, Option, Some, None, refl, sym, ap, subst, arith, length-append}
 use Rattle.std.specs.Prelude.{slice_get}
 use Rattle.btree_item.specs.declared.address.Address.{Address}
-use Rattle.btree_view.specs.View.{Look, children_in}
+use Rattle.btree_view.specs.View.{Look}
 use Rattle.btree_shape.specs.AddressLaws.{IsInOrder, IsPlaced, IsPlacedUnder, numbers_of}
 use Rattle.btree_shape.specs.Place.{IsValid, IsWithin}
 use Rattle.btree_shape.specs.Lists.{times_listed, total}
-use Rattle.btree_shape.specs.Shape.{Holds, Shape, id_of, items_under, later_items, times_under}
+use Rattle.btree_shape.specs.Shape.{Shape, items_under, later_items, times_under}
 use Rattle.btree_shape.specs.Spells.{numbers_under}
 use Rattle.btree_shape.specs.Tour.{tour}
 use Rattle.btree_shape.specs.WellFormed.{times_used}
-use Rattle.btree_shape.proofs.Density.{nodes_in}
+use Rattle.btree_shape.proofs.Density.{node-numbers, nodes_in}
 use Rattle.btree_shape.proofs.Kept.{kept, passed-rise}
 use Rattle.btree_shape.proofs.KeptOnce.{kept-once}
 use Rattle.btree_shape.proofs.Numbers.{numbers-shape, used-low}
@@ -30,37 +29,6 @@ module _ (A : Type 0) where
       let r = branch-sum keep h each bs in
       let l = length-append (items_under A h b.1) (later_items A h bs) in
       omega arith
-
-  module _ (look : Look A) where
-    branch-numbers : (h : ℕ) (p : Option ℕ)
-        → ((t : Shape A h) → Holds A look h p t → length (numbers_under look h (id_of A h t)) ≡ nodes_in A h t)
-        → (bs : List (A × Shape A h)) → AllByRecursion (λ b. Holds A look h p b.1) bs
-        → length (flat_map (numbers_under look h)
-        (map {B = ℕ} (λ b. b.1) (map {B = A × ℕ} (λ (b : A × Shape A h). (b.0, id_of A h b.1)) bs)))
-        ≡ total (λ (b : A × Shape A h). nodes_in A h b.1) bs
-    branch-numbers h p each [] d = refl
-    branch-numbers h p each (b ∷ bs) d =
-        let q =
-        length-append (numbers_under look h (id_of A h b.1))
-        (flat_map (numbers_under look h)
-        (map {B = ℕ} (λ b. b.1) (map {B = A × ℕ} (λ (b : A × Shape A h). (b.0, id_of A h b.1)) bs))) in
-        let a = each b.1 d.0 in
-        let r = branch-numbers h p each bs d.1 in
-        omega arith
-
-    pub shape-numbers : (h : ℕ) (p : Option ℕ) (t : Shape A h) → Holds A look h p t
-        → length (numbers_under look h (id_of A h t)) ≡ nodes_in A h t
-    shape-numbers zero p t d = refl
-    shape-numbers (suc h) p t d =
-        let ns : List ℕ = map {B = ℕ} (λ b. b.1) (map {B = A × ℕ} (λ (b : A × Shape A h). (b.0, id_of A h b.1)) t.2) in
-        let q = length-append (numbers_under look h (id_of A h t.1)) (flat_map (numbers_under look h) ns) in
-        let a = shape-numbers h (Some t.0) t.1 d.1 in
-        let r = branch-numbers h (Some t.0) (shape-numbers h (Some t.0)) t.2 d.2 in
-        let e : children_in (look t.0) ≡ id_of A h t.1 ∷ ns = ap children_in d.0 in
-        let f : length (flat_map (numbers_under look h) (children_in (look t.0)))
-        ≡ length (flat_map (numbers_under look h) (id_of A h t.1 ∷ ns)) =
-        ap (λ l. length (flat_map (numbers_under look h) l)) e in
-        omega arith
 
 module _ {A : Type 0} (look : Look A) where
   -- an address of a tree with a root is in one of its nodes
@@ -87,7 +55,7 @@ module _ {A : Type 0} (look : Look A) where
     pub numbers-counted : length (numbers_under look p.rooted.height root) ≡ nodes_in A p.rooted.height t.shape
     numbers-counted =
         subst (λ i. length (numbers_under look p.rooted.height i) ≡ nodes_in A p.rooted.height t.shape) t.here
-        (shape-numbers A look p.rooted.height None t.shape t.holds)
+        (node-numbers A look p.rooted.height None t.shape t.holds)
 
     -- what is kept of the tour is in order
     pub kept-order : (keep : Address → Option A → Bool) (list : List Address)

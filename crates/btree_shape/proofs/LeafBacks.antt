@@ -1,10 +1,8 @@
 -- The list of the back addresses in the leaves of a tree: each stands at the index that is its place.
-use Rattle.std.proofs.Common.{◌≡◌, ◌<◌, ◌≤◌, ◌∙◌, ◌∷◌, [], ℕ, zero, suc, inl, inr, true, false, Bool, List, length, Option, Some, None, refl, sym, ap, subst, arith}
+use Rattle.std.proofs.Common.{◌≡◌, ◌≤◌, ◌∙◌, ◌∷◌, [], ℕ, zero, suc, inl, inr, true, false, Bool, List, length, Option, Some, None, refl, sym, ap, subst, arith}
 use Rattle.std.proofs.lemmas.Option.{slice_get_cases}
-use Rattle.std.specs.Cmp.{IsTotalOrder}
 use Rattle.std.specs.List.{AllByRecursion}
 use Rattle.std.specs.Prelude.{slice_get}
-use Rattle.std.specs.declared.cmp.Ordering.{Ordering}
 use Rattle.btree_item.specs.declared.address.Address.{Address}
 use Rattle.btree_view.specs.View.{Look, View, leaf, internal}
 use Rattle.btree_shape.specs.Addresses.{leaf_backs_under}
@@ -12,10 +10,9 @@ use Rattle.btree_shape.specs.AddressLaws.{IsPlaced, IsPlacedUnder, ListsLeafBack
 use Rattle.btree_shape.specs.Place.{NOWHERE, IsBack, IsLeaf, IsLeafAddress, IsNowhere, IsPlace, IsValid}
 use Rattle.btree_shape.specs.Shape.{Holds, Shape}
 use Rattle.btree_shape.specs.Tour.{Tick, branch_key, branch_tour, slot, ticks, tour}
-use Rattle.btree_shape.specs.WellFormed.{IsOffByOne, IsWellFormed}
 use Rattle.btree_shape.proofs.AddressTours.{is_leaf_back, keep_leaf_back, leaf-back-tour}
 use Rattle.btree_shape.proofs.Kept.{Counts, Strung, kept, strung-append}
-use Rattle.btree_shape.proofs.Placed.{addressed-strung, placed-formed, placed-odd, placed-well, strung-addressed, strung-counted, ticks_of, toured}
+use Rattle.btree_shape.proofs.Placed.{addressed-strung, strung-addressed, strung-counted, ticks_of, toured}
 
 counts-true : (c : Bool) → c ≡ true → Counts c 0 1
 counts-true c e = subst (λ z. Counts z 0 1) (sym e) (refl, refl)
@@ -175,24 +172,3 @@ module _ {A : Type 0} (look : Look A) where
               }
           | inr c ↦ (let k : length list ≤ place = c.0 in absurd (omega arith))
         ]
-
--- the law of a well formed tree, by as many levels as it has pairs or more
-pub leaf-backs-well : {K V : Type 0} (cmp : K → K → Ordering) (laws : IsTotalOrder cmp) (look : Look (K × V)) (levels : ℕ)
-    (xs : List (K × V)) (root : Option ℕ) (len : ℕ) → IsWellFormed cmp look root len xs → len ≤ levels
-    → ListsLeafBacks look root xs (leaf_backs_under look levels root)
-leaf-backs-well cmp laws look levels xs root len w l =
-    leaf-backs-listed look levels root xs (placed-well cmp laws look levels xs root len w l)
-
--- by more levels than its height
-pub leaf-backs-formed : {K V : Type 0} (cmp : K → K → Ordering) (laws : IsTotalOrder cmp) (look : Look (K × V)) (levels : ℕ)
-    (xs : List (K × V)) (root len : ℕ) (w : IsWellFormed cmp look (Some root) len xs) → w.formed.height < levels
-    → ListsLeafBacks look (Some root) xs (leaf_backs_under look levels (Some root))
-leaf-backs-formed cmp laws look levels xs root len w l =
-    leaf-backs-listed look levels (Some root) xs (placed-formed cmp laws look levels xs root len w l)
-
--- and of one that is off by one, by more levels than its height
-pub leaf-backs-odd : {K V : Type 0} (cmp : K → K → Ordering) (laws : IsTotalOrder cmp) (look : Look (K × V)) (levels : ℕ)
-    (xs : List (K × V)) (root odd : ℕ) (w : IsOffByOne cmp look root odd xs) → w.rooted.height < levels
-    → ListsLeafBacks look (Some root) xs (leaf_backs_under look levels (Some root))
-leaf-backs-odd cmp laws look levels xs root odd w l =
-    leaf-backs-listed look levels (Some root) xs (placed-odd cmp laws look levels xs root odd w l)

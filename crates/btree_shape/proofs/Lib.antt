@@ -90,3 +90,4 @@ pub mod BackVisits
 pub mod FrontVisits
 pub mod NextAddresses
 pub mod LeafEnds
+pub mod TreeAddresses

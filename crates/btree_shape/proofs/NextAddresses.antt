@@ -13,11 +13,7 @@ use Rattle.btree_shape.specs.Shape.{Shape, id_of, view_at}
 use Rattle.btree_shape.specs.Tour.{lead, slot}
 use Rattle.btree_shape.specs.Visits.{ComesBefore, VisitsBacks, VisitsFronts, back_after, back_after_at, back_after_in, front_before, front_before_at, front_before_in, in_parent, index_in, prior}
 use Rattle.btree_shape.specs.Way.{Above, frame_id, frame_index, parent_above, top, under}
-use Rattle.btree_shape.specs.WellFormed.{IsOffByOne, IsWellFormed}
 use Rattle.btree_shape.specs.Whole.{Standing}
-use Rattle.btree_shape.proofs.Placed.{placed-odd, placed-well}
-use Rattle.std.specs.Cmp.{IsTotalOrder}
-use Rattle.std.specs.declared.cmp.Ordering.{Ordering}
 use Rattle.btree_shape.proofs.BackAddresses.{backs-listed}
 use Rattle.btree_shape.proofs.BackVisits.{backs-visited}
 use Rattle.btree_shape.proofs.Climbs.{index-here}
@@ -149,7 +145,7 @@ module _ {A : Type 0} (look : Look A) (levels root : ℕ) (xs : List A) (p : IsP
   front-law : VisitsFronts look levels root front_list
   front-law = fronts-visited look levels root xs p
 
-  came-before : (list : List Address) (i : ℕ) (a : Address) → ComesBefore list i a → prior list i ≡ Some a
+  pub came-before : (list : List Address) (i : ℕ) (a : Address) → ComesBefore list i a → prior list i ≡ Some a
   came-before list i a c = ap (prior list) c.is ∙ c.at
 
   front-out : (i id : ℕ) (node : View A) → look id ≡ Some node → slice_get front_list i ≡ Some (lead id)
@@ -184,26 +180,3 @@ module _ {A : Type 0} (look : Look A) (levels root : ℕ) (xs : List A) (p : IsP
   pub front-rule : (i : ℕ) (a : Address) → slice_get front_list i ≡ Some a → prior front_list i ≡ front_before look levels a
   front-rule i a g =
       front-at i a.id (look a.id) refl a.offset ((fronts-listed look levels (Some root) xs p).right i a g) g
-
--- the rules in a well formed tree, by as many levels as it has pairs or more
-module _ {K V : Type 0} (cmp : K → K → Ordering) (laws : IsTotalOrder cmp) (look : Look (K × V)) (levels : ℕ) (xs : List (K × V)) (root : ℕ) where
-  pub back-rule-well : (len : ℕ) → IsWellFormed cmp look (Some root) len xs → len ≤ levels → (i : ℕ) (a : Address)
-      → slice_get (backs_under look levels (Some root)) i ≡ Some a
-      → slice_get (backs_under look levels (Some root)) (suc i) ≡ back_after look levels a
-  back-rule-well len w l i a g = back-rule look levels root xs (placed-well cmp laws look levels xs (Some root) len w l) i a g
-
-  pub front-rule-well : (len : ℕ) → IsWellFormed cmp look (Some root) len xs → len ≤ levels → (i : ℕ) (a : Address)
-      → slice_get (fronts_under look levels (Some root)) i ≡ Some a
-      → prior (fronts_under look levels (Some root)) i ≡ front_before look levels a
-  front-rule-well len w l i a g = front-rule look levels root xs (placed-well cmp laws look levels xs (Some root) len w l) i a g
-
-  -- and in one that is off by one, by more levels than its height
-  pub back-rule-odd : (odd : ℕ) (w : IsOffByOne cmp look root odd xs) → w.rooted.height < levels → (i : ℕ) (a : Address)
-      → slice_get (backs_under look levels (Some root)) i ≡ Some a
-      → slice_get (backs_under look levels (Some root)) (suc i) ≡ back_after look levels a
-  back-rule-odd odd w l i a g = back-rule look levels root xs (placed-odd cmp laws look levels xs root odd w l) i a g
-
-  pub front-rule-odd : (odd : ℕ) (w : IsOffByOne cmp look root odd xs) → w.rooted.height < levels → (i : ℕ) (a : Address)
-      → slice_get (fronts_under look levels (Some root)) i ≡ Some a
-      → prior (fronts_under look levels (Some root)) i ≡ front_before look levels a
-  front-rule-odd odd w l i a g = front-rule look levels root xs (placed-odd cmp laws look levels xs root odd w l) i a g

@@ -1,24 +1,22 @@
 -- A tree each of whose addresses has one place: which trees are so, and what is kept of its tour.
-use Rattle.std.proofs.Common.{◌≡◌, ◌<◌, ◌≤◌, ◌∙◌, ◌+◌, ℕ, Bool, true, List, length, Option, Some, None, sym, ap, subst, arith}
+use Rattle.std.proofs.Common.{◌≡◌, ◌<◌, ◌∙◌, ◌+◌, ℕ, Bool, true, List, length, Option, Some, None, sym, ap, subst, arith}
 use Rattle.std.proofs.lemmas.Option.{slice_get_within}
 use Rattle.std.specs.Cmp.{IsTotalOrder}
 use Rattle.std.specs.Prelude.{slice_get}
 use Rattle.std.specs.declared.cmp.Ordering.{Ordering}
 use Rattle.btree_item.specs.declared.address.Address.{Address}
-use Rattle.btree_view.specs.View.{Look, View, size_of}
-use Rattle.btree_shape.specs.AddressLaws.{IsPlaced, IsPlacedUnder}
+use Rattle.btree_view.specs.View.{Look, View}
+use Rattle.btree_shape.specs.AddressLaws.{IsPlaced}
 use Rattle.btree_shape.specs.OnTour.{IsAddressed, IsOnTour}
 use Rattle.btree_shape.specs.Shape.{Holds, Shape, id_of, items_under}
 use Rattle.btree_shape.specs.Tour.{Asks, Tick, In, tour, passed}
 use Rattle.btree_shape.specs.WellFormed.{IsOffByOne, IsRooted, IsWellFormed}
 use Rattle.btree_shape.proofs.Carried.{tour-passed}
 use Rattle.btree_shape.proofs.Kept.{IndexOf, Strung, kept, kept-at, kept-of, passed_to, strung-index, strung-length}
-use Rattle.btree_shape.proofs.Listed.{some-item}
 use Rattle.btree_shape.proofs.OnePlace.{one_place, one_place-well}
 use Rattle.btree_shape.proofs.OneTour.{one-tour}
 use Rattle.btree_shape.proofs.OnTour.{tour-addressed, valid-on}
 use Rattle.btree_shape.proofs.SpelledShapes.{shape-of}
-use Rattle.btree_shape.proofs.Spelled.{height_below}
 
 -- the sizes of nodes are let go
 pub any-sized : {A : Type 0} (is_right : (id : ℕ) → View A → Type 0) (look : Look A) (root : ℕ) (xs : List A)
@@ -26,7 +24,7 @@ pub any-sized : {A : Type 0} (is_right : (id : ℕ) → View A → Type 0) (look
 any-sized is_right look root xs r = record { height = r.height; spells = r.spells; sized = λ id node e. tt; once = r.once }
 
 module _ {K V : Type 0} (cmp : K → K → Ordering) (laws : IsTotalOrder cmp) (look : Look (K × V)) (levels : ℕ) (xs : List (K × V)) where
-  -- a well formed tree is so, for more levels than its height, and so for as many as it has pairs
+  -- a well formed tree is so, for more levels than its height
   abbrev pub placed-formed : (root len : ℕ) (w : IsWellFormed cmp look (Some root) len xs) → w.formed.height < levels → IsPlaced look levels root xs
   placed-formed root len w l =
       record {
@@ -34,14 +32,6 @@ module _ {K V : Type 0} (cmp : K → K → Ordering) (laws : IsTotalOrder cmp) (
         low = l;
         one = λ id offset p q s t. one_place-well cmp laws look xs len (Some root) w id offset p q s t;
       }
-
-  abbrev pub placed-well : (root : Option ℕ) (len : ℕ) → IsWellFormed cmp look root len xs → len ≤ levels → IsPlacedUnder look levels root xs
-  placed-well None len w l = w.formed
-  placed-well (Some root) len w l =
-      let high = height_below look w.formed.height None root xs
-      (λ i node e. some-item root i (size_of node) (w.formed.sized i node e).0) w.formed.spells in
-      let counted = w.counted in
-      placed-formed root len w (omega arith)
 
   -- and so is one that is off by one at a node
   abbrev pub placed-odd : (root odd : ℕ) (w : IsOffByOne cmp look root odd xs) → w.rooted.height < levels → IsPlaced look levels root xs

@@ -23,3 +23,4 @@ pub mod Mending
 pub mod Addresses
 pub mod AddressLaws
 pub mod Visits
+pub mod TreeAddresses

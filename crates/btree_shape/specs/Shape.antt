@@ -1,5 +1,5 @@
 -- The nodes under a number as one finite tree, level by level: a tool of the proofs, and what a loop in a tree keeps.
-use Rattle.std.specs.Prelude.{◌≡◌, ℕ, zero, suc, ◌+◌, ◌≤◌, ◌==◌, if◌then◌else◌, List, [], ◌∷◌, ◌++◌, length, map, Option, Some}
+use Rattle.std.specs.Prelude.{◌≡◌, ℕ, zero, suc, ◌+◌, ◌≤◌, List, ◌∷◌, ◌++◌, length, map, Option, Some}
 use Rattle.std.specs.List.{flat_map, AllByRecursion}
 use Rattle.btree_view.specs.View.{View, leaf, internal, Look}
 use Rattle.btree_shape.specs.Lists.{one, total}
