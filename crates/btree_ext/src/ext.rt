@@ -4,46 +4,78 @@ ghost use Rattle.std.specs.FinMap as map;
 ghost use Rattle.btree_shape.specs.TreeState.{TreeState, HasLevels, IsBTree, IsUsed, item_of, pairs_of};
 ghost use Rattle.btree_find.specs.Answers.{IsAddressOf};
 
+use btree_find::{address_of, height};
 use btree_item::{Address, Item};
 use btree_node::Node;
+use btree_nodes::NodesMut;
+use btree_raw::RawBTree;
 
-/// A well formed tree, read by its nodes and by addresses in it.
+/// A well formed tree, read by its nodes and by addresses in it. Only `as_raw` is to be written: the other calls read what it lends.
 pub trait BTreeExt<K: Ord, V> {
+    /// The store that the nodes lie in.
+    type Nodes: NodesMut<K, V>;
+
     /// What contracts see of the tree.
     ghost state: { Self → TreeState K V };
+
+    /// The tree as nodes in a store, the number of a root, and a length.
+    fn as_raw(&self) -> &RawBTree<K, V, Self::Nodes>
+        ensures value { result.now ≡ state self.now }
+        ensures well_formed { IsBTree K.cmp (state self.now) };
 
     /// The number of the root, and `None` where there are no pairs.
     fn root_id(&self) -> Option<usize>
         ensures value { result ≡ (state self.now).root }
-        ensures well_formed { IsBTree K.cmp (state self.now) };
+        ensures well_formed { IsBTree K.cmp (state self.now) }
+    {
+        self.as_raw().root_id()
+    }
 
     /// Whether a node has this number.
     fn has_node(&self, id: usize) -> bool
-        ensures { IsTrue result ↔ IsUsed (state self.now) id };
+        ensures { IsTrue result ↔ IsUsed (state self.now) id }
+    {
+        self.as_raw().has_node(id)
+    }
 
     /// The node with a number, for which `has_node` is the test.
     fn node(&self, id: usize) -> &Node<K, V>
         requires { IsUsed (state self.now) id }
-        ensures { map.get (state self.now).nodes id ≡ Some result.now };
+        ensures { map.get (state self.now).nodes id ≡ Some result.now }
+    {
+        self.as_raw().node(id)
+    }
 
     /// The item at an address, and `None` where none stands: at -1, past the last, nowhere, or at an address of no node.
     fn item(&self, addr: Address) -> Option<&Item<K, V>>
-        ensures { option_copied result ≡ item_of (state self.now) addr };
+        ensures { option_copied result ≡ item_of (state self.now) addr }
+    {
+        self.as_raw().item(addr)
+    }
 
     /// How many levels of nodes there are: none without pairs, and at most 32.
     fn height(&self) -> usize
         ensures value { HasLevels (state self.now) result }
         ensures few { result ≤ 32 }
         ensures dense { 0 < (state self.now).len →
-            2 * 4 ^ (result - 1) ≤ length (pairs_of (state self.now)) + 1 };
+            2 * 4 ^ (result - 1) ≤ length (pairs_of (state self.now)) + 1 }
+    {
+        height(self.as_raw())
+    }
 
     /// How many nodes there are: at most (n+2)/3 for n pairs.
     fn node_count(&self) -> usize
         ensures value { result ≡ map.len (state self.now).nodes }
-        ensures dense { 3 * result ≤ length (pairs_of (state self.now)) + 2 };
+        ensures dense { 3 * result ≤ length (pairs_of (state self.now)) + 2 }
+    {
+        self.as_raw().node_count()
+    }
 
     /// The address of a key that is there, else the back address of a leaf whose place is the number of smaller keys. Compares
     /// at most six keys a level.
     fn address_of(&self, key: &K) -> Result<Address, Address>
-        ensures { IsAddressOf K.cmp key.now (state self.now) result };
+        ensures { IsAddressOf K.cmp key.now (state self.now) result }
+    {
+        address_of(self.as_raw(), key)
+    }
 }

@@ -5,9 +5,8 @@ ghost use Rattle.btree_node.specs.contracts.node.Node.{the_row as node_row};
 
 use crate::ext::BTreeExt;
 use btree_edit::insert;
-use btree_find::{address_of, get, height};
-use btree_item::{Address, Item, Refused};
-use btree_node::Node;
+use btree_find::get;
+use btree_item::Refused;
 use btree_nodes::NodesMut;
 use btree_raw::RawBTree;
 use std::marker::Model;
@@ -96,33 +95,11 @@ impl<K: Ord + Drop, V: Drop, C: NodesMut<K, V>> Tree<K, V, C> {
 }
 
 impl<K: Ord, V, C: NodesMut<K, V>> BTreeExt<K, V> for Tree<K, V, C> {
+    type Nodes = C;
+
     ghost state = { λ t. t };
 
-    fn root_id(&self) -> Option<usize> {
-        self.raw.root_id()
-    }
-
-    fn has_node(&self, id: usize) -> bool {
-        self.raw.has_node(id)
-    }
-
-    fn node(&self, id: usize) -> &Node<K, V> {
-        self.raw.node(id)
-    }
-
-    fn item(&self, addr: Address) -> Option<&Item<K, V>> {
-        self.raw.item(addr)
-    }
-
-    fn height(&self) -> usize {
-        height(&self.raw)
-    }
-
-    fn node_count(&self) -> usize {
-        self.raw.node_count()
-    }
-
-    fn address_of(&self, key: &K) -> Result<Address, Address> {
-        address_of(&self.raw, key)
+    fn as_raw(&self) -> &RawBTree<K, V, C> {
+        &self.raw
     }
 }

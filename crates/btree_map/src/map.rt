@@ -3,9 +3,9 @@ ghost use Rattle.std.specs.Prelude.{◌≡◌, ◌↔◌, [], length, IsTrue, If
 ghost use Rattle.std.specs.FinMap as map;
 
 use btree_ext::{BTreeExt, Tree};
-use btree_item::{Address, Item, Refused};
-use btree_node::Node;
+use btree_item::Refused;
 use btree_nodes::NodesMut;
+use btree_raw::RawBTree;
 use btree_walk::Iter;
 use std::marker::Model;
 
@@ -99,33 +99,11 @@ impl<K: Ord + Drop, V: Drop, C: NodesMut<K, V>> BTreeMap<K, V, C> {
 }
 
 impl<K: Ord, V, C: NodesMut<K, V>> BTreeExt<K, V> for BTreeMap<K, V, C> {
+    type Nodes = C;
+
     ghost state = { λ m. m };
 
-    fn root_id(&self) -> Option<usize> {
-        self.tree.root_id()
-    }
-
-    fn has_node(&self, id: usize) -> bool {
-        self.tree.has_node(id)
-    }
-
-    fn node(&self, id: usize) -> &Node<K, V> {
-        self.tree.node(id)
-    }
-
-    fn item(&self, addr: Address) -> Option<&Item<K, V>> {
-        self.tree.item(addr)
-    }
-
-    fn height(&self) -> usize {
-        self.tree.height()
-    }
-
-    fn node_count(&self) -> usize {
-        self.tree.node_count()
-    }
-
-    fn address_of(&self, key: &K) -> Result<Address, Address> {
-        self.tree.address_of(key)
+    fn as_raw(&self) -> &RawBTree<K, V, C> {
+        self.tree.as_raw()
     }
 }
