@@ -10,7 +10,7 @@ use btree_find::address_of;
 use btree_item::{Address, Cause, Item, Offset, Refused};
 use btree_node::Node;
 use btree_nodes::NodesMut;
-use btree_raw::{RawBTree, add_item, claim, claim_one, need, put, split_up};
+use btree_raw::{ClaimedIds, RawBTree, add_item, claim, claim_one, need, put, split_up};
 
 fn refused<K, V>(cause: Cause, item: Item<K, V>) -> Refused<K, V>
     ensures { result ≡ record { cause = cause; key = item.0; value = item.1 } }
@@ -82,9 +82,10 @@ fn insert_and_split<K: Ord + Drop, V: Drop, C: NodesMut<K, V>>(
     ensures refused { IfErr result (λ r. IsRefused C.MayRefuse addr.id tree.old tree.new r.cause) }
 {
     tree.tell_fits();
-    let Some(mut claims) = claim(tree, count) else {
+    let mut claims = ClaimedIds::new();
+    if !claim(tree, count, &mut claims) {
         return Err(refused(Cause::Store, item));
-    };
+    }
     add_item(tree, addr.id, addr.offset.unwrap(), item, None);
     let at = split_up(tree, addr.id, addr, &mut claims);
     tree.set_len(tree.len() + 1);

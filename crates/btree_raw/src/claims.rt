@@ -1,5 +1,5 @@
 //! Nodes that are claimed before a change.
-ghost use Rattle.std.specs.Prelude.{◌≡◌, ◌<◌, ◌≤◌, [], length, None, IfSome, IfNone};
+ghost use Rattle.std.specs.Prelude.{◌≡◌, ◌<◌, ◌≤◌, [], length, None, IfSome, IfNone, IsTrue, false};
 ghost use Rattle.std.specs.FinMap as map;
 ghost use Rattle.btree_shape.specs.TreeState.{TreeState};
 ghost use Rattle.btree_raw.specs.Claimed.{AreClaimed, EMPTY, MayRefuseOneOf};
@@ -47,26 +47,29 @@ pub fn claim_one<K: Drop, V: Drop, C: NodesMut<K, V>>(tree: &mut RawBTree<K, V, 
     tree.store_node(empty_leaf()).ok()
 }
 
-/// Claims so many nodes as empty leaves, or none where the store refuses one.
+/// Claims so many nodes as empty leaves, and puts their numbers into an empty list. Returns whether they were claimed: where the store
+/// refuses one, none is. The list is the caller's, so that it is not copied.
 pub fn claim<K: Drop, V: Drop, C: NodesMut<K, V>>(
     tree: &mut RawBTree<K, V, C>,
     count: usize,
-) -> Option<ClaimedIds>
-    requires { count ≤ 33 }
-    ensures claimed { IfSome result (λ claims. AreClaimed tree.old tree.new claims.items) }
-    ensures count { IfSome result (λ claims. length claims.items ≡ count) }
-    ensures refused { IfNone result (Refuses tree.old tree.new) }
-    ensures may_refuse { IfNone result (MayRefuseOneOf EMPTY C.MayRefuse tree.old.nodes count) }
+    claims: &mut ClaimedIds,
+) -> bool
+    requires few { count ≤ 33 }
+    requires none { claims.old.items ≡ [] }
+    ensures claimed { IsTrue result → AreClaimed tree.old tree.new claims.new.items }
+    ensures count { IsTrue result → length claims.new.items ≡ count }
+    ensures refused { result ≡ false → Refuses tree.old tree.new }
+    ensures may_refuse { result ≡ false →
+        MayRefuseOneOf EMPTY C.MayRefuse tree.old.nodes count }
 {
-    let mut claims = ClaimedIds::new();
     for index in 0..count {
         match claim_one(tree) {
             Some(id) => claims.push(id),
             None => {
-                release(tree, &mut claims);
-                return None;
+                release(tree, claims);
+                return false;
             }
         }
     }
-    Some(claims)
+    true
 }

@@ -4,7 +4,7 @@ ghost use Rattle.btree_shape.specs.TreeState.{IsOff, IsValidIn, looks};
 ghost use Rattle.btree_raw.specs.Steps.{Overflows};
 ghost use Rattle.btree_raw.specs.Rebalance.{HasRoom, IsRebalanced, IsRefusal};
 
-use crate::claims::claim;
+use crate::claims::{ClaimedIds, claim};
 use crate::demand::climb;
 use crate::grow::split_up;
 use crate::raw::RawBTree;
@@ -25,9 +25,10 @@ fn rebalance_over<K: Ord + Drop, V: Drop, C: NodesMut<K, V>>(
     ensures refused { IfErr result (λ cause. IsRefusal tree.old tree.new id C.MayRefuse cause) }
 {
     let count = climb(tree, id);
-    let Some(mut claims) = claim(tree, count) else {
+    let mut claims = ClaimedIds::new();
+    if !claim(tree, count, &mut claims) {
         return Err(Cause::Store);
-    };
+    }
     Ok(split_up(tree, id, addr, &mut claims))
 }
 

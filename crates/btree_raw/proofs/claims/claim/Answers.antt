@@ -12,5 +12,5 @@ loop-index-preserved g c = record {
 }
 
 pub returns-in-None-clause-refused : goal.returns-in-None-clause-refused
-returns-in-None-clause-refused g c =
+returns-in-None-clause-refused g c e =
     c.release.ensures.back _ (refused-claims c.args.tree.now c.loop-index.tree c.claim_one.new.tree c.loop-index.claims.items c.loop-index.invariant.held c.in-None.ensures.refused)

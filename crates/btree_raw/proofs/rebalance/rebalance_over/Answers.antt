@@ -7,14 +7,14 @@ pub climb-count-requires : goal.climb-count-requires
 climb-count-requires g c = counting g.K.Ord.cmp g.met.K.Ord.total c.args.tree.now c.args.id c.requires.odd c.args.addr c.requires.valid c.requires.over
 
 pub split_up-requires-clause-splitting : goal.split_up-requires-clause-splitting
-split_up-requires-clause-splitting g c = splitting g.K.Ord.cmp g.met.K.Ord.total c.args.tree.now c.args.id c.requires.odd c.args.addr c.requires.valid c.requires.over c.in-Some.claims.items c.claim.new.tree c.in-Some.ensures.claimed (c.in-Some.ensures.count ∙ c.climb-count.ensures.value)
+split_up-requires-clause-splitting g c = splitting g.K.Ord.cmp g.met.K.Ord.total c.args.tree.now c.args.id c.requires.odd c.args.addr c.requires.valid c.requires.over c.claim.new.claims.items c.claim.new.tree (c.claim.ensures.claimed c.if-not-claim.false) (c.claim.ensures.count c.if-not-claim.false ∙ c.climb-count.ensures.value)
 
 pub split_up-requires-clause-numbers : goal.split_up-requires-clause-numbers
-split_up-requires-clause-numbers g c = claims-low c.args.tree.now.nodes c.in-Some.claims.items c.in-Some.ensures.claimed.claimed.claims
+split_up-requires-clause-numbers g c = claims-low c.args.tree.now.nodes c.claim.new.claims.items (c.claim.ensures.claimed c.if-not-claim.false).claimed.claims
 
 pub returns-clause-rebalanced : goal.returns-clause-rebalanced
-returns-clause-rebalanced g c = is-split g.K.Ord.cmp g.met.K.Ord.total c.args.tree.now c.args.id c.requires.odd c.args.addr c.requires.valid c.requires.over c.in-Some.claims.items c.claim.new.tree c.in-Some.ensures.claimed (c.in-Some.ensures.count ∙ c.climb-count.ensures.value)
+returns-clause-rebalanced g c = is-split g.K.Ord.cmp g.met.K.Ord.total c.args.tree.now c.args.id c.requires.odd c.args.addr c.requires.valid c.requires.over c.claim.new.claims.items c.claim.new.tree (c.claim.ensures.claimed c.if-not-claim.false) (c.claim.ensures.count c.if-not-claim.false ∙ c.climb-count.ensures.value)
     c.split_up.new.tree c.split_up.result c.split_up.ensures.split c.split_up.ensures.back
 
-pub returns-in_default-clause-refused : goal.returns-in_default-clause-refused
-returns-in_default-clause-refused g c = refusal g.K.Ord.cmp g.met.K.Ord.total c.args.tree.now c.args.id c.requires.odd c.args.addr c.requires.valid c.requires.over g.C.NodesMut.MayRefuse c.claim.new.tree c.climb-count.result c.climb-count.ensures.value c.in_default.ensures.refused c.in_default.ensures.may_refuse
+pub returns-then-not-claim-clause-refused : goal.returns-then-not-claim-clause-refused
+returns-then-not-claim-clause-refused g c = refusal g.K.Ord.cmp g.met.K.Ord.total c.args.tree.now c.args.id c.requires.odd c.args.addr c.requires.valid c.requires.over g.C.NodesMut.MayRefuse c.claim.new.tree c.climb-count.result c.climb-count.ensures.value (c.claim.ensures.refused c.if-not-claim.true) (c.claim.ensures.may_refuse c.if-not-claim.true)
