@@ -1,5 +1,6 @@
-//! Memory that is refused while a tree is rebalanced.
-use crate::drawn::{Walked, drawn, follow, put_spare, walk};
+//! Memory that is refused while a tree is rebalanced, or a node is allocated.
+use crate::drawn::{content_of, drawn, follow, put_spare};
+use crate::rebalance::leaf_of;
 use btree_item::{Address, Cause, Offset};
 use btree_node::Node;
 use btree_nodes::NodesMut;
@@ -9,16 +10,6 @@ use btree_store::SlabStore;
 use std::alloc::Global;
 use std::process::Abort;
 use std::test::Fail;
-
-// The same addresses at the same places and keys.
-fn check_unchanged(rt: &impl Abort, old: &Walked, new: &Walked) {
-    assert_eq!(rt; old.text.as_str(), new.text.as_str());
-    assert_eq!(rt; old.stops.len(), new.stops.len());
-    for (before, after) in old.stops.iter().zip(new.stops.iter()) {
-        assert_eq!(rt; before.addr, after.addr);
-        assert_eq!(rt; (before.place, before.key), (after.place, after.key));
-    }
-}
 
 // Rebalances a tree at a node, where its tests allow it.
 fn rebalanced<C: NodesMut<u64, u64>>(
@@ -45,18 +36,17 @@ fn is_refused<C: NodesMut<u64, u64> + Drop>(
     let mut raw: RawBTree<u64, u64, C> = drawn(rt, origin, text, alloc)?;
     put_spare(rt, &mut raw, spare, alloc)?;
     let id = follow(rt, &raw, &[0, 0]);
-    let old = walk(&raw, alloc)?;
+    let old = content_of(&raw, alloc)?;
     let (root, nodes) = (raw.root_id(), raw.node_count());
     memory.refuse(1);
-    if rebalanced(rt, &mut raw, id).is_ok() {
-        assert_eq!(rt; raw.node_count(), nodes.wrapping_add(2));
-        return Ok(false);
+    match rebalanced(rt, &mut raw, id) {
+        Ok(_) => {
+            assert_eq!(rt; raw.node_count(), nodes.wrapping_add(2));
+            return Ok(false);
+        }
+        Err(cause) => assert_eq!(rt; cause, Cause::Store),
     }
-    check_unchanged(rt, &old, &walk(&raw, alloc)?);
-    assert_eq!(rt;
-        (raw.root_id(), raw.node_count(), raw.len()),
-        (root, nodes, 77)
-    );
+    assert_eq!(rt; content_of(&raw, alloc)?.as_str(), old.as_str());
     assert!(rt; rebalanced(rt, &mut raw, id).is_ok());
     assert_eq!(rt;
         (raw.root_id(), raw.node_count(), raw.len()),
@@ -86,4 +76,42 @@ fn a_refused_node_of_a_split_changes_nothing(rt: HostRuntime) -> Result<(), Fail
         assert_eq!(rt; (is, memory.refuses() == 0), (refused, refused), "{text}");
     }
     Ok(())
+}
+
+// Allocates a leaf where the store has no memory: the leaf comes back, and is taken when it is put again.
+fn check_allocated<C: NodesMut<u64, u64> + Drop>(
+    rt: &impl Abort,
+    origin: C::Origin,
+    memory: &Refusing<Global>,
+    alloc: Global,
+) -> Result<(), Fail> {
+    let mut raw: RawBTree<u64, u64, C> = RawBTree::new(origin);
+    let old = content_of(&raw, alloc)?;
+    memory.refuse(1);
+    let Err(node) = raw.allocate_node(leaf_of(rt, &[3, 5])) else {
+        return Err(Fail::from("not refused"));
+    };
+    assert_eq!(rt; content_of(&raw, alloc)?.as_str(), old.as_str());
+    let keys = (
+        node.item(Offset::from(0)).map(|item| *item.key()),
+        node.item(Offset::from(1)).map(|item| *item.key()),
+    );
+    assert_eq!(rt; (node.item_count(), keys), (2, (Some(3), Some(5))));
+    let Ok(id) = raw.allocate_node(leaf_of(rt, &[3, 5])) else {
+        return Err(Fail::from("refused twice"));
+    };
+    assert!(rt; raw.has_node(id));
+    assert_eq!(rt; (raw.node(id).item_count(), raw.node_count()), (2, 1));
+    Ok(())
+}
+
+#[test]
+fn a_refused_node_comes_back(rt: HostRuntime) -> Result<(), Fail> {
+    let memory = Refusing::over(rt.alloc(), 0);
+    check_allocated::<SlabStore<Node<u64, u64>, &Refusing<Global>>>(
+        &rt,
+        &memory,
+        &memory,
+        rt.alloc(),
+    )
 }

@@ -1,4 +1,5 @@
 //! Trees that grow by insertions of keys in their order.
+use crate::drawn::content_of;
 use btree_ext::{BTreeExt, Tree};
 use btree_item::{Cause, Offset};
 use btree_node::Node;
@@ -68,15 +69,13 @@ fn grow<C: NodesMut<u64, u64> + Drop>(
     let mut tree: Tree<u64, u64, C> = Tree::new(origin);
     let mut refusals = 0usize;
     for key in 0..keys {
-        let before = levels_of(&tree, alloc)?;
-        let nodes = tree.node_count();
+        let before = content_of(tree.as_raw(), alloc)?;
         if let Err(refused) = tree.insert(key, key) {
             assert_eq!(rt;
                 (refused.cause, refused.key, refused.value),
                 (Cause::Store, key, key)
             );
-            assert_eq!(rt; levels_of(&tree, alloc)?.as_str(), before.as_str());
-            assert_eq!(rt; (tree.node_count(), tree.len() as u64), (nodes, key));
+            assert_eq!(rt; content_of(tree.as_raw(), alloc)?.as_str(), before.as_str());
             refusals = refusals.wrapping_add(1);
             assert_eq!(rt;
                 tree.insert(key, key).ok(),
@@ -150,14 +149,14 @@ fn looks_keys_up(rt: HostRuntime) -> Result<(), Fail> {
     Ok(())
 }
 
-// Puts 44 keys into a tree, and answers how many were refused once.
-fn refusals_of_44<C: NodesMut<u64, u64> + Drop>(
+// Puts 64 keys into a tree, and answers how many were refused once. The last one takes a leaf and a node above it, the 17th.
+fn refusals_of_64<C: NodesMut<u64, u64> + Drop>(
     rt: &impl Abort,
     origin: C::Origin,
     alloc: Global,
 ) -> Result<usize, Fail> {
-    let (tree, refusals) = grow::<C>(rt, origin, 44, alloc)?;
-    assert_eq!(rt; (tree.node_count(), tree.height(), tree.len()), (12, 3, 44));
+    let (tree, refusals) = grow::<C>(rt, origin, 64, alloc)?;
+    assert_eq!(rt; (tree.node_count(), tree.height(), tree.len()), (17, 3, 64));
     Ok(refusals)
 }
 
@@ -177,12 +176,13 @@ fn walks_from_the_front(rt: HostRuntime) -> Result<(), Fail> {
     Ok(())
 }
 
-// Each allocation of a run of 44 insertions is refused in turn, until a run meets none.
+// Each allocation of a run of 64 insertions is refused in turn, until a run meets none. The store grows at its 17th node, so that there the
+// first of two claimed nodes is given back.
 #[test]
 fn a_refused_node_changes_nothing(rt: HostRuntime) -> Result<(), Fail> {
-    for nth in 1..44u64 {
+    for nth in 1..64u64 {
         let memory = Refusing::over(rt.alloc(), nth);
-        let refusals = refusals_of_44::<SlabStore<Node<u64, u64>, &Refusing<Global>>>(
+        let refusals = refusals_of_64::<SlabStore<Node<u64, u64>, &Refusing<Global>>>(
             &rt,
             &memory,
             rt.alloc(),
