@@ -9,13 +9,12 @@ use Rattle.btree_item.proofs.PairLemmas.{set-from_Ok}
 use Rattle.btree_internal.specs.InternalLends.{internal_with_item_at, internal_with_value, internal_with_value_at, with_value_read}
 use Rattle.std.specs.Map.{keys_of}
 use Rattle.std.proofs.lemmas.List.{take-map, drop-map, map-append}
-use Rattle.btree_view.specs.Kept.{insert_at}
 use Rattle.std.specs.Option.{option_and_then, option_map}
 use Rattle.std.proofs.lemmas.Option.{slice_get-map}
 use Rattle.btree_internal.specs.declared.internal.Branch.{Branch}
 use Rattle.btree_internal.specs.Internal.{Internal, branch_pair}
 use Rattle.btree_internal.specs.Internal.{internal_view}
-use Rattle.btree_view.specs.Edits.{with_other_item, without}
+use Rattle.btree_view.specs.Edits.{with_item_at, with_other_item, without}
 use Rattle.btree_view.specs.View.{internal, items_of, children_of, size_of}
 use Rattle.btree_view.proofs.Cuts.{last_out}
 
@@ -89,10 +88,11 @@ module _ {K V : Type 0} where
     pub long_as_items : length bs ≡ size_of (internal_view node)
     long_as_items = sym (length-map bs (λ b. b.item)) ∙ ap length items_are
 
-    pub insert-view : (b : Branch K V) (new : List (Branch K V)) (offset : Option ℕ) (i : ℕ) → offset ≡ Some i → new ≡ insert bs i b → record { parent = parent; first = first; branches = map branch_pair new } ≡ record node { branches = insert_at offset node.branches (branch_pair b) }
+    pub insert-view : (b : Branch K V) (new : List (Branch K V)) (offset : Option ℕ) (i : ℕ) → offset ≡ Some i → new ≡ insert bs i b → internal parent first (map branch_pair new) ≡ with_item_at offset b.item (Some b.child) (internal_view node)
     insert-view b new offset i offset_is new_is =
-        let put = ap (map branch_pair) new_is ∙ map_insert branch_pair bs i b ∙ ap (λ l. insert l i (branch_pair b)) branches_are ∙ ap (λ o. insert_at o node.branches (branch_pair b)) (sym offset_is) in
-        λ j. record { parent = (ap (λ n. n.parent) is) j; first = (ap (λ n. n.first) is) j; branches = put j }
+        let put = ap (map branch_pair) new_is ∙ map_insert branch_pair bs i b ∙ ap (λ l. insert l i (branch_pair b)) branches_are in
+        let at_index : internal parent first (map branch_pair new) ≡ with_item_at (Some i) b.item (Some b.child) (internal_view node) = λ j. internal ((ap (λ n. n.parent) is) j) ((ap (λ n. n.first) is) j) (put j) in
+        at_index ∙ ap (λ o. with_item_at o b.item (Some b.child) (internal_view node)) (sym offset_is)
 
     pub there : (i : ℕ) (b : Branch K V) → slice_get bs i ≡ Some b → slice_get (items_of (internal_view node)) i ≡ Some b.item
     there i b at = ap (λ l. slice_get l i) (sym items_are) ∙ slice_get-map (λ c. c.item) bs i ∙ ap (option_map (λ c. c.item)) at

@@ -1,18 +1,16 @@
 //! An internal node of the tree.
-ghost use Rattle.std.specs.Prelude.{◌≡◌, ◌+◌, ◌<◌, ◌≤◌, ◌↔◌, ◌==◌, [], ◌∷◌, Ok, Err, Some, None, IsTrue, IsSomeAnd, IfSome, IfOk, MatchResult, OnErr, length, map, slice_get, position};
+ghost use Rattle.std.specs.Prelude.{◌≡◌, ◌+◌, ◌<◌, ◌≤◌, ◌↔◌, ◌==◌, [], ◌∷◌, Some, None, IsTrue, IsSomeAnd, IfSome, IfOk, OnErr, length, map, slice_get, position};
 ghost use Rattle.std.proofs.Common.{rules};
 ghost use Rattle.std.specs.Cmp.Rules.{comparing};
 ghost use Rattle.std.specs.Ordering.{on};
 ghost use Rattle.std.specs.List.Sorted.{IsSearchInRange};
-ghost use Rattle.std.specs.Option.{option_and_then, option_copied};
-ghost use Rattle.std.specs.Result.{result_map_both};
+ghost use Rattle.std.specs.Option.{option_copied};
 ghost use Rattle.btree_item.specs.Pairs.{Ascends, found, place_of};
 ghost use Rattle.btree_view.specs.Edits.{balance_of, IsOverflowing, IsUnderflowing};
-ghost use Rattle.btree_internal.specs.Internal.{branch_pair};
 ghost use Rattle.btree_view.specs.Kept.{kept_parent};
-ghost use Rattle.btree_view.specs.LookUp.{look_up, offset_in};
-ghost use Rattle.btree_internal.specs.Internal.{internal_view};
-ghost use Rattle.btree_view.specs.View.{items_of, children_of, size_of};
+ghost use Rattle.btree_view.specs.LookUp.{IsIndexOfKey, look_up, offset_in, PointsInto, result_map, result_map_err};
+ghost use Rattle.btree_internal.specs.Internal.{branch_pair, gap_with_child, internal_view as view_of, InternalPopsLeft, InternalPopsRight};
+ghost use Rattle.btree_view.specs.View.{items_of, children_of, internal, item_at_offset, size_of, value_at_offset};
 
 use btree_item::{Item, Keyed, Offset, Slots, search};
 use btree_view::{Balance, WouldUnderflow, offset_at};
@@ -135,7 +133,7 @@ impl<K: Drop, V: Drop> InternalNode<K, V> {
         median: Item<K, V>,
         right_id: usize,
     ) -> Self
-        ensures { result ≡ record { parent = kept_parent parent; first = left_id; branches = (median, right_id) ∷ [] } }
+        ensures { view_of result ≡ internal (kept_parent parent) left_id ((median, right_id) ∷ []) }
     {
         let mut branches = Slots::new();
         branches.push(Branch {
@@ -152,13 +150,13 @@ impl<K: Drop, V: Drop> InternalNode<K, V> {
 
 impl<K, V> InternalNode<K, V> {
     ghost use Rattle.std.specs.Borrow.{sem};
-    ghost use Rattle.std.specs.Option.{option_copied_mut, option_map};
+    ghost use Rattle.std.specs.Option.{option_copied_mut};
     ghost use Rattle.btree_internal.specs.InternalLends.{internal_lends_at, internal_lends_item};
 
     // The value at an index, to be written.
     fn value_at(&mut self, index: usize) -> Option<&mut V>
         ensures* writes_back { sem 𝓛 (internal_lends_at K.row V.row self.entry index result) }
-        ensures value { option_copied_mut result ≡ option_map (λ x. x.1) (slice_get (items_of (internal_view self.old)) index) }
+        ensures value { option_copied_mut result ≡ value_at_offset (view_of self.old) (Some index) }
     {
         match self.branches.get_mut(index) {
             Some(branch) => Some(branch.value_mut()),
@@ -194,7 +192,7 @@ impl<K, V> InternalNode<K, V> {
 
     /// One more than there are items.
     pub fn child_count(&self) -> usize
-        ensures value { result ≡ length (children_of (internal_view self.now)) }
+        ensures value { result ≡ length (children_of (view_of self.now)) }
         ensures fits { result ≤ 9 }
     {
         self.item_count() + 1
@@ -215,7 +213,7 @@ impl<K, V> InternalNode<K, V> {
 
     /// The first index of a child's number.
     pub fn child_index(&self, id: usize) -> Option<usize>
-        ensures value { result ≡ position (λ child. child == id) (children_of (internal_view self.now)) }
+        ensures value { result ≡ position (λ child. child == id) (children_of (view_of self.now)) }
         ensures within { IfSome result (λ index. index ≤ length self.now.branches) }
     {
         for index in 0..self.child_count() {
@@ -229,14 +227,14 @@ impl<K, V> InternalNode<K, V> {
     /// The number of the child at an index, for which `child_id_opt` is the test.
     pub fn child_id(&self, index: usize) -> usize
         requires { index ≤ length self.now.branches }
-        ensures { slice_get (children_of (internal_view self.now)) index ≡ Some result }
+        ensures { slice_get (children_of (view_of self.now)) index ≡ Some result }
     {
-        child_at(self.first, &self.branches, index)
+        child_id_among(self.first, &self.branches, index)
     }
 
     /// The number of the child at an index, and `None` past the last.
     pub fn child_id_opt(&self, index: usize) -> Option<usize>
-        ensures { result ≡ slice_get (children_of (internal_view self.now)) index }
+        ensures { result ≡ slice_get (children_of (view_of self.now)) index }
     {
         if index == 0 {
             return Some(self.first);
@@ -249,7 +247,7 @@ impl<K, V> InternalNode<K, V> {
 
     /// The item at an offset, and `None` at -1 and past the end.
     pub fn item(&self, offset: Offset) -> Option<&Item<K, V>>
-        ensures { option_copied result ≡ option_and_then (slice_get (items_of (internal_view self.now))) offset }
+        ensures { option_copied result ≡ item_at_offset (view_of self.now) offset }
     {
         match offset.value() {
             Some(index) => match self.branches.get(index) {
@@ -264,18 +262,18 @@ impl<K, V> InternalNode<K, V> {
     /// then up to the caller.
     pub fn item_mut(&mut self, offset: Offset) -> Option<&mut Item<K, V>>
         ensures* writes_back { sem 𝓛 (internal_lends_item K.row V.row self.entry offset result) }
-        ensures value { option_copied_mut result ≡ option_and_then (slice_get (items_of (internal_view self.old))) offset }
+        ensures value { option_copied_mut result ≡ item_at_offset (view_of self.old) offset }
     {
         match offset.value() {
-            Some(index) => self.item_at(index),
+            Some(index) => self.item_mut_at_index(index),
             None => None,
         }
     }
 
     // The item at an index, to be written.
-    fn item_at(&mut self, index: usize) -> Option<&mut Item<K, V>>
+    fn item_mut_at_index(&mut self, index: usize) -> Option<&mut Item<K, V>>
         ensures* writes_back { sem 𝓛 (internal_lends_item K.row V.row self.entry (Some index) result) }
-        ensures value { option_copied_mut result ≡ slice_get (items_of (internal_view self.old)) index }
+        ensures value { option_copied_mut result ≡ slice_get (items_of (view_of self.old)) index }
     {
         match self.branches.get_mut(index) {
             Some(branch) => Some(branch.item_mut()),
@@ -285,21 +283,21 @@ impl<K, V> InternalNode<K, V> {
 
     /// Whether there are too many items, too few, or neither. A root is judged like any other node.
     pub fn balance(&self) -> Balance
-        ensures { result ≡ balance_of (internal_view self.now) }
+        ensures { result ≡ balance_of (view_of self.now) }
     {
         Balance::of(self.item_count(), 7)
     }
 
     /// Whether there are more than seven items.
     pub fn is_overflowing(&self) -> bool
-        ensures { IsTrue result ↔ IsOverflowing (internal_view self.now) }
+        ensures { IsTrue result ↔ IsOverflowing (view_of self.now) }
     {
         self.item_count() > 7
     }
 
     /// Whether there are fewer than three items. A root is judged like any other node.
     pub fn is_underflowing(&self) -> bool
-        ensures { IsTrue result ↔ IsUnderflowing (internal_view self.now) }
+        ensures { IsTrue result ↔ IsUnderflowing (view_of self.now) }
     {
         self.item_count() < 3
     }
@@ -313,7 +311,7 @@ fn branch_at<K, V>(branches: &Slots<Branch<K, V>, 8>, index: usize) -> &Branch<K
 }
 
 // The number of the child at an index, where `first` is the one before all branches.
-fn child_at<K, V>(first: usize, branches: &Slots<Branch<K, V>, 8>, index: usize) -> usize
+fn child_id_among<K, V>(first: usize, branches: &Slots<Branch<K, V>, 8>, index: usize) -> usize
     requires { index ≤ length branches.now }
     ensures { slice_get (first ∷ map (λ b. b.child) branches.now) index ≡ Some result }
 {
@@ -330,8 +328,7 @@ fn place<K: Ord, V>(branches: &Slots<Branch<K, V>, 8>, key: &K) -> Result<usize,
     ensures place { result ≡ place_of K.cmp key.now (map (λ b. b.item) branches.now) }
     ensures within { IsSearchInRange result (length branches.now) }
     ensures fits { length branches.now ≤ 8 }
-    ensures here { IfOk result (λ index.
-        slice_get (map (λ b. b.item) branches.now) index ≡ found K.cmp key.now (map (λ b. b.item) branches.now)) }
+    ensures here { IfOk result (IsIndexOfKey K.cmp key.now (map (λ b. b.item) branches.now)) }
     ensures absent { OnErr result (found K.cmp key.now (map (λ b. b.item) branches.now) ≡ None) }
 {
     search(branches, key)
@@ -344,8 +341,8 @@ impl<K: Ord, V> InternalNode<K, V> {
     /// The value at a key, or the number of the child that may hold it, found with at most six
     /// comparisons.
     pub fn get(&self, key: &K) -> Result<&V, usize>
-        requires { Ascends K.cmp (items_of (internal_view self.now)) }
-        ensures { result_map_both (λ v. Some v.now) (λ id. id) result ≡ look_up K.cmp key.now (internal_view self.now) }
+        requires { Ascends K.cmp (items_of (view_of self.now)) }
+        ensures { result_map (λ v. Some v.now) result ≡ look_up K.cmp key.now (view_of self.now) }
     {
         match self.find(key) {
             Ok(index) => Ok(branch_at(&self.branches, index).item.value()),
@@ -355,14 +352,13 @@ impl<K: Ord, V> InternalNode<K, V> {
 
     // The place of a key among the items.
     fn find(&self, key: &K) -> Result<usize, usize>
-        requires { Ascends K.cmp (items_of (internal_view self.now)) }
-        ensures place { result ≡ place_of K.cmp key.now (items_of (internal_view self.now)) }
+        requires { Ascends K.cmp (items_of (view_of self.now)) }
+        ensures place { result ≡ place_of K.cmp key.now (items_of (view_of self.now)) }
         ensures within { IsSearchInRange result (length self.now.branches) }
-        ensures sized { size_of (internal_view self.now) ≡ length self.now.branches }
-        ensures here { IfOk result (λ index.
-            slice_get (items_of (internal_view self.now)) index ≡ found K.cmp key.now (items_of (internal_view self.now))) }
+        ensures sized { size_of (view_of self.now) ≡ length self.now.branches }
+        ensures here { IfOk result (IsIndexOfKey K.cmp key.now (items_of (view_of self.now))) }
         ensures fits { length self.now.branches ≤ 8 }
-        ensures absent { OnErr result (found K.cmp key.now (items_of (internal_view self.now)) ≡ None) }
+        ensures absent { OnErr result (found K.cmp key.now (items_of (view_of self.now)) ≡ None) }
     {
         place(&self.branches, key)
     }
@@ -370,9 +366,9 @@ impl<K: Ord, V> InternalNode<K, V> {
     /// The value at a key, to be written, or the number of the child that may hold it, found with at most
     /// six comparisons.
     pub fn get_mut(&mut self, key: &K) -> Result<&mut V, usize>
-        requires { Ascends K.cmp (items_of (internal_view self.old)) }
+        requires { Ascends K.cmp (items_of (view_of self.old)) }
         ensures* writes_back { sem 𝓛 (internal_lends K.row V.row K.cmp self.entry key.now result) }
-        ensures value { result_map_both (λ v. Some v.now) (λ id. id) result ≡ look_up K.cmp key.now (internal_view self.old) }
+        ensures value { result_map (λ v. Some v.now) result ≡ look_up K.cmp key.now (view_of self.old) }
     {
         match self.find(key) {
             Ok(index) => match self.value_at(index) {
@@ -386,11 +382,9 @@ impl<K: Ord, V> InternalNode<K, V> {
     /// The offset of a key where it is there, else the index and the number of the child that may hold
     /// it, found with at most six comparisons.
     pub fn offset_of(&self, key: &K) -> Result<Offset, (usize, usize)>
-        requires { Ascends K.cmp (items_of (internal_view self.now)) }
-        ensures value { result_map_both (λ offset. offset) (λ gap. (gap.0, Some gap.1)) result
-            ≡ offset_in K.cmp key.now (internal_view self.now) }
-        ensures within { MatchResult result (λ offset. IsSomeAnd offset (λ index. index < size_of (internal_view self.now)))
-            (λ gap. gap.0 ≤ size_of (internal_view self.now)) }
+        requires { Ascends K.cmp (items_of (view_of self.now)) }
+        ensures value { result_map_err gap_with_child result ≡ offset_in K.cmp key.now (view_of self.now) }
+        ensures within { PointsInto (view_of self.now) result }
     {
         match self.find(key) {
             Ok(index) => Ok(offset_at(index)),
@@ -400,15 +394,15 @@ impl<K: Ord, V> InternalNode<K, V> {
 }
 
 impl<K: Drop, V: Drop> InternalNode<K, V> {
-    ghost use Rattle.btree_view.specs.Edits.{HasSpare, HaveRoom, IsSplit, joined, pushed_left, pushed_right, with_other_item, without};
-    ghost use Rattle.btree_view.specs.Kept.{insert_at};
+    ghost use Rattle.btree_view.specs.Edits.{HasSpare, HaveRoom, IsSplit, joined, pushed_left, pushed_right, with_item_at, with_other_item_at, without};
+    ghost use Rattle.btree_view.specs.View.{child_after_offset, child_before_offset};
 
     /// Puts an item at an offset, with a child after it, and moves those from there on up. The order of
     /// the keys, and the child's own parent number, are up to the caller.
     pub fn insert(&mut self, offset: Offset, item: Item<K, V>, right_id: usize)
         requires room { length self.old.branches < 8 }
         requires within { IsSomeAnd offset (λ index. index ≤ length self.old.branches) }
-        ensures { self.new ≡ record self.old { branches = insert_at offset self.old.branches (item, right_id) } }
+        ensures { view_of self.new ≡ with_item_at offset item (Some right_id) (view_of self.old) }
     {
         self.branches.insert(
             offset.unwrap(),
@@ -423,12 +417,11 @@ impl<K: Drop, V: Drop> InternalNode<K, V> {
     /// of the keys is up to the caller.
     pub fn replace(&mut self, offset: Offset, item: Item<K, V>) -> Item<K, V>
         requires { IsSomeAnd offset (λ index. index < length self.old.branches) }
-        ensures answer { Some result ≡ option_and_then (slice_get (items_of (internal_view self.old))) offset }
-        ensures after { IfSome offset (λ index.
-            internal_view self.new ≡ with_other_item index item (internal_view self.old)) }
+        ensures answer { Some result ≡ item_at_offset (view_of self.old) offset }
+        ensures after { view_of self.new ≡ with_other_item_at offset item (view_of self.old) }
     {
         let index = offset.unwrap();
-        match self.item_at(index) {
+        match self.item_mut_at_index(index) {
             Some(here) => mem::replace(here, item),
             None => unreachable!(),
         }
@@ -438,11 +431,10 @@ impl<K: Drop, V: Drop> InternalNode<K, V> {
     /// the number of the child before the item, the item, and the number of the child after it.
     pub fn remove(&mut self, offset: Offset) -> (usize, Item<K, V>, usize)
         requires { IsSomeAnd offset (λ index. index < length self.old.branches) }
-        ensures left { Some result.0 ≡ option_and_then (slice_get (children_of (internal_view self.old))) offset }
-        ensures item { Some result.1 ≡ option_and_then (slice_get (items_of (internal_view self.old))) offset }
-        ensures right { IfSome offset (λ index.
-            slice_get (children_of (internal_view self.old)) (index + 1) ≡ Some result.2) }
-        ensures after { IfSome offset (λ index. internal_view self.new ≡ without index (internal_view self.old)) }
+        ensures left { Some result.0 ≡ child_before_offset (view_of self.old) offset }
+        ensures item { Some result.1 ≡ item_at_offset (view_of self.old) offset }
+        ensures right { Some result.2 ≡ child_after_offset (view_of self.old) offset }
+        ensures after { IfSome offset (λ index. view_of self.new ≡ without index (view_of self.old)) }
     {
         let index = offset.unwrap();
         let left = self.child_id(index);
@@ -456,11 +448,11 @@ impl<K: Drop, V: Drop> InternalNode<K, V> {
         requires next { right ≡ left + 1 }
         requires within { right ≤ length self.old.branches }
         ensures index { result.0 ≡ left }
-        ensures left { slice_get (children_of (internal_view self.old)) left ≡ Some result.1 }
-        ensures right { slice_get (children_of (internal_view self.old)) right ≡ Some result.2 }
-        ensures item { slice_get (items_of (internal_view self.old)) left ≡ Some result.3 }
-        ensures after { internal_view self.new ≡ without left (internal_view self.old) }
-        ensures balance { result.4 ≡ balance_of (internal_view self.new) }
+        ensures left { slice_get (children_of (view_of self.old)) left ≡ Some result.1 }
+        ensures right { slice_get (children_of (view_of self.old)) right ≡ Some result.2 }
+        ensures item { slice_get (items_of (view_of self.old)) left ≡ Some result.3 }
+        ensures after { view_of self.new ≡ without left (view_of self.old) }
+        ensures balance { result.4 ≡ balance_of (view_of self.new) }
     {
         let left_id = self.child_id(left);
         let right_id = self.child_id(right);
@@ -472,9 +464,9 @@ impl<K: Drop, V: Drop> InternalNode<K, V> {
     /// its own. Each moves once. Answers the separator's offset. The order of the keys, and the children's
     /// own parent numbers, are up to the caller.
     pub fn append(&mut self, separator: Item<K, V>, other: InternalNode<K, V>) -> Offset
-        requires { HaveRoom (internal_view self.old) (internal_view other) }
+        requires { HaveRoom (view_of self.old) (view_of other) }
         ensures offset { result ≡ Some (length self.old.branches) }
-        ensures after { internal_view self.new ≡ joined (internal_view self.old) separator (internal_view other) }
+        ensures after { view_of self.new ≡ joined (view_of self.old) separator (view_of other) }
     {
         let offset = offset_at(self.item_count());
         self.branches.push(Branch {
@@ -489,7 +481,7 @@ impl<K: Drop, V: Drop> InternalNode<K, V> {
     /// child's own parent number, are up to the caller.
     pub fn push_left(&mut self, item: Item<K, V>, child: usize)
         requires { length self.old.branches < 8 }
-        ensures { internal_view self.new ≡ pushed_left item (Some child) (internal_view self.old) }
+        ensures { view_of self.new ≡ pushed_left item (Some child) (view_of self.old) }
     {
         let second = self.first;
         self.branches.insert(
@@ -507,7 +499,7 @@ impl<K: Drop, V: Drop> InternalNode<K, V> {
     pub fn push_right(&mut self, item: Item<K, V>, child: usize) -> Offset
         requires { length self.old.branches < 8 }
         ensures offset { result ≡ Some (length self.old.branches) }
-        ensures after { internal_view self.new ≡ pushed_right item (Some child) (internal_view self.old) }
+        ensures after { view_of self.new ≡ pushed_right item (Some child) (view_of self.old) }
     {
         let offset = offset_at(self.item_count());
         self.branches.push(Branch { item, child });
@@ -516,17 +508,16 @@ impl<K: Drop, V: Drop> InternalNode<K, V> {
 
     // Whether there are more items than it has to keep.
     fn has_spare(&self) -> bool
-        ensures { IsTrue result ↔ HasSpare (internal_view self.now) }
+        ensures { IsTrue result ↔ HasSpare (view_of self.now) }
     {
         self.item_count() > 3
     }
 
     /// Takes the first item out with the first child, where there are four items or more.
     pub fn pop_left(&mut self) -> Result<(Item<K, V>, usize), WouldUnderflow>
-        ensures spare { IfOk result (λ _. HasSpare (internal_view self.old)) }
-        ensures taken { IfOk result (λ popped.
-            internal_view self.old ≡ pushed_left popped.0 (Some popped.1) (internal_view self.new)) }
-        ensures short { OnErr result (size_of (internal_view self.old) ≤ 3 × self.new ≡ self.old) }
+        ensures spare { IfOk result (λ _. HasSpare (view_of self.old)) }
+        ensures taken { IfOk result (InternalPopsLeft self.old self.new) }
+        ensures short { OnErr result (size_of (view_of self.old) ≤ 3 × self.new ≡ self.old) }
     {
         if !self.has_spare() {
             return Err(WouldUnderflow);
@@ -540,11 +531,10 @@ impl<K: Drop, V: Drop> InternalNode<K, V> {
     /// Takes the last item out with the last child, where there are four items or more, and answers the
     /// offset at which the item stood too.
     pub fn pop_right(&mut self) -> Result<(Offset, Item<K, V>, usize), WouldUnderflow>
-        ensures spare { IfOk result (λ _. HasSpare (internal_view self.old)) }
+        ensures spare { IfOk result (λ _. HasSpare (view_of self.old)) }
         ensures offset { IfOk result (λ popped. popped.0 ≡ Some (length self.new.branches)) }
-        ensures taken { IfOk result (λ popped.
-            internal_view self.old ≡ pushed_right popped.1 (Some popped.2) (internal_view self.new)) }
-        ensures short { OnErr result (size_of (internal_view self.old) ≤ 3 × self.new ≡ self.old) }
+        ensures taken { IfOk result (InternalPopsRight self.old self.new) }
+        ensures short { OnErr result (size_of (view_of self.old) ≤ 3 × self.new ≡ self.old) }
     {
         if !self.has_spare() {
             return Err(WouldUnderflow);
@@ -557,8 +547,8 @@ impl<K: Drop, V: Drop> InternalNode<K, V> {
     /// items after it, which begins with the child after the median and is under the same parent. The
     /// children's own parent numbers are up to the caller.
     pub fn split(&mut self) -> (usize, Item<K, V>, InternalNode<K, V>)
-        requires { IsOverflowing (internal_view self.old) }
-        ensures parts { IsSplit (internal_view self.old) result.1 (internal_view self.new) (internal_view result.2) }
+        requires { IsOverflowing (view_of self.old) }
+        ensures parts { IsSplit (view_of self.old) result.1 (view_of self.new) (view_of result.2) }
         ensures left { result.0 ≡ 3 }
         ensures right { length result.2.branches ≡ 4 }
     {

@@ -88,8 +88,7 @@ pub fn binary_search_min<T: Keyed, const N: usize>(
 where
     T::Key: Ord,
     requires { IsSorted T.Key.cmp (map T.key_of slots.now) }
-    ensures last { IfSome result (λ index.
-        IsLastAtMost T.Key.cmp key.now index (map T.key_of slots.now)) }
+    ensures last { IfSome result (λ i. IsLastAtMost T.Key.cmp key.now i (map T.key_of slots.now)) }
     ensures none { IfNone result (AllAbove T.Key.cmp key.now 0 (map T.key_of slots.now)) }
 {
     let mut low = 0;

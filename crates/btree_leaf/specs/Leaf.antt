@@ -1,6 +1,7 @@
 -- A leaf as a clause sees it.
-use Rattle.std.specs.Prelude.{ℕ, List, Option, Some, Result, Ok, Err}
+use Rattle.std.specs.Prelude.{ℕ, List, Option, Some, None, Result, Ok, Err}
 use Rattle.btree_item.specs.declared.item.Item.{Item}
+use Rattle.btree_view.specs.Edits.{PopsRight}
 use Rattle.btree_view.specs.View.{View, leaf}
 
 -- the number of the parent, if there is one, and the pairs of keys and values, in order
@@ -11,6 +12,10 @@ pub record Leaf (K V : Type 0) : Type 0 where
 -- what the tree sees of a leaf
 abbrev pub leaf_view : {K V : Type 0} → Leaf K V → View (K × V)
 leaf_view l = leaf l.parent l.items
+
+-- this item stood behind those of the rest
+abbrev pub LeafPopsRight : {K V : Type 0} → Leaf K V → Leaf K V → Option ℕ × Item K V → Type 0
+LeafPopsRight node rest popped = PopsRight (leaf_view node) (leaf_view rest) (popped.0, popped.1, None)
 
 -- a place as an offset
 abbrev pub as_offset : Result ℕ ℕ → Result (Option ℕ) (Option ℕ)

@@ -10,8 +10,8 @@ use Rattle.btree_leaf.specs.contracts.leaf.LeafNode.{the_row}
 
 module _ (K V : RattleType) (cmp : K.Denot → K.Denot → Ordering) (leaf : MutBor (Leaf K.Denot V.Denot)) where
   -- once the borrow r ends, the value at the key is the last one behind r, and at `None` nothing changes
-  abbrev pub lends_value : K.Denot → Option (MutBor V.Denot) → Fml
-  lends_value key r = LendsIf (the_row K V) V leaf r (λ w. record leaf.now { items = with_value cmp key w leaf.now.items }) leaf.now
+  abbrev pub leaf_lends_value : K.Denot → Option (MutBor V.Denot) → Fml
+  leaf_lends_value key r = LendsIf (the_row K V) V leaf r (λ w. record leaf.now { items = with_value cmp key w leaf.now.items }) leaf.now
 
 -- with w as the value at a key equal to k, if there is one
 unfoldable pub leaf_with_value : {K V : Type 0} → (K → K → Ordering) → K → Leaf K V → V → Leaf K V

@@ -4,8 +4,9 @@ ghost use Rattle.std.specs.Borrow.{sem};
 ghost use Rattle.std.specs.List.Sorted.{IsSearchInRange};
 ghost use Rattle.std.specs.Option.{option_and_then, option_copied, option_copied_mut};
 ghost use Rattle.btree_item.specs.Pairs.{Ascends, before, found, found_value, inserted, place_of};
-ghost use Rattle.btree_leaf.specs.Leaf.{as_offset};
+ghost use Rattle.btree_leaf.specs.Leaf.{as_offset, leaf_view as view_of, LeafPopsRight};
 ghost use Rattle.btree_view.specs.Kept.{insert_at, kept_parent};
+ghost use Rattle.btree_view.specs.LookUp.{IsIndexOfKey};
 
 use btree_item::{Item, Offset, Slots, SlotsIter, search};
 use btree_view::{Balance, WouldUnderflow, offset_at};
@@ -94,13 +95,13 @@ impl<K, V> LeafNode<K, V> {
         ensures value { option_copied_mut result ≡ option_and_then (slice_get self.old.items) offset }
     {
         match offset.value() {
-            Some(index) => self.item_at(index),
+            Some(index) => self.item_mut_at_index(index),
             None => None,
         }
     }
 
     // The item at an index, to be written.
-    fn item_at(&mut self, index: usize) -> Option<&mut Item<K, V>>
+    fn item_mut_at_index(&mut self, index: usize) -> Option<&mut Item<K, V>>
         ensures* writes_back { sem 𝓛 (leaf_lends_item K.row V.row self.entry (Some index) result) }
         ensures value { option_copied_mut result ≡ slice_get self.old.items index }
     {
@@ -117,25 +118,24 @@ impl<K, V> LeafNode<K, V> {
 
 impl<K, V> LeafNode<K, V> {
     ghost use Rattle.btree_view.specs.Edits.{balance_of, IsOverflowing, IsUnderflowing};
-    ghost use Rattle.btree_leaf.specs.Leaf.{leaf_view};
 
     /// Whether there are too many items, too few, or neither. A root is judged like any other node.
     pub fn balance(&self) -> Balance
-        ensures { result ≡ balance_of (leaf_view self.now) }
+        ensures { result ≡ balance_of (view_of self.now) }
     {
         Balance::of(self.item_count(), 8)
     }
 
     /// Whether there are more than eight items.
     pub fn is_overflowing(&self) -> bool
-        ensures { IsTrue result ↔ IsOverflowing (leaf_view self.now) }
+        ensures { IsTrue result ↔ IsOverflowing (view_of self.now) }
     {
         self.item_count() > 8
     }
 
     /// Whether there are fewer than three items. A root is judged like any other node.
     pub fn is_underflowing(&self) -> bool
-        ensures { IsTrue result ↔ IsUnderflowing (leaf_view self.now) }
+        ensures { IsTrue result ↔ IsUnderflowing (view_of self.now) }
     {
         self.item_count() < 3
     }
@@ -154,15 +154,14 @@ fn place<K: Ord, V>(items: &Slots<Item<K, V>, 9>, key: &K) -> Result<usize, usiz
     ensures place { result ≡ place_of K.cmp key.now items.now }
     ensures within { IsSearchInRange result (length items.now) }
     ensures fits { length items.now ≤ 9 }
-    ensures here { IfOk result (λ index.
-        slice_get items.now index ≡ found K.cmp key.now items.now) }
+    ensures here { IfOk result (IsIndexOfKey K.cmp key.now items.now) }
     ensures absent { OnErr result (found K.cmp key.now items.now ≡ None) }
 {
     search(items, key)
 }
 
 impl<K: Ord, V> LeafNode<K, V> {
-    ghost use Rattle.btree_leaf.specs.LeafLends.{lends_value};
+    ghost use Rattle.btree_leaf.specs.LeafLends.{leaf_lends_value};
 
     /// The value at a key, found with at most six comparisons.
     pub fn get(&self, key: &K) -> Option<&V>
@@ -181,7 +180,7 @@ impl<K: Ord, V> LeafNode<K, V> {
     /// The value at a key, to be written, found with at most six comparisons.
     pub fn get_mut(&mut self, key: &K) -> Option<&mut V>
         requires { Ascends K.cmp self.old.items }
-        ensures* writes_back { sem 𝓛 (lends_value K.row V.row K.cmp self.entry key.now result) }
+        ensures* writes_back { sem 𝓛 (leaf_lends_value K.row V.row K.cmp self.entry key.now result) }
         ensures value { option_copied_mut result ≡ found_value K.cmp key.now self.old.items }
     {
         match place(&self.items, key) {
@@ -243,7 +242,6 @@ impl<K: Ord + Drop, V: Drop> LeafNode<K, V> {
 
 impl<K: Drop, V: Drop> LeafNode<K, V> {
     ghost use Rattle.btree_view.specs.Edits.{HasSpare, HaveRoom, IsOverflowing, IsSplit, joined, pushed_left, pushed_right, without};
-    ghost use Rattle.btree_leaf.specs.Leaf.{leaf_view};
 
     /// Puts an item at an offset, and moves those from there on up. The order of the keys is up to
     /// the caller.
@@ -259,7 +257,7 @@ impl<K: Drop, V: Drop> LeafNode<K, V> {
     pub fn remove(&mut self, offset: Offset) -> Item<K, V>
         requires { IsSomeAnd offset (λ index. index < length self.old.items) }
         ensures answer { Some result ≡ option_and_then (slice_get self.old.items) offset }
-        ensures after { IfSome offset (λ index. leaf_view self.new ≡ without index (leaf_view self.old)) }
+        ensures after { IfSome offset (λ index. view_of self.new ≡ without index (view_of self.old)) }
     {
         self.items.remove(offset.unwrap())
     }
@@ -267,9 +265,9 @@ impl<K: Drop, V: Drop> LeafNode<K, V> {
     /// Puts the separator and then the other leaf's items behind its own. Each moves once. Answers the
     /// separator's offset. The order of the keys is up to the caller.
     pub fn append(&mut self, separator: Item<K, V>, other: LeafNode<K, V>) -> Offset
-        requires { HaveRoom (leaf_view self.old) (leaf_view other) }
+        requires { HaveRoom (view_of self.old) (view_of other) }
         ensures offset { result ≡ Some (length self.old.items) }
-        ensures after { leaf_view self.new ≡ joined (leaf_view self.old) separator (leaf_view other) }
+        ensures after { view_of self.new ≡ joined (view_of self.old) separator (view_of other) }
     {
         let offset = offset_at(self.items.len());
         self.items.push(separator);
@@ -280,7 +278,7 @@ impl<K: Drop, V: Drop> LeafNode<K, V> {
     /// Puts an item before the others. The order of the keys is up to the caller.
     pub fn push_left(&mut self, item: Item<K, V>)
         requires { length self.old.items < 9 }
-        ensures { leaf_view self.new ≡ pushed_left item None (leaf_view self.old) }
+        ensures { view_of self.new ≡ pushed_left item None (view_of self.old) }
     {
         self.items.insert(0, item);
     }
@@ -289,7 +287,7 @@ impl<K: Drop, V: Drop> LeafNode<K, V> {
     pub fn push_right(&mut self, item: Item<K, V>) -> Offset
         requires { length self.old.items < 9 }
         ensures offset { result ≡ Some (length self.old.items) }
-        ensures after { leaf_view self.new ≡ pushed_right item None (leaf_view self.old) }
+        ensures after { view_of self.new ≡ pushed_right item None (view_of self.old) }
     {
         let offset = offset_at(self.items.len());
         self.items.push(item);
@@ -298,15 +296,15 @@ impl<K: Drop, V: Drop> LeafNode<K, V> {
 
     // Whether there are more items than it has to keep.
     fn has_spare(&self) -> bool
-        ensures { IsTrue result ↔ HasSpare (leaf_view self.now) }
+        ensures { IsTrue result ↔ HasSpare (view_of self.now) }
     {
         self.item_count() > 3
     }
 
     /// Takes the first item out, of four or more.
     pub fn pop_left(&mut self) -> Result<Item<K, V>, WouldUnderflow>
-        ensures spare { IfOk result (λ _. HasSpare (leaf_view self.old)) }
-        ensures taken { IfOk result (λ item. leaf_view self.old ≡ pushed_left item None (leaf_view self.new)) }
+        ensures spare { IfOk result (λ _. HasSpare (view_of self.old)) }
+        ensures taken { IfOk result (λ item. view_of self.old ≡ pushed_left item None (view_of self.new)) }
         ensures short { OnErr result (length self.old.items ≤ 3 × self.new ≡ self.old) }
     {
         if !self.has_spare() {
@@ -317,9 +315,9 @@ impl<K: Drop, V: Drop> LeafNode<K, V> {
 
     /// Takes the last item out, of four or more, and answers the offset at which it stood.
     pub fn pop_right(&mut self) -> Result<(Offset, Item<K, V>), WouldUnderflow>
-        ensures spare { IfOk result (λ _. HasSpare (leaf_view self.old)) }
+        ensures spare { IfOk result (λ _. HasSpare (view_of self.old)) }
         ensures offset { IfOk result (λ popped. popped.0 ≡ Some (length self.new.items)) }
-        ensures taken { IfOk result (λ popped. leaf_view self.old ≡ pushed_right popped.1 None (leaf_view self.new)) }
+        ensures taken { IfOk result (LeafPopsRight self.old self.new) }
         ensures short { OnErr result (length self.old.items ≤ 3 × self.new ≡ self.old) }
     {
         if !self.has_spare() {
@@ -332,8 +330,8 @@ impl<K: Drop, V: Drop> LeafNode<K, V> {
     /// Keeps the first four items of nine. Answers how many are left, the median, and a leaf with the
     /// items after it, under the same parent.
     pub fn split(&mut self) -> (usize, Item<K, V>, LeafNode<K, V>)
-        requires { IsOverflowing (leaf_view self.old) }
-        ensures parts { IsSplit (leaf_view self.old) result.1 (leaf_view self.new) (leaf_view result.2) }
+        requires { IsOverflowing (view_of self.old) }
+        ensures parts { IsSplit (view_of self.old) result.1 (view_of self.new) (view_of result.2) }
         ensures left { result.0 ≡ 4 }
         ensures right { length result.2.items ≡ 4 }
     {

@@ -3,16 +3,13 @@ use mathlib.Core.Option as maybe
 use Rattle.std.proofs.Common.{◌≡◌, ℕ, List, Option, Some, None, set, map, length, ◌∷◌, refl, ap, sym, ◌∙◌}
 use Rattle.std.proofs.lemmas.List.{length-map, length-set}
 use Rattle.std.proofs.lemmas.Slice.Zip.{firsts-zip, seconds-zip}
-use Rattle.std.specs.Prelude.{IfSome}
 use Rattle.btree_node.specs.declared.node.Node.{Node}
 use Rattle.btree_node.specs.declared.node.Node.TheVariants.{Leaf as OfLeaf, Internal as OfInternal}
-use Rattle.btree_view.specs.Edits.{is_internal, with_item, with_items}
-use Rattle.btree_internal.specs.Internal.{Internal}
+use Rattle.btree_view.specs.Edits.{is_internal, with_item_at, with_items}
 use Rattle.btree_leaf.specs.Leaf.{Leaf}
 use Rattle.btree_view.specs.Kept.{insert_at}
 use Rattle.btree_leaf.specs.LeafLends.{leaf_with_item_at}
 use Rattle.btree_leaf.specs.Leaf.{leaf_view}
-use Rattle.btree_internal.specs.Internal.{internal_view}
 use Rattle.btree_node.specs.Node.{view_of}
 use Rattle.btree_internal.specs.InternalLends.{internal_with_item_at}
 use Rattle.btree_node.specs.NodeLends.{node_with_item_at}
@@ -24,12 +21,8 @@ put_when make maybe.none x y = x
 put_when make (maybe.some v) x y = make y v
 
 module _ {K V : Type 0} where
-  pub with_item-internal : (node : Internal K V) (offset : Option ℕ) (item : K × V) (id : ℕ) (new : Internal K V) → new ≡ record node { branches = insert_at offset node.branches (item, id) } → IfSome offset (λ index. internal_view new ≡ with_item index item (Some id) (internal_view node))
-  with_item-internal node None item id new is = tt
-  with_item-internal node (Some i) item id new is = ap internal_view is
-
-  pub with_item-leaf : (node : Leaf K V) (offset : Option ℕ) (item : K × V) (child : Option ℕ) (new : Leaf K V) → new ≡ record node { items = insert_at offset node.items item } → IfSome offset (λ index. leaf_view new ≡ with_item index item child (leaf_view node))
-  with_item-leaf node None item child new is = tt
+  pub with_item-leaf : (node : Leaf K V) (offset : Option ℕ) (item : K × V) (child : Option ℕ) (new : Leaf K V) → new ≡ record node { items = insert_at offset node.items item } → leaf_view new ≡ with_item_at offset item child (leaf_view node)
+  with_item-leaf node None item child new is = ap leaf_view is
   with_item-leaf node (Some i) item child new is = ap leaf_view is
 
   pub item_at-view : (node : Node K V) (i : ℕ) (x : K × V) → view_of (node_with_item_at (Some i) node x) ≡ with_items (set (items_of (view_of node)) i x) (view_of node)

@@ -3,9 +3,8 @@ use Rattle.std.proofs.Common.{◌≡◌, ◌≤◌, IsTrue, leb, ℕ, zero, suc,
 use Rattle.std.proofs.lemmas.Bool.Decides.{nat_tests}
 use Rattle.std.proofs.lemmas.List.{drop_more}
 use Rattle.std.proofs.lemmas.Option.{slice_get_within, get_or_from_slice_get, slice_get-map}
-use Rattle.std.specs.Borrow.{Bor}
-use Rattle.std.specs.Prelude.{slice_get, MatchOption, OnSome}
-use Rattle.std.specs.Option.{option_copied, option_map}
+use Rattle.std.specs.Prelude.{slice_get, OnSome}
+use Rattle.std.specs.Option.{option_map}
 use Rattle.btree_item.specs.declared.item.Item.{Item}
 use Rattle.btree_internal.specs.declared.internal.Branch.{Branch}
 use Rattle.btree_internal.specs.Internal.{branch_pair}
@@ -24,11 +23,6 @@ drop-none [] zero none = refl
 drop-none [] (suc i) none = refl
 drop-none (x ∷ xs) zero none = absurd (cc)
 drop-none (x ∷ xs) (suc i) none = drop-none xs i none
-
--- what a reference that may be there points to
-pub of-copied : {X : Type 0} (r : Option (Bor X)) (o : Option X) → option_copied r ≡ o → MatchOption r (o ≡ None) (λ x. o ≡ Some x.now)
-of-copied None o is = sym is
-of-copied (Some x) o is = sym is
 
 pub on-some : {X : Type 0} (r : Option X) (P : Type 0) → P → OnSome r P
 on-some None P p = tt

@@ -1,13 +1,12 @@
 //! A node of the tree.
-ghost use Rattle.std.specs.Prelude.{◌≡◌, ◌<◌, ◌≤◌, ◌↔◌, ◌==◌, Some, None, IsTrue, IsSomeAnd, IfSome, OnSome, MatchOption, MatchResult, length, slice_get, position};
-ghost use Rattle.std.specs.Option.{option_and_then, option_copied};
-ghost use Rattle.std.specs.Result.{result_map_both};
+ghost use Rattle.std.specs.Prelude.{◌≡◌, ◌<◌, ◌≤◌, ◌↔◌, ◌==◌, Some, None, IsTrue, IsSomeAnd, IfSome, OnSome, length, slice_get, position};
+ghost use Rattle.std.specs.Option.{option_copied};
 ghost use Rattle.btree_item.specs.Pairs.{Ascends};
-ghost use Rattle.btree_view.specs.Edits.{balance_of, HasChildFor, IsOverflowing, IsSplit, IsUnderflowing, with_item, with_parent};
+ghost use Rattle.btree_view.specs.Edits.{balance_of, HasChildFor, IsOverflowing, IsSplit, IsUnderflowing, with_parent};
 ghost use Rattle.btree_view.specs.Kept.{kept_parent};
-ghost use Rattle.btree_view.specs.LookUp.{look_up, offset_in};
-ghost use Rattle.btree_node.specs.Node.{view_of};
-ghost use Rattle.btree_view.specs.View.{parent_of, items_of, children_of, size_of, most_of};
+ghost use Rattle.btree_view.specs.LookUp.{look_up, offset_in, PointsInto, result_map};
+ghost use Rattle.btree_node.specs.Node.{branch_copied, view_of};
+ghost use Rattle.btree_view.specs.View.{BeginsAt, parent_of, items_of, children_of, item_at_offset, size_of, most_of};
 
 use btree_internal::InternalNode;
 use btree_item::{Item, Offset};
@@ -26,10 +25,8 @@ pub enum Node<K, V> {
 }
 
 impl<K, V> Node<K, V> {
-    ghost use Rattle.std.specs.Prelude.{[], ◌∷◌, ◌+◌, drop};
     ghost use Rattle.std.specs.Borrow.{sem};
     ghost use Rattle.std.specs.Option.{option_copied_mut};
-    ghost use Rattle.btree_view.specs.View.{branches_of};
     ghost use Rattle.btree_node.specs.NodeLends.{node_lends_item};
 
     /// The number of the parent, if there is one.
@@ -95,7 +92,7 @@ impl<K, V> Node<K, V> {
 
     /// The item at an offset, and `None` at -1 and past the end.
     pub fn item(&self, offset: Offset) -> Option<&Item<K, V>>
-        ensures { option_copied result ≡ option_and_then (slice_get (items_of (view_of self.now))) offset }
+        ensures { option_copied result ≡ item_at_offset (view_of self.now) offset }
     {
         match self {
             Node::Internal(node) => node.item(offset),
@@ -107,7 +104,7 @@ impl<K, V> Node<K, V> {
     /// then up to the caller.
     pub fn item_mut(&mut self, offset: Offset) -> Option<&mut Item<K, V>>
         ensures* writes_back { sem 𝓛 (node_lends_item K.row V.row self.entry offset result) }
-        ensures value { option_copied_mut result ≡ option_and_then (slice_get (items_of (view_of self.old))) offset }
+        ensures value { option_copied_mut result ≡ item_at_offset (view_of self.old) offset }
     {
         match self {
             Node::Internal(node) => node.item_mut(offset),
@@ -118,8 +115,7 @@ impl<K, V> Node<K, V> {
     /// The item at an index, and `None` past the last.
     pub fn item_at_index(&self, index: usize) -> Option<&Item<K, V>>
         ensures fits { OnSome result (index < 9) }
-        ensures item { MatchOption result (slice_get (items_of (view_of self.now)) index ≡ None)
-            (λ item. slice_get (items_of (view_of self.now)) index ≡ Some item.now) }
+        ensures item { slice_get (items_of (view_of self.now)) index ≡ option_copied result }
     {
         if index >= self.item_count() {
             return None;
@@ -131,9 +127,7 @@ impl<K, V> Node<K, V> {
     /// last. A leaf has none.
     pub fn branch_at_index(&self, index: usize) -> Option<(&Item<K, V>, usize)>
         ensures fits { OnSome result (index < 9) }
-        ensures first { MatchOption result (drop index (branches_of (view_of self.now)) ≡ [])
-            (λ branch. drop index (branches_of (view_of self.now))
-            ≡ (branch.0.now, branch.1) ∷ drop (index + 1) (branches_of (view_of self.now))) }
+        ensures first { BeginsAt (view_of self.now) index (branch_copied result) }
     {
         let Node::Internal(node) = self else {
             return None;
@@ -205,7 +199,7 @@ impl<K, V> Node<K, V> {
 impl<K: Drop, V: Drop> Node<K, V> {
     ghost use Rattle.std.specs.Prelude.{[], ◌∷◌, ◌+◌, IfOk, OnErr};
     ghost use Rattle.btree_view.specs.View.{leaf, internal};
-    ghost use Rattle.btree_view.specs.Edits.{HasSpare, HaveRoom, is_internal, joined, pushed_left, pushed_right, with_other_item, without};
+    ghost use Rattle.btree_view.specs.Edits.{HasSpare, HaveRoom, is_internal, joined, PopsLeft, PopsRight, pushed_left, pushed_right, with_item_at, with_other_item_at, without};
 
     /// A leaf with one item. `Some(usize::MAX)` as the parent is read as none.
     pub fn leaf(parent: Option<usize>, item: Item<K, V>) -> Self
@@ -233,7 +227,7 @@ impl<K: Drop, V: Drop> Node<K, V> {
         requires room { size_of (view_of self.old) ≤ most_of (view_of self.old) }
         requires within { IsSomeAnd offset (λ index. index ≤ size_of (view_of self.old)) }
         requires child { HasChildFor opt_right (view_of self.old) }
-        ensures { IfSome offset (λ index. view_of self.new ≡ with_item index item opt_right (view_of self.old)) }
+        ensures { view_of self.new ≡ with_item_at offset item opt_right (view_of self.old) }
     {
         match self {
             Node::Internal(node) => match opt_right {
@@ -249,8 +243,8 @@ impl<K: Drop, V: Drop> Node<K, V> {
     pub fn replace(&mut self, offset: Offset, item: Item<K, V>) -> Item<K, V>
         requires kind { IsTrue (is_internal (view_of self.old)) }
         requires occupied { IsSomeAnd offset (λ index. index < size_of (view_of self.old)) }
-        ensures answer { Some result ≡ option_and_then (slice_get (items_of (view_of self.old))) offset }
-        ensures after { IfSome offset (λ index. view_of self.new ≡ with_other_item index item (view_of self.old)) }
+        ensures answer { Some result ≡ item_at_offset (view_of self.old) offset }
+        ensures after { view_of self.new ≡ with_other_item_at offset item (view_of self.old) }
     {
         match self {
             Node::Internal(node) => node.replace(offset, item),
@@ -336,7 +330,7 @@ impl<K: Drop, V: Drop> Node<K, V> {
     pub fn pop_left(&mut self) -> Result<(Item<K, V>, Option<usize>), WouldUnderflow>
         ensures spare { IfOk result (λ _. HasSpare (view_of self.old)) }
         ensures child { IfOk result (λ popped. HasChildFor popped.1 (view_of self.old)) }
-        ensures taken { IfOk result (λ popped. view_of self.old ≡ pushed_left popped.0 popped.1 (view_of self.new)) }
+        ensures taken { IfOk result (PopsLeft (view_of self.old) (view_of self.new)) }
         ensures short { OnErr result (size_of (view_of self.old) ≤ 3 × self.new ≡ self.old) }
     {
         match self {
@@ -357,7 +351,7 @@ impl<K: Drop, V: Drop> Node<K, V> {
         ensures spare { IfOk result (λ _. HasSpare (view_of self.old)) }
         ensures offset { IfOk result (λ popped. popped.0 ≡ Some (size_of (view_of self.new))) }
         ensures child { IfOk result (λ popped. HasChildFor popped.2 (view_of self.old)) }
-        ensures taken { IfOk result (λ popped. view_of self.old ≡ pushed_right popped.1 popped.2 (view_of self.new)) }
+        ensures taken { IfOk result (PopsRight (view_of self.old) (view_of self.new)) }
         ensures short { OnErr result (size_of (view_of self.old) ≤ 3 × self.new ≡ self.old) }
     {
         match self {
@@ -404,7 +398,7 @@ impl<K: Ord, V> Node<K, V> {
     /// it, found with at most six comparisons.
     pub fn get(&self, key: &K) -> Result<Option<&V>, usize>
         requires { Ascends K.cmp (items_of (view_of self.now)) }
-        ensures { result_map_both option_copied (λ id. id) result ≡ look_up K.cmp key.now (view_of self.now) }
+        ensures { result_map option_copied result ≡ look_up K.cmp key.now (view_of self.now) }
     {
         match self {
             Node::Internal(node) => match node.get(key) {
@@ -420,7 +414,7 @@ impl<K: Ord, V> Node<K, V> {
     /// caller that has to know it takes `find_mut`.
     pub fn get_mut(&mut self, key: &K) -> Result<Option<&mut V>, usize>
         requires { Ascends K.cmp (items_of (view_of self.old)) }
-        ensures { result_map_both option_copied_mut (λ id. id) result ≡ look_up K.cmp key.now (view_of self.old) }
+        ensures { result_map option_copied_mut result ≡ look_up K.cmp key.now (view_of self.old) }
     {
         match self.find_mut(key) {
             Ok(value) => Ok(Some(value)),
@@ -434,7 +428,7 @@ impl<K: Ord, V> Node<K, V> {
     pub fn find_mut(&mut self, key: &K) -> Result<&mut V, Option<usize>>
         requires { Ascends K.cmp (items_of (view_of self.old)) }
         ensures* writes_back { sem 𝓛 (node_lends K.row V.row K.cmp self.entry key.now result) }
-        ensures value { result_map_both (λ v. v.now) (λ id. id) result ≡ find_in K.cmp key.now (view_of self.old) }
+        ensures value { result_map (λ v. v.now) result ≡ find_in K.cmp key.now (view_of self.old) }
     {
         match self {
             Node::Internal(node) => match node.get_mut(key) {
@@ -454,8 +448,7 @@ impl<K: Ord, V> Node<K, V> {
     pub fn offset_of(&self, key: &K) -> Result<Offset, (usize, Option<usize>)>
         requires { Ascends K.cmp (items_of (view_of self.now)) }
         ensures value { result ≡ offset_in K.cmp key.now (view_of self.now) }
-        ensures within { MatchResult result (λ offset. IsSomeAnd offset (λ index. index < size_of (view_of self.now)))
-            (λ gap. gap.0 ≤ size_of (view_of self.now)) }
+        ensures within { PointsInto (view_of self.now) result }
     {
         match self {
             Node::Internal(node) => match node.offset_of(key) {

@@ -7,9 +7,10 @@
 ghost use Rattle.std.specs.Prelude.{◌≡◌, ℕ, ◌+◌, ◌<◌, Some, None, IsSome, IfOk, IfErr, OnOk, OnErr, OnSome, option_copied};
 ghost use Rattle.std.specs.Option.{option_copied_mut};
 ghost use Rattle.std.specs.FinMap as map;
-ghost use Rattle.std.specs.Borrow.{LendsIf, sem};
+ghost use Rattle.std.specs.Borrow.{sem};
 ghost use Rattle.std.specs.Mem.{FitsInMemory};
-ghost use Rattle.btree_store.specs.Content.{Content};
+ghost use Rattle.btree_store.specs.Content.{Content, Gains};
+ghost use Rattle.btree_nodes.specs.Lends.{lends_node};
 ghost use Rattle.btree_node.specs.declared.node.Node.{Node};
 ghost use Rattle.btree_node.specs.contracts.node.Node.{the_row as node_row};
 
@@ -70,16 +71,14 @@ pub trait NodesMut<K, V>: Nodes<K, V> + Sized {
 
     /// The node under `id` for writing, if that number is used.
     fn get_mut(&mut self, id: usize) -> Option<&mut Node<K, V>>
-        ensures* writes_back { sem 𝓛
-            (LendsIf Self.row (node_row K.row V.row) self.entry result (written self.old id) self.old) }
+        ensures* writes_back { sem 𝓛 (lends_node Self.row K.row V.row written self.entry id result) }
         ensures value { option_copied_mut result ≡ map.get (Self.content self.old) id };
 
     /// Stores a node under a number that was not used, or hands it back.
     fn insert(&mut self, node: Node<K, V>) -> Result<usize, Node<K, V>>
         ensures number { IfOk result (λ id. id < usize.MAX) }
         ensures unused { IfOk result (λ id. map.get (Self.content self.old) id ≡ None) }
-        ensures stored { IfOk result (λ id.
-            Self.content self.new ≡ map.insert (Self.content self.old) id node) }
+        ensures stored { IfOk result (Gains (Self.content self.old) (Self.content self.new) node) }
         ensures can_hold { OnOk result (Self.CanHold (Self.content self.new)) }
         ensures uncounted { OnOk result (Self.refusals self.new ≡ Self.refusals self.old) }
 
@@ -161,8 +160,7 @@ impl<K, V, C: SlabMut<Node<K, V>>> NodesMut<K, V> for C {
     fn insert(&mut self, node: Node<K, V>) -> Result<usize, Node<K, V>>
         ensures number { IfOk result (λ id. id < usize.MAX) }
         ensures unused { IfOk result (λ id. map.get (C.content self.old) id ≡ None) }
-        ensures stored { IfOk result (λ id.
-            C.content self.new ≡ map.insert (C.content self.old) id node) }
+        ensures stored { IfOk result (Gains (C.content self.old) (C.content self.new) node) }
         ensures can_hold { OnOk result (C.CanHold (C.content self.new)) }
         ensures uncounted { OnOk result (C.refusals self.new ≡ C.refusals self.old) }
 

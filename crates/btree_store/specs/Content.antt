@@ -1,11 +1,20 @@
 -- What a store contains.
-use Rattle.std.specs.Prelude.{ℕ, ◌+◌, List, [], ◌∷◌, Option, Some, None}
+use Rattle.std.specs.Prelude.{◌≡◌, ℕ, ◌+◌, List, [], ◌∷◌, Option, Some, None}
+use Rattle.std.specs.Borrow.{LendsIf, Fml, RattleType, MutBor}
 use Rattle.std.specs.Ordering.{nat_cmp}
 use Rattle.std.specs.FinMap.{FinMap, empty, insert}
 
 -- a finite map from numbers to values
 abbrev pub Content : Type 0 → Type 0
 Content T = FinMap nat_cmp T
+
+-- the content with this value put under a number
+abbrev pub Gains : {T : Type 0} → (old new : Content T) → T → ℕ → Type 0
+Gains old new value id = new ≡ insert old id value
+
+-- once the borrow r ends, the value under a number is the last one behind r, and at `None` nothing changes
+abbrev pub lends_under : (S T : RattleType) → (S.Denot → ℕ → T.Denot → S.Denot) → MutBor S.Denot → ℕ → Option (MutBor T.Denot) → Fml
+lends_under S T written store id r = LendsIf S T store r (written store.now id) store.now
 
 -- the values of these slots, each under its place, where the first slot has this number
 abbrev pub content_from : {T : Type 0} → ℕ → List (Option T) → Content T

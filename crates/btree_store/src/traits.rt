@@ -2,9 +2,9 @@
 ghost use Rattle.std.specs.Prelude.{◌≡◌, ℕ, ◌+◌, ◌<◌, Some, None, IsSome, IfOk, IfErr, OnOk, OnErr, OnSome, option_copied};
 ghost use Rattle.std.specs.Option.{option_copied_mut};
 ghost use Rattle.std.specs.FinMap as map;
-ghost use Rattle.std.specs.Borrow.{LendsIf, sem};
+ghost use Rattle.std.specs.Borrow.{sem};
 ghost use Rattle.std.specs.Mem.{FitsInMemory};
-ghost use Rattle.btree_store.specs.Content.{Content};
+ghost use Rattle.btree_store.specs.Content.{Content, Gains, lends_under};
 
 /// A store of values under numbers, for reading.
 pub trait Slab<T> {
@@ -60,16 +60,14 @@ pub trait SlabMut<T>: Slab<T> + Sized {
 
     /// The value under `id` for writing, if that number is used.
     fn get_mut(&mut self, id: usize) -> Option<&mut T>
-        ensures* writes_back { sem 𝓛
-            (LendsIf Self.row T.row self.entry result (written self.old id) self.old) }
+        ensures* writes_back { sem 𝓛 (lends_under Self.row T.row written self.entry id result) }
         ensures value { option_copied_mut result ≡ map.get (Self.content self.old) id };
 
     /// Stores `value` under a number that was not used, or hands it back.
     fn insert(&mut self, value: T) -> Result<usize, T>
         ensures number { IfOk result (λ id. id < usize.MAX) }
         ensures unused { IfOk result (λ id. map.get (Self.content self.old) id ≡ None) }
-        ensures stored { IfOk result (λ id.
-            Self.content self.new ≡ map.insert (Self.content self.old) id value) }
+        ensures stored { IfOk result (Gains (Self.content self.old) (Self.content self.new) value) }
         ensures can_hold { OnOk result (Self.CanHold (Self.content self.new)) }
         ensures uncounted { OnOk result (Self.refusals self.new ≡ Self.refusals self.old) }
 

@@ -1,8 +1,8 @@
 -- What calls on a node make of it.
-use Rattle.std.specs.Prelude.{◌≡◌, ℕ, ◌+◌, ◌<◌, ◌≤◌, List, [], ◌∷◌, ◌++◌, length, map, set, Option, Some, None, is_some, Bool, true, false, nat_lt, ◌==◌, if◌then◌else◌}
+use Rattle.std.specs.Prelude.{◌≡◌, ℕ, ◌+◌, ◌<◌, ◌≤◌, List, [], ◌∷◌, ◌++◌, length, map, set, Option, Some, None, is_some, Bool, true, false}
 use Rattle.std.specs.List.{insert, remove, zip}
 use Rattle.btree_view.specs.declared.balance.Balance.{Balance}
-use Rattle.btree_view.specs.declared.balance.Balance.TheVariants.{Balanced, Overflow, Underflow}
+use Rattle.btree_view.specs.Balances.{balance_with}
 use Rattle.btree_view.specs.View.{View, leaf, internal, items_of, size_of, most_of}
 
 module _ {A : Type 0} where
@@ -30,6 +30,11 @@ module _ {A : Type 0} where
   with_item index x None (internal parent first branches) = internal parent first branches
   with_item index x (Some child) (internal parent first branches) = internal parent first (insert branches index (x, child))
 
+  -- the same at an offset; at -1 nothing is put
+  abbrev pub with_item_at : Option ℕ → A → Option ℕ → View A → View A
+  with_item_at None x child node = node
+  with_item_at (Some index) x child node = with_item index x child node
+
   -- without the item at an index, and in an internal node without the child after it
   abbrev pub without : ℕ → View A → View A
   without index (leaf parent items) = leaf parent (remove items index)
@@ -38,6 +43,11 @@ module _ {A : Type 0} where
   -- with another item at an index; the children stay
   abbrev pub with_other_item : ℕ → A → View A → View A
   with_other_item index x node = with_items (set (items_of node) index x) node
+
+  -- the same at an offset; at -1 nothing is put
+  abbrev pub with_other_item_at : Option ℕ → A → View A → View A
+  with_other_item_at None x node = node
+  with_other_item_at (Some index) x node = with_other_item index x node
 
   -- with an item before the others, and in an internal node a child before the others
   abbrev pub pushed_left : A → Option ℕ → View A → View A
@@ -50,6 +60,14 @@ module _ {A : Type 0} where
   pushed_right x child (leaf parent items) = leaf parent (items ++ x ∷ [])
   pushed_right x None (internal parent first branches) = internal parent first branches
   pushed_right x (Some child) (internal parent first branches) = internal parent first (branches ++ (x, child) ∷ [])
+
+  -- this item, and this child or none, stood before those of the rest
+  abbrev pub PopsLeft : View A → View A → A × Option ℕ → Type 0
+  PopsLeft node rest popped = node ≡ pushed_left popped.0 popped.1 rest
+
+  -- this item, and this child or none, stood behind those of the rest
+  abbrev pub PopsRight : View A → View A → Option ℕ × A × Option ℕ → Type 0
+  PopsRight node rest popped = node ≡ pushed_right popped.1 popped.2 rest
 
   -- an item followed by an internal node: the item with the first child, and then the node's branches
   abbrev pub behind : A → View A → List (A × ℕ)
@@ -79,10 +97,7 @@ module _ {A : Type 0} where
 
   -- how the number of items stands to what the node holds at rest, where it is no root
   abbrev pub balance_of : View A → Balance
-  balance_of node =
-      if nat_lt (most_of node) (size_of node) then Overflow
-      else if nat_lt (size_of node) 3 then Underflow (size_of node == 0)
-      else Balanced
+  balance_of node = balance_with (most_of node) (size_of node)
 
   -- a node in two parts with the median between them: 4 items stay in a leaf and 3 in an internal node;
   -- the right part has the same parent, and of an internal node it begins with the child after the median

@@ -1,4 +1,5 @@
 pub mod View
+pub mod Balances
 pub mod Edits
 pub mod Kept
 pub mod LookUp

@@ -1,8 +1,9 @@
 -- What a look-up by key in one node answers.
-use Rattle.std.specs.Prelude.{ℕ, List, Option, Some, None, Result, Ok, Err, slice_get}
+use Rattle.std.specs.Prelude.{◌≡◌, ℕ, ◌<◌, ◌≤◌, IsSomeAnd, List, Option, Some, None, Result, Ok, Err, slice_get}
+use Rattle.std.specs.Result.{result_map_both}
 use Rattle.std.specs.declared.cmp.Ordering.{Ordering}
-use Rattle.btree_item.specs.Pairs.{before, found_value, place_of}
-use Rattle.btree_view.specs.View.{View, items_of, children_of}
+use Rattle.btree_item.specs.Pairs.{before, found, found_value, place_of}
+use Rattle.btree_view.specs.View.{View, items_of, children_of, size_of}
 
 -- by the value found, if there is one, and the child that may hold the key, if there is one
 abbrev pub looked_up : {V : Type 0} → Option V → Option ℕ → Result (Option V) ℕ
@@ -20,7 +21,24 @@ abbrev pub placed : Result ℕ ℕ → List ℕ → Result (Option ℕ) (ℕ × 
 placed (Ok i) children = Ok (Some i)
 placed (Err i) children = Err (i, slice_get children i)
 
+-- an answer with f of its value; an error stays
+abbrev pub result_map : {T U E : Type 0} → (T → U) → Result T E → Result U E
+result_map f answer = result_map_both f (λ e. e) answer
+
+-- an answer with f of its error; a value stays
+abbrev pub result_map_err : {T E D : Type 0} → (E → D) → Result T E → Result T D
+result_map_err f answer = result_map_both (λ v. v) f answer
+
+-- the offset is that of an item, or the gap's index is at most the number of items
+abbrev pub PointsInto : {A X : Type 0} → View A → Result (Option ℕ) (ℕ × X) → Type 0
+PointsInto node (Ok offset) = IsSomeAnd offset (λ index. index < size_of node)
+PointsInto node (Err gap) = gap.0 ≤ size_of node
+
 module _ {K V : Type 0} (cmp : K → K → Ordering) (k : K) where
+  -- the item with the key stands at this index
+  abbrev pub IsIndexOfKey : List (K × V) → ℕ → Type 0
+  IsIndexOfKey xs index = slice_get xs index ≡ found cmp k xs
+
   -- the child between the items with smaller keys and those with greater ones; a leaf has none
   abbrev pub child_for : View (K × V) → Option ℕ
   child_for node = slice_get (children_of node) (before cmp k (items_of node))

@@ -1,5 +1,6 @@
 -- What a definition sees of a node, and of a store of nodes.
-use Rattle.std.specs.Prelude.{ℕ, List, [], ◌∷◌, length, map, slice_get, Option, Some, None}
+use Rattle.std.specs.Prelude.{◌≡◌, ℕ, ◌+◌, List, [], ◌∷◌, drop, length, map, slice_get, Option, Some, None}
+use Rattle.std.specs.Option.{option_and_then, option_map}
 
 -- a leaf: its parent's number and its items; an internal node: its parent's number, its first child's, and its items,
 -- each with the number of the child after it
@@ -41,6 +42,23 @@ module _ {A : Type 0} where
   most_of (leaf parent items) = 8
   most_of (internal parent first branches) = 7
 
+  -- the item at an offset, and none at -1
+  abbrev pub item_at_offset : View A → Option ℕ → Option A
+  item_at_offset node offset = option_and_then (slice_get (items_of node)) offset
+
+  -- the child before the item at an offset, and none at -1
+  abbrev pub child_before_offset : View A → Option ℕ → Option ℕ
+  child_before_offset node offset = option_and_then (slice_get (children_of node)) offset
+
+  -- the child after the item at an offset, and none at -1
+  abbrev pub child_after_offset : View A → Option ℕ → Option ℕ
+  child_after_offset node offset = option_and_then (λ index. slice_get (children_of node) (index + 1)) offset
+
+  -- the branches from an index on begin with this one, or there are none
+  abbrev pub BeginsAt : View A → ℕ → Option (A × ℕ) → Type 0
+  BeginsAt node index None = drop index (branches_of node) ≡ []
+  BeginsAt node index (Some branch) = drop index (branches_of node) ≡ branch ∷ drop (index + 1) (branches_of node)
+
   -- the item at an offset of a node, if there is one
   abbrev pub item_in : Option (View A) → ℕ → Option A
   item_in None offset = None
@@ -50,3 +68,7 @@ module _ {A : Type 0} where
   abbrev pub children_in : Option (View A) → List ℕ
   children_in None = []
   children_in (Some node) = children_of node
+
+-- the value at an offset, and none at -1
+abbrev pub value_at_offset : {K V : Type 0} → View (K × V) → Option ℕ → Option V
+value_at_offset node offset = option_map (λ x. x.1) (item_at_offset node offset)

@@ -1,6 +1,6 @@
 //! How full a node is.
-ghost use Rattle.std.specs.Prelude.{◌≡◌, nat_lt, ◌==◌, if◌then◌else◌};
-ghost use Rattle.btree_view.specs.declared.balance.Balance.TheVariants.{Balanced, Overflow, Underflow};
+ghost use Rattle.std.specs.Prelude.{◌≡◌};
+ghost use Rattle.btree_view.specs.Balances.{balance_with};
 
 /// How the number of a node's items stands to what a node holds at rest. A root is judged like any
 /// other node.
@@ -19,10 +19,7 @@ pub struct WouldUnderflow;
 impl Balance {
     /// Of a node with so many items, which holds at most `most` at rest.
     pub fn of(items: usize, most: usize) -> Balance
-        ensures { result ≡
-            (if nat_lt most items then Overflow
-            else if nat_lt items 3 then Underflow (items == 0)
-            else Balanced) }
+        ensures { result ≡ balance_with most items }
     {
         if items > most {
             Balance::Overflow

@@ -8,7 +8,7 @@ returns-clause-item g c =
 
 pub returns-clause-right : goal.returns-clause-right
 returns-clause-right g c =
-    rw c.unwrap-index.ensures.value (child_behind c.args.self.now _ c.self.inside.first c.self.inside.branches c.self.view_is c.unwrap-index.result c.remove-item.result c.remove-item.ensures.answer)
+    rw c.unwrap-index.ensures.value (sym (child_behind c.args.self.now _ c.self.inside.first c.self.inside.branches c.self.view_is c.unwrap-index.result c.remove-item.result c.remove-item.ensures.answer))
 
 pub returns-clause-after : goal.returns-clause-after
 returns-clause-after g c =

@@ -1,7 +1,7 @@
 use Rattle.btree_node.proofs.NodeSizes.{fits-internal, fits-leaf}
 use Rattle.std.proofs.Common.{arith}
 use Rattle.std.proofs.lemmas.List.{length-map}
-use Rattle.btree_node.proofs.NodeLemmas.{with_item-internal, with_item-leaf}
+use Rattle.btree_node.proofs.NodeLemmas.{with_item-leaf}
 use Rattle.btree_node.proofs.node.Node.insert.Goals as goal
 
 pub insert-requires : goal.insert-requires
@@ -17,7 +17,7 @@ insert-requires-in-Leaf g c =
     (search fits-leaf, (omega (arith, room), rw c.in-Leaf.is at c.requires.within))
 
 pub returns-in-Some : goal.returns-in-Some
-returns-in-Some g c = rw (c.in-Internal.is, c.in-Some.is) (with_item-internal c.in-Internal.node c.args.offset c.args.item c.in-Some.right_id _ c.insert.ensures)
+returns-in-Some g c = rw (c.in-Internal.is, c.in-Some.is) c.insert.ensures
 
 pub returns-in-Leaf : goal.returns-in-Leaf
 returns-in-Leaf g c = rw c.in-Leaf.is (with_item-leaf c.in-Leaf.leaf c.args.offset c.args.item c.args.opt_right _ c.insert-in-Leaf.ensures)

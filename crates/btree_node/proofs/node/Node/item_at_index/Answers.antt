@@ -1,9 +1,8 @@
-use Rattle.std.proofs.Common.{◌<◌, ap, ◌∙◌, option_and_then, arith}
+use Rattle.std.proofs.Common.{◌<◌, ap, sym, ◌∙◌, arith}
 use Rattle.std.proofs.lemmas.Option.{slice_get_past}
-use Rattle.std.specs.Prelude.{slice_get}
 use Rattle.btree_node.specs.Node.{view_of}
-use Rattle.btree_view.specs.View.{items_of}
-use Rattle.btree_node.proofs.RoomLemmas.{of-copied, on-some}
+use Rattle.btree_view.specs.View.{items_of, item_at_offset}
+use Rattle.btree_node.proofs.RoomLemmas.{on-some}
 use Rattle.btree_node.proofs.node.Node.item_at_index.Goals as goal
 
 pub returns-then-index-item_count-clause-item : goal.returns-then-index-item_count-clause-item
@@ -14,4 +13,4 @@ pub returns-clause-fits : goal.returns-clause-fits
 returns-clause-fits g c = on-some c.item.result (c.args.index < 9) (omega (arith, c.item_count.ensures.fits, c.if-index-item_count.false))
 
 pub returns-clause-item : goal.returns-clause-item
-returns-clause-item g c = of-copied _ _ (c.item.ensures ∙ ap (option_and_then (slice_get (items_of (view_of c.args.self.now)))) c.offset_at.ensures)
+returns-clause-item g c = sym (c.item.ensures ∙ ap (item_at_offset (view_of c.args.self.now)) c.offset_at.ensures)

@@ -2,7 +2,7 @@ use borrow.Follows.Closed.{read_of}
 use Rattle.std.specs.Option.{ghost_name_of, option_copied_mut}
 use Rattle.btree_view.specs.Kept.{node_of}
 use Rattle.btree_leaf.proofs.LeafLemmas.{item-read, item-written}
-use Rattle.btree_leaf.proofs.leaf.LeafNode.item_at.Goals as goal
+use Rattle.btree_leaf.proofs.leaf.LeafNode.item_mut_at_index.Goals as goal
 
 pub returns : goal.returns
 returns g c =

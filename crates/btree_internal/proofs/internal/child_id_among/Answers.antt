@@ -1,6 +1,6 @@
 use Rattle.std.proofs.Common.{Some, arith, refl, sym}
 use Rattle.btree_internal.proofs.BranchLemmas.{child-after}
-use Rattle.btree_internal.proofs.internal.child_at.Goals as goal
+use Rattle.btree_internal.proofs.internal.child_id_among.Goals as goal
 
 pub returns-else-index-eq0 : goal.returns-else-index-eq0
 returns-else-index-eq0 g c =

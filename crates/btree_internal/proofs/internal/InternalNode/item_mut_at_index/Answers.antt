@@ -1,6 +1,6 @@
 use Rattle.std.proofs.Common.{Some, None, inl, inr, ap, sym, refl}
 use Rattle.btree_internal.proofs.BranchLemmas.{item-read, item-written}
-use Rattle.btree_internal.proofs.internal.InternalNode.item_at.Goals as goal
+use Rattle.btree_internal.proofs.internal.InternalNode.item_mut_at_index.Goals as goal
 
 pub returns-in-Some : goal.returns-in-Some
 returns-in-Some g c =
