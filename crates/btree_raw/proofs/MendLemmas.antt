@@ -1,5 +1,5 @@
 -- Single nodes of a store in the steps that mend, as definitions see them.
-use Rattle.std.proofs.Common.{◌≡◌, ℕ, suc, inl, inr, ◌+◌, ◌<◌, ◌≤◌, ◌^◌, ◌-◌, List, [], ◌∷◌, ◌++◌, length, map, set, Option, Some, None, IfSome, IsSomeAnd, IsTrue, refl, sym, ap, subst, ◌∙◌, option_map, slice_get, arith}
+use Rattle.std.proofs.Common.{◌≡◌, ℕ, suc, inl, inr, ◌+◌, ◌<◌, ◌≤◌, ◌^◌, ◌-◌, List, [], ◌∷◌, ◌++◌, length, map, set, Option, Some, None, IsSomeAnd, IsTrue, refl, sym, ap, subst, ◌∙◌, option_map, slice_get, arith}
 use Rattle.std.proofs.lemmas.List.{length-map, length-set, map-append}
 use Rattle.std.proofs.lemmas.Slice.Zip.{firsts-zip, seconds-zip}
 use Rattle.std.specs.FinMap as nodes_map
@@ -10,7 +10,7 @@ use Rattle.btree_store.specs.ContentLaws.{get-remove_other, get-remove_same}
 use Rattle.btree_item.specs.Offset.{index_offset}
 use Rattle.btree_node.specs.declared.node.Node.{Node}
 use Rattle.btree_node.specs.Node.{view_of}
-use Rattle.btree_view.specs.Edits.{HasChildFor, HasSpare, HaveRoom, is_internal, joined, pushed_left, pushed_right, with_other_item, with_parent, without}
+use Rattle.btree_view.specs.Edits.{HasChildFor, HasSpare, HaveRoom, is_internal, joined, pushed_left, pushed_right, with_other_item, with_other_item_at, with_parent, without}
 use Rattle.btree_view.specs.View.{Look, View, leaf, internal, children_of, items_of, most_of, size_of}
 use Rattle.btree_shape.specs.Lists.{as_list, one}
 use Rattle.btree_shape.specs.Mend.{IsRemade, Releases}
@@ -125,7 +125,7 @@ module _ {K V : Type 0} (nodes : Content (Node K V)) (id : ℕ) (node : Node K V
     next-within next e = let k = (one-more can.node can.inner).0 in rw same (omega (arith, can.within))
 
     pub changes-item : (new : Content (Node K V)) (after : Node K V) (o : Option ℕ) → o ≡ index_offset index → (old x : K × V)
-        → Some old ≡ option_and_then (slice_get (items_of (view_of node))) o → IfSome o (λ i. view_of after ≡ with_other_item i x (view_of node))
+        → Some old ≡ option_and_then (slice_get (items_of (view_of node))) o → view_of after ≡ with_other_item_at o x (view_of node)
         → new ≡ nodes_map.insert nodes id after → ChangesItem (views nodes) (views new) id index old x
     changes-item new after o e old x answer is made =
         let so : o ≡ Some index = index-is index o small e in
@@ -135,7 +135,7 @@ module _ {K V : Type 0} (nodes : Content (Node K V)) (id : ℕ) (node : Node K V
           here = here-at;
           was = sym (subst (λ o. Some old ≡ option_and_then (slice_get (items_of (view_of node))) o) so answer);
           puts = record {
-            here = p.here ∙ ap Some (subst (λ o. IfSome o (λ i. view_of after ≡ with_other_item i x (view_of node))) so is);
+            here = p.here ∙ ap Some (is ∙ ap (λ o. with_other_item_at o x (view_of node)) so);
             others = p.others;
           };
         }
