@@ -1,16 +1,16 @@
 ghost use Rattle.std.specs.Prelude.{◌≡◌, true, false};
-ghost use Rattle.btree_item.specs.Pairs.{Ascends, with_value};
+ghost use Rattle.btree_item.specs.Pairs.{Ascends};
+ghost use Rattle.btree_leaf.specs.LeafLends.{leaf_with_value};
 
 use btree_counted::Counted;
 use btree_item::{Item, Offset};
 use btree_node::LeafNode;
 use std::cell::Cell;
 
-#[tactic(auto, using(btree_item::proofs::PairEdits::order_kept))]
+#[tactic(auto, using(btree_item::proofs::PairEdits::order_kept), unfolding(btree_leaf::specs::LeafLends::leaf_with_value))]
 fn write<K: Ord, V: Drop>(leaf: &mut LeafNode<K, V>, key: &K, value: V) -> bool
     requires { Ascends K.cmp leaf.old.items }
-    ensures written { result ≡ true →
-        leaf.new ≡ record leaf.old { items = with_value K.cmp key.now value leaf.old.items } }
+    ensures written { result ≡ true → leaf.new ≡ leaf_with_value K.cmp key.now leaf.old value }
     ensures left { result ≡ false → leaf.new ≡ leaf.old }
     ensures ascends { Ascends K.cmp leaf.new.items }
 {

@@ -22,6 +22,6 @@ returns-then-item_count-lt8 g c =
     let node = internal_view c.args.node.now in
     let place = Err-from_placed (place_of g.K.Ord.cmp c.args.key (items_of node)) (children_of node) _ _ c.in-Err.ensures.value in
     let put = rw (c.at.ensures, c.new.ensures) at c.insert.ensures in
-    let items = ap (λ n. items_of (internal_view n)) put ∙ map_insert (λ b. b.0) c.args.node.now.branches _ _ in
+    let items = ap items_of put ∙ map_insert (λ b. b.0) c.args.node.now.branches _ _ in
     let P : List (g.row.K.Denot × g.row.V.Denot) → Type 0 = λ xs. Ascends g.K.Ord.cmp xs in
     subst P (sym (items ∙ sym (inserted-from_Err g.K.Ord.cmp c.args.key c.args.value (items_of node) _ place))) (Ascends-inserted g.K.Ord.cmp g.met.K.Ord.total c.args.key c.args.value _ c.requires)
