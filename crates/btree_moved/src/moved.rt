@@ -1,8 +1,10 @@
-//! Where an address is after a step that mends a node with too few items. `left` and `right` are neighbouring children of `parent` with its
-//! item at `index` between them, `count` is how many items `left` had, and `child` the first child of `right`, if it has one.
+//! Where an address is after a step between two siblings that mends one with too few items. `count` is how many items the left one had, and
+//! `child` the first child of the right one, if it has one.
 ghost use Rattle.std.specs.Prelude.{◌≡◌, ◌+◌, ◌<◌, IfSome};
+ghost use Rattle.btree_moved.specs.Siblings.{between};
 ghost use Rattle.btree_shape.specs.Moved as moved;
 
+use crate::Siblings;
 use btree_item::{Address, Offset};
 
 fn down_to(child: Option<usize>, other: Address) -> Address
@@ -14,12 +16,12 @@ fn down_to(child: Option<usize>, other: Address) -> Address
     }
 }
 
-fn at_separator(offset: Offset, parent: usize, index: usize, to: Address) -> Address
-    ensures { result ≡ moved.at_separator parent index to offset }
+fn at_separator(offset: Offset, siblings: Siblings, to: Address) -> Address
+    ensures { result ≡ moved.at_separator siblings.parent siblings.index to offset }
 {
     match offset.value() {
-        Some(offset) if offset == index => to,
-        _ => Address::new(parent, offset),
+        Some(offset) if offset == siblings.index => to,
+        _ => Address::new(siblings.parent, offset),
     }
 }
 
@@ -40,45 +42,46 @@ fn in_right_lender(
     }
 }
 
-/// Where an address is once the first item of `right` has gone up, and the item between the two down to the end of `left`.
+/// Where an address is once the first item of the right sibling has gone up, and the item between the two down to the end of the left one.
 pub fn moved_by_rotate_left(
     addr: Address,
-    left: usize,
-    right: usize,
-    parent: usize,
-    index: usize,
+    siblings: Siblings,
     count: usize,
     child: Option<usize>,
 ) -> Address
-    requires index { index < usize.MAX }
+    requires index { siblings.index < usize.MAX }
     requires count { count < usize.MAX }
-    ensures { result ≡ moved.moved_by_rotate_left left right parent index count child addr }
+    ensures { result ≡ between moved.moved_by_rotate_left siblings count child addr }
 {
-    if addr.id == right {
-        in_right_lender(addr.offset, right, parent, index, child)
-    } else if addr.id == parent {
+    if addr.id == siblings.right {
+        in_right_lender(
+            addr.offset,
+            siblings.right,
+            siblings.parent,
+            siblings.index,
+            child,
+        )
+    } else if addr.id == siblings.parent {
         at_separator(
             addr.offset,
-            parent,
-            index,
-            Address::new(left, Offset::from(count)),
+            siblings,
+            Address::new(siblings.left, Offset::from(count)),
         )
     } else {
         addr
     }
 }
 
-fn in_left_lender(
-    offset: Offset,
-    left: usize,
-    right: usize,
-    parent: usize,
-    index: usize,
-    count: usize,
-) -> Address
-    requires { index < usize.MAX }
-    ensures { result ≡ moved.in_left_lender left right parent index count offset }
+fn in_left_lender(offset: Offset, siblings: Siblings, count: usize) -> Address
+    requires { siblings.index < usize.MAX }
+    ensures { result ≡ between moved.in_left_lender siblings count offset }
 {
+    let Siblings {
+        parent,
+        index,
+        left,
+        right,
+    } = siblings;
     match offset.value() {
         Some(offset) if offset + 1 == count => Address::new(parent, Offset::from(index)),
         Some(offset) if offset >= count => Address::new(right, Offset::from(0)),
@@ -96,30 +99,26 @@ fn in_right_taker(offset: Offset, right: usize, child: Option<usize>) -> Address
     }
 }
 
-/// Where an address is once the last item of `left` has gone up, and the item between the two down to the front of `right`.
+/// Where an address is once the last item of the left sibling has gone up, and the item between the two down to the front of the right one.
 pub fn moved_by_rotate_right(
     addr: Address,
-    left: usize,
-    right: usize,
-    parent: usize,
-    index: usize,
+    siblings: Siblings,
     count: usize,
     child: Option<usize>,
 ) -> Address
-    requires index { index < usize.MAX }
+    requires index { siblings.index < usize.MAX }
     requires offset { IfSome addr.offset (λ n. n + 1 < usize.MAX) }
-    ensures { result ≡ moved.moved_by_rotate_right left right parent index count child addr }
+    ensures { result ≡ between moved.moved_by_rotate_right siblings count child addr }
 {
-    if addr.id == left {
-        in_left_lender(addr.offset, left, right, parent, index, count)
-    } else if addr.id == right {
-        in_right_taker(addr.offset, right, child)
-    } else if addr.id == parent {
+    if addr.id == siblings.left {
+        in_left_lender(addr.offset, siblings, count)
+    } else if addr.id == siblings.right {
+        in_right_taker(addr.offset, siblings.right, child)
+    } else if addr.id == siblings.parent {
         at_separator(
             addr.offset,
-            parent,
-            index,
-            Address::new(right, Offset::from(0)),
+            siblings,
+            Address::new(siblings.right, Offset::from(0)),
         )
     } else {
         addr
@@ -137,10 +136,16 @@ fn in_merged(offset: Offset, left: usize, count: usize, child: Option<usize>) ->
     }
 }
 
-fn over_merged(offset: Offset, left: usize, parent: usize, index: usize, count: usize) -> Address
+fn over_merged(offset: Offset, siblings: Siblings, count: usize) -> Address
     requires { count < usize.MAX }
-    ensures { result ≡ moved.over_merged left parent index count offset }
+    ensures { result ≡ moved.over_merged siblings.left siblings.parent siblings.index count offset }
 {
+    let Siblings {
+        parent,
+        index,
+        left,
+        ..
+    } = siblings;
     match offset.value() {
         Some(offset) if offset == index => Address::new(left, Offset::from(count)),
         Some(offset) if index < offset => Address::new(parent, Offset::from(offset - 1)),
@@ -148,24 +153,21 @@ fn over_merged(offset: Offset, left: usize, parent: usize, index: usize, count: 
     }
 }
 
-/// Where an address is once the item between the two and what `right` held are behind the items of `left`.
+/// Where an address is once the item between the two siblings and what the right one held are behind the items of the left one.
 pub fn moved_by_merge(
     addr: Address,
-    left: usize,
-    right: usize,
-    parent: usize,
-    index: usize,
+    siblings: Siblings,
     count: usize,
     child: Option<usize>,
 ) -> Address
     requires count { count + 1 < usize.MAX }
     requires offset { IfSome addr.offset (λ n. n + count + 1 < usize.MAX) }
-    ensures { result ≡ moved.moved_by_merge left right parent index count child addr }
+    ensures { result ≡ between moved.moved_by_merge siblings count child addr }
 {
-    if addr.id == right {
-        in_merged(addr.offset, left, count, child)
-    } else if addr.id == parent {
-        over_merged(addr.offset, left, parent, index, count)
+    if addr.id == siblings.right {
+        in_merged(addr.offset, siblings.left, count, child)
+    } else if addr.id == siblings.parent {
+        over_merged(addr.offset, siblings, count)
     } else {
         addr
     }

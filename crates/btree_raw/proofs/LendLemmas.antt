@@ -1,23 +1,25 @@
--- Two neighbours of which one has too few items: what the steps between them ask, and what is known afterwards.
+-- Two siblings of which one has too few items: what the steps between them ask, and what is known afterwards.
 use Rattle.std.proofs.Common.{◌≡◌, ◌≢◌, ℕ, suc, ◌+◌, ◌<◌, ◌≤◌, ◌^◌, ◌-◌, inl, inr, Option, Some, None, IfSome, IsSome, List, refl, sym, ap, subst, ◌∙◌, option_map, slice_get, arith, length}
 use Rattle.std.specs.FinMap as nodes_map
 use Rattle.btree_store.specs.Content.{Content}
+use Rattle.btree_moved.specs.Siblings.{between}
+use Rattle.btree_moved.specs.declared.siblings.Siblings.{Siblings}
 use Rattle.btree_item.specs.declared.address.Address.{Address}
 use Rattle.btree_node.specs.declared.node.Node.{Node}
 use Rattle.btree_node.specs.Node.{view_of}
 use Rattle.btree_view.specs.Edits.{with_parent}
-use Rattle.btree_view.specs.View.{Look, View, leaf, internal, children_of, most_of, size_of, parent_of}
+use Rattle.btree_view.specs.View.{Look, View, leaf, internal, children_in, children_of, most_of, size_of, parent_of}
 use Rattle.btree_shape.specs.Growing.{IsGrown}
 use Rattle.btree_shape.specs.Shrinking.{IsShrinking}
 use Rattle.btree_shape.specs.Lists.{as_list, one, times_listed}
-use Rattle.btree_shape.specs.Mend.{Merges, RotatesLeft, RotatesRight, Writes}
+use Rattle.btree_shape.specs.Mend.{Merges, Writes}
 use Rattle.btree_shape.specs.Moved.{first_in, moved_by_merge, moved_by_rotate_left, moved_by_rotate_right}
 use Rattle.btree_shape.specs.TreeState.{views}
 use Rattle.btree_shape.specs.WellFormed.{times_used}
 use Rattle.btree_shape.proofs.Backs.{merge-back, rotate-left-back, rotate-right-back}
 use Rattle.btree_shape.proofs.Frames.{one-other, one-self}
 use Rattle.btree_shape.proofs.Numbers.{same-node, same-or, used-mapped, used-one, zero-or}
-use Rattle.btree_raw.specs.NodeSteps.{AreNeighbours, CanLend, CanMerge, CanRotateLeft, CanRotateRight}
+use Rattle.btree_raw.specs.NodeSteps.{AreSiblings, BecomeOne, CanLend, CanMerge, CanRotateLeft, CanRotateRight, LendsLeft, LendsRight}
 use Rattle.btree_raw.specs.Shrink.{AreBeside, HaveFew, IsShort, MendsAbove, MendsHere, IsFollowed}
 use Rattle.btree_raw.specs.Steps.{LeavesAt}
 use Rattle.btree_raw.proofs.ClimbLemmas.{back-some, some-back}
@@ -86,31 +88,30 @@ module _ {A : Type 0} where
     ]
   ]
 
-module _ {A : Type 0} (look : Look A) (parent index left right id : ℕ) (a : Address) (s : AreBeside look parent index left right id a) where
+module _ {A : Type 0} (look : Look A) (siblings : Siblings) (id : ℕ) (a : Address) (s : AreBeside look siblings id a) where
   abbrev short-node : (v : View A) × (look id ≡ Some v)
   short-node = followed-node look id a s.followed
 
-  short-up : parent_of short-node.0 ≡ Some parent
-  short-up = followed-under look id a s.followed (Some parent) s.under
+  short-up : parent_of short-node.0 ≡ Some siblings.parent
+  short-up = followed-under look id a s.followed (Some siblings.parent) s.under
 
   -- what is known of the two in whatever tree they stand
   beside : (root : ℕ) (xs : List A) (asked : Option A) (place given bound : ℕ) → IsShrinking A look root xs id asked a place given bound
-      → Beside A look root xs asked a place given bound parent index left right
+      → Beside A look root xs asked a place given bound siblings.parent siblings.index siblings.left siblings.right
   beside root xs asked place given bound g =
-      let o = to-over A look root xs id asked a place given bound g short-node.0 short-node.1 parent short-up in
-      let same : s.node ≡ o.node = same-node look parent s.node o.node s.here o.here in
-      let l : slice_get (children_of o.node) index ≡ Some left = subst (λ n. slice_get (children_of n) index ≡ Some left) same s.at_left in
-      let r : slice_get (children_of o.node) (suc index) ≡ Some right = subst (λ n. slice_get (children_of n) (suc index) ≡ Some right) same s.at_right in
+      let o = to-over A look root xs id asked a place given bound g short-node.0 short-node.1 siblings.parent short-up in
+      let l : slice_get (children_of o.node) siblings.index ≡ Some siblings.left = sym (ap (λ v. slice_get (children_in v) siblings.index) o.here) ∙ s.at_left in
+      let r : slice_get (children_of o.node) (suc siblings.index) ≡ Some siblings.right = sym (ap (λ v. slice_get (children_in v) (suc siblings.index)) o.here) ∙ s.at_right in
       elim s.one_of [
-        | inl e ↦ subst (λ k. Beside A look root xs asked a place given bound parent index k right) e (o.after index right (l ∙ ap Some (sym e)) r)
-        | inr e ↦ subst (λ k. Beside A look root xs asked a place given bound parent index left k) e (o.before index left l (r ∙ ap Some (sym e)))
+        | inl e ↦ subst (λ k. Beside A look root xs asked a place given bound siblings.parent siblings.index k siblings.right) e (o.after siblings.index siblings.right (l ∙ ap Some (sym e)) r)
+        | inr e ↦ subst (λ k. Beside A look root xs asked a place given bound siblings.parent siblings.index siblings.left k) e (o.before siblings.index siblings.left l (r ∙ ap Some (sym e)))
       ]
 
-  pub pair : Beside A look s.followed.root s.followed.xs s.followed.asked a s.followed.place s.followed.given s.followed.bound parent index left right
+  pub pair : Beside A look s.followed.root s.followed.xs s.followed.asked a s.followed.place s.followed.given s.followed.bound siblings.parent siblings.index siblings.left siblings.right
   pair = beside s.followed.root s.followed.xs s.followed.asked s.followed.place s.followed.given s.followed.bound s.followed.shrinking
 
-  abbrev neighbours : AreNeighbours look parent index left right
-  neighbours = record {
+  abbrev are-siblings : AreSiblings look siblings
+  are-siblings = record {
     top = pair.node;
     low = pair.low;
     high = pair.high;
@@ -119,114 +120,114 @@ module _ {A : Type 0} (look : Look A) (parent index left right id : ℕ) (a : Ad
     at_right = pair.at_right;
     inner = pair.inner;
     one_kind = pair.one_kind;
-    between = pair.between;
+    within = pair.between;
     most = omega (arith, pair.node_most, most-some pair.node);
     apart = pair.apart;
     children = pair.children_used;
   }
 
-  pub right-there : 0 < times_used (look right)
+  pub right-there : 0 < times_used (look siblings.right)
   right-there = rw pair.at_right (omega arith)
 
-  pub index-few : index < 2 ^ 64 - 1
+  pub index-few : siblings.index < 2 ^ 64 - 1
   index-few = omega (arith, pair.between, pair.node_most)
 
   count-few : (v : View A) → size_of v ≤ most_of v → size_of v ≤ 8
   count-few (leaf p xs) m = omega arith
   count-few (internal p u bs) m = omega arith
 
-  module _ (count : ℕ) (counted : LeavesAt look left count) where
+  module _ (count : ℕ) (counted : LeavesAt look siblings.left count) where
     pub count-low : count ≤ 8
-    count-low = let e = size-at look left count pair.low pair.at_left counted in let m = count-few pair.low pair.low_most in omega arith
+    count-low = let e = size-at look siblings.left count pair.low pair.at_left counted in let m = count-few pair.low pair.low_most in omega arith
 
-    module _ (child : Option ℕ) (first : option_map first_in (look right) ≡ Some child) where
+    module _ (child : Option ℕ) (first : option_map first_in (look siblings.right) ≡ Some child) where
       -- what is told of an address in the step's own words
-      so : (g : ℕ → Option ℕ → Address) (low high : View A) → look left ≡ Some low → look right ≡ Some high → (P : Address → Type 0) → P (g (size_of low) (first_in high)) → P (g count child)
-      so g low high l h P p = subst (λ n. P (g n child)) (size-at look left count low l counted)
-          (subst (λ k. P (g (size_of low) k)) (first-is look right child high h first) p)
+      so : (g : ℕ → Option ℕ → Address) (low high : View A) → look siblings.left ≡ Some low → look siblings.right ≡ Some high → (P : Address → Type 0) → P (g (size_of low) (first_in high)) → P (g count child)
+      so g low high l h P p = subst (λ n. P (g n child)) (size-at look siblings.left count low l counted)
+          (subst (λ k. P (g (size_of low) k)) (first-is look siblings.right child high h first) p)
 
-      module _ (short : IsShort look left) (lender : CanLend look right) (new : Look A) (rot : RotatesLeft look new parent index left right) where
-        pub even-left : MendsHere look new id a (moved_by_rotate_left left right parent index count child a)
+      module _ (short : IsShort look siblings.left) (lender : CanLend look siblings.right) (new : Look A) (rot : LendsLeft look new siblings) where
+        pub even-left : MendsHere look new id a (between moved_by_rotate_left siblings count child a)
         even-left = record {
           grown = λ root xs asked place given bound g.
               let b = beside root xs asked place given bound g in
-              so (λ n k. moved_by_rotate_left left right parent index n k a) b.low b.high b.at_left b.at_right (λ v. IsGrown A new root xs asked v place given bound)
-              (b.rotate_left new rot (subst (λ v. size_of v ≤ 2) (same-node look left short.node b.low short.here b.at_left) short.few)
-              (subst (λ v. 3 < size_of v) (same-node look right lender.node b.high lender.here b.at_right) lender.spare));
-          used = writes-used look new parent left right rot.top rot.low rot.high rot.new_top rot.new_low rot.new_high (as_list rot.child) left rot.writes;
+              so (λ n k. between moved_by_rotate_left siblings n k a) b.low b.high b.at_left b.at_right (λ v. IsGrown A new root xs asked v place given bound)
+              (b.rotate_left new rot (subst (λ v. size_of v ≤ 2) (same-node look siblings.left short.node b.low short.here b.at_left) short.few)
+              (subst (λ v. 3 < size_of v) (same-node look siblings.right lender.node b.high lender.here b.at_right) lender.spare));
+          used = writes-used look new siblings.parent siblings.left siblings.right rot.top rot.low rot.high rot.new_top rot.new_low rot.new_high (as_list rot.child) siblings.left rot.writes;
         }
 
-      module _ (short : IsShort look right) (lender : CanLend look left) (new : Look A) (rot : RotatesRight look new parent index left right) where
-        pub even-right : MendsHere look new id a (moved_by_rotate_right left right parent index count child a)
+      module _ (short : IsShort look siblings.right) (lender : CanLend look siblings.left) (new : Look A) (rot : LendsRight look new siblings) where
+        pub even-right : MendsHere look new id a (between moved_by_rotate_right siblings count child a)
         even-right = record {
           grown = λ root xs asked place given bound g.
               let b = beside root xs asked place given bound g in
-              so (λ n k. moved_by_rotate_right left right parent index n k a) b.low b.high b.at_left b.at_right (λ v. IsGrown A new root xs asked v place given bound)
-              (b.rotate_right new rot (subst (λ v. size_of v ≤ 2) (same-node look right short.node b.high short.here b.at_right) short.few)
-              (subst (λ v. 3 < size_of v) (same-node look left lender.node b.low lender.here b.at_left) lender.spare));
-          used = writes-used look new parent left right rot.top rot.low rot.high rot.new_top rot.new_low rot.new_high (as_list rot.child) right rot.writes;
+              so (λ n k. between moved_by_rotate_right siblings n k a) b.low b.high b.at_left b.at_right (λ v. IsGrown A new root xs asked v place given bound)
+              (b.rotate_right new rot (subst (λ v. size_of v ≤ 2) (same-node look siblings.right short.node b.high short.here b.at_right) short.few)
+              (subst (λ v. 3 < size_of v) (same-node look siblings.left lender.node b.low lender.here b.at_left) lender.spare));
+          used = writes-used look new siblings.parent siblings.left siblings.right rot.top rot.low rot.high rot.new_top rot.new_low rot.new_high (as_list rot.child) siblings.right rot.writes;
         }
 
-      module _ (few : HaveFew look left right) (new : Look A) (mg : Merges look new parent index left right) where
-        sum-few : (low high : View A) → look left ≡ Some low → look right ≡ Some high → size_of low + size_of high ≤ 5
+      module _ (few : HaveFew look siblings) (new : Look A) (mg : BecomeOne look new siblings) where
+        sum-few : (low high : View A) → look siblings.left ≡ Some low → look siblings.right ≡ Some high → size_of low + size_of high ≤ 5
         sum-few low high l h =
-            let a1 = ap size_of (same-node look left few.low low few.at_left l) in
-            let a2 = ap size_of (same-node look right few.high high few.at_right h) in
+            let a1 = ap size_of (same-node look siblings.left few.low low few.at_left l) in
+            let a2 = ap size_of (same-node look siblings.right few.high high few.at_right h) in
             let f = few.few in omega arith
 
-        pub joined-both : MendsAbove look new id parent a (moved_by_merge left right parent index count child a)
+        pub joined-both : MendsAbove look new id siblings.parent a (between moved_by_merge siblings count child a)
         joined-both = record {
           shrinking = λ root xs asked place given bound g.
               let b = beside root xs asked place given bound g in
               let f = sum-few b.low b.high b.at_left b.at_right in
               let low = b.lower new mg f in (
-                so (λ n k. moved_by_merge left right parent index n k a) b.low b.high b.at_left b.at_right (λ v. IsShrinking A new root xs parent asked v place (suc given) bound) (b.merge new mg f),
+                so (λ n k. between moved_by_merge siblings n k a) b.low b.high b.at_left b.at_right (λ v. IsShrinking A new root xs siblings.parent asked v place (suc given) bound) (b.merge new mg f),
                 elim s.one_of [
-                  | inl e ↦ subst (λ k. levels_above new (length xs) parent < levels_above look (length xs) k) (sym e) low.0
-                  | inr e ↦ subst (λ k. levels_above new (length xs) parent < levels_above look (length xs) k) (sym e) low.1
+                  | inl e ↦ subst (λ k. levels_above new (length xs) siblings.parent < levels_above look (length xs) k) (sym e) low.0
+                  | inr e ↦ subst (λ k. levels_above new (length xs) siblings.parent < levels_above look (length xs) k) (sym e) low.1
                 ],
               );
-          gone = right;
-          used = merge-used look new parent index left right pair.apart mg;
+          gone = siblings.right;
+          used = merge-used look new siblings.parent siblings.index siblings.left siblings.right pair.apart mg;
         }
 
-  pub can-left : IsShort look left → CanLend look right → CanRotateLeft look parent index left right
+  pub can-left : IsShort look siblings.left → CanLend look siblings.right → CanRotateLeft look siblings
   can-left short lender = record {
-    pair = neighbours;
+    pair = are-siblings;
     room = pair.low_most;
-    spare = subst (λ v. 3 < size_of v) (same-node look right lender.node pair.high lender.here pair.at_right) lender.spare;
+    spare = subst (λ v. 3 < size_of v) (same-node look siblings.right lender.node pair.high lender.here pair.at_right) lender.spare;
   }
 
-  pub can-right : IsShort look right → CanLend look left → CanRotateRight look parent index left right
+  pub can-right : IsShort look siblings.right → CanLend look siblings.left → CanRotateRight look siblings
   can-right short lender = record {
-    pair = neighbours;
+    pair = are-siblings;
     room = pair.high_most;
-    spare = subst (λ v. 3 < size_of v) (same-node look left lender.node pair.low lender.here pair.at_left) lender.spare;
+    spare = subst (λ v. 3 < size_of v) (same-node look siblings.left lender.node pair.low lender.here pair.at_left) lender.spare;
   }
 
-  pub can-merge : HaveFew look left right → CanMerge look parent index left right
+  pub can-merge : HaveFew look siblings → CanMerge look siblings
   can-merge few = record {
-    pair = neighbours;
+    pair = are-siblings;
     room =
-        let a1 = ap size_of (same-node look left few.low pair.low few.at_left pair.at_left) in
-        let a2 = ap size_of (same-node look right few.high pair.high few.at_right pair.at_right) in
+        let a1 = ap size_of (same-node look siblings.left few.low pair.low few.at_left pair.at_left) in
+        let a2 = ap size_of (same-node look siblings.right few.high pair.high few.at_right pair.at_right) in
         let f = few.few in let m = most-some pair.low in omega arith;
     own = pair.low_children;
   }
 
 -- an offset other than -1 stays one
-module _ (left right parent index count : ℕ) (child : Option ℕ) (a : Address) (is : IsSome a.offset) where
+module _ (siblings : Siblings) (count : ℕ) (child : Option ℕ) (a : Address) (is : IsSome a.offset) where
   none : Look ℕ
   none n = None
 
-  pub left-back : IsSome (moved_by_rotate_left left right parent index count child a).offset
-  left-back = some-back none (moved_by_rotate_left left right parent index count child a).offset (rotate-left-back none left right parent index count child a (back-some none a.offset is))
+  pub left-back : IsSome (between moved_by_rotate_left siblings count child a).offset
+  left-back = some-back none (between moved_by_rotate_left siblings count child a).offset (rotate-left-back none siblings.left siblings.right siblings.parent siblings.index count child a (back-some none a.offset is))
 
-  pub right-back : IsSome (moved_by_rotate_right left right parent index count child a).offset
-  right-back = some-back none (moved_by_rotate_right left right parent index count child a).offset (rotate-right-back none left right parent index count child a (back-some none a.offset is))
+  pub right-back : IsSome (between moved_by_rotate_right siblings count child a).offset
+  right-back = some-back none (between moved_by_rotate_right siblings count child a).offset (rotate-right-back none siblings.left siblings.right siblings.parent siblings.index count child a (back-some none a.offset is))
 
-  pub joined-back : IsSome (moved_by_merge left right parent index count child a).offset
-  joined-back = some-back none (moved_by_merge left right parent index count child a).offset (merge-back none left right parent index count child a (back-some none a.offset is))
+  pub joined-back : IsSome (between moved_by_merge siblings count child a).offset
+  joined-back = some-back none (between moved_by_merge siblings count child a).offset (merge-back none siblings.left siblings.right siblings.parent siblings.index count child a (back-some none a.offset is))
 
 -- a small offset, some steps on
 pub offset-far : (count : ℕ) → count ≤ 8 → (o : Option ℕ) → IfSome o (λ n. n ≤ 9) → IfSome o (λ n. n + count + 1 < 2 ^ 64 - 1)

@@ -1,23 +1,24 @@
--- A node with an item too few beside its neighbours: what the step there asks, and what is known afterwards.
+-- A node with an item too few beside its siblings: what the step there asks, and what is known afterwards.
 use Rattle.std.proofs.Common.{◌≡◌, ◌≢◌, ℕ, zero, suc, ◌+◌, ◌<◌, ◌≤◌, ◌-◌, ◌==◌, List, [], ◌∷◌, length, Option, Some, None, IsSome, refl, sym, ap, subst, ◌∙◌, option_map, slice_get, arith, inl, inr}
 use Rattle.std.proofs.lemmas.List.{length-map}
 use Rattle.std.specs.FinMap as nodes_map
 use Rattle.std.specs.List.{position}
 use Rattle.btree_store.specs.Content.{Content}
+use Rattle.btree_moved.specs.declared.siblings.Siblings.{Siblings}
 use Rattle.btree_item.specs.declared.address.Address.{Address}
 use Rattle.btree_node.specs.declared.node.Node.{Node}
 use Rattle.btree_node.specs.Node.{view_of}
 use Rattle.std.specs.Prelude.{IfSome}
 use Rattle.btree_view.specs.View.{Look, View, leaf, internal, children_in, children_of, parent_of, size_of}
-use Rattle.btree_shape.specs.Mend.{Merges, RotatesLeft, RotatesRight}
+use Rattle.btree_shape.specs.Mend.{Merges}
 use Rattle.btree_shape.specs.Mending.{Borrows, Joins, NoneSpares, child_at, from_left, from_right, size_in, with_left, with_right}
 use Rattle.btree_shape.specs.Lists.{times_listed}
 use Rattle.btree_shape.specs.TreeState.{views}
 use Rattle.btree_shape.specs.WellFormed.{times_used}
 use Rattle.btree_shape.proofs.Climbs.{get-times}
 use Rattle.btree_shape.proofs.Shrinks.{to-over}
-use Rattle.btree_raw.specs.NodeSteps.{CanLend}
-use Rattle.btree_raw.specs.Shrink.{AreBeside, AreSiblings, HaveFew, IsChild, IsFollowed, IsShort}
+use Rattle.btree_raw.specs.NodeSteps.{BecomeOne, CanLend, LendsLeft, LendsRight}
+use Rattle.btree_raw.specs.Shrink.{AreBeside, HasSiblings, HaveFew, IsChild, IsFollowed, IsShort, siblings_at, siblings_of}
 use Rattle.btree_raw.specs.Steps.{LeavesAt}
 use Rattle.btree_raw.proofs.LiftLemmas.{has-index, index-is}
 use Rattle.btree_raw.proofs.StepLemmas.{size-at}
@@ -39,7 +40,7 @@ get-none (x ∷ xs) (suc i) e = let r = get-none xs i e in omega arith
 get-some : (xs : List ℕ) (i : ℕ) → i < length xs → IsSome (slice_get xs i)
 get-some xs i lt = rw (slice_get-get_or xs i 0 lt) refl
 
-none-some : (o : Option ℕ) → o ≡ None → IsSome o → ⊥
+none-some : {X : Type 0} (o : Option X) → o ≡ None → IsSome o → ⊥
 none-some None e is = absurd (cc)
 none-some (Some n) e is = absurd (cc)
 
@@ -65,79 +66,116 @@ module _ {A : Type 0} (look : Look A) where
       let l : size_in (look sibling) ≤ 3 = omega arith in
       subst (λ o. IfSome o (λ i. size_in (look i) ≤ 3)) (sym is) l
 
--- the index of a child and its neighbours, read off the parent
-module _ {K V : Type 0} (nodes : Content (Node K V)) (parent id : ℕ) (can : IsChild (views nodes) parent id) where
-  pub child-parent : 0 < times_used (views nodes parent)
-  child-parent = used-there (views nodes) parent can.node can.here
-
+-- the index of a child and its siblings, read off the parent
+module _ {K V : Type 0} (nodes : Content (Node K V)) (parent : ℕ) where
   module _ (node : Node K V) (at : nodes_map.get nodes parent ≡ Some node) where
     here-now : views nodes parent ≡ Some (view_of node)
     here-now = ap (option_map view_of) at
 
-    module _ (o : Option ℕ) (is : o ≡ position (λ child. child == id) (children_of (view_of node))) where
+    child-is : (index : ℕ) (o : Option ℕ) → o ≡ slice_get (children_of (view_of node)) index → child_at (views nodes) parent index ≡ o
+    child-is index o e = child-here (views nodes) parent index (view_of node) o here-now (sym e)
+
+    pub siblings-seen : (index : ℕ) (left right : Option ℕ) → left ≡ slice_get (children_of (view_of node)) index → right ≡ slice_get (children_of (view_of node)) (index + 1)
+        → (found : Option Siblings) → found ≡ siblings_of parent index left right → found ≡ siblings_at (views nodes) parent index
+    siblings-seen index left right l r found e =
+        let n : suc index ≡ index + 1 = omega arith in
+        let next : child_at (views nodes) parent (suc index) ≡ right = subst (λ k. child_at (views nodes) parent k ≡ right) (sym n) (child-is (index + 1) right r) in
+        rw (child-is index left l, next) e
+
+  module _ (id : ℕ) (can : IsChild (views nodes) parent id) where
+    pub child-parent : 0 < times_used (views nodes parent)
+    child-parent = used-there (views nodes) parent can.node can.here
+
+    module _ (node : Node K V) (at : nodes_map.get nodes parent ≡ Some node) (o : Option ℕ)
+        (is : o ≡ position (λ child. child == id) (children_of (view_of node))) where
       pub index-there : IsSome o
       index-there = has-index id (children_of (view_of node)) o
-          (subst (λ v. 0 < times_listed id (children_of v)) (same-node (views nodes) parent can.node (view_of node) can.here here-now) can.child) is
+          (subst (λ v. 0 < times_listed id (children_of v)) (same-node (views nodes) parent can.node (view_of node) can.here (here-now node at)) can.child) is
 
       module _ (index : ℕ) (found : o ≡ Some index) where
         pub index-at : (index < length (children_of (view_of node))) × (slice_get (children_of (view_of node)) index ≡ Some id)
         index-at = index-is id index (children_of (view_of node)) (sym is ∙ found)
 
-        pub siblings-first : (after : Option ℕ) → after ≡ slice_get (children_of (view_of node)) (index + 1) → index ≡ 0 → AreSiblings (views nodes) parent id index None after
-        siblings-first after e z = record {
-          node = view_of node;
-          here = here-now;
-          child = index-at.1;
-          after_is = let n : suc index ≡ index + 1 = omega arith in ap (slice_get (children_of (view_of node))) n ∙ sym e;
-          before_is = λ k s. absurd (omega arith);
-          first = λ z. refl;
-        }
+        module _ (after : Option Siblings) (after_is : after ≡ siblings_at (views nodes) parent index) where
+          pub siblings-first : index ≡ 0 → HasSiblings (views nodes) parent id None after
+          siblings-first z = record {
+            index = index;
+            child = child-is node at index (Some id) (sym index-at.1);
+            after_is = after_is;
+            before_is = λ k s. absurd (omega arith);
+            first = λ z. refl;
+          }
 
-        pub siblings-next : (before after : Option ℕ) → after ≡ slice_get (children_of (view_of node)) (index + 1) → before ≡ slice_get (children_of (view_of node)) (index - 1) → index ≢ 0
-            → AreSiblings (views nodes) parent id index before after
-        siblings-next before after e b some = record {
-          node = view_of node;
-          here = here-now;
-          child = index-at.1;
-          after_is = let n : suc index ≡ index + 1 = omega arith in ap (slice_get (children_of (view_of node))) n ∙ sym e;
-          before_is = λ k s. let n : k ≡ index - 1 = omega arith in ap (slice_get (children_of (view_of node))) n ∙ sym b;
-          first = λ z. absurd (some z);
-        }
+          pub siblings-next : (before : Option Siblings) → before ≡ siblings_at (views nodes) parent (index - 1) → index ≢ 0
+              → HasSiblings (views nodes) parent id before after
+          siblings-next before b some = record {
+            index = index;
+            child = child-is node at index (Some id) (sym index-at.1);
+            after_is = after_is;
+            before_is = λ k s. let n : index - 1 ≡ k = omega arith in subst (λ k. before ≡ siblings_at (views nodes) parent k) n b;
+            first = λ z. absurd (some z);
+          }
 
--- a step with the neighbour on the left
-module _ {A : Type 0} (look : Look A) (parent index left id : ℕ) (a : Address) (s : AreBeside look parent index left id id a) where
-  abbrev two : Beside A look s.followed.root s.followed.xs s.followed.asked a s.followed.place s.followed.given s.followed.bound parent index left id
-  two = pair look parent index left id id a s
+-- a step with the sibling on the left
+module _ {A : Type 0} (look : Look A) (siblings : Siblings) (a : Address) (s : AreBeside look siblings siblings.right a) where
+  abbrev two : Beside A look s.followed.root s.followed.xs s.followed.asked a s.followed.place s.followed.given s.followed.bound
+      siblings.parent siblings.index siblings.left siblings.right
+  two = pair look siblings siblings.right a s
 
-  pub left-there : 0 < times_used (look left)
-  left-there = used-there look left two.low two.at_left
+  pub left-there : 0 < times_used (look siblings.left)
+  left-there = used-there look siblings.left two.low two.at_left
 
-  module _ (held : ℕ) (counted : LeavesAt look left held) where
-    pub left-lends : 3 < held → CanLend look left
-    left-lends many = record { node = two.low; here = two.at_left; spare = let e = size-at look left held two.low two.at_left counted in omega arith }
+  module _ (held : ℕ) (counted : LeavesAt look siblings.left held) where
+    pub left-lends : 3 < held → CanLend look siblings.left
+    left-lends many = record { node = two.low; here = two.at_left; spare = let e = size-at look siblings.left held two.low two.at_left counted in omega arith }
 
-    pub left-few : held ≤ 3 → IsShort look id → HaveFew look left id
+    pub left-few : held ≤ 3 → IsShort look siblings.right → HaveFew look siblings
     left-few few short = record {
       low = two.low;
       high = short.node;
       at_left = two.at_left;
       at_right = short.here;
-      few = let e = size-at look left held two.low two.at_left counted in let f = short.few in omega arith;
+      few = let e = size-at look siblings.left held two.low two.at_left counted in let f = short.few in omega arith;
     }
 
   -- which step it is
-  module _ (held : ℕ) (counted : LeavesAt look left held) (none : NoneSpares look parent (suc (suc index))) (new : Look A) where
-    id-at : child_at look parent (suc index) ≡ Some id
-    id-at = child-here look parent (suc index) s.node (Some id) s.here s.at_right
+  module _ (held : ℕ) (counted : LeavesAt look siblings.left held) (none : NoneSpares look siblings.parent (suc (suc siblings.index))) (new : Look A) where
+    pub left-borrows : 3 < held → LendsRight look new siblings → Borrows look new siblings.parent siblings.right
+    left-borrows many step = let e = counted-in look siblings.left held counted in
+        from_left siblings.index siblings.left s.at_right none (s.at_left, omega arith) step
 
-    left-at : child_at look parent index ≡ Some left
-    left-at = child-here look parent index s.node (Some left) s.here s.at_left
+    pub left-joins : held ≤ 3 → BecomeOne look new siblings → Joins look new siblings.parent siblings.right
+    left-joins low step = with_left siblings.index siblings.left s.at_right none s.at_left (low-at look siblings.parent siblings.index siblings.left held s.at_left counted low) step
 
-    pub left-borrows : 3 < held → RotatesRight look new parent index left id → Borrows look new parent id
-    left-borrows many step = let e = counted-in look left held counted in from_left index left id-at none (left-at, omega arith) step
+-- two children that are there, as siblings
+module _ (p k : ℕ) where
+  record AreOf (l r : Option ℕ) (siblings : Siblings) : Type 0 where
+    pub parent : siblings.parent ≡ p
+    pub index : siblings.index ≡ k
+    pub left : l ≡ Some siblings.left
+    pub right : r ≡ Some siblings.right
 
-    pub left-joins : held ≤ 3 → Merges look new parent index left id → Joins look new parent id
-    left-joins low step = with_left index left id-at none left-at (low-at look parent index left held left-at counted low) step
+  are-of : (l r : Option ℕ) (siblings : Siblings) → siblings_of p k l r ≡ Some siblings → AreOf l r siblings
+  are-of None r siblings e = absurd (cc)
+  are-of (Some l) None siblings e = absurd (cc)
+  are-of (Some l) (Some r) siblings e =
+      let q : record { parent = p; index = k; left = l; right = r } ≡ siblings = cc in
+      record {
+        parent = sym (ap (λ s. s.parent) q);
+        index = sym (ap (λ s. s.index) q);
+        left = ap (λ s. Some s.left) q;
+        right = ap (λ s. Some s.right) q;
+      }
+
+  none-of : (l r : Option ℕ) (x : ℕ) → l ≡ Some x → siblings_of p k l r ≡ None → r ≡ None
+  none-of None r x l e = absurd (cc)
+  none-of (Some l) None x is e = refl
+  none-of (Some l) (Some r) x is e = absurd (cc)
+
+  some-of : (l r : Option ℕ) → IsSome l → IsSome r → IsSome (siblings_of p k l r)
+  some-of None r a b = absurd (cc)
+  some-of (Some l) None a b = absurd (cc)
+  some-of (Some l) (Some r) a b = refl
 
 -- a step at a node with a parent
 module _ {A : Type 0} (look : Look A) (id p : ℕ) (a : Address) (s : IsFollowed look id a) (under : option_map parent_of (look id) ≡ Some (Some p)) where
@@ -155,105 +193,145 @@ module _ {A : Type 0} (look : Look A) (id p : ℕ) (a : Address) (s : IsFollowed
   pub is-short : (count : ℕ) → LeavesAt look id count → count ≤ 2 → IsShort look id
   is-short count counted few = record { node = at-node.0; here = at-node.1; few = let e = size-at look id count at-node.0 at-node.1 counted in omega arith }
 
-  module _ (index : ℕ) (before after : Option ℕ) (sib : AreSiblings look p id index before after) where
-    -- without a neighbour on the right there is one on the left
+  module _ (before after : Option Siblings) (sib : HasSiblings look p id before after) where
+    -- a child stands before each but the first
+    before-some : (k : ℕ) → sib.index ≡ suc k → IsSome (child_at look p k)
+    before-some k e =
+        let m = slice_get_within (children_in (look p)) sib.index id sib.child in
+        get-some (children_in (look p)) k (omega arith)
+
+    both-some : (k : ℕ) → sib.index ≡ suc k → IsSome before
+    both-some k e = subst (λ o. IsSome o) (sym (sib.before_is k e))
+        (some-of p k (child_at look p k) (child_at look p (suc k)) (before-some k e)
+        (subst (λ o. IsSome o) (sym (ap (child_at look p) (sym e) ∙ sib.child)) refl))
+
+    -- without a sibling on the right there is one on the left
     pub before-there : after ≡ None → IsSome before
     before-there none =
         let o = to-over A look s.root s.xs id s.asked a s.place s.given s.bound s.shrinking at-node.0 at-node.1 p up in
-        let same : o.node ≡ sib.node = same-node look p o.node sib.node o.here sib.here in
-        let n = get-none (children_of sib.node) (suc index) (sib.after_is ∙ none) in
-        let m = children-some sib.node index id sib.child in
-        let z = ap size_of same in
+        let same : children_in (look p) ≡ children_of o.node = ap children_in o.here in
+        let last = none-of p sib.index (child_at look p sib.index) (child_at look p (suc sib.index)) id sib.child (sym sib.after_is ∙ none) in
+        let n = get-none (children_in (look p)) (suc sib.index) last in
+        let m = children-some o.node sib.index id (sym (ap (λ xs. slice_get xs sib.index) same) ∙ sib.child) in
+        let z = ap length same in
         let k = o.some in
-        let w = slice_get_within (children_of sib.node) index id sib.child in
-        let e : index ≡ suc (index - 1) = omega arith in
-        subst (λ o. IsSome o) (sib.before_is (index - 1) e) (get-some (children_of sib.node) (index - 1) (omega arith))
+        both-some (sib.index - 1) (omega arith)
 
-    pub index-some : (i : ℕ) → before ≡ Some i → 0 < index
-    index-some i is = some index (λ z. let q = sib.first z in absurd (cc))
-      where
-        some : (n : ℕ) → n ≢ 0 → 0 < n
-        some zero ne = absurd (ne refl)
-        some (suc n) ne = omega arith
+    module _ (j : Siblings) (is : after ≡ Some j) where
+      after-of : AreOf p sib.index (child_at look p sib.index) (child_at look p (suc sib.index)) j
+      after-of = are-of p sib.index (child_at look p sib.index) (child_at look p (suc sib.index)) j (sym sib.after_is ∙ is)
 
-    module _ (j : ℕ) (is : after ≡ Some j) where
-      abbrev pub are-after : AreBeside look p index id j id a
-      are-after = record { node = sib.node; here = sib.here; at_left = sib.child; at_right = sib.after_is ∙ is; one_of = inl refl; under = under; followed = s }
+      pub after-left : j.left ≡ id
+      after-left = let q : Some j.left ≡ Some id = sym after-of.left ∙ sib.child in cc
 
-      abbrev with-after : Beside A look s.root s.xs s.asked a s.place s.given s.bound p index id j
-      with-after = pair look p index id j id a are-after
+      pub after-up : j.parent ≡ p
+      after-up = after-of.parent
 
-      pub after-there : 0 < times_used (look j)
-      after-there = let b = with-after in used-there look j b.high b.at_right
+      -- what holds of the numbers that the siblings name holds of the child's and its parent's
+      pub as-after : (P : ℕ → ℕ → Type 0) → P j.parent j.left → P p id
+      as-after P x = subst (λ n. P p n) after-left (subst (λ q. P q j.left) after-up x)
 
-      pub after-lends : (held : ℕ) → LeavesAt look j held → 3 < held → CanLend look j
+      pub after-at : child_at look j.parent (suc j.index) ≡ Some j.right
+      after-at = rw (after-of.parent, after-of.index) after-of.right
+
+      pub self-at : child_at look j.parent j.index ≡ Some j.left
+      self-at = rw (after-of.parent, after-of.index) after-of.left
+
+      abbrev pub are-after : AreBeside look j id a
+      are-after = record {
+        at_left = self-at;
+        at_right = after-at;
+        one_of = inl (sym after-left);
+        under = under ∙ ap (λ q. Some (Some q)) (sym after-up);
+        followed = s;
+      }
+
+      pub after-beside : AreBeside look j j.left a
+      after-beside = subst (λ n. AreBeside look j n a) (sym after-left) are-after
+
+      abbrev with-after : Beside A look s.root s.xs s.asked a s.place s.given s.bound j.parent j.index j.left j.right
+      with-after = pair look j id a are-after
+
+      pub after-there : 0 < times_used (look j.right)
+      after-there = let b = with-after in used-there look j.right b.high b.at_right
+
+      pub after-lends : (held : ℕ) → LeavesAt look j.right held → 3 < held → CanLend look j.right
       after-lends held counted many = let b = with-after in
-          record { node = b.high; here = b.at_right; spare = let e = size-at look j held b.high b.at_right counted in omega arith }
+          record { node = b.high; here = b.at_right; spare = let e = size-at look j.right held b.high b.at_right counted in omega arith }
 
-      pub after-few : (held count : ℕ) → LeavesAt look j held → held ≤ 3 → LeavesAt look id count → count ≤ 2 → HaveFew look id j
+      pub after-few : (held count : ℕ) → LeavesAt look j.right held → held ≤ 3 → LeavesAt look id count → count ≤ 2 → HaveFew look j
       after-few held count counted few here short = let b = with-after in
           record {
             low = b.low;
             high = b.high;
             at_left = b.at_left;
             at_right = b.at_right;
-            few = let e = size-at look j held b.high b.at_right counted in let f = size-at look id count b.low b.at_left here in omega arith;
+            few = let e = size-at look j.right held b.high b.at_right counted in
+                let f = size-at look j.left count b.low b.at_left (subst (λ n. LeavesAt look n count) (sym after-left) here) in omega arith;
           }
 
-    module _ (i : ℕ) (is : before ≡ Some i) where
-      pub are-before : AreBeside look p (index - 1) i id id a
-      are-before =
-          let some = index-some i is in
-          let e : index ≡ suc (index - 1) = omega arith in
-          record {
-            node = sib.node;
-            here = sib.here;
-            at_left = sib.before_is (index - 1) e ∙ is;
-            at_right = subst (λ k. slice_get (children_of sib.node) k ≡ Some id) e sib.child;
-            one_of = inr refl;
-            under = under;
-            followed = s;
-          }
+    module _ (i : Siblings) (is : before ≡ Some i) where
+      before-next : (k : ℕ) → sib.index ≡ k → (0 < k) × (sib.index ≡ suc i.index)
+      before-next zero e = let q = sib.first e in absurd (cc)
+      before-next (suc k) e = let o = before-of k e in let n = o.index in (omega arith, omega arith)
+        where
+          before-of : (k : ℕ) → sib.index ≡ suc k → AreOf p k (child_at look p k) (child_at look p (suc k)) i
+          before-of k e = are-of p k (child_at look p k) (child_at look p (suc k)) i (sym (sib.before_is k e) ∙ is)
 
-      -- whatever is known at the index after the child's, it is known two after its left neighbour's
-      two-after : NoneSpares look p (suc index) → NoneSpares look p (suc (suc (index - 1)))
-      two-after none =
-          let some = index-some i is in
-          let e : suc index ≡ suc (suc (index - 1)) = omega arith in
-          subst (λ k. NoneSpares look p k) e none
+      next : sib.index ≡ suc i.index
+      next = (before-next sib.index refl).1
 
-      pub none-after : after ≡ None → NoneSpares look p (suc (suc (index - 1)))
-      none-after none = two-after (none-at look p (suc index) (child-here look p (suc index) sib.node None sib.here (sib.after_is ∙ none)))
+      before-of : AreOf p i.index (child_at look p i.index) (child_at look p (suc i.index)) i
+      before-of = are-of p i.index (child_at look p i.index) (child_at look p (suc i.index)) i (sym (sib.before_is i.index next) ∙ is)
 
-      pub low-after : (j held : ℕ) → after ≡ Some j → LeavesAt look j held → held ≤ 3 → NoneSpares look p (suc (suc (index - 1)))
-      low-after j held there counted low =
-          two-after (low-at look p (suc index) j held (child-here look p (suc index) sib.node (Some j) sib.here (sib.after_is ∙ there)) counted low)
+      pub before-right : i.right ≡ id
+      before-right = let q : Some i.right ≡ Some id = sym before-of.right ∙ (ap (child_at look p) (sym next) ∙ sib.child) in cc
 
-    first-from : before ≡ None → (n : ℕ) → index ≡ n → n ≡ 0
+      pub before-up : i.parent ≡ p
+      before-up = before-of.parent
+
+      pub as-before : (P : ℕ → ℕ → Type 0) → P i.parent i.right → P p id
+      as-before P x = subst (λ n. P p n) before-right (subst (λ q. P q i.right) before-up x)
+
+      pub are-before : AreBeside look i i.right a
+      are-before = subst (λ n. AreBeside look i n a) (sym before-right) (record {
+        at_left = rw before-up before-of.left;
+        at_right = rw before-up before-of.right;
+        one_of = inr (sym before-right);
+        under = under ∙ ap (λ q. Some (Some q)) (sym before-up);
+        followed = s;
+      })
+
+      -- whatever is known at the index after the child's, it is known two after its left sibling's
+      two-after : NoneSpares look p (suc sib.index) → NoneSpares look i.parent (suc (suc i.index))
+      two-after none = rw (before-up, ← next) none
+
+      pub none-after : after ≡ None → NoneSpares look i.parent (suc (suc i.index))
+      none-after none = two-after (none-at look p (suc sib.index)
+          (none-of p sib.index (child_at look p sib.index) (child_at look p (suc sib.index)) id sib.child (sym sib.after_is ∙ none)))
+
+      pub low-after : (j : Siblings) (held : ℕ) → after ≡ Some j → LeavesAt look j.right held → held ≤ 3 → NoneSpares look i.parent (suc (suc i.index))
+      low-after j held there counted low = two-after (low-at look p (suc sib.index) j.right held (after-of j there).right counted low)
+
+    first-from : before ≡ None → (n : ℕ) → sib.index ≡ n → n ≡ 0
     first-from none zero e = refl
-    first-from none (suc n) e =
-        let m = slice_get_within (children_of sib.node) index id sib.child in
-        let g = get-some (children_of sib.node) n (omega arith) in
-        absurd (none-some (slice_get (children_of sib.node) n) (sib.before_is n e ∙ none) g)
+    first-from none (suc n) e = absurd (none-some before none (both-some n e))
 
-    -- without a neighbour on the left it is the first child
-    pub first-child : before ≡ None → index ≡ 0
-    first-child none = first-from none index refl
+    -- without a sibling on the left it is the first child
+    pub first-child : before ≡ None → sib.index ≡ 0
+    first-child none = first-from none sib.index refl
 
-    -- which step it is with the neighbour on the right
-    module _ (j held : ℕ) (there : after ≡ Some j) (counted : LeavesAt look j held) (new : Look A) where
-      right-at : child_at look p (suc index) ≡ Some j
-      right-at = child-here look p (suc index) sib.node (Some j) sib.here (sib.after_is ∙ there)
+    -- which step it is with the sibling on the right
+    module _ (j : Siblings) (held : ℕ) (there : after ≡ Some j) (counted : LeavesAt look j.right held) (new : Look A) where
+      pub right-borrows : 3 < held → LendsLeft look new j → Borrows look new p id
+      right-borrows many step = let e = counted-in look j.right held counted in
+          as-after j there (Borrows look new) (from_right j.index j.right (self-at j there) (after-at j there, omega arith) step)
 
-      self-at : child_at look p index ≡ Some id
-      self-at = child-here look p index sib.node (Some id) sib.here sib.child
-
-      pub right-borrows : 3 < held → RotatesLeft look new p index id j → Borrows look new p id
-      right-borrows many step = let e = counted-in look j held counted in from_right index j self-at (right-at, omega arith) step
-
-      pub right-joins : held ≤ 3 → before ≡ None → Merges look new p index id j → Joins look new p id
+      pub right-joins : held ≤ 3 → before ≡ None → BecomeOne look new j → Joins look new p id
       right-joins low first step =
-          let z : index ≡ 0 = first-child first in
-          with_right j (subst (λ k. child_at look p k ≡ Some id) z self-at) (subst (λ k. child_at look p (suc k) ≡ Some j) z right-at)
-          (low-at look p 1 j held (subst (λ k. child_at look p (suc k) ≡ Some j) z right-at) counted low)
-          (subst (λ k. Merges look new p k id j) z step)
+          let z : j.index ≡ 0 = (after-of j there).index ∙ first-child first in
+          let right : child_at look j.parent 1 ≡ Some j.right = subst (λ k. child_at look j.parent (suc k) ≡ Some j.right) z (after-at j there) in
+          as-after j there (Joins look new)
+          (with_right j.right (subst (λ k. child_at look j.parent k ≡ Some j.left) z (self-at j there)) right
+          (low-at look j.parent 1 j.right held right counted low)
+          (subst (λ k. Merges look new j.parent k j.left j.right) z step))

@@ -1,15 +1,16 @@
--- Rotations and merges of two neighbours, call by call.
+-- Rotations and merges of two siblings, call by call.
 use Rattle.std.proofs.Common.{◌≡◌, ◌≢◌, ℕ, ◌+◌, ◌<◌, ◌≤◌, inl, inr, List, [], ◌∷◌, ◌++◌, Option, Some, None, IfSome, refl, sym, ap, subst, ◌∙◌, slice_get, arith}
+use Rattle.btree_moved.specs.declared.siblings.Siblings.{Siblings}
 use Rattle.btree_view.specs.Edits.{HasChildFor, is_internal, joined, pushed_left, pushed_right, with_other_item, without}
 use Rattle.btree_view.specs.View.{Look, View, children_in, children_of, items_of}
 use Rattle.btree_shape.specs.Lists.{as_list, times_listed}
-use Rattle.btree_shape.specs.Mend.{IsRemade, Merges, RotatesLeft, RotatesRight}
+use Rattle.btree_shape.specs.Mend.{IsRemade}
 use Rattle.btree_shape.specs.Step.{Adopts, Loses, Puts}
 use Rattle.btree_shape.specs.WellFormed.{times_used}
 use Rattle.btree_shape.proofs.Frames.{one-self}
 use Rattle.btree_shape.proofs.Numbers.{listed-append, same-node, used-same, used-there, zero-or}
 use Rattle.btree_shape.proofs.Written.{left-written, merge-written, right-written}
-use Rattle.btree_raw.specs.NodeSteps.{AreNeighbours, CanMerge, CanRotateLeft, CanRotateRight, ChangesItem, GainsAll, GainsFirst, GainsLast, HasBetween, HasRoomFor, HasRoomForAll, LosesBetween, LosesFirst, LosesLast}
+use Rattle.btree_raw.specs.NodeSteps.{AreSiblings, BecomeOne, CanMerge, CanRotateLeft, CanRotateRight, ChangesItem, GainsAll, GainsFirst, GainsLast, HasBetween, HasRoomFor, HasRoomForAll, LendsLeft, LendsRight, LosesBetween, LosesFirst, LosesLast}
 use Rattle.btree_raw.specs.Steps.{CanAdopt}
 use Rattle.btree_raw.proofs.MendLemmas.{kind-left, kind-right, remade-joined, remade-left, remade-other, remade-right, remade-without}
 
@@ -17,29 +18,29 @@ one-child : (child : Option ℕ) (P : ℕ → Type 0) → ((n : ℕ) → 0 < tim
 one-child None P all = tt
 one-child (Some n) P all = all n (omega (arith, one-self n))
 
--- what two neighbours have in common
-module _ {A : Type 0} (look : Look A) (parent index left right : ℕ) (pair : AreNeighbours look parent index left right) where
-  pub between-here : HasBetween look parent index
-  between-here = record { node = pair.top; here = pair.at_parent; inner = pair.inner; most = pair.most; within = pair.between }
+-- what two siblings have in common
+module _ {A : Type 0} (look : Look A) (siblings : Siblings) (pair : AreSiblings look siblings) where
+  pub between-here : HasBetween look siblings.parent siblings.index
+  between-here = record { node = pair.top; here = pair.at_parent; inner = pair.inner; most = pair.most; within = pair.within }
 
-  between-other : (new : Look A) → new parent ≡ look parent → HasBetween new parent index
-  between-other new e = record { node = pair.top; here = e ∙ pair.at_parent; inner = pair.inner; most = pair.most; within = pair.between }
+  between-other : (new : Look A) → new siblings.parent ≡ look siblings.parent → HasBetween new siblings.parent siblings.index
+  between-other new e = record { node = pair.top; here = e ∙ pair.at_parent; inner = pair.inner; most = pair.most; within = pair.within }
 
   module _ (child : Option ℕ) (listed : (n : ℕ) → times_listed n (as_list child) ≤ times_listed n (children_of pair.low) + times_listed n (children_of pair.high)) where
-    child-away : (n : ℕ) → 0 < times_listed n (as_list child) → (n ≢ parent) × (n ≢ left) × (n ≢ right)
+    child-away : (n : ℕ) → 0 < times_listed n (as_list child) → (n ≢ siblings.parent) × (n ≢ siblings.left) × (n ≢ siblings.right)
     child-away n m = let l = listed n in let c = pair.children n (omega arith) in (c.1, c.2, c.3)
 
-    child-there : (new : Look A) → ((n : ℕ) → n ≢ parent → n ≢ left → n ≢ right → new n ≡ look n) → IfSome child (λ n. 0 < times_used (new n))
+    child-there : (new : Look A) → ((n : ℕ) → n ≢ siblings.parent → n ≢ siblings.left → n ≢ siblings.right → new n ≡ look n) → IfSome child (λ n. 0 < times_used (new n))
     child-there new still = one-child child (λ n. 0 < times_used (new n)) (λ n m.
         let l = listed n in
         let c = pair.children n (omega arith) in
         used-same look new n (still n c.1 c.2 c.3) c.0)
 
--- a rotation to the left
-module _ {A : Type 0} (look : Look A) (parent index left right : ℕ) (can : CanRotateLeft look parent index left right) where
-  module _ (one_look : Look A) (up : A) (child : Option ℕ) (a : LosesFirst look one_look right up child) where
+-- a rotation to the siblings.left
+module _ {A : Type 0} (look : Look A) (siblings : Siblings) (can : CanRotateLeft look siblings) where
+  module _ (one_look : Look A) (up : A) (child : Option ℕ) (a : LosesFirst look one_look siblings.right up child) where
     high-left : can.pair.high ≡ pushed_left up child a.rest
-    high-left = same-node look right can.pair.high (pushed_left up child a.rest) can.pair.at_right a.was
+    high-left = same-node look siblings.right can.pair.high (pushed_left up child a.rest) can.pair.at_right a.was
 
     kind-high : HasChildFor child can.pair.high
     kind-high = a.kind ∙ sym (ap is_internal high-left ∙ kind-left up child a.rest)
@@ -50,57 +51,57 @@ module _ {A : Type 0} (look : Look A) (parent index left right : ℕ) (can : Can
         let s = listed-append n (as_list child) (children_of a.rest) in
         omega arith
 
-    pub left-between : HasBetween one_look parent index
-    left-between = between-other look parent index left right can.pair one_look (a.puts.others parent (λ e. can.pair.apart.2 (sym e)))
+    pub left-between : HasBetween one_look siblings.parent siblings.index
+    left-between = between-other look siblings can.pair one_look (a.puts.others siblings.parent (λ e. can.pair.apart.2 (sym e)))
 
-    module _ (two : Look A) (down : A) (b : ChangesItem one_look two parent index down up) where
-      at-left : two left ≡ Some can.pair.low
-      at-left = b.puts.others left can.pair.apart.1 ∙ (a.puts.others left can.pair.apart.0 ∙ can.pair.at_left)
+    module _ (two : Look A) (down : A) (b : ChangesItem one_look two siblings.parent siblings.index down up) where
+      at-left : two siblings.left ≡ Some can.pair.low
+      at-left = b.puts.others siblings.left can.pair.apart.1 ∙ (a.puts.others siblings.left can.pair.apart.0 ∙ can.pair.at_left)
 
       top-left : b.node ≡ can.pair.top
       unfolding left-between between-other
-      top-left = same-node one_look parent b.node can.pair.top b.here left-between.here
+      top-left = same-node one_look siblings.parent b.node can.pair.top b.here left-between.here
 
-      pub left-room : HasRoomFor two left child
+      pub left-room : HasRoomFor two siblings.left child
       left-room = record { node = can.pair.low; here = at-left; room = can.room; kind = kind-high ∙ sym can.pair.one_kind }
 
-      module _ (three : Look A) (c : GainsLast two three left down child) where
+      module _ (three : Look A) (c : GainsLast two three siblings.left down child) where
         low-left : c.node ≡ can.pair.low
-        low-left = same-node two left c.node can.pair.low c.here at-left
+        low-left = same-node two siblings.left c.node can.pair.low c.here at-left
 
         pub left-child : IfSome child (λ n. 0 < times_used (three n))
-        left-child = child-there look parent index left right can.pair child listed-left three
+        left-child = child-there look siblings can.pair child listed-left three
             (λ n np nl nr. c.puts.others n nl ∙ (b.puts.others n np ∙ a.puts.others n nr))
 
-        pub turns-left : (new : Look A) → Adopts three new left (as_list child) → RotatesLeft look new parent index left right
+        pub turns-left : (new : Look A) → Adopts three new siblings.left (as_list child) → LendsLeft look new siblings
         turns-left new d = record {
           top = can.pair.top;
           low = can.pair.low;
           high = can.pair.high;
-          new_top = with_other_item index up can.pair.top;
+          new_top = with_other_item siblings.index up can.pair.top;
           new_low = pushed_right down child can.pair.low;
           new_high = a.rest;
           down = down;
           up = up;
           child = child;
-          down_is = subst (λ v. slice_get (items_of v) index ≡ Some down) top-left b.was;
+          down_is = subst (λ v. slice_get (items_of v) siblings.index ≡ Some down) top-left b.was;
           child_for = kind-high;
-          top_is = remade-other index up can.pair.top;
+          top_is = remade-other siblings.index up can.pair.top;
           low_is = remade-right down child can.pair.low (kind-high ∙ sym can.pair.one_kind);
           high_is = subst (λ v. IsRemade a.rest v (up ∷ items_of a.rest) (as_list child ++ children_of a.rest)) (sym high-left) (remade-left up child a.rest a.kind);
           writes =
-              left-written look one_look two three new parent left right can.pair.apart can.pair.top can.pair.low can.pair.high
-              (with_other_item index up can.pair.top) (pushed_right down child can.pair.low) a.rest (as_list child) left
-              (child-away look parent index left right can.pair child listed-left) can.pair.at_parent can.pair.at_left can.pair.at_right d a.puts
-              (subst (λ v. Puts one_look two parent (with_other_item index up v)) top-left b.puts)
-              (subst (λ v. Puts two three left (pushed_right down child v)) low-left c.puts);
+              left-written look one_look two three new siblings.parent siblings.left siblings.right can.pair.apart can.pair.top can.pair.low can.pair.high
+              (with_other_item siblings.index up can.pair.top) (pushed_right down child can.pair.low) a.rest (as_list child) siblings.left
+              (child-away look siblings can.pair child listed-left) can.pair.at_parent can.pair.at_left can.pair.at_right d a.puts
+              (subst (λ v. Puts one_look two siblings.parent (with_other_item siblings.index up v)) top-left b.puts)
+              (subst (λ v. Puts two three siblings.left (pushed_right down child v)) low-left c.puts);
         }
 
--- a rotation to the right
-module _ {A : Type 0} (look : Look A) (parent index left right : ℕ) (can : CanRotateRight look parent index left right) where
-  module _ (one_look : Look A) (up : A) (child : Option ℕ) (a : LosesLast look one_look left up child) where
+-- a rotation to the siblings.right
+module _ {A : Type 0} (look : Look A) (siblings : Siblings) (can : CanRotateRight look siblings) where
+  module _ (one_look : Look A) (up : A) (child : Option ℕ) (a : LosesLast look one_look siblings.left up child) where
     low-right : can.pair.low ≡ pushed_right up child a.rest
-    low-right = same-node look left can.pair.low (pushed_right up child a.rest) can.pair.at_left a.was
+    low-right = same-node look siblings.left can.pair.low (pushed_right up child a.rest) can.pair.at_left a.was
 
     kind-low : HasChildFor child can.pair.low
     kind-low = a.kind ∙ sym (ap is_internal low-right ∙ kind-right up child a.rest)
@@ -111,111 +112,111 @@ module _ {A : Type 0} (look : Look A) (parent index left right : ℕ) (can : Can
         let s = listed-append n (children_of a.rest) (as_list child) in
         omega arith
 
-    pub right-between : HasBetween one_look parent index
-    right-between = between-other look parent index left right can.pair one_look (a.puts.others parent (λ e. can.pair.apart.1 (sym e)))
+    pub right-between : HasBetween one_look siblings.parent siblings.index
+    right-between = between-other look siblings can.pair one_look (a.puts.others siblings.parent (λ e. can.pair.apart.1 (sym e)))
 
-    module _ (two : Look A) (down : A) (b : ChangesItem one_look two parent index down up) where
-      at-right : two right ≡ Some can.pair.high
-      at-right = b.puts.others right can.pair.apart.2 ∙ (a.puts.others right (λ e. can.pair.apart.0 (sym e)) ∙ can.pair.at_right)
+    module _ (two : Look A) (down : A) (b : ChangesItem one_look two siblings.parent siblings.index down up) where
+      at-right : two siblings.right ≡ Some can.pair.high
+      at-right = b.puts.others siblings.right can.pair.apart.2 ∙ (a.puts.others siblings.right (λ e. can.pair.apart.0 (sym e)) ∙ can.pair.at_right)
 
       top-right : b.node ≡ can.pair.top
       unfolding right-between between-other
-      top-right = same-node one_look parent b.node can.pair.top b.here right-between.here
+      top-right = same-node one_look siblings.parent b.node can.pair.top b.here right-between.here
 
-      pub right-room : HasRoomFor two right child
+      pub right-room : HasRoomFor two siblings.right child
       right-room = record { node = can.pair.high; here = at-right; room = can.room; kind = kind-low ∙ can.pair.one_kind }
 
-      module _ (three : Look A) (c : GainsFirst two three right down child) where
+      module _ (three : Look A) (c : GainsFirst two three siblings.right down child) where
         high-right : c.node ≡ can.pair.high
-        high-right = same-node two right c.node can.pair.high c.here at-right
+        high-right = same-node two siblings.right c.node can.pair.high c.here at-right
 
         pub right-child : IfSome child (λ n. 0 < times_used (three n))
-        right-child = child-there look parent index left right can.pair child listed-right three
+        right-child = child-there look siblings can.pair child listed-right three
             (λ n np nl nr. c.puts.others n nr ∙ (b.puts.others n np ∙ a.puts.others n nl))
 
-        pub turns-right : (new : Look A) → Adopts three new right (as_list child) → RotatesRight look new parent index left right
+        pub turns-right : (new : Look A) → Adopts three new siblings.right (as_list child) → LendsRight look new siblings
         turns-right new d = record {
           top = can.pair.top;
           low = can.pair.low;
           high = can.pair.high;
-          new_top = with_other_item index up can.pair.top;
+          new_top = with_other_item siblings.index up can.pair.top;
           new_low = a.rest;
           new_high = pushed_left down child can.pair.high;
           down = down;
           up = up;
           child = child;
-          down_is = subst (λ v. slice_get (items_of v) index ≡ Some down) top-right b.was;
+          down_is = subst (λ v. slice_get (items_of v) siblings.index ≡ Some down) top-right b.was;
           child_for = kind-low;
-          top_is = remade-other index up can.pair.top;
+          top_is = remade-other siblings.index up can.pair.top;
           low_is = subst (λ v. IsRemade a.rest v (items_of a.rest ++ up ∷ []) (children_of a.rest ++ as_list child)) (sym low-right) (remade-right up child a.rest a.kind);
           high_is = remade-left down child can.pair.high (kind-low ∙ can.pair.one_kind);
           writes =
-              right-written look one_look two three new parent left right can.pair.apart can.pair.top can.pair.low can.pair.high
-              (with_other_item index up can.pair.top) a.rest (pushed_left down child can.pair.high) (as_list child) right
-              (child-away look parent index left right can.pair child listed-right) can.pair.at_parent can.pair.at_left can.pair.at_right d a.puts
-              (subst (λ v. Puts one_look two parent (with_other_item index up v)) top-right b.puts)
-              (subst (λ v. Puts two three right (pushed_left down child v)) high-right c.puts);
+              right-written look one_look two three new siblings.parent siblings.left siblings.right can.pair.apart can.pair.top can.pair.low can.pair.high
+              (with_other_item siblings.index up can.pair.top) a.rest (pushed_left down child can.pair.high) (as_list child) siblings.right
+              (child-away look siblings can.pair child listed-right) can.pair.at_parent can.pair.at_left can.pair.at_right d a.puts
+              (subst (λ v. Puts one_look two siblings.parent (with_other_item siblings.index up v)) top-right b.puts)
+              (subst (λ v. Puts two three siblings.right (pushed_left down child v)) high-right c.puts);
         }
 
 -- a merge
-module _ {A : Type 0} (look : Look A) (parent index left right : ℕ) (can : CanMerge look parent index left right) where
+module _ {A : Type 0} (look : Look A) (siblings : Siblings) (can : CanMerge look siblings) where
   abbrev both : List ℕ
   both = children_of can.pair.low ++ children_of can.pair.high
 
-  apart-both : (n : ℕ) → 0 < times_listed n both → (0 < times_used (look n)) × (n ≢ parent) × (n ≢ left) × (n ≢ right)
+  apart-both : (n : ℕ) → 0 < times_listed n both → (0 < times_used (look n)) × (n ≢ siblings.parent) × (n ≢ siblings.left) × (n ≢ siblings.right)
   apart-both n m = can.pair.children n (let s = listed-append n (children_of can.pair.low) (children_of can.pair.high) in omega arith)
 
-  module _ (one_look : Look A) (down : A) (a : LosesBetween look one_look parent index down) where
+  module _ (one_look : Look A) (down : A) (a : LosesBetween look one_look siblings.parent siblings.index down) where
     top-both : a.node ≡ can.pair.top
-    top-both = same-node look parent a.node can.pair.top a.here can.pair.at_parent
+    top-both = same-node look siblings.parent a.node can.pair.top a.here can.pair.at_parent
 
-    pub at-other : one_look right ≡ Some can.pair.high
-    at-other = a.puts.others right can.pair.apart.2 ∙ can.pair.at_right
+    pub at-other : one_look siblings.right ≡ Some can.pair.high
+    at-other = a.puts.others siblings.right can.pair.apart.2 ∙ can.pair.at_right
 
-    pub other-there : 0 < times_used (one_look right)
-    other-there = used-there one_look right can.pair.high at-other
+    pub other-there : 0 < times_used (one_look siblings.right)
+    other-there = used-there one_look siblings.right can.pair.high at-other
 
-    module _ (two : Look A) (b : Loses one_look two right) (other : View A) (is : one_look right ≡ Some other) where
+    module _ (two : Look A) (b : Loses one_look two siblings.right) (other : View A) (is : one_look siblings.right ≡ Some other) where
       same-other : other ≡ can.pair.high
-      same-other = same-node one_look right other can.pair.high is at-other
+      same-other = same-node one_look siblings.right other can.pair.high is at-other
 
-      at-low : two left ≡ Some can.pair.low
-      at-low = b.others left can.pair.apart.0 ∙ (a.puts.others left can.pair.apart.1 ∙ can.pair.at_left)
+      at-low : two siblings.left ≡ Some can.pair.low
+      at-low = b.others siblings.left can.pair.apart.0 ∙ (a.puts.others siblings.left can.pair.apart.1 ∙ can.pair.at_left)
 
-      pub room-both : HasRoomForAll two left other
+      pub room-both : HasRoomForAll two siblings.left other
       room-both = rw same-other (record { node = can.pair.low; here = at-low; kind = sym can.pair.one_kind; room = can.room })
 
-      module _ (three : Look A) (c : GainsAll two three left down other) where
+      module _ (three : Look A) (c : GainsAll two three siblings.left down other) where
         low-both : c.node ≡ can.pair.low
-        low-both = same-node two left c.node can.pair.low c.here at-low
+        low-both = same-node two siblings.left c.node can.pair.low c.here at-low
 
-        puts-both : Puts two three left (joined can.pair.low down can.pair.high)
-        puts-both = subst (λ v. Puts two three left (joined v down can.pair.high)) low-both
-            (subst (λ w. Puts two three left (joined c.node down w)) same-other c.puts)
+        puts-both : Puts two three siblings.left (joined can.pair.low down can.pair.high)
+        puts-both = subst (λ v. Puts two three siblings.left (joined v down can.pair.high)) low-both
+            (subst (λ w. Puts two three siblings.left (joined c.node down w)) same-other c.puts)
 
         remade-both : IsRemade can.pair.low (joined can.pair.low down can.pair.high) (items_of can.pair.low ++ down ∷ items_of can.pair.high) both
         remade-both = remade-joined down can.pair.low can.pair.high can.pair.one_kind
 
-        children-both : children_in (three left) ≡ both
+        children-both : children_in (three siblings.left) ≡ both
         children-both = ap children_in puts-both.here ∙ remade-both.children_are
 
-        pub adopts-both : CanAdopt three left
+        pub adopts-both : CanAdopt three siblings.left
         adopts-both = record {
-          used = used-there three left (joined can.pair.low down can.pair.high) puts-both.here;
+          used = used-there three siblings.left (joined can.pair.low down can.pair.high) puts-both.here;
           children = λ n m.
               let e = ap (times_listed n) children-both in
               let s = apart-both n (omega arith) in
               used-same look three n (c.puts.others n s.2 ∙ (b.others n s.3 ∙ a.puts.others n s.1)) s.0;
-          apart = elim (zero-or (times_listed left (children_in (three left)))) [
+          apart = elim (zero-or (times_listed siblings.left (children_in (three siblings.left)))) [
             | inl z ↦ z
-            | inr m ↦ absurd (let e = ap (times_listed left) children-both in (apart-both left (omega arith)).2 refl)
+            | inr m ↦ absurd (let e = ap (times_listed siblings.left) children-both in (apart-both siblings.left (omega arith)).2 refl)
           ];
         }
 
-        pub merges : (new : Look A) → Adopts three new left (children_in (three left)) → Merges look new parent index left right
+        pub merges : (new : Look A) → Adopts three new siblings.left (children_in (three siblings.left)) → BecomeOne look new siblings
         merges new d =
-            merge-written look one_look two three new parent left right can.pair.apart index can.pair.top can.pair.low can.pair.high
-            (without index can.pair.top) (joined can.pair.low down can.pair.high) down (λ n m. let k = can.pair.children n m in (k.1, k.2, k.3)) can.own
-            can.pair.at_parent can.pair.at_left can.pair.at_right (subst (λ v. slice_get (items_of v) index ≡ Some down) top-both a.was)
-            (remade-without index can.pair.top can.pair.inner) remade-both (subst (λ v. Puts look one_look parent (without index v)) top-both a.puts) b puts-both
-            (subst (λ l. Adopts three new left l) children-both d)
+            merge-written look one_look two three new siblings.parent siblings.left siblings.right can.pair.apart siblings.index can.pair.top can.pair.low can.pair.high
+            (without siblings.index can.pair.top) (joined can.pair.low down can.pair.high) down (λ n m. let k = can.pair.children n m in (k.1, k.2, k.3)) can.own
+            can.pair.at_parent can.pair.at_left can.pair.at_right (subst (λ v. slice_get (items_of v) siblings.index ≡ Some down) top-both a.was)
+            (remade-without siblings.index can.pair.top can.pair.inner) remade-both (subst (λ v. Puts look one_look siblings.parent (without siblings.index v)) top-both a.puts) b puts-both
+            (subst (λ l. Adopts three new siblings.left l) children-both d)

@@ -37,3 +37,7 @@ module _ {N : Type 0} (empty : N) where
 pub record AreClaimed {K V : Type 0} (old new : TreeState K V) (ids : List ℕ) : Type 0 where
   pub claimed : IsClaimed EMPTY old.nodes new.nodes ids
   pub rest : KeepsRest old new
+
+-- whatever tree these numbers were claimed from, it is as it was
+abbrev pub GivesBack : {K V : Type 0} → (old new : TreeState K V) → List ℕ → Type 0
+GivesBack {K} {V} old new ids = (base : TreeState K V) → AreClaimed base old ids → new ≡ base

@@ -2,7 +2,9 @@
 use Rattle.std.specs.Prelude.{◌≡◌, ◌≢◌, ℕ, ◌+◌, ◌<◌, ◌≤◌, [], ◌∷◌, slice_get, Option, Some, None, IfSome, option_map, IsTrue}
 use Rattle.btree_view.specs.View.{View, Look, size_of, most_of, items_of, children_of}
 use Rattle.btree_view.specs.Edits.{with_parent, with_other_item, without, joined, pushed_left, pushed_right, is_internal, HasChildFor, HaveRoom, HasSpare}
+use Rattle.btree_moved.specs.declared.siblings.Siblings.{Siblings}
 use Rattle.btree_shape.specs.Lists.{times_listed}
+use Rattle.btree_shape.specs.Mend.{Merges, RotatesLeft, RotatesRight}
 use Rattle.btree_shape.specs.Step.{Becomes, Puts}
 use Rattle.btree_shape.specs.WellFormed.{times_used}
 
@@ -82,44 +84,56 @@ module _ {A : Type 0} (look : Look A) where
       pub was : slice_get (items_of node) index ≡ Some x
       pub puts : Puts look new id (without index node)
 
+    -- the right sibling has lent an item to the left one
+    abbrev pub LendsLeft : Siblings → Type 0
+    LendsLeft siblings = RotatesLeft look new siblings.parent siblings.index siblings.left siblings.right
+
+    -- the left sibling has lent an item to the right one
+    abbrev pub LendsRight : Siblings → Type 0
+    LendsRight siblings = RotatesRight look new siblings.parent siblings.index siblings.left siblings.right
+
+    -- the two siblings have become one node
+    abbrev pub BecomeOne : Siblings → Type 0
+    BecomeOne siblings = Merges look new siblings.parent siblings.index siblings.left siblings.right
+
     -- node `id` has no parent; nothing else has changed
     abbrev pub ClearsParent : (id : ℕ) → Type 0
     ClearsParent id = Becomes look new id (option_map (with_parent None) (look id))
 
-  -- `left` and `right` are children of `parent` with its item at the index between them, of one kind; their children are there, and are
-  -- other nodes
-  pub record AreNeighbours (parent index left right : ℕ) : Type 0 where
+  -- the two are children of their parent with its item at the index between them, of one kind; their children are there, and are other
+  -- nodes
+  pub record AreSiblings (siblings : Siblings) : Type 0 where
     pub top : View A
     pub low : View A
     pub high : View A
-    pub at_parent : look parent ≡ Some top
-    pub at_left : look left ≡ Some low
-    pub at_right : look right ≡ Some high
+    pub at_parent : look siblings.parent ≡ Some top
+    pub at_left : look siblings.left ≡ Some low
+    pub at_right : look siblings.right ≡ Some high
     pub inner : IsTrue (is_internal top)
     pub one_kind : is_internal low ≡ is_internal high
-    pub between : index < size_of top
+    pub within : siblings.index < size_of top
     pub most : size_of top ≤ most_of top
-    pub apart : (left ≢ right) × (left ≢ parent) × (right ≢ parent)
+    pub apart : (siblings.left ≢ siblings.right) × (siblings.left ≢ siblings.parent) × (siblings.right ≢ siblings.parent)
     pub children : (n : ℕ) → 0 < times_listed n (children_of low) + times_listed n (children_of high)
-        → (0 < times_used (look n)) × (n ≢ parent) × (n ≢ left) × (n ≢ right)
+        → (0 < times_used (look n)) × (n ≢ siblings.parent) × (n ≢ siblings.left) × (n ≢ siblings.right)
 
   -- the right one has an item to spare, and the left one room for one
-  pub record CanRotateLeft (parent index left right : ℕ) : Type 0 where
-    pub pair : AreNeighbours parent index left right
+  pub record CanRotateLeft (siblings : Siblings) : Type 0 where
+    pub pair : AreSiblings siblings
     pub room : size_of pair.low ≤ most_of pair.low
     pub spare : HasSpare pair.high
 
   -- the left one has an item to spare, and the right one room for one
-  pub record CanRotateRight (parent index left right : ℕ) : Type 0 where
-    pub pair : AreNeighbours parent index left right
+  pub record CanRotateRight (siblings : Siblings) : Type 0 where
+    pub pair : AreSiblings siblings
     pub room : size_of pair.high ≤ most_of pair.high
     pub spare : HasSpare pair.low
 
   -- the two and the item between them fit into one node, and the children of the left one name it as their parent
-  pub record CanMerge (parent index left right : ℕ) : Type 0 where
-    pub pair : AreNeighbours parent index left right
+  pub record CanMerge (siblings : Siblings) : Type 0 where
+    pub pair : AreSiblings siblings
     pub room : HaveRoom pair.low pair.high
-    pub own : (n : ℕ) → 0 < times_listed n (children_of pair.low) → option_map (with_parent (Some left)) (look n) ≡ look n
+    pub own : (n : ℕ) → 0 < times_listed n (children_of pair.low) → option_map (with_parent (Some siblings.left)) (look n) ≡ look n
 
   -- the node is there, if one is named
   abbrev pub IsThere : Option ℕ → Type 0

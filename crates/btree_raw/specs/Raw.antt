@@ -16,6 +16,10 @@ module _ {K V : Type 0} where
   abbrev pub AreUsed : Content (Node K V) → List ℕ → Type 0
   AreUsed nodes ids = (n : ℕ) → 0 < times_listed n ids → IsSome (map.get nodes n)
 
+  -- this node is under the number; nothing else is different
+  abbrev pub with_node : TreeState K V → ℕ → Node K V → TreeState K V
+  with_node s id node = record s { nodes = map.insert s.nodes id node }
+
   -- nothing has changed, but that a refusal was counted
   abbrev pub Refuses : (old new : TreeState K V) → Type 0
   Refuses old new = new ≡ record old { refusals = old.refusals + 1 }

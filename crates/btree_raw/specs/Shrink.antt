@@ -1,15 +1,22 @@
--- A climb that mends nodes with too few items: one step of it between two neighbours, and what whoever followed an address knows then.
-use Rattle.std.specs.Prelude.{◌≡◌, ℕ, suc, ◌+◌, ◌<◌, ◌≤◌, ◌⊎◌, List, length, slice_get, Option, Some, None, option_map}
+-- A climb that mends nodes with too few items: one step of it between two siblings, and what whoever followed an address knows then.
+use Rattle.std.specs.Prelude.{◌≡◌, ℕ, suc, ◌+◌, ◌<◌, ◌≤◌, ◌⊎◌, List, length, Option, Some, None, option_map, Bool, true, false}
 use Rattle.btree_item.specs.declared.address.Address.{Address}
 use Rattle.btree_view.specs.View.{View, Look, children_of, parent_of, size_of}
+use Rattle.btree_moved.specs.declared.siblings.Siblings.{Siblings}
 use Rattle.btree_shape.specs.Growing.{IsGrown}
-use Rattle.btree_shape.specs.Mending.{IsMended}
+use Rattle.btree_shape.specs.Mending.{Borrows, IsMended, Joins, NoneSpares, child_at}
 use Rattle.btree_shape.specs.Need.{levels_above}
 use Rattle.btree_shape.specs.Place.{IsPlace, IsValid}
 use Rattle.btree_shape.specs.Lists.{one, times_listed}
 use Rattle.btree_shape.specs.Shrinking.{IsShrinking}
 use Rattle.btree_shape.specs.TreeState.{TreeState, looks}
 use Rattle.btree_shape.specs.WellFormed.{IsFormed, times_used}
+
+-- two neighbouring children of `parent`, if both are there
+abbrev pub siblings_of : (parent index : ℕ) → (left right : Option ℕ) → Option Siblings
+siblings_of parent index (Some left) (Some right) = Some (record { parent = parent; index = index; left = left; right = right })
+siblings_of parent index (Some left) None = None
+siblings_of parent index None right = None
 
 module _ {A : Type 0} (look : Look A) where
   -- node `id` has an item too few
@@ -18,12 +25,12 @@ module _ {A : Type 0} (look : Look A) where
     pub here : look id ≡ Some node
     pub few : size_of node ≤ 2
 
-  -- two nodes and an item more fit into one
-  pub record HaveFew (left right : ℕ) : Type 0 where
+  -- the two siblings and an item more fit into one node
+  pub record HaveFew (siblings : Siblings) : Type 0 where
     pub low : View A
     pub high : View A
-    pub at_left : look left ≡ Some low
-    pub at_right : look right ≡ Some high
+    pub at_left : look siblings.left ≡ Some low
+    pub at_right : look siblings.right ≡ Some high
     pub few : size_of low + size_of high ≤ 5
 
   -- node `id` is one of the children of node `parent`
@@ -32,13 +39,16 @@ module _ {A : Type 0} (look : Look A) where
     pub here : look parent ≡ Some node
     pub child : 0 < times_listed id (children_of node)
 
-  -- node `id` is the child at an index of `parent`, between these two, if there are such
-  pub record AreSiblings (parent id index : ℕ) (before after : Option ℕ) : Type 0 where
-    pub node : View A
-    pub here : look parent ≡ Some node
-    pub child : slice_get (children_of node) index ≡ Some id
-    pub after_is : slice_get (children_of node) (suc index) ≡ after
-    pub before_is : (k : ℕ) → index ≡ suc k → slice_get (children_of node) k ≡ before
+  -- the children of `parent` at an index and at the next one, if there are such
+  abbrev pub siblings_at : (parent index : ℕ) → Option Siblings
+  siblings_at parent index = siblings_of parent index (child_at look parent index) (child_at look parent (suc index))
+
+  -- node `id` is a child of `parent`; with the child before it and with the child after it, it is these siblings, if there are such
+  pub record HasSiblings (parent id : ℕ) (before after : Option Siblings) : Type 0 where
+    pub index : ℕ
+    pub child : child_at look parent index ≡ Some id
+    pub after_is : after ≡ siblings_at parent index
+    pub before_is : (k : ℕ) → index ≡ suc k → before ≡ siblings_at parent k
     pub first : index ≡ 0 → before ≡ None
 
   -- node `id` of a tree with some root may have an item too few, and an address is followed
@@ -51,15 +61,13 @@ module _ {A : Type 0} (look : Look A) where
     pub bound : ℕ
     pub shrinking : IsShrinking A look root xs id asked a place given bound
 
-  -- `left` and `right` are children of `parent` with its item at the index between them; node `id`, one of the two, may have an item too
-  -- few, and an address is followed
-  pub record AreBeside (parent index left right id : ℕ) (a : Address) : Type 0 where
-    pub node : View A
-    pub here : look parent ≡ Some node
-    pub at_left : slice_get (children_of node) index ≡ Some left
-    pub at_right : slice_get (children_of node) (suc index) ≡ Some right
-    pub one_of : (id ≡ left) ⊎ (id ≡ right)
-    pub under : option_map parent_of (look id) ≡ Some (Some parent)
+  -- the two are children of their parent with its item at the index between them; node `id`, one of the two, may have an item too few, and
+  -- an address is followed
+  pub record AreBeside (siblings : Siblings) (id : ℕ) (a : Address) : Type 0 where
+    pub at_left : child_at look siblings.parent siblings.index ≡ Some siblings.left
+    pub at_right : child_at look siblings.parent (suc siblings.index) ≡ Some siblings.right
+    pub one_of : (id ≡ siblings.left) ⊎ (id ≡ siblings.right)
+    pub under : option_map parent_of (look id) ≡ Some (Some siblings.parent)
     pub followed : IsFollowed id a
 
   -- whatever was known of the tree and of address `a` holds with address `b`, and each node has its number of items
@@ -76,6 +84,29 @@ module _ {A : Type 0} (look : Look A) where
         × (levels_above new (length xs) parent < levels_above look (length xs) id)
     pub gone : ℕ
     pub used : (n : ℕ) → times_used (look n) ≡ times_used (new n) + one n gone
+
+module _ {K V : Type 0} (old new : TreeState K V) where
+  -- a step at node `id` that gave no node up ends the climb
+  abbrev pub EndsHere : (id : ℕ) → Address → Address × Bool → Type 0
+  EndsHere id a end = end.1 ≡ false → MendsHere (looks old) (looks new) id a end.0
+
+  -- a step at node `id` that gave a node up goes on at the parent
+  abbrev pub GoesUp : (parent id : ℕ) → Address → Address × Bool → Type 0
+  GoesUp parent id a end = end.1 ≡ true → MendsAbove (looks old) (looks new) id parent a end.0
+
+  -- a step between these two goes on at their parent, whichever of them had an item too few
+  abbrev pub GoesUpFromEither : Siblings → (a b : Address) → Type 0
+  GoesUpFromEither siblings a b = (id : ℕ) → AreBeside (looks old) siblings id a → MendsAbove (looks old) (looks new) id siblings.parent a b
+
+  -- if no child after these two has an item to spare, the right one borrows in its turn
+  abbrev pub BorrowsFromLeft : Siblings → Type 0
+  BorrowsFromLeft siblings = NoneSpares (looks old) siblings.parent (suc (suc siblings.index))
+      → Borrows (looks old) (looks new) siblings.parent siblings.right
+
+  -- if no child after these two has an item to spare, the right one is joined in its turn
+  abbrev pub JoinsWithLeft : Siblings → Type 0
+  JoinsWithLeft siblings = NoneSpares (looks old) siblings.parent (suc (suc siblings.index))
+      → Joins (looks old) (looks new) siblings.parent siblings.right
 
 -- a tree at rest under this root, with the address at its place, or the empty tree, of which every address is nowhere
 abbrev pub Rests : {A : Type 0} → Look A → (root : Option ℕ) → List A → (asked : Option A) → Address → (place given bound : ℕ) → Type 0

@@ -2,8 +2,8 @@
 ghost use Rattle.std.specs.Prelude.{◌≡◌, ◌<◌, ◌≤◌, [], length, None, IfSome, IfNone, IsTrue, false};
 ghost use Rattle.std.specs.FinMap as map;
 ghost use Rattle.btree_shape.specs.TreeState.{TreeState};
-ghost use Rattle.btree_raw.specs.Claimed.{AreClaimed, EMPTY, MayRefuseOneOf};
-ghost use Rattle.btree_raw.specs.Raw.{Refuses};
+ghost use Rattle.btree_raw.specs.Claimed.{AreClaimed, EMPTY, GivesBack, MayRefuseOneOf};
+ghost use Rattle.btree_raw.specs.Raw.{Refuses, with_node};
 
 use crate::raw::RawBTree;
 use arrayvec::ArrayVec;
@@ -19,7 +19,7 @@ pub(crate) fn release<K: Drop, V: Drop, C: NodesMut<K, V>>(
     claims: &mut ClaimedIds,
 )
     requires { (base : TreeState K V) × AreClaimed base tree.old claims.old.items }
-    ensures back { (base : TreeState K V) → AreClaimed base tree.old claims.old.items → tree.new ≡ base }
+    ensures back { GivesBack tree.old tree.new claims.old.items }
     ensures none { claims.new.items ≡ [] }
 {
     tree.tell_fits();
@@ -38,8 +38,7 @@ fn empty_leaf<K: Drop, V: Drop>() -> Node<K, V>
 pub fn claim_one<K: Drop, V: Drop, C: NodesMut<K, V>>(tree: &mut RawBTree<K, V, C>) -> Option<usize>
     ensures number { IfSome result (λ id. id < usize.MAX) }
     ensures unused { IfSome result (λ id. map.get tree.old.nodes id ≡ None) }
-    ensures claimed { IfSome result (λ id.
-        tree.new ≡ record tree.old { nodes = map.insert tree.old.nodes id EMPTY }) }
+    ensures claimed { IfSome result (λ id. tree.new ≡ with_node tree.old id EMPTY) }
     ensures refused { IfNone result (Refuses tree.old tree.new) }
     ensures may_refuse { IfNone result (C.MayRefuse tree.old.nodes) }
 {

@@ -2,14 +2,15 @@
 ghost use Rattle.std.specs.Prelude.{◌<◌};
 ghost use Rattle.btree_node.specs.Node.{view_of};
 ghost use Rattle.btree_shape.specs.Lists.{as_list};
-ghost use Rattle.btree_shape.specs.Mend.{Merges, Releases, RotatesLeft, RotatesRight};
+ghost use Rattle.btree_shape.specs.Mend.{Releases};
 ghost use Rattle.btree_shape.specs.Step.{Adopts};
 ghost use Rattle.btree_shape.specs.TreeState.{Changes, IsUsed, looks};
-ghost use Rattle.btree_raw.specs.NodeSteps.{CanLend, HasRoomFor, HasRoomForAll, HasBetween, LosesFirst, LosesLast, ChangesItem, GainsFirst, GainsLast, GainsAll, LosesBetween, ClearsParent, CanRotateLeft, CanRotateRight, CanMerge, CanRelease, IsThere};
+ghost use Rattle.btree_raw.specs.NodeSteps.{BecomeOne, CanLend, LendsLeft, LendsRight, HasRoomFor, HasRoomForAll, HasBetween, LosesFirst, LosesLast, ChangesItem, GainsFirst, GainsLast, GainsAll, LosesBetween, ClearsParent, CanRotateLeft, CanRotateRight, CanMerge, CanRelease, IsThere};
 
 use crate::nodes::{adopt, set_parent};
 use crate::raw::RawBTree;
 use btree_item::{Item, Offset};
+use btree_moved::Siblings;
 use btree_node::Node;
 use btree_nodes::NodesMut;
 
@@ -133,58 +134,49 @@ fn clear_parent<K, V, C: NodesMut<K, V>>(tree: &mut RawBTree<K, V, C>, id: usize
     tree.node_mut(id).set_parent(None);
 }
 
-/// Rotation to the left: the first item of the right neighbour goes up, and the parent's item down to the end of the left one.
+/// Rotation to the left: the first item of the right sibling goes up, and the parent's item down to the end of the left one.
 pub(crate) fn rotate_left<K: Drop, V: Drop, C: NodesMut<K, V>>(
     tree: &mut RawBTree<K, V, C>,
-    parent: usize,
-    index: usize,
-    left: usize,
-    right: usize,
+    siblings: Siblings,
 )
-    requires can { CanRotateLeft (looks tree.old) parent index left right }
-    requires number { left < usize.MAX }
-    ensures { Changes (λ a b. RotatesLeft a b parent index left right) tree.old tree.new }
+    requires can { CanRotateLeft (looks tree.old) siblings }
+    requires number { siblings.left < usize.MAX }
+    ensures { Changes (λ a b. LendsLeft a b siblings) tree.old tree.new }
 {
-    let (up, child) = take_first(tree, right);
-    let down = change_item(tree, parent, index, up);
-    put_last(tree, left, down, child);
-    move_child(tree, child, left);
+    let (up, child) = take_first(tree, siblings.right);
+    let down = change_item(tree, siblings.parent, siblings.index, up);
+    put_last(tree, siblings.left, down, child);
+    move_child(tree, child, siblings.left);
 }
 
-/// Rotation to the right: the last item of the left neighbour goes up, and the parent's item down to the front of the right one.
+/// Rotation to the right: the last item of the left sibling goes up, and the parent's item down to the front of the right one.
 pub(crate) fn rotate_right<K: Drop, V: Drop, C: NodesMut<K, V>>(
     tree: &mut RawBTree<K, V, C>,
-    parent: usize,
-    index: usize,
-    left: usize,
-    right: usize,
+    siblings: Siblings,
 )
-    requires can { CanRotateRight (looks tree.old) parent index left right }
-    requires number { right < usize.MAX }
-    ensures { Changes (λ a b. RotatesRight a b parent index left right) tree.old tree.new }
+    requires can { CanRotateRight (looks tree.old) siblings }
+    requires number { siblings.right < usize.MAX }
+    ensures { Changes (λ a b. LendsRight a b siblings) tree.old tree.new }
 {
-    let (up, child) = take_last(tree, left);
-    let down = change_item(tree, parent, index, up);
-    put_first(tree, right, down, child);
-    move_child(tree, child, right);
+    let (up, child) = take_last(tree, siblings.left);
+    let down = change_item(tree, siblings.parent, siblings.index, up);
+    put_first(tree, siblings.right, down, child);
+    move_child(tree, child, siblings.right);
 }
 
-/// Merge: the parent's item and what the right neighbour holds go behind what the left one holds, and the right one leaves the store.
+/// Merge: the parent's item and what the right sibling holds go behind what the left one holds, and the right one leaves the store.
 pub(crate) fn merge<K: Drop, V: Drop, C: NodesMut<K, V>>(
     tree: &mut RawBTree<K, V, C>,
-    parent: usize,
-    index: usize,
-    left: usize,
-    right: usize,
+    siblings: Siblings,
 )
-    requires { CanMerge (looks tree.old) parent index left right }
-    ensures { Changes (λ a b. Merges a b parent index left right) tree.old tree.new }
+    requires { CanMerge (looks tree.old) siblings }
+    ensures { Changes (λ a b. BecomeOne a b siblings) tree.old tree.new }
 {
     tree.tell_fits();
-    let down = take_between(tree, parent, index);
-    let other = tree.release_node(right);
-    put_all(tree, left, down, other);
-    adopt(tree, left);
+    let down = take_between(tree, siblings.parent, siblings.index);
+    let other = tree.release_node(siblings.right);
+    put_all(tree, siblings.left, down, other);
+    adopt(tree, siblings.left);
 }
 
 /// Release of an internal root without items, whose only child is then the root.

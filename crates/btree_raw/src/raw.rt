@@ -40,7 +40,7 @@ impl<K, V, C: NodesMut<K, V>> Model for RawBTree<K, V, C> {
 impl<K, V, C: NodesMut<K, V>> RawBTree<K, V, C> {
     ghost use Rattle.btree_view.specs.View.{children_of};
     ghost use Rattle.btree_shape.specs.TreeState.{IsUsed, IsValidIn, item_of};
-    ghost use Rattle.btree_raw.specs.Raw.{AreUsed, GainsNode, Refuses};
+    ghost use Rattle.btree_raw.specs.Raw.{AreUsed, GainsNode, Refuses, with_node};
     ghost use Rattle.btree_raw.specs.contracts.raw.RawBTree.{the_row};
 
     /// No root, the length 0, and an empty store that is made from its origin. It takes no memory.
@@ -150,8 +150,7 @@ impl<K, V, C: NodesMut<K, V>> RawBTree<K, V, C> {
             (the_row K.row V.row C.row C.Origin.row
             (record { MayRefuse = C.MayRefuse; Fits = C.Fits; written = C.written })
             (record { content = C.content; refusals = C.refusals; CanHold = C.CanHold }))
-            (node_row K.row V.row) self.entry result
-            (λ node. record self.old { nodes = map.insert self.old.nodes id node })) }
+            (node_row K.row V.row) self.entry result (with_node self.old id)) }
         ensures value { Some result.now ≡ map.get self.old.nodes id }
     {
         match self.store.get_mut(id) {
@@ -173,8 +172,7 @@ impl<K, V, C: NodesMut<K, V>> RawBTree<K, V, C> {
     pub(crate) fn store_node(&mut self, node: Node<K, V>) -> Result<usize, Node<K, V>>
         ensures number { IfOk result (λ id. id < usize.MAX) }
         ensures unused { IfOk result (λ id. map.get self.old.nodes id ≡ None) }
-        ensures stored { IfOk result (λ id.
-            self.new ≡ record self.old { nodes = map.insert self.old.nodes id node }) }
+        ensures stored { IfOk result (λ id. self.new ≡ with_node self.old id node) }
         ensures returned { IfErr result (λ back. back ≡ node) }
         ensures refused { OnErr result (Refuses self.old self.new) }
         ensures may_refuse { OnErr result (C.MayRefuse self.old.nodes) }

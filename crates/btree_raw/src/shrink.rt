@@ -1,17 +1,18 @@
 //! Nodes with too few items, from a node upward.
-ghost use Rattle.std.specs.Prelude.{◌≡◌, ℕ, suc, ◌<◌, ◌≤◌, IfSome, IsSome, Some, None, option_map, true, false};
+ghost use Rattle.std.specs.Prelude.{◌≡◌, ℕ, ◌<◌, ◌≤◌, IfSome, IsSome, Some, None, option_map, true, false};
 ghost use Rattle.btree_view.specs.View.{parent_of};
-ghost use Rattle.btree_shape.specs.Mending.{Borrows, Joins, NoneSpares};
-ghost use Rattle.btree_shape.specs.TreeState.{KeepsRest, looks};
+ghost use Rattle.btree_shape.specs.Mending.{Borrows, Joins};
+ghost use Rattle.btree_shape.specs.TreeState.{IsUsed, KeepsRest, looks};
 ghost use Rattle.btree_shape.specs.WellFormed.{times_used};
-ghost use Rattle.btree_raw.specs.Shrink.{AreBeside, AreSiblings, IsChild, IsFollowed, IsMending, IsMendingOf, IsShort, MendsAbove, MendsHere, MendsUp};
+ghost use Rattle.btree_raw.specs.Shrink.{AreBeside, BorrowsFromLeft, EndsHere, GoesUp, HasSiblings, IsChild, IsFollowed, IsMending, IsMendingOf, IsShort, JoinsWithLeft, MendsUp};
+ghost use Rattle.btree_raw.specs.Shrink as specs;
 ghost use Rattle.btree_raw.specs.Steps.{LeavesAt};
 
 use crate::lend::{first_child, join, lend_left, lend_right};
 use crate::mend::release_root;
 use crate::raw::RawBTree;
 use btree_item::Address;
-use btree_moved::moved_by_release;
+use btree_moved::{Siblings, moved_by_release};
 use btree_nodes::NodesMut;
 
 // How many items a node has.
@@ -25,58 +26,90 @@ fn count_of<K, V, C: NodesMut<K, V>>(tree: &RawBTree<K, V, C>, id: usize) -> usi
     tree.node(id).item_count()
 }
 
-// The index of a child, and the numbers of the children before and after it.
+// Two neighbouring children, if both are there.
+fn siblings_of(
+    parent: usize,
+    index: usize,
+    left: Option<usize>,
+    right: Option<usize>,
+) -> Option<Siblings>
+    ensures { result ≡ specs.siblings_of parent index left right }
+{
+    match left {
+        Some(left) => match right {
+            Some(right) => Some(Siblings {
+                parent,
+                index,
+                left,
+                right,
+            }),
+            None => None,
+        },
+        None => None,
+    }
+}
+
+// The children at an index and at the next one, if there are such.
+fn siblings_at<K, V, C: NodesMut<K, V>>(
+    tree: &RawBTree<K, V, C>,
+    parent: usize,
+    index: usize,
+) -> Option<Siblings>
+    requires used { IsUsed tree.now parent }
+    requires number { index < usize.MAX }
+    ensures { result ≡ specs.siblings_at (looks tree.now) parent index }
+{
+    tree.tell_fits();
+    let node = tree.node(parent);
+    let left = node.child_id_opt(index);
+    let right = node.child_id_opt(index + 1);
+    siblings_of(parent, index, left, right)
+}
+
+// A child with the child before it, and with the child after it, if there are such.
 fn siblings<K, V, C: NodesMut<K, V>>(
     tree: &RawBTree<K, V, C>,
     parent: usize,
     id: usize,
-) -> (usize, Option<usize>, Option<usize>)
+) -> (Option<Siblings>, Option<Siblings>)
     requires { IsChild (looks tree.now) parent id }
-    ensures { AreSiblings (looks tree.now) parent id result.0 result.1 result.2 }
+    ensures { HasSiblings (looks tree.now) parent id result.0 result.1 }
 {
     tree.tell_fits();
     let node = tree.node(parent);
     // A node has few children, so an index has a next one.
     let _few = node.child_count();
     let index = node.child_index(id).unwrap();
-    let after = node.child_id_opt(index + 1);
+    let after = siblings_at(tree, parent, index);
     if index == 0 {
-        return (index, None, after);
+        return (None, after);
     }
-    (index, node.child_id_opt(index - 1), after)
+    (siblings_at(tree, parent, index - 1), after)
 }
 
-// A step between a node with an item too few and its neighbour on the left. Returns where the address is then, and whether the two are
-// one node.
+// A step between a node with an item too few and its left sibling. Returns where the address is then, and whether the two are one node.
 fn mend_left<K: Drop, V: Drop, C: NodesMut<K, V>>(
     tree: &mut RawBTree<K, V, C>,
-    parent: usize,
-    index: usize,
-    left: usize,
-    id: usize,
+    siblings: Siblings,
     addr: Address,
 ) -> (Address, bool)
-    requires beside { AreBeside (looks tree.old) parent index left id id addr }
-    requires short { IsShort (looks tree.old) id }
+    requires beside { AreBeside (looks tree.old) siblings siblings.right addr }
+    requires short { IsShort (looks tree.old) siblings.right }
     requires low { IfSome addr.offset (λ n. n ≤ 9) }
-    requires number { id < usize.MAX }
-    // It is the step of the order where the right sibling, if there is one, has no item to spare.
-    ensures borrows { result.1 ≡ false → NoneSpares (looks tree.old) parent (suc (suc index))
-        → Borrows (looks tree.old) (looks tree.new) parent id }
-    ensures joins { result.1 ≡ true → NoneSpares (looks tree.old) parent (suc (suc index))
-        → Joins (looks tree.old) (looks tree.new) parent id }
-    ensures even { result.1 ≡ false → MendsHere (looks tree.old) (looks tree.new) id addr result.0 }
-    ensures joined { result.1 ≡ true
-        → MendsAbove (looks tree.old) (looks tree.new) id parent addr result.0 }
+    requires number { siblings.right < usize.MAX }
+    ensures borrows { result.1 ≡ false → BorrowsFromLeft tree.old tree.new siblings }
+    ensures joins { result.1 ≡ true → JoinsWithLeft tree.old tree.new siblings }
+    ensures here { EndsHere tree.old tree.new siblings.right addr result }
+    ensures above { GoesUp tree.old tree.new siblings.parent siblings.right addr result }
     ensures rest { KeepsRest tree.old tree.new }
     ensures back { IsSome addr.offset → IsSome result.0.offset }
 {
     tree.tell_fits();
-    let held = count_of(tree, left);
+    let held = count_of(tree, siblings.left);
     if held > 3 {
-        return (lend_right(tree, parent, index, left, id, held, addr), false);
+        return (lend_right(tree, siblings, held, addr), false);
     }
-    (join(tree, parent, index, left, id, held, addr), true)
+    (join(tree, siblings, held, addr), true)
 }
 
 // One step at a node with a parent that has so many items, one too few. Returns where the address is then, and whether a node was given
@@ -96,28 +129,23 @@ fn mend_at<K: Drop, V: Drop, C: NodesMut<K, V>>(
     requires number { id < usize.MAX }
     ensures borrows { result.1 ≡ false → Borrows (looks tree.old) (looks tree.new) parent id }
     ensures joins { result.1 ≡ true → Joins (looks tree.old) (looks tree.new) parent id }
-    ensures here { result.1 ≡ false → MendsHere (looks tree.old) (looks tree.new) id addr result.0 }
-    ensures above { result.1 ≡ true
-        → MendsAbove (looks tree.old) (looks tree.new) id parent addr result.0 }
+    ensures here { EndsHere tree.old tree.new id addr result }
+    ensures above { GoesUp tree.old tree.new parent id addr result }
     ensures rest { KeepsRest tree.old tree.new }
     ensures back { IsSome addr.offset → IsSome result.0.offset }
 {
     tree.tell_fits();
-    let (index, before, after) = siblings(tree, parent, id);
-    let Some(right) = after else {
-        let left = before.unwrap();
-        return mend_left(tree, parent, index - 1, left, id, addr);
+    let (before, after) = siblings(tree, parent, id);
+    let Some(after) = after else {
+        return mend_left(tree, before.unwrap(), addr);
     };
-    let held = count_of(tree, right);
+    let held = count_of(tree, after.right);
     if held > 3 {
-        return (
-            lend_left(tree, parent, index, id, right, count, addr),
-            false,
-        );
+        return (lend_left(tree, after, count, addr), false);
     }
     match before {
-        Some(left) => mend_left(tree, parent, index - 1, left, id, addr),
-        None => (join(tree, parent, index, id, right, count, addr), true),
+        Some(before) => mend_left(tree, before, addr),
+        None => (join(tree, after, count, addr), true),
     }
 }
 

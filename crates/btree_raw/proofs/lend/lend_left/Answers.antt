@@ -5,19 +5,19 @@ use Rattle.btree_raw.proofs.lend.lend_left.Goals as goal
 use Rattle.btree_shape.proofs.Stores.{used-view}
 
 pub first_child-child-requires : goal.first_child-child-requires
-first_child-child-requires g c = used-view c.args.tree.now.nodes c.args.right (right-there (looks c.args.tree.now) c.args.parent c.args.index c.args.left c.args.right c.args.left c.args.addr c.requires.beside)
+first_child-child-requires g c = used-view c.args.tree.now.nodes c.args.siblings.right (right-there (looks c.args.tree.now) c.args.siblings c.args.siblings.left c.args.addr c.requires.beside)
 
 pub rotate_left-requires-clause-can : goal.rotate_left-requires-clause-can
-rotate_left-requires-clause-can g c = can-left (looks c.args.tree.now) c.args.parent c.args.index c.args.left c.args.right c.args.left c.args.addr c.requires.beside c.requires.short c.requires.lender
+rotate_left-requires-clause-can g c = can-left (looks c.args.tree.now) c.args.siblings c.args.siblings.left c.args.addr c.requires.beside c.requires.short c.requires.lender
 
-pub returns-clause-even : goal.returns-clause-even
-returns-clause-even g c = rw c.moved_by_rotate_left.ensures (even-left (looks c.args.tree.now) c.args.parent c.args.index c.args.left c.args.right c.args.left c.args.addr c.requires.beside c.args.count c.requires.count c.first_child-child.result c.first_child-child.ensures c.requires.short c.requires.lender (looks c.rotate_left.new.tree) c.rotate_left.ensures.nodes)
+pub returns-clause-here : goal.returns-clause-here
+returns-clause-here g c = rw c.moved_by_rotate_left.ensures (even-left (looks c.args.tree.now) c.args.siblings c.args.siblings.left c.args.addr c.requires.beside c.args.count c.requires.count c.first_child-child.result c.first_child-child.ensures c.requires.short c.requires.lender (looks c.rotate_left.new.tree) c.rotate_left.ensures.nodes)
 
 pub returns-clause-back : goal.returns-clause-back
-returns-clause-back g c = λ is. rw c.moved_by_rotate_left.ensures (left-back c.args.left c.args.right c.args.parent c.args.index c.args.count c.first_child-child.result c.args.addr is)
+returns-clause-back g c = λ is. rw c.moved_by_rotate_left.ensures (left-back c.args.siblings c.args.count c.first_child-child.result c.args.addr is)
 
 pub moved_by_rotate_left-requires-clause-index : goal.moved_by_rotate_left-requires-clause-index
-moved_by_rotate_left-requires-clause-index g c = index-few (looks c.args.tree.now) c.args.parent c.args.index c.args.left c.args.right c.args.left c.args.addr c.requires.beside
+moved_by_rotate_left-requires-clause-index g c = index-few (looks c.args.tree.now) c.args.siblings c.args.siblings.left c.args.addr c.requires.beside
 
 pub moved_by_rotate_left-requires-clause-count : goal.moved_by_rotate_left-requires-clause-count
-moved_by_rotate_left-requires-clause-count g c = let l = count-low (looks c.args.tree.now) c.args.parent c.args.index c.args.left c.args.right c.args.left c.args.addr c.requires.beside c.args.count c.requires.count in omega arith
+moved_by_rotate_left-requires-clause-count g c = let l = count-low (looks c.args.tree.now) c.args.siblings c.args.siblings.left c.args.addr c.requires.beside c.args.count c.requires.count in omega arith

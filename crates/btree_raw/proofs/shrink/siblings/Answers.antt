@@ -9,11 +9,20 @@ node-node-requires g c = (c.tell_fits.ensures, used-view c.args.tree.now.nodes c
 pub unwrap-index-requires : goal.unwrap-index-requires
 unwrap-index-requires g c = index-there c.args.tree.now.nodes c.args.parent c.args.id c.requires c.node-node.result.now c.node-node.ensures.value c.child_index.result c.child_index.ensures.value
 
-pub overflow_add-index : goal.overflow_add-index
-overflow_add-index g c = let l = (index-at c.args.tree.now.nodes c.args.parent c.args.id c.requires c.node-node.result.now c.node-node.ensures.value c.child_index.result c.child_index.ensures.value c.unwrap-index.result c.unwrap-index.ensures).0 in let v = c.child_count-few.ensures.value in let f = c.child_count-few.ensures.fits in omega arith
+pub siblings_at-after-requires-clause-used : goal.siblings_at-after-requires-clause-used
+siblings_at-after-requires-clause-used g c = used-view c.args.tree.now.nodes c.args.parent (child-parent c.args.tree.now.nodes c.args.parent c.args.id c.requires)
+
+pub siblings_at-after-requires-clause-number : goal.siblings_at-after-requires-clause-number
+siblings_at-after-requires-clause-number g c = let l = (index-at c.args.tree.now.nodes c.args.parent c.args.id c.requires c.node-node.result.now c.node-node.ensures.value c.child_index.result c.child_index.ensures.value c.unwrap-index.result c.unwrap-index.ensures).0 in let v = c.child_count-few.ensures.value in let f = c.child_count-few.ensures.fits in omega arith
+
+pub siblings_at-requires-clause-used : goal.siblings_at-requires-clause-used
+siblings_at-requires-clause-used g c = used-view c.args.tree.now.nodes c.args.parent (child-parent c.args.tree.now.nodes c.args.parent c.args.id c.requires)
+
+pub siblings_at-requires-clause-number : goal.siblings_at-requires-clause-number
+siblings_at-requires-clause-number g c = let l = (index-at c.args.tree.now.nodes c.args.parent c.args.id c.requires c.node-node.result.now c.node-node.ensures.value c.child_index.result c.child_index.ensures.value c.unwrap-index.result c.unwrap-index.ensures).0 in let v = c.child_count-few.ensures.value in let f = c.child_count-few.ensures.fits in omega arith
 
 pub returns-then-index-eq0 : goal.returns-then-index-eq0
-returns-then-index-eq0 g c = siblings-first c.args.tree.now.nodes c.args.parent c.args.id c.requires c.node-node.result.now c.node-node.ensures.value c.child_index.result c.child_index.ensures.value c.unwrap-index.result c.unwrap-index.ensures c.child_id_opt-after.result c.child_id_opt-after.ensures c.if-index-eq0.true
+returns-then-index-eq0 g c = siblings-first c.args.tree.now.nodes c.args.parent c.args.id c.requires c.node-node.result.now c.node-node.ensures.value c.child_index.result c.child_index.ensures.value c.unwrap-index.result c.unwrap-index.ensures c.siblings_at-after.result c.siblings_at-after.ensures c.if-index-eq0.true
 
 pub returns : goal.returns
-returns g c = siblings-next c.args.tree.now.nodes c.args.parent c.args.id c.requires c.node-node.result.now c.node-node.ensures.value c.child_index.result c.child_index.ensures.value c.unwrap-index.result c.unwrap-index.ensures c.child_id_opt.result c.child_id_opt-after.result c.child_id_opt-after.ensures c.child_id_opt.ensures c.if-index-eq0.false
+returns g c = siblings-next c.args.tree.now.nodes c.args.parent c.args.id c.requires c.node-node.result.now c.node-node.ensures.value c.child_index.result c.child_index.ensures.value c.unwrap-index.result c.unwrap-index.ensures c.siblings_at-after.result c.siblings_at-after.ensures c.siblings_at.result c.siblings_at.ensures c.if-index-eq0.false
