@@ -3,7 +3,8 @@ use Rattle.std.proofs.Common.{◌≡◌, ◌<◌, ◌≤◌, ◌+◌, ℕ, true,
 use Rattle.std.specs.Option.{option_eq}
 use Rattle.std.proofs.lemmas.Bool.Decides.{nat_tests}
 use Rattle.btree_view.specs.View.{View, most_of, parent_of, size_of}
-use Rattle.btree_shape.specs.WellFormed.{IsNearlySized, excess_beside, least_beside}
+use Rattle.btree_shape.specs.WellFormed.{excess_beside, least_beside}
+use Rattle.btree_valid.specs.Odd.{MayEnter}
 
 same-number : (m n : ℕ) → eqb m n ≡ true → m ≡ n
 same-number m n e = grind (arith, nat_tests)
@@ -36,11 +37,8 @@ most-at : (m n : ℕ) → m ≤ n → IsTrue (leb m n)
 most-at m n e = grind (arith, nat_tests)
 
 module _ {A : Type 0} (v : View A) (root odd id left : ℕ) (parent : Option ℕ) where
-  abbrev MayEnter : Type 0
-  MayEnter = (0 < left) × (parent_of v ≡ parent) × IsNearlySized root odd id v
-
   pub enters : (count most : ℕ) → count ≡ size_of v → most ≡ most_of v + excess_beside odd id → (left ≡ 0 → ⊥) → parent_of v ≡ parent → (least : ℕ) → least ≡ least_beside root odd id → least ≤ count
-      → (IsTrue (leb count most) → MayEnter) × (MayEnter → IsTrue (leb count most))
+      → (IsTrue (leb count most) → MayEnter v root odd id left parent) × (MayEnter v root odd id left parent → IsTrue (leb count most))
   enters count most c m some up least is low = (
     λ yes. let l = at-most count most yes in (positive left some, up, (omega arith, omega arith)),
     λ p. let l = p.2.1 in most-at count most (omega arith),

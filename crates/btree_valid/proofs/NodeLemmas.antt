@@ -12,12 +12,9 @@ use Rattle.btree_shape.specs.Spells.{Spells, numbers_under, spelled}
 use Rattle.btree_shape.specs.TreeState.{views}
 use Rattle.btree_shape.specs.WellFormed.{IsNearlySized}
 use Rattle.btree_shape.proofs.Frames.{one-self}
-use Rattle.btree_valid.specs.Odd.{CanOrder, CanPassUnder, Orders, PassesUnder}
+use Rattle.btree_valid.specs.Odd.{CanOrder, CanPassUnder, MayEnter, Orders, PassesUnder}
 use Rattle.btree_valid.specs.declared.odd.Walk.{Walk}
 use Rattle.btree_valid.proofs.PassLemmas.{IsInNode, first-can, first-passed, leaf-can, leaf-passed}
-
-abbrev pub MayEnter : {A : Type 0} → View A → (root odd id left : ℕ) → Option ℕ → Type 0
-MayEnter v root odd id left parent = (0 < left) × (parent_of v ≡ parent) × IsNearlySized root odd id v
 
 -- by its first child
 pub is-leaf : {A : Type 0} (v : View A) → None ≡ slice_get (children_of v) 0 → v ≡ leaf (parent_of v) (items_of v)

@@ -19,7 +19,7 @@ use Rattle.btree_shape.proofs.Searched.{Rises, rises}
 use Rattle.btree_shape.proofs.Spelled.{spelled-is}
 use Rattle.btree_shape.proofs.SpelledShapes.{shape-of}
 use Rattle.btree_shape.proofs.Stores.{len-views}
-use Rattle.btree_valid.specs.Odd.{CanPassUnder, IsOffAmong, IsOffAt, IsOffAtHeight, PassesUnder}
+use Rattle.btree_valid.specs.Odd.{CanPassUnder, IsOffAmong, IsOffAt, IsOffAtSomeHeight, PassesUnder}
 use Rattle.btree_valid.proofs.OnceLemmas.{all-used, few}
 use Rattle.btree_valid.proofs.OrderLemmas.{passed-none}
 
@@ -137,12 +137,12 @@ module _ {K V : Type 0} (cmp : K → K → Ordering) (nodes : Content (Node K V)
 
   -- it is off by one there, at one of the heights that such a tree may have
   pub found-off : (root : ℕ) (result : Bool) → IsSome (map.get nodes id)
-      → (IsTrue result → (height : ℕ) × (height < 32) × IsOffAtHeight cmp nodes root id height)
-      → ((height : ℕ) → height < 32 → IsOffAtHeight cmp nodes root id height → IsTrue result)
+      → (IsTrue result → IsOffAtSomeHeight cmp nodes root id)
+      → (IsOffAtSomeHeight cmp nodes root id → IsTrue result)
       → (IsTrue result → IsOffAmong cmp nodes root id) × (IsOffAmong cmp nodes root id → IsTrue result)
   found-off root result there only always = (
     λ yes. let h = only yes in is-off cmp (views nodes) root id h.0 h.1 h.2 (is-there (map.get nodes id) there),
-    λ off. let h = off-is cmp (views nodes) root id off.0 off.1 in always h.0 h.1 h.2,
+    λ off. always (off-is cmp (views nodes) root id off.0 off.1),
   )
 
   pub not-there : (root : ℕ) → map.get nodes id ≡ None → (IsTrue false → IsOffAmong cmp nodes root id) × (IsOffAmong cmp nodes root id → IsTrue false)

@@ -6,7 +6,7 @@ use Rattle.std.specs.declared.cmp.Ordering.TheVariants.{Less}
 use Rattle.btree_item.specs.Pairs.{Ascends}
 use Rattle.btree_node.specs.declared.node.Node.{Node}
 use Rattle.btree_store.specs.Content.{Content}
-use Rattle.btree_view.specs.View.{Look, View}
+use Rattle.btree_view.specs.View.{Look, View, parent_of}
 use Rattle.btree_shape.specs.Lists.{times_listed}
 use Rattle.btree_shape.specs.Spells.{Spells, numbers_under, spelled}
 use Rattle.btree_shape.specs.TreeState.{views}
@@ -16,6 +16,11 @@ use Rattle.btree_shape.specs.WellFormed.{IsNearlySized, IsOffByOne, IsRooted}
 abbrev pub IsAbove : {K : Type 0} → (cmp : K → K → Ordering) → (last : Option K) → K → Type 0
 IsAbove cmp None key = Unit {0}
 IsAbove cmp (Some last) key = cmp last key ≡ Less
+
+-- the walk may come to a node here: one more may come, the node names its parent, and it has its number of items, but for one more or
+-- less at node `odd`
+abbrev pub MayEnter : {A : Type 0} → View A → (root odd id left : ℕ) → (parent : Option ℕ) → Type 0
+MayEnter node root odd id left parent = (0 < left) × (parent_of node ≡ parent) × IsNearlySized root odd id node
 
 module _ {K V : Type 0} (cmp : K → K → Ordering) where
   -- the keys of the pairs passed ascend, and the keys above `last` are those that are above them all
@@ -64,16 +69,14 @@ module _ {K V : Type 0} (cmp : K → K → Ordering) where
       abbrev pub CanPassUnder : (left : ℕ) (last : Option K) → Type 0
       CanPassUnder = CanPass (Spells look height parent id (spelled look (suc height) id)) (numbers_under look height id) (spelled look (suc height) id)
 
-  -- the same words on the nodes of a store
+  -- the same of the nodes of a store
   module _ (nodes : Content (Node K V)) (root odd : ℕ) where
-    abbrev pub PassesFrom : (height : ℕ) (parent : Option ℕ) (id : ℕ) (left : ℕ) (last : Option K) (left_after : ℕ) (last_after : Option K) → Type 0
-    PassesFrom = PassesUnder (views nodes) root odd
-
-    abbrev pub CanPassFrom : (height : ℕ) (parent : Option ℕ) (id : ℕ) (left : ℕ) (last : Option K) → Type 0
-    CanPassFrom = CanPassUnder (views nodes) root odd
-
     abbrev pub IsOffAtHeight : (height : ℕ) → Type 0
     IsOffAtHeight = IsOffAt (views nodes) root odd
+
+    -- at one of the heights that such a tree may have
+    abbrev pub IsOffAtSomeHeight : Type 0
+    IsOffAtSomeHeight = (height : ℕ) × (height < 32) × IsOffAtHeight height
 
     -- the tree under the root is off by one at node `odd`, with some pairs
     abbrev pub IsOffAmong : Type 0

@@ -4,8 +4,9 @@ ghost use Rattle.std.specs.Mem.{FitsInMemory};
 ghost use Rattle.btree_node.specs.contracts.node.Node.{the_row as node_row};
 ghost use Rattle.btree_node.specs.Node.{view_of};
 ghost use Rattle.btree_view.specs.View.{items_of, leaf, most_of, parent_of};
-ghost use Rattle.btree_shape.specs.WellFormed.{IsNearlySized, excess_beside, least_beside};
-ghost use Rattle.btree_valid.specs.Odd.{CanOrder, CanPassFrom, IsAbove, IsOffAmong, IsOffAtHeight, Orders, PassesFrom};
+ghost use Rattle.btree_shape.specs.WellFormed.{excess_beside, least_beside};
+ghost use Rattle.btree_valid.specs.Odd.{IsAbove, IsOffAmong, IsOffAtHeight, IsOffAtSomeHeight, MayEnter};
+ghost use Rattle.btree_valid.specs.Parts.{CanPassItems, CanPassPart, PassesItems, PassesPart};
 
 use btree_node::Node;
 use btree_nodes::Nodes;
@@ -16,6 +17,14 @@ use std::cmp::Ordering;
 struct Walk<'a, K> {
     left: usize,
     last: Option<&'a K>,
+}
+
+// A part of a tree as it is to be: a node with all below it, so many levels above the leaves, under this parent.
+#[derive(Clone, Copy)]
+struct Part {
+    height: usize,
+    parent: Option<usize>,
+    id: usize,
 }
 
 // Whether a key is above the last one passed.
@@ -58,7 +67,7 @@ fn may_enter<K, V>(
     id: usize,
     left: usize,
 ) -> bool
-    ensures { IsTrue result ↔ ((0 < left) × (parent_of (view_of node.now) ≡ parent) × IsNearlySized root odd id (view_of node.now)) }
+    ensures { IsTrue result ↔ MayEnter (view_of node.now) root odd id left parent }
 {
     if left == 0 {
         return false;
@@ -77,8 +86,8 @@ fn may_enter<K, V>(
 fn pass_items<'a, K: Ord, V>(node: &'a Node<K, V>, seen: Walk<'a, K>) -> Option<Walk<'a, K>>
     requires { view_of node.now ≡ leaf (parent_of (view_of node.now)) (items_of (view_of node.now)) }
     ensures left { IfSome result (λ after. after.left ≡ seen.entry.left) }
-    ensures order { IfSome result (λ after. Orders K.cmp (items_of (view_of node.now)) (option_copied seen.entry.last) (option_copied after.last)) }
-    ensures always { CanOrder K.cmp (items_of (view_of node.now)) (option_copied seen.entry.last) → IsSome result }
+    ensures order { IfSome result (PassesItems K.cmp node.now seen.entry) }
+    ensures always { CanPassItems K.cmp node.now seen.entry → IsSome result }
 {
     let items = match node {
         Node::Leaf(items) => items,
@@ -98,20 +107,19 @@ fn pass_items<'a, K: Ord, V>(node: &'a Node<K, V>, seen: Walk<'a, K>) -> Option<
     })
 }
 
-// Passes a node, so many levels above the leaves, and all below it, if they are as they should be.
+// Passes a part of the tree, if it is as it should be.
 fn pass_node<'a, K: Ord + 'a, V: 'a, C: Nodes<K, V>>(
     nodes: &'a C,
     root: usize,
     odd: usize,
-    height: usize,
-    parent: Option<usize>,
-    id: usize,
+    part: Part,
     seen: Walk<'a, K>,
 ) -> Option<Walk<'a, K>>
     requires { FitsInMemory (node_row K.row V.row) }
-    ensures only { IfSome result (λ after. PassesFrom K.cmp (C.content nodes.now) root odd height parent id seen.entry.left (option_copied seen.entry.last) after.left (option_copied after.last)) }
-    ensures always { CanPassFrom K.cmp (C.content nodes.now) root odd height parent id seen.entry.left (option_copied seen.entry.last) → IsSome result }
+    ensures only { IfSome result (PassesPart K.cmp (C.content nodes.now) root odd part seen.entry) }
+    ensures always { CanPassPart K.cmp (C.content nodes.now) root odd part seen.entry → IsSome result }
 {
+    let Part { height, parent, id } = part;
     let node = nodes.get(id)?;
     if !may_enter(node, root, odd, parent, id, seen.left) {
         return None;
@@ -129,7 +137,12 @@ fn pass_node<'a, K: Ord + 'a, V: 'a, C: Nodes<K, V>>(
     if height == 0 {
         return None;
     }
-    let mut passed = pass_node(nodes, root, odd, height - 1, Some(id), first, entered)?;
+    let leftmost = Part {
+        height: height - 1,
+        parent: Some(id),
+        id: first,
+    };
+    let mut passed = pass_node(nodes, root, odd, leftmost, entered)?;
     let mut index = 0;
     while let Some((item, child)) = node.branch_at_index(index) {
         let key = item.key();
@@ -140,7 +153,11 @@ fn pass_node<'a, K: Ord + 'a, V: 'a, C: Nodes<K, V>>(
             left: passed.left,
             last: Some(key),
         };
-        passed = pass_node(nodes, root, odd, height - 1, Some(id), child, next)?;
+        let below = Part {
+            id: child,
+            ..leftmost
+        };
+        passed = pass_node(nodes, root, odd, below, next)?;
         index += 1;
     }
     Some(passed)
@@ -155,7 +172,12 @@ fn is_off_at<K: Ord, V, C: Nodes<K, V>>(nodes: &C, root: usize, odd: usize, heig
         left: nodes.len(),
         last: None,
     };
-    match pass_node(nodes, root, odd, height, None, root, start) {
+    let whole = Part {
+        height,
+        parent: None,
+        id: root,
+    };
+    match pass_node(nodes, root, odd, whole, start) {
         Some(after) => after.left == 0,
         None => false,
     }
@@ -164,10 +186,7 @@ fn is_off_at<K: Ord, V, C: Nodes<K, V>>(nodes: &C, root: usize, odd: usize, heig
 // Whether the tree is off by one at node `odd`, at one of the heights that such a tree may have.
 fn is_off_at_some<K: Ord, V, C: Nodes<K, V>>(nodes: &C, root: usize, odd: usize) -> bool
     requires { FitsInMemory (node_row K.row V.row) }
-    ensures only { IsTrue result
-        → (height : ℕ) × (height < 32) × IsOffAtHeight K.cmp (C.content nodes.now) root odd height }
-    ensures always { (height : ℕ) → height < 32
-        → IsOffAtHeight K.cmp (C.content nodes.now) root odd height → IsTrue result }
+    ensures { IsTrue result ↔ IsOffAtSomeHeight K.cmp (C.content nodes.now) root odd }
 {
     for height in 0..32 {
         if is_off_at(nodes, root, odd, height) {

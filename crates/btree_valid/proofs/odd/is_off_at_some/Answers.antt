@@ -1,4 +1,4 @@
-use Rattle.std.proofs.Common.{arith}
+use Rattle.std.proofs.Common.{arith, refl}
 use Rattle.btree_shape.specs.TreeState.{views}
 use Rattle.btree_valid.specs.Odd.{IsOffAt}
 use Rattle.btree_valid.proofs.OffLemmas.{next-height}
@@ -7,5 +7,8 @@ use Rattle.btree_valid.proofs.odd.is_off_at_some.Goals as goal
 pub loop-height-preserved : goal.loop-height-preserved
 loop-height-preserved g c = next-height (λ h. IsOffAt g.K.Ord.cmp (views (g.C.Nodes.content c.args.nodes.now)) c.args.root c.args.odd h) c.loop-height.height c.loop-height.invariant c.if-is_off_at.ensures.1
 
-pub returns-clause-always : goal.returns-clause-always
-returns-clause-always g c = λ height low off. let e = c.loop-height-test.false in absurd (c.loop-height.invariant height (omega arith) off)
+pub returns-then-is_off_at : goal.returns-then-is_off_at
+returns-then-is_off_at g c = (λ yes. (c.loop-height.height, omega arith, c.if-is_off_at.ensures.0 refl), λ some. refl)
+
+pub returns : goal.returns
+returns g c = (λ no. absurd (cc), λ some. let e = c.loop-height-test.false in absurd (c.loop-height.invariant some.0 (omega arith) some.2))

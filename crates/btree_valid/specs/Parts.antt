@@ -1,0 +1,28 @@
+-- The walk by what code carries of it: how many nodes may still come, and the last key that was passed.
+use Rattle.std.specs.Prelude.{ℕ, option_copied}
+use Rattle.std.specs.declared.cmp.Ordering.{Ordering}
+use Rattle.btree_node.specs.declared.node.Node.{Node}
+use Rattle.btree_node.specs.Node.{view_of}
+use Rattle.btree_store.specs.Content.{Content}
+use Rattle.btree_view.specs.View.{items_of}
+use Rattle.btree_shape.specs.TreeState.{views}
+use Rattle.btree_valid.specs.Odd.{CanOrder, CanPassUnder, Orders, PassesUnder}
+use Rattle.btree_valid.specs.declared.odd.Part.{Part}
+use Rattle.btree_valid.specs.declared.odd.Walk.{Walk}
+
+module _ {K V : Type 0} (cmp : K → K → Ordering) where
+  -- the walk passes the items of a node
+  abbrev pub PassesItems : Node K V → (seen after : Walk K) → Type 0
+  PassesItems node seen after = Orders cmp (items_of (view_of node)) (option_copied seen.last) (option_copied after.last)
+
+  abbrev pub CanPassItems : Node K V → (seen : Walk K) → Type 0
+  CanPassItems node seen = CanOrder cmp (items_of (view_of node)) (option_copied seen.last)
+
+  module _ (nodes : Content (Node K V)) (root odd : ℕ) where
+    -- the walk passes a part of the tree
+    abbrev pub PassesPart : Part → (seen after : Walk K) → Type 0
+    PassesPart part seen after =
+        PassesUnder cmp (views nodes) root odd part.height part.parent part.id seen.left (option_copied seen.last) after.left (option_copied after.last)
+
+    abbrev pub CanPassPart : Part → (seen : Walk K) → Type 0
+    CanPassPart part seen = CanPassUnder cmp (views nodes) root odd part.height part.parent part.id seen.left (option_copied seen.last)
