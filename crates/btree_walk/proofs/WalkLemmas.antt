@@ -11,28 +11,28 @@ use Rattle.btree_shape.specs.Spells.{Spells, spelled}
 use Rattle.btree_shape.specs.TreeState.{views}
 use Rattle.btree_shape.specs.Left.{left_above, left_in, IsUnder, AreRows}
 use Rattle.btree_shape.proofs.Left.{left-push, rows-push, rows-pop, under-leaf, under-internal}
-use Rattle.btree_walk.specs.declared.frames.Frame.{Frame}
+use Rattle.btree_walk.specs.declared.ancestors.Ancestor.{Ancestor}
 use Rattle.btree_walk.specs.Rows.{rows_of}
 
 module _ {K V : Type 0} where
-  abbrev row_of : Frame K V → List ((K × V) × ℕ)
+  abbrev row_of : Ancestor K V → List ((K × V) × ℕ)
   row_of f = drop f.passed (branches_of (view_of f.node.now))
 
-  rows-of-push : (frames : List (Frame K V)) (f : Frame K V) → rows_of (frames ++ f ∷ []) ≡ rows_of frames ++ row_of f ∷ []
-  rows-of-push frames f = map-append row_of frames (f ∷ [])
+  rows-of-push : (ancestors : List (Ancestor K V)) (f : Ancestor K V) → rows_of (ancestors ++ f ∷ []) ≡ rows_of ancestors ++ row_of f ∷ []
+  rows-of-push ancestors f = map-append row_of ancestors (f ∷ [])
 
 module _ {K V : Type 0} (nodes : Content (Node K V)) (len : ℕ) where
-  abbrev left_over : List (Frame K V) → List (K × V)
-  left_over frames = left_above (views nodes) len (rows_of frames)
+  abbrev left_over : List (Ancestor K V) → List (K × V)
+  left_over ancestors = left_above (views nodes) len (rows_of ancestors)
 
-  abbrev AreOpen : List (Frame K V) → Type 0
-  AreOpen frames = AreRows (views nodes) len 0 (rows_of frames)
+  abbrev AreOpen : List (Ancestor K V) → Type 0
+  AreOpen ancestors = AreRows (views nodes) len 0 (rows_of ancestors)
 
   -- on the way down: the list of the start is still that of a node and of the rows above it
-  pub record IsDown (start : List (K × V)) (frames : List (Frame K V)) (id : ℕ) : Type 0 where
-    pub rows : AreOpen frames
-    pub under : IsUnder (views nodes) len (length (rows_of frames)) id
-    pub list : start ≡ spelled (views nodes) len id ++ left_over frames
+  pub record IsDown (start : List (K × V)) (ancestors : List (Ancestor K V)) (id : ℕ) : Type 0 where
+    pub rows : AreOpen ancestors
+    pub under : IsUnder (views nodes) len (length (rows_of ancestors)) id
+    pub list : start ≡ spelled (views nodes) len id ++ left_over ancestors
 
   pub under-used : (depth id : ℕ) → IsUnder (views nodes) len depth id → IsSome (map.get nodes id)
   under-used depth id u = at u.height u.spells
@@ -45,61 +45,61 @@ module _ {K V : Type 0} (nodes : Content (Node K V)) (len : ℕ) where
       at zero h = some (map.get nodes id) _ h
       at (suc height) h = some (map.get nodes id) _ h.3
 
-  module _ (start : List (K × V)) (frames : List (Frame K V)) (id : ℕ) (d : IsDown start frames id) where
-    pub down-room : length frames < 32
-    down-room = let l = d.under.room in let m = length-map frames (row_of {K = K} {V = V}) in omega arith
+  module _ (start : List (K × V)) (ancestors : List (Ancestor K V)) (id : ℕ) (d : IsDown start ancestors id) where
+    pub down-room : length ancestors < 32
+    down-room = let l = d.under.room in let m = length-map ancestors (row_of {K = K} {V = V}) in omega arith
 
-    pub down-smaller : (f : Frame K V) (new : List (Frame K V)) → new ≡ frames ++ f ∷ [] → 32 - length new < 32 - length frames
-    down-smaller f new is = let room = down-room in let more = ap length is in let one = length_push frames f in omega arith
+    pub down-smaller : (f : Ancestor K V) (new : List (Ancestor K V)) → new ≡ ancestors ++ f ∷ [] → 32 - length new < 32 - length ancestors
+    down-smaller f new is = let room = down-room in let more = ap length is in let one = length_push ancestors f in omega arith
 
     module _ (node : Node K V) (here : map.get nodes id ≡ Some node) where
       seen : views nodes id ≡ Some (view_of node)
       seen = ap (option_map view_of) here
 
-      pub down-leaf : None ≡ slice_get (children_of (view_of node)) 0 → start ≡ items_of (view_of node) ++ left_over frames
+      pub down-leaf : None ≡ slice_get (children_of (view_of node)) 0 → start ≡ items_of (view_of node) ++ left_over ancestors
       down-leaf none = at (view_of node) seen none
         where
-          at : (v : View (K × V)) → views nodes id ≡ Some v → None ≡ slice_get (children_of v) 0 → start ≡ items_of v ++ left_over frames
-          at (leaf p ys) e n = d.list ∙ ap (λ zs. zs ++ left_over frames) (under-leaf (views nodes) len (length (rows_of frames)) id p ys d.under e)
+          at : (v : View (K × V)) → views nodes id ≡ Some v → None ≡ slice_get (children_of v) 0 → start ≡ items_of v ++ left_over ancestors
+          at (leaf p ys) e n = d.list ∙ ap (λ zs. zs ++ left_over ancestors) (under-leaf (views nodes) len (length (rows_of ancestors)) id p ys d.under e)
           at (internal p first row) e n = absurd (cc)
 
-      pub down-internal : (child : ℕ) → Some child ≡ slice_get (children_of (view_of node)) 0 → (f : Frame K V) → row_of f ≡ branches_of (view_of node)
-          → (new : List (Frame K V)) → new ≡ frames ++ f ∷ [] → IsDown start new child
+      pub down-internal : (child : ℕ) → Some child ≡ slice_get (children_of (view_of node)) 0 → (f : Ancestor K V) → row_of f ≡ branches_of (view_of node)
+          → (new : List (Ancestor K V)) → new ≡ ancestors ++ f ∷ [] → IsDown start new child
       down-internal child is f row new made =
-          let more : rows_of new ≡ rows_of frames ++ branches_of (view_of node) ∷ [] = ap rows_of made ∙ rows-of-push frames f ∙ ap (λ r. rows_of frames ++ r ∷ []) row in
+          let more : rows_of new ≡ rows_of ancestors ++ branches_of (view_of node) ∷ [] = ap rows_of made ∙ rows-of-push ancestors f ∙ ap (λ r. rows_of ancestors ++ r ∷ []) row in
           at (view_of node) seen is more
         where
-          at : (v : View (K × V)) → views nodes id ≡ Some v → Some child ≡ slice_get (children_of v) 0 → rows_of new ≡ rows_of frames ++ branches_of v ∷ [] → IsDown start new child
+          at : (v : View (K × V)) → views nodes id ≡ Some v → Some child ≡ slice_get (children_of v) 0 → rows_of new ≡ rows_of ancestors ++ branches_of v ∷ [] → IsDown start new child
           at (leaf p ys) e c more = absurd (cc)
           at (internal p first bs) e c more =
               let same : first ≡ child = cc in
-              let i = under-internal (views nodes) len (length (rows_of frames)) id p first bs d.under e in
-              let long : length (rows_of frames ++ bs ∷ []) ≡ suc (length (rows_of frames)) = let q = length_push (rows_of frames) bs in omega arith in
-              let none_more : 0 + length (rows_of frames) ≡ length (rows_of frames) = omega arith in
+              let i = under-internal (views nodes) len (length (rows_of ancestors)) id p first bs d.under e in
+              let long : length (rows_of ancestors ++ bs ∷ []) ≡ suc (length (rows_of ancestors)) = let q = length_push (rows_of ancestors) bs in omega arith in
+              let none_more : 0 + length (rows_of ancestors) ≡ length (rows_of ancestors) = omega arith in
               rw (← same) record {
-                rows = subst (λ rows. AreRows (views nodes) len 0 rows) (sym more) (rows-push (views nodes) len 0 (rows_of frames) bs d.rows (rw none_more i.row_under));
+                rows = subst (λ rows. AreRows (views nodes) len 0 rows) (sym more) (rows-push (views nodes) len 0 (rows_of ancestors) bs d.rows (rw none_more i.row_under));
                 under = subst (λ depth. IsUnder (views nodes) len depth first) (sym (ap length more ∙ long)) i.first_under;
                 list =
                     d.list
-                    ∙ ap (λ ys. ys ++ left_over frames) i.list
-                    ∙ append_assoc (spelled (views nodes) len first) (left_in (views nodes) len bs) (left_over frames)
-                    ∙ ap (λ ys. spelled (views nodes) len first ++ ys) (sym (left-push (views nodes) len (rows_of frames) bs))
+                    ∙ ap (λ ys. ys ++ left_over ancestors) i.list
+                    ∙ append_assoc (spelled (views nodes) len first) (left_in (views nodes) len bs) (left_over ancestors)
+                    ∙ ap (λ ys. spelled (views nodes) len first ++ ys) (sym (left-push (views nodes) len (rows_of ancestors) bs))
                     ∙ ap (λ rows. spelled (views nodes) len first ++ left_above (views nodes) len rows) (sym more);
               }
 
-  -- on the way up: what the frames that are passed had left is nothing
-  pub record IsUp (start frames : List (Frame K V)) : Type 0 where
-    pub rows : AreOpen frames
-    pub list : left_over start ≡ left_over frames
+  -- on the way up: what the ancestors that are passed had left is nothing
+  pub record IsUp (start ancestors : List (Ancestor K V)) : Type 0 where
+    pub rows : AreOpen ancestors
+    pub list : left_over start ≡ left_over ancestors
 
-  -- a frame that was taken off: above it the rest, whose rows are as they were
-  pub record IsTakenOff (frames rest : List (Frame K V)) (f : Frame K V) : Type 0 where
-    pub fewer : length rest < length frames
+  -- an ancestor that was taken off: above it the rest, whose rows are as they were
+  pub record IsTakenOff (ancestors rest : List (Ancestor K V)) (f : Ancestor K V) : Type 0 where
+    pub fewer : length rest < length ancestors
     pub rows : AreOpen rest
     pub under : AllByRecursion (λ (b : (K × V) × ℕ). IsUnder (views nodes) len (suc (length (rows_of rest))) b.1) (row_of f)
-    pub list : left_over frames ≡ left_in (views nodes) len (row_of f) ++ left_over rest
+    pub list : left_over ancestors ≡ left_in (views nodes) len (row_of f) ++ left_over rest
 
-  split-last : (frames : List (Frame K V)) (f : Frame K V) → Some f ≡ slice_get frames (length frames - 1) → frames ≡ take (length frames - 1) frames ++ f ∷ []
+  split-last : (ancestors : List (Ancestor K V)) (f : Ancestor K V) → Some f ≡ slice_get ancestors (length ancestors - 1) → ancestors ≡ take (length ancestors - 1) ancestors ++ f ∷ []
   split-last [] f e = absurd (cc)
   split-last (g ∷ []) f e = let same : f ≡ g = cc in rw same refl
   split-last (g ∷ h ∷ gs) f e =
@@ -107,10 +107,10 @@ module _ {K V : Type 0} (nodes : Content (Node K V)) (len : ℕ) where
       let at : Some f ≡ slice_get (g ∷ h ∷ gs) (suc (length (h ∷ gs) - 1)) = subst (λ n. Some f ≡ slice_get (g ∷ h ∷ gs) n) less e in
       rw less (ap (λ l. g ∷ l) (split-last (h ∷ gs) f at))
 
-  pub taken-off : (frames rest : List (Frame K V)) (f : Frame K V) → AreOpen frames → Some f ≡ slice_get frames (length frames - 1) → rest ≡ take (length frames - 1) frames → IsTakenOff frames rest f
-  taken-off frames rest f was answer after =
-      let whole : frames ≡ rest ++ f ∷ [] = split-last frames f answer ∙ ap (λ l. l ++ f ∷ []) (sym after) in
-      let rows : rows_of frames ≡ rows_of rest ++ row_of f ∷ [] = ap rows_of whole ∙ rows-of-push rest f in
+  pub taken-off : (ancestors rest : List (Ancestor K V)) (f : Ancestor K V) → AreOpen ancestors → Some f ≡ slice_get ancestors (length ancestors - 1) → rest ≡ take (length ancestors - 1) ancestors → IsTakenOff ancestors rest f
+  taken-off ancestors rest f was answer after =
+      let whole : ancestors ≡ rest ++ f ∷ [] = split-last ancestors f answer ∙ ap (λ l. l ++ f ∷ []) (sym after) in
+      let rows : rows_of ancestors ≡ rows_of rest ++ row_of f ∷ [] = ap rows_of whole ∙ rows-of-push rest f in
       let low = rows-pop (views nodes) len 0 (rows_of rest) (row_of f) (subst (λ r. AreRows (views nodes) len 0 r) rows was) in
       let none_more : 0 + length (rows_of rest) ≡ length (rows_of rest) = omega arith in
       record {
@@ -120,13 +120,13 @@ module _ {K V : Type 0} (nodes : Content (Node K V)) (len : ℕ) where
         list = ap (left_above (views nodes) len) rows ∙ left-push (views nodes) len (rows_of rest) (row_of f);
       }
 
-  module _ (start frames : List (Frame K V)) (up : IsUp start frames) (rest : List (Frame K V)) (f : Frame K V) (off : IsTakenOff frames rest f) where
+  module _ (start ancestors : List (Ancestor K V)) (up : IsUp start ancestors) (rest : List (Ancestor K V)) (f : Ancestor K V) (off : IsTakenOff ancestors rest f) where
     -- no item was left in it
     pub up-passed : row_of f ≡ [] → IsUp start rest
     up-passed none = record { rows = off.rows; list = up.list ∙ off.list ∙ ap (λ row. left_in (views nodes) len row ++ left_over rest) none }
 
     -- the next item is its own
-    module _ (x : K × V) (child : ℕ) (after : Frame K V) (next : row_of f ≡ (x, child) ∷ row_of after) (new : List (Frame K V)) (made : new ≡ rest ++ after ∷ []) where
+    module _ (x : K × V) (child : ℕ) (after : Ancestor K V) (next : row_of f ≡ (x, child) ∷ row_of after) (new : List (Ancestor K V)) (made : new ≡ rest ++ after ∷ []) where
       more : rows_of new ≡ rows_of rest ++ row_of after ∷ []
       more = ap rows_of made ∙ rows-of-push rest after
 
@@ -153,12 +153,12 @@ module _ {K V : Type 0} (nodes : Content (Node K V)) (len : ℕ) where
       pub up-room : length rest < 32
       up-room = let r = all.0.room in let m = length-map rest (row_of {K = K} {V = V}) in omega arith
 
-  -- no frame is left
-  pub record IsOver (start rest : List (Frame K V)) : Type 0 where
+  -- no ancestor is left
+  pub record IsOver (start rest : List (Ancestor K V)) : Type 0 where
     pub rest_none : rest ≡ []
     pub list : left_over start ≡ []
 
-  none-last : (frames : List (Frame K V)) → None ≡ slice_get frames (length frames - 1) → frames ≡ []
+  none-last : (ancestors : List (Ancestor K V)) → None ≡ slice_get ancestors (length ancestors - 1) → ancestors ≡ []
   none-last [] e = refl
   none-last (g ∷ []) e = absurd (cc)
   none-last (g ∷ h ∷ gs) e =
@@ -167,9 +167,9 @@ module _ {K V : Type 0} (nodes : Content (Node K V)) (len : ℕ) where
       let none : h ∷ gs ≡ [] = none-last (h ∷ gs) at in
       absurd (cc)
 
-  pub up-over : (start frames : List (Frame K V)) → IsUp start frames → None ≡ slice_get frames (length frames - 1) → (rest : List (Frame K V)) → rest ≡ take (length frames - 1) frames → IsOver start rest
-  up-over start frames up answer rest after =
-      let none : frames ≡ [] = none-last frames answer in
+  pub up-over : (start ancestors : List (Ancestor K V)) → IsUp start ancestors → None ≡ slice_get ancestors (length ancestors - 1) → (rest : List (Ancestor K V)) → rest ≡ take (length ancestors - 1) ancestors → IsOver start rest
+  up-over start ancestors up answer rest after =
+      let none : ancestors ≡ [] = none-last ancestors answer in
       record {
         rest_none = after ∙ ap (λ l. take (length l - 1) l) none;
         list = up.list ∙ ap left_over none;

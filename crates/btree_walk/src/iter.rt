@@ -3,7 +3,7 @@ ghost use Rattle.std.specs.Prelude.{◌≡◌, Some, IfSome, length};
 ghost use Rattle.std.specs.Iterator.SizeHint.{IsWithinCount};
 ghost use Rattle.std.specs.Iterator.{YieldsFirstBy, item_count, UpTo};
 
-use crate::frames::{Frames, first_of, next_above, start};
+use crate::ancestors::{Ancestors, first_of, next_above, start};
 use btree_ext::Tree;
 use btree_item::Slots;
 use btree_node::Node;
@@ -20,24 +20,21 @@ pub struct Iter<'a, K: Ord, V, C: NodesMut<K, V>> {
     leaf: Option<&'a Node<K, V>>,
     // How many items of the leaf are passed.
     passed: usize,
-    frames: Frames<'a, K, V>,
+    ancestors: Ancestors<'a, K, V>,
     left: usize,
 }
 
 impl<'a, K: Ord, V, C: NodesMut<K, V>> Model for Iter<'a, K, V, C> {
-    ghost use Rattle.std.specs.FinMap as map;
-    ghost use Rattle.std.specs.Prelude.{◌≡◌, List, ◌++◌, length};
-    ghost use Rattle.btree_shape.specs.Left.{left_above, AreRows};
-    ghost use Rattle.btree_shape.specs.TreeState.{looks};
-    ghost use Rattle.btree_walk.specs.Rows.{rows_of, left_in_leaf};
+    ghost use Rattle.std.specs.Prelude.{◌≡◌, List, length};
+    ghost use Rattle.btree_walk.specs.Rows.{AreAbove, left_of};
 
     ghost Value = { List (K × V) };
 
-    ghost view = { λ it. left_in_leaf it.leaf it.passed ++ left_above (looks it.tree.now) (map.len it.tree.now.nodes) (rows_of it.frames) };
+    ghost view = { λ it. left_of it.tree.now it.leaf it.passed it.ancestors };
 
     ghost invariant = { λ it. C.Fits
-        × AreRows (looks it.tree.now) (map.len it.tree.now.nodes) 0 (rows_of it.frames)
-        × (it.left ≡ length (left_in_leaf it.leaf it.passed ++ left_above (looks it.tree.now) (map.len it.tree.now.nodes) (rows_of it.frames))) };
+        × AreAbove it.tree.now it.ancestors
+        × (it.left ≡ length (left_of it.tree.now it.leaf it.passed it.ancestors)) };
 }
 
 impl<'a, K: Ord, V, C: NodesMut<K, V>> Iter<'a, K, V, C> {
@@ -49,13 +46,13 @@ impl<'a, K: Ord, V, C: NodesMut<K, V>> Iter<'a, K, V, C> {
     {
         tree.tell_fits();
         C::note_fits();
-        let mut frames = Slots::new();
-        let leaf = start(tree, &mut frames);
+        let mut ancestors = Slots::new();
+        let leaf = start(tree, &mut ancestors);
         Iter {
             tree,
             leaf,
             passed: 0,
-            frames,
+            ancestors,
             left: tree.len(),
         }
     }
@@ -76,7 +73,7 @@ impl<'a, K: Ord, V, C: NodesMut<K, V>> Iterator for Iter<'a, K, V, C> {
             self.left -= 1;
             return Some(pair);
         }
-        match next_above(self.tree, &mut self.frames) {
+        match next_above(self.tree, &mut self.ancestors) {
             Some((next, leaf)) => {
                 self.leaf = Some(leaf);
                 self.passed = 0;

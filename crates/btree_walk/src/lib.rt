@@ -1,7 +1,7 @@
 //! Walks through a tree in the order of the keys.
 #![tactic(auto)]
 
-mod frames;
+mod ancestors;
 mod iter;
 
 pub use iter::Iter;

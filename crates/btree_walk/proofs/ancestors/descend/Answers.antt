@@ -1,10 +1,10 @@
 use Rattle.std.proofs.Common.{refl, arith}
 use Rattle.std.specs.FinMap as map
 use Rattle.btree_walk.proofs.WalkLemmas.{under-used, down-room, down-smaller, down-leaf, down-internal}
-use Rattle.btree_walk.proofs.frames.first_leaf.Goals as goal
+use Rattle.btree_walk.proofs.ancestors.descend.Goals as goal
 
 pub loop-child-init : goal.loop-child-init
-loop-child-init g c = record { rows = c.requires.rows; under = c.requires.under; list = refl }
+loop-child-init g c = record { rows = c.requires.above; under = c.requires.below; list = refl }
 
 pub node-node-requires : goal.node-node-requires
 node-node-requires g c = (c.requires.fits, under-used c.args.tree.now.nodes (map.len c.args.tree.now.nodes) _ c.loop-child.id c.loop-child.invariant.under)
@@ -13,16 +13,16 @@ pub child_id_opt-requires : goal.child_id_opt-requires
 child_id_opt-requires g c = c.requires.fits
 
 pub push-requires : goal.push-requires
-push-requires g c = (omega arith, down-room c.args.tree.now.nodes (map.len c.args.tree.now.nodes) _ c.loop-child.frames c.loop-child.id c.loop-child.invariant)
+push-requires g c = (omega arith, down-room c.args.tree.now.nodes (map.len c.args.tree.now.nodes) _ c.loop-child.ancestors c.loop-child.id c.loop-child.invariant)
 
 pub loop-child-smaller : goal.loop-child-smaller
-loop-child-smaller g c = down-smaller c.args.tree.now.nodes (map.len c.args.tree.now.nodes) _ c.loop-child.frames c.loop-child.id c.loop-child.invariant _ c.push.new.self c.push.ensures
+loop-child-smaller g c = down-smaller c.args.tree.now.nodes (map.len c.args.tree.now.nodes) _ c.loop-child.ancestors c.loop-child.id c.loop-child.invariant _ c.push.new.self c.push.ensures
 
 pub loop-child-preserved : goal.loop-child-preserved
 loop-child-preserved g c =
-    down-internal c.args.tree.now.nodes (map.len c.args.tree.now.nodes) _ c.loop-child.frames c.loop-child.id c.loop-child.invariant c.node-node.result.now c.node-node.ensures
+    down-internal c.args.tree.now.nodes (map.len c.args.tree.now.nodes) _ c.loop-child.ancestors c.loop-child.id c.loop-child.invariant c.node-node.result.now c.node-node.ensures
     c.in-Some.child c.in-Some.ensures _ refl c.push.new.self c.push.ensures
 
 pub returns-in-None-clause-left : goal.returns-in-None-clause-left
 returns-in-None-clause-left g c =
-    down-leaf c.args.tree.now.nodes (map.len c.args.tree.now.nodes) _ c.loop-child.frames c.loop-child.id c.loop-child.invariant c.node-node.result.now c.node-node.ensures c.in-None.ensures
+    down-leaf c.args.tree.now.nodes (map.len c.args.tree.now.nodes) _ c.loop-child.ancestors c.loop-child.id c.loop-child.invariant c.node-node.result.now c.node-node.ensures c.in-None.ensures

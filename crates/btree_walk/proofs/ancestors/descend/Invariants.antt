@@ -5,11 +5,11 @@ use Rattle.btree_shape.specs.Spells.{spelled}
 use Rattle.btree_shape.specs.TreeState.{views}
 use Rattle.btree_walk.specs.Rows.{rows_of}
 use Rattle.btree_walk.proofs.WalkLemmas.{IsDown}
-use Rattle.btree_walk.proofs.frames.first_leaf.Given as goal
+use Rattle.btree_walk.proofs.ancestors.descend.Given as goal
 
 abbrev pub invariant-loop-child : goal.invariant-loop-child
 invariant-loop-child g l =
-    IsDown l.tree.nodes (map.len l.tree.nodes) (spelled (views l.tree.nodes) (map.len l.tree.nodes) l.fn.top ++ left_above (views l.tree.nodes) (map.len l.tree.nodes) (rows_of l.initial.frames)) l.frames l.id
+    IsDown l.tree.nodes (map.len l.tree.nodes) (spelled (views l.tree.nodes) (map.len l.tree.nodes) l.fn.top ++ left_above (views l.tree.nodes) (map.len l.tree.nodes) (rows_of l.initial.ancestors)) l.ancestors l.id
 
 abbrev pub decreases-loop-child : goal.decreases-loop-child
-decreases-loop-child g l = 32 - length l.frames
+decreases-loop-child g l = 32 - length l.ancestors

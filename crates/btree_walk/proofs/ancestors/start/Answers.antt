@@ -6,10 +6,10 @@ use Rattle.btree_shape.specs.TreeState.{looks, pairs_under, pairs_of}
 use Rattle.btree_shape.specs.WellFormed.{IsWellFormed}
 use Rattle.btree_walk.specs.Rows.{rows_of}
 use Rattle.btree_walk.proofs.IterLemmas.{root-under}
-use Rattle.btree_walk.proofs.frames.start.Goals as goal
+use Rattle.btree_walk.proofs.ancestors.start.Goals as goal
 
-pub first_leaf-requires : goal.first_leaf-requires
-first_leaf-requires g c =
+pub descend-requires : goal.descend-requires
+descend-requires g c =
     let well = subst (λ r. IsWellFormed g.K.Ord.cmp (looks c.args.tree.now) r c.args.tree.now.len (pairs_of c.args.tree.now)) (sym c.in-Some.ensures.value) c.in-Some.ensures.well_formed in
     let fits = c.len-len.type_inv in
     let is = c.len-len.ensures in (
@@ -28,7 +28,7 @@ first_leaf-requires g c =
 
 pub returns-in-Some-clause-left : goal.returns-in-Some-clause-left
 returns-in-Some-clause-left g c =
-    sym c.first_leaf.ensures.left
+    sym c.descend.ensures.left
     ∙ ap (λ fs. spelled (looks c.args.tree.now) (map.len c.args.tree.now.nodes) c.in-Some.root ++ left_above (looks c.args.tree.now) (map.len c.args.tree.now.nodes) (rows_of fs)) c.requires.none
     ∙ append-nil (spelled (looks c.args.tree.now) (map.len c.args.tree.now.nodes) c.in-Some.root)
     ∙ ap (λ r. pairs_under (looks c.args.tree.now) r (map.len c.args.tree.now.nodes)) c.in-Some.ensures.value

@@ -1,0 +1,105 @@
+//! The way from the root to the leaf in which a walk stands.
+ghost use Rattle.std.specs.Prelude.{◌≡◌, ◌<◌, [], Some, OnSome};
+ghost use Rattle.std.specs.Mem.{FitsInMemory};
+ghost use Rattle.btree_node.specs.contracts.node.Node.{the_row as node_row};
+ghost use Rattle.btree_shape.specs.TreeState.{pairs_of};
+ghost use Rattle.btree_walk.specs.Rows.{AreAbove, IsBelow, IsNextAbove, IsNextIn, left_at, left_of};
+
+use btree_ext::{BTreeExt, Tree};
+use btree_item::Slots;
+use btree_node::Node;
+use btree_nodes::NodesMut;
+
+/// An internal node above the leaf, and how many of its items are passed.
+#[derive(Drop)]
+pub(crate) struct Ancestor<'a, K, V> {
+    pub node: &'a Node<K, V>,
+    pub passed: usize,
+}
+
+/// The internal nodes above the leaf, from the root down.
+pub(crate) type Ancestors<'a, K, V> = Slots<Ancestor<'a, K, V>, 32>;
+
+// The item of a leaf after those that are passed.
+pub(crate) fn first_of<'a, K, V>(
+    leaf: Option<&'a Node<K, V>>,
+    passed: usize,
+) -> Option<(&'a K, &'a V)>
+    ensures fits { OnSome result (passed < 9) }
+    ensures first { IsNextIn leaf.entry passed result }
+{
+    match leaf {
+        Some(leaf) => match leaf.item_at_index(passed) {
+            Some(item) => Some((item.key(), item.value())),
+            None => None,
+        },
+        None => None,
+    }
+}
+
+// The first leaf under a node, with the internal nodes on the way put behind the ancestors.
+fn descend<'a, K: Ord + 'a, V: 'a, C: NodesMut<K, V> + 'a>(
+    tree: &'a Tree<K, V, C>,
+    top: usize,
+    ancestors: &mut Ancestors<'a, K, V>,
+) -> &'a Node<K, V>
+    requires fits { FitsInMemory (node_row K.row V.row) }
+    requires above { AreAbove tree.now ancestors.old }
+    requires below { IsBelow tree.now ancestors.old top }
+    ensures above { AreAbove tree.now ancestors.new }
+    ensures left { left_at tree.now top ancestors.old ≡ left_of tree.now (Some result) 0 ancestors.new }
+{
+    let mut id = top;
+    loop {
+        let node = tree.node(id);
+        match node.child_id_opt(0) {
+            Some(child) => {
+                ancestors.push(Ancestor { node, passed: 0 });
+                id = child;
+            }
+            None => return node,
+        }
+    }
+}
+
+// The first leaf of a tree, with the internal nodes above it put into the list of ancestors.
+pub(crate) fn start<'a, K: Ord + 'a, V: 'a, C: NodesMut<K, V> + 'a>(
+    tree: &'a Tree<K, V, C>,
+    ancestors: &mut Ancestors<'a, K, V>,
+) -> Option<&'a Node<K, V>>
+    requires fits { FitsInMemory (node_row K.row V.row) }
+    requires none { ancestors.old ≡ [] }
+    ensures above { AreAbove tree.now ancestors.new }
+    ensures left { left_of tree.now result 0 ancestors.new ≡ pairs_of tree.now }
+{
+    let _len = tree.len();
+    match tree.root_id() {
+        Some(root) => Some(descend(tree, root, ancestors)),
+        None => None,
+    }
+}
+
+// The next item of the ancestors, and the first leaf after it.
+pub(crate) fn next_above<'a, K: Ord + 'a, V: 'a, C: NodesMut<K, V> + 'a>(
+    tree: &'a Tree<K, V, C>,
+    ancestors: &mut Ancestors<'a, K, V>,
+) -> Option<((&'a K, &'a V), &'a Node<K, V>)>
+    requires fits { FitsInMemory (node_row K.row V.row) }
+    requires above { AreAbove tree.now ancestors.old }
+    ensures above { AreAbove tree.now ancestors.new }
+    ensures left { IsNextAbove tree.now ancestors.old ancestors.new result }
+{
+    while let Some(ancestor) = ancestors.pop() {
+        let node = ancestor.node;
+        let passed = ancestor.passed;
+        if let Some((item, child)) = node.branch_at_index(passed) {
+            ancestors.push(Ancestor {
+                node,
+                passed: passed + 1,
+            });
+            let pair = (item.key(), item.value());
+            return Some((pair, descend(tree, child, ancestors)));
+        }
+    }
+    None
+}
