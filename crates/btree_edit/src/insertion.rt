@@ -154,7 +154,7 @@ pub fn insert<K: Ord + Drop, V: Drop, C: NodesMut<K, V>>(
 
     ensures returned { IfErr result (λ r. (r.key ≡ key) × (r.value ≡ value)) }
     ensures absent { OnErr result (found K.cmp key (pairs_of tree.old) ≡ None) }
-    ensures refused { IfErr result (λ r.
+    ensures cause { IfErr result (λ r.
         IsRefusedAtGap K.cmp key tree.old tree.new C.MayRefuse r.cause) }
 {
     match address_of(tree, &key) {

@@ -1,8 +1,9 @@
 //! Reading a tree by its nodes and addresses.
-ghost use Rattle.std.specs.Prelude.{◌≡◌, ◌↔◌, ◌*◌, ◌+◌, ◌-◌, ◌^◌, ◌<◌, ◌≤◌, length, IsTrue, Some, option_copied};
+ghost use Rattle.std.specs.Prelude.{◌≡◌, ◌↔◌, ◌*◌, ◌+◌, ◌≤◌, length, IsTrue, Some, option_copied};
 ghost use Rattle.std.specs.FinMap as map;
 ghost use Rattle.btree_shape.specs.TreeState.{TreeState, HasLevels, IsBTree, IsUsed, item_of, pairs_of};
 ghost use Rattle.btree_find.specs.Answers.{IsAddressOf};
+ghost use Rattle.btree_find.specs.Levels.{IsDense};
 
 use btree_find::{address_of, height};
 use btree_item::{Address, Item};
@@ -57,8 +58,7 @@ pub trait BTreeExt<K: Ord, V> {
     fn height(&self) -> usize
         ensures value { HasLevels (state self.now) result }
         ensures few { result ≤ 32 }
-        ensures dense { 0 < (state self.now).len →
-            2 * 4 ^ (result - 1) ≤ length (pairs_of (state self.now)) + 1 }
+        ensures dense { IsDense (state self.now) result }
     {
         height(self.as_raw())
     }

@@ -1,11 +1,10 @@
 //! Look-up by key, and how many levels there are.
-ghost use Rattle.std.specs.Prelude.{◌≡◌, ◌*◌, ◌+◌, ◌-◌, ◌^◌, ◌<◌, ◌≤◌, length, slice_get, option_copied, option_map};
-ghost use Rattle.std.specs.Option.{option_and_then};
+ghost use Rattle.std.specs.Prelude.{◌≡◌, ◌≤◌, option_copied};
 ghost use Rattle.btree_item.specs.Pairs.{found_value};
 ghost use Rattle.btree_node.specs.Node.{view_of};
-ghost use Rattle.btree_view.specs.View.{items_of};
 ghost use Rattle.btree_shape.specs.TreeState.{HasLevels, IsBTree, pairs_of};
-ghost use Rattle.btree_find.specs.Answers.{IsAddressOf};
+ghost use Rattle.btree_find.specs.Answers.{IsAddressOf, value_in};
+ghost use Rattle.btree_find.specs.Levels.{IsDense};
 
 use btree_item::{Address, Offset};
 use btree_node::Node;
@@ -35,7 +34,7 @@ pub fn address_of<K: Ord, V, C: NodesMut<K, V>>(
 }
 
 fn value_at<K, V>(node: &Node<K, V>, offset: Offset) -> Option<&V>
-    ensures { option_copied result ≡ option_map (λ x. x.1) (option_and_then (slice_get (items_of (view_of node.now))) offset) }
+    ensures { option_copied result ≡ value_in (view_of node.now) offset }
 {
     match node.item(offset) {
         Some(item) => Some(item.value()),
@@ -73,7 +72,7 @@ pub fn height<K: Ord, V, C: NodesMut<K, V>>(tree: &RawBTree<K, V, C>) -> usize
     requires { IsBTree K.cmp tree.now }
     ensures levels { HasLevels tree.now result }
     ensures few { result ≤ 32 }
-    ensures dense { 0 < tree.now.len → 2 * 4 ^ (result - 1) ≤ length (pairs_of tree.now) + 1 }
+    ensures dense { IsDense tree.now result }
 {
     let _len = tree.len();
     let Some(root) = tree.root_id() else {

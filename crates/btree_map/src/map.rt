@@ -91,7 +91,7 @@ impl<K: Ord + Drop, V: Drop, C: NodesMut<K, V>> BTreeMap<K, V, C> {
 
         ensures returned { IfErr result (λ r. (r.key ≡ key) × (r.value ≡ value)) }
         ensures absent { OnErr result (found K.cmp key (pairs_of self.old) ≡ None) }
-        ensures refused { IfErr result (λ r.
+        ensures cause { IfErr result (λ r.
             IsRefusedAtGap K.cmp key self.old self.new C.MayRefuse r.cause) }
     {
         self.tree.insert(key, value)
