@@ -1,5 +1,5 @@
 -- Lines served one after another.
-use Rattle.std.proofs.Common.{◌≡◌, ℕ, ◌+◌, ◌<◌, List, [], ◌∷◌, ◌++◌, take, drop, length, add-one, Option, Some, None, IfSome, Ok, Err, Bool, true, false, cond, ◌⊎◌, inl, inr, refl, sym, ap, ◌∙◌, arith, append_assoc, append-nil, length-append}
+use Rattle.std.proofs.Common.{◌≡◌, ℕ, ◌+◌, ◌<◌, List, [], ◌∷◌, ◌++◌, take, drop, length, add-one, Option, Some, None, IfSome, Result, Ok, Err, Bool, true, false, cond, inl, inr, refl, sym, ap, ◌∙◌, arith, append_assoc, append-nil, length-append}
 use Rattle.std.specs.Prelude.{position}
 use Rattle.std.proofs.lemmas.List.Quantifiers.{position-Some}
 use Rattle.std.specs.Io.BufRead.{take_through, drop_through, strip_last, DropsConsumable, DropsThrough}
@@ -12,7 +12,7 @@ use Rattle.btree_session.specs.Line.{line_words, IsSaid}
 use Rattle.btree_store.specs.Content.{Content}
 use Rattle.btree_node.specs.declared.node.Node.{Node}
 use Rattle.btree_shape.specs.TreeState.{TreeState}
-use Rattle.btree_session.specs.Script.{is_newline, lines_of, ReadsLine, Does, Serves, EndsAfter, HasWritten, Drives}
+use Rattle.btree_session.specs.Script.{is_newline, lines_of, ComesAnywhere, Does, Drives, EndsAfter, ReadsLine, Serves, StopsAt, UnlessOutput}
 use Rattle.btree_session.proofs.Lines.{lines_of-cons, cut_at_newline}
 
 -- more lines are served
@@ -85,13 +85,6 @@ pub record Lines (input : Option (List ℕ)) (served more : List (List ℕ)) : T
   pub known : IfSome input (λ text. lines ≡ lines_of text)
   pub are : lines ≡ served ++ more
 
--- a stop that comes at any line
-abbrev pub ComesAnywhere : Stop → Type 0
-ComesAnywhere (NotACommand number) = ⊥
-ComesAnywhere Memory = Unit {0}
-ComesAnywhere Input = Unit {0}
-ComesAnywhere Output = Unit {0}
-
 some_lines : (input rest : Option (List ℕ)) (served : List (List ℕ)) → IfSome input (λ text. (left : List ℕ) × (rest ≡ Some left) × (lines_of text ≡ served ++ lines_of left))
     → (more : List (List ℕ)) × Lines input served more
 some_lines None rest served known = ([], record { lines = served ++ []; known = tt; are = refl })
@@ -130,11 +123,13 @@ ends_anywhere A served lines Memory anywhere rest = rest
 ends_anywhere A served lines Input anywhere rest = rest
 ends_anywhere A served lines Output anywhere rest = rest
 
-writes_so_far : (A : Type 0) (before after : Option (List ℕ)) (printed : List ℕ) (stop : Stop) → Appends before after printed → HasWritten {A = A} before after printed (Err stop)
-writes_so_far A before after printed (NotACommand number) appends = appends
-writes_so_far A before after printed Memory appends = appends
-writes_so_far A before after printed Input appends = appends
-writes_so_far A before after printed Output appends = tt
+-- what holds anyway
+pub anyway : {A : Type 0} (P : Type 0) (result : Result A Stop) → P → UnlessOutput result P
+anyway P (Ok _) p = p
+anyway P (Err (NotACommand number)) p = p
+anyway P (Err Memory) p = p
+anyway P (Err Input) p = p
+anyway P (Err Output) p = tt
 
 -- it stops between two lines
 pub stopped : {A : Type 0} (May : Content (Node ℕ ℕ) → Type 0) (old new : TreeState ℕ ℕ) (input before rest after : Option (List ℕ)) (number : ℕ) (stop : Stop) →
@@ -148,7 +143,7 @@ stopped {A} May old new input before rest after number stop so_far anywhere =
       ends = ends_anywhere A so_far.served all.1.lines stop anywhere (all.0, all.1.are);
       printed = so_far.printed;
       serves = so_far.serves;
-      writes = writes_so_far A before after so_far.printed stop so_far.writes;
+      writes = anyway {A = A} (Appends before after so_far.printed) (Err stop) so_far.writes;
     }
 
 -- the writer fails
@@ -168,14 +163,13 @@ failed May old new input before rest between after number so_far =
 
 -- it stops while it looks for the next line
 pub between_lines : {A : Type 0} (May : Content (Node ℕ ℕ) → Type 0) (old new : TreeState ℕ ℕ) (input before rest between after : Option (List ℕ)) (number : ℕ) (stop : Stop) →
-    Progress May old input before rest between new number → (stop ≡ Output) ⊎ (((stop ≡ Memory) ⊎ (stop ≡ Input)) × Keeps between after) → Drives {A = A} May old input before (Err stop) after new
-between_lines May old new input before rest between after number stop so_far cause = elim cause [
-  | inl output ↦ rw output (failed May old new input before rest between after number so_far)
-  | inr other ↦ elim other.0 [
-    | inl memory ↦ rw memory (stopped May old new input before rest after number Memory (written May old new input before rest between after number so_far other.1) tt)
-    | inr failure ↦ rw failure (stopped May old new input before rest after number Input (written May old new input before rest between after number so_far other.1) tt)
-  ]
-]
+    Progress May old input before rest between new number → ComesAnywhere stop → UnlessOutput {A = A} (Err stop) (Keeps between after) → Drives {A = A} May old input before (Err stop) after new
+between_lines May old new input before rest between after number (NotACommand at) so_far anywhere keeps = absurd anywhere
+between_lines May old new input before rest between after number Memory so_far anywhere keeps =
+    stopped May old new input before rest after number Memory (written May old new input before rest between after number so_far keeps) tt
+between_lines May old new input before rest between after number Input so_far anywhere keeps =
+    stopped May old new input before rest after number Input (written May old new input before rest between after number so_far keeps) tt
+between_lines May old new input before rest between after number Output so_far anywhere keeps = failed May old new input before rest between after number so_far
 
 first_line : (rest next : Option (List ℕ)) (said : Line) (reads : ReadsLine rest next said) → (more : List (List ℕ)) × IfSome rest (λ left. lines_of left ≡ reads.line ∷ more)
 first_line rest next said reads = at rest reads.some reads.first where
@@ -203,7 +197,7 @@ not_a_command May old new input before rest next after number so_far reads =
 -- at the next line it stops
 pub at_line : {A : Type 0} (May : Content (Node ℕ ℕ) → Type 0) (old new : TreeState ℕ ℕ) (input before rest next after : Option (List ℕ)) (number : ℕ) (said : Line) (stop : Stop) →
     Progress May old input before rest after new number → ReadsLine rest next said
-    → (stop ≡ Memory) ⊎ ((stop ≡ NotACommand number) × (said ≡ Other)) → Drives {A = A} May old input before (Err stop) after new
+    → StopsAt said number stop → Drives {A = A} May old input before (Err stop) after new
 at_line May old new input before rest next after number said stop so_far reads cause = elim cause [
   | inl memory ↦ rw memory (stopped May old new input before rest after number Memory so_far tt)
   | inr other ↦ rw other.0 (not_a_command May old new input before rest next after number so_far (rw other.1 at reads))

@@ -1,5 +1,5 @@
 -- What is printed for a question about the map.
-use Rattle.std.specs.Prelude.{◌≡◌, ℕ, zero, suc, List, [], ◌∷◌, ◌++◌, length, map, Option, Some, None, codes}
+use Rattle.std.specs.Prelude.{◌≡◌, ℕ, zero, suc, List, [], ◌∷◌, ◌++◌, length, map, Option, Some, None, Vec, codes}
 use Rattle.std.specs.FinMap as finite
 use Rattle.std.specs.Fmt.{decimal}
 use Rattle.std.specs.List.{flat_map, join_with_byte, AllByRecursion}
@@ -7,6 +7,7 @@ use Rattle.btree_view.specs.View.{View, leaf, internal, Look}
 use Rattle.btree_shape.specs.TreeState.{TreeState, looks, pairs_of}
 use Rattle.btree_session.specs.declared.question.Question.{Question}
 use Rattle.btree_session.specs.declared.question.Question.TheVariants as questions
+use Rattle.btree_session.specs.Text.{Pushes, as_line}
 
 -- the text of a pair
 abbrev pub pair_text : ℕ × ℕ → List ℕ
@@ -21,11 +22,15 @@ list_text (pair ∷ pairs) = join_with_byte 32 (map pair_text (pair ∷ pairs))
 abbrev pub bracketed : List (List ℕ) → List ℕ
 bracketed texts = codes "(" ++ join_with_byte 32 texts ++ codes ")"
 
+-- the text of a leaf: its keys
+abbrev pub leaf_text : List (ℕ × ℕ) → List ℕ
+leaf_text items = bracketed (map (λ pair. decimal pair.0) items)
+
 -- Node `id`, `height` levels above the leaves, is written so with all below it: a leaf as its keys; an internal node as its
 -- first child, and then each key and the child after it.
 abbrev pub IsWritten : Look (ℕ × ℕ) → (height : ℕ) → (id : ℕ) → List ℕ → Type 0
 IsWritten look zero id text =
-    (parent : Option ℕ) × (items : List (ℕ × ℕ)) × (look id ≡ Some (leaf parent items)) × (text ≡ bracketed (map (λ pair. decimal pair.0) items))
+    (parent : Option ℕ) × (items : List (ℕ × ℕ)) × (look id ≡ Some (leaf parent items)) × (text ≡ leaf_text items)
 IsWritten look (suc height) id text =
     (parent : Option ℕ) × (first : ℕ) × (front : List ℕ) × (rest : List ((ℕ × ℕ) × ℕ × List ℕ))
     × (look id ≡ Some (internal parent first (map (λ r. (r.0, r.1)) rest)))
@@ -45,12 +50,16 @@ IsAnswer m questions.Len text = text ≡ decimal (length (pairs_of m))
 IsAnswer m questions.Nodes text = text ≡ decimal (finite.len m.nodes)
 IsAnswer m questions.Shape text = IsShapeOf (looks m) m.root text
 
+-- the answer to a question was put behind a text, on a line of its own
+abbrev pub Answers : {Z : Type 0} → TreeState ℕ ℕ → Question → (text more : Vec ℕ Z) → Type 0
+Answers m question text more = (answer : List ℕ) × IsAnswer m question answer × Pushes text more (as_line answer)
+
 -- Below, the same as a function, in the steps in which it is printed.
 
 -- the text of a node, given that of each child: a leaf's keys, or an internal node's children and keys in turn
 abbrev pub shape_in : (ℕ → List ℕ) → Option (View (ℕ × ℕ)) → List ℕ
 shape_in below None = []
-shape_in below (Some (leaf parent items)) = bracketed (map (λ pair. decimal pair.0) items)
+shape_in below (Some (leaf parent items)) = leaf_text items
 shape_in below (Some (internal parent first branches)) =
     bracketed (below first ∷ flat_map (λ b. decimal b.0.0 ∷ below b.1 ∷ []) branches)
 

@@ -1,5 +1,5 @@
 -- What a line says.
-use Rattle.std.specs.Prelude.{◌≡◌, ◌≢◌, ℕ, ◌^◌, ◌<◌, Bool, List, [], ◌∷◌, length, filter, nat_lt, ◌==◌, codes}
+use Rattle.std.specs.Prelude.{◌≡◌, ◌≢◌, ℕ, ◌^◌, ◌<◌, Bool, List, [], ◌∷◌, length, filter, nat_lt, ◌==◌, Option, Some, None, codes}
 use Rattle.std.specs.List.{slice_split}
 use Rattle.std.specs.Io.BufRead.{strip_last}
 use Rattle.std.specs.Str.Parse.{IsNumeral, digits_value}
@@ -9,6 +9,11 @@ use Rattle.btree_session.specs.declared.line.Line.{Line}
 use Rattle.btree_session.specs.declared.question.Question.{Question}
 use Rattle.btree_session.specs.declared.question.Question.TheVariants as questions
 use Rattle.btree_session.specs.declared.line.Line.TheVariants as lines
+
+-- a value that is so, or none where no value is so
+abbrev pub Finds : {A : Type 0} → (A → Type 0) → Option A → Type 0
+Finds IsSo (Some x) = IsSo x
+Finds {A} IsSo None = (x : A) → IsSo x → ⊥
 
 -- only a space divides words
 abbrev pub is_space : ℕ → Bool
@@ -34,6 +39,10 @@ AreNumbers [] [] = Unit {0}
 AreNumbers (number ∷ numbers) (word ∷ words) = IsNumber number word × AreNumbers numbers words
 AreNumbers [] (word ∷ words) = ⊥
 AreNumbers (number ∷ numbers) [] = ⊥
+
+-- the text's first word is this number, and the words of the rest are the others
+abbrev pub BeginsWith : (text : List ℕ) → (number : ℕ) → (rest : List ℕ) → Type 0
+BeginsWith text number rest = (word : List ℕ) × IsNumber number word × (words_of text ≡ word ∷ words_of rest)
 
 -- the words are a name, and then these numbers
 abbrev pub IsCall : List ℕ → List ℕ → List (List ℕ) → Type 0

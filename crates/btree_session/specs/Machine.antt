@@ -1,5 +1,5 @@
 -- A session as a machine: what it may reply to a command, and what it is then.
-use Rattle.std.specs.Prelude.{◌≡◌, ℕ, ◌+◌, ◌-◌, ◌^◌, List, [], ◌∷◌, length, insert, Option, Some, None}
+use Rattle.std.specs.Prelude.{◌≡◌, ℕ, ◌+◌, ◌-◌, ◌^◌, List, [], ◌∷◌, length, insert, Option, Some, None, Vec}
 use Rattle.std.specs.Ordering.{nat_cmp}
 use Rattle.btree_item.specs.Pairs.{found, found_value, before, with_value}
 use Rattle.btree_item.specs.declared.refused.Cause.{Cause}
@@ -12,6 +12,7 @@ use Rattle.btree_session.specs.declared.command.Command.{Command}
 use Rattle.btree_session.specs.declared.command.Command.TheVariants.{Insert, Get}
 use Rattle.btree_session.specs.declared.command.Reply.{Reply}
 use Rattle.btree_session.specs.declared.command.Reply.TheVariants.{Nothing, Value, Refused}
+use Rattle.btree_session.specs.Text.{Pushes}
 
 -- what a session is: its pairs by ascending keys, the place that it holds, if any, and how often its store has refused
 pub record SessionState : Type 0 where
@@ -72,3 +73,7 @@ module _ (MayRefuse : Content (Node ℕ ℕ) → Type 0) where
   IsRun old (command ∷ commands) (reply ∷ replies) new = (mid : TreeState ℕ ℕ) × IsStep old command reply mid × IsRun mid commands replies new
   IsRun old [] (reply ∷ replies) new = ⊥
   IsRun old (command ∷ commands) [] new = ⊥
+
+  -- The commands were run one after another, and their replies put behind those that were there.
+  abbrev pub Runs : {Z : Type 0} → (old : TreeState ℕ ℕ) → List Command → (new : TreeState ℕ ℕ) → (replies more : Vec Reply Z) → Type 0
+  Runs old commands new replies more = (given : List Reply) × Pushes replies more given × IsRun old commands given new

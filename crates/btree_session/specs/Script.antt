@@ -1,20 +1,24 @@
 -- What driving a session by lines of text does.
-use Rattle.std.specs.Prelude.{◌≡◌, ℕ, ◌+◌, ◌<◌, Bool, List, [], ◌∷◌, ◌++◌, length, Option, Some, Result, Ok, Err, IfSome, ⊤, ◌==◌}
+use Rattle.std.specs.Prelude.{◌≡◌, ℕ, ◌+◌, ◌<◌, Bool, List, [], ◌∷◌, ◌++◌, length, Option, Some, Result, Ok, Err, IfSome, ⊤, ◌==◌, ◌⊎◌, Vec}
 use Rattle.std.specs.List.{slice_split}
 use Rattle.std.specs.Io.BufRead.{take_through, drop_through, strip_last}
-use Rattle.std.specs.Io.KnownBytes.{Appends}
+use Rattle.std.specs.Io.Buffered.{reader_remaining}
+use Rattle.std.specs.Io.KnownBytes.{Appends, Keeps, append_known}
+use Rattle.std.specs.declared.io.buffered.BufReader.{BufReader}
 use Rattle.btree_store.specs.Content.{Content}
 use Rattle.btree_node.specs.declared.node.Node.{Node}
 use Rattle.btree_shape.specs.TreeState.{TreeState}
+use Rattle.btree_session.specs.declared.command.Command.{Command}
 use Rattle.btree_session.specs.declared.command.Reply.{Reply}
 use Rattle.btree_session.specs.declared.line.Line.{Line}
-use Rattle.btree_session.specs.declared.line.Line.TheVariants.{Empty, Command, Question, Other}
+use Rattle.btree_session.specs.declared.line.Line.TheVariants.{Empty, Question, Other}
+use Rattle.btree_session.specs.declared.line.Line.TheVariants as line_kinds
 use Rattle.btree_session.specs.declared.script.Stop.{Stop}
 use Rattle.btree_session.specs.declared.script.Stop.TheVariants.{NotACommand, Memory, Input, Output}
 use Rattle.btree_session.specs.Answer.{IsAnswer}
 use Rattle.btree_session.specs.Line.{line_words, IsSaid}
 use Rattle.btree_session.specs.Machine.{IsStep}
-use Rattle.btree_session.specs.Text.{as_line, line_of}
+use Rattle.btree_session.specs.Text.{Pushes, as_line, line_of}
 
 -- a byte that ends a line
 abbrev pub is_newline : ℕ → Bool
@@ -43,15 +47,43 @@ pub record ReadsLine (old new : Option (List ℕ)) (said : Line) : Type 0 where
   pub first : IfSome old (λ text. line ≡ strip_last 10 (take_through 10 text))
   pub rest : IfSome old (λ text. new ≡ Some (drop_through 10 text))
 
+-- of a reader whose bytes to come are told so
+module _ {R A : Type 0} (remaining : R → Option (List ℕ)) where
+  -- the bytes that are still to come, where they are known: those in the reader's buffer, and those behind
+  abbrev pub input_of : BufReader R A → Option (List ℕ)
+  input_of reader = reader_remaining remaining reader
+
+  -- the reader's next line was taken, and says this
+  abbrev pub TakesLine : (old new : BufReader R A) → (said : Line) → Type 0
+  TakesLine old new said = ReadsLine (input_of old) (input_of new) said
+
+-- of a writer whose bytes are told so, with a text that is still to be written
+module _ {W Z : Type 0} (contents : W → Option (List ℕ)) where
+  -- the bytes written, where they are known, and the text behind them
+  abbrev pub output_of : W → Vec ℕ Z → Option (List ℕ)
+  output_of output text = append_known (contents output) text.items
+
+  -- what the text has lost was written
+  abbrev pub WritesOut : (output : W) (text : Vec ℕ Z) (new_output : W) (new_text : Vec ℕ Z) → Type 0
+  WritesOut output text new_output new_text = Keeps (output_of output text) (output_of new_output new_text)
+
 -- over stores that may refuse a node in these contents
 module _ (MayRefuse : Content (Node ℕ ℕ) → Type 0) where
   -- What a line says was done, and this was printed: for a command the reply of a step, for a question the answer, each on a line of its
   -- own. A question changes nothing.
   abbrev pub Does : (old : TreeState ℕ ℕ) → Line → (printed : List ℕ) → (new : TreeState ℕ ℕ) → Type 0
   Does old Empty printed new = (printed ≡ []) × (new ≡ old)
-  Does old (Command command) printed new = (reply : Reply) × IsStep MayRefuse old command reply new × (printed ≡ line_of reply)
+  Does old (line_kinds.Command command) printed new = (reply : Reply) × IsStep MayRefuse old command reply new × (printed ≡ line_of reply)
   Does old (Question question) printed new = (answer : List ℕ) × IsAnswer old question answer × (printed ≡ as_line answer) × (new ≡ old)
   Does old Other printed new = ⊥
+
+  -- what a line says was done, and what that prints was put behind a text
+  abbrev pub Performs : {Z : Type 0} → (old : TreeState ℕ ℕ) → Line → (new : TreeState ℕ ℕ) → (text more : Vec ℕ Z) → Type 0
+  Performs old said new text more = (printed : List ℕ) × Does old said printed new × Pushes text more printed
+
+  -- the same of a command
+  abbrev pub Obeys : {Z : Type 0} → (old : TreeState ℕ ℕ) → Command → (new : TreeState ℕ ℕ) → (text more : Vec ℕ Z) → Type 0
+  Obeys old command new text more = Performs old (line_kinds.Command command) new text more
 
   -- what the lines say was done, one after another, and this was printed
   abbrev pub Serves : (old : TreeState ℕ ℕ) → (lines : List (List ℕ)) → (printed : List ℕ) → (new : TreeState ℕ ℕ) → Type 0
@@ -68,13 +100,24 @@ EndsAfter served all (Err Memory) = (rest : List (List ℕ)) × (all ≡ served 
 EndsAfter served all (Err Input) = (rest : List (List ℕ)) × (all ≡ served ++ rest)
 EndsAfter served all (Err Output) = (rest : List (List ℕ)) × (all ≡ served ++ rest)
 
--- known bytes have grown by what was printed, unless the writer failed
-abbrev pub HasWritten : {A : Type 0} → Option (List ℕ) → Option (List ℕ) → List ℕ → Result A Stop → Type 0
-HasWritten old new printed (Ok _) = Appends old new printed
-HasWritten old new printed (Err (NotACommand number)) = Appends old new printed
-HasWritten old new printed (Err Memory) = Appends old new printed
-HasWritten old new printed (Err Input) = Appends old new printed
-HasWritten old new printed (Err Output) = ⊤
+-- this holds, unless the writer failed
+abbrev pub UnlessOutput : {A : Type 0} → Result A Stop → Type 0 → Type 0
+UnlessOutput (Ok _) Holds = Holds
+UnlessOutput (Err (NotACommand number)) Holds = Holds
+UnlessOutput (Err Memory) Holds = Holds
+UnlessOutput (Err Input) Holds = Holds
+UnlessOutput (Err Output) Holds = ⊤
+
+-- a stop that may come at any line
+abbrev pub ComesAnywhere : Stop → Type 0
+ComesAnywhere (NotACommand number) = ⊥
+ComesAnywhere Memory = Unit {0}
+ComesAnywhere Input = Unit {0}
+ComesAnywhere Output = Unit {0}
+
+-- why the line with a number was not served: for want of memory, or since it says neither command nor question
+abbrev pub StopsAt : (said : Line) → (number : ℕ) → Stop → Type 0
+StopsAt said number stop = (stop ≡ Memory) ⊎ ((stop ≡ NotACommand number) × (said ≡ Other))
 
 -- Lines of the input were served, and what they print was written. Where the bytes of the input are known, the lines are theirs.
 pub record Drives {A : Type 0} (MayRefuse : Content (Node ℕ ℕ) → Type 0) (old : TreeState ℕ ℕ) (input before : Option (List ℕ)) (result : Result A Stop) (after : Option (List ℕ)) (new : TreeState ℕ ℕ) : Type 0 where
@@ -84,4 +127,4 @@ pub record Drives {A : Type 0} (MayRefuse : Content (Node ℕ ℕ) → Type 0) (
   pub ends : EndsAfter served lines result
   pub printed : List ℕ
   pub serves : Serves MayRefuse old served printed new
-  pub writes : HasWritten before after printed result
+  pub writes : UnlessOutput result (Appends before after printed)

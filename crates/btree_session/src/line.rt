@@ -1,8 +1,7 @@
 //! Lines of text, and the commands that they say.
-ghost use Rattle.std.specs.Prelude.{◌≡◌, ◌≢◌, ℕ, ◌<◌, ◌≤◌, List, [], ◌∷◌, ◌↔◌, length, IfSome, IfNone, MatchOption, Some, None, not, position, codes};
+ghost use Rattle.std.specs.Prelude.{◌≡◌, ◌≢◌, ℕ, List, [], ◌∷◌, IfSome, IfNone, not, position, codes};
 ghost use Rattle.std.specs.Io.BufRead.{strip_last};
-ghost use Rattle.btree_session.specs.declared.question.Question.{Question};
-ghost use Rattle.btree_session.specs.Line.{is_space, words_of, line_words, IsNumber, AreNumbers, IsSaid, name_of};
+ghost use Rattle.btree_session.specs.Line.{is_space, words_of, line_words, AreNumbers, BeginsWith, Finds, IsNumber, IsSaid, name_of};
 
 use crate::Command;
 use crate::question::Question;
@@ -80,8 +79,7 @@ fn parse_question(name: &[u8], rest: &[u8]) -> Line
 
 /// The question with a name.
 fn question_named(name: &[u8]) -> Option<Question>
-    ensures { MatchOption result ((asked : Question) → name.now ≢ name_of asked)
-        (λ asked. name.now ≡ name_of asked) }
+    ensures { Finds (λ asked. name.now ≡ name_of asked) result }
 {
     if name == b"list".as_slice() {
         return Some(Question::List);
@@ -100,8 +98,7 @@ fn question_named(name: &[u8]) -> Option<Question>
 
 /// The number, where the text is just one.
 fn one_number(text: &[u8]) -> Option<u64>
-    ensures { MatchOption result ((n : ℕ) → AreNumbers (n ∷ []) (words_of text.now) → ⊥)
-        (λ n. AreNumbers (n ∷ []) (words_of text.now)) }
+    ensures { Finds (λ n. AreNumbers (n ∷ []) (words_of text.now)) result }
 {
     let (number, rest) = next_number(text)?;
     if next_word(rest).is_some() {
@@ -112,8 +109,7 @@ fn one_number(text: &[u8]) -> Option<u64>
 
 /// The numbers, where the text is just two.
 fn two_numbers(text: &[u8]) -> Option<(u64, u64)>
-    ensures { MatchOption result ((m n : ℕ) → AreNumbers (m ∷ n ∷ []) (words_of text.now) → ⊥)
-        (λ pair. AreNumbers (pair.0 ∷ pair.1 ∷ []) (words_of text.now)) }
+    ensures { Finds (λ pair. AreNumbers (pair.0 ∷ pair.1 ∷ []) (words_of text.now)) result }
 {
     let (first, rest) = next_number(text)?;
     let second = one_number(rest)?;
@@ -124,8 +120,7 @@ fn two_numbers(text: &[u8]) -> Option<(u64, u64)>
 fn next_number(text: &[u8]) -> Option<(u64, &[u8])>
     ensures none { IfNone result ((n : ℕ) (ns : List ℕ)
         → AreNumbers (n ∷ ns) (words_of text.now) → ⊥) }
-    ensures some { IfSome result (λ split. (word : List ℕ) × IsNumber split.0 word
-        × (words_of text.now ≡ word ∷ words_of split.1.now)) }
+    ensures some { IfSome result (λ split. BeginsWith text.now split.0 split.1.now) }
 {
     let (word, rest) = next_word(text)?;
     Some((number(word)?, rest))
@@ -133,7 +128,8 @@ fn next_number(text: &[u8]) -> Option<(u64, &[u8])>
 
 /// The first word and the text behind it, if there is a word.
 fn next_word(text: &[u8]) -> Option<(&[u8], &[u8])>
-    ensures { MatchOption result (words_of text.now ≡ [])
+    ensures none { IfNone result (words_of text.now ≡ []) }
+    ensures some { IfSome result
         (λ split. words_of text.now ≡ split.0.now ∷ words_of split.1.now) }
 {
     let spaces = first_byte_of_word(text).unwrap_or(text.len());
@@ -159,7 +155,7 @@ fn first_space(text: &[u8]) -> Option<usize>
 
 /// The number that a word writes in decimal digits, if it does and the number has 64 bits.
 fn number(word: &[u8]) -> Option<u64>
-    ensures { MatchOption result ((n : ℕ) → IsNumber n word.now → ⊥) (λ n. IsNumber n word.now) }
+    ensures { Finds (λ n. IsNumber n word.now) result }
 {
     if word.is_empty() {
         return None;

@@ -1,8 +1,8 @@
 //! Questions about a session's map, and their answers as text.
-ghost use Rattle.std.specs.Prelude.{◌≡◌, ◌++◌, List, ℕ, OnOk, OnErr, map, decimal};
+ghost use Rattle.std.specs.Prelude.{OnOk, OnErr};
 ghost use Rattle.btree_shape.specs.TreeState.{looks, pairs_of};
-ghost use Rattle.btree_session.specs.Answer.{IsAnswer, list_text, bracketed, shape_under, answer_text};
-ghost use Rattle.btree_session.specs.Text.{Grows, as_line};
+ghost use Rattle.btree_session.specs.Answer.{Answers, IsAnswer, list_text, leaf_text, shape_under, answer_text};
+ghost use Rattle.btree_session.specs.Text.{Grows, Pushes};
 
 use crate::text::{push_key, push_number, push_pair, push_text};
 use btree_ext::BTreeExt;
@@ -31,8 +31,7 @@ pub(crate) fn push_answer_line<C: NodesMut<u64, u64>>(
     question: Question,
     text: &mut Vec<u8>,
 ) -> Result<(), AllocError>
-    ensures put { OnOk result ((answer : List ℕ) × IsAnswer map.now question answer
-        × (text.new.items ≡ text.old.items ++ as_line answer)) }
+    ensures put { OnOk result (Answers map.now question text.old text.new) }
     ensures kept { OnErr result (Grows text.old.items text.new.items) }
 {
     push_answer(map, question, text)?;
@@ -45,7 +44,7 @@ fn push_answer<C: NodesMut<u64, u64>>(
     text: &mut Vec<u8>,
 ) -> Result<(), AllocError>
     ensures answer { IsAnswer map.now question (answer_text map.now question) }
-    ensures put { OnOk result (text.new.items ≡ text.old.items ++ answer_text map.now question) }
+    ensures put { OnOk result (Pushes text.old text.new (answer_text map.now question)) }
     ensures kept { OnErr result (Grows text.old.items text.new.items) }
 {
     let root = map.root_id();
@@ -64,7 +63,7 @@ fn push_list<C: NodesMut<u64, u64>>(
     map: &BTreeMap<u64, u64, C>,
     text: &mut Vec<u8>,
 ) -> Result<(), AllocError>
-    ensures put { OnOk result (text.new.items ≡ text.old.items ++ list_text (pairs_of map.now)) }
+    ensures put { OnOk result (Pushes text.old text.new (list_text (pairs_of map.now))) }
     ensures kept { OnErr result (Grows text.old.items text.new.items) }
 {
     if map.is_empty() {
@@ -86,8 +85,7 @@ fn push_shape<C: NodesMut<u64, u64>>(
     id: usize,
     text: &mut Vec<u8>,
 ) -> Result<(), AllocError>
-    ensures put { OnOk result (text.new.items
-        ≡ text.old.items ++ shape_under (looks map.now) levels id) }
+    ensures put { OnOk result (Pushes text.old text.new (shape_under (looks map.now) levels id)) }
     ensures kept { OnErr result (Grows text.old.items text.new.items) }
 {
     if levels == 0 || !map.has_node(id) {
@@ -107,8 +105,7 @@ fn push_shape<C: NodesMut<u64, u64>>(
 }
 
 fn push_leaf(leaf: &LeafNode<u64, u64>, text: &mut Vec<u8>) -> Result<(), AllocError>
-    ensures put { OnOk result (text.new.items
-        ≡ text.old.items ++ bracketed (map (λ pair. decimal pair.0) leaf.now.items)) }
+    ensures put { OnOk result (Pushes text.old text.new (leaf_text leaf.now.items)) }
     ensures kept { OnErr result (Grows text.old.items text.new.items) }
 {
     push_text(text, b"(")?;

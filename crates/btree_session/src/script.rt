@@ -1,11 +1,9 @@
 //! Commands from lines of text, and replies to lines of text.
-ghost use Rattle.std.specs.Prelude.{◌≡◌, ◌⊎◌, ◌++◌, ℕ, List, [], position, IfSome, IfNone, IfOk, IfErr, OnOk, OnErr};
-ghost use Rattle.std.specs.Io.Buffered.{reader_remaining};
-ghost use Rattle.std.specs.Io.KnownBytes.{Keeps, IsAtEnd, append_known};
+ghost use Rattle.std.specs.Prelude.{◌≡◌, ◌⊎◌, [], position, IfSome, IfNone, IfOk, IfErr, OnOk, OnErr};
+ghost use Rattle.std.specs.Io.KnownBytes.{IsAtEnd};
 ghost use Rattle.btree_session.specs.Line.{line_words, IsSaid};
-ghost use Rattle.btree_session.specs.Answer.{IsAnswer};
-ghost use Rattle.btree_session.specs.Text.{as_line};
-ghost use Rattle.btree_session.specs.Script.{is_newline, ReadsLine, Does, Drives};
+ghost use Rattle.btree_session.specs.Answer.{Answers};
+ghost use Rattle.btree_session.specs.Script.{is_newline, input_of, output_of, ComesAnywhere, Drives, Obeys, Performs, StopsAt, TakesLine, UnlessOutput, WritesOut};
 
 use crate::line::{Line, parse, without_last};
 use crate::question::{Question, push_answer_line};
@@ -62,9 +60,9 @@ fn serve<C: NodesMut<u64, u64>, R: Read, W: Write>(
     output: &mut W,
     text: &mut Vec<u8>,
 ) -> Result<(), Stop>
-    ensures { Drives C.MayRefuse session.old (reader_remaining R.remaining reader.old)
-        (append_known (W.contents output.old) text.old.items) result
-        (append_known (W.contents output.new) text.new.items) session.new }
+    ensures { Drives C.MayRefuse session.old (input_of R.remaining reader.old)
+        (output_of W.contents output.old text.old) result
+        (output_of W.contents output.new text.new) session.new }
 {
     let mut line = Vec::new(alloc);
     for number in 1..u64::MAX {
@@ -83,16 +81,13 @@ fn next_line<R: Read, W: Write>(
     text: &mut Vec<u8>,
     output: &mut W,
 ) -> Result<Option<Line>, Stop>
-    ensures line { IfOk result (λ next. IfSome next (ReadsLine
-        (reader_remaining R.remaining reader.old) (reader_remaining R.remaining reader.new))) }
+    ensures line { IfOk result (λ next. IfSome next
+        (TakesLine R.remaining reader.old reader.new)) }
     ensures end { IfOk result (λ next. IfNone next
-        (IsAtEnd (reader_remaining R.remaining reader.old))) }
-    ensures text { OnOk result (Keeps (append_known (W.contents output.old) text.old.items)
-        (append_known (W.contents output.new) text.new.items)) }
-    ensures stop { IfErr result (λ stop. (stop ≡ Stop.Output)
-        ⊎ (((stop ≡ Stop.Memory) ⊎ (stop ≡ Stop.Input))
-        × Keeps (append_known (W.contents output.old) text.old.items)
-        (append_known (W.contents output.new) text.new.items))) }
+        (IsAtEnd (input_of R.remaining reader.old))) }
+    ensures text { UnlessOutput result
+        (WritesOut W.contents output.old text.old output.new text.new) }
+    ensures stop { IfErr result ComesAnywhere }
 {
     if let Some(said) = buffered_line(reader) {
         return Ok(Some(said));
@@ -103,8 +98,7 @@ fn next_line<R: Read, W: Write>(
 
 /// What the next line says, where the reader has the whole of it.
 fn buffered_line<R: Read>(reader: &mut BufReader<R>) -> Option<Line>
-    ensures line { IfSome result (ReadsLine (reader_remaining R.remaining reader.old)
-        (reader_remaining R.remaining reader.new)) }
+    ensures line { IfSome result (TakesLine R.remaining reader.old reader.new) }
     ensures none { IfNone result (reader.new ≡ reader.old) }
 {
     let len = newline_place(reader.buffer())?;
@@ -122,10 +116,10 @@ fn newline_place(bytes: &[u8]) -> Option<usize>
 
 /// Reads what the next line says, if there is one. The vector is used for the line.
 fn read_line<R: Read>(reader: &mut BufReader<R>, line: &mut Vec<u8>) -> Result<Option<Line>, Stop>
-    ensures line { IfOk result (λ next. IfSome next (ReadsLine
-        (reader_remaining R.remaining reader.old) (reader_remaining R.remaining reader.new))) }
+    ensures line { IfOk result (λ next. IfSome next
+        (TakesLine R.remaining reader.old reader.new)) }
     ensures end { IfOk result (λ next. IfNone next
-        (IsAtEnd (reader_remaining R.remaining reader.old))) }
+        (IsAtEnd (input_of R.remaining reader.old))) }
     ensures stop { IfErr result (λ stop. (stop ≡ Stop.Memory) ⊎ (stop ≡ Stop.Input)) }
 {
     line.clear();
@@ -144,13 +138,11 @@ fn serve_line<C: NodesMut<u64, u64>>(
     number: u64,
     text: &mut Vec<u8>,
 ) -> Result<(), Stop>
-    ensures served { OnOk result ((printed : List ℕ)
-        × Does C.MayRefuse session.old said printed session.new
-        × (text.new.items ≡ text.old.items ++ printed)) }
+    ensures served { OnOk result
+        (Performs C.MayRefuse session.old said session.new text.old text.new) }
     ensures session_kept { OnErr result (session.new ≡ session.old) }
     ensures text_kept { OnErr result (text.new.items ≡ text.old.items) }
-    ensures stop { IfErr result (λ stop. (stop ≡ Stop.Memory)
-        ⊎ ((stop ≡ Stop.NotACommand number) × (said ≡ Line.Other))) }
+    ensures stop { IfErr result (StopsAt said number) }
 {
     match said {
         Line::Empty => Ok(()),
@@ -173,9 +165,8 @@ fn obey<C: NodesMut<u64, u64>>(
     command: Command,
     text: &mut Vec<u8>,
 ) -> Result<(), AllocError>
-    ensures done { OnOk result ((printed : List ℕ)
-        × Does C.MayRefuse session.old (Line.Command command) printed session.new
-        × (text.new.items ≡ text.old.items ++ printed)) }
+    ensures done { OnOk result
+        (Obeys C.MayRefuse session.old command session.new text.old text.new) }
     ensures session_kept { OnErr result (session.new ≡ session.old) }
     ensures text_kept { OnErr result (text.new.items ≡ text.old.items) }
 {
@@ -191,8 +182,7 @@ fn answer<C: NodesMut<u64, u64>>(
     question: Question,
     text: &mut Vec<u8>,
 ) -> Result<(), AllocError>
-    ensures answered { OnOk result ((answer : List ℕ) × IsAnswer session.now question answer
-        × (text.new.items ≡ text.old.items ++ as_line answer)) }
+    ensures answered { OnOk result (Answers session.now question text.old text.new) }
     ensures text_kept { OnErr result (text.new.items ≡ text.old.items) }
 {
     let len = text.len();
@@ -208,8 +198,7 @@ fn answer<C: NodesMut<u64, u64>>(
 /// Writes the text out and leaves it empty, whether that succeeds or not.
 fn write_out<W: Write>(text: &mut Vec<u8>, output: &mut W) -> Result<(), Stop>
     ensures empty { text.new.items ≡ [] }
-    ensures ok { OnOk result (Keeps (append_known (W.contents output.old) text.old.items)
-        (append_known (W.contents output.new) text.new.items)) }
+    ensures ok { OnOk result (WritesOut W.contents output.old text.old output.new text.new) }
     ensures err { IfErr result (λ stop. stop ≡ Stop.Output) }
 {
     if text.is_empty() {

@@ -1,9 +1,9 @@
 //! A session: a map that commands are run on.
-ghost use Rattle.std.specs.Prelude.{◌≡◌, ◌+◌, ◌≤◌, ◌++◌, List, [], None, length, vec_len, vec_capacity, IsOk, OnOk, OnErr};
+ghost use Rattle.std.specs.Prelude.{◌≡◌, [], None, length, IsOk, OnOk, OnErr};
 ghost use Rattle.std.specs.FinMap as map;
 ghost use Rattle.btree_shape.specs.TreeState.{pairs_of};
-ghost use Rattle.btree_session.specs.Machine.{IsRun, IsStep};
-ghost use Rattle.btree_session.specs.declared.command.Reply.{Reply};
+ghost use Rattle.btree_session.specs.Machine.{IsStep, Runs};
+ghost use Rattle.btree_session.specs.Text.{HasCapacityFor};
 
 use crate::{Command, Reply};
 use btree_ext::BTreeExt;
@@ -95,11 +95,9 @@ pub fn run<C: NodesMut<u64, u64>, B: Allocator>(
     commands: &[Command],
     replies: &mut Vec<Reply, B>,
 ) -> Result<(), AllocError>
-    ensures answered { OnOk result ((given : List Reply)
-        × (replies.new.items ≡ replies.old.items ++ given)
-        × IsRun C.MayRefuse session.old commands.now given session.new) }
-    ensures succeeds { vec_len replies.old + length commands.now ≤ vec_capacity replies.old
-        → IsOk result }
+    ensures answered { OnOk result (Runs C.MayRefuse
+        session.old commands.now session.new replies.old replies.new) }
+    ensures succeeds { HasCapacityFor replies.old (length commands.now) → IsOk result }
     ensures replies_kept { OnErr result (replies.new.items ≡ replies.old.items) }
     ensures session_kept { OnErr result (session.new ≡ session.old) }
 {

@@ -1,7 +1,7 @@
 //! The text of replies, and pieces of the text of answers.
 ghost use Rattle.std.specs.Prelude.{◌≡◌, ◌+◌, ◌≤◌, ◌++◌, length, vec_len, vec_capacity, codes, decimal, OnOk, OnErr};
 ghost use Rattle.btree_session.specs.Answer.{pair_text};
-ghost use Rattle.btree_session.specs.Text.{cause_text, line_of};
+ghost use Rattle.btree_session.specs.Text.{HasCapacityFor, Pushes, cause_text, line_of};
 
 use crate::Reply;
 use btree_item::Cause;
@@ -16,8 +16,8 @@ const LONGEST_NUMBER: usize = 20;
 /// Puts a reply on a line of its own behind the text, in room that is there.
 #[tactic(auto, using(crate::proofs::Digits::decimals))]
 pub(crate) fn push_line(text: &mut Vec<u8>, reply: Reply)
-    requires { vec_len text.old + LONGEST_LINE ≤ vec_capacity text.old }
-    ensures { text.new.items ≡ text.old.items ++ line_of reply }
+    requires { HasCapacityFor text.old LONGEST_LINE }
+    ensures { Pushes text.old text.new (line_of reply) }
 {
     match reply {
         Reply::Nothing => push_all(text, b"none\n"),
@@ -36,7 +36,7 @@ pub(crate) fn push_line(text: &mut Vec<u8>, reply: Reply)
 
 /// Puts bytes behind the text.
 pub(crate) fn push_text(text: &mut Vec<u8>, bytes: &[u8]) -> Result<(), AllocError>
-    ensures put { OnOk result (text.new.items ≡ text.old.items ++ bytes.now) }
+    ensures put { OnOk result (Pushes text.old text.new bytes.now) }
     ensures kept { OnErr result (text.new.items ≡ text.old.items) }
 {
     text.extend_from_slice(bytes)
@@ -45,7 +45,7 @@ pub(crate) fn push_text(text: &mut Vec<u8>, bytes: &[u8]) -> Result<(), AllocErr
 /// Puts a number behind the text.
 #[tactic(auto, using(crate::proofs::Digits::decimals))]
 pub(crate) fn push_number(text: &mut Vec<u8>, number: u64) -> Result<(), AllocError>
-    ensures put { OnOk result (text.new.items ≡ text.old.items ++ decimal number) }
+    ensures put { OnOk result (Pushes text.old text.new (decimal number)) }
     ensures kept { OnErr result (text.new.items ≡ text.old.items) }
 {
     text.reserve(LONGEST_NUMBER)?;
@@ -63,8 +63,7 @@ pub(crate) fn push_key(
 ) -> Result<(), AllocError>
     requires before { length before.now ≤ 1 }
     requires after { length after.now ≤ 1 }
-    ensures put { OnOk result (text.new.items
-        ≡ text.old.items ++ (before.now ++ decimal key ++ after.now)) }
+    ensures put { OnOk result (Pushes text.old text.new (before.now ++ decimal key ++ after.now)) }
     ensures kept { OnErr result (text.new.items ≡ text.old.items) }
 {
     text.reserve(LONGEST_NUMBER + 2)?;
@@ -83,8 +82,7 @@ pub(crate) fn push_pair(
     value: u64,
 ) -> Result<(), AllocError>
     requires { length before.now ≤ 1 }
-    ensures put { OnOk result (text.new.items
-        ≡ text.old.items ++ (before.now ++ pair_text (key, value))) }
+    ensures put { OnOk result (Pushes text.old text.new (before.now ++ pair_text (key, value))) }
     ensures kept { OnErr result (text.new.items ≡ text.old.items) }
 {
     text.reserve(LONGEST_NUMBER + LONGEST_NUMBER + 2)?;
@@ -106,8 +104,8 @@ fn word_of(cause: Cause) -> &'static [u8]
 }
 
 fn push_all(text: &mut Vec<u8>, bytes: &[u8])
-    requires { vec_len text.old + length bytes.now ≤ vec_capacity text.old }
-    ensures items { text.new.items ≡ text.old.items ++ bytes.now }
+    requires { HasCapacityFor text.old (length bytes.now) }
+    ensures items { Pushes text.old text.new bytes.now }
     ensures len { vec_len text.new ≡ vec_len text.old + length bytes.now }
     ensures capacity { vec_capacity text.old ≤ vec_capacity text.new }
 {
@@ -118,8 +116,8 @@ fn push_all(text: &mut Vec<u8>, bytes: &[u8])
 
 #[tactic(auto, using(crate::proofs::Digits::decimals))]
 fn push_decimal(text: &mut Vec<u8>, number: u64)
-    requires { vec_len text.old + length (decimal number) ≤ vec_capacity text.old }
-    ensures items { text.new.items ≡ text.old.items ++ decimal number }
+    requires { HasCapacityFor text.old (length (decimal number)) }
+    ensures items { Pushes text.old text.new (decimal number) }
     ensures len { vec_len text.new ≡ vec_len text.old + length (decimal number) }
     ensures capacity { vec_capacity text.old ≤ vec_capacity text.new }
 {

@@ -9,7 +9,7 @@ loop-number-init g c = begun _ _ _ _
 pub returns-in_err-said : goal.returns-in_err-said
 returns-in_err-said g c =
     let exit = err_from_is_err_and c.from_residual.result c.from_residual.ensures.1 in
-    rw (exit.1, exit.2) (between_lines _ _ _ _ _ _ _ _ _ _ c.loop-number.invariant c.in_err-said.ensures.stop)
+    rw (exit.1, exit.2) (between_lines _ _ _ _ _ _ _ _ _ _ c.loop-number.invariant c.in_err-said.ensures.stop c.in_err-said.ensures.text)
 
 pub returns-in_err-serve_line : goal.returns-in_err-serve_line
 returns-in_err-serve_line g c =
