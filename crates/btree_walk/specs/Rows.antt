@@ -27,8 +27,8 @@ module _ {K V : Type 0} where
 
 module _ {K V : Type 0} (tree : TreeState K V) where
   -- ancestors from the root down: under each item that is not passed stands a child, one level lower
-  abbrev pub AreAbove : List (Ancestor K V) → Type 0
-  AreAbove ancestors = AreRows (looks tree) (finite.len tree.nodes) 0 (rows_of ancestors)
+  abbrev pub AreAncestors : List (Ancestor K V) → Type 0
+  AreAncestors ancestors = AreRows (looks tree) (finite.len tree.nodes) 0 (rows_of ancestors)
 
   -- a node that can stand below the last ancestor
   abbrev pub IsBelow : List (Ancestor K V) → (id : ℕ) → Type 0

@@ -3,7 +3,7 @@ ghost use Rattle.std.specs.Prelude.{◌≡◌, ◌<◌, [], Some, OnSome};
 ghost use Rattle.std.specs.Mem.{FitsInMemory};
 ghost use Rattle.btree_node.specs.contracts.node.Node.{the_row as node_row};
 ghost use Rattle.btree_shape.specs.TreeState.{pairs_of};
-ghost use Rattle.btree_walk.specs.Rows.{AreAbove, IsBelow, IsNextAbove, IsNextIn, left_at, left_of};
+ghost use Rattle.btree_walk.specs.Rows.{AreAncestors, IsBelow, IsNextAbove, IsNextIn, left_at, left_of};
 
 use btree_ext::{BTreeExt, Tree};
 use btree_item::Slots;
@@ -44,9 +44,9 @@ fn descend<'a, K: Ord + 'a, V: 'a, C: NodesMut<K, V> + 'a>(
     ancestors: &mut Ancestors<'a, K, V>,
 ) -> &'a Node<K, V>
     requires fits { FitsInMemory (node_row K.row V.row) }
-    requires above { AreAbove tree.now ancestors.old }
+    requires above { AreAncestors tree.now ancestors.old }
     requires below { IsBelow tree.now ancestors.old top }
-    ensures above { AreAbove tree.now ancestors.new }
+    ensures above { AreAncestors tree.now ancestors.new }
     ensures left { left_at tree.now top ancestors.old ≡ left_of tree.now (Some result) 0 ancestors.new }
 {
     let mut id = top;
@@ -69,7 +69,7 @@ pub(crate) fn start<'a, K: Ord + 'a, V: 'a, C: NodesMut<K, V> + 'a>(
 ) -> Option<&'a Node<K, V>>
     requires fits { FitsInMemory (node_row K.row V.row) }
     requires none { ancestors.old ≡ [] }
-    ensures above { AreAbove tree.now ancestors.new }
+    ensures above { AreAncestors tree.now ancestors.new }
     ensures left { left_of tree.now result 0 ancestors.new ≡ pairs_of tree.now }
 {
     let _len = tree.len();
@@ -85,8 +85,8 @@ pub(crate) fn next_above<'a, K: Ord + 'a, V: 'a, C: NodesMut<K, V> + 'a>(
     ancestors: &mut Ancestors<'a, K, V>,
 ) -> Option<((&'a K, &'a V), &'a Node<K, V>)>
     requires fits { FitsInMemory (node_row K.row V.row) }
-    requires above { AreAbove tree.now ancestors.old }
-    ensures above { AreAbove tree.now ancestors.new }
+    requires above { AreAncestors tree.now ancestors.old }
+    ensures above { AreAncestors tree.now ancestors.new }
     ensures left { IsNextAbove tree.now ancestors.old ancestors.new result }
 {
     while let Some(ancestor) = ancestors.pop() {

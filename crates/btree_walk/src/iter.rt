@@ -26,14 +26,14 @@ pub struct Iter<'a, K: Ord, V, C: NodesMut<K, V>> {
 
 impl<'a, K: Ord, V, C: NodesMut<K, V>> Model for Iter<'a, K, V, C> {
     ghost use Rattle.std.specs.Prelude.{◌≡◌, List, length};
-    ghost use Rattle.btree_walk.specs.Rows.{AreAbove, left_of};
+    ghost use Rattle.btree_walk.specs.Rows.{AreAncestors, left_of};
 
     ghost Value = { List (K × V) };
 
     ghost view = { λ it. left_of it.tree.now it.leaf it.passed it.ancestors };
 
     ghost invariant = { λ it. C.Fits
-        × AreAbove it.tree.now it.ancestors
+        × AreAncestors it.tree.now it.ancestors
         × (it.left ≡ length (left_of it.tree.now it.leaf it.passed it.ancestors)) };
 }
 
