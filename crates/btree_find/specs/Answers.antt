@@ -1,15 +1,9 @@
 -- What a search by key answers.
-use Rattle.std.specs.Prelude.{◌≡◌, ℕ, IsSome, Option, Result, Ok, Err, option_map, slice_get}
-use Rattle.std.specs.Option.{option_and_then}
+use Rattle.std.specs.Prelude.{◌≡◌, ℕ, IsSome, Result, Ok, Err}
 use Rattle.std.specs.declared.cmp.Ordering.{Ordering}
 use Rattle.btree_item.specs.Pairs.{place_of}
 use Rattle.btree_item.specs.declared.address.Address.{Address}
-use Rattle.btree_view.specs.View.{View, items_of}
 use Rattle.btree_shape.specs.TreeState.{TreeState, IsLeafAddressIn, IsOccupiedIn, IsPlaceIn, IsValidIn, pairs_of}
-
--- the value of the item at an offset of a node, if there is one
-abbrev pub value_in : {K V : Type 0} → View (K × V) → (offset : Option ℕ) → Option V
-value_in node offset = option_map (λ x. x.1) (option_and_then (slice_get (items_of node)) offset)
 
 module _ {K V : Type 0} (cmp : K → K → Ordering) (k : K) (s : TreeState K V) where
   -- an address at which the item with the key stands

@@ -2,8 +2,9 @@
 ghost use Rattle.std.specs.Prelude.{◌≡◌, ◌≤◌, option_copied};
 ghost use Rattle.btree_item.specs.Pairs.{found_value};
 ghost use Rattle.btree_node.specs.Node.{view_of};
+ghost use Rattle.btree_view.specs.View.{value_at_offset};
 ghost use Rattle.btree_shape.specs.TreeState.{HasLevels, IsBTree, pairs_of};
-ghost use Rattle.btree_find.specs.Answers.{IsAddressOf, value_in};
+ghost use Rattle.btree_find.specs.Answers.{IsAddressOf};
 ghost use Rattle.btree_find.specs.Levels.{IsDense};
 
 use btree_item::{Address, Offset};
@@ -34,7 +35,7 @@ pub fn address_of<K: Ord, V, C: NodesMut<K, V>>(
 }
 
 fn value_at<K, V>(node: &Node<K, V>, offset: Offset) -> Option<&V>
-    ensures { option_copied result ≡ value_in (view_of node.now) offset }
+    ensures { option_copied result ≡ value_at_offset (view_of node.now) offset }
 {
     match node.item(offset) {
         Some(item) => Some(item.value()),
