@@ -1,7 +1,5 @@
 //! The way from the root to the leaf in which a walk stands.
 ghost use Rattle.std.specs.Prelude.{◌≡◌, ◌<◌, [], Some, OnSome};
-ghost use Rattle.std.specs.Mem.{FitsInMemory};
-ghost use Rattle.btree_node.specs.contracts.node.Node.{the_row as node_row};
 ghost use Rattle.btree_shape.specs.TreeState.{pairs_of};
 ghost use Rattle.btree_walk.specs.Rows.{AreAncestors, IsBelow, IsNextAbove, IsNextIn, left_at, left_of};
 
@@ -21,7 +19,7 @@ pub(crate) struct Ancestor<'a, K, V> {
 pub(crate) type Ancestors<'a, K, V> = Slots<Ancestor<'a, K, V>, 32>;
 
 // The item of a leaf after those that are passed.
-pub(crate) fn first_of<'a, K, V>(
+pub(crate) fn next_in_leaf<'a, K, V>(
     leaf: Option<&'a Node<K, V>>,
     passed: usize,
 ) -> Option<(&'a K, &'a V)>
@@ -43,12 +41,12 @@ fn descend<'a, K: Ord + 'a, V: 'a, C: NodesMut<K, V> + 'a>(
     top: usize,
     ancestors: &mut Ancestors<'a, K, V>,
 ) -> &'a Node<K, V>
-    requires fits { FitsInMemory (node_row K.row V.row) }
     requires above { AreAncestors tree.now ancestors.old }
     requires below { IsBelow tree.now ancestors.old top }
     ensures above { AreAncestors tree.now ancestors.new }
     ensures left { left_at tree.now top ancestors.old ≡ left_of tree.now (Some result) 0 ancestors.new }
 {
+    tree.tell_fits();
     let mut id = top;
     loop {
         let node = tree.node(id);
@@ -67,11 +65,11 @@ pub(crate) fn start<'a, K: Ord + 'a, V: 'a, C: NodesMut<K, V> + 'a>(
     tree: &'a Tree<K, V, C>,
     ancestors: &mut Ancestors<'a, K, V>,
 ) -> Option<&'a Node<K, V>>
-    requires fits { FitsInMemory (node_row K.row V.row) }
     requires none { ancestors.old ≡ [] }
     ensures above { AreAncestors tree.now ancestors.new }
     ensures left { left_of tree.now result 0 ancestors.new ≡ pairs_of tree.now }
 {
+    tree.tell_fits();
     let _len = tree.len();
     match tree.root_id() {
         Some(root) => Some(descend(tree, root, ancestors)),
@@ -84,11 +82,11 @@ pub(crate) fn next_above<'a, K: Ord + 'a, V: 'a, C: NodesMut<K, V> + 'a>(
     tree: &'a Tree<K, V, C>,
     ancestors: &mut Ancestors<'a, K, V>,
 ) -> Option<((&'a K, &'a V), &'a Node<K, V>)>
-    requires fits { FitsInMemory (node_row K.row V.row) }
     requires above { AreAncestors tree.now ancestors.old }
     ensures above { AreAncestors tree.now ancestors.new }
     ensures left { IsNextAbove tree.now ancestors.old ancestors.new result }
 {
+    tree.tell_fits();
     while let Some(ancestor) = ancestors.pop() {
         let node = ancestor.node;
         let passed = ancestor.passed;

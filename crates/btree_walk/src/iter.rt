@@ -3,7 +3,7 @@ ghost use Rattle.std.specs.Prelude.{◌≡◌, Some, IfSome, length};
 ghost use Rattle.std.specs.Iterator.SizeHint.{IsWithinCount};
 ghost use Rattle.std.specs.Iterator.{YieldsFirstBy, item_count, UpTo};
 
-use crate::ancestors::{Ancestors, first_of, next_above, start};
+use crate::ancestors::{Ancestors, next_above, next_in_leaf, start};
 use btree_ext::Tree;
 use btree_item::Slots;
 use btree_node::Node;
@@ -68,7 +68,7 @@ impl<'a, K: Ord, V, C: NodesMut<K, V>> Iterator for Iter<'a, K, V, C> {
     fn next(&mut self) -> Option<(&'a K, &'a V)> {
         let _left = self.left;
         C::tell_fits();
-        if let Some(pair) = first_of(self.leaf, self.passed) {
+        if let Some(pair) = next_in_leaf(self.leaf, self.passed) {
             self.passed += 1;
             self.left -= 1;
             return Some(pair);

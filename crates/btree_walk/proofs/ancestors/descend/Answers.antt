@@ -7,10 +7,10 @@ pub loop-child-init : goal.loop-child-init
 loop-child-init g c = record { rows = c.requires.above; under = c.requires.below; list = refl }
 
 pub node-node-requires : goal.node-node-requires
-node-node-requires g c = (c.requires.fits, under-used c.args.tree.now.nodes (map.len c.args.tree.now.nodes) _ c.loop-child.id c.loop-child.invariant.under)
+node-node-requires g c = (c.tell_fits.ensures, under-used c.args.tree.now.nodes (map.len c.args.tree.now.nodes) _ c.loop-child.id c.loop-child.invariant.under)
 
 pub child_id_opt-requires : goal.child_id_opt-requires
-child_id_opt-requires g c = c.requires.fits
+child_id_opt-requires g c = c.tell_fits.ensures
 
 pub push-requires : goal.push-requires
 push-requires g c = (omega arith, down-room c.args.tree.now.nodes (map.len c.args.tree.now.nodes) _ c.loop-child.ancestors c.loop-child.id c.loop-child.invariant)

@@ -15,13 +15,10 @@ descend-requires g c =
     let is = c.len-len.ensures in (
       omega arith,
       (
-        c.requires.fits,
+        c.tell_fits.ensures,
         (
-          c.requires.fits,
-          (
-            rw c.requires.none tt,
-            rw c.requires.none (root-under g.K.Ord.cmp c.args.tree.now c.in-Some.root (rw (← is) fits) well),
-          ),
+          rw c.requires.none tt,
+          rw c.requires.none (root-under g.K.Ord.cmp c.args.tree.now c.in-Some.root (rw (← is) fits) well),
         ),
       ),
     )
