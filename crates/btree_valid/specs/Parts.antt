@@ -1,14 +1,20 @@
 -- The walk by what code carries of it: how many nodes may still come, and the last key that was passed.
-use Rattle.std.specs.Prelude.{ℕ, option_copied}
+use Rattle.std.specs.Prelude.{◌≡◌, ℕ, Some, option_copied}
 use Rattle.std.specs.declared.cmp.Ordering.{Ordering}
 use Rattle.btree_node.specs.declared.node.Node.{Node}
 use Rattle.btree_node.specs.Node.{view_of}
 use Rattle.btree_store.specs.Content.{Content}
 use Rattle.btree_view.specs.View.{items_of}
 use Rattle.btree_shape.specs.TreeState.{views}
-use Rattle.btree_valid.specs.Odd.{CanOrder, CanPassUnder, Orders, PassesUnder}
+use Rattle.btree_valid.specs.Odd.{CanOrder, CanPassUnder, IsAbove, Orders, PassesUnder}
 use Rattle.btree_valid.specs.declared.odd.Part.{Part}
 use Rattle.btree_valid.specs.declared.odd.Walk.{Walk}
+
+-- the walk passes a key
+pub record PassesKey {K : Type 0} (cmp : K → K → Ordering) (key : K) (seen after : Walk K) : Type 0 where
+  pub above : IsAbove cmp (option_copied seen.last) key
+  pub left : after.left ≡ seen.left
+  pub last : option_copied after.last ≡ Some key
 
 module _ {K V : Type 0} (cmp : K → K → Ordering) where
   -- the walk passes the items of a node

@@ -6,7 +6,7 @@ ghost use Rattle.btree_node.specs.Node.{view_of};
 ghost use Rattle.btree_view.specs.View.{items_of, leaf, most_of, parent_of};
 ghost use Rattle.btree_shape.specs.WellFormed.{excess_beside, least_beside};
 ghost use Rattle.btree_valid.specs.Odd.{IsAbove, IsOffAmong, IsOffAtHeight, IsOffAtSomeHeight, MayEnter};
-ghost use Rattle.btree_valid.specs.Parts.{CanPassItems, CanPassPart, PassesItems, PassesPart};
+ghost use Rattle.btree_valid.specs.Parts.{CanPassItems, CanPassPart, PassesItems, PassesKey, PassesPart};
 
 use btree_node::Node;
 use btree_nodes::Nodes;
@@ -107,6 +107,20 @@ fn pass_items<'a, K: Ord, V>(node: &'a Node<K, V>, seen: Walk<'a, K>) -> Option<
     })
 }
 
+// Passes a key, if it is above the last one.
+fn pass_key<'a, K: Ord>(seen: Walk<'a, K>, key: &'a K) -> Option<Walk<'a, K>>
+    ensures only { IfSome result (PassesKey K.cmp key.now seen.entry) }
+    ensures always { IsAbove K.cmp (option_copied seen.entry.last) key.now → IsSome result }
+{
+    if !is_above(seen.last, key) {
+        return None;
+    }
+    Some(Walk {
+        left: seen.left,
+        last: Some(key),
+    })
+}
+
 // Passes a part of the tree, if it is as it should be.
 fn pass_node<'a, K: Ord + 'a, V: 'a, C: Nodes<K, V>>(
     nodes: &'a C,
@@ -145,14 +159,7 @@ fn pass_node<'a, K: Ord + 'a, V: 'a, C: Nodes<K, V>>(
     let mut passed = pass_node(nodes, root, odd, leftmost, entered)?;
     let mut index = 0;
     while let Some((item, child)) = node.branch_at_index(index) {
-        let key = item.key();
-        if !is_above(passed.last, key) {
-            return None;
-        }
-        let next = Walk {
-            left: passed.left,
-            last: Some(key),
-        };
+        let next = pass_key(passed, item.key())?;
         let below = Part {
             id: child,
             ..leftmost

@@ -21,17 +21,19 @@ returns-in_default-clause-always g t c = λ can. c.pass_items.ensures.always (le
 pub returns-in_err-passed-clause-always : goal.returns-in_err-passed-clause-always
 returns-in_err-passed-clause-always g t c = λ can. let no : false ≡ true = c.in_err-passed.ensures.always (inner-can g.K.Ord.cmp (g.C.Nodes.content c.args.nodes.now) c.args.root c.args.odd c.args.part.height c.args.part.parent c.args.part.id c.args.seen.left (option_copied c.args.seen.last) c.in_ok-node.node.now c.in_ok-node.ensures.value c.in-Some.first (is-internal (view_of c.in_ok-node.node.now) c.in-Some.first (sym c.in-Some.is ∙ c.child_id_opt.ensures)) (c.if-not-may_enter.ensures.0 refl) c.if-height-eq0.false can) in absurd (cc)
 
-pub returns-then-not-is_above-clause-always : goal.returns-then-not-is_above-clause-always
-returns-then-not-is_above-clause-always g t c = λ can. absurd (node-stops g.K.Ord.cmp (views (g.C.Nodes.content c.args.nodes.now)) c.args.root c.args.odd _ _ _ _ _ _ _ _ _ _ c.loop-item.invariant (drop (c.loop-item.index + 1) (branches_of (view_of c.in_ok-node.node.now))) c.in-Some-branch_at_index.item.now c.in-Some-branch_at_index.child c.in-Some-branch_at_index.ensures.first c.key-key.result.now c.key-key.ensures c.if-not-is_above.ensures.1 can)
+pub returns-in_err-next-clause-always : goal.returns-in_err-next-clause-always
+returns-in_err-next-clause-always g t c = λ can. absurd (node-stops g.K.Ord.cmp (views (g.C.Nodes.content c.args.nodes.now)) c.args.root c.args.odd _ _ _ _ _ _ _ _ _ _ c.loop-item.invariant (drop (c.loop-item.index + 1) (branches_of (view_of c.in_ok-node.node.now))) c.in-Some-branch_at_index.item.now c.in-Some-branch_at_index.child c.in-Some-branch_at_index.ensures.first c.key.result.now c.key.ensures c.in_err-next.ensures.always can)
 
 pub returns-in_err-passed-2-clause-always : goal.returns-in_err-passed-2-clause-always
-returns-in_err-passed-2-clause-always g t c = λ can. let no : false ≡ true = c.in_err-passed-2.ensures.always (node-child g.K.Ord.cmp (views (g.C.Nodes.content c.args.nodes.now)) c.args.root c.args.odd _ _ _ _ _ _ _ _ _ _ c.loop-item.invariant (drop (c.loop-item.index + 1) (branches_of (view_of c.in_ok-node.node.now))) c.in-Some-branch_at_index.item.now c.in-Some-branch_at_index.child c.in-Some-branch_at_index.ensures.first c.key-key.result.now c.key-key.ensures g.met.K.Ord.total (c.if-not-is_above.ensures.0 refl) can) in absurd (cc)
+returns-in_err-passed-2-clause-always g t c = λ can. let p = c.in_ok-next.ensures.only in let no : false ≡ true = c.in_err-passed-2.ensures.always (rw (p.left, p.last) (node-child g.K.Ord.cmp (views (g.C.Nodes.content c.args.nodes.now)) c.args.root c.args.odd _ _ _ _ _ _ _ _ _ _ c.loop-item.invariant (drop (c.loop-item.index + 1) (branches_of (view_of c.in_ok-node.node.now))) c.in-Some-branch_at_index.item.now c.in-Some-branch_at_index.child c.in-Some-branch_at_index.ensures.first c.key.result.now c.key.ensures g.met.K.Ord.total p.above can)) in absurd (cc)
 
 pub loop-item-init : goal.loop-item-init
 loop-item-init g t c = inner-start g.K.Ord.cmp (g.C.Nodes.content c.args.nodes.now) c.args.root c.args.odd c.args.part.height c.args.part.parent c.args.part.id c.args.seen.left (option_copied c.args.seen.last) c.in_ok-node.node.now c.in_ok-node.ensures.value c.in-Some.first (is-internal (view_of c.in_ok-node.node.now) c.in-Some.first (sym c.in-Some.is ∙ c.child_id_opt.ensures)) (c.if-not-may_enter.ensures.0 refl) c.if-height-eq0.false (drop 0 (branches_of (view_of c.in_ok-node.node.now))) refl _ _ c.in_ok-passed.ensures.only
 
 pub loop-item-preserved : goal.loop-item-preserved
-loop-item-preserved g t c = node-next g.K.Ord.cmp (views (g.C.Nodes.content c.args.nodes.now)) c.args.root c.args.odd _ _ _ _ _ _ _ _ _ _ c.loop-item.invariant (drop (c.loop-item.index + 1) (branches_of (view_of c.in_ok-node.node.now))) c.in-Some-branch_at_index.item.now c.in-Some-branch_at_index.child c.in-Some-branch_at_index.ensures.first c.key-key.result.now c.key-key.ensures g.met.K.Ord.total (c.if-not-is_above.ensures.0 refl) _ _ c.in_ok-passed-2.ensures.only
+loop-item-preserved g t c =
+    let p = c.in_ok-next.ensures.only in
+    node-next g.K.Ord.cmp (views (g.C.Nodes.content c.args.nodes.now)) c.args.root c.args.odd _ _ _ _ _ _ _ _ _ _ c.loop-item.invariant (drop (c.loop-item.index + 1) (branches_of (view_of c.in_ok-node.node.now))) c.in-Some-branch_at_index.item.now c.in-Some-branch_at_index.child c.in-Some-branch_at_index.ensures.first c.key.result.now c.key.ensures g.met.K.Ord.total p.above _ _ (rw (← p.left, ← p.last) c.in_ok-passed-2.ensures.only)
 
 pub returns-clause-only : goal.returns-clause-only
 returns-clause-only g t c = node-end g.K.Ord.cmp (views (g.C.Nodes.content c.args.nodes.now)) c.args.root c.args.odd _ _ _ _ _ _ _ _ _ _ c.loop-item.invariant c.in_default-branch_at_index.ensures.first
