@@ -300,6 +300,67 @@ fn replies_are_written_before_more_is_read(rt: HostRuntime) -> Result<(), Fail> 
     Ok(())
 }
 
+// A read fails with this kind of error after a line and a half: how the run ends.
+fn end_at(rt: &impl Abort, kind: ErrorKind, alloc: Global) -> Result<(), Stop> {
+    let flushed = Cell::new(0);
+    let pieces = [
+        Piece::Bytes(b"insert 1 10\nget"),
+        Piece::Fails(kind),
+        Piece::Bytes(b" 1\n"),
+    ];
+    let mut session: Session<Store> = Session::new(alloc);
+    let mut input = Pieces {
+        pieces: pieces.as_slice(),
+        next: 0,
+        flushed: &flushed,
+        seen: Vec::new(alloc),
+    };
+    let mut output = Vec::new(alloc);
+    let result = drive(alloc, &mut session, &mut input, &mut output);
+    assert_eq!(rt; output.as_slice(), b"none\n".as_slice());
+    assert_eq!(rt; session.map().get(&1).copied(), Some(10));
+    result
+}
+
+#[test]
+fn a_failed_read_is_the_end_of_input_or_of_memory(rt: HostRuntime) {
+    assert_eq!(rt;
+        end_at(&rt, ErrorKind::OutOfMemory, rt.alloc()),
+        Err(Stop::Memory)
+    );
+    for kind in [
+        ErrorKind::NotFound,
+        ErrorKind::PermissionDenied,
+        ErrorKind::ConnectionReset,
+        ErrorKind::BrokenPipe,
+        ErrorKind::WouldBlock,
+        ErrorKind::InvalidInput,
+        ErrorKind::InvalidData,
+        ErrorKind::TimedOut,
+        ErrorKind::UnexpectedEof,
+        ErrorKind::Other,
+    ] {
+        assert_eq!(rt; end_at(&rt, kind, rt.alloc()), Err(Stop::Input));
+    }
+}
+
+// 2,500 lines in one run, each of them served.
+#[test]
+fn many_lines_are_served(rt: HostRuntime) -> Result<(), Fail> {
+    let mut lines = String::new(rt.alloc());
+    let mut replies = String::new(rt.alloc());
+    for key in 0..2500u64 {
+        write!(lines, "insert {key} {key}\n")?;
+        replies.push_str("none\n")?;
+    }
+    lines.push_str("len\n")?;
+    replies.push_str("2500\n")?;
+    let mut session: Session<Store> = Session::new(rt.alloc());
+    let written = written_for(&mut session, lines.as_bytes(), rt.alloc())?;
+    assert_eq!(rt; written.as_slice(), replies.as_bytes());
+    Ok(())
+}
+
 #[test]
 fn refused_room_for_replies_changes_nothing(rt: HostRuntime) -> Result<(), Fail> {
     let memory = Refusing::over(rt.alloc(), 0);
