@@ -22,7 +22,7 @@ use Rattle.btree_shape.proofs.Frames.{one-self}
 use Rattle.btree_shape.proofs.Growth.{UpTo, child-apart, child-used, grows-done, grows-node, grows-spare, grows-used, new-root, root-spare, spare-apart, spare-used, to-parent}
 use Rattle.btree_shape.proofs.Numbers.{less-or, none-listed, same-or, times-has, used-low, used-mapped, used-one, zero-or}
 use Rattle.btree_shape.proofs.Sizes.{view-most, view-size}
-use Rattle.btree_raw.specs.Steps.{AreSplit, CanLift, CanRaise, CanSplitInto, IsSplitting, LeavesAt, Lifts}
+use Rattle.btree_raw.specs.Steps.{AreSplit, CanLift, CanRaise, CanSplitInto, IsSplitting, HasCount, Lifts}
 use Rattle.btree_raw.proofs.LiftLemmas.{one-more}
 use Rattle.btree_raw.proofs.OffsetLemmas.{grows-low}
 
@@ -156,7 +156,7 @@ module _ (A : Type 0) (old now : Look A) (root : Option ℕ) (start id : ℕ) (s
               children_apart = rw kids ca;
             }
 
-        module _ (mid : Look A) (x : A) (kept : ℕ) (sp : Splits now mid id j x) (leaves : LeavesAt mid id kept) where
+        module _ (mid : Look A) (x : A) (kept : ℕ) (sp : Splits now mid id j x) (leaves : HasCount mid id kept) where
           kept-is : size_of sp.left ≡ kept
           kept-is = let q : Some (size_of sp.left) ≡ Some kept = sym (ap (option_map size_of) sp.at_left) ∙ leaves in cc
 

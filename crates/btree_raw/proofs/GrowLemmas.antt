@@ -7,7 +7,7 @@ use Rattle.btree_shape.specs.Step.{Adopts, Puts, Raises, Splits}
 use Rattle.btree_shape.specs.WellFormed.{times_used}
 use Rattle.btree_shape.proofs.Growth.{right-children, splits-made}
 use Rattle.btree_shape.proofs.Numbers.{same-or, used-same, used-there}
-use Rattle.btree_raw.specs.Steps.{CanAdopt, CanRaise, CanSplitInto, Halves, LeavesAt, SetsParent}
+use Rattle.btree_raw.specs.Steps.{CanAdopt, CanRaise, CanSplitInto, Halves, HasCount, SetsParent}
 
 module _ {A : Type 0} (look mid : Look A) (id right count : ℕ) (median : A) (part : View A) (can : CanSplitInto look id right) (half : Halves look mid id count median part) where
   parts : IsSplit can.can.node median half.left part
@@ -52,7 +52,7 @@ module _ {A : Type 0} (look mid : Look A) (id right count : ℕ) (median : A) (p
       splits = splits-made A look mid two new id right median can.can.node half.left part can.can.here parts can.apart apart-left apart-right half.puts puts
           (subst (λ ids. Adopts two new right ids) children-are adopts)
 
-      pub leaves : LeavesAt new id count
+      pub leaves : HasCount new id count
       leaves =
           let kept : new id ≡ two id = adopts.kept id (ap (times_listed id) children-are ∙ apart-left) in
           rw (kept, puts.others id (λ e. can.apart (sym e)), half.puts.here) (ap Some (sym half.counted))

@@ -19,9 +19,9 @@ use Rattle.btree_shape.specs.WellFormed.{times_used}
 use Rattle.btree_shape.proofs.Backs.{merge-back, rotate-left-back, rotate-right-back}
 use Rattle.btree_shape.proofs.Frames.{one-other, one-self}
 use Rattle.btree_shape.proofs.Numbers.{same-node, same-or, used-mapped, used-one, zero-or}
-use Rattle.btree_raw.specs.NodeSteps.{AreSiblings, BecomeOne, CanLend, CanMerge, CanRotateLeft, CanRotateRight, LendsLeft, LendsRight}
+use Rattle.btree_raw.specs.NodeSteps.{AreSiblings, BecomeMerged, CanLend, CanMerge, CanRotateLeft, CanRotateRight, LendsLeft, LendsRight}
 use Rattle.btree_raw.specs.Shrink.{AreBeside, HaveFew, IsShort, MendsAbove, MendsHere, IsFollowed}
-use Rattle.btree_raw.specs.Steps.{LeavesAt}
+use Rattle.btree_raw.specs.Steps.{HasCount}
 use Rattle.btree_raw.proofs.ClimbLemmas.{back-some, some-back}
 use Rattle.btree_raw.proofs.StepLemmas.{size-at}
 use Rattle.btree_shape.proofs.Beside.{Beside}
@@ -136,7 +136,7 @@ module _ {A : Type 0} (look : Look A) (siblings : Siblings) (id : ℕ) (a : Addr
   count-few (leaf p xs) m = omega arith
   count-few (internal p u bs) m = omega arith
 
-  module _ (count : ℕ) (counted : LeavesAt look siblings.left count) where
+  module _ (count : ℕ) (counted : HasCount look siblings.left count) where
     pub count-low : count ≤ 8
     count-low = let e = size-at look siblings.left count pair.low pair.at_left counted in let m = count-few pair.low pair.low_most in omega arith
 
@@ -168,7 +168,7 @@ module _ {A : Type 0} (look : Look A) (siblings : Siblings) (id : ℕ) (a : Addr
           used = writes-used look new siblings.parent siblings.left siblings.right rot.top rot.low rot.high rot.new_top rot.new_low rot.new_high (as_list rot.child) siblings.right rot.writes;
         }
 
-      module _ (few : HaveFew look siblings) (new : Look A) (mg : BecomeOne look new siblings) where
+      module _ (few : HaveFew look siblings) (new : Look A) (mg : BecomeMerged look new siblings) where
         sum-few : (low high : View A) → look siblings.left ≡ Some low → look siblings.right ≡ Some high → size_of low + size_of high ≤ 5
         sum-few low high l h =
             let a1 = ap size_of (same-node look siblings.left few.low low few.at_left l) in

@@ -24,8 +24,8 @@ use Rattle.btree_shape.proofs.Numbers.{listed-append, same-or, used-mapped, used
 use Rattle.btree_shape.proofs.Shrinks.{shrinks-done, shrinks-done-root, shrinks-node, shrinks-used, to-child, to-nothing}
 use Rattle.btree_shape.proofs.Sizes.{least-low, least-root}
 use Rattle.btree_raw.specs.NodeSteps.{CanRelease}
-use Rattle.btree_raw.specs.Shrink.{AreMended, IsFollowed, IsMending, MendsAbove, MendsHere, Rests}
-use Rattle.btree_raw.specs.Steps.{LeavesAt}
+use Rattle.btree_raw.specs.Shrink.{AreMended, IsFollowed, IsMending, MendsAbove, MendsHere, IsAtRest}
+use Rattle.btree_raw.specs.Steps.{HasCount}
 use Rattle.btree_raw.proofs.ClimbLemmas.{back-some, some-back}
 use Rattle.btree_raw.proofs.LendLemmas.{followed-node, followed-under}
 use Rattle.btree_raw.proofs.OffsetLemmas.{shrinks-low}
@@ -50,11 +50,11 @@ module _ {A : Type 0} where
   empty-leaf (internal p u bs) up none first = absurd (cc)
 
   same-known : (look new : Look A) (root : Option ℕ) (top : ℕ) (xs : List A) (asked : Option A) (b : Address) (place given bound : ℕ) → root ≡ Some top
-      → IsGrown A new top xs asked b place given bound → Rests new root xs asked b place given bound
-  same-known look new root top xs asked b place given bound is g = subst (λ r. Rests new r xs asked b place given bound) (sym is) g
+      → IsGrown A new top xs asked b place given bound → IsAtRest new root xs asked b place given bound
+  same-known look new root top xs asked b place given bound is g = subst (λ r. IsAtRest new r xs asked b place given bound) (sym is) g
 
 module _ {A : Type 0} (look : Look A) (root : Option ℕ) (id : ℕ) (a : Address) (s : IsMending look root id a)
-    (top : option_map parent_of (look id) ≡ Some None) (count : ℕ) (counted : LeavesAt look id count) where
+    (top : option_map parent_of (look id) ≡ Some None) (count : ℕ) (counted : HasCount look id count) where
   abbrev f : IsFollowed look id a
   f = s.followed
 
@@ -82,7 +82,7 @@ module _ {A : Type 0} (look : Look A) (root : Option ℕ) (id : ℕ) (a : Addres
     counted = λ n. omega arith;
     mended = λ t xs asked place given bound is g.
         let z : given ≡ given + 0 = omega arith in
-        subst (λ m. Rests look root xs asked a place m bound) z
+        subst (λ m. IsAtRest look root xs asked a place m bound) z
         (same-known look look root t xs asked a place given bound is
         (shrinks-done-root A look t xs id asked a place given bound g at-node.0 at-node.1 up (let e = size-at look id count at-node.0 at-node.1 counted in omega arith)));
     few = λ t xs asked place given bound is g. omega arith;
@@ -116,7 +116,7 @@ module _ {A : Type 0} (look : Look A) (root : Option ℕ) (id : ℕ) (a : Addres
             apart = subst (λ k. k ≢ id) same o.apart;
           }
 
-      pub released : (new : Look A) → Releases look new id child → (held : ℕ) → LeavesAt look child held → AreMended look new root (Some child) id a (moved_by_release id child held a)
+      pub released : (new : Look A) → Releases look new id child → (held : ℕ) → HasCount look child held → AreMended look new root (Some child) id a (moved_by_release id child held a)
       released new r held holds = record {
         gone = id ∷ [];
         counted = λ n. elim (same-or n id) [
@@ -222,7 +222,7 @@ module _ {A : Type 0} (old now : Look A) (root : Option ℕ) (start id : ℕ) (a
   still = c.next s.followed.root s.followed.xs s.followed.asked s.followed.place s.followed.given s.followed.bound s.at_root s.followed.shrinking
 
   -- a node with a parent that has an item too few is not the root
-  short-under : (p count : ℕ) → option_map parent_of (now id) ≡ Some (Some p) → LeavesAt now id count → count ≤ 2 → (top : ℕ) → root ≡ Some top
+  short-under : (p count : ℕ) → option_map parent_of (now id) ≡ Some (Some p) → HasCount now id count → count ≤ 2 → (top : ℕ) → root ≡ Some top
       → IsShortUnder now top p id
   short-under p count under counted few top is =
       let e = shrinks-node A now s.followed.root s.followed.xs id s.followed.asked b s.followed.place (s.followed.given + length c.gone) s.followed.bound still in
@@ -261,7 +261,7 @@ module _ {A : Type 0} (old now : Look A) (root : Option ℕ) (start id : ℕ) (a
 
   -- the last step
   pub mends-here : (new : Look A) (d : Address) → MendsHere now new id b d → (p count : ℕ) → option_map parent_of (now id) ≡ Some (Some p)
-      → LeavesAt now id count → count ≤ 2 → Borrows now new p id → AreMended old new root root start a d
+      → HasCount now id count → count ≤ 2 → Borrows now new p id → AreMended old new root root start a d
   mends-here new d m p count under counted low step = record {
     gone = c.gone;
     counted = λ n. let k = c.counted n in let u = m.used n in omega arith;
@@ -279,7 +279,7 @@ module _ {A : Type 0} (old now : Look A) (root : Option ℕ) (start id : ℕ) (a
     mended = λ top xs asked place given bound is g.
         let l = length-append c.gone m.gone in
         let e : (given + length c.gone) + length m.gone ≡ given + length (c.gone ++ m.gone) = omega arith in
-        subst (λ k. Rests new new_root xs asked d place k bound) e
+        subst (λ k. IsAtRest new new_root xs asked d place k bound) e
         (m.mended top xs asked place (given + length c.gone) bound is (c.next top xs asked place given bound is g));
     few = λ top xs asked place given bound is g.
         let f = c.few top xs asked place given bound is g in
@@ -291,7 +291,7 @@ module _ {A : Type 0} (old now : Look A) (root : Option ℕ) (start id : ℕ) (a
 
   -- a step to the parent
   module _ (new : Look A) (p : ℕ) (d : Address) (m : MendsAbove now new id p b d) where
-    pub mends-above : (IsSome b.offset → IsSome d.offset) → (count : ℕ) → option_map parent_of (now id) ≡ Some (Some p) → LeavesAt now id count
+    pub mends-above : (IsSome b.offset → IsSome d.offset) → (count : ℕ) → option_map parent_of (now id) ≡ Some (Some p) → HasCount now id count
         → count ≤ 2 → Joins now new p id → Mends A old new root start p a d
     mends-above back count under counted low step = record {
       gone = c.gone ++ m.gone ∷ [];

@@ -33,7 +33,7 @@ use Rattle.btree_raw.specs.Steps.{IsCounting}
 use Rattle.btree_raw.specs.Claimed.{AreClaimed}
 use Rattle.btree_raw.specs.Raw.{Refuses}
 use Rattle.btree_raw.specs.Rebalance.{HasGiven, HasRoom, HasTaken, IsRebalanced, IsRefusal}
-use Rattle.btree_raw.specs.Shrink.{AreMended, IsMendingOf, MendsUp, Rests}
+use Rattle.btree_raw.specs.Shrink.{AreMended, IsMendingOf, MendsUp, IsAtRest}
 use Rattle.btree_raw.specs.Steps.{IsSplitting, Overflows, SplitsUp}
 use Rattle.btree_raw.proofs.LevelLemmas.{climb-few}
 use Rattle.btree_shape.proofs.TreeStates.{height_held, is-tree-but-length, pairs-tree}
@@ -202,7 +202,7 @@ module _ {K V : Type 0} (cmp : K → K → Ordering) (laws : IsTotalOrder cmp) (
         m = u.mended
 
         abbrev Rest : Option ℕ → Type 0
-        Rest t = (asked : Option (K × V)) (place : ℕ) → IsAddressed (K × V) look o.root xs asked a place → Rests (looks new) t xs asked b place (0 + length m.gone) low-bound
+        Rest t = (asked : Option (K × V)) (place : ℕ) → IsAddressed (K × V) look o.root xs asked a place → IsAtRest (looks new) t xs asked b place (0 + length m.gone) low-bound
 
         mended-ends : (t : Option ℕ) → Rest t → Ends cmp look (looks new) o.root xs a b t (0 + length m.gone) low-bound
         mended-ends (Some t) f =

@@ -17,9 +17,9 @@ use Rattle.btree_shape.specs.TreeState.{views}
 use Rattle.btree_shape.specs.WellFormed.{times_used}
 use Rattle.btree_shape.proofs.Climbs.{get-times}
 use Rattle.btree_shape.proofs.Shrinks.{to-over}
-use Rattle.btree_raw.specs.NodeSteps.{BecomeOne, CanLend, LendsLeft, LendsRight}
+use Rattle.btree_raw.specs.NodeSteps.{BecomeMerged, CanLend, LendsLeft, LendsRight}
 use Rattle.btree_raw.specs.Shrink.{AreBeside, HasSiblings, HaveFew, IsChild, IsFollowed, IsShort, siblings_at, siblings_of}
-use Rattle.btree_raw.specs.Steps.{LeavesAt}
+use Rattle.btree_raw.specs.Steps.{HasCount}
 use Rattle.btree_raw.proofs.LiftLemmas.{has-index, index-is}
 use Rattle.btree_raw.proofs.StepLemmas.{size-at}
 use Rattle.btree_shape.proofs.Beside.{Beside}
@@ -45,7 +45,7 @@ none-some None e is = absurd (cc)
 none-some (Some n) e is = absurd (cc)
 
 module _ {A : Type 0} (look : Look A) where
-  counted-in : (id count : ℕ) → LeavesAt look id count → size_in (look id) ≡ count
+  counted-in : (id count : ℕ) → HasCount look id count → size_in (look id) ≡ count
   counted-in id count counted = at (look id) counted
     where
       at : (o : Option (View A)) → option_map size_of o ≡ Some count → size_in o ≡ count
@@ -60,7 +60,7 @@ module _ {A : Type 0} (look : Look A) where
   none-at : (parent index : ℕ) → child_at look parent index ≡ None → NoneSpares look parent index
   none-at parent index is = subst (λ o. IfSome o (λ i. size_in (look i) ≤ 3)) (sym is) tt
 
-  low-at : (parent index sibling held : ℕ) → child_at look parent index ≡ Some sibling → LeavesAt look sibling held → held ≤ 3 → NoneSpares look parent index
+  low-at : (parent index sibling held : ℕ) → child_at look parent index ≡ Some sibling → HasCount look sibling held → held ≤ 3 → NoneSpares look parent index
   low-at parent index sibling held is counted low =
       let e = counted-in sibling held counted in
       let l : size_in (look sibling) ≤ 3 = omega arith in
@@ -125,7 +125,7 @@ module _ {A : Type 0} (look : Look A) (siblings : Siblings) (a : Address) (s : A
   pub left-there : 0 < times_used (look siblings.left)
   left-there = used-there look siblings.left two.low two.at_left
 
-  module _ (held : ℕ) (counted : LeavesAt look siblings.left held) where
+  module _ (held : ℕ) (counted : HasCount look siblings.left held) where
     pub left-lends : 3 < held → CanLend look siblings.left
     left-lends many = record { node = two.low; here = two.at_left; spare = let e = size-at look siblings.left held two.low two.at_left counted in omega arith }
 
@@ -139,12 +139,12 @@ module _ {A : Type 0} (look : Look A) (siblings : Siblings) (a : Address) (s : A
     }
 
   -- which step it is
-  module _ (held : ℕ) (counted : LeavesAt look siblings.left held) (none : NoneSpares look siblings.parent (suc (suc siblings.index))) (new : Look A) where
+  module _ (held : ℕ) (counted : HasCount look siblings.left held) (none : NoneSpares look siblings.parent (suc (suc siblings.index))) (new : Look A) where
     pub left-borrows : 3 < held → LendsRight look new siblings → Borrows look new siblings.parent siblings.right
     left-borrows many step = let e = counted-in look siblings.left held counted in
         from_left siblings.index siblings.left s.at_right none (s.at_left, omega arith) step
 
-    pub left-joins : held ≤ 3 → BecomeOne look new siblings → Joins look new siblings.parent siblings.right
+    pub left-joins : held ≤ 3 → BecomeMerged look new siblings → Joins look new siblings.parent siblings.right
     left-joins low step = with_left siblings.index siblings.left s.at_right none s.at_left (low-at look siblings.parent siblings.index siblings.left held s.at_left counted low) step
 
 -- two children that are there, as siblings
@@ -190,7 +190,7 @@ module _ {A : Type 0} (look : Look A) (id p : ℕ) (a : Address) (s : IsFollowed
       let o = to-over A look s.root s.xs id s.asked a s.place s.given s.bound s.shrinking at-node.0 at-node.1 p up in
       record { node = o.node; here = o.here; child = get-times (children_of o.node) o.index id o.child }
 
-  pub is-short : (count : ℕ) → LeavesAt look id count → count ≤ 2 → IsShort look id
+  pub is-short : (count : ℕ) → HasCount look id count → count ≤ 2 → IsShort look id
   is-short count counted few = record { node = at-node.0; here = at-node.1; few = let e = size-at look id count at-node.0 at-node.1 counted in omega arith }
 
   module _ (before after : Option Siblings) (sib : HasSiblings look p id before after) where
@@ -255,11 +255,11 @@ module _ {A : Type 0} (look : Look A) (id p : ℕ) (a : Address) (s : IsFollowed
       pub after-there : 0 < times_used (look j.right)
       after-there = let b = with-after in used-there look j.right b.high b.at_right
 
-      pub after-lends : (held : ℕ) → LeavesAt look j.right held → 3 < held → CanLend look j.right
+      pub after-lends : (held : ℕ) → HasCount look j.right held → 3 < held → CanLend look j.right
       after-lends held counted many = let b = with-after in
           record { node = b.high; here = b.at_right; spare = let e = size-at look j.right held b.high b.at_right counted in omega arith }
 
-      pub after-few : (held count : ℕ) → LeavesAt look j.right held → held ≤ 3 → LeavesAt look id count → count ≤ 2 → HaveFew look j
+      pub after-few : (held count : ℕ) → HasCount look j.right held → held ≤ 3 → HasCount look id count → count ≤ 2 → HaveFew look j
       after-few held count counted few here short = let b = with-after in
           record {
             low = b.low;
@@ -267,7 +267,7 @@ module _ {A : Type 0} (look : Look A) (id p : ℕ) (a : Address) (s : IsFollowed
             at_left = b.at_left;
             at_right = b.at_right;
             few = let e = size-at look j.right held b.high b.at_right counted in
-                let f = size-at look j.left count b.low b.at_left (subst (λ n. LeavesAt look n count) (sym after-left) here) in omega arith;
+                let f = size-at look j.left count b.low b.at_left (subst (λ n. HasCount look n count) (sym after-left) here) in omega arith;
           }
 
     module _ (i : Siblings) (is : before ≡ Some i) where
@@ -310,7 +310,7 @@ module _ {A : Type 0} (look : Look A) (id p : ℕ) (a : Address) (s : IsFollowed
       none-after none = two-after (none-at look p (suc sib.index)
           (none-of p sib.index (child_at look p sib.index) (child_at look p (suc sib.index)) id sib.child (sym sib.after_is ∙ none)))
 
-      pub low-after : (j : Siblings) (held : ℕ) → after ≡ Some j → LeavesAt look j.right held → held ≤ 3 → NoneSpares look i.parent (suc (suc i.index))
+      pub low-after : (j : Siblings) (held : ℕ) → after ≡ Some j → HasCount look j.right held → held ≤ 3 → NoneSpares look i.parent (suc (suc i.index))
       low-after j held there counted low = two-after (low-at look p (suc sib.index) j.right held (after-of j there).right counted low)
 
     first-from : before ≡ None → (n : ℕ) → sib.index ≡ n → n ≡ 0
@@ -322,12 +322,12 @@ module _ {A : Type 0} (look : Look A) (id p : ℕ) (a : Address) (s : IsFollowed
     first-child none = first-from none sib.index refl
 
     -- which step it is with the sibling on the right
-    module _ (j : Siblings) (held : ℕ) (there : after ≡ Some j) (counted : LeavesAt look j.right held) (new : Look A) where
+    module _ (j : Siblings) (held : ℕ) (there : after ≡ Some j) (counted : HasCount look j.right held) (new : Look A) where
       pub right-borrows : 3 < held → LendsLeft look new j → Borrows look new p id
       right-borrows many step = let e = counted-in look j.right held counted in
           as-after j there (Borrows look new) (from_right j.index j.right (self-at j there) (after-at j there, omega arith) step)
 
-      pub right-joins : held ≤ 3 → before ≡ None → BecomeOne look new j → Joins look new p id
+      pub right-joins : held ≤ 3 → before ≡ None → BecomeMerged look new j → Joins look new p id
       right-joins low first step =
           let z : j.index ≡ 0 = (after-of j there).index ∙ first-child first in
           let right : child_at look j.parent 1 ≡ Some j.right = subst (λ k. child_at look j.parent (suc k) ≡ Some j.right) z (after-at j there) in

@@ -8,7 +8,7 @@ use Rattle.btree_view.specs.Edits.{HasChildFor, IsOverflowing, IsSplit}
 use Rattle.btree_node.specs.Node.{view_of}
 use Rattle.btree_view.specs.View.{size_of, most_of, View, Look}
 use Rattle.btree_shape.specs.TreeState.{views}
-use Rattle.btree_raw.specs.Steps.{CanTake, Overflows, Halves, LeavesAt}
+use Rattle.btree_raw.specs.Steps.{CanTake, Overflows, Halves, HasCount}
 use Rattle.btree_shape.proofs.Moves.{other-test}
 use Rattle.btree_shape.proofs.Stores.{most-few, puts, view-at}
 
@@ -17,7 +17,7 @@ index-small : (n index : ℕ) (o : Option ℕ) → index < 2 ^ 64 - 1 → index 
 index-small n index o low within e = rw (e, other-test index (2 ^ 64 - 1) (omega arith)) within
 
 -- how many items stand in a node
-pub size-at : {A : Type 0} (look : Look A) (id count : ℕ) (v : View A) → look id ≡ Some v → LeavesAt look id count → size_of v ≡ count
+pub size-at : {A : Type 0} (look : Look A) (id count : ℕ) (v : View A) → look id ≡ Some v → HasCount look id count → size_of v ≡ count
 size-at look id count v e l = let q : Some (size_of v) ≡ Some count = sym (ap (option_map size_of) e) ∙ l in cc
 
 module _ {K V : Type 0} where

@@ -10,7 +10,7 @@ use Rattle.btree_shape.specs.WellFormed.{times_used}
 use Rattle.btree_shape.proofs.Frames.{one-self}
 use Rattle.btree_shape.proofs.Numbers.{listed-append, same-node, used-same, used-there, zero-or}
 use Rattle.btree_shape.proofs.Written.{left-written, merge-written, right-written}
-use Rattle.btree_raw.specs.NodeSteps.{AreSiblings, BecomeOne, CanMerge, CanRotateLeft, CanRotateRight, ChangesItem, GainsAll, GainsFirst, GainsLast, HasBetween, HasRoomFor, HasRoomForAll, LendsLeft, LendsRight, LosesBetween, LosesFirst, LosesLast}
+use Rattle.btree_raw.specs.NodeSteps.{AreSiblings, BecomeMerged, CanMerge, CanRotateLeft, CanRotateRight, ChangesItem, GainsAll, GainsFirst, GainsLast, HasBetween, HasRoomFor, HasRoomForAll, LendsLeft, LendsRight, LosesBetween, LosesFirst, LosesLast}
 use Rattle.btree_raw.specs.Steps.{CanAdopt}
 use Rattle.btree_raw.proofs.MendLemmas.{kind-left, kind-right, remade-joined, remade-left, remade-other, remade-right, remade-without}
 
@@ -213,7 +213,7 @@ module _ {A : Type 0} (look : Look A) (siblings : Siblings) (can : CanMerge look
           ];
         }
 
-        pub merges : (new : Look A) → Adopts three new siblings.left (children_in (three siblings.left)) → BecomeOne look new siblings
+        pub merges : (new : Look A) → Adopts three new siblings.left (children_in (three siblings.left)) → BecomeMerged look new siblings
         merges new d =
             merge-written look one_look two three new siblings.parent siblings.left siblings.right can.pair.apart siblings.index can.pair.top can.pair.low can.pair.high
             (without siblings.index can.pair.top) (joined can.pair.low down can.pair.high) down (λ n m. let k = can.pair.children n m in (k.1, k.2, k.3)) can.own

@@ -93,8 +93,8 @@ module _ {A : Type 0} (look : Look A) where
     LendsRight siblings = RotatesRight look new siblings.parent siblings.index siblings.left siblings.right
 
     -- the two siblings have become one node
-    abbrev pub BecomeOne : Siblings → Type 0
-    BecomeOne siblings = Merges look new siblings.parent siblings.index siblings.left siblings.right
+    abbrev pub BecomeMerged : Siblings → Type 0
+    BecomeMerged siblings = Merges look new siblings.parent siblings.index siblings.left siblings.right
 
     -- node `id` has no parent; nothing else has changed
     abbrev pub ClearsParent : (id : ℕ) → Type 0

@@ -25,7 +25,7 @@ module _ {A : Type 0} (look : Look A) where
     pub here : look id ≡ Some node
     pub few : size_of node ≤ 2
 
-  -- the two siblings and an item more fit into one node
+  -- the two siblings have at most five items together, so that with an item more they fit into one node
   pub record HaveFew (siblings : Siblings) : Type 0 where
     pub low : View A
     pub high : View A
@@ -109,9 +109,9 @@ module _ {K V : Type 0} (old new : TreeState K V) where
       → Joins (looks old) (looks new) siblings.parent siblings.right
 
 -- a tree at rest under this root, with the address at its place, or the empty tree, of which every address is nowhere
-abbrev pub Rests : {A : Type 0} → Look A → (root : Option ℕ) → List A → (asked : Option A) → Address → (place given bound : ℕ) → Type 0
-Rests {A} look (Some top) xs asked a place given bound = IsGrown A look top xs asked a place given bound
-Rests look None xs asked a place given bound =
+abbrev pub IsAtRest : {A : Type 0} → Look A → (root : Option ℕ) → List A → (asked : Option A) → Address → (place given bound : ℕ) → Type 0
+IsAtRest {A} look (Some top) xs asked a place given bound = IsGrown A look top xs asked a place given bound
+IsAtRest look None xs asked a place given bound =
     IsFormed look None xs × IsValid look None a.id a.offset × IsPlace look None xs a.id a.offset place × (given ≤ bound)
 
 module _ {A : Type 0} (look : Look A) where
@@ -121,9 +121,9 @@ module _ {A : Type 0} (look : Look A) where
     pub at_root : root ≡ Some followed.root
 
   -- the same of a tree of so many items
-  pub record IsMendingOf (root : Option ℕ) (id : ℕ) (a : Address) (most : ℕ) : Type 0 where
+  pub record IsMendingOf (root : Option ℕ) (id : ℕ) (a : Address) (count : ℕ) : Type 0 where
     pub mending : IsMending root id a
-    pub items : length mending.followed.xs ≡ most
+    pub items : length mending.followed.xs ≡ count
 
   -- what was so mended: whatever was known of the tree and of address `a` holds of the tree under the new root and of address `b`, no node
   -- has an item too few, and the nodes that are listed were given up, at most as many as there are levels from node `id` up to the root;
@@ -132,7 +132,7 @@ module _ {A : Type 0} (look : Look A) where
     pub gone : List ℕ
     pub counted : (n : ℕ) → times_used (look n) ≡ times_used (new n) + times_listed n gone
     pub mended : (top : ℕ) (xs : List A) (asked : Option A) (place given bound : ℕ) → root ≡ Some top
-        → IsShrinking A look top xs id asked a place given bound → Rests new new_root xs asked b place (given + length gone) bound
+        → IsShrinking A look top xs id asked a place given bound → IsAtRest new new_root xs asked b place (given + length gone) bound
     pub few : (top : ℕ) (xs : List A) (asked : Option A) (place given bound : ℕ) → root ≡ Some top
         → IsShrinking A look top xs id asked a place given bound
         → length gone ≤ suc (levels_above look (length xs) id)

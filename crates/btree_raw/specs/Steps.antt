@@ -63,8 +63,8 @@ module _ {A : Type 0} (look : Look A) where
     pub apart : (left ≢ right) × (left ≢ root) × (right ≢ root)
 
   -- node `id` has so many items
-  abbrev pub LeavesAt : (id count : ℕ) → Type 0
-  LeavesAt id count = option_map size_of (look id) ≡ Some count
+  abbrev pub HasCount : (id count : ℕ) → Type 0
+  HasCount id count = option_map size_of (look id) ≡ Some count
 
   -- node `above` is an internal node with room for an item, and node `id` is one of its children
   pub record CanLift (above id : ℕ) : Type 0 where

@@ -47,7 +47,7 @@ pub fn claim_one<K: Drop, V: Drop, C: NodesMut<K, V>>(tree: &mut RawBTree<K, V, 
 }
 
 /// Claims so many nodes as empty leaves, and puts their numbers into an empty list. Returns whether they were claimed: where the store
-/// refuses one, none is. The list is the caller's, so that it is not copied.
+/// refuses one, none is, and the list is empty again. The list is the caller's, so that it is not copied.
 pub fn claim<K: Drop, V: Drop, C: NodesMut<K, V>>(
     tree: &mut RawBTree<K, V, C>,
     count: usize,

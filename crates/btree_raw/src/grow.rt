@@ -2,7 +2,7 @@
 ghost use Rattle.std.specs.Prelude.{◌≡◌, ◌<◌, ◌≤◌, ◌∷◌, ◌++◌, [], All, IsSome, length};
 ghost use Rattle.btree_shape.specs.Step.{Splits, Raises};
 ghost use Rattle.btree_shape.specs.TreeState.{Changes, looks};
-ghost use Rattle.btree_raw.specs.Steps.{CanSplitInto, CanRaise, LeavesAt, CanLift, Lifts, IsSplitting, SplitsUp};
+ghost use Rattle.btree_raw.specs.Steps.{CanSplitInto, CanRaise, HasCount, CanLift, Lifts, IsSplitting, SplitsUp};
 
 use crate::claims::ClaimedIds;
 use crate::nodes::{add_item, adopt, put, set_parent, split_node};
@@ -20,7 +20,7 @@ fn split_at<K: Drop, V: Drop, C: NodesMut<K, V>>(
 ) -> (usize, Item<K, V>)
     requires { CanSplitInto (looks tree.old) id right }
     ensures splits { Changes (λ a b. Splits a b id right result.1) tree.old tree.new }
-    ensures left { LeavesAt (looks tree.new) id result.0 }
+    ensures left { HasCount (looks tree.new) id result.0 }
 {
     tree.tell_fits();
     let (count, median, part) = split_node(tree, id);

@@ -2,9 +2,9 @@
 ghost use Rattle.std.specs.Prelude.{◌≡◌, ℕ, ◌<◌, ◌≤◌, IfSome, IsSome, Some, option_map};
 ghost use Rattle.btree_shape.specs.Moved.{first_in};
 ghost use Rattle.btree_shape.specs.TreeState.{Changes, IsUsed, looks};
-ghost use Rattle.btree_raw.specs.NodeSteps.{BecomeOne, CanLend, LendsLeft, LendsRight};
+ghost use Rattle.btree_raw.specs.NodeSteps.{BecomeMerged, CanLend, LendsLeft, LendsRight};
 ghost use Rattle.btree_raw.specs.Shrink.{AreBeside, GoesUpFromEither, HaveFew, IsShort, MendsHere};
-ghost use Rattle.btree_raw.specs.Steps.{LeavesAt};
+ghost use Rattle.btree_raw.specs.Steps.{HasCount};
 
 use crate::mend::{merge, rotate_left, rotate_right};
 use crate::raw::RawBTree;
@@ -34,7 +34,7 @@ pub(crate) fn lend_left<K: Drop, V: Drop, C: NodesMut<K, V>>(
     requires beside { AreBeside (looks tree.old) siblings siblings.left addr }
     requires short { IsShort (looks tree.old) siblings.left }
     requires lender { CanLend (looks tree.old) siblings.right }
-    requires count { LeavesAt (looks tree.old) siblings.left count }
+    requires count { HasCount (looks tree.old) siblings.left count }
     requires number { siblings.left < usize.MAX }
     ensures rotates { Changes (λ a b. LendsLeft a b siblings) tree.old tree.new }
     ensures here { MendsHere (looks tree.old) (looks tree.new) siblings.left addr result }
@@ -55,7 +55,7 @@ pub(crate) fn lend_right<K: Drop, V: Drop, C: NodesMut<K, V>>(
     requires beside { AreBeside (looks tree.old) siblings siblings.right addr }
     requires short { IsShort (looks tree.old) siblings.right }
     requires lender { CanLend (looks tree.old) siblings.left }
-    requires count { LeavesAt (looks tree.old) siblings.left count }
+    requires count { HasCount (looks tree.old) siblings.left count }
     requires low { IfSome addr.offset (λ n. n ≤ 9) }
     requires number { siblings.right < usize.MAX }
     ensures rotates { Changes (λ a b. LendsRight a b siblings) tree.old tree.new }
@@ -76,9 +76,9 @@ pub(crate) fn join<K: Drop, V: Drop, C: NodesMut<K, V>>(
 ) -> Address
     requires beside { (id : ℕ) × AreBeside (looks tree.old) siblings id addr }
     requires few { HaveFew (looks tree.old) siblings }
-    requires count { LeavesAt (looks tree.old) siblings.left count }
+    requires count { HasCount (looks tree.old) siblings.left count }
     requires low { IfSome addr.offset (λ n. n ≤ 9) }
-    ensures merges { Changes (λ a b. BecomeOne a b siblings) tree.old tree.new }
+    ensures merges { Changes (λ a b. BecomeMerged a b siblings) tree.old tree.new }
     ensures above { GoesUpFromEither tree.old tree.new siblings addr result }
     ensures back { IsSome addr.offset → IsSome result.offset }
 {

@@ -5,7 +5,7 @@ ghost use Rattle.btree_shape.specs.Lists.{as_list};
 ghost use Rattle.btree_shape.specs.Mend.{Releases};
 ghost use Rattle.btree_shape.specs.Step.{Adopts};
 ghost use Rattle.btree_shape.specs.TreeState.{Changes, IsUsed, looks};
-ghost use Rattle.btree_raw.specs.NodeSteps.{BecomeOne, CanLend, LendsLeft, LendsRight, HasRoomFor, HasRoomForAll, HasBetween, LosesFirst, LosesLast, ChangesItem, GainsFirst, GainsLast, GainsAll, LosesBetween, ClearsParent, CanRotateLeft, CanRotateRight, CanMerge, CanRelease, IsThere};
+ghost use Rattle.btree_raw.specs.NodeSteps.{BecomeMerged, CanLend, LendsLeft, LendsRight, HasRoomFor, HasRoomForAll, HasBetween, LosesFirst, LosesLast, ChangesItem, GainsFirst, GainsLast, GainsAll, LosesBetween, ClearsParent, CanRotateLeft, CanRotateRight, CanMerge, CanRelease, IsThere};
 
 use crate::nodes::{adopt, set_parent};
 use crate::raw::RawBTree;
@@ -170,7 +170,7 @@ pub(crate) fn merge<K: Drop, V: Drop, C: NodesMut<K, V>>(
     siblings: Siblings,
 )
     requires { CanMerge (looks tree.old) siblings }
-    ensures { Changes (λ a b. BecomeOne a b siblings) tree.old tree.new }
+    ensures { Changes (λ a b. BecomeMerged a b siblings) tree.old tree.new }
 {
     tree.tell_fits();
     let down = take_between(tree, siblings.parent, siblings.index);

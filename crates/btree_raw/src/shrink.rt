@@ -6,7 +6,7 @@ ghost use Rattle.btree_shape.specs.TreeState.{IsUsed, KeepsRest, looks};
 ghost use Rattle.btree_shape.specs.WellFormed.{times_used};
 ghost use Rattle.btree_raw.specs.Shrink.{AreBeside, BorrowsFromLeft, EndsHere, GoesUp, HasSiblings, IsChild, IsFollowed, IsMending, IsMendingOf, IsShort, JoinsWithLeft, MendsUp};
 ghost use Rattle.btree_raw.specs.Shrink as specs;
-ghost use Rattle.btree_raw.specs.Steps.{LeavesAt};
+ghost use Rattle.btree_raw.specs.Steps.{HasCount};
 
 use crate::lend::{first_child, join, lend_left, lend_right};
 use crate::mend::release_root;
@@ -18,7 +18,7 @@ use btree_nodes::NodesMut;
 // How many items a node has.
 fn count_of<K, V, C: NodesMut<K, V>>(tree: &RawBTree<K, V, C>, id: usize) -> usize
     requires { 0 < times_used (looks tree.now id) }
-    ensures count { LeavesAt (looks tree.now) id result }
+    ensures count { HasCount (looks tree.now) id result }
     ensures few { result ≤ 9 }
     ensures number { id < usize.MAX }
 {
@@ -123,7 +123,7 @@ fn mend_at<K: Drop, V: Drop, C: NodesMut<K, V>>(
 ) -> (Address, bool)
     requires followed { IsFollowed (looks tree.old) id addr }
     requires under { option_map parent_of (looks tree.old id) ≡ Some (Some parent) }
-    requires count { LeavesAt (looks tree.old) id count }
+    requires count { HasCount (looks tree.old) id count }
     requires short { count ≤ 2 }
     requires low { IfSome addr.offset (λ n. n ≤ 9) }
     requires number { id < usize.MAX }
@@ -158,7 +158,7 @@ fn mend_root<K: Drop, V: Drop, C: NodesMut<K, V>>(
 ) -> Address
     requires mending { IsMending (looks tree.old) tree.old.root id addr }
     requires top { option_map parent_of (looks tree.old id) ≡ Some None }
-    requires count { LeavesAt (looks tree.old) id count }
+    requires count { HasCount (looks tree.old) id count }
     ensures mended { MendsUp tree.old tree.new id addr result }
     ensures back { IsSome addr.offset → IsSome result.offset }
 {
@@ -183,8 +183,8 @@ pub fn mend_up<K: Drop, V: Drop, C: NodesMut<K, V>>(
     start: usize,
     addr: Address,
 ) -> Address
-    ghost most: { ℕ }
-    requires mending { IsMendingOf (looks tree.old) tree.old.root start addr most }
+    ghost items: { ℕ }
+    requires mending { IsMendingOf (looks tree.old) tree.old.root start addr items }
     ensures mended { MendsUp tree.old tree.new start addr result }
     ensures back { IsSome addr.offset → IsSome result.offset }
 {

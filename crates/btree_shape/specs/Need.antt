@@ -23,7 +23,7 @@ climb look zero id = 0
 climb look (suc most) id = climb_in (climb look most) (look id)
 
 -- what an insertion at node `id` takes in a tree of at most so many levels; an empty one takes its first node
-abbrev pub need : {A : Type 0} → Look A → (root : Option ℕ) → (len : ℕ) → (id : ℕ) → ℕ
+abbrev pub need : {A : Type 0} → Look A → (root : Option ℕ) → (most : ℕ) → (id : ℕ) → ℕ
 need look None most id = 1
 need look (Some root) most id = climb look most id
 

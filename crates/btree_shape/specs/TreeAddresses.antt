@@ -28,11 +28,11 @@ module _ {K V : Type 0} (s : TreeState K V) where
   abbrev pub leaf_backs_of : List Address
   leaf_backs_of = leaf_backs_under (looks s) (map.len s.nodes) s.root
 
-  -- the back addresses, in the order of visits
+  -- the back addresses in nodes, in the order of visits; an empty tree has none
   abbrev pub backs_of : List Address
   backs_of = backs_under (looks s) (map.len s.nodes) s.root
 
-  -- the front addresses; they are visited from the last to the first
+  -- the front addresses, which are visited from the last to the first; an empty tree has none
   abbrev pub fronts_of : List Address
   fronts_of = fronts_under (looks s) (map.len s.nodes) s.root
 

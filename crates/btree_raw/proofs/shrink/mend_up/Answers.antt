@@ -71,7 +71,7 @@ pub returns-then-not-up-clause-back : goal.returns-then-not-up-clause-back
 returns-then-not-up-clause-back g c = λ is. c.mend_at-moved.ensures.back (c.loop-node.invariant.mends.back is)
 
 pub loop-node-smaller : goal.loop-node-smaller
-loop-node-smaller g c = mends-lower-of (looks c.args.tree.now) (looks c.loop-node.tree) c.args.tree.now.root c.args.start c.loop-node.id c.args.addr c.loop-node.at c.requires.1.1.1.1.mending c.loop-node.invariant.mends (looks c.mend_at-moved.new.tree) c.in-Some.parent c.mend_at-moved.result.0 (c.mend_at-moved.ensures.above c.if-not-up.false) g.most c.requires.1.1.1.1.items
+loop-node-smaller g c = mends-lower-of (looks c.args.tree.now) (looks c.loop-node.tree) c.args.tree.now.root c.args.start c.loop-node.id c.args.addr c.loop-node.at c.requires.1.1.1.1.mending c.loop-node.invariant.mends (looks c.mend_at-moved.new.tree) c.in-Some.parent c.mend_at-moved.result.0 (c.mend_at-moved.ensures.above c.if-not-up.false) g.items c.requires.1.1.1.1.items
 
 pub loop-node-preserved : goal.loop-node-preserved
 loop-node-preserved g c = record {

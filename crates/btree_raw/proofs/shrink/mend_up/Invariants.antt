@@ -10,4 +10,4 @@ invariant-loop-node g l = record {
 }
 
 abbrev pub decreases-loop-node : goal.decreases-loop-node
-decreases-loop-node g l = levels_above (looks l.tree) g.most l.id
+decreases-loop-node g l = levels_above (looks l.tree) g.items l.id
