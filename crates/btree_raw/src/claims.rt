@@ -58,6 +58,7 @@ pub fn claim<K: Drop, V: Drop, C: NodesMut<K, V>>(
     ensures claimed { IsTrue result → AreClaimed tree.old tree.new claims.new.items }
     ensures count { IsTrue result → length claims.new.items ≡ count }
     ensures refused { result ≡ false → Refuses tree.old tree.new }
+    ensures none_left { result ≡ false → claims.new.items ≡ [] }
     ensures may_refuse { result ≡ false →
         MayRefuseOneOf EMPTY C.MayRefuse tree.old.nodes count }
 {
