@@ -1,5 +1,6 @@
 -- A climb that splits nodes, from the one where it began to the one where it stands.
 use Rattle.std.proofs.Common.{◌≡◌, ◌≢◌, ◌↔◌, ◌⊎◌, true, false, IsTrue, ℕ, suc, ◌+◌, ◌<◌, ◌≤◌, ◌^◌, ◌-◌, inl, inr, List, [], ◌∷◌, ◌++◌, All, Option, Some, None, IfSome, IsSome, length, option_map, slice_get, refl, sym, ap, subst, ◌∙◌, arith}
+use Rattle.std.proofs.lemmas.List.{nil_from_length}
 use Rattle.btree_item.specs.declared.address.Address.{Address}
 use Rattle.std.specs.FinMap as map
 use Rattle.btree_store.specs.Content.{Content}
@@ -115,6 +116,9 @@ module _ (A : Type 0) (old now : Look A) (root : Option ℕ) (start id : ℕ) (s
         let m = ap most_of is ∙ view-most A here.seen.height (parent_above here.seen.way) here.seen.shape in
         here.none (omega arith)
 
+    pub climb-none-left : size_of v ≤ most_of v → rest ≡ []
+    climb-none-left low = nil_from_length rest (none-left low)
+
     pub climb-done : size_of v ≤ most_of v → AreSplit old now root root start spare a b
     climb-done low =
         let z = none-left low in
@@ -207,6 +211,9 @@ module _ (A : Type 0) (old now : Look A) (root : Option ℕ) (start id : ℕ) (s
             module _ (none : List ℕ) (r : ℕ) (is2 : more ≡ none ++ r ∷ []) where
               qs : ((n : ℕ) → times_listed n more ≡ one n r + times_listed n none) × (length more ≡ suc (length none))
               qs = push-spare more none r is2
+
+              pub climb-none-left-root : none ≡ []
+              climb-none-left-root = nil_from_length none (let y = qs.1 in let w = alone in omega arith)
 
               r-listed : times_listed r rest ≡ one r j + (1 + times_listed r none)
               r-listed = let x1 = ps.0 r in let x2 = qs.0 r in let x3 = one-self r in omega arith

@@ -82,6 +82,7 @@ pub fn split_up<K: Drop, V: Drop, C: NodesMut<K, V>>(
     requires splitting { IsSplitting (looks tree.old) tree.old.root start claims.old.items addr }
     requires numbers { All (λ id. id < usize.MAX) claims.old.items }
     ensures split { SplitsUp tree.old tree.new start claims.old.items addr result }
+    ensures none_left { claims.new.items ≡ [] }
     ensures back { IsSome addr.offset → IsSome result.offset }
 {
     tree.tell_fits();

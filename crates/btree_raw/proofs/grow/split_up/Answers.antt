@@ -1,7 +1,7 @@
 use Rattle.std.proofs.Common.{◌∷◌, [], Some, None, ap, refl, length, length-append, option_map, arith}
 use Rattle.btree_node.specs.Node.{view_of}
 use Rattle.btree_shape.specs.TreeState.{looks}
-use Rattle.btree_raw.proofs.ClimbLemmas.{climb-start, climb-used, climb-offset, climb-done, climb-left, climb-split, climb-lift, climb-next, climb-left-root, climb-number, climb-raise, climb-used-end, climb-root, climb-back-end, is-over, not-over, same-parent}
+use Rattle.btree_raw.proofs.ClimbLemmas.{climb-start, climb-used, climb-offset, climb-done, climb-left, climb-split, climb-lift, climb-next, climb-left-root, climb-none-left, climb-none-left-root, climb-number, climb-raise, climb-used-end, climb-root, climb-back-end, is-over, not-over, same-parent}
 use Rattle.btree_raw.proofs.StateLemmas.{then, same-len, same-root, same-refusals}
 use Rattle.btree_raw.proofs.grow.split_up.Goals as goal
 use Rattle.btree_shape.proofs.Stores.{used-view}
@@ -85,6 +85,14 @@ returns-in_default-clause-split g c =
       uncounted = same-refusals (then (then c.loop-tree.invariant.rest c.split_at-kept.ensures.splits.rest) c.raise.ensures.rest);
     })
 
+pub returns-in_default-clause-none_left : goal.returns-in_default-clause-none_left
+returns-in_default-clause-none_left g c =
+    climb-none-left-root _ (looks c.args.tree.now) (looks c.loop-tree.tree) c.args.tree.now.root c.args.start c.loop-tree.id c.args.claims.now.items c.loop-tree.claims.items c.args.addr c.loop-tree.at c.requires.splitting c.loop-tree.invariant.climbs
+    (view_of c.node.result.now) (ap (option_map view_of) c.node.ensures.value) (is-over (view_of c.node.result.now) c.loop-tree-test.ensures)
+    c.take_claim-right.new.claims.items c.take_claim-right.result c.take_claim-right.ensures (looks c.split_at-kept.new.tree) c.split_at-kept.result.1 c.split_at-kept.result.0 c.split_at-kept.ensures.splits.nodes c.split_at-kept.ensures.left
+    (same-parent c.loop-tree.tree.nodes c.loop-tree.id c.node.result.now c.node-in-loop-tree.result.now c.node.ensures.value c.node-in-loop-tree.ensures.value c.parent-parent.result c.parent-parent.ensures.value None c.in_default.is)
+    c.take_claim-root.new.claims.items c.take_claim-root.result c.take_claim-root.ensures
+
 pub returns-in_default-clause-back : goal.returns-in_default-clause-back
 returns-in_default-clause-back g c =
     rw c.moved_by_split.ensures
@@ -130,6 +138,11 @@ returns-clause-split g c = record {
   len = same-len c.loop-tree.invariant.rest;
   uncounted = same-refusals c.loop-tree.invariant.rest;
 }
+
+pub returns-clause-none_left : goal.returns-clause-none_left
+returns-clause-none_left g c =
+    climb-none-left _ (looks c.args.tree.now) (looks c.loop-tree.tree) c.args.tree.now.root c.args.start c.loop-tree.id c.args.claims.now.items c.loop-tree.claims.items c.args.addr c.loop-tree.at c.requires.splitting c.loop-tree.invariant.climbs
+    (view_of c.node.result.now) (ap (option_map view_of) c.node.ensures.value) (not-over (view_of c.node.result.now) c.loop-tree-test.ensures)
 
 pub returns-clause-back : goal.returns-clause-back
 returns-clause-back g c =
