@@ -115,8 +115,8 @@ fn insert_more<K: Ord + Drop, V: Drop, C: NodesMut<K, V>>(
     }
 }
 
-/// Puts a pair at the address of a gap that its key fits. It is refused, and nothing changes, where the store refuses a node that is
-/// needed, or where there are as many pairs as can be counted.
+/// Puts a pair at the address of a gap that its key fits. Returns where the pair then stands. It is refused, and nothing changes, where
+/// the store refuses a node that is needed, or where there are as many pairs as can be counted.
 pub fn insert_at_gap<K: Ord + Drop, V: Drop, C: NodesMut<K, V>>(
     tree: &mut RawBTree<K, V, C>,
     addr: Address,

@@ -202,10 +202,11 @@ impl<K, V, C: NodesMut<K, V>> RawBTree<K, V, C> {
 impl<K: Ord, V, C: NodesMut<K, V>> RawBTree<K, V, C> {
     ghost use Rattle.btree_shape.specs.TreeState.{IsOff};
 
-    /// Whether the tree has a root and is well formed but for its length and the number of items of one node: that one may have one item
-    /// too many or too few, and none if it is the root. It is what `rebalance` requires of the tree.
+    /// Whether the tree has a root, at most 32 levels, and is well formed but for its length and the number of items of one node: that one
+    /// may have one item too many or too few, and none if it is the root. It is what `rebalance` requires of the tree.
     ///
-    /// It takes no memory but the stack. For each of the 32 heights that such a tree may have it looks at no more nodes than there are.
+    /// It takes no memory but the stack. For each of the 32 heights that such a tree may have it looks at no more nodes than there are,
+    /// and one.
     pub fn is_off_by_one(&self, id: usize) -> bool
         ensures { IsTrue result ↔ IsOff K.cmp self.now id }
     {

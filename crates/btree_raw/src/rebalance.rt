@@ -49,10 +49,11 @@ fn rebalance_under<K: Ord + Drop, V: Drop, C: NodesMut<K, V>>(
 impl<K: Ord + Drop, V: Drop, C: NodesMut<K, V>> RawBTree<K, V, C> {
     /// Makes a tree that is off by one at a node well formed but for its length: splits a node with an item too many, and so on upward;
     /// mends one with an item too few by an item of its right sibling if that has more than three, else of its left one, else by a
-    /// merge, and so on upward. A node with enough items is left, and nothing changes. At most as many nodes are given up as the tree
-    /// had levels. Returns where the address is then, at the same place and item.
+    /// merge with the left one, at the first child with the right one, and so on upward. A node with enough items is left, and nothing
+    /// changes. At most as many nodes are given up as the tree had levels. Returns where the address is then, at the same place and item.
     ///
-    /// It is refused, and nothing changes, only where the node has an item too many and the store refuses a node that a split takes.
+    /// It is refused, and nothing changes but the count of refusals, only where the node has an item too many and the store refuses a node
+    /// that a split takes.
     pub fn rebalance(&mut self, id: usize, addr: Address) -> Result<Address, Cause>
         requires odd { IsOff K.cmp self.old id }
         requires valid { IsValidIn self.old addr }

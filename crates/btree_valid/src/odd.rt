@@ -203,10 +203,11 @@ fn is_off_at_some<K: Ord, V, C: Nodes<K, V>>(nodes: &C, root: usize, odd: usize)
     false
 }
 
-/// Whether the nodes form a tree under a root that is well formed but for its length and the number of items of node `odd`, which is there:
-/// that one may have one item too many or too few, and none if it is the root.
+/// Whether the nodes form a tree of at most 32 levels under a root, well formed but for its length and the number of items of node `odd`,
+/// which is there: that one may have one item too many or too few, and none if it is the root.
 ///
-/// It takes no memory but the stack. For each of the 32 heights that such a tree may have it looks at no more nodes than there are.
+/// It takes no memory but the stack. For each of the 32 heights that such a tree may have it looks at no more nodes than there are, and
+/// one.
 pub fn is_off<K: Ord, V, C: Nodes<K, V>>(nodes: &C, root: usize, odd: usize) -> bool
     requires { FitsInMemory (node_row K.row V.row) }
     ensures { IsTrue result ↔ IsOffAmong K.cmp (C.content nodes.now) root odd }
