@@ -149,19 +149,14 @@ fn looks_keys_up(rt: HostRuntime) -> Result<(), Fail> {
     Ok(())
 }
 
-// Puts so many keys into a tree of three levels, and answers how many were refused once.
-fn refusals_of<C: NodesMut<u64, u64> + Drop>(
+// Puts 64 keys into a tree, and answers how many were refused once. The last one takes a leaf and a node above it, the 17th.
+fn refusals_of_64<C: NodesMut<u64, u64> + Drop>(
     rt: &impl Abort,
     origin: C::Origin,
-    keys: u64,
-    nodes: usize,
     alloc: Global,
 ) -> Result<usize, Fail> {
-    let (tree, refusals) = grow::<C>(rt, origin, keys, alloc)?;
-    assert_eq!(rt;
-        (tree.node_count(), tree.height(), tree.len() as u64),
-        (nodes, 3, keys)
-    );
+    let (tree, refusals) = grow::<C>(rt, origin, 64, alloc)?;
+    assert_eq!(rt; (tree.node_count(), tree.height(), tree.len()), (17, 3, 64));
     Ok(refusals)
 }
 
@@ -181,12 +176,16 @@ fn walks_from_the_front(rt: HostRuntime) -> Result<(), Fail> {
     Ok(())
 }
 
-// Each allocation of a run of so many insertions is refused in turn, until a run meets none.
-fn refuse_each(rt: &impl Abort, keys: u64, nodes: usize, alloc: Global) -> Result<(), Fail> {
-    for nth in 1..keys {
-        let memory = Refusing::over(alloc, nth);
-        let refusals = refusals_of::<SlabStore<Node<u64, u64>, &Refusing<Global>>>(
-            rt, &memory, keys, nodes, alloc,
+// Each allocation of a run of 64 insertions is refused in turn, until a run meets none. The store grows at its 17th node, so that there the
+// first of two claimed nodes is given back.
+#[test]
+fn a_refused_node_changes_nothing(rt: HostRuntime) -> Result<(), Fail> {
+    for nth in 1..64u64 {
+        let memory = Refusing::over(rt.alloc(), nth);
+        let refusals = refusals_of_64::<SlabStore<Node<u64, u64>, &Refusing<Global>>>(
+            &rt,
+            &memory,
+            rt.alloc(),
         )?;
         if refusals == 0 {
             assert!(rt; nth > 1 && memory.refuses() > 0);
@@ -195,15 +194,4 @@ fn refuse_each(rt: &impl Abort, keys: u64, nodes: usize, alloc: Global) -> Resul
         assert_eq!(rt; (refusals, memory.refuses()), (1, 0), "at {nth}");
     }
     Err(Fail::from("each run met a refusal"))
-}
-
-#[test]
-fn a_refused_node_changes_nothing(rt: HostRuntime) -> Result<(), Fail> {
-    refuse_each(&rt, 44, 12, rt.alloc())
-}
-
-// The store grows at its 17th node, so that there the first of two claimed nodes is given back.
-#[test]
-fn a_claimed_node_is_given_back(rt: HostRuntime) -> Result<(), Fail> {
-    refuse_each(&rt, 64, 17, rt.alloc())
 }
