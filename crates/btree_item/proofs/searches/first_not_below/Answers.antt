@@ -2,6 +2,8 @@ use Rattle.std.proofs.Common.{◌∙◌, arith}
 use Rattle.btree_item.proofs.KeyLemmas.{AllBelow-from_key, IsNotBelowAt-next, is_lt-from_partial}
 use Rattle.btree_item.proofs.searches.first_not_below.Goals as goal
 use Rattle.btree_item.proofs.searches.first_not_below.Goals.{then-lt, else-lt}
+use Rattle.std.proofs.lemmas.Grind.{common_steps}
+use Rattle.std.proofs.Common.{rules}
 
 pub loop-i-preserved : goal.loop-i-preserved
 loop-i-preserved g c = elim c.if-lt.branch [
@@ -23,3 +25,21 @@ loop-i-preserved g c = elim c.if-lt.branch [
         here = rw stays (IsNotBelowAt-next _ _ _ _ _ c.loop-i.invariant.here reached c.key_at.ensures not_below);
       }
 ]
+
+pub loop-i-init : goal.loop-i-init
+loop-i-init g c = search rules steps 200000
+
+pub key_at-requires : goal.key_at-requires
+key_at-requires g c = search rules steps 200000
+
+pub lt-requires : goal.lt-requires
+lt-requires g c κs = search rules steps 200000
+
+pub overflow_add-place : goal.overflow_add-place
+overflow_add-place g c = search rules steps 200000
+
+pub loop-i-smaller : goal.loop-i-smaller
+loop-i-smaller g c = search rules steps 200000
+
+pub returns : goal.returns
+returns g c = grind (arith, common_steps) steps 2000000

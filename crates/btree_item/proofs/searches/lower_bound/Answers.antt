@@ -2,6 +2,8 @@ use Rattle.std.proofs.Common.{◌∙◌, arith}
 use Rattle.std.proofs.lemmas.List.{length-map}
 use Rattle.btree_item.proofs.KeyLemmas.{AllBelow-from_key, IsNotBelowAt-end, is_lt-from_partial}
 use Rattle.btree_item.proofs.searches.lower_bound.Goals as goal
+use Rattle.std.proofs.lemmas.Grind.{common_steps}
+use Rattle.std.proofs.Common.{rules}
 
 pub first_not_below-requires-then-lt : goal.first_not_below-requires-then-lt
 first_not_below-requires-then-lt g c =
@@ -17,3 +19,27 @@ first_not_below-requires-then-lt g c =
         ),
       ),
     )
+
+pub len-len-requires : goal.len-len-requires
+len-len-requires g c = search rules steps 200000
+
+pub key_at-requires : goal.key_at-requires
+key_at-requires g c = search rules steps 200000
+
+pub lt-requires : goal.lt-requires
+lt-requires g c κs = search rules steps 200000
+
+pub overflow_add-first_not_below : goal.overflow_add-first_not_below
+overflow_add-first_not_below g c = search rules steps 200000
+
+pub first_not_below-requires-else-lt : goal.first_not_below-requires-else-lt
+first_not_below-requires-else-lt g c = grind (arith, common_steps) steps 2000000
+
+pub returns-then-len-le-MIDDLE : goal.returns-then-len-le-MIDDLE
+returns-then-len-le-MIDDLE g c = search rules steps 200000
+
+pub returns-then-lt : goal.returns-then-lt
+returns-then-lt g c = search rules steps 200000
+
+pub returns-else-lt : goal.returns-else-lt
+returns-else-lt g c = search rules steps 200000

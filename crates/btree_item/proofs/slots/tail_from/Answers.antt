@@ -35,3 +35,38 @@ returns-clause-left g c =
     ∙ c.drain-slot-items.ensures.kept
     ∙ rest_is c.args.slots.now.items c.args.at c.len-len.result c.len-len.ensures.value c.requires in
     search (rules, kept)
+
+pub len-len-requires : goal.len-len-requires
+len-len-requires g c = search rules steps 200000
+
+pub new-tail-requires : goal.new-tail-requires
+new-tail-requires g c = search rules steps 200000
+
+pub drain-slot-items-requires : goal.drain-slot-items-requires
+drain-slot-items-requires g c = search rules steps 200000
+
+-- `into_iter-slot-iterator-requires-room-I-Iterator` is left out of this print (no verdict changes): its front end refused it
+
+-- `into_iter-slot-iterator-requires-room-I-Destruct` is left out of this print (no verdict changes): its front end refused it
+
+pub loop-slot-init : goal.loop-slot-init
+loop-slot-init g c = grind (arith, common_steps) steps 300000
+
+pub next-requires : goal.next-requires
+next-requires g c = grind (arith, common_steps) steps 300000
+
+pub loop-slot-smaller : goal.loop-slot-smaller
+loop-slot-smaller g c = grind (arith, common_steps) steps 2000000
+
+pub loop-slot-preserved : goal.loop-slot-preserved
+loop-slot-preserved g c = grind (arith, common_steps) steps 2000000
+
+pub drop-slot-iterator-requires : goal.drop-slot-iterator-requires
+drop-slot-iterator-requires g c = search rules steps 200000
+
+pub returns-clause-moved : goal.returns-clause-moved
+returns-clause-moved g c = grind (arith, common_steps) steps 2000000
+
+-- `into_iter-slot-iterator-requires-room-I-Iterator` is left out of this print (no verdict changes): its front end refused it
+
+-- `into_iter-slot-iterator-requires-room-I-Destruct` is left out of this print (no verdict changes): its front end refused it

@@ -1,10 +1,11 @@
-use Rattle.std.proofs.Common.{length, ap, ◌∙◌, arith}
+use Rattle.std.proofs.Common.{length, ap, ◌∙◌, arith, ◌-◌}
 use Rattle.std.proofs.lemmas.List.{length-map}
 use Rattle.btree_item.specs.Pairs.{place_of}
 use Rattle.btree_item.proofs.PairLemmas.{slice_get-from_place, found-from_place}
 use Rattle.btree_internal.specs.Internal.{branch_pair}
 use Rattle.btree_internal.proofs.BranchLemmas.{branches_are, items_are}
 use Rattle.btree_internal.proofs.internal.InternalNode.find.Goals as goal
+use Rattle.std.proofs.lemmas.Grind.{common_steps}
 
 pub place-requires : goal.place-requires
 place-requires g c = (let fits = c.well_formed in omega arith, rw (items_are c.args.self.now _ c.self.inside.first c.self.inside.branches c.self.view_is) c.requires)
@@ -26,3 +27,6 @@ returns-clause-absent g c = found-from_place g.K.Ord.cmp c.args.key.now _ c.plac
 
 pub returns-clause-sized : goal.returns-clause-sized
 returns-clause-sized g c = length-map c.args.self.now.branches (λ b. b.0)
+
+pub returns-clause-within : goal.returns-clause-within
+returns-clause-within g c = grind (arith, common_steps) steps 2000000

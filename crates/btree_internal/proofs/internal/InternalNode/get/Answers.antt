@@ -1,9 +1,10 @@
-use Rattle.std.proofs.Common.{Some, Ok, ap, sym, ◌∙◌}
+use Rattle.std.proofs.Common.{Some, Ok, ap, sym, ◌∙◌, arith, rules, ◌-◌}
 use Rattle.btree_item.proofs.PairLemmas.{before-from_Err}
 use Rattle.btree_internal.specs.Internal.{internal_view}
 use Rattle.btree_internal.proofs.BranchLemmas.{there}
 use Rattle.btree_internal.proofs.LookUpLemmas.{look_up-Ok, look_up-Err}
 use Rattle.btree_internal.proofs.internal.InternalNode.get.Goals as goal
+use Rattle.std.proofs.lemmas.Grind.{common_steps}
 
 pub returns-in-Ok : goal.returns-in-Ok
 returns-in-Ok g c =
@@ -13,3 +14,15 @@ returns-in-Ok g c =
 pub returns-in-Err : goal.returns-in-Err
 returns-in-Err g c =
     sym (look_up-Err g.K.Ord.cmp c.args.key.now (internal_view c.args.self.now) _ _ c.in-Err.ensures.absent (before-from_Err g.K.Ord.cmp c.args.key.now _ _ (sym c.in-Err.ensures.place)) c.child_id.ensures)
+
+pub find-requires : goal.find-requires
+find-requires g c = search rules steps 200000
+
+pub branch_at-requires : goal.branch_at-requires
+branch_at-requires g c = grind (arith, common_steps) steps 2000000
+
+pub value-requires : goal.value-requires
+value-requires g c κs = search rules steps 200000
+
+pub child_id-requires : goal.child_id-requires
+child_id-requires g c = grind (arith, common_steps) steps 2000000

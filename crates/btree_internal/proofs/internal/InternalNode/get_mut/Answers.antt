@@ -1,4 +1,4 @@
-use Rattle.std.proofs.Common.{◌≡◌, Option, Some, None, Ok, inl, refl, ap, sym, ◌∙◌}
+use Rattle.std.proofs.Common.{◌≡◌, Option, Some, None, Ok, inl, refl, ap, sym, ◌∙◌, arith, rules, ◌-◌}
 use Rattle.std.specs.Prelude.{slice_get}
 use Rattle.std.specs.Option.{option_map}
 use Rattle.btree_item.proofs.PairLemmas.{before-from_Err}
@@ -7,6 +7,7 @@ use Rattle.btree_view.specs.View.{items_of}
 use Rattle.btree_internal.proofs.BranchLemmas.{with_value-from_at}
 use Rattle.btree_internal.proofs.LookUpLemmas.{look_up-Ok, look_up-Err}
 use Rattle.btree_internal.proofs.internal.InternalNode.get_mut.Goals as goal
+use Rattle.std.proofs.lemmas.Grind.{common_steps}
 
 item_of_value : {K V : Type 0} (o : Option (K × V)) (v : V) → Some v ≡ option_map (λ x. x.1) o → (x : K × V) × (o ≡ Some x) × (v ≡ x.1)
 item_of_value None v is = absurd (cc)
@@ -32,3 +33,15 @@ returns-in-Err g c = (
     value = sym (look_up-Err g.K.Ord.cmp c.args.key.now (internal_view c.args.self.now) _ _ c.in-Err.ensures.absent (before-from_Err g.K.Ord.cmp c.args.key.now _ _ (sym c.in-Err.ensures.place)) c.child_id.ensures);
   },
 )
+
+pub find-requires : goal.find-requires
+find-requires g c = search rules steps 200000
+
+pub value_at-requires : goal.value_at-requires
+value_at-requires g c = omega arith
+
+pub unreachable-unreachable : goal.unreachable-unreachable
+unreachable-unreachable g c = search rules steps 200000
+
+pub child_id-requires : goal.child_id-requires
+child_id-requires g c = grind (arith, common_steps) steps 2000000

@@ -1,9 +1,40 @@
-use Rattle.std.proofs.Common.{refl, sym, ◌∙◌}
+use Rattle.std.proofs.Common.{refl, sym, ◌∙◌, arith, rules, ◌-◌}
 use Rattle.btree_internal.proofs.BranchLemmas.{pop_right-view}
 use Rattle.btree_internal.proofs.internal.InternalNode.pop_right.Goals as goal
+use Rattle.std.proofs.lemmas.Grind.{common_steps}
 
 pub returns-clause-taken : goal.returns-clause-taken
 returns-clause-taken g c = pop_right-view c.args.self.now _ c.self.inside.first c.self.inside.branches c.self.view_is c.pop.new.self c.unwrap-item.result (sym c.unwrap-item.ensures ∙ c.pop.ensures.answer) c.pop.ensures.after
 
 pub returns-clause-spare : goal.returns-clause-spare
 returns-clause-spare g c = c.if-not-has_spare.ensures.0 refl
+
+pub has_spare-requires : goal.has_spare-requires
+has_spare-requires g c = omega arith
+
+pub returns-then-not-has_spare-clause-spare : goal.returns-then-not-has_spare-clause-spare
+returns-then-not-has_spare-clause-spare g c = search rules steps 200000
+
+pub returns-then-not-has_spare-clause-offset : goal.returns-then-not-has_spare-clause-offset
+returns-then-not-has_spare-clause-offset g c = search rules steps 200000
+
+pub returns-then-not-has_spare-clause-taken : goal.returns-then-not-has_spare-clause-taken
+returns-then-not-has_spare-clause-taken g c = search rules steps 200000
+
+pub returns-then-not-has_spare-clause-short : goal.returns-then-not-has_spare-clause-short
+returns-then-not-has_spare-clause-short g c = grind (arith, common_steps) steps 2000000
+
+pub pop-requires : goal.pop-requires
+pop-requires g c = grind (arith, common_steps) steps 300000
+
+pub item_count-requires : goal.item_count-requires
+item_count-requires g c = omega arith
+
+pub offset_at-requires : goal.offset_at-requires
+offset_at-requires g c = search rules steps 200000
+
+pub returns-clause-offset : goal.returns-clause-offset
+returns-clause-offset g c = search rules steps 200000
+
+pub returns-clause-short : goal.returns-clause-short
+returns-clause-short g c = search rules steps 200000

@@ -1,6 +1,7 @@
-use Rattle.std.proofs.Common.{sym}
+use Rattle.std.proofs.Common.{sym, arith, rules, ◌-◌}
 use Rattle.btree_internal.proofs.BranchLemmas.{child_behind, remove-view, there}
 use Rattle.btree_internal.proofs.internal.InternalNode.remove.Goals as goal
+use Rattle.std.proofs.lemmas.Grind.{common_steps}
 
 pub returns-clause-item : goal.returns-clause-item
 returns-clause-item g c =
@@ -13,3 +14,15 @@ returns-clause-right g c =
 pub returns-clause-after : goal.returns-clause-after
 returns-clause-after g c =
     rw c.unwrap-index.ensures.value (remove-view c.args.self.now _ c.self.inside.first c.self.inside.branches c.self.view_is _ c.unwrap-index.result c.remove-item.ensures.after)
+
+pub unwrap-index-requires : goal.unwrap-index-requires
+unwrap-index-requires g c = grind (arith, common_steps) steps 2000000
+
+pub child_id-left-requires : goal.child_id-left-requires
+child_id-left-requires g c = grind (arith, common_steps) steps 2000000
+
+pub remove-item-requires : goal.remove-item-requires
+remove-item-requires g c = grind (arith, common_steps) steps 2000000
+
+pub returns-clause-left : goal.returns-clause-left
+returns-clause-left g c = search rules steps 200000

@@ -1,5 +1,22 @@
 use Rattle.btree_internal.proofs.BranchLemmas.{replaced-view}
 use Rattle.btree_internal.proofs.internal.InternalNode.replace.Goals as goal
+use Rattle.std.proofs.lemmas.Grind.{common_steps}
+use Rattle.std.proofs.Common.{arith, rules, ◌-◌}
 
 pub returns-clause-after : goal.returns-clause-after
 returns-clause-after g c = rw (c.unwrap-index.ensures.value, c.replace.ensures.after) (replaced-view c.args.self.now c.unwrap-index.result c.args.item)
+
+pub unwrap-index-requires : goal.unwrap-index-requires
+unwrap-index-requires g c = grind (arith, common_steps) steps 2000000
+
+pub item_mut_at_index-requires : goal.item_mut_at_index-requires
+item_mut_at_index-requires g c = omega arith
+
+pub replace-requires : goal.replace-requires
+replace-requires g c κs = search rules steps 2000000
+
+pub unreachable-unreachable : goal.unreachable-unreachable
+unreachable-unreachable g c = search rules steps 200000
+
+pub returns-clause-answer : goal.returns-clause-answer
+returns-clause-answer g c = grind (arith, common_steps) steps 300000

@@ -1,10 +1,11 @@
-use Rattle.std.proofs.Common.{arith, sym, ◌∙◌}
+use Rattle.std.proofs.Common.{arith, sym, ◌∙◌, ◌-◌}
 use Rattle.std.proofs.lemmas.List.{length-map}
 use Rattle.btree_internal.specs.Internal.{branch_pair}
 use Rattle.btree_internal.proofs.BranchLemmas.{long_as_items}
 use Rattle.btree_view.proofs.Cuts.{last_is_there, parts_of_split, front_of_split, back_of_split}
 use Rattle.btree_internal.proofs.InternalSplit.{IsSplit-internal}
 use Rattle.btree_internal.proofs.internal.InternalNode.split.Goals as goal
+use Rattle.std.proofs.lemmas.Grind.{common_steps}
 
 pub unwrap-item-requires : goal.unwrap-item-requires
 unwrap-item-requires g c =
@@ -33,3 +34,15 @@ returns-clause-right g c =
     let items = length-map c.args.self.now.branches (λ b. b.0) in
     let mapped = length-map c.split_off-branches.result branch_pair in
     omega (arith, long, c.requires, back, mapped, items, c.item_count-count.ensures.fits, c.item_count-count.ensures.value)
+
+pub item_count-count-requires : goal.item_count-count-requires
+item_count-count-requires g c = omega arith
+
+pub split_off-branches-requires : goal.split_off-branches-requires
+split_off-branches-requires g c = grind (arith, common_steps) steps 2000000
+
+pub pop-requires : goal.pop-requires
+pop-requires g c = grind (arith, common_steps) steps 300000
+
+pub len-requires : goal.len-requires
+len-requires g c = omega arith

@@ -1,7 +1,8 @@
-use Rattle.std.proofs.Common.{Some, inl, ap, sym, ◌∙◌}
+use Rattle.std.proofs.Common.{Some, inl, ap, sym, ◌∙◌, arith, rules, ◌-◌}
 use Rattle.std.specs.Option.{option_map}
 use Rattle.btree_internal.proofs.BranchLemmas.{there, value-at}
 use Rattle.btree_internal.proofs.internal.InternalNode.value_at.Goals as goal
+use Rattle.std.proofs.lemmas.Grind.{common_steps}
 
 pub returns-in-Some : goal.returns-in-Some
 returns-in-Some g c =
@@ -13,3 +14,15 @@ returns-in-Some g c =
         value = ap (λ v. Some v) c.value_mut.ensures.value ∙ sym (ap (option_map (λ x. x.1)) (there c.args.self.now _ c.self.inside.first c.self.inside.branches c.self.view_is c.args.index c.in-Some.branch.now at));
       },
     )
+
+pub get_mut-requires : goal.get_mut-requires
+get_mut-requires g c = grind (arith, common_steps) steps 300000
+
+pub value_mut-requires : goal.value_mut-requires
+value_mut-requires g c κs = search rules steps 200000
+
+pub invariant_of-self-lent : goal.invariant_of-self-lent
+invariant_of-self-lent g c = search rules steps 200000
+
+pub invariant_of-self-lent-in-None : goal.invariant_of-self-lent-in-None
+invariant_of-self-lent-in-None g c = search rules steps 200000

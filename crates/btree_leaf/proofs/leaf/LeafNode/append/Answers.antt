@@ -2,6 +2,7 @@ use Rattle.std.proofs.Common.{length, ◌++◌, ◌∷◌, arith, ap, ◌∙◌,
 use Rattle.btree_view.specs.View.{leaf}
 use Rattle.btree_view.proofs.Cuts.{joined_behind}
 use Rattle.btree_leaf.proofs.leaf.LeafNode.append.Goals as goal
+use Rattle.std.proofs.Common.{rules}
 
 pub push-requires : goal.push-requires
 push-requires g c =
@@ -25,3 +26,12 @@ returns-clause-after g c =
     let all = joined_behind c.self.inside.items c.other.inside.items c.push.new.self c.append.new.self c.args.separator c.push.ensures c.append.ensures in
     let both = all ∙ ap (λ l. l ++ c.args.separator ∷ c.other.inside.items) items ∙ ap (λ l. c.args.self.now.items ++ c.args.separator ∷ l) more in
     λ j. leaf (parent j) (both j)
+
+pub len-requires : goal.len-requires
+len-requires g c = search rules steps 200000
+
+pub offset_at-offset-requires : goal.offset_at-offset-requires
+offset_at-offset-requires g c = search rules steps 200000
+
+pub returns-clause-offset : goal.returns-clause-offset
+returns-clause-offset g c = search rules steps 200000

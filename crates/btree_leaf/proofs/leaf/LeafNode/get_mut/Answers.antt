@@ -2,6 +2,9 @@ use Rattle.std.proofs.Common.{◌∙◌, inl, sym}
 use Rattle.btree_view.specs.Kept.{node_of}
 use Rattle.btree_leaf.proofs.LeafLemmas.{found_value-at, with_value-at}
 use Rattle.btree_leaf.proofs.leaf.LeafNode.get_mut.Goals as goal
+use Rattle.std.proofs.lemmas.Grind.{common_steps}
+use Rattle.std.proofs.Common.{arith}
+use Rattle.std.proofs.Common.{rules}
 
 pub returns-in-Some : goal.returns-in-Some
 returns-in-Some g c =
@@ -14,3 +17,24 @@ returns-in-Some g c =
         value = found_value-at g.K.Ord.cmp c.args.self.now (node_of c.self.inside.parent) c.self.inside.items c.self.view_is c.args.key.now c.in-Ok.index c.in-Some.item.now _ c.in-Ok.ensures.here at c.value_mut.ensures.value;
       },
     )
+
+pub place-requires : goal.place-requires
+place-requires g c = grind (arith, common_steps) steps 300000
+
+pub get_mut-requires : goal.get_mut-requires
+get_mut-requires g c = search rules steps 200000
+
+pub value_mut-requires : goal.value_mut-requires
+value_mut-requires g c κs = search rules steps 200000
+
+pub invariant_of-self-lent : goal.invariant_of-self-lent
+invariant_of-self-lent g c = search rules steps 200000
+
+pub invariant_of-self-lent-in-None : goal.invariant_of-self-lent-in-None
+invariant_of-self-lent-in-None g c = search rules steps 200000
+
+pub returns-in-None : goal.returns-in-None
+returns-in-None g c = grind (arith, common_steps) steps 300000
+
+pub returns-in-Err : goal.returns-in-Err
+returns-in-Err g c = grind (arith, common_steps) steps 300000

@@ -2,6 +2,8 @@ use Rattle.std.proofs.Common.{length, arith, ap, sym, ◌∙◌}
 use Rattle.btree_view.proofs.Cuts.{parts_of_split, front_of_split, back_of_split}
 use Rattle.btree_leaf.proofs.LeafSplit.{IsSplit-leaf}
 use Rattle.btree_leaf.proofs.leaf.LeafNode.split.Goals as goal
+use Rattle.std.proofs.lemmas.Grind.{common_steps}
+use Rattle.std.proofs.Common.{rules}
 
 pub returns-clause-parts : goal.returns-clause-parts
 returns-clause-parts g c =
@@ -23,3 +25,15 @@ returns-clause-right g c =
     let long = ap (λ l. length l.items) c.self.view_is in
     let back = back_of_split c.self.inside.items c.split_off-items.result 4 c.split_off-items.ensures.answer in
     omega (arith, long, c.requires, back, c.item_count-count.ensures.fits, c.item_count-count.ensures.value)
+
+pub item_count-count-requires : goal.item_count-count-requires
+item_count-count-requires g c = search rules steps 200000
+
+pub split_off-items-requires : goal.split_off-items-requires
+split_off-items-requires g c = grind (arith, common_steps) steps 300000
+
+pub pop-requires : goal.pop-requires
+pop-requires g c = search rules steps 200000
+
+pub len-requires : goal.len-requires
+len-requires g c = search rules steps 200000

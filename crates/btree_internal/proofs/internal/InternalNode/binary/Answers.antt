@@ -1,0 +1,15 @@
+use Rattle.std.proofs.lemmas.Grind.{common_steps}
+use Rattle.std.proofs.Common.{arith, rules, ◌-◌}
+use Rattle.btree_internal.proofs.internal.InternalNode.binary.Goals as goal
+
+pub new-branches-requires : goal.new-branches-requires
+new-branches-requires g c = grind (arith, common_steps) steps 300000
+
+pub push-requires : goal.push-requires
+push-requires g c = grind (arith, common_steps) steps 300000
+
+pub unwrap_or-requires : goal.unwrap_or-requires
+unwrap_or-requires g c κs = search rules steps 200000
+
+pub returns : goal.returns
+returns g c = grind (arith, common_steps) steps 2000000

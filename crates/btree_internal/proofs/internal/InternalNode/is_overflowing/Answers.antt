@@ -1,0 +1,9 @@
+use Rattle.std.proofs.lemmas.Grind.{common_steps}
+use Rattle.std.proofs.Common.{arith, ◌-◌}
+use Rattle.btree_internal.proofs.internal.InternalNode.is_overflowing.Goals as goal
+
+pub item_count-requires : goal.item_count-requires
+item_count-requires g c = grind (arith, common_steps) steps 300000
+
+pub returns : goal.returns
+returns g c = grind (arith, common_steps) steps 2000000

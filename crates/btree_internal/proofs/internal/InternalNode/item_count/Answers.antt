@@ -1,0 +1,12 @@
+use Rattle.std.proofs.lemmas.Grind.{common_steps}
+use Rattle.std.proofs.Common.{arith, rules, ◌-◌}
+use Rattle.btree_internal.proofs.internal.InternalNode.item_count.Goals as goal
+
+pub len-requires : goal.len-requires
+len-requires g c = grind (arith, common_steps) steps 300000
+
+pub returns-clause-value : goal.returns-clause-value
+returns-clause-value g c = grind (arith, common_steps) steps 2000000
+
+pub returns-clause-fits : goal.returns-clause-fits
+returns-clause-fits g c = search rules steps 200000

@@ -1,0 +1,13 @@
+use Rattle.std.proofs.lemmas.Grind.{common_steps}
+use Rattle.std.proofs.Common.{arith}
+use Rattle.std.proofs.Common.{rules}
+use Rattle.btree_item.proofs.slots.Slots.len.Goals as goal
+
+pub len-requires : goal.len-requires
+len-requires g c = search rules steps 200000
+
+pub returns-clause-value : goal.returns-clause-value
+returns-clause-value g c = grind (arith, common_steps) steps 300000
+
+pub returns-clause-fits : goal.returns-clause-fits
+returns-clause-fits g c = search rules steps 200000

@@ -1,0 +1,9 @@
+use Rattle.std.proofs.lemmas.Grind.{common_steps}
+use Rattle.std.proofs.Common.{arith}
+use Rattle.btree_leaf.proofs.leaf.LeafNode.push_left.Goals as goal
+
+pub insert-requires : goal.insert-requires
+insert-requires g c = grind (arith, common_steps) steps 300000
+
+pub returns : goal.returns
+returns g c = grind (arith, common_steps) steps 300000

@@ -1,0 +1,16 @@
+use Rattle.std.proofs.lemmas.Grind.{common_steps}
+use Rattle.std.proofs.Common.{arith}
+use Rattle.std.proofs.Common.{rules}
+use Rattle.btree_leaf.proofs.leaf.LeafNode.remove.Goals as goal
+
+pub unwrap-requires : goal.unwrap-requires
+unwrap-requires g c = grind (arith, common_steps) steps 300000
+
+pub remove-requires : goal.remove-requires
+remove-requires g c = grind (arith, common_steps) steps 300000
+
+pub returns-clause-answer : goal.returns-clause-answer
+returns-clause-answer g c = search rules steps 200000
+
+pub returns-clause-after : goal.returns-clause-after
+returns-clause-after g c = grind (arith, common_steps) steps 2000000

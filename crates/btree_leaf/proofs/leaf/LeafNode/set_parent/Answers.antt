@@ -1,0 +1,10 @@
+use Rattle.std.proofs.lemmas.Grind.{common_steps}
+use Rattle.std.proofs.Common.{arith}
+use Rattle.std.proofs.Common.{rules}
+use Rattle.btree_leaf.proofs.leaf.LeafNode.set_parent.Goals as goal
+
+pub unwrap_or-self-inside-requires : goal.unwrap_or-self-inside-requires
+unwrap_or-self-inside-requires g c κs = search rules steps 200000
+
+pub returns : goal.returns
+returns g c = grind (arith, common_steps) steps 2000000
