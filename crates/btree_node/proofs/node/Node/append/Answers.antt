@@ -1,7 +1,8 @@
 use Rattle.btree_node.proofs.NodeSizes.{fits-internal, fits-leaf}
-use Rattle.std.proofs.Common.{Some, ap, sym, ◌∙◌}
+use Rattle.std.proofs.Common.{Some, ap, sym, ◌∙◌, arith, ◌-◌, ◌/◌}
 use Rattle.std.proofs.lemmas.List.{length-map}
 use Rattle.btree_node.proofs.node.Node.append.Goals as goal
+use Rattle.std.proofs.lemmas.Grind.{common_steps}
 
 pub append-requires : goal.append-requires
 append-requires g c =
@@ -25,3 +26,15 @@ returns-in-Leaf-other-2-clause-offset g c = rw c.in-Leaf.is c.append-in-Leaf-oth
 
 pub returns-in-Leaf-other-2-clause-after : goal.returns-in-Leaf-other-2-clause-after
 returns-in-Leaf-other-2-clause-after g c = rw (c.in-Leaf.is, c.in-Leaf-other-2.is) c.append-in-Leaf-other-2.ensures.after
+
+pub unreachable-requires : goal.unreachable-requires
+unreachable-requires g c = grind (arith, common_steps) steps 300000
+
+pub unreachable-unreachable : goal.unreachable-unreachable
+unreachable-unreachable g c = grind (arith, common_steps) steps 300000
+
+pub unreachable-requires-in-Internal-other-2 : goal.unreachable-requires-in-Internal-other-2
+unreachable-requires-in-Internal-other-2 g c = grind (arith, common_steps) steps 300000
+
+pub unreachable-unreachable-in-Internal-other-2 : goal.unreachable-unreachable-in-Internal-other-2
+unreachable-unreachable-in-Internal-other-2 g c = grind (arith, common_steps) steps 300000

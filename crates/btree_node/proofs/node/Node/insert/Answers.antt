@@ -1,8 +1,10 @@
 use Rattle.btree_node.proofs.NodeSizes.{fits-internal, fits-leaf}
-use Rattle.std.proofs.Common.{arith}
+use Rattle.std.proofs.Common.{arith, ◌-◌, ◌/◌}
 use Rattle.std.proofs.lemmas.List.{length-map}
 use Rattle.btree_node.proofs.NodeLemmas.{with_item-leaf}
 use Rattle.btree_node.proofs.node.Node.insert.Goals as goal
+use Rattle.std.proofs.lemmas.Grind.{common_steps}
+use Rattle.btree_view.specs.View.{leaf}
 
 pub insert-requires : goal.insert-requires
 insert-requires g c =
@@ -21,3 +23,9 @@ returns-in-Some g c = rw (c.in-Internal.is, c.in-Some.is) c.insert.ensures
 
 pub returns-in-Leaf : goal.returns-in-Leaf
 returns-in-Leaf g c = rw c.in-Leaf.is (with_item-leaf c.in-Leaf.leaf c.args.offset c.args.item c.args.opt_right _ c.insert-in-Leaf.ensures)
+
+pub unreachable-requires : goal.unreachable-requires
+unreachable-requires g c = grind (arith, common_steps) steps 300000
+
+pub unreachable-unreachable : goal.unreachable-unreachable
+unreachable-unreachable g c = grind (arith, common_steps) steps 300000

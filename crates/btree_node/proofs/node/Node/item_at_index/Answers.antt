@@ -1,9 +1,10 @@
-use Rattle.std.proofs.Common.{◌<◌, ap, sym, ◌∙◌, arith}
+use Rattle.std.proofs.Common.{◌<◌, ap, sym, ◌∙◌, arith, rules, ◌-◌, ◌/◌, true, false}
 use Rattle.std.proofs.lemmas.Option.{slice_get_past}
 use Rattle.btree_node.specs.Node.{view_of}
 use Rattle.btree_view.specs.View.{items_of, item_at_offset}
 use Rattle.btree_node.proofs.RoomLemmas.{on-some}
 use Rattle.btree_node.proofs.node.Node.item_at_index.Goals as goal
+use Rattle.std.proofs.lemmas.Grind.{common_steps}
 
 pub returns-then-index-item_count-clause-item : goal.returns-then-index-item_count-clause-item
 returns-then-index-item_count-clause-item g c =
@@ -14,3 +15,15 @@ returns-clause-fits g c = on-some c.item.result (c.args.index < 9) (omega (arith
 
 pub returns-clause-item : goal.returns-clause-item
 returns-clause-item g c = sym (c.item.ensures ∙ ap (item_at_offset (view_of c.args.self.now)) c.offset_at.ensures)
+
+pub item_count-requires : goal.item_count-requires
+item_count-requires g c = omega arith
+
+pub returns-then-index-item_count-clause-fits : goal.returns-then-index-item_count-clause-fits
+returns-then-index-item_count-clause-fits g c = search rules steps 200000
+
+pub offset_at-requires : goal.offset_at-requires
+offset_at-requires g c = grind (arith, common_steps) steps 300000
+
+pub item-requires : goal.item-requires
+item-requires g c = omega arith

@@ -1,7 +1,8 @@
 use Rattle.btree_node.proofs.NodeSizes.{fits-internal}
-use Rattle.std.proofs.Common.{arith}
+use Rattle.std.proofs.Common.{arith, rules, ◌-◌, ◌/◌}
 use Rattle.std.proofs.lemmas.List.{length-map}
 use Rattle.btree_node.proofs.node.Node.merge.Goals as goal
+use Rattle.std.proofs.lemmas.Grind.{common_steps}
 
 pub merge-requires : goal.merge-requires
 merge-requires g c =
@@ -12,3 +13,24 @@ merge-requires g c =
 
 pub returns-clause-item : goal.returns-clause-item
 returns-clause-item g c = rw c.in-Internal.is c.merge.ensures.item
+
+pub unreachable-requires : goal.unreachable-requires
+unreachable-requires g c = grind (arith, common_steps) steps 300000
+
+pub unreachable-unreachable : goal.unreachable-unreachable
+unreachable-unreachable g c = grind (arith, common_steps) steps 300000
+
+pub returns-clause-index : goal.returns-clause-index
+returns-clause-index g c = grind (arith, common_steps) steps 300000
+
+pub returns-clause-left : goal.returns-clause-left
+returns-clause-left g c = search rules steps 200000
+
+pub returns-clause-right : goal.returns-clause-right
+returns-clause-right g c = search rules steps 200000
+
+pub returns-clause-after : goal.returns-clause-after
+returns-clause-after g c = grind (arith, common_steps) steps 300000
+
+pub returns-clause-balance : goal.returns-clause-balance
+returns-clause-balance g c = search rules steps 200000

@@ -1,8 +1,9 @@
 use Rattle.btree_node.proofs.NodeSizes.{fits-internal, fits-leaf}
-use Rattle.std.proofs.Common.{Some, ap, sym, ◌∙◌}
+use Rattle.std.proofs.Common.{Some, ap, sym, ◌∙◌, arith, rules, ◌-◌, ◌/◌}
 use Rattle.std.proofs.lemmas.List.{length-map}
 use Rattle.btree_node.specs.declared.node.Node.TheVariants.{Leaf}
 use Rattle.btree_node.proofs.node.Node.pop_right.Goals as goal
+use Rattle.std.proofs.lemmas.Grind.{common_steps}
 
 pub pop_right-requires : goal.pop_right-requires
 pop_right-requires g c = let fits = c.well_formed in search fits-internal
@@ -23,3 +24,45 @@ pub returns-in-Err-pop_right-clause-short : goal.returns-in-Err-pop_right-clause
 returns-in-Err-pop_right-clause-short g c =
     let short = c.in-Err-pop_right.ensures.short in
     rw c.in-Leaf.is (short.0, ap (λ l. Leaf l) short.1)
+
+pub returns-in-Ok-clause-child : goal.returns-in-Ok-clause-child
+returns-in-Ok-clause-child g c = search rules steps 200000
+
+pub returns-in-Ok-clause-short : goal.returns-in-Ok-clause-short
+returns-in-Ok-clause-short g c = search rules steps 200000
+
+pub returns-in-Err-clause-spare : goal.returns-in-Err-clause-spare
+returns-in-Err-clause-spare g c = search rules steps 200000
+
+pub returns-in-Err-clause-offset : goal.returns-in-Err-clause-offset
+returns-in-Err-clause-offset g c = search rules steps 200000
+
+pub returns-in-Err-clause-child : goal.returns-in-Err-clause-child
+returns-in-Err-clause-child g c = search rules steps 200000
+
+pub returns-in-Err-clause-taken : goal.returns-in-Err-clause-taken
+returns-in-Err-clause-taken g c = search rules steps 200000
+
+pub returns-in-Err-clause-short : goal.returns-in-Err-clause-short
+returns-in-Err-clause-short g c = grind (arith, common_steps) steps 2000000
+
+pub returns-in-Ok-pop_right-clause-offset : goal.returns-in-Ok-pop_right-clause-offset
+returns-in-Ok-pop_right-clause-offset g c = search rules steps 200000
+
+pub returns-in-Ok-pop_right-clause-child : goal.returns-in-Ok-pop_right-clause-child
+returns-in-Ok-pop_right-clause-child g c = search rules steps 200000
+
+pub returns-in-Ok-pop_right-clause-short : goal.returns-in-Ok-pop_right-clause-short
+returns-in-Ok-pop_right-clause-short g c = search rules steps 200000
+
+pub returns-in-Err-pop_right-clause-spare : goal.returns-in-Err-pop_right-clause-spare
+returns-in-Err-pop_right-clause-spare g c = search rules steps 200000
+
+pub returns-in-Err-pop_right-clause-offset : goal.returns-in-Err-pop_right-clause-offset
+returns-in-Err-pop_right-clause-offset g c = search rules steps 200000
+
+pub returns-in-Err-pop_right-clause-child : goal.returns-in-Err-pop_right-clause-child
+returns-in-Err-pop_right-clause-child g c = search rules steps 200000
+
+pub returns-in-Err-pop_right-clause-taken : goal.returns-in-Err-pop_right-clause-taken
+returns-in-Err-pop_right-clause-taken g c = search rules steps 200000

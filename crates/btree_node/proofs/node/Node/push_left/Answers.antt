@@ -1,7 +1,8 @@
 use Rattle.btree_node.proofs.NodeSizes.{fits-internal, fits-leaf}
-use Rattle.std.proofs.Common.{arith}
+use Rattle.std.proofs.Common.{arith, ◌-◌, ◌/◌}
 use Rattle.std.proofs.lemmas.List.{length-map}
 use Rattle.btree_node.proofs.node.Node.push_left.Goals as goal
+use Rattle.std.proofs.lemmas.Grind.{common_steps}
 
 pub push_left-requires : goal.push_left-requires
 push_left-requires g c =
@@ -13,3 +14,15 @@ pub push_left-requires-in-Leaf : goal.push_left-requires-in-Leaf
 push_left-requires-in-Leaf g c =
     let room = rw c.in-Leaf.is at c.requires.room in
     (search fits-leaf, omega (arith, room))
+
+pub unreachable-requires : goal.unreachable-requires
+unreachable-requires g c = grind (arith, common_steps) steps 300000
+
+pub unreachable-unreachable : goal.unreachable-unreachable
+unreachable-unreachable g c = grind (arith, common_steps) steps 300000
+
+pub returns-in-Some : goal.returns-in-Some
+returns-in-Some g c = grind (arith, common_steps) steps 300000
+
+pub returns-in-Leaf : goal.returns-in-Leaf
+returns-in-Leaf g c = grind (arith, common_steps) steps 300000

@@ -1,7 +1,8 @@
 use Rattle.btree_node.proofs.NodeSizes.{fits-internal, fits-leaf}
-use Rattle.std.proofs.Common.{Some, arith, ap, sym, ◌∙◌}
+use Rattle.std.proofs.Common.{Some, arith, ap, sym, ◌∙◌, ◌-◌, ◌/◌}
 use Rattle.std.proofs.lemmas.List.{length-map}
 use Rattle.btree_node.proofs.node.Node.push_right.Goals as goal
+use Rattle.std.proofs.lemmas.Grind.{common_steps}
 
 pub push_right-requires : goal.push_right-requires
 push_right-requires g c =
@@ -20,3 +21,15 @@ returns-in-Some-clause-offset g c =
 
 pub returns-in-Leaf-clause-offset : goal.returns-in-Leaf-clause-offset
 returns-in-Leaf-clause-offset g c = rw c.in-Leaf.is c.push_right-in-Leaf.ensures.offset
+
+pub unreachable-requires : goal.unreachable-requires
+unreachable-requires g c = grind (arith, common_steps) steps 300000
+
+pub unreachable-unreachable : goal.unreachable-unreachable
+unreachable-unreachable g c = grind (arith, common_steps) steps 300000
+
+pub returns-in-Some-clause-after : goal.returns-in-Some-clause-after
+returns-in-Some-clause-after g c = grind (arith, common_steps) steps 300000
+
+pub returns-in-Leaf-clause-after : goal.returns-in-Leaf-clause-after
+returns-in-Leaf-clause-after g c = grind (arith, common_steps) steps 300000

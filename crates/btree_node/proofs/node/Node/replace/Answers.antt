@@ -1,6 +1,8 @@
 use Rattle.btree_node.proofs.NodeSizes.{fits-internal}
 use Rattle.std.proofs.lemmas.List.{length-map}
 use Rattle.btree_node.proofs.node.Node.replace.Goals as goal
+use Rattle.std.proofs.lemmas.Grind.{common_steps}
+use Rattle.std.proofs.Common.{arith, ◌-◌, ◌/◌}
 
 pub replace-requires : goal.replace-requires
 replace-requires g c =
@@ -13,3 +15,9 @@ returns-clause-answer g c = rw c.in-Internal.is c.replace.ensures.answer
 
 pub returns-clause-after : goal.returns-clause-after
 returns-clause-after g c = rw c.in-Internal.is c.replace.ensures.after
+
+pub unreachable-requires : goal.unreachable-requires
+unreachable-requires g c = grind (arith, common_steps) steps 300000
+
+pub unreachable-unreachable : goal.unreachable-unreachable
+unreachable-unreachable g c = grind (arith, common_steps) steps 300000
