@@ -70,14 +70,6 @@ module _ {K V : Type 0} (cmp : K → K → Ordering) (laws : IsTotalOrder cmp) (
         let set_is = set-from_Ok cmp laws k w xs f.place (x.key, was) tree.ascends f.is listed in
         x.exchanged.pairs ∙ (rw same set_is ∙ sym (if-some (found cmp k xs) _ _ is-some))
 
-    pub exchanged-took : Took cmp k old new w
-    exchanged-took = record {
-      absent = λ none. absurd (not-both (found cmp k xs) is-some none);
-      few = λ levels are. let e = x.exchanged.keeps.nodes in omega arith;
-      paid = λ none. absurd (not-both (found cmp k xs) is-some none);
-      present = λ some. (was, record { at = a; found_at = f; exchanged = x });
-    }
-
   module _ (a : Address) (gap : IsGapAt cmp k old a) where
     nothing : (found cmp k xs ≡ None) × (before cmp k xs ≡ gap.place)
     nothing = err-none (before cmp k xs) (before cmp k xs) gap.place (found cmp k xs) gap.is
@@ -95,9 +87,6 @@ module _ {K V : Type 0} (cmp : K → K → Ordering) (laws : IsTotalOrder cmp) (
     absent = nothing.0
 
     module _ (new : TreeState K V) (b : Address) (is : IsInserted cmp old new a b (k, w)) where
-      pub put-pairs : pairs_of new ≡ inserted cmp k w xs
-      put-pairs = (is.pairs gap.place gap.at).0 ∙ sym (inserted-from_Err cmp k w xs gap.place gap.is)
-
       pub put-took : Took cmp k old new w
       put-took = record {
         absent = λ none. (a, gap, is.nodes);

@@ -64,9 +64,6 @@ module _ {K V : Type 0} (cmp : K → K → Ordering) (k : K) (laws : IsTotalOrde
   no-root none a is =
       rw (is, none) (record { valid = inr (refl, refl, refl); place = 0; is = refl; at = ((refl, refl, refl), refl); in_leaf = inr (refl, refl, refl); back = refl })
 
-  pub no-value : s.root ≡ None → None ≡ found_value cmp k pairs
-  no-value none = rw none refl
-
   module _ (root : ℕ) (is : s.root ≡ Some root) where
     well : IsWellFormed cmp look (Some root) s.len pairs
     well = subst (λ t. IsWellFormed cmp look t s.len pairs) is tree

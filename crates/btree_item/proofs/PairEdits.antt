@@ -149,7 +149,7 @@ module _ {K V : Type 0} (cmp : K → K → Ordering) where
           here = record { stops = λ q at. ap is_lt (Greater-from_Less cmp o k q (above_at xs p k q fits.below at)) };
         }
 
-    -- ---- a key that fits at a place
+    -- ---- a key that fits at a place (for insertion at an address, and for entries)
     -- a key that fits at a place has as many smaller keys
     pub before-from_KeyFits : (k : K) (p : ℕ) (xs : List (K × V)) → Ascends cmp xs → KeyFits cmp k p xs → before cmp k xs ≡ p
     before-from_KeyFits k p xs up fits =

@@ -39,9 +39,6 @@ module _ {A : Type 0} (look : Look A) (id : ℕ) (can : CanAdopt look id) where
   abbrev children : List ℕ
   children = children_in (look id)
 
-  pub adopts-none : Adopts look look id []
-  adopts-none = record { moved = λ n some. absurd (omega arith); kept = λ n none. refl }
-
   module _ (now : Look A) (index : ℕ) (partly : Adopts look now id (take index children)) where
     pub adopter-kept : now id ≡ look id
     adopter-kept = partly.kept id (let z = can.apart in omega (arith, times-take id index children))
@@ -69,9 +66,6 @@ module _ {A : Type 0} (look : Look A) (id : ℕ) (can : CanAdopt look id) where
               | inr ne ↦ let q = sum n in let o = one-other n child ne in s.others n ne ∙ partly.moved n (omega arith)
             ];
           }
-
-  pub adopts-all : (new : Look A) (count : ℕ) → count ≡ length children → Adopts look new id (take count children) → Adopts look new id children
-  adopts-all new count e all = subst (λ ids. Adopts look new id ids) (take_all count children (omega arith)) all
 
 module _ {K V : Type 0} where
   -- the children of the node at a number

@@ -49,9 +49,6 @@ module _ {N : Type 0} (empty : N) where
     after = ap (λ m. map.insert m id empty) c.after ∙ sym (with-one_more base ids id);
   }
 
-  pub none-yet : (base : Content N) → IsClaimed empty base base []
-  none-yet base = record { claims = tt; after = refl }
-
 module _ {K V : Type 0} where
   -- claims as definitions of the tree see them
   pub claims-seen : (nodes : Content (Node K V)) (ids : List ℕ) → AreClaims EMPTY nodes ids → Claims (views nodes) (views (with_claims EMPTY nodes ids)) ids

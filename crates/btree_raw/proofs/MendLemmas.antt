@@ -87,10 +87,6 @@ module _ {A : Type 0} where
     children_are = ap (λ l. u ∷ l) (map-append (λ b. b.1) bs ((x, w) ∷ cs));
   }
 
-  pub same-size : (p : Option ℕ) (v : View A) → size_of (with_parent p v) ≡ size_of v
-  same-size p (leaf q xs) = refl
-  same-size p (internal q u bs) = refl
-
 -- an index that is small is an offset
 pub index-is : (index : ℕ) (o : Option ℕ) → index < 2 ^ 64 - 1 → o ≡ index_offset index → o ≡ Some index
 index-is index o low e = e ∙ rw (other-test index (2 ^ 64 - 1) (omega arith)) refl
@@ -98,9 +94,6 @@ index-is index o low e = e ∙ rw (other-test index (2 ^ 64 - 1) (omega arith)) 
 module _ {K V : Type 0} (nodes : Content (Node K V)) (id : ℕ) (node : Node K V) (at : Some node ≡ nodes_map.get nodes id) where
   here-at : views nodes id ≡ Some (view_of node)
   here-at = ap (option_map view_of) (sym at)
-
-  pub lend-spare : CanLend (views nodes) id → HasSpare (view_of node)
-  lend-spare can = rw (view-at nodes id node can.node at can.here) can.spare
 
   pub room-for : (child : Option ℕ) → HasRoomFor (views nodes) id child → (size_of (view_of node) ≤ most_of (view_of node)) × HasChildFor child (view_of node)
   room-for child can = rw (view-at nodes id node can.node at can.here) (can.room, can.kind)

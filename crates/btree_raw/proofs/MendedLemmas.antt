@@ -163,12 +163,6 @@ module _ {A : Type 0} (look : Look A) (root : Option ℕ) (id : ℕ) (a : Addres
               (subst (λ n. Loses look new n) same lo) refl;
         }
 
-pub release-back-some : (id child held : ℕ) (a : Address) → IsSome a.offset → IsSome (moved_by_release id child held a).offset
-release-back-some id child held a is = some-back none (moved_by_release id child held a).offset (release-back none id child held a (back-some none a.offset is))
-  where
-    none : Look ℕ
-    none n = None
-
 -- where the climb stands
 module _ (A : Type 0) (old now : Look A) (root : Option ℕ) (start id : ℕ) (a b : Address) where
   -- what was known of the tree at the start is known where the climb stands, with these nodes given up, no more than the levels passed;

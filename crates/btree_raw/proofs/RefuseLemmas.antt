@@ -32,6 +32,3 @@ module _ {K V : Type 0} where
     claimed = (given-back EMPTY base.nodes now.nodes all ids id e c.claimed).less;
     rest = record { rest = ap (with_nodes (map.remove now.nodes id)) c.rest.rest };
   })
-
-  pub no-claims : (base now : TreeState K V) (ids : List ℕ) → ids ≡ [] → AreClaimed base now ids → now ≡ base
-  no-claims base now ids e c = let d = subst (λ l. AreClaimed base now l) e c in d.rest.rest ∙ ap (λ n. with_nodes n base) d.claimed.after

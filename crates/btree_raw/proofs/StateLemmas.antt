@@ -49,21 +49,3 @@ module _ {K V : Type 0} where
   module _ (nodes : Content (Node K V)) (id : ℕ) (node : Node K V) (at : Some node ≡ map.get nodes id) (after : Node K V) where
     seen : views nodes id ≡ Some (view_of node)
     seen = ap (option_map view_of) (sym at)
-
-    pub sets-parent : (parent : ℕ) → parent < 2 ^ 64 - 1 → view_of after ≡ with_parent (kept_parent (Some parent)) (view_of node) → SetsParent (views nodes) (views (map.insert nodes id after)) id parent
-    sets-parent parent low is =
-        let p = puts nodes (map.insert nodes id after) id after refl in
-        let so : kept_parent (Some parent) ≡ Some parent = rw (other-test parent (2 ^ 64 - 1) (omega arith)) refl in
-        let e : view_of after ≡ with_parent (Some parent) (view_of node) = is ∙ ap (λ q. with_parent q (view_of node)) so in
-        record { here = p.here ∙ (ap Some e ∙ sym (ap (option_map (with_parent (Some parent))) seen)); others = p.others }
-
-    pub adds-item : (index : ℕ) (x : K × V) (child : Option ℕ) → CanTake (views nodes) id index child → (o : Option ℕ) → o ≡ index_offset index
-        → IfSome o (λ i. view_of after ≡ with_item i x child (view_of node)) → AddsItem (views nodes) (views (map.insert nodes id after)) id index x child
-    adds-item index x child can o e is =
-        let p = puts nodes (map.insert nodes id after) id after refl in
-        let low : index < 2 ^ 64 - 1 = omega (arith, can.room, can.within, most-few can.node) in
-        let so : o ≡ Some index = e ∙ rw (other-test index (2 ^ 64 - 1) (omega arith)) refl in
-        record {
-          here = p.here ∙ (ap Some (subst (λ o. IfSome o (λ i. view_of after ≡ with_item i x child (view_of node))) so is) ∙ sym (ap (option_map (with_item index x child)) seen));
-          others = p.others;
-        }

@@ -60,10 +60,6 @@ pub on_err : {P : Type 0} (result : Result (Unit {0}) AllocError) → P → OnEr
 on_err (Ok _) p = tt
 on_err (Err _) p = p
 
-pub OnErr-same : (now new : List ℕ) (result : Result (Unit {0}) AllocError) → OnErr result (new ≡ now) → OnErr result (Grows now new)
-OnErr-same now new (Ok _) same = tt
-OnErr-same now new (Err _) same = Grows-same now new same
-
 module _ (start now new left whole : List ℕ) (result : Result (Unit {0}) AllocError) (so_far : Printed start now left whole) where
   -- what an error leaves
   pub at_error : Grows now new → OnErr result (Grows start new)

@@ -91,8 +91,3 @@ module _ {A : Type 0} (look : Look A) where
   pub release-back : (root child count : ℕ) (v : Address) → Back v → Back (moved_by_release root child count v)
   release-back root child count v h =
       same-back v.id root (in_released child count v.offset) v (back-in-released child count v.offset h) h
-
--- that the offset is not -1 says nothing of the nodes
-pub back-any : {A : Type 0} (look new : Look A) (o : Option ℕ) → IsBack look o → IsBack new o
-back-any look new None h = absurd h
-back-any look new (Some o) h = tt

@@ -5,12 +5,11 @@ use Rattle.std.specs.Prelude.{slice_get}
 use Rattle.btree_view.specs.View.{Look, View, children_of, parent_of}
 use Rattle.btree_shape.specs.Need.{levels_above}
 use Rattle.btree_shape.specs.Lists.{one, times_listed, total}
-use Rattle.btree_shape.specs.Shape.{IsFilled, Shape, count_at, id_of, items_under, later_items, times_under}
-use Rattle.btree_shape.specs.Way.{Above, AreFilled, Frame, HoldsAbove, after_in, at_branch, at_first, before_in, depth, frame_count, frame_id, frame_index, frame_view, items_after, items_before, least_at, parent_above, times_beside, top, under}
-use Rattle.btree_shape.specs.Whole.{IsWhole}
+use Rattle.btree_shape.specs.Shape.{Shape, id_of, items_under, later_items, times_under}
+use Rattle.btree_shape.specs.Way.{Above, AreFilled, Frame, HoldsAbove, after_in, at_branch, at_first, before_in, depth, frame_count, frame_id, frame_index, frame_view, items_after, items_before, parent_above, times_beside, top, under}
 use Rattle.btree_shape.proofs.Descents.{get-after}
 use Rattle.btree_shape.proofs.Frames.{one-self}
-use Rattle.btree_shape.proofs.Heights.{high-enough, low-enough}
+use Rattle.btree_shape.proofs.Heights.{low-enough}
 use Rattle.btree_shape.proofs.Numbers.{times-has}
 use Rattle.btree_shape.proofs.Sizes.{frame-parent}
 
@@ -105,16 +104,3 @@ module _ (A : Type 0) where
   levels-above-is look h (suc n) (under f c) hole v le e p d =
       rw (e, p) (ap suc (levels-above-is look (suc h) n c (frame_id f) (frame_view (parent_above c) f hole)
       (omega arith) d.0 (frame-parent A h (parent_above c) f hole) d.2))
-
-  pub depth-fits : (look : Look A) (root : ℕ) (xs : List A) (h : ℕ) (c : Above A h) (t : Shape A h)
-      → IsWhole A look [] root xs h c t → IsFilled (least_at c) h (count_at A h t) → depth c < length xs
-  depth-fits look root xs h c t w z =
-      let a = deep-enough h c w.filled in
-      let b = high-enough A h t (omega (arith, low-enough A h c, z.0)) w.below in
-      omega (
-        arith,
-        ap length w.list,
-        length-append (items_before c) (items_under A h t ++ items_after c),
-        length-append
-            (items_under A h t) (items_after c),
-      )

@@ -5,7 +5,7 @@ use Rattle.std.proofs.lemmas.Option.{same_Some}
 use Rattle.btree_item.specs.declared.address.Address.{Address}
 use Rattle.btree_view.specs.View.{Look, View, parent_of}
 use Rattle.btree_shape.specs.Mend.{RotatesLeft}
-use Rattle.btree_shape.specs.Mending.{Borrows, CanSpare, IsShortUnder, Joins, Mending, NoneSpares, borrows, child_at, empties, from_left, from_right, joins, releases, rests, size_in, with_left, with_right}
+use Rattle.btree_shape.specs.Mending.{Borrows, CanSpare, IsShortUnder, Joins, NoneSpares, child_at, from_left, from_right, size_in, with_left, with_right}
 use Rattle.btree_shape.specs.Need.{levels_above}
 use Rattle.btree_shape.specs.Search.{levels_below}
 use Rattle.btree_shape.specs.Shape.{Shape, id_of, view_at}
@@ -19,7 +19,7 @@ use Rattle.btree_shape.proofs.Heights.{levels-is}
 use Rattle.btree_shape.proofs.Needs.{full-no}
 use Rattle.btree_shape.proofs.Numbers.{times-own, used-low}
 use Rattle.btree_shape.proofs.Levels.{levels-rooted}
-use Rattle.btree_shape.proofs.Sizes.{frame-parent, least-root, root-there, view-parent}
+use Rattle.btree_shape.proofs.Sizes.{frame-parent, root-there, view-parent}
 use Rattle.btree_shape.proofs.SpelledShapes.{shape-of}
 use Rattle.btree_shape.proofs.Standing.{whole-standing}
 
@@ -102,20 +102,6 @@ module _ {A : Type 0} (new : Look A) (root : ℕ) (new_root : Option ℕ) where
   least-other : (id : ℕ) → id ≢ root → least_of root id ≡ 3
   least-other id apart = full-no id root 1 3 apart
 
-  -- where the node has enough items, nothing changes
-  pub mended-enough : (look : Look A) (id : ℕ) → Mending root new new_root look id → least_of root id ≤ size_in (look id)
-      → ((n : ℕ) → new n ≡ look n) × (new_root ≡ Some root)
-  mended-enough look id (rests _ _ low same is) enough = (same, is)
-  mended-enough look id (borrows _ _ parent short step is) enough =
-      let l = least-other id short.apart in let f = short.few in absurd (omega arith)
-  mended-enough look id (joins _ mid _ parent short step next) enough =
-      let l = least-other id short.apart in let f = short.few in absurd (omega arith)
-  mended-enough look id (releases _ _ child same none step is) enough =
-      let l = least-root root id same in let e = ap (λ i. size_in (look i)) same in absurd (omega arith)
-  mended-enough look id (empties _ _ same none step is) enough =
-      let l = least-root root id same in
-      let e = ap (λ i. size_in (look i)) same in let z = ap size_in none in absurd (omega arith)
-
   -- a sibling on the right that has an item to spare gives it, whatever else could be done
   module _ (look : Look A) (parent index right id : ℕ) (child : child_at look parent index ≡ Some id)
       (only : (k : ℕ) → child_at look parent k ≡ Some id → k ≡ index) (spare : CanSpare look parent (suc index) right) where
@@ -151,31 +137,3 @@ module _ {A : Type 0} (new : Look A) (root : ℕ) (new_root : Option ℕ) where
 
   same-parent : (look : Look A) (id p q : ℕ) → IsShortUnder look root p id → IsShortUnder look root q id → p ≡ q
   same-parent look id p q s t = let a = s.named in let b = t.named in cc
-
-  pub mended-right : (look : Look A) (id : ℕ) → Mending root new new_root look id → (parent index right : ℕ)
-      → IsShortUnder look root parent id → child_at look parent index ≡ Some id
-      → ((k : ℕ) → child_at look parent k ≡ Some id → k ≡ index) → CanSpare look parent (suc index) right
-      → RotatesLeft look new parent index id right × (new_root ≡ Some root)
-  mended-right look id (rests _ _ low same is) parent index right short child only spare =
-      let l = least-other id short.apart in let f = short.few in absurd (omega arith)
-  mended-right look id (borrows _ _ p low step is) parent index right short child only spare =
-      (rotated look parent index right id child only spare p (same-parent look id p parent low short) step, is)
-  mended-right look id (joins _ mid _ p low step next) parent index right short child only spare =
-      absurd (unjoined look parent index right id child only spare mid p (same-parent look id p parent low short) step)
-  mended-right look id (releases _ _ only_child same none step is) parent index right short child only spare =
-      absurd (short.apart same)
-  mended-right look id (empties _ _ same none step is) parent index right short child only spare =
-      absurd (short.apart same)
-
-  -- so it has an item less then
-  pub mended-right-less : (look : Look A) (id : ℕ) → Mending root new new_root look id → (parent index right : ℕ)
-      → IsShortUnder look root parent id → child_at look parent index ≡ Some id
-      → ((k : ℕ) → child_at look parent k ≡ Some id → k ≡ index) → CanSpare look parent (suc index) right
-      → size_in (look right) ≡ suc (size_in (new right))
-  mended-right-less look id m parent index right short child only spare =
-      let r : RotatesLeft look new parent index id right =
-      (mended-right look id m parent index right short child only spare).0 in
-      let a = ap size_in r.writes.at_right in
-      let b = ap size_in r.writes.new_right in
-      let c = ap length r.high_is.items_are in
-      omega arith

@@ -1,5 +1,5 @@
 -- The places of the addresses of a node, from the tree seen from it.
-use Rattle.std.proofs.Common.{◌≡◌, ◌≤◌, ◌++◌, ◌∷◌, [], ◌∙◌, ◌+◌, ℕ, zero, suc, inl, inr, List, length, map, take, Option, Some, None, refl, sym, ap, subst, arith, append_assoc, length-append}
+use Rattle.std.proofs.Common.{◌≡◌, ◌≤◌, ◌++◌, ◌∷◌, [], ◌∙◌, ◌+◌, ℕ, zero, suc, inl, inr, List, length, map, take, Option, Some, refl, sym, ap, subst, arith, append_assoc, length-append}
 use Rattle.std.proofs.lemmas.List.{take_all}
 use Rattle.std.specs.Prelude.{slice_get}
 use Rattle.btree_view.specs.View.{Look, View, item_in, items_of}
@@ -89,17 +89,7 @@ module _ (A : Type 0) where
               )
         ]
 
-    -- the same of a whole tree
-    pub hole-stands : (h : ℕ) (c : Above A h) (t : Shape A h) → IsWhole A look spare root xs h c t
-        → StandsAt look xs (id_of A h t) (items_under A h t) (length (items_before c))
-    hole-stands h c t w = standing-stands h c t (whole-standing A look spare root xs h c t w)
-
     pub hole-place : (h : ℕ) (c : Above A h) (t : Shape A h) → IsWhole A look spare root xs h c t → (o : ℕ)
         → o ≤ count_at A h t
         → IsPlace look (Some root) xs (id_of A h t) (Some o) (length (items_before c) + items_upto h t o)
     hole-place h c t w = standing-place h c t (whole-standing A look spare root xs h c t w)
-
-    -- and of its offset -1
-    pub hole-front : (h : ℕ) (c : Above A h) (t : Shape A h) → IsWhole A look spare root xs h c t
-        → IsPlace look (Some root) xs (id_of A h t) None (length (items_before c))
-    hole-front h c t w = (items_under A h t, hole-stands h c t w)

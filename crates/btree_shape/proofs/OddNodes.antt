@@ -1,5 +1,5 @@
 -- A tree that is off by one at a node, in the public words: where its mending begins, and how it ends.
-use Rattle.std.proofs.Common.{◌≡◌, ◌<◌, ◌≤◌, ◌++◌, [], ◌∙◌, ◌+◌, ◌==◌, if◌then◌else◌, ℕ, zero, suc, List, length, Option, Some, None, IsSome, refl, sym, ap, subst, arith, length-append}
+use Rattle.std.proofs.Common.{◌≡◌, ◌<◌, ◌≤◌, [], ◌∙◌, ◌+◌, ◌==◌, if◌then◌else◌, ℕ, zero, suc, List, length, Option, Some, None, IsSome, refl, sym, ap, subst, arith}
 use Rattle.std.specs.Cmp.{IsTotalOrder}
 use Rattle.std.specs.declared.cmp.Ordering.{Ordering}
 use Rattle.btree_item.specs.declared.address.Address.{Address}
@@ -8,20 +8,18 @@ use Rattle.btree_shape.specs.Whole.{Standing}
 use Rattle.btree_shape.specs.Growing.{IsGrowing, IsGrown}
 use Rattle.btree_shape.specs.Need.{IsClimbing, climb, climbed, wanted}
 use Rattle.btree_shape.specs.Node.{IsOddNode}
-use Rattle.btree_shape.specs.OnTour.{IsAddressed, IsOnTour}
-use Rattle.btree_shape.specs.Shape.{count_at, items_under, most_at, view_at}
+use Rattle.btree_shape.specs.OnTour.{IsAddressed}
+use Rattle.btree_shape.specs.Shape.{count_at, most_at, view_at}
 use Rattle.btree_shape.specs.Shrinking.{IsShrinking, owed, owed_by}
 use Rattle.btree_shape.specs.Spells.{numbers_under}
 use Rattle.btree_shape.specs.Step.{Claims}
 use Rattle.btree_shape.specs.Strain.{strain_of, strain_under}
-use Rattle.btree_shape.specs.Way.{Above, depth, items_after, items_before, least_at, parent_above, top, under}
+use Rattle.btree_shape.specs.Way.{Above, depth, least_at, parent_above, top, under}
 use Rattle.btree_shape.specs.WellFormed.{IsFormed, IsNearlySized, IsOffByOne, IsWellFormed, times_used}
 use Rattle.btree_shape.proofs.Beside.{most-some}
 use Rattle.btree_shape.proofs.Claims.{claimed}
-use Rattle.btree_shape.proofs.Climbs.{deep-enough}
 use Rattle.btree_shape.proofs.Frames.{top-view}
-use Rattle.btree_shape.proofs.Heights.{high-enough}
-use Rattle.btree_shape.proofs.OnTour.{odd-on, on-whole, whole-addressed, whole-on}
+use Rattle.btree_shape.proofs.OnTour.{odd-on, on-whole}
 use Rattle.btree_shape.proofs.Levels.{levels-rooted}
 use Rattle.btree_shape.proofs.Needs.{less-no}
 use Rattle.btree_shape.proofs.Overflows.{climb-is, climbing-start}
@@ -41,27 +39,6 @@ module _ (A : Type 0) where
   owed-low h top zero = omega arith
   owed-low h top (suc n) = omega arith
   owed-low h (under f c) n = omega arith
-
--- the address that the climb follows is on the tour, valid, at its place and item
-module _ (A : Type 0) (look : Look A) (root : ℕ) (xs : List A) (id : ℕ) (asked : Option A) (a : Address)
-    (place given bound : ℕ) (g : IsShrinking A look root xs id asked a place given bound) where
-  pub shrinking-on : IsOnTour A look root asked a place
-  shrinking-on = whole-on A look [] root xs asked a place g.seen.height g.seen.way g.seen.shape g.seen.whole g.there
-
-  pub shrinking-addressed : IsAddressed A look root xs asked a place
-  shrinking-addressed =
-      whole-addressed A look [] root xs asked a place g.seen.height g.seen.way g.seen.shape g.seen.whole shrinking-on
-
-  -- any other address could be followed in its place
-  pub shrinking-other : (other : Option A) (b : Address) (q : ℕ) → IsOnTour A look root other b q
-      → IsShrinking A look root xs id other b q given bound
-  shrinking-other other b q i = record {
-    seen = g.seen;
-    low = g.low;
-    high = g.high;
-    there = on-whole A look [] root xs other b q g.seen.height g.seen.way g.seen.shape g.seen.whole i;
-    paid = g.paid;
-  }
 
 module _ {K V : Type 0} (cmp : K → K → Ordering) (laws : IsTotalOrder cmp) (look : Look (K × V)) (root odd : ℕ)
     (xs : List (K × V)) (w : IsOffByOne cmp look root odd xs) (v : View (K × V)) (e : look odd ≡ Some v) where
@@ -96,22 +73,6 @@ module _ {K V : Type 0} (cmp : K → K → Ordering) (laws : IsTotalOrder cmp) (
       let l =
       levels-rooted (K × V) look root xs (IsNearlySized root odd) w.rooted node.seen.height node.seen.way
       node.seen.shape stands in
-      omega arith
-
-  -- a tree with an item there has fewer levels than items
-  pub odd-height : 0 < size_of v → w.rooted.height < length xs
-  odd-height some =
-      let l =
-      levels-rooted (K × V) look root xs (IsNearlySized root odd) w.rooted node.seen.height node.seen.way
-      node.seen.shape stands in
-      let c = node.seen.way in
-      let s = size-is in
-      let d = deep-enough (K × V) node.seen.height c node.seen.whole.filled in
-      let h = high-enough (K × V) node.seen.height node.seen.shape (omega arith) node.seen.whole.below in
-      let e = ap length node.seen.whole.list in
-      let inner : List (K × V) = items_under (K × V) node.seen.height node.seen.shape in
-      let a = length-append (items_before c) (inner ++ items_after c) in
-      let b = length-append inner (items_after c) in
       omega arith
 
   -- the node has no item too many: a climb that mends it if it has one too few, and that is over if it has not

@@ -5,7 +5,6 @@ use Rattle.btree_view.specs.View.{Look, leaf}
 use Rattle.btree_shape.specs.Shape.{Holds, Shape, id_of, view_at}
 use Rattle.btree_shape.specs.Tour.{branch_key, branch_tour, lead, mark, over, slot, ticks, tour, tour_after, tour_before, way_after, way_before, whole_tour}
 use Rattle.btree_shape.specs.Way.{Above, Frame, HoldsAbove, fill, frame_index, parent_above, root_above, top, under}
-use Rattle.btree_shape.specs.Whole.{IsWhole}
 use Rattle.btree_shape.proofs.Frames.{fill-holds, fill-id}
 use Rattle.btree_shape.proofs.Moves.{tour-fill}
 
@@ -91,15 +90,3 @@ module _ (A : Type 0) (look : Look A) where
             (fill-id A h f t);
         same = tour-close A h f c t ∙ r.same;
       }
-
-  module _ (root : ℕ) (xs : List A) where
-    -- all addresses of a tree are the same from each of its nodes
-    pub one-whole-tour : (s1 s2 : List ℕ) (h g : ℕ) (c : Above A h) (t : Shape A h) (d : Above A g) (u : Shape A g)
-        → IsWhole A look s1 root xs h c t → IsWhole A look s2 root xs g d u
-        → whole_tour A h c t ≡ whole_tour A g d u
-    one-whole-tour s1 s2 h g c t d u w v =
-        let a = plugged h c t w.above w.inner in
-        let b = plugged g d u v.above v.inner in
-        a.same
-        ∙ (one-tour a.height b.height None None a.shape b.shape
-        (a.at_root ∙ (w.root_is ∙ (sym v.root_is ∙ sym b.at_root))) a.holds b.holds ∙ sym b.same)

@@ -5,23 +5,18 @@ use Rattle.std.specs.Cmp.{IsTotalOrder}
 use Rattle.std.specs.Prelude.{slice_get}
 use Rattle.std.specs.declared.cmp.Ordering.{Ordering}
 use Rattle.btree_item.specs.declared.address.Address.{Address}
-use Rattle.btree_view.specs.View.{Look, View}
+use Rattle.btree_view.specs.View.{Look}
 use Rattle.btree_shape.specs.AddressLaws.{IsPlaced}
 use Rattle.btree_shape.specs.OnTour.{IsAddressed, IsOnTour}
 use Rattle.btree_shape.specs.Shape.{Holds, Shape, id_of, items_under}
 use Rattle.btree_shape.specs.Tour.{Asks, Tick, In, tour, passed}
-use Rattle.btree_shape.specs.WellFormed.{IsOffByOne, IsRooted, IsWellFormed}
+use Rattle.btree_shape.specs.WellFormed.{IsOffByOne, IsWellFormed}
 use Rattle.btree_shape.proofs.Carried.{tour-passed}
 use Rattle.btree_shape.proofs.Kept.{IndexOf, Strung, kept, kept-at, kept-of, passed_to, strung-index, strung-length}
 use Rattle.btree_shape.proofs.OnePlace.{one_place, one_place-well}
 use Rattle.btree_shape.proofs.OneTour.{one-tour}
 use Rattle.btree_shape.proofs.OnTour.{tour-addressed, valid-on}
 use Rattle.btree_shape.proofs.SpelledShapes.{shape-of}
-
--- the sizes of nodes are let go
-pub any-sized : {A : Type 0} (is_right : (id : ℕ) → View A → Type 0) (look : Look A) (root : ℕ) (xs : List A)
-    → IsRooted is_right look root xs → IsRooted (λ id node. Unit {0}) look root xs
-any-sized is_right look root xs r = record { height = r.height; spells = r.spells; sized = λ id node e. tt; once = r.once }
 
 module _ {K V : Type 0} (cmp : K → K → Ordering) (laws : IsTotalOrder cmp) (look : Look (K × V)) (levels : ℕ) (xs : List (K × V)) where
   -- a well formed tree is so, for more levels than its height
@@ -69,10 +64,6 @@ module _ {A : Type 0} (look : Look A) (levels root : ℕ) (xs : List A) (p : IsP
     in-tour asked a place i =
         subst (λ z. In asked a z place)
         (one-tour A look i.height p.rooted.height None None i.shape t.shape (i.at_root ∙ sym t.here) i.holds t.holds) i.there
-
-    pub same-tour : (height : ℕ) (shape : Shape A height) → id_of A height shape ≡ root → Holds A look height None shape
-        → tour A height shape ≡ ticks_of
-    same-tour height shape e d = one-tour A look height p.rooted.height None None shape t.shape (e ∙ sym t.here) d t.holds
 
     pub in-addressed : (asked : Option A) (a : Address) (place : ℕ) → In asked a ticks_of place
         → IsAddressed A look root xs asked a place

@@ -15,7 +15,6 @@ use Rattle.btree_shape.proofs.Sizes.{above-sized, below-filled, below-middle, fr
 use Rattle.btree_shape.proofs.SpelledShapes.{shape-of, spells-of}
 use Rattle.btree_shape.proofs.Standing.{AtNode, AtRoot, stand-at, stand-root, standing-whole, whole-standing}
 use Rattle.btree_shape.proofs.Subtrees.{stands}
-use Rattle.btree_shape.proofs.Wholes.{from-tree}
 
 module _ (root odd : ℕ) where
   -- the bounds where one node may be off by one
@@ -361,17 +360,3 @@ module _ (A : Type 0) (look : Look A) where
           below = t.below;
           spells = t.spells;
         }
-
-    pub tree-rooted : IsTree A look root xs → IsRooted (IsSized root) look root xs
-    tree-rooted t = rooted-node root
-        (record {
-          seen = record {
-            height = t.height;
-            way = top;
-            shape = t.shape;
-            here = t.at_root;
-            whole =
-                from-tree A look root xs t;
-          };
-          sized = t.sized;
-        })

@@ -4,7 +4,7 @@ use Rattle.std.specs.Prelude.{IsTrue, slice_get}
 use Rattle.btree_item.specs.declared.address.Address.{Address}
 use Rattle.btree_shape.proofs.Beside.{Beside}
 use Rattle.btree_view.specs.Edits.{is_internal}
-use Rattle.btree_view.specs.View.{Look, View, children_of, most_of, parent_of, size_of}
+use Rattle.btree_view.specs.View.{Look, View, children_of, parent_of, size_of}
 use Rattle.btree_shape.specs.Growing.{IsGrown}
 use Rattle.btree_shape.specs.Mend.{Releases}
 use Rattle.btree_shape.specs.Moved.{moved_by_emptying, moved_by_release}
@@ -25,7 +25,7 @@ use Rattle.btree_shape.proofs.PairStrains.{release-strain}
 use Rattle.btree_shape.proofs.PairTours.{emptied-place, release-places}
 use Rattle.btree_shape.proofs.Released.{emptied, released}
 use Rattle.btree_shape.proofs.Sides.{go-after, go-before, inner-is}
-use Rattle.btree_shape.proofs.Sizes.{frame-size, view-most, view-parent, view-size}
+use Rattle.btree_shape.proofs.Sizes.{frame-size, view-parent, view-size}
 use Rattle.std.proofs.lemmas.Option.{same_Some}
 
 module _ (A : Type 0) (look : Look A) (root : ℕ) (xs : List A) (id : ℕ) (asked : Option A) (a : Address)
@@ -47,13 +47,6 @@ module _ (A : Type 0) (look : Look A) (root : ℕ) (xs : List A) (id : ℕ) (ask
 
     size-is : size_of v ≡ count_at A g.seen.height g.seen.shape
     size-is = ap size_of view-is ∙ view-size A g.seen.height (parent_above g.seen.way) g.seen.shape
-
-    pub shrinks-most : size_of v ≤ most_of v
-    shrinks-most =
-        let s = size-is in
-        let m = ap most_of view-is ∙ view-most A g.seen.height (parent_above g.seen.way) g.seen.shape in
-        let h = g.high in
-        omega arith
 
     at-rest : least_at g.seen.way ≤ count_at A g.seen.height g.seen.shape
         → IsGrown A look root xs asked a place given bound

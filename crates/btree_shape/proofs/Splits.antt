@@ -101,10 +101,6 @@ module _ (A : Type 0) where
   times-top zero n t = omega arith
   times-top (suc h) n t = refl
 
-  view-parented : (h : ℕ) (p q : Option ℕ) (t : Shape A h) → with_parent q (view_at A h p t) ≡ view_at A h q t
-  view-parented zero p q t = refl
-  view-parented (suc h) p q t = refl
-
   -- a tree whose top has a new parent
   pub adopt : (look new : Look A) (h : ℕ) (p q : Option ℕ) (t : Shape A h)
       → new (id_of A h t) ≡ option_map (with_parent q) (look (id_of A h t))

@@ -89,9 +89,3 @@ module _ {K V : Type 0} where
   -- at most a third of the number of pairs and two
   pub few-nodes : (cmp : K → K → Ordering) (s : TreeState K V) → IsBTree cmp s → 3 * finite.len s.nodes ≤ length (pairs_of s) + 2
   few-nodes cmp s w = few-formed cmp s s.root s.len (pairs_of s) w
-
-  -- without a root there is no pair
-  pub no-pair : (cmp : K → K → Ordering) (s : TreeState K V) → s.root ≡ None → IsBTree cmp s → s.len ≡ 0
-  no-pair cmp s none w =
-      let f : IsFormed (looks s) None (pairs_of s) = subst (λ t. IsFormed (looks s) t (pairs_of s)) none w.formed in
-      w.counted ∙ ap length f.1

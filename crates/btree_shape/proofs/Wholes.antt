@@ -68,24 +68,6 @@ module _ (A : Type 0) where
         )
 
   module _ (look : Look A) (root : ℕ) (xs : List A) where
-    -- from any node with its number of items, the tree
-    pub tree-from : (h : ℕ) (c : Above A h) (t : Shape A h) → IsWhole A look [] root xs h c t
-        → IsFilled (least_at c) h (count_at A h t) → IsTree A look root xs
-    tree-from h top t w z =
-        record {
-          height = h;
-          shape = t;
-          at_root = w.root_is;
-          holds = w.inner;
-          once = λ n. omega (arith, w.once n);
-          sized = z;
-          below = w.below;
-          spells = sym (w.list ∙ append-nil (items_under A h t));
-        }
-    tree-from h (under f c) t w z =
-        tree-from (suc h) c (fill f t) (close look [] root xs h f c t w z)
-        (subst (λ n. IsFilled (least_at c) (suc h) n) (sym (fill-count A h f t)) w.filled.0)
-
     pub from-tree : (t : IsTree A look root xs) → IsWhole A look [] root xs t.height top t.shape
     from-tree t =
         record {
