@@ -1,6 +1,7 @@
-use Rattle.std.proofs.Common.{◌∷◌, [], arith, length-append}
+use Rattle.std.proofs.Common.{◌∷◌, [], arith, length-append, rules, ◌-◌}
 use Rattle.btree_raw.proofs.RefuseLemmas.{more-claims, refused-claims}
 use Rattle.btree_raw.proofs.claims.claim.Goals as goal
+use Rattle.std.proofs.lemmas.Grind.{common_steps}
 
 pub release-requires : goal.release-requires
 release-requires g c = (_, refused-claims c.args.tree.now c.loop-index.tree c.claim_one.new.tree c.loop-index.claims.items c.loop-index.invariant.held c.in-None.ensures.refused)
@@ -14,3 +15,42 @@ loop-index-preserved g c = record {
 pub returns-in-None-clause-refused : goal.returns-in-None-clause-refused
 returns-in-None-clause-refused g c e =
     c.release.ensures.back _ (refused-claims c.args.tree.now c.loop-index.tree c.claim_one.new.tree c.loop-index.claims.items c.loop-index.invariant.held c.in-None.ensures.refused)
+
+pub loop-index-init : goal.loop-index-init
+loop-index-init g c = search rules steps 200000
+
+pub claim_one-requires : goal.claim_one-requires
+claim_one-requires g c κs = search rules steps 200000
+
+pub push-requires : goal.push-requires
+push-requires g c = search rules steps 200000
+
+pub returns-in-None-clause-claimed : goal.returns-in-None-clause-claimed
+returns-in-None-clause-claimed g c = grind (arith, common_steps) steps 300000
+
+pub returns-in-None-clause-count : goal.returns-in-None-clause-count
+returns-in-None-clause-count g c = grind (arith, common_steps) steps 300000
+
+pub returns-in-None-clause-none_left : goal.returns-in-None-clause-none_left
+returns-in-None-clause-none_left g c = search rules steps 200000
+
+pub returns-in-None-clause-may_refuse : goal.returns-in-None-clause-may_refuse
+returns-in-None-clause-may_refuse g c = grind (arith, common_steps) steps 300000
+
+pub loop-index-smaller : goal.loop-index-smaller
+loop-index-smaller g c = search rules steps 200000
+
+pub returns-clause-claimed : goal.returns-clause-claimed
+returns-clause-claimed g c = search rules steps 200000
+
+pub returns-clause-count : goal.returns-clause-count
+returns-clause-count g c = search rules steps 200000
+
+pub returns-clause-refused : goal.returns-clause-refused
+returns-clause-refused g c = search rules steps 200000
+
+pub returns-clause-none_left : goal.returns-clause-none_left
+returns-clause-none_left g c = search rules steps 200000
+
+pub returns-clause-may_refuse : goal.returns-clause-may_refuse
+returns-clause-may_refuse g c = search rules steps 200000

@@ -1,5 +1,8 @@
-use Rattle.std.proofs.Common.{arith}
+use Rattle.std.proofs.Common.{arith, rules, ◌-◌}
 use Rattle.btree_raw.proofs.claims.empty_leaf.Goals as goal
 
 pub empty-requires : goal.empty-requires
 empty-requires g c = let fits = c.well_formed in omega arith
+
+pub returns : goal.returns
+returns g c = search rules steps 200000

@@ -1,10 +1,11 @@
-use Rattle.std.proofs.Common.{subst}
+use Rattle.std.proofs.Common.{subst, arith, rules, ◌-◌}
 use Rattle.btree_shape.specs.Step.{Puts}
 use Rattle.btree_shape.specs.TreeState.{looks}
 use Rattle.btree_raw.proofs.GrowLemmas.{left-there, right-still, raises}
 use Rattle.btree_raw.proofs.StateLemmas.{then}
 use Rattle.btree_raw.proofs.grow.raise.Goals as goal
 use Rattle.btree_shape.proofs.Stores.{used-view}
+use Rattle.std.proofs.lemmas.Grind.{common_steps}
 
 pub put-requires : goal.put-requires
 put-requires g c = (c.tell_fits.ensures, used-view c.args.tree.now.nodes c.args.root c.requires.can.root_used)
@@ -30,3 +31,15 @@ returns g c = record {
       (looks c.set_parent.new.tree) c.set_parent.ensures.nodes (looks c.set_parent-2.new.tree) c.set_parent-2.ensures.nodes;
   rest = then (then c.put.ensures.rest c.set_parent.ensures.rest) c.set_parent-2.ensures.rest;
 }
+
+pub tell_fits-requires : goal.tell_fits-requires
+tell_fits-requires g c κs = search rules steps 200000
+
+pub set_parent-requires-clause-number : goal.set_parent-requires-clause-number
+set_parent-requires-clause-number g c = grind (arith, common_steps) steps 300000
+
+pub set_parent-requires-2-clause-number : goal.set_parent-requires-2-clause-number
+set_parent-requires-2-clause-number g c = grind (arith, common_steps) steps 300000
+
+pub binary-requires : goal.binary-requires
+binary-requires g c = grind (arith, common_steps) steps 1500000

@@ -1,10 +1,11 @@
-use Rattle.std.proofs.Common.{◌∷◌, [], Some, None, ap, refl, length, length-append, option_map, arith}
+use Rattle.std.proofs.Common.{◌∷◌, [], Some, None, ap, refl, length, length-append, option_map, arith, rules, ◌-◌}
 use Rattle.btree_node.specs.Node.{view_of}
 use Rattle.btree_shape.specs.TreeState.{looks}
 use Rattle.btree_raw.proofs.ClimbLemmas.{climb-start, climb-used, climb-offset, climb-done, climb-left, climb-split, climb-lift, climb-next, climb-left-root, climb-none-left, climb-none-left-root, climb-number, climb-raise, climb-used-end, climb-root, climb-back-end, is-over, not-over, same-parent}
 use Rattle.btree_raw.proofs.StateLemmas.{then, same-len, same-root, same-refusals}
 use Rattle.btree_raw.proofs.grow.split_up.Goals as goal
 use Rattle.btree_shape.proofs.Stores.{used-view}
+use Rattle.std.proofs.lemmas.Grind.{common_steps}
 
 pub loop-tree-init : goal.loop-tree-init
 loop-tree-init g c =
@@ -147,3 +148,15 @@ returns-clause-none_left g c =
 pub returns-clause-back : goal.returns-clause-back
 returns-clause-back g c =
     c.loop-tree.invariant.climbs.back
+
+pub tell_fits-requires : goal.tell_fits-requires
+tell_fits-requires g c κs = search rules steps 200000
+
+pub set_root_id-requires : goal.set_root_id-requires
+set_root_id-requires g c κs = search rules steps 200000
+
+pub moved_by_split-requires-clause-index : goal.moved_by_split-requires-clause-index
+moved_by_split-requires-clause-index g c = search rules steps 200000
+
+pub moved_by_split-at-requires-clause-index : goal.moved_by_split-at-requires-clause-index
+moved_by_split-at-requires-clause-index g c = grind (arith, common_steps) steps 300000

@@ -2,6 +2,8 @@ use Rattle.btree_shape.proofs.Stores.{used-view}
 use Rattle.btree_raw.proofs.AdoptLemmas.{still-used, index-below, child-used, child-adopted}
 use Rattle.btree_raw.proofs.StateLemmas.{then}
 use Rattle.btree_raw.proofs.nodes.adopt.Goals as goal
+use Rattle.std.proofs.lemmas.Grind.{common_steps}
+use Rattle.std.proofs.Common.{arith, rules, ◌-◌, true}
 
 pub node-requires : goal.node-requires
 node-requires g c = (c.tell_fits.ensures, used-view c.args.tree.now.nodes c.args.id c.requires.used)
@@ -28,3 +30,21 @@ loop-index-preserved g c = record {
       c.node-in-loop-index.result.now c.node-in-loop-index.ensures.value c.child_id-child.result c.child_id-child.ensures c.set_parent.new.tree.nodes c.set_parent.ensures.nodes;
   rest = then c.loop-index.invariant.rest c.set_parent.ensures.rest;
 }
+
+pub tell_fits-requires : goal.tell_fits-requires
+tell_fits-requires g c κs = search rules steps 200000
+
+pub loop-index-init : goal.loop-index-init
+loop-index-init g c = grind (arith, common_steps) steps 300000
+
+pub set_parent-requires-clause-number : goal.set_parent-requires-clause-number
+set_parent-requires-clause-number g c = grind (arith, common_steps) steps 300000
+
+pub loop-index-smaller : goal.loop-index-smaller
+loop-index-smaller g c = grind (arith, common_steps) steps 300000
+
+pub returns : goal.returns
+returns g c = grind (arith, common_steps) steps 300000
+
+pub child_count-count-requires : goal.child_count-count-requires
+child_count-count-requires g c = grind (arith, common_steps) steps 1500000

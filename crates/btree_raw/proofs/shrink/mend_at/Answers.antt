@@ -1,9 +1,10 @@
-use Rattle.std.proofs.Common.{arith, subst}
+use Rattle.std.proofs.Common.{arith, subst, rules, ◌-◌}
 use Rattle.btree_shape.specs.Mending.{Borrows, Joins}
 use Rattle.btree_shape.specs.TreeState.{looks}
 use Rattle.btree_raw.specs.Shrink.{MendsAbove, MendsHere}
 use Rattle.btree_raw.proofs.ShrinkLemmas.{is-child, is-short, before-there, are-after, after-beside, after-there, after-left, after-up, after-lends, after-few, are-before, as-after, as-before, before-right, low-after, none-after, right-borrows, right-joins}
 use Rattle.btree_raw.proofs.shrink.mend_at.Goals as goal
+use Rattle.std.proofs.lemmas.Grind.{common_steps}
 
 pub siblings-before-requires : goal.siblings-before-requires
 siblings-before-requires g c = is-child (looks c.args.tree.now) c.args.id c.args.parent c.args.addr c.requires.followed c.requires.under
@@ -91,3 +92,52 @@ returns-in-None-clause-joins g c = λ yes. right-joins (looks c.args.tree.now) c
 
 pub returns-in-None-clause-above : goal.returns-in-None-clause-above
 returns-in-None-clause-above g c = λ yes. subst (λ q. MendsAbove (looks c.args.tree.now) (looks c.join.new.tree) c.args.id q c.args.addr c.join.result) (after-up (looks c.args.tree.now) c.args.id c.args.parent c.args.addr c.requires.followed c.requires.under c.siblings-before.result.0 c.siblings-before.result.1 c.siblings-before.ensures c.in-Some.after c.in-Some.is) (c.join.ensures.above c.args.id (are-after (looks c.args.tree.now) c.args.id c.args.parent c.args.addr c.requires.followed c.requires.under c.siblings-before.result.0 c.siblings-before.result.1 c.siblings-before.ensures c.in-Some.after c.in-Some.is))
+
+pub tell_fits-requires : goal.tell_fits-requires
+tell_fits-requires g c κs = search rules steps 200000
+
+pub mend_left-requires-clause-low : goal.mend_left-requires-clause-low
+mend_left-requires-clause-low g c = search rules steps 200000
+
+pub returns-in_default-clause-rest : goal.returns-in_default-clause-rest
+returns-in_default-clause-rest g c = search rules steps 200000
+
+pub returns-in_default-clause-back : goal.returns-in_default-clause-back
+returns-in_default-clause-back g c = search rules steps 200000
+
+pub returns-then-held-gt3-clause-joins : goal.returns-then-held-gt3-clause-joins
+returns-then-held-gt3-clause-joins g c = grind (arith, common_steps) steps 300000
+
+pub returns-then-held-gt3-clause-above : goal.returns-then-held-gt3-clause-above
+returns-then-held-gt3-clause-above g c = grind (arith, common_steps) steps 300000
+
+pub returns-then-held-gt3-clause-rest : goal.returns-then-held-gt3-clause-rest
+returns-then-held-gt3-clause-rest g c = search rules steps 200000
+
+pub returns-then-held-gt3-clause-back : goal.returns-then-held-gt3-clause-back
+returns-then-held-gt3-clause-back g c = search rules steps 200000
+
+pub mend_left-requires-in-Some-before-clause-low :
+    goal.mend_left-requires-in-Some-before-clause-low
+mend_left-requires-in-Some-before-clause-low g c = search rules steps 200000
+
+pub join-requires-clause-low : goal.join-requires-clause-low
+join-requires-clause-low g c = search rules steps 200000
+
+pub returns-in-Some-before-clause-rest : goal.returns-in-Some-before-clause-rest
+returns-in-Some-before-clause-rest g c = search rules steps 200000
+
+pub returns-in-Some-before-clause-back : goal.returns-in-Some-before-clause-back
+returns-in-Some-before-clause-back g c = search rules steps 200000
+
+pub returns-in-None-clause-borrows : goal.returns-in-None-clause-borrows
+returns-in-None-clause-borrows g c = grind (arith, common_steps) steps 300000
+
+pub returns-in-None-clause-here : goal.returns-in-None-clause-here
+returns-in-None-clause-here g c = grind (arith, common_steps) steps 300000
+
+pub returns-in-None-clause-rest : goal.returns-in-None-clause-rest
+returns-in-None-clause-rest g c = search rules steps 200000
+
+pub returns-in-None-clause-back : goal.returns-in-None-clause-back
+returns-in-None-clause-back g c = search rules steps 200000

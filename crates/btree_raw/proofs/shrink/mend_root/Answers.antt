@@ -1,10 +1,11 @@
-use Rattle.std.proofs.Common.{◌∙◌, Some, ap, refl}
+use Rattle.std.proofs.Common.{◌∙◌, Some, ap, refl, arith, rules, true, false, ◌-◌}
 use Rattle.btree_shape.specs.TreeState.{looks}
 use Rattle.btree_shape.proofs.Stores.{used-view}
 use Rattle.btree_raw.proofs.MendLemmas.{loses}
 use Rattle.btree_raw.proofs.MendedLemmas.{root-there, root-rests, can-release, released, emptied}
 use Rattle.btree_raw.proofs.StateLemmas.{nodes-of, removed, same-len, same-refusals}
 use Rattle.btree_raw.proofs.shrink.mend_root.Goals as goal
+use Rattle.std.proofs.lemmas.Grind.{common_steps}
 
 pub first_child-requires : goal.first_child-requires
 first_child-requires g c = used-view c.args.tree.now.nodes c.args.id (root-there (looks c.args.tree.now) c.args.tree.now.root c.args.id c.args.addr c.requires.mending c.requires.top c.args.count c.requires.count)
@@ -38,3 +39,31 @@ returns-clause-mended g c =
       len = same-len c.release_root.ensures.rest;
       uncounted = same-refusals c.release_root.ensures.rest;
     })
+
+pub tell_fits-requires : goal.tell_fits-requires
+tell_fits-requires g c κs = search rules steps 200000
+
+pub returns-then-count-gt0-clause-back : goal.returns-then-count-gt0-clause-back
+returns-then-count-gt0-clause-back g c = search rules steps 200000
+
+-- `drop-requires-room-T-Destruct` is left out of this print (no verdict changes): its front end refused it
+
+pub set_root_id-requires : goal.set_root_id-requires
+set_root_id-requires g c κs = search rules steps 200000
+
+pub nowhere-requires : goal.nowhere-requires
+nowhere-requires g c = search rules steps 200000
+
+pub returns-in_default-clause-back : goal.returns-in_default-clause-back
+returns-in_default-clause-back g c = search rules steps 200000
+
+pub set_root_id-requires-2 : goal.set_root_id-requires-2
+set_root_id-requires-2 g c κs = search rules steps 200000
+
+pub moved_by_release-requires : goal.moved_by_release-requires
+moved_by_release-requires g c = grind (arith, common_steps) steps 300000
+
+-- `drop-requires-room-T-Destruct` is left out of this print (no verdict changes): its front end refused it
+
+pub returns-clause-back : goal.returns-clause-back
+returns-clause-back g c = grind (arith, common_steps) steps 1500000

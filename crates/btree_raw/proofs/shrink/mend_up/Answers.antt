@@ -1,4 +1,4 @@
-use Rattle.std.proofs.Common.{◌∙◌, Some, None, refl, sym, ap, subst, option_map, arith}
+use Rattle.std.proofs.Common.{◌∙◌, Some, None, refl, sym, ap, subst, option_map, arith, rules, true, false, ◌-◌}
 use Rattle.btree_node.specs.Node.{view_of}
 use Rattle.btree_view.specs.View.{size_of}
 use Rattle.btree_shape.specs.TreeState.{looks}
@@ -7,6 +7,7 @@ use Rattle.btree_raw.proofs.MendedLemmas.{mends-start, still-followed, still-men
 use Rattle.btree_raw.proofs.StateLemmas.{same-len, same-refusals, same-root, then}
 use Rattle.btree_raw.proofs.shrink.mend_up.Goals as goal
 use Rattle.btree_shape.proofs.Stores.{used-view}
+use Rattle.std.proofs.lemmas.Grind.{common_steps}
 
 pub loop-node-init : goal.loop-node-init
 loop-node-init g c = record { mends = mends-start _ (looks c.args.tree.now) c.args.tree.now.root c.args.start c.args.addr; rest = record { rest = refl } }
@@ -81,3 +82,12 @@ loop-node-preserved g c = record {
       (omega arith) (c.mend_at-moved.ensures.joins c.if-not-up.false);
   rest = then c.loop-node.invariant.rest c.mend_at-moved.ensures.rest;
 }
+
+pub tell_fits-requires : goal.tell_fits-requires
+tell_fits-requires g c κs = search rules steps 200000
+
+pub mend_at-moved-requires-clause-short : goal.mend_at-moved-requires-clause-short
+mend_at-moved-requires-clause-short g c = grind (arith, common_steps) steps 300000
+
+pub mend_at-moved-requires-clause-number : goal.mend_at-moved-requires-clause-number
+mend_at-moved-requires-clause-number g c = grind (arith, common_steps) steps 300000

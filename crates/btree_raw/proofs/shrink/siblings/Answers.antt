@@ -1,7 +1,8 @@
-use Rattle.std.proofs.Common.{arith}
+use Rattle.std.proofs.Common.{arith, rules, true, false, ◌-◌}
 use Rattle.btree_raw.proofs.ShrinkLemmas.{child-parent, index-there, index-at, siblings-first, siblings-next}
 use Rattle.btree_raw.proofs.shrink.siblings.Goals as goal
 use Rattle.btree_shape.proofs.Stores.{used-view}
+use Rattle.std.proofs.lemmas.Grind.{common_steps}
 
 pub node-node-requires : goal.node-node-requires
 node-node-requires g c = (c.tell_fits.ensures, used-view c.args.tree.now.nodes c.args.parent (child-parent c.args.tree.now.nodes c.args.parent c.args.id c.requires))
@@ -26,3 +27,12 @@ returns-then-index-eq0 g c = siblings-first c.args.tree.now.nodes c.args.parent 
 
 pub returns : goal.returns
 returns g c = siblings-next c.args.tree.now.nodes c.args.parent c.args.id c.requires c.node-node.result.now c.node-node.ensures.value c.child_index.result c.child_index.ensures.value c.unwrap-index.result c.unwrap-index.ensures c.siblings_at-after.result c.siblings_at-after.ensures c.siblings_at.result c.siblings_at.ensures c.if-index-eq0.false
+
+pub tell_fits-requires : goal.tell_fits-requires
+tell_fits-requires g c κs = search rules steps 200000
+
+pub overflow_sub-index : goal.overflow_sub-index
+overflow_sub-index g c = grind (arith, common_steps) steps 300000
+
+pub child_count-few-requires : goal.child_count-few-requires
+child_count-few-requires g c = grind (arith, common_steps) steps 1500000

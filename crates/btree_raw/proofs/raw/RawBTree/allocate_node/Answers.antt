@@ -1,6 +1,8 @@
 use Rattle.btree_raw.proofs.RawLemmas.{adopts, can-adopt}
 use Rattle.btree_raw.proofs.StateLemmas.{inserted, nodes-of, then}
 use Rattle.btree_raw.proofs.raw.RawBTree.allocate_node.Goals as goal
+use Rattle.std.proofs.lemmas.Grind.{common_steps}
+use Rattle.std.proofs.Common.{arith, rules, ◌-◌}
 
 pub adopt-requires : goal.adopt-requires
 adopt-requires g c = can-adopt c.args.self.now.nodes c.in-Ok.id c.args.node c.in-Ok.ensures.unused c.requires c.store_node.new.self.nodes (nodes-of c.in-Ok.ensures.stored)
@@ -11,3 +13,33 @@ returns-in-Ok-clause-gained g c = record {
   adopted = adopts c.args.self.now.nodes c.in-Ok.id c.args.node c.in-Ok.ensures.unused c.requires c.store_node.new.self.nodes (nodes-of c.in-Ok.ensures.stored) c.adopt.new.tree.nodes c.adopt.ensures.nodes;
   rest = then (inserted c.in-Ok.id c.args.node c.in-Ok.ensures.stored) c.adopt.ensures.rest;
 }
+
+pub returns-in-Ok-clause-number : goal.returns-in-Ok-clause-number
+returns-in-Ok-clause-number g c = grind (arith, common_steps) steps 300000
+
+pub returns-in-Ok-clause-returned : goal.returns-in-Ok-clause-returned
+returns-in-Ok-clause-returned g c = search rules steps 200000
+
+pub returns-in-Ok-clause-unchanged : goal.returns-in-Ok-clause-unchanged
+returns-in-Ok-clause-unchanged g c = search rules steps 200000
+
+pub returns-in-Ok-clause-may_refuse : goal.returns-in-Ok-clause-may_refuse
+returns-in-Ok-clause-may_refuse g c = search rules steps 200000
+
+pub returns-in-Err-clause-gained : goal.returns-in-Err-clause-gained
+returns-in-Err-clause-gained g c = search rules steps 200000
+
+pub returns-in-Err-clause-number : goal.returns-in-Err-clause-number
+returns-in-Err-clause-number g c = search rules steps 200000
+
+pub returns-in-Err-clause-returned : goal.returns-in-Err-clause-returned
+returns-in-Err-clause-returned g c = grind (arith, common_steps) steps 300000
+
+pub returns-in-Err-clause-unchanged : goal.returns-in-Err-clause-unchanged
+returns-in-Err-clause-unchanged g c = grind (arith, common_steps) steps 300000
+
+pub returns-in-Err-clause-may_refuse : goal.returns-in-Err-clause-may_refuse
+returns-in-Err-clause-may_refuse g c = search rules steps 200000
+
+pub store_node-requires : goal.store_node-requires
+store_node-requires g c = grind (arith, common_steps) steps 1500000

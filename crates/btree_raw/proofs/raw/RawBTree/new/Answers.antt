@@ -1,0 +1,15 @@
+use Rattle.std.proofs.Common.{arith, rules, ◌-◌}
+use Rattle.btree_raw.proofs.raw.RawBTree.new.Goals as goal
+use Rattle.std.proofs.lemmas.Grind.{common_steps}
+
+pub empty-requires : goal.empty-requires
+empty-requires g c κs = search rules steps 200000
+
+pub invariant_of-result : goal.invariant_of-result
+invariant_of-result g c = search rules steps 200000
+
+pub note_fits-requires : goal.note_fits-requires
+note_fits-requires g c = grind (arith, common_steps) steps 1500000
+
+pub returns : goal.returns
+returns g c = grind (arith, common_steps) steps 1500000
