@@ -1,5 +1,8 @@
 use Rattle.btree_edit.proofs.InsertLemmas.{exchanged-pairs, gap-for, old-value, put-took}
 use Rattle.btree_edit.proofs.insertion.insert.Goals as goal
+use Rattle.std.proofs.lemmas.Grind.{common_steps}
+use Rattle.std.proofs.Common.{arith, rules, ◌-◌, ◌/◌}
+use Rattle.btree_item.specs.Pairs.{inserted}
 
 pub insert_at_gap-requires-clause-gap : goal.insert_at_gap-requires-clause-gap
 insert_at_gap-requires-clause-gap g c =
@@ -17,3 +20,88 @@ pub returns-in-Ok-insert_at_gap-clause-took : goal.returns-in-Ok-insert_at_gap-c
 returns-in-Ok-insert_at_gap-clause-took g c =
     put-took g.K.Ord.cmp g.met.K.Ord.total c.args.tree.now c.args.key c.args.value c.requires.tree c.in-Err.addr c.in-Err.ensures c.insert_at_gap.new.tree
     c.in-Ok-insert_at_gap.field-0 (rw c.new.ensures at c.in-Ok-insert_at_gap.ensures.inserted)
+
+pub address_of-requires : goal.address_of-requires
+address_of-requires g c = search rules steps 200000
+
+pub exchange-requires-clause-tree : goal.exchange-requires-clause-tree
+exchange-requires-clause-tree g c = search rules steps 200000
+
+pub exchange-requires-clause-occupied : goal.exchange-requires-clause-occupied
+exchange-requires-clause-occupied g c = search rules steps 200000
+
+pub drop-key-requires : goal.drop-key-requires
+drop-key-requires g c κs within = search rules steps 200000
+
+pub new-requires : goal.new-requires
+new-requires g c κs = search rules steps 200000
+
+pub insert_at_gap-requires-clause-tree : goal.insert_at_gap-requires-clause-tree
+insert_at_gap-requires-clause-tree g c = search rules steps 200000
+
+pub returns-in-Ok-clause-tree : goal.returns-in-Ok-clause-tree
+returns-in-Ok-clause-tree g c = search rules steps 200000
+
+pub returns-in-Ok-clause-took : goal.returns-in-Ok-clause-took
+returns-in-Ok-clause-took g c = grind (arith, common_steps) steps 300000
+
+pub returns-in-Ok-clause-uncounted : goal.returns-in-Ok-clause-uncounted
+returns-in-Ok-clause-uncounted g c = search rules steps 200000
+
+pub returns-in-Ok-clause-returned : goal.returns-in-Ok-clause-returned
+returns-in-Ok-clause-returned g c = search rules steps 200000
+
+pub returns-in-Ok-clause-absent : goal.returns-in-Ok-clause-absent
+returns-in-Ok-clause-absent g c = search rules steps 200000
+
+pub returns-in-Ok-clause-cause : goal.returns-in-Ok-clause-cause
+returns-in-Ok-clause-cause g c = search rules steps 200000
+
+pub returns-in-Ok-insert_at_gap-clause-tree : goal.returns-in-Ok-insert_at_gap-clause-tree
+returns-in-Ok-insert_at_gap-clause-tree g c = grind (arith, common_steps) steps 300000
+
+pub returns-in-Ok-insert_at_gap-clause-old : goal.returns-in-Ok-insert_at_gap-clause-old
+returns-in-Ok-insert_at_gap-clause-old g c = grind (arith, common_steps) steps 1500000
+
+pub returns-in-Ok-insert_at_gap-clause-inserted : goal.returns-in-Ok-insert_at_gap-clause-inserted
+returns-in-Ok-insert_at_gap-clause-inserted g c = grind (arith, common_steps) steps 1500000
+
+pub returns-in-Ok-insert_at_gap-clause-uncounted :
+    goal.returns-in-Ok-insert_at_gap-clause-uncounted
+returns-in-Ok-insert_at_gap-clause-uncounted g c = search rules steps 200000
+
+pub returns-in-Ok-insert_at_gap-clause-returned : goal.returns-in-Ok-insert_at_gap-clause-returned
+returns-in-Ok-insert_at_gap-clause-returned g c = search rules steps 200000
+
+pub returns-in-Ok-insert_at_gap-clause-absent : goal.returns-in-Ok-insert_at_gap-clause-absent
+returns-in-Ok-insert_at_gap-clause-absent g c = search rules steps 200000
+
+pub returns-in-Ok-insert_at_gap-clause-cause : goal.returns-in-Ok-insert_at_gap-clause-cause
+returns-in-Ok-insert_at_gap-clause-cause g c = search rules steps 200000
+
+pub returns-in-Err-insert_at_gap-clause-tree : goal.returns-in-Err-insert_at_gap-clause-tree
+returns-in-Err-insert_at_gap-clause-tree g c = grind (arith, common_steps) steps 300000
+
+pub returns-in-Err-insert_at_gap-clause-old : goal.returns-in-Err-insert_at_gap-clause-old
+returns-in-Err-insert_at_gap-clause-old g c = search rules steps 200000
+
+pub returns-in-Err-insert_at_gap-clause-inserted :
+    goal.returns-in-Err-insert_at_gap-clause-inserted
+returns-in-Err-insert_at_gap-clause-inserted g c = search rules steps 200000
+
+pub returns-in-Err-insert_at_gap-clause-took : goal.returns-in-Err-insert_at_gap-clause-took
+returns-in-Err-insert_at_gap-clause-took g c = search rules steps 200000
+
+pub returns-in-Err-insert_at_gap-clause-uncounted :
+    goal.returns-in-Err-insert_at_gap-clause-uncounted
+returns-in-Err-insert_at_gap-clause-uncounted g c = search rules steps 200000
+
+pub returns-in-Err-insert_at_gap-clause-returned :
+    goal.returns-in-Err-insert_at_gap-clause-returned
+returns-in-Err-insert_at_gap-clause-returned g c = grind (arith, common_steps) steps 300000
+
+pub returns-in-Err-insert_at_gap-clause-absent : goal.returns-in-Err-insert_at_gap-clause-absent
+returns-in-Err-insert_at_gap-clause-absent g c = grind (arith, common_steps) steps 1500000
+
+pub returns-in-Err-insert_at_gap-clause-cause : goal.returns-in-Err-insert_at_gap-clause-cause
+returns-in-Err-insert_at_gap-clause-cause g c = grind (arith, common_steps) steps 300000

@@ -1,8 +1,9 @@
-use Rattle.std.proofs.Common.{◌∙◌, arith, refl, sym}
+use Rattle.std.proofs.Common.{◌∙◌, arith, refl, sym, rules, ◌-◌, ◌/◌, false}
 use Rattle.btree_raw.proofs.ClaimLemmas.{claims-low}
 use Rattle.btree_raw.proofs.StateLemmas.{same-len}
 use Rattle.btree_edit.proofs.MoreLemmas.{can-take, more-inserted, splitting, the-leaf}
 use Rattle.btree_edit.proofs.insertion.insert_and_split.Goals as goal
+use Rattle.std.proofs.lemmas.Grind.{common_steps}
 
 pub unwrap-requires : goal.unwrap-requires
 unwrap-requires g c =
@@ -35,3 +36,39 @@ overflow_add-len g c =
     let split = c.split_up-at.ensures.split.len in
     let room = c.requires.room in
     rw c.len.ensures (omega arith)
+
+pub tell_fits-requires : goal.tell_fits-requires
+tell_fits-requires g c κs = search rules steps 200000
+
+pub new-claims-requires : goal.new-claims-requires
+new-claims-requires g c = search rules steps 200000
+
+pub claim-requires-clause-few : goal.claim-requires-clause-few
+claim-requires-clause-few g c = grind (arith, common_steps) steps 1500000
+
+pub claim-requires-clause-none : goal.claim-requires-clause-none
+claim-requires-clause-none g c = search rules steps 200000
+
+pub refused-requires : goal.refused-requires
+refused-requires g c κs = search rules steps 200000
+
+pub returns-then-not-claim-clause-inserted : goal.returns-then-not-claim-clause-inserted
+returns-then-not-claim-clause-inserted g c = search rules steps 200000
+
+pub returns-then-not-claim-clause-returned : goal.returns-then-not-claim-clause-returned
+returns-then-not-claim-clause-returned g c = grind (arith, common_steps) steps 300000
+
+pub returns-then-not-claim-clause-refused : goal.returns-then-not-claim-clause-refused
+returns-then-not-claim-clause-refused g c = grind (arith, common_steps) steps 300000
+
+pub len-requires : goal.len-requires
+len-requires g c κs = search rules steps 200000
+
+pub set_len-requires : goal.set_len-requires
+set_len-requires g c κs = search rules steps 200000
+
+pub returns-clause-returned : goal.returns-clause-returned
+returns-clause-returned g c = search rules steps 200000
+
+pub returns-clause-refused : goal.returns-clause-refused
+returns-clause-refused g c = search rules steps 200000

@@ -1,7 +1,8 @@
-use Rattle.std.proofs.Common.{◌∙◌, ap, sym}
+use Rattle.std.proofs.Common.{◌∙◌, ap, sym, arith, rules, ◌-◌, ◌/◌}
 use Rattle.std.specs.Option.{option_copied_mut}
 use Rattle.btree_edit.proofs.ExchangeLemmas.{exchanges-at, occupied-some, occupied-used, value-exchanged}
 use Rattle.btree_edit.proofs.values.exchange.Goals as goal
+use Rattle.std.proofs.lemmas.Grind.{common_steps}
 
 pub returns : goal.returns
 returns g c =
@@ -15,3 +16,15 @@ node_mut-requires g c = (c.tell_fits.ensures, occupied-used c.args.tree.now c.ar
 pub unreachable-requires : goal.unreachable-requires
 unreachable-requires g c =
     occupied-some c.args.tree.now c.args.addr c.node_mut.result.now c.node_mut.ensures.value c.requires.occupied (sym (ap option_copied_mut c.in-None.is) ∙ c.item_mut.follows)
+
+pub tell_fits-requires : goal.tell_fits-requires
+tell_fits-requires g c κs = search rules steps 200000
+
+pub item_mut-requires : goal.item_mut-requires
+item_mut-requires g c = grind (arith, common_steps) steps 1500000
+
+pub set_value-requires : goal.set_value-requires
+set_value-requires g c κs = search rules steps 200000
+
+pub unreachable-unreachable : goal.unreachable-unreachable
+unreachable-unreachable g c = grind (arith, common_steps) steps 300000

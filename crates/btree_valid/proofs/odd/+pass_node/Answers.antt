@@ -1,10 +1,11 @@
-use Rattle.std.proofs.Common.{◌≡◌, ◌∙◌, ◌+◌, false, true, arith, drop, refl, sym, ap, option_copied, option_map}
+use Rattle.std.proofs.Common.{◌≡◌, ◌∙◌, ◌+◌, false, true, arith, drop, refl, sym, ap, option_copied, option_map, rules, ◌-◌, ◌/◌}
 use Rattle.btree_node.specs.Node.{view_of}
 use Rattle.btree_view.specs.View.{branches_of, items_of}
 use Rattle.btree_shape.specs.TreeState.{views}
 use Rattle.btree_valid.proofs.NodeLemmas.{inner-can, inner-start, is-internal, is-leaf, leaf-low, leaf-only, leaf-order, not-entered, nothing-there}
 use Rattle.btree_valid.proofs.PassLemmas.{node-child, node-end, node-next, node-stops}
 use Rattle.btree_valid.proofs.odd.+pass_node.Goals as goal
+use Rattle.std.proofs.lemmas.Grind.{common_steps}
 
 pub returns-then-not-may_enter-clause-always : goal.returns-then-not-may_enter-clause-always
 returns-then-not-may_enter-clause-always g t c = λ can. absurd (not-entered g.K.Ord.cmp (g.C.Nodes.content c.args.nodes.now) c.args.root c.args.odd c.args.part.height c.args.part.parent c.args.part.id c.args.seen.left (option_copied c.args.seen.last) c.in_ok-node.node.now c.in_ok-node.ensures.value c.if-not-may_enter.ensures.1 can)
@@ -46,3 +47,60 @@ returns-in_err-node-clause-always g t c = λ can. absurd (nothing-there g.K.Ord.
 
 pub overflow_sub-entered : goal.overflow_sub-entered
 overflow_sub-entered g t c = let may = c.if-not-may_enter.ensures.0 refl in omega (arith, may.0)
+
+pub get-requires : goal.get-requires
+get-requires g t c = grind (arith, common_steps) steps 2000000
+
+pub returns-in_err-node-clause-only : goal.returns-in_err-node-clause-only
+returns-in_err-node-clause-only g t c = search rules steps 200000
+
+pub may_enter-requires : goal.may_enter-requires
+may_enter-requires g t c = grind (arith, common_steps) steps 2000000
+
+pub returns-then-not-may_enter-clause-only : goal.returns-then-not-may_enter-clause-only
+returns-then-not-may_enter-clause-only g t c = search rules steps 200000
+
+pub child_id_opt-requires : goal.child_id_opt-requires
+child_id_opt-requires g t c = grind (arith, common_steps) steps 2000000
+
+pub returns-then-height-ne0-clause-only : goal.returns-then-height-ne0-clause-only
+returns-then-height-ne0-clause-only g t c = search rules steps 200000
+
+pub returns-then-height-eq0-clause-only : goal.returns-then-height-eq0-clause-only
+returns-then-height-eq0-clause-only g t c = search rules steps 200000
+
+pub returns-then-height-eq0-clause-always : goal.returns-then-height-eq0-clause-always
+returns-then-height-eq0-clause-always g t c = search rules steps 2000000
+
+pub overflow_sub-leftmost : goal.overflow_sub-leftmost
+overflow_sub-leftmost g t c = grind (arith, common_steps) steps 300000
+
+pub pass_node-requires : goal.pass_node-requires
+pass_node-requires g t c κs within = search rules steps 2000000
+
+pub returns-in_err-passed-clause-only : goal.returns-in_err-passed-clause-only
+returns-in_err-passed-clause-only g t c = grind (arith, common_steps) steps 300000
+
+pub key-requires : goal.key-requires
+key-requires g t c κs = search rules steps 200000
+
+pub pass_key-requires : goal.pass_key-requires
+pass_key-requires g t c κs = search rules steps 200000
+
+pub returns-in_err-next-clause-only : goal.returns-in_err-next-clause-only
+returns-in_err-next-clause-only g t c = grind (arith, common_steps) steps 300000
+
+pub pass_node-requires-in-Some-branch_at_index : goal.pass_node-requires-in-Some-branch_at_index
+pass_node-requires-in-Some-branch_at_index g t c κs within = search rules steps 2000000
+
+pub returns-in_err-passed-2-clause-only : goal.returns-in_err-passed-2-clause-only
+returns-in_err-passed-2-clause-only g t c = grind (arith, common_steps) steps 300000
+
+pub overflow_add-index : goal.overflow_add-index
+overflow_add-index g t c = grind (arith, common_steps) steps 2000000
+
+pub loop-item-smaller : goal.loop-item-smaller
+loop-item-smaller g t c = grind (arith, common_steps) steps 2000000
+
+pub returns-clause-always : goal.returns-clause-always
+returns-clause-always g t c = search rules steps 200000

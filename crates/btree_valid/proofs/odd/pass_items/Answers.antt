@@ -1,8 +1,9 @@
-use Rattle.std.proofs.Common.{◌∙◌, sym, ap, arith, option_copied, refl}
+use Rattle.std.proofs.Common.{◌∙◌, sym, ap, arith, option_copied, refl, rules, ◌-◌, ◌/◌}
 use Rattle.btree_node.specs.Node.{view_of}
 use Rattle.btree_view.specs.View.{items_of}
 use Rattle.btree_valid.proofs.OrderLemmas.{way-end, way-next, way-start, way-stops}
 use Rattle.btree_valid.proofs.odd.pass_items.Goals as goal
+use Rattle.std.proofs.lemmas.Grind.{common_steps}
 
 pub iter-item-items-requires : goal.iter-item-items-requires
 iter-item-items-requires g c = let fits = c.well_formed in omega arith
@@ -18,3 +19,33 @@ loop-item-preserved g c = way-next g.K.Ord.cmp (items_of (view_of c.args.node.no
 
 pub returns-clause-order : goal.returns-clause-order
 returns-clause-order g c = way-end g.K.Ord.cmp (items_of (view_of c.args.node.now)) c.loop-item.item-iterator (option_copied c.args.seen.last) (option_copied c.loop-item.last) c.in-None.ensures.steps.0 c.loop-item.invariant
+
+pub unreachable-requires : goal.unreachable-requires
+unreachable-requires g c = grind (arith, common_steps) steps 300000
+
+pub unreachable-unreachable : goal.unreachable-unreachable
+unreachable-unreachable g c = grind (arith, common_steps) steps 300000
+
+pub next-requires : goal.next-requires
+next-requires g c = search rules steps 200000
+
+pub key-key-requires : goal.key-key-requires
+key-key-requires g c κs = search rules steps 200000
+
+pub is_above-requires : goal.is_above-requires
+is_above-requires g c κs = search rules steps 200000
+
+pub returns-then-not-is_above-clause-left : goal.returns-then-not-is_above-clause-left
+returns-then-not-is_above-clause-left g c = search rules steps 200000
+
+pub returns-then-not-is_above-clause-order : goal.returns-then-not-is_above-clause-order
+returns-then-not-is_above-clause-order g c = search rules steps 200000
+
+pub loop-item-smaller : goal.loop-item-smaller
+loop-item-smaller g c = grind (arith, common_steps) steps 300000
+
+pub returns-clause-left : goal.returns-clause-left
+returns-clause-left g c = search rules steps 200000
+
+pub returns-clause-always : goal.returns-clause-always
+returns-clause-always g c = search rules steps 200000
