@@ -5,7 +5,7 @@ use Rattle.btree_view.specs.Edits.{HasChildFor, is_internal, joined, pushed_left
 use Rattle.btree_view.specs.View.{Look, View, children_in, children_of, items_of}
 use Rattle.btree_shape.specs.Lists.{as_list, times_listed}
 use Rattle.btree_shape.specs.Mend.{IsRemade}
-use Rattle.btree_shape.specs.Step.{Adopts, Loses, Puts}
+use Rattle.btree_shape.specs.Step.{Adopts, Becomes, Puts}
 use Rattle.btree_shape.specs.WellFormed.{times_used}
 use Rattle.btree_shape.proofs.Frames.{one-self}
 use Rattle.btree_shape.proofs.Numbers.{listed-append, same-node, used-same, used-there, zero-or}
@@ -176,7 +176,8 @@ module _ {A : Type 0} (look : Look A) (siblings : Siblings) (can : CanMerge look
     pub other-there : 0 < times_used (one_look siblings.right)
     other-there = used-there one_look siblings.right can.pair.high at-other
 
-    module _ (two : Look A) (b : Loses one_look two siblings.right) (other : View A) (is : one_look siblings.right ≡ Some other) where
+    -- what the right sibling held was taken out, and this is under its number then
+    module _ (two : Look A) {under : Option (View A)} (b : Becomes one_look two siblings.right under) (other : View A) (is : one_look siblings.right ≡ Some other) where
       same-other : other ≡ can.pair.high
       same-other = same-node one_look siblings.right other can.pair.high is at-other
 
@@ -213,10 +214,10 @@ module _ {A : Type 0} (look : Look A) (siblings : Siblings) (can : CanMerge look
           ];
         }
 
-        pub merges : (new : Look A) → Adopts three new siblings.left (children_in (three siblings.left)) → BecomeMerged look new siblings
-        merges new d =
+        pub merges : under ≡ None → (new : Look A) → Adopts three new siblings.left (children_in (three siblings.left)) → BecomeMerged look new siblings
+        merges none new d =
             merge-written look one_look two three new siblings.parent siblings.left siblings.right can.pair.apart siblings.index can.pair.top can.pair.low can.pair.high
             (without siblings.index can.pair.top) (joined can.pair.low down can.pair.high) down (λ n m. let k = can.pair.children n m in (k.1, k.2, k.3)) can.own
             can.pair.at_parent can.pair.at_left can.pair.at_right (subst (λ v. slice_get (items_of v) siblings.index ≡ Some down) top-both a.was)
-            (remade-without siblings.index can.pair.top can.pair.inner) remade-both (subst (λ v. Puts look one_look siblings.parent (without siblings.index v)) top-both a.puts) b puts-both
+            (remade-without siblings.index can.pair.top can.pair.inner) remade-both (subst (λ v. Puts look one_look siblings.parent (without siblings.index v)) top-both a.puts) (subst (λ o. Becomes one_look two siblings.right o) none b) puts-both
             (subst (λ l. Adopts three new siblings.left l) children-both d)

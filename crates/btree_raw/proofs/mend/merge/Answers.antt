@@ -1,4 +1,4 @@
-use Rattle.std.proofs.Common.{ap, option_map}
+use Rattle.std.proofs.Common.{ap, option_map, refl}
 use Rattle.btree_node.specs.Node.{view_of}
 use Rattle.btree_shape.specs.TreeState.{looks}
 use Rattle.btree_shape.proofs.Stores.{used-view}
@@ -22,6 +22,6 @@ adopt-requires g c = adopts-both (looks c.args.tree.now) c.args.siblings c.requi
 
 pub returns : goal.returns
 returns g c = record {
-  nodes = merges (looks c.args.tree.now) c.args.siblings c.requires (looks c.take_between-down.new.tree) c.take_between-down.result c.take_between-down.ensures.nodes (looks c.release_node-other.new.self) (loses c.take_between-down.new.tree.nodes c.release_node-other.new.self.nodes c.args.siblings.right (nodes-of c.release_node-other.ensures.after)) (view_of c.release_node-other.result) (ap (option_map view_of) c.release_node-other.ensures.node) (looks c.put_all.new.tree) c.put_all.ensures.nodes (looks c.adopt.new.tree) c.adopt.ensures.nodes;
+  nodes = merges (looks c.args.tree.now) c.args.siblings c.requires (looks c.take_between-down.new.tree) c.take_between-down.result c.take_between-down.ensures.nodes (looks c.release_node-other.new.self) (loses c.take_between-down.new.tree.nodes c.release_node-other.new.self.nodes c.args.siblings.right (nodes-of c.release_node-other.ensures.after)) (view_of c.release_node-other.result) (ap (option_map view_of) c.release_node-other.ensures.node) (looks c.put_all.new.tree) c.put_all.ensures.nodes refl (looks c.adopt.new.tree) c.adopt.ensures.nodes;
   rest = then (then (then c.take_between-down.ensures.rest (removed c.args.siblings.right c.release_node-other.ensures.after)) c.put_all.ensures.rest) c.adopt.ensures.rest;
 }
