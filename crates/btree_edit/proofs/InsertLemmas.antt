@@ -4,7 +4,7 @@ use Rattle.std.proofs.lemmas.Option.{slice_get_within}
 use Rattle.std.specs.Cmp.{IsTotalOrder}
 use Rattle.std.specs.declared.cmp.Ordering.{Ordering}
 use Rattle.btree_item.proofs.PairEdits.{KeyFits-before}
-use Rattle.btree_item.proofs.PairLemmas.{inserted-from_Err, set-from_Ok, slice_get-from_Ok}
+use Rattle.btree_item.proofs.PairLemmas.{set-from_Ok, slice_get-from_Ok}
 use Rattle.btree_item.specs.Pairs.{KeyFits, before, found, found_value, inserted}
 use Rattle.btree_item.specs.declared.address.Address.{Address}
 use Rattle.btree_view.specs.View.{View, item_in, items_of, size_of}

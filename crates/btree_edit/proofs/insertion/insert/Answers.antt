@@ -1,8 +1,7 @@
 use Rattle.btree_edit.proofs.InsertLemmas.{exchanged-pairs, gap-for, old-value, put-took}
 use Rattle.btree_edit.proofs.insertion.insert.Goals as goal
 use Rattle.std.proofs.lemmas.Grind.{common_steps}
-use Rattle.std.proofs.Common.{arith, rules, ◌-◌, ◌/◌}
-use Rattle.btree_item.specs.Pairs.{inserted}
+use Rattle.std.proofs.Common.{arith, rules}
 
 pub insert_at_gap-requires-clause-gap : goal.insert_at_gap-requires-clause-gap
 insert_at_gap-requires-clause-gap g c =

@@ -1,4 +1,4 @@
-use Rattle.std.proofs.Common.{◌∙◌, arith, refl, sym, rules, ◌-◌, ◌/◌, false}
+use Rattle.std.proofs.Common.{◌∙◌, arith, refl, sym, rules}
 use Rattle.btree_raw.proofs.ClaimLemmas.{claims-low}
 use Rattle.btree_raw.proofs.StateLemmas.{same-len}
 use Rattle.btree_edit.proofs.MoreLemmas.{can-take, more-inserted, splitting, the-leaf}

@@ -1,5 +1,5 @@
 use Rattle.std.proofs.lemmas.Grind.{common_steps}
-use Rattle.std.proofs.Common.{arith, rules, ◌-◌, ◌/◌}
+use Rattle.std.proofs.Common.{arith, rules}
 use Rattle.btree_edit.proofs.insertion.insert_at_gap.Goals as goal
 
 pub tell_fits-requires : goal.tell_fits-requires

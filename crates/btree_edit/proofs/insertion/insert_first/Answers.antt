@@ -1,4 +1,4 @@
-use Rattle.std.proofs.Common.{refl, arith, rules, ◌-◌, ◌/◌}
+use Rattle.std.proofs.Common.{refl, arith, rules}
 use Rattle.btree_store.specs.ContentLaws.{get-insert_same}
 use Rattle.btree_raw.specs.Claimed.{EMPTY}
 use Rattle.btree_edit.proofs.FirstLemmas.{first-inserted}

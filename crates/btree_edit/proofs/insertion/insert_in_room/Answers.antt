@@ -1,4 +1,4 @@
-use Rattle.std.proofs.Common.{[], refl, sym, arith, rules, ◌-◌, ◌/◌}
+use Rattle.std.proofs.Common.{[], refl, sym, arith, rules}
 use Rattle.btree_edit.proofs.MoreLemmas.{can-take, more-inserted, none-claimed, the-leaf, unsplit}
 use Rattle.btree_edit.proofs.insertion.insert_in_room.Goals as goal
 use Rattle.std.proofs.lemmas.Grind.{common_steps}

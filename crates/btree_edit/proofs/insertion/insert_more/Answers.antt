@@ -1,7 +1,7 @@
 use Rattle.btree_edit.proofs.MoreLemmas.{leaf-used}
 use Rattle.btree_edit.proofs.insertion.insert_more.Goals as goal
 use Rattle.std.proofs.lemmas.Grind.{common_steps}
-use Rattle.std.proofs.Common.{arith, rules, ◌-◌, ◌/◌}
+use Rattle.std.proofs.Common.{arith, rules}
 
 pub need-count-requires-clause-used : goal.need-count-requires-clause-used
 need-count-requires-clause-used g c =

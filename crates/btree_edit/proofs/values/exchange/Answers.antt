@@ -1,4 +1,4 @@
-use Rattle.std.proofs.Common.{◌∙◌, ap, sym, arith, rules, ◌-◌, ◌/◌}
+use Rattle.std.proofs.Common.{◌∙◌, ap, sym, arith, rules}
 use Rattle.std.specs.Option.{option_copied_mut}
 use Rattle.btree_edit.proofs.ExchangeLemmas.{exchanges-at, occupied-some, occupied-used, value-exchanged}
 use Rattle.btree_edit.proofs.values.exchange.Goals as goal

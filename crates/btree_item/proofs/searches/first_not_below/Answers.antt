@@ -1,9 +1,8 @@
-use Rattle.std.proofs.Common.{◌∙◌, arith}
+use Rattle.std.proofs.Common.{◌∙◌, arith, rules}
 use Rattle.btree_item.proofs.KeyLemmas.{AllBelow-from_key, IsNotBelowAt-next, is_lt-from_partial}
 use Rattle.btree_item.proofs.searches.first_not_below.Goals as goal
 use Rattle.btree_item.proofs.searches.first_not_below.Goals.{then-lt, else-lt}
 use Rattle.std.proofs.lemmas.Grind.{common_steps}
-use Rattle.std.proofs.Common.{rules}
 
 pub loop-i-preserved : goal.loop-i-preserved
 loop-i-preserved g c = elim c.if-lt.branch [

@@ -1,9 +1,8 @@
-use Rattle.std.proofs.Common.{◌∙◌, arith}
+use Rattle.std.proofs.Common.{◌∙◌, arith, rules}
 use Rattle.std.proofs.lemmas.List.{length-map}
 use Rattle.btree_item.proofs.KeyLemmas.{AllBelow-from_key, IsNotBelowAt-end, is_lt-from_partial}
 use Rattle.btree_item.proofs.searches.lower_bound.Goals as goal
 use Rattle.std.proofs.lemmas.Grind.{common_steps}
-use Rattle.std.proofs.Common.{rules}
 
 pub first_not_below-requires-then-lt : goal.first_not_below-requires-then-lt
 first_not_below-requires-then-lt g c =

@@ -1,10 +1,9 @@
-use Rattle.std.proofs.Common.{sym, ◌∙◌, arith}
+use Rattle.std.proofs.Common.{sym, ◌∙◌, arith, rules}
 use Rattle.btree_item.proofs.KeyLemmas.{key_place-here, key_place-between, key_place-end}
 use Rattle.std.proofs.lemmas.List.{length-map}
 use Rattle.btree_item.proofs.searches.search.Goals as goal
 use Rattle.btree_item.proofs.searches.search.Goals.{else-place-len-via-then-place-len+else-eq, else-place-len-via-else-place-len}
 use Rattle.std.proofs.lemmas.Grind.{common_steps}
-use Rattle.std.proofs.Common.{rules}
 
 pub returns-then-eq-clause-place : goal.returns-then-eq-clause-place
 returns-then-eq-clause-place g c =

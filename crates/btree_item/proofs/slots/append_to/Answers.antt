@@ -1,10 +1,9 @@
-use Rattle.std.proofs.Common.{◌≡◌, ℕ, ◌+◌, ◌-◌, ◌<◌, ◌≤◌, List, ◌∷◌, ◌++◌, length, drop, sym, ◌∙◌, ap, arith, length-append, length-drop}
+use Rattle.std.proofs.Common.{◌≡◌, ℕ, ◌+◌, ◌-◌, ◌<◌, ◌≤◌, List, ◌∷◌, ◌++◌, length, drop, sym, ◌∙◌, ap, arith, length-append, length-drop, rules}
 use Rattle.std.proofs.lemmas.List.{length-take}
 use Rattle.std.specs.Prelude.{slice_range}
 use Rattle.arrayvec.specs.Iter.{drain_items}
 use Rattle.btree_item.proofs.slots.append_to.Goals as goal
 use Rattle.std.proofs.lemmas.Grind.{common_steps}
-use Rattle.std.proofs.Common.{rules}
 use Rattle.btree_item.proofs.SomesLemmas.{slot_edits}
 
 has_room : {X : Type 0} (front rest base all xs : List X) (x : X) (end n : ℕ) → front ++ x ∷ rest ≡ base ++ all → all ≡ slice_range xs 0 end → length base + length xs ≤ n → length front < n

@@ -1,4 +1,4 @@
-use Rattle.std.proofs.Common.{arith, rules, ◌-◌, ◌/◌}
+use Rattle.std.proofs.Common.{arith, rules}
 use Rattle.btree_raw.proofs.btree_node++node++Node+Destruct.drop.Goals as goal
 
 pub drop-requires : goal.drop-requires

@@ -1,4 +1,4 @@
-use Rattle.std.proofs.Common.{◌∷◌, [], arith, length-append, rules, ◌-◌}
+use Rattle.std.proofs.Common.{◌∷◌, [], arith, length-append, rules}
 use Rattle.btree_raw.proofs.RefuseLemmas.{more-claims, refused-claims}
 use Rattle.btree_raw.proofs.claims.claim.Goals as goal
 use Rattle.std.proofs.lemmas.Grind.{common_steps}

@@ -1,4 +1,4 @@
-use Rattle.std.proofs.Common.{arith, rules, ◌-◌}
+use Rattle.std.proofs.Common.{arith, rules}
 use Rattle.btree_raw.proofs.claims.empty_leaf.Goals as goal
 
 pub empty-requires : goal.empty-requires

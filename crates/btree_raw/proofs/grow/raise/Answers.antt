@@ -1,4 +1,4 @@
-use Rattle.std.proofs.Common.{subst, arith, rules, ◌-◌}
+use Rattle.std.proofs.Common.{subst, arith, rules}
 use Rattle.btree_shape.specs.Step.{Puts}
 use Rattle.btree_shape.specs.TreeState.{looks}
 use Rattle.btree_raw.proofs.GrowLemmas.{left-there, right-still, raises}

@@ -1,4 +1,4 @@
-use Rattle.std.proofs.Common.{◌∷◌, [], Some, None, ap, refl, length, length-append, option_map, arith, rules, ◌-◌}
+use Rattle.std.proofs.Common.{◌∷◌, [], Some, None, ap, refl, length, length-append, option_map, arith, rules}
 use Rattle.btree_node.specs.Node.{view_of}
 use Rattle.btree_shape.specs.TreeState.{looks}
 use Rattle.btree_raw.proofs.ClimbLemmas.{climb-start, climb-used, climb-offset, climb-done, climb-left, climb-split, climb-lift, climb-next, climb-left-root, climb-none-left, climb-none-left-root, climb-number, climb-raise, climb-used-end, climb-root, climb-back-end, is-over, not-over, same-parent}

@@ -1,6 +1,6 @@
 use Rattle.btree_raw.proofs.LendLemmas.{first-at}
 use Rattle.btree_raw.proofs.lend.first_child.Goals as goal
-use Rattle.std.proofs.Common.{arith, rules, ◌-◌}
+use Rattle.std.proofs.Common.{arith, rules}
 use Rattle.std.proofs.lemmas.Grind.{common_steps}
 
 pub returns : goal.returns

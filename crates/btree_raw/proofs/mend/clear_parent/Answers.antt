@@ -1,4 +1,4 @@
-use Rattle.std.proofs.Common.{refl, arith, rules, ◌-◌}
+use Rattle.std.proofs.Common.{refl, arith, rules}
 use Rattle.std.specs.FinMap as map
 use Rattle.btree_raw.proofs.MendLemmas.{clears-parent}
 use Rattle.btree_raw.proofs.mend.clear_parent.Goals as goal

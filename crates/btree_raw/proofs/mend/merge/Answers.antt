@@ -4,8 +4,7 @@ use Rattle.btree_shape.specs.TreeState.{looks}
 use Rattle.btree_shape.proofs.Stores.{used-view}
 use Rattle.btree_raw.proofs.MendLemmas.{loses}
 use Rattle.btree_raw.proofs.StateLemmas.{nodes-of, removed, then}
-use Rattle.btree_raw.proofs.TurnLemmas.{other-there, room-both, adopts-both, merges}
-use Rattle.btree_raw.proofs.TurnLemmas.{between-here}
+use Rattle.btree_raw.proofs.TurnLemmas.{other-there, room-both, adopts-both, merges, between-here}
 use Rattle.btree_raw.proofs.mend.merge.Goals as goal
 
 pub take_between-down-requires : goal.take_between-down-requires

@@ -3,7 +3,7 @@ use Rattle.btree_shape.proofs.Stores.{used-view}
 use Rattle.btree_raw.proofs.MendLemmas.{child-used, loses, releases}
 use Rattle.btree_raw.proofs.StateLemmas.{nodes-of, removed, then, used-here}
 use Rattle.btree_raw.proofs.mend.release_root.Goals as goal
-use Rattle.std.proofs.Common.{rules, ◌-◌}
+use Rattle.std.proofs.Common.{rules}
 
 pub release_node-requires : goal.release_node-requires
 release_node-requires g c = (c.tell_fits.ensures, used-here c.args.tree.now.nodes c.args.root c.requires.node c.requires.here)

@@ -1,4 +1,4 @@
-use Rattle.std.proofs.Common.{◌≡◌, refl, subst, arith, rules, ◌-◌}
+use Rattle.std.proofs.Common.{◌≡◌, refl, subst, arith, rules}
 use Rattle.std.specs.FinMap as map
 use Rattle.std.specs.Result.{IfOk}
 use Rattle.btree_node.specs.Node.{view_of}

@@ -1,7 +1,7 @@
 use Rattle.btree_raw.proofs.StepLemmas.{take-room}
 use Rattle.btree_raw.proofs.StateLemmas.{used-here}
 use Rattle.btree_raw.proofs.nodes.add_item.Goals as goal
-use Rattle.std.proofs.Common.{rules, ◌-◌}
+use Rattle.std.proofs.Common.{rules}
 
 pub node_mut-requires : goal.node_mut-requires
 node_mut-requires g c = (c.tell_fits.ensures, used-here c.args.tree.now.nodes c.args.id c.requires.node c.requires.here)

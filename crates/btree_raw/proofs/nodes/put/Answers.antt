@@ -1,4 +1,4 @@
-use Rattle.std.proofs.Common.{refl, ap, rules, ◌-◌}
+use Rattle.std.proofs.Common.{refl, ap, rules}
 use Rattle.std.specs.FinMap as map
 use Rattle.btree_shape.proofs.Stores.{puts}
 use Rattle.btree_raw.proofs.nodes.put.Goals as goal

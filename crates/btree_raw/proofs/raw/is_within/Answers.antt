@@ -1,4 +1,4 @@
-use Rattle.std.proofs.Common.{refl, arith, rules, ◌-◌}
+use Rattle.std.proofs.Common.{refl, arith, rules}
 use Rattle.btree_raw.proofs.raw.is_within.Goals as goal
 use Rattle.std.proofs.lemmas.Grind.{common_steps}
 

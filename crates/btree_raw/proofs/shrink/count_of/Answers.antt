@@ -1,7 +1,7 @@
 use Rattle.btree_raw.proofs.shrink.count_of.Goals as goal
 use Rattle.btree_shape.proofs.Stores.{used-view}
 use Rattle.std.proofs.lemmas.Grind.{common_steps}
-use Rattle.std.proofs.Common.{arith, rules, ◌-◌}
+use Rattle.std.proofs.Common.{arith, rules}
 
 pub node-requires : goal.node-requires
 node-requires g c = (c.tell_fits.ensures, used-view c.args.tree.now.nodes c.args.id c.requires)

@@ -1,4 +1,4 @@
-use Rattle.std.proofs.Common.{arith, subst, rules, ◌-◌}
+use Rattle.std.proofs.Common.{arith, subst, rules}
 use Rattle.btree_shape.specs.Mending.{Borrows, Joins}
 use Rattle.btree_shape.specs.TreeState.{looks}
 use Rattle.btree_raw.specs.Shrink.{MendsAbove, MendsHere}

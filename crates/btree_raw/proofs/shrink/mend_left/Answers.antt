@@ -1,4 +1,4 @@
-use Rattle.std.proofs.Common.{arith, rules, ◌-◌}
+use Rattle.std.proofs.Common.{arith, rules}
 use Rattle.btree_shape.specs.TreeState.{looks}
 use Rattle.btree_raw.proofs.ShrinkLemmas.{left-borrows, left-few, left-joins, left-lends, left-there}
 use Rattle.btree_raw.proofs.shrink.mend_left.Goals as goal

@@ -1,4 +1,4 @@
-use Rattle.std.proofs.Common.{◌∙◌, Some, ap, refl, arith, rules, true, false, ◌-◌}
+use Rattle.std.proofs.Common.{◌∙◌, Some, ap, refl, arith, rules, true, false}
 use Rattle.btree_shape.specs.TreeState.{looks}
 use Rattle.btree_shape.proofs.Stores.{used-view}
 use Rattle.btree_raw.proofs.MendLemmas.{loses}

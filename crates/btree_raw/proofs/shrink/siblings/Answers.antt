@@ -1,4 +1,4 @@
-use Rattle.std.proofs.Common.{arith, rules, true, false, ◌-◌}
+use Rattle.std.proofs.Common.{arith, rules, true, false}
 use Rattle.btree_raw.proofs.ShrinkLemmas.{child-parent, index-there, index-at, siblings-first, siblings-next}
 use Rattle.btree_raw.proofs.shrink.siblings.Goals as goal
 use Rattle.btree_shape.proofs.Stores.{used-view}

@@ -1,6 +1,6 @@
 use Rattle.btree_raw.proofs.ShrinkLemmas.{siblings-seen}
 use Rattle.btree_raw.proofs.shrink.siblings_at.Goals as goal
-use Rattle.std.proofs.Common.{arith, rules, ◌-◌}
+use Rattle.std.proofs.Common.{arith, rules}
 use Rattle.std.proofs.lemmas.Grind.{common_steps}
 
 pub node-node-requires : goal.node-node-requires

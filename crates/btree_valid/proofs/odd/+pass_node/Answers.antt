@@ -1,4 +1,4 @@
-use Rattle.std.proofs.Common.{◌≡◌, ◌∙◌, ◌+◌, false, true, arith, drop, refl, sym, ap, option_copied, option_map, rules, ◌-◌, ◌/◌}
+use Rattle.std.proofs.Common.{◌≡◌, ◌∙◌, ◌+◌, false, true, arith, drop, refl, sym, ap, option_copied, option_map, rules}
 use Rattle.btree_node.specs.Node.{view_of}
 use Rattle.btree_view.specs.View.{branches_of, items_of}
 use Rattle.btree_shape.specs.TreeState.{views}

@@ -1,4 +1,4 @@
-use Rattle.std.proofs.Common.{refl, sym, arith, ◌-◌, ◌/◌}
+use Rattle.std.proofs.Common.{refl, sym, arith}
 use Rattle.btree_valid.proofs.OffLemmas.{found-off, not-there}
 use Rattle.btree_valid.proofs.odd.is_off.Goals as goal
 use Rattle.std.proofs.lemmas.Grind.{common_steps}

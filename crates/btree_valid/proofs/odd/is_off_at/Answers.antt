@@ -1,4 +1,4 @@
-use Rattle.std.proofs.Common.{option_copied, arith, rules, ◌-◌, ◌/◌}
+use Rattle.std.proofs.Common.{option_copied, arith, rules}
 use Rattle.btree_valid.proofs.OffLemmas.{at-end, not-passed}
 use Rattle.btree_valid.proofs.odd.is_off_at.Goals as goal
 use Rattle.std.proofs.lemmas.Grind.{common_steps}

@@ -1,4 +1,4 @@
-use Rattle.std.proofs.Common.{arith, refl, rules, ◌-◌, ◌/◌, false}
+use Rattle.std.proofs.Common.{arith, refl, rules}
 use Rattle.btree_shape.specs.TreeState.{views}
 use Rattle.btree_valid.specs.Odd.{IsOffAt}
 use Rattle.btree_valid.proofs.OffLemmas.{next-height}

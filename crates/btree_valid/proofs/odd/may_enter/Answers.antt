@@ -1,4 +1,4 @@
-use Rattle.std.proofs.Common.{sym, ◌∙◌, arith, rules, ◌-◌, ◌/◌, false}
+use Rattle.std.proofs.Common.{sym, ◌∙◌, arith, rules}
 use Rattle.btree_node.specs.Node.{view_of}
 use Rattle.btree_valid.proofs.EnterLemmas.{enters, parent-same, same-parent}
 use Rattle.btree_valid.proofs.odd.may_enter.Goals as goal

@@ -1,4 +1,4 @@
-use Rattle.std.proofs.Common.{◌∙◌, sym, ap, arith, option_copied, refl, rules, ◌-◌, ◌/◌}
+use Rattle.std.proofs.Common.{◌∙◌, sym, ap, arith, option_copied, refl, rules}
 use Rattle.btree_node.specs.Node.{view_of}
 use Rattle.btree_view.specs.View.{items_of}
 use Rattle.btree_valid.proofs.OrderLemmas.{way-end, way-next, way-start, way-stops}

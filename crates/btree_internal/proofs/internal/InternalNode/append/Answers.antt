@@ -1,4 +1,4 @@
-use Rattle.std.proofs.Common.{arith, rules, ◌-◌}
+use Rattle.std.proofs.Common.{arith, rules}
 use Rattle.btree_internal.proofs.internal.InternalNode.append.Goals as goal
 
 pub item_count-requires : goal.item_count-requires

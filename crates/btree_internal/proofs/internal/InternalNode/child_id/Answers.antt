@@ -1,4 +1,4 @@
-use Rattle.std.proofs.Common.{ap, sym, ◌∙◌, arith, ◌-◌}
+use Rattle.std.proofs.Common.{ap, sym, ◌∙◌, arith}
 use Rattle.std.specs.Prelude.{slice_get}
 use Rattle.btree_internal.proofs.BranchLemmas.{children_are}
 use Rattle.btree_internal.proofs.internal.InternalNode.child_id.Goals as goal

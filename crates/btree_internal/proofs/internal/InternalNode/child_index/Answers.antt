@@ -1,4 +1,4 @@
-use Rattle.std.proofs.Common.{◌∙◌, arith, rules, ◌-◌, true, false}
+use Rattle.std.proofs.Common.{◌∙◌, arith, rules}
 use Rattle.std.specs.Prelude.{◌==◌}
 use Rattle.btree_internal.specs.Internal.{internal_view}
 use Rattle.btree_view.specs.View.{children_of}

@@ -1,4 +1,4 @@
-use Rattle.std.proofs.Common.{length, ap, ◌∙◌, arith, ◌-◌}
+use Rattle.std.proofs.Common.{length, ap, ◌∙◌, arith}
 use Rattle.std.proofs.lemmas.List.{length-map}
 use Rattle.btree_item.specs.Pairs.{place_of}
 use Rattle.btree_item.proofs.PairLemmas.{slice_get-from_place, found-from_place}

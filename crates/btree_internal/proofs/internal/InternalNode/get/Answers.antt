@@ -1,4 +1,4 @@
-use Rattle.std.proofs.Common.{Some, Ok, ap, sym, ◌∙◌, arith, rules, ◌-◌}
+use Rattle.std.proofs.Common.{Some, Ok, ap, sym, ◌∙◌, arith, rules}
 use Rattle.btree_item.proofs.PairLemmas.{before-from_Err}
 use Rattle.btree_internal.specs.Internal.{internal_view}
 use Rattle.btree_internal.proofs.BranchLemmas.{there}

@@ -1,4 +1,4 @@
-use Rattle.std.proofs.Common.{◌≡◌, Option, Some, None, Ok, inl, refl, ap, sym, ◌∙◌, arith, rules, ◌-◌}
+use Rattle.std.proofs.Common.{◌≡◌, Option, Some, None, Ok, inl, refl, ap, sym, ◌∙◌, arith, rules}
 use Rattle.std.specs.Prelude.{slice_get}
 use Rattle.std.specs.Option.{option_map}
 use Rattle.btree_item.proofs.PairLemmas.{before-from_Err}

@@ -1,4 +1,4 @@
-use Rattle.std.proofs.Common.{refl, sym, ◌∙◌, arith, rules, ◌-◌}
+use Rattle.std.proofs.Common.{refl, sym, ◌∙◌, arith, rules}
 use Rattle.btree_internal.proofs.BranchLemmas.{pop_right-view}
 use Rattle.btree_internal.proofs.internal.InternalNode.pop_right.Goals as goal
 use Rattle.std.proofs.lemmas.Grind.{common_steps}

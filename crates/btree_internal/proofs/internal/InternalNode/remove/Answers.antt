@@ -1,4 +1,4 @@
-use Rattle.std.proofs.Common.{sym, arith, rules, ◌-◌}
+use Rattle.std.proofs.Common.{sym, arith, rules}
 use Rattle.btree_internal.proofs.BranchLemmas.{child_behind, remove-view, there}
 use Rattle.btree_internal.proofs.internal.InternalNode.remove.Goals as goal
 use Rattle.std.proofs.lemmas.Grind.{common_steps}

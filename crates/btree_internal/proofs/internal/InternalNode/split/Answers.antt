@@ -1,4 +1,4 @@
-use Rattle.std.proofs.Common.{arith, sym, ◌∙◌, ◌-◌}
+use Rattle.std.proofs.Common.{arith, sym, ◌∙◌}
 use Rattle.std.proofs.lemmas.List.{length-map}
 use Rattle.btree_internal.specs.Internal.{branch_pair}
 use Rattle.btree_internal.proofs.BranchLemmas.{long_as_items}

@@ -1,4 +1,4 @@
-use Rattle.std.proofs.Common.{Some, inl, ap, sym, ◌∙◌, arith, rules, ◌-◌}
+use Rattle.std.proofs.Common.{Some, inl, ap, sym, ◌∙◌, arith, rules}
 use Rattle.std.specs.Option.{option_map}
 use Rattle.btree_internal.proofs.BranchLemmas.{there, value-at}
 use Rattle.btree_internal.proofs.internal.InternalNode.value_at.Goals as goal

@@ -1,7 +1,6 @@
-use Rattle.std.proofs.Common.{rules}
+use Rattle.std.proofs.Common.{rules, arith}
 use Rattle.btree_item.proofs.slots.Slots.get.Goals as goal
 use Rattle.btree_item.proofs.SomesLemmas.{slot_edits}
-use Rattle.std.proofs.Common.{arith}
 
 pub as_slice-requires : goal.as_slice-requires
 as_slice-requires g c = search rules steps 200000

@@ -1,7 +1,6 @@
-use Rattle.std.proofs.Common.{rules}
+use Rattle.std.proofs.Common.{rules, arith}
 use Rattle.btree_item.proofs.slots.Slots.pop.Goals as goal
 use Rattle.btree_item.proofs.SomesLemmas.{slot_edits}
-use Rattle.std.proofs.Common.{arith}
 
 pub pop-requires : goal.pop-requires
 pop-requires g c = search rules steps 200000

@@ -1,8 +1,7 @@
-use Rattle.std.proofs.Common.{length, ◌++◌, ◌∷◌, arith, ap, ◌∙◌, length-append}
+use Rattle.std.proofs.Common.{length, ◌++◌, ◌∷◌, arith, ap, ◌∙◌, length-append, rules}
 use Rattle.btree_view.specs.View.{leaf}
 use Rattle.btree_view.proofs.Cuts.{joined_behind}
 use Rattle.btree_leaf.proofs.leaf.LeafNode.append.Goals as goal
-use Rattle.std.proofs.Common.{rules}
 
 pub push-requires : goal.push-requires
 push-requires g c =

@@ -1,10 +1,8 @@
-use Rattle.std.proofs.Common.{◌∙◌, inl, sym}
+use Rattle.std.proofs.Common.{◌∙◌, inl, sym, arith, rules}
 use Rattle.btree_view.specs.Kept.{node_of}
 use Rattle.btree_leaf.proofs.LeafLemmas.{found_value-at, with_value-at}
 use Rattle.btree_leaf.proofs.leaf.LeafNode.get_mut.Goals as goal
 use Rattle.std.proofs.lemmas.Grind.{common_steps}
-use Rattle.std.proofs.Common.{arith}
-use Rattle.std.proofs.Common.{rules}
 
 pub returns-in-Some : goal.returns-in-Some
 returns-in-Some g c =

@@ -1,4 +1,4 @@
-use Rattle.std.proofs.Common.{◌≡◌, Some, ap, sym, ◌∙◌}
+use Rattle.std.proofs.Common.{◌≡◌, Some, ap, sym, ◌∙◌, arith, rules}
 use Rattle.std.specs.Prelude.{slice_get}
 use Rattle.std.specs.Option.{option_copied_mut}
 use Rattle.btree_leaf.specs.Leaf.{Leaf}
@@ -6,8 +6,6 @@ use Rattle.btree_view.specs.Kept.{node_of}
 use Rattle.btree_leaf.proofs.LeafLemmas.{Ascends-from_inserted, inserted-at, inserted-gap}
 use Rattle.btree_leaf.proofs.leaf.LeafNode.insert_by_key.Goals as goal
 use Rattle.std.proofs.lemmas.Grind.{common_steps}
-use Rattle.std.proofs.Common.{arith}
-use Rattle.std.proofs.Common.{rules}
 
 pub returns-in-Ok-clause-after : goal.returns-in-Ok-clause-after
 returns-in-Ok-clause-after g c =

@@ -1,9 +1,8 @@
-use Rattle.std.proofs.Common.{length, arith, ap, sym, ◌∙◌}
+use Rattle.std.proofs.Common.{length, arith, ap, sym, ◌∙◌, rules}
 use Rattle.btree_view.proofs.Cuts.{parts_of_split, front_of_split, back_of_split}
 use Rattle.btree_leaf.proofs.LeafSplit.{IsSplit-leaf}
 use Rattle.btree_leaf.proofs.leaf.LeafNode.split.Goals as goal
 use Rattle.std.proofs.lemmas.Grind.{common_steps}
-use Rattle.std.proofs.Common.{rules}
 
 pub returns-clause-parts : goal.returns-clause-parts
 returns-clause-parts g c =

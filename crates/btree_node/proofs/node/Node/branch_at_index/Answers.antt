@@ -1,4 +1,4 @@
-use Rattle.std.proofs.Common.{arith, rules, ◌-◌, ◌/◌, true}
+use Rattle.std.proofs.Common.{arith, rules}
 use Rattle.std.proofs.lemmas.List.{drop_all}
 use Rattle.btree_node.proofs.NodeSizes.{fits-internal, fits-branches}
 use Rattle.btree_node.proofs.RoomLemmas.{drop-at_branch, drop-no_branch}

@@ -1,4 +1,4 @@
-use Rattle.std.proofs.Common.{arith, rules, ◌-◌, ◌/◌}
+use Rattle.std.proofs.Common.{arith, rules}
 use Rattle.btree_node.proofs.node.Node.child_id.Goals as goal
 
 pub child_id_opt-requires : goal.child_id_opt-requires

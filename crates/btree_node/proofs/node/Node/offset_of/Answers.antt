@@ -1,7 +1,7 @@
 use Rattle.btree_node.proofs.NodeSizes.{fits-internal, fits-leaf}
 use Rattle.btree_node.proofs.node.Node.offset_of.Goals as goal
 use Rattle.std.proofs.lemmas.Grind.{common_steps}
-use Rattle.std.proofs.Common.{arith, rules, ◌-◌, ◌/◌}
+use Rattle.std.proofs.Common.{arith, rules}
 
 pub offset_of-requires : goal.offset_of-requires
 offset_of-requires g c = (search fits-internal, rw c.in-Internal.is at c.requires)

@@ -1,5 +1,5 @@
 use Rattle.btree_node.proofs.NodeSizes.{fits-internal, fits-leaf}
-use Rattle.std.proofs.Common.{ap, arith, rules, ◌-◌, ◌/◌}
+use Rattle.std.proofs.Common.{ap, arith, rules}
 use Rattle.btree_node.specs.declared.node.Node.TheVariants.{Leaf}
 use Rattle.btree_node.proofs.node.Node.pop_left.Goals as goal
 use Rattle.std.proofs.lemmas.Grind.{common_steps}

@@ -1,5 +1,5 @@
 use Rattle.btree_node.proofs.NodeSizes.{fits-internal, fits-leaf}
-use Rattle.std.proofs.Common.{Some, ap, sym, ◌∙◌, arith, rules, ◌-◌, ◌/◌}
+use Rattle.std.proofs.Common.{Some, ap, sym, ◌∙◌, arith, rules}
 use Rattle.std.proofs.lemmas.List.{length-map}
 use Rattle.btree_node.specs.declared.node.Node.TheVariants.{Leaf}
 use Rattle.btree_node.proofs.node.Node.pop_right.Goals as goal

@@ -1,5 +1,5 @@
 use Rattle.btree_node.proofs.NodeSizes.{fits-internal, fits-leaf}
-use Rattle.std.proofs.Common.{arith, ◌-◌, ◌/◌}
+use Rattle.std.proofs.Common.{arith}
 use Rattle.std.proofs.lemmas.List.{length-map}
 use Rattle.btree_node.proofs.node.Node.push_left.Goals as goal
 use Rattle.std.proofs.lemmas.Grind.{common_steps}

@@ -2,7 +2,7 @@ use Rattle.btree_raw.proofs.RawLemmas.{adopts, can-adopt}
 use Rattle.btree_raw.proofs.StateLemmas.{inserted, nodes-of, then}
 use Rattle.btree_raw.proofs.raw.RawBTree.allocate_node.Goals as goal
 use Rattle.std.proofs.lemmas.Grind.{common_steps}
-use Rattle.std.proofs.Common.{arith, rules, ◌-◌}
+use Rattle.std.proofs.Common.{arith, rules}
 
 pub adopt-requires : goal.adopt-requires
 adopt-requires g c = can-adopt c.args.self.now.nodes c.in-Ok.id c.args.node c.in-Ok.ensures.unused c.requires c.store_node.new.self.nodes (nodes-of c.in-Ok.ensures.stored)

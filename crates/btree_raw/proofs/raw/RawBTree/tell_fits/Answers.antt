@@ -1,4 +1,4 @@
-use Rattle.std.proofs.Common.{arith, rules, ◌-◌}
+use Rattle.std.proofs.Common.{arith, rules}
 use Rattle.btree_raw.proofs.raw.RawBTree.tell_fits.Goals as goal
 use Rattle.std.proofs.lemmas.Grind.{common_steps}
 
