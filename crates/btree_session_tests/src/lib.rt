@@ -2,4 +2,6 @@
 #![tactic(auto)]
 
 #[cfg(test)]
+mod content;
+#[cfg(test)]
 mod session;

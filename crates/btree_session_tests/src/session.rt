@@ -1,4 +1,6 @@
 //! Sessions: commands as values over memory that is refused, and lines of text from readers and to writers that fail.
+use crate::content::content_of;
+use btree_ext::BTreeExt;
 use btree_item::Cause;
 use btree_node::Node;
 use btree_nodes::NodesMut;
@@ -370,11 +372,13 @@ fn refused_room_for_replies_changes_nothing(rt: HostRuntime) -> Result<(), Fail>
     assert_eq!(rt; replies.as_slice(), [Reply::Nothing].as_slice());
 
     let commands = [Command::Insert(1, 11); 100];
+    let before = content_of(session.map().as_raw(), rt.alloc())?;
     memory.refuse(1);
     assert!(rt; run(&mut session, &commands, &mut replies).is_err());
     assert_eq!(rt; memory.refuses(), 0);
     assert_eq!(rt; replies.as_slice(), [Reply::Nothing].as_slice());
-    assert_eq!(rt; session.map().get(&1).copied(), Some(10));
+    let after = content_of(session.map().as_raw(), rt.alloc())?;
+    assert_eq!(rt; after.as_str(), before.as_str());
 
     run(&mut session, &commands, &mut replies)?;
     assert_eq!(rt;
@@ -393,18 +397,22 @@ fn check_first_refused<C: NodesMut<u64, u64> + Drop>(
 ) -> Result<(), Fail> {
     let mut session: Session<C> = Session::new(origin);
     let mut replies = Vec::new(alloc);
-    let commands = [
-        Command::Insert(3, 30),
-        Command::Get(3),
-        Command::Insert(3, 31),
-        Command::Get(3),
-    ];
-    run(&mut session, &commands, &mut replies)?;
+    run(&mut session, &[Command::Insert(3, 30)], &mut replies)?;
+    assert_eq!(rt;
+        replies.as_slice(),
+        [Reply::Refused(Cause::Store)].as_slice()
+    );
+    let content = content_of(session.map().as_raw(), alloc)?;
+    assert_eq!(rt; content.as_str(), "no root, 0 nodes, length 0");
+    run(
+        &mut session,
+        &[Command::Insert(3, 31), Command::Get(3)],
+        &mut replies,
+    )?;
     assert_eq!(rt;
         replies.as_slice(),
         [
             Reply::Refused(Cause::Store),
-            Reply::Nothing,
             Reply::Nothing,
             Reply::Value(31)
         ]
@@ -421,91 +429,43 @@ fn a_refused_node_is_a_reply(rt: HostRuntime) -> Result<(), Fail> {
     Ok(())
 }
 
-// Lines that put in each key from 0 to 43, but for one.
-fn insertions_but(left_out: Option<u64>, alloc: Global) -> Result<String, Fail> {
-    let mut lines = String::new(alloc);
-    for key in 0..44u64 {
-        if Some(key) != left_out {
-            write!(lines, "insert {key} {key}\n")?;
-        }
+// Drives a line that puts a key in, and answers whether it was refused. A refused line changes nothing, and is taken when it is said again.
+fn is_refused<C: NodesMut<u64, u64>>(
+    rt: &impl Abort,
+    session: &mut Session<C>,
+    key: u64,
+    alloc: Global,
+) -> Result<bool, Fail> {
+    let line = format!(in alloc; "insert {key} {key}\n")?;
+    let before = content_of(session.map().as_raw(), alloc)?;
+    let reply = written_for(session, line.as_bytes(), alloc)?;
+    if reply.as_slice() == b"none\n".as_slice() {
+        return Ok(false);
     }
-    Ok(lines)
+    assert_eq!(rt; reply.as_slice(), b"refused store\n".as_slice(), "at {key}");
+    let after = content_of(session.map().as_raw(), alloc)?;
+    assert_eq!(rt; after.as_str(), before.as_str(), "at {key}");
+    let again = written_for(session, line.as_bytes(), alloc)?;
+    assert_eq!(rt; again.as_slice(), b"none\n".as_slice(), "at {key}");
+    Ok(true)
 }
 
-// The replies to those lines where one key is refused.
-fn replies_but(refused: u64, alloc: Global) -> Result<String, Fail> {
-    let mut replies = String::new(alloc);
-    for key in 0..44u64 {
-        if key == refused {
-            replies.push_str("refused store\n")?;
-        } else {
-            replies.push_str("none\n")?;
-        }
-    }
-    Ok(replies)
-}
-
-// All is as if the line with this key had not been said.
-fn check_left_out<C: NodesMut<u64, u64>>(
-    rt: &impl Abort,
-    session: &mut Session<C>,
-    refused: u64,
-    alloc: Global,
-) -> Result<(), Fail> {
-    let questions = b"list\nlen\nnodes\nshape\n".as_slice();
-    let lines = insertions_but(Some(refused), alloc)?;
-    let mut other: Session<Store> = Session::new(alloc);
-    written_for(&mut other, lines.as_bytes(), alloc)?;
-    let wanted = written_for(&mut other, questions, alloc)?;
-    let written = written_for(session, questions, alloc)?;
-    assert_eq!(rt; written.as_slice(), wanted.as_slice());
-    Ok(())
-}
-
-// The line with this key is taken when it is said again.
-fn check_taken<C: NodesMut<u64, u64>>(
-    rt: &impl Abort,
-    session: &mut Session<C>,
-    refused: u64,
-    alloc: Global,
-) -> Result<(), Fail> {
-    let line = format!(in alloc; "insert {refused} {refused}\nlen\n")?;
-    let written = written_for(session, line.as_bytes(), alloc)?;
-    assert_eq!(rt; written.as_slice(), b"none\n44\n".as_slice());
-    Ok(())
-}
-
-// Drives 44 insertions, and answers which key was refused, if one was.
-fn refused_of_44<C: NodesMut<u64, u64>>(
-    rt: &impl Abort,
-    session: &mut Session<C>,
-    alloc: Global,
-) -> Result<Option<u64>, Fail> {
-    let lines = insertions_but(None, alloc)?;
-    let replies = written_for(session, lines.as_bytes(), alloc)?;
-    let Some(place) = replies.iter().position(|byte| *byte == b'r') else {
-        return Ok(None);
-    };
-    // Each reply before it is `none` with its newline.
-    let refused = place as u64 / 5;
-    let wanted = replies_but(refused, alloc)?;
-    assert_eq!(rt; replies.as_slice(), wanted.as_bytes());
-    Ok(Some(refused))
-}
-
-// Drives 44 insertions. Answers whether one was refused, and checks then what it left.
-fn meets_refusal<C: NodesMut<u64, u64> + Drop>(
+// Drives 44 insertions, and answers how many were refused.
+fn refusals_of_44<C: NodesMut<u64, u64> + Drop>(
     rt: &impl Abort,
     origin: C::Origin,
     alloc: Global,
-) -> Result<bool, Fail> {
+) -> Result<usize, Fail> {
     let mut session: Session<C> = Session::new(origin);
-    let Some(refused) = refused_of_44(rt, &mut session, alloc)? else {
-        return Ok(false);
-    };
-    check_left_out(rt, &mut session, refused, alloc)?;
-    check_taken(rt, &mut session, refused, alloc)?;
-    Ok(true)
+    let mut refusals = 0usize;
+    for key in 0..44u64 {
+        if is_refused(rt, &mut session, key, alloc)? {
+            refusals = refusals.wrapping_add(1);
+        }
+    }
+    let counts = written_for(&mut session, b"len\nnodes\n", alloc)?;
+    assert_eq!(rt; counts.as_slice(), b"44\n12\n".as_slice());
+    Ok(refusals)
 }
 
 // Each allocation of the store in a run of 44 insertions is refused in turn, until a run meets none.
@@ -513,16 +473,16 @@ fn meets_refusal<C: NodesMut<u64, u64> + Drop>(
 fn a_refused_line_changes_nothing(rt: HostRuntime) -> Result<(), Fail> {
     for nth in 1..44u64 {
         let memory = Refusing::over(rt.alloc(), nth);
-        let refused = meets_refusal::<SlabStore<Node<u64, u64>, &Refusing<Global>>>(
+        let refusals = refusals_of_44::<SlabStore<Node<u64, u64>, &Refusing<Global>>>(
             &rt,
             &memory,
             rt.alloc(),
         )?;
-        if !refused {
+        if refusals == 0 {
             assert!(rt; nth > 1 && memory.refuses() > 0);
             return Ok(());
         }
-        assert_eq!(rt; memory.refuses(), 0, "at {nth}");
+        assert_eq!(rt; (refusals, memory.refuses()), (1, 0), "at {nth}");
     }
     Err(Fail::from("each run met a refusal"))
 }
