@@ -1,4 +1,4 @@
-use Rattle.std.proofs.Common.{refl, arith}
+use Rattle.std.proofs.Common.{refl, arith, rules}
 use Rattle.std.specs.FinMap as map
 use Rattle.btree_walk.proofs.WalkLemmas.{under-used, down-room, down-smaller, down-leaf, down-internal}
 use Rattle.btree_walk.proofs.ancestors.descend.Goals as goal
@@ -26,3 +26,9 @@ loop-child-preserved g c =
 pub returns-in-None-clause-left : goal.returns-in-None-clause-left
 returns-in-None-clause-left g c =
     down-leaf c.args.tree.now.nodes (map.len c.args.tree.now.nodes) _ c.loop-child.ancestors c.loop-child.id c.loop-child.invariant c.node-node.result.now c.node-node.ensures c.in-None.ensures
+
+pub tell_fits-requires : goal.tell_fits-requires
+tell_fits-requires g c κs = search rules steps 200000
+
+pub returns-in-None-clause-above : goal.returns-in-None-clause-above
+returns-in-None-clause-above g c = search rules steps 200000

@@ -1,8 +1,9 @@
-use Rattle.std.proofs.Common.{refl, arith, ap, ◌∙◌, ◌∷◌, ◌+◌}
+use Rattle.std.proofs.Common.{refl, arith, ap, ◌∙◌, ◌∷◌, ◌+◌, rules}
 use Rattle.std.specs.FinMap as map
 use Rattle.btree_walk.specs.Rows.{rows_of}
 use Rattle.btree_walk.proofs.WalkLemmas.{taken-off, up-passed, up-rows, up-under, up-list, up-room, up-over}
 use Rattle.btree_walk.proofs.ancestors.next_above.Goals as goal
+use Rattle.std.proofs.lemmas.Grind.{common_steps}
 
 pub loop-ancestor-init : goal.loop-ancestor-init
 loop-ancestor-init g c = record { rows = c.requires.above; list = refl }
@@ -48,3 +49,22 @@ pub returns-clause-left : goal.returns-clause-left
 returns-clause-left g c =
     let over = up-over c.args.tree.now.nodes (map.len c.args.tree.now.nodes) _ c.loop-ancestor.ancestors c.loop-ancestor.invariant c.in_default.ensures.answer c.pop.new.self c.in_default.ensures.after in
     (over.list, ap rows_of over.rest_none)
+
+pub tell_fits-requires : goal.tell_fits-requires
+tell_fits-requires g c κs = search rules steps 200000
+
+pub pop-requires : goal.pop-requires
+pop-requires g c = search rules steps 200000
+
+pub overflow_add-passed : goal.overflow_add-passed
+overflow_add-passed g c = grind (arith, common_steps) steps 300000
+
+pub key-requires : goal.key-requires
+key-requires g c κs = search rules steps 200000
+
+pub value-requires : goal.value-requires
+value-requires g c κs = search rules steps 200000
+
+pub returns-in-Some-branch_at_index-clause-above :
+    goal.returns-in-Some-branch_at_index-clause-above
+returns-in-Some-branch_at_index-clause-above g c = search rules steps 200000

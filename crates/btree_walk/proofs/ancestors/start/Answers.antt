@@ -1,4 +1,4 @@
-use Rattle.std.proofs.Common.{sym, ap, subst, ◌∙◌, ◌++◌, arith, append-nil}
+use Rattle.std.proofs.Common.{sym, ap, subst, ◌∙◌, ◌++◌, arith, append-nil, rules}
 use Rattle.std.specs.FinMap as map
 use Rattle.btree_shape.specs.Left.{left_above}
 use Rattle.btree_shape.specs.Spells.{spelled}
@@ -7,6 +7,7 @@ use Rattle.btree_shape.specs.WellFormed.{IsWellFormed}
 use Rattle.btree_walk.specs.Rows.{rows_of}
 use Rattle.btree_walk.proofs.IterLemmas.{root-under}
 use Rattle.btree_walk.proofs.ancestors.start.Goals as goal
+use Rattle.std.proofs.lemmas.Grind.{common_steps}
 
 pub descend-requires : goal.descend-requires
 descend-requires g c =
@@ -29,3 +30,21 @@ returns-in-Some-clause-left g c =
     ∙ ap (λ fs. spelled (looks c.args.tree.now) (map.len c.args.tree.now.nodes) c.in-Some.root ++ left_above (looks c.args.tree.now) (map.len c.args.tree.now.nodes) (rows_of fs)) c.requires.none
     ∙ append-nil (spelled (looks c.args.tree.now) (map.len c.args.tree.now.nodes) c.in-Some.root)
     ∙ ap (λ r. pairs_under (looks c.args.tree.now) r (map.len c.args.tree.now.nodes)) c.in-Some.ensures.value
+
+pub tell_fits-requires : goal.tell_fits-requires
+tell_fits-requires g c κs = search rules steps 200000
+
+pub len-len-requires : goal.len-len-requires
+len-len-requires g c κs = search rules steps 200000
+
+pub root_id-requires : goal.root_id-requires
+root_id-requires g c κs = search rules steps 200000
+
+pub returns-in-Some-clause-above : goal.returns-in-Some-clause-above
+returns-in-Some-clause-above g c = search rules steps 200000
+
+pub returns-in-None-clause-above : goal.returns-in-None-clause-above
+returns-in-None-clause-above g c = grind (arith, common_steps) steps 1500000
+
+pub returns-in-None-clause-left : goal.returns-in-None-clause-left
+returns-in-None-clause-left g c = grind (arith, common_steps) steps 1500000
