@@ -241,6 +241,98 @@ fn finds_a_key_in_a_leaf(rt: HostRuntime) {
     assert_eq!(rt; value_of(&written), Some('c'));
 }
 
+// A leaf under node 5 with the keys 20 and 30.
+#[tactic(auto, using(btree_item::proofs::PairEdits::order_kept))]
+fn leaf_of_two() -> Node<u32, char>
+    ensures { Ascends nat_cmp (items_of (view_of result)) }
+{
+    let mut node = Node::leaf(Some(5), Item::new(20, 'b'));
+    let _offset = node.push_right(Item::new(30, 'c'), None);
+    node
+}
+
+// An internal node under node 6 with the keys 20 and 30, between the children 1, 2 and 3.
+#[tactic(auto, using(btree_item::proofs::PairEdits::order_kept))]
+fn node_of_two() -> Node<u32, char>
+    ensures { Ascends nat_cmp (items_of (view_of result)) }
+{
+    let mut node = Node::binary(Some(6), 1, Item::new(20, 'b'), 2);
+    let _offset = node.push_right(Item::new(30, 'c'), Some(3));
+    node
+}
+
+fn pair_at(node: &Node<u32, char>, index: usize) -> Option<(u32, char)> {
+    node.item(Offset::from(index))
+        .map(|item| (*item.key(), *item.value()))
+}
+
+// Whether a node has this parent, its two items with these values, and nothing else.
+fn is_so(
+    node: &Node<u32, char>,
+    parent: usize,
+    values: (char, char),
+    children: (Option<usize>, Option<usize>, Option<usize>),
+) -> bool {
+    let items = (pair_at(node, 0), pair_at(node, 1), pair_at(node, 2));
+    let ids = (
+        node.child_id_opt(0),
+        node.child_id_opt(1),
+        node.child_id_opt(2),
+    );
+    node.parent() == Some(parent)
+        && items == (Some((20, values.0)), Some((30, values.1)), None)
+        && ids == children
+        && node.child_id_opt(3).is_none()
+}
+
+const NO_CHILD: (Option<usize>, Option<usize>, Option<usize>) = (None, None, None);
+
+const CHILDREN: (Option<usize>, Option<usize>, Option<usize>) = (Some(1), Some(2), Some(3));
+
+#[test]
+fn writes_one_value_of_a_leaf(rt: HostRuntime) {
+    let mut written = leaf_of_two();
+    match written.get_mut(&30) {
+        Ok(Some(value)) => *value = 'x',
+        _ => assert!(rt; false),
+    }
+    assert!(rt; is_so(&written, 5, ('b', 'x'), NO_CHILD));
+    let mut found = leaf_of_two();
+    match found.get_mut(&20) {
+        Ok(Some(value)) => assert_eq!(rt; *value, 'b'),
+        _ => assert!(rt; false),
+    }
+    assert!(rt; is_so(&found, 5, ('b', 'c'), NO_CHILD));
+    let mut missed = leaf_of_two();
+    match missed.get_mut(&25) {
+        Ok(None) => {}
+        _ => assert!(rt; false),
+    }
+    assert!(rt; is_so(&missed, 5, ('b', 'c'), NO_CHILD));
+}
+
+#[test]
+fn writes_one_value_of_an_internal_node(rt: HostRuntime) {
+    let mut written = node_of_two();
+    match written.get_mut(&20) {
+        Ok(Some(value)) => *value = 'x',
+        _ => assert!(rt; false),
+    }
+    assert!(rt; is_so(&written, 6, ('x', 'c'), CHILDREN));
+    let mut found = node_of_two();
+    match found.get_mut(&30) {
+        Ok(Some(value)) => assert_eq!(rt; *value, 'c'),
+        _ => assert!(rt; false),
+    }
+    assert!(rt; is_so(&found, 6, ('b', 'c'), CHILDREN));
+    let mut missed = node_of_two();
+    match missed.get_mut(&25) {
+        Err(child) => assert_eq!(rt; child, 2),
+        Ok(_) => assert!(rt; false),
+    }
+    assert!(rt; is_so(&missed, 6, ('b', 'c'), CHILDREN));
+}
+
 #[test]
 fn compares_branches_by_key(rt: HostRuntime) {
     let node: internal::Internal<u32, char> = InternalNode::binary(None, 1, Item::new(20, 'b'), 2);
