@@ -2,13 +2,13 @@
 #![tactic(auto)]
 
 #[cfg(test)]
+mod counted;
+#[cfg(test)]
 mod drawn;
 #[cfg(test)]
 mod odd;
 #[cfg(test)]
 mod places;
-#[cfg(test)]
-mod raw;
 #[cfg(test)]
 mod rebalance;
 #[cfg(test)]

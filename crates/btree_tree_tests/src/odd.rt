@@ -87,19 +87,27 @@ fn nodes_name_their_parents(rt: HostRuntime) {
 }
 
 #[test]
-fn each_node_is_there_and_in_the_tree(rt: HostRuntime) {
-    let (mut raw, t, l, r) = even(&rt, rt.alloc());
-    assert!(rt; !raw.is_off_by_one(usize::MAX));
-    raw.set_root_id(Some(l));
-    assert!(rt; !raw.is_off_by_one(l));
-    raw.set_root_id(None);
-    assert!(rt; !raw.is_off_by_one(l));
-    raw.set_root_id(Some(t));
+fn the_root_is_named(rt: HostRuntime) {
+    let (mut raw, t, l, _) = even(&rt, rt.alloc());
+    for (root, is_off) in [(Some(l), false), (None, false), (Some(t), true)] {
+        raw.set_root_id(root);
+        assert_eq!(rt; raw.is_off_by_one(l), is_off);
+    }
+}
+
+#[test]
+fn each_node_is_in_the_tree(rt: HostRuntime) {
+    let (mut raw, t, _, _) = even(&rt, rt.alloc());
     let spare = put(&rt, &mut raw, leaf_of(&rt, &[7, 8, 9]));
     assert!(rt; !raw.is_off_by_one(t) && !raw.is_off_by_one(spare));
     assert!(rt; raw.has_node(spare));
     drop(raw.release_node(spare));
     assert!(rt; raw.is_off_by_one(t) && !raw.is_off_by_one(spare));
+}
+
+#[test]
+fn each_child_is_there(rt: HostRuntime) {
+    let (mut raw, t, _, r) = even(&rt, rt.alloc());
     assert!(rt; raw.has_node(r));
     drop(raw.release_node(r));
     assert!(rt; !raw.is_off_by_one(t));
@@ -112,13 +120,6 @@ fn a_node_is_in_the_tree_once(rt: HostRuntime) {
     if let Node::Internal(node) = raw.node_mut(t) {
         assert!(rt; node.item_count() < 8);
         node.push_right(Item::new(7, 7), l);
-    }
-    assert!(rt; !raw.is_off_by_one(t));
-    let (mut raw, t, _, _) = even(&rt, rt.alloc());
-    assert!(rt; raw.has_node(t));
-    if let Node::Internal(node) = raw.node_mut(t) {
-        assert!(rt; node.item_count() < 8);
-        node.push_right(Item::new(7, 7), t);
     }
     assert!(rt; !raw.is_off_by_one(t));
 }

@@ -95,6 +95,12 @@ fn splits_a_leaf_and_a_root(rt: HostRuntime) -> Result<(), Fail> {
         (9, 3, 2, "4 |/0 1 2 3 |5 6 7 8 |/"),
         (14, 4, 2, "4 9 |/0 1 2 3 |5 6 7 8 |10 11 12 13 |/"),
         (
+            43,
+            9,
+            2,
+            "4 9 14 19 24 29 34 |/0 1 2 3 |5 6 7 8 |10 11 12 13 |15 16 17 18 |20 21 22 23 |25 26 27 28 |30 31 32 33 |35 36 37 38 39 40 41 42 |/",
+        ),
+        (
             44,
             12,
             3,
@@ -117,52 +123,25 @@ fn splits_a_leaf_and_a_root(rt: HostRuntime) -> Result<(), Fail> {
     Ok(())
 }
 
-#[test]
-fn the_last_of_44_takes_three_nodes(rt: HostRuntime) -> Result<(), Fail> {
-    let (mut tree, _) = grow::<SlabStore<Node<u64, u64>>>(&rt, rt.alloc(), 43, rt.alloc())?;
-    assert_eq!(rt; (tree.node_count(), tree.height()), (9, 2));
-    assert_eq!(rt; tree.insert(43, 430).ok(), Some(None));
-    assert_eq!(rt; (tree.node_count(), tree.height()), (12, 3));
-    Ok(())
-}
-
-#[test]
-fn looks_keys_up(rt: HostRuntime) -> Result<(), Fail> {
-    let mut tree: Tree<u64, u64, SlabStore<Node<u64, u64>>> = Tree::new(rt.alloc());
-    for key in 0..44 {
-        assert_eq!(rt; tree.insert(2 * key + 1, key).ok(), Some(None));
-    }
-    for key in 0..44 {
-        assert_eq!(rt; tree.get(&(2 * key + 1)), Some(&key));
-        assert_eq!(rt; tree.get(&(2 * key)), None);
-        let Ok(found) = tree.address_of(&(2 * key + 1)) else {
-            return Err(Fail::from("absent"));
-        };
-        assert_eq!(rt; tree.item(found).map(|item| *item.value()), Some(key));
-        let Err(gap) = tree.address_of(&(2 * key)) else {
-            return Err(Fail::from("present"));
-        };
-        assert!(rt; !gap.offset.is_before());
-    }
-    assert_eq!(rt; tree.insert(21, 7).ok(), Some(Some(10)));
-    assert_eq!(rt; (tree.get(&21), tree.len()), (Some(&7), 44));
-    Ok(())
-}
-
-// Puts 64 keys into a tree, and answers how many were refused once. The last one takes a leaf and a node above it, the 17th.
-fn refusals_of_64<C: NodesMut<u64, u64> + Drop>(
+// Puts keys into a tree, which takes so many nodes on three levels, and answers how many were refused once.
+fn refusals_of<C: NodesMut<u64, u64> + Drop>(
     rt: &impl Abort,
     origin: C::Origin,
+    keys: u64,
+    nodes: usize,
     alloc: Global,
 ) -> Result<usize, Fail> {
-    let (tree, refusals) = grow::<C>(rt, origin, 64, alloc)?;
-    assert_eq!(rt; (tree.node_count(), tree.height(), tree.len()), (17, 3, 64));
+    let (tree, refusals) = grow::<C>(rt, origin, keys, alloc)?;
+    assert_eq!(rt;
+        (tree.node_count(), tree.height(), tree.len() as u64),
+        (nodes, 3, keys)
+    );
     Ok(refusals)
 }
 
 #[test]
 fn walks_from_the_front(rt: HostRuntime) -> Result<(), Fail> {
-    for keys in [0u64, 8, 9, 14, 44] {
+    for keys in [0u64, 9, 44] {
         let (tree, _) = grow::<SlabStore<Node<u64, u64>>>(&rt, rt.alloc(), keys, rt.alloc())?;
         let mut walk = Iter::new(&tree);
         for key in 0..keys {
@@ -176,22 +155,26 @@ fn walks_from_the_front(rt: HostRuntime) -> Result<(), Fail> {
     Ok(())
 }
 
-// Each allocation of a run of 64 insertions is refused in turn, until a run meets none. The store grows at its 17th node, so that there the
-// first of two claimed nodes is given back.
-#[test]
-fn a_refused_node_changes_nothing(rt: HostRuntime) -> Result<(), Fail> {
+// Each allocation of a run of insertions is refused in turn, until a run meets none.
+fn check_each_refused(rt: &impl Abort, keys: u64, nodes: usize, alloc: Global) -> Result<(), Fail> {
     for nth in 1..64u64 {
-        let memory = Refusing::over(rt.alloc(), nth);
-        let refusals = refusals_of_64::<SlabStore<Node<u64, u64>, &Refusing<Global>>>(
-            &rt,
-            &memory,
-            rt.alloc(),
+        let memory = Refusing::over(alloc, nth);
+        let refusals = refusals_of::<SlabStore<Node<u64, u64>, &Refusing<Global>>>(
+            rt, &memory, keys, nodes, alloc,
         )?;
         if refusals == 0 {
             assert!(rt; nth > 1 && memory.refuses() > 0);
             return Ok(());
         }
-        assert_eq!(rt; (refusals, memory.refuses()), (1, 0), "at {nth}");
+        assert_eq!(rt; (refusals, memory.refuses()), (1, 0), "at {nth} of {keys}");
     }
     Err(Fail::from("each run met a refusal"))
+}
+
+// The last of 44 keys takes three nodes. That of 64 takes two, a leaf and a node above it, the 17th. There the store grows, so that the first
+// of the two claimed nodes is given back.
+#[test]
+fn a_refused_node_changes_nothing(rt: HostRuntime) -> Result<(), Fail> {
+    check_each_refused(&rt, 44, 12, rt.alloc())?;
+    check_each_refused(&rt, 64, 17, rt.alloc())
 }

@@ -1,0 +1,63 @@
+//! Look-up and insertion through whole trees, by keys that count how often they are compared.
+use btree_counted::Counted;
+use btree_ext::{BTreeExt, Tree};
+use btree_node::Node;
+use btree_store::SlabStore;
+use std::alloc::Global;
+use std::cell::Cell;
+use std::process::Abort;
+
+type CountedTree<'a> = Tree<Counted<'a>, u32, SlabStore<Node<Counted<'a>, u32>>>;
+
+// Since the count began, at most six keys a level were compared.
+fn check_count(rt: &impl Abort, tree: &CountedTree<'_>, compared: &Cell<u32>, number: u32) {
+    assert!(rt; compared.get() as usize <= 6 * tree.height(), "at {number}");
+}
+
+// A tree of the keys 1, 3, 5 and so on up to 87.
+fn odd_keys<'a>(rt: &impl Abort, compared: &'a Cell<u32>, alloc: Global) -> CountedTree<'a> {
+    let mut tree: CountedTree<'a> = Tree::new(alloc);
+    for value in 0..44u32 {
+        let number = 2 * value + 1;
+        compared.set(0);
+        assert_eq!(rt;
+            tree.insert(Counted { number, compared }, value).ok(),
+            Some(None)
+        );
+        check_count(rt, &tree, compared, number);
+    }
+    tree
+}
+
+// The value at the address of a key that is there.
+fn value_at<'a>(tree: &CountedTree<'a>, key: &Counted<'a>) -> Option<u32> {
+    match tree.address_of(key) {
+        Ok(addr) => tree.item(addr).map(|item| *item.value()),
+        Err(_) => None,
+    }
+}
+
+// Each of the keys and each number between is sought.
+#[test]
+fn compares_at_most_six_keys_a_level(rt: HostRuntime) {
+    let compared = Cell::new(0);
+    let tree = odd_keys(&rt, &compared, rt.alloc());
+    assert_eq!(rt; tree.height(), 3);
+    for number in 0..89u32 {
+        let key = Counted {
+            number,
+            compared: &compared,
+        };
+        compared.set(0);
+        let value = if number % 2 == 1 {
+            Some(number / 2)
+        } else {
+            None
+        };
+        assert_eq!(rt; tree.get(&key).copied(), value);
+        check_count(&rt, &tree, &compared, number);
+        compared.set(0);
+        assert_eq!(rt; value_at(&tree, &key), value);
+        check_count(&rt, &tree, &compared, number);
+    }
+}
