@@ -1,4 +1,5 @@
 -- The tour of a tree, seen from a node, and the public words on addresses and places say the same.
+-- Edits by address will cite what nothing cites yet.
 use Rattle.std.proofs.Common.{◌≡◌, ◌<◌, ◌≤◌, ◌∷◌, [], ◌∙◌, ℕ, zero, suc, inl, inr, List, length, Option, Some, None, refl, arith, option_and_then}
 use Rattle.std.specs.Cmp.{IsTotalOrder}
 use Rattle.std.specs.Prelude.{slice_get}

@@ -1,4 +1,4 @@
--- The list of the occupied addresses of a tree: each stands at the index that is its place.
+-- The list of the occupied addresses of a tree: each stands at the index that is its place. Navigation and cursors will cite it.
 use Rattle.std.proofs.Common.{◌≡◌, ◌<◌, ◌≤◌, ◌∙◌, ◌∷◌, [], ℕ, zero, suc, inl, inr, true, List, length, Option, Some, None, refl, sym, ap, subst, arith, option_and_then}
 use Rattle.std.proofs.lemmas.Option.{slice_get_cases, slice_get_within}
 use Rattle.std.specs.List.{AllByRecursion}

@@ -1,4 +1,5 @@
 -- The leaves at the ends of a tree, from a node to its child; and that further levels change neither these nor the lists.
+-- Walks from both ends will cite it.
 use Rattle.std.proofs.Common.{◌≡◌, ◌<◌, ◌∷◌, ◌∙◌, [], ℕ, zero, suc, List, length, map, Option, Some, None, refl, sym, ap, subst, arith}
 use Rattle.std.specs.List.{AllByRecursion}
 use Rattle.std.specs.Prelude.{slice_get}

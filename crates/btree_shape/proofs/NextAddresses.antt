@@ -1,4 +1,4 @@
--- The rules that tell the next address agree with the lists.
+-- The rules that tell the next address agree with the lists. Navigation and cursors will cite it.
 use Rattle.std.proofs.Common.{◌≡◌, ◌≢◌, ◌<◌, ◌≤◌, ◌∷◌, ◌∙◌, [], ℕ, zero, suc, inl, inr, true, false, List, length, map, Option, Some, None, refl, sym, ap, subst, arith, option_map, ◌⊎◌}
 use Rattle.std.proofs.lemmas.Bool.Decides.{nat_tests}
 use Rattle.std.proofs.lemmas.List.{length-map}

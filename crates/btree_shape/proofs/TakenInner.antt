@@ -1,5 +1,5 @@
 -- An item taken out of an internal node of a well formed tree: the item before it, which stands in a leaf, is taken out
--- there and put in its place. The tree is off by one at that leaf.
+-- there and put in its place. The tree is off by one at that leaf. Removal will cite it.
 use Rattle.std.proofs.Common.{◌≡◌, ◌≢◌, ◌<◌, ◌≤◌, ◌⊎◌, ◌∙◌, ◌+◌, ℕ, suc, inl, inr, List, set, Option, Some, sym, ap, subst, arith}
 use Rattle.std.proofs.lemmas.Option.{slice_get_within}
 use Rattle.std.specs.Cmp.{IsTotalOrder}

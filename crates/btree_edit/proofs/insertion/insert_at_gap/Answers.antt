@@ -11,18 +11,6 @@ len-requires g c κs = search rules steps 200000
 pub refused-requires : goal.refused-requires
 refused-requires g c κs = search rules steps 200000
 
-pub returns-then-len-eq18446744073709551615-clause-inserted :
-    goal.returns-then-len-eq18446744073709551615-clause-inserted
-returns-then-len-eq18446744073709551615-clause-inserted g c = search rules steps 200000
-
-pub returns-then-len-eq18446744073709551615-clause-returned :
-    goal.returns-then-len-eq18446744073709551615-clause-returned
-returns-then-len-eq18446744073709551615-clause-returned g c = grind (arith, common_steps) steps 300000
-
-pub returns-then-len-eq18446744073709551615-clause-refused :
-    goal.returns-then-len-eq18446744073709551615-clause-refused
-returns-then-len-eq18446744073709551615-clause-refused g c = search rules steps 200000
-
 pub root_id-requires : goal.root_id-requires
 root_id-requires g c κs = search rules steps 200000
 

@@ -19,9 +19,6 @@ returns-in-None-clause-refused g c e =
 pub loop-index-init : goal.loop-index-init
 loop-index-init g c = search rules steps 200000
 
-pub claim_one-requires : goal.claim_one-requires
-claim_one-requires g c κs = search rules steps 200000
-
 pub push-requires : goal.push-requires
 push-requires g c = search rules steps 200000
 

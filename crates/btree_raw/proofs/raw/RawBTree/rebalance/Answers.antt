@@ -9,15 +9,6 @@ node-requires g c = (c.tell_fits.ensures, odd-used g.K.Ord.cmp g.met.K.Ord.total
 pub tell_fits-requires : goal.tell_fits-requires
 tell_fits-requires g c κs = search rules steps 200000
 
-pub rebalance_over-requires-clause-odd : goal.rebalance_over-requires-clause-odd
-rebalance_over-requires-clause-odd g c = search rules steps 200000
-
-pub rebalance_over-requires-clause-valid : goal.rebalance_over-requires-clause-valid
-rebalance_over-requires-clause-valid g c = search rules steps 200000
-
-pub rebalance_over-requires-clause-over : goal.rebalance_over-requires-clause-over
-rebalance_over-requires-clause-over g c = grind (arith, common_steps) steps 300000
-
 pub returns-then-is_overflowing-clause-rebalanced :
     goal.returns-then-is_overflowing-clause-rebalanced
 returns-then-is_overflowing-clause-rebalanced g c = search rules steps 200000
