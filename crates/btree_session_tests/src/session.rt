@@ -349,35 +349,6 @@ fn a_failed_read_is_the_end_of_input_or_of_memory(rt: HostRuntime) {
     }
 }
 
-// Takes whatever is written, and fails to flush it.
-#[derive(Drop)]
-struct Unflushed {
-    written: Vec<u8>,
-}
-
-impl Write for Unflushed {
-    fn write(&mut self, buf: &[u8]) -> io::Result<usize> {
-        self.written.extend_from_slice(buf)?;
-        Ok(buf.len())
-    }
-
-    fn flush(&mut self) -> io::Result<()> {
-        Err(io::Error::from(ErrorKind::Other))
-    }
-}
-
-#[test]
-fn a_failed_flush_is_failed_output(rt: HostRuntime) {
-    let mut session: Session<Store> = Session::new(rt.alloc());
-    let mut input = b"get 1\n".as_slice();
-    let mut output = Unflushed {
-        written: Vec::new(rt.alloc()),
-    };
-    let result = drive(rt.alloc(), &mut session, &mut input, &mut output);
-    assert_eq!(rt; result, Err(Stop::Output));
-    assert_eq!(rt; output.written.as_slice(), b"none\n".as_slice());
-}
-
 // 2,501 lines in one run, each of them served.
 #[test]
 fn many_lines_are_served(rt: HostRuntime) -> Result<(), Fail> {
