@@ -12,36 +12,36 @@ use Rattle.btree_node.specs.declared.node.Node.{Node}
 use Rattle.btree_node.specs.Node.{view_of}
 use Rattle.btree_node.specs.NodeLends.{node_with_item_at}
 use Rattle.btree_node.proofs.NodeLemmas.{item_at-children, item_at-items, item_at-kind, item_at-parent}
-use Rattle.btree_view.specs.View.{Look, View, item_in, items_of}
-use Rattle.btree_shape.specs.OnTour.{IsOnTour}
+use Rattle.btree_view.specs.View.{NodeMap, View, item_in, items_of}
+use Rattle.btree_shape.specs.Focus.TreePositions.{HasPosition}
 use Rattle.btree_shape.specs.Place.{IsEnd, IsOccupied, IsPlace, IsPlaceOf, IsValid}
 use Rattle.btree_shape.specs.Lists.{times_listed}
-use Rattle.btree_shape.specs.Spells.{numbers_under}
-use Rattle.btree_shape.specs.Step.{HasItems, Puts}
-use Rattle.btree_shape.specs.Tour.{slot}
-use Rattle.btree_shape.specs.TreeState.{TreeState, Changes, IsBTree, IsOccupiedIn, IsPlaceIn, IsUsed, IsValidIn, item_of, looks, pairs_of}
+use Rattle.btree_shape.specs.Represents.{numbers_under}
+use Rattle.btree_shape.specs.Step.{HasItems, WritesNode}
+use Rattle.btree_shape.specs.Focus.Positions.{address_at}
+use Rattle.btree_shape.specs.TreeState.{TreeState, Changes, IsBTree, IsOccupiedIn, IsPlaceIn, IsUsed, IsValidIn, item_of, node_map, pairs_of}
 use Rattle.btree_shape.specs.WellFormed.{IsSized, IsWellFormed, times_used}
-use Rattle.btree_shape.proofs.AddressPlaces.{item-within}
-use Rattle.btree_shape.proofs.Numbers.{same-or, used-one}
-use Rattle.btree_shape.proofs.OnePlace.{one_place-well}
-use Rattle.btree_shape.proofs.OnTour.{tour-addressed, valid-on, well-on}
-use Rattle.btree_shape.proofs.PlacesValid.{place-valid}
-use Rattle.btree_shape.proofs.ReplacedTrees.{ReplacedWell, replaced-well}
-use Rattle.btree_shape.proofs.Stores.{len-views, puts, used-view, within-used}
-use Rattle.btree_shape.proofs.TreeStates.{is-tree, pairs-tree}
+use Rattle.btree_shape.proofs.Places.Words.{item-within}
+use Rattle.btree_shape.proofs.Trees.Numbers.{same-or, used-one}
+use Rattle.btree_shape.proofs.Places.OnePlace.{one_place-well}
+use Rattle.btree_shape.proofs.Places.OfTree.{positions-addressed, valid-on, well-on}
+use Rattle.btree_shape.proofs.Trees.ValidPlaces.{place-valid}
+use Rattle.btree_shape.proofs.Removal.OtherItemInState.{ReplacedWell, replaced-well}
+use Rattle.btree_shape.proofs.Trees.Stores.{len-views, writes_node, used-view, within-used}
+use Rattle.btree_shape.proofs.Trees.States.{is-tree, pairs-tree}
 use Rattle.btree_raw.proofs.StateLemmas.{same-len, same-refusals, same-root}
 use Rattle.btree_edit.specs.Exchange.{IsExchanged, IsValueExchanged}
 
 -- another item stands at the address, in a node that is otherwise as it was; no other node has changed
-pub record ExchangesAt {A : Type 0} (look new : Look A) (a : Address) (was is : A) : Type 0 where
+pub record ExchangesAt {A : Type 0} (node_at new : NodeMap A) (a : Address) (was is : A) : Type 0 where
   pub old : View A
-  pub here : look a.id ≡ Some old
+  pub here : node_at a.id ≡ Some old
   pub offset : ℕ
   pub at : a.offset ≡ Some offset
   pub stood : slice_get (items_of old) offset ≡ Some was
   pub node : View A
   pub items : HasItems old node (set (items_of old) offset is)
-  pub puts : Puts look new a.id node
+  pub writes_node : WritesNode node_at new a.id node
 
 -- an item set at an index, and the others
 get-set_same : {X : Type 0} (xs : List X) (n : ℕ) (x y : X) → slice_get xs n ≡ Some x → slice_get (set xs n y) n ≡ Some y
@@ -62,19 +62,19 @@ set-keys [] n k v w e = absurd (cc)
 set-keys (z ∷ xs) zero k v w e = let s : z ≡ (k, v) = cc in ap (λ q. q ∷ keys_of xs) (sym (ap (λ x. x.0) s))
 set-keys (z ∷ xs) (suc n) k v w e = ap (λ l. z.0 ∷ l) (set-keys xs n k v w e)
 
-slot-or : (b : Address) (id n : ℕ) → (b ≡ slot id n) ⊎ (b ≢ slot id n)
-slot-or b id n = elim (same-or b.id id) [
+address_at-or : (b : Address) (id n : ℕ) → (b ≡ address_at id n) ⊎ (b ≢ address_at id n)
+address_at-or b id n = elim (same-or b.id id) [
   | inl e ↦ by b.offset refl e
   | inr ne ↦ inr (λ e. ne (ap (λ (c : Address). c.id) e))
 ]
   where
-    by : (o : Option ℕ) → b.offset ≡ o → b.id ≡ id → (b ≡ slot id n) ⊎ (b ≢ slot id n)
+    by : (o : Option ℕ) → b.offset ≡ o → b.id ≡ id → (b ≡ address_at id n) ⊎ (b ≢ address_at id n)
     by None is e = inr (λ same. let s : b.offset ≡ Some n = ap (λ (c : Address). c.offset) same in absurd (cc))
     by (Some m) is e = elim (same-or m n) [
       | inl f ↦
           let at : b.offset ≡ Some n = is ∙ ap Some f in
           let left : b ≡ record { id = id; offset = b.offset } = λ i. record { id = e i; offset = b.offset } in
-          let right : ◌≡◌ {A = Address} (record { id = id; offset = b.offset }) (slot id n) = λ i. record { id = id; offset = at i } in
+          let right : ◌≡◌ {A = Address} (record { id = id; offset = b.offset }) (address_at id n) = λ i. record { id = id; offset = at i } in
           inl (left ∙ right)
       | inr ne ↦ inr (λ same. let s : b.offset ≡ Some n = ap (λ (c : Address). c.offset) same in ne (let t : Some m ≡ Some n = sym is ∙ s in cc))
     ]
@@ -83,19 +83,19 @@ slot-or b id n = elim (same-or b.id id) [
 pub occupied-used : {K V : Type 0} (s : TreeState K V) (a : Address) → IsOccupiedIn s a → IsUsed s a.id
 occupied-used {K} {V} s a = by a.offset
   where
-    by : (o : Option ℕ) → IsOccupied (looks s) a.id o → IsUsed s a.id
+    by : (o : Option ℕ) → IsOccupied (node_map s) a.id o → IsUsed s a.id
     by None is = absurd is
-    by (Some n) is = used-view s.nodes a.id (within-used (looks s) (looks s a.id) (Some n) (item-within (looks s) n is.0 (looks s a.id) is.1))
+    by (Some n) is = used-view s.nodes a.id (within-used (node_map s) (node_map s a.id) (Some n) (item-within (node_map s) n is.0 (node_map s a.id) is.1))
 
 -- the node has an item there
 pub occupied-some : {K V : Type 0} (s : TreeState K V) (a : Address) (node : Node K V) → Some node ≡ map.get s.nodes a.id → IsOccupiedIn s a
     → None ≡ option_and_then (slice_get (items_of (view_of node))) a.offset → ⊥
 occupied-some {K} {V} s a node at is none = by a.offset is none
   where
-    by : (o : Option ℕ) → IsOccupied (looks s) a.id o → None ≡ option_and_then (slice_get (items_of (view_of node))) o → ⊥
+    by : (o : Option ℕ) → IsOccupied (node_map s) a.id o → None ≡ option_and_then (slice_get (items_of (view_of node))) o → ⊥
     by None there e = absurd there
     by (Some n) there e =
-        let here : looks s a.id ≡ Some (view_of node) = ap (option_map view_of) (sym at) in
+        let here : node_map s a.id ≡ Some (view_of node) = ap (option_map view_of) (sym at) in
         let x : slice_get (items_of (view_of node)) n ≡ Some there.0 = ap (λ v. item_in v n) (sym here) ∙ there.1 in
         absurd (cc)
 
@@ -125,7 +125,7 @@ module _ {K V : Type 0} (old : TreeState K V) (a : Address) (node : Node K V) (a
             children = item_at-children node o.0 is;
             items_are = item_at-items node o.0 is;
           };
-          puts = puts old.nodes (map.insert old.nodes a.id (node_with_item_at a.offset node lent)) a.id node2
+          writes_node = writes_node old.nodes (map.insert old.nodes a.id (node_with_item_at a.offset node lent)) a.id node2
               (ap (λ n. map.insert old.nodes a.id (node_with_item_at n node lent)) o.1 ∙ ap (λ x. map.insert old.nodes a.id (node_with_item_at (Some o.0) node x)) lent_is);
         };
         rest = record { rest = refl };
@@ -133,15 +133,15 @@ module _ {K V : Type 0} (old : TreeState K V) (a : Address) (node : Node K V) (a
 
 module _ {K V : Type 0} (cmp : K → K → Ordering) (laws : IsTotalOrder cmp) (old new : TreeState K V) (a : Address) (was is : K × V) (tree : IsBTree cmp old)
     (x : Changes (λ p q. ExchangesAt p q a was is) old new) where
-  abbrev look : Look (K × V)
-  look = looks old
+  abbrev node_at : NodeMap (K × V)
+  node_at = node_map old
 
   abbrev xs : List (K × V)
   xs = pairs_of old
 
   pub rooted : (top : Option ℕ) → old.root ≡ top → (root : ℕ) × (old.root ≡ Some root)
   rooted None e =
-      let w = subst (λ t. IsWellFormed cmp look t old.len xs) e tree in
+      let w = subst (λ t. IsWellFormed cmp node_at t old.len xs) e tree in
       let none = w.formed.0 a.id in
       let here = x.nodes.here in
       absurd (cc)
@@ -153,104 +153,104 @@ module _ {K V : Type 0} (cmp : K → K → Ordering) (laws : IsTotalOrder cmp) (
   at-root : old.root ≡ Some root
   at-root = (rooted old.root refl).1
 
-  well : IsWellFormed cmp look (Some root) old.len xs
-  well = subst (λ t. IsWellFormed cmp look t old.len xs) at-root tree
+  well : IsWellFormed cmp node_at (Some root) old.len xs
+  well = subst (λ t. IsWellFormed cmp node_at t old.len xs) at-root tree
 
-  a-is : a ≡ slot a.id x.nodes.offset
+  a-is : a ≡ address_at a.id x.nodes.offset
   a-is = let at = x.nodes.at in λ i. record { id = a.id; offset = at i }
 
-  item-here : item_in (look a.id) x.nodes.offset ≡ Some was
+  item-here : item_in (node_at a.id) x.nodes.offset ≡ Some was
   item-here = ap (λ v. item_in v x.nodes.offset) x.nodes.here ∙ x.nodes.stood
 
-  valid : IsValid look (Some root) a.id (Some x.nodes.offset)
-  valid = inl (item-within look x.nodes.offset was (look a.id) item-here)
+  valid : IsValid node_at (Some root) a.id (Some x.nodes.offset)
+  valid = inl (item-within node_at x.nodes.offset was (node_at a.id) item-here)
 
   -- the item's place in the list
-  pub place-on : (place : ℕ) × IsPlace look (Some root) xs a.id (Some x.nodes.offset) place
+  pub place-on : (place : ℕ) × IsPlace node_at (Some root) xs a.id (Some x.nodes.offset) place
   place-on =
-      let n = valid-on (K × V) look root xs None (slot a.id x.nodes.offset) (IsSized root) well.formed valid tt in
-      let d = tour-addressed (K × V) look root xs None (slot a.id x.nodes.offset) (IsSized root) n.place well.formed n.on in
+      let n = valid-on (K × V) node_at root xs None (address_at a.id x.nodes.offset) (IsSized root) well.formed valid tt in
+      let d = positions-addressed (K × V) node_at root xs None (address_at a.id x.nodes.offset) (IsSized root) n.place well.formed n.on in
       (n.place, d.at_place)
 
   abbrev place : ℕ
   place = place-on.0
 
-  at-slot : IsPlace look (Some root) xs a.id (Some x.nodes.offset) place
-  at-slot = place-on.1
+  at-address_at : IsPlace node_at (Some root) xs a.id (Some x.nodes.offset) place
+  at-address_at = place-on.1
 
   pub at-place : IsPlaceIn old a place
-  at-place = subst (λ o. IsPlace look old.root xs a.id o place) (sym x.nodes.at) (subst (λ t. IsPlace look t xs a.id (Some x.nodes.offset) place) (sym at-root) at-slot)
+  at-place = subst (λ o. IsPlace node_at old.root xs a.id o place) (sym x.nodes.at) (subst (λ t. IsPlace node_at t xs a.id (Some x.nodes.offset) place) (sym at-root) at-address_at)
 
   -- the item is that of its place in the list
   pub listed : slice_get xs place ≡ Some was
-  listed = elim at-slot [
-    | inl there ↦ subst (λ o. IsPlaceOf look xs o place) item-here there
+  listed = elim at-address_at [
+    | inl there ↦ subst (λ o. IsPlaceOf node_at xs o place) item-here there
     | inr end ↦
         let l = slice_get_within (items_of x.nodes.old) x.nodes.offset was x.nodes.stood in
-        let e : x.nodes.offset ≡ length (items_of x.nodes.old) = subst (λ v. IsEnd look v x.nodes.offset) x.nodes.here end.0 in
+        let e : x.nodes.offset ≡ length (items_of x.nodes.old) = subst (λ v. IsEnd node_at v x.nodes.offset) x.nodes.here end.0 in
         absurd (omega arith)
   ]
 
   pub stood-at : item_of old a ≡ Some was
-  stood-at = ap (option_and_then (item_in (look a.id))) x.nodes.at ∙ item-here
+  stood-at = ap (option_and_then (item_in (node_at a.id))) x.nodes.at ∙ item-here
 
   module _ (rises : Ascends cmp (set xs place is)) where
-    replaced : ReplacedWell cmp laws look (looks new) root xs a.id x.nodes.offset was is x.nodes.old x.nodes.node x.nodes.here x.nodes.stood x.nodes.puts x.nodes.items place at-slot rises old.len well (set xs place is)
-    replaced = replaced-well cmp laws look (looks new) root xs a.id x.nodes.offset was is x.nodes.old x.nodes.node x.nodes.here x.nodes.stood x.nodes.puts x.nodes.items place at-slot rises old.len well
+    replaced : ReplacedWell cmp laws node_at (node_map new) root xs a.id x.nodes.offset was is x.nodes.old x.nodes.node x.nodes.here x.nodes.stood x.nodes.writes_node x.nodes.items place at-address_at rises old.len well (set xs place is)
+    replaced = replaced-well cmp laws node_at (node_map new) root xs a.id x.nodes.offset was is x.nodes.old x.nodes.node x.nodes.here x.nodes.stood x.nodes.writes_node x.nodes.items place at-address_at rises old.len well
 
     new-root : new.root ≡ Some root
     new-root = same-root x.rest ∙ at-root
 
-    new-well : IsWellFormed cmp (looks new) new.root new.len (set xs place is)
+    new-well : IsWellFormed cmp (node_map new) new.root new.len (set xs place is)
     new-well =
-        subst (λ t. IsWellFormed cmp (looks new) t new.len (set xs place is)) (sym new-root)
-        (subst (λ n. IsWellFormed cmp (looks new) (Some root) n (set xs place is)) (sym (same-len x.rest)) replaced.tree)
+        subst (λ t. IsWellFormed cmp (node_map new) t new.len (set xs place is)) (sym new-root)
+        (subst (λ n. IsWellFormed cmp (node_map new) (Some root) n (set xs place is)) (sym (same-len x.rest)) replaced.tree)
 
     new-pairs : pairs_of new ≡ set xs place is
     new-pairs = pairs-tree cmp new new.len (set xs place is) new-well
 
     -- an address on the tour of the old tree is valid in the new one, at the same place
-    stays : (b : Address) (q : ℕ) → IsOnTour (K × V) look root None b q
-        → IsValid (looks new) (Some root) b.id b.offset × IsPlace (looks new) (Some root) (set xs place is) b.id b.offset q
-    stays b q on = elim (slot-or b a.id x.nodes.offset) [
+    stays : (b : Address) (q : ℕ) → HasPosition (K × V) node_at root None b q
+        → IsValid (node_map new) (Some root) b.id b.offset × IsPlace (node_map new) (Some root) (set xs place is) b.id b.offset q
+    stays b q on = elim (address_at-or b a.id x.nodes.offset) [
       | inr away ↦
-          let d = tour-addressed (K × V) (looks new) root (set xs place is) None b (IsSized root) q replaced.tree.formed (replaced.stays.keeps None b q away on) in
+          let d = positions-addressed (K × V) (node_map new) root (set xs place is) None b (IsSized root) q replaced.tree.formed (replaced.stays.keeps None b q away on) in
           (d.valid, d.at_place)
       | inl here ↦
-          let s = slot a.id x.nodes.offset in
-          let r = tour-addressed (K × V) look root xs None b (IsSized root) q well.formed on in
-          let r2 : IsPlace look (Some root) xs a.id (Some x.nodes.offset) q = subst (λ (c : Address). IsPlace look (Some root) xs c.id c.offset q) here r.at_place in
-          let e = one_place-well cmp laws look xs old.len (Some root) well a.id (Some x.nodes.offset) place q at-slot r2 in
-          let d = tour-addressed (K × V) (looks new) root (set xs place is) (Some is) s (IsSized root) place replaced.tree.formed replaced.stays.itself in
-          let both : IsValid (looks new) (Some root) s.id s.offset × IsPlace (looks new) (Some root) (set xs place is) s.id s.offset place = (d.valid, d.at_place) in
-          subst (λ (c : Address). IsValid (looks new) (Some root) c.id c.offset × IsPlace (looks new) (Some root) (set xs place is) c.id c.offset q) (sym here)
-          (subst (λ p. IsValid (looks new) (Some root) s.id s.offset × IsPlace (looks new) (Some root) (set xs place is) s.id s.offset p) e both)
+          let s = address_at a.id x.nodes.offset in
+          let r = positions-addressed (K × V) node_at root xs None b (IsSized root) q well.formed on in
+          let r2 : IsPlace node_at (Some root) xs a.id (Some x.nodes.offset) q = subst (λ (c : Address). IsPlace node_at (Some root) xs c.id c.offset q) here r.at_place in
+          let e = one_place-well cmp laws node_at xs old.len (Some root) well a.id (Some x.nodes.offset) place q at-address_at r2 in
+          let d = positions-addressed (K × V) (node_map new) root (set xs place is) (Some is) s (IsSized root) place replaced.tree.formed replaced.stays.itself in
+          let both : IsValid (node_map new) (Some root) s.id s.offset × IsPlace (node_map new) (Some root) (set xs place is) s.id s.offset place = (d.valid, d.at_place) in
+          subst (λ (c : Address). IsValid (node_map new) (Some root) c.id c.offset × IsPlace (node_map new) (Some root) (set xs place is) c.id c.offset q) (sym here)
+          (subst (λ p. IsValid (node_map new) (Some root) s.id s.offset × IsPlace (node_map new) (Some root) (set xs place is) s.id s.offset p) e both)
     ]
 
     keeps-valid : (b : Address) → IsValidIn old b → IsValidIn new b
     keeps-valid b v =
-        let v2 = subst (λ t. IsValid look t b.id b.offset) at-root v in
-        let n = valid-on (K × V) look root xs None b (IsSized root) well.formed v2 tt in
-        subst (λ t. IsValid (looks new) t b.id b.offset) (sym new-root) (stays b n.place n.on).0
+        let v2 = subst (λ t. IsValid node_at t b.id b.offset) at-root v in
+        let n = valid-on (K × V) node_at root xs None b (IsSized root) well.formed v2 tt in
+        subst (λ t. IsValid (node_map new) t b.id b.offset) (sym new-root) (stays b n.place n.on).0
 
     keeps-place : (b : Address) (q : ℕ) → IsPlaceIn old b q → IsPlaceIn new b q
     keeps-place b q at =
-        let at2 = subst (λ t. IsPlace look t xs b.id b.offset q) at-root at in
-        let on = well-on cmp laws look root xs None b q old.len well (record { valid = place-valid look (Some root) xs b.id b.offset q at2; at_place = at2; item = tt }) in
-        subst (λ l. IsPlace (looks new) new.root l b.id b.offset q) (sym new-pairs)
-        (subst (λ t. IsPlace (looks new) t (set xs place is) b.id b.offset q) (sym new-root) (stays b q on).1)
+        let at2 = subst (λ t. IsPlace node_at t xs b.id b.offset q) at-root at in
+        let on = well-on cmp laws node_at root xs None b q old.len well (record { valid = place-valid node_at (Some root) xs b.id b.offset q at2; at_place = at2; item = tt }) in
+        subst (λ l. IsPlace (node_map new) new.root l b.id b.offset q) (sym new-pairs)
+        (subst (λ t. IsPlace (node_map new) t (set xs place is) b.id b.offset q) (sym new-root) (stays b q on).1)
 
     -- the items of the nodes
-    new-item : (n : ℕ) → item_in (looks new a.id) n ≡ slice_get (set (items_of x.nodes.old) x.nodes.offset is) n
-    new-item n = ap (λ v. item_in v n) x.nodes.puts.here ∙ ap (λ l. slice_get l n) x.nodes.items.items_are
+    new-item : (n : ℕ) → item_in (node_map new a.id) n ≡ slice_get (set (items_of x.nodes.old) x.nodes.offset is) n
+    new-item n = ap (λ v. item_in v n) x.nodes.writes_node.here ∙ ap (λ l. slice_get l n) x.nodes.items.items_are
 
-    other-slot : (n : ℕ) → n ≢ x.nodes.offset → item_in (looks new a.id) n ≡ item_in (look a.id) n
-    other-slot n ne = new-item n ∙ (get-set_other (items_of x.nodes.old) x.nodes.offset n is ne ∙ sym (ap (λ v. item_in v n) x.nodes.here))
+    other-address_at : (n : ℕ) → n ≢ x.nodes.offset → item_in (node_map new a.id) n ≡ item_in (node_at a.id) n
+    other-address_at n ne = new-item n ∙ (get-set_other (items_of x.nodes.old) x.nodes.offset n is ne ∙ sym (ap (λ v. item_in v n) x.nodes.here))
 
     others : (b : Address) → b ≢ a → item_of new b ≡ item_of old b
     others b ne = elim (same-or b.id a.id) [
       | inl e ↦ by b.offset refl e
-      | inr away ↦ ap (λ v. option_and_then (item_in v) b.offset) (x.nodes.puts.others b.id away)
+      | inr away ↦ ap (λ v. option_and_then (item_in v) b.offset) (x.nodes.writes_node.others b.id away)
     ]
       where
         by : (o : Option ℕ) → b.offset ≡ o → b.id ≡ a.id → item_of new b ≡ item_of old b
@@ -258,21 +258,21 @@ module _ {K V : Type 0} (cmp : K → K → Ordering) (laws : IsTotalOrder cmp) (
         by (Some n) e same = elim (same-or n x.nodes.offset) [
           | inl f ↦
               let at : b.offset ≡ Some x.nodes.offset = e ∙ ap Some f in
-              let left : ◌≡◌ {A = Address} b (slot a.id x.nodes.offset) = λ i. record { id = same i; offset = at i } in
+              let left : ◌≡◌ {A = Address} b (address_at a.id x.nodes.offset) = λ i. record { id = same i; offset = at i } in
               absurd (ne (left ∙ sym a-is))
-          | inr away ↦ rw (e, same) (other-slot n away)
+          | inr away ↦ rw (e, same) (other-address_at n away)
         ]
 
-    used : (n : ℕ) → times_used (looks new n) ≡ times_used (look n)
+    used : (n : ℕ) → times_used (node_map new n) ≡ times_used (node_at n)
     used n = elim (same-or n a.id) [
-      | inl e ↦ let u = used-one (looks new a.id) x.nodes.node x.nodes.puts.here in let v = used-one (look a.id) x.nodes.old x.nodes.here in rw e (omega arith)
-      | inr ne ↦ ap times_used (x.nodes.puts.others n ne)
+      | inl e ↦ let u = used-one (node_map new a.id) x.nodes.node x.nodes.writes_node.here in let v = used-one (node_at a.id) x.nodes.old x.nodes.here in rw e (omega arith)
+      | inr ne ↦ ap times_used (x.nodes.writes_node.others n ne)
     ]
 
     as-many : map.len new.nodes ≡ map.len old.nodes
     as-many =
-        let ids = numbers_under look well.formed.height root in
-        let each : (n : ℕ) → times_listed n ids ≡ times_used (look n) = well.formed.once in
+        let ids = numbers_under node_at well.formed.height root in
+        let each : (n : ℕ) → times_listed n ids ≡ times_used (node_at n) = well.formed.once in
         len-views new.nodes ids (λ n. each n ∙ sym (used n)) ∙ sym (len-views old.nodes ids each)
 
     pub exchanged : IsExchanged old new a cmp is
@@ -282,7 +282,7 @@ module _ {K V : Type 0} (cmp : K → K → Ordering) (laws : IsTotalOrder cmp) (
       at = at-place;
       pairs = new-pairs;
       item =
-          ap (option_and_then (item_in (looks new a.id))) x.nodes.at
+          ap (option_and_then (item_in (node_map new a.id))) x.nodes.at
           ∙ (new-item x.nodes.offset ∙ get-set_same (items_of x.nodes.old) x.nodes.offset was is x.nodes.stood);
       keeps = record { root = same-root x.rest; len = same-len x.rest; nodes = as-many; valid = keeps-valid; places = keeps-place; others = others };
       uncounted = same-refusals x.rest;

@@ -10,62 +10,62 @@ use Rattle.btree_node.specs.Node.{view_of}
 use Rattle.btree_view.specs.View.{leaf, item_in}
 use Rattle.btree_shape.specs.Place.{IsPlace, IsPlaceOf}
 use Rattle.btree_shape.specs.Lists.{one, times_listed}
-use Rattle.btree_shape.specs.Step.{Puts}
+use Rattle.btree_shape.specs.Step.{WritesNode}
 use Rattle.btree_shape.specs.Strain.{IsStrain, strain_under}
-use Rattle.btree_shape.specs.TreeState.{TreeState, Changes, IsBTree, looks, pairs_of}
+use Rattle.btree_shape.specs.TreeState.{TreeState, Changes, IsBTree, node_map, pairs_of}
 use Rattle.btree_shape.specs.WellFormed.{IsWellFormed, times_used}
-use Rattle.btree_shape.proofs.Frames.{one-self, one-other}
-use Rattle.btree_shape.proofs.Needs.{full-yes}
-use Rattle.btree_shape.proofs.Numbers.{same-or}
-use Rattle.btree_shape.proofs.Puts.{first-well}
-use Rattle.btree_shape.proofs.Stores.{len-views}
-use Rattle.btree_shape.proofs.TreeStates.{is-tree, pairs-tree}
+use Rattle.btree_shape.proofs.Paths.Frames.{one-self, one-other}
+use Rattle.btree_shape.proofs.Paths.Used.{full-yes}
+use Rattle.btree_shape.proofs.Trees.Numbers.{same-or}
+use Rattle.btree_shape.proofs.Splits.Insertion.{first-well}
+use Rattle.btree_shape.proofs.Trees.Stores.{len-views}
+use Rattle.btree_shape.proofs.Trees.States.{is-tree, pairs-tree}
 use Rattle.btree_raw.specs.Claimed.{EMPTY}
 use Rattle.btree_raw.proofs.StateLemmas.{nodes-of, same-refusals}
-use Rattle.btree_edit.specs.Insert.{IsInserted, IsPaid}
+use Rattle.btree_edit.specs.Insert.{IsInserted, IsWithinStrain}
 
 module _ {K V : Type 0} (cmp : K → K → Ordering) (old mid put : TreeState K V) (root : ℕ) (empty : old.root ≡ None) (tree : IsBTree cmp old)
-    (node : Node K V) (x : K × V) (claimed : mid ≡ record old { nodes = map.insert old.nodes root EMPTY }) (changes : Changes (λ p q. Puts p q root (view_of node)) mid put)
+    (node : Node K V) (x : K × V) (claimed : mid ≡ record old { nodes = map.insert old.nodes root EMPTY }) (changes : Changes (λ p q. WritesNode p q root (view_of node)) mid put)
     (is : view_of node ≡ leaf None (x ∷ [])) (a b : Address) (b_is : b ≡ record { id = root; offset = Some 0 }) where
   -- the root and the length are set in the end
   abbrev new : TreeState K V
   new = record put { root = Some root; len = 1 }
 
-  well : IsWellFormed cmp (looks old) None old.len (pairs_of old)
-  well = subst (λ t. IsWellFormed cmp (looks old) t old.len (pairs_of old)) empty tree
+  well : IsWellFormed cmp (node_map old) None old.len (pairs_of old)
+  well = subst (λ t. IsWellFormed cmp (node_map old) t old.len (pairs_of old)) empty tree
 
-  no-nodes : (n : ℕ) → looks old n ≡ None
+  no-nodes : (n : ℕ) → node_map old n ≡ None
   no-nodes = well.formed.0
 
-  here : looks new root ≡ Some (leaf None (x ∷ []))
+  here : node_map new root ≡ Some (leaf None (x ∷ []))
   here = changes.nodes.here ∙ ap Some is
 
-  alone : (n : ℕ) → n ≢ root → looks new n ≡ None
+  alone : (n : ℕ) → n ≢ root → node_map new n ≡ None
   alone n differs = changes.nodes.others n differs ∙ (ap (option_map view_of) (ap (λ m. map.get m n) (nodes-of claimed) ∙ get-insert_other old.nodes root EMPTY n differs) ∙ no-nodes n)
 
-  first : IsWellFormed cmp (looks new) (Some root) 1 (x ∷ [])
-  first = first-well cmp (looks new) root x here alone
+  first : IsWellFormed cmp (node_map new) (Some root) 1 (x ∷ [])
+  first = first-well cmp (node_map new) root x here alone
 
   pairs-new : pairs_of new ≡ x ∷ []
   pairs-new = pairs-tree cmp new 1 (x ∷ []) first
 
-  used-new : (n : ℕ) → times_listed n (root ∷ []) ≡ times_used (looks new n)
+  used-new : (n : ℕ) → times_listed n (root ∷ []) ≡ times_used (node_map new n)
   used-new n = elim (same-or n root) [
-    | inl same ↦ let u : times_used (looks new n) ≡ 1 = ap (λ i. times_used (looks new i)) same ∙ ap times_used here in let s = one-self n in let t : one n root ≡ 1 = ap (one n) (sym same) ∙ s in omega arith
-    | inr differs ↦ let u : times_used (looks new n) ≡ 0 = ap times_used (alone n differs) in let s = one-other n root differs in omega arith
+    | inl same ↦ let u : times_used (node_map new n) ≡ 1 = ap (λ i. times_used (node_map new i)) same ∙ ap times_used here in let s = one-self n in let t : one n root ≡ 1 = ap (one n) (sym same) ∙ s in omega arith
+    | inr differs ↦ let u : times_used (node_map new n) ≡ 0 = ap times_used (alone n differs) in let s = one-other n root differs in omega arith
   ]
 
-  place-new : IsPlace (looks new) (Some root) (x ∷ []) root (Some 0) 0
-  place-new = inl (subst (λ o. IsPlaceOf (looks new) (x ∷ []) o 0) (sym (ap (λ v. item_in v 0) here)) refl)
+  place-new : IsPlace (node_map new) (Some root) (x ∷ []) root (Some 0) 0
+  place-new = inl (subst (λ o. IsPlaceOf (node_map new) (x ∷ []) o 0) (sym (ap (λ v. item_in v 0) here)) refl)
 
-  calm : strain_under (looks new) root (root ∷ []) ≡ 0
+  calm : strain_under (node_map new) root (root ∷ []) ≡ 0
   calm = rw here (let s = full-yes root root 0 3 refl in omega arith)
 
-  is-paid : map.len old.nodes ≡ 0 → map.len new.nodes ≡ 1 → IsPaid old new
+  is-paid : map.len old.nodes ≡ 0 → map.len new.nodes ≡ 1 → IsWithinStrain old new
   is-paid old_len new_len = record {
     before = 0;
     after = 0;
-    strain_before = subst (λ t. IsStrain (looks old) t 0) (sym empty) refl;
+    strain_before = subst (λ t. IsStrain (node_map old) t 0) (sym empty) refl;
     strain_after = (root ∷ [], used-new, sym calm);
     paid = omega arith;
   }
@@ -78,11 +78,11 @@ module _ {K V : Type 0} (cmp : K → K → Ordering) (old mid put : TreeState K 
       record {
         tree = is-tree cmp new (x ∷ []) first;
         pairs = λ place at.
-            let at2 : IsPlace (looks old) None (pairs_of old) a.id a.offset place = subst (λ t. IsPlace (looks old) t (pairs_of old) a.id a.offset place) empty at in (
+            let at2 : IsPlace (node_map old) None (pairs_of old) a.id a.offset place = subst (λ t. IsPlace (node_map old) t (pairs_of old) a.id a.offset place) empty at in (
               pairs-new ∙ sym (ap (λ p. insert (pairs_of old) p x) at2.1 ∙ ap (λ l. insert l 0 x) well.formed.1),
-              subst (λ (c : Address). IsPlace (looks new) (Some root) (pairs_of new) c.id c.offset place) (sym b_is)
-                  (subst (λ l. IsPlace (looks new) (Some root) l root (Some 0) place) (sym pairs-new)
-                  (subst (λ p. IsPlace (looks new) (Some root) (x ∷ []) root (Some 0) p) (sym at2.1) place-new)),
+              subst (λ (c : Address). IsPlace (node_map new) (Some root) (pairs_of new) c.id c.offset place) (sym b_is)
+                  (subst (λ l. IsPlace (node_map new) (Some root) l root (Some 0) place) (sym pairs-new)
+                  (subst (λ p. IsPlace (node_map new) (Some root) (x ∷ []) root (Some 0) p) (sym at2.1) place-new)),
             );
         item = rw b_is (ap (λ v. item_in v 0) here);
         longer = omega arith;

@@ -9,12 +9,12 @@ use Rattle.btree_item.specs.Pairs.{KeyFits, before, found, found_value, inserted
 use Rattle.btree_item.specs.declared.address.Address.{Address}
 use Rattle.btree_view.specs.View.{View, item_in, items_of, size_of}
 use Rattle.btree_shape.specs.Place.{IsEnd, IsPlace, IsPlaceOf}
-use Rattle.btree_shape.specs.TreeState.{TreeState, IsBTree, IsPlaceIn, item_of, looks, pairs_of}
+use Rattle.btree_shape.specs.TreeState.{TreeState, IsBTree, IsPlaceIn, item_of, node_map, pairs_of}
 use Rattle.btree_shape.specs.WellFormed.{IsWellFormed}
-use Rattle.btree_shape.proofs.OnePlace.{one_place-well}
+use Rattle.btree_shape.proofs.Places.OnePlace.{one_place-well}
 use Rattle.btree_find.specs.Answers.{IsFoundAt, IsGapAt}
 use Rattle.btree_edit.specs.Exchange.{IsValueExchanged}
-use Rattle.btree_edit.specs.Insert.{IsGapFor, IsInserted, Took}
+use Rattle.btree_edit.specs.Insert.{IsGapFor, IsInserted, InsertsByKey}
 use Rattle.btree_edit.proofs.LevelLemmas.{need-levels}
 
 err-none : {X : Type 0} (n m i : ℕ) (o : Option X) → (if is_some o then Ok n else Err m) ≡ Err i → (o ≡ None) × (m ≡ i)
@@ -30,17 +30,17 @@ if-some None a b some = absurd (cc)
 if-some (Some x) a b some = refl
 
 module _ {K V : Type 0} (cmp : K → K → Ordering) (s : TreeState K V) (x : K × V) (a : Address) where
-  not-end : (n : ℕ) (o : Option (View (K × V))) → item_in o n ≡ Some x → IsEnd (looks s) o n → ⊥
+  not-end : (n : ℕ) (o : Option (View (K × V))) → item_in o n ≡ Some x → IsEnd (node_map s) o n → ⊥
   not-end n None e end = absurd end
   not-end n (Some v) e end = let l = slice_get_within (items_of v) n x e in let f : n ≡ size_of v = end in absurd (omega arith)
 
-  placed-under : (top : Option ℕ) → IsWellFormed cmp (looks s) top s.len (pairs_of s) → (o : Option ℕ) (place : ℕ)
-      → IsPlace (looks s) top (pairs_of s) a.id o place → option_and_then (item_in (looks s a.id)) o ≡ Some x → slice_get (pairs_of s) place ≡ Some x
+  placed-under : (top : Option ℕ) → IsWellFormed cmp (node_map s) top s.len (pairs_of s) → (o : Option ℕ) (place : ℕ)
+      → IsPlace (node_map s) top (pairs_of s) a.id o place → option_and_then (item_in (node_map s a.id)) o ≡ Some x → slice_get (pairs_of s) place ≡ Some x
   placed-under top w None place at e = absurd (cc)
-  placed-under None w (Some n) place at e = let none = w.formed.0 a.id in let f : item_in (looks s a.id) n ≡ None = ap (λ v. item_in v n) none in absurd (cc)
+  placed-under None w (Some n) place at e = let none = w.formed.0 a.id in let f : item_in (node_map s a.id) n ≡ None = ap (λ v. item_in v n) none in absurd (cc)
   placed-under (Some root) w (Some n) place at e = elim at [
-    | inl there ↦ subst (λ o. IsPlaceOf (looks s) (pairs_of s) o place) e there
-    | inr end ↦ absurd (not-end n (looks s a.id) e end.0)
+    | inl there ↦ subst (λ o. IsPlaceOf (node_map s) (pairs_of s) o place) e there
+    | inr end ↦ absurd (not-end n (node_map s a.id) e end.0)
   ]
 
   -- an item that stands at an address is that of the place in the list
@@ -66,7 +66,7 @@ module _ {K V : Type 0} (cmp : K → K → Ordering) (laws : IsTotalOrder cmp) (
 
     pub exchanged-pairs : pairs_of new ≡ inserted cmp k w xs
     exchanged-pairs =
-        let same : x.exchanged.place ≡ f.place = one_place-well cmp laws (looks old) xs old.len old.root tree a.id a.offset x.exchanged.place f.place x.exchanged.at f.at in
+        let same : x.exchanged.place ≡ f.place = one_place-well cmp laws (node_map old) xs old.len old.root tree a.id a.offset x.exchanged.place f.place x.exchanged.at f.at in
         let set_is = set-from_Ok cmp laws k w xs f.place (x.key, was) tree.ascends f.is listed in
         x.exchanged.pairs ∙ (rw same set_is ∙ sym (if-some (found cmp k xs) _ _ is-some))
 
@@ -87,7 +87,7 @@ module _ {K V : Type 0} (cmp : K → K → Ordering) (laws : IsTotalOrder cmp) (
     absent = nothing.0
 
     module _ (new : TreeState K V) (b : Address) (is : IsInserted cmp old new a b (k, w)) where
-      pub put-took : Took cmp k old new w
+      pub put-took : InsertsByKey cmp k old new w
       put-took = record {
         absent = λ none. (a, gap, is.nodes);
         few = λ levels are.

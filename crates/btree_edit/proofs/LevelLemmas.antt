@@ -3,40 +3,40 @@ use Rattle.std.proofs.Common.{◌<◌, ◌≤◌, ◌+◌, ℕ, inl, inr, List, 
 use Rattle.std.specs.FinMap as map
 use Rattle.std.specs.declared.cmp.Ordering.{Ordering}
 use Rattle.btree_item.specs.declared.address.Address.{Address}
-use Rattle.btree_view.specs.View.{View, Look, leaf, internal}
+use Rattle.btree_view.specs.View.{View, NodeMap, leaf, internal}
 use Rattle.btree_shape.specs.Need.{need}
 use Rattle.btree_shape.specs.Place.{IsLeaf, IsLeafAddress}
-use Rattle.btree_shape.specs.Shape.{count_at}
-use Rattle.btree_shape.specs.TreeState.{TreeState, HasLevels, HasLevelsUnder, IsBTree, IsLeafAddressIn, looks, nodes_needed, pairs_of}
+use Rattle.btree_shape.specs.Focus.Shape.{count_at}
+use Rattle.btree_shape.specs.TreeState.{TreeState, HasLevels, HasLevelsUnder, IsBTree, IsLeafAddressIn, node_map, nodes_needed, pairs_of}
 use Rattle.btree_shape.specs.WellFormed.{IsSized, IsWellFormed, times_used}
-use Rattle.btree_shape.proofs.Overflows.{climb-node}
-use Rattle.btree_shape.proofs.Levels.{levels-rooted}
-use Rattle.btree_shape.proofs.Mendings.{one-height}
-use Rattle.btree_shape.proofs.Rooted.{node-at}
-use Rattle.btree_shape.proofs.Standing.{whole-standing}
-use Rattle.btree_shape.proofs.TreeStates.{height_held}
-use Rattle.btree_raw.proofs.NeedLemmas.{climbed-few}
+use Rattle.btree_shape.proofs.Splits.Need.{split_need-node}
+use Rattle.btree_shape.proofs.Paths.Levels.{levels-rooted}
+use Rattle.btree_shape.proofs.Underflow.Order.{one-height}
+use Rattle.btree_shape.proofs.Paths.FromRoot.{node-at}
+use Rattle.btree_shape.proofs.Paths.UnsizedFocus.{whole-standing}
+use Rattle.btree_shape.proofs.Trees.States.{height_held}
+use Rattle.btree_raw.proofs.NeedLemmas.{path_need_from-few}
 
-leaf-used : {A : Type 0} (look : Look A) (o : Option (View A)) → IsLeaf look o → 0 < times_used o
-leaf-used look None is = absurd is
-leaf-used look (Some (leaf p ys)) is = omega arith
-leaf-used look (Some (internal p first bs)) is = absurd is
+leaf-used : {A : Type 0} (node_at : NodeMap A) (o : Option (View A)) → IsLeaf node_at o → 0 < times_used o
+leaf-used node_at None is = absurd is
+leaf-used node_at (Some (leaf p ys)) is = omega arith
+leaf-used node_at (Some (internal p first bs)) is = absurd is
 
 module _ {K V : Type 0} (cmp : K → K → Ordering) (s : TreeState K V) where
-  levels-under : (top : Option ℕ) → IsWellFormed cmp (looks s) top s.len (pairs_of s) → (id : ℕ) (offset : Option ℕ) → IsLeafAddress (looks s) top id offset
-      → (levels : ℕ) → HasLevelsUnder s top levels → need (looks s) top (map.len s.nodes) id ≤ levels + 1
+  levels-under : (top : Option ℕ) → IsWellFormed cmp (node_map s) top s.len (pairs_of s) → (id : ℕ) (offset : Option ℕ) → IsLeafAddress (node_map s) top id offset
+      → (levels : ℕ) → HasLevelsUnder s top levels → need (node_map s) top (map.len s.nodes) id ≤ levels + 1
   levels-under None w id offset at levels are = omega arith
   levels-under (Some root) w id offset at levels are = elim at [
     | inl in_leaf ↦
-        let look : Look (K × V) = looks s in
+        let node_at : NodeMap (K × V) = node_map s in
         let xs : List (K × V) = pairs_of s in
-        let n = node-at (K × V) look root xs w.formed id (leaf-used look (look id) in_leaf) in
-        let t = whole-standing (K × V) look [] root xs n.seen.height n.seen.way n.seen.shape n.seen.whole in
-        let d = levels-rooted (K × V) look root xs (IsSized root) w.formed n.seen.height n.seen.way n.seen.shape t in
-        let e = one-height look root xs w.formed.height are.0 w.formed.spells are.1 in
-        let f = climbed-few (K × V) n.seen.height n.seen.way (count_at (K × V) n.seen.height n.seen.shape) in
+        let n = node-at (K × V) node_at root xs w.formed id (leaf-used node_at (node_at id) in_leaf) in
+        let t = whole-standing (K × V) node_at [] root xs n.seen.height n.seen.path n.seen.shape n.seen.whole in
+        let d = levels-rooted (K × V) node_at root xs (IsSized root) w.formed n.seen.height n.seen.path n.seen.shape t in
+        let e = one-height node_at root xs w.formed.height are.0 w.formed.represents are.1 in
+        let f = path_need_from-few (K × V) n.seen.height n.seen.path (count_at (K × V) n.seen.height n.seen.shape) in
         let h = height_held s (IsSized root) root xs w.formed in
-        let k = climb-node (K × V) look root xs id n (map.len s.nodes) (omega arith) in
+        let k = split_need-node (K × V) node_at root xs id n (map.len s.nodes) (omega arith) in
         let l = are.2 in
         omega arith
     | inr nowhere ↦ let none = nowhere.0 in absurd (cc)

@@ -16,7 +16,7 @@ use Rattle.btree_find.specs.Answers.{IsFoundAt, IsGapAt}
 use Rattle.btree_edit.specs.Exchange.{IsValueExchanged}
 
 -- the nodes taken and the strain afterwards are at most the strain before and one
-pub record IsPaid {K V : Type 0} (old new : TreeState K V) : Type 0 where
+pub record IsWithinStrain {K V : Type 0} (old new : TreeState K V) : Type 0 where
   pub before : ℕ
   pub after : ℕ
   pub strain_before : HasStrain old before
@@ -39,7 +39,7 @@ module _ {K V : Type 0} (cmp : K → K → Ordering) where
     pub item : item_of new b ≡ Some x
     pub longer : new.len ≡ old.len + 1
     pub nodes : map.len new.nodes ≡ map.len old.nodes + nodes_needed old a.id
-    pub strain : IsPaid old new
+    pub strain : IsWithinStrain old new
     pub uncounted : new.refusals ≡ old.refusals
 
 -- an insertion at a leaf that was refused: by the store, which counted it, where it may refuse one of the nodes that are needed
@@ -58,10 +58,10 @@ module _ {K V : Type 0} (cmp : K → K → Ordering) (k : K) (old new : TreeStat
 
   -- how many nodes an insertion of a value by key took: those that were needed at the gap of an absent key, at most one more than there were
   -- levels; for one that is there none, and every address stays
-  pub record Took (value : V) : Type 0 where
+  pub record InsertsByKey (value : V) : Type 0 where
     pub absent : found cmp k (pairs_of old) ≡ None → (a : Address) × IsGapAt cmp k old a × (map.len new.nodes ≡ map.len old.nodes + nodes_needed old a.id)
     pub few : (levels : ℕ) → HasLevels old levels → map.len new.nodes ≤ map.len old.nodes + (levels + 1)
-    pub paid : found cmp k (pairs_of old) ≡ None → IsPaid old new
+    pub paid : found cmp k (pairs_of old) ≡ None → IsWithinStrain old new
     pub present : IsSome (found cmp k (pairs_of old)) → (was : V) × ExchangesValueAt was value
 
   -- an insertion by key was refused at the gap of the key

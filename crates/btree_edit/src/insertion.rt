@@ -3,14 +3,14 @@ ghost use Rattle.std.specs.Prelude.{◌≡◌, ◌≢◌, ◌<◌, ◌≤◌, No
 ghost use Rattle.std.specs.Prelude.{OnOk, OnErr};
 ghost use Rattle.btree_item.specs.Pairs.{found, found_value, inserted};
 ghost use Rattle.btree_shape.specs.TreeState.{IsBTree, nodes_needed, pairs_of};
-ghost use Rattle.btree_edit.specs.Insert.{IsGapFor, IsInserted, IsRefused, IsRefusedAtGap, Took};
+ghost use Rattle.btree_edit.specs.Insert.{IsGapFor, IsInserted, IsRefused, IsRefusedAtGap, InsertsByKey};
 
 use crate::values::exchange;
 use btree_find::address_of;
 use btree_item::{Address, Cause, Item, Offset, Refused};
 use btree_node::Node;
 use btree_nodes::NodesMut;
-use btree_raw::{ClaimedIds, RawBTree, add_item, claim, claim_one, need, put, split_up};
+use btree_raw::{ClaimedIds, RawBTree, add_item, claim, claim_one, need, put, split_upward};
 
 fn refused<K, V>(cause: Cause, item: Item<K, V>) -> Refused<K, V>
     ensures { result ≡ record { cause = cause; key = item.0; value = item.1 } }
@@ -87,7 +87,7 @@ fn insert_and_split<K: Ord + Drop, V: Drop, C: NodesMut<K, V>>(
         return Err(refused(Cause::Store, item));
     }
     add_item(tree, addr.id, addr.offset.unwrap(), item, None);
-    let at = split_up(tree, addr.id, addr, &mut claims);
+    let at = split_upward(tree, addr.id, addr, &mut claims);
     tree.set_len(tree.len() + 1);
     Ok(at)
 }
@@ -149,7 +149,7 @@ pub fn insert<K: Ord + Drop, V: Drop, C: NodesMut<K, V>>(
     ensures tree { IsBTree K.cmp tree.new }
     ensures old { IfOk result (λ old. old ≡ found_value K.cmp key (pairs_of tree.old)) }
     ensures inserted { OnOk result (pairs_of tree.new ≡ inserted K.cmp key value (pairs_of tree.old)) }
-    ensures took { OnOk result (Took K.cmp key tree.old tree.new value) }
+    ensures took { OnOk result (InsertsByKey K.cmp key tree.old tree.new value) }
     ensures uncounted { OnOk result (tree.new.refusals ≡ tree.old.refusals) }
 
     ensures returned { IfErr result (λ r. (r.key ≡ key) × (r.value ≡ value)) }

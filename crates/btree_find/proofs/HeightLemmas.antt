@@ -5,43 +5,43 @@ use Rattle.std.specs.FinMap as map
 use Rattle.btree_store.specs.Content.{Content}
 use Rattle.btree_node.specs.declared.node.Node.{Node}
 use Rattle.btree_node.specs.Node.{view_of}
-use Rattle.btree_view.specs.View.{Look, leaf, internal, children_of}
-use Rattle.btree_shape.specs.Spells.{Spells}
-use Rattle.btree_shape.specs.TreeState.{TreeState, IsBTree, looks, pairs_of, views}
+use Rattle.btree_view.specs.View.{NodeMap, leaf, internal, children_of}
+use Rattle.btree_shape.specs.Represents.{Represents}
+use Rattle.btree_shape.specs.TreeState.{TreeState, IsBTree, node_map, pairs_of, views}
 use Rattle.btree_shape.specs.WellFormed.{IsWellFormed}
-use Rattle.btree_shape.proofs.Density.{height-dense, height-low}
+use Rattle.btree_shape.proofs.Trees.Density.{height-dense, height-low}
 use Rattle.std.specs.declared.cmp.Ordering.{Ordering}
-use Rattle.btree_shape.proofs.Numbers.{used-one}
-use Rattle.btree_shape.proofs.Stores.{used-view}
-use Rattle.btree_shape.proofs.PlacesValid.{spells-node}
+use Rattle.btree_shape.proofs.Trees.Numbers.{used-one}
+use Rattle.btree_shape.proofs.Trees.Stores.{used-view}
+use Rattle.btree_shape.proofs.Trees.ValidPlaces.{represents-node}
 
 -- node `id` is so many levels below the root, and levels are counted down to it
-pub record IsDescending {A : Type 0} (look : Look A) (root : ℕ) (xs : List A) (id levels : ℕ) : Type 0 where
+pub record IsDescending {A : Type 0} (node_at : NodeMap A) (root : ℕ) (xs : List A) (id levels : ℕ) : Type 0 where
   pub height : ℕ
   pub low : height < 32
-  pub spells : Spells look height None root xs
+  pub represents : Represents node_at height None root xs
   pub dense : 2 * 4 ^ height ≤ length xs + 1
   pub below : ℕ
   pub parent : Option ℕ
   pub list : List A
-  pub here : Spells look below parent id list
+  pub here : Represents node_at below parent id list
   pub counted : levels + below ≡ suc height
 
 -- what the count comes to
-pub record Ends {A : Type 0} (look : Look A) (root : ℕ) (xs : List A) (levels : ℕ) : Type 0 where
+pub record Ends {A : Type 0} (node_at : NodeMap A) (root : ℕ) (xs : List A) (levels : ℕ) : Type 0 where
   pub height : ℕ
-  pub spells : Spells look height None root xs
+  pub represents : Represents node_at height None root xs
   pub counted : levels ≡ suc height
   pub dense : 2 * 4 ^ (levels - 1) ≤ length xs + 1
 
 module _ {K V : Type 0} (nodes : Content (Node K V)) (root : ℕ) (xs : List (K × V)) where
-  pub descending-start : (h : ℕ) → h < 32 → Spells (views nodes) h None root xs → 2 * 4 ^ h ≤ length xs + 1 → IsDescending (views nodes) root xs root 1
-  descending-start h low s dense = record { height = h; low = low; spells = s; dense = dense; below = h; parent = None; list = xs; here = s; counted = omega arith }
+  pub descending-start : (h : ℕ) → h < 32 → Represents (views nodes) h None root xs → 2 * 4 ^ h ≤ length xs + 1 → IsDescending (views nodes) root xs root 1
+  descending-start h low s dense = record { height = h; low = low; represents = s; dense = dense; below = h; parent = None; list = xs; here = s; counted = omega arith }
 
   module _ (id levels : ℕ) (d : IsDescending (views nodes) root xs id levels) where
     pub descending-used : IsSome (map.get nodes id)
     descending-used =
-        let v = spells-node (views nodes) d.below d.parent id d.list d.here in
+        let v = represents-node (views nodes) d.below d.parent id d.list d.here in
         used-view nodes id (let u = used-one (views nodes id) v.0 v.1 in omega arith)
 
     module _ (node : Node K V) (at : map.get nodes id ≡ Some node) where
@@ -51,8 +51,8 @@ module _ {K V : Type 0} (nodes : Content (Node K V)) (root : ℕ) (xs : List (K 
       pub descending-end : slice_get (children_of (view_of node)) 0 ≡ None → Ends (views nodes) root xs levels
       descending-end none = by d.below d.here d.counted
         where
-          by : (h : ℕ) → Spells (views nodes) h d.parent id d.list → levels + h ≡ suc d.height → Ends (views nodes) root xs levels
-          by zero s e = record { height = d.height; spells = d.spells; counted = omega arith; dense = let q : levels - 1 ≡ d.height = omega arith in rw q d.dense }
+          by : (h : ℕ) → Represents (views nodes) h d.parent id d.list → levels + h ≡ suc d.height → Ends (views nodes) root xs levels
+          by zero s e = record { height = d.height; represents = d.represents; counted = omega arith; dense = let q : levels - 1 ≡ d.height = omega arith in rw q d.dense }
           by (suc h) s e =
               let q = s.3 in
               let h2 = here in
@@ -63,7 +63,7 @@ module _ {K V : Type 0} (nodes : Content (Node K V)) (root : ℕ) (xs : List (K 
       pub descending-next : (child : ℕ) → slice_get (children_of (view_of node)) 0 ≡ Some child → IsDescending (views nodes) root xs child (levels + 1) × (levels < 32)
       descending-next child some = by d.below d.here d.counted
         where
-          by : (h : ℕ) → Spells (views nodes) h d.parent id d.list → levels + h ≡ suc d.height → IsDescending (views nodes) root xs child (levels + 1) × (levels < 32)
+          by : (h : ℕ) → Represents (views nodes) h d.parent id d.list → levels + h ≡ suc d.height → IsDescending (views nodes) root xs child (levels + 1) × (levels < 32)
           by zero s e =
               let h2 = here in
               let same : leaf d.parent d.list ≡ view_of node = cc in
@@ -76,12 +76,12 @@ module _ {K V : Type 0} (nodes : Content (Node K V)) (root : ℕ) (xs : List (K 
               let some2 : slice_get (children_of (internal d.parent s.0 (list_map {B = _ × ℕ} (λ r. (r.0, r.1)) s.2))) 0 ≡ Some child = subst (λ v. slice_get (children_of v) 0 ≡ Some child) (sym same) some in
               let is : s.0 ≡ child = cc in
               let low = d.low in
-              (record { height = d.height; low = d.low; spells = d.spells; dense = d.dense; below = h; parent = Some id; list = s.1; here = subst (λ i. Spells (views nodes) h (Some id) i s.1) is s.4; counted = omega arith }, omega arith)
+              (record { height = d.height; low = d.low; represents = d.represents; dense = d.dense; below = h; parent = Some id; list = s.1; here = subst (λ i. Represents (views nodes) h (Some id) i s.1) is s.4; counted = omega arith }, omega arith)
 
 -- at the root
 pub levels-start : {K V : Type 0} (cmp : K → K → Ordering) (s : TreeState K V) (root : ℕ) → s.root ≡ Some root → s.len < 2 ^ 64 → IsBTree cmp s
-    → IsDescending (looks s) root (pairs_of s) root 1
+    → IsDescending (node_map s) root (pairs_of s) root 1
 levels-start {K} {V} cmp s root is low tree =
-    let w : IsWellFormed cmp (looks s) (Some root) s.len (pairs_of s) = subst (λ t. IsWellFormed cmp (looks s) t s.len (pairs_of s)) is tree in
+    let w : IsWellFormed cmp (node_map s) (Some root) s.len (pairs_of s) = subst (λ t. IsWellFormed cmp (node_map s) t s.len (pairs_of s)) is tree in
     let c = w.counted in
-    descending-start s.nodes root (pairs_of s) w.formed.height (height-low (K × V) (looks s) root (pairs_of s) w.formed (omega arith)) w.formed.spells (height-dense (K × V) (looks s) root (pairs_of s) w.formed)
+    descending-start s.nodes root (pairs_of s) w.formed.height (height-low (K × V) (node_map s) root (pairs_of s) w.formed (omega arith)) w.formed.represents (height-dense (K × V) (node_map s) root (pairs_of s) w.formed)

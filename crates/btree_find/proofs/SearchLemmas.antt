@@ -10,18 +10,18 @@ use Rattle.btree_item.specs.declared.address.Address.{Address}
 use Rattle.btree_node.specs.declared.node.Node.{Node}
 use Rattle.btree_view.specs.LookUp.{placed, offset_in}
 use Rattle.btree_node.specs.Node.{view_of}
-use Rattle.btree_view.specs.View.{View, Look, leaf, internal, items_of, children_of, item_in, size_of}
+use Rattle.btree_view.specs.View.{View, NodeMap, leaf, internal, items_of, children_of, item_in, size_of}
 use Rattle.btree_shape.specs.Place.{IsOccupied, IsPlace, NOWHERE}
-use Rattle.btree_shape.specs.Search.{IsSearching}
-use Rattle.btree_shape.specs.TreeState.{TreeState, IsBTree, looks, pairs_of}
+use Rattle.btree_shape.specs.Focus.Search.{IsSearching}
+use Rattle.btree_shape.specs.TreeState.{TreeState, IsBTree, node_map, pairs_of}
 use Rattle.btree_shape.specs.WellFormed.{IsWellFormed}
-use Rattle.btree_shape.proofs.Descents.{Down, get-after, search-start, search-ascends, search-down}
-use Rattle.btree_shape.proofs.LookUps.{search-hit, search-miss}
-use Rattle.btree_shape.proofs.Needs.{seen-used}
-use Rattle.btree_shape.proofs.Searched.{Rises, rises, searched}
+use Rattle.btree_shape.proofs.LookUp.Descent.{Down, get-after, search-start, search-ascends, search-down}
+use Rattle.btree_shape.proofs.LookUp.Ends.{search-hit, search-miss}
+use Rattle.btree_shape.proofs.Paths.Used.{seen-used}
+use Rattle.btree_shape.proofs.LookUp.KeyInList.{Rises, rises, searched}
 use Rattle.btree_find.specs.Answers.{IsFoundAt, IsGapAt}
-use Rattle.btree_shape.proofs.PlacesValid.{place-valid}
-use Rattle.btree_shape.proofs.Stores.{used-view, most-few}
+use Rattle.btree_shape.proofs.Trees.ValidPlaces.{place-valid}
+use Rattle.btree_shape.proofs.Trees.Stores.{used-view, most-few}
 
 -- what `placed` says of a place among items
 placed-ok : (r : Result ℕ ℕ) (children : List ℕ) (offset : Option ℕ) → Ok offset ≡ placed r children → (o : ℕ) × (r ≡ Ok o) × (offset ≡ Some o)
@@ -53,8 +53,8 @@ has-child first [] (suc index) few e = absurd (omega arith)
 has-child first (b ∷ bs) (suc index) few e = has-child b.1 bs index (omega arith) e
 
 module _ {K V : Type 0} (cmp : K → K → Ordering) (k : K) (laws : IsTotalOrder cmp) (s : TreeState K V) (tree : IsBTree cmp s) where
-  abbrev look : Look (K × V)
-  look = looks s
+  abbrev node_at : NodeMap (K × V)
+  node_at = node_map s
 
   abbrev pairs : List (K × V)
   pairs = pairs_of s
@@ -65,27 +65,27 @@ module _ {K V : Type 0} (cmp : K → K → Ordering) (k : K) (laws : IsTotalOrde
       rw (is, none) (record { valid = inr (refl, refl, refl); place = 0; is = refl; at = ((refl, refl, refl), refl); in_leaf = inr (refl, refl, refl); back = refl })
 
   module _ (root : ℕ) (is : s.root ≡ Some root) where
-    well : IsWellFormed cmp look (Some root) s.len pairs
-    well = subst (λ t. IsWellFormed cmp look t s.len pairs) is tree
+    well : IsWellFormed cmp node_at (Some root) s.len pairs
+    well = subst (λ t. IsWellFormed cmp node_at t s.len pairs) is tree
 
     pub up : Rises cmp pairs
     up = rises cmp pairs well.ascends
 
-    pub start : IsSearching cmp k look root pairs root
-    start = search-start cmp k laws look root pairs up well.formed
+    pub start : IsSearching cmp k node_at root pairs root
+    start = search-start cmp k laws node_at root pairs up well.formed
 
-    module _ (id : ℕ) (q : IsSearching cmp k look root pairs id) where
+    module _ (id : ℕ) (q : IsSearching cmp k node_at root pairs id) where
       pub node-used : IsSome (nodes_map.get s.nodes id)
-      node-used = used-view s.nodes id (seen-used (K × V) look root pairs id q.node)
+      node-used = used-view s.nodes id (seen-used (K × V) node_at root pairs id q.node)
 
       module _ (node : Node K V) (at : nodes_map.get s.nodes id ≡ Some node) where
-        here : look id ≡ Some (view_of node)
+        here : node_at id ≡ Some (view_of node)
         here = ap (option_map view_of) at
 
         pub node-ascends : Ascends cmp (items_of (view_of node))
-        node-ascends = search-ascends cmp k laws look root pairs up id q (view_of node) here
+        node-ascends = search-ascends cmp k laws node_at root pairs up id q (view_of node) here
 
-        item-at : (o : ℕ) → place_of cmp k (items_of (view_of node)) ≡ Ok o → IsOccupied look id (Some o)
+        item-at : (o : ℕ) → place_of cmp k (items_of (view_of node)) ≡ Ok o → IsOccupied node_at id (Some o)
         item-at o place =
             let r = searched cmp k laws (items_of (view_of node)) (Ok o) (rises cmp (items_of (view_of node)) node-ascends) place in
             (r.1, ap (λ n. item_in n o) here ∙ (ap (λ l. slice_get l o) r.3 ∙ get-after r.0 r.1 r.2 o (sym r.4)))
@@ -93,14 +93,14 @@ module _ {K V : Type 0} (cmp : K → K → Ordering) (k : K) (laws : IsTotalOrde
         pub hit : (offset : Option ℕ) → Ok offset ≡ offset_in cmp k (view_of node) → (a : Address) → a ≡ record { id = id; offset = offset } → IsFoundAt cmp k s a
         hit offset e a same =
             let r = placed-ok (place_of cmp k (items_of (view_of node))) (children_of (view_of node)) offset e in
-            let h = search-hit cmp k laws look root pairs up id q (view_of node) here r.0 r.1 in
-            let at : IsPlace look s.root pairs id (Some r.0) h.place = subst (λ t. IsPlace look t pairs id (Some r.0) h.place) (sym is) h.at in
-            rw (same, r.2) (record { valid = place-valid look s.root pairs id (Some r.0) h.place at; place = h.place; is = h.is; at = at; occupied = item-at r.0 r.1 })
+            let h = search-hit cmp k laws node_at root pairs up id q (view_of node) here r.0 r.1 in
+            let at : IsPlace node_at s.root pairs id (Some r.0) h.place = subst (λ t. IsPlace node_at t pairs id (Some r.0) h.place) (sym is) h.at in
+            rw (same, r.2) (record { valid = place-valid node_at s.root pairs id (Some r.0) h.place at; place = h.place; is = h.is; at = at; occupied = item-at r.0 r.1 })
 
-        pub down : (index child : ℕ) → Err (index, Some child) ≡ offset_in cmp k (view_of node) → Down cmp k laws look root pairs up id child
+        pub down : (index child : ℕ) → Err (index, Some child) ≡ offset_in cmp k (view_of node) → Down cmp k laws node_at root pairs up id child
         down index child e =
             let r = placed-err (place_of cmp k (items_of (view_of node))) (children_of (view_of node)) index (Some child) e in
-            search-down cmp k laws look root pairs up id q (view_of node) here index r.0 child r.1
+            search-down cmp k laws node_at root pairs up id q (view_of node) here index r.0 child r.1
 
         pub miss : (index : ℕ) → Err (index, None) ≡ offset_in cmp k (view_of node) → (o : Option ℕ) → o ≡ index_offset index → index ≤ size_of (view_of node) → (a : Address) → a ≡ record { id = id; offset = o } → IsGapAt cmp k s a
         miss index e o oe few a same =
@@ -108,12 +108,12 @@ module _ {K V : Type 0} (cmp : K → K → Ordering) (k : K) (laws : IsTotalOrde
             let some : o ≡ Some index = oe ∙ small index (omega (arith, few, (well.formed.sized id (view_of node) here).1, most-few (view_of node))) in
             rw (same, some) (by (view_of node) here node-ascends r.0 r.1)
           where
-            by : (v : View (K × V)) → look id ≡ Some v → Ascends cmp (items_of v) → place_of cmp k (items_of v) ≡ Err index → slice_get (children_of v) index ≡ None
+            by : (v : View (K × V)) → node_at id ≡ Some v → Ascends cmp (items_of v) → place_of cmp k (items_of v) ≡ Err index → slice_get (children_of v) index ≡ None
                 → IsGapAt cmp k s (record { id = id; offset = Some index })
             by (leaf p ys) h asc place none =
-                let m = search-miss cmp k laws look root pairs up id q p ys h index place in
-                let at : IsPlace look s.root pairs id (Some index) m.place = subst (λ t. IsPlace look t pairs id (Some index) m.place) (sym is) m.at in
-                record { valid = place-valid look s.root pairs id (Some index) m.place at; place = m.place; is = m.is; at = at; in_leaf = inl (rw h tt); back = refl }
+                let m = search-miss cmp k laws node_at root pairs up id q p ys h index place in
+                let at : IsPlace node_at s.root pairs id (Some index) m.place = subst (λ t. IsPlace node_at t pairs id (Some index) m.place) (sym is) m.at in
+                record { valid = place-valid node_at s.root pairs id (Some index) m.place at; place = m.place; is = m.is; at = at; in_leaf = inl (rw h tt); back = refl }
             by (internal p first bs) h asc place none =
                 let r = searched cmp k laws (map {B = K × V} (λ (b : (K × V) × ℕ). b.0) bs) (Err index) (rises cmp (map {B = K × V} (λ (b : (K × V) × ℕ). b.0) bs) asc) place in
                 let n = length-map bs (λ (b : (K × V) × ℕ). b.0) in
@@ -126,7 +126,7 @@ module _ {K V : Type 0} (cmp : K → K → Ordering) (k : K) (laws : IsTotalOrde
         pub hit-value : (offset : Option ℕ) → Ok offset ≡ offset_in cmp k (view_of node) → option_map (λ x. x.1) (option_and_then (slice_get (items_of (view_of node))) offset) ≡ found_value cmp k pairs
         hit-value offset e =
             let r = placed-ok (place_of cmp k (items_of (view_of node))) (children_of (view_of node)) offset e in
-            let h = search-hit cmp k laws look root pairs up id q (view_of node) here r.0 r.1 in
+            let h = search-hit cmp k laws node_at root pairs up id q (view_of node) here r.0 r.1 in
             let a : found cmp k pairs ≡ slice_get (items_of (view_of node)) r.0 = h.item ∙ ap (λ n. item_in n r.0) here in
             ap (option_map (λ x. x.1)) (ap (option_and_then (slice_get (items_of (view_of node)))) r.2 ∙ sym a)
 

@@ -77,7 +77,7 @@ impl<K: Ord, V, C: NodesMut<K, V>> BTreeMap<K, V, C> {
 impl<K: Ord + Drop, V: Drop, C: NodesMut<K, V>> BTreeMap<K, V, C> {
     ghost use Rattle.btree_item.specs.Pairs.{found, found_value, inserted};
     ghost use Rattle.btree_shape.specs.TreeState.{pairs_of};
-    ghost use Rattle.btree_edit.specs.Insert.{IsRefusedAtGap, Took};
+    ghost use Rattle.btree_edit.specs.Insert.{IsRefusedAtGap, InsertsByKey};
 
     /// Puts a pair in, or exchanges the value at a key that is there: the stored key stays, and the given one is dropped.
     ///
@@ -86,7 +86,7 @@ impl<K: Ord + Drop, V: Drop, C: NodesMut<K, V>> BTreeMap<K, V, C> {
     pub fn insert(&mut self, key: K, value: V) -> Result<Option<V>, Refused<K, V>>
         ensures old { IfOk result (λ old. old ≡ found_value K.cmp key (pairs_of self.old)) }
         ensures inserted { OnOk result (pairs_of self.new ≡ inserted K.cmp key value (pairs_of self.old)) }
-        ensures took { OnOk result (Took K.cmp key self.old self.new value) }
+        ensures took { OnOk result (InsertsByKey K.cmp key self.old self.new value) }
         ensures uncounted { OnOk result (self.new.refusals ≡ self.old.refusals) }
 
         ensures returned { IfErr result (λ r. (r.key ≡ key) × (r.value ≡ value)) }

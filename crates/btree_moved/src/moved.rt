@@ -25,7 +25,7 @@ fn at_separator(offset: Offset, siblings: Siblings, to: Address) -> Address
     }
 }
 
-fn in_right_lender(
+fn in_right_giver(
     offset: Offset,
     right: usize,
     parent: usize,
@@ -33,7 +33,7 @@ fn in_right_lender(
     child: Option<usize>,
 ) -> Address
     requires { index < usize.MAX }
-    ensures { result ≡ moved.in_right_lender right parent index child offset }
+    ensures { result ≡ moved.in_right_giver right parent index child offset }
 {
     match offset.value() {
         Some(0) => Address::new(parent, Offset::from(index)),
@@ -54,7 +54,7 @@ pub fn moved_by_rotate_left(
     ensures { result ≡ between moved.moved_by_rotate_left siblings count child addr }
 {
     if addr.id == siblings.right {
-        in_right_lender(
+        in_right_giver(
             addr.offset,
             siblings.right,
             siblings.parent,
@@ -72,9 +72,9 @@ pub fn moved_by_rotate_left(
     }
 }
 
-fn in_left_lender(offset: Offset, siblings: Siblings, count: usize) -> Address
+fn in_left_giver(offset: Offset, siblings: Siblings, count: usize) -> Address
     requires { siblings.index < usize.MAX }
-    ensures { result ≡ between moved.in_left_lender siblings count offset }
+    ensures { result ≡ between moved.in_left_giver siblings count offset }
 {
     let Siblings {
         parent,
@@ -89,9 +89,9 @@ fn in_left_lender(offset: Offset, siblings: Siblings, count: usize) -> Address
     }
 }
 
-fn in_right_taker(offset: Offset, right: usize, child: Option<usize>) -> Address
+fn in_right_receiver(offset: Offset, right: usize, child: Option<usize>) -> Address
     requires { IfSome offset (λ n. n + 1 < usize.MAX) }
-    ensures { result ≡ moved.in_right_taker right child offset }
+    ensures { result ≡ moved.in_right_receiver right child offset }
 {
     match offset.value() {
         Some(offset) => Address::new(right, Offset::from(offset + 1)),
@@ -111,9 +111,9 @@ pub fn moved_by_rotate_right(
     ensures { result ≡ between moved.moved_by_rotate_right siblings count child addr }
 {
     if addr.id == siblings.left {
-        in_left_lender(addr.offset, siblings, count)
+        in_left_giver(addr.offset, siblings, count)
     } else if addr.id == siblings.right {
-        in_right_taker(addr.offset, siblings.right, child)
+        in_right_receiver(addr.offset, siblings.right, child)
     } else if addr.id == siblings.parent {
         at_separator(
             addr.offset,
@@ -173,9 +173,9 @@ pub fn moved_by_merge(
     }
 }
 
-fn in_released(offset: Offset, child: usize, count: usize) -> Address
+fn in_shrunk_root(offset: Offset, child: usize, count: usize) -> Address
     requires { count < usize.MAX }
-    ensures { result ≡ moved.in_released child count offset }
+    ensures { result ≡ moved.in_shrunk_root child count offset }
 {
     match offset.value() {
         Some(_offset) => Address::new(child, Offset::from(count)),
@@ -184,12 +184,12 @@ fn in_released(offset: Offset, child: usize, count: usize) -> Address
 }
 
 /// Where an address is once a root without items is gone: its only child has so many items.
-pub fn moved_by_release(addr: Address, root: usize, child: usize, count: usize) -> Address
+pub fn moved_by_shrink_root(addr: Address, root: usize, child: usize, count: usize) -> Address
     requires { count < usize.MAX }
-    ensures { result ≡ moved.moved_by_release root child count addr }
+    ensures { result ≡ moved.moved_by_shrink_root root child count addr }
 {
     if addr.id == root {
-        in_released(addr.offset, child, count)
+        in_shrunk_root(addr.offset, child, count)
     } else {
         addr
     }

@@ -6,16 +6,16 @@ use Rattle.btree_store.specs.Content.{Content}
 use Rattle.btree_node.specs.declared.node.Node.{Node}
 use Rattle.btree_view.specs.Edits.{with_parent}
 use Rattle.btree_node.specs.Node.{view_of}
-use Rattle.btree_view.specs.View.{View, Look, leaf, internal, children_in, children_of}
+use Rattle.btree_view.specs.View.{View, NodeMap, leaf, internal, children_in, children_of}
 use Rattle.btree_shape.specs.Lists.{one, times_listed}
-use Rattle.btree_shape.specs.Step.{Adopts}
+use Rattle.btree_shape.specs.Step.{SetsParents}
 use Rattle.btree_shape.specs.TreeState.{views}
 use Rattle.btree_shape.specs.WellFormed.{times_used}
-use Rattle.btree_shape.proofs.Frames.{one-zero, one-other}
-use Rattle.btree_shape.proofs.Numbers.{listed-append, same-or, used-mapped, zero-or}
-use Rattle.btree_raw.specs.Steps.{CanAdopt, SetsParent}
-use Rattle.btree_shape.proofs.Climbs.{get-times}
-use Rattle.btree_shape.proofs.Stores.{used-view}
+use Rattle.btree_shape.proofs.Paths.Frames.{one-zero, one-other}
+use Rattle.btree_shape.proofs.Trees.Numbers.{listed-append, same-or, used-mapped, zero-or}
+use Rattle.btree_raw.specs.Steps.{CanSetParents, SetsParent}
+use Rattle.btree_shape.proofs.Paths.Parents.{get-times}
+use Rattle.btree_shape.proofs.Trees.Stores.{used-view}
 
 times-take : (n i : ℕ) (ids : List ℕ) → times_listed n (take i ids) ≤ times_listed n ids
 times-take n zero ids = omega arith
@@ -35,12 +35,12 @@ twice p None = refl
 twice p (Some (leaf q xs)) = refl
 twice p (Some (internal q first bs)) = refl
 
-module _ {A : Type 0} (look : Look A) (id : ℕ) (can : CanAdopt look id) where
+module _ {A : Type 0} (node_at : NodeMap A) (id : ℕ) (can : CanSetParents node_at id) where
   abbrev children : List ℕ
-  children = children_in (look id)
+  children = children_in (node_at id)
 
-  module _ (now : Look A) (index : ℕ) (partly : Adopts look now id (take index children)) where
-    pub adopter-kept : now id ≡ look id
+  module _ (now : NodeMap A) (index : ℕ) (partly : SetsParents node_at now id (take index children)) where
+    pub adopter-kept : now id ≡ node_at id
     adopter-kept = partly.kept id (let z = can.apart in omega (arith, times-take id index children))
 
     module _ (child : ℕ) (is : slice_get children index ≡ Some child) where
@@ -49,10 +49,10 @@ module _ {A : Type 0} (look : Look A) (id : ℕ) (can : CanAdopt look id) where
           let used = can.children child (get-times children index child is) in
           elim (zero-or (times_listed child (take index children))) [
             | inl none ↦ rw (partly.kept child none) used
-            | inr some ↦ rw (partly.moved child some, used-mapped (with_parent (Some id)) (look child)) used
+            | inr some ↦ rw (partly.moved child some, used-mapped (with_parent (Some id)) (node_at child)) used
           ]
 
-      pub adopts-more : (new : Look A) → SetsParent now new child id → Adopts look new id (take (index + 1) children)
+      pub adopts-more : (new : NodeMap A) → SetsParent now new child id → SetsParents node_at new id (take (index + 1) children)
       adopts-more new s =
           let sum : (n : ℕ) → times_listed n (take (index + 1) children) ≡ times_listed n (take index children) + one n child =
           λ n. ap (times_listed n) (take-more index children child is) ∙ (let q = listed-append n (take index children) (child ∷ []) in omega arith) in
@@ -61,7 +61,7 @@ module _ {A : Type 0} (look : Look A) (id : ℕ) (can : CanAdopt look id) where
             moved = λ n some. elim (same-or n child) [
               | inl same ↦ rw same (s.here ∙ elim (zero-or (times_listed child (take index children))) [
                 | inl z ↦ ap (option_map (with_parent (Some id))) (partly.kept child z)
-                | inr p ↦ ap (option_map (with_parent (Some id))) (partly.moved child p) ∙ twice id (look child)
+                | inr p ↦ ap (option_map (with_parent (Some id))) (partly.moved child p) ∙ twice id (node_at child)
               ])
               | inr ne ↦ let q = sum n in let o = one-other n child ne in s.others n ne ∙ partly.moved n (omega arith)
             ];
@@ -73,7 +73,7 @@ module _ {K V : Type 0} where
   children-at nodes id node at = rw at refl
 
   -- one turn of the loop: the node as it was and as it is now
-  module _ (old now : Content (Node K V)) (id : ℕ) (can : CanAdopt (views old) id) (index : ℕ) (partly : Adopts (views old) (views now) id (take index (children_in (views old id)))) where
+  module _ (old now : Content (Node K V)) (id : ℕ) (can : CanSetParents (views old) id) (index : ℕ) (partly : SetsParents (views old) (views now) id (take index (children_in (views old id)))) where
     pub still-used : IsSome (map.get now id)
     still-used = used-view now id (rw (adopter-kept (views old) id can (views now) index partly) can.used)
 
@@ -91,5 +91,5 @@ module _ {K V : Type 0} where
         pub child-used : IsSome (map.get now child)
         child-used = used-view now child (adoptee-used (views old) id can (views now) index partly child the-child)
 
-        pub child-adopted : (new : Content (Node K V)) → SetsParent (views now) (views new) child id → Adopts (views old) (views new) id (take (index + 1) (children_in (views old id)))
+        pub child-adopted : (new : Content (Node K V)) → SetsParent (views now) (views new) child id → SetsParents (views old) (views new) id (take (index + 1) (children_in (views old id)))
         child-adopted new s = adopts-more (views old) id can (views now) index partly child the-child (views new) s

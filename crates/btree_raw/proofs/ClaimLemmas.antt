@@ -10,8 +10,8 @@ use Rattle.btree_shape.specs.Lists.{one}
 use Rattle.btree_shape.specs.Step.{Claims}
 use Rattle.btree_shape.specs.TreeState.{views}
 use Rattle.btree_shape.specs.WellFormed.{times_used}
-use Rattle.btree_shape.proofs.Numbers.{same-or}
-use Rattle.btree_shape.proofs.Frames.{one-other, one-self}
+use Rattle.btree_shape.proofs.Trees.Numbers.{same-or}
+use Rattle.btree_shape.proofs.Paths.Frames.{one-other, one-self}
 
 module _ {N : Type 0} (empty : N) where
   pub with-one_more : (nodes : Content N) (ids : List ℕ) (id : ℕ) → with_claims empty nodes (ids ++ id ∷ []) ≡ map.insert (with_claims empty nodes ids) id empty

@@ -7,24 +7,24 @@ use Rattle.btree_store.specs.Content.{Content}
 use Rattle.btree_node.specs.declared.node.Node.{Node}
 use Rattle.btree_node.specs.Node.{view_of}
 use Rattle.btree_view.specs.Edits.{IsOverflowing, with_item, with_parent}
-use Rattle.btree_view.specs.View.{View, Look, children_in, children_of, internal, most_of, parent_of, size_of}
-use Rattle.btree_shape.specs.Growing.{IsGrowing, IsGrown}
+use Rattle.btree_view.specs.View.{View, NodeMap, children_in, children_of, internal, most_of, parent_of, size_of}
+use Rattle.btree_shape.specs.Focus.Overflow.{MayOverflowAt, IsRepaired}
 use Rattle.btree_shape.specs.Moved.{moved_by_split}
 use Rattle.btree_shape.specs.Place.{IsBack}
 use Rattle.btree_shape.specs.Lists.{one, times_listed}
-use Rattle.btree_shape.specs.Shape.{count_at, times_under, view_at}
-use Rattle.btree_shape.specs.Step.{Puts, Raises, Splits}
-use Rattle.btree_shape.specs.Way.{parent_above}
+use Rattle.btree_shape.specs.Focus.Shape.{count_at, times_under, view_at}
+use Rattle.btree_shape.specs.Step.{WritesNode, GrowsRoot, Splits}
+use Rattle.btree_shape.specs.Focus.Path.{parent_above}
 use Rattle.btree_shape.specs.WellFormed.{times_used}
-use Rattle.btree_shape.proofs.Backs.{split-back}
-use Rattle.btree_shape.proofs.Claims.{push-spare}
-use Rattle.btree_shape.proofs.Climbs.{get-times}
-use Rattle.btree_shape.proofs.Frames.{one-self}
-use Rattle.btree_shape.proofs.Growth.{UpTo, child-apart, child-used, grows-done, grows-node, grows-spare, grows-used, new-root, root-spare, spare-apart, spare-used, to-parent}
-use Rattle.btree_shape.proofs.Numbers.{less-or, none-listed, same-or, times-has, used-low, used-mapped, used-one, zero-or}
-use Rattle.btree_shape.proofs.Sizes.{view-most, view-size}
-use Rattle.btree_raw.specs.Steps.{AreSplit, CanLift, CanRaise, CanSplitInto, IsSplitting, HasCount, Lifts}
-use Rattle.btree_raw.proofs.LiftLemmas.{one-more}
+use Rattle.btree_shape.proofs.Places.Backs.{split-back}
+use Rattle.btree_shape.proofs.Splits.Claims.{push-spare}
+use Rattle.btree_shape.proofs.Paths.Parents.{get-times}
+use Rattle.btree_shape.proofs.Paths.Frames.{one-self}
+use Rattle.btree_shape.proofs.Splits.Upward.{UpTo, child-apart, child-used, grows-done, grows-node, grows-spare, grows-used, new-root, root-spare, spare-apart, spare-used, to-parent}
+use Rattle.btree_shape.proofs.Trees.Numbers.{less-or, none-listed, same-or, times-has, used-low, used-mapped, used-one, zero-or}
+use Rattle.btree_shape.proofs.Trees.Sizes.{view-most, view-size}
+use Rattle.btree_raw.specs.Steps.{AreSplit, CanInsertSeparator, CanGrowRoot, CanSplitInto, IsSplitting, HasCount, InsertsSeparator}
+use Rattle.btree_raw.proofs.SeparatorLemmas.{one-more}
 use Rattle.btree_raw.proofs.OffsetLemmas.{grows-low}
 
 -- each of the numbers is one of the list's
@@ -35,108 +35,108 @@ all-listed P (x ∷ ids) all n some = elim (same-or n x) [
   | inr ne ↦ all-listed P ids (λ k d low. all (suc k) d (omega arith)) n (let o : one n x ≡ 0 = grind arith in omega arith)
 ]
 
-pub back-some : {A : Type 0} (look : Look A) (o : Option ℕ) → IsSome o → IsBack look o
-back-some look None is = absurd (cc)
-back-some look (Some o) is = tt
+pub back-some : {A : Type 0} (node_at : NodeMap A) (o : Option ℕ) → IsSome o → IsBack node_at o
+back-some node_at None is = absurd (cc)
+back-some node_at (Some o) is = tt
 
-pub some-back : {A : Type 0} (look : Look A) (o : Option ℕ) → IsBack look o → IsSome o
-some-back look None is = absurd is
-some-back look (Some o) is = refl
+pub some-back : {A : Type 0} (node_at : NodeMap A) (o : Option ℕ) → IsBack node_at o → IsSome o
+some-back node_at None is = absurd is
+some-back node_at (Some o) is = refl
 
 -- the numbers in use stay through a split, and under a new root
-split-used : {A : Type 0} (look new : Look A) (i j : ℕ) (x : A) → Splits look new i j x → 0 < times_used (look j) → (n : ℕ) → times_used (new n) ≡ times_used (look n)
-split-used look new i j x s used n = elim (same-or n i) [
-  | inl e ↦ let a = used-one (new i) s.left s.at_left in let b = used-one (look i) s.node s.here in rw e (omega arith)
+split-used : {A : Type 0} (node_at new : NodeMap A) (i j : ℕ) (x : A) → Splits node_at new i j x → 0 < times_used (node_at j) → (n : ℕ) → times_used (new n) ≡ times_used (node_at n)
+split-used node_at new i j x s used n = elim (same-or n i) [
+  | inl e ↦ let a = used-one (new i) s.left s.at_left in let b = used-one (node_at i) s.node s.here in rw e (omega arith)
   | inr ni ↦ elim (same-or n j) [
-    | inl e ↦ let a = used-one (new j) s.right s.at_right in let b = used-low (look j) in rw e (omega arith)
+    | inl e ↦ let a = used-one (new j) s.right s.at_right in let b = used-low (node_at j) in rw e (omega arith)
     | inr nj ↦ elim (zero-or (times_listed n (children_of s.right))) [
       | inl z ↦ ap times_used (s.kept n ni nj z)
-      | inr p ↦ ap times_used (s.moved n ni nj p) ∙ used-mapped (with_parent (Some j)) (look n)
+      | inr p ↦ ap times_used (s.moved n ni nj p) ∙ used-mapped (with_parent (Some j)) (node_at n)
     ]
   ]
 ]
 
-put-used : {A : Type 0} (look new : Look A) (p : ℕ) (u v : View A) → look p ≡ Some u → Puts look new p v → (n : ℕ) → times_used (new n) ≡ times_used (look n)
-put-used look new p u v was put n = elim (same-or n p) [
-  | inl e ↦ let a = used-one (new p) v put.here in let b = used-one (look p) u was in rw e (omega arith)
+put-used : {A : Type 0} (node_at new : NodeMap A) (p : ℕ) (u v : View A) → node_at p ≡ Some u → WritesNode node_at new p v → (n : ℕ) → times_used (new n) ≡ times_used (node_at n)
+put-used node_at new p u v was put n = elim (same-or n p) [
+  | inl e ↦ let a = used-one (new p) v put.here in let b = used-one (node_at p) u was in rw e (omega arith)
   | inr ne ↦ ap times_used (put.others n ne)
 ]
 
-raise-used : {A : Type 0} (look new : Look A) (i j r : ℕ) (x : A) → Raises look new i j r x → 0 < times_used (look r) → (n : ℕ) → times_used (new n) ≡ times_used (look n)
-raise-used look new i j r x s used n = elim (same-or n r) [
-  | inl e ↦ let a = used-one (new r) (internal None i ((x, j) ∷ [])) s.root in let b = used-low (look r) in rw e (omega arith)
+grow_root-used : {A : Type 0} (node_at new : NodeMap A) (i j r : ℕ) (x : A) → GrowsRoot node_at new i j r x → 0 < times_used (node_at r) → (n : ℕ) → times_used (new n) ≡ times_used (node_at n)
+grow_root-used node_at new i j r x s used n = elim (same-or n r) [
+  | inl e ↦ let a = used-one (new r) (internal None i ((x, j) ∷ [])) s.root in let b = used-low (node_at r) in rw e (omega arith)
   | inr nr ↦ elim (same-or n i) [
-    | inl e ↦ rw e (ap times_used s.at_left ∙ used-mapped (with_parent (Some r)) (look i))
+    | inl e ↦ rw e (ap times_used s.at_left ∙ used-mapped (with_parent (Some r)) (node_at i))
     | inr ni ↦ elim (same-or n j) [
-      | inl e ↦ rw e (ap times_used s.at_right ∙ used-mapped (with_parent (Some r)) (look j))
+      | inl e ↦ rw e (ap times_used s.at_right ∙ used-mapped (with_parent (Some r)) (node_at j))
       | inr nj ↦ ap times_used (s.kept n nr ni nj)
     ]
   ]
 ]
 
-module _ (A : Type 0) (old now : Look A) (root : Option ℕ) (start id : ℕ) (spare rest : List ℕ) (a b : Address) where
+module _ (A : Type 0) (old now : NodeMap A) (root : Option ℕ) (start id : ℕ) (spare rest : List ℕ) (a b : Address) where
   -- what was known of the tree at the start is known where the climb stands, with as many nodes gained as numbers are taken
   pub record Climbs : Type 0 where
     pub taken : ℕ
     pub counted : taken + length rest ≡ length spare
     pub next : (top : ℕ) (xs : List A) (asked : Option A) (place gained bound : ℕ) → root ≡ Some top
-        → IsGrowing A old top xs start spare asked a place gained bound → IsGrowing A now top xs id rest asked b place (gained + taken) bound
+        → MayOverflowAt A old top xs start spare asked a place gained bound → MayOverflowAt A now top xs id rest asked b place (gained + taken) bound
     pub used : (n : ℕ) → times_used (now n) ≡ times_used (old n)
     pub back : IsSome a.offset → IsSome b.offset
     pub low : (n : ℕ) → 0 < times_listed n rest → n < 2 ^ 64 - 1
 
-pub climb-start : (A : Type 0) (look : Look A) (root : Option ℕ) (start : ℕ) (spare : List ℕ) (a : Address) → All (λ n. n < 2 ^ 64 - 1) spare → Climbs A look look root start start spare spare a a
-climb-start A look root start spare a low = record {
+pub split_need-start : (A : Type 0) (node_at : NodeMap A) (root : Option ℕ) (start : ℕ) (spare : List ℕ) (a : Address) → All (λ n. n < 2 ^ 64 - 1) spare → Climbs A node_at node_at root start start spare spare a a
+split_need-start A node_at root start spare a low = record {
   taken = 0;
   counted = omega arith;
-  next = λ top xs asked place gained bound is g. let e : gained ≡ gained + 0 = omega arith in subst (λ n. IsGrowing A look top xs start spare asked a place n bound) e g;
+  next = λ top xs asked place gained bound is g. let e : gained ≡ gained + 0 = omega arith in subst (λ n. MayOverflowAt A node_at top xs start spare asked a place n bound) e g;
   used = λ n. refl;
   back = λ x. x;
   low = all-listed (λ n. n < 2 ^ 64 - 1) spare low;
 }
 
-module _ (A : Type 0) (old now : Look A) (root : Option ℕ) (start id : ℕ) (spare rest : List ℕ) (a b : Address) (s : IsSplitting old root start spare a) (c : Climbs A old now root start id spare rest a b) where
-  here : IsGrowing A now s.top s.xs id rest s.asked b s.place (s.gained + c.taken) s.bound
-  here = c.next s.top s.xs s.asked s.place s.gained s.bound s.at_root s.growing
+module _ (A : Type 0) (old now : NodeMap A) (root : Option ℕ) (start id : ℕ) (spare rest : List ℕ) (a b : Address) (s : IsSplitting old root start spare a) (c : Climbs A old now root start id spare rest a b) where
+  here : MayOverflowAt A now s.top s.xs id rest s.asked b s.place (s.gained + c.taken) s.bound
+  here = c.next s.top s.xs s.asked s.place s.gained s.bound s.at_root s.overflow
 
-  pub climb-used : 0 < times_used (now id)
-  climb-used = grows-used A now s.top s.xs id rest s.asked b s.place (s.gained + c.taken) s.bound here
+  pub split_need-used : 0 < times_used (now id)
+  split_need-used = grows-used A now s.top s.xs id rest s.asked b s.place (s.gained + c.taken) s.bound here
 
   -- the offset of the address is small
-  pub climb-offset : IfSome b.offset (λ n. n + 1 < 2 ^ 64 - 1)
-  climb-offset = grows-low A now s.top s.xs id rest s.asked b s.place (s.gained + c.taken) s.bound here
+  pub split_need-offset : IfSome b.offset (λ n. n + 1 < 2 ^ 64 - 1)
+  split_need-offset = grows-low A now s.top s.xs id rest s.asked b s.place (s.gained + c.taken) s.bound here
 
   module _ (v : View A) (e : now id ≡ Some v) where
     -- the climb is over: no number is left
     none-left : size_of v ≤ most_of v → length rest ≡ 0
     none-left low =
         let at = grows-node A now s.top s.xs id rest s.asked b s.place (s.gained + c.taken) s.bound here in
-        let is : v ≡ view_at A here.seen.height (parent_above here.seen.way) here.seen.shape = cc in
-        let z : size_of v ≡ count_at A here.seen.height here.seen.shape = ap size_of is ∙ view-size A here.seen.height (parent_above here.seen.way) here.seen.shape in
-        let m = ap most_of is ∙ view-most A here.seen.height (parent_above here.seen.way) here.seen.shape in
+        let is : v ≡ view_at A here.seen.height (parent_above here.seen.path) here.seen.shape = cc in
+        let z : size_of v ≡ count_at A here.seen.height here.seen.shape = ap size_of is ∙ view-size A here.seen.height (parent_above here.seen.path) here.seen.shape in
+        let m = ap most_of is ∙ view-most A here.seen.height (parent_above here.seen.path) here.seen.shape in
         here.none (omega arith)
 
-    pub climb-none-left : size_of v ≤ most_of v → rest ≡ []
-    climb-none-left low = nil_from_length rest (none-left low)
+    pub split_need-none-left : size_of v ≤ most_of v → rest ≡ []
+    split_need-none-left low = nil_from_length rest (none-left low)
 
-    pub climb-done : size_of v ≤ most_of v → AreSplit old now root root start spare a b
-    climb-done low =
+    pub split_need-done : size_of v ≤ most_of v → AreSplit old now root root start spare a b
+    split_need-done low =
         let z = none-left low in
         let k = c.counted in
         let t : c.taken ≡ length spare = omega arith in
         record {
           top = s.top;
           at_root = s.at_root;
-          grown = λ top xs asked place gained bound is g.
+          repaired = λ top xs asked place gained bound is g.
               let same : top ≡ s.top = (let w = s.at_root in cc) in
-              subst (λ r. IsGrown A now r xs asked b place (gained + length spare) bound) same
-              (subst (λ n. IsGrown A now top xs asked b place (gained + n) bound) t
+              subst (λ r. IsRepaired A now r xs asked b place (gained + length spare) bound) same
+              (subst (λ n. IsRepaired A now top xs asked b place (gained + n) bound) t
               (grows-done A now top xs id rest asked b place (gained + c.taken) bound (c.next top xs asked place gained bound is g) v e low));
         }
 
     module _ (lt : most_of v < size_of v) where
-      pub climb-left : 0 < length rest
-      climb-left = grows-spare A now s.top s.xs id rest s.asked b s.place (s.gained + c.taken) s.bound here v e lt
+      pub split_need-left : 0 < length rest
+      split_need-left = grows-spare A now s.top s.xs id rest s.asked b s.place (s.gained + c.taken) s.bound here v e lt
 
       module _ (more : List ℕ) (j : ℕ) (is : rest ≡ more ++ j ∷ []) where
         ps : ((n : ℕ) → times_listed n rest ≡ one n j + times_listed n more) × (length rest ≡ suc (length more))
@@ -148,8 +148,8 @@ module _ (A : Type 0) (old now : Look A) (root : Option ℕ) (start id : ℕ) (s
         j-apart : j ≢ id
         j-apart = spare-apart A now s.top s.xs id rest s.asked b s.place (s.gained + c.taken) s.bound here v e lt more j ps.0 ps.1
 
-        pub climb-split : CanSplitInto now id j
-        climb-split =
+        pub split_need-split : CanSplitInto now id j
+        split_need-split =
             let kids : children_in (now id) ≡ children_of v = ap children_in e in
             let ca = child-apart A now s.top s.xs id rest s.asked b s.place (s.gained + c.taken) s.bound here v e lt more j ps.0 ps.1 in
             record {
@@ -160,7 +160,7 @@ module _ (A : Type 0) (old now : Look A) (root : Option ℕ) (start id : ℕ) (s
               children_apart = rw kids ca;
             }
 
-        module _ (mid : Look A) (x : A) (kept : ℕ) (sp : Splits now mid id j x) (leaves : HasCount mid id kept) where
+        module _ (mid : NodeMap A) (x : A) (kept : ℕ) (sp : Splits now mid id j x) (leaves : HasCount mid id kept) where
           kept-is : size_of sp.left ≡ kept
           kept-is = let q : Some (size_of sp.left) ≡ Some kept = sym (ap (option_map size_of) sp.at_left) ∙ leaves in cc
 
@@ -174,8 +174,8 @@ module _ (A : Type 0) (old now : Look A) (root : Option ℕ) (start id : ℕ) (s
             to : UpTo A now s.top s.xs id rest s.asked b s.place (s.gained + c.taken) s.bound here v e lt more j ps.0 ps.1 mid x sp p
             to = to-parent A now s.top s.xs id rest s.asked b s.place (s.gained + c.taken) s.bound here v e lt more j ps.0 ps.1 mid x sp p up
 
-            pub climb-lift : CanLift mid p id
-            climb-lift = record {
+            pub split_need-insert_separator : CanInsertSeparator mid p id
+            split_need-insert_separator = record {
               node = to.node;
               here = to.here;
               inner = to.inner;
@@ -183,8 +183,8 @@ module _ (A : Type 0) (old now : Look A) (root : Option ℕ) (start id : ℕ) (s
               child = get-times (children_of to.node) to.index id to.child;
             }
 
-            pub climb-next : (new : Look A) (k : ℕ) → Lifts mid new p id j k x → Climbs A old new root start p spare more a (moved_by_split id j p k kept b)
-            climb-next new k l = record {
+            pub split_need-next : (new : NodeMap A) (k : ℕ) → InsertsSeparator mid new p id j k x → Climbs A old new root start p spare more a (moved_by_split id j p k kept b)
+            split_need-next new k l = record {
               taken = suc c.taken;
               counted = let q = c.counted in let f = ps.1 in omega arith;
               next = λ top xs asked place gained bound at g.
@@ -192,10 +192,10 @@ module _ (A : Type 0) (old now : Look A) (root : Option ℕ) (start id : ℕ) (s
                   let t = to-parent A now top xs id rest asked b place (gained + c.taken) bound g1 v e lt more j ps.0 ps.1 mid x sp p up in
                   let same : l.node ≡ t.node = (let w1 = l.here in let w2 = t.here in cc) in
                   let n : suc (gained + c.taken) ≡ gained + suc c.taken = omega arith in
-                  subst (λ m. IsGrowing A new top xs p more asked (moved_by_split id j p k kept b) place m bound) n
-                  (subst (λ m. IsGrowing A new top xs p more asked (moved_by_split id j p k m b) place (suc (gained + c.taken)) bound) kept-is
-                  (t.next new k (subst (λ u. slice_get (children_of u) k ≡ Some id) same l.child) (subst (λ u. Puts mid new p (with_item k x (Some j) u)) same l.puts)));
-              used = λ n. put-used mid new p l.node (with_item k x (Some j) l.node) l.here l.puts n ∙ (mid-used n ∙ c.used n);
+                  subst (λ m. MayOverflowAt A new top xs p more asked (moved_by_split id j p k kept b) place m bound) n
+                  (subst (λ m. MayOverflowAt A new top xs p more asked (moved_by_split id j p k m b) place (suc (gained + c.taken)) bound) kept-is
+                  (t.next new k (subst (λ u. slice_get (children_of u) k ≡ Some id) same l.child) (subst (λ u. WritesNode mid new p (with_item k x (Some j) u)) same l.writes_node)));
+              used = λ n. put-used mid new p l.node (with_item k x (Some j) l.node) l.here l.writes_node n ∙ (mid-used n ∙ c.used n);
               back = λ is. moved-back p k (c.back is);
               low = λ n some. c.low n (let q = ps.0 n in omega arith);
             }
@@ -205,15 +205,15 @@ module _ (A : Type 0) (old now : Look A) (root : Option ℕ) (start id : ℕ) (s
             alone : length more ≡ 1
             alone = (root-spare A now s.top s.xs id rest s.asked b s.place (s.gained + c.taken) s.bound here v e lt more j ps.0 ps.1 mid x sp up).1
 
-            pub climb-left-root : 0 < length more
-            climb-left-root = let q = alone in omega arith
+            pub split_need-left-root : 0 < length more
+            split_need-left-root = let q = alone in omega arith
 
             module _ (none : List ℕ) (r : ℕ) (is2 : more ≡ none ++ r ∷ []) where
               qs : ((n : ℕ) → times_listed n more ≡ one n r + times_listed n none) × (length more ≡ suc (length none))
               qs = push-spare more none r is2
 
-              pub climb-none-left-root : none ≡ []
-              climb-none-left-root = nil_from_length none (let y = qs.1 in let w = alone in omega arith)
+              pub split_need-none-left-root : none ≡ []
+              split_need-none-left-root = nil_from_length none (let y = qs.1 in let w = alone in omega arith)
 
               r-listed : times_listed r rest ≡ one r j + (1 + times_listed r none)
               r-listed = let x1 = ps.0 r in let x2 = qs.0 r in let x3 = one-self r in omega arith
@@ -224,11 +224,11 @@ module _ (A : Type 0) (old now : Look A) (root : Option ℕ) (start id : ℕ) (s
               r-used : 0 < times_used (mid r)
               r-used = let o = here.seen.whole.once r in let l = r-listed in let m = mid-used r in omega arith
 
-              pub climb-number : r < 2 ^ 64 - 1
-              climb-number = c.low r (let l = r-listed in omega arith)
+              pub split_need-number : r < 2 ^ 64 - 1
+              split_need-number = c.low r (let l = r-listed in omega arith)
 
-              pub climb-raise : CanRaise mid id j r
-              climb-raise = record {
+              pub split_need-grow_root : CanGrowRoot mid id j r
+              split_need-grow_root = record {
                 left_used = let u = used-one (mid id) sp.left sp.at_left in omega arith;
                 right_used = let u = used-one (mid j) sp.right sp.at_right in omega arith;
                 root_used = r-used;
@@ -244,25 +244,25 @@ module _ (A : Type 0) (old now : Look A) (root : Option ℕ) (start id : ℕ) (s
                 );
               }
 
-              module _ (new : Look A) (ra : Raises mid new id j r x) where
-                pub climb-used-end : (n : ℕ) → times_used (new n) ≡ times_used (old n)
-                climb-used-end n = raise-used mid new id j r x ra r-used n ∙ (mid-used n ∙ c.used n)
+              module _ (new : NodeMap A) (ra : GrowsRoot mid new id j r x) where
+                pub split_need-used-end : (n : ℕ) → times_used (new n) ≡ times_used (old n)
+                split_need-used-end n = grow_root-used mid new id j r x ra r-used n ∙ (mid-used n ∙ c.used n)
 
-                pub climb-root : AreSplit old new root (Some r) start spare a (moved_by_split id j r 0 kept b)
-                climb-root = record {
+                pub split_need-root : AreSplit old new root (Some r) start spare a (moved_by_split id j r 0 kept b)
+                split_need-root = record {
                   top = r;
                   at_root = refl;
-                  grown = λ top xs asked place gained bound at g.
+                  repaired = λ top xs asked place gained bound at g.
                       let g1 = c.next top xs asked place gained bound at g in
                       let only : (n : ℕ) → times_listed n more ≡ one n r = λ n. let q = qs.0 n in let z = none-listed none (let y = qs.1 in let w = alone in omega arith) n in omega arith in
                       let t = new-root A now top xs id rest asked b place (gained + c.taken) bound g1 v e lt more j ps.0 ps.1 mid x sp up r only new ra in
                       let n : suc (suc (gained + c.taken)) ≡ gained + length spare = (let q1 = c.counted in let q2 = ps.1 in let q3 = alone in omega arith) in
-                      subst (λ m. IsGrown A new r xs asked (moved_by_split id j r 0 kept b) place m bound) n
-                      (subst (λ m. IsGrown A new r xs asked (moved_by_split id j r 0 m b) place (suc (suc (gained + c.taken))) bound) kept-is t);
+                      subst (λ m. IsRepaired A new r xs asked (moved_by_split id j r 0 kept b) place m bound) n
+                      (subst (λ m. IsRepaired A new r xs asked (moved_by_split id j r 0 m b) place (suc (suc (gained + c.taken))) bound) kept-is t);
                 }
 
-                pub climb-back-end : IsSome a.offset → IsSome (moved_by_split id j r 0 kept b).offset
-                climb-back-end is = moved-back r 0 (c.back is)
+                pub split_need-back-end : IsSome a.offset → IsSome (moved_by_split id j r 0 kept b).offset
+                split_need-back-end is = moved-back r 0 (c.back is)
 
 -- what the test of a node answers
 pub is-over : {A : Type 0} (v : View A) → (IsTrue true ↔ IsOverflowing v) → IsOverflowing v

@@ -8,24 +8,24 @@ use Rattle.btree_item.specs.declared.address.Address.{Address}
 use Rattle.btree_node.specs.declared.node.Node.{Node}
 use Rattle.btree_node.specs.Node.{view_of}
 use Rattle.btree_view.specs.Edits.{with_parent}
-use Rattle.btree_view.specs.View.{Look, View, leaf, internal, children_in, children_of, most_of, size_of, parent_of}
-use Rattle.btree_shape.specs.Growing.{IsGrown}
-use Rattle.btree_shape.specs.Shrinking.{IsShrinking}
+use Rattle.btree_view.specs.View.{NodeMap, View, leaf, internal, children_in, children_of, most_of, size_of, parent_of}
+use Rattle.btree_shape.specs.Focus.Overflow.{IsRepaired}
+use Rattle.btree_shape.specs.Focus.Underflow.{MayUnderflowAt}
 use Rattle.btree_shape.specs.Lists.{as_list, one, times_listed}
-use Rattle.btree_shape.specs.Mend.{Merges, Writes}
+use Rattle.btree_shape.specs.SiblingSteps.{Merges, Writes}
 use Rattle.btree_shape.specs.Moved.{first_in, moved_by_merge, moved_by_rotate_left, moved_by_rotate_right}
 use Rattle.btree_shape.specs.TreeState.{views}
 use Rattle.btree_shape.specs.WellFormed.{times_used}
-use Rattle.btree_shape.proofs.Backs.{merge-back, rotate-left-back, rotate-right-back}
-use Rattle.btree_shape.proofs.Frames.{one-other, one-self}
-use Rattle.btree_shape.proofs.Numbers.{same-node, same-or, used-mapped, used-one, zero-or}
-use Rattle.btree_raw.specs.NodeSteps.{AreSiblings, BecomeMerged, CanLend, CanMerge, CanRotateLeft, CanRotateRight, LendsLeft, LendsRight}
-use Rattle.btree_raw.specs.Shrink.{AreBeside, HaveFew, IsShort, MendsAbove, MendsHere, IsFollowed}
+use Rattle.btree_shape.proofs.Places.Backs.{merge-back, rotate-left-back, rotate-right-back}
+use Rattle.btree_shape.proofs.Paths.Frames.{one-other, one-self}
+use Rattle.btree_shape.proofs.Trees.Numbers.{same-node, same-or, used-mapped, used-one, zero-or}
+use Rattle.btree_raw.specs.NodeSteps.{AreSiblings, MergesSiblings, CanGiveItem, CanMerge, CanRotateLeft, CanRotateRight, RotatesSiblingsLeft, RotatesSiblingsRight}
+use Rattle.btree_raw.specs.Underflow.{AreAdjacent, HaveFew, Underflows, PassesUnderflowUp, EndsUnderflow, IsFollowed}
 use Rattle.btree_raw.specs.Steps.{HasCount}
 use Rattle.btree_raw.proofs.ClimbLemmas.{back-some, some-back}
 use Rattle.btree_raw.proofs.StepLemmas.{size-at}
-use Rattle.btree_shape.proofs.Beside.{Beside}
-use Rattle.btree_shape.proofs.Shrinks.{shrinks-node, to-over}
+use Rattle.btree_shape.proofs.Underflow.Adjacent.{Beside}
+use Rattle.btree_shape.proofs.Underflow.Upward.{shrinks-node, to-over}
 use Rattle.btree_shape.specs.Need.{levels_above}
 
 pub first-at : {K V : Type 0} (nodes : Content (Node K V)) (id : ℕ) (node : Node K V) (o : Option ℕ) → nodes_map.get nodes id ≡ Some node
@@ -37,11 +37,11 @@ first-at {K} {V} nodes id node o at is = ap (λ n. option_map first_in (option_m
     first (internal p u bs) = refl
 
 -- the node at which a followed climb stands
-module _ {A : Type 0} (look : Look A) (id : ℕ) (a : Address) (s : IsFollowed look id a) where
-  pub followed-node : (v : View A) × (look id ≡ Some v)
-  followed-node = (_, shrinks-node A look s.root s.xs id s.asked a s.place s.given s.bound s.shrinking)
+module _ {A : Type 0} (node_at : NodeMap A) (id : ℕ) (a : Address) (s : IsFollowed node_at id a) where
+  pub followed-node : (v : View A) × (node_at id ≡ Some v)
+  followed-node = (_, shrinks-node A node_at s.root s.xs id s.asked a s.place s.given s.bound s.underflow)
 
-  pub followed-under : (o : Option ℕ) → option_map parent_of (look id) ≡ Some o → parent_of followed-node.0 ≡ o
+  pub followed-under : (o : Option ℕ) → option_map parent_of (node_at id) ≡ Some o → parent_of followed-node.0 ≡ o
   followed-under o under = let q : Some (parent_of followed-node.0) ≡ Some o = sym (ap (option_map parent_of) followed-node.1) ∙ under in cc
 
 module _ {A : Type 0} where
@@ -49,68 +49,68 @@ module _ {A : Type 0} where
   most-some (leaf p xs) = omega arith
   most-some (internal p u bs) = omega arith
 
-  first-is : (look : Look A) (id : ℕ) (child : Option ℕ) (v : View A) → look id ≡ Some v → option_map first_in (look id) ≡ Some child → first_in v ≡ child
-  first-is look id child v e l = let q : Some (first_in v) ≡ Some child = sym (ap (option_map first_in) e) ∙ l in cc
+  first-is : (node_at : NodeMap A) (id : ℕ) (child : Option ℕ) (v : View A) → node_at id ≡ Some v → option_map first_in (node_at id) ≡ Some child → first_in v ≡ child
+  first-is node_at id child v e l = let q : Some (first_in v) ≡ Some child = sym (ap (option_map first_in) e) ∙ l in cc
 
-  both-used : (look new : Look A) (n : ℕ) (v w : View A) → look n ≡ Some v → new n ≡ Some w → times_used (new n) ≡ times_used (look n)
-  both-used look new n v w e f = let a = used-one (look n) v e in let b = used-one (new n) w f in omega arith
+  both-used : (node_at new : NodeMap A) (n : ℕ) (v w : View A) → node_at n ≡ Some v → new n ≡ Some w → times_used (new n) ≡ times_used (node_at n)
+  both-used node_at new n v w e f = let a = used-one (node_at n) v e in let b = used-one (new n) w f in omega arith
 
   -- what is written keeps the numbers in use
-  writes-used : (look new : Look A) (p l r : ℕ) (top low high t2 l2 h2 : View A) (kids : List ℕ) (to : ℕ) → Writes look new p l r top low high t2 l2 h2 kids to
-      → (n : ℕ) → times_used (new n) ≡ times_used (look n)
-  writes-used look new p l r top low high t2 l2 h2 kids to w n = elim (same-or n p) [
-    | inl e ↦ rw e (both-used look new p top t2 w.at_parent w.new_parent)
+  writes-used : (node_at new : NodeMap A) (p l r : ℕ) (top low high t2 l2 h2 : View A) (kids : List ℕ) (to : ℕ) → Writes node_at new p l r top low high t2 l2 h2 kids to
+      → (n : ℕ) → times_used (new n) ≡ times_used (node_at n)
+  writes-used node_at new p l r top low high t2 l2 h2 kids to w n = elim (same-or n p) [
+    | inl e ↦ rw e (both-used node_at new p top t2 w.at_parent w.new_parent)
     | inr np ↦ elim (same-or n l) [
-      | inl e ↦ rw e (both-used look new l low l2 w.at_left w.new_left)
+      | inl e ↦ rw e (both-used node_at new l low l2 w.at_left w.new_left)
       | inr nl ↦ elim (same-or n r) [
-        | inl e ↦ rw e (both-used look new r high h2 w.at_right w.new_right)
+        | inl e ↦ rw e (both-used node_at new r high h2 w.at_right w.new_right)
         | inr nr ↦ elim (zero-or (times_listed n kids)) [
           | inl z ↦ ap times_used (w.kept n np nl nr z)
-          | inr m ↦ ap times_used (w.moved n np nl nr m) ∙ used-mapped (with_parent (Some to)) (look n)
+          | inr m ↦ ap times_used (w.moved n np nl nr m) ∙ used-mapped (with_parent (Some to)) (node_at n)
         ]
       ]
     ]
   ]
 
   -- a merge takes one number out of use
-  merge-used : (look new : Look A) (p s l r : ℕ) → (l ≢ r) × (l ≢ p) × (r ≢ p) → Merges look new p s l r → (n : ℕ) → times_used (look n) ≡ times_used (new n) + one n r
-  merge-used look new p s l r apart w n = elim (same-or n r) [
-    | inl e ↦ rw e (let a = used-one (look r) w.high w.at_right in let b = ap times_used w.gone in let c = one-self r in omega arith)
+  merge-used : (node_at new : NodeMap A) (p s l r : ℕ) → (l ≢ r) × (l ≢ p) × (r ≢ p) → Merges node_at new p s l r → (n : ℕ) → times_used (node_at n) ≡ times_used (new n) + one n r
+  merge-used node_at new p s l r apart w n = elim (same-or n r) [
+    | inl e ↦ rw e (let a = used-one (node_at r) w.high w.at_right in let b = ap times_used w.gone in let c = one-self r in omega arith)
     | inr nr ↦ let o = one-other n r nr in elim (same-or n p) [
-      | inl e ↦ let u = both-used look new p w.top w.new_top w.at_parent w.new_parent in let q = subst (λ k. one k r ≡ 0) e o in rw e (omega arith)
+      | inl e ↦ let u = both-used node_at new p w.top w.new_top w.at_parent w.new_parent in let q = subst (λ k. one k r ≡ 0) e o in rw e (omega arith)
       | inr np ↦ elim (same-or n l) [
-        | inl e ↦ let u = both-used look new l w.low w.new_low w.at_left w.new_left in let q = subst (λ k. one k r ≡ 0) e o in rw e (omega arith)
+        | inl e ↦ let u = both-used node_at new l w.low w.new_low w.at_left w.new_left in let q = subst (λ k. one k r ≡ 0) e o in rw e (omega arith)
         | inr nl ↦ elim (zero-or (times_listed n (children_of w.high))) [
           | inl z ↦ let u = ap times_used (w.kept n np nl nr z) in omega arith
-          | inr m ↦ let u = ap times_used (w.moved n np nl nr m) ∙ used-mapped (with_parent (Some l)) (look n) in omega arith
+          | inr m ↦ let u = ap times_used (w.moved n np nl nr m) ∙ used-mapped (with_parent (Some l)) (node_at n) in omega arith
         ]
       ]
     ]
   ]
 
-module _ {A : Type 0} (look : Look A) (siblings : Siblings) (id : ℕ) (a : Address) (s : AreBeside look siblings id a) where
-  abbrev short-node : (v : View A) × (look id ≡ Some v)
-  short-node = followed-node look id a s.followed
+module _ {A : Type 0} (node_at : NodeMap A) (siblings : Siblings) (id : ℕ) (a : Address) (s : AreAdjacent node_at siblings id a) where
+  abbrev short-node : (v : View A) × (node_at id ≡ Some v)
+  short-node = followed-node node_at id a s.followed
 
   short-up : parent_of short-node.0 ≡ Some siblings.parent
-  short-up = followed-under look id a s.followed (Some siblings.parent) s.under
+  short-up = followed-under node_at id a s.followed (Some siblings.parent) s.under
 
   -- what is known of the two in whatever tree they stand
-  beside : (root : ℕ) (xs : List A) (asked : Option A) (place given bound : ℕ) → IsShrinking A look root xs id asked a place given bound
-      → Beside A look root xs asked a place given bound siblings.parent siblings.index siblings.left siblings.right
+  beside : (root : ℕ) (xs : List A) (asked : Option A) (place given bound : ℕ) → MayUnderflowAt A node_at root xs id asked a place given bound
+      → Beside A node_at root xs asked a place given bound siblings.parent siblings.index siblings.left siblings.right
   beside root xs asked place given bound g =
-      let o = to-over A look root xs id asked a place given bound g short-node.0 short-node.1 siblings.parent short-up in
+      let o = to-over A node_at root xs id asked a place given bound g short-node.0 short-node.1 siblings.parent short-up in
       let l : slice_get (children_of o.node) siblings.index ≡ Some siblings.left = sym (ap (λ v. slice_get (children_in v) siblings.index) o.here) ∙ s.at_left in
       let r : slice_get (children_of o.node) (suc siblings.index) ≡ Some siblings.right = sym (ap (λ v. slice_get (children_in v) (suc siblings.index)) o.here) ∙ s.at_right in
       elim s.one_of [
-        | inl e ↦ subst (λ k. Beside A look root xs asked a place given bound siblings.parent siblings.index k siblings.right) e (o.after siblings.index siblings.right (l ∙ ap Some (sym e)) r)
-        | inr e ↦ subst (λ k. Beside A look root xs asked a place given bound siblings.parent siblings.index siblings.left k) e (o.before siblings.index siblings.left l (r ∙ ap Some (sym e)))
+        | inl e ↦ subst (λ k. Beside A node_at root xs asked a place given bound siblings.parent siblings.index k siblings.right) e (o.after siblings.index siblings.right (l ∙ ap Some (sym e)) r)
+        | inr e ↦ subst (λ k. Beside A node_at root xs asked a place given bound siblings.parent siblings.index siblings.left k) e (o.before siblings.index siblings.left l (r ∙ ap Some (sym e)))
       ]
 
-  pub pair : Beside A look s.followed.root s.followed.xs s.followed.asked a s.followed.place s.followed.given s.followed.bound siblings.parent siblings.index siblings.left siblings.right
-  pair = beside s.followed.root s.followed.xs s.followed.asked s.followed.place s.followed.given s.followed.bound s.followed.shrinking
+  pub pair : Beside A node_at s.followed.root s.followed.xs s.followed.asked a s.followed.place s.followed.given s.followed.bound siblings.parent siblings.index siblings.left siblings.right
+  pair = beside s.followed.root s.followed.xs s.followed.asked s.followed.place s.followed.given s.followed.bound s.followed.underflow
 
-  abbrev are-siblings : AreSiblings look siblings
+  abbrev are-siblings : AreSiblings node_at siblings
   are-siblings = record {
     top = pair.node;
     low = pair.low;
@@ -126,7 +126,7 @@ module _ {A : Type 0} (look : Look A) (siblings : Siblings) (id : ℕ) (a : Addr
     children = pair.children_used;
   }
 
-  pub right-there : 0 < times_used (look siblings.right)
+  pub right-there : 0 < times_used (node_at siblings.right)
   right-there = rw pair.at_right (omega arith)
 
   pub index-few : siblings.index < 2 ^ 64 - 1
@@ -136,88 +136,88 @@ module _ {A : Type 0} (look : Look A) (siblings : Siblings) (id : ℕ) (a : Addr
   count-few (leaf p xs) m = omega arith
   count-few (internal p u bs) m = omega arith
 
-  module _ (count : ℕ) (counted : HasCount look siblings.left count) where
+  module _ (count : ℕ) (counted : HasCount node_at siblings.left count) where
     pub count-low : count ≤ 8
-    count-low = let e = size-at look siblings.left count pair.low pair.at_left counted in let m = count-few pair.low pair.low_most in omega arith
+    count-low = let e = size-at node_at siblings.left count pair.low pair.at_left counted in let m = count-few pair.low pair.low_most in omega arith
 
-    module _ (child : Option ℕ) (first : option_map first_in (look siblings.right) ≡ Some child) where
+    module _ (child : Option ℕ) (first : option_map first_in (node_at siblings.right) ≡ Some child) where
       -- what is told of an address in the step's own words
-      so : (g : ℕ → Option ℕ → Address) (low high : View A) → look siblings.left ≡ Some low → look siblings.right ≡ Some high → (P : Address → Type 0) → P (g (size_of low) (first_in high)) → P (g count child)
-      so g low high l h P p = subst (λ n. P (g n child)) (size-at look siblings.left count low l counted)
-          (subst (λ k. P (g (size_of low) k)) (first-is look siblings.right child high h first) p)
+      so : (g : ℕ → Option ℕ → Address) (low high : View A) → node_at siblings.left ≡ Some low → node_at siblings.right ≡ Some high → (P : Address → Type 0) → P (g (size_of low) (first_in high)) → P (g count child)
+      so g low high l h P p = subst (λ n. P (g n child)) (size-at node_at siblings.left count low l counted)
+          (subst (λ k. P (g (size_of low) k)) (first-is node_at siblings.right child high h first) p)
 
-      module _ (short : IsShort look siblings.left) (lender : CanLend look siblings.right) (new : Look A) (rot : LendsLeft look new siblings) where
-        pub even-left : MendsHere look new id a (between moved_by_rotate_left siblings count child a)
+      module _ (short : Underflows node_at siblings.left) (lender : CanGiveItem node_at siblings.right) (new : NodeMap A) (rot : RotatesSiblingsLeft node_at new siblings) where
+        pub even-left : EndsUnderflow node_at new id a (between moved_by_rotate_left siblings count child a)
         even-left = record {
-          grown = λ root xs asked place given bound g.
+          repaired = λ root xs asked place given bound g.
               let b = beside root xs asked place given bound g in
-              so (λ n k. between moved_by_rotate_left siblings n k a) b.low b.high b.at_left b.at_right (λ v. IsGrown A new root xs asked v place given bound)
-              (b.rotate_left new rot (subst (λ v. size_of v ≤ 2) (same-node look siblings.left short.node b.low short.here b.at_left) short.few)
-              (subst (λ v. 3 < size_of v) (same-node look siblings.right lender.node b.high lender.here b.at_right) lender.spare));
-          used = writes-used look new siblings.parent siblings.left siblings.right rot.top rot.low rot.high rot.new_top rot.new_low rot.new_high (as_list rot.child) siblings.left rot.writes;
+              so (λ n k. between moved_by_rotate_left siblings n k a) b.low b.high b.at_left b.at_right (λ v. IsRepaired A new root xs asked v place given bound)
+              (b.rotate_left new rot (subst (λ v. size_of v ≤ 2) (same-node node_at siblings.left short.node b.low short.here b.at_left) short.few)
+              (subst (λ v. 3 < size_of v) (same-node node_at siblings.right lender.node b.high lender.here b.at_right) lender.spare));
+          used = writes-used node_at new siblings.parent siblings.left siblings.right rot.top rot.low rot.high rot.new_top rot.new_low rot.new_high (as_list rot.child) siblings.left rot.writes;
         }
 
-      module _ (short : IsShort look siblings.right) (lender : CanLend look siblings.left) (new : Look A) (rot : LendsRight look new siblings) where
-        pub even-right : MendsHere look new id a (between moved_by_rotate_right siblings count child a)
+      module _ (short : Underflows node_at siblings.right) (lender : CanGiveItem node_at siblings.left) (new : NodeMap A) (rot : RotatesSiblingsRight node_at new siblings) where
+        pub even-right : EndsUnderflow node_at new id a (between moved_by_rotate_right siblings count child a)
         even-right = record {
-          grown = λ root xs asked place given bound g.
+          repaired = λ root xs asked place given bound g.
               let b = beside root xs asked place given bound g in
-              so (λ n k. between moved_by_rotate_right siblings n k a) b.low b.high b.at_left b.at_right (λ v. IsGrown A new root xs asked v place given bound)
-              (b.rotate_right new rot (subst (λ v. size_of v ≤ 2) (same-node look siblings.right short.node b.high short.here b.at_right) short.few)
-              (subst (λ v. 3 < size_of v) (same-node look siblings.left lender.node b.low lender.here b.at_left) lender.spare));
-          used = writes-used look new siblings.parent siblings.left siblings.right rot.top rot.low rot.high rot.new_top rot.new_low rot.new_high (as_list rot.child) siblings.right rot.writes;
+              so (λ n k. between moved_by_rotate_right siblings n k a) b.low b.high b.at_left b.at_right (λ v. IsRepaired A new root xs asked v place given bound)
+              (b.rotate_right new rot (subst (λ v. size_of v ≤ 2) (same-node node_at siblings.right short.node b.high short.here b.at_right) short.few)
+              (subst (λ v. 3 < size_of v) (same-node node_at siblings.left lender.node b.low lender.here b.at_left) lender.spare));
+          used = writes-used node_at new siblings.parent siblings.left siblings.right rot.top rot.low rot.high rot.new_top rot.new_low rot.new_high (as_list rot.child) siblings.right rot.writes;
         }
 
-      module _ (few : HaveFew look siblings) (new : Look A) (mg : BecomeMerged look new siblings) where
-        sum-few : (low high : View A) → look siblings.left ≡ Some low → look siblings.right ≡ Some high → size_of low + size_of high ≤ 5
+      module _ (few : HaveFew node_at siblings) (new : NodeMap A) (mg : MergesSiblings node_at new siblings) where
+        sum-few : (low high : View A) → node_at siblings.left ≡ Some low → node_at siblings.right ≡ Some high → size_of low + size_of high ≤ 5
         sum-few low high l h =
-            let a1 = ap size_of (same-node look siblings.left few.low low few.at_left l) in
-            let a2 = ap size_of (same-node look siblings.right few.high high few.at_right h) in
+            let a1 = ap size_of (same-node node_at siblings.left few.low low few.at_left l) in
+            let a2 = ap size_of (same-node node_at siblings.right few.high high few.at_right h) in
             let f = few.few in omega arith
 
-        pub joined-both : MendsAbove look new id siblings.parent a (between moved_by_merge siblings count child a)
+        pub joined-both : PassesUnderflowUp node_at new id siblings.parent a (between moved_by_merge siblings count child a)
         joined-both = record {
-          shrinking = λ root xs asked place given bound g.
+          underflow = λ root xs asked place given bound g.
               let b = beside root xs asked place given bound g in
               let f = sum-few b.low b.high b.at_left b.at_right in
               let low = b.lower new mg f in (
-                so (λ n k. between moved_by_merge siblings n k a) b.low b.high b.at_left b.at_right (λ v. IsShrinking A new root xs siblings.parent asked v place (suc given) bound) (b.merge new mg f),
+                so (λ n k. between moved_by_merge siblings n k a) b.low b.high b.at_left b.at_right (λ v. MayUnderflowAt A new root xs siblings.parent asked v place (suc given) bound) (b.merge new mg f),
                 elim s.one_of [
-                  | inl e ↦ subst (λ k. levels_above new (length xs) siblings.parent < levels_above look (length xs) k) (sym e) low.0
-                  | inr e ↦ subst (λ k. levels_above new (length xs) siblings.parent < levels_above look (length xs) k) (sym e) low.1
+                  | inl e ↦ subst (λ k. levels_above new (length xs) siblings.parent < levels_above node_at (length xs) k) (sym e) low.0
+                  | inr e ↦ subst (λ k. levels_above new (length xs) siblings.parent < levels_above node_at (length xs) k) (sym e) low.1
                 ],
               );
           gone = siblings.right;
-          used = merge-used look new siblings.parent siblings.index siblings.left siblings.right pair.apart mg;
+          used = merge-used node_at new siblings.parent siblings.index siblings.left siblings.right pair.apart mg;
         }
 
-  pub can-left : IsShort look siblings.left → CanLend look siblings.right → CanRotateLeft look siblings
+  pub can-left : Underflows node_at siblings.left → CanGiveItem node_at siblings.right → CanRotateLeft node_at siblings
   can-left short lender = record {
     pair = are-siblings;
     room = pair.low_most;
-    spare = subst (λ v. 3 < size_of v) (same-node look siblings.right lender.node pair.high lender.here pair.at_right) lender.spare;
+    spare = subst (λ v. 3 < size_of v) (same-node node_at siblings.right lender.node pair.high lender.here pair.at_right) lender.spare;
   }
 
-  pub can-right : IsShort look siblings.right → CanLend look siblings.left → CanRotateRight look siblings
+  pub can-right : Underflows node_at siblings.right → CanGiveItem node_at siblings.left → CanRotateRight node_at siblings
   can-right short lender = record {
     pair = are-siblings;
     room = pair.high_most;
-    spare = subst (λ v. 3 < size_of v) (same-node look siblings.left lender.node pair.low lender.here pair.at_left) lender.spare;
+    spare = subst (λ v. 3 < size_of v) (same-node node_at siblings.left lender.node pair.low lender.here pair.at_left) lender.spare;
   }
 
-  pub can-merge : HaveFew look siblings → CanMerge look siblings
+  pub can-merge : HaveFew node_at siblings → CanMerge node_at siblings
   can-merge few = record {
     pair = are-siblings;
     room =
-        let a1 = ap size_of (same-node look siblings.left few.low pair.low few.at_left pair.at_left) in
-        let a2 = ap size_of (same-node look siblings.right few.high pair.high few.at_right pair.at_right) in
+        let a1 = ap size_of (same-node node_at siblings.left few.low pair.low few.at_left pair.at_left) in
+        let a2 = ap size_of (same-node node_at siblings.right few.high pair.high few.at_right pair.at_right) in
         let f = few.few in let m = most-some pair.low in omega arith;
     own = pair.low_children;
   }
 
 -- an offset other than -1 stays one
 module _ (siblings : Siblings) (count : ℕ) (child : Option ℕ) (a : Address) (is : IsSome a.offset) where
-  none : Look ℕ
+  none : NodeMap ℕ
   none n = None
 
   pub left-back : IsSome (between moved_by_rotate_left siblings count child a).offset

@@ -4,14 +4,14 @@ pub mod ClimbLemmas
 pub mod CountLemmas
 pub mod GrowLemmas
 pub mod LendLemmas
-pub mod LiftLemmas
-pub mod MendLemmas
+pub mod SeparatorLemmas
+pub mod RotateLemmas
 pub mod MendedLemmas
 pub mod NeedLemmas
 pub mod OffsetLemmas
 pub mod ShrinkLemmas
 pub mod StepLemmas
-pub mod TurnLemmas
+pub mod RotationLemmas
 pub mod StateLemmas
 pub mod RefuseLemmas
 pub mod LevelLemmas

@@ -7,24 +7,24 @@ use Rattle.btree_node.specs.Node.{view_of}
 use Rattle.btree_shape.specs.TreeState.{views}
 use Rattle.btree_item.specs.declared.address.Address.{Address}
 use Rattle.btree_view.specs.Edits.{is_internal, with_parent}
-use Rattle.btree_view.specs.View.{Look, View, leaf, internal, children_of, parent_of, size_of}
-use Rattle.btree_shape.specs.Growing.{IsGrown}
-use Rattle.btree_shape.specs.Mend.{Releases}
-use Rattle.btree_shape.specs.Mending.{Borrows, IsMended, IsShortUnder, Joins, borrows, empties, joins, releases, rests, size_in}
-use Rattle.btree_shape.specs.Moved.{first_in, moved_by_emptying, moved_by_release}
+use Rattle.btree_view.specs.View.{NodeMap, View, leaf, internal, children_of, parent_of, size_of}
+use Rattle.btree_shape.specs.Focus.Overflow.{IsRepaired}
+use Rattle.btree_shape.specs.SiblingSteps.{ShrinksRoot}
+use Rattle.btree_shape.specs.UnderflowFix.{BorrowsFromSibling, IsUnderflowFixed, UnderflowsUnder, MergesWithSibling, borrows, empties, merges, shrinks_root, rests, size_in}
+use Rattle.btree_shape.specs.Moved.{first_in, moved_by_emptying, moved_by_shrink_root}
 use Rattle.btree_shape.specs.Need.{levels_above}
 use Rattle.btree_shape.specs.Lists.{times_listed}
-use Rattle.btree_shape.specs.Shrinking.{IsShrinking}
-use Rattle.btree_shape.specs.Step.{Loses}
+use Rattle.btree_shape.specs.Focus.Underflow.{MayUnderflowAt}
+use Rattle.btree_shape.specs.Step.{RemovesNode}
 use Rattle.btree_shape.specs.WellFormed.{times_used}
-use Rattle.btree_shape.proofs.Backs.{release-back}
-use Rattle.btree_shape.proofs.Frames.{one-other, one-self}
-use Rattle.btree_shape.proofs.Mendings.{shrinks-apart, shrinks-root}
-use Rattle.btree_shape.proofs.Numbers.{listed-append, same-or, used-mapped, used-one, used-there}
-use Rattle.btree_shape.proofs.Shrinks.{shrinks-done, shrinks-done-root, shrinks-node, shrinks-used, to-child, to-nothing}
-use Rattle.btree_shape.proofs.Sizes.{least-low, least-root}
-use Rattle.btree_raw.specs.NodeSteps.{CanRelease}
-use Rattle.btree_raw.specs.Shrink.{AreMended, IsFollowed, IsMending, MendsAbove, MendsHere, IsAtRest}
+use Rattle.btree_shape.proofs.Places.Backs.{release-back}
+use Rattle.btree_shape.proofs.Paths.Frames.{one-other, one-self}
+use Rattle.btree_shape.proofs.Underflow.Order.{shrinks-apart, shrinks-root}
+use Rattle.btree_shape.proofs.Trees.Numbers.{listed-append, same-or, used-mapped, used-one, used-there}
+use Rattle.btree_shape.proofs.Underflow.Upward.{shrinks-done, shrinks-done-root, shrinks-node, shrinks-used, to-child, to-nothing}
+use Rattle.btree_shape.proofs.Trees.Sizes.{least-low, least-root}
+use Rattle.btree_raw.specs.NodeSteps.{CanShrinkRoot}
+use Rattle.btree_raw.specs.Underflow.{AreFixed, IsFollowed, IsFixing, PassesUnderflowUp, EndsUnderflow, IsAtRest}
 use Rattle.btree_raw.specs.Steps.{HasCount}
 use Rattle.btree_raw.proofs.ClimbLemmas.{back-some, some-back}
 use Rattle.btree_raw.proofs.LendLemmas.{followed-node, followed-under}
@@ -49,145 +49,145 @@ module _ {A : Type 0} where
   empty-leaf (leaf p (x ∷ xs)) up none first = absurd (omega arith)
   empty-leaf (internal p u bs) up none first = absurd (cc)
 
-  same-known : (look new : Look A) (root : Option ℕ) (top : ℕ) (xs : List A) (asked : Option A) (b : Address) (place given bound : ℕ) → root ≡ Some top
-      → IsGrown A new top xs asked b place given bound → IsAtRest new root xs asked b place given bound
-  same-known look new root top xs asked b place given bound is g = subst (λ r. IsAtRest new r xs asked b place given bound) (sym is) g
+  same-known : (node_at new : NodeMap A) (root : Option ℕ) (top : ℕ) (xs : List A) (asked : Option A) (b : Address) (place given bound : ℕ) → root ≡ Some top
+      → IsRepaired A new top xs asked b place given bound → IsAtRest new root xs asked b place given bound
+  same-known node_at new root top xs asked b place given bound is g = subst (λ r. IsAtRest new r xs asked b place given bound) (sym is) g
 
-module _ {A : Type 0} (look : Look A) (root : Option ℕ) (id : ℕ) (a : Address) (s : IsMending look root id a)
-    (top : option_map parent_of (look id) ≡ Some None) (count : ℕ) (counted : HasCount look id count) where
-  abbrev f : IsFollowed look id a
+module _ {A : Type 0} (node_at : NodeMap A) (root : Option ℕ) (id : ℕ) (a : Address) (s : IsFixing node_at root id a)
+    (top : option_map parent_of (node_at id) ≡ Some None) (count : ℕ) (counted : HasCount node_at id count) where
+  abbrev f : IsFollowed node_at id a
   f = s.followed
 
-  abbrev at-node : (v : View A) × (look id ≡ Some v)
-  at-node = followed-node look id a f
+  abbrev at-node : (v : View A) × (node_at id ≡ Some v)
+  at-node = followed-node node_at id a f
 
   up : parent_of at-node.0 ≡ None
-  up = followed-under look id a f None top
+  up = followed-under node_at id a f None top
 
   -- it is the root
   at-top : (t : ℕ) → root ≡ Some t → id ≡ t
   at-top t is =
-      let r = shrinks-root A look f.root f.xs id f.asked a f.place f.given f.bound f.shrinking at-node.0 at-node.1 up in
+      let r = shrinks-root A node_at f.root f.xs id f.asked a f.place f.given f.bound f.underflow at-node.0 at-node.1 up in
       let e = s.at_root in cc
 
-  size-top : (t : ℕ) → root ≡ Some t → size_in (look t) ≡ size_of at-node.0
-  size-top t is = ap (λ n. size_in (look n)) (sym (at-top t is)) ∙ ap size_in at-node.1
+  size-top : (t : ℕ) → root ≡ Some t → size_in (node_at t) ≡ size_of at-node.0
+  size-top t is = ap (λ n. size_in (node_at n)) (sym (at-top t is)) ∙ ap size_in at-node.1
 
-  pub root-there : 0 < times_used (look id)
-  root-there = used-there look id at-node.0 at-node.1
+  pub root-there : 0 < times_used (node_at id)
+  root-there = used-there node_at id at-node.0 at-node.1
 
-  pub root-rests : 0 < count → AreMended look look root root id a a
+  pub root-rests : 0 < count → AreFixed node_at node_at root root id a a
   root-rests some = record {
     gone = [];
     counted = λ n. omega arith;
-    mended = λ t xs asked place given bound is g.
+    fixed = λ t xs asked place given bound is g.
         let z : given ≡ given + 0 = omega arith in
-        subst (λ m. IsAtRest look root xs asked a place m bound) z
-        (same-known look look root t xs asked a place given bound is
-        (shrinks-done-root A look t xs id asked a place given bound g at-node.0 at-node.1 up (let e = size-at look id count at-node.0 at-node.1 counted in omega arith)));
+        subst (λ m. IsAtRest node_at root xs asked a place m bound) z
+        (same-known node_at node_at root t xs asked a place given bound is
+        (shrinks-done-root A node_at t xs id asked a place given bound g at-node.0 at-node.1 up (let e = size-at node_at id count at-node.0 at-node.1 counted in omega arith)));
     few = λ t xs asked place given bound is g. omega arith;
     steps = λ t is.
         let l = least-root t id (at-top t is) in
-        let e = size-at look id count at-node.0 at-node.1 counted in
+        let e = size-at node_at id count at-node.0 at-node.1 counted in
         let z = ap size_in at-node.1 in
-        rests look id (omega arith) (λ n. refl) is;
+        rests node_at id (omega arith) (λ n. refl) is;
   }
 
   module _ (none : count ≤ 0) where
     empty : size_of at-node.0 ≡ 0
-    empty = let e = size-at look id count at-node.0 at-node.1 counted in omega arith
+    empty = let e = size-at node_at id count at-node.0 at-node.1 counted in omega arith
 
-    module _ (child : ℕ) (first : option_map first_in (look id) ≡ Some (Some child)) where
+    module _ (child : ℕ) (first : option_map first_in (node_at id) ≡ Some (Some child)) where
       first-here : first_in at-node.0 ≡ Some child
       first-here = let q : Some (first_in at-node.0) ≡ Some (Some child) = sym (ap (option_map first_in) at-node.1) ∙ first in cc
 
       inner : IsTrue (is_internal at-node.0)
       inner = first-inner at-node.0 child first-here
 
-      pub can-release : CanRelease look id child
+      pub can-release : CanShrinkRoot node_at id child
       can-release =
-          let o = to-child A look f.root f.xs id f.asked a f.place f.given f.bound f.shrinking at-node.0 at-node.1 up empty inner in
+          let o = to-child A node_at f.root f.xs id f.asked a f.place f.given f.bound f.underflow at-node.0 at-node.1 up empty inner in
           let same = first-only at-node.0 child o.child first-here o.only in
           record {
             node = at-node.0;
             here = at-node.1;
             only = subst (λ k. children_of at-node.0 ≡ k ∷ []) same o.only;
-            used = subst (λ k. 0 < times_used (look k)) same (used-there look o.child o.node o.here);
+            used = subst (λ k. 0 < times_used (node_at k)) same (used-there node_at o.child o.node o.here);
             apart = subst (λ k. k ≢ id) same o.apart;
           }
 
-      pub released : (new : Look A) → Releases look new id child → (held : ℕ) → HasCount look child held → AreMended look new root (Some child) id a (moved_by_release id child held a)
+      pub released : (new : NodeMap A) → ShrinksRoot node_at new id child → (held : ℕ) → HasCount node_at child held → AreFixed node_at new root (Some child) id a (moved_by_shrink_root id child held a)
       released new r held holds = record {
         gone = id ∷ [];
         counted = λ n. elim (same-or n id) [
-          | inl e ↦ rw e (let u = used-one (look id) at-node.0 at-node.1 in let w = ap times_used r.gone in let o = one-self id in omega arith)
+          | inl e ↦ rw e (let u = used-one (node_at id) at-node.0 at-node.1 in let w = ap times_used r.gone in let o = one-self id in omega arith)
           | inr ne ↦ let o = one-other n id ne in elim (same-or n child) [
-            | inl e ↦ let u : times_used (new n) ≡ times_used (look n) = rw e (ap times_used r.new_child ∙ used-mapped (with_parent None) (look child)) in omega arith
+            | inl e ↦ let u : times_used (new n) ≡ times_used (node_at n) = rw e (ap times_used r.new_child ∙ used-mapped (with_parent None) (node_at child)) in omega arith
             | inr nc ↦ let u = ap times_used (r.kept n ne nc) in omega arith
           ]
         ];
-        mended = λ t xs asked place given bound is g.
-            let o = to-child A look t xs id asked a place given bound g at-node.0 at-node.1 up empty inner in
+        fixed = λ t xs asked place given bound is g.
+            let o = to-child A node_at t xs id asked a place given bound g at-node.0 at-node.1 up empty inner in
             let same = first-only at-node.0 child o.child first-here o.only in
-            let size : size_of o.node ≡ held = size-at look child held o.node (subst (λ k. look k ≡ Some o.node) same o.here) holds in
+            let size : size_of o.node ≡ held = size-at node_at child held o.node (subst (λ k. node_at k ≡ Some o.node) same o.here) holds in
             let n : suc given ≡ given + 1 = omega arith in
-            subst (λ m. IsGrown A new child xs asked (moved_by_release id child held a) place m bound) n
-            (subst (λ m. IsGrown A new child xs asked (moved_by_release id child m a) place (suc given) bound) size
-            (subst (λ k. IsGrown A new k xs asked (moved_by_release id k (size_of o.node) a) place (suc given) bound) same
-            (o.next new (subst (λ k. Releases look new id k) (sym same) r))));
+            subst (λ m. IsRepaired A new child xs asked (moved_by_shrink_root id child held a) place m bound) n
+            (subst (λ m. IsRepaired A new child xs asked (moved_by_shrink_root id child m a) place (suc given) bound) size
+            (subst (λ k. IsRepaired A new k xs asked (moved_by_shrink_root id k (size_of o.node) a) place (suc given) bound) same
+            (o.next new (subst (λ k. ShrinksRoot node_at new id k) (sym same) r))));
         few = λ t xs asked place given bound is g. omega arith;
         steps = λ t is.
             let e = size-top t is in
             let z = empty in
-            releases look id child (at-top t is) (omega arith) (subst (λ n. Releases look new n child) (at-top t is) r) refl;
+            shrinks_root node_at id child (at-top t is) (omega arith) (subst (λ n. ShrinksRoot node_at new n child) (at-top t is) r) refl;
       }
 
-    pub emptied : option_map first_in (look id) ≡ Some None → (new : Look A) → Loses look new id → AreMended look new root None id a (moved_by_emptying a)
+    pub emptied : option_map first_in (node_at id) ≡ Some None → (new : NodeMap A) → RemovesNode node_at new id → AreFixed node_at new root None id a (moved_by_emptying a)
     emptied first new lo =
         let none-here : first_in at-node.0 ≡ None = (let q : Some (first_in at-node.0) ≡ Some None = sym (ap (option_map first_in) at-node.1) ∙ first in cc) in
         record {
           gone = id ∷ [];
           counted = λ n. elim (same-or n id) [
-            | inl e ↦ rw e (let u = used-one (look id) at-node.0 at-node.1 in let w = ap times_used lo.here in let o = one-self id in omega arith)
+            | inl e ↦ rw e (let u = used-one (node_at id) at-node.0 at-node.1 in let w = ap times_used lo.here in let o = one-self id in omega arith)
             | inr ne ↦ let o = one-other n id ne in let u = ap times_used (lo.others n ne) in omega arith
           ];
-          mended = λ t xs asked place given bound is g.
-              let e = to-nothing A look t xs id asked a place given bound g at-node.0 at-node.1 up empty (first-leafy at-node.0 none-here) new lo in
+          fixed = λ t xs asked place given bound is g.
+              let e = to-nothing A node_at t xs id asked a place given bound g at-node.0 at-node.1 up empty (first-leafy at-node.0 none-here) new lo in
               let p = e.paid in
               (e.formed, e.valid, e.at_place, omega arith);
           few = λ t xs asked place given bound is g. omega arith;
           steps = λ t is.
               let bare : at-node.0 ≡ leaf None [] = empty-leaf at-node.0 up empty none-here in
               let same = at-top t is in
-              empties look id same (subst (λ n. look n ≡ Some (leaf None [])) same (at-node.1 ∙ ap Some bare))
-              (subst (λ n. Loses look new n) same lo) refl;
+              empties node_at id same (subst (λ n. node_at n ≡ Some (leaf None [])) same (at-node.1 ∙ ap Some bare))
+              (subst (λ n. RemovesNode node_at new n) same lo) refl;
         }
 
 -- where the climb stands
-module _ (A : Type 0) (old now : Look A) (root : Option ℕ) (start id : ℕ) (a b : Address) where
+module _ (A : Type 0) (old now : NodeMap A) (root : Option ℕ) (start id : ℕ) (a b : Address) where
   -- what was known of the tree at the start is known where the climb stands, with these nodes given up, no more than the levels passed;
   -- and whatever the order of the steps makes of the nodes from here on, it makes of those at the start
   pub record Mends : Type 0 where
     pub gone : List ℕ
     pub counted : (n : ℕ) → times_used (old n) ≡ times_used (now n) + times_listed n gone
     pub next : (top : ℕ) (xs : List A) (asked : Option A) (place given bound : ℕ) → root ≡ Some top
-        → IsShrinking A old top xs start asked a place given bound → IsShrinking A now top xs id asked b place (given + length gone) bound
+        → MayUnderflowAt A old top xs start asked a place given bound → MayUnderflowAt A now top xs id asked b place (given + length gone) bound
     pub few : (top : ℕ) (xs : List A) (asked : Option A) (place given bound : ℕ) → root ≡ Some top
-        → IsShrinking A old top xs start asked a place given bound → length gone + levels_above now (length xs) id ≤ levels_above old (length xs) start
-    pub order : (top : ℕ) → root ≡ Some top → (new : Look A) (new_root : Option ℕ) → IsMended now new top new_root id → IsMended old new top new_root start
+        → MayUnderflowAt A old top xs start asked a place given bound → length gone + levels_above now (length xs) id ≤ levels_above old (length xs) start
+    pub order : (top : ℕ) → root ≡ Some top → (new : NodeMap A) (new_root : Option ℕ) → IsUnderflowFixed now new top new_root id → IsUnderflowFixed old new top new_root start
     pub back : IsSome a.offset → IsSome b.offset
 
-pub mends-start : (A : Type 0) (look : Look A) (root : Option ℕ) (start : ℕ) (a : Address) → Mends A look look root start start a a
-mends-start A look root start a = record {
+pub mends-start : (A : Type 0) (node_at : NodeMap A) (root : Option ℕ) (start : ℕ) (a : Address) → Mends A node_at node_at root start start a a
+mends-start A node_at root start a = record {
   gone = [];
   counted = λ n. omega arith;
-  next = λ top xs asked place given bound is g. let z : given ≡ given + 0 = omega arith in subst (λ m. IsShrinking A look top xs start asked a place m bound) z g;
+  next = λ top xs asked place given bound is g. let z : given ≡ given + 0 = omega arith in subst (λ m. MayUnderflowAt A node_at top xs start asked a place m bound) z g;
   few = λ top xs asked place given bound is g. omega arith;
   order = λ top is new new_root m. m;
   back = λ x. x;
 }
 
-module _ {A : Type 0} (old now : Look A) (root : Option ℕ) (start id : ℕ) (a b : Address) (s : IsMending old root start a) (c : Mends A old now root start id a b) where
+module _ {A : Type 0} (old now : NodeMap A) (root : Option ℕ) (start id : ℕ) (a b : Address) (s : IsFixing old root start a) (c : Mends A old now root start id a b) where
   -- what the followed address keeps
   pub still-followed : IsFollowed now id b
   still-followed = record {
@@ -197,27 +197,27 @@ module _ {A : Type 0} (old now : Look A) (root : Option ℕ) (start id : ℕ) (a
     place = s.followed.place;
     given = s.followed.given + length c.gone;
     bound = s.followed.bound;
-    shrinking = c.next s.followed.root s.followed.xs s.followed.asked s.followed.place s.followed.given s.followed.bound s.at_root s.followed.shrinking;
+    underflow = c.next s.followed.root s.followed.xs s.followed.asked s.followed.place s.followed.given s.followed.bound s.at_root s.followed.underflow;
   }
 
-  pub still-mending : IsMending now root id b
+  pub still-fixing : IsFixing now root id b
   unfolding still-followed
-  still-mending = record { followed = still-followed; at_root = s.at_root }
+  still-fixing = record { followed = still-followed; at_root = s.at_root }
 
   pub mends-used : 0 < times_used (now id)
   mends-used = shrinks-used A now s.followed.root s.followed.xs id s.followed.asked b s.followed.place (s.followed.given + length c.gone) s.followed.bound
-      (c.next s.followed.root s.followed.xs s.followed.asked s.followed.place s.followed.given s.followed.bound s.at_root s.followed.shrinking)
+      (c.next s.followed.root s.followed.xs s.followed.asked s.followed.place s.followed.given s.followed.bound s.at_root s.followed.underflow)
 
   pub mends-low : IfSome b.offset (λ n. n ≤ 9)
   mends-low = shrinks-low A now s.followed.root s.followed.xs id s.followed.asked b s.followed.place (s.followed.given + length c.gone) s.followed.bound
-      (c.next s.followed.root s.followed.xs s.followed.asked s.followed.place s.followed.given s.followed.bound s.at_root s.followed.shrinking)
+      (c.next s.followed.root s.followed.xs s.followed.asked s.followed.place s.followed.given s.followed.bound s.at_root s.followed.underflow)
 
-  abbrev still : IsShrinking A now s.followed.root s.followed.xs id s.followed.asked b s.followed.place (s.followed.given + length c.gone) s.followed.bound
-  still = c.next s.followed.root s.followed.xs s.followed.asked s.followed.place s.followed.given s.followed.bound s.at_root s.followed.shrinking
+  abbrev still : MayUnderflowAt A now s.followed.root s.followed.xs id s.followed.asked b s.followed.place (s.followed.given + length c.gone) s.followed.bound
+  still = c.next s.followed.root s.followed.xs s.followed.asked s.followed.place s.followed.given s.followed.bound s.at_root s.followed.underflow
 
   -- a node with a parent that has an item too few is not the root
   short-under : (p count : ℕ) → option_map parent_of (now id) ≡ Some (Some p) → HasCount now id count → count ≤ 2 → (top : ℕ) → root ≡ Some top
-      → IsShortUnder now top p id
+      → UnderflowsUnder now top p id
   short-under p count under counted few top is =
       let e = shrinks-node A now s.followed.root s.followed.xs id s.followed.asked b s.followed.place (s.followed.given + length c.gone) s.followed.bound still in
       at _ e
@@ -225,7 +225,7 @@ module _ {A : Type 0} (old now : Look A) (root : Option ℕ) (start id : ℕ) (a
       same : s.followed.root ≡ top
       same = let e = s.at_root in cc
 
-      at : (v : View A) → now id ≡ Some v → IsShortUnder now top p id
+      at : (v : View A) → now id ≡ Some v → UnderflowsUnder now top p id
       at v e =
           let q : Some (parent_of v) ≡ Some (Some p) = sym (ap (option_map parent_of) e) ∙ under in
           let up : parent_of v ≡ Some p = cc in
@@ -239,11 +239,11 @@ module _ {A : Type 0} (old now : Look A) (root : Option ℕ) (start id : ℕ) (a
           }
 
   -- no item too few
-  pub mends-done : (v : View A) → now id ≡ Some v → 2 < size_of v → AreMended old now root root start a b
+  pub mends-done : (v : View A) → now id ≡ Some v → 2 < size_of v → AreFixed old now root root start a b
   mends-done v e enough = record {
     gone = c.gone;
     counted = c.counted;
-    mended = λ top xs asked place given bound is g.
+    fixed = λ top xs asked place given bound is g.
         same-known now now root top xs asked b place (given + length c.gone) bound is
         (shrinks-done A now top xs id asked b place (given + length c.gone) bound (c.next top xs asked place given bound is g) v e (omega arith));
     few = λ top xs asked place given bound is g. let f = c.few top xs asked place given bound is g in omega arith;
@@ -254,27 +254,27 @@ module _ {A : Type 0} (old now : Look A) (root : Option ℕ) (start id : ℕ) (a
   }
 
   -- the last step
-  pub mends-here : (new : Look A) (d : Address) → MendsHere now new id b d → (p count : ℕ) → option_map parent_of (now id) ≡ Some (Some p)
-      → HasCount now id count → count ≤ 2 → Borrows now new p id → AreMended old new root root start a d
+  pub mends-here : (new : NodeMap A) (d : Address) → EndsUnderflow now new id b d → (p count : ℕ) → option_map parent_of (now id) ≡ Some (Some p)
+      → HasCount now id count → count ≤ 2 → BorrowsFromSibling now new p id → AreFixed old new root root start a d
   mends-here new d m p count under counted low step = record {
     gone = c.gone;
     counted = λ n. let k = c.counted n in let u = m.used n in omega arith;
-    mended = λ top xs asked place given bound is g.
+    fixed = λ top xs asked place given bound is g.
         same-known now new root top xs asked d place (given + length c.gone) bound is
-        (m.grown top xs asked place (given + length c.gone) bound (c.next top xs asked place given bound is g));
+        (m.repaired top xs asked place (given + length c.gone) bound (c.next top xs asked place given bound is g));
     few = λ top xs asked place given bound is g. let f = c.few top xs asked place given bound is g in omega arith;
     steps = λ top is. c.order top is new root (borrows now id p (short-under p count under counted low top is) step is);
   }
 
-  pub mends-root : (new : Look A) (new_root : Option ℕ) (d : Address) → AreMended now new root new_root id b d → AreMended old new root new_root start a d
+  pub mends-root : (new : NodeMap A) (new_root : Option ℕ) (d : Address) → AreFixed now new root new_root id b d → AreFixed old new root new_root start a d
   mends-root new new_root d m = record {
     gone = c.gone ++ m.gone;
     counted = λ n. let k = c.counted n in let u = m.counted n in let l = listed-append n c.gone m.gone in omega arith;
-    mended = λ top xs asked place given bound is g.
+    fixed = λ top xs asked place given bound is g.
         let l = length-append c.gone m.gone in
         let e : (given + length c.gone) + length m.gone ≡ given + length (c.gone ++ m.gone) = omega arith in
         subst (λ k. IsAtRest new new_root xs asked d place k bound) e
-        (m.mended top xs asked place (given + length c.gone) bound is (c.next top xs asked place given bound is g));
+        (m.fixed top xs asked place (given + length c.gone) bound is (c.next top xs asked place given bound is g));
     few = λ top xs asked place given bound is g.
         let f = c.few top xs asked place given bound is g in
         let k = m.few top xs asked place (given + length c.gone) bound is (c.next top xs asked place given bound is g) in
@@ -284,31 +284,31 @@ module _ {A : Type 0} (old now : Look A) (root : Option ℕ) (start id : ℕ) (a
   }
 
   -- a step to the parent
-  module _ (new : Look A) (p : ℕ) (d : Address) (m : MendsAbove now new id p b d) where
+  module _ (new : NodeMap A) (p : ℕ) (d : Address) (m : PassesUnderflowUp now new id p b d) where
     pub mends-above : (IsSome b.offset → IsSome d.offset) → (count : ℕ) → option_map parent_of (now id) ≡ Some (Some p) → HasCount now id count
-        → count ≤ 2 → Joins now new p id → Mends A old new root start p a d
+        → count ≤ 2 → MergesWithSibling now new p id → Mends A old new root start p a d
     mends-above back count under counted low step = record {
       gone = c.gone ++ m.gone ∷ [];
       counted = λ n. let k = c.counted n in let u = m.used n in let l = listed-append n c.gone (m.gone ∷ []) in omega arith;
       next = λ top xs asked place given bound is g.
           let l = length-append c.gone (m.gone ∷ []) in
           let e : suc (given + length c.gone) ≡ given + length (c.gone ++ m.gone ∷ []) = omega arith in
-          subst (λ k. IsShrinking A new top xs p asked d place k bound) e
-          (m.shrinking top xs asked place (given + length c.gone) bound (c.next top xs asked place given bound is g)).0;
+          subst (λ k. MayUnderflowAt A new top xs p asked d place k bound) e
+          (m.underflow top xs asked place (given + length c.gone) bound (c.next top xs asked place given bound is g)).0;
       few = λ top xs asked place given bound is g.
           let f = c.few top xs asked place given bound is g in
-          let k = (m.shrinking top xs asked place (given + length c.gone) bound (c.next top xs asked place given bound is g)).1 in
+          let k = (m.underflow top xs asked place (given + length c.gone) bound (c.next top xs asked place given bound is g)).1 in
           let l = length-append c.gone (m.gone ∷ []) in
           omega arith;
       order = λ top is last last_root rest.
-          c.order top is last last_root (joins now new id p (short-under p count under counted low top is) step rest);
+          c.order top is last last_root (merges now new id p (short-under p count under counted low top is) step rest);
       back = λ is. back (c.back is);
     }
 
     pub mends-lower : levels_above new (length s.followed.xs) p < levels_above now (length s.followed.xs) id
     mends-lower =
-        (m.shrinking s.followed.root s.followed.xs s.followed.asked s.followed.place (s.followed.given + length c.gone) s.followed.bound
-        (c.next s.followed.root s.followed.xs s.followed.asked s.followed.place s.followed.given s.followed.bound s.at_root s.followed.shrinking)).1
+        (m.underflow s.followed.root s.followed.xs s.followed.asked s.followed.place (s.followed.given + length c.gone) s.followed.bound
+        (c.next s.followed.root s.followed.xs s.followed.asked s.followed.place s.followed.given s.followed.bound s.at_root s.followed.underflow)).1
 
     pub mends-lower-of : (most : ℕ) → length s.followed.xs ≡ most → levels_above new most p < levels_above now most id
     mends-lower-of most is = subst (λ n. levels_above new n p < levels_above now n id) is mends-lower

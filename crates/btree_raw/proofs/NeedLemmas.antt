@@ -5,26 +5,26 @@ use Rattle.std.specs.FinMap as map
 use Rattle.std.specs.declared.cmp.Ordering.{Ordering}
 use Rattle.btree_node.specs.declared.node.Node.{Node}
 use Rattle.btree_node.specs.Node.{view_of}
-use Rattle.btree_view.specs.View.{Look, most_of, size_of}
-use Rattle.btree_shape.specs.Need.{IsClimbing, climb, climbed, need, wanted}
-use Rattle.btree_shape.specs.Node.{IsNode}
-use Rattle.btree_shape.specs.Shape.{IsFilled, IsFilledBelow, Shape, count_at, items_under, later_items, most_at}
-use Rattle.btree_shape.specs.TreeState.{TreeState, IsBTree, IsUsed, looks, nodes_for_splits, nodes_needed, pairs_of}
-use Rattle.btree_shape.specs.Way.{Above, depth, fill, frame_count, least_at, top, under}
+use Rattle.btree_view.specs.View.{NodeMap, most_of, size_of}
+use Rattle.btree_shape.specs.Need.{IsCountingUpward, split_need, path_need_from, need, path_need}
+use Rattle.btree_shape.specs.Focus.Node.{IsNode}
+use Rattle.btree_shape.specs.Focus.Shape.{IsFilled, IsFilledBelow, Shape, count_at, items_under, later_items, most_at}
+use Rattle.btree_shape.specs.TreeState.{TreeState, IsBTree, IsUsed, node_map, nodes_for_splits, nodes_needed, pairs_of}
+use Rattle.btree_shape.specs.Focus.Path.{Path, depth, fill, frame_count, least_at, top, under}
 use Rattle.btree_shape.specs.WellFormed.{IsFormed, IsRooted, IsSized, times_used}
-use Rattle.btree_shape.specs.Whole.{IsWhole}
-use Rattle.btree_shape.proofs.Density.{dense}
-use Rattle.btree_shape.proofs.Frames.{fill-count}
-use Rattle.btree_shape.proofs.Levels.{levels-rooted}
-use Rattle.btree_shape.proofs.TreeStates.{height_held}
-use Rattle.btree_shape.proofs.Needs.{less-no, less-yes}
-use Rattle.btree_shape.proofs.Overflows.{climb-node, climbing-start}
-use Rattle.btree_shape.proofs.Standing.{whole-standing}
+use Rattle.btree_shape.specs.Focus.Focus.{IsFocus}
+use Rattle.btree_shape.proofs.Trees.Density.{dense}
+use Rattle.btree_shape.proofs.Paths.Frames.{fill-count}
+use Rattle.btree_shape.proofs.Paths.Levels.{levels-rooted}
+use Rattle.btree_shape.proofs.Trees.States.{height_held}
+use Rattle.btree_shape.proofs.Paths.Used.{less-no, less-yes}
+use Rattle.btree_shape.proofs.Splits.Need.{split_need-node, upward-start}
+use Rattle.btree_shape.proofs.Paths.UnsizedFocus.{whole-standing}
 use Rattle.btree_raw.specs.Steps.{IsCounting}
-use Rattle.btree_shape.proofs.Numbers.{less-or}
-use Rattle.btree_shape.proofs.Rooted.{node-at}
-use Rattle.btree_shape.proofs.Stores.{some-used}
-use Rattle.btree_shape.proofs.Wholes.{close}
+use Rattle.btree_shape.proofs.Trees.Numbers.{less-or}
+use Rattle.btree_shape.proofs.Paths.FromRoot.{node-at}
+use Rattle.btree_shape.proofs.Trees.Stores.{some-used}
+use Rattle.btree_shape.proofs.Paths.Focus.{close}
 
 -- the test of a node
 pub is-full : {K V : Type 0} (node : Node K V) → (IsTrue true ↔ (most_of (view_of node) ≤ size_of (view_of node))) → most_of (view_of node) ≤ size_of (view_of node)
@@ -53,40 +53,40 @@ module _ (A : Type 0) where
             absurd (omega arith)
       ]
 
-  levels-above-few : (look : Look A) (root : ℕ) (xs : List A) (h : ℕ) (c : Above A h) (t : Shape A h) → IsWhole A look [] root xs h c t
+  levels-above-few : (node_at : NodeMap A) (root : ℕ) (xs : List A) (h : ℕ) (c : Path A h) (t : Shape A h) → IsFocus A node_at [] root xs h c t
       → IsFilled (least_at c) h (count_at A h t) → length xs < 2 ^ 64 → depth c + h ≤ 31
-  levels-above-few look root xs h top t w z low =
+  levels-above-few node_at root xs h top t w z low =
       let l = ap length w.list in
       let n = length-append (items_under A h t) [] in
       let d : depth {A = A} {height = h} top ≡ 0 = refl in
       let f = levels-few h t z.0 w.below (omega arith) in
       omega arith
-  levels-above-few look root xs h (under f c) t w z low =
-      let r = levels-above-few look root xs (suc h) c (fill f t) (close A look [] root xs h f c t w z) (subst (λ n. IsFilled (least_at c) (suc h) n) (sym (fill-count A h f t)) w.filled.0) low in
+  levels-above-few node_at root xs h (under f c) t w z low =
+      let r = levels-above-few node_at root xs (suc h) c (fill f t) (close A node_at [] root xs h f c t w z) (subst (λ n. IsFilled (least_at c) (suc h) n) (sym (fill-count A h f t)) w.filled.0) low in
       omega arith
 
-  pub wanted-few : (h : ℕ) (c : Above A h) → wanted c ≤ depth c + 2
-  wanted-few h top = omega arith
-  wanted-few h (under f c) =
-      let r = wanted-few (suc h) c in
+  pub path_need-few : (h : ℕ) (c : Path A h) → path_need c ≤ depth c + 2
+  path_need-few h top = omega arith
+  path_need-few h (under f c) =
+      let r = path_need-few (suc h) c in
       elim (less-or (frame_count f) 7) [
-        | inl low ↦ let q = less-yes (frame_count f) 7 0 (wanted c) low in omega arith
+        | inl low ↦ let q = less-yes (frame_count f) 7 0 (path_need c) low in omega arith
         | inr other ↦
             let full : 7 ≤ frame_count f = elim other [ inl same ↦ omega arith | inr more ↦ omega arith ] in
-            let q = less-no (frame_count f) 7 0 (wanted c) full in omega arith
+            let q = less-no (frame_count f) 7 0 (path_need c) full in omega arith
       ]
 
-  pub climbed-few : (h : ℕ) (c : Above A h) (n : ℕ) → climbed c n ≤ depth c + 2
-  climbed-few h c n = elim (less-or n (most_at h)) [
-    | inl low ↦ let q = less-yes n (most_at h) 0 (wanted c) low in omega arith
+  pub path_need_from-few : (h : ℕ) (c : Path A h) (n : ℕ) → path_need_from c n ≤ depth c + 2
+  path_need_from-few h c n = elim (less-or n (most_at h)) [
+    | inl low ↦ let q = less-yes n (most_at h) 0 (path_need c) low in omega arith
     | inr other ↦
         let full : most_at h ≤ n = elim other [ inl same ↦ omega arith | inr more ↦ omega arith ] in
-        let q = less-no n (most_at h) 0 (wanted c) full in omega (arith, wanted-few h c)
+        let q = less-no n (most_at h) 0 (path_need c) full in omega (arith, path_need-few h c)
   ]
 
 module _ {K V : Type 0} (cmp : K → K → Ordering) (s : TreeState K V) (start : ℕ) (sound : IsBTree cmp s) where
-  abbrev sight : Look (K × V)
-  sight = looks s
+  abbrev sight : NodeMap (K × V)
+  sight = node_map s
 
   abbrev listed : List (K × V)
   listed = pairs_of s
@@ -106,25 +106,25 @@ module _ {K V : Type 0} (cmp : K → K → Ordering) (s : TreeState K V) (start 
     first number is = node-at (K × V) sight number listed (rooted number is) start start-used
 
     -- there is a root, since a node is used
-    pub need-climb : nodes_for_splits s start ≡ nodes_needed s start
-    need-climb = let r = root-is s.root sound.formed in sym (ap (λ t. need sight t (map.len s.nodes) start) r.1)
+    pub need-split_need : nodes_for_splits s start ≡ nodes_needed s start
+    need-split_need = let r = root-is s.root sound.formed in sym (ap (λ t. need sight t (map.len s.nodes) start) r.1)
 
   pub need-counting : s.len < 2 ^ 64 → (used : IsUsed s start) → IsCounting sight (map.len s.nodes) start start 0
   need-counting low used =
       let r = root-is used s.root sound.formed in
       let n = first used r.0 r.1 in
       let up = rooted used r.0 r.1 in
-      let w = whole-standing (K × V) sight [] r.0 listed n.seen.height n.seen.way n.seen.shape n.seen.whole in
-      let levels = levels-rooted (K × V) sight r.0 listed (IsSized r.0) up n.seen.height n.seen.way n.seen.shape w in
+      let w = whole-standing (K × V) sight [] r.0 listed n.seen.height n.seen.path n.seen.shape n.seen.whole in
+      let levels = levels-rooted (K × V) sight r.0 listed (IsSized r.0) up n.seen.height n.seen.path n.seen.shape w in
       let deep = height_held s (IsSized r.0) r.0 listed up in
-      let a = climb-node (K × V) sight r.0 listed start n (map.len s.nodes) (omega arith) in
-      let b = climbed-few (K × V) n.seen.height n.seen.way (count_at (K × V) n.seen.height n.seen.shape) in
+      let a = split_need-node (K × V) sight r.0 listed start n (map.len s.nodes) (omega arith) in
+      let b = path_need_from-few (K × V) n.seen.height n.seen.path (count_at (K × V) n.seen.height n.seen.shape) in
       let k = sound.counted in
-      let d = levels-above-few (K × V) sight r.0 listed n.seen.height n.seen.way n.seen.shape n.seen.whole n.sized (omega arith) in
-      let c = climbing-start (K × V) sight r.0 listed (map.len s.nodes) n.seen.height n.seen.way n.seen.shape w (omega arith) in
+      let d = levels-above-few (K × V) sight r.0 listed n.seen.height n.seen.path n.seen.shape n.seen.whole n.sized (omega arith) in
+      let c = upward-start (K × V) sight r.0 listed (map.len s.nodes) n.seen.height n.seen.path n.seen.shape w (omega arith) in
       record {
         root = r.0;
         xs = listed;
-        climbing = subst (λ i. IsClimbing (K × V) sight r.0 listed (map.len s.nodes) i 0 (climb sight (map.len s.nodes) i)) n.seen.here c;
+        upward = subst (λ i. IsCountingUpward (K × V) sight r.0 listed (map.len s.nodes) i 0 (split_need sight (map.len s.nodes) i)) n.seen.here c;
         few = omega arith;
       }

@@ -7,15 +7,15 @@ use Rattle.btree_node.specs.declared.node.Node.{Node}
 use Rattle.btree_node.specs.Node.{view_of}
 use Rattle.btree_view.specs.View.{children_in, children_of}
 use Rattle.btree_shape.specs.Lists.{times_listed}
-use Rattle.btree_shape.specs.Step.{Adopts}
-use Rattle.btree_shape.specs.TreeState.{TreeState, IsOff, looks, pairs_of, views}
+use Rattle.btree_shape.specs.Step.{SetsParents}
+use Rattle.btree_shape.specs.TreeState.{TreeState, IsOff, node_map, pairs_of, views}
 use Rattle.btree_shape.specs.WellFormed.{IsOffByOne, times_used}
-use Rattle.btree_shape.proofs.TreeStates.{is-off}
-use Rattle.btree_valid.specs.Odd.{IsOffAmong}
-use Rattle.btree_shape.proofs.Numbers.{zero-or}
+use Rattle.btree_shape.proofs.Trees.States.{is-off}
+use Rattle.btree_valid.specs.OffByOne.{IsOffAmong}
+use Rattle.btree_shape.proofs.Trees.Numbers.{zero-or}
 use Rattle.btree_raw.specs.Raw.{AreUsed}
-use Rattle.btree_raw.specs.Steps.{CanAdopt}
-use Rattle.btree_shape.proofs.Stores.{puts, some-used}
+use Rattle.btree_raw.specs.Steps.{CanSetParents}
+use Rattle.btree_shape.proofs.Trees.Stores.{writes_node, some-used}
 
 module _ {K V : Type 0} where
   not-both : (o : Option (Node K V)) → o ≡ None → IsSome o → ⊥
@@ -34,24 +34,24 @@ module _ {K V : Type 0} (nodes : Content (Node K V)) (id : ℕ) (node : Node K V
 
   module _ (after : Content (Node K V)) (is : after ≡ map.insert nodes id node) where
     here : views after id ≡ Some (view_of node)
-    here = (puts nodes after id node is).here
+    here = (writes_node nodes after id node is).here
 
     child-used : (n : ℕ) → 0 < times_listed n (children_of (view_of node)) → 0 < times_used (views after n)
     child-used n listed =
-        let kept = (puts nodes after id node is).others n (child-apart n listed) in
+        let kept = (writes_node nodes after id node is).others n (child-apart n listed) in
         rw kept (some-used (map.get nodes n) (children n listed))
 
-    pub can-adopt : CanAdopt (views after) id
-    can-adopt = record {
+    pub can-set_parents : CanSetParents (views after) id
+    can-set_parents = record {
       used = rw here (omega arith);
       children = λ n listed. child-used n (rw here at listed);
       apart = rw here none-listed;
     }
 
-    pub adopts : (last : Content (Node K V)) → Adopts (views after) (views last) id (children_in (views after id)) → Adopts (views (map.insert nodes id node)) (views last) id (children_of (view_of node))
+    pub adopts : (last : Content (Node K V)) → SetsParents (views after) (views last) id (children_in (views after id)) → SetsParents (views (map.insert nodes id node)) (views last) id (children_of (view_of node))
     adopts last a =
-        let P : List ℕ → Type 0 = λ l. Adopts (views after) (views last) id l in
-        let Q : Content (Node K V) → Type 0 = λ m. Adopts (views m) (views last) id (children_of (view_of node)) in
+        let P : List ℕ → Type 0 = λ l. SetsParents (views after) (views last) id l in
+        let Q : Content (Node K V) → Type 0 = λ m. SetsParents (views m) (views last) id (children_of (view_of node)) in
         subst Q is (subst P (ap children_in here) a)
 
 module _ {K V : Type 0} (cmp : K → K → Ordering) (s : TreeState K V) (id : ℕ) where
@@ -61,7 +61,7 @@ module _ {K V : Type 0} (cmp : K → K → Ordering) (s : TreeState K V) (id : �
       → (IsTrue result → IsOff cmp s id) × (IsOff cmp s id → IsTrue result)
   off-found root at result walk = (
     λ yes. let off = walk.0 yes in is-off cmp s root id off.0 at off.1,
-    λ o. let same : o.root ≡ root = (let e = o.at_root in cc) in walk.1 (pairs_of s, subst (λ r. IsOffByOne cmp (looks s) r id (pairs_of s)) same o.off),
+    λ o. let same : o.root ≡ root = (let e = o.at_root in cc) in walk.1 (pairs_of s, subst (λ r. IsOffByOne cmp (node_map s) r id (pairs_of s)) same o.off),
   )
 
   pub no-root-off : s.root ≡ None → (IsTrue false → IsOff cmp s id) × (IsOff cmp s id → IsTrue false)

@@ -7,37 +7,37 @@ use Rattle.btree_store.specs.Content.{Content}
 use Rattle.btree_item.specs.declared.address.Address.{Address}
 use Rattle.btree_item.specs.declared.refused.Cause.TheVariants.{Store}
 use Rattle.btree_node.specs.declared.node.Node.{Node}
-use Rattle.btree_view.specs.View.{View, Look, item_in, items_of, most_of, size_of}
-use Rattle.btree_shape.specs.Growing.{IsGrowing, IsGrown}
-use Rattle.btree_shape.specs.Mending.{IsMended}
-use Rattle.btree_shape.specs.Need.{climb}
-use Rattle.btree_shape.specs.OnTour.{IsAddressed}
+use Rattle.btree_view.specs.View.{View, NodeMap, item_in, items_of, most_of, size_of}
+use Rattle.btree_shape.specs.Focus.Overflow.{MayOverflowAt, IsRepaired}
+use Rattle.btree_shape.specs.UnderflowFix.{IsUnderflowFixed}
+use Rattle.btree_shape.specs.Need.{split_need}
+use Rattle.btree_shape.specs.Focus.TreePositions.{IsAddressed}
 use Rattle.btree_shape.specs.Place.{IsEnd, IsPlace, IsPlaceOf, IsValid}
 use Rattle.btree_shape.specs.Lists.{times_listed}
-use Rattle.btree_shape.specs.Shrinking.{IsShrinking, owed_by}
-use Rattle.btree_shape.specs.Spells.{Spells, numbers_under}
+use Rattle.btree_shape.specs.Focus.Underflow.{MayUnderflowAt, owed_by}
+use Rattle.btree_shape.specs.Represents.{Represents, numbers_under}
 use Rattle.btree_shape.specs.Step.{Claims}
 use Rattle.btree_shape.specs.Strain.{IsStrain, strain_under}
-use Rattle.btree_shape.specs.Tour.{Asks}
-use Rattle.btree_shape.specs.TreeState.{TreeState, HasLevels, HasLevelsUnder, IsOff, IsUsed, IsValidIn, looks, nodes_for_splits, pairs_of, views}
+use Rattle.btree_shape.specs.Focus.Positions.{Asks}
+use Rattle.btree_shape.specs.TreeState.{TreeState, HasLevels, HasLevelsUnder, IsOff, IsUsed, IsValidIn, node_map, nodes_for_splits, pairs_of, views}
 use Rattle.btree_shape.specs.WellFormed.{IsNearlySized, IsWellFormed, times_used}
-use Rattle.btree_shape.proofs.Mendings.{shrinks-levels}
-use Rattle.btree_shape.proofs.Numbers.{listed-append}
-use Rattle.btree_shape.proofs.OddNodes.{emptied-well, mended-well, odd-climbs, odd-grows, odd-shrinks}
-use Rattle.btree_shape.proofs.OnTour.{tour-addressed, valid-on}
-use Rattle.btree_shape.proofs.Puts.{grown-paid, grown-rooted}
-use Rattle.btree_shape.proofs.StepTours.{grown-addressed}
+use Rattle.btree_shape.proofs.Underflow.Order.{shrinks-levels}
+use Rattle.btree_shape.proofs.Trees.Numbers.{listed-append}
+use Rattle.btree_shape.proofs.Underflow.OffByOne.{emptied-well, fixed-well, odd-climbs, odd-grows, odd-shrinks}
+use Rattle.btree_shape.proofs.Places.OfTree.{positions-addressed, valid-on}
+use Rattle.btree_shape.proofs.Splits.Insertion.{repaired-paid, repaired-rooted}
+use Rattle.btree_shape.proofs.Places.Steps.{repaired-addressed}
 use Rattle.btree_shape.specs.Place.{item_at}
 use Rattle.btree_raw.specs.Claimed.{EMPTY, MayRefuseOneOf}
 use Rattle.btree_raw.specs.Steps.{IsCounting}
 use Rattle.btree_raw.specs.Claimed.{AreClaimed}
 use Rattle.btree_raw.specs.Raw.{Refuses}
 use Rattle.btree_raw.specs.Rebalance.{HasGiven, HasRoom, HasTaken, IsRebalanced, IsRefusal}
-use Rattle.btree_raw.specs.Shrink.{AreMended, IsMendingOf, MendsUp, IsAtRest}
-use Rattle.btree_raw.specs.Steps.{IsSplitting, Overflows, SplitsUp}
-use Rattle.btree_raw.proofs.LevelLemmas.{climb-few}
-use Rattle.btree_shape.proofs.TreeStates.{height_held, is-tree-but-length, pairs-tree}
-use Rattle.btree_shape.proofs.Stores.{used-view, len-views}
+use Rattle.btree_raw.specs.Underflow.{AreFixed, IsFixingOf, FixesUnderflowUpward, IsAtRest}
+use Rattle.btree_raw.specs.Steps.{IsSplitting, Overflows, SplitsUpward}
+use Rattle.btree_raw.proofs.LevelLemmas.{split_need-few}
+use Rattle.btree_shape.proofs.Trees.States.{height_held, is-tree-but-length, pairs-tree}
+use Rattle.btree_shape.proofs.Trees.Stores.{used-view, len-views}
 use Rattle.btree_raw.proofs.ClaimLemmas.{claims-seen}
 use Rattle.btree_raw.proofs.StateLemmas.{same-len, same-refusals, same-root}
 use Rattle.std.proofs.lemmas.Option.{slice_get_within}
@@ -48,26 +48,26 @@ some-there (Some x) is = (x, refl)
 
 module _ {A : Type 0} where
   -- the numbers of nodes, and those that were taken or given up beside them
-  listed-both : (look new : Look A) (ids more : List ℕ) → ((n : ℕ) → times_listed n ids ≡ times_used (new n)) → ((n : ℕ) → times_used (look n) ≡ times_used (new n) + times_listed n more)
-      → (n : ℕ) → times_listed n (ids ++ more) ≡ times_used (look n)
-  listed-both look new ids more each both n = let a = listed-append n ids more in let b = each n in let c = both n in omega arith
+  listed-both : (node_at new : NodeMap A) (ids more : List ℕ) → ((n : ℕ) → times_listed n ids ≡ times_used (new n)) → ((n : ℕ) → times_used (node_at n) ≡ times_used (new n) + times_listed n more)
+      → (n : ℕ) → times_listed n (ids ++ more) ≡ times_used (node_at n)
+  listed-both node_at new ids more each both n = let a = listed-append n ids more in let b = each n in let c = both n in omega arith
 
 -- nothing stands at an address of the empty list
-nothing-there : {A : Type 0} (look : Look A) (root : ℕ) (id : ℕ) (o : Option ℕ) (place : ℕ) (x : A) → IsAddressed A look root [] (Some x) (record { id = id; offset = o }) place → ⊥
-nothing-there look root id None place x d = let e = d.item in absurd (cc)
-nothing-there {A} look root id (Some o) place x d = elim d.at_place [
-  | inl at ↦ let q : IsPlaceOf look [] (Some x) place = subst (λ i. IsPlaceOf look [] i place) d.item at in none place q
-  | inr end ↦ past (look id) d.item end.0
+nothing-there : {A : Type 0} (node_at : NodeMap A) (root : ℕ) (id : ℕ) (o : Option ℕ) (place : ℕ) (x : A) → IsAddressed A node_at root [] (Some x) (record { id = id; offset = o }) place → ⊥
+nothing-there node_at root id None place x d = let e = d.item in absurd (cc)
+nothing-there {A} node_at root id (Some o) place x d = elim d.at_place [
+  | inl at ↦ let q : IsPlaceOf node_at [] (Some x) place = subst (λ i. IsPlaceOf node_at [] i place) d.item at in none place q
+  | inr end ↦ past (node_at id) d.item end.0
 ]
   where
     none : (p : ℕ) → slice_get [] p ≡ Some x → ⊥
     none p e = absurd (cc)
 
-    past : (v : Option (View A)) → item_in v o ≡ Some x → IsEnd look v o → ⊥
+    past : (v : Option (View A)) → item_in v o ≡ Some x → IsEnd node_at v o → ⊥
     past None e end = absurd end
     past (Some v) e end = let l = slice_get_within (items_of v) o x e in absurd (omega arith)
 
-module _ {K V : Type 0} (cmp : K → K → Ordering) (look new : Look (K × V)) (root : ℕ) (xs : List (K × V)) (a b : Address) where
+module _ {K V : Type 0} (cmp : K → K → Ordering) (node_at new : NodeMap (K × V)) (root : ℕ) (xs : List (K × V)) (a b : Address) where
   -- the address at the end: valid, at the place, and at the item that is asked for
   pub record Follows (t : Option ℕ) (asked : Option (K × V)) (place : ℕ) : Type 0 where
     pub valid : IsValid new t b.id b.offset
@@ -82,19 +82,19 @@ module _ {K V : Type 0} (cmp : K → K → Ordering) (look new : Look (K × V)) 
     pub after : ℕ
     pub strain : IsStrain new t after
     pub paid : gained + after ≤ bound
-    pub follow : (asked : Option (K × V)) (place : ℕ) → IsAddressed (K × V) look root xs asked a place → Follows t asked place
+    pub follow : (asked : Option (K × V)) (place : ℕ) → IsAddressed (K × V) node_at root xs asked a place → Follows t asked place
 
-  grown-follows : (t place : ℕ) (asked : Option (K × V)) → IsAddressed (K × V) new t xs asked b place → Follows (Some t) asked place
-  grown-follows t place asked d = record {
+  repaired-follows : (t place : ℕ) (asked : Option (K × V)) → IsAddressed (K × V) new t xs asked b place → Follows (Some t) asked place
+  repaired-follows t place asked d = record {
     valid = d.valid;
     at_place = d.at_place;
     item = λ x q. subst (λ o. Asks o (item_at new b)) q d.item;
   }
 
-  pub grown-ends : (t place gained bound : ℕ) → IsWellFormed cmp new (Some t) (length xs) xs → IsGrown (K × V) new t xs None b place gained bound
-      → ((asked : Option (K × V)) (q : ℕ) → IsAddressed (K × V) look root xs asked a q → IsGrown (K × V) new t xs asked b q gained bound) → Ends (Some t) gained bound
-  grown-ends t place gained bound well g all =
-      let rooted = grown-rooted (K × V) new t xs None b place gained bound g in
+  pub repaired-ends : (t place gained bound : ℕ) → IsWellFormed cmp new (Some t) (length xs) xs → IsRepaired (K × V) new t xs None b place gained bound
+      → ((asked : Option (K × V)) (q : ℕ) → IsAddressed (K × V) node_at root xs asked a q → IsRepaired (K × V) new t xs asked b q gained bound) → Ends (Some t) gained bound
+  repaired-ends t place gained bound well g all =
+      let rooted = repaired-rooted (K × V) new t xs None b place gained bound g in
       let ids : List ℕ = numbers_under new rooted.height t in
       let each : (n : ℕ) → times_listed n ids ≡ times_used (new n) = rooted.once in
       record {
@@ -103,51 +103,51 @@ module _ {K V : Type 0} (cmp : K → K → Ordering) (look new : Look (K × V)) 
         each = each;
         after = strain_under new t ids;
         strain = (ids, each, refl);
-        paid = grown-paid (K × V) new t xs None b place gained bound g;
-        follow = λ asked q d. grown-follows t q asked (grown-addressed (K × V) new t xs asked b q gained bound (all asked q d));
+        paid = repaired-paid (K × V) new t xs None b place gained bound g;
+        follow = λ asked q d. repaired-follows t q asked (repaired-addressed (K × V) new t xs asked b q gained bound (all asked q d));
       }
 
 module _ {K V : Type 0} (cmp : K → K → Ordering) (laws : IsTotalOrder cmp) (old : TreeState K V) (id : ℕ) (o : IsOff cmp old id) where
-  abbrev look : Look (K × V)
-  look = looks old
+  abbrev node_at : NodeMap (K × V)
+  node_at = node_map old
 
   abbrev xs : List (K × V)
   xs = pairs_of old
 
   abbrev numbers : List ℕ
-  numbers = numbers_under look o.off.rooted.height o.root
+  numbers = numbers_under node_at o.off.rooted.height o.root
 
   abbrev strain : ℕ
-  strain = strain_under look o.root numbers
+  strain = strain_under node_at o.root numbers
 
-  listed : (n : ℕ) → times_listed n numbers ≡ times_used (look n)
+  listed : (n : ℕ) → times_listed n numbers ≡ times_used (node_at n)
   listed n = o.off.rooted.once n
 
-  pub odd-node : (v : View (K × V)) × (look id ≡ Some v)
-  odd-node = some-there (look id) o.off.used
+  pub odd-node : (v : View (K × V)) × (node_at id ≡ Some v)
+  odd-node = some-there (node_at id) o.off.used
 
   pub odd-used : IsUsed old id
   odd-used = used-view old.nodes id (rw odd-node.1 (omega arith))
 
   module _ (a : Address) (valid : IsValidIn old a) where
-    valid-root : IsValid look (Some o.root) a.id a.offset
-    valid-root = subst (λ t. IsValid look t a.id a.offset) o.at_root valid
+    valid-root : IsValid node_at (Some o.root) a.id a.offset
+    valid-root = subst (λ t. IsValid node_at t a.id a.offset) o.at_root valid
 
-    place-of : (asked : Option (K × V)) → Asks asked (item_at look a) → (place : ℕ) × IsAddressed (K × V) look o.root xs asked a place
+    place-of : (asked : Option (K × V)) → Asks asked (item_at node_at a) → (place : ℕ) × IsAddressed (K × V) node_at o.root xs asked a place
     place-of asked m =
-        let n = valid-on (K × V) look o.root xs asked a (IsNearlySized o.root id) o.off.rooted valid-root m in
-        (n.place, tour-addressed (K × V) look o.root xs asked a (IsNearlySized o.root id) n.place o.off.rooted n.on)
+        let n = valid-on (K × V) node_at o.root xs asked a (IsNearlySized o.root id) o.off.rooted valid-root m in
+        (n.place, positions-addressed (K × V) node_at o.root xs asked a (IsNearlySized o.root id) n.place o.off.rooted n.on)
 
-    at-some : (place : ℕ) × IsAddressed (K × V) look o.root xs None a place
+    at-some : (place : ℕ) × IsAddressed (K × V) node_at o.root xs None a place
     at-some = place-of None tt
 
     module _ (new : TreeState K V) (b : Address) (same_len : new.len ≡ old.len) (uncounted : new.refusals ≡ old.refusals)
-        (back : IsSome a.offset → IsSome b.offset) (gained bound : ℕ) (e : Ends cmp look (looks new) o.root xs a b new.root gained bound) where
+        (back : IsSome a.offset → IsSome b.offset) (gained bound : ℕ) (e : Ends cmp node_at (node_map new) o.root xs a b new.root gained bound) where
       same-pairs : pairs_of new ≡ xs
       same-pairs = pairs-tree cmp new (length xs) xs e.well
 
-      rebalanced : (Overflows look id → HasTaken old new id strain e.after) → ((room : HasRoom look id) → HasGiven old new id room.node strain e.after)
-          → (HasRoom look id → (t : ℕ) → old.root ≡ Some t → IsMended look (looks new) t new.root id)
+      rebalanced : (Overflows node_at id → HasTaken old new id strain e.after) → ((room : HasRoom node_at id) → HasGiven old new id room.node strain e.after)
+          → (HasRoom node_at id → (t : ℕ) → old.root ≡ Some t → IsUnderflowFixed node_at (node_map new) t new.root id)
           → IsRebalanced old new id cmp a b
       rebalanced taken given steps = record {
         well = is-tree-but-length cmp new xs e.well;
@@ -156,33 +156,33 @@ module _ {K V : Type 0} (cmp : K → K → Ordering) (laws : IsTotalOrder cmp) (
         uncounted = uncounted;
         valid = (e.follow None at-some.0 at-some.1).valid;
         place = λ q at.
-            subst (λ l. IsPlace (looks new) new.root l b.id b.offset q) (sym same-pairs)
-            (e.follow None q (record { valid = valid-root; at_place = subst (λ t. IsPlace look t xs a.id a.offset q) o.at_root at; item = tt })).at_place;
+            subst (λ l. IsPlace (node_map new) new.root l b.id b.offset q) (sym same-pairs)
+            (e.follow None q (record { valid = valid-root; at_place = subst (λ t. IsPlace node_at t xs a.id a.offset q) o.at_root at; item = tt })).at_place;
         item = λ x q. let p = place-of (Some x) q in (e.follow (Some x) p.0 p.1).item x refl;
         back = back;
-        mended = steps;
+        fixed = steps;
         before = strain;
         after = e.after;
-        strain_before = subst (λ t. IsStrain look t strain) (sym o.at_root) (numbers, listed, refl);
+        strain_before = subst (λ t. IsStrain node_at t strain) (sym o.at_root) (numbers, listed, refl);
         strain_after = e.strain;
         taken = taken;
         given = given;
       }
 
-    same-node : (v node : View (K × V)) → look id ≡ Some v → look id ≡ Some node → v ≡ node
+    same-node : (v node : View (K × V)) → node_at id ≡ Some v → node_at id ≡ Some node → v ≡ node
     same-node v node here q = cc
 
     -- no item too many
-    module _ (fits : HasRoom look id) where
+    module _ (fits : HasRoom node_at id) where
       abbrev low-bound : ℕ
       low-bound = strain + owed_by fits.node
 
-      shrinks : (asked : Option (K × V)) (place : ℕ) → IsAddressed (K × V) look o.root xs asked a place → IsShrinking (K × V) look o.root xs id asked a place 0 low-bound
-      shrinks asked place d = odd-shrinks cmp laws look o.root id xs o.off fits.node fits.here fits.room asked a place d
+      shrinks : (asked : Option (K × V)) (place : ℕ) → IsAddressed (K × V) node_at o.root xs asked a place → MayUnderflowAt (K × V) node_at o.root xs id asked a place 0 low-bound
+      shrinks asked place d = odd-shrinks cmp laws node_at o.root id xs o.off fits.node fits.here fits.room asked a place d
 
-      pub mending : IsMendingOf look old.root id a (length xs)
-      mending = record {
-        mending = record {
+      pub fixing : IsFixingOf node_at old.root id a (length xs)
+      fixing = record {
+        fixing = record {
           followed = record {
             root = o.root;
             xs = xs;
@@ -190,30 +190,30 @@ module _ {K V : Type 0} (cmp : K → K → Ordering) (laws : IsTotalOrder cmp) (
             place = at-some.0;
             given = 0;
             bound = low-bound;
-            shrinking = shrinks None at-some.0 at-some.1;
+            underflow = shrinks None at-some.0 at-some.1;
           };
           at_root = o.at_root;
         };
         items = refl;
       }
 
-      module _ (new : TreeState K V) (b : Address) (u : MendsUp old new id a b) where
-        abbrev m : AreMended look (looks new) old.root new.root id a b
-        m = u.mended
+      module _ (new : TreeState K V) (b : Address) (u : FixesUnderflowUpward old new id a b) where
+        abbrev m : AreFixed node_at (node_map new) old.root new.root id a b
+        m = u.fixed
 
         abbrev Rest : Option ℕ → Type 0
-        Rest t = (asked : Option (K × V)) (place : ℕ) → IsAddressed (K × V) look o.root xs asked a place → IsAtRest (looks new) t xs asked b place (0 + length m.gone) low-bound
+        Rest t = (asked : Option (K × V)) (place : ℕ) → IsAddressed (K × V) node_at o.root xs asked a place → IsAtRest (node_map new) t xs asked b place (0 + length m.gone) low-bound
 
-        mended-ends : (t : Option ℕ) → Rest t → Ends cmp look (looks new) o.root xs a b t (0 + length m.gone) low-bound
-        mended-ends (Some t) f =
+        fixed-ends : (t : Option ℕ) → Rest t → Ends cmp node_at (node_map new) o.root xs a b t (0 + length m.gone) low-bound
+        fixed-ends (Some t) f =
             let g = f None at-some.0 at-some.1 in
-            grown-ends cmp look (looks new) o.root xs a b t at-some.0 (0 + length m.gone) low-bound
-            (mended-well cmp laws look o.root id xs o.off fits.node fits.here (looks new) t None b at-some.0 (0 + length m.gone) low-bound g) g f
-        mended-ends None f =
+            repaired-ends cmp node_at (node_map new) o.root xs a b t at-some.0 (0 + length m.gone) low-bound
+            (fixed-well cmp laws node_at o.root id xs o.off fits.node fits.here (node_map new) t None b at-some.0 (0 + length m.gone) low-bound g) g f
+        fixed-ends None f =
             let g = f None at-some.0 at-some.1 in
             let p = g.3 in
             record {
-              well = emptied-well cmp laws look o.root id xs o.off fits.node fits.here (looks new) g.0;
+              well = emptied-well cmp laws node_at o.root id xs o.off fits.node fits.here (node_map new) g.0;
               ids = [];
               each = λ n. sym (ap times_used (g.0.0 n));
               after = 0;
@@ -225,26 +225,26 @@ module _ {K V : Type 0} (cmp : K → K → Ordering) (laws : IsTotalOrder cmp) (
                     valid = f2.1;
                     at_place = f2.2;
                     item = λ x q.
-                        let d2 : IsAddressed (K × V) look o.root xs (Some x) a place = subst (λ r. IsAddressed (K × V) look o.root xs r a place) q d in
-                        absurd (nothing-there look o.root a.id a.offset place x (subst (λ l. IsAddressed (K × V) look o.root l (Some x) a place) g.0.1 d2));
+                        let d2 : IsAddressed (K × V) node_at o.root xs (Some x) a place = subst (λ r. IsAddressed (K × V) node_at o.root xs r a place) q d in
+                        absurd (nothing-there node_at o.root a.id a.offset place x (subst (λ l. IsAddressed (K × V) node_at o.root l (Some x) a place) g.0.1 d2));
                   };
             }
 
-        ends : Ends cmp look (looks new) o.root xs a b new.root (0 + length m.gone) low-bound
-        ends = mended-ends new.root (λ asked place d. m.mended o.root xs asked place 0 low-bound o.at_root (shrinks asked place d))
+        ends : Ends cmp node_at (node_map new) o.root xs a b new.root (0 + length m.gone) low-bound
+        ends = fixed-ends new.root (λ asked place d. m.fixed o.root xs asked place 0 low-bound o.at_root (shrinks asked place d))
 
         fewer : map.len old.nodes ≡ map.len new.nodes + length m.gone
         fewer =
-            let l1 = len-views old.nodes (ends.ids ++ m.gone) (listed-both look (looks new) ends.ids m.gone ends.each m.counted) in
+            let l1 = len-views old.nodes (ends.ids ++ m.gone) (listed-both node_at (node_map new) ends.ids m.gone ends.each m.counted) in
             let l2 = len-views new.nodes ends.ids ends.each in
             let l3 = length-append ends.ids m.gone in
             omega arith
 
-        within-root : (height : ℕ) → Spells look height None o.root xs → length m.gone ≤ suc height
-        within-root height spells =
+        within-root : (height : ℕ) → Represents node_at height None o.root xs → length m.gone ≤ suc height
+        within-root height represents =
             let g = shrinks None at-some.0 at-some.1 in
             let f = m.few o.root xs None at-some.0 0 low-bound o.at_root g in
-            let l = shrinks-levels (K × V) look o.root xs id None a at-some.0 0 low-bound g (IsNearlySized o.root id) o.off.rooted height spells in
+            let l = shrinks-levels (K × V) node_at o.root xs id None a at-some.0 0 low-bound g (IsNearlySized o.root id) o.off.rooted height represents in
             omega arith
 
         within : (levels : ℕ) → HasLevels old levels → length m.gone ≤ levels
@@ -254,8 +254,8 @@ module _ {K V : Type 0} (cmp : K → K → Ordering) (laws : IsTotalOrder cmp) (
             let w = within-root h.0 h.1 in
             omega arith
 
-        pub mended : (IsSome a.offset → IsSome b.offset) → IsRebalanced old new id cmp a b
-        mended back =
+        pub fixed : (IsSome a.offset → IsSome b.offset) → IsRebalanced old new id cmp a b
+        fixed back =
             rebalanced new b u.len u.uncounted back (0 + length m.gone) low-bound ends
             (λ over. let s = same-node over.node fits.node over.here fits.here in let z = ap size_of s in let y = ap most_of s in let f = fits.room in let g = over.over in absurd (omega arith))
             (λ room.
@@ -264,17 +264,17 @@ module _ {K V : Type 0} (cmp : K → K → Ordering) (laws : IsTotalOrder cmp) (
             (λ room t same. m.steps t same)
 
     -- an item too many
-    module _ (over : Overflows look id) where
+    module _ (over : Overflows node_at id) where
       abbrev most : ℕ
       most = map.len old.nodes
 
       high : o.off.rooted.height < most
       high = height_held old (IsNearlySized o.root id) o.root xs o.off.rooted
 
-      pub counting : IsCounting look most id id 0
+      pub counting : IsCounting node_at most id id 0
       counting =
-          let s = odd-climbs cmp laws look o.root id xs o.off over.node over.here most high in
-          record { root = o.root; xs = xs; climbing = s; few = climb-few cmp look o.root id most id (climb look most id) xs o.off s }
+          let s = odd-climbs cmp laws node_at o.root id xs o.off over.node over.here most high in
+          record { root = o.root; xs = xs; upward = s; few = split_need-few cmp node_at o.root id most id (split_need node_at most id) xs o.off s }
 
       pub refusal : (MayRefuse : Content (Node K V) → Type 0) (new : TreeState K V) (count : ℕ) → count ≡ nodes_for_splits old id → Refuses old new
           → MayRefuseOneOf EMPTY MayRefuse old.nodes count → IsRefusal old new id MayRefuse Store
@@ -286,16 +286,16 @@ module _ {K V : Type 0} (cmp : K → K → Ordering) (laws : IsTotalOrder cmp) (
       }
 
       module _ (ids : List ℕ) (mid : TreeState K V) (claimed : AreClaimed old mid ids) (count : length ids ≡ nodes_for_splits old id) where
-        claims : Claims look (looks mid) ids
-        claims = subst (λ n. Claims look (views n) ids) (sym claimed.claimed.after) (claims-seen old.nodes ids claimed.claimed.claims)
+        claims : Claims node_at (node_map mid) ids
+        claims = subst (λ n. Claims node_at (views n) ids) (sym claimed.claimed.after) (claims-seen old.nodes ids claimed.claimed.claims)
 
-        grows : (asked : Option (K × V)) (place : ℕ) → IsAddressed (K × V) look o.root xs asked a place → IsGrowing (K × V) (looks mid) o.root xs id ids asked a place 0 strain
-        grows asked place d = odd-grows cmp laws look o.root id xs o.off over.node over.here over.over most high (looks mid) ids claims count asked a place d
+        grows : (asked : Option (K × V)) (place : ℕ) → IsAddressed (K × V) node_at o.root xs asked a place → MayOverflowAt (K × V) (node_map mid) o.root xs id ids asked a place 0 strain
+        grows asked place d = odd-grows cmp laws node_at o.root id xs o.off over.node over.here over.over most high (node_map mid) ids claims count asked a place d
 
         same-top : mid.root ≡ Some o.root
         same-top = same-root claimed.rest ∙ o.at_root
 
-        pub splitting : IsSplitting (looks mid) mid.root id ids a
+        pub splitting : IsSplitting (node_map mid) mid.root id ids a
         splitting = record {
           top = o.root;
           at_root = same-top;
@@ -304,19 +304,19 @@ module _ {K V : Type 0} (cmp : K → K → Ordering) (laws : IsTotalOrder cmp) (
           place = at-some.0;
           gained = 0;
           bound = strain;
-          growing = grows None at-some.0 at-some.1;
+          overflow = grows None at-some.0 at-some.1;
         }
 
-        module _ (new : TreeState K V) (b : Address) (s : SplitsUp mid new id ids a b) where
-          grown : (asked : Option (K × V)) (place : ℕ) → IsAddressed (K × V) look o.root xs asked a place → IsGrown (K × V) (looks new) s.split.top xs asked b place (0 + length ids) strain
-          grown asked place d = s.split.grown o.root xs asked place 0 strain same-top (grows asked place d)
+        module _ (new : TreeState K V) (b : Address) (s : SplitsUpward mid new id ids a b) where
+          repaired : (asked : Option (K × V)) (place : ℕ) → IsAddressed (K × V) node_at o.root xs asked a place → IsRepaired (K × V) (node_map new) s.split.top xs asked b place (0 + length ids) strain
+          repaired asked place d = s.split.repaired o.root xs asked place 0 strain same-top (grows asked place d)
 
-          split-ends : Ends cmp look (looks new) o.root xs a b new.root (0 + length ids) strain
+          split-ends : Ends cmp node_at (node_map new) o.root xs a b new.root (0 + length ids) strain
           split-ends =
-              let g = grown None at-some.0 at-some.1 in
-              subst (λ t. Ends cmp look (looks new) o.root xs a b t (0 + length ids) strain) (sym s.split.at_root)
-              (grown-ends cmp look (looks new) o.root xs a b s.split.top at-some.0 (0 + length ids) strain
-              (mended-well cmp laws look o.root id xs o.off over.node over.here (looks new) s.split.top None b at-some.0 (0 + length ids) strain g) g grown)
+              let g = repaired None at-some.0 at-some.1 in
+              subst (λ t. Ends cmp node_at (node_map new) o.root xs a b t (0 + length ids) strain) (sym s.split.at_root)
+              (repaired-ends cmp node_at (node_map new) o.root xs a b s.split.top at-some.0 (0 + length ids) strain
+              (fixed-well cmp laws node_at o.root id xs o.off over.node over.here (node_map new) s.split.top None b at-some.0 (0 + length ids) strain g) g repaired)
 
           more : map.len new.nodes ≡ map.len old.nodes + length ids
           more =

@@ -9,21 +9,21 @@ use Rattle.btree_item.specs.declared.address.Address.{Address}
 use Rattle.btree_node.specs.declared.node.Node.{Node}
 use Rattle.btree_node.specs.Node.{view_of}
 use Rattle.std.specs.Prelude.{IfSome}
-use Rattle.btree_view.specs.View.{Look, View, leaf, internal, children_in, children_of, parent_of, size_of}
-use Rattle.btree_shape.specs.Mend.{Merges}
-use Rattle.btree_shape.specs.Mending.{Borrows, Joins, NoneSpares, child_at, from_left, from_right, size_in, with_left, with_right}
+use Rattle.btree_view.specs.View.{NodeMap, View, leaf, internal, children_in, children_of, parent_of, size_of}
+use Rattle.btree_shape.specs.SiblingSteps.{Merges}
+use Rattle.btree_shape.specs.UnderflowFix.{BorrowsFromSibling, MergesWithSibling, NoneSpares, child_at, from_left, from_right, size_in, with_left, with_right}
 use Rattle.btree_shape.specs.Lists.{times_listed}
 use Rattle.btree_shape.specs.TreeState.{views}
 use Rattle.btree_shape.specs.WellFormed.{times_used}
-use Rattle.btree_shape.proofs.Climbs.{get-times}
-use Rattle.btree_shape.proofs.Shrinks.{to-over}
-use Rattle.btree_raw.specs.NodeSteps.{BecomeMerged, CanLend, LendsLeft, LendsRight}
-use Rattle.btree_raw.specs.Shrink.{AreBeside, HasSiblings, HaveFew, IsChild, IsFollowed, IsShort, siblings_at, siblings_of}
+use Rattle.btree_shape.proofs.Paths.Parents.{get-times}
+use Rattle.btree_shape.proofs.Underflow.Upward.{to-over}
+use Rattle.btree_raw.specs.NodeSteps.{MergesSiblings, CanGiveItem, RotatesSiblingsLeft, RotatesSiblingsRight}
+use Rattle.btree_raw.specs.Underflow.{AreAdjacent, HasSiblings, HaveFew, IsChild, IsFollowed, Underflows, siblings_at, siblings_of}
 use Rattle.btree_raw.specs.Steps.{HasCount}
-use Rattle.btree_raw.proofs.LiftLemmas.{has-index, index-is}
+use Rattle.btree_raw.proofs.SeparatorLemmas.{has-index, index-is}
 use Rattle.btree_raw.proofs.StepLemmas.{size-at}
-use Rattle.btree_shape.proofs.Beside.{Beside}
-use Rattle.btree_shape.proofs.Numbers.{used-there, same-node}
+use Rattle.btree_shape.proofs.Underflow.Adjacent.{Beside}
+use Rattle.btree_shape.proofs.Trees.Numbers.{used-there, same-node}
 use Rattle.btree_raw.proofs.LendLemmas.{followed-node, followed-under, pair}
 use Rattle.std.proofs.lemmas.Option.{slice_get_within, slice_get-get_or}
 
@@ -44,27 +44,27 @@ none-some : {X : Type 0} (o : Option X) → o ≡ None → IsSome o → ⊥
 none-some None e is = absurd (cc)
 none-some (Some n) e is = absurd (cc)
 
-module _ {A : Type 0} (look : Look A) where
-  counted-in : (id count : ℕ) → HasCount look id count → size_in (look id) ≡ count
-  counted-in id count counted = at (look id) counted
+module _ {A : Type 0} (node_at : NodeMap A) where
+  counted-in : (id count : ℕ) → HasCount node_at id count → size_in (node_at id) ≡ count
+  counted-in id count counted = at (node_at id) counted
     where
       at : (o : Option (View A)) → option_map size_of o ≡ Some count → size_in o ≡ count
       at None e = absurd (cc)
       at (Some v) e = cc
 
-  child-here : (parent index : ℕ) (node : View A) (o : Option ℕ) → look parent ≡ Some node → slice_get (children_of node) index ≡ o
-      → child_at look parent index ≡ o
+  child-here : (parent index : ℕ) (node : View A) (o : Option ℕ) → node_at parent ≡ Some node → slice_get (children_of node) index ≡ o
+      → child_at node_at parent index ≡ o
   child-here parent index node o here is = ap (λ v. slice_get (children_in v) index) here ∙ is
 
   -- no child at an index has an item to spare: there is none, or it has too few
-  none-at : (parent index : ℕ) → child_at look parent index ≡ None → NoneSpares look parent index
-  none-at parent index is = subst (λ o. IfSome o (λ i. size_in (look i) ≤ 3)) (sym is) tt
+  none-at : (parent index : ℕ) → child_at node_at parent index ≡ None → NoneSpares node_at parent index
+  none-at parent index is = subst (λ o. IfSome o (λ i. size_in (node_at i) ≤ 3)) (sym is) tt
 
-  low-at : (parent index sibling held : ℕ) → child_at look parent index ≡ Some sibling → HasCount look sibling held → held ≤ 3 → NoneSpares look parent index
+  low-at : (parent index sibling held : ℕ) → child_at node_at parent index ≡ Some sibling → HasCount node_at sibling held → held ≤ 3 → NoneSpares node_at parent index
   low-at parent index sibling held is counted low =
       let e = counted-in sibling held counted in
-      let l : size_in (look sibling) ≤ 3 = omega arith in
-      subst (λ o. IfSome o (λ i. size_in (look i) ≤ 3)) (sym is) l
+      let l : size_in (node_at sibling) ≤ 3 = omega arith in
+      subst (λ o. IfSome o (λ i. size_in (node_at i) ≤ 3)) (sym is) l
 
 -- the index of a child and its siblings, read off the parent
 module _ {K V : Type 0} (nodes : Content (Node K V)) (parent : ℕ) where
@@ -117,35 +117,35 @@ module _ {K V : Type 0} (nodes : Content (Node K V)) (parent : ℕ) where
           }
 
 -- a step with the sibling on the left
-module _ {A : Type 0} (look : Look A) (siblings : Siblings) (a : Address) (s : AreBeside look siblings siblings.right a) where
-  abbrev two : Beside A look s.followed.root s.followed.xs s.followed.asked a s.followed.place s.followed.given s.followed.bound
+module _ {A : Type 0} (node_at : NodeMap A) (siblings : Siblings) (a : Address) (s : AreAdjacent node_at siblings siblings.right a) where
+  abbrev two : Beside A node_at s.followed.root s.followed.xs s.followed.asked a s.followed.place s.followed.given s.followed.bound
       siblings.parent siblings.index siblings.left siblings.right
-  two = pair look siblings siblings.right a s
+  two = pair node_at siblings siblings.right a s
 
-  pub left-there : 0 < times_used (look siblings.left)
-  left-there = used-there look siblings.left two.low two.at_left
+  pub left-there : 0 < times_used (node_at siblings.left)
+  left-there = used-there node_at siblings.left two.low two.at_left
 
-  module _ (held : ℕ) (counted : HasCount look siblings.left held) where
-    pub left-lends : 3 < held → CanLend look siblings.left
-    left-lends many = record { node = two.low; here = two.at_left; spare = let e = size-at look siblings.left held two.low two.at_left counted in omega arith }
+  module _ (held : ℕ) (counted : HasCount node_at siblings.left held) where
+    pub left-lends : 3 < held → CanGiveItem node_at siblings.left
+    left-lends many = record { node = two.low; here = two.at_left; spare = let e = size-at node_at siblings.left held two.low two.at_left counted in omega arith }
 
-    pub left-few : held ≤ 3 → IsShort look siblings.right → HaveFew look siblings
+    pub left-few : held ≤ 3 → Underflows node_at siblings.right → HaveFew node_at siblings
     left-few few short = record {
       low = two.low;
       high = short.node;
       at_left = two.at_left;
       at_right = short.here;
-      few = let e = size-at look siblings.left held two.low two.at_left counted in let f = short.few in omega arith;
+      few = let e = size-at node_at siblings.left held two.low two.at_left counted in let f = short.few in omega arith;
     }
 
   -- which step it is
-  module _ (held : ℕ) (counted : HasCount look siblings.left held) (none : NoneSpares look siblings.parent (suc (suc siblings.index))) (new : Look A) where
-    pub left-borrows : 3 < held → LendsRight look new siblings → Borrows look new siblings.parent siblings.right
-    left-borrows many step = let e = counted-in look siblings.left held counted in
+  module _ (held : ℕ) (counted : HasCount node_at siblings.left held) (none : NoneSpares node_at siblings.parent (suc (suc siblings.index))) (new : NodeMap A) where
+    pub left-borrows : 3 < held → RotatesSiblingsRight node_at new siblings → BorrowsFromSibling node_at new siblings.parent siblings.right
+    left-borrows many step = let e = counted-in node_at siblings.left held counted in
         from_left siblings.index siblings.left s.at_right none (s.at_left, omega arith) step
 
-    pub left-joins : held ≤ 3 → BecomeMerged look new siblings → Joins look new siblings.parent siblings.right
-    left-joins low step = with_left siblings.index siblings.left s.at_right none s.at_left (low-at look siblings.parent siblings.index siblings.left held s.at_left counted low) step
+    pub left-merges : held ≤ 3 → MergesSiblings node_at new siblings → MergesWithSibling node_at new siblings.parent siblings.right
+    left-merges low step = with_left siblings.index siblings.left s.at_right none s.at_left (low-at node_at siblings.parent siblings.index siblings.left held s.at_left counted low) step
 
 -- two children that are there, as siblings
 module _ (p k : ℕ) where
@@ -178,48 +178,48 @@ module _ (p k : ℕ) where
   some-of (Some l) (Some r) a b = refl
 
 -- a step at a node with a parent
-module _ {A : Type 0} (look : Look A) (id p : ℕ) (a : Address) (s : IsFollowed look id a) (under : option_map parent_of (look id) ≡ Some (Some p)) where
-  abbrev at-node : (v : View A) × (look id ≡ Some v)
-  at-node = followed-node look id a s
+module _ {A : Type 0} (node_at : NodeMap A) (id p : ℕ) (a : Address) (s : IsFollowed node_at id a) (under : option_map parent_of (node_at id) ≡ Some (Some p)) where
+  abbrev at-node : (v : View A) × (node_at id ≡ Some v)
+  at-node = followed-node node_at id a s
 
   up : parent_of at-node.0 ≡ Some p
-  up = followed-under look id a s (Some p) under
+  up = followed-under node_at id a s (Some p) under
 
-  pub is-child : IsChild look p id
+  pub is-child : IsChild node_at p id
   is-child =
-      let o = to-over A look s.root s.xs id s.asked a s.place s.given s.bound s.shrinking at-node.0 at-node.1 p up in
+      let o = to-over A node_at s.root s.xs id s.asked a s.place s.given s.bound s.underflow at-node.0 at-node.1 p up in
       record { node = o.node; here = o.here; child = get-times (children_of o.node) o.index id o.child }
 
-  pub is-short : (count : ℕ) → HasCount look id count → count ≤ 2 → IsShort look id
-  is-short count counted few = record { node = at-node.0; here = at-node.1; few = let e = size-at look id count at-node.0 at-node.1 counted in omega arith }
+  pub is-short : (count : ℕ) → HasCount node_at id count → count ≤ 2 → Underflows node_at id
+  is-short count counted few = record { node = at-node.0; here = at-node.1; few = let e = size-at node_at id count at-node.0 at-node.1 counted in omega arith }
 
-  module _ (before after : Option Siblings) (sib : HasSiblings look p id before after) where
+  module _ (before after : Option Siblings) (sib : HasSiblings node_at p id before after) where
     -- a child stands before each but the first
-    before-some : (k : ℕ) → sib.index ≡ suc k → IsSome (child_at look p k)
+    before-some : (k : ℕ) → sib.index ≡ suc k → IsSome (child_at node_at p k)
     before-some k e =
-        let m = slice_get_within (children_in (look p)) sib.index id sib.child in
-        get-some (children_in (look p)) k (omega arith)
+        let m = slice_get_within (children_in (node_at p)) sib.index id sib.child in
+        get-some (children_in (node_at p)) k (omega arith)
 
     both-some : (k : ℕ) → sib.index ≡ suc k → IsSome before
     both-some k e = subst (λ o. IsSome o) (sym (sib.before_is k e))
-        (some-of p k (child_at look p k) (child_at look p (suc k)) (before-some k e)
-        (subst (λ o. IsSome o) (sym (ap (child_at look p) (sym e) ∙ sib.child)) refl))
+        (some-of p k (child_at node_at p k) (child_at node_at p (suc k)) (before-some k e)
+        (subst (λ o. IsSome o) (sym (ap (child_at node_at p) (sym e) ∙ sib.child)) refl))
 
     -- without a sibling on the right there is one on the left
     pub before-there : after ≡ None → IsSome before
     before-there none =
-        let o = to-over A look s.root s.xs id s.asked a s.place s.given s.bound s.shrinking at-node.0 at-node.1 p up in
-        let same : children_in (look p) ≡ children_of o.node = ap children_in o.here in
-        let last = none-of p sib.index (child_at look p sib.index) (child_at look p (suc sib.index)) id sib.child (sym sib.after_is ∙ none) in
-        let n = get-none (children_in (look p)) (suc sib.index) last in
+        let o = to-over A node_at s.root s.xs id s.asked a s.place s.given s.bound s.underflow at-node.0 at-node.1 p up in
+        let same : children_in (node_at p) ≡ children_of o.node = ap children_in o.here in
+        let last = none-of p sib.index (child_at node_at p sib.index) (child_at node_at p (suc sib.index)) id sib.child (sym sib.after_is ∙ none) in
+        let n = get-none (children_in (node_at p)) (suc sib.index) last in
         let m = children-some o.node sib.index id (sym (ap (λ xs. slice_get xs sib.index) same) ∙ sib.child) in
         let z = ap length same in
         let k = o.some in
         both-some (sib.index - 1) (omega arith)
 
     module _ (j : Siblings) (is : after ≡ Some j) where
-      after-of : AreOf p sib.index (child_at look p sib.index) (child_at look p (suc sib.index)) j
-      after-of = are-of p sib.index (child_at look p sib.index) (child_at look p (suc sib.index)) j (sym sib.after_is ∙ is)
+      after-of : AreOf p sib.index (child_at node_at p sib.index) (child_at node_at p (suc sib.index)) j
+      after-of = are-of p sib.index (child_at node_at p sib.index) (child_at node_at p (suc sib.index)) j (sym sib.after_is ∙ is)
 
       pub after-left : j.left ≡ id
       after-left = let q : Some j.left ≡ Some id = sym after-of.left ∙ sib.child in cc
@@ -231,13 +231,13 @@ module _ {A : Type 0} (look : Look A) (id p : ℕ) (a : Address) (s : IsFollowed
       pub as-after : (P : ℕ → ℕ → Type 0) → P j.parent j.left → P p id
       as-after P x = subst (λ n. P p n) after-left (subst (λ q. P q j.left) after-up x)
 
-      pub after-at : child_at look j.parent (suc j.index) ≡ Some j.right
+      pub after-at : child_at node_at j.parent (suc j.index) ≡ Some j.right
       after-at = rw (after-of.parent, after-of.index) after-of.right
 
-      pub self-at : child_at look j.parent j.index ≡ Some j.left
+      pub self-at : child_at node_at j.parent j.index ≡ Some j.left
       self-at = rw (after-of.parent, after-of.index) after-of.left
 
-      abbrev pub are-after : AreBeside look j id a
+      abbrev pub are-after : AreAdjacent node_at j id a
       are-after = record {
         at_left = self-at;
         at_right = after-at;
@@ -246,28 +246,28 @@ module _ {A : Type 0} (look : Look A) (id p : ℕ) (a : Address) (s : IsFollowed
         followed = s;
       }
 
-      pub after-beside : AreBeside look j j.left a
-      after-beside = subst (λ n. AreBeside look j n a) (sym after-left) are-after
+      pub after-beside : AreAdjacent node_at j j.left a
+      after-beside = subst (λ n. AreAdjacent node_at j n a) (sym after-left) are-after
 
-      abbrev with-after : Beside A look s.root s.xs s.asked a s.place s.given s.bound j.parent j.index j.left j.right
-      with-after = pair look j id a are-after
+      abbrev with-after : Beside A node_at s.root s.xs s.asked a s.place s.given s.bound j.parent j.index j.left j.right
+      with-after = pair node_at j id a are-after
 
-      pub after-there : 0 < times_used (look j.right)
-      after-there = let b = with-after in used-there look j.right b.high b.at_right
+      pub after-there : 0 < times_used (node_at j.right)
+      after-there = let b = with-after in used-there node_at j.right b.high b.at_right
 
-      pub after-lends : (held : ℕ) → HasCount look j.right held → 3 < held → CanLend look j.right
+      pub after-lends : (held : ℕ) → HasCount node_at j.right held → 3 < held → CanGiveItem node_at j.right
       after-lends held counted many = let b = with-after in
-          record { node = b.high; here = b.at_right; spare = let e = size-at look j.right held b.high b.at_right counted in omega arith }
+          record { node = b.high; here = b.at_right; spare = let e = size-at node_at j.right held b.high b.at_right counted in omega arith }
 
-      pub after-few : (held count : ℕ) → HasCount look j.right held → held ≤ 3 → HasCount look id count → count ≤ 2 → HaveFew look j
+      pub after-few : (held count : ℕ) → HasCount node_at j.right held → held ≤ 3 → HasCount node_at id count → count ≤ 2 → HaveFew node_at j
       after-few held count counted few here short = let b = with-after in
           record {
             low = b.low;
             high = b.high;
             at_left = b.at_left;
             at_right = b.at_right;
-            few = let e = size-at look j.right held b.high b.at_right counted in
-                let f = size-at look j.left count b.low b.at_left (subst (λ n. HasCount look n count) (sym after-left) here) in omega arith;
+            few = let e = size-at node_at j.right held b.high b.at_right counted in
+                let f = size-at node_at j.left count b.low b.at_left (subst (λ n. HasCount node_at n count) (sym after-left) here) in omega arith;
           }
 
     module _ (i : Siblings) (is : before ≡ Some i) where
@@ -275,17 +275,17 @@ module _ {A : Type 0} (look : Look A) (id p : ℕ) (a : Address) (s : IsFollowed
       before-next zero e = let q = sib.first e in absurd (cc)
       before-next (suc k) e = let o = before-of k e in let n = o.index in (omega arith, omega arith)
         where
-          before-of : (k : ℕ) → sib.index ≡ suc k → AreOf p k (child_at look p k) (child_at look p (suc k)) i
-          before-of k e = are-of p k (child_at look p k) (child_at look p (suc k)) i (sym (sib.before_is k e) ∙ is)
+          before-of : (k : ℕ) → sib.index ≡ suc k → AreOf p k (child_at node_at p k) (child_at node_at p (suc k)) i
+          before-of k e = are-of p k (child_at node_at p k) (child_at node_at p (suc k)) i (sym (sib.before_is k e) ∙ is)
 
       next : sib.index ≡ suc i.index
       next = (before-next sib.index refl).1
 
-      before-of : AreOf p i.index (child_at look p i.index) (child_at look p (suc i.index)) i
-      before-of = are-of p i.index (child_at look p i.index) (child_at look p (suc i.index)) i (sym (sib.before_is i.index next) ∙ is)
+      before-of : AreOf p i.index (child_at node_at p i.index) (child_at node_at p (suc i.index)) i
+      before-of = are-of p i.index (child_at node_at p i.index) (child_at node_at p (suc i.index)) i (sym (sib.before_is i.index next) ∙ is)
 
       pub before-right : i.right ≡ id
-      before-right = let q : Some i.right ≡ Some id = sym before-of.right ∙ (ap (child_at look p) (sym next) ∙ sib.child) in cc
+      before-right = let q : Some i.right ≡ Some id = sym before-of.right ∙ (ap (child_at node_at p) (sym next) ∙ sib.child) in cc
 
       pub before-up : i.parent ≡ p
       before-up = before-of.parent
@@ -293,8 +293,8 @@ module _ {A : Type 0} (look : Look A) (id p : ℕ) (a : Address) (s : IsFollowed
       pub as-before : (P : ℕ → ℕ → Type 0) → P i.parent i.right → P p id
       as-before P x = subst (λ n. P p n) before-right (subst (λ q. P q i.right) before-up x)
 
-      pub are-before : AreBeside look i i.right a
-      are-before = subst (λ n. AreBeside look i n a) (sym before-right) (record {
+      pub are-before : AreAdjacent node_at i i.right a
+      are-before = subst (λ n. AreAdjacent node_at i n a) (sym before-right) (record {
         at_left = rw before-up before-of.left;
         at_right = rw before-up before-of.right;
         one_of = inr (sym before-right);
@@ -303,15 +303,15 @@ module _ {A : Type 0} (look : Look A) (id p : ℕ) (a : Address) (s : IsFollowed
       })
 
       -- whatever is known at the index after the child's, it is known two after its left sibling's
-      two-after : NoneSpares look p (suc sib.index) → NoneSpares look i.parent (suc (suc i.index))
+      two-after : NoneSpares node_at p (suc sib.index) → NoneSpares node_at i.parent (suc (suc i.index))
       two-after none = rw (before-up, ← next) none
 
-      pub none-after : after ≡ None → NoneSpares look i.parent (suc (suc i.index))
-      none-after none = two-after (none-at look p (suc sib.index)
-          (none-of p sib.index (child_at look p sib.index) (child_at look p (suc sib.index)) id sib.child (sym sib.after_is ∙ none)))
+      pub none-after : after ≡ None → NoneSpares node_at i.parent (suc (suc i.index))
+      none-after none = two-after (none-at node_at p (suc sib.index)
+          (none-of p sib.index (child_at node_at p sib.index) (child_at node_at p (suc sib.index)) id sib.child (sym sib.after_is ∙ none)))
 
-      pub low-after : (j : Siblings) (held : ℕ) → after ≡ Some j → HasCount look j.right held → held ≤ 3 → NoneSpares look i.parent (suc (suc i.index))
-      low-after j held there counted low = two-after (low-at look p (suc sib.index) j.right held (after-of j there).right counted low)
+      pub low-after : (j : Siblings) (held : ℕ) → after ≡ Some j → HasCount node_at j.right held → held ≤ 3 → NoneSpares node_at i.parent (suc (suc i.index))
+      low-after j held there counted low = two-after (low-at node_at p (suc sib.index) j.right held (after-of j there).right counted low)
 
     first-from : before ≡ None → (n : ℕ) → sib.index ≡ n → n ≡ 0
     first-from none zero e = refl
@@ -322,16 +322,16 @@ module _ {A : Type 0} (look : Look A) (id p : ℕ) (a : Address) (s : IsFollowed
     first-child none = first-from none sib.index refl
 
     -- which step it is with the sibling on the right
-    module _ (j : Siblings) (held : ℕ) (there : after ≡ Some j) (counted : HasCount look j.right held) (new : Look A) where
-      pub right-borrows : 3 < held → LendsLeft look new j → Borrows look new p id
-      right-borrows many step = let e = counted-in look j.right held counted in
-          as-after j there (Borrows look new) (from_right j.index j.right (self-at j there) (after-at j there, omega arith) step)
+    module _ (j : Siblings) (held : ℕ) (there : after ≡ Some j) (counted : HasCount node_at j.right held) (new : NodeMap A) where
+      pub right-borrows : 3 < held → RotatesSiblingsLeft node_at new j → BorrowsFromSibling node_at new p id
+      right-borrows many step = let e = counted-in node_at j.right held counted in
+          as-after j there (BorrowsFromSibling node_at new) (from_right j.index j.right (self-at j there) (after-at j there, omega arith) step)
 
-      pub right-joins : held ≤ 3 → before ≡ None → BecomeMerged look new j → Joins look new p id
-      right-joins low first step =
+      pub right-merges : held ≤ 3 → before ≡ None → MergesSiblings node_at new j → MergesWithSibling node_at new p id
+      right-merges low first step =
           let z : j.index ≡ 0 = (after-of j there).index ∙ first-child first in
-          let right : child_at look j.parent 1 ≡ Some j.right = subst (λ k. child_at look j.parent (suc k) ≡ Some j.right) z (after-at j there) in
-          as-after j there (Joins look new)
-          (with_right j.right (subst (λ k. child_at look j.parent k ≡ Some j.left) z (self-at j there)) right
-          (low-at look j.parent 1 j.right held right counted low)
-          (subst (λ k. Merges look new j.parent k j.left j.right) z step))
+          let right : child_at node_at j.parent 1 ≡ Some j.right = subst (λ k. child_at node_at j.parent (suc k) ≡ Some j.right) z (after-at j there) in
+          as-after j there (MergesWithSibling node_at new)
+          (with_right j.right (subst (λ k. child_at node_at j.parent k ≡ Some j.left) z (self-at j there)) right
+          (low-at node_at j.parent 1 j.right held right counted low)
+          (subst (λ k. Merges node_at new j.parent k j.left j.right) z step))

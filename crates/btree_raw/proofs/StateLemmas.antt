@@ -9,9 +9,9 @@ use Rattle.btree_view.specs.Edits.{with_parent, with_item}
 use Rattle.btree_view.specs.Kept.{kept_parent}
 use Rattle.btree_view.specs.View.{View}
 use Rattle.btree_shape.specs.TreeState.{TreeState, KeepsRest, views}
-use Rattle.btree_shape.proofs.Moves.{other-test}
-use Rattle.btree_shape.proofs.Numbers.{used-one}
-use Rattle.btree_shape.proofs.Stores.{most-few, puts, used-view}
+use Rattle.btree_shape.proofs.Places.Untouched.{other-test}
+use Rattle.btree_shape.proofs.Trees.Numbers.{used-one}
+use Rattle.btree_shape.proofs.Trees.Stores.{most-few, writes_node, used-view}
 use Rattle.btree_raw.specs.Steps.{AddsItem, CanTake, SetsParent}
 
 module _ {K V : Type 0} where

@@ -6,19 +6,19 @@ use Rattle.btree_item.specs.Offset.{index_offset}
 use Rattle.btree_node.specs.declared.node.Node.{Node}
 use Rattle.btree_view.specs.Edits.{HasChildFor, IsOverflowing, IsSplit}
 use Rattle.btree_node.specs.Node.{view_of}
-use Rattle.btree_view.specs.View.{size_of, most_of, View, Look}
+use Rattle.btree_view.specs.View.{size_of, most_of, View, NodeMap}
 use Rattle.btree_shape.specs.TreeState.{views}
 use Rattle.btree_raw.specs.Steps.{CanTake, Overflows, Halves, HasCount}
-use Rattle.btree_shape.proofs.Moves.{other-test}
-use Rattle.btree_shape.proofs.Stores.{most-few, puts, view-at}
+use Rattle.btree_shape.proofs.Places.Untouched.{other-test}
+use Rattle.btree_shape.proofs.Trees.Stores.{most-few, writes_node, view-at}
 
 -- an index that is not too great is an offset
 index-small : (n index : ℕ) (o : Option ℕ) → index < 2 ^ 64 - 1 → index ≤ n → o ≡ index_offset index → IsSomeAnd o (λ i. i ≤ n)
 index-small n index o low within e = rw (e, other-test index (2 ^ 64 - 1) (omega arith)) within
 
 -- how many items stand in a node
-pub size-at : {A : Type 0} (look : Look A) (id count : ℕ) (v : View A) → look id ≡ Some v → HasCount look id count → size_of v ≡ count
-size-at look id count v e l = let q : Some (size_of v) ≡ Some count = sym (ap (option_map size_of) e) ∙ l in cc
+pub size-at : {A : Type 0} (node_at : NodeMap A) (id count : ℕ) (v : View A) → node_at id ≡ Some v → HasCount node_at id count → size_of v ≡ count
+size-at node_at id count v e l = let q : Some (size_of v) ≡ Some count = sym (ap (option_map size_of) e) ∙ l in cc
 
 module _ {K V : Type 0} where
   module _ (nodes : Content (Node K V)) (id : ℕ) (node : Node K V) (at : Some node ≡ map.get nodes id) where
@@ -38,5 +38,5 @@ module _ {K V : Type 0} where
       left = view_of left;
       counted = counted;
       parts = λ v here. rw (← view-at nodes id node v at here) parts;
-      puts = puts nodes new id left e;
+      writes_node = writes_node nodes new id left e;
     }

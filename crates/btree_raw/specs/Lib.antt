@@ -1,6 +1,6 @@
 pub mod Claimed
 pub mod Steps
 pub mod NodeSteps
-pub mod Shrink
+pub mod Underflow
 pub mod Raw
 pub mod Rebalance

@@ -1,24 +1,24 @@
 -- What the steps that mend a node with too few items ask of a store's nodes, and what each call leaves.
 use Rattle.std.specs.Prelude.{◌≡◌, ◌≢◌, ℕ, ◌+◌, ◌<◌, ◌≤◌, [], ◌∷◌, slice_get, Option, Some, None, IfSome, option_map, IsTrue}
-use Rattle.btree_view.specs.View.{View, Look, size_of, most_of, items_of, children_of}
+use Rattle.btree_view.specs.View.{View, NodeMap, size_of, most_of, items_of, children_of}
 use Rattle.btree_view.specs.Edits.{with_parent, with_other_item, without, joined, pushed_left, pushed_right, is_internal, HasChildFor, HaveRoom, HasSpare}
 use Rattle.btree_moved.specs.declared.siblings.Siblings.{Siblings}
 use Rattle.btree_shape.specs.Lists.{times_listed}
-use Rattle.btree_shape.specs.Mend.{Merges, RotatesLeft, RotatesRight}
-use Rattle.btree_shape.specs.Step.{Becomes, Puts}
+use Rattle.btree_shape.specs.SiblingSteps.{Merges, RotatesLeft, RotatesRight}
+use Rattle.btree_shape.specs.Step.{Becomes, WritesNode}
 use Rattle.btree_shape.specs.WellFormed.{times_used}
 
-module _ {A : Type 0} (look : Look A) where
+module _ {A : Type 0} (node_at : NodeMap A) where
   -- node `id` has an item to spare
-  pub record CanLend (id : ℕ) : Type 0 where
+  pub record CanGiveItem (id : ℕ) : Type 0 where
     pub node : View A
-    pub here : look id ≡ Some node
+    pub here : node_at id ≡ Some node
     pub spare : HasSpare node
 
   -- node `id` is an internal node with an item at the index, and with no item too many
-  pub record HasBetween (id index : ℕ) : Type 0 where
+  pub record HasSeparator (id index : ℕ) : Type 0 where
     pub node : View A
-    pub here : look id ≡ Some node
+    pub here : node_at id ≡ Some node
     pub inner : IsTrue (is_internal node)
     pub most : size_of node ≤ most_of node
     pub within : index < size_of node
@@ -26,79 +26,79 @@ module _ {A : Type 0} (look : Look A) where
   -- node `id` has room for an item, and a child comes with it exactly if it is an internal node
   pub record HasRoomFor (id : ℕ) (child : Option ℕ) : Type 0 where
     pub node : View A
-    pub here : look id ≡ Some node
+    pub here : node_at id ≡ Some node
     pub room : size_of node ≤ most_of node
     pub kind : HasChildFor child node
 
   -- node `id` has room for an item and what another node of its kind holds
   pub record HasRoomForAll (id : ℕ) (other : View A) : Type 0 where
     pub node : View A
-    pub here : look id ≡ Some node
+    pub here : node_at id ≡ Some node
     pub kind : is_internal other ≡ is_internal node
     pub room : HaveRoom node other
 
-  module _ (new : Look A) where
+  module _ (new : NodeMap A) where
     -- the first item of node `id` was taken out, with the first child of an internal node; nothing else has changed
     pub record LosesFirst (id : ℕ) (x : A) (child : Option ℕ) : Type 0 where
       pub rest : View A
-      pub was : look id ≡ Some (pushed_left x child rest)
+      pub was : node_at id ≡ Some (pushed_left x child rest)
       pub kind : HasChildFor child rest
-      pub puts : Puts look new id rest
+      pub writes_node : WritesNode node_at new id rest
 
     -- the same of the last item and the last child
     pub record LosesLast (id : ℕ) (x : A) (child : Option ℕ) : Type 0 where
       pub rest : View A
-      pub was : look id ≡ Some (pushed_right x child rest)
+      pub was : node_at id ≡ Some (pushed_right x child rest)
       pub kind : HasChildFor child rest
-      pub puts : Puts look new id rest
+      pub writes_node : WritesNode node_at new id rest
 
     -- node `id` has another item at the index, where the old one stood; nothing else has changed
-    pub record ChangesItem (id index : ℕ) (old x : A) : Type 0 where
+    pub record ChangesSeparator (id index : ℕ) (old x : A) : Type 0 where
       pub node : View A
-      pub here : look id ≡ Some node
+      pub here : node_at id ≡ Some node
       pub was : slice_get (items_of node) index ≡ Some old
-      pub puts : Puts look new id (with_other_item index x node)
+      pub writes_node : WritesNode node_at new id (with_other_item index x node)
 
     -- node `id` has the item before the others, with the child; nothing else has changed
     pub record GainsFirst (id : ℕ) (x : A) (child : Option ℕ) : Type 0 where
       pub node : View A
-      pub here : look id ≡ Some node
-      pub puts : Puts look new id (pushed_left x child node)
+      pub here : node_at id ≡ Some node
+      pub writes_node : WritesNode node_at new id (pushed_left x child node)
 
     -- node `id` has the item behind the others, with the child; nothing else has changed
     pub record GainsLast (id : ℕ) (x : A) (child : Option ℕ) : Type 0 where
       pub node : View A
-      pub here : look id ≡ Some node
-      pub puts : Puts look new id (pushed_right x child node)
+      pub here : node_at id ≡ Some node
+      pub writes_node : WritesNode node_at new id (pushed_right x child node)
 
     -- node `id` has the item and then what the other node held behind the others; nothing else has changed
     pub record GainsAll (id : ℕ) (x : A) (other : View A) : Type 0 where
       pub node : View A
-      pub here : look id ≡ Some node
-      pub puts : Puts look new id (joined node x other)
+      pub here : node_at id ≡ Some node
+      pub writes_node : WritesNode node_at new id (joined node x other)
 
     -- node `id` was left without the item at an index and the child after it; nothing else has changed
-    pub record LosesBetween (id index : ℕ) (x : A) : Type 0 where
+    pub record LosesSeparator (id index : ℕ) (x : A) : Type 0 where
       pub node : View A
-      pub here : look id ≡ Some node
+      pub here : node_at id ≡ Some node
       pub was : slice_get (items_of node) index ≡ Some x
-      pub puts : Puts look new id (without index node)
+      pub writes_node : WritesNode node_at new id (without index node)
 
     -- the right sibling has lent an item to the left one
-    abbrev pub LendsLeft : Siblings → Type 0
-    LendsLeft siblings = RotatesLeft look new siblings.parent siblings.index siblings.left siblings.right
+    abbrev pub RotatesSiblingsLeft : Siblings → Type 0
+    RotatesSiblingsLeft siblings = RotatesLeft node_at new siblings.parent siblings.index siblings.left siblings.right
 
     -- the left sibling has lent an item to the right one
-    abbrev pub LendsRight : Siblings → Type 0
-    LendsRight siblings = RotatesRight look new siblings.parent siblings.index siblings.left siblings.right
+    abbrev pub RotatesSiblingsRight : Siblings → Type 0
+    RotatesSiblingsRight siblings = RotatesRight node_at new siblings.parent siblings.index siblings.left siblings.right
 
     -- the two siblings have become one node
-    abbrev pub BecomeMerged : Siblings → Type 0
-    BecomeMerged siblings = Merges look new siblings.parent siblings.index siblings.left siblings.right
+    abbrev pub MergesSiblings : Siblings → Type 0
+    MergesSiblings siblings = Merges node_at new siblings.parent siblings.index siblings.left siblings.right
 
     -- node `id` has no parent; nothing else has changed
     abbrev pub ClearsParent : (id : ℕ) → Type 0
-    ClearsParent id = Becomes look new id (option_map (with_parent None) (look id))
+    ClearsParent id = Becomes node_at new id (option_map (with_parent None) (node_at id))
 
   -- the two are children of their parent with its item at the index between them, of one kind; their children are there, and are other
   -- nodes
@@ -106,16 +106,16 @@ module _ {A : Type 0} (look : Look A) where
     pub top : View A
     pub low : View A
     pub high : View A
-    pub at_parent : look siblings.parent ≡ Some top
-    pub at_left : look siblings.left ≡ Some low
-    pub at_right : look siblings.right ≡ Some high
+    pub at_parent : node_at siblings.parent ≡ Some top
+    pub at_left : node_at siblings.left ≡ Some low
+    pub at_right : node_at siblings.right ≡ Some high
     pub inner : IsTrue (is_internal top)
     pub one_kind : is_internal low ≡ is_internal high
     pub within : siblings.index < size_of top
     pub most : size_of top ≤ most_of top
     pub apart : (siblings.left ≢ siblings.right) × (siblings.left ≢ siblings.parent) × (siblings.right ≢ siblings.parent)
     pub children : (n : ℕ) → 0 < times_listed n (children_of low) + times_listed n (children_of high)
-        → (0 < times_used (look n)) × (n ≢ siblings.parent) × (n ≢ siblings.left) × (n ≢ siblings.right)
+        → (0 < times_used (node_at n)) × (n ≢ siblings.parent) × (n ≢ siblings.left) × (n ≢ siblings.right)
 
   -- the right one has an item to spare, and the left one room for one
   pub record CanRotateLeft (siblings : Siblings) : Type 0 where
@@ -133,16 +133,16 @@ module _ {A : Type 0} (look : Look A) where
   pub record CanMerge (siblings : Siblings) : Type 0 where
     pub pair : AreSiblings siblings
     pub room : HaveRoom pair.low pair.high
-    pub own : (n : ℕ) → 0 < times_listed n (children_of pair.low) → option_map (with_parent (Some siblings.left)) (look n) ≡ look n
+    pub own : (n : ℕ) → 0 < times_listed n (children_of pair.low) → option_map (with_parent (Some siblings.left)) (node_at n) ≡ node_at n
 
   -- the node is there, if one is named
   abbrev pub IsThere : Option ℕ → Type 0
-  IsThere child = IfSome child (λ id. 0 < times_used (look id))
+  IsThere child = IfSome child (λ id. 0 < times_used (node_at id))
 
   -- node `root` has one child, which is another node
-  pub record CanRelease (root child : ℕ) : Type 0 where
+  pub record CanShrinkRoot (root child : ℕ) : Type 0 where
     pub node : View A
-    pub here : look root ≡ Some node
+    pub here : node_at root ≡ Some node
     pub only : children_of node ≡ child ∷ []
-    pub used : 0 < times_used (look child)
+    pub used : 0 < times_used (node_at child)
     pub apart : child ≢ root

@@ -6,9 +6,9 @@ use Rattle.btree_node.specs.declared.node.Node.{Node}
 use Rattle.btree_node.specs.Node.{view_of}
 use Rattle.btree_view.specs.View.{children_of}
 use Rattle.btree_shape.specs.Lists.{times_listed}
-use Rattle.btree_shape.specs.Step.{Adopts}
+use Rattle.btree_shape.specs.Step.{SetsParents}
 use Rattle.btree_shape.specs.Place.{IsWithin}
-use Rattle.btree_shape.specs.TreeState.{TreeState, KeepsRest, looks, views}
+use Rattle.btree_shape.specs.TreeState.{TreeState, KeepsRest, node_map, views}
 use Rattle.btree_item.specs.declared.address.Address.{Address}
 
 module _ {K V : Type 0} where
@@ -26,10 +26,10 @@ module _ {K V : Type 0} where
 
   -- the address is in a node, from -1 to the number of its items
   abbrev pub IsWithinNode : TreeState K V → Address → Type 0
-  IsWithinNode s a = IsWithin (looks s) (looks s a.id) a.offset
+  IsWithinNode s a = IsWithin (node_map s) (node_map s a.id) a.offset
 
   -- a node is there under a number that was not used, and its children name it as their parent; nothing else has changed
   pub record GainsNode (old new : TreeState K V) (id : ℕ) (node : Node K V) : Type 0 where
     pub vacant : map.get old.nodes id ≡ None
-    pub adopted : Adopts (views (map.insert old.nodes id node)) (looks new) id (children_of (view_of node))
+    pub adopted : SetsParents (views (map.insert old.nodes id node)) (node_map new) id (children_of (view_of node))
     pub rest : KeepsRest old new

@@ -7,18 +7,18 @@ use Rattle.btree_item.specs.declared.address.Address.{Address}
 use Rattle.btree_item.specs.declared.refused.Cause.{Cause}
 use Rattle.btree_item.specs.declared.refused.Cause.TheVariants.{Store}
 use Rattle.btree_node.specs.declared.node.Node.{Node}
-use Rattle.btree_view.specs.View.{View, Look, most_of, size_of}
-use Rattle.btree_shape.specs.Mending.{IsMended}
-use Rattle.btree_shape.specs.Shrinking.{owed_by}
-use Rattle.btree_shape.specs.TreeState.{TreeState, HasLevels, HasStrain, IsBTreeButLength, IsPlaceIn, IsValidIn, item_of, looks, nodes_for_splits, pairs_of}
+use Rattle.btree_view.specs.View.{View, NodeMap, most_of, size_of}
+use Rattle.btree_shape.specs.UnderflowFix.{IsUnderflowFixed}
+use Rattle.btree_shape.specs.Focus.Underflow.{owed_by}
+use Rattle.btree_shape.specs.TreeState.{TreeState, HasLevels, HasStrain, IsBTreeButLength, IsPlaceIn, IsValidIn, item_of, node_map, nodes_for_splits, pairs_of}
 use Rattle.btree_raw.specs.Claimed.{EMPTY, MayRefuseOneOf}
 use Rattle.btree_raw.specs.Raw.{Refuses}
 use Rattle.btree_raw.specs.Steps.{Overflows}
 
 -- node `id` has no item too many
-pub record HasRoom {A : Type 0} (look : Look A) (id : ℕ) : Type 0 where
+pub record HasRoom {A : Type 0} (node_at : NodeMap A) (id : ℕ) : Type 0 where
   pub node : View A
-  pub here : look id ≡ Some node
+  pub here : node_at id ≡ Some node
   pub room : size_of node ≤ most_of node
 
 module _ {K V : Type 0} (old new : TreeState K V) (id : ℕ) where
@@ -37,7 +37,7 @@ module _ {K V : Type 0} (old new : TreeState K V) (id : ℕ) where
 
   -- the tree is well formed but for its length, with the same pairs; address a became b, of the same place, at the same item if one
   -- stood there; the nodes taken or given up are paid for by the strain; and where node `id` has no item too many, the steps are those
-  -- that `IsMended` tells, so that a tree in which it has enough is as it was
+  -- that `IsUnderflowFixed` tells, so that a tree in which it has enough is as it was
   pub record IsRebalanced (cmp : K → K → Ordering) (a b : Address) : Type 0 where
     pub well : IsBTreeButLength cmp new
     pub pairs : pairs_of new ≡ pairs_of old
@@ -47,18 +47,18 @@ module _ {K V : Type 0} (old new : TreeState K V) (id : ℕ) where
     pub place : (place : ℕ) → IsPlaceIn old a place → IsPlaceIn new b place
     pub item : (x : K × V) → item_of old a ≡ Some x → item_of new b ≡ Some x
     pub back : IsSome a.offset → IsSome b.offset
-    pub mended : HasRoom (looks old) id → (root : ℕ) → old.root ≡ Some root → IsMended (looks old) (looks new) root new.root id
+    pub fixed : HasRoom (node_map old) id → (root : ℕ) → old.root ≡ Some root → IsUnderflowFixed (node_map old) (node_map new) root new.root id
     pub before : ℕ
     pub after : ℕ
     pub strain_before : HasStrain old before
     pub strain_after : HasStrain new after
-    pub taken : Overflows (looks old) id → HasTaken before after
-    pub given : (room : HasRoom (looks old) id) → HasGiven room.node before after
+    pub taken : Overflows (node_map old) id → HasTaken before after
+    pub given : (room : HasRoom (node_map old) id) → HasGiven room.node before after
 
   -- the store refused, and counted it: only where node `id` has an item too many, and where the store may refuse one of the nodes that
   -- the splits take; nothing else has changed
   pub record IsRefusal (MayRefuse : Content (Node K V) → Type 0) (cause : Cause) : Type 0 where
     pub store : cause ≡ Store
     pub unchanged : Refuses old new
-    pub over : Overflows (looks old) id
+    pub over : Overflows (node_map old) id
     pub may : MayRefuseOneOf EMPTY MayRefuse old.nodes (nodes_for_splits old id)

@@ -2,18 +2,18 @@
 #![tactic(auto, using(btree_store::specs::ContentLaws::stores))]
 
 mod claims;
-mod demand;
-mod grow;
-mod lend;
-mod mend;
+mod count;
+mod overflow;
+mod borrow;
+mod rotate;
 mod nodes;
 mod raw;
 mod rebalance;
-mod shrink;
+mod underflow;
 
 pub use claims::{ClaimedIds, claim, claim_one};
-pub use demand::{climb, need};
-pub use grow::split_up;
+pub use count::{split_need, need};
+pub use overflow::split_upward;
 pub use nodes::{add_item, put};
 pub use raw::RawBTree;
-pub use shrink::mend_up;
+pub use underflow::fix_underflow_upward;

@@ -2,9 +2,9 @@
 ghost use Rattle.std.specs.Prelude.{◌<◌};
 ghost use Rattle.btree_node.specs.Node.{view_of};
 ghost use Rattle.btree_view.specs.View.{children_in};
-ghost use Rattle.btree_shape.specs.Step.{Adopts, Puts};
-ghost use Rattle.btree_shape.specs.TreeState.{Changes, IsUsed, looks};
-ghost use Rattle.btree_raw.specs.Steps.{CanAdopt, CanTake, Overflows, SetsParent, AddsItem, Halves};
+ghost use Rattle.btree_shape.specs.Step.{SetsParents, WritesNode};
+ghost use Rattle.btree_shape.specs.TreeState.{Changes, IsUsed, node_map};
+ghost use Rattle.btree_raw.specs.Steps.{CanSetParents, CanTake, Overflows, SetsParent, AddsItem, Halves};
 
 use crate::raw::RawBTree;
 use btree_item::{Item, Offset};
@@ -19,7 +19,7 @@ pub fn put<K: Drop, V: Drop, C: NodesMut<K, V>>(
     node: Node<K, V>,
 )
     requires { IsUsed tree.old id }
-    ensures { Changes (λ a b. Puts a b id (view_of node)) tree.old tree.new }
+    ensures { Changes (λ a b. WritesNode a b id (view_of node)) tree.old tree.new }
 {
     drop(mem::replace(tree.node_mut(id), node));
 }
@@ -46,7 +46,7 @@ pub fn add_item<K: Drop, V: Drop, C: NodesMut<K, V>>(
     item: Item<K, V>,
     child: Option<usize>,
 )
-    requires { CanTake (looks tree.old) id index child }
+    requires { CanTake (node_map tree.old) id index child }
     ensures { Changes (λ a b. AddsItem a b id index item child) tree.old tree.new }
 {
     tree.tell_fits();
@@ -58,7 +58,7 @@ pub(crate) fn split_node<K: Drop, V: Drop, C: NodesMut<K, V>>(
     tree: &mut RawBTree<K, V, C>,
     id: usize,
 ) -> (usize, Item<K, V>, Node<K, V>)
-    requires { Overflows (looks tree.old) id }
+    requires { Overflows (node_map tree.old) id }
     ensures { Changes (λ a b. Halves a b id result.0 result.1 (view_of result.2)) tree.old tree.new }
 {
     tree.tell_fits();
@@ -66,9 +66,9 @@ pub(crate) fn split_node<K: Drop, V: Drop, C: NodesMut<K, V>>(
 }
 
 // Makes a node the parent of its children.
-pub(crate) fn adopt<K, V, C: NodesMut<K, V>>(tree: &mut RawBTree<K, V, C>, id: usize)
-    requires { CanAdopt (looks tree.old) id }
-    ensures { Changes (λ a b. Adopts a b id (children_in (looks tree.old id))) tree.old tree.new }
+pub(crate) fn set_parents<K, V, C: NodesMut<K, V>>(tree: &mut RawBTree<K, V, C>, id: usize)
+    requires { CanSetParents (node_map tree.old) id }
+    ensures { Changes (λ a b. SetsParents a b id (children_in (node_map tree.old id))) tree.old tree.new }
 {
     tree.tell_fits();
     let count = tree.node(id).child_count();

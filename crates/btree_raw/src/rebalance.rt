@@ -1,14 +1,14 @@
 //! Rebalancing a tree that is off by one at a node.
 ghost use Rattle.std.specs.Prelude.{IfOk, IfErr};
-ghost use Rattle.btree_shape.specs.TreeState.{IsOff, IsValidIn, looks};
+ghost use Rattle.btree_shape.specs.TreeState.{IsOff, IsValidIn, node_map};
 ghost use Rattle.btree_raw.specs.Steps.{Overflows};
 ghost use Rattle.btree_raw.specs.Rebalance.{HasRoom, IsRebalanced, IsRefusal};
 
 use crate::claims::{ClaimedIds, claim};
-use crate::demand::climb;
-use crate::grow::split_up;
+use crate::count::split_need;
+use crate::overflow::split_upward;
 use crate::raw::RawBTree;
-use crate::shrink::mend_up;
+use crate::underflow::fix_underflow_upward;
 use btree_item::{Address, Cause};
 use btree_nodes::NodesMut;
 
@@ -20,16 +20,16 @@ fn rebalance_over<K: Ord + Drop, V: Drop, C: NodesMut<K, V>>(
 ) -> Result<Address, Cause>
     requires odd { IsOff K.cmp tree.old id }
     requires valid { IsValidIn tree.old addr }
-    requires over { Overflows (looks tree.old) id }
+    requires over { Overflows (node_map tree.old) id }
     ensures rebalanced { IfOk result (λ b. IsRebalanced tree.old tree.new id K.cmp addr b) }
     ensures refused { IfErr result (λ cause. IsRefusal tree.old tree.new id C.MayRefuse cause) }
 {
-    let count = climb(tree, id);
+    let count = split_need(tree, id);
     let mut claims = ClaimedIds::new();
     if !claim(tree, count, &mut claims) {
         return Err(Cause::Store);
     }
-    Ok(split_up(tree, id, addr, &mut claims))
+    Ok(split_upward(tree, id, addr, &mut claims))
 }
 
 // Mends from a node without an item too many upward.
@@ -40,10 +40,10 @@ fn rebalance_under<K: Ord + Drop, V: Drop, C: NodesMut<K, V>>(
 ) -> Address
     requires odd { IsOff K.cmp tree.old id }
     requires valid { IsValidIn tree.old addr }
-    requires room { HasRoom (looks tree.old) id }
+    requires room { HasRoom (node_map tree.old) id }
     ensures { IsRebalanced tree.old tree.new id K.cmp addr result }
 {
-    mend_up(tree, id, addr)
+    fix_underflow_upward(tree, id, addr)
 }
 
 impl<K: Ord + Drop, V: Drop, C: NodesMut<K, V>> RawBTree<K, V, C> {

@@ -8,7 +8,7 @@ use Rattle.btree_store.specs.Content.{Content}
 use Rattle.btree_internal.specs.Internal.{Internal as InternalParts, branch_pair}
 use Rattle.btree_leaf.specs.Leaf.{Leaf as LeafParts}
 use Rattle.btree_node.specs.Node.{view_of}
-use Rattle.btree_view.specs.View.{Look}
+use Rattle.btree_view.specs.View.{NodeMap}
 use Rattle.btree_internal.specs.declared.internal.Branch.{Branch}
 use Rattle.btree_node.specs.declared.node.Node.{Node}
 use Rattle.btree_node.specs.declared.node.Node.TheVariants.{Leaf, Internal}
@@ -89,25 +89,25 @@ join-behind (text ∷ []) = sym (append-nil text)
 join-behind (text ∷ next ∷ texts) = ap (λ t. text ++ (32 ∷ t)) (join-behind (next ∷ texts))
 
 -- what is printed for the branches of a node
-abbrev pub branches_text : Look (ℕ × ℕ) → (levels : ℕ) → List (Branch ℕ ℕ) → List ℕ
-branches_text look levels [] = []
-branches_text look levels (b ∷ bs) = ((32 ∷ []) ++ decimal b.item.0 ++ 32 ∷ []) ++ (shape_under look levels b.child ++ branches_text look levels bs)
+abbrev pub branches_text : NodeMap (ℕ × ℕ) → (levels : ℕ) → List (Branch ℕ ℕ) → List ℕ
+branches_text node_at levels [] = []
+branches_text node_at levels (b ∷ bs) = ((32 ∷ []) ++ decimal b.item.0 ++ 32 ∷ []) ++ (shape_under node_at levels b.child ++ branches_text node_at levels bs)
 
 between : (key rest : List ℕ) → key ++ 32 ∷ rest ≡ (key ++ 32 ∷ []) ++ rest
 between key rest = sym (append_assoc key (32 ∷ []) rest)
 
-pub join-branches : (look : Look (ℕ × ℕ)) (levels : ℕ) (first : List ℕ) (bs : List (Branch ℕ ℕ)) →
-    join_with_byte 32 (first ∷ flat_map (λ b. decimal b.0.0 ∷ shape_under look levels b.1 ∷ []) (map branch_pair bs)) ≡ first ++ branches_text look levels bs
-join-branches look levels first [] = sym (append-nil first)
-join-branches look levels first (b ∷ bs) =
-    ap (λ t. first ++ (32 ∷ (decimal b.item.0 ++ (32 ∷ t)))) (join-branches look levels (shape_under look levels b.child) bs)
-    ∙ ap (λ t. first ++ (32 ∷ t)) (between (decimal b.item.0) (shape_under look levels b.child ++ branches_text look levels bs))
+pub join-branches : (node_at : NodeMap (ℕ × ℕ)) (levels : ℕ) (first : List ℕ) (bs : List (Branch ℕ ℕ)) →
+    join_with_byte 32 (first ∷ flat_map (λ b. decimal b.0.0 ∷ shape_under node_at levels b.1 ∷ []) (map branch_pair bs)) ≡ first ++ branches_text node_at levels bs
+join-branches node_at levels first [] = sym (append-nil first)
+join-branches node_at levels first (b ∷ bs) =
+    ap (λ t. first ++ (32 ∷ (decimal b.item.0 ++ (32 ∷ t)))) (join-branches node_at levels (shape_under node_at levels b.child) bs)
+    ∙ ap (λ t. first ++ (32 ∷ t)) (between (decimal b.item.0) (shape_under node_at levels b.child ++ branches_text node_at levels bs))
 
 -- the shape under a node by its levels
-shape_under-suc : (look : Look (ℕ × ℕ)) (levels id : ℕ) → 0 < levels → shape_under look levels id ≡ shape_in (shape_under look (levels - 1)) (look id)
-shape_under-suc look zero id some = absurd (omega arith)
-shape_under-suc look (suc levels) id some =
-    let less : levels ≡ suc levels - 1 = omega arith in ap (λ n. shape_in (shape_under look n) (look id)) less
+shape_under-suc : (node_at : NodeMap (ℕ × ℕ)) (levels id : ℕ) → 0 < levels → shape_under node_at levels id ≡ shape_in (shape_under node_at (levels - 1)) (node_at id)
+shape_under-suc node_at zero id some = absurd (omega arith)
+shape_under-suc node_at (suc levels) id some =
+    let less : levels ≡ suc levels - 1 = omega arith in ap (λ n. shape_in (shape_under node_at n) (node_at id)) less
 
 module _ (nodes : Content (Node ℕ ℕ)) (levels id : ℕ) where
   pub no_levels : levels ≡ 0 → shape_under (views nodes) levels id ≡ []
@@ -157,23 +157,23 @@ list_open before left pairs first same some =
       as_joined (pair ∷ pairs) some = join-behind (map pair_text (pair ∷ pairs))
 
 -- the branches of a node, one after another
-module _ (look : Look (ℕ × ℕ)) (levels : ℕ) (start : List ℕ) (whole : List ℕ) (tail : List ℕ) where
+module _ (node_at : NodeMap (ℕ × ℕ)) (levels : ℕ) (start : List ℕ) (whole : List ℕ) (tail : List ℕ) where
   -- the key of the next branch is put, with a space on either side
-  pub key_put : (now new : List ℕ) (left bs : List (Branch ℕ ℕ)) (b : Branch ℕ ℕ) (key : ℕ) → Printed start now (branches_text look levels left ++ tail) whole
+  pub key_put : (now new : List ℕ) (left bs : List (Branch ℕ ℕ)) (b : Branch ℕ ℕ) (key : ℕ) → Printed start now (branches_text node_at levels left ++ tail) whole
       → left ≡ b ∷ bs → key ≡ b.item.0 → new ≡ now ++ ((32 ∷ []) ++ decimal key ++ 32 ∷ [])
-      → Printed start new ((shape_under look levels b.child ++ branches_text look levels bs) ++ tail) whole
+      → Printed start new ((shape_under node_at levels b.child ++ branches_text node_at levels bs) ++ tail) whole
   key_put now new left bs b key so_far is_next is_key is_new =
       next_piece start now new _ whole ((32 ∷ []) ++ decimal key ++ 32 ∷ []) _ so_far
-      (ap (λ l. branches_text look levels l ++ tail) is_next
-      ∙ append_assoc ((32 ∷ []) ++ decimal b.item.0 ++ 32 ∷ []) (shape_under look levels b.child ++ branches_text look levels bs) tail
-      ∙ ap (λ k. ((32 ∷ []) ++ decimal k ++ 32 ∷ []) ++ ((shape_under look levels b.child ++ branches_text look levels bs) ++ tail)) (sym is_key))
+      (ap (λ l. branches_text node_at levels l ++ tail) is_next
+      ∙ append_assoc ((32 ∷ []) ++ decimal b.item.0 ++ 32 ∷ []) (shape_under node_at levels b.child ++ branches_text node_at levels bs) tail
+      ∙ ap (λ k. ((32 ∷ []) ++ decimal k ++ 32 ∷ []) ++ ((shape_under node_at levels b.child ++ branches_text node_at levels bs) ++ tail)) (sym is_key))
       is_new
 
   -- a child is put
-  pub child_put : (now new : List ℕ) (child : ℕ) (bs : List (Branch ℕ ℕ)) → Printed start now ((shape_under look levels child ++ branches_text look levels bs) ++ tail) whole
-      → new ≡ now ++ shape_under look levels child → Printed start new (branches_text look levels bs ++ tail) whole
+  pub child_put : (now new : List ℕ) (child : ℕ) (bs : List (Branch ℕ ℕ)) → Printed start now ((shape_under node_at levels child ++ branches_text node_at levels bs) ++ tail) whole
+      → new ≡ now ++ shape_under node_at levels child → Printed start new (branches_text node_at levels bs ++ tail) whole
   child_put now new child bs so_far is_new =
-      next_piece start now new _ whole (shape_under look levels child) _ so_far (append_assoc (shape_under look levels child) (branches_text look levels bs) tail) is_new
+      next_piece start now new _ whole (shape_under node_at levels child) _ so_far (append_assoc (shape_under node_at levels child) (branches_text node_at levels bs) tail) is_new
 
 -- the bracket before the first child
 pub internal_open : (nodes : Content (Node ℕ ℕ)) (levels id : ℕ) (node : InternalParts ℕ ℕ) (bs left : List (Branch ℕ ℕ)) (child : ℕ) (start now : List ℕ) → 0 < levels

@@ -3,8 +3,8 @@ use Rattle.std.specs.Prelude.{◌≡◌, ℕ, zero, suc, List, [], ◌∷◌, �
 use Rattle.std.specs.FinMap as finite
 use Rattle.std.specs.Fmt.{decimal}
 use Rattle.std.specs.List.{flat_map, join_with_byte, AllByRecursion}
-use Rattle.btree_view.specs.View.{View, leaf, internal, Look}
-use Rattle.btree_shape.specs.TreeState.{TreeState, looks, pairs_of}
+use Rattle.btree_view.specs.View.{View, leaf, internal, NodeMap}
+use Rattle.btree_shape.specs.TreeState.{TreeState, node_map, pairs_of}
 use Rattle.btree_session.specs.declared.question.Question.{Question}
 use Rattle.btree_session.specs.declared.question.Question.TheVariants as questions
 use Rattle.btree_session.specs.Text.{Pushes, as_line}
@@ -28,27 +28,27 @@ leaf_text items = bracketed (map (λ pair. decimal pair.0) items)
 
 -- Node `id`, `height` levels above the leaves, is written so with all below it: a leaf as its keys; an internal node as its
 -- first child, and then each key and the child after it.
-abbrev pub IsWritten : Look (ℕ × ℕ) → (height : ℕ) → (id : ℕ) → List ℕ → Type 0
-IsWritten look zero id text =
-    (parent : Option ℕ) × (items : List (ℕ × ℕ)) × (look id ≡ Some (leaf parent items)) × (text ≡ leaf_text items)
-IsWritten look (suc height) id text =
+abbrev pub IsWritten : NodeMap (ℕ × ℕ) → (height : ℕ) → (id : ℕ) → List ℕ → Type 0
+IsWritten node_at zero id text =
+    (parent : Option ℕ) × (items : List (ℕ × ℕ)) × (node_at id ≡ Some (leaf parent items)) × (text ≡ leaf_text items)
+IsWritten node_at (suc height) id text =
     (parent : Option ℕ) × (first : ℕ) × (front : List ℕ) × (rest : List ((ℕ × ℕ) × ℕ × List ℕ))
-    × (look id ≡ Some (internal parent first (map (λ r. (r.0, r.1)) rest)))
-    × IsWritten look height first front
-    × AllByRecursion (λ r. IsWritten look height r.1 r.2) rest
+    × (node_at id ≡ Some (internal parent first (map (λ r. (r.0, r.1)) rest)))
+    × IsWritten node_at height first front
+    × AllByRecursion (λ r. IsWritten node_at height r.1 r.2) rest
     × (text ≡ bracketed (front ∷ flat_map (λ r. decimal r.0.0 ∷ r.2 ∷ []) rest))
 
 -- a tree is written as its root, whatever its height, and one without pairs as two brackets
-abbrev pub IsShapeOf : Look (ℕ × ℕ) → (root : Option ℕ) → List ℕ → Type 0
-IsShapeOf look None text = text ≡ codes "()"
-IsShapeOf look (Some root) text = (height : ℕ) × IsWritten look height root text
+abbrev pub IsShapeOf : NodeMap (ℕ × ℕ) → (root : Option ℕ) → List ℕ → Type 0
+IsShapeOf node_at None text = text ≡ codes "()"
+IsShapeOf node_at (Some root) text = (height : ℕ) × IsWritten node_at height root text
 
 -- the answer to a question about a map
 abbrev pub IsAnswer : TreeState ℕ ℕ → Question → List ℕ → Type 0
 IsAnswer m questions.List text = text ≡ list_text (pairs_of m)
 IsAnswer m questions.Len text = text ≡ decimal (length (pairs_of m))
 IsAnswer m questions.Nodes text = text ≡ decimal (finite.len m.nodes)
-IsAnswer m questions.Shape text = IsShapeOf (looks m) m.root text
+IsAnswer m questions.Shape text = IsShapeOf (node_map m) m.root text
 
 -- the answer to a question was put behind a text, on a line of its own
 abbrev pub Answers : {Z : Type 0} → TreeState ℕ ℕ → Question → (text more : Vec ℕ Z) → Type 0
@@ -64,18 +64,18 @@ shape_in below (Some (internal parent first branches)) =
     bracketed (below first ∷ flat_map (λ b. decimal b.0.0 ∷ below b.1 ∷ []) branches)
 
 -- the text of a node and of those below it, by at most so many levels
-abbrev pub shape_under : Look (ℕ × ℕ) → (levels : ℕ) → (id : ℕ) → List ℕ
-shape_under look zero id = []
-shape_under look (suc levels) id = shape_in (shape_under look levels) (look id)
+abbrev pub shape_under : NodeMap (ℕ × ℕ) → (levels : ℕ) → (id : ℕ) → List ℕ
+shape_under node_at zero id = []
+shape_under node_at (suc levels) id = shape_in (shape_under node_at levels) (node_at id)
 
 -- the text of a tree's nodes; a tree has at most as many levels as pairs
-abbrev pub shape_text : Look (ℕ × ℕ) → (root : Option ℕ) → (len : ℕ) → List ℕ
-shape_text look None len = codes "()"
-shape_text look (Some root) len = shape_under look len root
+abbrev pub shape_text : NodeMap (ℕ × ℕ) → (root : Option ℕ) → (len : ℕ) → List ℕ
+shape_text node_at None len = codes "()"
+shape_text node_at (Some root) len = shape_under node_at len root
 
 -- the text of the answer to a question
 abbrev pub answer_text : TreeState ℕ ℕ → Question → List ℕ
 answer_text m questions.List = list_text (pairs_of m)
 answer_text m questions.Len = decimal (length (pairs_of m))
 answer_text m questions.Nodes = decimal (finite.len m.nodes)
-answer_text m questions.Shape = shape_text (looks m) m.root m.len
+answer_text m questions.Shape = shape_text (node_map m) m.root m.len

@@ -7,7 +7,7 @@ use Rattle.btree_item.specs.declared.refused.Cause.TheVariants.{Store, Count}
 use Rattle.btree_store.specs.Content.{Content}
 use Rattle.btree_node.specs.declared.node.Node.{Node}
 use Rattle.btree_shape.specs.TreeState.{TreeState, IsBTree, pairs_of}
-use Rattle.btree_edit.specs.Insert.{IsRefusedAtGap, Took}
+use Rattle.btree_edit.specs.Insert.{IsRefusedAtGap, InsertsByKey}
 use Rattle.btree_session.specs.declared.command.Command.{Command}
 use Rattle.btree_session.specs.declared.command.Command.TheVariants.{Insert, Get}
 use Rattle.btree_session.specs.declared.command.Reply.{Reply}
@@ -57,8 +57,8 @@ module _ (MayRefuse : Content (Node ℕ ℕ) → Type 0) where
   -- and it comes only where the store may refuse one of those that are needed, or at the greatest count.
   abbrev pub Handles : (old : TreeState ℕ ℕ) → Command → Reply → (new : TreeState ℕ ℕ) → Type 0
   Handles old (Get key) reply new = new ≡ old
-  Handles old (Insert key value) Nothing new = Took nat_cmp key old new value
-  Handles old (Insert key value) (Value was) new = Took nat_cmp key old new value
+  Handles old (Insert key value) Nothing new = InsertsByKey nat_cmp key old new value
+  Handles old (Insert key value) (Value was) new = InsertsByKey nat_cmp key old new value
   Handles old (Insert key value) (Refused cause) new = IsRefusedAtGap nat_cmp key old new MayRefuse cause
 
   -- From old, the session may give this reply to the command and go on to new: a step of the machine, to a well formed tree.

@@ -1,6 +1,6 @@
 //! Questions about a session's map, and their answers as text.
 ghost use Rattle.std.specs.Prelude.{OnOk, OnErr};
-ghost use Rattle.btree_shape.specs.TreeState.{looks, pairs_of};
+ghost use Rattle.btree_shape.specs.TreeState.{node_map, pairs_of};
 ghost use Rattle.btree_session.specs.Answer.{Answers, IsAnswer, list_text, leaf_text, shape_under, answer_text};
 ghost use Rattle.btree_session.specs.Text.{Grows, Pushes};
 
@@ -85,7 +85,7 @@ fn push_shape<C: NodesMut<u64, u64>>(
     id: usize,
     text: &mut Vec<u8>,
 ) -> Result<(), AllocError>
-    ensures put { OnOk result (Pushes text.old text.new (shape_under (looks map.now) levels id)) }
+    ensures put { OnOk result (Pushes text.old text.new (shape_under (node_map map.now) levels id)) }
     ensures kept { OnErr result (Grows text.old.items text.new.items) }
 {
     if levels == 0 || !map.has_node(id) {

@@ -1,29 +1,29 @@
 -- Laws of the lists of addresses of a tree.
 use Rattle.std.specs.Prelude.{◌≡◌, ℕ, suc, ◌+◌, ◌<◌, ◌≤◌, List, [], length, slice_get, Option, Some, None}
 use Rattle.btree_item.specs.declared.address.Address.{Address}
-use Rattle.btree_view.specs.View.{Look, View, size_of}
+use Rattle.btree_view.specs.View.{NodeMap, View, size_of}
 use Rattle.btree_shape.specs.Place.{IsWithin, IsValid, IsOccupied, IsBack, IsLeafAddress, IsPlace, item_at}
-use Rattle.btree_shape.specs.Spells.{numbers_under}
+use Rattle.btree_shape.specs.Represents.{numbers_under}
 use Rattle.btree_shape.specs.WellFormed.{IsRooted, times_used}
 use Rattle.btree_shape.specs.Lists.{times_listed}
 
-module _ {A : Type 0} (look : Look A) where
+module _ {A : Type 0} (node_at : NodeMap A) where
   -- the nodes are one tree of at most so many levels, whatever their numbers of items, and each of its addresses has one place
   pub record IsPlaced (levels root : ℕ) (xs : List A) : Type 0 where
-    pub rooted : IsRooted (λ id node. Unit {0}) look root xs
+    pub rooted : IsRooted (λ id node. Unit {0}) node_at root xs
     pub low : rooted.height < levels
-    pub one : (id : ℕ) (offset : Option ℕ) (p q : ℕ) → IsPlace look (Some root) xs id offset p
-        → IsPlace look (Some root) xs id offset q → p ≡ q
+    pub one : (id : ℕ) (offset : Option ℕ) (p q : ℕ) → IsPlace node_at (Some root) xs id offset p
+        → IsPlace node_at (Some root) xs id offset q → p ≡ q
 
   -- the same, or there are no nodes
   abbrev pub IsPlacedUnder : (levels : ℕ) → Option ℕ → List A → Type 0
-  IsPlacedUnder levels None xs = ((n : ℕ) → look n ≡ None) × (xs ≡ [])
+  IsPlacedUnder levels None xs = ((n : ℕ) → node_at n ≡ None) × (xs ≡ [])
   IsPlacedUnder levels (Some root) xs = IsPlaced levels root xs
 
   -- the numbers of the nodes, each once
   abbrev pub numbers_of : (levels : ℕ) (root : Option ℕ) (xs : List A) → IsPlacedUnder levels root xs → List ℕ
   numbers_of levels None xs p = []
-  numbers_of levels (Some root) xs p = numbers_under look p.rooted.height root
+  numbers_of levels (Some root) xs p = numbers_under node_at p.rooted.height root
 
   -- the offset is below the number of items, -1 included
   abbrev pub IsFront : Option (View A) → Option ℕ → Type 0
@@ -36,40 +36,40 @@ module _ {A : Type 0} (look : Look A) where
     pub record ListsItems : Type 0 where
       pub counted : length list ≡ length xs
       pub right : (place : ℕ) (a : Address) → slice_get list place ≡ Some a
-          → IsOccupied look a.id a.offset × IsPlace look root xs a.id a.offset place × (item_at look a ≡ slice_get xs place)
-      pub each : (place : ℕ) (a : Address) → IsOccupied look a.id a.offset → IsPlace look root xs a.id a.offset place
+          → IsOccupied node_at a.id a.offset × IsPlace node_at root xs a.id a.offset place × (item_at node_at a ≡ slice_get xs place)
+      pub each : (place : ℕ) (a : Address) → IsOccupied node_at a.id a.offset → IsPlace node_at root xs a.id a.offset place
           → slice_get list place ≡ Some a
 
     -- the list has the back addresses in leaves, each at the index that is its place; in an empty tree the address nowhere
     pub record ListsLeafBacks : Type 0 where
       pub counted : length list ≡ suc (length xs)
       pub right : (place : ℕ) (a : Address) → slice_get list place ≡ Some a
-          → IsValid look root a.id a.offset × IsLeafAddress look root a.id a.offset × IsBack look a.offset
-          × IsPlace look root xs a.id a.offset place
-      pub each : (place : ℕ) (a : Address) → IsValid look root a.id a.offset → IsLeafAddress look root a.id a.offset
-          → IsBack look a.offset → IsPlace look root xs a.id a.offset place → slice_get list place ≡ Some a
+          → IsValid node_at root a.id a.offset × IsLeafAddress node_at root a.id a.offset × IsBack node_at a.offset
+          × IsPlace node_at root xs a.id a.offset place
+      pub each : (place : ℕ) (a : Address) → IsValid node_at root a.id a.offset → IsLeafAddress node_at root a.id a.offset
+          → IsBack node_at a.offset → IsPlace node_at root xs a.id a.offset place → slice_get list place ≡ Some a
 
     -- no address is twice in the list, and their places never fall
     pub record IsInOrder : Type 0 where
       pub once : (i j : ℕ) (a : Address) → slice_get list i ≡ Some a → slice_get list j ≡ Some a → i ≡ j
       pub rising : (i j : ℕ) (a b : Address) (p q : ℕ) → i ≤ j → slice_get list i ≡ Some a → slice_get list j ≡ Some b
-          → IsPlace look root xs a.id a.offset p → IsPlace look root xs b.id b.offset q → p ≤ q
+          → IsPlace node_at root xs a.id a.offset p → IsPlace node_at root xs b.id b.offset q → p ≤ q
       pub placed : (i : ℕ) (a : Address) → slice_get list i ≡ Some a
-          → (place : ℕ) × IsPlace look root xs a.id a.offset place
+          → (place : ℕ) × IsPlace node_at root xs a.id a.offset place
 
     -- the list has the back addresses in nodes, in order; with the numbers of the nodes, there are as many as items and nodes
     pub record ListsBacks (numbers : List ℕ) : Type 0 where
-      pub used : (n : ℕ) → times_listed n numbers ≡ times_used (look n)
+      pub used : (n : ℕ) → times_listed n numbers ≡ times_used (node_at n)
       pub counted : length list ≡ length xs + length numbers
-      pub right : (i : ℕ) (a : Address) → slice_get list i ≡ Some a → IsWithin look (look a.id) a.offset × IsBack look a.offset
-      pub each : (a : Address) → IsWithin look (look a.id) a.offset → IsBack look a.offset
+      pub right : (i : ℕ) (a : Address) → slice_get list i ≡ Some a → IsWithin node_at (node_at a.id) a.offset × IsBack node_at a.offset
+      pub each : (a : Address) → IsWithin node_at (node_at a.id) a.offset → IsBack node_at a.offset
           → (i : ℕ) × (slice_get list i ≡ Some a)
       pub order : IsInOrder
 
     -- the list has the front addresses, in order; there are as many
     pub record ListsFronts (numbers : List ℕ) : Type 0 where
-      pub used : (n : ℕ) → times_listed n numbers ≡ times_used (look n)
+      pub used : (n : ℕ) → times_listed n numbers ≡ times_used (node_at n)
       pub counted : length list ≡ length xs + length numbers
-      pub right : (i : ℕ) (a : Address) → slice_get list i ≡ Some a → IsFront (look a.id) a.offset
-      pub each : (a : Address) → IsFront (look a.id) a.offset → (i : ℕ) × (slice_get list i ≡ Some a)
+      pub right : (i : ℕ) (a : Address) → slice_get list i ≡ Some a → IsFront (node_at a.id) a.offset
+      pub each : (a : Address) → IsFront (node_at a.id) a.offset → (i : ℕ) × (slice_get list i ≡ Some a)
       pub order : IsInOrder

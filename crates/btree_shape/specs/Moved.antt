@@ -4,7 +4,7 @@ use Rattle.std.specs.Prelude.{ℕ, zero, suc, ◌+◌, ◌-◌, ◌==◌, nat_lt
 use Rattle.btree_item.specs.declared.address.Address.{Address}
 use Rattle.btree_view.specs.View.{View, leaf, internal}
 use Rattle.btree_shape.specs.Place.{NOWHERE}
-use Rattle.btree_shape.specs.Tour.{lead, slot}
+use Rattle.btree_shape.specs.Focus.Positions.{address_before, address_at}
 
 -- by whether n is below, equal to or above m
 abbrev pub by_order : {X : Type 0} → (n m : ℕ) → (below equal above : X) → X
@@ -13,14 +13,14 @@ by_order n m below equal above = if nat_lt n m then below else (if n == m then e
 -- in the split node, of which `kept` items stay: those stay where they are, the median goes up between the two parts,
 -- and what stands behind it is in the right part
 abbrev pub in_split : (left right parent index kept : ℕ) → Option ℕ → Address
-in_split left right parent index kept None = lead left
+in_split left right parent index kept None = address_before left
 in_split left right parent index kept (Some offset) =
-    by_order offset kept (slot left offset) (slot parent index) (slot right (offset - suc kept))
+    by_order offset kept (address_at left offset) (address_at parent index) (address_at right (offset - suc kept))
 
 -- in its parent, which has one item more
 abbrev pub over_split : (parent index : ℕ) → Option ℕ → Address
-over_split parent index None = lead parent
-over_split parent index (Some offset) = if nat_lt offset index then slot parent offset else slot parent (offset + 1)
+over_split parent index None = address_before parent
+over_split parent index (Some offset) = if nat_lt offset index then address_at parent offset else address_at parent (offset + 1)
 
 -- node `left`, child `index` of `parent`, is split, and its right part is node `right`: any other address stays
 abbrev pub moved_by_split : (left right parent index kept : ℕ) → Address → Address
@@ -34,49 +34,49 @@ moved_by_split left right parent index kept a =
 -- offset -1 of a node that has lost its first child is then that child's -1; of a leaf it is another address
 abbrev pub down_to : (child : Option ℕ) → (other : Address) → Address
 down_to None other = other
-down_to (Some child) other = lead child
+down_to (Some child) other = address_before child
 
 -- the address of the item between the two goes where that item goes, and the parent's others stay
 abbrev pub at_separator : (parent index : ℕ) → (to : Address) → Option ℕ → Address
-at_separator parent index to None = lead parent
-at_separator parent index to (Some offset) = if offset == index then to else slot parent offset
+at_separator parent index to None = address_before parent
+at_separator parent index to (Some offset) = if offset == index then to else address_at parent offset
 
 -- rotation to the left: the first item of `right` goes up to the parent, whose item goes to the end of `left`
-abbrev pub in_right_lender : (right parent index : ℕ) → (child : Option ℕ) → Option ℕ → Address
-in_right_lender right parent index child None = down_to child (slot parent index)
-in_right_lender right parent index child (Some zero) = slot parent index
-in_right_lender right parent index child (Some (suc offset)) = slot right offset
+abbrev pub in_right_giver : (right parent index : ℕ) → (child : Option ℕ) → Option ℕ → Address
+in_right_giver right parent index child None = down_to child (address_at parent index)
+in_right_giver right parent index child (Some zero) = address_at parent index
+in_right_giver right parent index child (Some (suc offset)) = address_at right offset
 
 abbrev pub moved_by_rotate_left : (left right parent index count : ℕ) → (child : Option ℕ) → Address → Address
 moved_by_rotate_left left right parent index count child a =
-    if a.id == right then in_right_lender right parent index child a.offset
-    else (if a.id == parent then at_separator parent index (slot left count) a.offset else a)
+    if a.id == right then in_right_giver right parent index child a.offset
+    else (if a.id == parent then at_separator parent index (address_at left count) a.offset else a)
 
 -- rotation to the right: the last item of `left` goes up to the parent, whose item goes to the front of `right`
-abbrev pub in_left_lender : (left right parent index count : ℕ) → Option ℕ → Address
-in_left_lender left right parent index count None = lead left
-in_left_lender left right parent index count (Some offset) =
-    by_order (suc offset) count (slot left offset) (slot parent index) (slot right 0)
+abbrev pub in_left_giver : (left right parent index count : ℕ) → Option ℕ → Address
+in_left_giver left right parent index count None = address_before left
+in_left_giver left right parent index count (Some offset) =
+    by_order (suc offset) count (address_at left offset) (address_at parent index) (address_at right 0)
 
-abbrev pub in_right_taker : (right : ℕ) → (child : Option ℕ) → Option ℕ → Address
-in_right_taker right child None = down_to child (slot right 1)
-in_right_taker right child (Some offset) = slot right (1 + offset)
+abbrev pub in_right_receiver : (right : ℕ) → (child : Option ℕ) → Option ℕ → Address
+in_right_receiver right child None = down_to child (address_at right 1)
+in_right_receiver right child (Some offset) = address_at right (1 + offset)
 
 abbrev pub moved_by_rotate_right : (left right parent index count : ℕ) → (child : Option ℕ) → Address → Address
 moved_by_rotate_right left right parent index count child a =
-    if a.id == left then in_left_lender left right parent index count a.offset
-    else (if a.id == right then in_right_taker right child a.offset
-    else (if a.id == parent then at_separator parent index (slot right 0) a.offset else a))
+    if a.id == left then in_left_giver left right parent index count a.offset
+    else (if a.id == right then in_right_receiver right child a.offset
+    else (if a.id == parent then at_separator parent index (address_at right 0) a.offset else a))
 
 -- merge: the item between the two goes to the end of `left`, and all of `right` behind it; the parent has one item less
 abbrev pub in_merged : (left count : ℕ) → (child : Option ℕ) → Option ℕ → Address
-in_merged left count child None = down_to child (slot left (suc count))
-in_merged left count child (Some offset) = slot left (suc count + offset)
+in_merged left count child None = down_to child (address_at left (suc count))
+in_merged left count child (Some offset) = address_at left (suc count + offset)
 
 abbrev pub over_merged : (left parent index count : ℕ) → Option ℕ → Address
-over_merged left parent index count None = lead parent
+over_merged left parent index count None = address_before parent
 over_merged left parent index count (Some offset) =
-    by_order offset index (slot parent offset) (slot left count) (slot parent (offset - 1))
+    by_order offset index (address_at parent offset) (address_at left count) (address_at parent (offset - 1))
 
 abbrev pub moved_by_merge : (left right parent index count : ℕ) → (child : Option ℕ) → Address → Address
 moved_by_merge left right parent index count child a =
@@ -84,12 +84,12 @@ moved_by_merge left right parent index count child a =
     else (if a.id == parent then over_merged left parent index count a.offset else a)
 
 -- release of an internal root without items: its only child, of `count` items, is then the root
-abbrev pub in_released : (child count : ℕ) → Option ℕ → Address
-in_released child count None = lead child
-in_released child count (Some offset) = slot child count
+abbrev pub in_shrunk_root : (child count : ℕ) → Option ℕ → Address
+in_shrunk_root child count None = address_before child
+in_shrunk_root child count (Some offset) = address_at child count
 
-abbrev pub moved_by_release : (root child count : ℕ) → Address → Address
-moved_by_release root child count a = if a.id == root then in_released child count a.offset else a
+abbrev pub moved_by_shrink_root : (root child count : ℕ) → Address → Address
+moved_by_shrink_root root child count a = if a.id == root then in_shrunk_root child count a.offset else a
 
 -- a root leaf without items is released: each of its addresses becomes nowhere
 abbrev pub moved_by_emptying : Address → Address
@@ -97,9 +97,9 @@ moved_by_emptying a = record { id = NOWHERE; offset = Some 0 }
 
 -- the item at an offset of a leaf is taken out: what stands behind it in that leaf moves up by one
 abbrev pub in_shortened : (leaf_id offset : ℕ) → Option ℕ → Address
-in_shortened leaf_id offset None = lead leaf_id
+in_shortened leaf_id offset None = address_before leaf_id
 in_shortened leaf_id offset (Some other) =
-    by_order other offset (slot leaf_id other) (slot leaf_id offset) (slot leaf_id (other - 1))
+    by_order other offset (address_at leaf_id other) (address_at leaf_id offset) (address_at leaf_id (other - 1))
 
 abbrev pub moved_by_take : (leaf_id offset : ℕ) → Address → Address
 moved_by_take leaf_id offset a = if a.id == leaf_id then in_shortened leaf_id offset a.offset else a

@@ -1,9 +1,9 @@
 -- How many nodes an insertion at a node takes, and how many levels stand above it: by the nodes as they are.
 use Rattle.std.specs.Prelude.{◌≡◌, ℕ, zero, suc, ◌+◌, ◌<◌, nat_lt, if◌then◌else◌, List, [], Option, Some, None}
-use Rattle.btree_view.specs.View.{View, Look, parent_of, size_of, most_of}
-use Rattle.btree_shape.specs.Shape.{Shape, most_at, count_at, id_of}
-use Rattle.btree_shape.specs.Way.{Above, top, under, frame_count, depth}
-use Rattle.btree_shape.specs.Whole.{Standing}
+use Rattle.btree_view.specs.View.{View, NodeMap, parent_of, size_of, most_of}
+use Rattle.btree_shape.specs.Focus.Shape.{Shape, most_at, count_at, id_of}
+use Rattle.btree_shape.specs.Focus.Path.{Path, top, under, frame_count, depth}
+use Rattle.btree_shape.specs.Focus.Focus.{IsUnsizedFocus}
 
 -- for a node that is split: its right part, and what its parent needs, or a new root
 abbrev pub need_of_split : (ℕ → ℕ) → (parent : Option ℕ) → ℕ
@@ -11,21 +11,21 @@ need_of_split above None = 2
 need_of_split above (Some parent) = suc (above parent)
 
 -- a node with room for an item takes it, any other is split
-abbrev pub climb_in : {A : Type 0} → (ℕ → ℕ) → Option (View A) → ℕ
-climb_in above None = 0
-climb_in above (Some node) = if nat_lt (size_of node) (most_of node) then 0 else need_of_split above (parent_of node)
+abbrev pub split_need_in : {A : Type 0} → (ℕ → ℕ) → Option (View A) → ℕ
+split_need_in above None = 0
+split_need_in above (Some node) = if nat_lt (size_of node) (most_of node) then 0 else need_of_split above (parent_of node)
 
 -- what the splits take that begin at node `id`, where it is full or has an item too many: the nodes from there upward
 -- without a gap that have at least as many items as they may, and one more where the last of them is the root, on at most
 -- so many levels
-abbrev pub climb : {A : Type 0} → Look A → (most : ℕ) → (id : ℕ) → ℕ
-climb look zero id = 0
-climb look (suc most) id = climb_in (climb look most) (look id)
+abbrev pub split_need : {A : Type 0} → NodeMap A → (most : ℕ) → (id : ℕ) → ℕ
+split_need node_at zero id = 0
+split_need node_at (suc most) id = split_need_in (split_need node_at most) (node_at id)
 
 -- what an insertion at node `id` takes in a tree of at most so many levels; an empty one takes its first node
-abbrev pub need : {A : Type 0} → Look A → (root : Option ℕ) → (most : ℕ) → (id : ℕ) → ℕ
-need look None most id = 1
-need look (Some root) most id = climb look most id
+abbrev pub need : {A : Type 0} → NodeMap A → (root : Option ℕ) → (most : ℕ) → (id : ℕ) → ℕ
+need node_at None most id = 1
+need node_at (Some root) most id = split_need node_at most id
 
 -- how many levels stand above a node, by the parents, at most so many
 abbrev pub levels_up : (ℕ → ℕ) → Option ℕ → ℕ
@@ -36,24 +36,24 @@ abbrev pub levels_over : {A : Type 0} → (ℕ → ℕ) → Option (View A) → 
 levels_over above None = 0
 levels_over above (Some node) = levels_up above (parent_of node)
 
-abbrev pub levels_above : {A : Type 0} → Look A → (most : ℕ) → (id : ℕ) → ℕ
-levels_above look zero id = 0
-levels_above look (suc most) id = levels_over (levels_above look most) (look id)
+abbrev pub levels_above : {A : Type 0} → NodeMap A → (most : ℕ) → (id : ℕ) → ℕ
+levels_above node_at zero id = 0
+levels_above node_at (suc most) id = levels_over (levels_above node_at most) (node_at id)
 
 -- what splits take on the way above a node: for a split at its end, and for an item put into a node of `count` items there
-abbrev pub wanted : {A : Type 0} {height : ℕ} → Above A height → ℕ
-wanted top = 2
-wanted (under frame way) = suc (if nat_lt (frame_count frame) 7 then 0 else wanted way)
+abbrev pub path_need : {A : Type 0} {height : ℕ} → Path A height → ℕ
+path_need top = 2
+path_need (under frame path) = suc (if nat_lt (frame_count frame) 7 then 0 else path_need path)
 
-abbrev pub climbed : {A : Type 0} {height : ℕ} → Above A height → (count : ℕ) → ℕ
-climbed {A} {height} way count = if nat_lt count (most_at height) then 0 else wanted way
+abbrev pub path_need_from : {A : Type 0} {height : ℕ} → Path A height → (count : ℕ) → ℕ
+path_need_from {A} {height} path count = if nat_lt count (most_at height) then 0 else path_need path
 
 -- a count of what the splits take has come up to node `id`, with so many counted below it; there are at most so many levels
-pub record IsClimbing (A : Type 0) (look : Look A) (root : ℕ) (xs : List A) (most id counted all : ℕ) : Type 0 where
+pub record IsCountingUpward (A : Type 0) (node_at : NodeMap A) (root : ℕ) (xs : List A) (most id counted all : ℕ) : Type 0 where
   pub height : ℕ
-  pub way : Above A height
+  pub path : Path A height
   pub shape : Shape A height
   pub here : id_of A height shape ≡ id
-  pub stands : Standing A look [] root xs height way shape
-  pub left : counted + climbed way (count_at A height shape) ≡ all
-  pub room : depth way < most
+  pub stands : IsUnsizedFocus A node_at [] root xs height path shape
+  pub left : counted + path_need_from path (count_at A height shape) ≡ all
+  pub room : depth path < most

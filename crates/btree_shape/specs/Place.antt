@@ -2,19 +2,19 @@
 use Rattle.std.specs.Prelude.{◌≡◌, ℕ, ◌+◌, ◌^◌, ◌-◌, ◌≤◌, ◌⊎◌, List, ◌++◌, length, slice_get, Option, Some, None}
 use Rattle.std.specs.Option.{option_and_then}
 use Rattle.btree_item.specs.declared.address.Address.{Address}
-use Rattle.btree_view.specs.View.{View, leaf, internal, Look, size_of, item_in}
-use Rattle.btree_shape.specs.Spells.{Spells}
+use Rattle.btree_view.specs.View.{View, leaf, internal, NodeMap, size_of, item_in}
+use Rattle.btree_shape.specs.Represents.{Represents}
 
 -- the number of the address that stands for no node
 abbrev pub NOWHERE : ℕ
 NOWHERE = 2 ^ 64 - 1
 
-module _ {A : Type 0} (look : Look A) where
+module _ {A : Type 0} (node_at : NodeMap A) where
   -- node `id` is a node whose subtree spells the list
   pub record IsSubtree (id : ℕ) (ys : List A) : Type 0 where
     pub height : ℕ
     pub parent : Option ℕ
-    pub spells : Spells look height parent id ys
+    pub represents : Represents node_at height parent id ys
 
   -- the items of the subtree of node `id` stand in the list behind `before` others
   pub record StandsAt (xs : List A) (id : ℕ) (ys : List A) (before : ℕ) : Type 0 where
@@ -36,12 +36,12 @@ module _ {A : Type 0} (look : Look A) where
 
   -- the address is one of the tree: in one of its nodes, or nowhere if it is empty
   abbrev pub IsValid : Option ℕ → ℕ → Option ℕ → Type 0
-  IsValid root id offset = IsWithin (look id) offset ⊎ IsNowhere root id offset
+  IsValid root id offset = IsWithin (node_at id) offset ⊎ IsNowhere root id offset
 
   -- an item stands at the address
   abbrev pub IsOccupied : ℕ → Option ℕ → Type 0
   IsOccupied id None = ⊥
-  IsOccupied id (Some offset) = (x : A) × (item_in (look id) offset ≡ Some x)
+  IsOccupied id (Some offset) = (x : A) × (item_in (node_at id) offset ≡ Some x)
 
   -- the offset is not -1
   abbrev pub IsBack : Option ℕ → Type 0
@@ -56,7 +56,7 @@ module _ {A : Type 0} (look : Look A) where
 
   -- the address is in a leaf, or nowhere
   abbrev pub IsLeafAddress : Option ℕ → ℕ → Option ℕ → Type 0
-  IsLeafAddress root id offset = IsLeaf (look id) ⊎ IsNowhere root id offset
+  IsLeafAddress root id offset = IsLeaf (node_at id) ⊎ IsNowhere root id offset
 
   -- the offset past the last item of a node
   abbrev pub IsEnd : Option (View A) → ℕ → Type 0
@@ -81,8 +81,8 @@ module _ {A : Type 0} (look : Look A) where
   IsPlace None xs id offset place = IsNowhere None id offset × (place ≡ 0)
   IsPlace (Some root) xs id None place = IsPlaceBefore xs id place
   IsPlace (Some root) xs id (Some offset) place =
-      IsPlaceOf xs (item_in (look id) offset) place ⊎ (IsEnd (look id) offset × IsPlaceAfter xs id place)
+      IsPlaceOf xs (item_in (node_at id) offset) place ⊎ (IsEnd (node_at id) offset × IsPlaceAfter xs id place)
 
 -- the item at an address, if one stands there
-abbrev pub item_at : {A : Type 0} → Look A → Address → Option A
-item_at look a = option_and_then (item_in (look a.id)) a.offset
+abbrev pub item_at : {A : Type 0} → NodeMap A → Address → Option A
+item_at node_at a = option_and_then (item_in (node_at a.id)) a.offset

@@ -1,9 +1,9 @@
 -- How near the nodes of a tree are to a split or a merge: what pays for the nodes that later steps take or give up.
 use Rattle.std.specs.Prelude.{◌≡◌, ℕ, zero, suc, ◌+◌, ◌-◌, ◌==◌, if◌then◌else◌, List, length, Option, Some, None}
-use Rattle.btree_view.specs.View.{View, leaf, internal, Look, size_of}
+use Rattle.btree_view.specs.View.{View, leaf, internal, NodeMap, size_of}
 use Rattle.btree_shape.specs.Lists.{times_listed, total}
-use Rattle.btree_shape.specs.Shape.{Shape, count_at}
-use Rattle.btree_shape.specs.Way.{Frame, at_first, at_branch, Above, top, under, frame_count}
+use Rattle.btree_shape.specs.Focus.Shape.{Shape, count_at}
+use Rattle.btree_shape.specs.Focus.Path.{Frame, at_first, at_branch, Path, top, under, frame_count}
 use Rattle.btree_shape.specs.WellFormed.{times_used}
 
 -- what a leaf of more than 7 items has too much, and an internal node of more than 5
@@ -17,13 +17,13 @@ strain_in root id None = 0
 strain_in root id (Some node) = surplus_of node + (if id == root then 0 else 4 - size_of node)
 
 -- that of the nodes with these numbers
-abbrev pub strain_under : {A : Type 0} → Look A → (root : ℕ) → List ℕ → ℕ
-strain_under look root ids = total (λ id. strain_in root id (look id)) ids
+abbrev pub strain_under : {A : Type 0} → NodeMap A → (root : ℕ) → List ℕ → ℕ
+strain_under node_at root ids = total (λ id. strain_in root id (node_at id)) ids
 
 -- that of the tree with this root: of its nodes, each listed once; without a root there is none
-abbrev pub IsStrain : {A : Type 0} → Look A → Option ℕ → ℕ → Type 0
-IsStrain look None strain = strain ≡ 0
-IsStrain look (Some root) strain = (ids : List ℕ) × ((n : ℕ) → times_listed n ids ≡ times_used (look n)) × (strain ≡ strain_under look root ids)
+abbrev pub IsStrain : {A : Type 0} → NodeMap A → Option ℕ → ℕ → Type 0
+IsStrain node_at None strain = strain ≡ 0
+IsStrain node_at (Some root) strain = (ids : List ℕ) × ((n : ℕ) → times_listed n ids ≡ times_used (node_at n)) × (strain ≡ strain_under node_at root ids)
 
 -- the same of a tree in parts: of a node by its height and number of items
 abbrev pub surplus : (height count : ℕ) → ℕ
@@ -43,19 +43,19 @@ module _ (A : Type 0) where
   strain_below (suc height) shape = strain height shape.1 + total (λ b. strain height b.1) shape.2
 
   -- of a node with this above it
-  abbrev pub own_strain : {height : ℕ} → Above A height → (count : ℕ) → ℕ
+  abbrev pub own_strain : {height : ℕ} → Path A height → (count : ℕ) → ℕ
   own_strain {height} top count = surplus height count
-  own_strain {height} (under frame way) count = surplus height count + (4 - count)
+  own_strain {height} (under frame path) count = surplus height count + (4 - count)
 
   abbrev pub strain_beside : {height : ℕ} → Frame A height → ℕ
   strain_beside {height} (at_first id back) = total (λ b. strain height b.1) back
   strain_beside {height} (at_branch id first front x back) =
       strain height first + total (λ b. strain height b.1) front + total (λ b. strain height b.1) back
 
-  abbrev pub strain_above : {height : ℕ} → Above A height → ℕ
+  abbrev pub strain_above : {height : ℕ} → Path A height → ℕ
   strain_above {height} top = 0
-  strain_above {height} (under frame way) = own_strain way (frame_count frame) + strain_beside frame + strain_above way
+  strain_above {height} (under frame path) = own_strain path (frame_count frame) + strain_beside frame + strain_above path
 
   -- of the whole tree, seen from one of its nodes
-  abbrev pub strain_of : (height : ℕ) → Above A height → Shape A height → ℕ
-  strain_of height way shape = strain_above way + (own_strain way (count_at A height shape) + strain_below height shape)
+  abbrev pub strain_of : (height : ℕ) → Path A height → Shape A height → ℕ
+  strain_of height path shape = strain_above path + (own_strain path (count_at A height shape) + strain_below height shape)

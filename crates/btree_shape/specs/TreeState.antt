@@ -7,10 +7,10 @@ use Rattle.btree_store.specs.Content.{Content}
 use Rattle.btree_item.specs.declared.address.Address.{Address}
 use Rattle.btree_node.specs.declared.node.Node.{Node}
 use Rattle.btree_node.specs.Node.{view_of}
-use Rattle.btree_view.specs.View.{Look}
+use Rattle.btree_view.specs.View.{NodeMap}
 use Rattle.btree_shape.specs.Need as needs
 use Rattle.btree_shape.specs.Place.{IsLeafAddress, IsOccupied, IsPlace, IsValid, item_at}
-use Rattle.btree_shape.specs.Spells.{Spells, spelled}
+use Rattle.btree_shape.specs.Represents.{Represents, represented}
 use Rattle.btree_shape.specs.Strain.{IsStrain}
 use Rattle.btree_shape.specs.WellFormed.{IsOffByOne, IsWellFormed}
 
@@ -32,13 +32,13 @@ tree_code {K} {V} code =
 
 module _ {K V : Type 0} where
   -- the nodes of a store as definitions see them
-  abbrev pub views : Content (Node K V) → Look (K × V)
+  abbrev pub views : Content (Node K V) → NodeMap (K × V)
   views nodes id = option_map view_of (map.get nodes id)
 
   -- what the nodes under a root spell, by at most so many levels
-  abbrev pub pairs_under : Look (K × V) → Option ℕ → (levels : ℕ) → List (K × V)
-  pairs_under look None levels = []
-  pairs_under look (Some root) levels = spelled look levels root
+  abbrev pub pairs_under : NodeMap (K × V) → Option ℕ → (levels : ℕ) → List (K × V)
+  pairs_under node_at None levels = []
+  pairs_under node_at (Some root) levels = represented node_at levels root
 
   -- two states differ in their nodes alone
   pub record KeepsRest (old new : TreeState K V) : Type 0 where
@@ -46,12 +46,12 @@ module _ {K V : Type 0} where
 
 module _ {K V : Type 0} (s : TreeState K V) where
   -- the nodes as definitions see them
-  abbrev pub looks : Look (K × V)
-  looks = views s.nodes
+  abbrev pub node_map : NodeMap (K × V)
+  node_map = views s.nodes
 
   -- the list of the tree; a tree has at most as many levels as nodes
   abbrev pub pairs_of : List (K × V)
-  pairs_of = pairs_under looks s.root (map.len s.nodes)
+  pairs_of = pairs_under node_map s.root (map.len s.nodes)
 
   -- a node has this number
   abbrev pub IsUsed : ℕ → Type 0
@@ -59,40 +59,40 @@ module _ {K V : Type 0} (s : TreeState K V) where
 
   -- the address is one of the tree
   abbrev pub IsValidIn : Address → Type 0
-  IsValidIn a = IsValid looks s.root a.id a.offset
+  IsValidIn a = IsValid node_map s.root a.id a.offset
 
   -- the place of an address in the list
   abbrev pub IsPlaceIn : Address → ℕ → Type 0
-  IsPlaceIn a place = IsPlace looks s.root pairs_of a.id a.offset place
+  IsPlaceIn a place = IsPlace node_map s.root pairs_of a.id a.offset place
 
   -- an item stands at the address
   abbrev pub IsOccupiedIn : Address → Type 0
-  IsOccupiedIn a = IsOccupied looks a.id a.offset
+  IsOccupiedIn a = IsOccupied node_map a.id a.offset
 
   -- the address is in a leaf, or nowhere in the empty tree
   abbrev pub IsLeafAddressIn : Address → Type 0
-  IsLeafAddressIn a = IsLeafAddress looks s.root a.id a.offset
+  IsLeafAddressIn a = IsLeafAddress node_map s.root a.id a.offset
 
   -- the item at an address, if one stands there
   abbrev pub item_of : Address → Option (K × V)
-  item_of a = item_at looks a
+  item_of a = item_at node_map a
 
   -- how many nodes an insertion at a leaf takes
   abbrev pub nodes_needed : ℕ → ℕ
-  nodes_needed leaf = needs.need looks s.root (map.len s.nodes) leaf
+  nodes_needed leaf = needs.need node_map s.root (map.len s.nodes) leaf
 
   -- how many nodes the splits take that begin at a node with an item too many
   abbrev pub nodes_for_splits : ℕ → ℕ
-  nodes_for_splits id = needs.climb looks (map.len s.nodes) id
+  nodes_for_splits id = needs.split_need node_map (map.len s.nodes) id
 
   -- the strain of the tree
   abbrev pub HasStrain : ℕ → Type 0
-  HasStrain strain = IsStrain looks s.root strain
+  HasStrain strain = IsStrain node_map s.root strain
 
   -- how many levels of nodes there are under a root: one more than the root is above the leaves
   abbrev pub HasLevelsUnder : Option ℕ → ℕ → Type 0
   HasLevelsUnder None levels = levels ≡ 0
-  HasLevelsUnder (Some root) levels = (height : ℕ) × Spells looks height None root pairs_of × (levels ≡ suc height)
+  HasLevelsUnder (Some root) levels = (height : ℕ) × Represents node_map height None root pairs_of × (levels ≡ suc height)
 
   abbrev pub HasLevels : ℕ → Type 0
   HasLevels levels = HasLevelsUnder s.root levels
@@ -100,19 +100,19 @@ module _ {K V : Type 0} (s : TreeState K V) where
 module _ {K V : Type 0} (cmp : K → K → Ordering) where
   -- the tree is well formed
   abbrev pub IsBTree : TreeState K V → Type 0
-  IsBTree s = IsWellFormed cmp (looks s) s.root s.len (pairs_of s)
+  IsBTree s = IsWellFormed cmp (node_map s) s.root s.len (pairs_of s)
 
   -- the same but for its length
   abbrev pub IsBTreeButLength : TreeState K V → Type 0
-  IsBTreeButLength s = IsWellFormed cmp (looks s) s.root (length (pairs_of s)) (pairs_of s)
+  IsBTreeButLength s = IsWellFormed cmp (node_map s) s.root (length (pairs_of s)) (pairs_of s)
 
   -- the tree has a root, and is off by one at node `id`
   pub record IsOff (s : TreeState K V) (id : ℕ) : Type 0 where
     pub root : ℕ
     pub at_root : s.root ≡ Some root
-    pub off : IsOffByOne cmp (looks s) root id (pairs_of s)
+    pub off : IsOffByOne cmp (node_map s) root id (pairs_of s)
 
 -- the nodes have changed so, and nothing else has
-pub record Changes {K V : Type 0} (How : Look (K × V) → Look (K × V) → Type 0) (old new : TreeState K V) : Type 0 where
-  pub nodes : How (looks old) (looks new)
+pub record Changes {K V : Type 0} (How : NodeMap (K × V) → NodeMap (K × V) → Type 0) (old new : TreeState K V) : Type 0 where
+  pub nodes : How (node_map old) (node_map new)
   pub rest : KeepsRest old new

@@ -3,8 +3,8 @@ use Rattle.std.specs.Prelude.{◌≡◌, ℕ, ◌+◌, ◌<◌, ◌≤◌, ◌==
 use Rattle.std.specs.declared.cmp.Ordering.{Ordering}
 use Rattle.btree_item.specs.Pairs.{Ascends}
 use Rattle.btree_shape.specs.Lists.{times_listed}
-use Rattle.btree_view.specs.View.{View, Look, size_of, most_of}
-use Rattle.btree_shape.specs.Spells.{Spells, numbers_under}
+use Rattle.btree_view.specs.View.{View, NodeMap, size_of, most_of}
+use Rattle.btree_shape.specs.Represents.{Represents, numbers_under}
 
 -- how often a store has a number: once if it is used
 abbrev pub times_used : {X : Type 0} → Option X → ℕ
@@ -32,28 +32,28 @@ abbrev pub IsNearlySized : {A : Type 0} → (root odd id : ℕ) → View A → T
 IsNearlySized root odd id node = (least_beside root odd id ≤ size_of node) × (size_of node ≤ most_of node + excess_beside odd id)
 
 -- the nodes form one tree with this root, it spells the list, and each node's number of items is right
-pub record IsRooted {A : Type 0} (is_right : (id : ℕ) → View A → Type 0) (look : Look A) (root : ℕ) (xs : List A) : Type 0 where
+pub record IsRooted {A : Type 0} (is_right : (id : ℕ) → View A → Type 0) (node_at : NodeMap A) (root : ℕ) (xs : List A) : Type 0 where
   -- how many levels the root is above the leaves
   pub height : ℕ
-  pub spells : Spells look height None root xs
-  pub sized : (id : ℕ) (node : View A) → look id ≡ Some node → is_right id node
+  pub represents : Represents node_at height None root xs
+  pub sized : (id : ℕ) (node : View A) → node_at id ≡ Some node → is_right id node
   -- the numbers under the root are those that are used, each once
-  pub once : (n : ℕ) → times_listed n (numbers_under look height root) ≡ times_used (look n)
+  pub once : (n : ℕ) → times_listed n (numbers_under node_at height root) ≡ times_used (node_at n)
 
 -- without a root there are no nodes
-abbrev pub IsFormed : {A : Type 0} → Look A → Option ℕ → List A → Type 0
-IsFormed look None xs = ((n : ℕ) → look n ≡ None) × (xs ≡ [])
-IsFormed look (Some root) xs = IsRooted (IsSized root) look root xs
+abbrev pub IsFormed : {A : Type 0} → NodeMap A → Option ℕ → List A → Type 0
+IsFormed node_at None xs = ((n : ℕ) → node_at n ≡ None) × (xs ≡ [])
+IsFormed node_at (Some root) xs = IsRooted (IsSized root) node_at root xs
 
 -- a well formed tree, whose pairs are these
-pub record IsWellFormed {K V : Type 0} (cmp : K → K → Ordering) (look : Look (K × V)) (root : Option ℕ) (len : ℕ) (xs : List (K × V)) : Type 0 where
+pub record IsWellFormed {K V : Type 0} (cmp : K → K → Ordering) (node_at : NodeMap (K × V)) (root : Option ℕ) (len : ℕ) (xs : List (K × V)) : Type 0 where
   pub ascends : Ascends cmp xs
-  pub formed : IsFormed look root xs
+  pub formed : IsFormed node_at root xs
   pub counted : len ≡ length xs
 
 -- a tree of at most 32 levels, whose pairs are these, off by one at node `odd`: well formed but for the items there and the length
-pub record IsOffByOne {K V : Type 0} (cmp : K → K → Ordering) (look : Look (K × V)) (root odd : ℕ) (xs : List (K × V)) : Type 0 where
+pub record IsOffByOne {K V : Type 0} (cmp : K → K → Ordering) (node_at : NodeMap (K × V)) (root odd : ℕ) (xs : List (K × V)) : Type 0 where
   pub ascends : Ascends cmp xs
-  pub rooted : IsRooted (IsNearlySized root odd) look root xs
+  pub rooted : IsRooted (IsNearlySized root odd) node_at root xs
   pub low : rooted.height < 32
-  pub used : IsSome (look odd)
+  pub used : IsSome (node_at odd)

@@ -6,14 +6,14 @@ use Rattle.std.specs.declared.cmp.Ordering.{Ordering}
 use Rattle.btree_store.specs.Content.{Content}
 use Rattle.btree_node.specs.Node.{view_of}
 use Rattle.btree_node.specs.declared.node.Node.{Node}
-use Rattle.btree_view.specs.View.{Look, View, branches_of, children_of, internal, items_of, leaf, parent_of}
+use Rattle.btree_view.specs.View.{NodeMap, View, branches_of, children_of, internal, items_of, leaf, parent_of}
 use Rattle.btree_shape.specs.Lists.{times_listed}
-use Rattle.btree_shape.specs.Spells.{Spells, numbers_under, spelled}
+use Rattle.btree_shape.specs.Represents.{Represents, numbers_under, represented}
 use Rattle.btree_shape.specs.TreeState.{views}
 use Rattle.btree_shape.specs.WellFormed.{IsNearlySized}
-use Rattle.btree_shape.proofs.Frames.{one-self}
-use Rattle.btree_valid.specs.Odd.{CanOrder, CanPassUnder, MayEnter, Orders, PassesUnder}
-use Rattle.btree_valid.specs.declared.odd.Walk.{Walk}
+use Rattle.btree_shape.proofs.Paths.Frames.{one-self}
+use Rattle.btree_valid.specs.OffByOne.{CanOrder, CanPassUnder, MayEnter, Orders, PassesUnder}
+use Rattle.btree_valid.specs.declared.off_by_one.Walk.{Walk}
 use Rattle.btree_valid.proofs.PassLemmas.{IsInNode, first-can, first-passed, leaf-can, leaf-passed}
 
 -- by its first child
@@ -36,7 +36,7 @@ module _ {K V : Type 0} (cmp : K → K → Ordering) (nodes : Content (Node K V)
   same-parent : (a b : View (K × V)) → Some a ≡ Some b → parent_of a ≡ parent_of b
   same-parent a b e = let is : a ≡ b = cc in ap parent_of is
 
-  parent-is : (h : ℕ) (xs : List (K × V)) → Spells (views nodes) h parent id xs → parent_of (view_of node) ≡ parent
+  parent-is : (h : ℕ) (xs : List (K × V)) → Represents (views nodes) h parent id xs → parent_of (view_of node) ≡ parent
   parent-is zero xs s = same-parent (view_of node) (leaf parent xs) (sym here ∙ s)
   parent-is (suc h) xs s = same-parent (view_of node) (internal parent s.0 (map {B = (K × V) × ℕ} (λ (r : (K × V) × ℕ × List (K × V)). (r.0, r.1)) s.2)) (sym here ∙ s.3)
 
@@ -51,7 +51,7 @@ module _ {K V : Type 0} (cmp : K → K → Ordering) (nodes : Content (Node K V)
   -- where the walk can pass the node, it comes to it
   pub not-entered : (MayEnter (view_of node) root odd id left parent → IsTrue false) → Can → ⊥
   not-entered not c =
-      let no : false ≡ true = not (some-left height c.enough, parent-is height (spelled (views nodes) (suc height) id) c.right, c.sized id (view_of node) (own-listed height) here) in
+      let no : false ≡ true = not (some-left height c.enough, parent-is height (represented (views nodes) (suc height) id) c.right, c.sized id (view_of node) (own-listed height) here) in
       absurd (cc)
 
   module _ (items : List (K × V)) (is : view_of node ≡ leaf (parent_of (view_of node)) items) where
@@ -60,8 +60,8 @@ module _ {K V : Type 0} (cmp : K → K → Ordering) (nodes : Content (Node K V)
 
     -- a leaf is no level above the leaves
     pub leaf-low : (height ≡ 0 → ⊥) → Can → ⊥
-    leaf-low some c = by height some (spelled (views nodes) (suc height) id) c.right where
-      by : (h : ℕ) → (h ≡ 0 → ⊥) → (xs : List (K × V)) → Spells (views nodes) h parent id xs → ⊥
+    leaf-low some c = by height some (represented (views nodes) (suc height) id) c.right where
+      by : (h : ℕ) → (h ≡ 0 → ⊥) → (xs : List (K × V)) → Represents (views nodes) h parent id xs → ⊥
       by zero f xs s = f refl
       by (suc h) f xs s = let e = leaf-here in let g = s.3 in cc
 
@@ -103,21 +103,21 @@ module _ {K V : Type 0} (cmp : K → K → Ordering) (nodes : Content (Node K V)
 
     -- what is left of the node, where `rest` are the branches to come
     abbrev pub InNode : (rest : List ((K × V) × ℕ)) → (left : ℕ) → (last : Option K) → Type 0
-    InNode rest = IsInNode cmp (views nodes) root odd (Spells (views nodes) height parent id (spelled (views nodes) (suc height) id)) (numbers_under (views nodes) height id) (spelled (views nodes) (suc height) id)
+    InNode rest = IsInNode cmp (views nodes) root odd (Represents (views nodes) height parent id (represented (views nodes) (suc height) id)) (numbers_under (views nodes) height id) (represented (views nodes) (suc height) id)
         left last (height - 1) id rest
 
     pub inner-start : (rest : List ((K × V) × ℕ)) → rest ≡ branches → (left_mid : ℕ) (last_mid : Option K)
         → PassesUnder cmp (views nodes) root odd (height - 1) (Some id) first (left - 1) last left_mid last_mid → InNode rest left_mid last_mid
     inner-start rest same left_mid last_mid p =
         let sized = subst (λ v. IsNearlySized root odd id v) is may.2 in
-        let by : ℕ → List ((K × V) × ℕ) → Type 0 = λ h bs. IsInNode cmp (views nodes) root odd (Spells (views nodes) h parent id (spelled (views nodes) (suc h) id)) (numbers_under (views nodes) h id) (spelled (views nodes) (suc h) id)
+        let by : ℕ → List ((K × V) × ℕ) → Type 0 = λ h bs. IsInNode cmp (views nodes) root odd (Represents (views nodes) h parent id (represented (views nodes) (suc h) id)) (numbers_under (views nodes) h id) (represented (views nodes) (suc h) id)
         left last (height - 1) id bs left_mid last_mid in
         let sized_here : IsNearlySized root odd id (internal parent first branches) = sized in
         let w = first-passed cmp (views nodes) root odd parent id left last may.0 (height - 1) first branches inner-here sized_here left_mid last_mid p in
         subst (by height) (sym same) (subst (λ h. by h branches) (sym higher) w)
 
 -- where there is no node, nothing can be passed
-pub nothing-there : {K V : Type 0} (cmp : K → K → Ordering) (look : Look (K × V)) (root odd height : ℕ) (parent : Option ℕ) (id left : ℕ) (last : Option K)
-    → look id ≡ None → CanPassUnder cmp look root odd height parent id left last → ⊥
-nothing-there cmp look root odd zero parent id left last none can = let right = can.right in absurd (cc)
-nothing-there cmp look root odd (suc height) parent id left last none can = let here = can.right.3 in absurd (cc)
+pub nothing-there : {K V : Type 0} (cmp : K → K → Ordering) (node_at : NodeMap (K × V)) (root odd height : ℕ) (parent : Option ℕ) (id left : ℕ) (last : Option K)
+    → node_at id ≡ None → CanPassUnder cmp node_at root odd height parent id left last → ⊥
+nothing-there cmp node_at root odd zero parent id left last none can = let right = can.right in absurd (cc)
+nothing-there cmp node_at root odd (suc height) parent id left last none can = let here = can.right.3 in absurd (cc)

@@ -8,65 +8,65 @@ use Rattle.btree_store.specs.Content.{Content}
 use Rattle.btree_item.specs.Pairs.{Ascends}
 use Rattle.btree_node.specs.Node.{view_of}
 use Rattle.btree_node.specs.declared.node.Node.{Node}
-use Rattle.btree_view.specs.View.{Look, View}
+use Rattle.btree_view.specs.View.{NodeMap, View}
 use Rattle.btree_shape.specs.Lists.{times_listed}
-use Rattle.btree_shape.specs.Shape.{times_under}
-use Rattle.btree_shape.specs.Spells.{Spells, numbers_under, spelled}
+use Rattle.btree_shape.specs.Focus.Shape.{times_under}
+use Rattle.btree_shape.specs.Represents.{Represents, numbers_under, represented}
 use Rattle.btree_shape.specs.TreeState.{views}
 use Rattle.btree_shape.specs.WellFormed.{IsOffByOne, times_used}
-use Rattle.btree_shape.proofs.Numbers.{less-or, numbers-shape, used-mapped, used-one}
-use Rattle.btree_shape.proofs.Searched.{Rises, rises}
-use Rattle.btree_shape.proofs.Spelled.{spelled-is}
-use Rattle.btree_shape.proofs.SpelledShapes.{shape-of}
-use Rattle.btree_shape.proofs.Stores.{len-views}
-use Rattle.btree_valid.specs.Odd.{CanPassUnder, IsOffAmong, IsOffAt, IsOffAtSomeHeight, PassesUnder}
+use Rattle.btree_shape.proofs.Trees.Numbers.{less-or, numbers-shape, used-mapped, used-one}
+use Rattle.btree_shape.proofs.LookUp.KeyInList.{Rises, rises}
+use Rattle.btree_shape.proofs.Trees.Represented.{represented-is}
+use Rattle.btree_shape.proofs.Trees.Shapes.{shape-of}
+use Rattle.btree_shape.proofs.Trees.Stores.{len-views}
+use Rattle.btree_valid.specs.OffByOne.{CanPassUnder, IsOffAmong, IsOffAt, IsOffAtSomeHeight, PassesUnder}
 use Rattle.btree_valid.proofs.OnceLemmas.{all-used, few}
 use Rattle.btree_valid.proofs.OrderLemmas.{passed-none}
 
 module _ {K V : Type 0} (cmp : K → K → Ordering) (nodes : Content (Node K V)) (root odd height : ℕ) where
-  abbrev look : Look (K × V)
-  look = views nodes
+  abbrev node_at : NodeMap (K × V)
+  node_at = views nodes
 
   abbrev ids : List ℕ
-  ids = numbers_under look height root
+  ids = numbers_under node_at height root
 
   abbrev pairs : List (K × V)
-  pairs = spelled look (suc height) root
+  pairs = represented node_at (suc height) root
 
-  module _ (laws : IsTotalOrder cmp) (last : Option K) (left : ℕ) (p : PassesUnder cmp look root odd height None root (map.len nodes) None left last) (none : left ≡ 0) where
-    each-once : (n : ℕ) → times_listed n ids ≡ times_used (look n)
+  module _ (laws : IsTotalOrder cmp) (last : Option K) (left : ℕ) (p : PassesUnder cmp node_at root odd height None root (map.len nodes) None left last) (none : left ≡ 0) where
+    each-once : (n : ℕ) → times_listed n ids ≡ times_used (node_at n)
     each-once n =
-        let s = shape-of (K × V) look height None root pairs p.right in
+        let s = shape-of (K × V) node_at height None root pairs p.right in
         let same : (m : ℕ) → times_listed m ids ≡ times_under (K × V) height m s.shape =
-        λ m. subst (λ i. times_listed m (numbers_under look height i) ≡ times_under (K × V) height m s.shape) s.here (numbers-shape (K × V) look m height None s.shape s.holds) in
+        λ m. subst (λ i. times_listed m (numbers_under node_at height i) ≡ times_under (K × V) height m s.shape) s.here (numbers-shape (K × V) node_at m height None s.shape s.holds) in
         let order = p.order [] (passed-none cmp) in
         let up = rises cmp pairs order.ascends in
-        let low = few cmp laws look root odd height s.shape s.here s.holds (subst (λ l. Rises cmp l) (sym s.list) up)
+        let low = few cmp laws node_at root odd height s.shape s.here s.holds (subst (λ l. Rises cmp l) (sym s.list) up)
         (λ m v some at. p.sized m v (let q = same m in omega arith) at) in
         let paid = p.paid in
         let all = all-used ids nodes (λ m. let q = same m in let l = low m in let z = used-mapped view_of (map.get nodes m) in omega arith) (omega arith) n in
         all ∙ sym (used-mapped view_of (map.get nodes n))
 
     -- all nodes were passed
-    pub off-found : IsOffAt cmp look root odd height
+    pub off-found : IsOffAt cmp node_at root odd height
     off-found = (
       pairs,
       (p.order [] (passed-none cmp)).ascends,
       record {
         height = height;
-        spells = p.right;
-        sized = λ id node at. p.sized id node (let e = each-once id in let u = used-one (look id) node at in omega arith) at;
+        represents = p.right;
+        sized = λ id node at. p.sized id node (let e = each-once id in let u = used-one (node_at id) node at in omega arith) at;
         once = each-once;
       },
       refl,
     )
 
-  module _ (off : IsOffAt cmp look root odd height) where
-    spelled-pairs : pairs ≡ off.0
-    spelled-pairs = let r = off.2 in spelled-is look height (suc height) None root off.0 (omega arith) (subst (λ h. Spells look h None root off.0) off.3 r.spells)
+  module _ (off : IsOffAt cmp node_at root odd height) where
+    represented-pairs : pairs ≡ off.0
+    represented-pairs = let r = off.2 in represented-is node_at height (suc height) None root off.0 (omega arith) (subst (λ h. Represents node_at h None root off.0) off.3 r.represents)
 
-    all-listed : (n : ℕ) → times_listed n ids ≡ times_used (look n)
-    all-listed n = subst (λ h. times_listed n (numbers_under look h root) ≡ times_used (look n)) off.3 (off.2.once n)
+    all-listed : (n : ℕ) → times_listed n ids ≡ times_used (node_at n)
+    all-listed n = subst (λ h. times_listed n (numbers_under node_at h root) ≡ times_used (node_at n)) off.3 (off.2.once n)
 
     -- as many numbers as nodes
     pub all-counted : map.len nodes ≡ length ids
@@ -77,16 +77,16 @@ module _ {K V : Type 0} (cmp : K → K → Ordering) (nodes : Content (Node K V)
     used-here (Some v) some = (v, refl)
 
     -- such a tree can be passed from its root
-    pub off-can : CanPassUnder cmp look root odd height None root (map.len nodes) None
+    pub off-can : CanPassUnder cmp node_at root odd height None root (map.len nodes) None
     off-can = record {
-      right = subst (λ l. Spells look height None root l) (sym spelled-pairs) (subst (λ h. Spells look h None root off.0) off.3 off.2.spells);
+      right = subst (λ l. Represents node_at height None root l) (sym represented-pairs) (subst (λ h. Represents node_at h None root off.0) off.3 off.2.represents);
       sized = λ n node some at. off.2.sized n node at;
-      order = ([], passed-none cmp, subst (λ l. Ascends cmp l) (sym spelled-pairs) off.1);
+      order = ([], passed-none cmp, subst (λ l. Ascends cmp l) (sym represented-pairs) off.1);
       enough = let e = all-counted in omega arith;
     }
 
     -- and no node is left
-    pub none-left : (last : Option K) (left : ℕ) → PassesUnder cmp look root odd height None root (map.len nodes) None left last → left ≡ 0
+    pub none-left : (last : Option K) (left : ℕ) → PassesUnder cmp node_at root odd height None root (map.len nodes) None left last → left ≡ 0
     none-left last left p = let e = all-counted in let q = p.paid in omega arith
 
 module _ {K V : Type 0} (cmp : K → K → Ordering) (nodes : Content (Node K V)) (root odd height : ℕ) where
@@ -106,12 +106,12 @@ module _ {K V : Type 0} (cmp : K → K → Ordering) (nodes : Content (Node K V)
     λ off. not (subst (λ n. CanPassUnder cmp (views nodes) root odd height None root n None) (sym is) (off-can cmp nodes root odd height off)),
   )
 
-module _ {K V : Type 0} (cmp : K → K → Ordering) (look : Look (K × V)) (root odd : ℕ) where
+module _ {K V : Type 0} (cmp : K → K → Ordering) (node_at : NodeMap (K × V)) (root odd : ℕ) where
   -- off by one, at one of 32 heights
-  pub is-off : (height : ℕ) → height < 32 → IsOffAt cmp look root odd height → IsSome (look odd) → (xs : List (K × V)) × IsOffByOne cmp look root odd xs
+  pub is-off : (height : ℕ) → height < 32 → IsOffAt cmp node_at root odd height → IsSome (node_at odd) → (xs : List (K × V)) × IsOffByOne cmp node_at root odd xs
   is-off height low off used = (off.0, record { ascends = off.1; rooted = off.2; low = let e = off.3 in omega arith; used = used })
 
-  pub off-is : (xs : List (K × V)) → IsOffByOne cmp look root odd xs → (height : ℕ) × (height < 32) × IsOffAt cmp look root odd height
+  pub off-is : (xs : List (K × V)) → IsOffByOne cmp node_at root odd xs → (height : ℕ) × (height < 32) × IsOffAt cmp node_at root odd height
   off-is xs w = (w.rooted.height, w.low, (xs, w.ascends, w.rooted, refl))
 
 pub next-height : (P : ℕ → Type 0) (n : ℕ) → ((h : ℕ) → h < n → P h → ⊥) → (P n → IsTrue false) → (h : ℕ) → h < n + 1 → P h → ⊥

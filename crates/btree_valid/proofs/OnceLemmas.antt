@@ -9,13 +9,13 @@ use Rattle.std.specs.declared.cmp.Ordering.{Ordering}
 use Rattle.std.specs.declared.cmp.Ordering.TheVariants.{Equal, Greater, Less}
 use Rattle.btree_store.specs.Content.{Content}
 use Rattle.btree_store.specs.ContentLaws.{get-remove_other, get-remove_same, is_insert}
-use Rattle.btree_view.specs.View.{Look, View, internal, items_of, leaf, parent_of}
+use Rattle.btree_view.specs.View.{NodeMap, View, internal, items_of, leaf, parent_of}
 use Rattle.btree_shape.specs.Lists.{one, times_listed, total}
-use Rattle.btree_shape.specs.Shape.{Holds, Shape, id_of, items_under, later_items, times_under}
+use Rattle.btree_shape.specs.Focus.Shape.{Holds, Shape, id_of, items_under, later_items, times_under}
 use Rattle.btree_shape.specs.WellFormed.{IsNearlySized, least_beside, times_used}
-use Rattle.btree_shape.proofs.Frames.{one-other, one-self, total-append}
-use Rattle.btree_shape.proofs.Numbers.{same-or, used-low, used-one, zero-or}
-use Rattle.btree_shape.proofs.Searched.{Rises}
+use Rattle.btree_shape.proofs.Paths.Frames.{one-other, one-self, total-append}
+use Rattle.btree_shape.proofs.Trees.Numbers.{same-or, used-low, used-one, zero-or}
+use Rattle.btree_shape.proofs.LookUp.KeyInList.{Rises}
 
 -- as many numbers as a content has, each used and none twice, are all that it has
 module _ {T : Type 0} where
@@ -105,8 +105,8 @@ module _ {K V : Type 0} (cmp : K → K → Ordering) (laws : IsTotalOrder cmp) (
   key-once [] up = omega arith
   key-once (x ∷ xs) up = by-first (cmp x.0 key) x.0 xs refl up.0 (key-once xs up.1)
 
-  module _ (look : Look (K × V)) (n : ℕ) (v : View (K × V)) (there : look n ≡ Some v) (value : V) (more : List (K × V)) (first : items_of v ≡ (key, value) ∷ more) where
-    first-is : (w : View (K × V)) → look n ≡ Some w → items_of w ≡ (key, value) ∷ more
+  module _ (node_at : NodeMap (K × V)) (n : ℕ) (v : View (K × V)) (there : node_at n ≡ Some v) (value : V) (more : List (K × V)) (first : items_of v ≡ (key, value) ∷ more) where
+    first-is : (w : View (K × V)) → node_at n ≡ Some w → items_of w ≡ (key, value) ∷ more
     first-is w at = let is : v ≡ w = cc in subst (λ u. items_of u ≡ (key, value) ∷ more) is first
 
     own-key : (xs : List (K × V)) → xs ≡ (key, value) ∷ more → 1 ≤ at-key xs
@@ -122,8 +122,8 @@ module _ {K V : Type 0} (cmp : K → K → Ordering) (laws : IsTotalOrder cmp) (
         omega arith
 
     later-keys : (h : ℕ) (bs : List ((K × V) × Shape (K × V) h)) (p : Option ℕ)
-        → ((t : Shape (K × V) h) → Holds (K × V) look h p t → times_under (K × V) h n t ≤ at-key (items_under (K × V) h t))
-        → AllByRecursion (λ b. Holds (K × V) look h p b.1) bs
+        → ((t : Shape (K × V) h) → Holds (K × V) node_at h p t → times_under (K × V) h n t ≤ at-key (items_under (K × V) h t))
+        → AllByRecursion (λ b. Holds (K × V) node_at h p b.1) bs
         → total (λ b. alike (cmp b.0.0 key)) bs + total (λ b. times_under (K × V) h n b.1) bs ≤ at-key (later_items (K × V) h bs)
     later-keys h [] p each all = omega arith
     later-keys h (b ∷ bs) p each all =
@@ -133,10 +133,10 @@ module _ {K V : Type 0} (cmp : K → K → Ordering) (laws : IsTotalOrder cmp) (
         omega arith
 
     -- a node stands at most as often in a tree as its first key
-    times-keys : (h : ℕ) (p : Option ℕ) (t : Shape (K × V) h) → Holds (K × V) look h p t → times_under (K × V) h n t ≤ at-key (items_under (K × V) h t)
+    times-keys : (h : ℕ) (p : Option ℕ) (t : Shape (K × V) h) → Holds (K × V) node_at h p t → times_under (K × V) h n t ≤ at-key (items_under (K × V) h t)
     times-keys zero p t d = elim (same-or n t.0) [
       | inl same ↦
-          let f = first-is (leaf p t.1) (subst (λ i. look i ≡ Some (leaf p t.1)) (sym same) d) in
+          let f = first-is (leaf p t.1) (subst (λ i. node_at i ≡ Some (leaf p t.1)) (sym same) d) in
           let k = own-key t.1 f in
           let s : one n t.0 ≡ 1 = subst (λ z. one n z ≡ 1) same (one-self n) in
           omega arith
@@ -149,32 +149,32 @@ module _ {K V : Type 0} (cmp : K → K → Ordering) (laws : IsTotalOrder cmp) (
         elim (same-or n t.0) [
           | inl same ↦
               let w : View (K × V) = internal p (id_of (K × V) h t.1) (map (λ b. (b.0, id_of (K × V) h b.1)) t.2) in
-              let f = first-is w (subst (λ i. look i ≡ Some w) (sym same) d.0) in
+              let f = first-is w (subst (λ i. node_at i ≡ Some w) (sym same) d.0) in
               let k = own-branch h t.2 f in
               let s : one n t.0 ≡ 1 = subst (λ z. one n z ≡ 1) same (one-self n) in
               omega arith
           | inr other ↦ let z = one-other n t.0 other in omega arith
         ]
 
-    pub times-once : (h : ℕ) (p : Option ℕ) (t : Shape (K × V) h) → Holds (K × V) look h p t → Rises cmp (items_under (K × V) h t) → times_under (K × V) h n t ≤ 1
+    pub times-once : (h : ℕ) (p : Option ℕ) (t : Shape (K × V) h) → Holds (K × V) node_at h p t → Rises cmp (items_under (K × V) h t) → times_under (K × V) h n t ≤ 1
     times-once h p t d up = let a = times-keys h p t d in let b = key-once (items_under (K × V) h t) up in omega arith
 
-module _ {A : Type 0} (look : Look A) (n : ℕ) (apart : (p : ℕ) (v : View A) → look n ≡ Some v → parent_of v ≡ Some p → ⊥) where
-  none-in : (h : ℕ) (p : ℕ) (bs : List (A × Shape A h)) → ((t : Shape A h) → Holds A look h (Some p) t → times_under A h n t ≡ 0)
-      → AllByRecursion (λ b. Holds A look h (Some p) b.1) bs → total (λ b. times_under A h n b.1) bs ≡ 0
+module _ {A : Type 0} (node_at : NodeMap A) (n : ℕ) (apart : (p : ℕ) (v : View A) → node_at n ≡ Some v → parent_of v ≡ Some p → ⊥) where
+  none-in : (h : ℕ) (p : ℕ) (bs : List (A × Shape A h)) → ((t : Shape A h) → Holds A node_at h (Some p) t → times_under A h n t ≡ 0)
+      → AllByRecursion (λ b. Holds A node_at h (Some p) b.1) bs → total (λ b. times_under A h n b.1) bs ≡ 0
   none-in h p [] each all = refl
   none-in h p (b ∷ bs) each all = let a = each b.1 all.0 in let r = none-in h p bs each all.1 in omega arith
 
   -- a number of no node, or of one without a parent, is not below a parent
-  pub none-below : (h : ℕ) (p : ℕ) (t : Shape A h) → Holds A look h (Some p) t → times_under A h n t ≡ 0
+  pub none-below : (h : ℕ) (p : ℕ) (t : Shape A h) → Holds A node_at h (Some p) t → times_under A h n t ≡ 0
   none-below zero p t d = elim (same-or n t.0) [
-    | inl same ↦ absurd (apart p (leaf (Some p) t.1) (subst (λ i. look i ≡ Some (leaf (Some p) t.1)) (sym same) d) refl)
+    | inl same ↦ absurd (apart p (leaf (Some p) t.1) (subst (λ i. node_at i ≡ Some (leaf (Some p) t.1)) (sym same) d) refl)
     | inr other ↦ one-other n t.0 other
   ]
   none-below (suc h) p t d = elim (same-or n t.0) [
     | inl same ↦
         let w : View A = internal (Some p) (id_of A h t.1) (map (λ b. (b.0, id_of A h b.1)) t.2) in
-        absurd (apart p w (subst (λ i. look i ≡ Some w) (sym same) d.0) refl)
+        absurd (apart p w (subst (λ i. node_at i ≡ Some w) (sym same) d.0) refl)
     | inr other ↦
         let z = one-other n t.0 other in
         let a = none-below h t.0 t.1 d.1 in
@@ -183,14 +183,14 @@ module _ {A : Type 0} (look : Look A) (n : ℕ) (apart : (p : ℕ) (v : View A) 
   ]
 
   -- so it is at most the root
-  pub at-root : (h : ℕ) (p : Option ℕ) (t : Shape A h) → Holds A look h p t → times_under A h n t ≡ one n (id_of A h t)
+  pub at-root : (h : ℕ) (p : Option ℕ) (t : Shape A h) → Holds A node_at h p t → times_under A h n t ≡ one n (id_of A h t)
   at-root zero p t d = refl
   at-root (suc h) p t d =
       let a = none-below h t.0 t.1 d.1 in
       let r = none-in h t.0 t.2 (none-below h t.0) d.2 in
       omega arith
 
-module _ {K V : Type 0} (cmp : K → K → Ordering) (laws : IsTotalOrder cmp) (look : Look (K × V)) (root odd : ℕ) where
+module _ {K V : Type 0} (cmp : K → K → Ordering) (laws : IsTotalOrder cmp) (node_at : NodeMap (K × V)) (root odd : ℕ) where
   two-items : (n : ℕ) → n ≢ root → 2 ≤ least_beside root odd n
   two-items n other = elim (same-or n odd) [
     | inl same ↦ grind (arith, nat_tests)
@@ -201,36 +201,36 @@ module _ {K V : Type 0} (cmp : K → K → Ordering) (laws : IsTotalOrder cmp) (
   first-item [] some = absurd (omega arith)
   first-item (x ∷ xs) some = (x, xs, refl)
 
-  module _ (h : ℕ) (t : Shape (K × V) h) (here : id_of (K × V) h t ≡ root) (d : Holds (K × V) look h None t) (up : Rises cmp (items_under (K × V) h t))
-      (sized : (n : ℕ) (v : View (K × V)) → 0 < times_under (K × V) h n t → look n ≡ Some v → IsNearlySized root odd n v) where
-    root-view : (v : View (K × V)) → look root ≡ Some v → parent_of v ≡ None
+  module _ (h : ℕ) (t : Shape (K × V) h) (here : id_of (K × V) h t ≡ root) (d : Holds (K × V) node_at h None t) (up : Rises cmp (items_under (K × V) h t))
+      (sized : (n : ℕ) (v : View (K × V)) → 0 < times_under (K × V) h n t → node_at n ≡ Some v → IsNearlySized root odd n v) where
+    root-view : (v : View (K × V)) → node_at root ≡ Some v → parent_of v ≡ None
     root-view v at = by h t d here where
-      by : (h : ℕ) (t : Shape (K × V) h) → Holds (K × V) look h None t → id_of (K × V) h t ≡ root → parent_of v ≡ None
+      by : (h : ℕ) (t : Shape (K × V) h) → Holds (K × V) node_at h None t → id_of (K × V) h t ≡ root → parent_of v ≡ None
       by zero t d same =
-          let e : look root ≡ Some (leaf None t.1) = subst (λ i. look i ≡ Some (leaf None t.1)) same d in
+          let e : node_at root ≡ Some (leaf None t.1) = subst (λ i. node_at i ≡ Some (leaf None t.1)) same d in
           let is : v ≡ leaf None t.1 = cc in
           ap parent_of is
       by (suc h) t d same =
           let w : View (K × V) = internal None (id_of (K × V) h t.1) (map (λ b. (b.0, id_of (K × V) h b.1)) t.2) in
-          let e : look root ≡ Some w = subst (λ i. look i ≡ Some w) same d.0 in
+          let e : node_at root ≡ Some w = subst (λ i. node_at i ≡ Some w) same d.0 in
           let is : v ≡ w = cc in
           ap parent_of is
 
-    used-root : (h : ℕ) (t : Shape (K × V) h) → Holds (K × V) look h None t → times_used (look (id_of (K × V) h t)) ≡ 1
+    used-root : (h : ℕ) (t : Shape (K × V) h) → Holds (K × V) node_at h None t → times_used (node_at (id_of (K × V) h t)) ≡ 1
     used-root zero t d = rw d refl
     used-root (suc h) t d = rw d.0 refl
 
-    few-at : (n : ℕ) (o : Option (View (K × V))) → look n ≡ o → times_under (K × V) h n t ≤ times_used o
+    few-at : (n : ℕ) (o : Option (View (K × V))) → node_at n ≡ o → times_under (K × V) h n t ≤ times_used o
     few-at n None at =
-        let a = at-root look n (λ p v e q. (let f : None ≡ Some v = sym at ∙ e in cc)) h None t d in
+        let a = at-root node_at n (λ p v e q. (let f : None ≡ Some v = sym at ∙ e in cc)) h None t d in
         elim (same-or n (id_of (K × V) h t)) [
-          | inl same ↦ let u = used-root h t d in let z : times_used (look (id_of (K × V) h t)) ≡ 0 = rw (← same) (ap times_used at) in absurd (omega arith)
+          | inl same ↦ let u = used-root h t d in let z : times_used (node_at (id_of (K × V) h t)) ≡ 0 = rw (← same) (ap times_used at) in absurd (omega arith)
           | inr other ↦ let z = one-other n (id_of (K × V) h t) other in omega arith
         ]
     few-at n (Some v) at = elim (same-or n root) [
       | inl same ↦
-          let up_none = root-view v (subst (λ i. look i ≡ Some v) same at) in
-          let a = at-root look n (λ p w e q. (let is : v ≡ w = (let f : Some v ≡ Some w = sym at ∙ e in cc) in let g : Some p ≡ None = sym q ∙ (ap parent_of (sym is) ∙ up_none) in cc)) h None t d in
+          let up_none = root-view v (subst (λ i. node_at i ≡ Some v) same at) in
+          let a = at-root node_at n (λ p w e q. (let is : v ≡ w = (let f : Some v ≡ Some w = sym at ∙ e in cc) in let g : Some p ≡ None = sym q ∙ (ap parent_of (sym is) ∙ up_none) in cc)) h None t d in
           let l = low n (id_of (K × V) h t) in
           omega arith
       | inr other ↦ elim (zero-or (times_under (K × V) h n t)) [
@@ -240,7 +240,7 @@ module _ {K V : Type 0} (cmp : K → K → Ordering) (laws : IsTotalOrder cmp) (
             let s0 = s.0 in
             let two = two-items n other in
             let f = first-item (items_of v) (omega arith) in
-            times-once cmp laws f.0.0 look n v at f.0.1 f.1 f.2 h None t d up
+            times-once cmp laws f.0.0 node_at n v at f.0.1 f.1 f.2 h None t d up
       ]
     ]
       where
@@ -248,5 +248,5 @@ module _ {K V : Type 0} (cmp : K → K → Ordering) (laws : IsTotalOrder cmp) (
         low m i = elim (same-or m i) [ inl same ↦ grind (arith, nat_tests) | inr apart ↦ let z = one-other m i apart in omega arith ]
 
     -- no number stands twice under the root, and each is used
-    pub few : (n : ℕ) → times_under (K × V) h n t ≤ times_used (look n)
-    few n = few-at n (look n) refl
+    pub few : (n : ℕ) → times_under (K × V) h n t ≤ times_used (node_at n)
+    few n = few-at n (node_at n) refl

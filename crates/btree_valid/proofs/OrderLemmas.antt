@@ -5,9 +5,9 @@ use Rattle.std.specs.List.{AllByRecursion}
 use Rattle.std.specs.declared.cmp.Ordering.{Ordering}
 use Rattle.std.specs.declared.cmp.Ordering.TheVariants.{Less}
 use Rattle.btree_item.specs.Pairs.{Ascends}
-use Rattle.btree_shape.proofs.Frames.{AllByRecursion-append, AllByRecursion-right}
-use Rattle.btree_shape.proofs.Searched.{Rises, ascends, rises, rises-left}
-use Rattle.btree_valid.specs.Odd.{CanOrder, HasPassed, IsAbove, Orders}
+use Rattle.btree_shape.proofs.Paths.Frames.{AllByRecursion-append, AllByRecursion-right}
+use Rattle.btree_shape.proofs.LookUp.KeyInList.{Rises, ascends, rises, rises-left}
+use Rattle.btree_valid.specs.OffByOne.{CanOrder, HasPassed, IsAbove, Orders}
 
 module _ {K V : Type 0} (cmp : K → K → Ordering) where
   abbrev pub AreBelow : List (K × V) → K → Type 0
@@ -72,25 +72,25 @@ module _ {K V : Type 0} (cmp : K → K → Ordering) where
     pub only : (after : Option K) → Orders cmp rest last after → Orders cmp all start after
     pub always : CanOrder cmp all start → CanOrder cmp rest last
 
-  pub way-start : (all rest : List (K × V)) (start : Option K) → rest ≡ all → IsOnWay all start rest start
-  way-start all rest start same = record {
+  pub path-start : (all rest : List (K × V)) (start : Option K) → rest ≡ all → IsOnWay all start rest start
+  path-start all rest start same = record {
     only = λ after. subst (λ l. Orders cmp l start after) same;
     always = subst (λ l. CanOrder cmp l start) (sym same);
   }
 
-  pub way-end : (all rest : List (K × V)) (start last : Option K) → rest ≡ [] → IsOnWay all start rest last → Orders cmp all start last
-  way-end all rest start last none w = w.only last (subst (λ l. Orders cmp l last last) (sym none) (orders-none last))
+  pub path-end : (all rest : List (K × V)) (start last : Option K) → rest ≡ [] → IsOnWay all start rest last → Orders cmp all start last
+  path-end all rest start last none w = w.only last (subst (λ l. Orders cmp l last last) (sym none) (orders-none last))
 
   module _ (all rest more : List (K × V)) (start last : Option K) (x : K × V) (key : K) (next : rest ≡ x ∷ more) (same : key ≡ x.0) (w : IsOnWay all start rest last) where
     -- a key that is not above the last one
-    pub way-stops : (IsAbove cmp last key → IsTrue false) → CanOrder cmp all start → ⊥
-    way-stops not c =
+    pub path-stops : (IsAbove cmp last key → IsTrue false) → CanOrder cmp all start → ⊥
+    path-stops not c =
         let up = can-above x more last (subst (λ l. CanOrder cmp l last) next (w.always c)) in
         let P : K → Type 0 = λ k. IsAbove cmp last k in
         let no : false ≡ true = not (subst P (sym same) up) in absurd (cc)
 
-    pub way-next : IsTotalOrder cmp → IsAbove cmp last key → IsOnWay all start more (Some key)
-    way-next laws up =
+    pub path-next : IsTotalOrder cmp → IsAbove cmp last key → IsOnWay all start more (Some key)
+    path-next laws up =
         let one = orders-one laws last x key same up in
         record {
           only = λ after f. w.only after (subst (λ l. Orders cmp l last after) (sym next) (orders-append (x ∷ []) more last (Some key) after one f));

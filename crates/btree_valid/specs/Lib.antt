@@ -1,2 +1,2 @@
-pub mod Odd
+pub mod OffByOne
 pub mod Parts

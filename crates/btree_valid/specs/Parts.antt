@@ -6,9 +6,9 @@ use Rattle.btree_node.specs.Node.{view_of}
 use Rattle.btree_store.specs.Content.{Content}
 use Rattle.btree_view.specs.View.{items_of}
 use Rattle.btree_shape.specs.TreeState.{views}
-use Rattle.btree_valid.specs.Odd.{CanOrder, CanPassUnder, IsAbove, Orders, PassesUnder}
-use Rattle.btree_valid.specs.declared.odd.Part.{Part}
-use Rattle.btree_valid.specs.declared.odd.Walk.{Walk}
+use Rattle.btree_valid.specs.OffByOne.{CanOrder, CanPassUnder, IsAbove, Orders, PassesUnder}
+use Rattle.btree_valid.specs.declared.off_by_one.Part.{Part}
+use Rattle.btree_valid.specs.declared.off_by_one.Walk.{Walk}
 
 -- the walk passes a key
 pub record PassesKey {K : Type 0} (cmp : K → K → Ordering) (key : K) (seen after : Walk K) : Type 0 where

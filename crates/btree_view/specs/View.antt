@@ -9,8 +9,8 @@ pub data View (A : Type 0) : Type 0 where
   internal : Option ℕ → ℕ → List (A × ℕ) → View A
 
 -- the nodes under their numbers
-abbrev pub Look : Type 0 → Type 0
-Look A = ℕ → Option (View A)
+abbrev pub NodeMap : Type 0 → Type 0
+NodeMap A = ℕ → Option (View A)
 
 module _ {A : Type 0} where
   -- the number of the node above, if there is one

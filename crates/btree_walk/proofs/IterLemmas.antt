@@ -2,11 +2,11 @@
 use Rattle.std.proofs.Common.{◌≡◌, ℕ, ◌-◌, ◌^◌, ◌<◌, ◌≤◌, List, ◌∷◌, length, Some, None, ap, arith}
 use Rattle.std.specs.FinMap as map
 use Rattle.std.specs.declared.cmp.Ordering.{Ordering}
-use Rattle.btree_shape.specs.TreeState.{TreeState, looks, pairs_of}
+use Rattle.btree_shape.specs.TreeState.{TreeState, node_map, pairs_of}
 use Rattle.btree_shape.specs.WellFormed.{IsSized, IsWellFormed}
-use Rattle.btree_shape.specs.Left.{IsUnder}
-use Rattle.btree_shape.proofs.Density.{height-low}
-use Rattle.btree_shape.proofs.TreeStates.{height_held}
+use Rattle.btree_shape.specs.Focus.Left.{IsUnder}
+use Rattle.btree_shape.proofs.Trees.Density.{height-low}
+use Rattle.btree_shape.proofs.Trees.States.{height_held}
 
 module _ {B : Type 0} (whole rest : List B) (x : B) (left : ℕ) (counted : left ≡ length whole) (is : whole ≡ x ∷ rest) where
   pub some-left : 1 ≤ left
@@ -17,8 +17,8 @@ module _ {B : Type 0} (whole rest : List B) (x : B) (left : ℕ) (counted : left
 
 module _ {K V : Type 0} (cmp : K → K → Ordering) (s : TreeState K V) (root : ℕ) where
   -- the root has no node above it
-  pub root-under : length (pairs_of s) < 2 ^ 64 → IsWellFormed cmp (looks s) (Some root) s.len (pairs_of s) → IsUnder (looks s) (map.len s.nodes) 0 root
+  pub root-under : length (pairs_of s) < 2 ^ 64 → IsWellFormed cmp (node_map s) (Some root) s.len (pairs_of s) → IsUnder (node_map s) (map.len s.nodes) 0 root
   root-under low w =
       let high = height_held s (IsSized root) root (pairs_of s) w.formed in
-      let few = height-low (K × V) (looks s) root (pairs_of s) w.formed (omega arith) in
-      record { height = w.formed.height; parent = None; list = pairs_of s; spells = w.formed.spells; low = omega arith; room = omega arith }
+      let few = height-low (K × V) (node_map s) root (pairs_of s) w.formed (omega arith) in
+      record { height = w.formed.height; parent = None; list = pairs_of s; represents = w.formed.represents; low = omega arith; room = omega arith }

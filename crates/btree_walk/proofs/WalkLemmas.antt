@@ -7,10 +7,10 @@ use Rattle.btree_store.specs.Content.{Content}
 use Rattle.btree_node.specs.declared.node.Node.{Node}
 use Rattle.btree_node.specs.Node.{view_of}
 use Rattle.btree_view.specs.View.{View, leaf, internal, branches_of, items_of, children_of}
-use Rattle.btree_shape.specs.Spells.{Spells, spelled}
+use Rattle.btree_shape.specs.Represents.{Represents, represented}
 use Rattle.btree_shape.specs.TreeState.{views}
-use Rattle.btree_shape.specs.Left.{left_above, left_in, IsUnder, AreRows}
-use Rattle.btree_shape.proofs.Left.{left-push, rows-push, rows-pop, under-leaf, under-internal}
+use Rattle.btree_shape.specs.Focus.Left.{left_above, left_in, IsUnder, AreRows}
+use Rattle.btree_shape.proofs.LookUp.Walk.{left-push, rows-push, rows-pop, under-leaf, under-internal}
 use Rattle.btree_walk.specs.declared.ancestors.Ancestor.{Ancestor}
 use Rattle.btree_walk.specs.Rows.{rows_of}
 
@@ -32,16 +32,16 @@ module _ {K V : Type 0} (nodes : Content (Node K V)) (len : ℕ) where
   pub record IsDown (start : List (K × V)) (ancestors : List (Ancestor K V)) (id : ℕ) : Type 0 where
     pub rows : AreOpen ancestors
     pub under : IsUnder (views nodes) len (length (rows_of ancestors)) id
-    pub list : start ≡ spelled (views nodes) len id ++ left_over ancestors
+    pub list : start ≡ represented (views nodes) len id ++ left_over ancestors
 
   pub under-used : (depth id : ℕ) → IsUnder (views nodes) len depth id → IsSome (map.get nodes id)
-  under-used depth id u = at u.height u.spells
+  under-used depth id u = at u.height u.represents
     where
       some : (o : Option (Node K V)) (v : View (K × V)) → option_map view_of o ≡ Some v → IsSome o
       some None v e = absurd (cc)
       some (Some node) v e = refl
 
-      at : (height : ℕ) → Spells (views nodes) height u.parent id u.list → IsSome (map.get nodes id)
+      at : (height : ℕ) → Represents (views nodes) height u.parent id u.list → IsSome (map.get nodes id)
       at zero h = some (map.get nodes id) _ h
       at (suc height) h = some (map.get nodes id) _ h.3
 
@@ -82,9 +82,9 @@ module _ {K V : Type 0} (nodes : Content (Node K V)) (len : ℕ) where
                 list =
                     d.list
                     ∙ ap (λ ys. ys ++ left_over ancestors) i.list
-                    ∙ append_assoc (spelled (views nodes) len first) (left_in (views nodes) len bs) (left_over ancestors)
-                    ∙ ap (λ ys. spelled (views nodes) len first ++ ys) (sym (left-push (views nodes) len (rows_of ancestors) bs))
-                    ∙ ap (λ rows. spelled (views nodes) len first ++ left_above (views nodes) len rows) (sym more);
+                    ∙ append_assoc (represented (views nodes) len first) (left_in (views nodes) len bs) (left_over ancestors)
+                    ∙ ap (λ ys. represented (views nodes) len first ++ ys) (sym (left-push (views nodes) len (rows_of ancestors) bs))
+                    ∙ ap (λ rows. represented (views nodes) len first ++ left_above (views nodes) len rows) (sym more);
               }
 
   -- on the way up: what the ancestors that are passed had left is nothing
@@ -143,12 +143,12 @@ module _ {K V : Type 0} (nodes : Content (Node K V)) (len : ℕ) where
           let long : length (rows_of new) ≡ suc (length (rows_of rest)) = let q = length_push (rows_of rest) (row_of after) in let m = ap length more in omega arith in
           rw long all.0
 
-      pub up-list : left_over start ≡ x ∷ (spelled (views nodes) len child ++ left_over new)
+      pub up-list : left_over start ≡ x ∷ (represented (views nodes) len child ++ left_over new)
       up-list =
           up.list ∙ off.list
           ∙ ap (λ row. left_in (views nodes) len row ++ left_over rest) next
-          ∙ ap (λ l. x ∷ l) (append_assoc (spelled (views nodes) len child) (left_in (views nodes) len (row_of after)) (left_over rest)
-          ∙ ap (λ l. spelled (views nodes) len child ++ l) (sym (ap (left_above (views nodes) len) more ∙ left-push (views nodes) len (rows_of rest) (row_of after))))
+          ∙ ap (λ l. x ∷ l) (append_assoc (represented (views nodes) len child) (left_in (views nodes) len (row_of after)) (left_over rest)
+          ∙ ap (λ l. represented (views nodes) len child ++ l) (sym (ap (left_above (views nodes) len) more ∙ left-push (views nodes) len (rows_of rest) (row_of after))))
 
       pub up-room : length rest < 32
       up-room = let r = all.0.room in let m = length-map rest (row_of {K = K} {V = V}) in omega arith

@@ -5,9 +5,9 @@ use Rattle.std.specs.FinMap as finite
 use Rattle.btree_node.specs.declared.node.Node.{Node}
 use Rattle.btree_node.specs.Node.{view_of}
 use Rattle.btree_view.specs.View.{branches_of, items_of}
-use Rattle.btree_shape.specs.Left.{left_above, AreRows, IsUnder}
-use Rattle.btree_shape.specs.Spells.{spelled}
-use Rattle.btree_shape.specs.TreeState.{TreeState, looks}
+use Rattle.btree_shape.specs.Focus.Left.{left_above, AreRows, IsUnder}
+use Rattle.btree_shape.specs.Represents.{represented}
+use Rattle.btree_shape.specs.TreeState.{TreeState, node_map}
 use Rattle.btree_walk.specs.declared.ancestors.Ancestor.{Ancestor}
 
 module _ {K V : Type 0} where
@@ -28,19 +28,19 @@ module _ {K V : Type 0} where
 module _ {K V : Type 0} (tree : TreeState K V) where
   -- ancestors from the root down: under each item that is not passed stands a child, one level lower
   abbrev pub AreAncestors : List (Ancestor K V) → Type 0
-  AreAncestors ancestors = AreRows (looks tree) (finite.len tree.nodes) 0 (rows_of ancestors)
+  AreAncestors ancestors = AreRows (node_map tree) (finite.len tree.nodes) 0 (rows_of ancestors)
 
   -- a node that can stand below the last ancestor
   abbrev pub IsBelow : List (Ancestor K V) → (id : ℕ) → Type 0
-  IsBelow ancestors id = IsUnder (looks tree) (finite.len tree.nodes) (length (rows_of ancestors)) id
+  IsBelow ancestors id = IsUnder (node_map tree) (finite.len tree.nodes) (length (rows_of ancestors)) id
 
   -- what the ancestors have left
   abbrev pub left_in_ancestors : List (Ancestor K V) → List (K × V)
-  left_in_ancestors ancestors = left_above (looks tree) (finite.len tree.nodes) (rows_of ancestors)
+  left_in_ancestors ancestors = left_above (node_map tree) (finite.len tree.nodes) (rows_of ancestors)
 
   -- what is left of a walk that comes to a node: what the node spells, and what its ancestors have left
   abbrev pub left_at : (id : ℕ) → List (Ancestor K V) → List (K × V)
-  left_at id ancestors = spelled (looks tree) (finite.len tree.nodes) id ++ left_in_ancestors ancestors
+  left_at id ancestors = represented (node_map tree) (finite.len tree.nodes) id ++ left_in_ancestors ancestors
 
   -- what is left of a walk that stands in a leaf
   abbrev pub left_of : Option (Bor (Node K V)) → (passed : ℕ) → List (Ancestor K V) → List (K × V)

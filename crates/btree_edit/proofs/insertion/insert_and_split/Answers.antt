@@ -14,26 +14,26 @@ add_item-requires g c =
     can-take g.K.Ord.cmp g.met.K.Ord.total c.args.tree.now c.requires.some c.requires.tree c.args.item.0 c.args.item.1 c.args.addr c.requires.gap
     c.claim.new.claims.items c.claim.new.tree (c.claim.ensures.claimed c.if-not-claim.false) (c.claim.ensures.count c.if-not-claim.false ∙ c.requires.enough) c.unwrap.result (sym c.unwrap.ensures.value)
 
-pub split_up-at-requires-clause-splitting : goal.split_up-at-requires-clause-splitting
-split_up-at-requires-clause-splitting g c =
+pub split_upward-at-requires-clause-splitting : goal.split_upward-at-requires-clause-splitting
+split_upward-at-requires-clause-splitting g c =
     splitting g.K.Ord.cmp g.met.K.Ord.total c.args.tree.now c.requires.some c.requires.tree c.args.item.0 c.args.item.1 c.args.addr c.requires.gap
     c.claim.new.claims.items c.claim.new.tree (c.claim.ensures.claimed c.if-not-claim.false) (c.claim.ensures.count c.if-not-claim.false ∙ c.requires.enough) c.add_item.new.tree c.unwrap.result (sym c.unwrap.ensures.value) c.add_item.ensures
 
-pub split_up-at-requires-clause-numbers : goal.split_up-at-requires-clause-numbers
-split_up-at-requires-clause-numbers g c = claims-low c.args.tree.now.nodes c.claim.new.claims.items (c.claim.ensures.claimed c.if-not-claim.false).claimed.claims
+pub split_upward-at-requires-clause-numbers : goal.split_upward-at-requires-clause-numbers
+split_upward-at-requires-clause-numbers g c = claims-low c.args.tree.now.nodes c.claim.new.claims.items (c.claim.ensures.claimed c.if-not-claim.false).claimed.claims
 
 pub returns-clause-inserted : goal.returns-clause-inserted
 returns-clause-inserted g c =
     rw (c.set_len.ensures, c.len.ensures)
     (more-inserted g.K.Ord.cmp g.met.K.Ord.total c.args.tree.now c.requires.some c.requires.tree c.args.item.0 c.args.item.1 c.args.addr c.requires.gap
     c.claim.new.claims.items c.claim.new.tree (c.claim.ensures.claimed c.if-not-claim.false) (c.claim.ensures.count c.if-not-claim.false ∙ c.requires.enough) c.add_item.new.tree c.unwrap.result (sym c.unwrap.ensures.value) c.add_item.ensures
-    c.split_up-at.new.tree c.split_up-at.result c.split_up-at.ensures.split)
+    c.split_upward-at.new.tree c.split_upward-at.result c.split_upward-at.ensures.split)
 
 pub overflow_add-len : goal.overflow_add-len
 overflow_add-len g c =
     let claimed = same-len (c.claim.ensures.claimed c.if-not-claim.false).rest in
     let added = same-len c.add_item.ensures.rest in
-    let split = c.split_up-at.ensures.split.len in
+    let split = c.split_upward-at.ensures.split.len in
     let room = c.requires.room in
     rw c.len.ensures (omega arith)
 

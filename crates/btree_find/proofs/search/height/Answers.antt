@@ -15,4 +15,4 @@ loop-child-preserved g c = (descending-next c.args.tree.now.nodes c.in-Some.root
 pub returns-in-None-clause-levels : goal.returns-in-None-clause-levels
 returns-in-None-clause-levels g c =
     let e = descending-end c.args.tree.now.nodes c.in-Some.root _ c.loop-child.id c.loop-child.levels c.loop-child.invariant c.node.result.now c.node.ensures.value (sym c.in-None.ensures) in
-    subst (λ t. HasLevelsUnder c.args.tree.now t c.loop-child.levels) (sym (sym c.root_id.ensures ∙ c.in-Some.is)) (e.height, e.spells, e.counted)
+    subst (λ t. HasLevelsUnder c.args.tree.now t c.loop-child.levels) (sym (sym c.root_id.ensures ∙ c.in-Some.is)) (e.height, e.represents, e.counted)

@@ -1,11 +1,11 @@
-use Rattle.btree_raw.proofs.RebalanceLemmas.{mending, mended}
+use Rattle.btree_raw.proofs.RebalanceLemmas.{fixing, fixed}
 use Rattle.btree_raw.proofs.rebalance.rebalance_under.Goals as goal
 
-pub mend_up-requires : goal.mend_up-requires
-mend_up-requires g c = λ κs out. (
+pub fix_underflow_upward-requires : goal.fix_underflow_upward-requires
+fix_underflow_upward-requires g c = λ κs out. (
   out.0,
-  (out.1.0, (out.1.1.0, (out.1.1.1, mending g.K.Ord.cmp g.met.K.Ord.total c.args.tree.now c.args.id c.requires.odd c.args.addr c.requires.valid c.requires.room))),
+  (out.1.0, (out.1.1.0, (out.1.1.1, fixing g.K.Ord.cmp g.met.K.Ord.total c.args.tree.now c.args.id c.requires.odd c.args.addr c.requires.valid c.requires.room))),
 )
 
 pub returns : goal.returns
-returns g c = mended g.K.Ord.cmp g.met.K.Ord.total c.args.tree.now c.args.id c.requires.odd c.args.addr c.requires.valid c.requires.room c.mend_up.new.tree c.mend_up.result c.mend_up.ensures.mended c.mend_up.ensures.back
+returns g c = fixed g.K.Ord.cmp g.met.K.Ord.total c.args.tree.now c.args.id c.requires.odd c.args.addr c.requires.valid c.requires.room c.fix_underflow_upward.new.tree c.fix_underflow_upward.result c.fix_underflow_upward.ensures.fixed c.fix_underflow_upward.ensures.back

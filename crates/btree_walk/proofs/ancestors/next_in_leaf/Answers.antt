@@ -1,6 +1,6 @@
 use Rattle.btree_node.specs.Node.{view_of}
 use Rattle.btree_view.specs.View.{items_of}
-use Rattle.btree_shape.proofs.Left.{rest-next, rest-none}
+use Rattle.btree_shape.proofs.LookUp.Walk.{rest-next, rest-none}
 use Rattle.btree_walk.proofs.ancestors.next_in_leaf.Goals as goal
 use Rattle.std.proofs.lemmas.Grind.{common_steps}
 use Rattle.std.proofs.Common.{arith, rules}

@@ -1,8 +1,8 @@
 use Rattle.std.proofs.Common.{sym, ap, subst, ◌∙◌, ◌++◌, arith, append-nil, rules}
 use Rattle.std.specs.FinMap as map
-use Rattle.btree_shape.specs.Left.{left_above}
-use Rattle.btree_shape.specs.Spells.{spelled}
-use Rattle.btree_shape.specs.TreeState.{looks, pairs_under, pairs_of}
+use Rattle.btree_shape.specs.Focus.Left.{left_above}
+use Rattle.btree_shape.specs.Represents.{represented}
+use Rattle.btree_shape.specs.TreeState.{node_map, pairs_under, pairs_of}
 use Rattle.btree_shape.specs.WellFormed.{IsWellFormed}
 use Rattle.btree_walk.specs.Rows.{rows_of}
 use Rattle.btree_walk.proofs.IterLemmas.{root-under}
@@ -11,7 +11,7 @@ use Rattle.std.proofs.lemmas.Grind.{common_steps}
 
 pub descend-requires : goal.descend-requires
 descend-requires g c =
-    let well = subst (λ r. IsWellFormed g.K.Ord.cmp (looks c.args.tree.now) r c.args.tree.now.len (pairs_of c.args.tree.now)) (sym c.in-Some.ensures.value) c.in-Some.ensures.well_formed in
+    let well = subst (λ r. IsWellFormed g.K.Ord.cmp (node_map c.args.tree.now) r c.args.tree.now.len (pairs_of c.args.tree.now)) (sym c.in-Some.ensures.value) c.in-Some.ensures.well_formed in
     let fits = c.len-len.type_inv in
     let is = c.len-len.ensures in (
       omega arith,
@@ -27,9 +27,9 @@ descend-requires g c =
 pub returns-in-Some-clause-left : goal.returns-in-Some-clause-left
 returns-in-Some-clause-left g c =
     sym c.descend.ensures.left
-    ∙ ap (λ fs. spelled (looks c.args.tree.now) (map.len c.args.tree.now.nodes) c.in-Some.root ++ left_above (looks c.args.tree.now) (map.len c.args.tree.now.nodes) (rows_of fs)) c.requires.none
-    ∙ append-nil (spelled (looks c.args.tree.now) (map.len c.args.tree.now.nodes) c.in-Some.root)
-    ∙ ap (λ r. pairs_under (looks c.args.tree.now) r (map.len c.args.tree.now.nodes)) c.in-Some.ensures.value
+    ∙ ap (λ fs. represented (node_map c.args.tree.now) (map.len c.args.tree.now.nodes) c.in-Some.root ++ left_above (node_map c.args.tree.now) (map.len c.args.tree.now.nodes) (rows_of fs)) c.requires.none
+    ∙ append-nil (represented (node_map c.args.tree.now) (map.len c.args.tree.now.nodes) c.in-Some.root)
+    ∙ ap (λ r. pairs_under (node_map c.args.tree.now) r (map.len c.args.tree.now.nodes)) c.in-Some.ensures.value
 
 pub tell_fits-requires : goal.tell_fits-requires
 tell_fits-requires g c κs = search rules steps 200000

@@ -1,6 +1,6 @@
 use Rattle.std.proofs.Common.{ap}
 use Rattle.btree_shape.specs.TreeState.{TreeState}
-use Rattle.btree_shape.proofs.TreeStates.{empty-tree}
+use Rattle.btree_shape.proofs.Trees.States.{empty-tree}
 use Rattle.btree_ext.proofs.tree.Tree.new.Goals as goal
 
 pub invariant_of-result : goal.invariant_of-result

@@ -1,6 +1,6 @@
 use Rattle.std.proofs.Common.{sym, arith, rules}
 use Rattle.btree_raw.proofs.raw.RawBTree.item.Goals as goal
-use Rattle.btree_shape.proofs.Stores.{item-some, item-none}
+use Rattle.btree_shape.proofs.Trees.Stores.{item-some, item-none}
 use Rattle.std.proofs.lemmas.Grind.{common_steps}
 
 pub returns-in-Some : goal.returns-in-Some

@@ -1,6 +1,6 @@
 use Rattle.std.proofs.Common.{sym, ap, ◌∙◌, ◌++◌, length, arith, rules}
 use Rattle.std.specs.FinMap as map
-use Rattle.btree_shape.specs.Left.{left_above}
+use Rattle.btree_shape.specs.Focus.Left.{left_above}
 use Rattle.btree_shape.specs.TreeState.{views}
 use Rattle.btree_walk.specs.Rows.{left_in_leaf, rows_of}
 use Rattle.btree_walk.proofs.IterLemmas.{one-less}

@@ -1,0 +1,203 @@
+-- Single nodes of a store in the steps that mend, as definitions see them.
+use Rattle.std.proofs.Common.{◌≡◌, ℕ, suc, inl, inr, ◌+◌, ◌<◌, ◌≤◌, ◌^◌, ◌-◌, List, [], ◌∷◌, ◌++◌, length, map, set, Option, Some, None, IsSomeAnd, IsTrue, refl, sym, ap, subst, ◌∙◌, option_map, slice_get, arith}
+use Rattle.std.proofs.lemmas.List.{length-map, length-set, map-append}
+use Rattle.std.proofs.lemmas.Slice.Zip.{firsts-zip, seconds-zip}
+use Rattle.std.specs.FinMap as nodes_map
+use Rattle.std.specs.List.{remove}
+use Rattle.std.specs.Option.{option_and_then}
+use Rattle.btree_store.specs.Content.{Content}
+use Rattle.btree_store.specs.ContentLaws.{get-remove_other, get-remove_same}
+use Rattle.btree_item.specs.Offset.{index_offset}
+use Rattle.btree_node.specs.declared.node.Node.{Node}
+use Rattle.btree_node.specs.Node.{view_of}
+use Rattle.btree_view.specs.Edits.{HasChildFor, HasSpare, HaveRoom, is_internal, joined, pushed_left, pushed_right, with_other_item, with_other_item_at, with_parent, without}
+use Rattle.btree_view.specs.View.{NodeMap, View, leaf, internal, children_of, items_of, most_of, size_of}
+use Rattle.btree_shape.specs.Lists.{as_list, one}
+use Rattle.btree_shape.specs.SiblingSteps.{IsRemade, ShrinksRoot}
+use Rattle.btree_shape.specs.Step.{SetsParents, RemovesNode}
+use Rattle.btree_shape.specs.WellFormed.{times_used}
+use Rattle.btree_shape.proofs.Paths.Frames.{one-other, one-self}
+use Rattle.btree_shape.proofs.Trees.Numbers.{same-or}
+use Rattle.btree_shape.specs.TreeState.{views}
+use Rattle.btree_raw.specs.NodeSteps.{CanGiveItem, CanShrinkRoot, ChangesSeparator, ClearsParent, GainsAll, GainsFirst, GainsLast, HasSeparator, HasRoomFor, HasRoomForAll, LosesSeparator, LosesFirst, LosesLast}
+use Rattle.btree_raw.specs.Steps.{SetsParent}
+use Rattle.btree_shape.proofs.Places.Untouched.{other-test}
+use Rattle.btree_shape.proofs.Trees.Stores.{most-few, writes_node, view-at}
+use Rattle.btree_raw.proofs.SeparatorLemmas.{one-more}
+use Rattle.btree_internal.proofs.BranchLemmas.{map_remove}
+
+-- what stands in a node's new place, in items and children
+module _ {A : Type 0} where
+  pub kind-left : (x : A) (child : Option ℕ) (v : View A) → is_internal (pushed_left x child v) ≡ is_internal v
+  kind-left x child (leaf p xs) = refl
+  kind-left x None (internal p u bs) = refl
+  kind-left x (Some n) (internal p u bs) = refl
+
+  pub kind-right : (x : A) (child : Option ℕ) (v : View A) → is_internal (pushed_right x child v) ≡ is_internal v
+  kind-right x child (leaf p xs) = refl
+  kind-right x None (internal p u bs) = refl
+  kind-right x (Some n) (internal p u bs) = refl
+
+  pub remade-left : (x : A) (child : Option ℕ) (v : View A) → HasChildFor child v → IsRemade v (pushed_left x child v) (x ∷ items_of v) (as_list child ++ children_of v)
+  remade-left x None (leaf p xs) k = record { kind = refl; parent = refl; items_are = refl; children_are = refl }
+  remade-left x (Some n) (leaf p xs) k = absurd (cc)
+  remade-left x None (internal p u bs) k = absurd (cc)
+  remade-left x (Some n) (internal p u bs) k = record { kind = refl; parent = refl; items_are = refl; children_are = refl }
+
+  pub remade-right : (x : A) (child : Option ℕ) (v : View A) → HasChildFor child v → IsRemade v (pushed_right x child v) (items_of v ++ x ∷ []) (children_of v ++ as_list child)
+  remade-right x None (leaf p xs) k = record { kind = refl; parent = refl; items_are = refl; children_are = refl }
+  remade-right x (Some n) (leaf p xs) k = absurd (cc)
+  remade-right x None (internal p u bs) k = absurd (cc)
+  remade-right x (Some n) (internal p u bs) k = record {
+    kind = refl;
+    parent = refl;
+    items_are = map-append (λ b. b.0) bs ((x, n) ∷ []);
+    children_are = ap (λ l. u ∷ l) (map-append (λ b. b.1) bs ((x, n) ∷ []));
+  }
+
+  as-many : (bs : List (A × ℕ)) (i : ℕ) (x : A) → length (map {B = ℕ} (λ b. b.1) bs) ≡ length (set (map {B = A} (λ b. b.0) bs) i x)
+  as-many bs i x = length-map bs (λ b. b.1) ∙ sym (length-set (map (λ b. b.0) bs) i x ∙ length-map bs (λ b. b.0))
+
+  pub remade-other : (i : ℕ) (x : A) (v : View A) → IsRemade v (with_other_item i x v) (set (items_of v) i x) (children_of v)
+  remade-other i x (leaf p xs) = record { kind = refl; parent = refl; items_are = refl; children_are = refl }
+  remade-other i x (internal p u bs) = record {
+    kind = refl;
+    parent = refl;
+    items_are = firsts-zip _ _ (as-many bs i x);
+    children_are = ap (λ l. u ∷ l) (seconds-zip _ _ (as-many bs i x));
+  }
+
+  pub remade-without : (i : ℕ) (v : View A) → IsTrue (is_internal v) → IsRemade v (without i v) (remove (items_of v) i) (remove (children_of v) (suc i))
+  remade-without i (leaf p xs) inner = absurd (cc)
+  remade-without i (internal p u bs) inner = record {
+    kind = refl;
+    parent = refl;
+    items_are = map_remove (λ b. b.0) bs i;
+    children_are = ap (λ l. u ∷ l) (map_remove (λ b. b.1) bs i);
+  }
+
+  pub remade-joined : (x : A) (v w : View A) → is_internal v ≡ is_internal w → IsRemade v (joined v x w) (items_of v ++ x ∷ items_of w) (children_of v ++ children_of w)
+  remade-joined x (leaf p xs) (leaf q ys) k = record { kind = refl; parent = refl; items_are = refl; children_are = refl }
+  remade-joined x (leaf p xs) (internal q u bs) k = absurd (cc)
+  remade-joined x (internal p u bs) (leaf q ys) k = absurd (cc)
+  remade-joined x (internal p u bs) (internal q w cs) k = record {
+    kind = refl;
+    parent = refl;
+    items_are = map-append (λ b. b.0) bs ((x, w) ∷ cs);
+    children_are = ap (λ l. u ∷ l) (map-append (λ b. b.1) bs ((x, w) ∷ cs));
+  }
+
+-- an index that is small is an offset
+pub index-is : (index : ℕ) (o : Option ℕ) → index < 2 ^ 64 - 1 → o ≡ index_offset index → o ≡ Some index
+index-is index o low e = e ∙ rw (other-test index (2 ^ 64 - 1) (omega arith)) refl
+
+module _ {K V : Type 0} (nodes : Content (Node K V)) (id : ℕ) (node : Node K V) (at : Some node ≡ nodes_map.get nodes id) where
+  here-at : views nodes id ≡ Some (view_of node)
+  here-at = ap (option_map view_of) (sym at)
+
+  pub room-for : (child : Option ℕ) → HasRoomFor (views nodes) id child → (size_of (view_of node) ≤ most_of (view_of node)) × HasChildFor child (view_of node)
+  room-for child can = rw (view-at nodes id node can.node at can.here) (can.room, can.kind)
+
+  pub room-for-all : (other : View (K × V)) → HasRoomForAll (views nodes) id other → (is_internal other ≡ is_internal (view_of node)) × HaveRoom (view_of node) other
+  room-for-all other can = rw (view-at nodes id node can.node at can.here) (can.kind, can.room)
+
+  module _ (index : ℕ) (can : HasSeparator (views nodes) id index) where
+    abbrev same : view_of node ≡ can.node
+    same = view-at nodes id node can.node at can.here
+
+    small : index < 2 ^ 64 - 1
+    small = omega (arith, can.within, can.most, most-few can.node)
+
+    pub asks-between : (o : Option ℕ) → o ≡ index_offset index → IsTrue (is_internal (view_of node)) × IsSomeAnd o (λ i. i < size_of (view_of node))
+    asks-between o e = rw (same, index-is index o small e) (can.inner, can.within)
+
+    pub next-small : index + 1 ≤ 2 ^ 64 - 1
+    next-small = omega (arith, small)
+
+    pub next-within : (next : ℕ) → next ≡ index + 1 → next < length (children_of (view_of node))
+    next-within next e = let k = (one-more can.node can.inner).0 in rw same (omega (arith, can.within))
+
+    pub changes-item : (new : Content (Node K V)) (after : Node K V) (o : Option ℕ) → o ≡ index_offset index → (old x : K × V)
+        → Some old ≡ option_and_then (slice_get (items_of (view_of node))) o → view_of after ≡ with_other_item_at o x (view_of node)
+        → new ≡ nodes_map.insert nodes id after → ChangesSeparator (views nodes) (views new) id index old x
+    changes-item new after o e old x answer is made =
+        let so : o ≡ Some index = index-is index o small e in
+        let p = writes_node nodes new id after made in
+        record {
+          node = view_of node;
+          here = here-at;
+          was = sym (subst (λ o. Some old ≡ option_and_then (slice_get (items_of (view_of node))) o) so answer);
+          writes_node = record {
+            here = p.here ∙ ap Some (is ∙ ap (λ o. with_other_item_at o x (view_of node)) so);
+            others = p.others;
+          };
+        }
+
+  module _ (new : Content (Node K V)) (after : Node K V) (made : new ≡ nodes_map.insert nodes id after) where
+    pub loses-first : (x : K × V) (child : Option ℕ) → HasChildFor child (view_of node) → view_of node ≡ pushed_left x child (view_of after) → LosesFirst (views nodes) (views new) id x child
+    loses-first x child kind is = record {
+      rest = view_of after;
+      was = here-at ∙ ap Some is;
+      kind = kind ∙ (ap is_internal is ∙ kind-left x child (view_of after));
+      writes_node = writes_node nodes new id after made;
+    }
+
+    pub loses-last : (x : K × V) (child : Option ℕ) → HasChildFor child (view_of node) → view_of node ≡ pushed_right x child (view_of after) → LosesLast (views nodes) (views new) id x child
+    loses-last x child kind is = record {
+      rest = view_of after;
+      was = here-at ∙ ap Some is;
+      kind = kind ∙ (ap is_internal is ∙ kind-right x child (view_of after));
+      writes_node = writes_node nodes new id after made;
+    }
+
+    pub gains-first : (x : K × V) (child : Option ℕ) → view_of after ≡ pushed_left x child (view_of node) → GainsFirst (views nodes) (views new) id x child
+    gains-first x child is = let p = writes_node nodes new id after made in
+        record { node = view_of node; here = here-at; writes_node = record { here = p.here ∙ ap Some is; others = p.others } }
+
+    pub gains-last : (x : K × V) (child : Option ℕ) → view_of after ≡ pushed_right x child (view_of node) → GainsLast (views nodes) (views new) id x child
+    gains-last x child is = let p = writes_node nodes new id after made in
+        record { node = view_of node; here = here-at; writes_node = record { here = p.here ∙ ap Some is; others = p.others } }
+
+    pub gains-all : (x : K × V) (other : View (K × V)) → view_of after ≡ joined (view_of node) x other → GainsAll (views nodes) (views new) id x other
+    gains-all x other is = let p = writes_node nodes new id after made in
+        record { node = view_of node; here = here-at; writes_node = record { here = p.here ∙ ap Some is; others = p.others } }
+
+    pub loses-between : (index : ℕ) (x : K × V) → slice_get (items_of (view_of node)) index ≡ Some x → view_of after ≡ without index (view_of node) → LosesSeparator (views nodes) (views new) id index x
+    loses-between index x was is = let p = writes_node nodes new id after made in
+        record { node = view_of node; here = here-at; was = was; writes_node = record { here = p.here ∙ ap Some is; others = p.others } }
+
+    pub clears-parent : view_of after ≡ with_parent None (view_of node) → ClearsParent (views nodes) (views new) id
+    clears-parent is = let p = writes_node nodes new id after made in
+        record { here = p.here ∙ (ap Some is ∙ sym (ap (option_map (with_parent None)) here-at)); others = p.others }
+
+module _ {K V : Type 0} (old new : Content (Node K V)) (id : ℕ) where
+  pub loses : new ≡ nodes_map.remove old id → RemovesNode (views old) (views new) id
+  loses e = record {
+    here = ap (option_map view_of) (ap (λ m. nodes_map.get m id) e ∙ get-remove_same old id);
+    others = λ n differs. ap (option_map view_of) (ap (λ m. nodes_map.get m n) e ∙ get-remove_other old id n differs);
+  }
+
+module _ {A : Type 0} (node_at new : NodeMap A) (parent : ℕ) where
+  pub adopts-one : (child : Option ℕ) (id : ℕ) → child ≡ Some id → SetsParent node_at new id parent → SetsParents node_at new parent (as_list child)
+  adopts-one child id e s = rw e (record {
+    moved = λ n m. elim (same-or n id) [ inl eq ↦ rw eq s.here | inr ne ↦ absurd (let o = one-other n id ne in omega arith) ];
+    kept = λ n z. s.others n (λ eq. absurd (let o = one-self id in let q = ap (λ k. one k id) eq in omega arith));
+  })
+
+pub adopts-no : {A : Type 0} (node_at : NodeMap A) (parent : ℕ) (child : Option ℕ) → child ≡ None → SetsParents node_at node_at parent (as_list child)
+adopts-no node_at parent child e = rw e (record { moved = λ n m. absurd (omega arith); kept = λ n z. refl })
+
+-- the release of a root
+module _ {A : Type 0} (node_at one_look : NodeMap A) (root child : ℕ) (can : CanShrinkRoot node_at root child) (a : RemovesNode node_at one_look root) where
+  pub child-used : 0 < times_used (one_look child)
+  child-used = rw (a.others child can.apart) can.used
+
+  pub shrinks_root : (new : NodeMap A) → ClearsParent one_look new child → ShrinksRoot node_at new root child
+  shrinks_root new b = record {
+    node = can.node;
+    at_root = can.here;
+    only = can.only;
+    gone = b.others root (λ e. can.apart (sym e)) ∙ a.here;
+    new_child = b.here ∙ ap (option_map (with_parent None)) (a.others child can.apart);
+    kept = λ n r c. b.others n c ∙ a.others n r;
+  }

@@ -1,0 +1,145 @@
+-- A climb that mends nodes with too few items: one step of it between two siblings, and what whoever followed an address knows then.
+use Rattle.std.specs.Prelude.{◌≡◌, ℕ, suc, ◌+◌, ◌<◌, ◌≤◌, ◌⊎◌, List, length, Option, Some, None, option_map, Bool, true, false}
+use Rattle.btree_item.specs.declared.address.Address.{Address}
+use Rattle.btree_view.specs.View.{View, NodeMap, children_of, parent_of, size_of}
+use Rattle.btree_moved.specs.declared.siblings.Siblings.{Siblings}
+use Rattle.btree_shape.specs.Focus.Overflow.{IsRepaired}
+use Rattle.btree_shape.specs.UnderflowFix.{BorrowsFromSibling, IsUnderflowFixed, MergesWithSibling, NoneSpares, child_at}
+use Rattle.btree_shape.specs.Need.{levels_above}
+use Rattle.btree_shape.specs.Place.{IsPlace, IsValid}
+use Rattle.btree_shape.specs.Lists.{one, times_listed}
+use Rattle.btree_shape.specs.Focus.Underflow.{MayUnderflowAt}
+use Rattle.btree_shape.specs.TreeState.{TreeState, node_map}
+use Rattle.btree_shape.specs.WellFormed.{IsFormed, times_used}
+
+-- two neighbouring children of `parent`, if both are there
+abbrev pub siblings_of : (parent index : ℕ) → (left right : Option ℕ) → Option Siblings
+siblings_of parent index (Some left) (Some right) = Some (record { parent = parent; index = index; left = left; right = right })
+siblings_of parent index (Some left) None = None
+siblings_of parent index None right = None
+
+module _ {A : Type 0} (node_at : NodeMap A) where
+  -- node `id` has an item too few
+  pub record Underflows (id : ℕ) : Type 0 where
+    pub node : View A
+    pub here : node_at id ≡ Some node
+    pub few : size_of node ≤ 2
+
+  -- the two siblings have at most five items together, so that with an item more they fit into one node
+  pub record HaveFew (siblings : Siblings) : Type 0 where
+    pub low : View A
+    pub high : View A
+    pub at_left : node_at siblings.left ≡ Some low
+    pub at_right : node_at siblings.right ≡ Some high
+    pub few : size_of low + size_of high ≤ 5
+
+  -- node `id` is one of the children of node `parent`
+  pub record IsChild (parent id : ℕ) : Type 0 where
+    pub node : View A
+    pub here : node_at parent ≡ Some node
+    pub child : 0 < times_listed id (children_of node)
+
+  -- the children of `parent` at an index and at the next one, if there are such
+  abbrev pub siblings_at : (parent index : ℕ) → Option Siblings
+  siblings_at parent index = siblings_of parent index (child_at node_at parent index) (child_at node_at parent (suc index))
+
+  -- node `id` is a child of `parent`; with the child before it and with the child after it, it is these siblings, if there are such
+  pub record HasSiblings (parent id : ℕ) (before after : Option Siblings) : Type 0 where
+    pub index : ℕ
+    pub child : child_at node_at parent index ≡ Some id
+    pub after_is : after ≡ siblings_at parent index
+    pub before_is : (k : ℕ) → index ≡ suc k → before ≡ siblings_at parent k
+    pub first : index ≡ 0 → before ≡ None
+
+  -- node `id` of a tree with some root may have an item too few, and an address is followed
+  pub record IsFollowed (id : ℕ) (a : Address) : Type 0 where
+    pub root : ℕ
+    pub xs : List A
+    pub asked : Option A
+    pub place : ℕ
+    pub given : ℕ
+    pub bound : ℕ
+    pub underflow : MayUnderflowAt A node_at root xs id asked a place given bound
+
+  -- the two are children of their parent with its item at the index between them; node `id`, one of the two, may have an item too few, and
+  -- an address is followed
+  pub record AreAdjacent (siblings : Siblings) (id : ℕ) (a : Address) : Type 0 where
+    pub at_left : child_at node_at siblings.parent siblings.index ≡ Some siblings.left
+    pub at_right : child_at node_at siblings.parent (suc siblings.index) ≡ Some siblings.right
+    pub one_of : (id ≡ siblings.left) ⊎ (id ≡ siblings.right)
+    pub under : option_map parent_of (node_at id) ≡ Some (Some siblings.parent)
+    pub followed : IsFollowed id a
+
+  -- whatever was known of the tree and of address `a` holds with address `b`, and each node has its number of items
+  pub record EndsUnderflow (new : NodeMap A) (id : ℕ) (a b : Address) : Type 0 where
+    pub repaired : (root : ℕ) (xs : List A) (asked : Option A) (place given bound : ℕ)
+        → MayUnderflowAt A node_at root xs id asked a place given bound → IsRepaired A new root xs asked b place given bound
+    pub used : (n : ℕ) → times_used (new n) ≡ times_used (node_at n)
+
+  -- the same, but that a node is given up, and the parent, which has fewer levels above it, may have an item too few
+  pub record PassesUnderflowUp (new : NodeMap A) (id parent : ℕ) (a b : Address) : Type 0 where
+    pub underflow : (root : ℕ) (xs : List A) (asked : Option A) (place given bound : ℕ)
+        → MayUnderflowAt A node_at root xs id asked a place given bound
+        → MayUnderflowAt A new root xs parent asked b place (suc given) bound
+        × (levels_above new (length xs) parent < levels_above node_at (length xs) id)
+    pub gone : ℕ
+    pub used : (n : ℕ) → times_used (node_at n) ≡ times_used (new n) + one n gone
+
+module _ {K V : Type 0} (old new : TreeState K V) where
+  -- a step at node `id` that gave no node up ends the climb
+  abbrev pub EndsHere : (id : ℕ) → Address → Address × Bool → Type 0
+  EndsHere id a end = end.1 ≡ false → EndsUnderflow (node_map old) (node_map new) id a end.0
+
+  -- a step at node `id` that gave a node up goes on at the parent
+  abbrev pub GoesUp : (parent id : ℕ) → Address → Address × Bool → Type 0
+  GoesUp parent id a end = end.1 ≡ true → PassesUnderflowUp (node_map old) (node_map new) id parent a end.0
+
+  -- a step between these two goes on at their parent, whichever of them had an item too few
+  abbrev pub GoesUpFromEither : Siblings → (a b : Address) → Type 0
+  GoesUpFromEither siblings a b = (id : ℕ) → AreAdjacent (node_map old) siblings id a → PassesUnderflowUp (node_map old) (node_map new) id siblings.parent a b
+
+  -- if no child after these two has an item to spare, the right one borrows in its turn
+  abbrev pub BorrowsFromLeft : Siblings → Type 0
+  BorrowsFromLeft siblings = NoneSpares (node_map old) siblings.parent (suc (suc siblings.index))
+      → BorrowsFromSibling (node_map old) (node_map new) siblings.parent siblings.right
+
+  -- if no child after these two has an item to spare, the right one is joined in its turn
+  abbrev pub MergesWithLeft : Siblings → Type 0
+  MergesWithLeft siblings = NoneSpares (node_map old) siblings.parent (suc (suc siblings.index))
+      → MergesWithSibling (node_map old) (node_map new) siblings.parent siblings.right
+
+-- a tree at rest under this root, with the address at its place, or the empty tree, of which every address is nowhere
+abbrev pub IsAtRest : {A : Type 0} → NodeMap A → (root : Option ℕ) → List A → (asked : Option A) → Address → (place given bound : ℕ) → Type 0
+IsAtRest {A} node_at (Some top) xs asked a place given bound = IsRepaired A node_at top xs asked a place given bound
+IsAtRest node_at None xs asked a place given bound =
+    IsFormed node_at None xs × IsValid node_at None a.id a.offset × IsPlace node_at None xs a.id a.offset place × (given ≤ bound)
+
+module _ {A : Type 0} (node_at : NodeMap A) where
+  -- node `id` of the tree with this root may have an item too few, and an address is followed
+  pub record IsFixing (root : Option ℕ) (id : ℕ) (a : Address) : Type 0 where
+    pub followed : IsFollowed node_at id a
+    pub at_root : root ≡ Some followed.root
+
+  -- the same of a tree of so many items
+  pub record IsFixingOf (root : Option ℕ) (id : ℕ) (a : Address) (count : ℕ) : Type 0 where
+    pub fixing : IsFixing root id a
+    pub items : length fixing.followed.xs ≡ count
+
+  -- what was so mended: whatever was known of the tree and of address `a` holds of the tree under the new root and of address `b`, no node
+  -- has an item too few, and the nodes that are listed were given up, at most as many as there are levels from node `id` up to the root;
+  -- the steps are those of `IsUnderflowFixed`, in their order
+  pub record AreFixed (new : NodeMap A) (root new_root : Option ℕ) (id : ℕ) (a b : Address) : Type 0 where
+    pub gone : List ℕ
+    pub counted : (n : ℕ) → times_used (node_at n) ≡ times_used (new n) + times_listed n gone
+    pub fixed : (top : ℕ) (xs : List A) (asked : Option A) (place given bound : ℕ) → root ≡ Some top
+        → MayUnderflowAt A node_at top xs id asked a place given bound → IsAtRest new new_root xs asked b place (given + length gone) bound
+    pub few : (top : ℕ) (xs : List A) (asked : Option A) (place given bound : ℕ) → root ≡ Some top
+        → MayUnderflowAt A node_at top xs id asked a place given bound
+        → length gone ≤ suc (levels_above node_at (length xs) id)
+    pub steps : (top : ℕ) → root ≡ Some top → IsUnderflowFixed node_at new top new_root id
+
+-- the same of the whole tree: nothing but its nodes and its root has changed
+pub record FixesUnderflowUpward {K V : Type 0} (old new : TreeState K V) (id : ℕ) (a b : Address) : Type 0 where
+  pub fixed : AreFixed (node_map old) (node_map new) old.root new.root id a b
+  pub len : new.len ≡ old.len
+  pub uncounted : new.refusals ≡ old.refusals

@@ -1,0 +1,210 @@
+//! Nodes with too few items, from a node upward.
+ghost use Rattle.std.specs.Prelude.{◌≡◌, ℕ, ◌<◌, ◌≤◌, IfSome, IsSome, Some, None, option_map, true, false};
+ghost use Rattle.btree_view.specs.View.{parent_of};
+ghost use Rattle.btree_shape.specs.UnderflowFix.{BorrowsFromSibling, MergesWithSibling};
+ghost use Rattle.btree_shape.specs.TreeState.{IsUsed, KeepsRest, node_map};
+ghost use Rattle.btree_shape.specs.WellFormed.{times_used};
+ghost use Rattle.btree_raw.specs.Underflow.{AreAdjacent, BorrowsFromLeft, EndsHere, GoesUp, HasSiblings, IsChild, IsFollowed, IsFixing, IsFixingOf, Underflows, MergesWithLeft, FixesUnderflowUpward};
+ghost use Rattle.btree_raw.specs.Underflow as specs;
+ghost use Rattle.btree_raw.specs.Steps.{HasCount};
+
+use crate::borrow::{first_child, merge_siblings, borrow_from_right, borrow_from_left};
+use crate::rotate::shrink_root;
+use crate::raw::RawBTree;
+use btree_item::Address;
+use btree_moved::{Siblings, moved_by_shrink_root};
+use btree_nodes::NodesMut;
+
+// How many items a node has.
+fn count_of<K, V, C: NodesMut<K, V>>(tree: &RawBTree<K, V, C>, id: usize) -> usize
+    requires { 0 < times_used (node_map tree.now id) }
+    ensures count { HasCount (node_map tree.now) id result }
+    ensures few { result ≤ 9 }
+    ensures number { id < usize.MAX }
+{
+    tree.tell_fits();
+    tree.node(id).item_count()
+}
+
+// Two neighbouring children, if both are there.
+fn siblings_of(
+    parent: usize,
+    index: usize,
+    left: Option<usize>,
+    right: Option<usize>,
+) -> Option<Siblings>
+    ensures { result ≡ specs.siblings_of parent index left right }
+{
+    match left {
+        Some(left) => match right {
+            Some(right) => Some(Siblings {
+                parent,
+                index,
+                left,
+                right,
+            }),
+            None => None,
+        },
+        None => None,
+    }
+}
+
+// The children at an index and at the next one, if there are such.
+fn siblings_at<K, V, C: NodesMut<K, V>>(
+    tree: &RawBTree<K, V, C>,
+    parent: usize,
+    index: usize,
+) -> Option<Siblings>
+    requires used { IsUsed tree.now parent }
+    requires number { index < usize.MAX }
+    ensures { result ≡ specs.siblings_at (node_map tree.now) parent index }
+{
+    tree.tell_fits();
+    let node = tree.node(parent);
+    let left = node.child_id_opt(index);
+    let right = node.child_id_opt(index + 1);
+    siblings_of(parent, index, left, right)
+}
+
+// A child with the child before it, and with the child after it, if there are such.
+fn siblings<K, V, C: NodesMut<K, V>>(
+    tree: &RawBTree<K, V, C>,
+    parent: usize,
+    id: usize,
+) -> (Option<Siblings>, Option<Siblings>)
+    requires { IsChild (node_map tree.now) parent id }
+    ensures { HasSiblings (node_map tree.now) parent id result.0 result.1 }
+{
+    tree.tell_fits();
+    let node = tree.node(parent);
+    // A node has few children, so an index has a next one.
+    let _few = node.child_count();
+    let index = node.child_index(id).unwrap();
+    let after = siblings_at(tree, parent, index);
+    if index == 0 {
+        return (None, after);
+    }
+    (siblings_at(tree, parent, index - 1), after)
+}
+
+// A step between a node with an item too few and its left sibling. Returns where the address is then, and whether the two are one node.
+fn fix_underflow_with_left<K: Drop, V: Drop, C: NodesMut<K, V>>(
+    tree: &mut RawBTree<K, V, C>,
+    siblings: Siblings,
+    addr: Address,
+) -> (Address, bool)
+    requires beside { AreAdjacent (node_map tree.old) siblings siblings.right addr }
+    requires short { Underflows (node_map tree.old) siblings.right }
+    requires low { IfSome addr.offset (λ n. n ≤ 9) }
+    requires number { siblings.right < usize.MAX }
+    ensures borrows { result.1 ≡ false → BorrowsFromLeft tree.old tree.new siblings }
+    ensures merges { result.1 ≡ true → MergesWithLeft tree.old tree.new siblings }
+    ensures here { EndsHere tree.old tree.new siblings.right addr result }
+    ensures above { GoesUp tree.old tree.new siblings.parent siblings.right addr result }
+    ensures rest { KeepsRest tree.old tree.new }
+    ensures back { IsSome addr.offset → IsSome result.0.offset }
+{
+    tree.tell_fits();
+    let held = count_of(tree, siblings.left);
+    if held > 3 {
+        return (borrow_from_left(tree, siblings, held, addr), false);
+    }
+    (merge_siblings(tree, siblings, held, addr), true)
+}
+
+// One step at a node with a parent that has so many items, one too few. Returns where the address is then, and whether a node was given
+// up, so that the parent may have an item too few.
+fn fix_underflow_at<K: Drop, V: Drop, C: NodesMut<K, V>>(
+    tree: &mut RawBTree<K, V, C>,
+    parent: usize,
+    id: usize,
+    count: usize,
+    addr: Address,
+) -> (Address, bool)
+    requires followed { IsFollowed (node_map tree.old) id addr }
+    requires under { option_map parent_of (node_map tree.old id) ≡ Some (Some parent) }
+    requires count { HasCount (node_map tree.old) id count }
+    requires short { count ≤ 2 }
+    requires low { IfSome addr.offset (λ n. n ≤ 9) }
+    requires number { id < usize.MAX }
+    ensures borrows { result.1 ≡ false → BorrowsFromSibling (node_map tree.old) (node_map tree.new) parent id }
+    ensures merges { result.1 ≡ true → MergesWithSibling (node_map tree.old) (node_map tree.new) parent id }
+    ensures here { EndsHere tree.old tree.new id addr result }
+    ensures above { GoesUp tree.old tree.new parent id addr result }
+    ensures rest { KeepsRest tree.old tree.new }
+    ensures back { IsSome addr.offset → IsSome result.0.offset }
+{
+    tree.tell_fits();
+    let (before, after) = siblings(tree, parent, id);
+    let Some(after) = after else {
+        return fix_underflow_with_left(tree, before.unwrap(), addr);
+    };
+    let held = count_of(tree, after.right);
+    if held > 3 {
+        return (borrow_from_right(tree, after, count, addr), false);
+    }
+    match before {
+        Some(before) => fix_underflow_with_left(tree, before, addr),
+        None => (merge_siblings(tree, after, count, addr), true),
+    }
+}
+
+// What is left to do at the root, which has so many items: without an item an internal node gives way to its child, and a leaf to nothing.
+fn fix_root<K: Drop, V: Drop, C: NodesMut<K, V>>(
+    tree: &mut RawBTree<K, V, C>,
+    id: usize,
+    count: usize,
+    addr: Address,
+) -> Address
+    requires fixing { IsFixing (node_map tree.old) tree.old.root id addr }
+    requires top { option_map parent_of (node_map tree.old id) ≡ Some None }
+    requires count { HasCount (node_map tree.old) id count }
+    ensures fixed { FixesUnderflowUpward tree.old tree.new id addr result }
+    ensures back { IsSome addr.offset → IsSome result.offset }
+{
+    tree.tell_fits();
+    if count > 0 {
+        return addr;
+    }
+    let Some(child) = first_child(tree, id) else {
+        drop(tree.release_node(id));
+        tree.set_root_id(None);
+        return Address::nowhere();
+    };
+    let held = count_of(tree, child);
+    shrink_root(tree, id, child);
+    tree.set_root_id(Some(child));
+    moved_by_shrink_root(addr, id, child, held)
+}
+
+/// Mends a node that has an item too few, and so on upward. Returns where the address is then.
+pub fn fix_underflow_upward<K: Drop, V: Drop, C: NodesMut<K, V>>(
+    tree: &mut RawBTree<K, V, C>,
+    start: usize,
+    addr: Address,
+) -> Address
+    ghost items: { ℕ }
+    requires fixing { IsFixingOf (node_map tree.old) tree.old.root start addr items }
+    ensures fixed { FixesUnderflowUpward tree.old tree.new start addr result }
+    ensures back { IsSome addr.offset → IsSome result.offset }
+{
+    tree.tell_fits();
+    let mut id = start;
+    let mut at = addr;
+    loop {
+        let node = tree.node(id);
+        let count = node.item_count();
+        if count > 2 {
+            return at;
+        }
+        let Some(parent) = node.parent() else {
+            return fix_root(tree, id, count, at);
+        };
+        let (moved, up) = fix_underflow_at(tree, parent, id, count, at);
+        if !up {
+            return moved;
+        }
+        at = moved;
+        id = parent;
+    }
+}

@@ -1,0 +1,183 @@
+-- Where a search ends: at the item of a node, or at a leaf's address for a key that is not there.
+use Rattle.std.proofs.Common.{◌≡◌, ◌++◌, ◌∷◌, [], ◌∙◌, ◌+◌, ℕ, zero, suc, List, length, map, take, Option, Some, None, Ok, Err, refl, sym, ap, subst, arith, append_assoc, length-append}
+use Rattle.std.proofs.lemmas.Grind.{flat_map-append}
+use Rattle.std.proofs.lemmas.List.{length-map, take_at}
+use Rattle.std.specs.Cmp.{IsTotalOrder}
+use Rattle.std.specs.Prelude.{slice_get}
+use Rattle.std.specs.declared.cmp.Ordering.{Ordering}
+use Rattle.std.specs.declared.cmp.Ordering.TheVariants.{Equal, Greater, Less}
+use Rattle.btree_item.specs.Pairs.{found, place_of}
+use Rattle.btree_view.specs.View.{NodeMap, View, item_in, items_of, leaf}
+use Rattle.btree_shape.specs.Place.{IsPlace}
+use Rattle.btree_shape.specs.Focus.Search.{IsSearching}
+use Rattle.btree_shape.specs.Focus.Shape.{Shape, id_of, items_under, later_items, view_at}
+use Rattle.btree_shape.specs.Focus.Path.{Path, items_after, items_before, parent_above}
+use Rattle.btree_shape.specs.Focus.Focus.{IsFocus}
+use Rattle.btree_shape.proofs.LookUp.Descent.{get-after, halves, hole-rises, items-rise, view-items}
+use Rattle.btree_shape.proofs.Paths.Frames.{AllByRecursion-append}
+use Rattle.btree_shape.proofs.Places.NodePlaces.{hole-place, items_upto}
+use Rattle.btree_shape.proofs.LookUp.KeyInList.{AreAbove, AreBelow, IsSearched, Rises, equal-back, equal-front, place-hit, place-miss, rises-right, searched, side}
+
+module _ {K V : Type 0} (cmp : K → K → Ordering) (k : K) (laws : IsTotalOrder cmp) (node_at : NodeMap (K × V)) (root : ℕ)
+    (xs : List (K × V)) (up : Rises cmp xs) where
+  abbrev A : Type 0
+  A = K × V
+
+  -- the key is found at an offset of node `id`, and that is its place
+  pub record Hit (id o : ℕ) : Type 0 where
+    pub place : ℕ
+    pub is : place_of cmp k xs ≡ Ok place
+    pub at : IsPlace node_at (Some root) xs id (Some o) place
+    pub item : found cmp k xs ≡ item_in (node_at id) o
+
+  -- the key is not there, and an offset of leaf `id` is its place
+  pub record Miss (id o : ℕ) : Type 0 where
+    pub place : ℕ
+    pub is : place_of cmp k xs ≡ Err place
+    pub at : IsPlace node_at (Some root) xs id (Some o) place
+    pub absent : found cmp k xs ≡ None
+
+  leaf-hit : (h : ℕ) (c : Path A 0) (t : Shape A 0) (o : ℕ) → IsFocus A node_at [] root xs 0 c t
+      → AreBelow cmp k (items_before c) → AreAbove cmp k (items_after c)
+      → IsSearched cmp k t.1 (Ok o) → Hit t.0 o
+  leaf-hit h c t o w low high r =
+      let b : List A = items_before c in
+      let a : List A = items_after c in
+      let e : xs ≡ (b ++ r.0) ++ r.1 ∷ (r.2 ++ a) = w.list ∙ (ap (λ z. b ++ (z ++ a)) r.3 ∙ simp append_assoc) in
+      let s : IsSearched cmp k xs (Ok (length (b ++ r.0))) = (
+        b ++ r.0,
+        r.1,
+        r.2 ++ a,
+        e,
+        refl,
+        AllByRecursion-append (λ y. side cmp k y ≡ Less) b r.0 low r.5,
+        r.6,
+        AllByRecursion-append (λ y. side cmp k y ≡ Greater) r.2 a r.7 high,
+      ) in
+      let p = place-hit cmp k xs (length (b ++ r.0)) s in
+      let n : length (b ++ r.0) ≡ length b + o = length-append b r.0 ∙ ap (λ z. length b + z) r.4 in
+      let here : item_in (node_at t.0) o ≡ Some r.1 =
+      ap (λ z. item_in z o) w.inner ∙ (ap (λ z. slice_get z o) r.3 ∙ get-after r.0 r.1 r.2 o (sym r.4)) in
+      let l1 = ap length r.3 in
+      let l2 = length-append r.0 (r.1 ∷ r.2) in
+      let l3 = r.4 in
+      record {
+        place = length b + o;
+        is = p.0 ∙ ap Ok n;
+        at = hole-place A node_at [] root xs 0 c t w o (omega arith);
+        item = p.1 ∙ sym here;
+      }
+
+  inner-hit : (h : ℕ) (c : Path A (suc h)) (t : Shape A (suc h)) (o : ℕ) → IsFocus A node_at [] root xs (suc h) c t
+      → (left : List (A × Shape A h)) (b : A × Shape A h) (right : List (A × Shape A h))
+      → t.2 ≡ left ++ b ∷ right → length left ≡ o → side cmp k b.0 ≡ Equal
+      → slice_get (items_of (view_at A (suc h) (parent_above c) t)) o ≡ Some b.0 → Hit t.0 o
+  inner-hit h c t o w left b right is n l got =
+      let ps : List A = items_before c ++ (items_under A h t.1 ++ later_items A h left) in
+      let qs : List A = (items_under A h b.1 ++ later_items A h right) ++ items_after c in
+      let e : xs ≡ ps ++ b.0 ∷ qs = w.list ∙ (rw is (simp (flat_map-append, append_assoc))) in
+      let up' : Rises cmp (ps ++ b.0 ∷ qs) = subst (λ ys. Rises cmp ys) e up in
+      let s : IsSearched cmp k xs (Ok (length ps)) = (
+        ps,
+        b.0,
+        qs,
+        e,
+        refl,
+        equal-front cmp k laws ps b.0 qs up' l,
+        l,
+        equal-back cmp k laws b.0 qs
+            (rises-right cmp ps (b.0 ∷ qs) up').0 l,
+      ) in
+      let p = place-hit cmp k xs (length ps) s in
+      let many : length t.2 ≡ length left + suc (length right) = ap length is ∙ length-append left (b ∷ right) in
+      let taken : take o t.2 ≡ left = rw is (take_at left (b ∷ right) o n) in
+      let m : length ps ≡ length (items_before c) + items_upto A (suc h) t o =
+      length-append (items_before c) (items_under A h t.1 ++ later_items A h left)
+      ∙ ap (λ (ys : List (A × Shape A h)). length (items_before c) + length
+      (items_under A h t.1 ++ later_items A h ys)) (sym taken) in
+      let here : item_in (node_at t.0) o ≡ Some b.0 = ap (λ z. item_in z o) w.inner.0 ∙ got in
+      record {
+        place = length (items_before c) + items_upto A (suc h) t o;
+        is = p.0 ∙ ap Ok m;
+        at = hole-place A node_at [] root xs (suc h) c t w o (omega arith);
+        item = p.1 ∙ sym here;
+      }
+
+  pub search-hit : (id : ℕ) → IsSearching cmp k node_at root xs id → (v : View A) → node_at id ≡ Some v → (o : ℕ)
+      → place_of cmp k (items_of v) ≡ Ok o → Hit id o
+  search-hit id s v e o place = at s.node.seen.height s.node.seen.path s.node.seen.shape s.node.seen.here
+      s.node.seen.whole s.low s.high
+    where
+      at : (h : ℕ) (c : Path A h) (t : Shape A h) → id_of A h t ≡ id → IsFocus A node_at [] root xs h c t
+          → AreBelow cmp k (items_before c) → AreAbove cmp k (items_after c) → Hit id o
+      at zero c t here w low high =
+          let e2 : node_at t.0 ≡ Some v = rw here e in
+          let d = w.inner in
+          let is : leaf (parent_above c) t.1 ≡ v = cc in
+          let place2 : place_of cmp k t.1 ≡ Ok o = subst (λ u. place_of cmp k (items_of u) ≡ Ok o) (sym is) place in
+          let r = searched cmp k laws t.1 (Ok o) (hole-rises cmp k laws node_at root xs up 0 c t w) place2 in
+          subst (λ n. Hit n o) here (leaf-hit 0 c t o w low high r)
+      at (suc h) c t here w low high =
+          let d = w.inner.0 in
+          let e2 : node_at t.0 ≡ Some v = rw here e in
+          let is : view_at A (suc h) (parent_above c) t ≡ v = cc in
+          let ys : List A = items_of (view_at A (suc h) (parent_above c) t) in
+          let up2 = items-rise V cmp (suc h) (parent_above c) t (hole-rises cmp k laws node_at root xs up (suc h) c t w) in
+          let place2 : place_of cmp k ys ≡ Ok o = subst (λ u. place_of cmp k (items_of u) ≡ Ok o) (sym is) place in
+          let r = searched cmp k laws ys (Ok o) up2 place2 in
+          let q = halves (λ (b : A × Shape A h). b.0) t.2 r.0 (r.1 ∷ r.2) (sym (view-items A h t.2) ∙ r.3) in
+          subst (λ n. Hit n o) here
+          (parts q.left q.right q.is q.first q.second (r.4) r.6
+          (ap (λ z. slice_get z o) r.3 ∙ get-after r.0 r.1 r.2 o (sym r.4)) r.0 r.1 r.2)
+        where
+          parts : (left right : List (A × Shape A h)) → t.2 ≡ left ++ right → {front : List A} {x : A} {back : List A}
+              → map {B = A} (λ (b : A × Shape A h). b.0) left ≡ front
+              → map {B = A} (λ (b : A × Shape A h). b.0) right ≡ x ∷ back → length front ≡ o → side cmp k x ≡ Equal
+              → slice_get (items_of (view_at A (suc h) (parent_above c) t)) o ≡ Some x
+              → (f : List A) (y : A) (g : List A) → Hit t.0 o
+          parts left [] is e1 e2 n l got f y g = absurd (cc)
+          parts left (b ∷ right) is {front} {x} {back} e1 e2 n l got f y g =
+              let e3 : b.0 ≡ x = cc in
+              inner-hit h c t o w left b right is
+              (sym (length-map left (λ (b : A × Shape A h). b.0)) ∙ (ap length e1 ∙ n)) (ap (side cmp k) e3 ∙ l)
+              (got ∙ ap Some (sym e3))
+
+  pub search-miss : (id : ℕ) → IsSearching cmp k node_at root xs id → (p : Option ℕ) (ys : List A)
+      → node_at id ≡ Some (leaf p ys) → (o : ℕ) → place_of cmp k ys ≡ Err o → Miss id o
+  search-miss id s p ys e o place = at s.node.seen.height s.node.seen.path s.node.seen.shape s.node.seen.here
+      s.node.seen.whole s.low s.high
+    where
+      at : (h : ℕ) (c : Path A h) (t : Shape A h) → id_of A h t ≡ id → IsFocus A node_at [] root xs h c t
+          → AreBelow cmp k (items_before c) → AreAbove cmp k (items_after c) → Miss id o
+      at (suc h) c t here w low high =
+          let d = w.inner.0 in let e2 : node_at t.0 ≡ Some (leaf p ys) = rw here e in absurd (cc)
+      at zero c t here w low high =
+          let e2 : node_at t.0 ≡ Some (leaf p ys) = rw here e in
+          let d = w.inner in
+          let is : t.1 ≡ ys = cc in
+          let r =
+          searched cmp k laws t.1 (Err o) (hole-rises cmp k laws node_at root xs up 0 c t w)
+          (ap (place_of cmp k) is ∙ place) in
+          let b : List A = items_before c in
+          let a : List A = items_after c in
+          let f : xs ≡ (b ++ r.0) ++ (r.1 ++ a) = w.list ∙ (ap (λ z. b ++ (z ++ a)) r.2 ∙ simp append_assoc) in
+          let q : IsSearched cmp k xs (Err (length (b ++ r.0))) = (
+            b ++ r.0,
+            r.1 ++ a,
+            f,
+            refl,
+            AllByRecursion-append (λ y. side cmp k y ≡ Less) b r.0 low r.4,
+            AllByRecursion-append (λ y. side cmp k y ≡ Greater) r.1 a r.5 high,
+          ) in
+          let m = place-miss cmp k xs (length (b ++ r.0)) q in
+          let n : length (b ++ r.0) ≡ length b + o = length-append b r.0 ∙ ap (λ z. length b + z) r.3 in
+          let l1 = ap length r.2 in
+          let l2 = length-append r.0 r.1 in
+          let l3 = r.3 in
+          subst (λ n. Miss n o) here
+          (record {
+            place = length b + o;
+            is = m.0 ∙ ap Err n;
+            at = hole-place A node_at [] root xs 0 c t w o (omega arith);
+            absent = m.1;
+          })

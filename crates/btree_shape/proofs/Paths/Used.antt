@@ -1,0 +1,32 @@
+-- Choices by a test on two numbers; and that a node of the tree is used.
+use Rattle.std.proofs.Common.{◌≡◌, ◌≢◌, ◌<◌, ◌≤◌, ◌==◌, if◌then◌else◌, ℕ, List, Some, subst, arith}
+use Rattle.std.proofs.lemmas.Bool.Decides.{nat_tests}
+use Rattle.std.specs.Prelude.{nat_lt}
+use Rattle.btree_view.specs.View.{NodeMap}
+use Rattle.btree_shape.specs.Focus.Node.{IsNode}
+use Rattle.btree_shape.specs.Focus.Shape.{view_at}
+use Rattle.btree_shape.specs.Focus.Path.{parent_above}
+use Rattle.btree_shape.specs.WellFormed.{times_used}
+use Rattle.btree_shape.proofs.Paths.Frames.{top-view}
+use Rattle.btree_shape.proofs.Trees.Numbers.{used-one}
+
+pub full-yes : (m n x y : ℕ) → m ≡ n → (if m == n then x else y) ≡ x
+full-yes m n x y e = grind (arith, nat_tests)
+
+pub full-no : (m n x y : ℕ) → m ≢ n → (if m == n then x else y) ≡ y
+full-no m n x y e = grind (arith, nat_tests)
+
+pub less-yes : (m n x y : ℕ) → m < n → (if nat_lt m n then x else y) ≡ x
+less-yes m n x y l = grind (arith, nat_tests)
+
+pub less-no : (m n x y : ℕ) → n ≤ m → (if nat_lt m n then x else y) ≡ y
+less-no m n x y l = grind (arith, nat_tests)
+
+module _ (A : Type 0) (node_at : NodeMap A) (root : ℕ) (xs : List A) where
+  pub seen-used : (id : ℕ) → IsNode A node_at root xs id → 0 < times_used (node_at id)
+  seen-used id n =
+      let v = top-view A node_at n.seen.height (parent_above n.seen.path) n.seen.shape n.seen.whole.inner in
+      let w : node_at id ≡ Some (view_at A n.seen.height (parent_above n.seen.path) n.seen.shape) =
+      subst (λ z. node_at z ≡ Some (view_at A n.seen.height (parent_above n.seen.path) n.seen.shape)) n.seen.here v in
+      let u = used-one (node_at id) (view_at A n.seen.height (parent_above n.seen.path) n.seen.shape) w in
+      omega arith

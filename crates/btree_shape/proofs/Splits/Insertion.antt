@@ -1,0 +1,212 @@
+-- An item put into a leaf.
+use Rattle.std.proofs.Common.{◌≡◌, ◌≢◌, ◌<◌, ◌≤◌, ◌++◌, ◌∷◌, [], ◌∙◌, ◌+◌, ◌-◌, ℕ, zero, suc, inl, inr, List, length, Option, Some, None, refl, sym, ap, subst, arith}
+use Rattle.std.proofs.lemmas.List.Edits.{insert-append_left, insert-append_right, length-insert}
+use Rattle.std.specs.Cmp.{IsTotalOrder}
+use Rattle.std.specs.List.{insert}
+use Rattle.std.specs.declared.cmp.Ordering.{Ordering}
+use Rattle.btree_item.proofs.PairEdits.{Ascends-insert, Ascends-one, slice_get-insert}
+use Rattle.btree_item.specs.Pairs.{KeyFits}
+use Rattle.btree_item.specs.declared.address.Address.{Address}
+use Rattle.btree_view.specs.Edits.{with_item}
+use Rattle.btree_view.specs.View.{NodeMap, leaf}
+use Rattle.btree_shape.specs.Focus.Overflow.{MayOverflowAt, IsRepaired}
+use Rattle.btree_shape.specs.Need.{split_need, path_need_from, need, path_need}
+use Rattle.btree_shape.specs.Focus.Node.{IsNode}
+use Rattle.btree_shape.specs.Place.{IsPlace}
+use Rattle.btree_shape.specs.Lists.{one}
+use Rattle.btree_shape.specs.Focus.Shape.{IsFilled, Shape, count_at, id_of}
+use Rattle.btree_shape.specs.Represents.{numbers_under}
+use Rattle.btree_shape.specs.Step.{Claims, WritesNode}
+use Rattle.btree_shape.specs.Strain.{own_strain, strain_of, strain_under}
+use Rattle.btree_shape.specs.Focus.Positions.{address_at}
+use Rattle.btree_shape.specs.Focus.Path.{Path, depth, items_after, items_before, least_at, parent_above, times_above}
+use Rattle.btree_shape.specs.WellFormed.{IsRooted, IsSized, IsWellFormed, times_used}
+use Rattle.btree_shape.specs.Focus.Focus.{IsFocus}
+use Rattle.btree_shape.proofs.Places.Words.{AddressIn, address-in}
+use Rattle.btree_shape.proofs.Splits.Claims.{claimed}
+use Rattle.btree_shape.proofs.Paths.Frames.{above-same, one-zero}
+use Rattle.btree_shape.proofs.Paths.Levels.{levels-rooted}
+use Rattle.btree_shape.proofs.Paths.UnsizedFocus.{whole-standing}
+use Rattle.btree_shape.proofs.Paths.Used.{less-no, less-yes}
+use Rattle.btree_shape.proofs.Places.NodePlaces.{hole-place}
+use Rattle.btree_shape.proofs.Trees.Numbers.{same-or, used-low, used-one}
+use Rattle.btree_shape.proofs.Trees.OneLeaf.{rooted-one_leaf}
+use Rattle.btree_shape.proofs.Places.OnePlace.{one_place-well}
+use Rattle.btree_shape.proofs.Splits.Need.{split_need-node}
+use Rattle.btree_shape.proofs.Paths.FromRoot.{node-at, rooted-node}
+use Rattle.btree_shape.proofs.Strain.Sums.{strain-rooted}
+use Rattle.btree_shape.proofs.Strain.Splits.{own-more}
+use Rattle.btree_shape.proofs.Places.TreePlaces.{item-in}
+
+pub insert-parts : {X : Type 0} (l r : List X) (o : ℕ) (x : X) → o ≡ length l → insert (l ++ r) o x ≡ l ++ x ∷ r
+insert-parts l r o x e =
+    let z : o - o ≡ 0 = omega arith in
+    insert-append_right l r o o x (sym e) (omega arith) ∙ ap (λ k. l ++ insert r k x) z
+
+insert-between : {X : Type 0} (front ys back : List X) (o : ℕ) (x : X) → o ≤ length ys
+    → insert (front ++ (ys ++ back)) (length front + o) x ≡ front ++ (insert ys o x ++ back)
+insert-between front ys back o x low =
+    let z : length front + o - length front ≡ o = omega arith in
+    insert-append_right front (ys ++ back) (length front) (length front + o) x refl (omega arith)
+    ∙ (ap (λ k. front ++ insert (ys ++ back) k x) z ∙ ap (λ l. front ++ l) (insert-append_left ys back o x low))
+
+module _ (A : Type 0) where
+  pub leaf-put : (node_at new : NodeMap A) (spare : List ℕ) (root : ℕ) (xs : List A) (c : Path A 0) (i : ℕ) (ys : List A)
+      (o : ℕ) (x : A)
+      → IsFocus A node_at spare root xs 0 c (i, ys) → o ≤ length ys
+      → WritesNode node_at new i (leaf (parent_above c) (insert ys o x))
+      → IsFocus A new spare root (insert xs (length (items_before c) + o) x) 0 c (i, insert ys o x)
+  leaf-put node_at new spare root xs c i ys o x w low pu =
+      let sum : (n : ℕ) → times_above n c + one n i ≤ 1 = λ n. let o = w.once n in
+      let b = used-low (node_at n) in omega arith in
+      record {
+        above = above-same A node_at new 0 c i (λ n p. let s = sum n in pu.others n (one-zero n i (omega arith))) w.above;
+        inner = pu.here;
+        once = λ n. elim (same-or n i) [
+          | inl is ↦
+              let a : times_used (new n) ≡ 1 = rw (is, pu.here) refl in
+              let b : times_used (node_at n) ≡ 1 = rw (is, w.inner) refl in
+              let o = w.once n in
+              omega arith
+          | inr ne ↦ let h : times_used (new n) ≡ times_used (node_at n) = ap times_used (pu.others n ne) in let o =
+              w.once n in omega arith
+        ];
+        filled = w.filled;
+        below = tt;
+        list = ap (λ l. insert l (length (items_before c) + o) x) w.list ∙ insert-between (items_before c) ys
+            (items_after c) o x low;
+        root_is = w.root_is;
+      }
+
+  put-strain : (c : Path A 0) (i : ℕ) (ys : List A) (o : ℕ) (x : A) → o ≤ length ys
+      → strain_of A 0 c (i, insert ys o x) ≤ suc (strain_of A 0 c (i, ys))
+  put-strain c i ys o x low =
+      let n : length (insert ys o x) ≡ suc (length ys) =
+      length-insert ys o x low ∙ (let q : length ys + 1 ≡ suc (length ys) = omega arith in q) in
+      let e : own_strain A c (length (insert ys o x)) ≡ own_strain A c (suc (length ys)) = ap (own_strain A c) n in
+      omega (arith, own-more A 0 c (length ys))
+
+  -- the climb that begins at a leaf of a tree at rest, into which an item was put: `node_at` is the tree before the numbers were claimed
+  module _ (node_at mid new : NodeMap A) (root : ℕ) (xs : List A) (id : ℕ) (p : Option ℕ) (ys : List A) (o : ℕ) (x : A)
+      (spare : List ℕ)
+      (node : IsNode A node_at root xs id) (here : node_at id ≡ Some (leaf p ys)) (low : o ≤ length ys)
+      (most : ℕ) (deep : depth node.seen.path < most) (cl : Claims node_at mid spare) (enough : length spare ≡ split_need node_at most id)
+      (pu : WritesNode mid new id (with_item o x None (leaf p ys))) where
+    -- the place in the list, the tree with the item, and what it has gained
+    pub record PutAt : Type 0 where
+      pub place : ℕ
+      pub is : IsPlace node_at (Some root) xs id (Some o) place
+      pub strain : ℕ
+      pub strain_is : strain ≡ strain_of A node.seen.height node.seen.path node.seen.shape
+      pub grows : MayOverflowAt A new root (insert xs place x) id spare (Some x) (address_at id o) place 0 (suc strain)
+
+    pub put-grows : PutAt
+    put-grows = at node.seen.height node.seen.path node.seen.shape node.seen.here node.seen.whole node.sized
+        (split_need-node A node_at root xs id node most deep) refl
+      where
+        at : (h : ℕ) (c : Path A h) (t : Shape A h) → id_of A h t ≡ id → IsFocus A node_at [] root xs h c t
+            → IsFilled (least_at c) h (count_at A h t)
+            → split_need node_at most id ≡ path_need_from c (count_at A h t)
+            → strain_of A h c t ≡ strain_of A node.seen.height node.seen.path node.seen.shape → PutAt
+        at (suc h) c t is w z nd st =
+            let d = w.inner.0 in let e2 : node_at t.0 ≡ Some (leaf p ys) = rw is here in absurd (cc)
+        at zero c t is w z nd st =
+            let d = w.inner in
+            let e2 : node_at t.0 ≡ Some (leaf p ys) = rw is here in
+            let parents : parent_above c ≡ p = cc in
+            let same : t.1 ≡ ys = cc in
+            let te : t ≡ (id, ys) = ap (λ (i : ℕ). (i, t.1)) is ∙ ap (λ (l : List A). (id, l)) same in
+            let w1 : IsFocus A node_at [] root xs 0 c (id, ys) =
+            subst (λ (s : Shape A 0). IsFocus A node_at [] root xs 0 c s) te w in
+            let wm = claimed A node_at mid spare root xs 0 c (id, ys) cl w1 in
+            let pu2 : WritesNode mid new id (leaf (parent_above c) (insert ys o x)) =
+            subst (λ q. WritesNode mid new id (leaf q (insert ys o x))) (sym parents) pu in
+            let w2 = leaf-put mid new spare root xs c id ys o x wm low pu2 in
+            let size : length t.1 ≡ length ys = ap length same in
+            let more : length (insert ys o x) ≡ length ys + 1 = length-insert ys o x low in
+            let z0 = z.0 in
+            let z1 = z.1 in
+            record {
+              place = length (items_before c) + o;
+              is = hole-place A node_at [] root xs 0 c (id, ys) w1 o low;
+              strain = strain_of A 0 c t;
+              strain_is = st;
+              grows = record {
+                seen = record { height = 0; path = c; shape = (id, insert ys o x); here = refl; whole = w2 };
+                low = omega arith;
+                high = omega arith;
+                enough = λ full. let y = less-no (length t.1) 8 0 (path_need c) (omega arith) in enough ∙ (nd ∙ y);
+                none = λ few. let y = less-yes (length t.1) 8 0 (path_need c) (omega arith) in enough ∙ (nd ∙ y);
+                there = item-in A 0 c (parent_above c) (id, insert ys o x) o x (slice_get-insert ys o x low)
+                    (omega arith);
+                paid = let q = put-strain c id ys o x low in let r : strain_of A 0 c t ≡ strain_of A 0 c (id, ys) =
+                    ap (strain_of A 0 c) te in omega arith;
+              };
+            }
+
+  -- the end of a climb, in the public words
+  module _ (new : NodeMap A) (root : ℕ) (xs : List A) (asked : Option A) (a : Address) (place gained bound : ℕ)
+      (g : IsRepaired A new root xs asked a place gained bound) where
+    pub repaired-rooted : IsRooted (IsSized root) new root xs
+    repaired-rooted = rooted-node A new root xs g.id g.node
+
+    pub repaired-address : AddressIn A new root xs asked a place
+    repaired-address = address-in A new root xs g.node.seen.height g.node.seen.path g.node.seen.shape g.node.seen.whole
+        asked a place g.there
+
+    pub repaired-paid : gained + strain_under new root (numbers_under new repaired-rooted.height root) ≤ bound
+    repaired-paid =
+        let e =
+        strain-rooted A new root xs repaired-rooted g.node.seen.height g.node.seen.path g.node.seen.shape g.node.seen.whole
+        in
+        let p = g.paid in
+        omega arith
+
+-- a leaf's item in a well formed tree, at an address whose place is known
+module _ {K V : Type 0} (cmp : K → K → Ordering) (laws : IsTotalOrder cmp) (node_at : NodeMap (K × V)) (root len : ℕ)
+    (xs : List (K × V)) (well : IsWellFormed cmp node_at (Some root) len xs) where
+  pub leaf-grows : (mid new : NodeMap (K × V)) (id : ℕ) (p : Option ℕ) (ys : List (K × V)) (o place : ℕ) (x : K × V)
+      (spare : List ℕ)
+      → node_at id ≡ Some (leaf p ys) → o ≤ length ys
+      → IsPlace node_at (Some root) xs id (Some o) place → (most : ℕ) → well.formed.height < most → Claims node_at mid spare
+      → length spare ≡ need node_at (Some root) most id → WritesNode mid new id (with_item o x None (leaf p ys))
+      → MayOverflowAt (K × V) new root (insert xs place x) id spare (Some x) (address_at id o) place 0
+      (suc (strain_under node_at root (numbers_under node_at well.formed.height root)))
+  leaf-grows mid new id p ys o place x spare here low is most deep cl enough pu =
+      let node =
+      node-at (K × V) node_at root xs well.formed id (let u = used-one (node_at id) (leaf p ys) here in omega arith) in
+      let levels =
+      levels-rooted (K × V) node_at root xs (IsSized root) well.formed node.seen.height node.seen.path node.seen.shape
+      (whole-standing (K × V) node_at [] root xs node.seen.height node.seen.path node.seen.shape node.seen.whole) in
+      let r = put-grows (K × V) node_at mid new root xs id p ys o x spare node here low most (omega arith) cl enough pu in
+      let same = one_place-well cmp laws node_at xs len (Some root) well id (Some o) r.place place r.is is in
+      let st : r.strain ≡ strain_under node_at root (numbers_under node_at well.formed.height root) =
+      r.strain_is ∙ strain-rooted (K × V) node_at root xs well.formed node.seen.height node.seen.path node.seen.shape
+      node.seen.whole in
+      subst (λ q. MayOverflowAt (K × V) new root (insert xs q x) id spare (Some x) (address_at id o) q 0
+      (suc (strain_under node_at root (numbers_under node_at well.formed.height root)))) same
+      (subst (λ s. MayOverflowAt (K × V) new root (insert xs r.place x) id spare (Some x) (address_at id o) r.place 0 (suc s)) st
+      r.grows)
+
+  -- and the tree after the climb
+  pub repaired-well : (k : K) (w : V) (place : ℕ) → KeyFits cmp k place xs
+      → (new : NodeMap (K × V)) (r : ℕ) (asked : Option (K × V)) (a : Address) (gained bound : ℕ)
+      → IsRepaired (K × V) new r (insert xs place (k, w)) asked a place gained bound
+      → IsWellFormed cmp new (Some r) (len + 1) (insert xs place (k, w))
+  repaired-well k w place fits new r asked a gained bound g =
+      let counted = well.counted in
+      record {
+        ascends = Ascends-insert cmp laws k w place xs well.ascends fits;
+        formed = repaired-rooted (K × V) new r (insert xs place (k, w)) asked a place gained bound g;
+        counted = ap (λ n. n + 1) counted ∙ sym (length-insert xs place (k, w) fits.within);
+      }
+
+-- the first item of an empty tree: a root leaf
+pub first-well : {K V : Type 0} (cmp : K → K → Ordering) (new : NodeMap (K × V)) (r : ℕ) (x : K × V)
+    → new r ≡ Some (leaf None (x ∷ [])) → ((n : ℕ) → n ≢ r → new n ≡ None)
+    → IsWellFormed cmp new (Some r) 1 (x ∷ [])
+first-well cmp new r x here alone = record {
+  ascends = Ascends-one cmp x;
+  formed = rooted-one_leaf new r (x ∷ []) (record { here = here; alone = alone }) (omega arith) (omega arith);
+  counted = refl;
+}

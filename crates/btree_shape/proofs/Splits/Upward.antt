@@ -1,0 +1,384 @@
+-- A climb that splits nodes: from a node with an item too many to its parent, or to a new root.
+use Rattle.std.proofs.Common.{◌≡◌, ◌≢◌, ◌<◌, ◌≤◌, ◌++◌, ◌∷◌, [], ◌∙◌, ◌+◌, ℕ, zero, suc, List, length, map, Option, Some, None, refl, sym, ap, subst, arith}
+use Rattle.std.proofs.lemmas.List.{map-append}
+use Rattle.std.specs.Prelude.{IsTrue, option_map, slice_get}
+use Rattle.btree_item.specs.declared.address.Address.{Address}
+use Rattle.btree_view.specs.Edits.{IsSplit, is_internal, with_item, with_parent}
+use Rattle.btree_view.specs.View.{NodeMap, View, children_of, internal, leaf, most_of, parent_of, size_of}
+use Rattle.btree_shape.specs.Focus.Overflow.{MayOverflowAt, IsRepaired}
+use Rattle.btree_shape.specs.Moved.{moved_by_split}
+use Rattle.btree_shape.specs.Need.{path_need}
+use Rattle.btree_shape.specs.Lists.{one, times_listed}
+use Rattle.btree_shape.specs.Focus.Shape.{Shape, count_at, id_of, most_at, times_under, view_at}
+use Rattle.btree_shape.specs.Step.{SetsParents, WritesNode, GrowsRoot, Splits}
+use Rattle.btree_shape.specs.Strain.{strain_of}
+use Rattle.btree_shape.specs.Focus.Positions.{IsAt, all_positions}
+use Rattle.btree_shape.specs.Focus.Path.{Path, Frame, at_branch, at_first, fill_two, frame_count, frame_id, frame_index, frame_view, parent_above, top, under}
+use Rattle.btree_shape.specs.WellFormed.{times_used}
+use Rattle.btree_shape.specs.Focus.Focus.{IsFocus}
+use Rattle.btree_shape.proofs.Paths.Parents.{index-fits, index-here, index-is}
+use Rattle.btree_shape.proofs.Paths.Frames.{one-self, one-zero, times_in-is, top-view, total-append}
+use Rattle.btree_shape.proofs.Paths.Used.{less-no, less-yes}
+use Rattle.btree_shape.proofs.Trees.Numbers.{none-listed, times-has, times-own, used-low, used-one}
+use Rattle.btree_shape.proofs.Trees.Sizes.{frame-size, view-most, view-parent, view-size}
+use Rattle.btree_shape.proofs.Splits.TreeAddresses.{split-carries, split-top-carries}
+use Rattle.btree_shape.proofs.Splits.Trees.{fill_two-count, fill_two-id, fill_two-view, split-top, split-up}
+use Rattle.btree_shape.proofs.Splits.Halves.{IsSplitOf, Parted, join, parted, split-of, times-top, times_below, total-top}
+use Rattle.btree_shape.proofs.Strain.Splits.{split-root-strain, split-strain}
+
+pub respare : (A : Type 0) (node_at : NodeMap A) (s s' : List ℕ) (root : ℕ) (xs : List A) (h : ℕ) (c : Path A h)
+    (t : Shape A h)
+    → ((n : ℕ) → times_listed n s ≡ times_listed n s')
+    → IsFocus A node_at s root xs h c t → IsFocus A node_at s' root xs h c t
+respare A node_at s s' root xs h c t e w =
+    record {
+      above = w.above;
+      inner = w.inner;
+      once = λ n. let q = e n in omega (arith, w.once n);
+      filled = w.filled;
+      below = w.below;
+      list = w.list;
+      root_is = w.root_is;
+    }
+
+module _ (A : Type 0) where
+  -- the numbers of the children stand below the top
+  pub children-below : (h n : ℕ) (p : Option ℕ) (t : Shape A h)
+      → times_listed n (children_of (view_at A h p t)) ≤ times_below A h n t
+  children-below zero n p t = omega arith
+  children-below (suc h) n p t = omega (arith, times-top A h n t.1, total-top A h n t.2)
+
+  path_need-some : {h : ℕ} (c : Path A h) → 0 < path_need c
+  path_need-some top = omega arith
+  path_need-some (under f c) = omega arith
+
+  -- what code does to split node i: it writes the left part, puts the right part at j, and hands j's children over
+  pub splits-made : (node_at mid two new : NodeMap A) (i j : ℕ) (median : A) (v left right : View A) → node_at i ≡ Some v
+      → IsSplit v median left right → j ≢ i
+      → times_listed i (children_of right) ≡ 0 → times_listed j (children_of right) ≡ 0
+      → WritesNode node_at mid i left → WritesNode mid two j right → SetsParents two new j (children_of right) → Splits node_at new i j median
+  splits-made node_at mid two new i j median v left right e s apart no-i no-j a b d = record {
+    node = v;
+    left = left;
+    right = right;
+    here = e;
+    parts = s;
+    at_left = d.kept i no-i ∙ (b.others i (λ q. apart (sym q)) ∙ a.here);
+    at_right = d.kept j no-j ∙ b.here;
+    moved = λ n ni nj m. d.moved n m ∙ ap (option_map (with_parent (Some j))) (b.others n nj ∙ a.others n ni);
+    kept = λ n ni nj z. d.kept n z ∙ (b.others n nj ∙ a.others n ni);
+  }
+
+  -- the children of the right part were the node's
+  pub right-children : (n : ℕ) (v left right : View A) (median : A) → IsSplit v median left right
+      → times_listed n (children_of right) ≤ times_listed n (children_of v)
+  right-children n (leaf p xs) left right median s = rw s.5 (omega arith)
+  right-children n (internal p first bs) left right median s =
+      let k : times_listed n (map {B = ℕ} (λ b. b.1) bs) ≡ times_listed n
+      (map {B = ℕ} (λ b. b.1) s.0 ++ s.1 ∷ map {B = ℕ} (λ b. b.1) s.2) =
+      ap (λ (z : List (A × ℕ)). times_listed n (map {B = ℕ} (λ b. b.1) z)) s.3 ∙ ap (times_listed n)
+      (map-append (λ (b : A × ℕ). b.1) s.0 ((median, s.1) ∷ s.2)) in
+      let l : times_listed n (children_of right) ≡ times_listed n (s.1 ∷ map {B = ℕ} (λ b. b.1) s.2) =
+      ap (λ u. times_listed n (children_of u)) s.6 in
+      let q = total-append (λ i. one n i) (map {B = ℕ} (λ b. b.1) s.0) (s.1 ∷ map {B = ℕ} (λ b. b.1) s.2) in
+      omega arith
+
+  module _ (node_at : NodeMap A) (root : ℕ) (xs : List A) (id : ℕ) (spare : List ℕ) (asked : Option A) (a : Address)
+      (place gained bound : ℕ)
+      (g : MayOverflowAt A node_at root xs id spare asked a place gained bound) where
+    pub grows-node : node_at id ≡ Some (view_at A g.seen.height (parent_above g.seen.path) g.seen.shape)
+    grows-node = subst (λ n. node_at n ≡ Some (view_at A g.seen.height (parent_above g.seen.path) g.seen.shape)) g.seen.here
+        (top-view A node_at g.seen.height (parent_above g.seen.path) g.seen.shape g.seen.whole.inner)
+
+    pub grows-used : 0 < times_used (node_at id)
+    grows-used =
+        let u = used-one (node_at id) (view_at A g.seen.height (parent_above g.seen.path) g.seen.shape) grows-node in
+        omega arith
+
+    module _ (v : View A) (e : node_at id ≡ Some v) where
+      view-is : v ≡ view_at A g.seen.height (parent_above g.seen.path) g.seen.shape
+      view-is = let n = grows-node in cc
+
+      size-is : size_of v ≡ count_at A g.seen.height g.seen.shape
+      size-is = ap size_of view-is ∙ view-size A g.seen.height (parent_above g.seen.path) g.seen.shape
+
+      most-is : most_of v ≡ most_at g.seen.height
+      most-is = ap most_of view-is ∙ view-most A g.seen.height (parent_above g.seen.path) g.seen.shape
+
+      -- no item too many: the climb is over, and no number is left
+      pub grows-done : size_of v ≤ most_of v → IsRepaired A node_at root xs asked a place gained bound
+      grows-done low =
+          let s = size-is in
+          let l = most-is in
+          let c : count_at A g.seen.height g.seen.shape ≤ most_at g.seen.height = omega arith in
+          record {
+            id = id;
+            node = record {
+              seen = record {
+                height = g.seen.height;
+                path = g.seen.path;
+                shape = g.seen.shape;
+                here = g.seen.here;
+                whole = respare A node_at spare [] root xs g.seen.height g.seen.path g.seen.shape
+                    (none-listed spare (g.none c)) g.seen.whole;
+              };
+              sized = (g.low, c);
+            };
+            there = g.there;
+            paid = g.paid;
+          }
+
+      pub grows-over : most_of v < size_of v → count_at A g.seen.height g.seen.shape ≡ suc (most_at g.seen.height)
+      grows-over lt = let s = size-is in let l = most-is in let u = g.high in omega arith
+
+      -- an item too many: there is a number for the right part
+      pub grows-spare : most_of v < size_of v → 0 < length spare
+      grows-spare lt = let n = g.enough (grows-over lt) in let p = path_need-some g.seen.path in omega arith
+
+      module _ (lt : most_of v < size_of v) (rest : List ℕ) (j : ℕ)
+          (is : (n : ℕ) → times_listed n spare ≡ one n j + times_listed n rest)
+          (fewer : length spare ≡ suc (length rest)) where
+        whole : IsFocus A node_at (j ∷ rest) root xs g.seen.height g.seen.path g.seen.shape
+        whole = respare A node_at spare (j ∷ rest) root xs g.seen.height g.seen.path g.seen.shape is g.seen.whole
+
+        sums : (n : ℕ) → times_under A g.seen.height n g.seen.shape + one n j ≤ 1
+        sums n = let o = whole.once n in let k = used-low (node_at n) in omega arith
+
+        tops : (n : ℕ) → one n id ≤ times_under A g.seen.height n g.seen.shape
+        tops n = subst (λ m. one n m ≤ times_under A g.seen.height n g.seen.shape) g.seen.here
+            (times-has A g.seen.height n g.seen.shape)
+
+        -- it is used, and not the node's own
+        pub spare-used : 0 < times_used (node_at j)
+        spare-used = let o = whole.once j in let s = one-self j in omega arith
+
+        pub spare-apart : j ≢ id
+        spare-apart same =
+            let s = sums j in
+            let u = one-self j in
+            let q = tops j in let i : one j id ≡ 1 = subst (λ m. one j m ≡ 1) same (one-self j) in omega arith
+
+        -- the children of the node are used, and none of them is the node or that number
+        pub child-used : (n : ℕ) → 0 < times_listed n (children_of v) → 0 < times_used (node_at n)
+        child-used n m =
+            let b = children-below g.seen.height n (parent_above g.seen.path) g.seen.shape in
+            let q : times_listed n (children_of v) ≡ times_listed n
+            (children_of (view_at A g.seen.height (parent_above g.seen.path) g.seen.shape)) =
+            ap (λ u. times_listed n (children_of u)) view-is in
+            let tt2 = times-top A g.seen.height n g.seen.shape in
+            let o = whole.once n in
+            omega arith
+
+        pub child-apart : (times_listed id (children_of v) ≡ 0) × (times_listed j (children_of v) ≡ 0)
+        child-apart = (none id (let s = one-self id in let q = one-here id in omega arith), none j (one-there j))
+          where
+            one-here : (n : ℕ) → one n id ≡ one n (id_of A g.seen.height g.seen.shape)
+            one-here n = ap (one n) (sym g.seen.here)
+
+            one-there : (n : ℕ) → 1 ≤ one n (id_of A g.seen.height g.seen.shape) + one n n
+            one-there n = let s = one-self n in omega arith
+
+            none : (n : ℕ) → 1 ≤ one n (id_of A g.seen.height g.seen.shape) + one n j
+                → times_listed n (children_of v) ≡ 0
+            none n some =
+                let b = children-below g.seen.height n (parent_above g.seen.path) g.seen.shape in
+                let q : times_listed n (children_of v) ≡ times_listed n
+                (children_of (view_at A g.seen.height (parent_above g.seen.path) g.seen.shape)) =
+                ap (λ u. times_listed n (children_of u)) view-is in
+                let t2 = times-top A g.seen.height n g.seen.shape in
+                let s = sums n in
+                omega arith
+
+        module _ (mid : NodeMap A) (x : A) (sp : Splits node_at mid id j x) where
+          made : Parted A node_at mid g.seen.height (parent_above g.seen.path) g.seen.shape j x
+          made = parted A node_at mid rest root xs g.seen.height g.seen.path g.seen.shape j x whole (grows-over lt)
+              (subst (λ n. IsSplitOf node_at mid n j x (view_at A g.seen.height (parent_above g.seen.path) g.seen.shape))
+              (sym g.seen.here)
+              (split-of node_at mid id j x sp (view_at A g.seen.height (parent_above g.seen.path) g.seen.shape) grows-node))
+
+          kept-is : size_of sp.left ≡ count_at A g.seen.height made.cut.left
+          kept-is =
+              let d = top-view A mid g.seen.height (parent_above g.seen.path) made.cut.left made.cut.left_holds in
+              let d2 : mid id ≡ Some (view_at A g.seen.height (parent_above g.seen.path) made.cut.left) =
+              subst (λ n. mid n ≡ Some (view_at A g.seen.height (parent_above g.seen.path) made.cut.left))
+              (made.cut.cut.left_id ∙ g.seen.here) d in
+              let l = sp.at_left in
+              let q : sp.left ≡ view_at A g.seen.height (parent_above g.seen.path) made.cut.left = cc in
+              ap size_of q ∙ view-size A g.seen.height (parent_above g.seen.path) made.cut.left
+
+          joined : count_at A g.seen.height (join A g.seen.height made.cut.left x made.cut.right) ≡ suc
+              (most_at g.seen.height)
+          joined = ap (count_at A g.seen.height) (sym made.cut.cut.joined) ∙ grows-over lt
+
+          long : suc (length rest) ≡ path_need g.seen.path
+          long = sym fewer ∙ g.enough (grows-over lt)
+
+          -- the node above: it is there, unchanged, with this child, and it takes the median and the right part behind it
+          pub record UpTo (p : ℕ) : Type 0 where
+            pub node : View A
+            pub here : mid p ≡ Some node
+            pub same : node_at p ≡ Some node
+            pub index : ℕ
+            pub child : slice_get (children_of node) index ≡ Some id
+            pub inner : IsTrue (is_internal node)
+            pub room : size_of node ≤ 7
+            pub within : index ≤ size_of node
+            pub next : (new : NodeMap A) (k : ℕ) → slice_get (children_of node) k ≡ Some id
+                → WritesNode mid new p (with_item k x (Some j) node)
+                → MayOverflowAt A new root xs p rest asked (moved_by_split id j p k (size_of sp.left) a) place
+                (suc gained) bound
+
+          pub to-parent : (p : ℕ) → parent_of v ≡ Some p → UpTo p
+          to-parent p up = at g.seen.height g.seen.path g.seen.shape g.seen.here whole made long
+              (ap parent_of (sym view-is) ∙ up) g.there g.paid kept-is joined
+            where
+              at : (h : ℕ) (c : Path A h) (t : Shape A h) → id_of A h t ≡ id → IsFocus A node_at (j ∷ rest) root xs h c t
+                  → (m : Parted A node_at mid h (parent_above c) t j x)
+                  → suc (length rest) ≡ path_need c → parent_of (view_at A h (parent_above c) t) ≡ Some p
+                  → IsAt asked a (all_positions A h c t) place → gained + strain_of A h c t ≤ bound
+                  → size_of sp.left ≡ count_at A h m.cut.left
+                  → count_at A h (join A h m.cut.left x m.cut.right) ≡ suc (most_at h) → UpTo p
+              at h top t here w m n q th pd ks jn = let e = view-parent A h None t in absurd (cc)
+              at h (under f c) t here w m n q th pd ks jn =
+                  let e = view-parent A h (Some (frame_id f)) t in
+                  let ps : frame_id f ≡ p = cc in
+                  let o1 = w.once (frame_id f) in
+                  let k1 = used-low (node_at (frame_id f)) in
+                  let s1 = one-self (frame_id f) in
+                  let ti = times_in-is A h (frame_id f) f in
+                  let kept : mid (frame_id f) ≡ Some (frame_view (parent_above c) f (id_of A h t)) =
+                  m.kept (frame_id f) (omega arith) (one-zero (frame_id f) j (omega arith)) ∙ w.above.0 in
+                  let fs = frame-size A h (parent_above c) f (id_of A h t) in
+                  let fm = w.filled.0.1 in
+                  let fi = index-fits A h f in
+                  subst (λ z. UpTo z) ps
+                  (record {
+                    node = frame_view (parent_above c) f (id_of A h t);
+                    here = kept;
+                    same = w.above.0;
+                    index = frame_index f;
+                    child = index-here A h (parent_above c) f (id_of A h t) ∙ ap Some here;
+                    inner = frame-inner h (parent_above c) f (id_of A h t);
+                    room = omega arith;
+                    within = omega arith;
+                    next = λ new k ix pu. raised h f c t here w m n th pd ks jn new k ix pu;
+                  })
+                where
+                  frame-inner : (h : ℕ) (p : Option ℕ) (f : Frame A h) (hole : ℕ)
+                      → IsTrue (is_internal (frame_view p f hole))
+                  frame-inner h p (at_first n back) hole = refl
+                  frame-inner h p (at_branch n first front y back) hole = refl
+
+                  raised : (h : ℕ) (f : Frame A h) (c : Path A (suc h)) (t : Shape A h) → id_of A h t ≡ id
+                      → IsFocus A node_at (j ∷ rest) root xs h (under f c) t
+                      → (m : Parted A node_at mid h (Some (frame_id f)) t j x)
+                      → suc (length rest) ≡ path_need (under f c) → IsAt asked a (all_positions A h (under f c) t) place
+                      → gained + strain_of A h (under f c) t ≤ bound
+                      → size_of sp.left ≡ count_at A h m.cut.left
+                      → count_at A h (join A h m.cut.left x m.cut.right) ≡ suc (most_at h)
+                      → (new : NodeMap A) (k : ℕ)
+                      → slice_get (children_of (frame_view (parent_above c) f (id_of A h t))) k ≡ Some id
+                      → WritesNode mid new (frame_id f) (with_item k x (Some j) (frame_view (parent_above c) f (id_of A h t)))
+                      → MayOverflowAt A new root xs (frame_id f) rest asked
+                      (moved_by_split id j (frame_id f) k (size_of sp.left) a) place (suc gained) bound
+                  raised h f c t here w m n th pd ks jn new k ix pu =
+                      let l = m.cut.left in
+                      let r = m.cut.right in
+                      let q = m.cut.cut in
+                      let o = w.once (id_of A h t) in
+                      let kk = used-low (node_at (id_of A h t)) in
+                      let ts = times-own A h t in
+                      let ti = times_in-is A h (id_of A h t) f in
+                      let ki : k ≡ frame_index f =
+                      index-is A h (parent_above c) f (id_of A h t) k (omega arith) (ix ∙ ap Some (sym here)) in
+                      let pu2 : new (frame_id f) ≡ Some
+                      (with_item k x (Some (id_of A h r)) (frame_view (parent_above c) f (id_of A h l))) =
+                      rw (q.left_id, q.right_id) pu.here in
+                      let pu3 : new (frame_id f) ≡ Some
+                      (with_item (frame_index f) x (Some (id_of A h r))
+                      (frame_view (parent_above c) f (id_of A h l))) =
+                      rw (← ki) pu2 in
+                      let at-parent : new (frame_id f) ≡ Some (view_at A (suc h) (parent_above c) (fill_two f l x r)) =
+                      pu3 ∙ ap Some (fill_two-view A h (parent_above c) f l x r) in
+                      let w' = split-up A node_at mid new rest root xs h f c t j x w m at-parent pu.others in
+                      let fc = fill_two-count A h f l x r in
+                      let z0 = w.filled.0.0 in
+                      let z1 = w.filled.0.1 in
+                      let carried = split-carries A node_at mid rest root xs h f c t j x w m asked a place th in
+                      let carried2 : IsAt asked (moved_by_split id j (frame_id f) k (size_of sp.left) a)
+                      (all_positions A (suc h) c (fill_two f l x r)) place =
+                      rw (← here, ki, ks) carried in
+                      let st = split-strain A h l x r f c jn q.right_count in
+                      let st2 : strain_of A h (under f c) t ≡ strain_of A h (under f c) (join A h l x r) =
+                      ap (strain_of A h (under f c)) q.joined in
+                      record {
+                        seen = record {
+                          height = suc h;
+                          path = c;
+                          shape = fill_two f l x r;
+                          here =
+                              fill_two-id A h f l x r;
+                          whole = w';
+                        };
+                        low = omega arith;
+                        high = omega arith;
+                        enough = λ full. let y = less-no (frame_count f) 7 0 (path_need c) (omega arith) in omega arith;
+                        none = λ few. let y = less-yes (frame_count f) 7 0 (path_need c) (omega arith) in omega arith;
+                        there = carried2;
+                        paid = omega arith;
+                      }
+
+          -- the node is the root: one number is left, and that is the new root's
+          pub root-spare : parent_of v ≡ None → (id ≡ root) × (length rest ≡ 1)
+          root-spare up = at g.seen.height g.seen.path g.seen.shape g.seen.here whole long
+              (ap parent_of (sym view-is) ∙ up)
+            where
+              at : (h : ℕ) (c : Path A h) (t : Shape A h) → id_of A h t ≡ id → IsFocus A node_at (j ∷ rest) root xs h c t
+                  → suc (length rest) ≡ path_need c → parent_of (view_at A h (parent_above c) t) ≡ None
+                  → (id ≡ root) × (length rest ≡ 1)
+              at h top t here w n q = (sym here ∙ w.root_is, omega arith)
+              at h (under f c) t here w n q = let e = view-parent A h (Some (frame_id f)) t in absurd (cc)
+
+          pub new-root : parent_of v ≡ None → (r : ℕ) → ((n : ℕ) → times_listed n rest ≡ one n r) → (new : NodeMap A)
+              → GrowsRoot mid new id j r x
+              → IsRepaired A new r xs asked (moved_by_split id j r 0 (size_of sp.left) a) place (suc (suc gained)) bound
+          new-root up r ris new ra = at g.seen.height g.seen.path g.seen.shape g.seen.here whole made
+              (ap parent_of (sym view-is) ∙ up) g.there g.paid kept-is joined
+            where
+              at : (h : ℕ) (c : Path A h) (t : Shape A h) → id_of A h t ≡ id → IsFocus A node_at (j ∷ rest) root xs h c t
+                  → (m : Parted A node_at mid h (parent_above c) t j x)
+                  → parent_of (view_at A h (parent_above c) t) ≡ None → IsAt asked a (all_positions A h c t) place
+                  → gained + strain_of A h c t ≤ bound
+                  → size_of sp.left ≡ count_at A h m.cut.left
+                  → count_at A h (join A h m.cut.left x m.cut.right) ≡ suc (most_at h)
+                  → IsRepaired A new r xs asked (moved_by_split id j r 0 (size_of sp.left) a) place
+                  (suc (suc gained)) bound
+              at h (under f c) t here w m q th pd ks jn = let e = view-parent A h (Some (frame_id f)) t in absurd (cc)
+              at h top t here w m q th pd ks jn =
+                  let l = m.cut.left in
+                  let b = m.cut.right in
+                  let k = m.cut.cut in
+                  let w1 : IsFocus A node_at (j ∷ r ∷ []) root xs h top t =
+                  respare A node_at (j ∷ rest) (j ∷ r ∷ []) root xs h top t (λ n. let z = ris n in omega arith) w in
+                  let w2 =
+                  split-top A node_at mid new [] r root xs h t j x w1 m (rw here ra.root) (rw here ra.at_left) ra.at_right
+                  (λ n nr ni nj. ra.kept n nr (λ s. ni (s ∙ sym here)) nj) in
+                  let carried = split-top-carries A node_at mid [] root xs h t j r x w1 m asked a place th in
+                  let carried2 : IsAt asked (moved_by_split id j r 0 (size_of sp.left) a)
+                  (all_positions A (suc h) top (r, l, (x, b) ∷ [])) place =
+                  subst (λ i. IsAt asked (moved_by_split i j r 0 (size_of sp.left) a)
+                  (all_positions A (suc h) top (r, l, (x, b) ∷ [])) place) here
+                  (subst (λ n. IsAt asked (moved_by_split (id_of A h t) j r 0 n a)
+                  (all_positions A (suc h) top (r, l, (x, b) ∷ [])) place) (sym ks) carried) in
+                  let st = split-root-strain A h l x b r jn k.right_count in
+                  let st2 : strain_of A h top t ≡ strain_of A h top (join A h l x b) =
+                  ap (strain_of A h top) k.joined in
+                  record {
+                    id = r;
+                    node = record {
+                      seen = record { height = suc h; path = top; shape = (r, l, (x, b) ∷ []); here = refl; whole = w2 };
+                      sized = (omega arith, omega arith);
+                    };
+                    there = carried2;
+                    paid = omega arith;
+                  }

@@ -1,0 +1,4 @@
+-- Strain.
+pub mod Splits
+pub mod Siblings
+pub mod Sums

@@ -1,0 +1,139 @@
+-- Which step mends a node, and how many levels stand above it.
+use Rattle.std.proofs.Common.{◌≡◌, ◌≢◌, ◌≤◌, ◌∙◌, ◌+◌, [], ℕ, zero, suc, List, length, Option, Some, None, sym, ap, subst, arith}
+use Rattle.std.specs.Prelude.{IfSome}
+use Rattle.std.proofs.lemmas.Option.{same_Some}
+use Rattle.btree_item.specs.declared.address.Address.{Address}
+use Rattle.btree_view.specs.View.{NodeMap, View, parent_of}
+use Rattle.btree_shape.specs.SiblingSteps.{RotatesLeft}
+use Rattle.btree_shape.specs.UnderflowFix.{BorrowsFromSibling, CanSpare, UnderflowsUnder, MergesWithSibling, NoneSpares, child_at, from_left, from_right, size_in, with_left, with_right}
+use Rattle.btree_shape.specs.Need.{levels_above}
+use Rattle.btree_shape.specs.Focus.Search.{levels_below}
+use Rattle.btree_shape.specs.Focus.Shape.{Shape, id_of, view_at}
+use Rattle.btree_shape.specs.Focus.Underflow.{MayUnderflowAt}
+use Rattle.btree_shape.specs.Represents.{Represents}
+use Rattle.btree_shape.specs.Focus.Path.{Path, HoldsAbove, depth, frame_id, frame_view, parent_above, root_above, times_above, top, under}
+use Rattle.btree_shape.specs.WellFormed.{IsRooted, least_of}
+use Rattle.btree_shape.specs.Focus.Focus.{IsFocus}
+use Rattle.btree_shape.proofs.Paths.Frames.{times_in-is, top-view}
+use Rattle.btree_shape.proofs.Trees.Heights.{levels-is}
+use Rattle.btree_shape.proofs.Paths.Used.{full-no}
+use Rattle.btree_shape.proofs.Trees.Numbers.{times-own, used-low}
+use Rattle.btree_shape.proofs.Paths.Levels.{levels-rooted}
+use Rattle.btree_shape.proofs.Trees.Sizes.{frame-parent, root-there, view-parent}
+use Rattle.btree_shape.proofs.Trees.Shapes.{shape-of}
+use Rattle.btree_shape.proofs.Paths.UnsizedFocus.{whole-standing}
+
+module _ {A : Type 0} where
+  -- a root has one height
+  pub one-height : (node_at : NodeMap A) (root : ℕ) (xs : List A) (h g : ℕ) → Represents node_at h None root xs
+      → Represents node_at g None root xs → h ≡ g
+  one-height node_at root xs h g s t =
+      let a = shape-of A node_at h None root xs s in
+      let b = shape-of A node_at g None root xs t in
+      let most : ℕ = h + g in
+      sym (levels-is A node_at h most None a.shape (omega arith) a.holds)
+      ∙ (ap (levels_below node_at most) (a.here ∙ sym b.here) ∙ levels-is A node_at g most None b.shape (omega arith) b.holds)
+
+  -- as many levels stand above a node as its way has, or as may be counted
+  levels-low : (node_at : NodeMap A) (h n : ℕ) (c : Path A h) (hole : ℕ) (v : View A) → node_at hole ≡ Some v
+      → parent_of v ≡ parent_above c → HoldsAbove node_at c hole → levels_above node_at n hole ≤ depth c
+  levels-low node_at h zero c hole v e p d = omega arith
+  levels-low node_at h (suc n) top hole v e p d = rw (e, p) (omega arith)
+  levels-low node_at h (suc n) (under f c) hole v e p d =
+      rw (e, p) (let r = levels-low node_at (suc h) n c (frame_id f) (frame_view (parent_above c) f hole)
+      d.0 (frame-parent A h (parent_above c) f hole) d.2 in omega arith)
+
+module _ (A : Type 0) (node_at : NodeMap A) (root : ℕ) (xs : List A) (id : ℕ) (asked : Option A) (a : Address)
+    (place given bound : ℕ) (g : MayUnderflowAt A node_at root xs id asked a place given bound) where
+  -- at most as many levels stand above the node as the root is above the leaves
+  pub shrinks-levels : (is_right : (id : ℕ) → View A → Type 0) → IsRooted is_right node_at root xs → (height : ℕ)
+      → Represents node_at height None root xs → levels_above node_at (length xs) id ≤ height
+  shrinks-levels is_right r height s =
+      let w = g.seen.whole in
+      let d = levels-rooted A node_at root xs is_right r g.seen.height g.seen.path g.seen.shape
+      (whole-standing A node_at [] root xs g.seen.height g.seen.path g.seen.shape w) in
+      let e = one-height node_at root xs r.height height r.represents s in
+      let l = levels-low node_at g.seen.height (length xs) g.seen.path (id_of A g.seen.height g.seen.shape)
+      (view_at A g.seen.height (parent_above g.seen.path) g.seen.shape)
+      (top-view A node_at g.seen.height (parent_above g.seen.path) g.seen.shape w.inner)
+      (view-parent A g.seen.height (parent_above g.seen.path) g.seen.shape) w.above in
+      let k : levels_above node_at (length xs) id ≤ depth g.seen.path =
+      subst (λ i. levels_above node_at (length xs) i ≤ depth g.seen.path) g.seen.here l in
+      omega arith
+
+  module _ (v : View A) (e : node_at id ≡ Some v) where
+    view-is : v ≡ view_at A g.seen.height (parent_above g.seen.path) g.seen.shape
+    view-is =
+        let n : View A = view_at A g.seen.height (parent_above g.seen.path) g.seen.shape in
+        same_Some v n (sym e ∙ subst (λ i. node_at i ≡ Some n) g.seen.here
+        (top-view A node_at g.seen.height (parent_above g.seen.path) g.seen.shape g.seen.whole.inner))
+
+    -- the node without a parent is the root
+    pub shrinks-root : parent_of v ≡ None → id ≡ root
+    shrinks-root up =
+        at g.seen.height g.seen.path g.seen.shape g.seen.here g.seen.whole (ap parent_of (sym view-is) ∙ up)
+      where
+        at : (h : ℕ) (c : Path A h) (t : Shape A h) → id_of A h t ≡ id → IsFocus A node_at [] root xs h c t
+            → parent_of (view_at A h (parent_above c) t) ≡ None → id ≡ root
+        at h top t here w q = sym here ∙ w.root_is
+        at h (under f c) t here w q = let p = view-parent A h (Some (frame_id f)) t in absurd (cc)
+
+    -- and one with a parent is not
+    pub shrinks-apart : (p : ℕ) → parent_of v ≡ Some p → id ≢ root
+    shrinks-apart p up same =
+        at g.seen.height g.seen.path g.seen.shape g.seen.here g.seen.whole (ap parent_of (sym view-is) ∙ up)
+      where
+        at : (h : ℕ) (c : Path A h) (t : Shape A h) → id_of A h t ≡ id → IsFocus A node_at [] root xs h c t
+            → parent_of (view_at A h (parent_above c) t) ≡ Some p → ⊥
+        at h top t here w q = let n = view-parent A h None t in absurd (cc)
+        at h (under f c) t here w q =
+            let r : ℕ = root_above c (frame_id f) in
+            let there : 1 ≤ times_above r (under f c) =
+            (let a = root-there A (suc h) c (frame_id f) in let b = times_in-is A h r f in omega arith) in
+            let is : r ≡ id_of A h t = w.root_is ∙ (sym same ∙ sym here) in
+            let o = w.once (id_of A h t) in
+            let u = used-low (node_at (id_of A h t)) in
+            let m = times-own A h t in
+            let k : 1 ≤ times_above (id_of A h t) (under f c) = subst (λ n. 1 ≤ times_above n (under f c)) is there in
+            omega arith
+
+-- the order of the steps, read backwards
+module _ {A : Type 0} (new : NodeMap A) (root : ℕ) (new_root : Option ℕ) where
+  least-other : (id : ℕ) → id ≢ root → least_of root id ≡ 3
+  least-other id apart = full-no id root 1 3 apart
+
+  -- a sibling on the right that has an item to spare gives it, whatever else could be done
+  module _ (node_at : NodeMap A) (parent index right id : ℕ) (child : child_at node_at parent index ≡ Some id)
+      (only : (k : ℕ) → child_at node_at parent k ≡ Some id → k ≡ index) (spare : CanSpare node_at parent (suc index) right) where
+    clash : (k : ℕ) → suc k ≡ index → NoneSpares node_at parent (suc (suc k)) → ⊥
+    clash k same none =
+        let n : NoneSpares node_at parent (suc index) = subst (λ i. NoneSpares node_at parent (suc i)) same none in
+        let m : size_in (node_at right) ≤ 3 = subst (λ o. IfSome o (λ i. size_in (node_at i) ≤ 3)) spare.0 n in
+        let l = spare.1 in omega arith
+
+    rotated : (p : ℕ) → p ≡ parent → BorrowsFromSibling node_at new p id → RotatesLeft node_at new parent index id right
+    rotated p up (from_right k r at lends step) =
+        let ki : k ≡ index = only k (subst (λ q. child_at node_at q k ≡ Some id) up at) in
+        let there : child_at node_at parent (suc index) ≡ Some r =
+        subst (λ i. child_at node_at parent (suc i) ≡ Some r) ki (subst (λ q. child_at node_at q (suc k) ≡ Some r) up lends.0) in
+        let other : child_at node_at parent (suc index) ≡ Some right = spare.0 in
+        let ri : r ≡ right = same_Some r right (sym there ∙ other) in
+        subst (λ j. RotatesLeft node_at new parent index id j) ri
+        (subst (λ i. RotatesLeft node_at new parent i id r) ki (subst (λ q. RotatesLeft node_at new q k id r) up step))
+    rotated p up (from_left k left at none lends step) =
+        let ki : suc k ≡ index = only (suc k) (subst (λ q. child_at node_at q (suc k) ≡ Some id) up at) in
+        absurd (clash k ki (subst (λ q. NoneSpares node_at q (suc (suc k))) up none))
+
+    unjoined : (mid : NodeMap A) (p : ℕ) → p ≡ parent → MergesWithSibling node_at mid p id → ⊥
+    unjoined mid p up (with_left k left at none there few step) =
+        clash k (only (suc k) (subst (λ q. child_at node_at q (suc k) ≡ Some id) up at))
+        (subst (λ q. NoneSpares node_at q (suc (suc k))) up none)
+    unjoined mid p up (with_right r at there few step) =
+        let ki : 0 ≡ index = only 0 (subst (λ q. child_at node_at q 0 ≡ Some id) up at) in
+        let n : NoneSpares node_at parent (suc index) =
+        subst (λ i. NoneSpares node_at parent (suc i)) ki (subst (λ q. NoneSpares node_at q 1) up few) in
+        let m : size_in (node_at right) ≤ 3 = subst (λ o. IfSome o (λ i. size_in (node_at i) ≤ 3)) spare.0 n in
+        let l = spare.1 in omega arith
+
+  same-parent : (node_at : NodeMap A) (id p q : ℕ) → UnderflowsUnder node_at root p id → UnderflowsUnder node_at root q id → p ≡ q
+  same-parent node_at id p q s t = let a = s.named in let b = t.named in cc

@@ -1,0 +1,94 @@
+-- The addresses of a tree in their order, with the items between them.
+use Rattle.std.specs.Prelude.{◌≡◌, ℕ, zero, suc, ◌⊎◌, List, [], ◌∷◌, ◌++◌, length, Option, Some, None}
+use Rattle.btree_item.specs.declared.address.Address.{Address}
+use Rattle.btree_shape.specs.Focus.Shape.{Shape}
+use Rattle.btree_shape.specs.Focus.Path.{Frame, at_first, at_branch, Path, top, under, frame_id, frame_index}
+
+-- the address of a node at offset -1, and at another one
+abbrev pub address_before : ℕ → Address
+address_before id = record { id = id; offset = None }
+
+abbrev pub address_at : ℕ → ℕ → Address
+address_at id offset = record { id = id; offset = Some offset }
+
+-- an address, with the item that stands there if there is one, or a step over an item
+pub data Position (A : Type 0) : Type 0 where
+  mark : Address → Option A → Position A
+  over : Position A
+
+-- how many items are passed
+abbrev pub passed : {A : Type 0} → List (Position A) → ℕ
+passed [] = 0
+passed (mark address item ∷ positions_from) = passed positions_from
+passed (over ∷ positions_from) = suc (passed positions_from)
+
+-- nothing is asked of an address, or just this item
+abbrev pub Asks : {A : Type 0} → Option A → Option A → Type 0
+Asks None item = Unit {0}
+Asks (Some x) item = item ≡ Some x
+
+-- the address comes behind so many items; asked with `Some x`, the item x stands there
+abbrev pub IsAt : {A : Type 0} → Option A → Address → List (Position A) → ℕ → Type 0
+IsAt asked a [] place = ⊥
+IsAt asked a (mark b item ∷ positions_from) place = ((a ≡ b) × (place ≡ 0) × Asks asked item) ⊎ IsAt asked a positions_from place
+IsAt asked a (over ∷ positions_from) place = (rest : ℕ) × (place ≡ suc rest) × IsAt asked a positions_from rest
+
+-- the addresses of a node from an offset on: each entry's, then those below the entry, and the one past the last
+abbrev pub positions_from : {A X : Type 0} → (X → A) → (X → List (Position A)) → (id offset : ℕ) → List X → List (Position A)
+positions_from key below id offset [] = mark (address_at id offset) None ∷ []
+positions_from key below id offset (entry ∷ entries) =
+    mark (address_at id offset) (Some (key entry)) ∷ over ∷ (below entry ++ positions_from key below id (suc offset) entries)
+
+-- the same without the one past the last
+abbrev pub positions_to : {A X : Type 0} → (X → A) → (X → List (Position A)) → (id offset : ℕ) → List X → List (Position A)
+positions_to key below id offset [] = []
+positions_to key below id offset (entry ∷ entries) =
+    mark (address_at id offset) (Some (key entry)) ∷ over ∷ (below entry ++ positions_to key below id (suc offset) entries)
+
+-- all addresses of a node: -1, those below its first child, and the others
+abbrev pub node_positions : {A X : Type 0} → (X → A) → (X → List (Position A)) → (id : ℕ) → List (Position A) → List X → List (Position A)
+node_positions key below id first entries = mark (address_before id) None ∷ (first ++ positions_from key below id 0 entries)
+
+module _ (A : Type 0) where
+  abbrev pub positions : (height : ℕ) → Shape A height → List (Position A)
+  positions zero shape = node_positions {A = A} {X = A} (λ x. x) (λ x. []) shape.0 [] shape.1
+  positions (suc height) shape =
+      node_positions {A = A} {X = A × Shape A height} (λ b. b.0) (λ b. positions height b.1) shape.0 (positions height shape.1) shape.2
+
+  abbrev pub branch_key : (height : ℕ) → A × Shape A height → A
+  branch_key height b = b.0
+
+  abbrev pub branch_positions : (height : ℕ) → A × Shape A height → List (Position A)
+  branch_positions height b = positions height b.1
+
+  -- the addresses of a node before its hole, and those behind it, which begin at an offset
+  abbrev pub positions_before : {height : ℕ} → Frame A height → List (Position A)
+  positions_before {height} (at_first id back) = mark (address_before id) None ∷ []
+  positions_before {height} (at_branch id first front x back) =
+      mark (address_before id) None ∷ (positions height first ++ (positions_to (branch_key height) (branch_positions height) id 0 front
+      ++ (mark (address_at id (length front)) (Some x) ∷ over ∷ [])))
+
+  abbrev pub branches_after : {height : ℕ} → Frame A height → List (A × Shape A height)
+  branches_after {height} (at_first id back) = back
+  branches_after {height} (at_branch id first front x back) = back
+
+  abbrev pub positions_after : {height : ℕ} → Frame A height → (offset : ℕ) → List (Position A)
+  positions_after {height} frame offset =
+      positions_from (branch_key height) (branch_positions height) (frame_id frame) offset (branches_after frame)
+
+  abbrev pub path_before : {height : ℕ} → Path A height → List (Position A)
+  path_before {height} top = []
+  path_before {height} (under frame path) = path_before path ++ positions_before frame
+
+  abbrev pub path_after : {height : ℕ} → Path A height → List (Position A)
+  path_after {height} top = []
+  path_after {height} (under frame path) = positions_after frame (frame_index frame) ++ path_after path
+
+  -- all addresses of a tree, seen from one of its nodes
+  abbrev pub all_positions : (height : ℕ) → Path A height → Shape A height → List (Position A)
+  all_positions height path shape = path_before path ++ (positions height shape ++ path_after path)
+
+-- each address is where the function sends it, behind as many items, and at its item if one stands there
+abbrev pub KeepsPositions : {A : Type 0} → (Address → Address) → List (Position A) → List (Position A) → Type 0
+KeepsPositions {A} moved old new =
+    (asked : Option A) (a : Address) (place : ℕ) → IsAt asked a old place → IsAt asked (moved a) new place

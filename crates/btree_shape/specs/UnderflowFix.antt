@@ -1,0 +1,69 @@
+-- In which order a tree is mended: which step is taken at a node with too few items, and at which node the next one.
+use Rattle.std.specs.Prelude.{◌≡◌, ◌≢◌, ℕ, suc, ◌<◌, ◌≤◌, [], slice_get, Option, Some, None, IfSome, option_map}
+use Rattle.btree_view.specs.View.{View, leaf, NodeMap, children_in, parent_of, size_of}
+use Rattle.btree_shape.specs.SiblingSteps.{Merges, ShrinksRoot, RotatesLeft, RotatesRight}
+use Rattle.btree_shape.specs.Step.{RemovesNode}
+use Rattle.btree_shape.specs.WellFormed.{least_of}
+
+-- how many items a node has, if there is one
+abbrev pub size_in : {A : Type 0} → Option (View A) → ℕ
+size_in None = 0
+size_in (Some node) = size_of node
+
+module _ {A : Type 0} (node_at : NodeMap A) where
+  -- the child of `parent` at an index, if it has one there
+  abbrev pub child_at : (parent index : ℕ) → Option ℕ
+  child_at parent index = slice_get (children_in (node_at parent)) index
+
+  -- the child at that index is this one, and it has more than three items
+  abbrev pub CanSpare : (parent index sibling : ℕ) → Type 0
+  CanSpare parent index sibling = (child_at parent index ≡ Some sibling) × (3 < size_in (node_at sibling))
+
+  -- no child at that index has
+  abbrev pub NoneSpares : (parent index : ℕ) → Type 0
+  NoneSpares parent index = IfSome (child_at parent index) (λ sibling. size_in (node_at sibling) ≤ 3)
+
+  -- node `id` is not the root, has fewer than three items, and names this parent
+  pub record UnderflowsUnder (root parent id : ℕ) : Type 0 where
+    pub apart : id ≢ root
+    pub few : size_in (node_at id) < 3
+    pub named : option_map parent_of (node_at id) ≡ Some (Some parent)
+
+  module _ (new : NodeMap A) where
+    -- node `id`, a child of `parent`, takes an item: from its right sibling if that has more than three, else from its
+    -- left one if that has
+    pub data BorrowsFromSibling (parent id : ℕ) : Type 0 where
+      from_right : (index right : ℕ) → child_at parent index ≡ Some id → CanSpare parent (suc index) right
+          → RotatesLeft node_at new parent index id right → BorrowsFromSibling parent id
+      from_left : (index left : ℕ) → child_at parent (suc index) ≡ Some id → NoneSpares parent (suc (suc index))
+          → CanSpare parent index left → RotatesRight node_at new parent index left id → BorrowsFromSibling parent id
+
+    -- neither sibling has: it is merged with its left one, or, as the first child, with its right one
+    pub data MergesWithSibling (parent id : ℕ) : Type 0 where
+      with_left : (index left : ℕ) → child_at parent (suc index) ≡ Some id → NoneSpares parent (suc (suc index))
+          → child_at parent index ≡ Some left → NoneSpares parent index → Merges node_at new parent index left id
+          → MergesWithSibling parent id
+      with_right : (right : ℕ) → child_at parent 0 ≡ Some id → child_at parent 1 ≡ Some right → NoneSpares parent 1
+          → Merges node_at new parent 0 id right → MergesWithSibling parent id
+
+-- the nodes `node_at` with this root become `new` with the new root, from node `id` upward:
+pub data UnderflowFix {A : Type 0} (root : ℕ) (new : NodeMap A) (new_root : Option ℕ) : (node_at : NodeMap A) → (id : ℕ) → Type 0 where
+  -- a node with enough items is left, and nothing changes
+  rests : (node_at : NodeMap A) (id : ℕ) → least_of root id ≤ size_in (node_at id) → ((n : ℕ) → new n ≡ node_at n)
+      → new_root ≡ Some root → UnderflowFix root new new_root node_at id
+  -- a short one takes an item from a sibling that has one to spare, and that is all
+  borrows : (node_at : NodeMap A) (id parent : ℕ) → UnderflowsUnder node_at root parent id → BorrowsFromSibling node_at new parent id
+      → new_root ≡ Some root → UnderflowFix root new new_root node_at id
+  -- else it is merged with a sibling, and the parent is next
+  merges : (node_at mid : NodeMap A) (id parent : ℕ) → UnderflowsUnder node_at root parent id → MergesWithSibling node_at mid parent id
+      → UnderflowFix root new new_root mid parent → UnderflowFix root new new_root node_at id
+  -- an internal root without items is released, and its only child is the root
+  shrinks_root : (node_at : NodeMap A) (id child : ℕ) → id ≡ root → size_in (node_at root) ≡ 0 → ShrinksRoot node_at new root child
+      → new_root ≡ Some child → UnderflowFix root new new_root node_at id
+  -- a root leaf without items goes, and the tree is empty
+  empties : (node_at : NodeMap A) (id : ℕ) → id ≡ root → node_at root ≡ Some (leaf None []) → RemovesNode node_at new root
+      → new_root ≡ None → UnderflowFix root new new_root node_at id
+
+-- the same, the old nodes first
+abbrev pub IsUnderflowFixed : {A : Type 0} → (node_at new : NodeMap A) → (root : ℕ) → (new_root : Option ℕ) → (id : ℕ) → Type 0
+IsUnderflowFixed node_at new root new_root id = UnderflowFix root new new_root node_at id

@@ -1,0 +1,83 @@
+-- What a walk in order of the nodes of a tree of any content passes.
+use Rattle.std.specs.Prelude.{◌≡◌, ℕ, ◌+◌, ◌<◌, ◌≤◌, suc, List, ◌++◌, length, Option, Some, None}
+use Rattle.std.specs.List.{AllByRecursion}
+use Rattle.std.specs.declared.cmp.Ordering.{Ordering}
+use Rattle.std.specs.declared.cmp.Ordering.TheVariants.{Less}
+use Rattle.btree_item.specs.Pairs.{Ascends}
+use Rattle.btree_node.specs.declared.node.Node.{Node}
+use Rattle.btree_store.specs.Content.{Content}
+use Rattle.btree_view.specs.View.{NodeMap, View, parent_of}
+use Rattle.btree_shape.specs.Lists.{times_listed}
+use Rattle.btree_shape.specs.Represents.{Represents, numbers_under, represented}
+use Rattle.btree_shape.specs.TreeState.{views}
+use Rattle.btree_shape.specs.WellFormed.{IsNearlySized, IsOffByOne, IsRooted}
+
+-- the key is above the last one passed, if there is one
+abbrev pub IsAbove : {K : Type 0} → (cmp : K → K → Ordering) → (last : Option K) → K → Type 0
+IsAbove cmp None key = Unit {0}
+IsAbove cmp (Some last) key = cmp last key ≡ Less
+
+-- the walk may come to a node here: one more may come, the node names its parent, and it has its number of items, but for one more or
+-- less at node `odd`
+abbrev pub MayEnter : {A : Type 0} → View A → (root odd id left : ℕ) → (parent : Option ℕ) → Type 0
+MayEnter node root odd id left parent = (0 < left) × (parent_of node ≡ parent) × IsNearlySized root odd id node
+
+module _ {K V : Type 0} (cmp : K → K → Ordering) where
+  -- the keys of the pairs passed ascend, and the keys above `last` are those that are above them all
+  pub record HasPassed (last : Option K) (xs : List (K × V)) : Type 0 where
+    pub ascends : Ascends cmp xs
+    pub below : (key : K) → IsAbove cmp last key → AllByRecursion (λ x. cmp x.0 key ≡ Less) xs
+    pub above : (key : K) → AllByRecursion (λ x. cmp x.0 key ≡ Less) xs → IsAbove cmp last key
+
+  -- the walk passes these pairs next
+  abbrev pub Orders : List (K × V) → (last after : Option K) → Type 0
+  Orders xs last after = (done : List (K × V)) → HasPassed last done → HasPassed after (done ++ xs)
+
+  -- with these pairs behind those that were passed, the keys still ascend
+  abbrev pub CanOrder : List (K × V) → (last : Option K) → Type 0
+  CanOrder xs last = (done : List (K × V)) × HasPassed last done × Ascends cmp (done ++ xs)
+
+  -- the tree is off by one at a node, and its root is so many levels above the leaves
+  abbrev pub IsOffAt : NodeMap (K × V) → (root odd height : ℕ) → Type 0
+  IsOffAt node_at root odd height = (xs : List (K × V)) × Ascends cmp xs × (rooted : IsRooted (IsNearlySized root odd) node_at root xs) × (rooted.height ≡ height)
+
+  module _ (node_at : NodeMap (K × V)) (root odd : ℕ) where
+    -- each node under these numbers has its number of items, but for one more or less at node `odd`
+    abbrev pub AreNearlySized : List ℕ → Type 0
+    AreNearlySized ids = (n : ℕ) (node : View (K × V)) → 0 < times_listed n ids → node_at n ≡ Some node → IsNearlySized root odd n node
+
+    -- a part of the tree, its nodes under these numbers, with these pairs, is passed: it is as it should be, and `left`, the
+    -- number of nodes that may still come, is less by its nodes
+    pub record Passes (IsRight : Type 0) (ids : List ℕ) (xs : List (K × V)) (left : ℕ) (last : Option K) (left_after : ℕ) (last_after : Option K) : Type 0 where
+      pub right : IsRight
+      pub sized : AreNearlySized ids
+      pub order : Orders xs last last_after
+      pub paid : left ≡ length ids + left_after
+
+    -- the part can be passed
+    pub record CanPass (IsRight : Type 0) (ids : List ℕ) (xs : List (K × V)) (left : ℕ) (last : Option K) : Type 0 where
+      pub right : IsRight
+      pub sized : AreNearlySized ids
+      pub order : CanOrder xs last
+      pub enough : length ids ≤ left
+
+    module _ (height : ℕ) (parent : Option ℕ) (id : ℕ) where
+      -- node `id` under this parent, so many levels above the leaves, and all below it are passed
+      abbrev pub PassesUnder : (left : ℕ) (last : Option K) (left_after : ℕ) (last_after : Option K) → Type 0
+      PassesUnder = Passes (Represents node_at height parent id (represented node_at (suc height) id)) (numbers_under node_at height id) (represented node_at (suc height) id)
+
+      abbrev pub CanPassUnder : (left : ℕ) (last : Option K) → Type 0
+      CanPassUnder = CanPass (Represents node_at height parent id (represented node_at (suc height) id)) (numbers_under node_at height id) (represented node_at (suc height) id)
+
+  -- the same of the nodes of a store
+  module _ (nodes : Content (Node K V)) (root odd : ℕ) where
+    abbrev pub IsOffAtHeight : (height : ℕ) → Type 0
+    IsOffAtHeight = IsOffAt (views nodes) root odd
+
+    -- at one of the heights that such a tree may have
+    abbrev pub IsOffAtSomeHeight : Type 0
+    IsOffAtSomeHeight = (height : ℕ) × (height < 32) × IsOffAtHeight height
+
+    -- the tree under the root is off by one at node `odd`, with some pairs
+    abbrev pub IsOffAmong : Type 0
+    IsOffAmong = (xs : List (K × V)) × IsOffByOne cmp (views nodes) root odd xs

@@ -1,0 +1,219 @@
+//! Whether a tree of any content is off by one at a node.
+ghost use Rattle.std.specs.Prelude.{◌≡◌, ℕ, ◌+◌, ◌↔◌, ◌<◌, IfSome, IsTrue, IsSome, List, None, option_copied};
+ghost use Rattle.std.specs.Mem.{FitsInMemory};
+ghost use Rattle.btree_node.specs.contracts.node.Node.{the_row as node_row};
+ghost use Rattle.btree_node.specs.Node.{view_of};
+ghost use Rattle.btree_view.specs.View.{items_of, leaf, most_of, parent_of};
+ghost use Rattle.btree_shape.specs.WellFormed.{excess_beside, least_beside};
+ghost use Rattle.btree_valid.specs.OffByOne.{IsAbove, IsOffAmong, IsOffAtHeight, IsOffAtSomeHeight, MayEnter};
+ghost use Rattle.btree_valid.specs.Parts.{CanPassItems, CanPassPart, PassesItems, PassesKey, PassesPart};
+
+use btree_node::Node;
+use btree_nodes::Nodes;
+use std::cmp::Ordering;
+
+// A walk of the nodes in order: how many nodes may still come, and the last key that was passed.
+#[derive(Drop)]
+struct Walk<'a, K> {
+    left: usize,
+    last: Option<&'a K>,
+}
+
+// A part of a tree as it is to be: a node with all below it, so many levels above the leaves, under this parent.
+#[derive(Clone, Copy)]
+struct Part {
+    height: usize,
+    parent: Option<usize>,
+    id: usize,
+}
+
+// Whether a key is above the last one passed.
+fn is_above<K: Ord>(last: Option<&K>, key: &K) -> bool
+    ensures { IsTrue result ↔ IsAbove K.cmp (option_copied last.entry) key.now }
+{
+    match last {
+        Some(last) => last.cmp(key) == Ordering::Less,
+        None => true,
+    }
+}
+
+// The fewest items of a node, where node `odd` may lack one.
+fn least_items(root: usize, odd: usize, id: usize) -> usize
+    ensures { result ≡ least_beside root odd id }
+{
+    if id == odd {
+        return if odd == root { 0 } else { 2 };
+    }
+    if id == root { 1 } else { 3 }
+}
+
+// The most items of a node, where node `odd` may have one more.
+fn most_items<K, V>(node: &Node<K, V>, odd: usize, id: usize) -> usize
+    ensures { result ≡ most_of (view_of node.now) + excess_beside odd id }
+{
+    match node {
+        Node::Leaf(_) => if id == odd { 9 } else { 8 },
+        Node::Internal(_) => if id == odd { 8 } else { 7 },
+    }
+}
+
+// Whether the walk may come to a node here: there may be one more, it names its parent, and it has its number of items, but for one
+// more or less at node `odd`.
+fn may_enter<K, V>(
+    node: &Node<K, V>,
+    root: usize,
+    odd: usize,
+    parent: Option<usize>,
+    id: usize,
+    left: usize,
+) -> bool
+    ensures { IsTrue result ↔ MayEnter (view_of node.now) root odd id left parent }
+{
+    if left == 0 {
+        return false;
+    }
+    if node.parent() != parent {
+        return false;
+    }
+    let count = node.item_count();
+    if count < least_items(root, odd, id) {
+        return false;
+    }
+    count <= most_items(node, odd, id)
+}
+
+// Passes the items of a leaf, if each key is above the one before it.
+fn pass_items<'a, K: Ord, V>(node: &'a Node<K, V>, seen: Walk<'a, K>) -> Option<Walk<'a, K>>
+    requires { view_of node.now ≡ leaf (parent_of (view_of node.now)) (items_of (view_of node.now)) }
+    ensures left { IfSome result (λ after. after.left ≡ seen.entry.left) }
+    ensures order { IfSome result (PassesItems K.cmp node.now seen.entry) }
+    ensures always { CanPassItems K.cmp node.now seen.entry → IsSome result }
+{
+    let items = match node {
+        Node::Leaf(items) => items,
+        Node::Internal(_) => unreachable!(),
+    };
+    let mut last = seen.last;
+    for item in items.iter() {
+        let key = item.key();
+        if !is_above(last, key) {
+            return None;
+        }
+        last = Some(key);
+    }
+    Some(Walk {
+        left: seen.left,
+        last,
+    })
+}
+
+// Passes a key, if it is above the last one.
+fn pass_key<'a, K: Ord>(seen: Walk<'a, K>, key: &'a K) -> Option<Walk<'a, K>>
+    ensures only { IfSome result (PassesKey K.cmp key.now seen.entry) }
+    ensures always { IsAbove K.cmp (option_copied seen.entry.last) key.now → IsSome result }
+{
+    if !is_above(seen.last, key) {
+        return None;
+    }
+    Some(Walk {
+        left: seen.left,
+        last: Some(key),
+    })
+}
+
+// Passes a part of the tree, if it is as it should be.
+fn pass_node<'a, K: Ord + 'a, V: 'a, C: Nodes<K, V>>(
+    nodes: &'a C,
+    root: usize,
+    odd: usize,
+    part: Part,
+    seen: Walk<'a, K>,
+) -> Option<Walk<'a, K>>
+    requires { FitsInMemory (node_row K.row V.row) }
+    ensures only { IfSome result (PassesPart K.cmp (C.content nodes.now) root odd part seen.entry) }
+    ensures always { CanPassPart K.cmp (C.content nodes.now) root odd part seen.entry → IsSome result }
+{
+    let Part { height, parent, id } = part;
+    let node = nodes.get(id)?;
+    if !may_enter(node, root, odd, parent, id, seen.left) {
+        return None;
+    }
+    let entered = Walk {
+        left: seen.left - 1,
+        last: seen.last,
+    };
+    let Some(first) = node.child_id_opt(0) else {
+        if height != 0 {
+            return None;
+        }
+        return pass_items(node, entered);
+    };
+    if height == 0 {
+        return None;
+    }
+    let leftmost = Part {
+        height: height - 1,
+        parent: Some(id),
+        id: first,
+    };
+    let mut passed = pass_node(nodes, root, odd, leftmost, entered)?;
+    let mut index = 0;
+    while let Some((item, child)) = node.branch_at_index(index) {
+        let next = pass_key(passed, item.key())?;
+        let below = Part {
+            id: child,
+            ..leftmost
+        };
+        passed = pass_node(nodes, root, odd, below, next)?;
+        index += 1;
+    }
+    Some(passed)
+}
+
+// Whether the tree is off by one at node `odd`, its root so many levels above the leaves: then a walk passes all nodes.
+fn is_off_at<K: Ord, V, C: Nodes<K, V>>(nodes: &C, root: usize, odd: usize, height: usize) -> bool
+    requires { FitsInMemory (node_row K.row V.row) }
+    ensures { IsTrue result ↔ IsOffAtHeight K.cmp (C.content nodes.now) root odd height }
+{
+    let start = Walk {
+        left: nodes.len(),
+        last: None,
+    };
+    let whole = Part {
+        height,
+        parent: None,
+        id: root,
+    };
+    match pass_node(nodes, root, odd, whole, start) {
+        Some(after) => after.left == 0,
+        None => false,
+    }
+}
+
+// Whether the tree is off by one at node `odd`, at one of the heights that such a tree may have.
+fn is_off_at_some<K: Ord, V, C: Nodes<K, V>>(nodes: &C, root: usize, odd: usize) -> bool
+    requires { FitsInMemory (node_row K.row V.row) }
+    ensures { IsTrue result ↔ IsOffAtSomeHeight K.cmp (C.content nodes.now) root odd }
+{
+    for height in 0..32 {
+        if is_off_at(nodes, root, odd, height) {
+            return true;
+        }
+    }
+    false
+}
+
+/// Whether the nodes form a tree of at most 32 levels under a root, well formed but for its length and the number of items of node `odd`,
+/// which is there: that one may have one item too many or too few, and none if it is the root.
+///
+/// It takes no memory but the stack. For each of the 32 heights that such a tree may have it looks at no more nodes than there are, and
+/// one.
+pub fn is_off<K: Ord, V, C: Nodes<K, V>>(nodes: &C, root: usize, odd: usize) -> bool
+    requires { FitsInMemory (node_row K.row V.row) }
+    ensures { IsTrue result ↔ IsOffAmong K.cmp (C.content nodes.now) root odd }
+{
+    match nodes.get(odd) {
+        Some(_) => is_off_at_some(nodes, root, odd),
+        None => false,
+    }
+}
