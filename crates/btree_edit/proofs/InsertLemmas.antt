@@ -87,8 +87,8 @@ module _ {K V : Type 0} (cmp : K → K → Ordering) (laws : IsTotalOrder cmp) (
     absent = nothing.0
 
     module _ (new : TreeState K V) (b : Address) (is : IsInserted cmp old new a b (k, w)) where
-      pub put-took : InsertsByKey cmp k old new w
-      put-took = record {
+      pub put-inserted_by_key : InsertsByKey cmp k old new w
+      put-inserted_by_key = record {
         absent = λ none. (a, gap, is.nodes);
         few = λ levels are.
             let e = is.nodes in

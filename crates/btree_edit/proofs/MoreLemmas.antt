@@ -24,7 +24,7 @@ use Rattle.btree_shape.proofs.Splits.Insertion.{leaf-grows, repaired-well, repai
 use Rattle.btree_shape.proofs.Trees.Stores.{used-view, len-views}
 use Rattle.btree_shape.proofs.Trees.States.{height_held, is-tree, pairs-tree}
 use Rattle.btree_raw.proofs.ClaimLemmas.{claims-low, claims-seen}
-use Rattle.btree_raw.proofs.ClimbLemmas.{split_need-done, split_need-left, split_need-start}
+use Rattle.btree_raw.proofs.UpwardLemmas.{split_need-done, split_need-left, split_need-start}
 use Rattle.btree_raw.proofs.StateLemmas.{same-len, same-refusals, same-root}
 use Rattle.btree_raw.specs.Claimed.{AreClaimed}
 use Rattle.btree_raw.specs.Steps.{AddsItem, AreSplit, CanTake, IsSplitting, SplitsUpward}

@@ -7,7 +7,7 @@ ghost use Rattle.btree_edit.specs.Insert.{IsGapFor, IsInserted, IsRefused, IsRef
 
 use crate::values::exchange;
 use btree_find::address_of;
-use btree_item::{Address, Cause, Item, Offset, Refused};
+use btree_item::{Address, Cause, Item, MAX_CLAIMS, Offset, Refused};
 use btree_node::Node;
 use btree_nodes::NodesMut;
 use btree_raw::{ClaimedIds, RawBTree, add_item, claim, claim_one, need, put, split_upward};
@@ -76,7 +76,7 @@ fn insert_and_split<K: Ord + Drop, V: Drop, C: NodesMut<K, V>>(
     requires gap { IsGapFor K.cmp item.0 tree.old addr }
     requires room { tree.old.len < usize.MAX }
     requires enough { count ≡ nodes_needed tree.old addr.id }
-    requires few { count ≤ 33 }
+    requires few { count ≤ MAX_CLAIMS }
     ensures inserted { IfOk result (λ b. IsInserted K.cmp tree.old tree.new addr b item) }
     ensures returned { IfErr result (λ r. (r.key, r.value) ≡ item) }
     ensures refused { IfErr result (λ r. IsRefused C.MayRefuse addr.id tree.old tree.new r.cause) }
@@ -149,7 +149,7 @@ pub fn insert<K: Ord + Drop, V: Drop, C: NodesMut<K, V>>(
     ensures tree { IsBTree K.cmp tree.new }
     ensures old { IfOk result (λ old. old ≡ found_value K.cmp key (pairs_of tree.old)) }
     ensures inserted { OnOk result (pairs_of tree.new ≡ inserted K.cmp key value (pairs_of tree.old)) }
-    ensures took { OnOk result (InsertsByKey K.cmp key tree.old tree.new value) }
+    ensures inserted_by_key { OnOk result (InsertsByKey K.cmp key tree.old tree.new value) }
     ensures uncounted { OnOk result (tree.new.refusals ≡ tree.old.refusals) }
 
     ensures returned { IfErr result (λ r. (r.key ≡ key) × (r.value ≡ value)) }

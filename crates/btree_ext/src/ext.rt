@@ -6,7 +6,7 @@ ghost use Rattle.btree_find.specs.Answers.{IsAddressOf};
 ghost use Rattle.btree_find.specs.Levels.{IsDense};
 
 use btree_find::{address_of, height};
-use btree_item::{Address, Item};
+use btree_item::{Address, Item, MAX_LEVELS};
 use btree_node::Node;
 use btree_nodes::NodesMut;
 use btree_raw::RawBTree;
@@ -57,7 +57,7 @@ pub trait BTreeExt<K: Ord, V> {
     /// How many levels of nodes there are: none without pairs, and at most 32.
     fn height(&self) -> usize
         ensures value { HasLevels (state self.now) result }
-        ensures few { result ≤ 32 }
+        ensures few { result ≤ MAX_LEVELS }
         ensures dense { IsDense (state self.now) result }
     {
         height(self.as_raw())

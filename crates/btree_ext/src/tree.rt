@@ -82,7 +82,7 @@ impl<K: Ord + Drop, V: Drop, C: NodesMut<K, V>> Tree<K, V, C> {
     pub fn insert(&mut self, key: K, value: V) -> Result<Option<V>, Refused<K, V>>
         ensures old { IfOk result (λ old. old ≡ found_value K.cmp key (pairs_of self.old)) }
         ensures inserted { OnOk result (pairs_of self.new ≡ inserted K.cmp key value (pairs_of self.old)) }
-        ensures took { OnOk result (InsertsByKey K.cmp key self.old self.new value) }
+        ensures inserted_by_key { OnOk result (InsertsByKey K.cmp key self.old self.new value) }
         ensures uncounted { OnOk result (self.new.refusals ≡ self.old.refusals) }
 
         ensures returned { IfErr result (λ r. (r.key ≡ key) × (r.value ≡ value)) }

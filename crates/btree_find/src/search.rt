@@ -7,7 +7,7 @@ ghost use Rattle.btree_shape.specs.TreeState.{HasLevels, IsBTree, pairs_of};
 ghost use Rattle.btree_find.specs.Answers.{IsAddressOf};
 ghost use Rattle.btree_find.specs.Levels.{IsDense};
 
-use btree_item::{Address, Offset};
+use btree_item::{Address, MAX_LEVELS, Offset};
 use btree_node::Node;
 use btree_nodes::NodesMut;
 use btree_raw::RawBTree;
@@ -72,7 +72,7 @@ pub fn get<'a, K: Ord + 'a, V: 'a, C: NodesMut<K, V>>(
 pub fn height<K: Ord, V, C: NodesMut<K, V>>(tree: &RawBTree<K, V, C>) -> usize
     requires { IsBTree K.cmp tree.now }
     ensures levels { HasLevels tree.now result }
-    ensures few { result ≤ 32 }
+    ensures few { result ≤ MAX_LEVELS }
     ensures dense { IsDense tree.now result }
 {
     let _len = tree.len();

@@ -12,7 +12,10 @@ ghost use Rattle.btree_view.specs.LookUp.{IsIndexOfKey, look_up, offset_in, Poin
 ghost use Rattle.btree_internal.specs.Internal.{branch_pair, gap_with_child, internal_view as view_of, InternalPopsLeft, InternalPopsRight};
 ghost use Rattle.btree_view.specs.View.{items_of, children_of, internal, item_at_offset, size_of, value_at_offset};
 
-use btree_item::{Item, Keyed, Offset, Slots, search};
+use btree_item::{
+    INTERNAL_MEDIAN, INTERNAL_SLOTS, Item, Keyed, MAX_INTERNAL_ITEMS, MIN_ITEMS, Offset, Slots,
+    search,
+};
 use btree_view::{Balance, WouldUnderflow, offset_at};
 use std::cmp::Ordering;
 use std::marker::Model;
@@ -109,7 +112,7 @@ pub struct InternalNode<K, V> {
     // `usize::MAX` where there is no parent.
     parent: usize,
     first: usize,
-    branches: Slots<Branch<K, V>, 8>,
+    branches: Slots<Branch<K, V>, INTERNAL_SLOTS>,
 }
 
 /// The same, under the name that Rust's crate has for it here.
@@ -185,7 +188,7 @@ impl<K, V> InternalNode<K, V> {
 
     pub fn item_count(&self) -> usize
         ensures value { result ≡ length self.now.branches }
-        ensures fits { result ≤ 8 }
+        ensures fits { result ≤ INTERNAL_SLOTS }
     {
         self.branches.len()
     }
@@ -193,7 +196,7 @@ impl<K, V> InternalNode<K, V> {
     /// One more than there are items.
     pub fn child_count(&self) -> usize
         ensures value { result ≡ length (children_of (view_of self.now)) }
-        ensures fits { result ≤ 9 }
+        ensures fits { result ≤ INTERNAL_SLOTS + 1 }
     {
         self.item_count() + 1
     }
@@ -205,7 +208,7 @@ impl<K, V> InternalNode<K, V> {
     }
 
     /// The items in order, each with the child after it.
-    pub fn branches(&self) -> &Slots<Branch<K, V>, 8>
+    pub fn branches(&self) -> &Slots<Branch<K, V>, INTERNAL_SLOTS>
         ensures { map branch_pair result.now ≡ self.now.branches }
     {
         &self.branches
@@ -285,25 +288,25 @@ impl<K, V> InternalNode<K, V> {
     pub fn balance(&self) -> Balance
         ensures { result ≡ balance_of (view_of self.now) }
     {
-        Balance::of(self.item_count(), 7)
+        Balance::of(self.item_count(), MAX_INTERNAL_ITEMS)
     }
 
     /// Whether there are more than seven items.
     pub fn is_overflowing(&self) -> bool
         ensures { IsTrue result ↔ IsOverflowing (view_of self.now) }
     {
-        self.item_count() > 7
+        self.item_count() > MAX_INTERNAL_ITEMS
     }
 
     /// Whether there are fewer than three items. A root is judged like any other node.
     pub fn is_underflowing(&self) -> bool
         ensures { IsTrue result ↔ IsUnderflowing (view_of self.now) }
     {
-        self.item_count() < 3
+        self.item_count() < MIN_ITEMS
     }
 }
 
-fn branch_at<K, V>(branches: &Slots<Branch<K, V>, 8>, index: usize) -> &Branch<K, V>
+fn branch_at<K, V>(branches: &Slots<Branch<K, V>, INTERNAL_SLOTS>, index: usize) -> &Branch<K, V>
     requires { index < length branches.now }
     ensures { slice_get branches.now index ≡ Some result.now }
 {
@@ -311,7 +314,11 @@ fn branch_at<K, V>(branches: &Slots<Branch<K, V>, 8>, index: usize) -> &Branch<K
 }
 
 // The number of the child at an index, where `first` is the one before all branches.
-fn child_id_among<K, V>(first: usize, branches: &Slots<Branch<K, V>, 8>, index: usize) -> usize
+fn child_id_among<K, V>(
+    first: usize,
+    branches: &Slots<Branch<K, V>, INTERNAL_SLOTS>,
+    index: usize,
+) -> usize
     requires { index ≤ length branches.now }
     ensures { slice_get (first ∷ map (λ b. b.child) branches.now) index ≡ Some result }
 {
@@ -323,11 +330,11 @@ fn child_id_among<K, V>(first: usize, branches: &Slots<Branch<K, V>, 8>, index: 
 }
 
 // The place of a key among the items.
-fn place<K: Ord, V>(branches: &Slots<Branch<K, V>, 8>, key: &K) -> Result<usize, usize>
+fn place<K: Ord, V>(branches: &Slots<Branch<K, V>, INTERNAL_SLOTS>, key: &K) -> Result<usize, usize>
     requires { Ascends K.cmp (map (λ b. b.item) branches.now) }
     ensures place { result ≡ place_of K.cmp key.now (map (λ b. b.item) branches.now) }
     ensures within { IsSearchInRange result (length branches.now) }
-    ensures fits { length branches.now ≤ 8 }
+    ensures fits { length branches.now ≤ INTERNAL_SLOTS }
     ensures here { IfOk result (IsIndexOfKey K.cmp key.now (map (λ b. b.item) branches.now)) }
     ensures absent { OnErr result (found K.cmp key.now (map (λ b. b.item) branches.now) ≡ None) }
 {
@@ -357,7 +364,7 @@ impl<K: Ord, V> InternalNode<K, V> {
         ensures within { IsSearchInRange result (length self.now.branches) }
         ensures sized { size_of (view_of self.now) ≡ length self.now.branches }
         ensures here { IfOk result (IsIndexOfKey K.cmp key.now (items_of (view_of self.now))) }
-        ensures fits { length self.now.branches ≤ 8 }
+        ensures fits { length self.now.branches ≤ INTERNAL_SLOTS }
         ensures absent { OnErr result (found K.cmp key.now (items_of (view_of self.now)) ≡ None) }
     {
         place(&self.branches, key)
@@ -400,7 +407,7 @@ impl<K: Drop, V: Drop> InternalNode<K, V> {
     /// Puts an item at an offset, with a child after it, and moves those from there on up. The order of
     /// the keys, and the child's own parent number, are up to the caller.
     pub fn insert(&mut self, offset: Offset, item: Item<K, V>, right_id: usize)
-        requires room { length self.old.branches < 8 }
+        requires room { length self.old.branches < INTERNAL_SLOTS }
         requires within { IsSomeAnd offset (λ index. index ≤ length self.old.branches) }
         ensures { view_of self.new ≡ with_item_at offset item (Some right_id) (view_of self.old) }
     {
@@ -480,7 +487,7 @@ impl<K: Drop, V: Drop> InternalNode<K, V> {
     /// Puts an item before the others, and a child before the others. The order of the keys, and the
     /// child's own parent number, are up to the caller.
     pub fn push_left(&mut self, item: Item<K, V>, child: usize)
-        requires { length self.old.branches < 8 }
+        requires { length self.old.branches < INTERNAL_SLOTS }
         ensures { view_of self.new ≡ pushed_left item (Some child) (view_of self.old) }
     {
         let second = self.first;
@@ -497,7 +504,7 @@ impl<K: Drop, V: Drop> InternalNode<K, V> {
     /// Puts an item behind the others, and a child behind it. Answers the item's offset. The order of the
     /// keys, and the child's own parent number, are up to the caller.
     pub fn push_right(&mut self, item: Item<K, V>, child: usize) -> Offset
-        requires { length self.old.branches < 8 }
+        requires { length self.old.branches < INTERNAL_SLOTS }
         ensures offset { result ≡ Some (length self.old.branches) }
         ensures after { view_of self.new ≡ pushed_right item (Some child) (view_of self.old) }
     {
@@ -510,14 +517,14 @@ impl<K: Drop, V: Drop> InternalNode<K, V> {
     fn has_spare(&self) -> bool
         ensures { IsTrue result ↔ HasSpare (view_of self.now) }
     {
-        self.item_count() > 3
+        self.item_count() > MIN_ITEMS
     }
 
     /// Takes the first item out with the first child, where there are four items or more.
     pub fn pop_left(&mut self) -> Result<(Item<K, V>, usize), WouldUnderflow>
         ensures spare { IfOk result (λ _. HasSpare (view_of self.old)) }
         ensures taken { IfOk result (InternalPopsLeft self.old self.new) }
-        ensures short { OnErr result (size_of (view_of self.old) ≤ 3 × self.new ≡ self.old) }
+        ensures short { OnErr result (size_of (view_of self.old) ≤ MIN_ITEMS × self.new ≡ self.old) }
     {
         if !self.has_spare() {
             return Err(WouldUnderflow);
@@ -534,7 +541,7 @@ impl<K: Drop, V: Drop> InternalNode<K, V> {
         ensures spare { IfOk result (λ _. HasSpare (view_of self.old)) }
         ensures offset { IfOk result (λ popped. popped.0 ≡ Some (length self.new.branches)) }
         ensures taken { IfOk result (InternalPopsRight self.old self.new) }
-        ensures short { OnErr result (size_of (view_of self.old) ≤ 3 × self.new ≡ self.old) }
+        ensures short { OnErr result (size_of (view_of self.old) ≤ MIN_ITEMS × self.new ≡ self.old) }
     {
         if !self.has_spare() {
             return Err(WouldUnderflow);
@@ -549,12 +556,12 @@ impl<K: Drop, V: Drop> InternalNode<K, V> {
     pub fn split(&mut self) -> (usize, Item<K, V>, InternalNode<K, V>)
         requires { IsOverflowing (view_of self.old) }
         ensures parts { IsSplit (view_of self.old) result.1 (view_of self.new) (view_of result.2) }
-        ensures left { result.0 ≡ 3 }
-        ensures right { length result.2.branches ≡ 4 }
+        ensures left { result.0 ≡ INTERNAL_MEDIAN }
+        ensures right { length result.2.branches ≡ MIN_ITEMS + 1 }
     {
         // That there are eight at most shows how many the right part has.
         let _count = self.item_count();
-        let branches = self.branches.split_off(4);
+        let branches = self.branches.split_off(INTERNAL_MEDIAN + 1);
         let Branch { item, child } = self.branches.pop().unwrap();
         let right = InternalNode {
             parent: self.parent,

@@ -1,5 +1,5 @@
 //! A leaf of the tree.
-ghost use Rattle.std.specs.Prelude.{◌≡◌, ◌<◌, ◌≤◌, ◌↔◌, [], ◌∷◌, Some, None, IsTrue, IfSome, IsSomeAnd, IfOk, OnErr, length, slice_get};
+ghost use Rattle.std.specs.Prelude.{◌≡◌, ◌+◌, ◌<◌, ◌≤◌, ◌↔◌, [], ◌∷◌, Some, None, IsTrue, IfSome, IsSomeAnd, IfOk, OnErr, length, slice_get};
 ghost use Rattle.std.specs.Borrow.{sem};
 ghost use Rattle.std.specs.List.Sorted.{IsSearchInRange};
 ghost use Rattle.std.specs.Option.{option_and_then, option_copied, option_copied_mut};
@@ -8,7 +8,9 @@ ghost use Rattle.btree_leaf.specs.Leaf.{as_offset, leaf_view as view_of, LeafPop
 ghost use Rattle.btree_view.specs.Kept.{insert_at, kept_parent};
 ghost use Rattle.btree_view.specs.LookUp.{IsIndexOfKey};
 
-use btree_item::{Item, Offset, Slots, SlotsIter, search};
+use btree_item::{
+    Item, LEAF_MEDIAN, LEAF_SLOTS, MAX_LEAF_ITEMS, MIN_ITEMS, Offset, Slots, SlotsIter, search,
+};
 use btree_view::{Balance, WouldUnderflow, offset_at};
 use std::marker::Model;
 
@@ -17,7 +19,7 @@ use std::marker::Model;
 pub struct LeafNode<K, V> {
     // `usize::MAX` where there is no parent.
     parent: usize,
-    items: Slots<Item<K, V>, 9>,
+    items: Slots<Item<K, V>, LEAF_SLOTS>,
 }
 
 impl<K, V> Model for LeafNode<K, V> {
@@ -67,12 +69,12 @@ impl<K, V> LeafNode<K, V> {
 
     pub fn item_count(&self) -> usize
         ensures value { result ≡ length self.now.items }
-        ensures fits { result ≤ 9 }
+        ensures fits { result ≤ LEAF_SLOTS }
     {
         self.items().len()
     }
 
-    pub fn items(&self) -> &Slots<Item<K, V>, 9>
+    pub fn items(&self) -> &Slots<Item<K, V>, LEAF_SLOTS>
         ensures { result.now ≡ self.now.items }
     {
         &self.items
@@ -123,21 +125,21 @@ impl<K, V> LeafNode<K, V> {
     pub fn balance(&self) -> Balance
         ensures { result ≡ balance_of (view_of self.now) }
     {
-        Balance::of(self.item_count(), 8)
+        Balance::of(self.item_count(), MAX_LEAF_ITEMS)
     }
 
     /// Whether there are more than eight items.
     pub fn is_overflowing(&self) -> bool
         ensures { IsTrue result ↔ IsOverflowing (view_of self.now) }
     {
-        self.item_count() > 8
+        self.item_count() > MAX_LEAF_ITEMS
     }
 
     /// Whether there are fewer than three items. A root is judged like any other node.
     pub fn is_underflowing(&self) -> bool
         ensures { IsTrue result ↔ IsUnderflowing (view_of self.now) }
     {
-        self.item_count() < 3
+        self.item_count() < MIN_ITEMS
     }
 
     /// Puts the node under another parent. `Some(usize::MAX)` is read as none.
@@ -149,11 +151,11 @@ impl<K, V> LeafNode<K, V> {
 }
 
 // The place of a key among items.
-fn place<K: Ord, V>(items: &Slots<Item<K, V>, 9>, key: &K) -> Result<usize, usize>
+fn place<K: Ord, V>(items: &Slots<Item<K, V>, LEAF_SLOTS>, key: &K) -> Result<usize, usize>
     requires { Ascends K.cmp items.now }
     ensures place { result ≡ place_of K.cmp key.now items.now }
     ensures within { IsSearchInRange result (length items.now) }
-    ensures fits { length items.now ≤ 9 }
+    ensures fits { length items.now ≤ LEAF_SLOTS }
     ensures here { IfOk result (IsIndexOfKey K.cmp key.now items.now) }
     ensures absent { OnErr result (found K.cmp key.now items.now ≡ None) }
 {
@@ -209,7 +211,7 @@ impl<K: Ord, V> LeafNode<K, V> {
         requires { Ascends K.cmp self.now.items }
         ensures place { result ≡ place_of K.cmp key.now self.now.items }
         ensures within { IsSearchInRange result (length self.now.items) }
-        ensures fits { length self.now.items ≤ 9 }
+        ensures fits { length self.now.items ≤ LEAF_SLOTS }
     {
         place(self.items(), key)
     }
@@ -219,7 +221,7 @@ impl<K: Ord + Drop, V: Drop> LeafNode<K, V> {
     /// Puts a value at a key, found with at most six comparisons: a key that is there stays, with the
     /// new value, and the given key is dropped. Answers the offset, and the value that stood there.
     pub fn insert_by_key(&mut self, key: K, value: V) -> (Offset, Option<V>)
-        requires room { length self.old.items < 9 }
+        requires room { length self.old.items < LEAF_SLOTS }
         requires ascends { Ascends K.cmp self.old.items }
         ensures offset { result.0 ≡ Some (before K.cmp key self.old.items) }
         ensures answer { result.1 ≡ found_value K.cmp key self.old.items }
@@ -246,7 +248,7 @@ impl<K: Drop, V: Drop> LeafNode<K, V> {
     /// Puts an item at an offset, and moves those from there on up. The order of the keys is up to
     /// the caller.
     pub fn insert(&mut self, offset: Offset, item: Item<K, V>)
-        requires room { length self.old.items < 9 }
+        requires room { length self.old.items < LEAF_SLOTS }
         requires within { IsSomeAnd offset (λ index. index ≤ length self.old.items) }
         ensures { self.new ≡ record self.old { items = insert_at offset self.old.items item } }
     {
@@ -277,7 +279,7 @@ impl<K: Drop, V: Drop> LeafNode<K, V> {
 
     /// Puts an item before the others. The order of the keys is up to the caller.
     pub fn push_left(&mut self, item: Item<K, V>)
-        requires { length self.old.items < 9 }
+        requires { length self.old.items < LEAF_SLOTS }
         ensures { view_of self.new ≡ pushed_left item None (view_of self.old) }
     {
         self.items.insert(0, item);
@@ -285,7 +287,7 @@ impl<K: Drop, V: Drop> LeafNode<K, V> {
 
     /// Puts an item behind the others, and answers its offset. The order of the keys is up to the caller.
     pub fn push_right(&mut self, item: Item<K, V>) -> Offset
-        requires { length self.old.items < 9 }
+        requires { length self.old.items < LEAF_SLOTS }
         ensures offset { result ≡ Some (length self.old.items) }
         ensures after { view_of self.new ≡ pushed_right item None (view_of self.old) }
     {
@@ -298,14 +300,14 @@ impl<K: Drop, V: Drop> LeafNode<K, V> {
     fn has_spare(&self) -> bool
         ensures { IsTrue result ↔ HasSpare (view_of self.now) }
     {
-        self.item_count() > 3
+        self.item_count() > MIN_ITEMS
     }
 
     /// Takes the first item out, of four or more.
     pub fn pop_left(&mut self) -> Result<Item<K, V>, WouldUnderflow>
         ensures spare { IfOk result (λ _. HasSpare (view_of self.old)) }
         ensures taken { IfOk result (λ item. view_of self.old ≡ pushed_left item None (view_of self.new)) }
-        ensures short { OnErr result (length self.old.items ≤ 3 × self.new ≡ self.old) }
+        ensures short { OnErr result (length self.old.items ≤ MIN_ITEMS × self.new ≡ self.old) }
     {
         if !self.has_spare() {
             return Err(WouldUnderflow);
@@ -318,7 +320,7 @@ impl<K: Drop, V: Drop> LeafNode<K, V> {
         ensures spare { IfOk result (λ _. HasSpare (view_of self.old)) }
         ensures offset { IfOk result (λ popped. popped.0 ≡ Some (length self.new.items)) }
         ensures taken { IfOk result (LeafPopsRight self.old self.new) }
-        ensures short { OnErr result (length self.old.items ≤ 3 × self.new ≡ self.old) }
+        ensures short { OnErr result (length self.old.items ≤ MIN_ITEMS × self.new ≡ self.old) }
     {
         if !self.has_spare() {
             return Err(WouldUnderflow);
@@ -332,12 +334,12 @@ impl<K: Drop, V: Drop> LeafNode<K, V> {
     pub fn split(&mut self) -> (usize, Item<K, V>, LeafNode<K, V>)
         requires { IsOverflowing (view_of self.old) }
         ensures parts { IsSplit (view_of self.old) result.1 (view_of self.new) (view_of result.2) }
-        ensures left { result.0 ≡ 4 }
-        ensures right { length result.2.items ≡ 4 }
+        ensures left { result.0 ≡ LEAF_MEDIAN }
+        ensures right { length result.2.items ≡ MIN_ITEMS + 1 }
     {
         // That there are nine at most shows how many the right part has.
         let _count = self.item_count();
-        let items = self.items.split_off(5);
+        let items = self.items.split_off(LEAF_MEDIAN + 1);
         let median = self.items.pop().unwrap();
         let right = LeafNode {
             parent: self.parent,

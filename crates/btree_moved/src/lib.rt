@@ -5,6 +5,8 @@ mod moved;
 mod siblings;
 mod split;
 
-pub use moved::{moved_by_merge, moved_by_shrink_root, moved_by_rotate_left, moved_by_rotate_right};
+pub use moved::{
+    moved_by_merge, moved_by_rotate_left, moved_by_rotate_right, moved_by_shrink_root,
+};
 pub use siblings::Siblings;
 pub use split::moved_by_split;

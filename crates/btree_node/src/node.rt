@@ -9,7 +9,7 @@ ghost use Rattle.btree_node.specs.Node.{branch_copied, view_of};
 ghost use Rattle.btree_view.specs.View.{BeginsAt, parent_of, items_of, children_of, item_at_offset, size_of, most_of};
 
 use btree_internal::InternalNode;
-use btree_item::{Item, Offset};
+use btree_item::{Item, LEAF_SLOTS, MAX_INTERNAL_ITEMS, MAX_LEAF_ITEMS, MIN_ITEMS, Offset};
 use btree_leaf::LeafNode;
 use btree_view::{Balance, WouldUnderflow, offset_at};
 
@@ -42,7 +42,7 @@ impl<K, V> Node<K, V> {
 
     pub fn item_count(&self) -> usize
         ensures value { result ≡ size_of (view_of self.now) }
-        ensures fits { result ≤ 9 }
+        ensures fits { result ≤ LEAF_SLOTS }
     {
         match self {
             Node::Internal(node) => node.item_count(),
@@ -53,7 +53,7 @@ impl<K, V> Node<K, V> {
     /// One more than there are items in an internal node, and 0 for a leaf.
     pub fn child_count(&self) -> usize
         ensures value { result ≡ length (children_of (view_of self.now)) }
-        ensures fits { result ≤ 9 }
+        ensures fits { result ≤ LEAF_SLOTS }
     {
         match self {
             Node::Internal(node) => node.child_count(),
@@ -114,7 +114,7 @@ impl<K, V> Node<K, V> {
 
     /// The item at an index, and `None` past the last.
     pub fn item_at_index(&self, index: usize) -> Option<&Item<K, V>>
-        ensures fits { OnSome result (index < 9) }
+        ensures fits { OnSome result (index < LEAF_SLOTS) }
         ensures item { slice_get (items_of (view_of self.now)) index ≡ option_copied result }
     {
         if index >= self.item_count() {
@@ -126,7 +126,7 @@ impl<K, V> Node<K, V> {
     /// The item of an internal node at an index and the number of the child after it, and `None` past the
     /// last. A leaf has none.
     pub fn branch_at_index(&self, index: usize) -> Option<(&Item<K, V>, usize)>
-        ensures fits { OnSome result (index < 9) }
+        ensures fits { OnSome result (index < LEAF_SLOTS) }
         ensures first { BeginsAt (view_of self.now) index (branch_copied result) }
     {
         let Node::Internal(node) = self else {
@@ -157,8 +157,8 @@ impl<K, V> Node<K, V> {
         ensures { IsTrue result ↔ (most_of (view_of self.now) ≤ size_of (view_of self.now)) }
     {
         match self {
-            Node::Internal(node) => node.item_count() >= 7,
-            Node::Leaf(leaf) => leaf.item_count() >= 8,
+            Node::Internal(node) => node.item_count() >= MAX_INTERNAL_ITEMS,
+            Node::Leaf(leaf) => leaf.item_count() >= MAX_LEAF_ITEMS,
         }
     }
 
@@ -331,7 +331,7 @@ impl<K: Drop, V: Drop> Node<K, V> {
         ensures spare { IfOk result (λ _. HasSpare (view_of self.old)) }
         ensures child { IfOk result (λ popped. HasChildFor popped.1 (view_of self.old)) }
         ensures taken { IfOk result (PopsLeft (view_of self.old) (view_of self.new)) }
-        ensures short { OnErr result (size_of (view_of self.old) ≤ 3 × self.new ≡ self.old) }
+        ensures short { OnErr result (size_of (view_of self.old) ≤ MIN_ITEMS × self.new ≡ self.old) }
     {
         match self {
             Node::Internal(node) => match node.pop_left() {
@@ -352,7 +352,7 @@ impl<K: Drop, V: Drop> Node<K, V> {
         ensures offset { IfOk result (λ popped. popped.0 ≡ Some (size_of (view_of self.new))) }
         ensures child { IfOk result (λ popped. HasChildFor popped.2 (view_of self.old)) }
         ensures taken { IfOk result (PopsRight (view_of self.old) (view_of self.new)) }
-        ensures short { OnErr result (size_of (view_of self.old) ≤ 3 × self.new ≡ self.old) }
+        ensures short { OnErr result (size_of (view_of self.old) ≤ MIN_ITEMS × self.new ≡ self.old) }
     {
         match self {
             Node::Internal(node) => match node.pop_right() {
@@ -373,7 +373,7 @@ impl<K: Drop, V: Drop> Node<K, V> {
         requires { IsOverflowing (view_of self.old) }
         ensures parts { IsSplit (view_of self.old) result.1 (view_of self.new) (view_of result.2) }
         ensures left { result.0 ≡ size_of (view_of self.new) }
-        ensures right { size_of (view_of result.2) ≡ 4 }
+        ensures right { size_of (view_of result.2) ≡ MIN_ITEMS + 1 }
     {
         match self {
             Node::Internal(node) => {

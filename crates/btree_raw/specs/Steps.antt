@@ -1,5 +1,6 @@
 -- Changes of single nodes: what they ask, and what is there afterwards.
 use Rattle.std.specs.Prelude.{◌≡◌, ◌≢◌, ℕ, ◌+◌, ◌<◌, ◌≤◌, List, length, slice_get, Option, Some, option_map, IsTrue}
+use Rattle.btree_item.specs.declared.TheConstants.{MAX_CLAIMS}
 use Rattle.btree_item.specs.declared.address.Address.{Address}
 use Rattle.btree_view.specs.View.{View, NodeMap, size_of, most_of, children_in, children_of}
 use Rattle.btree_view.specs.Edits.{with_parent, with_item, is_internal, HasChildFor, IsOverflowing, IsSplit}
@@ -113,4 +114,4 @@ module _ {A : Type 0} (node_at : NodeMap A) where
     pub root : ℕ
     pub xs : List A
     pub upward : IsCountingUpward A node_at root xs most id counted (split_need node_at most start)
-    pub few : split_need node_at most start ≤ 33
+    pub few : split_need node_at most start ≤ MAX_CLAIMS

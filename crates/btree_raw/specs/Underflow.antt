@@ -1,5 +1,6 @@
 -- A climb that mends nodes with too few items: one step of it between two siblings, and what whoever followed an address knows then.
 use Rattle.std.specs.Prelude.{◌≡◌, ℕ, suc, ◌+◌, ◌<◌, ◌≤◌, ◌⊎◌, List, length, Option, Some, None, option_map, Bool, true, false}
+use Rattle.btree_item.specs.declared.TheConstants.{MIN_ITEMS}
 use Rattle.btree_item.specs.declared.address.Address.{Address}
 use Rattle.btree_view.specs.View.{View, NodeMap, children_of, parent_of, size_of}
 use Rattle.btree_moved.specs.declared.siblings.Siblings.{Siblings}
@@ -23,7 +24,7 @@ module _ {A : Type 0} (node_at : NodeMap A) where
   pub record Underflows (id : ℕ) : Type 0 where
     pub node : View A
     pub here : node_at id ≡ Some node
-    pub few : size_of node ≤ 2
+    pub few : size_of node ≤ MIN_ITEMS - 1
 
   -- the two siblings have at most five items together, so that with an item more they fit into one node
   pub record HaveFew (siblings : Siblings) : Type 0 where
@@ -31,7 +32,7 @@ module _ {A : Type 0} (node_at : NodeMap A) where
     pub high : View A
     pub at_left : node_at siblings.left ≡ Some low
     pub at_right : node_at siblings.right ≡ Some high
-    pub few : size_of low + size_of high ≤ 5
+    pub few : size_of low + size_of high ≤ 2 * MIN_ITEMS - 1
 
   -- node `id` is one of the children of node `parent`
   pub record IsChild (parent id : ℕ) : Type 0 where

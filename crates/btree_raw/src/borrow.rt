@@ -6,9 +6,9 @@ ghost use Rattle.btree_raw.specs.NodeSteps.{MergesSiblings, CanGiveItem, Rotates
 ghost use Rattle.btree_raw.specs.Underflow.{AreAdjacent, GoesUpFromEither, HaveFew, Underflows, EndsUnderflow};
 ghost use Rattle.btree_raw.specs.Steps.{HasCount};
 
-use crate::rotate::{merge, rotate_left, rotate_right};
 use crate::raw::RawBTree;
-use btree_item::Address;
+use crate::rotate::{merge, rotate_left, rotate_right};
+use btree_item::{Address, LEAF_SLOTS};
 use btree_moved::{Siblings, moved_by_merge, moved_by_rotate_left, moved_by_rotate_right};
 use btree_nodes::NodesMut;
 
@@ -31,9 +31,9 @@ pub(crate) fn borrow_from_right<K: Drop, V: Drop, C: NodesMut<K, V>>(
     count: usize,
     addr: Address,
 ) -> Address
-    requires beside { AreAdjacent (node_map tree.old) siblings siblings.left addr }
+    requires adjacent { AreAdjacent (node_map tree.old) siblings siblings.left addr }
     requires short { Underflows (node_map tree.old) siblings.left }
-    requires lender { CanGiveItem (node_map tree.old) siblings.right }
+    requires giver { CanGiveItem (node_map tree.old) siblings.right }
     requires count { HasCount (node_map tree.old) siblings.left count }
     requires number { siblings.left < usize.MAX }
     ensures rotates { Changes (λ a b. RotatesSiblingsLeft a b siblings) tree.old tree.new }
@@ -52,11 +52,11 @@ pub(crate) fn borrow_from_left<K: Drop, V: Drop, C: NodesMut<K, V>>(
     count: usize,
     addr: Address,
 ) -> Address
-    requires beside { AreAdjacent (node_map tree.old) siblings siblings.right addr }
+    requires adjacent { AreAdjacent (node_map tree.old) siblings siblings.right addr }
     requires short { Underflows (node_map tree.old) siblings.right }
-    requires lender { CanGiveItem (node_map tree.old) siblings.left }
+    requires giver { CanGiveItem (node_map tree.old) siblings.left }
     requires count { HasCount (node_map tree.old) siblings.left count }
-    requires low { IfSome addr.offset (λ n. n ≤ 9) }
+    requires low { IfSome addr.offset (λ n. n ≤ LEAF_SLOTS) }
     requires number { siblings.right < usize.MAX }
     ensures rotates { Changes (λ a b. RotatesSiblingsRight a b siblings) tree.old tree.new }
     ensures here { EndsUnderflow (node_map tree.old) (node_map tree.new) siblings.right addr result }
@@ -74,10 +74,10 @@ pub(crate) fn merge_siblings<K: Drop, V: Drop, C: NodesMut<K, V>>(
     count: usize,
     addr: Address,
 ) -> Address
-    requires beside { (id : ℕ) × AreAdjacent (node_map tree.old) siblings id addr }
+    requires adjacent { (id : ℕ) × AreAdjacent (node_map tree.old) siblings id addr }
     requires few { HaveFew (node_map tree.old) siblings }
     requires count { HasCount (node_map tree.old) siblings.left count }
-    requires low { IfSome addr.offset (λ n. n ≤ 9) }
+    requires low { IfSome addr.offset (λ n. n ≤ LEAF_SLOTS) }
     ensures merges { Changes (λ a b. MergesSiblings a b siblings) tree.old tree.new }
     ensures above { GoesUpFromEither tree.old tree.new siblings addr result }
     ensures back { IsSome addr.offset → IsSome result.offset }

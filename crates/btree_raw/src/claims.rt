@@ -7,11 +7,12 @@ ghost use Rattle.btree_raw.specs.Raw.{Refuses, with_node};
 
 use crate::raw::RawBTree;
 use arrayvec::ArrayVec;
+use btree_item::MAX_CLAIMS;
 use btree_node::{LeafNode, Node};
 use btree_nodes::NodesMut;
 
 /// The numbers of claimed nodes. An insertion claims at most one for each of at most 32 levels, and a root.
-pub type ClaimedIds = ArrayVec<usize, 33>;
+pub type ClaimedIds = ArrayVec<usize, MAX_CLAIMS>;
 
 // Gives claimed nodes back, so that the tree is as before they were claimed.
 pub(crate) fn release<K: Drop, V: Drop, C: NodesMut<K, V>>(
@@ -53,7 +54,7 @@ pub fn claim<K: Drop, V: Drop, C: NodesMut<K, V>>(
     count: usize,
     claims: &mut ClaimedIds,
 ) -> bool
-    requires few { count ≤ 33 }
+    requires few { count ≤ MAX_CLAIMS }
     requires none { claims.old.items ≡ [] }
     ensures claimed { IsTrue result → AreClaimed tree.old tree.new claims.new.items }
     ensures count { IsTrue result → length claims.new.items ≡ count }

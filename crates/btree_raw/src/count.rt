@@ -5,6 +5,7 @@ ghost use Rattle.btree_shape.specs.TreeState.{IsBTree, IsUsed, node_map, nodes_f
 ghost use Rattle.btree_raw.specs.Steps.{IsCounting};
 
 use crate::raw::RawBTree;
+use btree_item::MAX_CLAIMS;
 use btree_nodes::NodesMut;
 
 /// How many nodes the splits take that begin at a node with an item too many: one for each full node from there upward without a gap,
@@ -12,7 +13,7 @@ use btree_nodes::NodesMut;
 pub fn split_need<K, V, C: NodesMut<K, V>>(tree: &RawBTree<K, V, C>, start: usize) -> usize
     requires { IsCounting (node_map tree.now) (map.len tree.now.nodes) start start 0 }
     ensures value { result ≡ nodes_for_splits tree.now start }
-    ensures few { result ≤ 33 }
+    ensures few { result ≤ MAX_CLAIMS }
 {
     tree.tell_fits();
     let mut id = start;
@@ -35,7 +36,7 @@ pub fn need<K: Ord, V, C: NodesMut<K, V>>(tree: &RawBTree<K, V, C>, start: usize
     requires sound { IsBTree K.cmp tree.now }
     requires used { IsUsed tree.now start }
     ensures value { result ≡ nodes_needed tree.now start }
-    ensures few { result ≤ 33 }
+    ensures few { result ≤ MAX_CLAIMS }
 {
     // The length is a `usize`, so there are at most 32 levels.
     let _len = tree.len();

@@ -5,9 +5,9 @@ ghost use Rattle.btree_shape.specs.TreeState.{Changes, node_map};
 ghost use Rattle.btree_raw.specs.Steps.{CanSplitInto, CanGrowRoot, HasCount, CanInsertSeparator, InsertsSeparator, IsSplitting, SplitsUpward};
 
 use crate::claims::ClaimedIds;
-use crate::nodes::{add_item, set_parents, put, set_parent, split_node};
+use crate::nodes::{add_item, put, set_parent, set_parents, split_node};
 use crate::raw::RawBTree;
-use btree_item::{Address, Item};
+use btree_item::{Address, INTERNAL_SLOTS, Item};
 use btree_moved::moved_by_split;
 use btree_node::Node;
 use btree_nodes::NodesMut;
@@ -56,8 +56,8 @@ fn insert_separator<K: Drop, V: Drop, C: NodesMut<K, V>>(
     right: usize,
 ) -> usize
     requires { CanInsertSeparator (node_map tree.old) above id }
-    ensures lifts { Changes (λ a b. InsertsSeparator a b above id right result median) tree.old tree.new }
-    ensures few { result ≤ 8 }
+    ensures inserts_separator { Changes (λ a b. InsertsSeparator a b above id right result median) tree.old tree.new }
+    ensures few { result ≤ INTERNAL_SLOTS }
 {
     tree.tell_fits();
     let index = tree.node(above).child_index(id).unwrap();

@@ -8,10 +8,10 @@ ghost use Rattle.btree_raw.specs.Underflow.{AreAdjacent, BorrowsFromLeft, EndsHe
 ghost use Rattle.btree_raw.specs.Underflow as specs;
 ghost use Rattle.btree_raw.specs.Steps.{HasCount};
 
-use crate::borrow::{first_child, merge_siblings, borrow_from_right, borrow_from_left};
-use crate::rotate::shrink_root;
+use crate::borrow::{borrow_from_left, borrow_from_right, first_child, merge_siblings};
 use crate::raw::RawBTree;
-use btree_item::Address;
+use crate::rotate::shrink_root;
+use btree_item::{Address, LEAF_SLOTS, MIN_ITEMS};
 use btree_moved::{Siblings, moved_by_shrink_root};
 use btree_nodes::NodesMut;
 
@@ -19,7 +19,7 @@ use btree_nodes::NodesMut;
 fn count_of<K, V, C: NodesMut<K, V>>(tree: &RawBTree<K, V, C>, id: usize) -> usize
     requires { 0 < times_used (node_map tree.now id) }
     ensures count { HasCount (node_map tree.now) id result }
-    ensures few { result ≤ 9 }
+    ensures few { result ≤ LEAF_SLOTS }
     ensures number { id < usize.MAX }
 {
     tree.tell_fits();
@@ -93,9 +93,9 @@ fn fix_underflow_with_left<K: Drop, V: Drop, C: NodesMut<K, V>>(
     siblings: Siblings,
     addr: Address,
 ) -> (Address, bool)
-    requires beside { AreAdjacent (node_map tree.old) siblings siblings.right addr }
+    requires adjacent { AreAdjacent (node_map tree.old) siblings siblings.right addr }
     requires short { Underflows (node_map tree.old) siblings.right }
-    requires low { IfSome addr.offset (λ n. n ≤ 9) }
+    requires low { IfSome addr.offset (λ n. n ≤ LEAF_SLOTS) }
     requires number { siblings.right < usize.MAX }
     ensures borrows { result.1 ≡ false → BorrowsFromLeft tree.old tree.new siblings }
     ensures merges { result.1 ≡ true → MergesWithLeft tree.old tree.new siblings }
@@ -106,7 +106,7 @@ fn fix_underflow_with_left<K: Drop, V: Drop, C: NodesMut<K, V>>(
 {
     tree.tell_fits();
     let held = count_of(tree, siblings.left);
-    if held > 3 {
+    if held > MIN_ITEMS {
         return (borrow_from_left(tree, siblings, held, addr), false);
     }
     (merge_siblings(tree, siblings, held, addr), true)
@@ -125,7 +125,7 @@ fn fix_underflow_at<K: Drop, V: Drop, C: NodesMut<K, V>>(
     requires under { option_map parent_of (node_map tree.old id) ≡ Some (Some parent) }
     requires count { HasCount (node_map tree.old) id count }
     requires short { count ≤ 2 }
-    requires low { IfSome addr.offset (λ n. n ≤ 9) }
+    requires low { IfSome addr.offset (λ n. n ≤ LEAF_SLOTS) }
     requires number { id < usize.MAX }
     ensures borrows { result.1 ≡ false → BorrowsFromSibling (node_map tree.old) (node_map tree.new) parent id }
     ensures merges { result.1 ≡ true → MergesWithSibling (node_map tree.old) (node_map tree.new) parent id }
@@ -140,7 +140,7 @@ fn fix_underflow_at<K: Drop, V: Drop, C: NodesMut<K, V>>(
         return fix_underflow_with_left(tree, before.unwrap(), addr);
     };
     let held = count_of(tree, after.right);
-    if held > 3 {
+    if held > MIN_ITEMS {
         return (borrow_from_right(tree, after, count, addr), false);
     }
     match before {

@@ -1,5 +1,6 @@
 -- How many nodes an insertion at a node takes, and how many levels stand above it: by the nodes as they are.
 use Rattle.std.specs.Prelude.{◌≡◌, ℕ, zero, suc, ◌+◌, ◌<◌, nat_lt, if◌then◌else◌, List, [], Option, Some, None}
+use Rattle.btree_item.specs.declared.TheConstants.{MAX_INTERNAL_ITEMS}
 use Rattle.btree_view.specs.View.{View, NodeMap, parent_of, size_of, most_of}
 use Rattle.btree_shape.specs.Focus.Shape.{Shape, most_at, count_at, id_of}
 use Rattle.btree_shape.specs.Focus.Path.{Path, top, under, frame_count, depth}
@@ -43,7 +44,7 @@ levels_above node_at (suc most) id = levels_over (levels_above node_at most) (no
 -- what splits take on the way above a node: for a split at its end, and for an item put into a node of `count` items there
 abbrev pub path_need : {A : Type 0} {height : ℕ} → Path A height → ℕ
 path_need top = 2
-path_need (under frame path) = suc (if nat_lt (frame_count frame) 7 then 0 else path_need path)
+path_need (under frame path) = suc (if nat_lt (frame_count frame) MAX_INTERNAL_ITEMS then 0 else path_need path)
 
 abbrev pub path_need_from : {A : Type 0} {height : ℕ} → Path A height → (count : ℕ) → ℕ
 path_need_from {A} {height} path count = if nat_lt count (most_at height) then 0 else path_need path

@@ -1,20 +1,33 @@
 -- How near the nodes of a tree are to a split or a merge: what pays for the nodes that later steps take or give up.
 use Rattle.std.specs.Prelude.{◌≡◌, ℕ, zero, suc, ◌+◌, ◌-◌, ◌==◌, if◌then◌else◌, List, length, Option, Some, None}
+use Rattle.btree_item.specs.declared.TheConstants.{MAX_INTERNAL_ITEMS, MAX_LEAF_ITEMS, MIN_ITEMS}
 use Rattle.btree_view.specs.View.{View, leaf, internal, NodeMap, size_of}
 use Rattle.btree_shape.specs.Lists.{times_listed, total}
 use Rattle.btree_shape.specs.Focus.Shape.{Shape, count_at}
 use Rattle.btree_shape.specs.Focus.Path.{Frame, at_first, at_branch, Path, top, under, frame_count}
 use Rattle.btree_shape.specs.WellFormed.{times_used}
 
--- what a leaf of more than 7 items has too much, and an internal node of more than 5
+-- the most items of a leaf that is not strained: it still has room for one
+abbrev pub UNSTRAINED_LEAF_ITEMS : ℕ
+UNSTRAINED_LEAF_ITEMS = MAX_LEAF_ITEMS - 1
+
+-- the most items of an internal node that is not strained: it still has room for two
+abbrev pub UNSTRAINED_INTERNAL_ITEMS : ℕ
+UNSTRAINED_INTERNAL_ITEMS = MAX_INTERNAL_ITEMS - 2
+
+-- the fewest items of a node other than the root that is not strained: it can lose one
+abbrev pub UNSTRAINED_MIN_ITEMS : ℕ
+UNSTRAINED_MIN_ITEMS = MIN_ITEMS + 1
+
+-- how many items a node has above the most of one that is not strained
 abbrev pub surplus_of : {A : Type 0} → View A → ℕ
-surplus_of (leaf parent items) = length items - 7
-surplus_of (internal parent first branches) = length branches - 5
+surplus_of (leaf parent items) = length items - UNSTRAINED_LEAF_ITEMS
+surplus_of (internal parent first branches) = length branches - UNSTRAINED_INTERNAL_ITEMS
 
 -- the strain of a node: its surplus, and what it has fewer than 4 items if it is not the root
 abbrev pub strain_in : {A : Type 0} → (root id : ℕ) → Option (View A) → ℕ
 strain_in root id None = 0
-strain_in root id (Some node) = surplus_of node + (if id == root then 0 else 4 - size_of node)
+strain_in root id (Some node) = surplus_of node + (if id == root then 0 else UNSTRAINED_MIN_ITEMS - size_of node)
 
 -- that of the nodes with these numbers
 abbrev pub strain_under : {A : Type 0} → NodeMap A → (root : ℕ) → List ℕ → ℕ
@@ -27,15 +40,15 @@ IsStrain node_at (Some root) strain = (ids : List ℕ) × ((n : ℕ) → times_l
 
 -- the same of a tree in parts: of a node by its height and number of items
 abbrev pub surplus : (height count : ℕ) → ℕ
-surplus zero count = count - 7
-surplus (suc height) count = count - 5
+surplus zero count = count - UNSTRAINED_LEAF_ITEMS
+surplus (suc height) count = count - UNSTRAINED_INTERNAL_ITEMS
 
 module _ (A : Type 0) where
   -- of a tree that is not at the root, and of the nodes below its top
   abbrev pub strain : (height : ℕ) → Shape A height → ℕ
-  strain zero shape = surplus zero (length shape.1) + (4 - length shape.1)
+  strain zero shape = surplus zero (length shape.1) + (UNSTRAINED_MIN_ITEMS - length shape.1)
   strain (suc height) shape =
-      surplus (suc height) (length shape.2) + (4 - length shape.2)
+      surplus (suc height) (length shape.2) + (UNSTRAINED_MIN_ITEMS - length shape.2)
       + (strain height shape.1 + total (λ b. strain height b.1) shape.2)
 
   abbrev pub strain_below : (height : ℕ) → Shape A height → ℕ
@@ -45,7 +58,7 @@ module _ (A : Type 0) where
   -- of a node with this above it
   abbrev pub own_strain : {height : ℕ} → Path A height → (count : ℕ) → ℕ
   own_strain {height} top count = surplus height count
-  own_strain {height} (under frame path) count = surplus height count + (4 - count)
+  own_strain {height} (under frame path) count = surplus height count + (UNSTRAINED_MIN_ITEMS - count)
 
   abbrev pub strain_beside : {height : ℕ} → Frame A height → ℕ
   strain_beside {height} (at_first id back) = total (λ b. strain height b.1) back

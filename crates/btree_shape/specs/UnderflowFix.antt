@@ -1,5 +1,6 @@
 -- In which order a tree is mended: which step is taken at a node with too few items, and at which node the next one.
 use Rattle.std.specs.Prelude.{◌≡◌, ◌≢◌, ℕ, suc, ◌<◌, ◌≤◌, [], slice_get, Option, Some, None, IfSome, option_map}
+use Rattle.btree_item.specs.declared.TheConstants.{MIN_ITEMS}
 use Rattle.btree_view.specs.View.{View, leaf, NodeMap, children_in, parent_of, size_of}
 use Rattle.btree_shape.specs.SiblingSteps.{Merges, ShrinksRoot, RotatesLeft, RotatesRight}
 use Rattle.btree_shape.specs.Step.{RemovesNode}
@@ -17,16 +18,16 @@ module _ {A : Type 0} (node_at : NodeMap A) where
 
   -- the child at that index is this one, and it has more than three items
   abbrev pub CanSpare : (parent index sibling : ℕ) → Type 0
-  CanSpare parent index sibling = (child_at parent index ≡ Some sibling) × (3 < size_in (node_at sibling))
+  CanSpare parent index sibling = (child_at parent index ≡ Some sibling) × (MIN_ITEMS < size_in (node_at sibling))
 
   -- no child at that index has
   abbrev pub NoneSpares : (parent index : ℕ) → Type 0
-  NoneSpares parent index = IfSome (child_at parent index) (λ sibling. size_in (node_at sibling) ≤ 3)
+  NoneSpares parent index = IfSome (child_at parent index) (λ sibling. size_in (node_at sibling) ≤ MIN_ITEMS)
 
   -- node `id` is not the root, has fewer than three items, and names this parent
   pub record UnderflowsUnder (root parent id : ℕ) : Type 0 where
     pub apart : id ≢ root
-    pub few : size_in (node_at id) < 3
+    pub few : size_in (node_at id) < MIN_ITEMS
     pub named : option_map parent_of (node_at id) ≡ Some (Some parent)
 
   module _ (new : NodeMap A) where

@@ -1,6 +1,7 @@
 -- When nodes under numbers are a B-tree.
 use Rattle.std.specs.Prelude.{◌≡◌, ℕ, ◌+◌, ◌<◌, ◌≤◌, ◌==◌, if◌then◌else◌, List, [], length, Option, Some, None, IsSome}
 use Rattle.std.specs.declared.cmp.Ordering.{Ordering}
+use Rattle.btree_item.specs.declared.TheConstants.{MAX_LEVELS, MIN_ITEMS}
 use Rattle.btree_item.specs.Pairs.{Ascends}
 use Rattle.btree_shape.specs.Lists.{times_listed}
 use Rattle.btree_view.specs.View.{View, NodeMap, size_of, most_of}
@@ -13,7 +14,7 @@ times_used (Some x) = 1
 
 -- the fewest items of a node: one in the root, three in any other
 abbrev pub least_of : (root id : ℕ) → ℕ
-least_of root id = if id == root then 1 else 3
+least_of root id = if id == root then 1 else MIN_ITEMS
 
 -- a node of a tree at rest has enough items and not too many
 abbrev pub IsSized : {A : Type 0} → (root id : ℕ) → View A → Type 0
@@ -21,7 +22,7 @@ IsSized root id node = (least_of root id ≤ size_of node) × (size_of node ≤ 
 
 -- the fewest items where node `odd` may lack one, and may have none if it is the root
 abbrev pub least_beside : (root odd id : ℕ) → ℕ
-least_beside root odd id = if id == odd then (if odd == root then 0 else 2) else least_of root id
+least_beside root odd id = if id == odd then (if odd == root then 0 else MIN_ITEMS - 1) else least_of root id
 
 -- how many items more than the most there may be, where node `odd` may have one
 abbrev pub excess_beside : (odd id : ℕ) → ℕ
@@ -55,5 +56,5 @@ pub record IsWellFormed {K V : Type 0} (cmp : K → K → Ordering) (node_at : N
 pub record IsOffByOne {K V : Type 0} (cmp : K → K → Ordering) (node_at : NodeMap (K × V)) (root odd : ℕ) (xs : List (K × V)) : Type 0 where
   pub ascends : Ascends cmp xs
   pub rooted : IsRooted (IsNearlySized root odd) node_at root xs
-  pub low : rooted.height < 32
+  pub low : rooted.height < MAX_LEVELS
   pub used : IsSome (node_at odd)

@@ -3,6 +3,7 @@ use Rattle.std.specs.Prelude.{◌≡◌, ℕ, ◌+◌, ◌<◌, ◌≤◌, suc, 
 use Rattle.std.specs.List.{AllByRecursion}
 use Rattle.std.specs.declared.cmp.Ordering.{Ordering}
 use Rattle.std.specs.declared.cmp.Ordering.TheVariants.{Less}
+use Rattle.btree_item.specs.declared.TheConstants.{MAX_LEVELS}
 use Rattle.btree_item.specs.Pairs.{Ascends}
 use Rattle.btree_node.specs.declared.node.Node.{Node}
 use Rattle.btree_store.specs.Content.{Content}
@@ -76,7 +77,7 @@ module _ {K V : Type 0} (cmp : K → K → Ordering) where
 
     -- at one of the heights that such a tree may have
     abbrev pub IsOffAtSomeHeight : Type 0
-    IsOffAtSomeHeight = (height : ℕ) × (height < 32) × IsOffAtHeight height
+    IsOffAtSomeHeight = (height : ℕ) × (height < MAX_LEVELS) × IsOffAtHeight height
 
     -- the tree under the root is off by one at node `odd`, with some pairs
     abbrev pub IsOffAmong : Type 0

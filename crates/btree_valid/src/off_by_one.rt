@@ -8,6 +8,7 @@ ghost use Rattle.btree_shape.specs.WellFormed.{excess_beside, least_beside};
 ghost use Rattle.btree_valid.specs.OffByOne.{IsAbove, IsOffAmong, IsOffAtHeight, IsOffAtSomeHeight, MayEnter};
 ghost use Rattle.btree_valid.specs.Parts.{CanPassItems, CanPassPart, PassesItems, PassesKey, PassesPart};
 
+use btree_item::{MAX_INTERNAL_ITEMS, MAX_LEAF_ITEMS, MAX_LEVELS, MIN_ITEMS};
 use btree_node::Node;
 use btree_nodes::Nodes;
 use std::cmp::Ordering;
@@ -42,9 +43,9 @@ fn least_items(root: usize, odd: usize, id: usize) -> usize
     ensures { result ≡ least_beside root odd id }
 {
     if id == odd {
-        return if odd == root { 0 } else { 2 };
+        return if odd == root { 0 } else { MIN_ITEMS - 1 };
     }
-    if id == root { 1 } else { 3 }
+    if id == root { 1 } else { MIN_ITEMS }
 }
 
 // The most items of a node, where node `odd` may have one more.
@@ -52,8 +53,16 @@ fn most_items<K, V>(node: &Node<K, V>, odd: usize, id: usize) -> usize
     ensures { result ≡ most_of (view_of node.now) + excess_beside odd id }
 {
     match node {
-        Node::Leaf(_) => if id == odd { 9 } else { 8 },
-        Node::Internal(_) => if id == odd { 8 } else { 7 },
+        Node::Leaf(_) => if id == odd {
+            MAX_LEAF_ITEMS + 1
+        } else {
+            MAX_LEAF_ITEMS
+        },
+        Node::Internal(_) => if id == odd {
+            MAX_INTERNAL_ITEMS + 1
+        } else {
+            MAX_INTERNAL_ITEMS
+        },
     }
 }
 
@@ -195,7 +204,7 @@ fn is_off_at_some<K: Ord, V, C: Nodes<K, V>>(nodes: &C, root: usize, odd: usize)
     requires { FitsInMemory (node_row K.row V.row) }
     ensures { IsTrue result ↔ IsOffAtSomeHeight K.cmp (C.content nodes.now) root odd }
 {
-    for height in 0..32 {
+    for height in 0..MAX_LEVELS {
         if is_off_at(nodes, root, odd, height) {
             return true;
         }

@@ -1,5 +1,6 @@
 -- How full a node is, by numbers alone.
 use Rattle.std.specs.Prelude.{ℕ, nat_lt, ◌==◌, if◌then◌else◌}
+use Rattle.btree_item.specs.declared.TheConstants.{MIN_ITEMS}
 use Rattle.btree_view.specs.declared.balance.Balance.{Balance}
 use Rattle.btree_view.specs.declared.balance.Balance.TheVariants.{Balanced, Overflow, Underflow}
 
@@ -7,5 +8,5 @@ use Rattle.btree_view.specs.declared.balance.Balance.TheVariants.{Balanced, Over
 abbrev pub balance_with : (most items : ℕ) → Balance
 balance_with most items =
     if nat_lt most items then Overflow
-    else if nat_lt items 3 then Underflow (items == 0)
+    else if nat_lt items MIN_ITEMS then Underflow (items == 0)
     else Balanced

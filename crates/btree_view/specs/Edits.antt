@@ -1,6 +1,7 @@
 -- What calls on a node make of it.
 use Rattle.std.specs.Prelude.{◌≡◌, ℕ, ◌+◌, ◌<◌, ◌≤◌, List, [], ◌∷◌, ◌++◌, length, map, set, Option, Some, None, is_some, Bool, true, false}
 use Rattle.std.specs.List.{insert, remove, zip}
+use Rattle.btree_item.specs.declared.TheConstants.{INTERNAL_MEDIAN, LEAF_MEDIAN, MIN_ITEMS}
 use Rattle.btree_view.specs.declared.balance.Balance.{Balance}
 use Rattle.btree_view.specs.Balances.{balance_with}
 use Rattle.btree_view.specs.View.{View, leaf, internal, items_of, size_of, most_of}
@@ -85,7 +86,7 @@ module _ {A : Type 0} where
 
   -- the node has more items than it has to keep
   abbrev pub HasSpare : View A → Type 0
-  HasSpare node = 3 < size_of node
+  HasSpare node = MIN_ITEMS < size_of node
 
   -- the node has more items than it holds at rest
   abbrev pub IsOverflowing : View A → Type 0
@@ -93,20 +94,20 @@ module _ {A : Type 0} where
 
   -- the node, other than a root, has fewer items than it holds at rest
   abbrev pub IsUnderflowing : View A → Type 0
-  IsUnderflowing node = size_of node < 3
+  IsUnderflowing node = size_of node < MIN_ITEMS
 
   -- how the number of items stands to what the node holds at rest, where it is no root
   abbrev pub balance_of : View A → Balance
   balance_of node = balance_with (most_of node) (size_of node)
 
-  -- a node in two parts with the median between them: 4 items stay in a leaf and 3 in an internal node;
+  -- a node in two parts with the median between them, which is the item at that index;
   -- the right part has the same parent, and of an internal node it begins with the child after the median
   abbrev pub IsSplit : View A → A → View A → View A → Type 0
   IsSplit (leaf parent items) median left right =
       (front : List A) × (back : List A)
-      × (items ≡ front ++ median ∷ back) × (length front ≡ 4)
+      × (items ≡ front ++ median ∷ back) × (length front ≡ LEAF_MEDIAN)
       × (left ≡ leaf parent front) × (right ≡ leaf parent back)
   IsSplit (internal parent first branches) median left right =
       (front : List (A × ℕ)) × (middle : ℕ) × (back : List (A × ℕ))
-      × (branches ≡ front ++ (median, middle) ∷ back) × (length front ≡ 3)
+      × (branches ≡ front ++ (median, middle) ∷ back) × (length front ≡ INTERNAL_MEDIAN)
       × (left ≡ internal parent first front) × (right ≡ internal parent middle back)

@@ -1,6 +1,7 @@
 -- What a definition sees of a node, and of a store of nodes.
 use Rattle.std.specs.Prelude.{◌≡◌, ℕ, ◌+◌, List, [], ◌∷◌, drop, length, map, slice_get, Option, Some, None}
 use Rattle.std.specs.Option.{option_and_then, option_map}
+use Rattle.btree_item.specs.declared.TheConstants.{MAX_INTERNAL_ITEMS, MAX_LEAF_ITEMS}
 
 -- a leaf: its parent's number and its items; an internal node: its parent's number, its first child's, and its items,
 -- each with the number of the child after it
@@ -39,8 +40,8 @@ module _ {A : Type 0} where
 
   -- the most items that such a node holds, but in passing
   abbrev pub most_of : View A → ℕ
-  most_of (leaf parent items) = 8
-  most_of (internal parent first branches) = 7
+  most_of (leaf parent items) = MAX_LEAF_ITEMS
+  most_of (internal parent first branches) = MAX_INTERNAL_ITEMS
 
   -- the item at an offset, and none at -1
   abbrev pub item_at_offset : View A → Option ℕ → Option A

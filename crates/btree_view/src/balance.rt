@@ -2,6 +2,8 @@
 ghost use Rattle.std.specs.Prelude.{◌≡◌};
 ghost use Rattle.btree_view.specs.Balances.{balance_with};
 
+use btree_item::MIN_ITEMS;
+
 /// How the number of a node's items stands to what a node holds at rest. A root is judged like any
 /// other node.
 #[derive(Clone, Copy, Debug, PartialEq, Eq)]
@@ -23,7 +25,7 @@ impl Balance {
     {
         if items > most {
             Balance::Overflow
-        } else if items < 3 {
+        } else if items < MIN_ITEMS {
             Balance::Underflow(items == 0)
         } else {
             Balance::Balanced

@@ -4,7 +4,7 @@ ghost use Rattle.btree_shape.specs.TreeState.{pairs_of};
 ghost use Rattle.btree_walk.specs.Rows.{AreAncestors, IsBelow, IsNextAbove, IsNextIn, left_at, left_of};
 
 use btree_ext::{BTreeExt, Tree};
-use btree_item::Slots;
+use btree_item::{LEAF_SLOTS, MAX_LEVELS, Slots};
 use btree_node::Node;
 use btree_nodes::NodesMut;
 
@@ -16,14 +16,14 @@ pub(crate) struct Ancestor<'a, K, V> {
 }
 
 /// The internal nodes above the leaf, from the root down.
-pub(crate) type Ancestors<'a, K, V> = Slots<Ancestor<'a, K, V>, 32>;
+pub(crate) type Ancestors<'a, K, V> = Slots<Ancestor<'a, K, V>, MAX_LEVELS>;
 
 // The item of a leaf after those that are passed.
 pub(crate) fn next_in_leaf<'a, K, V>(
     leaf: Option<&'a Node<K, V>>,
     passed: usize,
 ) -> Option<(&'a K, &'a V)>
-    ensures fits { OnSome result (passed < 9) }
+    ensures fits { OnSome result (passed < LEAF_SLOTS) }
     ensures first { IsNextIn leaf.entry passed result }
 {
     match leaf {

@@ -43,20 +43,20 @@ module _ {A : Type 0} (node_at : NodeMap A) where
       back-at-separator to None b h = absurd h
       back-at-separator to (Some o) b h = same-back o s to (address_at p o) b tt
 
-      back-right-lender : (o : Option ℕ) → IsBack node_at o → Back (in_right_giver j p s c o)
-      back-right-lender None h = absurd h
-      back-right-lender (Some zero) h = tt
-      back-right-lender (Some (suc o)) h = tt
+      back-right-giver : (o : Option ℕ) → IsBack node_at o → Back (in_right_giver j p s c o)
+      back-right-giver None h = absurd h
+      back-right-giver (Some zero) h = tt
+      back-right-giver (Some (suc o)) h = tt
 
       pub rotate-left-back : (v : Address) → Back v → Back (moved_by_rotate_left i j p s n c v)
       rotate-left-back v h =
           same-back v.id j (in_right_giver j p s c v.offset)
-          (if v.id == p then (at_separator p s (address_at i n) v.offset) else v) (back-right-lender v.offset h)
+          (if v.id == p then (at_separator p s (address_at i n) v.offset) else v) (back-right-giver v.offset h)
           (same-back v.id p (at_separator p s (address_at i n) v.offset) v (back-at-separator (address_at i n) v.offset tt h) h)
 
-      back-left-lender : (o : Option ℕ) → IsBack node_at o → Back (in_left_giver i j p s n o)
-      back-left-lender None h = absurd h
-      back-left-lender (Some o) h = by-order Back (suc o) n (address_at i o) (address_at p s) (address_at j 0) tt tt tt
+      back-left-giver : (o : Option ℕ) → IsBack node_at o → Back (in_left_giver i j p s n o)
+      back-left-giver None h = absurd h
+      back-left-giver (Some o) h = by-order Back (suc o) n (address_at i o) (address_at p s) (address_at j 0) tt tt tt
 
       back-right-taker : (o : Option ℕ) → IsBack node_at o → Back (in_right_receiver j c o)
       back-right-taker None h = absurd h
@@ -66,7 +66,7 @@ module _ {A : Type 0} (node_at : NodeMap A) where
       rotate-right-back v h =
           let rest : Address = if v.id == p then (at_separator p s (address_at j 0) v.offset) else v in
           same-back v.id i (in_left_giver i j p s n v.offset)
-          (if v.id == j then (in_right_receiver j c v.offset) else rest) (back-left-lender v.offset h)
+          (if v.id == j then (in_right_receiver j c v.offset) else rest) (back-left-giver v.offset h)
           (same-back v.id j (in_right_receiver j c v.offset) rest (back-right-taker v.offset h)
           (same-back v.id p (at_separator p s (address_at j 0) v.offset) v (back-at-separator (address_at j 0) v.offset tt h) h))
 

@@ -1,6 +1,7 @@
 -- What is left of a walk through a tree in order, from the front.
 use Rattle.std.specs.Prelude.{ℕ, suc, ◌+◌, ◌<◌, List, [], ◌∷◌, ◌++◌, Option}
 use Rattle.std.specs.List.{flat_map, AllByRecursion}
+use Rattle.btree_item.specs.declared.TheConstants.{MAX_LEVELS}
 use Rattle.btree_view.specs.View.{NodeMap}
 use Rattle.btree_shape.specs.Represents.{Represents, represented}
 
@@ -23,7 +24,7 @@ module _ {A : Type 0} (node_at : NodeMap A) (levels : ℕ) where
     pub list : List A
     pub represents : Represents node_at height parent id list
     pub low : height < levels
-    pub room : depth + height < 32
+    pub room : depth + height < MAX_LEVELS
 
   -- each row's children stand one level below its own
   abbrev pub AreRows : (depth : ℕ) → List (List (A × ℕ)) → Type 0

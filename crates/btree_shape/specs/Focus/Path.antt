@@ -2,6 +2,7 @@
 -- tree.
 use Rattle.std.specs.Prelude.{◌≡◌, ℕ, suc, ◌+◌, List, [], ◌∷◌, ◌++◌, length, map, Option, Some, None}
 use Rattle.std.specs.List.{AllByRecursion}
+use Rattle.btree_item.specs.declared.TheConstants.{MIN_ITEMS}
 use Rattle.btree_view.specs.View.{View, internal, NodeMap}
 use Rattle.btree_shape.specs.Lists.{one, total}
 use Rattle.btree_shape.specs.Focus.Shape.{Shape, id_of, items_under, later_items, times_under, Holds, count_at, IsFilled, IsFilledBelow}
@@ -77,11 +78,11 @@ module _ {A : Type 0} {height : ℕ} where
   -- each node beside the hole has its number of items, and so has each below those
   abbrev pub SiblingsFilled : Frame A height → Type 0
   SiblingsFilled (at_first id back) =
-      AllByRecursion (λ b. IsFilled 3 height (count_at A height b.1) × IsFilledBelow A height b.1) back
+      AllByRecursion (λ b. IsFilled MIN_ITEMS height (count_at A height b.1) × IsFilledBelow A height b.1) back
   SiblingsFilled (at_branch id first front x back) =
-      IsFilled 3 height (count_at A height first) × IsFilledBelow A height first
-      × AllByRecursion (λ b. IsFilled 3 height (count_at A height b.1) × IsFilledBelow A height b.1) front
-      × AllByRecursion (λ b. IsFilled 3 height (count_at A height b.1) × IsFilledBelow A height b.1) back
+      IsFilled MIN_ITEMS height (count_at A height first) × IsFilledBelow A height first
+      × AllByRecursion (λ b. IsFilled MIN_ITEMS height (count_at A height b.1) × IsFilledBelow A height b.1) front
+      × AllByRecursion (λ b. IsFilled MIN_ITEMS height (count_at A height b.1) × IsFilledBelow A height b.1) back
 
 -- the number of the node above the hole, if there is one
 abbrev pub parent_above : {A : Type 0} {height : ℕ} → Path A height → Option ℕ
@@ -112,7 +113,7 @@ HoldsAbove node_at (under frame path) hole =
 -- the fewest items of a node with this above it
 abbrev pub least_at : {A : Type 0} {height : ℕ} → Path A height → ℕ
 least_at top = 1
-least_at (under frame path) = 3
+least_at (under frame path) = MIN_ITEMS
 
 -- each node above and beside the hole has its number of items
 abbrev pub AreFilled : {A : Type 0} {height : ℕ} → Path A height → Type 0

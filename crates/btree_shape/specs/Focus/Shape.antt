@@ -1,13 +1,14 @@
 -- The nodes under a number as one finite tree, level by level: a tool of the proofs, and what a loop in a tree keeps.
 use Rattle.std.specs.Prelude.{◌≡◌, ℕ, zero, suc, ◌+◌, ◌≤◌, List, ◌∷◌, ◌++◌, length, map, Option, Some}
 use Rattle.std.specs.List.{flat_map, AllByRecursion}
+use Rattle.btree_item.specs.declared.TheConstants.{MAX_INTERNAL_ITEMS, MAX_LEAF_ITEMS, MIN_ITEMS}
 use Rattle.btree_view.specs.View.{View, leaf, internal, NodeMap}
 use Rattle.btree_shape.specs.Lists.{one, total}
 
 -- the most items of a node so many levels above the leaves
 abbrev pub most_at : ℕ → ℕ
-most_at zero = 8
-most_at (suc height) = 7
+most_at zero = MAX_LEAF_ITEMS
+most_at (suc height) = MAX_INTERNAL_ITEMS
 
 -- a node has at least so many items, and not too many
 abbrev pub IsFilled : (low height size : ℕ) → Type 0
@@ -62,5 +63,5 @@ module _ (A : Type 0) where
   abbrev pub IsFilledBelow : (height : ℕ) → Shape height → Type 0
   IsFilledBelow zero shape = Unit {0}
   IsFilledBelow (suc height) shape =
-      IsFilled 3 height (count_at height shape.1) × IsFilledBelow height shape.1
-      × AllByRecursion (λ b. IsFilled 3 height (count_at height b.1) × IsFilledBelow height b.1) shape.2
+      IsFilled MIN_ITEMS height (count_at height shape.1) × IsFilledBelow height shape.1
+      × AllByRecursion (λ b. IsFilled MIN_ITEMS height (count_at height b.1) × IsFilledBelow height b.1) shape.2

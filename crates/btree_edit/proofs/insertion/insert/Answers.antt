@@ -1,4 +1,4 @@
-use Rattle.btree_edit.proofs.InsertLemmas.{exchanged-pairs, gap-for, old-value, put-took}
+use Rattle.btree_edit.proofs.InsertLemmas.{exchanged-pairs, gap-for, old-value, put-inserted_by_key}
 use Rattle.btree_edit.proofs.insertion.insert.Goals as goal
 use Rattle.std.proofs.lemmas.Grind.{common_steps}
 use Rattle.std.proofs.Common.{arith, rules}
@@ -15,9 +15,9 @@ pub returns-in-Ok-clause-inserted : goal.returns-in-Ok-clause-inserted
 returns-in-Ok-clause-inserted g c =
     exchanged-pairs g.K.Ord.cmp g.met.K.Ord.total c.args.tree.now c.args.key c.args.value c.requires.tree c.exchange.new.tree c.in-Ok.addr c.in-Ok.ensures c.exchange.result c.exchange.ensures
 
-pub returns-in-Ok-insert_at_gap-clause-took : goal.returns-in-Ok-insert_at_gap-clause-took
-returns-in-Ok-insert_at_gap-clause-took g c =
-    put-took g.K.Ord.cmp g.met.K.Ord.total c.args.tree.now c.args.key c.args.value c.requires.tree c.in-Err.addr c.in-Err.ensures c.insert_at_gap.new.tree
+pub returns-in-Ok-insert_at_gap-clause-inserted_by_key : goal.returns-in-Ok-insert_at_gap-clause-inserted_by_key
+returns-in-Ok-insert_at_gap-clause-inserted_by_key g c =
+    put-inserted_by_key g.K.Ord.cmp g.met.K.Ord.total c.args.tree.now c.args.key c.args.value c.requires.tree c.in-Err.addr c.in-Err.ensures c.insert_at_gap.new.tree
     c.in-Ok-insert_at_gap.field-0 (rw c.new.ensures at c.in-Ok-insert_at_gap.ensures.inserted)
 
 pub address_of-requires : goal.address_of-requires
@@ -41,8 +41,8 @@ insert_at_gap-requires-clause-tree g c = search rules steps 200000
 pub returns-in-Ok-clause-tree : goal.returns-in-Ok-clause-tree
 returns-in-Ok-clause-tree g c = search rules steps 200000
 
-pub returns-in-Ok-clause-took : goal.returns-in-Ok-clause-took
-returns-in-Ok-clause-took g c = grind (arith, common_steps) steps 300000
+pub returns-in-Ok-clause-inserted_by_key : goal.returns-in-Ok-clause-inserted_by_key
+returns-in-Ok-clause-inserted_by_key g c = grind (arith, common_steps) steps 300000
 
 pub returns-in-Ok-clause-uncounted : goal.returns-in-Ok-clause-uncounted
 returns-in-Ok-clause-uncounted g c = search rules steps 200000
@@ -88,8 +88,8 @@ pub returns-in-Err-insert_at_gap-clause-inserted :
     goal.returns-in-Err-insert_at_gap-clause-inserted
 returns-in-Err-insert_at_gap-clause-inserted g c = search rules steps 200000
 
-pub returns-in-Err-insert_at_gap-clause-took : goal.returns-in-Err-insert_at_gap-clause-took
-returns-in-Err-insert_at_gap-clause-took g c = search rules steps 200000
+pub returns-in-Err-insert_at_gap-clause-inserted_by_key : goal.returns-in-Err-insert_at_gap-clause-inserted_by_key
+returns-in-Err-insert_at_gap-clause-inserted_by_key g c = search rules steps 200000
 
 pub returns-in-Err-insert_at_gap-clause-uncounted :
     goal.returns-in-Err-insert_at_gap-clause-uncounted

@@ -1,4 +1,4 @@
-use Rattle.btree_raw.proofs.LendLemmas.{first-at}
+use Rattle.btree_raw.proofs.BorrowLemmas.{first-at}
 use Rattle.btree_raw.proofs.borrow.first_child.Goals as goal
 use Rattle.std.proofs.Common.{arith, rules}
 use Rattle.std.proofs.lemmas.Grind.{common_steps}

@@ -1,7 +1,7 @@
 use Rattle.std.proofs.Common.{subst, arith, rules}
 use Rattle.btree_shape.specs.Step.{WritesNode}
 use Rattle.btree_shape.specs.TreeState.{node_map}
-use Rattle.btree_raw.proofs.GrowLemmas.{left-there, right-still, raises}
+use Rattle.btree_raw.proofs.OverflowLemmas.{left-there, right-still, raises}
 use Rattle.btree_raw.proofs.StateLemmas.{then}
 use Rattle.btree_raw.proofs.overflow.grow_root.Goals as goal
 use Rattle.btree_shape.proofs.Trees.Stores.{used-view}

@@ -1,6 +1,6 @@
 use Rattle.btree_node.specs.Node.{view_of}
 use Rattle.btree_shape.specs.TreeState.{node_map}
-use Rattle.btree_raw.proofs.GrowLemmas.{right-there, can-set_parents, splits, leaves}
+use Rattle.btree_raw.proofs.OverflowLemmas.{right-there, can-set_parents, splits, leaves}
 use Rattle.btree_raw.proofs.StateLemmas.{then}
 use Rattle.btree_raw.proofs.overflow.split_at.Goals as goal
 use Rattle.btree_shape.proofs.Trees.Stores.{used-view}

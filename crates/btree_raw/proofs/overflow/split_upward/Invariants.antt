@@ -1,6 +1,6 @@
 use Rattle.std.proofs.Common.{length}
 use Rattle.btree_shape.specs.TreeState.{KeepsRest, node_map}
-use Rattle.btree_raw.proofs.ClimbLemmas.{Climbs}
+use Rattle.btree_raw.proofs.UpwardLemmas.{Climbs}
 use Rattle.btree_raw.proofs.overflow.split_upward.Given as goal
 
 abbrev pub invariant-loop-tree : goal.invariant-loop-tree

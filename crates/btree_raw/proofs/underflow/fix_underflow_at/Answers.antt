@@ -2,7 +2,7 @@ use Rattle.std.proofs.Common.{arith, subst, rules}
 use Rattle.btree_shape.specs.UnderflowFix.{BorrowsFromSibling, MergesWithSibling}
 use Rattle.btree_shape.specs.TreeState.{node_map}
 use Rattle.btree_raw.specs.Underflow.{PassesUnderflowUp, EndsUnderflow}
-use Rattle.btree_raw.proofs.ShrinkLemmas.{is-child, is-short, before-there, are-after, after-beside, after-there, after-left, after-up, after-lends, after-few, are-before, as-after, as-before, before-right, low-after, none-after, right-borrows, right-merges}
+use Rattle.btree_raw.proofs.UnderflowLemmas.{is-child, is-short, before-there, are-after, after-adjacent, after-there, after-left, after-up, after-lends, after-few, are-before, as-after, as-before, before-right, low-after, none-after, right-borrows, right-merges}
 use Rattle.btree_raw.proofs.underflow.fix_underflow_at.Goals as goal
 use Rattle.std.proofs.lemmas.Grind.{common_steps}
 
@@ -12,8 +12,8 @@ siblings-before-requires g c = is-child (node_map c.args.tree.now) c.args.id c.a
 pub unwrap-requires : goal.unwrap-requires
 unwrap-requires g c = before-there (node_map c.args.tree.now) c.args.id c.args.parent c.args.addr c.requires.followed c.requires.under c.siblings-before.result.0 c.siblings-before.result.1 c.siblings-before.ensures c.in_default.is
 
-pub fix_underflow_with_left-requires-clause-beside : goal.fix_underflow_with_left-requires-clause-beside
-fix_underflow_with_left-requires-clause-beside g c = are-before (node_map c.args.tree.now) c.args.id c.args.parent c.args.addr c.requires.followed c.requires.under c.siblings-before.result.0 c.siblings-before.result.1 c.siblings-before.ensures c.unwrap.result c.unwrap.ensures
+pub fix_underflow_with_left-requires-clause-adjacent : goal.fix_underflow_with_left-requires-clause-adjacent
+fix_underflow_with_left-requires-clause-adjacent g c = are-before (node_map c.args.tree.now) c.args.id c.args.parent c.args.addr c.requires.followed c.requires.under c.siblings-before.result.0 c.siblings-before.result.1 c.siblings-before.ensures c.unwrap.result c.unwrap.ensures
 
 pub fix_underflow_with_left-requires-clause-short : goal.fix_underflow_with_left-requires-clause-short
 fix_underflow_with_left-requires-clause-short g c = rw (before-right (node_map c.args.tree.now) c.args.id c.args.parent c.args.addr c.requires.followed c.requires.under c.siblings-before.result.0 c.siblings-before.result.1 c.siblings-before.ensures c.unwrap.result c.unwrap.ensures) (is-short (node_map c.args.tree.now) c.args.id c.args.parent c.args.addr c.requires.followed c.requires.under c.args.count c.requires.count c.requires.short)
@@ -33,8 +33,8 @@ returns-in_default-clause-here g c = λ yes. as-before (node_map c.args.tree.now
 pub returns-in_default-clause-above : goal.returns-in_default-clause-above
 returns-in_default-clause-above g c = λ yes. as-before (node_map c.args.tree.now) c.args.id c.args.parent c.args.addr c.requires.followed c.requires.under c.siblings-before.result.0 c.siblings-before.result.1 c.siblings-before.ensures c.unwrap.result c.unwrap.ensures (λ q n. PassesUnderflowUp (node_map c.args.tree.now) (node_map c.fix_underflow_with_left.new.tree) n q c.args.addr c.fix_underflow_with_left.result.0) (c.fix_underflow_with_left.ensures.above yes)
 
-pub fix_underflow_with_left-requires-in-Some-before-clause-beside : goal.fix_underflow_with_left-requires-in-Some-before-clause-beside
-fix_underflow_with_left-requires-in-Some-before-clause-beside g c = are-before (node_map c.args.tree.now) c.args.id c.args.parent c.args.addr c.requires.followed c.requires.under c.siblings-before.result.0 c.siblings-before.result.1 c.siblings-before.ensures c.in-Some-before.before c.in-Some-before.is
+pub fix_underflow_with_left-requires-in-Some-before-clause-adjacent : goal.fix_underflow_with_left-requires-in-Some-before-clause-adjacent
+fix_underflow_with_left-requires-in-Some-before-clause-adjacent g c = are-before (node_map c.args.tree.now) c.args.id c.args.parent c.args.addr c.requires.followed c.requires.under c.siblings-before.result.0 c.siblings-before.result.1 c.siblings-before.ensures c.in-Some-before.before c.in-Some-before.is
 
 pub fix_underflow_with_left-requires-in-Some-before-clause-short : goal.fix_underflow_with_left-requires-in-Some-before-clause-short
 fix_underflow_with_left-requires-in-Some-before-clause-short g c = rw (before-right (node_map c.args.tree.now) c.args.id c.args.parent c.args.addr c.requires.followed c.requires.under c.siblings-before.result.0 c.siblings-before.result.1 c.siblings-before.ensures c.in-Some-before.before c.in-Some-before.is) (is-short (node_map c.args.tree.now) c.args.id c.args.parent c.args.addr c.requires.followed c.requires.under c.args.count c.requires.count c.requires.short)
@@ -57,14 +57,14 @@ returns-in-Some-before-clause-above g c = λ yes. as-before (node_map c.args.tre
 pub count_of-held-requires : goal.count_of-held-requires
 count_of-held-requires g c = after-there (node_map c.args.tree.now) c.args.id c.args.parent c.args.addr c.requires.followed c.requires.under c.siblings-before.result.0 c.siblings-before.result.1 c.siblings-before.ensures c.in-Some.after c.in-Some.is
 
-pub borrow_from_right-requires-clause-beside : goal.borrow_from_right-requires-clause-beside
-borrow_from_right-requires-clause-beside g c = after-beside (node_map c.args.tree.now) c.args.id c.args.parent c.args.addr c.requires.followed c.requires.under c.siblings-before.result.0 c.siblings-before.result.1 c.siblings-before.ensures c.in-Some.after c.in-Some.is
+pub borrow_from_right-requires-clause-adjacent : goal.borrow_from_right-requires-clause-adjacent
+borrow_from_right-requires-clause-adjacent g c = after-adjacent (node_map c.args.tree.now) c.args.id c.args.parent c.args.addr c.requires.followed c.requires.under c.siblings-before.result.0 c.siblings-before.result.1 c.siblings-before.ensures c.in-Some.after c.in-Some.is
 
 pub borrow_from_right-requires-clause-short : goal.borrow_from_right-requires-clause-short
 borrow_from_right-requires-clause-short g c = rw (after-left (node_map c.args.tree.now) c.args.id c.args.parent c.args.addr c.requires.followed c.requires.under c.siblings-before.result.0 c.siblings-before.result.1 c.siblings-before.ensures c.in-Some.after c.in-Some.is) (is-short (node_map c.args.tree.now) c.args.id c.args.parent c.args.addr c.requires.followed c.requires.under c.args.count c.requires.count c.requires.short)
 
-pub borrow_from_right-requires-clause-lender : goal.borrow_from_right-requires-clause-lender
-borrow_from_right-requires-clause-lender g c = after-lends (node_map c.args.tree.now) c.args.id c.args.parent c.args.addr c.requires.followed c.requires.under c.siblings-before.result.0 c.siblings-before.result.1 c.siblings-before.ensures c.in-Some.after c.in-Some.is c.count_of-held.result c.count_of-held.ensures.count (omega arith)
+pub borrow_from_right-requires-clause-giver : goal.borrow_from_right-requires-clause-giver
+borrow_from_right-requires-clause-giver g c = after-lends (node_map c.args.tree.now) c.args.id c.args.parent c.args.addr c.requires.followed c.requires.under c.siblings-before.result.0 c.siblings-before.result.1 c.siblings-before.ensures c.in-Some.after c.in-Some.is c.count_of-held.result c.count_of-held.ensures.count (omega arith)
 
 pub borrow_from_right-requires-clause-count : goal.borrow_from_right-requires-clause-count
 borrow_from_right-requires-clause-count g c = rw (after-left (node_map c.args.tree.now) c.args.id c.args.parent c.args.addr c.requires.followed c.requires.under c.siblings-before.result.0 c.siblings-before.result.1 c.siblings-before.ensures c.in-Some.after c.in-Some.is) c.requires.count
@@ -78,8 +78,8 @@ returns-then-held-gt3-clause-borrows g c = λ yes. right-borrows (node_map c.arg
 pub returns-then-held-gt3-clause-here : goal.returns-then-held-gt3-clause-here
 returns-then-held-gt3-clause-here g c = λ yes. as-after (node_map c.args.tree.now) c.args.id c.args.parent c.args.addr c.requires.followed c.requires.under c.siblings-before.result.0 c.siblings-before.result.1 c.siblings-before.ensures c.in-Some.after c.in-Some.is (λ q n. EndsUnderflow (node_map c.args.tree.now) (node_map c.borrow_from_right.new.tree) n c.args.addr c.borrow_from_right.result) c.borrow_from_right.ensures.here
 
-pub merge_siblings-requires-clause-beside : goal.merge_siblings-requires-clause-beside
-merge_siblings-requires-clause-beside g c = (c.args.id, are-after (node_map c.args.tree.now) c.args.id c.args.parent c.args.addr c.requires.followed c.requires.under c.siblings-before.result.0 c.siblings-before.result.1 c.siblings-before.ensures c.in-Some.after c.in-Some.is)
+pub merge_siblings-requires-clause-adjacent : goal.merge_siblings-requires-clause-adjacent
+merge_siblings-requires-clause-adjacent g c = (c.args.id, are-after (node_map c.args.tree.now) c.args.id c.args.parent c.args.addr c.requires.followed c.requires.under c.siblings-before.result.0 c.siblings-before.result.1 c.siblings-before.ensures c.in-Some.after c.in-Some.is)
 
 pub merge_siblings-requires-clause-few : goal.merge_siblings-requires-clause-few
 merge_siblings-requires-clause-few g c = after-few (node_map c.args.tree.now) c.args.id c.args.parent c.args.addr c.requires.followed c.requires.under c.siblings-before.result.0 c.siblings-before.result.1 c.siblings-before.ensures c.in-Some.after c.in-Some.is c.count_of-held.result c.args.count c.count_of-held.ensures.count (omega arith) c.requires.count c.requires.short

@@ -3,7 +3,7 @@ use Rattle.btree_node.specs.Node.{view_of}
 use Rattle.btree_view.specs.View.{size_of}
 use Rattle.btree_shape.specs.TreeState.{node_map}
 use Rattle.btree_raw.specs.Underflow.{AreFixed}
-use Rattle.btree_raw.proofs.MendedLemmas.{mends-start, still-followed, still-fixing, mends-used, mends-low, mends-done, mends-here, mends-root, mends-above, mends-lower-of, at-parent}
+use Rattle.btree_raw.proofs.FixedLemmas.{mends-start, still-followed, still-fixing, mends-used, mends-low, mends-done, mends-here, mends-root, mends-above, mends-lower-of, at-parent}
 use Rattle.btree_raw.proofs.StateLemmas.{same-len, same-refusals, same-root, then}
 use Rattle.btree_raw.proofs.underflow.fix_underflow_upward.Goals as goal
 use Rattle.btree_shape.proofs.Trees.Stores.{used-view}

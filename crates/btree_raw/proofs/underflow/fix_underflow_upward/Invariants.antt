@@ -1,6 +1,6 @@
 use Rattle.btree_shape.specs.Need.{levels_above}
 use Rattle.btree_shape.specs.TreeState.{KeepsRest, node_map}
-use Rattle.btree_raw.proofs.MendedLemmas.{Mends}
+use Rattle.btree_raw.proofs.FixedLemmas.{Mends}
 use Rattle.btree_raw.proofs.underflow.fix_underflow_upward.Given as goal
 
 abbrev pub invariant-loop-node : goal.invariant-loop-node

@@ -1,36 +1,36 @@
 use Rattle.std.proofs.Common.{arith, rules}
 use Rattle.btree_shape.specs.TreeState.{node_map}
-use Rattle.btree_raw.proofs.ShrinkLemmas.{left-borrows, left-few, left-merges, left-lends, left-there}
+use Rattle.btree_raw.proofs.UnderflowLemmas.{left-borrows, left-few, left-merges, left-lends, left-there}
 use Rattle.btree_raw.proofs.underflow.fix_underflow_with_left.Goals as goal
 use Rattle.std.proofs.lemmas.Grind.{common_steps}
 
 pub merge_siblings-requires-clause-few : goal.merge_siblings-requires-clause-few
 merge_siblings-requires-clause-few g c =
-    left-few (node_map c.args.tree.now) c.args.siblings c.args.addr c.requires.beside c.count_of-held.result c.count_of-held.ensures.count (omega arith) c.requires.short
+    left-few (node_map c.args.tree.now) c.args.siblings c.args.addr c.requires.adjacent c.count_of-held.result c.count_of-held.ensures.count (omega arith) c.requires.short
 
-pub merge_siblings-requires-clause-beside : goal.merge_siblings-requires-clause-beside
-merge_siblings-requires-clause-beside g c = (c.args.siblings.right, c.requires.beside)
+pub merge_siblings-requires-clause-adjacent : goal.merge_siblings-requires-clause-adjacent
+merge_siblings-requires-clause-adjacent g c = (c.args.siblings.right, c.requires.adjacent)
 
 pub count_of-held-requires : goal.count_of-held-requires
-count_of-held-requires g c = left-there (node_map c.args.tree.now) c.args.siblings c.args.addr c.requires.beside
+count_of-held-requires g c = left-there (node_map c.args.tree.now) c.args.siblings c.args.addr c.requires.adjacent
 
-pub borrow_from_left-requires-clause-lender : goal.borrow_from_left-requires-clause-lender
-borrow_from_left-requires-clause-lender g c = left-lends (node_map c.args.tree.now) c.args.siblings c.args.addr c.requires.beside c.count_of-held.result c.count_of-held.ensures.count (omega arith)
+pub borrow_from_left-requires-clause-giver : goal.borrow_from_left-requires-clause-giver
+borrow_from_left-requires-clause-giver g c = left-lends (node_map c.args.tree.now) c.args.siblings c.args.addr c.requires.adjacent c.count_of-held.result c.count_of-held.ensures.count (omega arith)
 
 pub returns-clause-above : goal.returns-clause-above
-returns-clause-above g c = λ yes. c.merge_siblings.ensures.above c.args.siblings.right c.requires.beside
+returns-clause-above g c = λ yes. c.merge_siblings.ensures.above c.args.siblings.right c.requires.adjacent
 
 pub returns-then-held-gt3-clause-borrows : goal.returns-then-held-gt3-clause-borrows
-returns-then-held-gt3-clause-borrows g c = λ yes none. left-borrows (node_map c.args.tree.now) c.args.siblings c.args.addr c.requires.beside c.count_of-held.result c.count_of-held.ensures.count none (node_map c.borrow_from_left.new.tree) (omega arith) c.borrow_from_left.ensures.rotates.nodes
+returns-then-held-gt3-clause-borrows g c = λ yes none. left-borrows (node_map c.args.tree.now) c.args.siblings c.args.addr c.requires.adjacent c.count_of-held.result c.count_of-held.ensures.count none (node_map c.borrow_from_left.new.tree) (omega arith) c.borrow_from_left.ensures.rotates.nodes
 
 pub returns-clause-merges : goal.returns-clause-merges
-returns-clause-merges g c = λ yes none. left-merges (node_map c.args.tree.now) c.args.siblings c.args.addr c.requires.beside c.count_of-held.result c.count_of-held.ensures.count none (node_map c.merge_siblings.new.tree) (omega arith) c.merge_siblings.ensures.merges.nodes
+returns-clause-merges g c = λ yes none. left-merges (node_map c.args.tree.now) c.args.siblings c.args.addr c.requires.adjacent c.count_of-held.result c.count_of-held.ensures.count none (node_map c.merge_siblings.new.tree) (omega arith) c.merge_siblings.ensures.merges.nodes
 
 pub tell_fits-requires : goal.tell_fits-requires
 tell_fits-requires g c κs = search rules steps 200000
 
-pub borrow_from_left-requires-clause-beside : goal.borrow_from_left-requires-clause-beside
-borrow_from_left-requires-clause-beside g c = search rules steps 200000
+pub borrow_from_left-requires-clause-adjacent : goal.borrow_from_left-requires-clause-adjacent
+borrow_from_left-requires-clause-adjacent g c = search rules steps 200000
 
 pub borrow_from_left-requires-clause-short : goal.borrow_from_left-requires-clause-short
 borrow_from_left-requires-clause-short g c = search rules steps 200000

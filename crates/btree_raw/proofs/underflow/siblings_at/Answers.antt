@@ -1,4 +1,4 @@
-use Rattle.btree_raw.proofs.ShrinkLemmas.{siblings-seen}
+use Rattle.btree_raw.proofs.UnderflowLemmas.{siblings-seen}
 use Rattle.btree_raw.proofs.underflow.siblings_at.Goals as goal
 use Rattle.std.proofs.Common.{arith, rules}
 use Rattle.std.proofs.lemmas.Grind.{common_steps}

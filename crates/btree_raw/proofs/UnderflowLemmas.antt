@@ -24,7 +24,7 @@ use Rattle.btree_raw.proofs.SeparatorLemmas.{has-index, index-is}
 use Rattle.btree_raw.proofs.StepLemmas.{size-at}
 use Rattle.btree_shape.proofs.Underflow.Adjacent.{Beside}
 use Rattle.btree_shape.proofs.Trees.Numbers.{used-there, same-node}
-use Rattle.btree_raw.proofs.LendLemmas.{followed-node, followed-under, pair}
+use Rattle.btree_raw.proofs.BorrowLemmas.{followed-node, followed-under, pair}
 use Rattle.std.proofs.lemmas.Option.{slice_get_within, slice_get-get_or}
 
 module _ {A : Type 0} where
@@ -246,8 +246,8 @@ module _ {A : Type 0} (node_at : NodeMap A) (id p : ℕ) (a : Address) (s : IsFo
         followed = s;
       }
 
-      pub after-beside : AreAdjacent node_at j j.left a
-      after-beside = subst (λ n. AreAdjacent node_at j n a) (sym after-left) are-after
+      pub after-adjacent : AreAdjacent node_at j j.left a
+      after-adjacent = subst (λ n. AreAdjacent node_at j n a) (sym after-left) are-after
 
       abbrev with-after : Beside A node_at s.root s.xs s.asked a s.place s.given s.bound j.parent j.index j.left j.right
       with-after = pair node_at j id a are-after

@@ -26,8 +26,8 @@ use Rattle.btree_shape.proofs.Trees.Sizes.{least-low, least-root}
 use Rattle.btree_raw.specs.NodeSteps.{CanShrinkRoot}
 use Rattle.btree_raw.specs.Underflow.{AreFixed, IsFollowed, IsFixing, PassesUnderflowUp, EndsUnderflow, IsAtRest}
 use Rattle.btree_raw.specs.Steps.{HasCount}
-use Rattle.btree_raw.proofs.ClimbLemmas.{back-some, some-back}
-use Rattle.btree_raw.proofs.LendLemmas.{followed-node, followed-under}
+use Rattle.btree_raw.proofs.UpwardLemmas.{back-some, some-back}
+use Rattle.btree_raw.proofs.BorrowLemmas.{followed-node, followed-under}
 use Rattle.btree_raw.proofs.OffsetLemmas.{shrinks-low}
 use Rattle.btree_raw.proofs.StepLemmas.{size-at}
 

@@ -22,7 +22,7 @@ use Rattle.btree_shape.proofs.Trees.Numbers.{same-node, same-or, used-mapped, us
 use Rattle.btree_raw.specs.NodeSteps.{AreSiblings, MergesSiblings, CanGiveItem, CanMerge, CanRotateLeft, CanRotateRight, RotatesSiblingsLeft, RotatesSiblingsRight}
 use Rattle.btree_raw.specs.Underflow.{AreAdjacent, HaveFew, Underflows, PassesUnderflowUp, EndsUnderflow, IsFollowed}
 use Rattle.btree_raw.specs.Steps.{HasCount}
-use Rattle.btree_raw.proofs.ClimbLemmas.{back-some, some-back}
+use Rattle.btree_raw.proofs.UpwardLemmas.{back-some, some-back}
 use Rattle.btree_raw.proofs.StepLemmas.{size-at}
 use Rattle.btree_shape.proofs.Underflow.Adjacent.{Beside}
 use Rattle.btree_shape.proofs.Underflow.Upward.{shrinks-node, to-over}
@@ -96,9 +96,9 @@ module _ {A : Type 0} (node_at : NodeMap A) (siblings : Siblings) (id : ℕ) (a 
   short-up = followed-under node_at id a s.followed (Some siblings.parent) s.under
 
   -- what is known of the two in whatever tree they stand
-  beside : (root : ℕ) (xs : List A) (asked : Option A) (place given bound : ℕ) → MayUnderflowAt A node_at root xs id asked a place given bound
+  adjacent : (root : ℕ) (xs : List A) (asked : Option A) (place given bound : ℕ) → MayUnderflowAt A node_at root xs id asked a place given bound
       → Beside A node_at root xs asked a place given bound siblings.parent siblings.index siblings.left siblings.right
-  beside root xs asked place given bound g =
+  adjacent root xs asked place given bound g =
       let o = to-over A node_at root xs id asked a place given bound g short-node.0 short-node.1 siblings.parent short-up in
       let l : slice_get (children_of o.node) siblings.index ≡ Some siblings.left = sym (ap (λ v. slice_get (children_in v) siblings.index) o.here) ∙ s.at_left in
       let r : slice_get (children_of o.node) (suc siblings.index) ≡ Some siblings.right = sym (ap (λ v. slice_get (children_in v) (suc siblings.index)) o.here) ∙ s.at_right in
@@ -108,7 +108,7 @@ module _ {A : Type 0} (node_at : NodeMap A) (siblings : Siblings) (id : ℕ) (a 
       ]
 
   pub pair : Beside A node_at s.followed.root s.followed.xs s.followed.asked a s.followed.place s.followed.given s.followed.bound siblings.parent siblings.index siblings.left siblings.right
-  pair = beside s.followed.root s.followed.xs s.followed.asked s.followed.place s.followed.given s.followed.bound s.followed.underflow
+  pair = adjacent s.followed.root s.followed.xs s.followed.asked s.followed.place s.followed.given s.followed.bound s.followed.underflow
 
   abbrev are-siblings : AreSiblings node_at siblings
   are-siblings = record {
@@ -146,25 +146,25 @@ module _ {A : Type 0} (node_at : NodeMap A) (siblings : Siblings) (id : ℕ) (a 
       so g low high l h P p = subst (λ n. P (g n child)) (size-at node_at siblings.left count low l counted)
           (subst (λ k. P (g (size_of low) k)) (first-is node_at siblings.right child high h first) p)
 
-      module _ (short : Underflows node_at siblings.left) (lender : CanGiveItem node_at siblings.right) (new : NodeMap A) (rot : RotatesSiblingsLeft node_at new siblings) where
+      module _ (short : Underflows node_at siblings.left) (giver : CanGiveItem node_at siblings.right) (new : NodeMap A) (rot : RotatesSiblingsLeft node_at new siblings) where
         pub even-left : EndsUnderflow node_at new id a (between moved_by_rotate_left siblings count child a)
         even-left = record {
           repaired = λ root xs asked place given bound g.
-              let b = beside root xs asked place given bound g in
+              let b = adjacent root xs asked place given bound g in
               so (λ n k. between moved_by_rotate_left siblings n k a) b.low b.high b.at_left b.at_right (λ v. IsRepaired A new root xs asked v place given bound)
               (b.rotate_left new rot (subst (λ v. size_of v ≤ 2) (same-node node_at siblings.left short.node b.low short.here b.at_left) short.few)
-              (subst (λ v. 3 < size_of v) (same-node node_at siblings.right lender.node b.high lender.here b.at_right) lender.spare));
+              (subst (λ v. 3 < size_of v) (same-node node_at siblings.right giver.node b.high giver.here b.at_right) giver.spare));
           used = writes-used node_at new siblings.parent siblings.left siblings.right rot.top rot.low rot.high rot.new_top rot.new_low rot.new_high (as_list rot.child) siblings.left rot.writes;
         }
 
-      module _ (short : Underflows node_at siblings.right) (lender : CanGiveItem node_at siblings.left) (new : NodeMap A) (rot : RotatesSiblingsRight node_at new siblings) where
+      module _ (short : Underflows node_at siblings.right) (giver : CanGiveItem node_at siblings.left) (new : NodeMap A) (rot : RotatesSiblingsRight node_at new siblings) where
         pub even-right : EndsUnderflow node_at new id a (between moved_by_rotate_right siblings count child a)
         even-right = record {
           repaired = λ root xs asked place given bound g.
-              let b = beside root xs asked place given bound g in
+              let b = adjacent root xs asked place given bound g in
               so (λ n k. between moved_by_rotate_right siblings n k a) b.low b.high b.at_left b.at_right (λ v. IsRepaired A new root xs asked v place given bound)
               (b.rotate_right new rot (subst (λ v. size_of v ≤ 2) (same-node node_at siblings.right short.node b.high short.here b.at_right) short.few)
-              (subst (λ v. 3 < size_of v) (same-node node_at siblings.left lender.node b.low lender.here b.at_left) lender.spare));
+              (subst (λ v. 3 < size_of v) (same-node node_at siblings.left giver.node b.low giver.here b.at_left) giver.spare));
           used = writes-used node_at new siblings.parent siblings.left siblings.right rot.top rot.low rot.high rot.new_top rot.new_low rot.new_high (as_list rot.child) siblings.right rot.writes;
         }
 
@@ -178,7 +178,7 @@ module _ {A : Type 0} (node_at : NodeMap A) (siblings : Siblings) (id : ℕ) (a 
         pub joined-both : PassesUnderflowUp node_at new id siblings.parent a (between moved_by_merge siblings count child a)
         joined-both = record {
           underflow = λ root xs asked place given bound g.
-              let b = beside root xs asked place given bound g in
+              let b = adjacent root xs asked place given bound g in
               let f = sum-few b.low b.high b.at_left b.at_right in
               let low = b.lower new mg f in (
                 so (λ n k. between moved_by_merge siblings n k a) b.low b.high b.at_left b.at_right (λ v. MayUnderflowAt A new root xs siblings.parent asked v place (suc given) bound) (b.merge new mg f),
@@ -192,17 +192,17 @@ module _ {A : Type 0} (node_at : NodeMap A) (siblings : Siblings) (id : ℕ) (a 
         }
 
   pub can-left : Underflows node_at siblings.left → CanGiveItem node_at siblings.right → CanRotateLeft node_at siblings
-  can-left short lender = record {
+  can-left short giver = record {
     pair = are-siblings;
     room = pair.low_most;
-    spare = subst (λ v. 3 < size_of v) (same-node node_at siblings.right lender.node pair.high lender.here pair.at_right) lender.spare;
+    spare = subst (λ v. 3 < size_of v) (same-node node_at siblings.right giver.node pair.high giver.here pair.at_right) giver.spare;
   }
 
   pub can-right : Underflows node_at siblings.right → CanGiveItem node_at siblings.left → CanRotateRight node_at siblings
-  can-right short lender = record {
+  can-right short giver = record {
     pair = are-siblings;
     room = pair.high_most;
-    spare = subst (λ v. 3 < size_of v) (same-node node_at siblings.left lender.node pair.low lender.here pair.at_left) lender.spare;
+    spare = subst (λ v. 3 < size_of v) (same-node node_at siblings.left giver.node pair.low giver.here pair.at_left) giver.spare;
   }
 
   pub can-merge : HaveFew node_at siblings → CanMerge node_at siblings
