@@ -10,7 +10,7 @@ use Rattle.btree_view.specs.Edits.{is_internal, with_parent}
 use Rattle.btree_view.specs.View.{NodeMap, View, leaf, internal, children_of, parent_of, size_of}
 use Rattle.btree_shape.specs.Focus.Overflow.{IsRepaired}
 use Rattle.btree_shape.specs.SiblingSteps.{ShrinksRoot}
-use Rattle.btree_shape.specs.UnderflowFix.{BorrowsFromSibling, IsUnderflowFixed, UnderflowsUnder, MergesWithSibling, borrows, empties, merges, shrinks_root, rests, size_in}
+use Rattle.btree_shape.specs.UnderflowFix.{Borrows, IsUnderflowFixed, UnderflowsUnder, MergesNode, borrows, empties, merges, shrinks_root, rests, size_in}
 use Rattle.btree_shape.specs.Moved.{first_in, moved_by_emptying, moved_by_shrink_root}
 use Rattle.btree_shape.specs.Need.{levels_above}
 use Rattle.btree_shape.specs.Lists.{times_listed}
@@ -255,7 +255,7 @@ module _ {A : Type 0} (old now : NodeMap A) (root : Option ℕ) (start id : ℕ)
 
   -- the last step
   pub mends-here : (new : NodeMap A) (d : Address) → EndsUnderflow now new id b d → (p count : ℕ) → option_map parent_of (now id) ≡ Some (Some p)
-      → HasCount now id count → count ≤ 2 → BorrowsFromSibling now new p id → AreFixed old new root root start a d
+      → HasCount now id count → count ≤ 2 → Borrows now new p id → AreFixed old new root root start a d
   mends-here new d m p count under counted low step = record {
     gone = c.gone;
     counted = λ n. let k = c.counted n in let u = m.used n in omega arith;
@@ -286,7 +286,7 @@ module _ {A : Type 0} (old now : NodeMap A) (root : Option ℕ) (start id : ℕ)
   -- a step to the parent
   module _ (new : NodeMap A) (p : ℕ) (d : Address) (m : PassesUnderflowUp now new id p b d) where
     pub mends-above : (IsSome b.offset → IsSome d.offset) → (count : ℕ) → option_map parent_of (now id) ≡ Some (Some p) → HasCount now id count
-        → count ≤ 2 → MergesWithSibling now new p id → Mends A old new root start p a d
+        → count ≤ 2 → MergesNode now new p id → Mends A old new root start p a d
     mends-above back count under counted low step = record {
       gone = c.gone ++ m.gone ∷ [];
       counted = λ n. let k = c.counted n in let u = m.used n in let l = listed-append n c.gone (m.gone ∷ []) in omega arith;

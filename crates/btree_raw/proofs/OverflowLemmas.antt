@@ -3,11 +3,11 @@ use Rattle.std.proofs.Common.{◌≡◌, ℕ, ◌<◌, ◌≤◌, inl, inr, [], 
 use Rattle.btree_view.specs.Edits.{IsSplit, with_parent}
 use Rattle.btree_view.specs.View.{View, NodeMap, internal, children_of, children_in}
 use Rattle.btree_shape.specs.Lists.{times_listed}
-use Rattle.btree_shape.specs.Step.{SetsParents, WritesNode, GrowsRoot, Splits}
+use Rattle.btree_shape.specs.Step.{Reparents, WritesNode, GrowsRoot, Splits}
 use Rattle.btree_shape.specs.WellFormed.{times_used}
 use Rattle.btree_shape.proofs.Splits.Upward.{right-children, splits-made}
 use Rattle.btree_shape.proofs.Trees.Numbers.{same-or, used-same, used-there}
-use Rattle.btree_raw.specs.Steps.{CanSetParents, CanGrowRoot, CanSplitInto, Halves, HasCount, SetsParent}
+use Rattle.btree_raw.specs.Steps.{CanReparent, CanGrowRoot, CanSplitInto, Halves, HasCount, SetsParent}
 
 module _ {A : Type 0} (node_at mid : NodeMap A) (id right count : ℕ) (median : A) (part : View A) (can : CanSplitInto node_at id right) (half : Halves node_at mid id count median part) where
   parts : IsSplit can.can.node median half.left part
@@ -31,8 +31,8 @@ module _ {A : Type 0} (node_at mid : NodeMap A) (id right count : ℕ) (median :
     children-are : children_in (two right) ≡ children_of part
     children-are = ap children_in writes_node.here
 
-    pub can-set_parents : CanSetParents two right
-    can-set_parents = record {
+    pub can-reparent_children : CanReparent two right
+    can-reparent_children = record {
       used = used-there two right part writes_node.here;
       children = λ n some. let e = ap (times_listed n) children-are in let f = fewer n in there n (can.children n (omega arith));
       apart = ap (times_listed right) children-are ∙ apart-right;
@@ -47,10 +47,10 @@ module _ {A : Type 0} (node_at mid : NodeMap A) (id right count : ℕ) (median :
           ]
         ]
 
-    module _ (new : NodeMap A) (adopts : SetsParents two new right (children_in (two right))) where
+    module _ (new : NodeMap A) (adopts : Reparents two new right (children_in (two right))) where
       pub splits : Splits node_at new id right median
       splits = splits-made A node_at mid two new id right median can.can.node half.left part can.can.here parts can.apart apart-left apart-right half.writes_node writes_node
-          (subst (λ ids. SetsParents two new right ids) children-are adopts)
+          (subst (λ ids. Reparents two new right ids) children-are adopts)
 
       pub leaves : HasCount new id count
       leaves =

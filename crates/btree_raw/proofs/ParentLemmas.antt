@@ -8,12 +8,12 @@ use Rattle.btree_view.specs.Edits.{with_parent}
 use Rattle.btree_node.specs.Node.{view_of}
 use Rattle.btree_view.specs.View.{View, NodeMap, leaf, internal, children_in, children_of}
 use Rattle.btree_shape.specs.Lists.{one, times_listed}
-use Rattle.btree_shape.specs.Step.{SetsParents}
+use Rattle.btree_shape.specs.Step.{Reparents}
 use Rattle.btree_shape.specs.TreeState.{views}
 use Rattle.btree_shape.specs.WellFormed.{times_used}
 use Rattle.btree_shape.proofs.Paths.Frames.{one-zero, one-other}
 use Rattle.btree_shape.proofs.Trees.Numbers.{listed-append, same-or, used-mapped, zero-or}
-use Rattle.btree_raw.specs.Steps.{CanSetParents, SetsParent}
+use Rattle.btree_raw.specs.Steps.{CanReparent, SetsParent}
 use Rattle.btree_shape.proofs.Paths.Parents.{get-times}
 use Rattle.btree_shape.proofs.Trees.Stores.{used-view}
 
@@ -35,11 +35,11 @@ twice p None = refl
 twice p (Some (leaf q xs)) = refl
 twice p (Some (internal q first bs)) = refl
 
-module _ {A : Type 0} (node_at : NodeMap A) (id : ℕ) (can : CanSetParents node_at id) where
+module _ {A : Type 0} (node_at : NodeMap A) (id : ℕ) (can : CanReparent node_at id) where
   abbrev children : List ℕ
   children = children_in (node_at id)
 
-  module _ (now : NodeMap A) (index : ℕ) (partly : SetsParents node_at now id (take index children)) where
+  module _ (now : NodeMap A) (index : ℕ) (partly : Reparents node_at now id (take index children)) where
     pub adopter-kept : now id ≡ node_at id
     adopter-kept = partly.kept id (let z = can.apart in omega (arith, times-take id index children))
 
@@ -52,7 +52,7 @@ module _ {A : Type 0} (node_at : NodeMap A) (id : ℕ) (can : CanSetParents node
             | inr some ↦ rw (partly.moved child some, used-mapped (with_parent (Some id)) (node_at child)) used
           ]
 
-      pub adopts-more : (new : NodeMap A) → SetsParent now new child id → SetsParents node_at new id (take (index + 1) children)
+      pub adopts-more : (new : NodeMap A) → SetsParent now new child id → Reparents node_at new id (take (index + 1) children)
       adopts-more new s =
           let sum : (n : ℕ) → times_listed n (take (index + 1) children) ≡ times_listed n (take index children) + one n child =
           λ n. ap (times_listed n) (take-more index children child is) ∙ (let q = listed-append n (take index children) (child ∷ []) in omega arith) in
@@ -73,7 +73,7 @@ module _ {K V : Type 0} where
   children-at nodes id node at = rw at refl
 
   -- one turn of the loop: the node as it was and as it is now
-  module _ (old now : Content (Node K V)) (id : ℕ) (can : CanSetParents (views old) id) (index : ℕ) (partly : SetsParents (views old) (views now) id (take index (children_in (views old id)))) where
+  module _ (old now : Content (Node K V)) (id : ℕ) (can : CanReparent (views old) id) (index : ℕ) (partly : Reparents (views old) (views now) id (take index (children_in (views old id)))) where
     pub still-used : IsSome (map.get now id)
     still-used = used-view now id (rw (adopter-kept (views old) id can (views now) index partly) can.used)
 
@@ -91,5 +91,5 @@ module _ {K V : Type 0} where
         pub child-used : IsSome (map.get now child)
         child-used = used-view now child (adoptee-used (views old) id can (views now) index partly child the-child)
 
-        pub child-adopted : (new : Content (Node K V)) → SetsParent (views now) (views new) child id → SetsParents (views old) (views new) id (take (index + 1) (children_in (views old id)))
+        pub child-adopted : (new : Content (Node K V)) → SetsParent (views now) (views new) child id → Reparents (views old) (views new) id (take (index + 1) (children_in (views old id)))
         child-adopted new s = adopts-more (views old) id can (views now) index partly child the-child (views new) s

@@ -7,14 +7,14 @@ use Rattle.btree_node.specs.declared.node.Node.{Node}
 use Rattle.btree_node.specs.Node.{view_of}
 use Rattle.btree_view.specs.View.{children_in, children_of}
 use Rattle.btree_shape.specs.Lists.{times_listed}
-use Rattle.btree_shape.specs.Step.{SetsParents}
+use Rattle.btree_shape.specs.Step.{Reparents}
 use Rattle.btree_shape.specs.TreeState.{TreeState, IsOff, node_map, pairs_of, views}
 use Rattle.btree_shape.specs.WellFormed.{IsOffByOne, times_used}
 use Rattle.btree_shape.proofs.Trees.States.{is-off}
 use Rattle.btree_valid.specs.OffByOne.{IsOffAmong}
 use Rattle.btree_shape.proofs.Trees.Numbers.{zero-or}
 use Rattle.btree_raw.specs.Raw.{AreUsed}
-use Rattle.btree_raw.specs.Steps.{CanSetParents}
+use Rattle.btree_raw.specs.Steps.{CanReparent}
 use Rattle.btree_shape.proofs.Trees.Stores.{writes_node, some-used}
 
 module _ {K V : Type 0} where
@@ -41,17 +41,17 @@ module _ {K V : Type 0} (nodes : Content (Node K V)) (id : ℕ) (node : Node K V
         let kept = (writes_node nodes after id node is).others n (child-apart n listed) in
         rw kept (some-used (map.get nodes n) (children n listed))
 
-    pub can-set_parents : CanSetParents (views after) id
-    can-set_parents = record {
+    pub can-reparent_children : CanReparent (views after) id
+    can-reparent_children = record {
       used = rw here (omega arith);
       children = λ n listed. child-used n (rw here at listed);
       apart = rw here none-listed;
     }
 
-    pub adopts : (last : Content (Node K V)) → SetsParents (views after) (views last) id (children_in (views after id)) → SetsParents (views (map.insert nodes id node)) (views last) id (children_of (view_of node))
+    pub adopts : (last : Content (Node K V)) → Reparents (views after) (views last) id (children_in (views after id)) → Reparents (views (map.insert nodes id node)) (views last) id (children_of (view_of node))
     adopts last a =
-        let P : List ℕ → Type 0 = λ l. SetsParents (views after) (views last) id l in
-        let Q : Content (Node K V) → Type 0 = λ m. SetsParents (views m) (views last) id (children_of (view_of node)) in
+        let P : List ℕ → Type 0 = λ l. Reparents (views after) (views last) id l in
+        let Q : Content (Node K V) → Type 0 = λ m. Reparents (views m) (views last) id (children_of (view_of node)) in
         subst Q is (subst P (ap children_in here) a)
 
 module _ {K V : Type 0} (cmp : K → K → Ordering) (s : TreeState K V) (id : ℕ) where

@@ -14,7 +14,7 @@ use Rattle.btree_view.specs.Edits.{HasChildFor, HasSpare, HaveRoom, is_internal,
 use Rattle.btree_view.specs.View.{NodeMap, View, leaf, internal, children_of, items_of, most_of, size_of}
 use Rattle.btree_shape.specs.Lists.{as_list, one}
 use Rattle.btree_shape.specs.SiblingSteps.{IsRemade, ShrinksRoot}
-use Rattle.btree_shape.specs.Step.{SetsParents, RemovesNode}
+use Rattle.btree_shape.specs.Step.{Reparents, RemovesNode}
 use Rattle.btree_shape.specs.WellFormed.{times_used}
 use Rattle.btree_shape.proofs.Paths.Frames.{one-other, one-self}
 use Rattle.btree_shape.proofs.Trees.Numbers.{same-or}
@@ -178,13 +178,13 @@ module _ {K V : Type 0} (old new : Content (Node K V)) (id : ℕ) where
   }
 
 module _ {A : Type 0} (node_at new : NodeMap A) (parent : ℕ) where
-  pub adopts-one : (child : Option ℕ) (id : ℕ) → child ≡ Some id → SetsParent node_at new id parent → SetsParents node_at new parent (as_list child)
+  pub adopts-one : (child : Option ℕ) (id : ℕ) → child ≡ Some id → SetsParent node_at new id parent → Reparents node_at new parent (as_list child)
   adopts-one child id e s = rw e (record {
     moved = λ n m. elim (same-or n id) [ inl eq ↦ rw eq s.here | inr ne ↦ absurd (let o = one-other n id ne in omega arith) ];
     kept = λ n z. s.others n (λ eq. absurd (let o = one-self id in let q = ap (λ k. one k id) eq in omega arith));
   })
 
-pub adopts-no : {A : Type 0} (node_at : NodeMap A) (parent : ℕ) (child : Option ℕ) → child ≡ None → SetsParents node_at node_at parent (as_list child)
+pub adopts-no : {A : Type 0} (node_at : NodeMap A) (parent : ℕ) (child : Option ℕ) → child ≡ None → Reparents node_at node_at parent (as_list child)
 adopts-no node_at parent child e = rw e (record { moved = λ n m. absurd (omega arith); kept = λ n z. refl })
 
 -- the release of a root

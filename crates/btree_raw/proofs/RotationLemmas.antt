@@ -5,13 +5,13 @@ use Rattle.btree_view.specs.Edits.{HasChildFor, is_internal, joined, pushed_left
 use Rattle.btree_view.specs.View.{NodeMap, View, children_in, children_of, items_of}
 use Rattle.btree_shape.specs.Lists.{as_list, times_listed}
 use Rattle.btree_shape.specs.SiblingSteps.{IsRemade}
-use Rattle.btree_shape.specs.Step.{SetsParents, Becomes, WritesNode}
+use Rattle.btree_shape.specs.Step.{Reparents, Becomes, WritesNode}
 use Rattle.btree_shape.specs.WellFormed.{times_used}
 use Rattle.btree_shape.proofs.Paths.Frames.{one-self}
 use Rattle.btree_shape.proofs.Trees.Numbers.{listed-append, same-node, used-same, used-there, zero-or}
 use Rattle.btree_shape.proofs.Underflow.Calls.{left-written, merge-written, right-written}
 use Rattle.btree_raw.specs.NodeSteps.{AreSiblings, MergesSiblings, CanMerge, CanRotateLeft, CanRotateRight, ChangesSeparator, GainsAll, GainsFirst, GainsLast, HasSeparator, HasRoomFor, HasRoomForAll, RotatesSiblingsLeft, RotatesSiblingsRight, LosesSeparator, LosesFirst, LosesLast}
-use Rattle.btree_raw.specs.Steps.{CanSetParents}
+use Rattle.btree_raw.specs.Steps.{CanReparent}
 use Rattle.btree_raw.proofs.RotateLemmas.{kind-left, kind-right, remade-joined, remade-left, remade-other, remade-right, remade-without}
 
 one-child : (child : Option ℕ) (P : ℕ → Type 0) → ((n : ℕ) → 0 < times_listed n (as_list child) → P n) → IfSome child P
@@ -73,7 +73,7 @@ module _ {A : Type 0} (node_at : NodeMap A) (siblings : Siblings) (can : CanRota
         left-child = child-there node_at siblings can.pair child listed-left three
             (λ n np nl nr. c.writes_node.others n nl ∙ (b.writes_node.others n np ∙ a.writes_node.others n nr))
 
-        pub turns-left : (new : NodeMap A) → SetsParents three new siblings.left (as_list child) → RotatesSiblingsLeft node_at new siblings
+        pub turns-left : (new : NodeMap A) → Reparents three new siblings.left (as_list child) → RotatesSiblingsLeft node_at new siblings
         turns-left new d = record {
           top = can.pair.top;
           low = can.pair.low;
@@ -134,7 +134,7 @@ module _ {A : Type 0} (node_at : NodeMap A) (siblings : Siblings) (can : CanRota
         right-child = child-there node_at siblings can.pair child listed-right three
             (λ n np nl nr. c.writes_node.others n nr ∙ (b.writes_node.others n np ∙ a.writes_node.others n nl))
 
-        pub turns-right : (new : NodeMap A) → SetsParents three new siblings.right (as_list child) → RotatesSiblingsRight node_at new siblings
+        pub turns-right : (new : NodeMap A) → Reparents three new siblings.right (as_list child) → RotatesSiblingsRight node_at new siblings
         turns-right new d = record {
           top = can.pair.top;
           low = can.pair.low;
@@ -201,7 +201,7 @@ module _ {A : Type 0} (node_at : NodeMap A) (siblings : Siblings) (can : CanMerg
         children-both : children_in (three siblings.left) ≡ both
         children-both = ap children_in writes_node-both.here ∙ remade-both.children_are
 
-        pub adopts-both : CanSetParents three siblings.left
+        pub adopts-both : CanReparent three siblings.left
         adopts-both = record {
           used = used-there three siblings.left (joined can.pair.low down can.pair.high) writes_node-both.here;
           children = λ n m.
@@ -214,10 +214,10 @@ module _ {A : Type 0} (node_at : NodeMap A) (siblings : Siblings) (can : CanMerg
           ];
         }
 
-        pub merges : under ≡ None → (new : NodeMap A) → SetsParents three new siblings.left (children_in (three siblings.left)) → MergesSiblings node_at new siblings
+        pub merges : under ≡ None → (new : NodeMap A) → Reparents three new siblings.left (children_in (three siblings.left)) → MergesSiblings node_at new siblings
         merges none new d =
             merge-written node_at one_look two three new siblings.parent siblings.left siblings.right can.pair.apart siblings.index can.pair.top can.pair.low can.pair.high
             (without siblings.index can.pair.top) (joined can.pair.low down can.pair.high) down (λ n m. let k = can.pair.children n m in (k.1, k.2, k.3)) can.own
             can.pair.at_parent can.pair.at_left can.pair.at_right (subst (λ v. slice_get (items_of v) siblings.index ≡ Some down) top-both a.was)
             (remade-without siblings.index can.pair.top can.pair.inner) remade-both (subst (λ v. WritesNode node_at one_look siblings.parent (without siblings.index v)) top-both a.writes_node) (subst (λ o. Becomes one_look two siblings.right o) none b) writes_node-both
-            (subst (λ l. SetsParents three new siblings.left l) children-both d)
+            (subst (λ l. Reparents three new siblings.left l) children-both d)

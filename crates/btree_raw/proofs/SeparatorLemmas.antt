@@ -73,8 +73,8 @@ module _ {K V : Type 0} (nodes : Content (Node K V)) (above id : ℕ) (can : Can
           kind = sym can.inner;
         }
 
-        pub inserts_separator : (new : Content (Node K V)) (x : K × V) (right : ℕ) → AddsItem (views nodes) (views new) above index x (Some right) → InsertsSeparator (views nodes) (views new) above id right index x
-        inserts_separator new x right added = record {
+        pub inserts : (new : Content (Node K V)) (x : K × V) (right : ℕ) → AddsItem (views nodes) (views new) above index x (Some right) → InsertsSeparator (views nodes) (views new) above id right index x
+        inserts new x right added = record {
           node = can.node;
           here = can.here;
           child = child-at.1;

@@ -11,7 +11,7 @@ use Rattle.btree_node.specs.Node.{view_of}
 use Rattle.std.specs.Prelude.{IfSome}
 use Rattle.btree_view.specs.View.{NodeMap, View, leaf, internal, children_in, children_of, parent_of, size_of}
 use Rattle.btree_shape.specs.SiblingSteps.{Merges}
-use Rattle.btree_shape.specs.UnderflowFix.{BorrowsFromSibling, MergesWithSibling, NoneSpares, child_at, from_left, from_right, size_in, with_left, with_right}
+use Rattle.btree_shape.specs.UnderflowFix.{Borrows, MergesNode, NoneSpares, child_at, from_left, from_right, size_in, with_left, with_right}
 use Rattle.btree_shape.specs.Lists.{times_listed}
 use Rattle.btree_shape.specs.TreeState.{views}
 use Rattle.btree_shape.specs.WellFormed.{times_used}
@@ -140,11 +140,11 @@ module _ {A : Type 0} (node_at : NodeMap A) (siblings : Siblings) (a : Address) 
 
   -- which step it is
   module _ (held : ℕ) (counted : HasCount node_at siblings.left held) (none : NoneSpares node_at siblings.parent (suc (suc siblings.index))) (new : NodeMap A) where
-    pub left-borrows : 3 < held → RotatesSiblingsRight node_at new siblings → BorrowsFromSibling node_at new siblings.parent siblings.right
+    pub left-borrows : 3 < held → RotatesSiblingsRight node_at new siblings → Borrows node_at new siblings.parent siblings.right
     left-borrows many step = let e = counted-in node_at siblings.left held counted in
         from_left siblings.index siblings.left s.at_right none (s.at_left, omega arith) step
 
-    pub left-merges : held ≤ 3 → MergesSiblings node_at new siblings → MergesWithSibling node_at new siblings.parent siblings.right
+    pub left-merges : held ≤ 3 → MergesSiblings node_at new siblings → MergesNode node_at new siblings.parent siblings.right
     left-merges low step = with_left siblings.index siblings.left s.at_right none s.at_left (low-at node_at siblings.parent siblings.index siblings.left held s.at_left counted low) step
 
 -- two children that are there, as siblings
@@ -323,15 +323,15 @@ module _ {A : Type 0} (node_at : NodeMap A) (id p : ℕ) (a : Address) (s : IsFo
 
     -- which step it is with the sibling on the right
     module _ (j : Siblings) (held : ℕ) (there : after ≡ Some j) (counted : HasCount node_at j.right held) (new : NodeMap A) where
-      pub right-borrows : 3 < held → RotatesSiblingsLeft node_at new j → BorrowsFromSibling node_at new p id
+      pub right-borrows : 3 < held → RotatesSiblingsLeft node_at new j → Borrows node_at new p id
       right-borrows many step = let e = counted-in node_at j.right held counted in
-          as-after j there (BorrowsFromSibling node_at new) (from_right j.index j.right (self-at j there) (after-at j there, omega arith) step)
+          as-after j there (Borrows node_at new) (from_right j.index j.right (self-at j there) (after-at j there, omega arith) step)
 
-      pub right-merges : held ≤ 3 → before ≡ None → MergesSiblings node_at new j → MergesWithSibling node_at new p id
+      pub right-merges : held ≤ 3 → before ≡ None → MergesSiblings node_at new j → MergesNode node_at new p id
       right-merges low first step =
           let z : j.index ≡ 0 = (after-of j there).index ∙ first-child first in
           let right : child_at node_at j.parent 1 ≡ Some j.right = subst (λ k. child_at node_at j.parent (suc k) ≡ Some j.right) z (after-at j there) in
-          as-after j there (MergesWithSibling node_at new)
+          as-after j there (MergesNode node_at new)
           (with_right j.right (subst (λ k. child_at node_at j.parent k ≡ Some j.left) z (self-at j there)) right
           (low-at node_at j.parent 1 j.right held right counted low)
           (subst (λ k. Merges node_at new j.parent k j.left j.right) z step))

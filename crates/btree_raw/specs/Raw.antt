@@ -6,7 +6,7 @@ use Rattle.btree_node.specs.declared.node.Node.{Node}
 use Rattle.btree_node.specs.Node.{view_of}
 use Rattle.btree_view.specs.View.{children_of}
 use Rattle.btree_shape.specs.Lists.{times_listed}
-use Rattle.btree_shape.specs.Step.{SetsParents}
+use Rattle.btree_shape.specs.Step.{Reparents}
 use Rattle.btree_shape.specs.Place.{IsWithin}
 use Rattle.btree_shape.specs.TreeState.{TreeState, KeepsRest, node_map, views}
 use Rattle.btree_item.specs.declared.address.Address.{Address}
@@ -31,5 +31,5 @@ module _ {K V : Type 0} where
   -- a node is there under a number that was not used, and its children name it as their parent; nothing else has changed
   pub record GainsNode (old new : TreeState K V) (id : ℕ) (node : Node K V) : Type 0 where
     pub vacant : map.get old.nodes id ≡ None
-    pub adopted : SetsParents (views (map.insert old.nodes id node)) (node_map new) id (children_of (view_of node))
+    pub adopted : Reparents (views (map.insert old.nodes id node)) (node_map new) id (children_of (view_of node))
     pub rest : KeepsRest old new

@@ -5,7 +5,7 @@ use Rattle.btree_item.specs.declared.address.Address.{Address}
 use Rattle.btree_view.specs.View.{View, NodeMap, children_of, parent_of, size_of}
 use Rattle.btree_moved.specs.declared.siblings.Siblings.{Siblings}
 use Rattle.btree_shape.specs.Focus.Overflow.{IsRepaired}
-use Rattle.btree_shape.specs.UnderflowFix.{BorrowsFromSibling, IsUnderflowFixed, MergesWithSibling, NoneSpares, child_at}
+use Rattle.btree_shape.specs.UnderflowFix.{Borrows, IsUnderflowFixed, MergesNode, NoneSpares, child_at}
 use Rattle.btree_shape.specs.Need.{levels_above}
 use Rattle.btree_shape.specs.Place.{IsPlace, IsValid}
 use Rattle.btree_shape.specs.Lists.{one, times_listed}
@@ -102,12 +102,12 @@ module _ {K V : Type 0} (old new : TreeState K V) where
   -- if no child after these two has an item to spare, the right one borrows in its turn
   abbrev pub BorrowsFromLeft : Siblings → Type 0
   BorrowsFromLeft siblings = NoneSpares (node_map old) siblings.parent (suc (suc siblings.index))
-      → BorrowsFromSibling (node_map old) (node_map new) siblings.parent siblings.right
+      → Borrows (node_map old) (node_map new) siblings.parent siblings.right
 
   -- if no child after these two has an item to spare, the right one is joined in its turn
   abbrev pub MergesWithLeft : Siblings → Type 0
   MergesWithLeft siblings = NoneSpares (node_map old) siblings.parent (suc (suc siblings.index))
-      → MergesWithSibling (node_map old) (node_map new) siblings.parent siblings.right
+      → MergesNode (node_map old) (node_map new) siblings.parent siblings.right
 
 -- a tree at rest under this root, with the address at its place, or the empty tree, of which every address is nowhere
 abbrev pub IsAtRest : {A : Type 0} → NodeMap A → (root : Option ℕ) → List A → (asked : Option A) → Address → (place given bound : ℕ) → Type 0

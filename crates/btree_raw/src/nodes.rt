@@ -2,9 +2,9 @@
 ghost use Rattle.std.specs.Prelude.{◌<◌};
 ghost use Rattle.btree_node.specs.Node.{view_of};
 ghost use Rattle.btree_view.specs.View.{children_in};
-ghost use Rattle.btree_shape.specs.Step.{SetsParents, WritesNode};
+ghost use Rattle.btree_shape.specs.Step.{Reparents, WritesNode};
 ghost use Rattle.btree_shape.specs.TreeState.{Changes, IsUsed, node_map};
-ghost use Rattle.btree_raw.specs.Steps.{CanSetParents, CanTake, Overflows, SetsParent, AddsItem, Halves};
+ghost use Rattle.btree_raw.specs.Steps.{CanReparent, CanTake, Overflows, SetsParent, AddsItem, Halves};
 
 use crate::raw::RawBTree;
 use btree_item::{Item, Offset};
@@ -66,9 +66,9 @@ pub(crate) fn split_node<K: Drop, V: Drop, C: NodesMut<K, V>>(
 }
 
 // Makes a node the parent of its children.
-pub(crate) fn set_parents<K, V, C: NodesMut<K, V>>(tree: &mut RawBTree<K, V, C>, id: usize)
-    requires { CanSetParents (node_map tree.old) id }
-    ensures { Changes (λ a b. SetsParents a b id (children_in (node_map tree.old id))) tree.old tree.new }
+pub(crate) fn reparent_children<K, V, C: NodesMut<K, V>>(tree: &mut RawBTree<K, V, C>, id: usize)
+    requires { CanReparent (node_map tree.old) id }
+    ensures { Changes (λ a b. Reparents a b id (children_in (node_map tree.old id))) tree.old tree.new }
 {
     tree.tell_fits();
     let count = tree.node(id).child_count();

@@ -5,7 +5,7 @@ ghost use Rattle.btree_shape.specs.TreeState.{Changes, node_map};
 ghost use Rattle.btree_raw.specs.Steps.{CanSplitInto, CanGrowRoot, HasCount, CanInsertSeparator, InsertsSeparator, IsSplitting, SplitsUpward};
 
 use crate::claims::ClaimedIds;
-use crate::nodes::{add_item, put, set_parent, set_parents, split_node};
+use crate::nodes::{add_item, put, set_parent, reparent_children, split_node};
 use crate::raw::RawBTree;
 use btree_item::{Address, INTERNAL_SLOTS, Item};
 use btree_moved::moved_by_split;
@@ -25,7 +25,7 @@ fn split_at<K: Drop, V: Drop, C: NodesMut<K, V>>(
     tree.tell_fits();
     let (count, median, part) = split_node(tree, id);
     put(tree, right, part);
-    set_parents(tree, right);
+    reparent_children(tree, right);
     (count, median)
 }
 
@@ -56,7 +56,7 @@ fn insert_separator<K: Drop, V: Drop, C: NodesMut<K, V>>(
     right: usize,
 ) -> usize
     requires { CanInsertSeparator (node_map tree.old) above id }
-    ensures inserts_separator { Changes (λ a b. InsertsSeparator a b above id right result median) tree.old tree.new }
+    ensures inserts { Changes (λ a b. InsertsSeparator a b above id right result median) tree.old tree.new }
     ensures few { result ≤ INTERNAL_SLOTS }
 {
     tree.tell_fits();

@@ -7,7 +7,7 @@ ghost use Rattle.btree_node.specs.Node.{view_of};
 ghost use Rattle.btree_node.specs.contracts.node.Node.{the_row as node_row};
 ghost use Rattle.btree_raw.specs.Raw.{IsWithinNode};
 
-use crate::nodes::set_parents;
+use crate::nodes::reparent_children;
 use btree_item::{Address, Item};
 use btree_node::Node;
 use btree_nodes::{Nodes, NodesMut};
@@ -191,7 +191,7 @@ impl<K, V, C: NodesMut<K, V>> RawBTree<K, V, C> {
     {
         match self.store_node(node) {
             Ok(id) => {
-                set_parents(self, id);
+                reparent_children(self, id);
                 Ok(id)
             }
             Err(node) => Err(node),

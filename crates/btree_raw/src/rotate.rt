@@ -3,11 +3,11 @@ ghost use Rattle.std.specs.Prelude.{◌<◌};
 ghost use Rattle.btree_node.specs.Node.{view_of};
 ghost use Rattle.btree_shape.specs.Lists.{as_list};
 ghost use Rattle.btree_shape.specs.SiblingSteps.{ShrinksRoot};
-ghost use Rattle.btree_shape.specs.Step.{SetsParents};
+ghost use Rattle.btree_shape.specs.Step.{Reparents};
 ghost use Rattle.btree_shape.specs.TreeState.{Changes, IsUsed, node_map};
 ghost use Rattle.btree_raw.specs.NodeSteps.{MergesSiblings, CanGiveItem, RotatesSiblingsLeft, RotatesSiblingsRight, HasRoomFor, HasRoomForAll, HasSeparator, LosesFirst, LosesLast, ChangesSeparator, GainsFirst, GainsLast, GainsAll, LosesSeparator, ClearsParent, CanRotateLeft, CanRotateRight, CanMerge, CanShrinkRoot, IsThere};
 
-use crate::nodes::{set_parent, set_parents};
+use crate::nodes::{set_parent, reparent_children};
 use crate::raw::RawBTree;
 use btree_item::{Item, Offset};
 use btree_moved::Siblings;
@@ -117,7 +117,7 @@ fn move_child<K, V, C: NodesMut<K, V>>(
 )
     requires there { IsThere (node_map tree.old) child }
     requires number { parent < usize.MAX }
-    ensures { Changes (λ a b. SetsParents a b parent (as_list child)) tree.old tree.new }
+    ensures { Changes (λ a b. Reparents a b parent (as_list child)) tree.old tree.new }
 {
     match child {
         Some(id) => set_parent(tree, id, parent),
@@ -176,7 +176,7 @@ pub(crate) fn merge<K: Drop, V: Drop, C: NodesMut<K, V>>(
     let down = take_separator(tree, siblings.parent, siblings.index);
     let other = tree.release_node(siblings.right);
     put_all(tree, siblings.left, down, other);
-    set_parents(tree, siblings.left);
+    reparent_children(tree, siblings.left);
 }
 
 /// Release of an internal root without items, whose only child is then the root.

@@ -1,7 +1,7 @@
 //! Nodes with too few items, from a node upward.
 ghost use Rattle.std.specs.Prelude.{◌≡◌, ℕ, ◌<◌, ◌≤◌, IfSome, IsSome, Some, None, option_map, true, false};
 ghost use Rattle.btree_view.specs.View.{parent_of};
-ghost use Rattle.btree_shape.specs.UnderflowFix.{BorrowsFromSibling, MergesWithSibling};
+ghost use Rattle.btree_shape.specs.UnderflowFix.{Borrows, MergesNode};
 ghost use Rattle.btree_shape.specs.TreeState.{IsUsed, KeepsRest, node_map};
 ghost use Rattle.btree_shape.specs.WellFormed.{times_used};
 ghost use Rattle.btree_raw.specs.Underflow.{AreAdjacent, BorrowsFromLeft, EndsHere, GoesUp, HasSiblings, IsChild, IsFollowed, IsFixing, IsFixingOf, Underflows, MergesWithLeft, FixesUnderflowUpward};
@@ -127,8 +127,8 @@ fn fix_underflow_at<K: Drop, V: Drop, C: NodesMut<K, V>>(
     requires short { count ≤ 2 }
     requires low { IfSome addr.offset (λ n. n ≤ LEAF_SLOTS) }
     requires number { id < usize.MAX }
-    ensures borrows { result.1 ≡ false → BorrowsFromSibling (node_map tree.old) (node_map tree.new) parent id }
-    ensures merges { result.1 ≡ true → MergesWithSibling (node_map tree.old) (node_map tree.new) parent id }
+    ensures borrows { result.1 ≡ false → Borrows (node_map tree.old) (node_map tree.new) parent id }
+    ensures merges { result.1 ≡ true → MergesNode (node_map tree.old) (node_map tree.new) parent id }
     ensures here { EndsHere tree.old tree.new id addr result }
     ensures above { GoesUp tree.old tree.new parent id addr result }
     ensures rest { KeepsRest tree.old tree.new }

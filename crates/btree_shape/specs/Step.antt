@@ -23,7 +23,7 @@ module _ {A : Type 0} (node_at new : NodeMap A) where
     pub kept : (n : ℕ) → times_listed n spare ≡ 0 → new n ≡ node_at n
 
   -- these children have a new parent, and no other node has changed
-  pub record SetsParents (parent : ℕ) (children : List ℕ) : Type 0 where
+  pub record Reparents (parent : ℕ) (children : List ℕ) : Type 0 where
     pub moved : (n : ℕ) → 0 < times_listed n children → new n ≡ option_map (with_parent (Some parent)) (node_at n)
     pub kept : (n : ℕ) → times_listed n children ≡ 0 → new n ≡ node_at n
 

@@ -33,19 +33,19 @@ module _ {A : Type 0} (node_at : NodeMap A) where
   module _ (new : NodeMap A) where
     -- node `id`, a child of `parent`, takes an item: from its right sibling if that has more than three, else from its
     -- left one if that has
-    pub data BorrowsFromSibling (parent id : ℕ) : Type 0 where
+    pub data Borrows (parent id : ℕ) : Type 0 where
       from_right : (index right : ℕ) → child_at parent index ≡ Some id → CanSpare parent (suc index) right
-          → RotatesLeft node_at new parent index id right → BorrowsFromSibling parent id
+          → RotatesLeft node_at new parent index id right → Borrows parent id
       from_left : (index left : ℕ) → child_at parent (suc index) ≡ Some id → NoneSpares parent (suc (suc index))
-          → CanSpare parent index left → RotatesRight node_at new parent index left id → BorrowsFromSibling parent id
+          → CanSpare parent index left → RotatesRight node_at new parent index left id → Borrows parent id
 
     -- neither sibling has: it is merged with its left one, or, as the first child, with its right one
-    pub data MergesWithSibling (parent id : ℕ) : Type 0 where
+    pub data MergesNode (parent id : ℕ) : Type 0 where
       with_left : (index left : ℕ) → child_at parent (suc index) ≡ Some id → NoneSpares parent (suc (suc index))
           → child_at parent index ≡ Some left → NoneSpares parent index → Merges node_at new parent index left id
-          → MergesWithSibling parent id
+          → MergesNode parent id
       with_right : (right : ℕ) → child_at parent 0 ≡ Some id → child_at parent 1 ≡ Some right → NoneSpares parent 1
-          → Merges node_at new parent 0 id right → MergesWithSibling parent id
+          → Merges node_at new parent 0 id right → MergesNode parent id
 
 -- the nodes `node_at` with this root become `new` with the new root, from node `id` upward:
 pub data UnderflowFix {A : Type 0} (root : ℕ) (new : NodeMap A) (new_root : Option ℕ) : (node_at : NodeMap A) → (id : ℕ) → Type 0 where
@@ -53,10 +53,10 @@ pub data UnderflowFix {A : Type 0} (root : ℕ) (new : NodeMap A) (new_root : Op
   rests : (node_at : NodeMap A) (id : ℕ) → least_of root id ≤ size_in (node_at id) → ((n : ℕ) → new n ≡ node_at n)
       → new_root ≡ Some root → UnderflowFix root new new_root node_at id
   -- a short one takes an item from a sibling that has one to spare, and that is all
-  borrows : (node_at : NodeMap A) (id parent : ℕ) → UnderflowsUnder node_at root parent id → BorrowsFromSibling node_at new parent id
+  borrows : (node_at : NodeMap A) (id parent : ℕ) → UnderflowsUnder node_at root parent id → Borrows node_at new parent id
       → new_root ≡ Some root → UnderflowFix root new new_root node_at id
   -- else it is merged with a sibling, and the parent is next
-  merges : (node_at mid : NodeMap A) (id parent : ℕ) → UnderflowsUnder node_at root parent id → MergesWithSibling node_at mid parent id
+  merges : (node_at mid : NodeMap A) (id parent : ℕ) → UnderflowsUnder node_at root parent id → MergesNode node_at mid parent id
       → UnderflowFix root new new_root mid parent → UnderflowFix root new new_root node_at id
   -- an internal root without items is released, and its only child is the root
   shrinks_root : (node_at : NodeMap A) (id child : ℕ) → id ≡ root → size_in (node_at root) ≡ 0 → ShrinksRoot node_at new root child

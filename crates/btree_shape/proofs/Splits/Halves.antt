@@ -102,11 +102,11 @@ module _ (A : Type 0) where
   times-top (suc h) n t = refl
 
   -- a tree whose top has a new parent
-  pub set_parents : (node_at new : NodeMap A) (h : ℕ) (p q : Option ℕ) (t : Shape A h)
+  pub reparent_children : (node_at new : NodeMap A) (h : ℕ) (p q : Option ℕ) (t : Shape A h)
       → new (id_of A h t) ≡ option_map (with_parent q) (node_at (id_of A h t))
       → ((n : ℕ) → 0 < times_below h n t → new n ≡ node_at n) → Holds A node_at h p t → Holds A new h q t
-  set_parents node_at new zero p q t e same d = e ∙ rw d refl
-  set_parents node_at new (suc h) p q t e same d = (
+  reparent_children node_at new zero p q t e same d = e ∙ rw d refl
+  reparent_children node_at new (suc h) p q t e same d = (
     e ∙ rw d.0 refl,
     holds-same A node_at new h (Some t.0) t.1 (λ n m. same n (omega arith)) d.1,
     eachs-same A node_at new h (Some t.0) t.2 (λ n m. same n (omega arith)) d.2,
@@ -129,7 +129,7 @@ module _ (A : Type 0) where
         → AllByRecursion (λ b. Holds A node_at h p b.1) bs → AllByRecursion (λ b. Holds A new h (Some j) b.1) bs
     adopts h i j p [] moved same d = tt
     adopts h i j p (b ∷ bs) moved same d = (
-      set_parents node_at new h p (Some j) b.1 (moved (id_of A h b.1) (let s = one-self (id_of A h b.1) in omega arith))
+      reparent_children node_at new h p (Some j) b.1 (moved (id_of A h b.1) (let s = one-self (id_of A h b.1) in omega arith))
           (λ n m. same n (omega arith)) d.0,
       adopts h i j p bs (λ n m. moved n (omega arith)) (λ n m. same n (omega arith)) d.1,
     )
@@ -209,7 +209,7 @@ module _ (A : Type 0) where
             ),
             (
               ej,
-              set_parents node_at new h (Some i) (Some j) u (let q = all (id_of A h u) in let s = one-self (id_of A h u) in
+              reparent_children node_at new h (Some i) (Some j) u (let q = all (id_of A h u) in let s = one-self (id_of A h u) in
                   move (id_of A h u) (omega arith) (omega arith) (omega arith))
                   (λ n m. let q = all n in keep n (omega arith) (omega arith) (omega arith)) r.0,
               adopts h i j (Some i) rest (λ n m. let q = all n in move n (omega arith) (omega arith) (omega arith))

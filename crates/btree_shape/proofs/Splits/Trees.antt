@@ -14,7 +14,7 @@ use Rattle.btree_shape.specs.WellFormed.{times_used}
 use Rattle.btree_shape.specs.Focus.Focus.{IsFocus}
 use Rattle.btree_shape.proofs.Paths.Frames.{AllByRecursion-append, above-same, holds-same, one-other, one-self, one-zero, siblings-same, times_in-is, total-append}
 use Rattle.btree_shape.proofs.Trees.Numbers.{same-or, used-low, used-mapped}
-use Rattle.btree_shape.proofs.Splits.Halves.{Parted, set_parents, right-filled, times-top, times_below}
+use Rattle.btree_shape.proofs.Splits.Halves.{Parted, reparent_children, right-filled, times-top, times_below}
 
 module _ (A : Type 0) where
   pub fill_two-items : (h : ℕ) (f : Frame A h) (a : Shape A h) (x : A) (b : Shape A h)
@@ -156,10 +156,10 @@ module _ (A : Type 0) where
         let ri : one n (id_of A h b) ≡ one n j = ap (one n) q.right_id in
         (one-zero n r (omega arith), one-zero n (id_of A h t) (omega arith), one-zero n j (omega arith)) in
         let da =
-        set_parents A mid new h None (Some r) a (rw q.left_id ei) (λ n p. let s = sj n p in same n s.0 s.1 s.2)
+        reparent_children A mid new h None (Some r) a (rw q.left_id ei) (λ n p. let s = sj n p in same n s.0 s.1 s.2)
         m.cut.left_holds in
         let db =
-        set_parents A mid new h None (Some r) b (rw q.right_id ej) (λ n p. let s = sk n p in same n s.0 s.1 s.2)
+        reparent_children A mid new h None (Some r) b (rw q.right_id ej) (λ n p. let s = sk n p in same n s.0 s.1 s.2)
         m.cut.right_holds in
         record {
           above = tt;

@@ -10,7 +10,7 @@ use Rattle.btree_shape.specs.Moved.{moved_by_split}
 use Rattle.btree_shape.specs.Need.{path_need}
 use Rattle.btree_shape.specs.Lists.{one, times_listed}
 use Rattle.btree_shape.specs.Focus.Shape.{Shape, count_at, id_of, most_at, times_under, view_at}
-use Rattle.btree_shape.specs.Step.{SetsParents, WritesNode, GrowsRoot, Splits}
+use Rattle.btree_shape.specs.Step.{Reparents, WritesNode, GrowsRoot, Splits}
 use Rattle.btree_shape.specs.Strain.{strain_of}
 use Rattle.btree_shape.specs.Focus.Positions.{IsAt, all_positions}
 use Rattle.btree_shape.specs.Focus.Path.{Path, Frame, at_branch, at_first, fill_two, frame_count, frame_id, frame_index, frame_view, parent_above, top, under}
@@ -56,7 +56,7 @@ module _ (A : Type 0) where
   pub splits-made : (node_at mid two new : NodeMap A) (i j : ℕ) (median : A) (v left right : View A) → node_at i ≡ Some v
       → IsSplit v median left right → j ≢ i
       → times_listed i (children_of right) ≡ 0 → times_listed j (children_of right) ≡ 0
-      → WritesNode node_at mid i left → WritesNode mid two j right → SetsParents two new j (children_of right) → Splits node_at new i j median
+      → WritesNode node_at mid i left → WritesNode mid two j right → Reparents two new j (children_of right) → Splits node_at new i j median
   splits-made node_at mid two new i j median v left right e s apart no-i no-j a b d = record {
     node = v;
     left = left;

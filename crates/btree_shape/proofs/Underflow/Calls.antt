@@ -7,7 +7,7 @@ use Rattle.btree_view.specs.Edits.{with_parent}
 use Rattle.btree_view.specs.View.{NodeMap, View, children_of, items_of}
 use Rattle.btree_shape.specs.SiblingSteps.{IsRemade, Merges, Writes}
 use Rattle.btree_shape.specs.Lists.{one, times_listed}
-use Rattle.btree_shape.specs.Step.{SetsParents, RemovesNode, WritesNode}
+use Rattle.btree_shape.specs.Step.{Reparents, RemovesNode, WritesNode}
 use Rattle.btree_shape.proofs.Paths.Frames.{total-append}
 use Rattle.btree_shape.proofs.Trees.Numbers.{zero-or}
 
@@ -20,7 +20,7 @@ module _ {A : Type 0} (node_at one_look two three new : NodeMap A) (parent left 
   module _ (top low high new_top new_low new_high : View A) (children : List ℕ) (adopter : ℕ)
       (away : (n : ℕ) → 0 < times_listed n children → (n ≢ parent) × (n ≢ left) × (n ≢ right))
       (at_parent : node_at parent ≡ Some top) (at_left : node_at left ≡ Some low) (at_right : node_at right ≡ Some high)
-      (adopts : SetsParents three new adopter children) where
+      (adopts : Reparents three new adopter children) where
     not-parent : times_listed parent children ≡ 0
     not-parent = none-of children parent (λ n m. (away n m).0)
 
@@ -86,7 +86,7 @@ module _ {A : Type 0} (node_at one_look two three new : NodeMap A) (parent left 
     other n m = away n (let b = both-parts n in omega arith)
 
     pub merge-written : WritesNode node_at one_look parent new_top → RemovesNode one_look two right → WritesNode two three left new_low
-        → SetsParents three new left children_of_both → Merges node_at new parent index left right
+        → Reparents three new left children_of_both → Merges node_at new parent index left right
     merge-written a b c adopts =
         let still : (n : ℕ) → n ≢ parent → n ≢ left → n ≢ right → three n ≡ node_at n =
         λ n np nl nr. c.others n nl ∙ (b.others n nr ∙ a.others n np) in

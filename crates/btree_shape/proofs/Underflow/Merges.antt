@@ -17,7 +17,7 @@ use Rattle.btree_shape.proofs.Underflow.Writes.{down-between, frame-parts, remad
 use Rattle.btree_shape.proofs.Splits.NodeAddresses.{Apart}
 use Rattle.btree_shape.proofs.Paths.Siblings.{IsPair, pair-alone, pair-near}
 use Rattle.btree_shape.proofs.Trees.Numbers.{same-or, used-low, used-mapped, used-one, zero-or}
-use Rattle.btree_shape.proofs.Splits.Halves.{set_parents, adopts, join, times-top, times_below, total-top}
+use Rattle.btree_shape.proofs.Splits.Halves.{reparent_children, adopts, join, times-top, times_below, total-top}
 use Rattle.btree_shape.proofs.Strain.Splits.{join-count}
 use Rattle.btree_shape.proofs.Underflow.Items.{children_at, children_at-is, items_at, items_at-is, join-below, join-id, join-times, join-views, numbered}
 use Rattle.std.proofs.lemmas.Option.{same_Some}
@@ -77,7 +77,7 @@ module _ (A : Type 0) (node_at new : NodeMap A) where
         AllByRecursion-append (λ m. Holds A new h (Some a.0) m.1) a.2 ((x, b.1) ∷ b.2)
             (eachs-same A node_at new h (Some a.0) a.2
             (λ n m. let s = sum n in keep n (omega arith) (omega arith) (omega arith) (omega arith)) da.2) (
-              set_parents A node_at new h (Some b.0) (Some a.0) b.1
+              reparent_children A node_at new h (Some b.0) (Some a.0) b.1
                   (let k = one-self (id_of A h b.1) in let s = sum (id_of A h b.1) in
                   move (id_of A h b.1) (omega arith) (omega arith) (omega arith) (omega arith))
                   (λ n m. let s = sum n in keep n (omega arith) (omega arith) (omega arith) (omega arith)) db.1,

@@ -5,7 +5,7 @@ use Rattle.std.proofs.lemmas.Option.{same_Some}
 use Rattle.btree_item.specs.declared.address.Address.{Address}
 use Rattle.btree_view.specs.View.{NodeMap, View, parent_of}
 use Rattle.btree_shape.specs.SiblingSteps.{RotatesLeft}
-use Rattle.btree_shape.specs.UnderflowFix.{BorrowsFromSibling, CanSpare, UnderflowsUnder, MergesWithSibling, NoneSpares, child_at, from_left, from_right, size_in, with_left, with_right}
+use Rattle.btree_shape.specs.UnderflowFix.{Borrows, CanSpare, UnderflowsUnder, MergesNode, NoneSpares, child_at, from_left, from_right, size_in, with_left, with_right}
 use Rattle.btree_shape.specs.Need.{levels_above}
 use Rattle.btree_shape.specs.Focus.Search.{levels_below}
 use Rattle.btree_shape.specs.Focus.Shape.{Shape, id_of, view_at}
@@ -111,7 +111,7 @@ module _ {A : Type 0} (new : NodeMap A) (root : ℕ) (new_root : Option ℕ) whe
         let m : size_in (node_at right) ≤ 3 = subst (λ o. IfSome o (λ i. size_in (node_at i) ≤ 3)) spare.0 n in
         let l = spare.1 in omega arith
 
-    rotated : (p : ℕ) → p ≡ parent → BorrowsFromSibling node_at new p id → RotatesLeft node_at new parent index id right
+    rotated : (p : ℕ) → p ≡ parent → Borrows node_at new p id → RotatesLeft node_at new parent index id right
     rotated p up (from_right k r at lends step) =
         let ki : k ≡ index = only k (subst (λ q. child_at node_at q k ≡ Some id) up at) in
         let there : child_at node_at parent (suc index) ≡ Some r =
@@ -124,7 +124,7 @@ module _ {A : Type 0} (new : NodeMap A) (root : ℕ) (new_root : Option ℕ) whe
         let ki : suc k ≡ index = only (suc k) (subst (λ q. child_at node_at q (suc k) ≡ Some id) up at) in
         absurd (clash k ki (subst (λ q. NoneSpares node_at q (suc (suc k))) up none))
 
-    unjoined : (mid : NodeMap A) (p : ℕ) → p ≡ parent → MergesWithSibling node_at mid p id → ⊥
+    unjoined : (mid : NodeMap A) (p : ℕ) → p ≡ parent → MergesNode node_at mid p id → ⊥
     unjoined mid p up (with_left k left at none there few step) =
         clash k (only (suc k) (subst (λ q. child_at node_at q (suc k) ≡ Some id) up at))
         (subst (λ q. NoneSpares node_at q (suc (suc k))) up none)

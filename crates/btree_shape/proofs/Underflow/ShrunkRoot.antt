@@ -12,7 +12,7 @@ use Rattle.btree_shape.specs.WellFormed.{times_used}
 use Rattle.btree_shape.specs.Focus.Focus.{IsFocus}
 use Rattle.btree_shape.proofs.Paths.Frames.{one-other, one-self, one-zero}
 use Rattle.btree_shape.proofs.Trees.Numbers.{same-or, used-low, used-mapped, used-none}
-use Rattle.btree_shape.proofs.Splits.Halves.{set_parents, times-top, times_below}
+use Rattle.btree_shape.proofs.Splits.Halves.{reparent_children, times-top, times_below}
 use Rattle.btree_shape.proofs.LookUp.Descent.{cons-parts}
 use Rattle.std.proofs.lemmas.Option.{same_Some}
 
@@ -36,7 +36,7 @@ module _ (A : Type 0) (node_at new : NodeMap A) (xs : List A) (n : ℕ) where
     released =
         record {
           above = tt;
-          inner = set_parents A node_at new h (Some n) None u here
+          inner = reparent_children A node_at new h (Some n) None u here
               (λ m p. let q = sum m in kept m (one-zero m n (omega arith)) (one-zero m (id_of A h u) (omega arith)))
               w.inner.1;
           once = λ m.

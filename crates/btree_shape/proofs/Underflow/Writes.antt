@@ -16,7 +16,7 @@ use Rattle.btree_shape.proofs.LookUp.Descent.{cons-parts, get-after}
 use Rattle.btree_shape.proofs.Paths.Frames.{AllByRecursion-append, AllByRecursion-left, AllByRecursion-right, eachs-same, holds-same, one-self, one-zero, total-append}
 use Rattle.btree_shape.proofs.Splits.NodeAddresses.{Apart}
 use Rattle.btree_shape.proofs.Trees.Sizes.{view-parent}
-use Rattle.btree_shape.proofs.Splits.Halves.{set_parents, times-top, times_below}
+use Rattle.btree_shape.proofs.Splits.Halves.{reparent_children, times-top, times_below}
 use Rattle.btree_shape.proofs.Underflow.Items.{children_at, children_at-is, ids-append, items_at, items_at-is, keys-append, kind-is, numbered, view-same}
 use Rattle.std.proofs.lemmas.Option.{same_Some}
 
@@ -155,7 +155,7 @@ module _ (A : Type 0) (node_at new : NodeMap A) where
         let s = one-self k in
         let o = apart k in
         let t = times-top A h k u in
-        set_parents A node_at new h p (Some adopter) u
+        reparent_children A node_at new h p (Some adopter) u
         (moved k (one-zero k q (omega arith)) (one-zero k i (omega arith)) (one-zero k j (omega arith)) (omega arith))
         (λ n m. let o = apart n in let t = times-top A h n u in
         kept n (one-zero n q (omega arith)) (one-zero n i (omega arith)) (one-zero n j (omega arith)) (omega arith)) d

@@ -1,4 +1,4 @@
-use Rattle.btree_raw.proofs.SeparatorLemmas.{above-used, child-there, index-few, can-take, inserts_separator}
+use Rattle.btree_raw.proofs.SeparatorLemmas.{above-used, child-there, index-few, can-take, inserts}
 use Rattle.btree_raw.proofs.overflow.insert_separator.Goals as goal
 
 pub node-requires : goal.node-requires
@@ -16,10 +16,10 @@ add_item-requires g c =
     can-take c.args.tree.now.nodes c.args.above c.args.id c.requires c.node.result.now c.node.ensures.value c.child_index.result c.child_index.ensures.value
     c.unwrap-index.result c.unwrap-index.ensures c.args.right
 
-pub returns-clause-inserts_separator : goal.returns-clause-inserts_separator
-returns-clause-inserts_separator g c = record {
+pub returns-clause-inserts : goal.returns-clause-inserts
+returns-clause-inserts g c = record {
   nodes =
-      inserts_separator c.args.tree.now.nodes c.args.above c.args.id c.requires c.node.result.now c.node.ensures.value c.child_index.result c.child_index.ensures.value
+      inserts c.args.tree.now.nodes c.args.above c.args.id c.requires c.node.result.now c.node.ensures.value c.child_index.result c.child_index.ensures.value
       c.unwrap-index.result c.unwrap-index.ensures c.add_item.new.tree.nodes c.args.median c.args.right c.add_item.ensures.nodes;
   rest = c.add_item.ensures.rest;
 }

@@ -1,6 +1,6 @@
 use Rattle.btree_node.specs.Node.{view_of}
 use Rattle.btree_shape.specs.TreeState.{node_map}
-use Rattle.btree_raw.proofs.OverflowLemmas.{right-there, can-set_parents, splits, leaves}
+use Rattle.btree_raw.proofs.OverflowLemmas.{right-there, can-reparent_children, splits, leaves}
 use Rattle.btree_raw.proofs.StateLemmas.{then}
 use Rattle.btree_raw.proofs.overflow.split_at.Goals as goal
 use Rattle.btree_shape.proofs.Trees.Stores.{used-view}
@@ -13,9 +13,9 @@ put-requires g c = (
       (view_of c.split_node-count.result.2) c.requires c.split_node-count.ensures.nodes),
 )
 
-pub set_parents-requires : goal.set_parents-requires
-set_parents-requires g c =
-    can-set_parents (node_map c.args.tree.now) (node_map c.split_node-count.new.tree) c.args.id c.args.right c.split_node-count.result.0 c.split_node-count.result.1
+pub reparent_children-requires : goal.reparent_children-requires
+reparent_children-requires g c =
+    can-reparent_children (node_map c.args.tree.now) (node_map c.split_node-count.new.tree) c.args.id c.args.right c.split_node-count.result.0 c.split_node-count.result.1
     (view_of c.split_node-count.result.2) c.requires c.split_node-count.ensures.nodes (node_map c.put.new.tree) c.put.ensures.nodes
 
 pub returns-clause-splits : goal.returns-clause-splits
@@ -23,12 +23,12 @@ returns-clause-splits g c = record {
   nodes =
       splits (node_map c.args.tree.now) (node_map c.split_node-count.new.tree) c.args.id c.args.right c.split_node-count.result.0 c.split_node-count.result.1
       (view_of c.split_node-count.result.2) c.requires c.split_node-count.ensures.nodes (node_map c.put.new.tree) c.put.ensures.nodes
-      (node_map c.set_parents.new.tree) c.set_parents.ensures.nodes;
-  rest = then (then c.split_node-count.ensures.rest c.put.ensures.rest) c.set_parents.ensures.rest;
+      (node_map c.reparent_children.new.tree) c.reparent_children.ensures.nodes;
+  rest = then (then c.split_node-count.ensures.rest c.put.ensures.rest) c.reparent_children.ensures.rest;
 }
 
 pub returns-clause-left : goal.returns-clause-left
 returns-clause-left g c =
     leaves (node_map c.args.tree.now) (node_map c.split_node-count.new.tree) c.args.id c.args.right c.split_node-count.result.0 c.split_node-count.result.1
     (view_of c.split_node-count.result.2) c.requires c.split_node-count.ensures.nodes (node_map c.put.new.tree) c.put.ensures.nodes
-    (node_map c.set_parents.new.tree) c.set_parents.ensures.nodes
+    (node_map c.reparent_children.new.tree) c.reparent_children.ensures.nodes

@@ -16,11 +16,11 @@ release_node-other-requires g c = (c.tell_fits.ensures, used-view c.take_separat
 pub put_all-requires : goal.put_all-requires
 put_all-requires g c = (c.tell_fits.ensures, room-both (node_map c.args.tree.now) c.args.siblings c.requires (node_map c.take_separator-down.new.tree) c.take_separator-down.result c.take_separator-down.ensures.nodes (node_map c.release_node-other.new.self) (loses c.take_separator-down.new.tree.nodes c.release_node-other.new.self.nodes c.args.siblings.right (nodes-of c.release_node-other.ensures.after)) (view_of c.release_node-other.result) (ap (option_map view_of) c.release_node-other.ensures.node))
 
-pub set_parents-requires : goal.set_parents-requires
-set_parents-requires g c = adopts-both (node_map c.args.tree.now) c.args.siblings c.requires (node_map c.take_separator-down.new.tree) c.take_separator-down.result c.take_separator-down.ensures.nodes (node_map c.release_node-other.new.self) (loses c.take_separator-down.new.tree.nodes c.release_node-other.new.self.nodes c.args.siblings.right (nodes-of c.release_node-other.ensures.after)) (view_of c.release_node-other.result) (ap (option_map view_of) c.release_node-other.ensures.node) (node_map c.put_all.new.tree) c.put_all.ensures.nodes
+pub reparent_children-requires : goal.reparent_children-requires
+reparent_children-requires g c = adopts-both (node_map c.args.tree.now) c.args.siblings c.requires (node_map c.take_separator-down.new.tree) c.take_separator-down.result c.take_separator-down.ensures.nodes (node_map c.release_node-other.new.self) (loses c.take_separator-down.new.tree.nodes c.release_node-other.new.self.nodes c.args.siblings.right (nodes-of c.release_node-other.ensures.after)) (view_of c.release_node-other.result) (ap (option_map view_of) c.release_node-other.ensures.node) (node_map c.put_all.new.tree) c.put_all.ensures.nodes
 
 pub returns : goal.returns
 returns g c = record {
-  nodes = merges (node_map c.args.tree.now) c.args.siblings c.requires (node_map c.take_separator-down.new.tree) c.take_separator-down.result c.take_separator-down.ensures.nodes (node_map c.release_node-other.new.self) (loses c.take_separator-down.new.tree.nodes c.release_node-other.new.self.nodes c.args.siblings.right (nodes-of c.release_node-other.ensures.after)) (view_of c.release_node-other.result) (ap (option_map view_of) c.release_node-other.ensures.node) (node_map c.put_all.new.tree) c.put_all.ensures.nodes refl (node_map c.set_parents.new.tree) c.set_parents.ensures.nodes;
-  rest = then (then (then c.take_separator-down.ensures.rest (removed c.args.siblings.right c.release_node-other.ensures.after)) c.put_all.ensures.rest) c.set_parents.ensures.rest;
+  nodes = merges (node_map c.args.tree.now) c.args.siblings c.requires (node_map c.take_separator-down.new.tree) c.take_separator-down.result c.take_separator-down.ensures.nodes (node_map c.release_node-other.new.self) (loses c.take_separator-down.new.tree.nodes c.release_node-other.new.self.nodes c.args.siblings.right (nodes-of c.release_node-other.ensures.after)) (view_of c.release_node-other.result) (ap (option_map view_of) c.release_node-other.ensures.node) (node_map c.put_all.new.tree) c.put_all.ensures.nodes refl (node_map c.reparent_children.new.tree) c.reparent_children.ensures.nodes;
+  rest = then (then (then c.take_separator-down.ensures.rest (removed c.args.siblings.right c.release_node-other.ensures.after)) c.put_all.ensures.rest) c.reparent_children.ensures.rest;
 }

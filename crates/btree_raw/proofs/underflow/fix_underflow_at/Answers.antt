@@ -1,5 +1,5 @@
 use Rattle.std.proofs.Common.{arith, subst, rules}
-use Rattle.btree_shape.specs.UnderflowFix.{BorrowsFromSibling, MergesWithSibling}
+use Rattle.btree_shape.specs.UnderflowFix.{Borrows, MergesNode}
 use Rattle.btree_shape.specs.TreeState.{node_map}
 use Rattle.btree_raw.specs.Underflow.{PassesUnderflowUp, EndsUnderflow}
 use Rattle.btree_raw.proofs.UnderflowLemmas.{is-child, is-short, before-there, are-after, after-adjacent, after-there, after-left, after-up, after-lends, after-few, are-before, as-after, as-before, before-right, low-after, none-after, right-borrows, right-merges}
@@ -22,10 +22,10 @@ pub fix_underflow_with_left-requires-clause-number : goal.fix_underflow_with_lef
 fix_underflow_with_left-requires-clause-number g c = rw (before-right (node_map c.args.tree.now) c.args.id c.args.parent c.args.addr c.requires.followed c.requires.under c.siblings-before.result.0 c.siblings-before.result.1 c.siblings-before.ensures c.unwrap.result c.unwrap.ensures) c.requires.number
 
 pub returns-in_default-clause-borrows : goal.returns-in_default-clause-borrows
-returns-in_default-clause-borrows g c = λ yes. as-before (node_map c.args.tree.now) c.args.id c.args.parent c.args.addr c.requires.followed c.requires.under c.siblings-before.result.0 c.siblings-before.result.1 c.siblings-before.ensures c.unwrap.result c.unwrap.ensures (BorrowsFromSibling (node_map c.args.tree.now) (node_map c.fix_underflow_with_left.new.tree)) (c.fix_underflow_with_left.ensures.borrows yes (none-after (node_map c.args.tree.now) c.args.id c.args.parent c.args.addr c.requires.followed c.requires.under c.siblings-before.result.0 c.siblings-before.result.1 c.siblings-before.ensures c.unwrap.result c.unwrap.ensures c.in_default.is))
+returns-in_default-clause-borrows g c = λ yes. as-before (node_map c.args.tree.now) c.args.id c.args.parent c.args.addr c.requires.followed c.requires.under c.siblings-before.result.0 c.siblings-before.result.1 c.siblings-before.ensures c.unwrap.result c.unwrap.ensures (Borrows (node_map c.args.tree.now) (node_map c.fix_underflow_with_left.new.tree)) (c.fix_underflow_with_left.ensures.borrows yes (none-after (node_map c.args.tree.now) c.args.id c.args.parent c.args.addr c.requires.followed c.requires.under c.siblings-before.result.0 c.siblings-before.result.1 c.siblings-before.ensures c.unwrap.result c.unwrap.ensures c.in_default.is))
 
 pub returns-in_default-clause-merges : goal.returns-in_default-clause-merges
-returns-in_default-clause-merges g c = λ yes. as-before (node_map c.args.tree.now) c.args.id c.args.parent c.args.addr c.requires.followed c.requires.under c.siblings-before.result.0 c.siblings-before.result.1 c.siblings-before.ensures c.unwrap.result c.unwrap.ensures (MergesWithSibling (node_map c.args.tree.now) (node_map c.fix_underflow_with_left.new.tree)) (c.fix_underflow_with_left.ensures.merges yes (none-after (node_map c.args.tree.now) c.args.id c.args.parent c.args.addr c.requires.followed c.requires.under c.siblings-before.result.0 c.siblings-before.result.1 c.siblings-before.ensures c.unwrap.result c.unwrap.ensures c.in_default.is))
+returns-in_default-clause-merges g c = λ yes. as-before (node_map c.args.tree.now) c.args.id c.args.parent c.args.addr c.requires.followed c.requires.under c.siblings-before.result.0 c.siblings-before.result.1 c.siblings-before.ensures c.unwrap.result c.unwrap.ensures (MergesNode (node_map c.args.tree.now) (node_map c.fix_underflow_with_left.new.tree)) (c.fix_underflow_with_left.ensures.merges yes (none-after (node_map c.args.tree.now) c.args.id c.args.parent c.args.addr c.requires.followed c.requires.under c.siblings-before.result.0 c.siblings-before.result.1 c.siblings-before.ensures c.unwrap.result c.unwrap.ensures c.in_default.is))
 
 pub returns-in_default-clause-here : goal.returns-in_default-clause-here
 returns-in_default-clause-here g c = λ yes. as-before (node_map c.args.tree.now) c.args.id c.args.parent c.args.addr c.requires.followed c.requires.under c.siblings-before.result.0 c.siblings-before.result.1 c.siblings-before.ensures c.unwrap.result c.unwrap.ensures (λ q n. EndsUnderflow (node_map c.args.tree.now) (node_map c.fix_underflow_with_left.new.tree) n c.args.addr c.fix_underflow_with_left.result.0) (c.fix_underflow_with_left.ensures.here yes)
@@ -43,10 +43,10 @@ pub fix_underflow_with_left-requires-in-Some-before-clause-number : goal.fix_und
 fix_underflow_with_left-requires-in-Some-before-clause-number g c = rw (before-right (node_map c.args.tree.now) c.args.id c.args.parent c.args.addr c.requires.followed c.requires.under c.siblings-before.result.0 c.siblings-before.result.1 c.siblings-before.ensures c.in-Some-before.before c.in-Some-before.is) c.requires.number
 
 pub returns-in-Some-before-clause-borrows : goal.returns-in-Some-before-clause-borrows
-returns-in-Some-before-clause-borrows g c = λ yes. as-before (node_map c.args.tree.now) c.args.id c.args.parent c.args.addr c.requires.followed c.requires.under c.siblings-before.result.0 c.siblings-before.result.1 c.siblings-before.ensures c.in-Some-before.before c.in-Some-before.is (BorrowsFromSibling (node_map c.args.tree.now) (node_map c.fix_underflow_with_left-in-Some-before.new.tree)) (c.fix_underflow_with_left-in-Some-before.ensures.borrows yes (low-after (node_map c.args.tree.now) c.args.id c.args.parent c.args.addr c.requires.followed c.requires.under c.siblings-before.result.0 c.siblings-before.result.1 c.siblings-before.ensures c.in-Some-before.before c.in-Some-before.is c.in-Some.after c.count_of-held.result c.in-Some.is c.count_of-held.ensures.count (omega arith)))
+returns-in-Some-before-clause-borrows g c = λ yes. as-before (node_map c.args.tree.now) c.args.id c.args.parent c.args.addr c.requires.followed c.requires.under c.siblings-before.result.0 c.siblings-before.result.1 c.siblings-before.ensures c.in-Some-before.before c.in-Some-before.is (Borrows (node_map c.args.tree.now) (node_map c.fix_underflow_with_left-in-Some-before.new.tree)) (c.fix_underflow_with_left-in-Some-before.ensures.borrows yes (low-after (node_map c.args.tree.now) c.args.id c.args.parent c.args.addr c.requires.followed c.requires.under c.siblings-before.result.0 c.siblings-before.result.1 c.siblings-before.ensures c.in-Some-before.before c.in-Some-before.is c.in-Some.after c.count_of-held.result c.in-Some.is c.count_of-held.ensures.count (omega arith)))
 
 pub returns-in-Some-before-clause-merges : goal.returns-in-Some-before-clause-merges
-returns-in-Some-before-clause-merges g c = λ yes. as-before (node_map c.args.tree.now) c.args.id c.args.parent c.args.addr c.requires.followed c.requires.under c.siblings-before.result.0 c.siblings-before.result.1 c.siblings-before.ensures c.in-Some-before.before c.in-Some-before.is (MergesWithSibling (node_map c.args.tree.now) (node_map c.fix_underflow_with_left-in-Some-before.new.tree)) (c.fix_underflow_with_left-in-Some-before.ensures.merges yes (low-after (node_map c.args.tree.now) c.args.id c.args.parent c.args.addr c.requires.followed c.requires.under c.siblings-before.result.0 c.siblings-before.result.1 c.siblings-before.ensures c.in-Some-before.before c.in-Some-before.is c.in-Some.after c.count_of-held.result c.in-Some.is c.count_of-held.ensures.count (omega arith)))
+returns-in-Some-before-clause-merges g c = λ yes. as-before (node_map c.args.tree.now) c.args.id c.args.parent c.args.addr c.requires.followed c.requires.under c.siblings-before.result.0 c.siblings-before.result.1 c.siblings-before.ensures c.in-Some-before.before c.in-Some-before.is (MergesNode (node_map c.args.tree.now) (node_map c.fix_underflow_with_left-in-Some-before.new.tree)) (c.fix_underflow_with_left-in-Some-before.ensures.merges yes (low-after (node_map c.args.tree.now) c.args.id c.args.parent c.args.addr c.requires.followed c.requires.under c.siblings-before.result.0 c.siblings-before.result.1 c.siblings-before.ensures c.in-Some-before.before c.in-Some-before.is c.in-Some.after c.count_of-held.result c.in-Some.is c.count_of-held.ensures.count (omega arith)))
 
 pub returns-in-Some-before-clause-here : goal.returns-in-Some-before-clause-here
 returns-in-Some-before-clause-here g c = λ yes. as-before (node_map c.args.tree.now) c.args.id c.args.parent c.args.addr c.requires.followed c.requires.under c.siblings-before.result.0 c.siblings-before.result.1 c.siblings-before.ensures c.in-Some-before.before c.in-Some-before.is (λ q n. EndsUnderflow (node_map c.args.tree.now) (node_map c.fix_underflow_with_left-in-Some-before.new.tree) n c.args.addr c.fix_underflow_with_left-in-Some-before.result.0) (c.fix_underflow_with_left-in-Some-before.ensures.here yes)

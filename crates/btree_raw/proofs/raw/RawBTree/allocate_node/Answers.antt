@@ -1,17 +1,17 @@
-use Rattle.btree_raw.proofs.RawLemmas.{adopts, can-set_parents}
+use Rattle.btree_raw.proofs.RawLemmas.{adopts, can-reparent_children}
 use Rattle.btree_raw.proofs.StateLemmas.{inserted, nodes-of, then}
 use Rattle.btree_raw.proofs.raw.RawBTree.allocate_node.Goals as goal
 use Rattle.std.proofs.lemmas.Grind.{common_steps}
 use Rattle.std.proofs.Common.{arith, rules}
 
-pub set_parents-requires : goal.set_parents-requires
-set_parents-requires g c = can-set_parents c.args.self.now.nodes c.in-Ok.id c.args.node c.in-Ok.ensures.unused c.requires c.store_node.new.self.nodes (nodes-of c.in-Ok.ensures.stored)
+pub reparent_children-requires : goal.reparent_children-requires
+reparent_children-requires g c = can-reparent_children c.args.self.now.nodes c.in-Ok.id c.args.node c.in-Ok.ensures.unused c.requires c.store_node.new.self.nodes (nodes-of c.in-Ok.ensures.stored)
 
 pub returns-in-Ok-clause-gained : goal.returns-in-Ok-clause-gained
 returns-in-Ok-clause-gained g c = record {
   vacant = c.in-Ok.ensures.unused;
-  adopted = adopts c.args.self.now.nodes c.in-Ok.id c.args.node c.in-Ok.ensures.unused c.requires c.store_node.new.self.nodes (nodes-of c.in-Ok.ensures.stored) c.set_parents.new.tree.nodes c.set_parents.ensures.nodes;
-  rest = then (inserted c.in-Ok.id c.args.node c.in-Ok.ensures.stored) c.set_parents.ensures.rest;
+  adopted = adopts c.args.self.now.nodes c.in-Ok.id c.args.node c.in-Ok.ensures.unused c.requires c.store_node.new.self.nodes (nodes-of c.in-Ok.ensures.stored) c.reparent_children.new.tree.nodes c.reparent_children.ensures.nodes;
+  rest = then (inserted c.in-Ok.id c.args.node c.in-Ok.ensures.stored) c.reparent_children.ensures.rest;
 }
 
 pub returns-in-Ok-clause-number : goal.returns-in-Ok-clause-number

@@ -1,7 +1,7 @@
 use Rattle.btree_shape.proofs.Trees.Stores.{used-view}
 use Rattle.btree_raw.proofs.ParentLemmas.{still-used, index-below, child-used, child-adopted}
 use Rattle.btree_raw.proofs.StateLemmas.{then}
-use Rattle.btree_raw.proofs.nodes.set_parents.Goals as goal
+use Rattle.btree_raw.proofs.nodes.reparent_children.Goals as goal
 use Rattle.std.proofs.lemmas.Grind.{common_steps}
 use Rattle.std.proofs.Common.{arith, rules, true}
 
