@@ -15,7 +15,7 @@ use Rattle.btree_view.specs.View.{View, leaf, internal, children_of, most_of, si
 use Rattle.btree_shape.specs.Lists.{times_listed}
 use Rattle.btree_shape.specs.TreeState.{views}
 use Rattle.btree_shape.proofs.Trees.Numbers.{same-or}
-use Rattle.btree_raw.specs.Steps.{AddsItem, CanInsertSeparator, CanTake, InsertsSeparator}
+use Rattle.btree_raw.specs.Steps.{AddsItem, CanAddSeparator, CanTake, AddsSeparator}
 use Rattle.btree_shape.proofs.Paths.Frames.{one-other}
 use Rattle.btree_shape.proofs.Places.Untouched.{other-test, same-test}
 
@@ -41,7 +41,7 @@ pub one-more : {A : Type 0} (v : View A) → IsTrue (is_internal v) → (length 
 one-more (leaf parent items) inner = absurd (cc)
 one-more {A} (internal parent first bs) inner = (let a = length-map {A = A × ℕ} {B = A} bs (λ b. b.0) in let b = length-map {A = A × ℕ} {B = ℕ} bs (λ b. b.1) in omega arith, refl)
 
-module _ {K V : Type 0} (nodes : Content (Node K V)) (above id : ℕ) (can : CanInsertSeparator (views nodes) above id) where
+module _ {K V : Type 0} (nodes : Content (Node K V)) (above id : ℕ) (can : CanAddSeparator (views nodes) above id) where
   pub above-used : IsSome (map.get nodes above)
   above-used = at (map.get nodes above) can.here
     where
@@ -73,7 +73,7 @@ module _ {K V : Type 0} (nodes : Content (Node K V)) (above id : ℕ) (can : Can
           kind = sym can.inner;
         }
 
-        pub inserts : (new : Content (Node K V)) (x : K × V) (right : ℕ) → AddsItem (views nodes) (views new) above index x (Some right) → InsertsSeparator (views nodes) (views new) above id right index x
+        pub inserts : (new : Content (Node K V)) (x : K × V) (right : ℕ) → AddsItem (views nodes) (views new) above index x (Some right) → AddsSeparator (views nodes) (views new) above id right index x
         inserts new x right added = record {
           node = can.node;
           here = can.here;

@@ -23,7 +23,7 @@ use Rattle.btree_shape.proofs.Paths.Frames.{one-self}
 use Rattle.btree_shape.proofs.Splits.Upward.{UpTo, child-apart, child-used, grows-done, grows-node, grows-spare, grows-used, new-root, root-spare, spare-apart, spare-used, to-parent}
 use Rattle.btree_shape.proofs.Trees.Numbers.{less-or, none-listed, same-or, times-has, used-low, used-mapped, used-one, zero-or}
 use Rattle.btree_shape.proofs.Trees.Sizes.{view-most, view-size}
-use Rattle.btree_raw.specs.Steps.{AreSplit, CanInsertSeparator, CanGrowRoot, CanSplitInto, IsSplitting, HasCount, InsertsSeparator}
+use Rattle.btree_raw.specs.Steps.{AreSplit, CanAddSeparator, CanGrowRoot, CanSplitInto, IsSplitting, HasCount, AddsSeparator}
 use Rattle.btree_raw.proofs.SeparatorLemmas.{one-more}
 use Rattle.btree_raw.proofs.OffsetLemmas.{grows-low}
 
@@ -174,7 +174,7 @@ module _ (A : Type 0) (old now : NodeMap A) (root : Option ℕ) (start id : ℕ)
             to : UpTo A now s.top s.xs id rest s.asked b s.place (s.gained + c.taken) s.bound here v e lt more j ps.0 ps.1 mid x sp p
             to = to-parent A now s.top s.xs id rest s.asked b s.place (s.gained + c.taken) s.bound here v e lt more j ps.0 ps.1 mid x sp p up
 
-            pub split_need-insert_separator : CanInsertSeparator mid p id
+            pub split_need-insert_separator : CanAddSeparator mid p id
             split_need-insert_separator = record {
               node = to.node;
               here = to.here;
@@ -183,7 +183,7 @@ module _ (A : Type 0) (old now : NodeMap A) (root : Option ℕ) (start id : ℕ)
               child = get-times (children_of to.node) to.index id to.child;
             }
 
-            pub split_need-next : (new : NodeMap A) (k : ℕ) → InsertsSeparator mid new p id j k x → Climbs A old new root start p spare more a (moved_by_split id j p k kept b)
+            pub split_need-next : (new : NodeMap A) (k : ℕ) → AddsSeparator mid new p id j k x → Climbs A old new root start p spare more a (moved_by_split id j p k kept b)
             split_need-next new k l = record {
               taken = suc c.taken;
               counted = let q = c.counted in let f = ps.1 in omega arith;

@@ -68,7 +68,7 @@ module _ {A : Type 0} (node_at : NodeMap A) where
   HasCount id count = option_map size_of (node_at id) ≡ Some count
 
   -- node `above` is an internal node with room for an item, and node `id` is one of its children
-  pub record CanInsertSeparator (above id : ℕ) : Type 0 where
+  pub record CanAddSeparator (above id : ℕ) : Type 0 where
     pub node : View A
     pub here : node_at above ≡ Some node
     pub inner : IsTrue (is_internal node)
@@ -76,7 +76,7 @@ module _ {A : Type 0} (node_at : NodeMap A) where
     pub child : 0 < times_listed id (children_of node)
 
   -- node `above` has the item at the index of its child `id`, and node `right` as the child after it; nothing else has changed
-  pub record InsertsSeparator (new : NodeMap A) (above id right index : ℕ) (x : A) : Type 0 where
+  pub record AddsSeparator (new : NodeMap A) (above id right index : ℕ) (x : A) : Type 0 where
     pub node : View A
     pub here : node_at above ≡ Some node
     pub child : slice_get (children_of node) index ≡ Some id

@@ -2,7 +2,7 @@
 ghost use Rattle.std.specs.Prelude.{◌≡◌, ◌<◌, ◌≤◌, ◌∷◌, ◌++◌, [], All, IsSome, length};
 ghost use Rattle.btree_shape.specs.Step.{Splits, GrowsRoot};
 ghost use Rattle.btree_shape.specs.TreeState.{Changes, node_map};
-ghost use Rattle.btree_raw.specs.Steps.{CanSplitInto, CanGrowRoot, HasCount, CanInsertSeparator, InsertsSeparator, IsSplitting, SplitsUpward};
+ghost use Rattle.btree_raw.specs.Steps.{CanSplitInto, CanGrowRoot, HasCount, CanAddSeparator, AddsSeparator, IsSplitting, SplitsUpward};
 
 use crate::claims::ClaimedIds;
 use crate::nodes::{add_item, put, set_parent, reparent_children, split_node};
@@ -55,8 +55,8 @@ fn insert_separator<K: Drop, V: Drop, C: NodesMut<K, V>>(
     median: Item<K, V>,
     right: usize,
 ) -> usize
-    requires { CanInsertSeparator (node_map tree.old) above id }
-    ensures inserts { Changes (λ a b. InsertsSeparator a b above id right result median) tree.old tree.new }
+    requires { CanAddSeparator (node_map tree.old) above id }
+    ensures adds { Changes (λ a b. AddsSeparator a b above id right result median) tree.old tree.new }
     ensures few { result ≤ INTERNAL_SLOTS }
 {
     tree.tell_fits();

@@ -16,8 +16,8 @@ add_item-requires g c =
     can-take c.args.tree.now.nodes c.args.above c.args.id c.requires c.node.result.now c.node.ensures.value c.child_index.result c.child_index.ensures.value
     c.unwrap-index.result c.unwrap-index.ensures c.args.right
 
-pub returns-clause-inserts : goal.returns-clause-inserts
-returns-clause-inserts g c = record {
+pub returns-clause-adds : goal.returns-clause-adds
+returns-clause-adds g c = record {
   nodes =
       inserts c.args.tree.now.nodes c.args.above c.args.id c.requires c.node.result.now c.node.ensures.value c.child_index.result c.child_index.ensures.value
       c.unwrap-index.result c.unwrap-index.ensures c.add_item.new.tree.nodes c.args.median c.args.right c.add_item.ensures.nodes;

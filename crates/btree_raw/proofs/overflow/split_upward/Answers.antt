@@ -125,8 +125,8 @@ loop-tree-preserved g c =
           (split_need-next _ (node_map c.args.tree.now) (node_map c.loop-tree.tree) c.args.tree.now.root c.args.start c.loop-tree.id c.args.claims.now.items c.loop-tree.claims.items c.args.addr c.loop-tree.at c.requires.splitting c.loop-tree.invariant.climbs
           (view_of c.node.result.now) (ap (option_map view_of) c.node.ensures.value) (is-over (view_of c.node.result.now) c.loop-tree-test.ensures)
           c.take_claim-right.new.claims.items c.take_claim-right.result c.take_claim-right.ensures (node_map c.split_at-kept.new.tree) c.split_at-kept.result.1 c.split_at-kept.result.0 c.split_at-kept.ensures.splits.nodes c.split_at-kept.ensures.left
-          c.in-Some.above (same-parent c.loop-tree.tree.nodes c.loop-tree.id c.node.result.now c.node-in-loop-tree.result.now c.node.ensures.value c.node-in-loop-tree.ensures.value c.parent-parent.result c.parent-parent.ensures.value (Some c.in-Some.above) c.in-Some.is) (node_map c.insert_separator-index.new.tree) c.insert_separator-index.result c.insert_separator-index.ensures.inserts.nodes);
-      rest = then (then c.loop-tree.invariant.rest c.split_at-kept.ensures.splits.rest) c.insert_separator-index.ensures.inserts.rest;
+          c.in-Some.above (same-parent c.loop-tree.tree.nodes c.loop-tree.id c.node.result.now c.node-in-loop-tree.result.now c.node.ensures.value c.node-in-loop-tree.ensures.value c.parent-parent.result c.parent-parent.ensures.value (Some c.in-Some.above) c.in-Some.is) (node_map c.insert_separator-index.new.tree) c.insert_separator-index.result c.insert_separator-index.ensures.adds.nodes);
+      rest = then (then c.loop-tree.invariant.rest c.split_at-kept.ensures.splits.rest) c.insert_separator-index.ensures.adds.rest;
     }
 
 pub returns-clause-split : goal.returns-clause-split
