@@ -1,5 +1,5 @@
 -- A climb that mends nodes with too few items: one step of it between two siblings, and what whoever followed an address knows then.
-use Rattle.std.specs.Prelude.{◌≡◌, ℕ, suc, ◌+◌, ◌<◌, ◌≤◌, ◌⊎◌, List, length, Option, Some, None, option_map, Bool, true, false}
+use Rattle.std.specs.Prelude.{◌-◌, ◌*◌, ◌≡◌, ℕ, suc, ◌+◌, ◌<◌, ◌≤◌, ◌⊎◌, List, length, Option, Some, None, option_map, Bool, true, false}
 use Rattle.btree_item.specs.declared.TheConstants.{MIN_ITEMS}
 use Rattle.btree_item.specs.declared.address.Address.{Address}
 use Rattle.btree_view.specs.View.{View, NodeMap, children_of, parent_of, size_of}
