@@ -27,7 +27,7 @@ module _ {A : Type 0} (node_at : NodeMap A) where
     pub over : IsOverflowing node
 
   -- node `id` is there, and so are its children, none of which is the node itself
-  pub record CanSetParents (id : ℕ) : Type 0 where
+  pub record CanReparent (id : ℕ) : Type 0 where
     pub used : 0 < times_used (node_at id)
     pub children : (n : ℕ) → 0 < times_listed n (children_in (node_at id)) → 0 < times_used (node_at n)
     pub apart : times_listed id (children_in (node_at id)) ≡ 0

@@ -13,7 +13,8 @@ use Rattle.btree_shape.specs.Focus.Search.{IsSearching, levels_below}
 use Rattle.btree_shape.specs.Focus.Shape.{IsFilled, Shape, count_at, id_of, items_under, later_items, view_at}
 use Rattle.btree_shape.specs.Focus.Path.{Path, Frame, after_in, at_branch, at_first, before_in, fill, frame_id, items_after, items_before, least_at, parent_above, top, under}
 use Rattle.btree_shape.specs.WellFormed.{IsRooted, IsSized}
-use Rattle.btree_shape.specs.Focus.Focus.{IsFocus}
+use Rattle.btree_shape.specs.Focus.Focus.{HasFocus, IsFocus}
+use Rattle.btree_shape.specs.Focus.Node.{IsNode}
 use Rattle.btree_shape.proofs.Paths.Frames.{AllByRecursion-append, AllByRecursion-right, fill-id, fill-items, top-view}
 use Rattle.btree_shape.proofs.Trees.Heights.{height-fits, levels-is}
 use Rattle.btree_shape.proofs.Paths.FromRoot.{rooted-tree, standing-rooted}
@@ -132,17 +133,11 @@ module _ {K V : Type 0} (cmp : K → K → Ordering) where
     go-down h f c t w z low high =
         let d = descend A node_at [] root xs h f c t w z in
         let e = height-fits A c (fill f t) w z in
+        let seen : HasFocus A node_at [] root xs (id_of A h t) =
+        record { height = h; path = under f c; shape = t; here = refl; whole = d.0; } in
+        let node : IsNode A node_at root xs (id_of A h t) = record { seen = seen; sized = d.1; } in
         record {
-          next = record {
-            node =
-                record {
-                  seen = record { height = h; path = under f c; shape = t; here = refl; whole = d.0 };
-                  sized =
-                      d.1;
-                };
-            low = low;
-            high = high;
-          };
+          next = record { node = node; low = low; high = high; };
           smaller =
               let u = levels-is A node_at h (length xs) (Some (frame_id f)) t (omega arith) d.0.inner in
               let v = levels-is A node_at (suc h) (length xs) (parent_above c) (fill f t) (omega arith) w.inner in

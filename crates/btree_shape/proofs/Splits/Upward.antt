@@ -15,7 +15,8 @@ use Rattle.btree_shape.specs.Strain.{strain_of}
 use Rattle.btree_shape.specs.Focus.Positions.{IsAt, all_positions}
 use Rattle.btree_shape.specs.Focus.Path.{Path, Frame, at_branch, at_first, fill_two, frame_count, frame_id, frame_index, frame_view, parent_above, top, under}
 use Rattle.btree_shape.specs.WellFormed.{times_used}
-use Rattle.btree_shape.specs.Focus.Focus.{IsFocus}
+use Rattle.btree_shape.specs.Focus.Focus.{HasFocus, IsFocus}
+use Rattle.btree_shape.specs.Focus.Node.{IsNode}
 use Rattle.btree_shape.proofs.Paths.Parents.{index-fits, index-here, index-is}
 use Rattle.btree_shape.proofs.Paths.Frames.{one-self, one-zero, times_in-is, top-view, total-append}
 use Rattle.btree_shape.proofs.Paths.Used.{less-no, less-yes}
@@ -111,22 +112,17 @@ module _ (A : Type 0) where
           let s = size-is in
           let l = most-is in
           let c : count_at A g.seen.height g.seen.shape ≤ most_at g.seen.height = omega arith in
+          let seen : HasFocus A node_at [] root xs id =
           record {
-            id = id;
-            node = record {
-              seen = record {
-                height = g.seen.height;
-                path = g.seen.path;
-                shape = g.seen.shape;
-                here = g.seen.here;
-                whole = respare A node_at spare [] root xs g.seen.height g.seen.path g.seen.shape
-                    (none-listed spare (g.none c)) g.seen.whole;
-              };
-              sized = (g.low, c);
-            };
-            there = g.there;
-            paid = g.paid;
-          }
+            height = g.seen.height;
+            path = g.seen.path;
+            shape = g.seen.shape;
+            here = g.seen.here;
+            whole = respare A node_at spare [] root xs g.seen.height g.seen.path g.seen.shape
+                (none-listed spare (g.none c)) g.seen.whole;
+          } in
+          let node : IsNode A node_at root xs id = record { seen = seen; sized = (g.low, c); } in
+          record { id = id; node = node; there = g.there; paid = g.paid; }
 
       pub grows-over : most_of v < size_of v → count_at A g.seen.height g.seen.shape ≡ suc (most_at g.seen.height)
       grows-over lt = let s = size-is in let l = most-is in let u = g.high in omega arith
@@ -311,15 +307,10 @@ module _ (A : Type 0) where
                       let st = split-strain A h l x r f c jn q.right_count in
                       let st2 : strain_of A h (under f c) t ≡ strain_of A h (under f c) (join A h l x r) =
                       ap (strain_of A h (under f c)) q.joined in
+                      let seen : HasFocus A new rest root xs (frame_id f) =
+                      record { height = suc h; path = c; shape = fill_two f l x r; here = fill_two-id A h f l x r; whole = w'; } in
                       record {
-                        seen = record {
-                          height = suc h;
-                          path = c;
-                          shape = fill_two f l x r;
-                          here =
-                              fill_two-id A h f l x r;
-                          whole = w';
-                        };
+                        seen = seen;
                         low = omega arith;
                         high = omega arith;
                         enough = λ full. let y = less-no (frame_count f) 7 0 (path_need c) (omega arith) in omega arith;
@@ -373,12 +364,7 @@ module _ (A : Type 0) where
                   let st = split-root-strain A h l x b r jn k.right_count in
                   let st2 : strain_of A h top t ≡ strain_of A h top (join A h l x b) =
                   ap (strain_of A h top) k.joined in
-                  record {
-                    id = r;
-                    node = record {
-                      seen = record { height = suc h; path = top; shape = (r, l, (x, b) ∷ []); here = refl; whole = w2 };
-                      sized = (omega arith, omega arith);
-                    };
-                    there = carried2;
-                    paid = omega arith;
-                  }
+                  let seen : HasFocus A new [] r xs r =
+                  record { height = suc h; path = top; shape = (r, l, (x, b) ∷ []); here = refl; whole = w2; } in
+                  let node : IsNode A new r xs r = record { seen = seen; sized = (omega arith, omega arith); } in
+                  record { id = r; node = node; there = carried2; paid = omega arith; }

@@ -17,7 +17,8 @@ use Rattle.btree_shape.specs.Strain.{strain_of}
 use Rattle.btree_shape.specs.Focus.Positions.{IsAt, positions, all_positions}
 use Rattle.btree_shape.specs.Focus.Path.{Path, frame_id, frame_index, frame_view, least_at, parent_above, top, under}
 use Rattle.btree_shape.specs.WellFormed.{IsFormed, times_used}
-use Rattle.btree_shape.specs.Focus.Focus.{IsFocus}
+use Rattle.btree_shape.specs.Focus.Focus.{HasFocus, IsFocus}
+use Rattle.btree_shape.specs.Focus.Node.{IsNode}
 use Rattle.btree_shape.proofs.Paths.Parents.{index-fits, index-here}
 use Rattle.btree_shape.proofs.Paths.Frames.{one-self, top-view}
 use Rattle.btree_shape.proofs.Trees.Numbers.{times-own, used-low, used-one}
@@ -169,18 +170,12 @@ module _ (A : Type 0) (node_at : NodeMap A) (root : ℕ) (xs : List A) (id : ℕ
                   let w2 = subst (λ z. IsFocus A node_at [] z xs (suc h) top (n, u, [])) (sym root_is) w in
                   let r2 = subst (λ z. ShrinksRoot node_at new z (id_of A h u)) (sym here) r in
                   let there = release-places A h n u sum asked a place th in
+                  let seen : HasFocus A new [] (id_of A h u) xs (id_of A h u) =
+                  record { height = h; path = top; shape = u; here = refl; whole = released A node_at new xs n h u w2 (id_of A h u) r2; } in
+                  let node_is : IsNode A new (id_of A h u) xs (id_of A h u) = record { seen = seen; sized = (omega arith, below.1); } in
                   record {
                     id = id_of A h u;
-                    node = record {
-                      seen = record {
-                        height = h;
-                        path = top;
-                        shape = u;
-                        here = refl;
-                        whole = released A node_at new xs n h u w2 (id_of A h u) r2;
-                      };
-                      sized = (omega arith, below.1);
-                    };
+                    node = node_is;
                     there = subst (λ z. IsAt asked (moved_by_shrink_root z (id_of A h u) (size_of node) a)
                         (all_positions A h top u) place) here
                         (subst (λ z. IsAt asked (moved_by_shrink_root n (id_of A h u) z a) (all_positions A h top u) place)
