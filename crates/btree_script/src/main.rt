@@ -10,9 +10,10 @@ ghost use Rattle.btree_script.specs.Ending.{status_of, text_of};
 use btree_node::Node;
 use btree_session::{Session, Stop, drive};
 use btree_store::SlabStore;
+use std::env::FillError;
 use std::process::ExitCode;
 use std::rt::Env;
-use std::{env, fmt, io};
+use std::{fmt, io};
 
 /// How a run ended that did not come to the end of its input.
 #[derive(Clone, Copy, Debug, PartialEq, Eq)]
@@ -53,9 +54,9 @@ impl fmt::Display for Ending {
 }
 
 // No argument is taken, and one that cannot be read is one too many.
-fn check_arguments(rt: &(impl Env + Alloc)) -> Result<(), Ending> {
-    match env::args(rt).map(|words| words.skip(1).count()) {
-        Ok(0) => Ok(()),
+fn check_arguments(rt: &impl Env) -> Result<(), Ending> {
+    match rt.arg(1, &mut []) {
+        Err(FillError::NotPresent) => Ok(()),
         _ => Err(Ending::WrongArguments),
     }
 }

@@ -1,7 +1,6 @@
 ghost use Rattle.std.specs.Io.{WritesAtMost};
 
 use crate::{Ending, check_arguments};
-use std::alloc::Global;
 use std::env::{Env, FillError};
 use std::test::Fail;
 
@@ -32,19 +31,19 @@ impl Env for Words<'_> {
     }
 }
 
-fn ending_of(words: &[&str], alloc: Global) -> Option<Ending> {
-    check_arguments(&(Words { words }, alloc)).err()
+fn ending_of(words: &[&str]) -> Option<Ending> {
+    check_arguments(&Words { words }).err()
 }
 
 #[test]
 fn takes_no_argument(rt: HostRuntime) -> Result<(), Fail> {
-    assert_eq!(rt; ending_of(&["btree_script"], rt.alloc()), None);
+    assert_eq!(rt; ending_of(&["btree_script"]), None);
     for words in [
         ["btree_script", "table"].as_slice(),
         &["btree_script", ""],
         &["btree_script", "-", "commands.txt"],
     ] {
-        let Some(ending) = ending_of(words, rt.alloc()) else {
+        let Some(ending) = ending_of(words) else {
             return Err(Fail::from("taken"));
         };
         assert_eq!(rt;
