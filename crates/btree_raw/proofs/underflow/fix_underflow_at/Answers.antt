@@ -72,11 +72,11 @@ borrow_from_right-requires-clause-count g c = rw (after-left (node_map c.args.tr
 pub borrow_from_right-requires-clause-number : goal.borrow_from_right-requires-clause-number
 borrow_from_right-requires-clause-number g c = rw (after-left (node_map c.args.tree.now) c.args.id c.args.parent c.args.addr c.requires.followed c.requires.under c.siblings-before.result.0 c.siblings-before.result.1 c.siblings-before.ensures c.in-Some.after c.in-Some.is) c.requires.number
 
-pub returns-then-held-gt3-clause-borrows : goal.returns-then-held-gt3-clause-borrows
-returns-then-held-gt3-clause-borrows g c = λ yes. right-borrows (node_map c.args.tree.now) c.args.id c.args.parent c.args.addr c.requires.followed c.requires.under c.siblings-before.result.0 c.siblings-before.result.1 c.siblings-before.ensures c.in-Some.after c.count_of-held.result c.in-Some.is c.count_of-held.ensures.count (node_map c.borrow_from_right.new.tree) (omega arith) c.borrow_from_right.ensures.rotates.nodes
+pub returns-then-held-gt-MIN_ITEMS-clause-borrows : goal.returns-then-held-gt-MIN_ITEMS-clause-borrows
+returns-then-held-gt-MIN_ITEMS-clause-borrows g c = λ yes. right-borrows (node_map c.args.tree.now) c.args.id c.args.parent c.args.addr c.requires.followed c.requires.under c.siblings-before.result.0 c.siblings-before.result.1 c.siblings-before.ensures c.in-Some.after c.count_of-held.result c.in-Some.is c.count_of-held.ensures.count (node_map c.borrow_from_right.new.tree) (omega arith) c.borrow_from_right.ensures.rotates.nodes
 
-pub returns-then-held-gt3-clause-here : goal.returns-then-held-gt3-clause-here
-returns-then-held-gt3-clause-here g c = λ yes. as-after (node_map c.args.tree.now) c.args.id c.args.parent c.args.addr c.requires.followed c.requires.under c.siblings-before.result.0 c.siblings-before.result.1 c.siblings-before.ensures c.in-Some.after c.in-Some.is (λ q n. EndsUnderflow (node_map c.args.tree.now) (node_map c.borrow_from_right.new.tree) n c.args.addr c.borrow_from_right.result) c.borrow_from_right.ensures.here
+pub returns-then-held-gt-MIN_ITEMS-clause-here : goal.returns-then-held-gt-MIN_ITEMS-clause-here
+returns-then-held-gt-MIN_ITEMS-clause-here g c = λ yes. as-after (node_map c.args.tree.now) c.args.id c.args.parent c.args.addr c.requires.followed c.requires.under c.siblings-before.result.0 c.siblings-before.result.1 c.siblings-before.ensures c.in-Some.after c.in-Some.is (λ q n. EndsUnderflow (node_map c.args.tree.now) (node_map c.borrow_from_right.new.tree) n c.args.addr c.borrow_from_right.result) c.borrow_from_right.ensures.here
 
 pub merge_siblings-requires-clause-adjacent : goal.merge_siblings-requires-clause-adjacent
 merge_siblings-requires-clause-adjacent g c = (c.args.id, are-after (node_map c.args.tree.now) c.args.id c.args.parent c.args.addr c.requires.followed c.requires.under c.siblings-before.result.0 c.siblings-before.result.1 c.siblings-before.ensures c.in-Some.after c.in-Some.is)
@@ -105,17 +105,17 @@ returns-in_default-clause-rest g c = search rules steps 200000
 pub returns-in_default-clause-back : goal.returns-in_default-clause-back
 returns-in_default-clause-back g c = search rules steps 200000
 
-pub returns-then-held-gt3-clause-merges : goal.returns-then-held-gt3-clause-merges
-returns-then-held-gt3-clause-merges g c = grind (arith, common_steps) steps 300000
+pub returns-then-held-gt-MIN_ITEMS-clause-merges : goal.returns-then-held-gt-MIN_ITEMS-clause-merges
+returns-then-held-gt-MIN_ITEMS-clause-merges g c = grind (arith, common_steps) steps 300000
 
-pub returns-then-held-gt3-clause-above : goal.returns-then-held-gt3-clause-above
-returns-then-held-gt3-clause-above g c = grind (arith, common_steps) steps 300000
+pub returns-then-held-gt-MIN_ITEMS-clause-above : goal.returns-then-held-gt-MIN_ITEMS-clause-above
+returns-then-held-gt-MIN_ITEMS-clause-above g c = grind (arith, common_steps) steps 300000
 
-pub returns-then-held-gt3-clause-rest : goal.returns-then-held-gt3-clause-rest
-returns-then-held-gt3-clause-rest g c = search rules steps 200000
+pub returns-then-held-gt-MIN_ITEMS-clause-rest : goal.returns-then-held-gt-MIN_ITEMS-clause-rest
+returns-then-held-gt-MIN_ITEMS-clause-rest g c = search rules steps 200000
 
-pub returns-then-held-gt3-clause-back : goal.returns-then-held-gt3-clause-back
-returns-then-held-gt3-clause-back g c = search rules steps 200000
+pub returns-then-held-gt-MIN_ITEMS-clause-back : goal.returns-then-held-gt-MIN_ITEMS-clause-back
+returns-then-held-gt-MIN_ITEMS-clause-back g c = search rules steps 200000
 
 pub fix_underflow_with_left-requires-in-Some-before-clause-low :
     goal.fix_underflow_with_left-requires-in-Some-before-clause-low

@@ -20,8 +20,8 @@ borrow_from_left-requires-clause-giver g c = left-lends (node_map c.args.tree.no
 pub returns-clause-above : goal.returns-clause-above
 returns-clause-above g c = λ yes. c.merge_siblings.ensures.above c.args.siblings.right c.requires.adjacent
 
-pub returns-then-held-gt3-clause-borrows : goal.returns-then-held-gt3-clause-borrows
-returns-then-held-gt3-clause-borrows g c = λ yes none. left-borrows (node_map c.args.tree.now) c.args.siblings c.args.addr c.requires.adjacent c.count_of-held.result c.count_of-held.ensures.count none (node_map c.borrow_from_left.new.tree) (omega arith) c.borrow_from_left.ensures.rotates.nodes
+pub returns-then-held-gt-MIN_ITEMS-clause-borrows : goal.returns-then-held-gt-MIN_ITEMS-clause-borrows
+returns-then-held-gt-MIN_ITEMS-clause-borrows g c = λ yes none. left-borrows (node_map c.args.tree.now) c.args.siblings c.args.addr c.requires.adjacent c.count_of-held.result c.count_of-held.ensures.count none (node_map c.borrow_from_left.new.tree) (omega arith) c.borrow_from_left.ensures.rotates.nodes
 
 pub returns-clause-merges : goal.returns-clause-merges
 returns-clause-merges g c = λ yes none. left-merges (node_map c.args.tree.now) c.args.siblings c.args.addr c.requires.adjacent c.count_of-held.result c.count_of-held.ensures.count none (node_map c.merge_siblings.new.tree) (omega arith) c.merge_siblings.ensures.merges.nodes
@@ -41,20 +41,20 @@ borrow_from_left-requires-clause-count g c = search rules steps 200000
 pub borrow_from_left-requires-clause-low : goal.borrow_from_left-requires-clause-low
 borrow_from_left-requires-clause-low g c = search rules steps 200000
 
-pub returns-then-held-gt3-clause-merges : goal.returns-then-held-gt3-clause-merges
-returns-then-held-gt3-clause-merges g c = grind (arith, common_steps) steps 300000
+pub returns-then-held-gt-MIN_ITEMS-clause-merges : goal.returns-then-held-gt-MIN_ITEMS-clause-merges
+returns-then-held-gt-MIN_ITEMS-clause-merges g c = grind (arith, common_steps) steps 300000
 
-pub returns-then-held-gt3-clause-here : goal.returns-then-held-gt3-clause-here
-returns-then-held-gt3-clause-here g c = search rules steps 200000
+pub returns-then-held-gt-MIN_ITEMS-clause-here : goal.returns-then-held-gt-MIN_ITEMS-clause-here
+returns-then-held-gt-MIN_ITEMS-clause-here g c = search rules steps 200000
 
-pub returns-then-held-gt3-clause-above : goal.returns-then-held-gt3-clause-above
-returns-then-held-gt3-clause-above g c = grind (arith, common_steps) steps 300000
+pub returns-then-held-gt-MIN_ITEMS-clause-above : goal.returns-then-held-gt-MIN_ITEMS-clause-above
+returns-then-held-gt-MIN_ITEMS-clause-above g c = grind (arith, common_steps) steps 300000
 
-pub returns-then-held-gt3-clause-rest : goal.returns-then-held-gt3-clause-rest
-returns-then-held-gt3-clause-rest g c = search rules steps 200000
+pub returns-then-held-gt-MIN_ITEMS-clause-rest : goal.returns-then-held-gt-MIN_ITEMS-clause-rest
+returns-then-held-gt-MIN_ITEMS-clause-rest g c = search rules steps 200000
 
-pub returns-then-held-gt3-clause-back : goal.returns-then-held-gt3-clause-back
-returns-then-held-gt3-clause-back g c = search rules steps 200000
+pub returns-then-held-gt-MIN_ITEMS-clause-back : goal.returns-then-held-gt-MIN_ITEMS-clause-back
+returns-then-held-gt-MIN_ITEMS-clause-back g c = search rules steps 200000
 
 pub merge_siblings-requires-clause-count : goal.merge_siblings-requires-clause-count
 merge_siblings-requires-clause-count g c = search rules steps 200000
