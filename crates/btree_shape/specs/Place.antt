@@ -10,13 +10,13 @@ abbrev pub NOWHERE : ℕ
 NOWHERE = 2 ^ 64 - 1
 
 module _ {A : Type 0} (node_at : NodeMap A) where
-  -- node `id` is a node whose subtree spells the list
+  -- node `id` is a node whose subtree represents the list
   pub record IsSubtree (id : ℕ) (ys : List A) : Type 0 where
     pub height : ℕ
     pub parent : Option ℕ
     pub represents : Represents node_at height parent id ys
 
-  -- the items of the subtree of node `id` stand in the list behind `before` others
+  -- the items of the subtree of node `id` stand in the list after `before` others
   pub record StandsAt (xs : List A) (id : ℕ) (ys : List A) (before : ℕ) : Type 0 where
     pub front : List A
     pub back : List A
@@ -63,11 +63,11 @@ module _ {A : Type 0} (node_at : NodeMap A) where
   IsEnd None offset = ⊥
   IsEnd (Some node) offset = offset ≡ size_of node
 
-  -- at -1: as many items as come before the subtree
+  -- at -1: the number of items before the subtree
   abbrev pub IsPlaceBefore : List A → ℕ → ℕ → Type 0
   IsPlaceBefore xs id place = (ys : List A) × StandsAt xs id ys place
 
-  -- past the last item: these, and those of the subtree
+  -- past the last item: that number, and the number of items of the subtree
   abbrev pub IsPlaceAfter : List A → ℕ → ℕ → Type 0
   IsPlaceAfter xs id place = (ys : List A) × (before : ℕ) × StandsAt xs id ys before × (place ≡ before + length ys)
 
