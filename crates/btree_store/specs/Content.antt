@@ -12,7 +12,7 @@ Content T = FinMap nat_cmp T
 abbrev pub Gains : {T : Type 0} → (old new : Content T) → T → ℕ → Type 0
 Gains old new value id = new ≡ insert old id value
 
--- once the borrow r ends, the value under the number is the last one written through r; at `None` nothing changes
+-- once the borrow r ends, the value under the number is the last one that r pointed to; at `None` nothing changes
 abbrev pub lends_under : (S T : RattleType) → (S.Denot → ℕ → T.Denot → S.Denot) → MutBor S.Denot → ℕ → Option (MutBor T.Denot) → Fml
 lends_under S T written store id r = LendsIf S T store r (written store.now id) store.now
 
