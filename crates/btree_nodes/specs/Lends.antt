@@ -1,4 +1,4 @@
--- What a store of nodes ends as, where a `&mut` into it is returned.
+-- A store of nodes after a `&mut` into it has ended.
 use Rattle.std.specs.Prelude.{ℕ, Option}
 use Rattle.std.specs.Borrow.{Fml, RattleType, MutBor}
 use Rattle.btree_node.specs.declared.node.Node.{Node}
