@@ -21,7 +21,7 @@ reply_text (Refused cause) = codes "refused " ++ cause_text cause
 abbrev pub Pushes : {X Z : Type 0} → (old new : Vec X Z) → List X → Type 0
 Pushes old new more = new.items ≡ old.items ++ more
 
--- a vector that can hold `n` more values without more memory
+-- a vector that can hold `count` more values without more memory
 abbrev pub HasCapacityFor : {X Z : Type 0} → Vec X Z → ℕ → Type 0
 HasCapacityFor values count = vec_len values + count ≤ vec_capacity values
 
