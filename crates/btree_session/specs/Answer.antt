@@ -1,4 +1,5 @@
 -- What is printed for a question about the map.
+-- The bound on the levels in `answer_text` loses nothing of a well formed tree (`is-answer` in `proofs/Shapes.antt`).
 use Rattle.std.specs.Prelude.{◌≡◌, ℕ, zero, suc, List, [], ◌∷◌, ◌++◌, length, map, Option, Some, None, Vec, codes}
 use Rattle.std.specs.FinMap as finite
 use Rattle.std.specs.Fmt.{decimal}

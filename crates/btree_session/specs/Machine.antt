@@ -1,4 +1,5 @@
 -- A session as a machine: the replies that it may give to a command, and its state after each.
+-- Only a refusal by the store changes the count of refusals. A refusal with the cause `Count` changes nothing at all.
 use Rattle.std.specs.Prelude.{◌≡◌, ℕ, ◌+◌, ◌-◌, ◌^◌, List, [], ◌∷◌, length, insert, Option, Some, None, Vec}
 use Rattle.std.specs.Ordering.{nat_cmp}
 use Rattle.btree_item.specs.Pairs.{found, found_value, before, with_value}

@@ -1,4 +1,7 @@
 -- What driving a session with lines of text does.
+-- A text is served to its end, or up to the first line that is neither a command nor a question, whose number, counted
+-- from 1, is returned; if memory, the reader or the writer fails, only some of the lines are served. The bytes of the
+-- writer have grown by what was printed, unless the writer failed.
 use Rattle.std.specs.Prelude.{◌≡◌, ℕ, ◌+◌, ◌<◌, Bool, List, [], ◌∷◌, ◌++◌, length, Option, Some, Result, Ok, Err, IfSome, ⊤, ◌==◌, ◌⊎◌, Vec}
 use Rattle.std.specs.List.{slice_split}
 use Rattle.std.specs.Io.BufRead.{take_through, drop_through, strip_last}

@@ -1,4 +1,7 @@
 -- Laws of the lists of addresses of a tree.
+-- There are as many occupied addresses as items, so an index below the number of items is the place of exactly one of
+-- them (`one-occupied` in `proofs/AddressLists/ItemAddresses.antt`). There is one more back address in leaves than
+-- items, so a place has exactly one back address in a leaf (`one-leaf-back` in `proofs/AddressLists/LeafBacks.antt`).
 use Rattle.std.specs.Prelude.{◌≡◌, ℕ, suc, ◌+◌, ◌<◌, ◌≤◌, List, [], length, slice_get, Option, Some, None}
 use Rattle.btree_item.specs.declared.address.Address.{Address}
 use Rattle.btree_view.specs.View.{NodeMap, View, size_of}

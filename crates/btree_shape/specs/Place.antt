@@ -1,4 +1,8 @@
 -- The addresses of a tree, their kinds, and their places in its list.
+-- In the empty tree nowhere is the only valid address. The other kinds (occupied, back, leaf address) are meant for
+-- valid addresses. In a tree that is well formed, or off by one at a node, each address in a node has a place
+-- (`has_place` in `proofs/Places/HasPlace.antt`), and only one (`one_place` and `one_place-well` in
+-- `proofs/Places/OnePlace.antt`).
 use Rattle.std.specs.Prelude.{◌≡◌, ℕ, ◌+◌, ◌^◌, ◌-◌, ◌≤◌, ◌⊎◌, List, ◌++◌, length, slice_get, Option, Some, None}
 use Rattle.std.specs.Option.{option_and_then}
 use Rattle.btree_item.specs.declared.address.Address.{Address}

@@ -1,4 +1,9 @@
 -- The list that the nodes under numbers represent.
+-- The children of an internal node name it as their parent and are one level lower. A leaf alone has height 0 and one
+-- level: a tree has one level more than the height of its root. Each level has a node of its own, so the number of
+-- nodes bounds the levels (`height_held` in `proofs/Trees/States.antt`), also in a tree whose length or whose numbers
+-- of items are wrong. With one level more than the height, `represented` is the list of the relation (`represented-is`
+-- in `proofs/Trees/Represented.antt`).
 use Rattle.std.specs.Prelude.{◌≡◌, ℕ, zero, suc, List, [], ◌∷◌, ◌++◌, map, Option, Some, None}
 use Rattle.std.specs.List.{flat_map, AllByRecursion}
 use Rattle.btree_view.specs.View.{View, leaf, internal, NodeMap, children_in}

@@ -1,5 +1,10 @@
 -- Strain, a potential: how near the nodes of a tree are to a split or a merge. It bounds the nodes that later steps
 -- allocate or free.
+-- In an insertion and its splits, the nodes allocated and the strain afterwards are together at most the strain before,
+-- plus one for the item that is inserted (`repaired-paid` in `proofs/Splits/Insertion.antt`). In rotations, merges and
+-- a shrunk root, the nodes freed and the strain afterwards are together at most the strain before, plus one for a root
+-- without items (`Beside` in `proofs/Underflow/Adjacent.antt`, `to-child` and `to-nothing` in
+-- `proofs/Underflow/Upward.antt`).
 use Rattle.std.specs.Prelude.{◌≡◌, ℕ, zero, suc, ◌+◌, ◌-◌, ◌==◌, if◌then◌else◌, List, length, Option, Some, None}
 use Rattle.btree_item.specs.declared.TheConstants.{MAX_INTERNAL_ITEMS, MAX_LEAF_ITEMS, MIN_ITEMS}
 use Rattle.btree_view.specs.View.{View, leaf, internal, NodeMap, size_of}

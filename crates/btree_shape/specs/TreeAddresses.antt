@@ -1,4 +1,6 @@
 -- The lists of addresses of a tree, as functions of its state. A tree has at most as many levels as nodes.
+-- `HasAddresses` holds for every well formed tree, whatever its length, and for every tree that is off by one at a node
+-- (`proofs/AddressLists/Whole.antt`).
 use Rattle.std.specs.Prelude.{◌≡◌, ℕ, suc, List, length, slice_get, Option, Some, None}
 use Rattle.std.specs.FinMap as map
 use Rattle.btree_item.specs.declared.address.Address.{Address}

@@ -1,4 +1,7 @@
 -- When a map of nodes is a B-tree.
+-- A leaf has 3 to 8 items and an internal node 3 to 7; the root has at least 1, and at most as many as its kind. The
+-- numbers under the root are exactly those in use, so a store holds nothing but the nodes of the tree. `IsOffByOne` is
+-- the state in which rebalancing begins; it leaves the length open, since a caller sets that apart from the nodes.
 use Rattle.std.specs.Prelude.{◌≡◌, ℕ, ◌+◌, ◌<◌, ◌≤◌, ◌==◌, if◌then◌else◌, List, [], length, Option, Some, None, IsSome}
 use Rattle.std.specs.declared.cmp.Ordering.{Ordering}
 use Rattle.btree_item.specs.declared.TheConstants.{MAX_LEVELS, MIN_ITEMS}

@@ -1,4 +1,5 @@
--- The content of a store.
+-- The content of a store: a finite map from numbers below `usize::MAX` to values. Its laws are the clauses of the
+-- traits in `src/traits.rt`. The content of a `SlabStore` is computed from the slots of the slab that it is built on.
 use Rattle.std.specs.Prelude.{◌≡◌, ℕ, ◌+◌, List, [], ◌∷◌, Option, Some, None}
 use Rattle.std.specs.Borrow.{LendsIf, Fml, RattleType, MutBor}
 use Rattle.std.specs.Ordering.{nat_cmp}

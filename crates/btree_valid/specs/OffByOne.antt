@@ -1,4 +1,9 @@
 -- What an in-order walk through the nodes of a tree of any content passes.
+-- The walk passes nodes in the order of their keys, and keeps the last key that it passed and how many nodes may still
+-- come. A part of the tree is passed if it represents its pairs at its height under its parent, each of its nodes has
+-- its number of items, but for one more or less at node `odd`, and the keys of its pairs, after those passed before,
+-- still ascend. A whole tree is passed from its root with as many nodes as the store has; that each number then occurs
+-- once follows from the parent numbers and the order of the keys.
 use Rattle.std.specs.Prelude.{◌≡◌, ℕ, ◌+◌, ◌<◌, ◌≤◌, suc, List, ◌++◌, length, Option, Some, None}
 use Rattle.std.specs.List.{AllByRecursion}
 use Rattle.std.specs.declared.cmp.Ordering.{Ordering}

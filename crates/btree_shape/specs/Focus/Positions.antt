@@ -1,4 +1,6 @@
--- The addresses of a tree in order, with the items between them.
+-- The positions of a tree: all its addresses in order, offset -1 of each node included, with a step over each item
+-- between them; so the place of an address is the number of items stepped over before it. `proofs/Places/OfTree.antt`
+-- shows that this agrees with `IsPlace`.
 use Rattle.std.specs.Prelude.{◌≡◌, ℕ, zero, suc, ◌⊎◌, List, [], ◌∷◌, ◌++◌, length, Option, Some, None}
 use Rattle.btree_item.specs.declared.address.Address.{Address}
 use Rattle.btree_shape.specs.Focus.Shape.{Shape}

@@ -1,5 +1,7 @@
 -- The state of an underflow fix that goes upward, with the address that is followed and the bound that the strain
 -- gives.
+-- Every node but `id` has its number of items. What is owed is 1 for a root without items, else 0. The fix ends in
+-- `IsRepaired` (`Overflow.antt`), as splits do, where each node has its number of items, or in the empty tree.
 use Rattle.std.specs.Prelude.{ℕ, zero, suc, ◌+◌, ◌≤◌, ◌==◌, if◌then◌else◌, List, [], Option}
 use Rattle.btree_item.specs.declared.address.Address.{Address}
 use Rattle.btree_view.specs.View.{NodeMap, View, size_of}
