@@ -11,7 +11,7 @@ abbrev pub EMPTY : {K V : Type 0} → Node K V
 EMPTY = Leaf (record { parent = None; items = [] })
 
 module _ {N : Type 0} (empty : N) where
-  -- the nodes with an empty leaf under each number, claimed from the first on
+  -- the nodes with `empty` under each number, inserted from the first on
   abbrev pub with_claims : Content N → List ℕ → Content N
   with_claims nodes [] = nodes
   with_claims nodes (id ∷ ids) = with_claims (map.insert nodes id empty) ids

@@ -14,7 +14,7 @@ use btree_moved::Siblings;
 use btree_node::Node;
 use btree_nodes::NodesMut;
 
-// Removes and returns the first item of a node that has one to spare, with its first child.
+// Removes and returns the first item of a node that has one to spare, with the first child of an internal node.
 fn take_first<K: Drop, V: Drop, C: NodesMut<K, V>>(
     tree: &mut RawBTree<K, V, C>,
     id: usize,
@@ -26,7 +26,7 @@ fn take_first<K: Drop, V: Drop, C: NodesMut<K, V>>(
     tree.node_mut(id).pop_left().unwrap()
 }
 
-// Removes and returns the last item of a node that has one to spare, with its last child.
+// Removes and returns the last item of a node that has one to spare, with the last child of an internal node.
 fn take_last<K: Drop, V: Drop, C: NodesMut<K, V>>(
     tree: &mut RawBTree<K, V, C>,
     id: usize,
@@ -53,7 +53,7 @@ fn change_separator<K: Drop, V: Drop, C: NodesMut<K, V>>(
     tree.node_mut(id).replace(Offset::from(index), item)
 }
 
-// Inserts an item before the others of a node, with a child.
+// Inserts an item before the others of a node, and in an internal node a child before the others.
 fn put_first<K: Drop, V: Drop, C: NodesMut<K, V>>(
     tree: &mut RawBTree<K, V, C>,
     id: usize,
@@ -67,7 +67,7 @@ fn put_first<K: Drop, V: Drop, C: NodesMut<K, V>>(
     tree.node_mut(id).push_left(item, child);
 }
 
-// Inserts an item after the others of a node, with a child.
+// Inserts an item after the others of a node, and in an internal node a child after the others.
 fn put_last<K: Drop, V: Drop, C: NodesMut<K, V>>(
     tree: &mut RawBTree<K, V, C>,
     id: usize,

@@ -1,5 +1,5 @@
 -- The addresses of a tree, their kinds, and their places in its list.
--- In the empty tree nowhere is the only valid address. The other kinds (occupied, back, leaf address) are meant for
+-- In the empty tree `nowhere` is the only valid address. The other kinds (occupied, back, leaf address) are meant for
 -- valid addresses. In a tree that is well formed, or off by one at a node, each address in a node has a place
 -- (`has_place` in `proofs/Places/HasPlace.antt`), and only one (`one_place` and `one_place-well` in
 -- `proofs/Places/OnePlace.antt`).

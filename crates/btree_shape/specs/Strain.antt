@@ -30,7 +30,7 @@ abbrev pub surplus_of : {A : Type 0} → View A → ℕ
 surplus_of (leaf parent items) = length items - UNSTRAINED_LEAF_ITEMS
 surplus_of (internal parent first branches) = length branches - UNSTRAINED_INTERNAL_ITEMS
 
--- the strain of a node: its surplus, and, if it is not the root, how many items it has fewer than 4
+-- the strain of a node: its surplus, and, if it is not the root, by how many items it has fewer than 4
 abbrev pub strain_in : {A : Type 0} → (root id : ℕ) → Option (View A) → ℕ
 strain_in root id None = 0
 strain_in root id (Some node) = surplus_of node + (if id == root then 0 else UNSTRAINED_MIN_ITEMS - size_of node)

@@ -23,7 +23,7 @@ pub record MayOverflowAt (A : Type 0) (node_at : NodeMap A) (root : ℕ) (xs : L
   pub there : IsAt asked a (all_positions A seen.height seen.path seen.shape) place
   pub paid : gained + strain_of A seen.height seen.path seen.shape ≤ bound
 
--- no node has an item too many or too few: the end of a split upward, and of an underflow fix upward
+-- each node has its number of items: the end of a split upward, and of an underflow fix upward
 pub record IsRepaired (A : Type 0) (node_at : NodeMap A) (root : ℕ) (xs : List A)
     (asked : Option A) (a : Address) (place gained bound : ℕ) : Type 0 where
   pub id : ℕ

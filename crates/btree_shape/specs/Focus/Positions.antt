@@ -90,7 +90,7 @@ module _ (A : Type 0) where
   abbrev pub all_positions : (height : ℕ) → Path A height → Shape A height → List (Position A)
   all_positions height path shape = path_before path ++ (positions height shape ++ path_after path)
 
--- `moved` sends each address to one after the same number of items, and at the same item if one stands there
+-- `moved` sends each address to one with the same number of items before it, and at the same item if one stands there
 abbrev pub KeepsPositions : {A : Type 0} → (Address → Address) → List (Position A) → List (Position A) → Type 0
 KeepsPositions {A} moved old new =
     (asked : Option A) (a : Address) (place : ℕ) → IsAt asked a old place → IsAt asked (moved a) new place

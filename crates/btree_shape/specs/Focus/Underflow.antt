@@ -11,7 +11,7 @@ use Rattle.btree_shape.specs.Focus.Focus.{HasFocus}
 use Rattle.btree_shape.specs.Focus.Positions.{IsAt, all_positions}
 use Rattle.btree_shape.specs.Strain.{strain_of}
 
--- 1 for a root without items, which is still to be freed
+-- 1 for a root without items, which is still to be freed, else 0
 abbrev pub owed : {A : Type 0} {height : ℕ} → Path A height → (count : ℕ) → ℕ
 owed top zero = 1
 owed top (suc count) = 0
