@@ -1,6 +1,6 @@
 -- What driving a session with lines of text does.
 -- A text is served to its end, or up to the first line that is neither a command nor a question, whose number, counted
--- from 1, is returned; if memory, the reader or the writer fails, only some of the lines are served. The bytes of the
+-- from 1, is returned; if memory, the reader or the writer fails, a first part of the lines is served. The bytes of the
 -- writer have grown by what was printed, unless the writer failed.
 use Rattle.std.specs.Prelude.{◌≡◌, ℕ, ◌+◌, ◌<◌, Bool, List, [], ◌∷◌, ◌++◌, length, Option, Some, Result, Ok, Err, IfSome, ⊤, ◌==◌, ◌⊎◌, Vec}
 use Rattle.std.specs.List.{slice_split}
@@ -96,7 +96,7 @@ module _ (MayRefuse : Content (Node ℕ ℕ) → Type 0) where
       × IsSaid (line_words line) said × Does old said first mid × Serves mid lines rest new × (printed ≡ first ++ rest)
 
 -- which of all lines were served, by the result: all of them, or those before the first that is neither a command nor a
--- question, or only some
+-- question, or a first part of them
 abbrev pub EndsAfter : {A : Type 0} → List (List ℕ) → List (List ℕ) → Result A Stop → Type 0
 EndsAfter served all (Ok _) = all ≡ served
 EndsAfter served all (Err (NotACommand number)) = (line : List ℕ) × (rest : List (List ℕ)) × (all ≡ served ++ line ∷ rest) × IsSaid (line_words line) Other × (number ≡ length served + 1)

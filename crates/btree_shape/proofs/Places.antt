@@ -1,6 +1,6 @@
 -- The place of an address, and the positions of all addresses in order. Main theorem: `one_place-well` in OnePlace, an
--- address of a well formed tree has one place (`has_place`: it has one). `on-whole` and `whole-addressed` in OfTree:
--- being at a position of the tree and `IsPlace` agree, so a step that keeps positions keeps places.
+-- address of a well formed tree has one place (`has_place`: it has one). `positions-addressed` and `well-on` in OfTree:
+-- a position of the tree and `IsPlace` agree, so a step that keeps positions keeps places.
 -- Order: lists of positions (Lists, Untouched, OneList), places as the specs say them (HasPlace, SamePlace, OnePlace),
 -- places by a focus (NodePlaces, TreePlaces), the two together (OfTree, Words), and single steps (Steps, Backs).
 pub mod Lists
