@@ -1,7 +1,7 @@
-//! Times insertion, look-up and a walk in the kit's map and in ours.
+//! Times insertion, look-up and a walk in the kit's map and in this repository's map.
 //!
-//! Without an argument it runs over 1000 keys and prints the sum of each phase. With a number of keys as its argument it prints, for
-//! each phase, its name, the nanoseconds that it took, and its sum.
+//! Without an argument it runs over 1000 keys and prints the sum of each phase. With a number of keys as its argument it prints, for each
+//! phase, its name, the nanoseconds that it took, and its sum.
 #![tactic(auto)]
 
 mod random;
@@ -15,7 +15,7 @@ use std::process::ExitCode;
 use std::time::{Clock, Instant};
 use std::{env, io};
 
-// The keys in the order in which they are put in, the same in the order in which they are looked up, and keys that are absent.
+// The keys in the order of their insertion, the same keys in the order of their look-up, and keys that are absent.
 #[derive(Drop)]
 struct Keys {
     put: Vec<u64>,
@@ -36,7 +36,7 @@ fn make_keys(count: usize, alloc: Global) -> Result<Keys, AllocError> {
     })
 }
 
-// Puts each key in with its index, and counts those that were there.
+// Inserts each key with its index, and returns how many were there.
 fn put_all(table: &mut impl Table, keys: &[u64]) -> Result<u64, AllocError> {
     let mut present = 0u64;
     let mut index = 0u64;
@@ -49,7 +49,7 @@ fn put_all(table: &mut impl Table, keys: &[u64]) -> Result<u64, AllocError> {
     Ok(present)
 }
 
-// The sum of the values at the keys that are there.
+// Returns the sum of the values at the keys that are there.
 fn sum_at(table: &impl Table, keys: &[u64]) -> u64 {
     let mut sum = 0u64;
     for key in keys {
@@ -108,7 +108,7 @@ fn measure_both(
     measure(rt, is_timed, "btree_slab", &mut ours, &keys)
 }
 
-// How many keys the arguments ask for, and whether times are printed; nothing where they say something else.
+// Returns the number of keys that the arguments give, and whether times are printed; `None` if they are something else.
 fn read_arguments(rt: &(impl Env + Alloc)) -> Option<(usize, bool)> {
     let mut words = env::args(rt).ok()?.skip(1);
     let Some(word) = words.next() else {

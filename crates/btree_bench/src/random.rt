@@ -9,12 +9,12 @@ pub struct Numbers {
 }
 
 impl Numbers {
-    /// A generator that begins with a state, which is not 0.
+    /// Returns a generator with a state, which is not 0.
     pub fn from_state(state: u64) -> Numbers {
         Numbers { state }
     }
 
-    /// The next number.
+    /// Returns the next number.
     pub fn draw(&mut self) -> u64 {
         self.state ^= self.state >> 12;
         self.state ^= self.state << 25;
@@ -23,7 +23,7 @@ impl Numbers {
     }
 }
 
-/// The next numbers, as many as are asked for.
+/// Returns the next `count` numbers.
 pub fn drawn(numbers: &mut Numbers, count: usize, alloc: Global) -> Result<Vec<u64>, AllocError> {
     let mut keys = Vec::with_capacity(alloc, count)?;
     for _ in 0..count {
@@ -32,7 +32,7 @@ pub fn drawn(numbers: &mut Numbers, count: usize, alloc: Global) -> Result<Vec<u
     Ok(keys)
 }
 
-/// Puts keys into another order: from the last on, each is exchanged with one that is drawn among it and those before it.
+/// Shuffles keys: from the last one on, each is swapped with one drawn from those before it and itself.
 pub fn shuffle(keys: &mut [u64], numbers: &mut Numbers) {
     for last in (1..keys.len()).rev() {
         let other = numbers.draw() % (last as u64 + 1);

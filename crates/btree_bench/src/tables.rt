@@ -13,13 +13,13 @@ pub type KitMap = collections::BTreeMap<u64, u64>;
 
 /// A map that is measured.
 pub trait Table {
-    /// Puts a pair in, and answers whether the key was there.
+    /// Inserts a pair, and returns whether the key was there.
     fn put(&mut self, key: u64, value: u64) -> Result<bool, AllocError>;
 
-    /// The value at a key.
+    /// Returns the value at a key, or `None`.
     fn value_at(&self, key: u64) -> Option<u64>;
 
-    /// The sum of all keys and values, by a walk.
+    /// Returns the sum of all keys and values, by a walk.
     fn sum(&self) -> u64;
 }
 

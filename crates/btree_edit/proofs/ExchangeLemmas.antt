@@ -1,4 +1,4 @@
--- An item exchanged for another one at an address: the tree afterwards, and every address.
+-- An item replaced by another at an address: the tree afterwards, and every address.
 use Rattle.std.proofs.Common.{◌≡◌, ◌≢◌, ◌⊎◌, ◌∙◌, ℕ, zero, suc, inl, inr, List, [], ◌∷◌, length, set, Option, Some, None, refl, sym, ap, subst, option_map, option_and_then, slice_get, arith}
 use Rattle.std.proofs.lemmas.Option.{slice_get_within}
 use Rattle.std.specs.Cmp.{IsTotalOrder}
@@ -32,7 +32,7 @@ use Rattle.btree_shape.proofs.Trees.States.{is-tree, pairs-tree}
 use Rattle.btree_raw.proofs.StateLemmas.{same-len, same-refusals, same-root}
 use Rattle.btree_edit.specs.Exchange.{IsExchanged, IsValueExchanged}
 
--- another item stands at the address, in a node that is otherwise as it was; no other node has changed
+-- another item is at the address, in a node that is otherwise unchanged; no other node has changed
 pub record ExchangesAt {A : Type 0} (node_at new : NodeMap A) (a : Address) (was is : A) : Type 0 where
   pub old : View A
   pub here : node_at a.id ≡ Some old
@@ -100,7 +100,7 @@ occupied-some {K} {V} s a node at is none = by a.offset is none
         absurd (cc)
 
 module _ {K V : Type 0} (old : TreeState K V) (a : Address) (node : Node K V) (at : Some node ≡ map.get old.nodes a.id) (was is lent : K × V) where
-  -- an item that stands at an offset stands at a number
+  -- an item at an offset is at a number
   numbered : (o : Option ℕ) → Some was ≡ option_and_then (slice_get (items_of (view_of node))) o
       → (n : ℕ) × (o ≡ Some n) × (slice_get (items_of (view_of node)) n ≡ Some was)
   numbered None is = absurd (cc)
@@ -209,7 +209,7 @@ module _ {K V : Type 0} (cmp : K → K → Ordering) (laws : IsTotalOrder cmp) (
     new-pairs : pairs_of new ≡ set xs place is
     new-pairs = pairs-tree cmp new new.len (set xs place is) new-well
 
-    -- an address on the tour of the old tree is valid in the new one, at the same place
+    -- an address at a position of the old tree is valid in the new one, at the same place
     stays : (b : Address) (q : ℕ) → HasPosition (K × V) node_at root None b q
         → IsValid (node_map new) (Some root) b.id b.offset × IsPlace (node_map new) (Some root) (set xs place is) b.id b.offset q
     stays b q on = elim (address_at-or b a.id x.nodes.offset) [

@@ -27,7 +27,7 @@ use Rattle.btree_edit.specs.Insert.{IsInserted, IsWithinStrain}
 module _ {K V : Type 0} (cmp : K → K → Ordering) (old mid put : TreeState K V) (root : ℕ) (empty : old.root ≡ None) (tree : IsBTree cmp old)
     (node : Node K V) (x : K × V) (claimed : mid ≡ record old { nodes = map.insert old.nodes root EMPTY }) (changes : Changes (λ p q. WritesNode p q root (view_of node)) mid put)
     (is : view_of node ≡ leaf None (x ∷ [])) (a b : Address) (b_is : b ≡ record { id = root; offset = Some 0 }) where
-  -- the root and the length are set in the end
+  -- the root and the length are set at the end
   abbrev new : TreeState K V
   new = record put { root = Some root; len = 1 }
 

@@ -43,7 +43,7 @@ module _ {K V : Type 0} (cmp : K → K → Ordering) (s : TreeState K V) (x : K 
     | inr end ↦ absurd (not-end n (node_map s a.id) e end.0)
   ]
 
-  -- an item that stands at an address is that of the place in the list
+  -- the item at an address is the one at its place in the list
   pub placed-item : IsBTree cmp s → (place : ℕ) → IsPlaceIn s a place → item_of s a ≡ Some x → slice_get (pairs_of s) place ≡ Some x
   placed-item tree place at e = placed-under s.root tree a.offset place at e
 

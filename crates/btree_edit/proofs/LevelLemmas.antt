@@ -1,4 +1,4 @@
--- What an insertion takes, beside the number of levels.
+-- How many nodes an insertion needs, against the number of levels.
 use Rattle.std.proofs.Common.{◌<◌, ◌≤◌, ◌+◌, ℕ, inl, inr, List, [], Option, Some, None, arith}
 use Rattle.std.specs.FinMap as map
 use Rattle.std.specs.declared.cmp.Ordering.{Ordering}

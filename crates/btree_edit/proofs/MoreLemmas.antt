@@ -1,4 +1,4 @@
--- A pair put into a leaf of a tree that is not empty: what the steps ask, and what they come to.
+-- A pair inserted into a leaf of a tree that is not empty: what the steps require, and what they leave.
 use Rattle.std.proofs.Common.{◌≡◌, ◌≢◌, ℕ, suc, ◌+◌, ◌≤◌, inl, inr, List, [], ◌++◌, length, length-append, Option, Some, None, IsSome, refl, sym, ap, subst, ◌∙◌, option_map, option_and_then, slice_get, arith}
 use Rattle.std.proofs.lemmas.Option.{slice_get_within}
 use Rattle.std.specs.Cmp.{IsTotalOrder}
@@ -149,7 +149,7 @@ module _ {K V : Type 0} (cmp : K → K → Ordering) (laws : IsTotalOrder cmp) (
       abbrev repaired-leaf : View (K × V)
       repaired-leaf = with_item the-leaf.index (k, w) None (leaf the-leaf.parent the-leaf.items)
 
-      -- where no node is needed, none is split
+      -- if no node is needed, none is split
       pub unsplit : length ids ≡ 0 → SplitsUpward put put a.id ids a a
       unsplit none = record { split = still; used = λ n. refl; len = refl; uncounted = refl }
         where
@@ -189,7 +189,7 @@ module _ {K V : Type 0} (cmp : K → K → Ordering) (laws : IsTotalOrder cmp) (
         was-listed : (n : ℕ) → times_listed n (numbers_under node_at well.formed.height root) ≡ times_used (node_at n)
         was-listed n = well.formed.once n
 
-        -- the length is one more in the end
+        -- the length is one more at the end
         abbrev ended : TreeState K V
         ended = record new { len = new.len + 1 }
 

@@ -1,4 +1,4 @@
--- An item exchanged for another one at an address.
+-- The exchange of the item at an address for another one.
 use Rattle.std.specs.Prelude.{◌≡◌, ◌≢◌, ℕ, Some, set}
 use Rattle.std.specs.FinMap as map
 use Rattle.std.specs.declared.cmp.Ordering.{Ordering}
@@ -6,7 +6,7 @@ use Rattle.btree_item.specs.declared.address.Address.{Address}
 use Rattle.btree_shape.specs.TreeState.{TreeState, IsBTree, IsPlaceIn, IsValidIn, item_of, pairs_of}
 
 module _ {K V : Type 0} (old new : TreeState K V) (a : Address) where
-  -- every address is valid where it was, at the same place, and the item there is the same, or there is none as before; but at address `a`
+  -- every address stays valid, at the same place, and with the same item or again with none; only at address `a`
   -- another item may stand
   pub record KeepsAddresses : Type 0 where
     pub root : new.root ≡ old.root
@@ -16,7 +16,7 @@ module _ {K V : Type 0} (old new : TreeState K V) (a : Address) where
     pub places : (b : Address) (place : ℕ) → IsPlaceIn old b place → IsPlaceIn new b place
     pub others : (b : Address) → b ≢ a → item_of new b ≡ item_of old b
 
-  -- the item at address `a` became this one, in the list at the place of the address; every address stays
+  -- the item at address `a` was replaced by x, also in the list, at the place of the address; every address stays
   pub record IsExchanged (cmp : K → K → Ordering) (x : K × V) : Type 0 where
     pub tree : IsBTree cmp new
     pub place : ℕ
@@ -26,7 +26,7 @@ module _ {K V : Type 0} (old new : TreeState K V) (a : Address) where
     pub keeps : KeepsAddresses
     pub uncounted : new.refusals ≡ old.refusals
 
-  -- the same, where the key stays: this value stood there, and that one does now
+  -- the same, where the key stays and only the value is replaced: `was` by `is`
   pub record IsValueExchanged (cmp : K → K → Ordering) (was is : V) : Type 0 where
     pub key : K
     pub had : item_of old a ≡ Some (key, was)

@@ -1,4 +1,4 @@
--- What an insertion makes of a tree.
+-- What an insertion leaves of a tree.
 use Rattle.std.specs.Prelude.{◌≡◌, ℕ, ◌+◌, ◌-◌, ◌^◌, ◌<◌, ◌≤◌, Some, None, IsSome}
 use Rattle.std.specs.FinMap as map
 use Rattle.std.specs.List.{insert}
@@ -15,7 +15,7 @@ use Rattle.btree_raw.specs.Raw.{Refuses}
 use Rattle.btree_find.specs.Answers.{IsFoundAt, IsGapAt}
 use Rattle.btree_edit.specs.Exchange.{IsValueExchanged}
 
--- the nodes taken and the strain afterwards are at most the strain before and one
+-- the nodes gained and the strain afterwards are together at most the strain before plus one
 pub record IsWithinStrain {K V : Type 0} (old new : TreeState K V) : Type 0 where
   pub before : ℕ
   pub after : ℕ
@@ -24,7 +24,7 @@ pub record IsWithinStrain {K V : Type 0} (old new : TreeState K V) : Type 0 wher
   pub paid : map.len new.nodes + after ≤ map.len old.nodes + (before + 1)
 
 module _ {K V : Type 0} (cmp : K → K → Ordering) where
-  -- a back address in a leaf, or nowhere in the empty tree, at whose place the key fits
+  -- a back address in a leaf, or nowhere in the empty tree, with a place that the key fits
   pub record IsGapFor (k : K) (s : TreeState K V) (a : Address) : Type 0 where
     pub place : ℕ
     pub at : IsPlaceIn s a place
@@ -32,7 +32,8 @@ module _ {K V : Type 0} (cmp : K → K → Ordering) where
     pub back : IsSome a.offset
     pub fits : KeyFits cmp k place (pairs_of s)
 
-  -- the pair was put at the place of address a, and stands at address b; the store has as many nodes more as were needed
+  -- the pair was inserted at the place of address a, and is at address b; the store has gained exactly the nodes that
+  -- were needed
   pub record IsInserted (old new : TreeState K V) (a b : Address) (x : K × V) : Type 0 where
     pub tree : IsBTree cmp new
     pub pairs : (place : ℕ) → IsPlaceIn old a place → (pairs_of new ≡ insert (pairs_of old) place x) × IsPlaceIn new b place
@@ -42,22 +43,24 @@ module _ {K V : Type 0} (cmp : K → K → Ordering) where
     pub strain : IsWithinStrain old new
     pub uncounted : new.refusals ≡ old.refusals
 
--- an insertion at a leaf that was refused: by the store, which counted it, where it may refuse one of the nodes that are needed
--- and another pair can be counted, or because there are as many pairs as can be counted; nothing else has changed
+-- an insertion at a leaf was refused, and nothing else has changed. With the cause `Store`: the store refused a node
+-- and counted the refusal; it may refuse one of the needed nodes, and one more pair can be counted. With the cause
+-- `Count`: there are as many pairs as can be counted
 abbrev pub IsRefused : {K V : Type 0} → (Content (Node K V) → Type 0) → (leaf : ℕ) → (old new : TreeState K V) → Cause → Type 0
 IsRefused MayRefuse leaf old new Store =
     Refuses old new × MayRefuseOneOf EMPTY MayRefuse old.nodes (nodes_needed old leaf) × (old.len < 2 ^ 64 - 1)
 IsRefused MayRefuse leaf old new Count = (new ≡ old) × (old.len ≡ 2 ^ 64 - 1)
 
 module _ {K V : Type 0} (cmp : K → K → Ordering) (k : K) (old new : TreeState K V) where
-  -- the item with the key has another value, and nothing else has changed: the key that was there stays, and so does every address
+  -- the item with the key has another value, and nothing else has changed: the stored key stays, and so does every
+  -- address
   pub record ExchangesValueAt (was is : V) : Type 0 where
     pub at : Address
     pub found_at : IsFoundAt cmp k old at
     pub exchanged : IsValueExchanged old new at cmp was is
 
-  -- how many nodes an insertion of a value by key took: those that were needed at the gap of an absent key, at most one more than there were
-  -- levels; for one that is there none, and every address stays
+  -- how many nodes an insertion of a value by key used: for an absent key those that were needed at its gap, at most
+  -- one more than there were levels; for a key that is there none, and every address stays
   pub record InsertsByKey (value : V) : Type 0 where
     pub absent : found cmp k (pairs_of old) ≡ None → (a : Address) × IsGapAt cmp k old a × (map.len new.nodes ≡ map.len old.nodes + nodes_needed old a.id)
     pub few : (levels : ℕ) → HasLevels old levels → map.len new.nodes ≤ map.len old.nodes + (levels + 1)

@@ -19,7 +19,7 @@ fn refused<K, V>(cause: Cause, item: Item<K, V>) -> Refused<K, V>
     Refused { cause, key, value }
 }
 
-// Puts the first pair into a tree that is empty.
+// Inserts the first pair into an empty tree.
 fn insert_first<K: Ord + Drop, V: Drop, C: NodesMut<K, V>>(
     tree: &mut RawBTree<K, V, C>,
     addr: Address,
@@ -43,7 +43,7 @@ fn insert_first<K: Ord + Drop, V: Drop, C: NodesMut<K, V>>(
     }
 }
 
-// Puts a pair whose key fits into a leaf that has room for it. It then stands at the address.
+// Inserts a pair, whose key fits, into a leaf that has room for it. The pair is then at the address.
 fn insert_in_room<K: Ord + Drop, V: Drop, C: NodesMut<K, V>>(
     tree: &mut RawBTree<K, V, C>,
     addr: Address,
@@ -63,7 +63,8 @@ fn insert_in_room<K: Ord + Drop, V: Drop, C: NodesMut<K, V>>(
     addr
 }
 
-// Puts a pair whose key fits into a full leaf, which is split. Not inlined, so that the usual insertion keeps its values in registers.
+// Inserts a pair, whose key fits, into a full leaf, which is split. Not inlined, so that the usual insertion keeps its values in
+// registers.
 #[inline(never)]
 fn insert_and_split<K: Ord + Drop, V: Drop, C: NodesMut<K, V>>(
     tree: &mut RawBTree<K, V, C>,
@@ -92,7 +93,7 @@ fn insert_and_split<K: Ord + Drop, V: Drop, C: NodesMut<K, V>>(
     Ok(at)
 }
 
-// Puts a pair whose key fits into a leaf of a tree that is not empty.
+// Inserts a pair, whose key fits, into a leaf of a tree that is not empty.
 fn insert_more<K: Ord + Drop, V: Drop, C: NodesMut<K, V>>(
     tree: &mut RawBTree<K, V, C>,
     addr: Address,
@@ -115,8 +116,9 @@ fn insert_more<K: Ord + Drop, V: Drop, C: NodesMut<K, V>>(
     }
 }
 
-/// Puts a pair at the address of a gap that its key fits. Returns where the pair then stands. It is refused, and nothing changes, where
-/// the store refuses a node that is needed, or where there are as many pairs as can be counted.
+/// Inserts a pair at the address of a gap that its key fits. Returns the address of the pair. It returns an error, with the pair, and
+/// nothing but the count of refusals changes, if the store refuses a node that is needed, or if there are as many pairs as can be
+/// counted.
 pub fn insert_at_gap<K: Ord + Drop, V: Drop, C: NodesMut<K, V>>(
     tree: &mut RawBTree<K, V, C>,
     addr: Address,
@@ -138,8 +140,8 @@ pub fn insert_at_gap<K: Ord + Drop, V: Drop, C: NodesMut<K, V>>(
     }
 }
 
-/// Puts a pair in by its key, or exchanges the value at a key that is there: the stored key stays, and the given one is dropped.
-/// Returns the value that was exchanged. A pair that is refused comes back.
+/// Inserts a pair by its key, or replaces the value if the key is there: the stored key stays, and the given one is dropped. Returns the
+/// value that was replaced. A refusal returns the pair.
 pub fn insert<K: Ord + Drop, V: Drop, C: NodesMut<K, V>>(
     tree: &mut RawBTree<K, V, C>,
     key: K,

@@ -1,4 +1,4 @@
-//! Changes of a well formed tree on any lawful store of nodes: insertion at a gap, and the exchange of a value.
+//! Changes of a well formed tree over any lawful store of nodes: insertion at a gap, and the exchange of a value.
 #![tactic(auto, using(btree_store::specs::ContentLaws::stores))]
 
 mod insertion;

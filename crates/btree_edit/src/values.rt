@@ -1,4 +1,4 @@
-//! A value exchanged for another.
+//! The exchange of a value for another one.
 ghost use Rattle.btree_shape.specs.TreeState.{IsBTree, IsOccupiedIn};
 ghost use Rattle.btree_edit.specs.Exchange.{IsValueExchanged};
 
@@ -6,7 +6,7 @@ use btree_item::Address;
 use btree_nodes::NodesMut;
 use btree_raw::RawBTree;
 
-/// Exchanges the value of the item at an address. Returns the one that stood there.
+/// Replaces the value of the item at an address. Returns the old value. It changes one node and needs no new one.
 pub fn exchange<K: Ord, V, C: NodesMut<K, V>>(
     tree: &mut RawBTree<K, V, C>,
     addr: Address,

@@ -1,4 +1,4 @@
-//! Reading a tree by its nodes and addresses.
+//! Reads of a tree by its nodes and addresses.
 ghost use Rattle.std.specs.Prelude.{◌≡◌, ◌↔◌, ◌*◌, ◌+◌, ◌≤◌, length, IsTrue, Some, option_copied};
 ghost use Rattle.std.specs.FinMap as map;
 ghost use Rattle.btree_shape.specs.TreeState.{TreeState, HasLevels, IsBTree, IsUsed, item_of, pairs_of};
@@ -11,20 +11,21 @@ use btree_node::Node;
 use btree_nodes::NodesMut;
 use btree_raw::RawBTree;
 
-/// A well formed tree, read by its nodes and by addresses in it. Only `as_raw` is to be written: the other calls read what it lends.
+/// A well formed tree, read by its nodes and by addresses in it. An implementor writes `as_raw` alone: the other calls read what it
+/// lends.
 pub trait BTreeExt<K: Ord, V> {
-    /// The store that the nodes lie in.
+    /// The store of the nodes.
     type Nodes: NodesMut<K, V>;
 
-    /// What contracts see of the tree.
+    /// The tree as contracts see it.
     ghost state: { Self → TreeState K V };
 
-    /// The tree as nodes in a store, the number of a root, and a length.
+    /// Returns the tree as nodes in a store, the number of a root, and a length.
     fn as_raw(&self) -> &RawBTree<K, V, Self::Nodes>
         ensures value { result.now ≡ state self.now }
         ensures well_formed { IsBTree K.cmp (state self.now) };
 
-    /// The number of the root, and `None` where there are no pairs.
+    /// Returns the number of the root, or `None` if there are no pairs.
     fn root_id(&self) -> Option<usize>
         ensures value { result ≡ (state self.now).root }
         ensures well_formed { IsBTree K.cmp (state self.now) }
@@ -32,14 +33,14 @@ pub trait BTreeExt<K: Ord, V> {
         self.as_raw().root_id()
     }
 
-    /// Whether a node has this number.
+    /// Returns whether a node has this number.
     fn has_node(&self, id: usize) -> bool
         ensures { IsTrue result ↔ IsUsed (state self.now) id }
     {
         self.as_raw().has_node(id)
     }
 
-    /// The node with a number, for which `has_node` is the test.
+    /// Returns the node with a number that is used, which `has_node` decides.
     fn node(&self, id: usize) -> &Node<K, V>
         requires { IsUsed (state self.now) id }
         ensures { map.get (state self.now).nodes id ≡ Some result.now }
@@ -47,14 +48,14 @@ pub trait BTreeExt<K: Ord, V> {
         self.as_raw().node(id)
     }
 
-    /// The item at an address, and `None` where none stands: at -1, past the last, nowhere, or at an address of no node.
+    /// Returns the item at an address, or `None` if there is none: at -1, past the last item, nowhere, or at a number without a node.
     fn item(&self, addr: Address) -> Option<&Item<K, V>>
         ensures { option_copied result ≡ item_of (state self.now) addr }
     {
         self.as_raw().item(addr)
     }
 
-    /// How many levels of nodes there are: none without pairs, and at most 32.
+    /// Returns how many levels of nodes there are: 0 without pairs, and at most 32. It reads one node of each level.
     fn height(&self) -> usize
         ensures value { HasLevels (state self.now) result }
         ensures few { result ≤ MAX_LEVELS }
@@ -63,7 +64,7 @@ pub trait BTreeExt<K: Ord, V> {
         height(self.as_raw())
     }
 
-    /// How many nodes there are: at most (n+2)/3 for n pairs.
+    /// Returns how many nodes there are: at most (n+2)/3 for n pairs.
     fn node_count(&self) -> usize
         ensures value { result ≡ map.len (state self.now).nodes }
         ensures dense { 3 * result ≤ length (pairs_of (state self.now)) + 2 }
@@ -71,8 +72,8 @@ pub trait BTreeExt<K: Ord, V> {
         self.as_raw().node_count()
     }
 
-    /// The address of a key that is there, else the back address of a leaf whose place is the number of smaller keys. Compares
-    /// at most six keys a level.
+    /// Returns `Ok` with the address of a key that is there, or `Err` with the back address in a leaf whose place is the number of
+    /// smaller keys. It makes at most six comparisons at each level.
     fn address_of(&self, key: &K) -> Result<Address, Address>
         ensures { IsAddressOf K.cmp key.now (state self.now) result }
     {

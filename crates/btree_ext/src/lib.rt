@@ -1,4 +1,4 @@
-//! The tree: look-up, insertion and what goes with them, on any lawful store of nodes.
+//! The tree, always well formed: look-up, insertion and reads by address, over any lawful store of nodes.
 #![tactic(auto, using(btree_store::specs::ContentLaws::stores))]
 
 mod ext;

@@ -11,7 +11,7 @@ use btree_nodes::NodesMut;
 use btree_raw::RawBTree;
 use std::marker::Model;
 
-/// A well formed tree of nodes in a store: at any time its pairs are a list in the order of the keys.
+/// A well formed tree of nodes in a store. Its pairs are always a list in the order of the keys.
 #[derive(Drop)]
 pub struct Tree<K: Ord, V, C: NodesMut<K, V>> {
     raw: RawBTree<K, V, C>,
@@ -35,9 +35,9 @@ impl<K: Ord, V, C: NodesMut<K, V>> Tree<K, V, C> {
     ghost use Rattle.btree_item.specs.Pairs.{found_value};
     ghost use Rattle.btree_shape.specs.TreeState.{pairs_of};
 
-    /// A tree with no pairs, over an empty store that is made from its origin. It takes no memory.
+    /// Returns a tree without pairs, over an empty store made from `origin`. It allocates no memory.
     ///
-    /// That a node fits in memory is known wherever the types of key and value are.
+    /// The contract requires that a node fits in memory. The prover finds that by itself if the types of key and value are known.
     pub fn new(origin: C::Origin) -> Self
         requires { FitsInMemory (node_row K.row V.row) }
         ensures empty { pairs_of result ≡ [] }
@@ -48,21 +48,23 @@ impl<K: Ord, V, C: NodesMut<K, V>> Tree<K, V, C> {
         }
     }
 
-    /// Tells that a node fits in memory, where the types of key and value are parameters. It does nothing when it runs.
+    /// Gives the prover the fact that a node fits in memory, which it does not find where the types of key and value are parameters. It
+    /// does nothing at run time.
     pub fn tell_fits(&self)
         ensures { FitsInMemory (node_row K.row V.row) }
     {
         self.raw.tell_fits();
     }
 
-    /// How many pairs there are.
+    /// Returns how many pairs there are.
     pub fn len(&self) -> usize
         ensures { result ≡ length (pairs_of self.now) }
     {
         self.raw.len()
     }
 
-    /// The value at a key that equals the given one. Compares at most six keys a level, copies nothing and takes no memory.
+    /// Returns the value at a key equal to the given one, or `None`. It makes at most six comparisons at each level, copies nothing and
+    /// allocates no memory.
     pub fn get(&self, key: &K) -> Option<&V>
         ensures { option_copied result ≡ found_value K.cmp key.now (pairs_of self.now) }
     {
@@ -75,10 +77,11 @@ impl<K: Ord + Drop, V: Drop, C: NodesMut<K, V>> Tree<K, V, C> {
     ghost use Rattle.btree_shape.specs.TreeState.{pairs_of};
     ghost use Rattle.btree_edit.specs.Insert.{IsRefusedAtGap, InsertsByKey};
 
-    /// Puts a pair in, or exchanges the value at a key that is there: the stored key stays, and the given one is dropped.
+    /// Inserts a pair, or replaces the value if the key is there: the stored key stays, and the given one is dropped.
     ///
-    /// An absent key takes a node for each full node from its leaf upward without a gap, and one more where the last of them is the
-    /// root. It is refused, and the pair comes back, where the store refuses one of these, or where there are `usize::MAX` pairs.
+    /// For an absent key it uses one new node for each consecutive full node from the leaf upward, and one more if the last of them is
+    /// the root; for the first pair it uses one. It returns an error, with the pair, if the store refuses one of these nodes, or if there
+    /// are `usize::MAX` pairs.
     pub fn insert(&mut self, key: K, value: V) -> Result<Option<V>, Refused<K, V>>
         ensures old { IfOk result (λ old. old ≡ found_value K.cmp key (pairs_of self.old)) }
         ensures inserted { OnOk result (pairs_of self.new ≡ inserted K.cmp key value (pairs_of self.old)) }

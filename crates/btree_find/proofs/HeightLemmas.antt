@@ -15,7 +15,7 @@ use Rattle.btree_shape.proofs.Trees.Numbers.{used-one}
 use Rattle.btree_shape.proofs.Trees.Stores.{used-view}
 use Rattle.btree_shape.proofs.Trees.ValidPlaces.{represents-node}
 
--- node `id` is so many levels below the root, and levels are counted down to it
+-- `levels` levels are counted from the root down to node `id`
 pub record IsDescending {A : Type 0} (node_at : NodeMap A) (root : ℕ) (xs : List A) (id levels : ℕ) : Type 0 where
   pub height : ℕ
   pub low : height < 32
@@ -27,7 +27,7 @@ pub record IsDescending {A : Type 0} (node_at : NodeMap A) (root : ℕ) (xs : Li
   pub here : Represents node_at below parent id list
   pub counted : levels + below ≡ suc height
 
--- what the count comes to
+-- the result of the count
 pub record Ends {A : Type 0} (node_at : NodeMap A) (root : ℕ) (xs : List A) (levels : ℕ) : Type 0 where
   pub height : ℕ
   pub represents : Represents node_at height None root xs

@@ -1,4 +1,4 @@
--- A search by key in a sound tree, step by step.
+-- A search by key in a well formed tree, step by step.
 use Rattle.std.proofs.Common.{◌≡◌, ◌≢◌, ℕ, ◌≤◌, ◌^◌, ◌-◌, inl, List, Option, Some, None, zero, suc, inr, [], ◌∷◌, map, length-append, Ok, Err, IsSome, Result, refl, sym, ap, subst, ◌∙◌, length, is_some, option_map, option_and_then, slice_get, if◌then◌else◌, arith}
 use Rattle.std.proofs.lemmas.List.{length-map}
 use Rattle.std.specs.Cmp.{IsTotalOrder}
@@ -23,7 +23,7 @@ use Rattle.btree_find.specs.Answers.{IsFoundAt, IsGapAt}
 use Rattle.btree_shape.proofs.Trees.ValidPlaces.{place-valid}
 use Rattle.btree_shape.proofs.Trees.Stores.{used-view, most-few}
 
--- what `placed` says of a place among items
+-- what `placed` gives for a place among items
 placed-ok : (r : Result ℕ ℕ) (children : List ℕ) (offset : Option ℕ) → Ok offset ≡ placed r children → (o : ℕ) × (r ≡ Ok o) × (offset ≡ Some o)
 placed-ok (Ok i) children offset e = (i, refl, cc)
 placed-ok (Err i) children offset e = absurd (cc)

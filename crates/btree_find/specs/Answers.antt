@@ -1,4 +1,4 @@
--- What a search by key answers.
+-- What a search by key returns.
 use Rattle.std.specs.Prelude.{◌≡◌, ℕ, IsSome, Result, Ok, Err}
 use Rattle.std.specs.declared.cmp.Ordering.{Ordering}
 use Rattle.btree_item.specs.Pairs.{place_of}
@@ -14,7 +14,7 @@ module _ {K V : Type 0} (cmp : K → K → Ordering) (k : K) (s : TreeState K V)
     pub at : IsPlaceIn s a place
     pub occupied : IsOccupiedIn s a
 
-  -- a back address in a leaf, whose place is the number of smaller keys, where no key is equal
+  -- a back address in a leaf whose place is the number of smaller keys, if no key is equal
   pub record IsGapAt (a : Address) : Type 0 where
     pub valid : IsValidIn s a
     pub place : ℕ
@@ -23,7 +23,7 @@ module _ {K V : Type 0} (cmp : K → K → Ordering) (k : K) (s : TreeState K V)
     pub in_leaf : IsLeafAddressIn s a
     pub back : IsSome a.offset
 
-  -- the address of a key that is there, or of the gap in which it would go
+  -- the address of a key that is there, or of the gap in which it would be inserted
   abbrev pub IsAddressOf : Result Address Address → Type 0
   IsAddressOf (Ok a) = IsFoundAt a
   IsAddressOf (Err a) = IsGapAt a

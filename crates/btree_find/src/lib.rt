@@ -1,4 +1,4 @@
-//! Look-up in a well formed tree, on any lawful store of nodes.
+//! Look-up in a well formed tree, over any lawful store of nodes.
 #![tactic(auto, using(btree_store::specs::ContentLaws::stores))]
 
 mod search;

@@ -1,4 +1,4 @@
-//! Look-up by key, and how many levels there are.
+//! Look-up by key, and the number of levels.
 ghost use Rattle.std.specs.Prelude.{◌≡◌, ◌≤◌, option_copied};
 ghost use Rattle.btree_item.specs.Pairs.{found_value};
 ghost use Rattle.btree_node.specs.Node.{view_of};
@@ -12,7 +12,8 @@ use btree_node::Node;
 use btree_nodes::NodesMut;
 use btree_raw::RawBTree;
 
-/// The address of a key that is there, else the address in a leaf where it would go. Compares at most six keys a level.
+/// Returns `Ok` with the address of a key that is there, or `Err` with the address in a leaf where it would be inserted. It makes at most
+/// six comparisons at each level.
 pub fn address_of<K: Ord, V, C: NodesMut<K, V>>(
     tree: &RawBTree<K, V, C>,
     key: &K,
@@ -43,7 +44,8 @@ fn value_at<K, V>(node: &Node<K, V>, offset: Offset) -> Option<&V>
     }
 }
 
-/// The value at a key. Compares at most six keys a level, copies nothing and takes no memory.
+/// Returns the value at a key, or `None` if the key is not there. It makes at most six comparisons at each level, copies nothing and
+/// allocates no memory.
 pub fn get<'a, K: Ord + 'a, V: 'a, C: NodesMut<K, V>>(
     tree: &'a RawBTree<K, V, C>,
     key: &K,
@@ -68,7 +70,7 @@ pub fn get<'a, K: Ord + 'a, V: 'a, C: NodesMut<K, V>>(
     }
 }
 
-/// How many levels of nodes there are: it goes down the first children.
+/// Returns how many levels of nodes there are. It reads one node of each level, down the first children.
 pub fn height<K: Ord, V, C: NodesMut<K, V>>(tree: &RawBTree<K, V, C>) -> usize
     requires { IsBTree K.cmp tree.now }
     ensures levels { HasLevels tree.now result }

@@ -47,7 +47,7 @@ module _ {K V : Type 0} where
   keys-branches [] = refl
   keys-branches (b ∷ bs) = ap (λ rest. b.item.0 ∷ rest) (keys-branches bs)
 
-  -- the child at an index after the first is that of the branch before
+  -- the child at an index after the first is that of the branch before it
   pub child-after : (first i : ℕ) (bs : List (Branch K V)) (o : Option (Branch K V)) (children : List ℕ) → 0 < i → first ∷ map (λ b. b.child) bs ≡ children → o ≡ slice_get bs (i - 1) → option_map (λ b. b.child) o ≡ slice_get children i
   child-after first zero bs o children after are at = absurd (omega arith)
   child-after first (suc i) bs o children after are at =
@@ -67,7 +67,7 @@ module _ {K V : Type 0} where
   zip-pairs [] = refl
   zip-pairs (b ∷ bs) = ap (λ rest. branch_pair b ∷ rest) (zip-pairs bs)
 
-  -- an item exchanged in a branch
+  -- an item replaced in a branch
   set-pairs : (bs : List (Branch K V)) (i : ℕ) (b : Branch K V) (item : K × V) → slice_get bs i ≡ Some b → map branch_pair (set bs i (record b { item = item })) ≡ zip (set (map (λ c. c.item) bs) i item) (map (λ c. c.1) (map branch_pair bs))
   set-pairs [] i b item at = refl
   set-pairs (x ∷ bs) zero b item at =

@@ -1,4 +1,4 @@
--- What a look-up in an internal node answers, by what is found and by the place of the key or of a child.
+-- What a look-up in an internal node returns, by what is found and by the place of the key or of a child.
 use Rattle.std.proofs.Common.{◌≡◌, ℕ, ◌+◌, ◌≤◌, List, [], ◌∷◌, Bool, true, false, Option, Some, None, Ok, Err, drop, length, zero, suc, refl, sym, ◌∙◌, ap, arith, inl, inr, Ordering}
 use Rattle.std.specs.Prelude.{slice_get, ◌==◌}
 use Rattle.std.specs.List.{position, position_from}
@@ -24,7 +24,7 @@ module _ {T : Type 0} (test : T → Bool) where
   drop_at zero (y ∷ ys) x at = ap (λ z. z ∷ ys) (cc)
   drop_at (suc i) (y ∷ ys) x at = let next : suc i + 1 ≡ suc (i + 1) = omega arith in rw next (drop_at i ys x at)
 
-  -- one element further the test still has to pass
+  -- one element further the test has still to succeed
   pub position_from-next : (n i : ℕ) (xs : List T) (x : T) → slice_get xs i ≡ Some x → test x ≡ false → position_from test n (drop i xs) ≡ position_from test (n + 1) (drop (i + 1) xs)
   position_from-next n i xs x at fails = let here = drop_at i xs x at in rw (here, fails) refl
 

@@ -1,4 +1,4 @@
--- An internal node as a clause sees it.
+-- An internal node as contracts see it.
 use Rattle.std.specs.Prelude.{ℕ, List, Option, Some}
 use Rattle.btree_item.specs.declared.item.Item.{Item}
 use Rattle.btree_view.specs.Edits.{PopsLeft, PopsRight}
@@ -12,19 +12,19 @@ pub record Internal (K V : Type 0) : Type 0 where
   pub first : ℕ
   pub branches : List (Item K V × ℕ)
 
--- what the tree sees of an internal node
+-- an internal node as a node of the tree
 abbrev pub internal_view : {K V : Type 0} → Internal K V → View (K × V)
 internal_view n = internal n.parent n.first n.branches
 
--- this item and this child stood before those of the rest
+-- the node is the rest with this item and this child before its own
 abbrev pub InternalPopsLeft : {K V : Type 0} → Internal K V → Internal K V → Item K V × ℕ → Type 0
 InternalPopsLeft node rest popped = PopsLeft (internal_view node) (internal_view rest) (popped.0, Some popped.1)
 
--- this item and this child stood behind those of the rest
+-- the node is the rest with this item and this child after its own
 abbrev pub InternalPopsRight : {K V : Type 0} → Internal K V → Internal K V → Option ℕ × Item K V × ℕ → Type 0
 InternalPopsRight node rest popped = PopsRight (internal_view node) (internal_view rest) (popped.0, popped.1, Some popped.2)
 
--- an index and a child, as `offset_in` gives them
+-- an index and a child, in the form of the results of `offset_in`
 abbrev pub gap_with_child : ℕ × ℕ → ℕ × Option ℕ
 gap_with_child gap = (gap.0, Some gap.1)
 

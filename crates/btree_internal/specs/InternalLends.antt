@@ -1,4 +1,4 @@
--- What an internal node ends as, where a `&mut` into it is returned.
+-- An internal node after a `&mut` into it has ended.
 use Rattle.std.specs.Prelude.{ℕ, List, map, set, slice_get, Option, Some, None, Result}
 use Rattle.std.specs.Borrow.{Lends, LendsIf, LendsIfOk, Fml, RattleType, MutBor}
 use Rattle.std.specs.List.{zip}
@@ -32,22 +32,22 @@ module _ {K V : Type 0} where
       record n { branches = zip (set_at offset (map (λ b. b.0) n.branches) x) (map (λ b. b.1) n.branches) }
 
 module _ (K V : RattleType) where
-  -- once the borrow r ends, the value of the branch's item is the last one behind r
+  -- once the borrow r ends, the value of the branch's item is the last one that r pointed to
   abbrev pub branch_lends : MutBor (Branch K.Denot V.Denot) → MutBor V.Denot → Fml
   branch_lends b r = Lends (branch_row K V) V b r (λ w. record b.now { item = (b.now.item.0, w) })
 
-  -- once the borrow r ends, the value at an index is the last one behind r, and at `None` nothing changes
+  -- once the borrow r ends, the value at an index is the last one that r pointed to; at `None` nothing changes
   abbrev pub internal_lends_at : MutBor (Internal K.Denot V.Denot) → ℕ → Option (MutBor V.Denot) → Fml
   internal_lends_at n index r = LendsIf (the_row K V) V n r (internal_with_value_at index n.now) n.now
 
-  -- once the borrow r ends, the value at the key is the last one behind r, and at `Err` nothing changes
+  -- once the borrow r ends, the value at the key is the last one that r pointed to; at `Err` nothing changes
   abbrev pub internal_lends : (K.Denot → K.Denot → Ordering) → MutBor (Internal K.Denot V.Denot) → K.Denot → Result (MutBor V.Denot) ℕ → Fml
   internal_lends cmp n key r = LendsIfOk (the_row K V) V n r (internal_with_value cmp key n.now) n.now
 
-  -- once the borrow r ends, the branch's item is the last one behind r
+  -- once the borrow r ends, the branch's item is the last one that r pointed to
   abbrev pub branch_lends_item : MutBor (Branch K.Denot V.Denot) → MutBor (K.Denot × V.Denot) → Fml
   branch_lends_item b r = Lends (branch_row K V) (item_row K V) b r (λ x. record b.now { item = x })
 
-  -- once the borrow r ends, the item at an offset is the last one behind r, and at `None` nothing changes
+  -- once the borrow r ends, the item at an offset is the last one that r pointed to; at `None` nothing changes
   abbrev pub internal_lends_item : MutBor (Internal K.Denot V.Denot) → Option ℕ → Option (MutBor (K.Denot × V.Denot)) → Fml
   internal_lends_item n offset r = LendsIf (the_row K V) (item_row K V) n r (internal_with_item_at offset n.now) n.now

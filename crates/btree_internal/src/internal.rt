@@ -21,8 +21,7 @@ use std::cmp::Ordering;
 use std::marker::Model;
 use std::mem;
 
-/// An item of an internal node, with the number of the child after it. It is compared by the item's
-/// key alone.
+/// An item of an internal node, with the number of the child after it. It is compared by the item's key alone.
 #[derive(Clone, Drop)]
 pub struct Branch<K, V> {
     pub item: Item<K, V>,
@@ -33,14 +32,14 @@ impl<K, V> Branch<K, V> {
     ghost use Rattle.std.specs.Borrow.{sem};
     ghost use Rattle.btree_internal.specs.InternalLends.{branch_lends, branch_lends_item};
 
-    /// The item, as Rust's `as_ref` gives it.
+    /// Returns the item, like Rust's `as_ref`.
     pub fn as_item(&self) -> &Item<K, V>
         ensures { result.now ≡ self.now.item }
     {
         &self.item
     }
 
-    // The item's value, to be written.
+    // Returns the item's value for writing.
     fn value_mut(&mut self) -> &mut V
         ensures* writes_back { sem 𝓛 (branch_lends K.row V.row self.entry result) }
         ensures value { result.now ≡ self.old.item.1 }
@@ -48,7 +47,7 @@ impl<K, V> Branch<K, V> {
         self.item.value_mut()
     }
 
-    // The item, to be written.
+    // Returns the item for writing.
     fn item_mut(&mut self) -> &mut Item<K, V>
         ensures* writes_back { sem 𝓛 (branch_lends_item K.row V.row self.entry result) }
         ensures item { result.now ≡ self.old.item }
@@ -105,17 +104,17 @@ impl<K: Ord, V> Ord for Branch<K, V> {
     }
 }
 
-/// An internal node: the number of its parent, the number of its first child, and up to eight items,
-/// each with the child after it. At rest it has no more than seven.
+/// An internal node: the number of its parent, the number of its first child, and up to eight items, each with the child after it. In a
+/// well formed tree it has at most seven items.
 #[derive(Drop)]
 pub struct InternalNode<K, V> {
-    // `usize::MAX` where there is no parent.
+    // `usize::MAX` if there is no parent.
     parent: usize,
     first: usize,
     branches: Slots<Branch<K, V>, INTERNAL_SLOTS>,
 }
 
-/// The same, under the name that Rust's crate has for it here.
+/// The same type, under its name in Rust's crate.
 pub type Internal<K, V> = InternalNode<K, V>;
 
 impl<K, V> Model for InternalNode<K, V> {
@@ -129,7 +128,7 @@ impl<K, V> Model for InternalNode<K, V> {
 }
 
 impl<K: Drop, V: Drop> InternalNode<K, V> {
-    /// A node with one item between two children. `Some(usize::MAX)` as the parent is read as none.
+    /// Returns a node with one item between two children. `Some(usize::MAX)` as the parent is read as `None`.
     pub fn binary(
         parent: Option<usize>,
         left_id: usize,
@@ -156,7 +155,7 @@ impl<K, V> InternalNode<K, V> {
     ghost use Rattle.std.specs.Option.{option_copied_mut};
     ghost use Rattle.btree_internal.specs.InternalLends.{internal_lends_at, internal_lends_item};
 
-    // The value at an index, to be written.
+    // Returns the value at an index for writing.
     fn value_at(&mut self, index: usize) -> Option<&mut V>
         ensures* writes_back { sem 𝓛 (internal_lends_at K.row V.row self.entry index result) }
         ensures value { option_copied_mut result ≡ value_at_offset (view_of self.old) (Some index) }
@@ -167,7 +166,7 @@ impl<K, V> InternalNode<K, V> {
         }
     }
 
-    /// The number of the parent, if there is one.
+    /// Returns the number of the parent, if there is one.
     pub fn parent(&self) -> Option<usize>
         ensures value { result ≡ self.now.parent }
         ensures bound { IfSome result (λ id. id < usize.MAX) }
@@ -179,7 +178,7 @@ impl<K, V> InternalNode<K, V> {
         }
     }
 
-    /// Puts the node under another parent. `Some(usize::MAX)` is read as none.
+    /// Sets the parent. `Some(usize::MAX)` is read as `None`.
     pub fn set_parent(&mut self, parent: Option<usize>)
         ensures { self.new ≡ record self.old { parent = kept_parent parent } }
     {
@@ -193,7 +192,7 @@ impl<K, V> InternalNode<K, V> {
         self.branches.len()
     }
 
-    /// One more than there are items.
+    /// Returns how many children there are: one more than items.
     pub fn child_count(&self) -> usize
         ensures value { result ≡ length (children_of (view_of self.now)) }
         ensures fits { result ≤ INTERNAL_SLOTS + 1 }
@@ -207,14 +206,14 @@ impl<K, V> InternalNode<K, V> {
         self.child_id(0)
     }
 
-    /// The items in order, each with the child after it.
+    /// Returns the items in order, each with the child after it.
     pub fn branches(&self) -> &Slots<Branch<K, V>, INTERNAL_SLOTS>
         ensures { map branch_pair result.now ≡ self.now.branches }
     {
         &self.branches
     }
 
-    /// The first index of a child's number.
+    /// Returns the first index of a child's number, if it is there.
     pub fn child_index(&self, id: usize) -> Option<usize>
         ensures value { result ≡ position (λ child. child == id) (children_of (view_of self.now)) }
         ensures within { IfSome result (λ index. index ≤ length self.now.branches) }
@@ -227,7 +226,7 @@ impl<K, V> InternalNode<K, V> {
         None
     }
 
-    /// The number of the child at an index, for which `child_id_opt` is the test.
+    /// Returns the number of the child at an index that has one, which `child_id_opt` decides.
     pub fn child_id(&self, index: usize) -> usize
         requires { index ≤ length self.now.branches }
         ensures { slice_get (children_of (view_of self.now)) index ≡ Some result }
@@ -235,7 +234,7 @@ impl<K, V> InternalNode<K, V> {
         child_id_among(self.first, &self.branches, index)
     }
 
-    /// The number of the child at an index, and `None` past the last.
+    /// Returns the number of the child at an index, or `None` past the last.
     pub fn child_id_opt(&self, index: usize) -> Option<usize>
         ensures { result ≡ slice_get (children_of (view_of self.now)) index }
     {
@@ -248,7 +247,7 @@ impl<K, V> InternalNode<K, V> {
         }
     }
 
-    /// The item at an offset, and `None` at -1 and past the end.
+    /// Returns the item at an offset, or `None` at -1 and past the end.
     pub fn item(&self, offset: Offset) -> Option<&Item<K, V>>
         ensures { option_copied result ≡ item_at_offset (view_of self.now) offset }
     {
@@ -261,8 +260,7 @@ impl<K, V> InternalNode<K, V> {
         }
     }
 
-    /// The item at an offset, to be written, and `None` at -1 and past the end. The order of the keys is
-    /// then up to the caller.
+    /// Returns the item at an offset for writing, or `None` at -1 and past the end. The order of the keys is then up to the caller.
     pub fn item_mut(&mut self, offset: Offset) -> Option<&mut Item<K, V>>
         ensures* writes_back { sem 𝓛 (internal_lends_item K.row V.row self.entry offset result) }
         ensures value { option_copied_mut result ≡ item_at_offset (view_of self.old) offset }
@@ -273,7 +271,7 @@ impl<K, V> InternalNode<K, V> {
         }
     }
 
-    // The item at an index, to be written.
+    // Returns the item at an index for writing.
     fn item_mut_at_index(&mut self, index: usize) -> Option<&mut Item<K, V>>
         ensures* writes_back { sem 𝓛 (internal_lends_item K.row V.row self.entry (Some index) result) }
         ensures value { option_copied_mut result ≡ slice_get (items_of (view_of self.old)) index }
@@ -284,21 +282,21 @@ impl<K, V> InternalNode<K, V> {
         }
     }
 
-    /// Whether there are too many items, too few, or neither. A root is judged like any other node.
+    /// Returns whether there are too many items, too few, or neither. A root is judged like any other node.
     pub fn balance(&self) -> Balance
         ensures { result ≡ balance_of (view_of self.now) }
     {
         Balance::of(self.item_count(), MAX_INTERNAL_ITEMS)
     }
 
-    /// Whether there are more than seven items.
+    /// Returns whether there are more than seven items.
     pub fn is_overflowing(&self) -> bool
         ensures { IsTrue result ↔ IsOverflowing (view_of self.now) }
     {
         self.item_count() > MAX_INTERNAL_ITEMS
     }
 
-    /// Whether there are fewer than three items. A root is judged like any other node.
+    /// Returns whether there are fewer than three items. A root is judged like any other node.
     pub fn is_underflowing(&self) -> bool
         ensures { IsTrue result ↔ IsUnderflowing (view_of self.now) }
     {
@@ -313,7 +311,7 @@ fn branch_at<K, V>(branches: &Slots<Branch<K, V>, INTERNAL_SLOTS>, index: usize)
     branches.get(index).unwrap()
 }
 
-// The number of the child at an index, where `first` is the one before all branches.
+// Returns the number of the child at an index; `first` is the child before all branches.
 fn child_id_among<K, V>(
     first: usize,
     branches: &Slots<Branch<K, V>, INTERNAL_SLOTS>,
@@ -329,7 +327,7 @@ fn child_id_among<K, V>(
     }
 }
 
-// The place of a key among the items.
+// Returns the place of a key among the items.
 fn place<K: Ord, V>(branches: &Slots<Branch<K, V>, INTERNAL_SLOTS>, key: &K) -> Result<usize, usize>
     requires { Ascends K.cmp (map (λ b. b.item) branches.now) }
     ensures place { result ≡ place_of K.cmp key.now (map (λ b. b.item) branches.now) }
@@ -345,8 +343,7 @@ impl<K: Ord, V> InternalNode<K, V> {
     ghost use Rattle.std.specs.Borrow.{sem};
     ghost use Rattle.btree_internal.specs.InternalLends.{internal_lends};
 
-    /// The value at a key, or the number of the child that may hold it, found with at most six
-    /// comparisons.
+    /// Returns `Ok` with the value at a key, or `Err` with the number of the child that may hold it. It makes at most six comparisons.
     pub fn get(&self, key: &K) -> Result<&V, usize>
         requires { Ascends K.cmp (items_of (view_of self.now)) }
         ensures { result_map (λ v. Some v.now) result ≡ look_up K.cmp key.now (view_of self.now) }
@@ -357,7 +354,7 @@ impl<K: Ord, V> InternalNode<K, V> {
         }
     }
 
-    // The place of a key among the items.
+    // Returns the place of a key among the items.
     fn find(&self, key: &K) -> Result<usize, usize>
         requires { Ascends K.cmp (items_of (view_of self.now)) }
         ensures place { result ≡ place_of K.cmp key.now (items_of (view_of self.now)) }
@@ -370,8 +367,8 @@ impl<K: Ord, V> InternalNode<K, V> {
         place(&self.branches, key)
     }
 
-    /// The value at a key, to be written, or the number of the child that may hold it, found with at most
-    /// six comparisons.
+    /// Returns `Ok` with the value at a key for writing, or `Err` with the number of the child that may hold it. It makes at most six
+    /// comparisons.
     pub fn get_mut(&mut self, key: &K) -> Result<&mut V, usize>
         requires { Ascends K.cmp (items_of (view_of self.old)) }
         ensures* writes_back { sem 𝓛 (internal_lends K.row V.row K.cmp self.entry key.now result) }
@@ -386,8 +383,8 @@ impl<K: Ord, V> InternalNode<K, V> {
         }
     }
 
-    /// The offset of a key where it is there, else the index and the number of the child that may hold
-    /// it, found with at most six comparisons.
+    /// Returns `Ok` with the offset of a key that is there, or `Err` with the index and the number of the child that may hold it. It
+    /// makes at most six comparisons.
     pub fn offset_of(&self, key: &K) -> Result<Offset, (usize, usize)>
         requires { Ascends K.cmp (items_of (view_of self.now)) }
         ensures value { result_map_err gap_with_child result ≡ offset_in K.cmp key.now (view_of self.now) }
@@ -404,8 +401,8 @@ impl<K: Drop, V: Drop> InternalNode<K, V> {
     ghost use Rattle.btree_view.specs.Edits.{HasSpare, HaveRoom, IsSplit, joined, pushed_left, pushed_right, with_item_at, with_other_item_at, without};
     ghost use Rattle.btree_view.specs.View.{child_after_offset, child_before_offset};
 
-    /// Puts an item at an offset, with a child after it, and moves those from there on up. The order of
-    /// the keys, and the child's own parent number, are up to the caller.
+    /// Inserts an item at an offset, with a child after it, and moves those from there on right by one. The order of the keys and the
+    /// child's parent are then up to the caller.
     pub fn insert(&mut self, offset: Offset, item: Item<K, V>, right_id: usize)
         requires room { length self.old.branches < INTERNAL_SLOTS }
         requires within { IsSomeAnd offset (λ index. index ≤ length self.old.branches) }
@@ -420,8 +417,7 @@ impl<K: Drop, V: Drop> InternalNode<K, V> {
         );
     }
 
-    /// Puts an item in the place of the one at an offset, which is answered. The children stay; the order
-    /// of the keys is up to the caller.
+    /// Replaces the item at an offset, and returns the old one. The children stay. The order of the keys is then up to the caller.
     pub fn replace(&mut self, offset: Offset, item: Item<K, V>) -> Item<K, V>
         requires { IsSomeAnd offset (λ index. index < length self.old.branches) }
         ensures answer { Some result ≡ item_at_offset (view_of self.old) offset }
@@ -434,8 +430,8 @@ impl<K: Drop, V: Drop> InternalNode<K, V> {
         }
     }
 
-    /// Takes the item at an offset out with the child after it, and moves those after it down. Answers
-    /// the number of the child before the item, the item, and the number of the child after it.
+    /// Removes the item at an offset and the child after it, and moves those after them left by one. Returns the number of the child
+    /// before the item, the item, and the number of the child after it.
     pub fn remove(&mut self, offset: Offset) -> (usize, Item<K, V>, usize)
         requires { IsSomeAnd offset (λ index. index < length self.old.branches) }
         ensures left { Some result.0 ≡ child_before_offset (view_of self.old) offset }
@@ -449,8 +445,8 @@ impl<K: Drop, V: Drop> InternalNode<K, V> {
         (left, item, child)
     }
 
-    /// Takes the item between two neighbouring children out, and the number of the right one with it.
-    /// Answers the left one's index, the numbers of both, the item, and how full the node is then.
+    /// Removes the item between two adjacent children, and the number of the right child. Returns the left one's index, the numbers of
+    /// both, the item, and the balance of the node after that.
     pub fn merge(&mut self, left: usize, right: usize) -> (usize, usize, usize, Item<K, V>, Balance)
         requires next { right ≡ left + 1 }
         requires within { right ≤ length self.old.branches }
@@ -467,9 +463,8 @@ impl<K: Drop, V: Drop> InternalNode<K, V> {
         (left, left_id, right_id, item, self.balance())
     }
 
-    /// Puts the separator with the other node's first child, and then the other node's branches, behind
-    /// its own. Each moves once. Answers the separator's offset. The order of the keys, and the children's
-    /// own parent numbers, are up to the caller.
+    /// Appends the separator with the other node's first child, and then the other node's branches. Each moves once. Returns the
+    /// separator's offset. The order of the keys and the parents of the children are up to the caller.
     pub fn append(&mut self, separator: Item<K, V>, other: InternalNode<K, V>) -> Offset
         requires { HaveRoom (view_of self.old) (view_of other) }
         ensures offset { result ≡ Some (length self.old.branches) }
@@ -484,8 +479,8 @@ impl<K: Drop, V: Drop> InternalNode<K, V> {
         offset
     }
 
-    /// Puts an item before the others, and a child before the others. The order of the keys, and the
-    /// child's own parent number, are up to the caller.
+    /// Inserts an item before the others, and a child before the others. The order of the keys and the child's parent are then up to the
+    /// caller.
     pub fn push_left(&mut self, item: Item<K, V>, child: usize)
         requires { length self.old.branches < INTERNAL_SLOTS }
         ensures { view_of self.new ≡ pushed_left item (Some child) (view_of self.old) }
@@ -501,8 +496,8 @@ impl<K: Drop, V: Drop> InternalNode<K, V> {
         self.first = child;
     }
 
-    /// Puts an item behind the others, and a child behind it. Answers the item's offset. The order of the
-    /// keys, and the child's own parent number, are up to the caller.
+    /// Appends an item, and a child after it. Returns the item's offset. The order of the keys and the child's parent are then up to the
+    /// caller.
     pub fn push_right(&mut self, item: Item<K, V>, child: usize) -> Offset
         requires { length self.old.branches < INTERNAL_SLOTS }
         ensures offset { result ≡ Some (length self.old.branches) }
@@ -513,14 +508,14 @@ impl<K: Drop, V: Drop> InternalNode<K, V> {
         offset
     }
 
-    // Whether there are more items than it has to keep.
+    // Returns whether there are more items than the fewest that it must keep.
     fn has_spare(&self) -> bool
         ensures { IsTrue result ↔ HasSpare (view_of self.now) }
     {
         self.item_count() > MIN_ITEMS
     }
 
-    /// Takes the first item out with the first child, where there are four items or more.
+    /// Removes and returns the first item and the first child, if there are four items or more.
     pub fn pop_left(&mut self) -> Result<(Item<K, V>, usize), WouldUnderflow>
         ensures spare { IfOk result (λ _. HasSpare (view_of self.old)) }
         ensures taken { IfOk result (InternalPopsLeft self.old self.new) }
@@ -535,8 +530,7 @@ impl<K: Drop, V: Drop> InternalNode<K, V> {
         Ok((item, first))
     }
 
-    /// Takes the last item out with the last child, where there are four items or more, and answers the
-    /// offset at which the item stood too.
+    /// Removes and returns the last item, with the offset that it had, and the last child, if there are four items or more.
     pub fn pop_right(&mut self) -> Result<(Offset, Item<K, V>, usize), WouldUnderflow>
         ensures spare { IfOk result (λ _. HasSpare (view_of self.old)) }
         ensures offset { IfOk result (λ popped. popped.0 ≡ Some (length self.new.branches)) }
@@ -550,16 +544,15 @@ impl<K: Drop, V: Drop> InternalNode<K, V> {
         Ok((offset_at(self.item_count()), item, child))
     }
 
-    /// Keeps the first three items of eight. Answers how many are left, the median, and a node with the
-    /// items after it, which begins with the child after the median and is under the same parent. The
-    /// children's own parent numbers are up to the caller.
+    /// Keeps the first three items of eight. Returns how many are kept, the median, and a node with the items after it, which begins with
+    /// the child after the median and has the same parent. The parents of the children are then up to the caller.
     pub fn split(&mut self) -> (usize, Item<K, V>, InternalNode<K, V>)
         requires { IsOverflowing (view_of self.old) }
         ensures parts { IsSplit (view_of self.old) result.1 (view_of self.new) (view_of result.2) }
         ensures left { result.0 ≡ INTERNAL_MEDIAN }
         ensures right { length result.2.branches ≡ MIN_ITEMS + 1 }
     {
-        // That there are eight at most shows how many the right part has.
+        // For the prover alone: there are at most eight items, which gives the size of the right part.
         let _count = self.item_count();
         let branches = self.branches.split_off(INTERNAL_MEDIAN + 1);
         let Branch { item, child } = self.branches.pop().unwrap();

@@ -17,7 +17,7 @@ Less-from_is_lt Less h = refl
 Less-from_is_lt Equal h = absurd (cc)
 Less-from_is_lt Greater h = absurd (cc)
 
--- what `<` answers, by the order that it agrees with
+-- what `<` returns, by the order that it agrees with
 pub is_lt-from_partial : {K : Type 0} {partial : K → K → Option Ordering} {cmp : K → K → Ordering} → Agrees partial cmp → (x y : K) (r : Bool) → r ≡ partial_lt partial x y → is_lt (cmp x y) ≡ r
 is_lt-from_partial agrees x y r answer = sym (answer ∙ ap (is_some_and is_lt) (agrees x y))
 
@@ -61,7 +61,8 @@ module _ {K : Type 0} {cmp : K → K → Ordering} where
   pub IsNotBelowAt-end : (k : K) (i : ℕ) (keys : List K) → length keys ≤ i → IsNotBelowAt cmp k i keys
   IsNotBelowAt-end k i keys past = record { stops = λ p here. absurd (omega (arith, slice_get_within keys i p here)) }
 
-  -- a place that stands, or is reached, is not below where the key that is read next is not
+  -- the key at index n is not below: this is known already if n is passed, or n is the index that is read next, and its
+  -- key is not below
   pub IsNotBelowAt-next : (k q : K) (n i : ℕ) (keys : List K) → (n < i → IsNotBelowAt cmp k n keys) → n ≤ i → slice_get keys i ≡ Some q → is_lt (cmp q k) ≡ false → n < i + 1 → IsNotBelowAt cmp k n keys
   IsNotBelowAt-next k q n i keys stood reached at not_below within = elim (cases_lt n i) [
     | inl earlier ↦ stood earlier
@@ -186,7 +187,7 @@ module _ {K : Type 0} {cmp : K → K → Ordering} where
     pub key_place-between : (k q : K) (i : ℕ) (keys : List K) → IsStrictlySortedBy cmp keys → IsFirstNotBelow cmp k i keys → slice_get keys i ≡ Some q → is_eq (cmp q k) ≡ false → key_place cmp k keys ≡ Err i
     key_place-between k q i keys up first at apart = key_place-gap k i keys up first (λ p here. let equal : q ≡ p = cc in rw (← equal) apart)
 
-    -- in keys that ascend, those before one that is below are below too
+    -- in ascending keys, those before one that is below are below too
     below_up_to : (k x : K) (m : ℕ) (keys : List K) → IsStrictlySortedBy cmp keys → slice_get keys m ≡ Some x → cmp x k ≡ Less → (i : ℕ) (q : K) → i < m + 1 → slice_get keys i ≡ Some q → cmp q k ≡ Less
     below_up_to k x m [] up at less i q within here = absurd (cc)
     below_up_to k x zero (y ∷ keys) up at less zero q within here = let equal : x ≡ q = cc in rw (← equal) less

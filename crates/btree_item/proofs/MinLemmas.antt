@@ -33,7 +33,7 @@ module _ {K : Type 0} {cmp : K → K → Ordering} where
         let no = ap is_lt (o.trans y k x flip less) in
         absurd (cc)
 
-    -- those from a key that is above k on are above k
+    -- the keys from one that is above k on are above k
     pub AllAbove-from_key : (k x : K) (m : ℕ) (keys : List K) → IsSorted cmp keys → slice_get keys m ≡ Some x → cmp k x ≡ Less → AllAbove cmp k m keys
     AllAbove-from_key k x m keys up at less = record {
       above = λ i q from here.

@@ -1,4 +1,4 @@
--- What an edit of a list of pairs leaves: the keys' order, the length, and that a pair put in comes out again.
+-- What an edit of a list of pairs leaves: the order of the keys, the length, and that a pair inserted is removed again.
 use Rattle.std.proofs.Common.{◌≡◌, ℕ, ◌+◌, ◌<◌, ◌≤◌, Bool, true, false, cond, List, [], ◌∷◌, Option, Some, None, length, zero, suc, refl, sym, ◌∙◌, ap, subst, arith, Ordering}
 use Rattle.std.specs.declared.cmp.Ordering.TheVariants.{Less, Equal, Greater}
 use Rattle.std.specs.Prelude.{IsSome, is_some, slice_get}
@@ -20,13 +20,13 @@ use Rattle.btree_item.proofs.KeyLemmas.{AllBelow-none, AllBelow-from_key, IsFirs
 use Rattle.btree_item.proofs.PairLemmas.{None-from_is_some, count_below-keys_of, has_key-keys_of}
 
 module _ {X : Type 0} where
-  -- a value that was taken out, put back
+  -- to remove a value and insert it again changes nothing
   pub insert-remove : (xs : List X) (p : ℕ) (x : X) → slice_get xs p ≡ Some x → insert (remove xs p) p x ≡ xs
   insert-remove [] p x at = absurd (cc)
   insert-remove (y ∷ xs) zero x at = ap (λ z. z ∷ xs) (cc)
   insert-remove (y ∷ xs) (suc p) x at = ap (λ l. y ∷ l) (insert-remove xs p x at)
 
-  -- a value that was put in, taken out
+  -- to insert a value and remove it again changes nothing
   pub remove-insert : (xs : List X) (p : ℕ) (x : X) → p ≤ length xs → remove (insert xs p x) p ≡ xs
   remove-insert xs zero x within = refl
   remove-insert [] (suc p) x within = absurd (omega arith)
@@ -102,7 +102,7 @@ module _ {K V : Type 0} (cmp : K → K → Ordering) where
       let P : List K → Type 0 = λ keys. IsStrictlySortedBy cmp keys in
       subst P (sym (keys_of-with_value k w xs)) up
 
-  -- ---- a pair that goes in, or a value that is exchanged
+  -- ---- a pair that is inserted, or a value that is replaced
   length-inserted_by : (o : Option (K × V)) (k : K) (w : V) (xs : List (K × V)) → found cmp k xs ≡ o → length (inserted cmp k w xs) ≡ cond (is_some o) (length xs) (length xs + 1)
   length-inserted_by None k w xs is = rw is (length-insert xs (before cmp k xs) (k, w) (before-le-length k xs))
   length-inserted_by (Some x) k w xs is = rw is (length-with_value k w xs)
@@ -161,7 +161,7 @@ module _ {K V : Type 0} (cmp : K → K → Ordering) where
         let gap = has_key-gap o k p (keys_of xs) up (IsFirstNotBelow-from_KeyFits k p xs up fits) (λ q at. ap is_eq (Greater-from_Less cmp o k q (above_at xs p k q fits.below at))) in
         None-from_is_some (found cmp k xs) (sym (has_key-keys_of cmp k xs) ∙ gap)
 
-    -- a pair that is put in where its key fits leaves the keys in order
+    -- a pair inserted where its key fits leaves the keys in order
     pub Ascends-insert : (k : K) (w : V) (p : ℕ) (xs : List (K × V)) → Ascends cmp xs → KeyFits cmp k p xs → Ascends cmp (insert xs p (k, w))
     Ascends-insert k w p xs up fits =
         let P : List K → Type 0 = λ keys. IsStrictlySortedBy cmp keys in
@@ -200,11 +200,11 @@ module _ {K V : Type 0} (cmp : K → K → Ordering) where
     pub Ascends-inserted : (k : K) (w : V) (xs : List (K × V)) → Ascends cmp xs → Ascends cmp (inserted cmp k w xs)
     Ascends-inserted k w xs up = inserted_by (found cmp k xs) k w xs refl up
 
--- what leaves the keys in order
+-- the edits that leave the keys in order
 pub ruleset order_kept = (Ascends-none, Ascends-one, Ascends-with_value, Ascends-insert, Ascends-insert_before, Ascends-inserted)
 
--- how long an edited list is
+-- the length of an edited list
 pub ruleset edited_lengths = (before-le-length, length-with_value, length-inserted_absent, length-inserted_present)
 
--- what was taken out and put back, or put in and taken out
+-- a removal and an insertion at the same place undo each other
 pub ruleset put_and_taken = (insert-remove, remove-insert, slice_get-insert)

@@ -24,7 +24,7 @@ Err-cases true n i h = absurd (cc)
 Err-cases false n i h = (refl, cc)
 
 module _ {K V : Type 0} (cmp : K → K → Ordering) where
-  -- ---- the keys say as much as the pairs
+  -- ---- the same for the keys as for the pairs
   pub count_below-keys_of : (k : K) (xs : List (K × V)) → count_below cmp k (keys_of xs) ≡ before cmp k xs
   count_below-keys_of k [] = refl
   count_below-keys_of k (x ∷ xs) =
@@ -46,7 +46,7 @@ module _ {K V : Type 0} (cmp : K → K → Ordering) where
       let count = count_below-keys_of k xs in
       rw (has, count) refl
 
-  -- ---- what a place says
+  -- ---- what a place means
   pub before-from_Ok : (k : K) (xs : List (K × V)) (i : ℕ) → place_of cmp k xs ≡ Ok i → before cmp k xs ≡ i
   before-from_Ok k xs i place = (Ok-cases (is_some (found cmp k xs)) (before cmp k xs) i place).1
 
@@ -91,7 +91,7 @@ module _ {K V : Type 0} (cmp : K → K → Ordering) where
         let none = found-later k x xs up (ap is_lt is) in
         absurd (cc)
 
-    -- the pair with the key stands after those with smaller keys
+    -- the pair with the key is after those with smaller keys
     pub slice_get-before : (k : K) (p : K × V) (xs : List (K × V)) → Ascends cmp xs → found cmp k xs ≡ Some p → slice_get xs (before cmp k xs) ≡ Some p
     slice_get-before k p [] up finds = absurd (cc)
     slice_get-before k p (x ∷ xs) up finds =
@@ -139,7 +139,7 @@ module _ {K V : Type 0} (cmp : K → K → Ordering) where
         let present = (Ok-cases (is_some (found cmp k xs)) (before cmp k xs) i place).0 in
         rw present (sym (set-from_Ok k w xs i p up place at))
 
-    -- what a search answers, said of the pairs
+    -- the result of a search, in terms of the pairs
     pub slice_get-from_place : (k : K) (xs : List (K × V)) (r : Result ℕ ℕ) → Ascends cmp xs → r ≡ place_of cmp k xs → IfOk r (λ i. slice_get xs i ≡ found cmp k xs)
     slice_get-from_place k xs (Ok i) up place = slice_get-from_Ok k xs i up (sym place)
     slice_get-from_place k xs (Err i) up place = tt

@@ -1,4 +1,4 @@
--- What an edit of a list of options leaves of the values, where every option holds one.
+-- What an edit of a list of options leaves of the values, if every option holds one.
 use Rattle.std.proofs.Common.{◌≡◌, ℕ, ◌<◌, List, [], ◌∷◌, ◌++◌, Option, Some, map, length, take, drop, set, get_or, zero, suc, refl, sym, ◌∙◌, ap, arith}
 use Rattle.std.specs.Prelude.{slice_get, IsSome}
 use Rattle.std.specs.List.{insert, remove}
@@ -115,7 +115,7 @@ module _ {T : Type 0} where
   pub set-read : (slots : List (Option T)) (i : ℕ) (r : Option T) → r ≡ get_or slots i r → set slots i r ≡ slots
   set-read slots i r read = ap (set slots i) read ∙ set-get_or slots i r
 
-  -- what was read, written back, changes nothing
+  -- to write back what was read changes nothing
   pub AreSome-set_read : (slots : List (Option T)) (i : ℕ) (r : Option T) → AreSome slots → r ≡ get_or slots i r → AreSome (set slots i r)
   AreSome-set_read slots i r h read = rw (set-read slots i r read) h
 

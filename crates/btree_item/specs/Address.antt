@@ -1,9 +1,9 @@
--- An address as a clause sees it.
+-- An address as contracts see it.
 use Rattle.std.specs.Prelude.{ℕ, List, ◌++◌, codes}
 use Rattle.std.specs.Fmt.{decimal}
 use Rattle.btree_item.specs.declared.address.Address.{Address}
 use Rattle.btree_item.specs.Offset.{offset_text}
 
--- what is printed of an address
+-- the printed text of an address
 abbrev pub address_text : Address → List ℕ
 address_text a = codes "@" ++ decimal a.id ++ codes ":" ++ offset_text a.offset

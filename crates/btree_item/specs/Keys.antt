@@ -1,4 +1,4 @@
--- Where a key is, or would be, in a list of keys that ascend.
+-- Where a key is, or would be, in an ascending list of keys.
 use Rattle.std.specs.Prelude.{◌≡◌, ℕ, ◌<◌, ◌≤◌, Bool, true, false, suc, List, Some, Result, Ok, Err, length, slice_get, if◌then◌else◌}
 use Rattle.std.specs.List.{count_by, list_any}
 use Rattle.std.specs.declared.cmp.Ordering.{Ordering}
@@ -14,7 +14,7 @@ module _ {K : Type 0} (cmp : K → K → Ordering) where
   abbrev pub has_key : K → List K → Bool
   has_key k keys = list_any (λ q. is_eq (cmp q k)) keys
 
-  -- Ok with the place of the key that is equal to k, else Err with the number of smaller keys
+  -- Ok with the place of the key that is equal to k; Err with the number of smaller keys
   abbrev pub key_place : K → List K → Result ℕ ℕ
   key_place k keys = if has_key k keys then Ok (count_below k keys) else Err (count_below k keys)
 
@@ -30,7 +30,7 @@ module _ {K : Type 0} (cmp : K → K → Ordering) where
   pub record IsNotBelowAt (k : K) (i : ℕ) (keys : List K) : Type 0 where
     pub stops : (q : K) → slice_get keys i ≡ Some q → is_lt (cmp q k) ≡ false
 
-  -- the keys before i are below k, and the one there is not
+  -- the keys before i are below k, and the one at i is not
   pub record IsFirstNotBelow (k : K) (i : ℕ) (keys : List K) : Type 0 where
     pub within : i ≤ length keys
     pub before : AllBelow k i keys

@@ -1,13 +1,13 @@
--- An offset as a clause sees it: `None` stands for -1.
+-- An offset as contracts see it: `None` stands for -1.
 use Rattle.std.specs.Prelude.{ℕ, ◌+◌, ◌-◌, ◌^◌, ◌==◌, zero, suc, List, Option, Some, None, codes, if◌then◌else◌}
 use Rattle.std.specs.Fmt.{decimal}
 
--- what an offset is kept as: one more than its number, and 0 for -1
+-- the number that an offset is stored as: one more than its own, and 0 for -1
 abbrev pub kept_number : Option ℕ → ℕ
 kept_number None = 0
 kept_number (Some n) = n + 1
 
--- the offset that a number is kept for
+-- the offset that a number is stored for
 abbrev pub kept_offset : ℕ → Option ℕ
 kept_offset zero = None
 kept_offset (suc n) = Some n
@@ -16,18 +16,18 @@ kept_offset (suc n) = Some n
 abbrev pub index_offset : ℕ → Option ℕ
 index_offset n = if n == 2 ^ 64 - 1 then None else Some n
 
--- the offset one up: -1 becomes 0
+-- the next offset: after -1 comes 0
 abbrev pub offset_after : Option ℕ → Option ℕ
 offset_after None = Some 0
 offset_after (Some n) = Some (n + 1)
 
--- the offset one down: 0 becomes -1, and there is none below that
+-- the offset before: before 0 comes -1, and -1 stays
 abbrev pub offset_before : Option ℕ → Option ℕ
 offset_before None = None
 offset_before (Some zero) = None
 offset_before (Some (suc n)) = Some n
 
--- what is printed of an offset
+-- the printed text of an offset
 abbrev pub offset_text : Option ℕ → List ℕ
 offset_text None = codes "-1"
 offset_text (Some n) = decimal n

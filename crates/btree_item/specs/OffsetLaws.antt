@@ -1,4 +1,4 @@
--- What an offset is kept as gives it back.
+-- The stored number of an offset gives the offset back.
 use Rattle.std.specs.Prelude.{◌≡◌, ℕ, zero, suc, refl}
 use Rattle.std.proofs.Common.{add-one, ap}
 use Rattle.btree_item.specs.declared.offset.Offset.TheInside.{Inside}

@@ -25,7 +25,7 @@ module _ {K V : Type 0} (cmp : K → K → Ordering) where
   abbrev pub found_value : K → List (K × V) → Option V
   found_value k xs = option_map (λ x. x.1) (found k xs)
 
-  -- Ok with the place of the pair whose key is equal to k, else Err with the number of smaller keys
+  -- Ok with the place of the pair whose key is equal to k; Err with the number of smaller keys
   abbrev pub place_of : K → List (K × V) → Result ℕ ℕ
   place_of k xs = if is_some (found k xs) then Ok (before k xs) else Err (before k xs)
 
@@ -33,7 +33,7 @@ module _ {K V : Type 0} (cmp : K → K → Ordering) where
   abbrev pub with_value : K → V → List (K × V) → List (K × V)
   with_value k w xs = set_value (λ q. is_eq (cmp q k)) xs w
 
-  -- after an insertion: an equal key stays and takes the value, else the pair goes in at its place
+  -- after an insertion: an equal key stays and gets the value; otherwise the pair is inserted at its place
   abbrev pub inserted : K → V → List (K × V) → List (K × V)
   inserted k w xs = if is_some (found k xs) then with_value k w xs else insert xs (before k xs) (k, w)
 

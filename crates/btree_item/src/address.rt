@@ -19,7 +19,7 @@ impl Address {
         Address { id, offset }
     }
 
-    /// The address of no node.
+    /// Returns the address of no node.
     pub fn nowhere() -> Self
         ensures { result ≡ record { id = usize.MAX; offset = Some 0 } }
     {
@@ -29,7 +29,7 @@ impl Address {
         }
     }
 
-    /// Whether the address is of no node, at whatever offset.
+    /// Returns whether the address is that of no node, at whatever offset.
     pub fn is_nowhere(&self) -> bool
         ensures { IsTrue result ↔ (self.now.id ≡ usize.MAX) }
     {

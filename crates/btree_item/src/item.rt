@@ -9,7 +9,7 @@ use std::cmp::Ordering;
 use std::marker::Model;
 use std::mem;
 
-/// A value that has a key, by which lists of such values are searched.
+/// A value with a key, by which lists of such values are searched.
 pub trait Keyed {
     type Key;
 
@@ -48,7 +48,7 @@ impl<K, V> Item<K, V> {
         &self.pair.0
     }
 
-    /// The key, to be written. In a node the order of the keys is then up to the caller.
+    /// Returns the key for writing. In a node the order of the keys is then up to the caller.
     pub fn key_mut(&mut self) -> &mut K
         ensures* writes_back { sem 𝓛 (lends_key K.row V.row self.entry result) }
         ensures key { result.now ≡ self.old.0 }
@@ -62,7 +62,7 @@ impl<K, V> Item<K, V> {
         &self.pair.1
     }
 
-    /// The value, to be written.
+    /// Returns the value for writing.
     pub fn value_mut(&mut self) -> &mut V
         ensures* writes_back { sem 𝓛 (lends_value K.row V.row self.entry result) }
         ensures value { result.now ≡ self.old.1 }
@@ -70,7 +70,7 @@ impl<K, V> Item<K, V> {
         &mut self.pair.1
     }
 
-    /// Exchanges both, and returns what stood there.
+    /// Replaces both, and returns the old ones.
     pub fn set(&mut self, key: K, value: V) -> (K, V)
         ensures answer { result ≡ self.old }
         ensures after { self.new ≡ (key, value) }
@@ -78,7 +78,7 @@ impl<K, V> Item<K, V> {
         mem::replace(&mut self.pair, (key, value))
     }
 
-    /// Exchanges the key, and returns the one that stood there.
+    /// Replaces the key, and returns the old one.
     pub fn set_key(&mut self, key: K) -> K
         ensures answer { result ≡ self.old.0 }
         ensures after { self.new ≡ (key, self.old.1) }
@@ -86,7 +86,7 @@ impl<K, V> Item<K, V> {
         mem::replace(&mut self.pair.0, key)
     }
 
-    /// Exchanges the value, and returns the one that stood there.
+    /// Replaces the value, and returns the old one.
     pub fn set_value(&mut self, value: V) -> V
         ensures answer { result ≡ self.old.1 }
         ensures after { self.new ≡ (self.old.0, value) }
@@ -101,7 +101,7 @@ impl<K, V> Item<K, V> {
         pair
     }
 
-    /// The same as `into_pair`.
+    /// Does the same as `into_pair`.
     pub fn into_inner(self) -> (K, V)
         ensures { result ≡ self }
     {
@@ -115,8 +115,8 @@ impl<K, V> Item<K, V> {
         (&self.pair.0, &self.pair.1)
     }
 
-    /// Both, to be written. The item is then what was written, but the contract is silent on that: a
-    /// caller that has to know it takes `pair_mut`.
+    /// Returns both for writing. The item is then what was written, but the contract does not say so: a caller that needs that uses
+    /// `pair_mut`.
     pub fn as_pair_mut(&mut self) -> (&mut K, &mut V)
         ensures key { result.0.now ≡ self.old.0 }
         ensures value { result.1.now ≡ self.old.1 }
@@ -125,7 +125,7 @@ impl<K, V> Item<K, V> {
         (key, value)
     }
 
-    /// Both as one pair, to be written.
+    /// Returns both as one pair, for writing.
     pub fn pair_mut(&mut self) -> &mut (K, V)
         ensures* writes_back { sem 𝓛 (lends_pair K.row V.row self.entry result) }
         ensures pair { result.now ≡ self.old }
@@ -133,7 +133,7 @@ impl<K, V> Item<K, V> {
         &mut self.pair
     }
 
-    /// The item itself, as Rust's `as_ref` gives it.
+    /// Returns the item itself, like Rust's `as_ref`.
     pub fn as_item(&self) -> &Item<K, V>
         ensures { result.now ≡ self.now }
     {
@@ -142,7 +142,7 @@ impl<K, V> Item<K, V> {
 }
 
 impl<K, V: Drop> Item<K, V> {
-    /// The key; the value is dropped.
+    /// Returns the key, and drops the value.
     pub fn into_key(self) -> K
         ensures { result ≡ self.0 }
     {
@@ -151,7 +151,7 @@ impl<K, V: Drop> Item<K, V> {
 }
 
 impl<K: Drop, V> Item<K, V> {
-    /// The value; the key is dropped.
+    /// Returns the value, and drops the key.
     pub fn into_value(self) -> V
         ensures { result ≡ self.1 }
     {

@@ -17,8 +17,8 @@ pub use searches::{binary_search_min, search};
 pub use slots::Slots;
 pub use slots_iter::SlotsIter;
 
-/// The order of the tree. A leaf holds at most `M` items, and an internal node has at most `M` children.
-/// The other numbers follow from it; it cannot be chosen.
+/// The order of the tree. A leaf holds at most `M` items, and an internal node has at most `M` children. The other numbers follow from
+/// it. `M` is fixed.
 pub const M: usize = 8;
 
 /// The most items of a leaf.
@@ -30,10 +30,10 @@ pub const MAX_INTERNAL_ITEMS: usize = M - 1;
 /// The fewest items of a leaf or an internal node other than the root.
 pub const MIN_ITEMS: usize = M / 2 - 1;
 
-/// The items that stay in a leaf when it is split, and so the index of its median.
+/// The number of items that a leaf keeps when it is split, and so the index of its median.
 pub const LEAF_MEDIAN: usize = MAX_LEAF_ITEMS / 2;
 
-/// The items that stay in an internal node when it is split, and so the index of its median.
+/// The number of items that an internal node keeps when it is split, and so the index of its median.
 pub const INTERNAL_MEDIAN: usize = MAX_INTERNAL_ITEMS / 2;
 
 /// The slots of a leaf: room for one item too many, until it is split.
@@ -45,5 +45,5 @@ pub const INTERNAL_SLOTS: usize = MAX_INTERNAL_ITEMS + 1;
 /// The most levels of a tree whose items a `usize` can count.
 pub const MAX_LEVELS: usize = 32;
 
-/// The most nodes that an insertion takes: one for each level, and a root.
+/// The most nodes that an insertion uses: one for each level, and one for a new root.
 pub const MAX_CLAIMS: usize = MAX_LEVELS + 1;

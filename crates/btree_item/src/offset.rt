@@ -31,21 +31,21 @@ impl Model for Offset {
 }
 
 impl Offset {
-    /// The offset -1, before the first item.
+    /// Returns the offset -1, before the first item.
     pub fn before() -> Self
         ensures { result ≡ None }
     {
         Offset { above: 0 }
     }
 
-    /// Whether the offset is -1.
+    /// Returns whether the offset is -1.
     pub fn is_before(&self) -> bool
         ensures { result ≡ is_none self.now }
     {
         self.value().is_none()
     }
 
-    /// The number, and `None` at -1.
+    /// Returns the number, or `None` at -1.
     pub fn value(&self) -> Option<usize>
         ensures value { result ≡ self.now }
         ensures bound { IfSome result (λ n. n < usize.MAX) }
@@ -57,7 +57,7 @@ impl Offset {
         }
     }
 
-    /// The number of an offset other than -1, for which `is_before` is the test.
+    /// Returns the number of an offset other than -1, which `is_before` decides.
     pub fn unwrap(self) -> usize
         requires { IsSome self }
         ensures value { self ≡ Some result }
@@ -66,7 +66,7 @@ impl Offset {
         self.above - 1
     }
 
-    /// Moves one up: from -1 to 0.
+    /// Adds one: -1 becomes 0.
     pub fn incr(&mut self)
         requires { self.old ≢ Some (usize.MAX - 1) }
         ensures { self.new ≡ offset_after self.old }
@@ -74,7 +74,7 @@ impl Offset {
         self.above += 1;
     }
 
-    /// Moves one down: from 0 to -1, below which there is none.
+    /// Subtracts one: 0 becomes -1, which is the least.
     pub fn decr(&mut self)
         requires { IsSome self.old }
         ensures { self.new ≡ offset_before self.old }

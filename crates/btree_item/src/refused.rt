@@ -5,11 +5,11 @@
 pub enum Cause {
     /// The store had no room for a node.
     Store,
-    /// The map holds as many pairs as it may.
+    /// The map holds as many pairs as it can count.
     Count,
 }
 
-/// A refused insertion: why, and the key and the value, which come back.
+/// A refused insertion: the cause, and the key and the value, which the caller gets back.
 #[derive(Debug, Drop)]
 pub struct Refused<K, V> {
     pub cause: Cause,

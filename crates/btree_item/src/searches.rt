@@ -1,11 +1,11 @@
-//! Searches in slots that are in the order of their keys.
+//! Searches in slots in the order of their keys.
 ghost use Rattle.std.specs.Prelude.{◌≡◌, ◌<◌, ◌≤◌, Some, IfNone, IfSome, length, map, slice_get};
 ghost use Rattle.std.specs.List.Sorted.{IsSearchInRange, IsSorted, IsStrictlySortedBy};
 ghost use Rattle.btree_item.specs.Keys.{key_place, AllAbove, AllBelow, IsFirstNotBelow, IsLastAtMost, IsNotBelowAt};
 
 use crate::{Keyed, Slots};
 
-// Where a search divides the slots: the middle of nine.
+// The index at which a search divides the slots: the middle of nine.
 const MIDDLE: usize = 4;
 
 fn key_at<T: Keyed, const N: usize>(slots: &Slots<T, N>, index: usize) -> &T::Key
@@ -15,7 +15,8 @@ fn key_at<T: Keyed, const N: usize>(slots: &Slots<T, N>, index: usize) -> &T::Ke
     slots.get(index).unwrap().key()
 }
 
-// The first index from `start` to `end` whose key is not below. It compares all of these, so that no branch depends on where that is.
+// Returns the first index from `start` to `end` whose key is not below. It compares all of these, so that no branch depends on where that
+// is.
 #[tactic(auto, using(crate::proofs::KeyLemmas::search_steps))]
 fn first_not_below<T: Keyed, const N: usize>(
     slots: &Slots<T, N>,
@@ -41,7 +42,7 @@ where
     place
 }
 
-// The same over all slots. The key in the middle says which half to look through.
+// Does the same over all slots. The key in the middle decides which half to search.
 #[tactic(auto, using(crate::proofs::KeyLemmas::search_halves))]
 fn lower_bound<T: Keyed, const N: usize>(slots: &Slots<T, N>, key: &T::Key) -> usize
 where
@@ -59,9 +60,8 @@ where
     }
 }
 
-/// The place of a key in slots whose keys ascend strictly: Ok where it is there, else Err with the
-/// number of smaller keys. In up to nine slots it compares at most six times: five times by `<`, and
-/// then once by `==`.
+/// Returns the place of a key in slots whose keys ascend strictly: `Ok` if it is there, or `Err` with the number of smaller keys. In up
+/// to nine slots it makes at most six comparisons: five by `<`, and then one by `==`.
 pub fn search<T: Keyed, const N: usize>(slots: &Slots<T, N>, key: &T::Key) -> Result<usize, usize>
 where
     T::Key: Ord,
@@ -78,8 +78,8 @@ where
     }
 }
 
-/// The last index whose key is at most the given one, in slots whose keys do not descend; equal keys
-/// may stand side by side. It halves the slots until one is left.
+/// Returns the last index whose key is at most the given one, in slots whose keys do not descend; equal keys may be adjacent. It halves
+/// the slots until one is left.
 #[tactic(auto, using(crate::proofs::MinLemmas::min_steps))]
 pub fn binary_search_min<T: Keyed, const N: usize>(
     slots: &Slots<T, N>,

@@ -1,4 +1,4 @@
-//! Lists of at most `N` values, kept inside.
+//! Lists of at most `N` values, stored inline.
 ghost use Rattle.std.specs.Prelude.{◌≡◌, ◌+◌, ◌-◌, ◌<◌, ◌≤◌, [], ◌∷◌, ◌++◌, Some, length, take, drop, slice_get, slice_set};
 ghost use Rattle.std.specs.List.{insert, remove};
 ghost use Rattle.std.specs.Borrow.{sem};
@@ -8,8 +8,7 @@ use crate::SlotsIter;
 use arrayvec::ArrayVec;
 use std::marker::Model;
 
-/// A list of at most `N` values. They are kept inside, so that it never allocates, and as options, so
-/// that a value needs no default.
+/// A list of at most `N` values. They are stored inline, so that it never allocates, and as options, so that a value needs no default.
 #[derive(Drop)]
 pub struct Slots<T, const N: usize> {
     slots: ArrayVec<Option<T>, N>,
@@ -37,7 +36,7 @@ impl<T, const N: usize> Slots<T, N> {
         self.slots.len()
     }
 
-    /// The value at an index, and `None` past the end.
+    /// Returns the value at an index, or `None` past the end.
     pub fn get(&self, index: usize) -> Option<&T>
         ensures { option_copied result ≡ slice_get self.now index }
     {
@@ -47,7 +46,7 @@ impl<T, const N: usize> Slots<T, N> {
         }
     }
 
-    /// The value at an index, to be written, and `None` past the end.
+    /// Returns the value at an index for writing, or `None` past the end.
     pub fn get_mut(&mut self, index: usize) -> Option<&mut T>
         ensures* writes_back { sem 𝓛 (lends_slot T.row N.row self.entry index result) }
         ensures value { option_copied_mut result ≡ slice_get self.old index }
@@ -58,7 +57,7 @@ impl<T, const N: usize> Slots<T, N> {
         }
     }
 
-    /// The values in order.
+    /// Returns an iterator over the values in order.
     pub fn iter(&self) -> SlotsIter<'_, T>
         ensures { result ≡ self.now }
     {
@@ -78,7 +77,7 @@ impl<T: Drop, const N: usize> Slots<T, N> {
         }
     }
 
-    /// Appends a value. There has to be room for it.
+    /// Appends a value. There must be room for it.
     pub fn push(&mut self, value: T)
         requires { length self.old < N }
         ensures { self.new ≡ self.old ++ value ∷ [] }
@@ -86,7 +85,7 @@ impl<T: Drop, const N: usize> Slots<T, N> {
         self.slots.push(Some(value));
     }
 
-    /// Puts a value at an index, and moves those from there on up. There has to be room for it.
+    /// Inserts a value at an index, and moves those from there on right by one. There must be room for it.
     pub fn insert(&mut self, index: usize, value: T)
         requires within { index ≤ length self.old }
         requires room { length self.old < N }
@@ -95,7 +94,7 @@ impl<T: Drop, const N: usize> Slots<T, N> {
         self.slots.insert(index, Some(value));
     }
 
-    /// Takes the value at an index out, and moves those after it down.
+    /// Removes and returns the value at an index, and moves those after it left by one.
     pub fn remove(&mut self, index: usize) -> T
         requires { index < length self.old }
         ensures answer { slice_get self.old index ≡ Some result }
@@ -104,7 +103,7 @@ impl<T: Drop, const N: usize> Slots<T, N> {
         self.slots.remove(index).unwrap()
     }
 
-    /// Takes the last value out, if there is one.
+    /// Removes and returns the last value, if there is one.
     pub fn pop(&mut self) -> Option<T>
         ensures answer { result ≡ slice_get self.old (length self.old - 1) }
         ensures after { self.new ≡ take (length self.old - 1) self.old }
@@ -115,7 +114,7 @@ impl<T: Drop, const N: usize> Slots<T, N> {
         }
     }
 
-    /// Appends the other list's values. Each moves once. There has to be room for them.
+    /// Appends the values of the other list. Each moves once. There must be room for them.
     pub fn append(&mut self, other: Self)
         requires { length self.old + length other ≤ N }
         ensures { self.new ≡ self.old ++ other }
@@ -123,7 +122,7 @@ impl<T: Drop, const N: usize> Slots<T, N> {
         append_to(&mut self.slots, other.slots);
     }
 
-    /// Takes the values from an index on out, as slots of their own. Each moves once.
+    /// Removes the values from an index on, and returns them as a list of their own. Each moves once.
     pub fn split_off(&mut self, at: usize) -> Self
         requires { at ≤ length self.old }
         ensures answer { result ≡ drop at self.old }
@@ -135,7 +134,7 @@ impl<T: Drop, const N: usize> Slots<T, N> {
     }
 }
 
-// Moves the other values behind these.
+// Moves the other values to the end of these.
 fn append_to<T: Drop, const N: usize>(
     slots: &mut ArrayVec<Option<T>, N>,
     mut other: ArrayVec<Option<T>, N>,
@@ -149,7 +148,7 @@ fn append_to<T: Drop, const N: usize>(
     }
 }
 
-// Moves the values from an index on out. Not inlined, so that they are written once into the caller's place.
+// Moves out the values from an index on. Not inlined, so that they are written once into the caller's place.
 #[inline(never)]
 fn tail_from<T: Drop, const N: usize>(
     slots: &mut ArrayVec<Option<T>, N>,

@@ -6,7 +6,7 @@ ghost use Rattle.std.specs.Iterator.{YieldsFirstRef, item_count, UpTo};
 use std::marker::Model;
 use std::slice;
 
-/// The values in slots, in order, seen as the list of those that are left.
+/// An iterator over the values in slots, in order, seen by contracts as the list of those that are left.
 #[derive(Drop)]
 pub struct SlotsIter<'a, T> {
     pub(crate) slots: slice::Iter<'a, Option<T>>,
@@ -39,7 +39,7 @@ impl<'a, T> Iterator for SlotsIter<'a, T> {
         slot.as_ref()
     }
 
-    /// How many values are left, twice.
+    /// Returns how many values are left, as both bounds.
     fn size_hint(&self) -> (usize, Option<usize>)
         ensures exact { result ≡ (length self.now, Some (length self.now)) }
         ensures lower { IsWithinCount result.0 (item_count (λ rest. rest) self.now) }

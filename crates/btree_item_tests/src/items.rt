@@ -120,7 +120,7 @@ fn edits_slots(rt: HostRuntime) {
     assert_eq!(rt; left.next(), None);
 }
 
-// Puts a key in where a search says, which keeps the keys in order.
+// Inserts a key at the index that a search returns, which keeps the keys in order.
 fn add<'a>(slots: &mut Slots<Item<Counted<'a>, u32>, 9>, key: Counted<'a>)
     requires room { length slots.old < 9 }
     requires ascends { Ascends (on (λ key. key.number) nat_cmp) slots.old }
@@ -132,7 +132,7 @@ fn add<'a>(slots: &mut Slots<Item<Counted<'a>, u32>, 9>, key: Counted<'a>)
     }
 }
 
-// The keys are 1, 3, 5, up to nine of them; each of these and each number between is sought.
+// The keys are 1, 3, 5, up to nine of them; each of these and each number between is searched for.
 #[test]
 fn compares_at_most_six_times(rt: HostRuntime) {
     let compared = Cell::new(0);

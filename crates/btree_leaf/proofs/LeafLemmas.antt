@@ -1,4 +1,4 @@
--- What a leaf ends as, where an item of it is written or put in.
+-- A leaf after an item of it is written or inserted.
 use Rattle.std.proofs.Common.{◌≡◌, ℕ, List, Option, Some, Ok, Err, Result, sym, ◌∙◌, ap, set, subst, Ordering}
 use Rattle.std.specs.Prelude.{slice_get}
 use Rattle.std.specs.List.{insert}

@@ -14,10 +14,10 @@ use btree_item::{
 use btree_view::{Balance, WouldUnderflow, offset_at};
 use std::marker::Model;
 
-/// A leaf: the number of its parent, and up to nine items. At rest it has no more than eight.
+/// A leaf: the number of its parent, and up to nine items. In a well formed tree it has at most eight.
 #[derive(Drop)]
 pub struct LeafNode<K, V> {
-    // `usize::MAX` where there is no parent.
+    // `usize::MAX` if there is no parent.
     parent: usize,
     items: Slots<Item<K, V>, LEAF_SLOTS>,
 }
@@ -32,7 +32,7 @@ impl<K, V> Model for LeafNode<K, V> {
 }
 
 impl<K: Drop, V: Drop> LeafNode<K, V> {
-    /// A leaf with one item. `Some(usize::MAX)` as the parent is read as none.
+    /// Returns a leaf with one item. `Some(usize::MAX)` as the parent is read as `None`.
     pub fn new(parent: Option<usize>, item: Item<K, V>) -> Self
         ensures { result ≡ record { parent = kept_parent parent; items = item ∷ [] } }
     {
@@ -41,7 +41,7 @@ impl<K: Drop, V: Drop> LeafNode<K, V> {
         leaf
     }
 
-    /// A leaf without items. `Some(usize::MAX)` as the parent is read as none.
+    /// Returns a leaf without items. `Some(usize::MAX)` as the parent is read as `None`.
     pub fn empty(parent: Option<usize>) -> Self
         ensures { result ≡ record { parent = kept_parent parent; items = [] } }
     {
@@ -55,7 +55,7 @@ impl<K: Drop, V: Drop> LeafNode<K, V> {
 impl<K, V> LeafNode<K, V> {
     ghost use Rattle.btree_leaf.specs.LeafLends.{leaf_lends_item};
 
-    /// The number of the parent, if there is one.
+    /// Returns the number of the parent, if there is one.
     pub fn parent(&self) -> Option<usize>
         ensures value { result ≡ self.now.parent }
         ensures bound { IfSome result (λ id. id < usize.MAX) }
@@ -80,7 +80,7 @@ impl<K, V> LeafNode<K, V> {
         &self.items
     }
 
-    /// The item at an offset, and `None` at -1 and past the end.
+    /// Returns the item at an offset, or `None` at -1 and past the end.
     pub fn item(&self, offset: Offset) -> Option<&Item<K, V>>
         ensures { option_copied result ≡ option_and_then (slice_get self.now.items) offset }
     {
@@ -90,8 +90,7 @@ impl<K, V> LeafNode<K, V> {
         }
     }
 
-    /// The item at an offset, to be written, and `None` at -1 and past the end. The order of the keys is
-    /// then up to the caller.
+    /// Returns the item at an offset for writing, or `None` at -1 and past the end. The order of the keys is then up to the caller.
     pub fn item_mut(&mut self, offset: Offset) -> Option<&mut Item<K, V>>
         ensures* writes_back { sem 𝓛 (leaf_lends_item K.row V.row self.entry offset result) }
         ensures value { option_copied_mut result ≡ option_and_then (slice_get self.old.items) offset }
@@ -102,7 +101,7 @@ impl<K, V> LeafNode<K, V> {
         }
     }
 
-    // The item at an index, to be written.
+    // Returns the item at an index for writing.
     fn item_mut_at_index(&mut self, index: usize) -> Option<&mut Item<K, V>>
         ensures* writes_back { sem 𝓛 (leaf_lends_item K.row V.row self.entry (Some index) result) }
         ensures value { option_copied_mut result ≡ slice_get self.old.items index }
@@ -110,7 +109,7 @@ impl<K, V> LeafNode<K, V> {
         self.items.get_mut(index)
     }
 
-    /// The items in order.
+    /// Returns an iterator over the items in order.
     pub fn iter(&self) -> SlotsIter<'_, Item<K, V>>
         ensures { result ≡ self.now.items }
     {
@@ -121,28 +120,28 @@ impl<K, V> LeafNode<K, V> {
 impl<K, V> LeafNode<K, V> {
     ghost use Rattle.btree_view.specs.Edits.{balance_of, IsOverflowing, IsUnderflowing};
 
-    /// Whether there are too many items, too few, or neither. A root is judged like any other node.
+    /// Returns whether there are too many items, too few, or neither. A root is judged like any other node.
     pub fn balance(&self) -> Balance
         ensures { result ≡ balance_of (view_of self.now) }
     {
         Balance::of(self.item_count(), MAX_LEAF_ITEMS)
     }
 
-    /// Whether there are more than eight items.
+    /// Returns whether there are more than eight items.
     pub fn is_overflowing(&self) -> bool
         ensures { IsTrue result ↔ IsOverflowing (view_of self.now) }
     {
         self.item_count() > MAX_LEAF_ITEMS
     }
 
-    /// Whether there are fewer than three items. A root is judged like any other node.
+    /// Returns whether there are fewer than three items. A root is judged like any other node.
     pub fn is_underflowing(&self) -> bool
         ensures { IsTrue result ↔ IsUnderflowing (view_of self.now) }
     {
         self.item_count() < MIN_ITEMS
     }
 
-    /// Puts the node under another parent. `Some(usize::MAX)` is read as none.
+    /// Sets the parent. `Some(usize::MAX)` is read as `None`.
     pub fn set_parent(&mut self, parent: Option<usize>)
         ensures { self.new ≡ record self.old { parent = kept_parent parent } }
     {
@@ -150,7 +149,7 @@ impl<K, V> LeafNode<K, V> {
     }
 }
 
-// The place of a key among items.
+// Returns the place of a key among items.
 fn place<K: Ord, V>(items: &Slots<Item<K, V>, LEAF_SLOTS>, key: &K) -> Result<usize, usize>
     requires { Ascends K.cmp items.now }
     ensures place { result ≡ place_of K.cmp key.now items.now }
@@ -165,7 +164,7 @@ fn place<K: Ord, V>(items: &Slots<Item<K, V>, LEAF_SLOTS>, key: &K) -> Result<us
 impl<K: Ord, V> LeafNode<K, V> {
     ghost use Rattle.btree_leaf.specs.LeafLends.{leaf_lends_value};
 
-    /// The value at a key, found with at most six comparisons.
+    /// Returns the value at a key, or `None`. It makes at most six comparisons.
     pub fn get(&self, key: &K) -> Option<&V>
         requires { Ascends K.cmp self.now.items }
         ensures { option_copied result ≡ found_value K.cmp key.now self.now.items }
@@ -179,7 +178,7 @@ impl<K: Ord, V> LeafNode<K, V> {
         }
     }
 
-    /// The value at a key, to be written, found with at most six comparisons.
+    /// Returns the value at a key for writing, or `None`. It makes at most six comparisons.
     pub fn get_mut(&mut self, key: &K) -> Option<&mut V>
         requires { Ascends K.cmp self.old.items }
         ensures* writes_back { sem 𝓛 (leaf_lends_value K.row V.row K.cmp self.entry key.now result) }
@@ -194,8 +193,7 @@ impl<K: Ord, V> LeafNode<K, V> {
         }
     }
 
-    /// The offset of a key where it is there, else how many keys are smaller, found with at most six
-    /// comparisons.
+    /// Returns `Ok` with the offset of a key that is there, or `Err` with the number of smaller keys. It makes at most six comparisons.
     pub fn offset_of(&self, key: &K) -> Result<Offset, Offset>
         requires { Ascends K.cmp self.now.items }
         ensures { result ≡ as_offset (place_of K.cmp key.now self.now.items) }
@@ -206,7 +204,7 @@ impl<K: Ord, V> LeafNode<K, V> {
         }
     }
 
-    /// The same as an index.
+    /// Does the same with indices.
     pub fn find(&self, key: &K) -> Result<usize, usize>
         requires { Ascends K.cmp self.now.items }
         ensures place { result ≡ place_of K.cmp key.now self.now.items }
@@ -218,8 +216,8 @@ impl<K: Ord, V> LeafNode<K, V> {
 }
 
 impl<K: Ord + Drop, V: Drop> LeafNode<K, V> {
-    /// Puts a value at a key, found with at most six comparisons: a key that is there stays, with the
-    /// new value, and the given key is dropped. Answers the offset, and the value that stood there.
+    /// Inserts a value by its key, with at most six comparisons: a key that is there stays and gets the new value, and the given key is
+    /// dropped. Returns the offset, and the old value if there was one.
     pub fn insert_by_key(&mut self, key: K, value: V) -> (Offset, Option<V>)
         requires room { length self.old.items < LEAF_SLOTS }
         requires ascends { Ascends K.cmp self.old.items }
@@ -245,8 +243,7 @@ impl<K: Ord + Drop, V: Drop> LeafNode<K, V> {
 impl<K: Drop, V: Drop> LeafNode<K, V> {
     ghost use Rattle.btree_view.specs.Edits.{HasSpare, HaveRoom, IsOverflowing, IsSplit, joined, pushed_left, pushed_right, without};
 
-    /// Puts an item at an offset, and moves those from there on up. The order of the keys is up to
-    /// the caller.
+    /// Inserts an item at an offset, and moves those from there on right by one. The order of the keys is then up to the caller.
     pub fn insert(&mut self, offset: Offset, item: Item<K, V>)
         requires room { length self.old.items < LEAF_SLOTS }
         requires within { IsSomeAnd offset (λ index. index ≤ length self.old.items) }
@@ -255,7 +252,7 @@ impl<K: Drop, V: Drop> LeafNode<K, V> {
         self.items.insert(offset.unwrap(), item);
     }
 
-    /// Takes the item at an offset out, and moves those after it down.
+    /// Removes and returns the item at an offset, and moves those after it left by one.
     pub fn remove(&mut self, offset: Offset) -> Item<K, V>
         requires { IsSomeAnd offset (λ index. index < length self.old.items) }
         ensures answer { Some result ≡ option_and_then (slice_get self.old.items) offset }
@@ -264,8 +261,8 @@ impl<K: Drop, V: Drop> LeafNode<K, V> {
         self.items.remove(offset.unwrap())
     }
 
-    /// Puts the separator and then the other leaf's items behind its own. Each moves once. Answers the
-    /// separator's offset. The order of the keys is up to the caller.
+    /// Appends the separator and then the items of the other leaf. Each moves once. Returns the separator's offset. The order of the keys
+    /// is then up to the caller.
     pub fn append(&mut self, separator: Item<K, V>, other: LeafNode<K, V>) -> Offset
         requires { HaveRoom (view_of self.old) (view_of other) }
         ensures offset { result ≡ Some (length self.old.items) }
@@ -277,7 +274,7 @@ impl<K: Drop, V: Drop> LeafNode<K, V> {
         offset
     }
 
-    /// Puts an item before the others. The order of the keys is up to the caller.
+    /// Inserts an item before the others. The order of the keys is then up to the caller.
     pub fn push_left(&mut self, item: Item<K, V>)
         requires { length self.old.items < LEAF_SLOTS }
         ensures { view_of self.new ≡ pushed_left item None (view_of self.old) }
@@ -285,7 +282,7 @@ impl<K: Drop, V: Drop> LeafNode<K, V> {
         self.items.insert(0, item);
     }
 
-    /// Puts an item behind the others, and answers its offset. The order of the keys is up to the caller.
+    /// Appends an item, and returns its offset. The order of the keys is then up to the caller.
     pub fn push_right(&mut self, item: Item<K, V>) -> Offset
         requires { length self.old.items < LEAF_SLOTS }
         ensures offset { result ≡ Some (length self.old.items) }
@@ -296,14 +293,14 @@ impl<K: Drop, V: Drop> LeafNode<K, V> {
         offset
     }
 
-    // Whether there are more items than it has to keep.
+    // Returns whether there are more items than the fewest that it must keep.
     fn has_spare(&self) -> bool
         ensures { IsTrue result ↔ HasSpare (view_of self.now) }
     {
         self.item_count() > MIN_ITEMS
     }
 
-    /// Takes the first item out, of four or more.
+    /// Removes and returns the first item, if there are four or more.
     pub fn pop_left(&mut self) -> Result<Item<K, V>, WouldUnderflow>
         ensures spare { IfOk result (λ _. HasSpare (view_of self.old)) }
         ensures taken { IfOk result (λ item. view_of self.old ≡ pushed_left item None (view_of self.new)) }
@@ -315,7 +312,7 @@ impl<K: Drop, V: Drop> LeafNode<K, V> {
         Ok(self.items.remove(0))
     }
 
-    /// Takes the last item out, of four or more, and answers the offset at which it stood.
+    /// Removes and returns the last item, with the offset that it had, if there are four or more.
     pub fn pop_right(&mut self) -> Result<(Offset, Item<K, V>), WouldUnderflow>
         ensures spare { IfOk result (λ _. HasSpare (view_of self.old)) }
         ensures offset { IfOk result (λ popped. popped.0 ≡ Some (length self.new.items)) }
@@ -329,15 +326,15 @@ impl<K: Drop, V: Drop> LeafNode<K, V> {
         Ok((offset_at(self.items.len()), item))
     }
 
-    /// Keeps the first four items of nine. Answers how many are left, the median, and a leaf with the
-    /// items after it, under the same parent.
+    /// Keeps the first four items of nine. Returns how many are kept, the median, and a leaf with the items after it, under the same
+    /// parent.
     pub fn split(&mut self) -> (usize, Item<K, V>, LeafNode<K, V>)
         requires { IsOverflowing (view_of self.old) }
         ensures parts { IsSplit (view_of self.old) result.1 (view_of self.new) (view_of result.2) }
         ensures left { result.0 ≡ LEAF_MEDIAN }
         ensures right { length result.2.items ≡ MIN_ITEMS + 1 }
     {
-        // That there are nine at most shows how many the right part has.
+        // For the prover alone: there are at most nine items, which gives the size of the right part.
         let _count = self.item_count();
         let items = self.items.split_off(LEAF_MEDIAN + 1);
         let median = self.items.pop().unwrap();

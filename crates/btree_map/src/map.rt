@@ -9,7 +9,7 @@ use btree_raw::RawBTree;
 use btree_walk::Iter;
 use std::marker::Model;
 
-/// A map from keys to values in the order of the keys: a B-tree whose nodes lie in a store.
+/// A map from keys to values in the order of the keys: a B-tree with its nodes in a store.
 #[derive(Drop)]
 pub struct BTreeMap<K: Ord, V, C: NodesMut<K, V>> {
     tree: Tree<K, V, C>,
@@ -32,9 +32,9 @@ impl<K: Ord, V, C: NodesMut<K, V>> BTreeMap<K, V, C> {
     ghost use Rattle.btree_item.specs.Pairs.{found_value};
     ghost use Rattle.btree_shape.specs.TreeState.{pairs_of};
 
-    /// A map with no pairs, over an empty store that is made from its origin. It takes no memory.
+    /// Returns a map without pairs, over an empty store made from `origin`. It allocates no memory.
     ///
-    /// That a node fits in memory is known wherever the types of key and value are.
+    /// The contract requires that a node fits in memory. The prover finds that by itself if the types of key and value are known.
     pub fn new(origin: C::Origin) -> Self
         requires { FitsInMemory (node_row K.row V.row) }
         ensures empty { pairs_of result ≡ [] }
@@ -45,28 +45,29 @@ impl<K: Ord, V, C: NodesMut<K, V>> BTreeMap<K, V, C> {
         }
     }
 
-    /// How many pairs there are.
+    /// Returns how many pairs there are.
     pub fn len(&self) -> usize
         ensures { result ≡ length (pairs_of self.now) }
     {
         self.tree.len()
     }
 
-    /// Whether there are no pairs.
+    /// Returns whether there are no pairs.
     pub fn is_empty(&self) -> bool
         ensures { IsTrue result ↔ (pairs_of self.now ≡ []) }
     {
         self.len() == 0
     }
 
-    /// The value at a key that equals the given one. Compares at most six keys a level, copies nothing and takes no memory.
+    /// Returns the value at a key equal to the given one, or `None`. It makes at most six comparisons at each level, copies nothing and
+    /// allocates no memory.
     pub fn get(&self, key: &K) -> Option<&V>
         ensures { option_copied result ≡ found_value K.cmp key.now (pairs_of self.now) }
     {
         self.tree.get(key)
     }
 
-    /// The pairs in the order of the keys. A whole walk fetches each node once, and takes no memory.
+    /// Returns an iterator over the pairs in the order of the keys. A whole walk fetches each node once, and allocates no memory.
     pub fn iter(&self) -> Iter<'_, K, V, C>
         ensures { result ≡ pairs_of self.now }
     {
@@ -79,10 +80,11 @@ impl<K: Ord + Drop, V: Drop, C: NodesMut<K, V>> BTreeMap<K, V, C> {
     ghost use Rattle.btree_shape.specs.TreeState.{pairs_of};
     ghost use Rattle.btree_edit.specs.Insert.{IsRefusedAtGap, InsertsByKey};
 
-    /// Puts a pair in, or exchanges the value at a key that is there: the stored key stays, and the given one is dropped.
+    /// Inserts a pair, or replaces the value if the key is there: the stored key stays, and the given one is dropped.
     ///
-    /// An absent key takes a node for each full node from its leaf upward without a gap, and one more where the last of them is the
-    /// root. It is refused, and the pair comes back, where the store refuses one of these, or where there are `usize::MAX` pairs.
+    /// For an absent key it uses one new node for each consecutive full node from the leaf upward, and one more if the last of them is
+    /// the root; for the first pair it uses one. It returns an error, with the pair, if the store refuses one of these nodes, or if there
+    /// are `usize::MAX` pairs.
     pub fn insert(&mut self, key: K, value: V) -> Result<Option<V>, Refused<K, V>>
         ensures old { IfOk result (λ old. old ≡ found_value K.cmp key (pairs_of self.old)) }
         ensures inserted { OnOk result (pairs_of self.new ≡ inserted K.cmp key value (pairs_of self.old)) }

@@ -1,4 +1,4 @@
-//! A map over any store of nodes can be kept in a caller's type, and handed on by value.
+//! A map over any store of nodes can be kept in a caller's type, and passed on by value.
 ghost use Rattle.std.specs.Prelude.{◌≡◌};
 
 use btree_map::BTreeMap;
@@ -31,7 +31,7 @@ fn take<C: NodesMut<u64, u64> + Drop>(map: BTreeMap<u64, u64, C>) -> usize {
     map.len()
 }
 
-// Keeps a map and hands it on, for any store.
+// Keeps a map and passes it on, for any store.
 fn keep_and_take<C: NodesMut<u64, u64> + Drop>(map: BTreeMap<u64, u64, C>) -> usize {
     let owner = Owner::new(map);
     take(owner.into_inner())

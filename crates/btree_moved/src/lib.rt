@@ -1,4 +1,4 @@
-//! Where an address of a tree is after a step that changes its nodes: arithmetic on addresses alone.
+//! The new address of what was at an address of a tree, after a step that changes the tree's nodes: arithmetic on addresses alone.
 #![tactic(auto)]
 
 mod moved;

@@ -1,4 +1,4 @@
-//! Where an address is after a step between two siblings that mends one with too few items. `count` is how many items the left one had, and
+//! New addresses after a step that fixes an underflow between two siblings. `count` is the number of items that the left sibling had, and
 //! `child` the first child of the right one, if it has one.
 ghost use Rattle.std.specs.Prelude.{◌≡◌, ◌+◌, ◌<◌, IfSome};
 ghost use Rattle.btree_moved.specs.Siblings.{between};
@@ -42,7 +42,8 @@ fn in_right_giver(
     }
 }
 
-/// Where an address is once the first item of the right sibling has gone up, and the item between the two down to the end of the left one.
+/// Returns the new address after a rotation to the left: the first item of the right sibling has moved up, and the separator down to the
+/// end of the left one.
 pub fn moved_by_rotate_left(
     addr: Address,
     siblings: Siblings,
@@ -99,7 +100,8 @@ fn in_right_receiver(offset: Offset, right: usize, child: Option<usize>) -> Addr
     }
 }
 
-/// Where an address is once the last item of the left sibling has gone up, and the item between the two down to the front of the right one.
+/// Returns the new address after a rotation to the right: the last item of the left sibling has moved up, and the separator down to the
+/// front of the right one.
 pub fn moved_by_rotate_right(
     addr: Address,
     siblings: Siblings,
@@ -153,7 +155,7 @@ fn over_merged(offset: Offset, siblings: Siblings, count: usize) -> Address
     }
 }
 
-/// Where an address is once the item between the two siblings and what the right one held are behind the items of the left one.
+/// Returns the new address after a merge: the separator and what the right sibling held are after the items of the left one.
 pub fn moved_by_merge(
     addr: Address,
     siblings: Siblings,
@@ -183,7 +185,7 @@ fn in_shrunk_root(offset: Offset, child: usize, count: usize) -> Address
     }
 }
 
-/// Where an address is once a root without items is gone: its only child has so many items.
+/// Returns the new address after an internal root without items was freed. Its only child has `count` items.
 pub fn moved_by_shrink_root(addr: Address, root: usize, child: usize, count: usize) -> Address
     requires { count < usize.MAX }
     ensures { result ≡ moved.moved_by_shrink_root root child count addr }

@@ -1,6 +1,6 @@
-//! Siblings.
+//! Adjacent siblings.
 
-/// Two neighbouring children of a node, and the index of its item between them.
+/// Two adjacent children of a node, and the index of its item between them.
 #[derive(Clone, Copy)]
 pub struct Siblings {
     pub parent: usize,

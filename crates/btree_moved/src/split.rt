@@ -1,10 +1,10 @@
-//! Where an address is after a split.
+//! New addresses after a split.
 ghost use Rattle.std.specs.Prelude.{◌≡◌, ◌+◌, ◌<◌, IfSome};
 ghost use Rattle.btree_shape.specs.Moved as moved;
 
 use btree_item::{Address, Offset};
 
-// Where an offset of a node is that was split, and of which so many items are left.
+// Returns the new address of an offset of a node that was split and has kept `kept` items.
 fn in_split(
     offset: Offset,
     left: usize,
@@ -23,7 +23,7 @@ fn in_split(
     }
 }
 
-// Where an offset is of a node that has one item more, at the index.
+// Returns the new address of an offset of a node that has one item more, at the index.
 fn over_split(offset: Offset, parent: usize, index: usize) -> Address
     requires { IfSome offset (λ n. n + 1 < usize.MAX) }
     ensures { result ≡ moved.over_split parent index offset }
@@ -34,8 +34,8 @@ fn over_split(offset: Offset, parent: usize, index: usize) -> Address
     }
 }
 
-/// Where an address is once node `left`, a child of `parent` at the index, is split and the median is in the parent: `kept` items stay in
-/// `left`, and those behind the median are in `right`.
+/// Returns the new address after node `left`, the child of `parent` at the index, was split and the median inserted into the parent:
+/// `kept` items stay in `left`, and those after the median are in `right`.
 pub fn moved_by_split(
     addr: Address,
     left: usize,

@@ -1,17 +1,17 @@
--- What a look-up in a node answers, by what is found and by the child that may hold the key.
+-- What a look-up in a node returns, by what is found and by the child that may hold the key.
 use Rattle.std.proofs.Common.{◌≡◌, ℕ, Option, Some, None, Ok, Err, Result, refl, sym, ap, Ordering}
 use Rattle.std.specs.Result.{result_map_both}
 use Rattle.btree_item.specs.Pairs.{found_value}
 use Rattle.btree_view.specs.LookUp.{looked_up, look_up, found_or, child_for, find_in}
 use Rattle.btree_view.specs.View.{View, items_of}
 
--- what `find_mut` answers as what `get_mut` does
+-- the result of `find_mut` as that of `get_mut`
 abbrev pub as_looked_up : {V : Type 0} → Result V (Option ℕ) → Result (Option V) ℕ
 as_looked_up (Ok v) = Ok (Some v)
 as_looked_up (Err None) = Ok None
 as_looked_up (Err (Some id)) = Err id
 
--- a leaf has no child to look in
+-- a leaf has no child to search in
 pub looked_up-leaf : {V : Type 0} (value : Option V) → looked_up value None ≡ Ok value
 looked_up-leaf None = refl
 looked_up-leaf (Some v) = refl

@@ -1,4 +1,4 @@
--- What an insertion into one kind of node, and an item that is written, are to its view.
+-- The view of a node after an insertion into one kind of node, and after a write to an item.
 use mathlib.Core.Option as maybe
 use Rattle.std.proofs.Common.{◌≡◌, ℕ, List, Option, Some, None, set, map, length, ◌∷◌, refl, ap, sym, ◌∙◌}
 use Rattle.std.proofs.lemmas.List.{length-map, length-set}
@@ -15,7 +15,7 @@ use Rattle.btree_internal.specs.InternalLends.{internal_with_item_at}
 use Rattle.btree_node.specs.NodeLends.{node_with_item_at}
 use Rattle.btree_view.specs.View.{View, leaf, internal, parent_of, items_of, children_of}
 
--- a payload put where the value has that variant
+-- a payload written if the value has that variant
 abbrev pub put_when : {D P Y : Type 0} → (Y → P → D) → maybe.Option P → D → Y → D
 put_when make maybe.none x y = x
 put_when make (maybe.some v) x y = make y v
@@ -50,7 +50,7 @@ module _ {A : Type 0} where
   set-children (leaf parent items) i x = refl
   set-children (internal parent first branches) i x = ap (λ rest. first ∷ rest) (seconds-zip _ _ (as_many branches i x))
 
--- a node with an item written: the kind, the parent and the children stay
+-- a write to an item: the kind, the parent and the children stay
 module _ {K V : Type 0} (node : Node K V) (i : ℕ) (x : K × V) where
   pub item_at-kind : is_internal (view_of (node_with_item_at (Some i) node x)) ≡ is_internal (view_of node)
   item_at-kind = ap is_internal (item_at-view node i x) ∙ with_items-kind (set (items_of (view_of node)) i x) (view_of node)

@@ -1,4 +1,4 @@
--- a part of a node fits in memory where the node does
+-- A part of a node fits in memory if the node does.
 use denote.Param.{layout, number, param}
 use denote.RattleType.{RattleType}
 use prog.Memory.{size}

@@ -9,7 +9,7 @@ use Rattle.btree_item.specs.declared.item.Item.{Item}
 use Rattle.btree_internal.specs.declared.internal.Branch.{Branch}
 use Rattle.btree_internal.specs.Internal.{branch_pair}
 
--- a test of how many there are
+-- a test of the number of items
 pub at_least : (most count size : ℕ) → count ≡ size → (IsTrue (leb most count) → most ≤ size) × (most ≤ size → IsTrue (leb most count))
 at_least most count size counted =
     ((λ t. let q : most ≤ count = grind (arith, nat_tests) in omega arith), (λ low. let q : most ≤ count = omega arith in grind (arith, nat_tests)))

@@ -1,4 +1,4 @@
--- What a node ends as, where a `&mut` into it is returned.
+-- A node after a `&mut` into it has ended.
 use Rattle.std.specs.Prelude.{ℕ, Option, Result}
 use Rattle.std.specs.Borrow.{LendsIf, LendsIfOk, Fml, RattleType, MutBor}
 use Rattle.std.specs.declared.cmp.Ordering.{Ordering}
@@ -21,10 +21,10 @@ module _ {K V : Type 0} where
   node_with_item_at offset (Internal n) x = Internal (internal_with_item_at offset n x)
 
 module _ (K V : RattleType) where
-  -- once the borrow r ends, the value at the key is the last one behind r, and at `Err` nothing changes
+  -- once the borrow r ends, the value at the key is the last one that r pointed to; at `Err` nothing changes
   abbrev pub node_lends : (K.Denot → K.Denot → Ordering) → MutBor (Node K.Denot V.Denot) → K.Denot → Result (MutBor V.Denot) (Option ℕ) → Fml
   node_lends cmp n key r = LendsIfOk (the_row K V) V n r (node_with_value cmp key n.now) n.now
 
-  -- once the borrow r ends, the item at an offset is the last one behind r, and at `None` nothing changes
+  -- once the borrow r ends, the item at an offset is the last one that r pointed to; at `None` nothing changes
   abbrev pub node_lends_item : MutBor (Node K.Denot V.Denot) → Option ℕ → Option (MutBor (K.Denot × V.Denot)) → Fml
   node_lends_item n offset r = LendsIf (the_row K V) (item_row K V) n r (node_with_item_at offset n.now) n.now

@@ -8,7 +8,7 @@ pub use btree_leaf::LeafNode;
 pub use btree_view::{Balance, WouldUnderflow};
 pub use node::{Node, PoppedItem};
 
-/// Internal nodes, under the path that Rust's crate has for them.
+/// Internal nodes, under their path in Rust's crate.
 pub mod internal {
     pub use btree_internal::{Branch, Internal, InternalNode};
 }

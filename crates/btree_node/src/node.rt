@@ -13,8 +13,8 @@ use btree_item::{Item, LEAF_SLOTS, MAX_INTERNAL_ITEMS, MAX_LEAF_ITEMS, MIN_ITEMS
 use btree_leaf::LeafNode;
 use btree_view::{Balance, WouldUnderflow, offset_at};
 
-/// What `Node::pop_right` takes out: the offset at which the item stood, the item, and the child behind
-/// it, which is there exactly in an internal node.
+/// What `Node::pop_right` removes: the offset that the item had, the item, and the child after it, which is there exactly in an internal
+/// node.
 pub type PoppedItem<K, V> = (Offset, Item<K, V>, Option<usize>);
 
 /// A node: an internal node or a leaf. Contracts see either as its view.
@@ -29,7 +29,7 @@ impl<K, V> Node<K, V> {
     ghost use Rattle.std.specs.Option.{option_copied_mut};
     ghost use Rattle.btree_node.specs.NodeLends.{node_lends_item};
 
-    /// The number of the parent, if there is one.
+    /// Returns the number of the parent, if there is one.
     pub fn parent(&self) -> Option<usize>
         ensures value { result ≡ parent_of (view_of self.now) }
         ensures bound { IfSome result (λ id. id < usize.MAX) }
@@ -50,7 +50,7 @@ impl<K, V> Node<K, V> {
         }
     }
 
-    /// One more than there are items in an internal node, and 0 for a leaf.
+    /// Returns how many children there are: one more than items in an internal node, 0 in a leaf.
     pub fn child_count(&self) -> usize
         ensures value { result ≡ length (children_of (view_of self.now)) }
         ensures fits { result ≤ LEAF_SLOTS }
@@ -61,7 +61,7 @@ impl<K, V> Node<K, V> {
         }
     }
 
-    /// The first index of a child's number. A leaf has none.
+    /// Returns the first index of a child's number, if it is there. A leaf has none.
     pub fn child_index(&self, id: usize) -> Option<usize>
         ensures value { result ≡ position (λ child. child == id) (children_of (view_of self.now)) }
         ensures within { IfSome result (λ index. index < length (children_of (view_of self.now))) }
@@ -72,7 +72,7 @@ impl<K, V> Node<K, V> {
         }
     }
 
-    /// The number of the child at an index, for which `child_id_opt` is the test.
+    /// Returns the number of the child at an index that has one, which `child_id_opt` decides.
     pub fn child_id(&self, index: usize) -> usize
         requires { index < length (children_of (view_of self.now)) }
         ensures { slice_get (children_of (view_of self.now)) index ≡ Some result }
@@ -80,7 +80,7 @@ impl<K, V> Node<K, V> {
         self.child_id_opt(index).unwrap()
     }
 
-    /// The number of the child at an index, and `None` past the last. A leaf has none.
+    /// Returns the number of the child at an index, or `None` past the last. A leaf has none.
     pub fn child_id_opt(&self, index: usize) -> Option<usize>
         ensures { result ≡ slice_get (children_of (view_of self.now)) index }
     {
@@ -90,7 +90,7 @@ impl<K, V> Node<K, V> {
         }
     }
 
-    /// The item at an offset, and `None` at -1 and past the end.
+    /// Returns the item at an offset, or `None` at -1 and past the end.
     pub fn item(&self, offset: Offset) -> Option<&Item<K, V>>
         ensures { option_copied result ≡ item_at_offset (view_of self.now) offset }
     {
@@ -100,8 +100,7 @@ impl<K, V> Node<K, V> {
         }
     }
 
-    /// The item at an offset, to be written, and `None` at -1 and past the end. The order of the keys is
-    /// then up to the caller.
+    /// Returns the item at an offset for writing, or `None` at -1 and past the end. The order of the keys is then up to the caller.
     pub fn item_mut(&mut self, offset: Offset) -> Option<&mut Item<K, V>>
         ensures* writes_back { sem 𝓛 (node_lends_item K.row V.row self.entry offset result) }
         ensures value { option_copied_mut result ≡ item_at_offset (view_of self.old) offset }
@@ -112,7 +111,7 @@ impl<K, V> Node<K, V> {
         }
     }
 
-    /// The item at an index, and `None` past the last.
+    /// Returns the item at an index, or `None` past the last.
     pub fn item_at_index(&self, index: usize) -> Option<&Item<K, V>>
         ensures fits { OnSome result (index < LEAF_SLOTS) }
         ensures item { slice_get (items_of (view_of self.now)) index ≡ option_copied result }
@@ -123,8 +122,7 @@ impl<K, V> Node<K, V> {
         self.item(offset_at(index))
     }
 
-    /// The item of an internal node at an index and the number of the child after it, and `None` past the
-    /// last. A leaf has none.
+    /// Returns the item of an internal node at an index and the number of the child after it, or `None` past the last. A leaf has none.
     pub fn branch_at_index(&self, index: usize) -> Option<(&Item<K, V>, usize)>
         ensures fits { OnSome result (index < LEAF_SLOTS) }
         ensures first { BeginsAt (view_of self.now) index (branch_copied result) }
@@ -141,7 +139,7 @@ impl<K, V> Node<K, V> {
         }
     }
 
-    /// Whether there are too many items, too few, or neither. A root is judged like any other node.
+    /// Returns whether there are too many items, too few, or neither. A root is judged like any other node.
     pub fn balance(&self) -> Balance
         ensures { result ≡ balance_of (view_of self.now) }
     {
@@ -151,8 +149,8 @@ impl<K, V> Node<K, V> {
         }
     }
 
-    /// Whether one more item would be too many at rest: there are at least eight in a leaf, seven in an
-    /// internal node.
+    /// Returns whether one more item would be too many in a well formed tree: there are at least eight in a leaf, or seven in an internal
+    /// node.
     pub fn is_full(&self) -> bool
         ensures { IsTrue result ↔ (most_of (view_of self.now) ≤ size_of (view_of self.now)) }
     {
@@ -162,7 +160,7 @@ impl<K, V> Node<K, V> {
         }
     }
 
-    /// Whether there are more items than the node holds at rest: eight in a leaf, seven in an internal
+    /// Returns whether there are more items than in a node of a well formed tree: more than eight in a leaf, or seven in an internal
     /// node.
     pub fn is_overflowing(&self) -> bool
         ensures { IsTrue result ↔ IsOverflowing (view_of self.now) }
@@ -173,7 +171,7 @@ impl<K, V> Node<K, V> {
         }
     }
 
-    /// Whether there are fewer than three items. A root is judged like any other node.
+    /// Returns whether there are fewer than three items. A root is judged like any other node.
     pub fn is_underflowing(&self) -> bool
         ensures { IsTrue result ↔ IsUnderflowing (view_of self.now) }
     {
@@ -185,7 +183,7 @@ impl<K, V> Node<K, V> {
 }
 
 impl<K, V> Node<K, V> {
-    /// Puts the node under another parent. `Some(usize::MAX)` is read as none.
+    /// Sets the parent. `Some(usize::MAX)` is read as `None`.
     pub fn set_parent(&mut self, parent: Option<usize>)
         ensures { view_of self.new ≡ with_parent (kept_parent parent) (view_of self.old) }
     {
@@ -201,15 +199,14 @@ impl<K: Drop, V: Drop> Node<K, V> {
     ghost use Rattle.btree_view.specs.View.{leaf, internal};
     ghost use Rattle.btree_view.specs.Edits.{HasSpare, HaveRoom, is_internal, joined, PopsLeft, PopsRight, pushed_left, pushed_right, with_item_at, with_other_item_at, without};
 
-    /// A leaf with one item. `Some(usize::MAX)` as the parent is read as none.
+    /// Returns a leaf with one item. `Some(usize::MAX)` as the parent is read as `None`.
     pub fn leaf(parent: Option<usize>, item: Item<K, V>) -> Self
         ensures { view_of result ≡ leaf (kept_parent parent) (item ∷ []) }
     {
         Node::Leaf(LeafNode::new(parent, item))
     }
 
-    /// An internal node with one item between two children. `Some(usize::MAX)` as the parent is read
-    /// as none.
+    /// Returns an internal node with one item between two children. `Some(usize::MAX)` as the parent is read as `None`.
     pub fn binary(
         parent: Option<usize>,
         left_id: usize,
@@ -221,8 +218,8 @@ impl<K: Drop, V: Drop> Node<K, V> {
         Node::Internal(InternalNode::binary(parent, left_id, median, right_id))
     }
 
-    /// Puts an item at an offset, in an internal node with a child after it, and moves those from there
-    /// on up. The order of the keys, and the child's own parent number, are up to the caller.
+    /// Inserts an item at an offset, in an internal node with a child after it, and moves those from there on right by one. The order of
+    /// the keys and the child's parent are then up to the caller.
     pub fn insert(&mut self, offset: Offset, item: Item<K, V>, opt_right: Option<usize>)
         requires room { size_of (view_of self.old) ≤ most_of (view_of self.old) }
         requires within { IsSomeAnd offset (λ index. index ≤ size_of (view_of self.old)) }
@@ -238,8 +235,8 @@ impl<K: Drop, V: Drop> Node<K, V> {
         }
     }
 
-    /// Puts an item in the place of the one at an offset of an internal node, which is answered. The
-    /// children stay; the order of the keys is up to the caller.
+    /// Replaces the item at an offset of an internal node, and returns the old one. The children stay. The order of the keys is then up
+    /// to the caller.
     pub fn replace(&mut self, offset: Offset, item: Item<K, V>) -> Item<K, V>
         requires kind { IsTrue (is_internal (view_of self.old)) }
         requires occupied { IsSomeAnd offset (λ index. index < size_of (view_of self.old)) }
@@ -252,9 +249,8 @@ impl<K: Drop, V: Drop> Node<K, V> {
         }
     }
 
-    /// Takes the item between two neighbouring children of an internal node out, and the number of the
-    /// right one with it. Answers the left one's index, the numbers of both, the item, and how full the
-    /// node is then.
+    /// Removes the item between two adjacent children of an internal node, and the number of the right child. Returns the left one's
+    /// index, the numbers of both, the item, and the balance of the node after that.
     pub fn merge(&mut self, left: usize, right: usize) -> (usize, usize, usize, Item<K, V>, Balance)
         requires next { right ≡ left + 1 }
         requires within { right < length (children_of (view_of self.old)) }
@@ -271,9 +267,8 @@ impl<K: Drop, V: Drop> Node<K, V> {
         }
     }
 
-    /// Puts the separator and then what the other node, of the same kind, holds behind its own. Each item
-    /// moves once. Answers the separator's offset. The order of the keys, and the children's own parent
-    /// numbers, are up to the caller.
+    /// Appends the separator and then what the other node, of the same kind, holds. Each item moves once. Returns the separator's offset.
+    /// The order of the keys and the parents of the children are up to the caller.
     pub fn append(&mut self, separator: Item<K, V>, other: Node<K, V>) -> Offset
         requires kind { is_internal (view_of other) ≡ is_internal (view_of self.old) }
         requires room { HaveRoom (view_of self.old) (view_of other) }
@@ -292,8 +287,8 @@ impl<K: Drop, V: Drop> Node<K, V> {
         }
     }
 
-    /// Puts an item before the others, and in an internal node a child before the others. The order of
-    /// the keys, and the child's own parent number, are up to the caller.
+    /// Inserts an item before the others, and in an internal node a child before the others. The order of the keys and the child's parent
+    /// are then up to the caller.
     pub fn push_left(&mut self, item: Item<K, V>, opt_child: Option<usize>)
         requires room { size_of (view_of self.old) ≤ most_of (view_of self.old) }
         requires child { HasChildFor opt_child (view_of self.old) }
@@ -308,8 +303,8 @@ impl<K: Drop, V: Drop> Node<K, V> {
         }
     }
 
-    /// Puts an item behind the others, and in an internal node a child behind it. Answers the item's
-    /// offset. The order of the keys, and the child's own parent number, are up to the caller.
+    /// Appends an item, and in an internal node a child after it. Returns the item's offset. The order of the keys and the child's parent
+    /// are then up to the caller.
     pub fn push_right(&mut self, item: Item<K, V>, opt_child: Option<usize>) -> Offset
         requires room { size_of (view_of self.old) ≤ most_of (view_of self.old) }
         requires child { HasChildFor opt_child (view_of self.old) }
@@ -325,8 +320,7 @@ impl<K: Drop, V: Drop> Node<K, V> {
         }
     }
 
-    /// Takes the first item out, and the first child of an internal node, where there are four items or
-    /// more.
+    /// Removes and returns the first item, and the first child of an internal node, if there are four items or more.
     pub fn pop_left(&mut self) -> Result<(Item<K, V>, Option<usize>), WouldUnderflow>
         ensures spare { IfOk result (λ _. HasSpare (view_of self.old)) }
         ensures child { IfOk result (λ popped. HasChildFor popped.1 (view_of self.old)) }
@@ -345,8 +339,8 @@ impl<K: Drop, V: Drop> Node<K, V> {
         }
     }
 
-    /// Takes the last item out, and the last child of an internal node, where there are four items or
-    /// more, and answers the offset at which the item stood too.
+    /// Removes and returns the last item, with the offset that it had, and the last child of an internal node, if there are four items or
+    /// more.
     pub fn pop_right(&mut self) -> Result<PoppedItem<K, V>, WouldUnderflow>
         ensures spare { IfOk result (λ _. HasSpare (view_of self.old)) }
         ensures offset { IfOk result (λ popped. popped.0 ≡ Some (size_of (view_of self.new))) }
@@ -366,9 +360,9 @@ impl<K: Drop, V: Drop> Node<K, V> {
         }
     }
 
-    /// Keeps the first items of a node with one too many: four in a leaf, three in an internal node.
-    /// Answers how many are left, the median, and a node of the same kind with the items after it, under
-    /// the same parent. The children's own parent numbers are up to the caller.
+    /// Keeps the first items of a node with one too many: four in a leaf, three in an internal node. Returns how many are kept, the
+    /// median, and a node of the same kind with the items after it, under the same parent. The parents of the children are then up to the
+    /// caller.
     pub fn split(&mut self) -> (usize, Item<K, V>, Node<K, V>)
         requires { IsOverflowing (view_of self.old) }
         ensures parts { IsSplit (view_of self.old) result.1 (view_of self.new) (view_of result.2) }
@@ -394,8 +388,8 @@ impl<K: Ord, V> Node<K, V> {
     ghost use Rattle.btree_view.specs.LookUp.{find_in};
     ghost use Rattle.btree_node.specs.NodeLends.{node_lends};
 
-    /// The value at a key, or `None` in a leaf without it, else the number of the child that may hold
-    /// it, found with at most six comparisons.
+    /// Returns `Ok` with the value at a key, or with `None` in a leaf without it, or `Err` with the number of the child that may hold it.
+    /// It makes at most six comparisons.
     pub fn get(&self, key: &K) -> Result<Option<&V>, usize>
         requires { Ascends K.cmp (items_of (view_of self.now)) }
         ensures { result_map option_copied result ≡ look_up K.cmp key.now (view_of self.now) }
@@ -409,9 +403,9 @@ impl<K: Ord, V> Node<K, V> {
         }
     }
 
-    /// The value at a key, to be written, or `None` in a leaf without it, else the number of the child
-    /// that may hold it, found with at most six comparisons. The contract is silent on what is written: a
-    /// caller that has to know it takes `find_mut`.
+    /// Returns `Ok` with the value at a key for writing, or with `None` in a leaf without it, or `Err` with the number of the child that
+    /// may hold it. It makes at most six comparisons. The contract does not say what is written: a caller that needs that uses
+    /// `find_mut`.
     pub fn get_mut(&mut self, key: &K) -> Result<Option<&mut V>, usize>
         requires { Ascends K.cmp (items_of (view_of self.old)) }
         ensures { result_map option_copied_mut result ≡ look_up K.cmp key.now (view_of self.old) }
@@ -423,8 +417,8 @@ impl<K: Ord, V> Node<K, V> {
         }
     }
 
-    /// The value at a key, to be written, else the number of the child that may hold it, which a leaf
-    /// doesn't have. Found with at most six comparisons.
+    /// Returns `Ok` with the value at a key for writing, or `Err` with the number of the child that may hold it, which a leaf does not
+    /// have. It makes at most six comparisons.
     pub fn find_mut(&mut self, key: &K) -> Result<&mut V, Option<usize>>
         requires { Ascends K.cmp (items_of (view_of self.old)) }
         ensures* writes_back { sem 𝓛 (node_lends K.row V.row K.cmp self.entry key.now result) }
@@ -442,8 +436,8 @@ impl<K: Ord, V> Node<K, V> {
         }
     }
 
-    /// The offset of a key where it is there, else the number of smaller keys, which is the index of
-    /// the child that may hold it, and the child's number. Found with at most six comparisons.
+    /// Returns `Ok` with the offset of a key that is there, or `Err` with the number of smaller keys, which is the index of the child
+    /// that may hold it, and the child's number. It makes at most six comparisons.
     #[inline(always)]
     pub fn offset_of(&self, key: &K) -> Result<Offset, (usize, Option<usize>)>
         requires { Ascends K.cmp (items_of (view_of self.now)) }

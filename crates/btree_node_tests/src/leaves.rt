@@ -60,7 +60,7 @@ fn keeps_items_by_key(rt: HostRuntime) {
     assert_eq!(rt; leaf.items().get(0).map(|item| *item.key()), Some(10));
 }
 
-// The keys are 1, 3, 5, up to nine of them; each of these and each number between is sought.
+// The keys are 1, 3, 5, up to nine of them; each of these and each number between is searched for.
 #[test]
 #[tactic(auto, using(btree_item::proofs::PairEdits::order_kept))]
 fn compares_at_most_six_times(rt: HostRuntime) {

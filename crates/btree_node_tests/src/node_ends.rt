@@ -1,4 +1,4 @@
-//! The calls that take from, put at, join and shrink nodes, of either kind.
+//! The calls that pop from, push to, merge and shrink nodes, of either kind.
 ghost use Rattle.std.specs.Prelude.{◌≡◌, ◌<◌, Some};
 
 use btree_item::{Item, Offset};
@@ -17,7 +17,7 @@ fn item(key: u32) -> Item<u32, char> {
     Item::new(key, 'v')
 }
 
-// A leaf under node 5 with these keys.
+// Returns a leaf under node 5 with these keys.
 fn leaf_of(rt: &impl Abort, keys: &[u32]) -> LeafNode<u32, char> {
     let mut leaf = LeafNode::empty(Some(5));
     for key in keys {
@@ -27,7 +27,7 @@ fn leaf_of(rt: &impl Abort, keys: &[u32]) -> LeafNode<u32, char> {
     leaf
 }
 
-// An internal node under node 6 with the key 0, then these keys, between the children 100, 101, 102 and so on.
+// Returns an internal node under node 6 with the key 0, then these keys, between the children 100, 101, 102 and so on.
 fn internal_of(rt: &impl Abort, keys: &[u32]) -> InternalNode<u32, char> {
     let mut node = InternalNode::binary(Some(6), 100, item(0), 101);
     for key in keys {

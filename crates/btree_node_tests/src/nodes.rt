@@ -20,7 +20,7 @@ fn at(index: usize) -> Offset
     Offset::from(index)
 }
 
-// A leaf under node 5 with the keys 0, 10, 20 and so on.
+// Returns a leaf under node 5 with the keys 0, 10, 20 and so on.
 fn leaf_of(rt: &impl Abort, items: u32) -> LeafNode<u32, char> {
     let mut leaf = LeafNode::empty(Some(5));
     for number in 0..items {
@@ -31,7 +31,7 @@ fn leaf_of(rt: &impl Abort, items: u32) -> LeafNode<u32, char> {
     leaf
 }
 
-// An internal node under node 6 with the keys 0, 10, 20 and so on, between the children 100, 101, 102 and so on.
+// Returns an internal node under node 6 with the keys 0, 10, 20 and so on, between the children 100, 101, 102 and so on.
 fn internal_of(rt: &impl Abort, items: u32) -> InternalNode<u32, char> {
     let mut node = InternalNode::binary(Some(6), 100, Item::new(0, 'v'), 101);
     for number in 1..items {
@@ -182,7 +182,7 @@ fn changes_nodes(rt: HostRuntime) {
     );
 }
 
-// An internal node with the key 20 alone, between the children 1 and 2.
+// Returns an internal node with the key 20 alone, between the children 1 and 2.
 #[tactic(auto, using(btree_item::proofs::PairEdits::order_kept))]
 fn node_of_one() -> Node<u32, char>
     ensures { Ascends nat_cmp (items_of (view_of result)) }
@@ -190,7 +190,7 @@ fn node_of_one() -> Node<u32, char>
     Node::binary(None, 1, Item::new(20, 'b'), 2)
 }
 
-// A leaf with the key 20 alone.
+// Returns a leaf with the key 20 alone.
 #[tactic(auto, using(btree_item::proofs::PairEdits::order_kept))]
 fn leaf_of_one() -> Node<u32, char>
     ensures { Ascends nat_cmp (items_of (view_of result)) }
@@ -241,7 +241,7 @@ fn finds_a_key_in_a_leaf(rt: HostRuntime) {
     assert_eq!(rt; value_of(&written), Some('c'));
 }
 
-// A leaf under node 5 with the keys 20 and 30.
+// Returns a leaf under node 5 with the keys 20 and 30.
 #[tactic(auto, using(btree_item::proofs::PairEdits::order_kept))]
 fn leaf_of_two() -> Node<u32, char>
     ensures { Ascends nat_cmp (items_of (view_of result)) }
@@ -251,7 +251,7 @@ fn leaf_of_two() -> Node<u32, char>
     node
 }
 
-// An internal node under node 6 with the keys 20 and 30, between the children 1, 2 and 3.
+// Returns an internal node under node 6 with the keys 20 and 30, between the children 1, 2 and 3.
 #[tactic(auto, using(btree_item::proofs::PairEdits::order_kept))]
 fn node_of_two() -> Node<u32, char>
     ensures { Ascends nat_cmp (items_of (view_of result)) }
@@ -266,7 +266,7 @@ fn pair_at(node: &Node<u32, char>, index: usize) -> Option<(u32, char)> {
         .map(|item| (*item.key(), *item.value()))
 }
 
-// Whether a node has this parent, its two items with these values, and nothing else.
+// Returns whether a node has this parent, its two items with these values, and nothing else.
 fn is_so(
     node: &Node<u32, char>,
     parent: usize,
@@ -352,7 +352,7 @@ fn compares_branches_by_key(rt: HostRuntime) {
     assert_eq!(rt; (node.first_child_id(), node.child_id(1)), (1, 2));
 }
 
-// Puts an item with a new key where it belongs.
+// Inserts an item with a new key at its place.
 fn put<K: Ord + Drop, V: Drop>(
     node: &mut InternalNode<K, V>,
     key: K,
@@ -375,7 +375,7 @@ fn put<K: Ord + Drop, V: Drop>(
     }
 }
 
-// The keys are 1, 3, 5, up to seven of them; each of these and each number between is sought.
+// The keys are 1, 3, 5, up to seven of them; each of these and each number between is searched for.
 #[test]
 #[tactic(auto, using(btree_item::proofs::PairEdits::order_kept))]
 fn compares_at_most_six_times(rt: HostRuntime) {

@@ -1,7 +1,7 @@
 //! Stores of nodes, by the types of key and value.
 //!
-//! [`Nodes`] and [`NodesMut`] are [`Slab`] and [`SlabMut`] for nodes, as bounds on a tree's store: their parameters are the tree's own. Every
-//! store of nodes has them, so a store of one's own needs the traits of `btree_store` alone.
+//! [`Nodes`] and [`NodesMut`] are [`Slab`] and [`SlabMut`] for nodes, as bounds on a tree's store: their parameters are those of the
+//! tree. Every store of nodes implements them, so that a new store has to implement only the traits of `btree_store`.
 #![tactic(auto)]
 
 ghost use Rattle.std.specs.Prelude.{◌≡◌, ℕ, ◌+◌, ◌<◌, Some, None, IsSome, IfOk, IfErr, OnOk, OnErr, OnSome, option_copied};
@@ -17,7 +17,7 @@ ghost use Rattle.btree_node.specs.contracts.node.Node.{the_row as node_row};
 use btree_node::Node;
 use btree_store::{Clear, Slab, SlabMut};
 
-/// A store of nodes, for reading: what [`Slab`] promises.
+/// A store of nodes, for reading, with the contracts of [`Slab`].
 pub trait Nodes<K, V> {
     /// The node under each number that is used.
     ghost content: { Self → Content (Node K V) };
@@ -28,53 +28,53 @@ pub trait Nodes<K, V> {
     /// The contents that it can have.
     ghost CanHold: { Content (Node K V) → Type 0 };
 
-    /// How many numbers are used.
+    /// Returns how many numbers are used.
     fn len(&self) -> usize
         ensures len { result ≡ map.len (content self.now) }
         ensures can_hold { CanHold (content self.now) }
         ensures numbers { (id : ℕ) → IsSome (map.get (content self.now) id) → id < usize.MAX };
 
-    /// The node under `id`, if that number is used.
+    /// Returns the node under `id`, or `None` if that number is not used.
     fn get(&self, id: usize) -> Option<&Node<K, V>>
         ensures value { option_copied result ≡ map.get (content self.now) id }
         ensures number { OnSome result (id < usize.MAX) };
 }
 
-/// A store of nodes, for changing: what [`SlabMut`] promises.
+/// A store of nodes, for changing, with the contracts of [`SlabMut`].
 pub trait NodesMut<K, V>: Nodes<K, V> + Sized {
-    /// What a store is made from, as the allocator of its memory.
+    /// What a store is made from, for example the allocator of its memory.
     type Origin;
 
-    /// The contents in which it may refuse a node. In every other content it takes one.
+    /// The contents in which it may refuse a node. In every other content it accepts one.
     ghost MayRefuse: { Content (Node K V) → Type 0 };
 
-    /// A node fits in memory, as calls that hand one on require.
+    /// The fact that a node fits in memory, which calls that pass a node on require.
     ghost Fits: { Type 0 };
 
-    /// The store with another node under a number that it uses.
+    /// The store with another node under a number that is used.
     ghost written: { Self → ℕ → Node K V → Self };
 
-    /// Notes that a node fits in memory, where the types are known. It does nothing when it runs.
+    /// Records for the prover that a node fits in memory; called where the types are known. It does nothing at run time.
     fn note_fits()
         requires { FitsInMemory (node_row K.row V.row) }
         ensures { Fits };
 
-    /// Tells what `note_fits` noted, where the types are parameters. It does nothing when it runs.
+    /// Gives the prover the fact that `note_fits` recorded; called where the types are parameters. It does nothing at run time.
     fn tell_fits()
         requires { Fits }
         ensures { FitsInMemory (node_row K.row V.row) };
 
-    /// A store with no node, which takes no memory until the first `insert`.
+    /// Returns a store without nodes, which allocates no memory until the first `insert`.
     fn empty(origin: Self::Origin) -> Self
         ensures content { Self.content result ≡ map.empty }
         ensures refusals { Self.refusals result ≡ 0 };
 
-    /// The node under `id` for writing, if that number is used.
+    /// Returns the node under `id` for writing, or `None` if that number is not used.
     fn get_mut(&mut self, id: usize) -> Option<&mut Node<K, V>>
         ensures* writes_back { sem 𝓛 (lends_node Self.row K.row V.row written self.entry id result) }
         ensures value { option_copied_mut result ≡ map.get (Self.content self.old) id };
 
-    /// Stores a node under a number that was not used, or hands it back.
+    /// Stores a node under a number that was not used and returns the number, or returns the node if the store refuses it.
     fn insert(&mut self, node: Node<K, V>) -> Result<usize, Node<K, V>>
         ensures number { IfOk result (λ id. id < usize.MAX) }
         ensures unused { IfOk result (λ id. map.get (Self.content self.old) id ≡ None) }
@@ -82,13 +82,13 @@ pub trait NodesMut<K, V>: Nodes<K, V> + Sized {
         ensures can_hold { OnOk result (Self.CanHold (Self.content self.new)) }
         ensures uncounted { OnOk result (Self.refusals self.new ≡ Self.refusals self.old) }
 
-        // A refusal is counted, and comes only where the store may refuse.
+        // A refusal is counted, and happens only if the store may refuse.
         ensures returned { IfErr result (λ back. back ≡ node) }
         ensures unchanged { OnErr result (Self.content self.new ≡ Self.content self.old) }
         ensures counted { OnErr result (Self.refusals self.new ≡ Self.refusals self.old + 1) }
         ensures may_refuse { OnErr result (MayRefuse (Self.content self.old)) };
 
-    /// Takes out the node under `id`, a number that is used.
+    /// Removes and returns the node under `id`, a number that is used.
     fn remove(&mut self, id: usize) -> Node<K, V>
         requires { IsSome (map.get (Self.content self.old) id) }
         ensures value { map.get (Self.content self.old) id ≡ Some result }
@@ -103,7 +103,7 @@ pub trait NodesMut<K, V>: Nodes<K, V> + Sized {
         Self.refusals (written store id node) ≡ Self.refusals store };
 }
 
-/// A store of nodes that can be emptied: what [`Clear`] promises.
+/// A store of nodes that can be emptied, with the contracts of [`Clear`].
 pub trait ClearNodes<K, V>: NodesMut<K, V> {
     /// Drops every node, so that no number is used.
     fn clear(&mut self)
@@ -156,7 +156,7 @@ impl<K, V, C: SlabMut<Node<K, V>>> NodesMut<K, V> for C {
         SlabMut::get_mut(self, id)
     }
 
-    // The clauses are the trait's, by the names that the store's own bound gives its members.
+    // The clauses are those of the trait, in the names that the store's own bound gives to its members.
     fn insert(&mut self, node: Node<K, V>) -> Result<usize, Node<K, V>>
         ensures number { IfOk result (λ id. id < usize.MAX) }
         ensures unused { IfOk result (λ id. map.get (C.content self.old) id ≡ None) }

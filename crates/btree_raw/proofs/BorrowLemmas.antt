@@ -1,4 +1,4 @@
--- Two siblings of which one has too few items: what the steps between them ask, and what is known afterwards.
+-- Two siblings, one of which underflows: what the steps between them require, and what holds afterwards.
 use Rattle.std.proofs.Common.{◌≡◌, ◌≢◌, ℕ, suc, ◌+◌, ◌<◌, ◌≤◌, ◌^◌, ◌-◌, inl, inr, Option, Some, None, IfSome, IsSome, List, refl, sym, ap, subst, ◌∙◌, option_map, slice_get, arith, length}
 use Rattle.std.specs.FinMap as nodes_map
 use Rattle.btree_store.specs.Content.{Content}
@@ -36,7 +36,7 @@ first-at {K} {V} nodes id node o at is = ap (λ n. option_map first_in (option_m
     first (leaf p xs) = refl
     first (internal p u bs) = refl
 
--- the node at which a followed climb stands
+-- the node at which an underflow fix that follows an address is
 module _ {A : Type 0} (node_at : NodeMap A) (id : ℕ) (a : Address) (s : IsFollowed node_at id a) where
   pub followed-node : (v : View A) × (node_at id ≡ Some v)
   followed-node = (_, shrinks-node A node_at s.root s.xs id s.asked a s.place s.given s.bound s.underflow)
@@ -55,7 +55,7 @@ module _ {A : Type 0} where
   both-used : (node_at new : NodeMap A) (n : ℕ) (v w : View A) → node_at n ≡ Some v → new n ≡ Some w → times_used (new n) ≡ times_used (node_at n)
   both-used node_at new n v w e f = let a = used-one (node_at n) v e in let b = used-one (new n) w f in omega arith
 
-  -- what is written keeps the numbers in use
+  -- a rotation keeps the numbers in use
   writes-used : (node_at new : NodeMap A) (p l r : ℕ) (top low high t2 l2 h2 : View A) (kids : List ℕ) (to : ℕ) → Writes node_at new p l r top low high t2 l2 h2 kids to
       → (n : ℕ) → times_used (new n) ≡ times_used (node_at n)
   writes-used node_at new p l r top low high t2 l2 h2 kids to w n = elim (same-or n p) [
@@ -72,7 +72,7 @@ module _ {A : Type 0} where
     ]
   ]
 
-  -- a merge takes one number out of use
+  -- a merge frees one number
   merge-used : (node_at new : NodeMap A) (p s l r : ℕ) → (l ≢ r) × (l ≢ p) × (r ≢ p) → Merges node_at new p s l r → (n : ℕ) → times_used (node_at n) ≡ times_used (new n) + one n r
   merge-used node_at new p s l r apart w n = elim (same-or n r) [
     | inl e ↦ rw e (let a = used-one (node_at r) w.high w.at_right in let b = ap times_used w.gone in let c = one-self r in omega arith)
@@ -95,7 +95,7 @@ module _ {A : Type 0} (node_at : NodeMap A) (siblings : Siblings) (id : ℕ) (a 
   short-up : parent_of short-node.0 ≡ Some siblings.parent
   short-up = followed-under node_at id a s.followed (Some siblings.parent) s.under
 
-  -- what is known of the two in whatever tree they stand
+  -- what holds for the two in whatever tree they are
   adjacent : (root : ℕ) (xs : List A) (asked : Option A) (place given bound : ℕ) → MayUnderflowAt A node_at root xs id asked a place given bound
       → Beside A node_at root xs asked a place given bound siblings.parent siblings.index siblings.left siblings.right
   adjacent root xs asked place given bound g =
@@ -141,7 +141,7 @@ module _ {A : Type 0} (node_at : NodeMap A) (siblings : Siblings) (id : ℕ) (a 
     count-low = let e = size-at node_at siblings.left count pair.low pair.at_left counted in let m = count-few pair.low pair.low_most in omega arith
 
     module _ (child : Option ℕ) (first : option_map first_in (node_at siblings.right) ≡ Some child) where
-      -- what is told of an address in the step's own words
+      -- what holds for the numbers in the nodes holds for those that the call is given
       so : (g : ℕ → Option ℕ → Address) (low high : View A) → node_at siblings.left ≡ Some low → node_at siblings.right ≡ Some high → (P : Address → Type 0) → P (g (size_of low) (first_in high)) → P (g count child)
       so g low high l h P p = subst (λ n. P (g n child)) (size-at node_at siblings.left count low l counted)
           (subst (λ k. P (g (size_of low) k)) (first-is node_at siblings.right child high h first) p)
@@ -229,7 +229,7 @@ module _ (siblings : Siblings) (count : ℕ) (child : Option ℕ) (a : Address) 
   pub joined-back : IsSome (between moved_by_merge siblings count child a).offset
   joined-back = some-back none (between moved_by_merge siblings count child a).offset (merge-back none siblings.left siblings.right siblings.parent siblings.index count child a (back-some none a.offset is))
 
--- a small offset, some steps on
+-- a small offset plus a few is an offset
 pub offset-far : (count : ℕ) → count ≤ 8 → (o : Option ℕ) → IfSome o (λ n. n ≤ 9) → IfSome o (λ n. n + count + 1 < 2 ^ 64 - 1)
 offset-far count low None few = tt
 offset-far count low (Some n) few = omega arith

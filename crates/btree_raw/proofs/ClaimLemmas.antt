@@ -1,4 +1,4 @@
--- Claims one after another, and given back the last one first.
+-- Claims one after another, which are given back from the last one on.
 use Rattle.std.proofs.Common.{◌≡◌, ◌≢◌, ℕ, zero, suc, ◌<◌, ◌^◌, ◌-◌, ◌++◌, ◌∷◌, [], inl, inr, All, List, Some, None, IsSome, refl, sym, ap, subst, ◌∙◌, option_map, arith}
 use Rattle.std.specs.FinMap as map
 use Rattle.btree_store.specs.Content.{Content}
@@ -50,7 +50,7 @@ module _ {N : Type 0} (empty : N) where
   }
 
 module _ {K V : Type 0} where
-  -- claims as definitions of the tree see them
+  -- claims in a map of nodes
   pub claims-seen : (nodes : Content (Node K V)) (ids : List ℕ) → AreClaims EMPTY nodes ids → Claims (views nodes) (views (with_claims EMPTY nodes ids)) ids
   claims-seen nodes [] a = record { counted = λ n. omega arith; kept = λ n none. refl }
   claims-seen nodes (id ∷ ids) a =

@@ -1,4 +1,4 @@
--- The count of the nodes that splits take, step by step.
+-- The count of the nodes that splits need, step by step.
 use Rattle.std.proofs.Common.{◌≡◌, ◌+◌, ◌<◌, ◌≤◌, ℕ, Some, None, IsSome, ap, arith, option_map}
 use Rattle.std.specs.FinMap as map
 use Rattle.btree_store.specs.Content.{Content}

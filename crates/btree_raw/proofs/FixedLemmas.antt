@@ -1,4 +1,4 @@
--- A climb that mends nodes with too few items: where it stands, and its end at the root.
+-- An underflow fix upward: its state at a node, and its end at the root.
 use Rattle.std.proofs.Common.{◌≡◌, ◌≢◌, ℕ, suc, ◌+◌, ◌<◌, ◌≤◌, inl, inr, List, [], ◌∷◌, ◌++◌, length, Option, Some, None, IfSome, IsSome, IsTrue, false, refl, sym, ap, subst, ◌∙◌, option_map, arith, length-append}
 use Rattle.std.specs.FinMap as nodes_map
 use Rattle.btree_store.specs.Content.{Content}
@@ -64,7 +64,7 @@ module _ {A : Type 0} (node_at : NodeMap A) (root : Option ℕ) (id : ℕ) (a : 
   up : parent_of at-node.0 ≡ None
   up = followed-under node_at id a f None top
 
-  -- it is the root
+  -- node `id` is the root
   at-top : (t : ℕ) → root ≡ Some t → id ≡ t
   at-top t is =
       let r = shrinks-root A node_at f.root f.xs id f.asked a f.place f.given f.bound f.underflow at-node.0 at-node.1 up in
@@ -163,10 +163,11 @@ module _ {A : Type 0} (node_at : NodeMap A) (root : Option ℕ) (id : ℕ) (a : 
               (subst (λ n. RemovesNode node_at new n) same lo) refl;
         }
 
--- where the climb stands
+-- the state of the fix
 module _ (A : Type 0) (old now : NodeMap A) (root : Option ℕ) (start id : ℕ) (a b : Address) where
-  -- what was known of the tree at the start is known where the climb stands, with these nodes given up, no more than the levels passed;
-  -- and whatever the order of the steps makes of the nodes from here on, it makes of those at the start
+  -- what held for the tree at the start holds at the node that the fix has reached, with these nodes freed, no more
+  -- than the levels passed; and what the order of the steps makes of the nodes from here on, it makes of those at the
+  -- start
   pub record Mends : Type 0 where
     pub gone : List ℕ
     pub counted : (n : ℕ) → times_used (old n) ≡ times_used (now n) + times_listed n gone
@@ -188,7 +189,7 @@ mends-start A node_at root start a = record {
 }
 
 module _ {A : Type 0} (old now : NodeMap A) (root : Option ℕ) (start id : ℕ) (a b : Address) (s : IsFixing old root start a) (c : Mends A old now root start id a b) where
-  -- what the followed address keeps
+  -- what still holds for the followed address
   pub still-followed : IsFollowed now id b
   still-followed = record {
     root = s.followed.root;
@@ -215,7 +216,7 @@ module _ {A : Type 0} (old now : NodeMap A) (root : Option ℕ) (start id : ℕ)
   abbrev still : MayUnderflowAt A now s.followed.root s.followed.xs id s.followed.asked b s.followed.place (s.followed.given + length c.gone) s.followed.bound
   still = c.next s.followed.root s.followed.xs s.followed.asked s.followed.place s.followed.given s.followed.bound s.at_root s.followed.underflow
 
-  -- a node with a parent that has an item too few is not the root
+  -- a node with a parent that underflows is not the root
   short-under : (p count : ℕ) → option_map parent_of (now id) ≡ Some (Some p) → HasCount now id count → count ≤ 2 → (top : ℕ) → root ≡ Some top
       → UnderflowsUnder now top p id
   short-under p count under counted few top is =

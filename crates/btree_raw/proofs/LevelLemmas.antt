@@ -1,4 +1,4 @@
--- How many pairs and levels a tree has that is off by one at a node.
+-- How many pairs and levels a tree that is off by one at a node has.
 use Rattle.std.proofs.Common.{◌+◌, ◌≤◌, if◌then◌else◌, Bool, true, false, ℕ, List, arith}
 use Rattle.std.specs.Prelude.{nat_lt}
 use Rattle.std.specs.declared.cmp.Ordering.{Ordering}
@@ -13,7 +13,7 @@ either-low : (b : Bool) (x y : ℕ) → (if b then x else y) ≤ x + y
 either-low true x y = omega arith
 either-low false x y = omega arith
 
--- a climb on at most 32 levels takes few nodes
+-- splits on at most 32 levels need few nodes
 pub split_need-few : {K V : Type 0} (cmp : K → K → Ordering) (node_at : NodeMap (K × V)) (root odd most id all : ℕ) (xs : List (K × V))
     → IsOffByOne cmp node_at root odd xs → IsCountingUpward (K × V) node_at root xs most id 0 all → all ≤ 33
 split_need-few {K} {V} cmp node_at root odd most id all xs w s =

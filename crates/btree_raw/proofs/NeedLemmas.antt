@@ -1,4 +1,4 @@
--- The count of the nodes that an insertion takes, step by step.
+-- The count of the nodes that an insertion needs, step by step.
 use Rattle.std.proofs.Common.{◌≡◌, ◌↔◌, IsTrue, true, false, ℕ, zero, suc, ◌+◌, ◌<◌, ◌≤◌, ◌^◌, inl, inr, List, [], ◌∷◌, Option, Some, None, length, length-append, refl, sym, ap, subst, arith}
 use Rattle.std.proofs.Math.Nat.{pow-le-pow_right}
 use Rattle.std.specs.FinMap as map
@@ -26,7 +26,7 @@ use Rattle.btree_shape.proofs.Paths.FromRoot.{node-at}
 use Rattle.btree_shape.proofs.Trees.Stores.{some-used}
 use Rattle.btree_shape.proofs.Paths.Focus.{close}
 
--- the test of a node
+-- the test whether a node is full
 pub is-full : {K V : Type 0} (node : Node K V) → (IsTrue true ↔ (most_of (view_of node) ≤ size_of (view_of node))) → most_of (view_of node) ≤ size_of (view_of node)
 is-full node e = e.0 refl
 
@@ -37,7 +37,7 @@ not-full node e = elim (less-or (size_of (view_of node)) (most_of (view_of node)
 ]
 
 module _ (A : Type 0) where
-  -- a tree whose length a `usize` can hold has at most 32 levels
+  -- a tree whose length fits in a `usize` has at most 32 levels
   levels-few : (h : ℕ) (t : Shape A h) → 1 ≤ count_at A h t → IsFilledBelow A h t → length (items_under A h t) < 2 ^ 64 → h ≤ 31
   levels-few zero t some filled low = omega arith
   levels-few (suc h) (id, first, []) some filled low = absurd (omega arith)

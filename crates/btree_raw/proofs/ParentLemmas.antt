@@ -1,4 +1,4 @@
--- A node that makes itself the parent of its children, one after another.
+-- A node that becomes the parent of its children, one after another.
 use Rattle.std.proofs.Common.{◌≡◌, ℕ, zero, suc, ◌+◌, ◌<◌, ◌≤◌, inl, inr, List, [], ◌∷◌, ◌++◌, length, take, slice_get, Option, Some, None, IsSome, refl, sym, ap, subst, ◌∙◌, option_map, arith}
 use Rattle.std.proofs.lemmas.List.{take_all}
 use Rattle.std.specs.FinMap as map
@@ -72,7 +72,7 @@ module _ {K V : Type 0} where
   pub children-at : (nodes : Content (Node K V)) (id : ℕ) (node : Node K V) → map.get nodes id ≡ Some node → children_in (views nodes id) ≡ children_of (view_of node)
   children-at nodes id node at = rw at refl
 
-  -- one turn of the loop: the node as it was and as it is now
+  -- one iteration of the loop: the node as it was and as it is now
   module _ (old now : Content (Node K V)) (id : ℕ) (can : CanReparent (views old) id) (index : ℕ) (partly : Reparents (views old) (views now) id (take index (children_in (views old id)))) where
     pub still-used : IsSome (map.get now id)
     still-used = used-view now id (rw (adopter-kept (views old) id can (views now) index partly) can.used)

@@ -1,4 +1,4 @@
--- A node that is put into a store of any content, and makes itself the parent of its children.
+-- A node inserted into a store of any content, which becomes the parent of its children.
 use Rattle.std.proofs.Common.{◌≡◌, ◌≢◌, ℕ, ◌<◌, inl, inr, List, Option, Some, None, IsSome, IsTrue, Bool, false, refl, ap, subst, ◌∙◌, arith}
 use Rattle.std.specs.FinMap as map
 use Rattle.std.specs.declared.cmp.Ordering.{Ordering}
@@ -55,7 +55,7 @@ module _ {K V : Type 0} (nodes : Content (Node K V)) (id : ℕ) (node : Node K V
         subst Q is (subst P (ap children_in here) a)
 
 module _ {K V : Type 0} (cmp : K → K → Ordering) (s : TreeState K V) (id : ℕ) where
-  -- the walk of the nodes under the root tells whether the tree is off by one
+  -- the walk of the nodes under the root decides whether the tree is off by one
   pub off-found : (root : ℕ) → s.root ≡ Some root → (result : Bool)
       → (IsTrue result → IsOffAmong cmp s.nodes root id) × (IsOffAmong cmp s.nodes root id → IsTrue result)
       → (IsTrue result → IsOff cmp s id) × (IsOff cmp s id → IsTrue result)

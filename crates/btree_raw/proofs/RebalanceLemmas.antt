@@ -1,4 +1,4 @@
--- Rebalancing: where its climbs begin, and what they come to.
+-- Rebalancing: where its splits or underflow fixes begin, and how they end.
 use Rattle.std.proofs.Common.{◌≡◌, ◌∙◌, ◌+◌, ◌<◌, ◌≤◌, ◌++◌, [], ℕ, suc, inl, inr, List, length, length-append, Option, Some, None, IsSome, refl, sym, ap, subst, arith, slice_get}
 use Rattle.std.specs.Cmp.{IsTotalOrder}
 use Rattle.std.specs.FinMap as map
@@ -47,12 +47,12 @@ some-there None is = absurd (cc)
 some-there (Some x) is = (x, refl)
 
 module _ {A : Type 0} where
-  -- the numbers of nodes, and those that were taken or given up beside them
+  -- the numbers of nodes, with those that were gained or freed
   listed-both : (node_at new : NodeMap A) (ids more : List ℕ) → ((n : ℕ) → times_listed n ids ≡ times_used (new n)) → ((n : ℕ) → times_used (node_at n) ≡ times_used (new n) + times_listed n more)
       → (n : ℕ) → times_listed n (ids ++ more) ≡ times_used (node_at n)
   listed-both node_at new ids more each both n = let a = listed-append n ids more in let b = each n in let c = both n in omega arith
 
--- nothing stands at an address of the empty list
+-- no item is at an address of the empty list
 nothing-there : {A : Type 0} (node_at : NodeMap A) (root : ℕ) (id : ℕ) (o : Option ℕ) (place : ℕ) (x : A) → IsAddressed A node_at root [] (Some x) (record { id = id; offset = o }) place → ⊥
 nothing-there node_at root id None place x d = let e = d.item in absurd (cc)
 nothing-there {A} node_at root id (Some o) place x d = elim d.at_place [
@@ -68,13 +68,13 @@ nothing-there {A} node_at root id (Some o) place x d = elim d.at_place [
     past (Some v) e end = let l = slice_get_within (items_of v) o x e in absurd (omega arith)
 
 module _ {K V : Type 0} (cmp : K → K → Ordering) (node_at new : NodeMap (K × V)) (root : ℕ) (xs : List (K × V)) (a b : Address) where
-  -- the address at the end: valid, at the place, and at the item that is asked for
+  -- the address at the end: valid, at the place, and at the item that is required
   pub record Follows (t : Option ℕ) (asked : Option (K × V)) (place : ℕ) : Type 0 where
     pub valid : IsValid new t b.id b.offset
     pub at_place : IsPlace new t xs b.id b.offset place
     pub item : (x : K × V) → asked ≡ Some x → item_at new b ≡ Some x
 
-  -- what is known of the tree under root t once a climb is over
+  -- what holds for the tree under root t at the end of the steps
   pub record Ends (t : Option ℕ) (gained bound : ℕ) : Type 0 where
     pub well : IsWellFormed cmp new t (length xs) xs
     pub ids : List ℕ

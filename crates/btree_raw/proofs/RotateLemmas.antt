@@ -1,4 +1,4 @@
--- Single nodes of a store in the steps that mend, as definitions see them.
+-- Single nodes of a store in the steps that fix an underflow, as a map of nodes sees them.
 use Rattle.std.proofs.Common.{◌≡◌, ℕ, suc, inl, inr, ◌+◌, ◌<◌, ◌≤◌, ◌^◌, ◌-◌, List, [], ◌∷◌, ◌++◌, length, map, set, Option, Some, None, IsSomeAnd, IsTrue, refl, sym, ap, subst, ◌∙◌, option_map, slice_get, arith}
 use Rattle.std.proofs.lemmas.List.{length-map, length-set, map-append}
 use Rattle.std.proofs.lemmas.Slice.Zip.{firsts-zip, seconds-zip}
@@ -26,7 +26,7 @@ use Rattle.btree_shape.proofs.Trees.Stores.{most-few, writes_node, view-at}
 use Rattle.btree_raw.proofs.SeparatorLemmas.{one-more}
 use Rattle.btree_internal.proofs.BranchLemmas.{map_remove}
 
--- what stands in a node's new place, in items and children
+-- the items and children of the new node
 module _ {A : Type 0} where
   pub kind-left : (x : A) (child : Option ℕ) (v : View A) → is_internal (pushed_left x child v) ≡ is_internal v
   kind-left x child (leaf p xs) = refl
@@ -87,7 +87,7 @@ module _ {A : Type 0} where
     children_are = ap (λ l. u ∷ l) (map-append (λ b. b.1) bs ((x, w) ∷ cs));
   }
 
--- an index that is small is an offset
+-- a small index is an offset
 pub index-is : (index : ℕ) (o : Option ℕ) → index < 2 ^ 64 - 1 → o ≡ index_offset index → o ≡ Some index
 index-is index o low e = e ∙ rw (other-test index (2 ^ 64 - 1) (omega arith)) refl
 
@@ -187,7 +187,7 @@ module _ {A : Type 0} (node_at new : NodeMap A) (parent : ℕ) where
 pub adopts-no : {A : Type 0} (node_at : NodeMap A) (parent : ℕ) (child : Option ℕ) → child ≡ None → Reparents node_at node_at parent (as_list child)
 adopts-no node_at parent child e = rw e (record { moved = λ n m. absurd (omega arith); kept = λ n z. refl })
 
--- the release of a root
+-- shrinking the root
 module _ {A : Type 0} (node_at one_look : NodeMap A) (root child : ℕ) (can : CanShrinkRoot node_at root child) (a : RemovesNode node_at one_look root) where
   pub child-used : 0 < times_used (one_look child)
   child-used = rw (a.others child can.apart) can.used

@@ -36,7 +36,7 @@ module _ {A : Type 0} (node_at : NodeMap A) (siblings : Siblings) (pair : AreSib
         let c = pair.children n (omega arith) in
         used-same node_at new n (still n c.1 c.2 c.3) c.0)
 
--- a rotation to the siblings.left
+-- a rotation to the left
 module _ {A : Type 0} (node_at : NodeMap A) (siblings : Siblings) (can : CanRotateLeft node_at siblings) where
   module _ (one_look : NodeMap A) (up : A) (child : Option ℕ) (a : LosesFirst node_at one_look siblings.right up child) where
     high-left : can.pair.high ≡ pushed_left up child a.rest
@@ -97,7 +97,7 @@ module _ {A : Type 0} (node_at : NodeMap A) (siblings : Siblings) (can : CanRota
               (subst (λ v. WritesNode two three siblings.left (pushed_right down child v)) low-left c.writes_node);
         }
 
--- a rotation to the siblings.right
+-- a rotation to the right
 module _ {A : Type 0} (node_at : NodeMap A) (siblings : Siblings) (can : CanRotateRight node_at siblings) where
   module _ (one_look : NodeMap A) (up : A) (child : Option ℕ) (a : LosesLast node_at one_look siblings.left up child) where
     low-right : can.pair.low ≡ pushed_right up child a.rest
@@ -176,7 +176,7 @@ module _ {A : Type 0} (node_at : NodeMap A) (siblings : Siblings) (can : CanMerg
     pub other-there : 0 < times_used (one_look siblings.right)
     other-there = used-there one_look siblings.right can.pair.high at-other
 
-    -- what the right sibling held was taken out, and this is under its number then
+    -- what the right sibling held was removed, and this is under its number then
     module _ (two : NodeMap A) {under : Option (View A)} (b : Becomes one_look two siblings.right under) (other : View A) (is : one_look siblings.right ≡ Some other) where
       same-other : other ≡ can.pair.high
       same-other = same-node one_look siblings.right other can.pair.high is at-other

@@ -1,4 +1,4 @@
--- The index of a child in its parent, which takes an item and a child there.
+-- The index of a child in its parent, into which an item and a child are inserted there.
 use Rattle.std.proofs.Common.{◌≡◌, ℕ, ◌+◌, ◌<◌, ◌≤◌, ◌==◌, true, inl, inr, List, [], ◌∷◌, length, get_or, slice_get, Option, Some, None, IsSome, IsTrue, refl, sym, ap, subst, ◌∙◌, option_map, arith}
 use Rattle.std.proofs.lemmas.Bool.Decides.{nat_tests}
 use Rattle.std.proofs.lemmas.Iterator.Adapters.{position_from-zero}

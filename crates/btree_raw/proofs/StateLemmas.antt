@@ -19,7 +19,7 @@ module _ {K V : Type 0} where
   abbrev pub with_nodes : Content (Node K V) → TreeState K V → TreeState K V
   with_nodes nodes s = record s { nodes = nodes }
 
-  -- what the rest keeps over one change and over the next it keeps over both
+  -- if two changes keep the rest, so do both together
   pub then : {a b d : TreeState K V} → KeepsRest a b → KeepsRest b d → KeepsRest a d
   then {a} {b} {d} p q = record { rest = q.rest ∙ ap (with_nodes d.nodes) p.rest }
 
@@ -35,11 +35,11 @@ module _ {K V : Type 0} where
   pub nodes-of : {a b : TreeState K V} → a ≡ b → a.nodes ≡ b.nodes
   nodes-of e = let f : TreeState K V → Content (Node K V) = λ s. s.nodes in ap f e
 
-  -- a node that was taken out
+  -- a node was removed
   pub removed : {a b : TreeState K V} (id : ℕ) → b ≡ record a { nodes = map.remove a.nodes id } → KeepsRest a b
   removed {a} {b} id e = record { rest = e ∙ ap (λ n. with_nodes n a) (sym (nodes-of e)) }
 
-  -- a node that was put in
+  -- a node was inserted
   pub inserted : {a b : TreeState K V} (id : ℕ) (node : Node K V) → b ≡ record a { nodes = map.insert a.nodes id node } → KeepsRest a b
   inserted {a} {b} id node e = record { rest = e ∙ ap (λ n. with_nodes n a) (sym (nodes-of e)) }
 

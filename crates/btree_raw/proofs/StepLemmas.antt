@@ -1,4 +1,4 @@
--- Single nodes of a store, changed, as definitions see them.
+-- Single nodes of a store, changed, as a map of nodes sees them.
 use Rattle.std.proofs.Common.{◌≡◌, ℕ, ◌<◌, ◌≤◌, ◌^◌, ◌-◌, Option, Some, IsSomeAnd, arith, sym, ap, ◌∙◌, option_map}
 use Rattle.std.specs.FinMap as map
 use Rattle.btree_store.specs.Content.{Content}
@@ -12,17 +12,17 @@ use Rattle.btree_raw.specs.Steps.{CanTake, Overflows, Halves, HasCount}
 use Rattle.btree_shape.proofs.Places.Untouched.{other-test}
 use Rattle.btree_shape.proofs.Trees.Stores.{most-few, writes_node, view-at}
 
--- an index that is not too great is an offset
+-- an index that is not too large is an offset
 index-small : (n index : ℕ) (o : Option ℕ) → index < 2 ^ 64 - 1 → index ≤ n → o ≡ index_offset index → IsSomeAnd o (λ i. i ≤ n)
 index-small n index o low within e = rw (e, other-test index (2 ^ 64 - 1) (omega arith)) within
 
--- how many items stand in a node
+-- how many items a node has
 pub size-at : {A : Type 0} (node_at : NodeMap A) (id count : ℕ) (v : View A) → node_at id ≡ Some v → HasCount node_at id count → size_of v ≡ count
 size-at node_at id count v e l = let q : Some (size_of v) ≡ Some count = sym (ap (option_map size_of) e) ∙ l in cc
 
 module _ {K V : Type 0} where
   module _ (nodes : Content (Node K V)) (id : ℕ) (node : Node K V) (at : Some node ≡ map.get nodes id) where
-    -- what `insert` of a node asks
+    -- what `insert` of a node requires
     pub take-room : (index : ℕ) (child : Option ℕ) (o : Option ℕ) → o ≡ index_offset index → CanTake (views nodes) id index child
         → (size_of (view_of node) ≤ most_of (view_of node)) × (IsSomeAnd o (λ i. i ≤ size_of (view_of node)) × HasChildFor child (view_of node))
     take-room index child o e can =

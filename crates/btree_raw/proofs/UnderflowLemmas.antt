@@ -1,4 +1,4 @@
--- A node with an item too few beside its siblings: what the step there asks, and what is known afterwards.
+-- A node with an item too few and its siblings: what the step there requires, and what holds afterwards.
 use Rattle.std.proofs.Common.{◌≡◌, ◌≢◌, ℕ, zero, suc, ◌+◌, ◌<◌, ◌≤◌, ◌-◌, ◌==◌, List, [], ◌∷◌, length, Option, Some, None, IsSome, refl, sym, ap, subst, ◌∙◌, option_map, slice_get, arith, inl, inr}
 use Rattle.std.proofs.lemmas.List.{length-map}
 use Rattle.std.specs.FinMap as nodes_map
@@ -66,7 +66,7 @@ module _ {A : Type 0} (node_at : NodeMap A) where
       let l : size_in (node_at sibling) ≤ 3 = omega arith in
       subst (λ o. IfSome o (λ i. size_in (node_at i) ≤ 3)) (sym is) l
 
--- the index of a child and its siblings, read off the parent
+-- the index of a child and its siblings, computed from the parent
 module _ {K V : Type 0} (nodes : Content (Node K V)) (parent : ℕ) where
   module _ (node : Node K V) (at : nodes_map.get nodes parent ≡ Some node) where
     here-now : views nodes parent ≡ Some (view_of node)
@@ -116,7 +116,7 @@ module _ {K V : Type 0} (nodes : Content (Node K V)) (parent : ℕ) where
             first = λ z. absurd (some z);
           }
 
--- a step with the sibling on the left
+-- a step with the left sibling
 module _ {A : Type 0} (node_at : NodeMap A) (siblings : Siblings) (a : Address) (s : AreAdjacent node_at siblings siblings.right a) where
   abbrev two : Beside A node_at s.followed.root s.followed.xs s.followed.asked a s.followed.place s.followed.given s.followed.bound
       siblings.parent siblings.index siblings.left siblings.right
@@ -194,7 +194,7 @@ module _ {A : Type 0} (node_at : NodeMap A) (id p : ℕ) (a : Address) (s : IsFo
   is-short count counted few = record { node = at-node.0; here = at-node.1; few = let e = size-at node_at id count at-node.0 at-node.1 counted in omega arith }
 
   module _ (before after : Option Siblings) (sib : HasSiblings node_at p id before after) where
-    -- a child stands before each but the first
+    -- there is a child before each but the first
     before-some : (k : ℕ) → sib.index ≡ suc k → IsSome (child_at node_at p k)
     before-some k e =
         let m = slice_get_within (children_in (node_at p)) sib.index id sib.child in
@@ -205,7 +205,7 @@ module _ {A : Type 0} (node_at : NodeMap A) (id p : ℕ) (a : Address) (s : IsFo
         (some-of p k (child_at node_at p k) (child_at node_at p (suc k)) (before-some k e)
         (subst (λ o. IsSome o) (sym (ap (child_at node_at p) (sym e) ∙ sib.child)) refl))
 
-    -- without a sibling on the right there is one on the left
+    -- without a right sibling there is a left one
     pub before-there : after ≡ None → IsSome before
     before-there none =
         let o = to-over A node_at s.root s.xs id s.asked a s.place s.given s.bound s.underflow at-node.0 at-node.1 p up in
@@ -227,7 +227,7 @@ module _ {A : Type 0} (node_at : NodeMap A) (id p : ℕ) (a : Address) (s : IsFo
       pub after-up : j.parent ≡ p
       after-up = after-of.parent
 
-      -- what holds of the numbers that the siblings name holds of the child's and its parent's
+      -- what holds for the numbers in `j` holds for the child's number and its parent's
       pub as-after : (P : ℕ → ℕ → Type 0) → P j.parent j.left → P p id
       as-after P x = subst (λ n. P p n) after-left (subst (λ q. P q j.left) after-up x)
 
@@ -302,7 +302,7 @@ module _ {A : Type 0} (node_at : NodeMap A) (id p : ℕ) (a : Address) (s : IsFo
         followed = s;
       })
 
-      -- whatever is known at the index after the child's, it is known two after its left sibling's
+      -- what holds at the index after the child's holds two after its left sibling's
       two-after : NoneSpares node_at p (suc sib.index) → NoneSpares node_at i.parent (suc (suc i.index))
       two-after none = rw (before-up, ← next) none
 
@@ -317,11 +317,11 @@ module _ {A : Type 0} (node_at : NodeMap A) (id p : ℕ) (a : Address) (s : IsFo
     first-from none zero e = refl
     first-from none (suc n) e = absurd (none-some before none (both-some n e))
 
-    -- without a sibling on the left it is the first child
+    -- without a left sibling it is the first child
     pub first-child : before ≡ None → sib.index ≡ 0
     first-child none = first-from none sib.index refl
 
-    -- which step it is with the sibling on the right
+    -- which step it is with the right sibling
     module _ (j : Siblings) (held : ℕ) (there : after ≡ Some j) (counted : HasCount node_at j.right held) (new : NodeMap A) where
       pub right-borrows : 3 < held → RotatesSiblingsLeft node_at new j → Borrows node_at new p id
       right-borrows many step = let e = counted-in node_at j.right held counted in

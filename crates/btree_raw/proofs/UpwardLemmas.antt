@@ -1,4 +1,4 @@
--- A climb that splits nodes, from the one where it began to the one where it stands.
+-- A split upward, from the node where it began to the node that it has reached.
 use Rattle.std.proofs.Common.{◌≡◌, ◌≢◌, ◌↔◌, ◌⊎◌, true, false, IsTrue, ℕ, suc, ◌+◌, ◌<◌, ◌≤◌, ◌^◌, ◌-◌, inl, inr, List, [], ◌∷◌, ◌++◌, All, Option, Some, None, IfSome, IsSome, length, option_map, slice_get, refl, sym, ap, subst, ◌∙◌, arith}
 use Rattle.std.proofs.lemmas.List.{nil_from_length}
 use Rattle.btree_item.specs.declared.address.Address.{Address}
@@ -75,7 +75,8 @@ grow_root-used node_at new i j r x s used n = elim (same-or n r) [
 ]
 
 module _ (A : Type 0) (old now : NodeMap A) (root : Option ℕ) (start id : ℕ) (spare rest : List ℕ) (a b : Address) where
-  -- what was known of the tree at the start is known where the climb stands, with as many nodes gained as numbers are taken
+  -- what held for the tree at the start holds at the node that the splits have reached, with as many nodes gained as
+  -- numbers used
   pub record Climbs : Type 0 where
     pub taken : ℕ
     pub counted : taken + length rest ≡ length spare
@@ -107,7 +108,7 @@ module _ (A : Type 0) (old now : NodeMap A) (root : Option ℕ) (start id : ℕ)
   split_need-offset = grows-low A now s.top s.xs id rest s.asked b s.place (s.gained + c.taken) s.bound here
 
   module _ (v : View A) (e : now id ≡ Some v) where
-    -- the climb is over: no number is left
+    -- the splits end: no number is left
     none-left : size_of v ≤ most_of v → length rest ≡ 0
     none-left low =
         let at = grows-node A now s.top s.xs id rest s.asked b s.place (s.gained + c.taken) s.bound here in
@@ -264,7 +265,7 @@ module _ (A : Type 0) (old now : NodeMap A) (root : Option ℕ) (start id : ℕ)
                 pub split_need-back-end : IsSome a.offset → IsSome (moved_by_split id j r 0 kept b).offset
                 split_need-back-end is = moved-back r 0 (c.back is)
 
--- what the test of a node answers
+-- what the test of a node returns
 pub is-over : {A : Type 0} (v : View A) → (IsTrue true ↔ IsOverflowing v) → IsOverflowing v
 is-over v e = e.0 refl
 

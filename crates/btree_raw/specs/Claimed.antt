@@ -1,4 +1,4 @@
--- Numbers that are claimed from a store before a change.
+-- Numbers that are claimed from a store before a change, and given back if the change is refused.
 use Rattle.std.specs.Prelude.{◌≡◌, ℕ, ◌<◌, ◌^◌, ◌-◌, List, [], ◌∷◌, length, None}
 use Rattle.std.specs.FinMap as map
 use Rattle.btree_store.specs.Content.{Content}
@@ -11,33 +11,33 @@ abbrev pub EMPTY : {K V : Type 0} → Node K V
 EMPTY = Leaf (record { parent = None; items = [] })
 
 module _ {N : Type 0} (empty : N) where
-  -- the nodes with an empty one under each number, from the first on
+  -- the nodes with `empty` under each number, inserted from the first on
   abbrev pub with_claims : Content N → List ℕ → Content N
   with_claims nodes [] = nodes
   with_claims nodes (id ∷ ids) = with_claims (map.insert nodes id empty) ids
 
-  -- each number is a node's, and was unused when it was claimed
+  -- each number is below `usize::MAX` and was unused when it was claimed
   abbrev pub AreClaims : Content N → List ℕ → Type 0
   AreClaims nodes [] = Unit {0}
   AreClaims nodes (id ∷ ids) = (map.get nodes id ≡ None) × (id < 2 ^ 64 - 1) × AreClaims (map.insert nodes id empty) ids
 
-  -- what nodes became of these when some were claimed
+  -- the old nodes became the new ones when these numbers were claimed
   pub record IsClaimed (old new : Content N) (ids : List ℕ) : Type 0 where
     pub claims : AreClaims old ids
     pub after : new ≡ with_claims old ids
 
-  -- one of so many claims may be refused: the store may refuse in a content with fewer of them added
+  -- one of `count` claims may be refused: the store may refuse in a content with fewer than `count` claims added
   pub record MayRefuseOneOf (MayRefuse : Content N → Type 0) (nodes : Content N) (count : ℕ) : Type 0 where
     pub ids : List ℕ
     pub fewer : length ids < count
     pub claims : AreClaims nodes ids
     pub may : MayRefuse (with_claims nodes ids)
 
--- these numbers were not used, and are empty leaves now; nothing else has changed
+-- these numbers were not used, and are those of empty leaves now; nothing else has changed
 pub record AreClaimed {K V : Type 0} (old new : TreeState K V) (ids : List ℕ) : Type 0 where
   pub claimed : IsClaimed EMPTY old.nodes new.nodes ids
   pub rest : KeepsRest old new
 
--- whatever tree these numbers were claimed from, it is as it was
+-- whatever tree these numbers were claimed from, the new tree is that tree
 abbrev pub GivesBack : {K V : Type 0} → (old new : TreeState K V) → List ℕ → Type 0
 GivesBack {K} {V} old new ids = (base : TreeState K V) → AreClaimed base old ids → new ≡ base

@@ -1,4 +1,4 @@
--- What the steps that mend a node with too few items ask of a store's nodes, and what each call leaves.
+-- What the steps that fix an underflow require of a store's nodes, and what each call leaves.
 use Rattle.std.specs.Prelude.{◌≡◌, ◌≢◌, ℕ, ◌+◌, ◌<◌, ◌≤◌, [], ◌∷◌, slice_get, Option, Some, None, IfSome, option_map, IsTrue}
 use Rattle.btree_view.specs.View.{View, NodeMap, size_of, most_of, items_of, children_of}
 use Rattle.btree_view.specs.Edits.{with_parent, with_other_item, without, joined, pushed_left, pushed_right, is_internal, HasChildFor, HaveRoom, HasSpare}
@@ -15,7 +15,7 @@ module _ {A : Type 0} (node_at : NodeMap A) where
     pub here : node_at id ≡ Some node
     pub spare : HasSpare node
 
-  -- node `id` is an internal node with an item at the index, and with no item too many
+  -- node `id` is an internal node that does not overflow, and has an item at the index
   pub record HasSeparator (id index : ℕ) : Type 0 where
     pub node : View A
     pub here : node_at id ≡ Some node
@@ -23,14 +23,14 @@ module _ {A : Type 0} (node_at : NodeMap A) where
     pub most : size_of node ≤ most_of node
     pub within : index < size_of node
 
-  -- node `id` has room for an item, and a child comes with it exactly if it is an internal node
+  -- node `id` has room for an item, and a child is given exactly if it is an internal node
   pub record HasRoomFor (id : ℕ) (child : Option ℕ) : Type 0 where
     pub node : View A
     pub here : node_at id ≡ Some node
     pub room : size_of node ≤ most_of node
     pub kind : HasChildFor child node
 
-  -- node `id` has room for an item and what another node of its kind holds
+  -- node `id` has room for an item and for all that another node of its kind holds
   pub record HasRoomForAll (id : ℕ) (other : View A) : Type 0 where
     pub node : View A
     pub here : node_at id ≡ Some node
@@ -38,61 +38,61 @@ module _ {A : Type 0} (node_at : NodeMap A) where
     pub room : HaveRoom node other
 
   module _ (new : NodeMap A) where
-    -- the first item of node `id` was taken out, with the first child of an internal node; nothing else has changed
+    -- the first item of node `id` was removed, with the first child if it is an internal node; nothing else has changed
     pub record LosesFirst (id : ℕ) (x : A) (child : Option ℕ) : Type 0 where
       pub rest : View A
       pub was : node_at id ≡ Some (pushed_left x child rest)
       pub kind : HasChildFor child rest
       pub writes_node : WritesNode node_at new id rest
 
-    -- the same of the last item and the last child
+    -- the same for the last item and the last child
     pub record LosesLast (id : ℕ) (x : A) (child : Option ℕ) : Type 0 where
       pub rest : View A
       pub was : node_at id ≡ Some (pushed_right x child rest)
       pub kind : HasChildFor child rest
       pub writes_node : WritesNode node_at new id rest
 
-    -- node `id` has another item at the index, where the old one stood; nothing else has changed
+    -- node `id` has the item x at the index in the place of the old one; nothing else has changed
     pub record ChangesSeparator (id index : ℕ) (old x : A) : Type 0 where
       pub node : View A
       pub here : node_at id ≡ Some node
       pub was : slice_get (items_of node) index ≡ Some old
       pub writes_node : WritesNode node_at new id (with_other_item index x node)
 
-    -- node `id` has the item before the others, with the child; nothing else has changed
+    -- node `id` has the item before its others, with the child; nothing else has changed
     pub record GainsFirst (id : ℕ) (x : A) (child : Option ℕ) : Type 0 where
       pub node : View A
       pub here : node_at id ≡ Some node
       pub writes_node : WritesNode node_at new id (pushed_left x child node)
 
-    -- node `id` has the item behind the others, with the child; nothing else has changed
+    -- node `id` has the item after its others, with the child; nothing else has changed
     pub record GainsLast (id : ℕ) (x : A) (child : Option ℕ) : Type 0 where
       pub node : View A
       pub here : node_at id ≡ Some node
       pub writes_node : WritesNode node_at new id (pushed_right x child node)
 
-    -- node `id` has the item and then what the other node held behind the others; nothing else has changed
+    -- node `id` has the item after its others, and then what the other node held; nothing else has changed
     pub record GainsAll (id : ℕ) (x : A) (other : View A) : Type 0 where
       pub node : View A
       pub here : node_at id ≡ Some node
       pub writes_node : WritesNode node_at new id (joined node x other)
 
-    -- node `id` was left without the item at an index and the child after it; nothing else has changed
+    -- node `id` has lost the item at an index and the child after it; nothing else has changed
     pub record LosesSeparator (id index : ℕ) (x : A) : Type 0 where
       pub node : View A
       pub here : node_at id ≡ Some node
       pub was : slice_get (items_of node) index ≡ Some x
       pub writes_node : WritesNode node_at new id (without index node)
 
-    -- the right sibling has lent an item to the left one
+    -- the left sibling has borrowed an item from the right one
     abbrev pub RotatesSiblingsLeft : Siblings → Type 0
     RotatesSiblingsLeft siblings = RotatesLeft node_at new siblings.parent siblings.index siblings.left siblings.right
 
-    -- the left sibling has lent an item to the right one
+    -- the right sibling has borrowed an item from the left one
     abbrev pub RotatesSiblingsRight : Siblings → Type 0
     RotatesSiblingsRight siblings = RotatesRight node_at new siblings.parent siblings.index siblings.left siblings.right
 
-    -- the two siblings have become one node
+    -- the two siblings have been merged
     abbrev pub MergesSiblings : Siblings → Type 0
     MergesSiblings siblings = Merges node_at new siblings.parent siblings.index siblings.left siblings.right
 
@@ -100,8 +100,8 @@ module _ {A : Type 0} (node_at : NodeMap A) where
     abbrev pub ClearsParent : (id : ℕ) → Type 0
     ClearsParent id = Becomes node_at new id (option_map (with_parent None) (node_at id))
 
-  -- the two are children of their parent with its item at the index between them, of one kind; their children are there, and are other
-  -- nodes
+  -- the two are children of their parent, with its item at the index between them, and are of one kind; their children
+  -- are there, and are other nodes
   pub record AreSiblings (siblings : Siblings) : Type 0 where
     pub top : View A
     pub low : View A
@@ -117,13 +117,13 @@ module _ {A : Type 0} (node_at : NodeMap A) where
     pub children : (n : ℕ) → 0 < times_listed n (children_of low) + times_listed n (children_of high)
         → (0 < times_used (node_at n)) × (n ≢ siblings.parent) × (n ≢ siblings.left) × (n ≢ siblings.right)
 
-  -- the right one has an item to spare, and the left one room for one
+  -- the right sibling has an item to spare, and the left one has room for one
   pub record CanRotateLeft (siblings : Siblings) : Type 0 where
     pub pair : AreSiblings siblings
     pub room : size_of pair.low ≤ most_of pair.low
     pub spare : HasSpare pair.high
 
-  -- the left one has an item to spare, and the right one room for one
+  -- the left sibling has an item to spare, and the right one has room for one
   pub record CanRotateRight (siblings : Siblings) : Type 0 where
     pub pair : AreSiblings siblings
     pub room : size_of pair.high ≤ most_of pair.high
@@ -135,7 +135,7 @@ module _ {A : Type 0} (node_at : NodeMap A) where
     pub room : HaveRoom pair.low pair.high
     pub own : (n : ℕ) → 0 < times_listed n (children_of pair.low) → option_map (with_parent (Some siblings.left)) (node_at n) ≡ node_at n
 
-  -- the node is there, if one is named
+  -- the node is there, if a number is given
   abbrev pub IsThere : Option ℕ → Type 0
   IsThere child = IfSome child (λ id. 0 < times_used (node_at id))
 

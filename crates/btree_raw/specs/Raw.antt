@@ -1,4 +1,4 @@
--- What calls of a tree of any content ask, and leave.
+-- What calls on a raw tree, a tree of any content, require and leave.
 use Rattle.std.specs.Prelude.{◌≡◌, ℕ, ◌+◌, ◌<◌, List, None, IsSome}
 use Rattle.std.specs.FinMap as map
 use Rattle.btree_store.specs.Content.{Content}
@@ -12,15 +12,15 @@ use Rattle.btree_shape.specs.TreeState.{TreeState, KeepsRest, node_map, views}
 use Rattle.btree_item.specs.declared.address.Address.{Address}
 
 module _ {K V : Type 0} where
-  -- each of these numbers is a node's
+  -- each of these numbers is that of a node
   abbrev pub AreUsed : Content (Node K V) → List ℕ → Type 0
   AreUsed nodes ids = (n : ℕ) → 0 < times_listed n ids → IsSome (map.get nodes n)
 
-  -- this node is under the number; nothing else is different
+  -- the state with this node under the number, and nothing else different
   abbrev pub with_node : TreeState K V → ℕ → Node K V → TreeState K V
   with_node s id node = record s { nodes = map.insert s.nodes id node }
 
-  -- nothing has changed, but that a refusal was counted
+  -- a refusal was counted; nothing else has changed
   abbrev pub Refuses : (old new : TreeState K V) → Type 0
   Refuses old new = new ≡ record old { refusals = old.refusals + 1 }
 
@@ -28,7 +28,8 @@ module _ {K V : Type 0} where
   abbrev pub IsWithinNode : TreeState K V → Address → Type 0
   IsWithinNode s a = IsWithin (node_map s) (node_map s a.id) a.offset
 
-  -- a node is there under a number that was not used, and its children name it as their parent; nothing else has changed
+  -- the node is there under a number that was not used, and its children name it as their parent; nothing else has
+  -- changed
   pub record GainsNode (old new : TreeState K V) (id : ℕ) (node : Node K V) : Type 0 where
     pub vacant : map.get old.nodes id ≡ None
     pub adopted : Reparents (views (map.insert old.nodes id node)) (node_map new) id (children_of (view_of node))

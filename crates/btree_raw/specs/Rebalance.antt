@@ -15,29 +15,30 @@ use Rattle.btree_raw.specs.Claimed.{EMPTY, MayRefuseOneOf}
 use Rattle.btree_raw.specs.Raw.{Refuses}
 use Rattle.btree_raw.specs.Steps.{Overflows}
 
--- node `id` has no item too many
+-- node `id` does not overflow
 pub record HasRoom {A : Type 0} (node_at : NodeMap A) (id : ℕ) : Type 0 where
   pub node : View A
   pub here : node_at id ≡ Some node
   pub room : size_of node ≤ most_of node
 
 module _ {K V : Type 0} (old new : TreeState K V) (id : ℕ) where
-  -- exactly the nodes that the splits take were taken; they and the strain afterwards are at most the strain before
+  -- the tree has gained exactly the nodes that the splits need; their number and the strain afterwards are together at
+  -- most the strain before
   pub record HasTaken (before after : ℕ) : Type 0 where
     pub more : map.len new.nodes ≡ map.len old.nodes + nodes_for_splits old id
     pub paid : nodes_for_splits old id + after ≤ before
 
-  -- so many nodes were given up, at most as many as the tree had levels; they and the strain afterwards are at most the strain before, and
-  -- one more for a node without items
+  -- `given` nodes were freed, at most as many as the tree had levels; their number and the strain afterwards are
+  -- together at most the strain before, plus one if the node had no items
   pub record HasGiven (node : View (K × V)) (before after : ℕ) : Type 0 where
     pub given : ℕ
     pub fewer : map.len old.nodes ≡ map.len new.nodes + given
     pub within : (levels : ℕ) → HasLevels old levels → given ≤ levels
     pub paid : given + after ≤ before + owed_by node
 
-  -- the tree is well formed but for its length, with the same pairs; address a became b, of the same place, at the same item if one
-  -- stood there; the nodes taken or given up are paid for by the strain; and where node `id` has no item too many, the steps are those
-  -- that `IsUnderflowFixed` tells, so that a tree in which it has enough is as it was
+  -- the tree is well formed but for its length, with the same pairs; address a became b, at the same place, and at the
+  -- same item if one stood there; the nodes gained or freed are within the strain; and if node `id` does not overflow,
+  -- the steps are those of `IsUnderflowFixed`, so that a tree in which it has enough items is unchanged
   pub record IsRebalanced (cmp : K → K → Ordering) (a b : Address) : Type 0 where
     pub well : IsBTreeButLength cmp new
     pub pairs : pairs_of new ≡ pairs_of old
@@ -55,8 +56,8 @@ module _ {K V : Type 0} (old new : TreeState K V) (id : ℕ) where
     pub taken : Overflows (node_map old) id → HasTaken before after
     pub given : (room : HasRoom (node_map old) id) → HasGiven room.node before after
 
-  -- the store refused, and counted it: only where node `id` has an item too many, and where the store may refuse one of the nodes that
-  -- the splits take; nothing else has changed
+  -- the store refused a node, and the refusal was counted; this happens only if node `id` overflows and the store may
+  -- refuse one of the nodes that the splits need; nothing else has changed
   pub record IsRefusal (MayRefuse : Content (Node K V) → Type 0) (cause : Cause) : Type 0 where
     pub store : cause ≡ Store
     pub unchanged : Refuses old new

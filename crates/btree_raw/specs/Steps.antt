@@ -1,4 +1,4 @@
--- Changes of single nodes: what they ask, and what is there afterwards.
+-- Changes of single nodes: what they require, and what they leave.
 use Rattle.std.specs.Prelude.{◌≡◌, ◌≢◌, ℕ, ◌+◌, ◌<◌, ◌≤◌, List, length, slice_get, Option, Some, option_map, IsTrue}
 use Rattle.btree_item.specs.declared.TheConstants.{MAX_CLAIMS}
 use Rattle.btree_item.specs.declared.address.Address.{Address}
@@ -12,7 +12,7 @@ use Rattle.btree_shape.specs.TreeState.{TreeState, node_map}
 use Rattle.btree_shape.specs.WellFormed.{times_used}
 
 module _ {A : Type 0} (node_at : NodeMap A) where
-  -- node `id` has room for an item at the index, and a child comes with it exactly if it is an internal node
+  -- node `id` has room for an item at the index, and a child is given exactly if it is an internal node
   pub record CanTake (id index : ℕ) (child : Option ℕ) : Type 0 where
     pub node : View A
     pub here : node_at id ≡ Some node
@@ -33,22 +33,23 @@ module _ {A : Type 0} (node_at : NodeMap A) where
     pub apart : times_listed id (children_in (node_at id)) ≡ 0
 
   module _ (new : NodeMap A) where
-    -- node `id` has this parent, and nothing else has changed
+    -- node `id` has this parent; nothing else has changed
     abbrev pub SetsParent : (id parent : ℕ) → Type 0
     SetsParent id parent = Becomes node_at new id (option_map (with_parent (Some parent)) (node_at id))
 
-    -- node `id` has the item at an index, and the child after it if one is given, and nothing else has changed
+    -- node `id` has the item at the index, and the child after it if one is given; nothing else has changed
     abbrev pub AddsItem : (id index : ℕ) (x : A) (child : Option ℕ) → Type 0
     AddsItem id index x child = Becomes node_at new id (option_map (with_item index x child) (node_at id))
 
-    -- node `id` is cut at the median, its left part with so many items stays there, and nothing else has changed
+    -- node `id` is cut at the median, and its left part, with `left_count` items, stays there; nothing else has changed
     pub record Halves (id left_count : ℕ) (median : A) (right : View A) : Type 0 where
       pub left : View A
       pub counted : left_count ≡ size_of left
       pub parts : (node : View A) → node_at id ≡ Some node → IsSplit node median left right
       pub writes_node : WritesNode node_at new id left
 
-  -- node `id` has an item too many, and another node is there for its right part; its children are there, none of which is one of these two
+  -- node `id` overflows, and another node is there for its right part; the children of `id` are there, and none of them
+  -- is one of these two
   pub record CanSplitInto (id right : ℕ) : Type 0 where
     pub can : Overflows id
     pub right_used : 0 < times_used (node_at right)
@@ -56,14 +57,14 @@ module _ {A : Type 0} (node_at : NodeMap A) where
     pub children : (n : ℕ) → 0 < times_listed n (children_in (node_at id)) → 0 < times_used (node_at n)
     pub children_apart : (times_listed id (children_in (node_at id)) ≡ 0) × (times_listed right (children_in (node_at id)) ≡ 0)
 
-  -- three nodes that are there
+  -- three different nodes that are there
   pub record CanGrowRoot (left right root : ℕ) : Type 0 where
     pub left_used : 0 < times_used (node_at left)
     pub right_used : 0 < times_used (node_at right)
     pub root_used : 0 < times_used (node_at root)
     pub apart : (left ≢ right) × (left ≢ root) × (right ≢ root)
 
-  -- node `id` has so many items
+  -- node `id` has `count` items
   abbrev pub HasCount : (id count : ℕ) → Type 0
   HasCount id count = option_map size_of (node_at id) ≡ Some count
 
@@ -75,14 +76,16 @@ module _ {A : Type 0} (node_at : NodeMap A) where
     pub room : size_of node ≤ most_of node
     pub child : 0 < times_listed id (children_of node)
 
-  -- node `above` has the item at the index of its child `id`, and node `right` as the child after it; nothing else has changed
+  -- node `above` has the item at the index of its child `id`, and node `right` as the child after it; nothing else has
+  -- changed
   pub record AddsSeparator (new : NodeMap A) (above id right index : ℕ) (x : A) : Type 0 where
     pub node : View A
     pub here : node_at above ≡ Some node
     pub child : slice_get (children_of node) index ≡ Some id
     pub writes_node : WritesNode node_at new above (with_item index x (Some right) node)
 
-  -- node `id` of the tree with this root may have an item too many, these numbers are there for the splits, and an address is followed
+  -- node `id` of the tree with this root may have an item too many, `spare` has the numbers for the splits, and an
+  -- address is followed
   pub record IsSplitting (root : Option ℕ) (id : ℕ) (spare : List ℕ) (a : Address) : Type 0 where
     pub top : ℕ
     pub at_root : root ≡ Some top
@@ -93,15 +96,15 @@ module _ {A : Type 0} (node_at : NodeMap A) where
     pub bound : ℕ
     pub overflow : MayOverflowAt A node_at top xs id spare asked a place gained bound
 
-  -- what was so split: whatever was known of the tree and of address `a` holds of the tree under the new root and of address `b`, no
-  -- node has an item too many, and each of the numbers is a node's
+  -- the result of a split upward: whatever held of the tree and of address `a` holds of the tree under the new root and
+  -- of address `b`, no node overflows, and each of the numbers is that of a node
   pub record AreSplit (new : NodeMap A) (root new_root : Option ℕ) (id : ℕ) (spare : List ℕ) (a b : Address) : Type 0 where
     pub top : ℕ
     pub at_root : new_root ≡ Some top
     pub repaired : (old_top : ℕ) (xs : List A) (asked : Option A) (place gained bound : ℕ) → root ≡ Some old_top
         → MayOverflowAt A node_at old_top xs id spare asked a place gained bound → IsRepaired A new top xs asked b place (gained + length spare) bound
 
--- the same of the whole tree: nothing but its nodes and its root has changed, and the same numbers are used
+-- the same for the whole tree: nothing but its nodes and its root has changed, and the same numbers are used
 pub record SplitsUpward {K V : Type 0} (old new : TreeState K V) (id : ℕ) (spare : List ℕ) (a b : Address) : Type 0 where
   pub split : AreSplit (node_map old) (node_map new) old.root new.root id spare a b
   pub used : (n : ℕ) → times_used (node_map new n) ≡ times_used (node_map old n)
@@ -109,7 +112,8 @@ pub record SplitsUpward {K V : Type 0} (old new : TreeState K V) (id : ℕ) (spa
   pub uncounted : new.refusals ≡ old.refusals
 
 module _ {A : Type 0} (node_at : NodeMap A) where
-  -- the count of the nodes that splits from `start` take has come up to node `id`; at most 33 are to be counted, on so many levels
+  -- the count of the nodes that splits from `start` need has reached node `id`; it comes to at most 33, on at most
+  -- `most` levels
   pub record IsCounting (most start id counted : ℕ) : Type 0 where
     pub root : ℕ
     pub xs : List A

@@ -1,4 +1,5 @@
--- A climb that mends nodes with too few items: one step of it between two siblings, and what whoever followed an address knows then.
+-- An underflow fix that goes upward: one step of it between two siblings, and what is then known of an address that is
+-- followed.
 use Rattle.std.specs.Prelude.{◌-◌, ◌*◌, ◌≡◌, ℕ, suc, ◌+◌, ◌<◌, ◌≤◌, ◌⊎◌, List, length, Option, Some, None, option_map, Bool, true, false}
 use Rattle.btree_item.specs.declared.TheConstants.{MIN_ITEMS}
 use Rattle.btree_item.specs.declared.address.Address.{Address}
@@ -13,7 +14,7 @@ use Rattle.btree_shape.specs.Focus.Underflow.{MayUnderflowAt}
 use Rattle.btree_shape.specs.TreeState.{TreeState, node_map}
 use Rattle.btree_shape.specs.WellFormed.{IsFormed, times_used}
 
--- two neighbouring children of `parent`, if both are there
+-- two adjacent children of `parent`, if both are there
 abbrev pub siblings_of : (parent index : ℕ) → (left right : Option ℕ) → Option Siblings
 siblings_of parent index (Some left) (Some right) = Some (record { parent = parent; index = index; left = left; right = right })
 siblings_of parent index (Some left) None = None
@@ -26,7 +27,7 @@ module _ {A : Type 0} (node_at : NodeMap A) where
     pub here : node_at id ≡ Some node
     pub few : size_of node ≤ MIN_ITEMS - 1
 
-  -- the two siblings have at most five items together, so that with an item more they fit into one node
+  -- the two siblings have at most five items together, so that they fit into one node with one item more
   pub record HaveFew (siblings : Siblings) : Type 0 where
     pub low : View A
     pub high : View A
@@ -40,11 +41,12 @@ module _ {A : Type 0} (node_at : NodeMap A) where
     pub here : node_at parent ≡ Some node
     pub child : 0 < times_listed id (children_of node)
 
-  -- the children of `parent` at an index and at the next one, if there are such
+  -- the children of `parent` at an index and at the next one, if both are there
   abbrev pub siblings_at : (parent index : ℕ) → Option Siblings
   siblings_at parent index = siblings_of parent index (child_at node_at parent index) (child_at node_at parent (suc index))
 
-  -- node `id` is a child of `parent`; with the child before it and with the child after it, it is these siblings, if there are such
+  -- node `id` is a child of `parent`; `before` is the pair of the child before it and `id`, `after` that of `id` and
+  -- the child after it, if there are such children
   pub record HasSiblings (parent id : ℕ) (before after : Option Siblings) : Type 0 where
     pub index : ℕ
     pub child : child_at node_at parent index ≡ Some id
@@ -62,8 +64,8 @@ module _ {A : Type 0} (node_at : NodeMap A) where
     pub bound : ℕ
     pub underflow : MayUnderflowAt A node_at root xs id asked a place given bound
 
-  -- the two are children of their parent with its item at the index between them; node `id`, one of the two, may have an item too few, and
-  -- an address is followed
+  -- the two are children of their parent, with its item at the index between them; node `id`, one of the two, may have
+  -- an item too few, and an address is followed
   pub record AreAdjacent (siblings : Siblings) (id : ℕ) (a : Address) : Type 0 where
     pub at_left : child_at node_at siblings.parent siblings.index ≡ Some siblings.left
     pub at_right : child_at node_at siblings.parent (suc siblings.index) ≡ Some siblings.right
@@ -71,13 +73,14 @@ module _ {A : Type 0} (node_at : NodeMap A) where
     pub under : option_map parent_of (node_at id) ≡ Some (Some siblings.parent)
     pub followed : IsFollowed id a
 
-  -- whatever was known of the tree and of address `a` holds with address `b`, and each node has its number of items
+  -- whatever held of the tree and of address `a` holds with address `b`, and each node has its number of items
   pub record EndsUnderflow (new : NodeMap A) (id : ℕ) (a b : Address) : Type 0 where
     pub repaired : (root : ℕ) (xs : List A) (asked : Option A) (place given bound : ℕ)
         → MayUnderflowAt A node_at root xs id asked a place given bound → IsRepaired A new root xs asked b place given bound
     pub used : (n : ℕ) → times_used (new n) ≡ times_used (node_at n)
 
-  -- the same, but that a node is given up, and the parent, which has fewer levels above it, may have an item too few
+  -- the same, except that one node is freed and that the parent, which has fewer levels above it, may have an item too
+  -- few
   pub record PassesUnderflowUp (new : NodeMap A) (id parent : ℕ) (a b : Address) : Type 0 where
     pub underflow : (root : ℕ) (xs : List A) (asked : Option A) (place given bound : ℕ)
         → MayUnderflowAt A node_at root xs id asked a place given bound
@@ -87,29 +90,30 @@ module _ {A : Type 0} (node_at : NodeMap A) where
     pub used : (n : ℕ) → times_used (node_at n) ≡ times_used (new n) + one n gone
 
 module _ {K V : Type 0} (old new : TreeState K V) where
-  -- a step at node `id` that gave no node up ends the climb
+  -- a step at node `id` that freed no node is the last one
   abbrev pub EndsHere : (id : ℕ) → Address → Address × Bool → Type 0
   EndsHere id a end = end.1 ≡ false → EndsUnderflow (node_map old) (node_map new) id a end.0
 
-  -- a step at node `id` that gave a node up goes on at the parent
+  -- after a step at node `id` that freed a node, the parent is next
   abbrev pub GoesUp : (parent id : ℕ) → Address → Address × Bool → Type 0
   GoesUp parent id a end = end.1 ≡ true → PassesUnderflowUp (node_map old) (node_map new) id parent a end.0
 
-  -- a step between these two goes on at their parent, whichever of them had an item too few
+  -- after a step between these two, their parent is next, whichever of them had an item too few
   abbrev pub GoesUpFromEither : Siblings → (a b : Address) → Type 0
   GoesUpFromEither siblings a b = (id : ℕ) → AreAdjacent (node_map old) siblings id a → PassesUnderflowUp (node_map old) (node_map new) id siblings.parent a b
 
-  -- if no child after these two has an item to spare, the right one borrows in its turn
+  -- if no child after these two has an item to spare, the right one has borrowed in the order of `UnderflowFix`
   abbrev pub BorrowsFromLeft : Siblings → Type 0
   BorrowsFromLeft siblings = NoneSpares (node_map old) siblings.parent (suc (suc siblings.index))
       → Borrows (node_map old) (node_map new) siblings.parent siblings.right
 
-  -- if no child after these two has an item to spare, the right one is joined in its turn
+  -- if no child after these two has an item to spare, the right one has been merged in the order of `UnderflowFix`
   abbrev pub MergesWithLeft : Siblings → Type 0
   MergesWithLeft siblings = NoneSpares (node_map old) siblings.parent (suc (suc siblings.index))
       → MergesNode (node_map old) (node_map new) siblings.parent siblings.right
 
--- a tree at rest under this root, with the address at its place, or the empty tree, of which every address is nowhere
+-- a well formed tree under this root, with the address at its place; or the empty tree, in which every address is
+-- nowhere
 abbrev pub IsAtRest : {A : Type 0} → NodeMap A → (root : Option ℕ) → List A → (asked : Option A) → Address → (place given bound : ℕ) → Type 0
 IsAtRest {A} node_at (Some top) xs asked a place given bound = IsRepaired A node_at top xs asked a place given bound
 IsAtRest node_at None xs asked a place given bound =
@@ -121,14 +125,14 @@ module _ {A : Type 0} (node_at : NodeMap A) where
     pub followed : IsFollowed node_at id a
     pub at_root : root ≡ Some followed.root
 
-  -- the same of a tree of so many items
+  -- the same for a tree of `count` items
   pub record IsFixingOf (root : Option ℕ) (id : ℕ) (a : Address) (count : ℕ) : Type 0 where
     pub fixing : IsFixing root id a
     pub items : length fixing.followed.xs ≡ count
 
-  -- what was so mended: whatever was known of the tree and of address `a` holds of the tree under the new root and of address `b`, no node
-  -- has an item too few, and the nodes that are listed were given up, at most as many as there are levels from node `id` up to the root;
-  -- the steps are those of `IsUnderflowFixed`, in their order
+  -- the result of an underflow fix upward: whatever held of the tree and of address `a` holds of the tree under the new
+  -- root and of address `b`, no node underflows, and the nodes in `gone` were freed, at most as many as there are
+  -- levels from node `id` up to the root; the steps are those of `IsUnderflowFixed`, in their order
   pub record AreFixed (new : NodeMap A) (root new_root : Option ℕ) (id : ℕ) (a b : Address) : Type 0 where
     pub gone : List ℕ
     pub counted : (n : ℕ) → times_used (node_at n) ≡ times_used (new n) + times_listed n gone
@@ -139,7 +143,7 @@ module _ {A : Type 0} (node_at : NodeMap A) where
         → length gone ≤ suc (levels_above node_at (length xs) id)
     pub steps : (top : ℕ) → root ≡ Some top → IsUnderflowFixed node_at new top new_root id
 
--- the same of the whole tree: nothing but its nodes and its root has changed
+-- the same for the whole tree: nothing but its nodes and its root has changed
 pub record FixesUnderflowUpward {K V : Type 0} (old new : TreeState K V) (id : ℕ) (a b : Address) : Type 0 where
   pub fixed : AreFixed (node_map old) (node_map new) old.root new.root id a b
   pub len : new.len ≡ old.len

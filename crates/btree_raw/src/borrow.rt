@@ -1,4 +1,4 @@
-//! One step of a climb that mends nodes with too few items, between two siblings, with an address that is followed.
+//! One step of an underflow fix, between two siblings, with an address that is followed.
 ghost use Rattle.std.specs.Prelude.{◌≡◌, ℕ, ◌<◌, ◌≤◌, IfSome, IsSome, Some, option_map};
 ghost use Rattle.btree_shape.specs.Moved.{first_in};
 ghost use Rattle.btree_shape.specs.TreeState.{Changes, IsUsed, node_map};
@@ -12,7 +12,7 @@ use btree_item::{Address, LEAF_SLOTS};
 use btree_moved::{Siblings, moved_by_merge, moved_by_rotate_left, moved_by_rotate_right};
 use btree_nodes::NodesMut;
 
-// The first child of a node, if it has one.
+// Returns the first child of a node, or `None` for a leaf.
 pub(crate) fn first_child<K, V, C: NodesMut<K, V>>(
     tree: &RawBTree<K, V, C>,
     id: usize,
@@ -24,7 +24,8 @@ pub(crate) fn first_child<K, V, C: NodesMut<K, V>>(
     tree.node(id).child_id_opt(0)
 }
 
-/// The right one of two siblings lends an item to the left one, which has so many. Returns where the address is then.
+/// Moves the first item of the right sibling into the left one, which underflows and has `count` items, through their parent. Returns the
+/// new address of what was at `addr`. It changes three nodes, and the parent of a fourth if a child moves with the item.
 pub(crate) fn borrow_from_right<K: Drop, V: Drop, C: NodesMut<K, V>>(
     tree: &mut RawBTree<K, V, C>,
     siblings: Siblings,
@@ -45,7 +46,8 @@ pub(crate) fn borrow_from_right<K: Drop, V: Drop, C: NodesMut<K, V>>(
     moved_by_rotate_left(addr, siblings, count, child)
 }
 
-/// The left one of two siblings, which has so many items, lends one to the right one. Returns where the address is then.
+/// Moves the last item of the left sibling, which has `count` items, into the right one, which underflows, through their parent. Returns
+/// the new address of what was at `addr`. It changes three nodes, and the parent of a fourth if a child moves with the item.
 pub(crate) fn borrow_from_left<K: Drop, V: Drop, C: NodesMut<K, V>>(
     tree: &mut RawBTree<K, V, C>,
     siblings: Siblings,
@@ -67,7 +69,8 @@ pub(crate) fn borrow_from_left<K: Drop, V: Drop, C: NodesMut<K, V>>(
     moved_by_rotate_right(addr, siblings, count, child)
 }
 
-/// Two siblings, of which the left one has so many items, become one node. Returns where the address is then.
+/// Merges two siblings into the left one, which has `count` items, and frees the right one. Returns the new address of what was at
+/// `addr`. It sets the parent of every child of the merged node.
 pub(crate) fn merge_siblings<K: Drop, V: Drop, C: NodesMut<K, V>>(
     tree: &mut RawBTree<K, V, C>,
     siblings: Siblings,

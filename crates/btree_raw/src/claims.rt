@@ -1,4 +1,4 @@
-//! Nodes that are claimed before a change.
+//! Nodes that are claimed from the store before a change, so that a refusal leaves the tree as it was.
 ghost use Rattle.std.specs.Prelude.{◌≡◌, ◌<◌, ◌≤◌, [], length, None, IfSome, IfNone, IsTrue, false};
 ghost use Rattle.std.specs.FinMap as map;
 ghost use Rattle.btree_shape.specs.TreeState.{TreeState};
@@ -11,10 +11,10 @@ use btree_item::MAX_CLAIMS;
 use btree_node::{LeafNode, Node};
 use btree_nodes::NodesMut;
 
-/// The numbers of claimed nodes. An insertion claims at most one for each of at most 32 levels, and a root.
+/// The numbers of claimed nodes. An insertion claims at most one for each of at most 32 levels, and one for a new root.
 pub type ClaimedIds = ArrayVec<usize, MAX_CLAIMS>;
 
-// Gives claimed nodes back, so that the tree is as before they were claimed.
+// Removes the claimed nodes from the store, so that the tree is as it was before they were claimed.
 pub(crate) fn release<K: Drop, V: Drop, C: NodesMut<K, V>>(
     tree: &mut RawBTree<K, V, C>,
     claims: &mut ClaimedIds,
@@ -35,7 +35,7 @@ fn empty_leaf<K: Drop, V: Drop>() -> Node<K, V>
     Node::Leaf(LeafNode::empty(None))
 }
 
-/// Claims one node as an empty leaf, or none where the store refuses it.
+/// Claims one node, as an empty leaf. Returns its number, or `None` if the store refuses it.
 pub fn claim_one<K: Drop, V: Drop, C: NodesMut<K, V>>(tree: &mut RawBTree<K, V, C>) -> Option<usize>
     ensures number { IfSome result (λ id. id < usize.MAX) }
     ensures unused { IfSome result (λ id. map.get tree.old.nodes id ≡ None) }
@@ -47,8 +47,8 @@ pub fn claim_one<K: Drop, V: Drop, C: NodesMut<K, V>>(tree: &mut RawBTree<K, V, 
     tree.store_node(empty_leaf()).ok()
 }
 
-/// Claims so many nodes as empty leaves, and puts their numbers into an empty list. Returns whether they were claimed: where the store
-/// refuses one, none is, and the list is empty again. The list is the caller's, so that it is not copied.
+/// Claims `count` nodes, as empty leaves, and puts their numbers into `claims`, which is empty. Returns whether they were claimed. If the
+/// store refuses one, none is claimed and `claims` is empty again. The caller owns the list, so that it is not copied.
 pub fn claim<K: Drop, V: Drop, C: NodesMut<K, V>>(
     tree: &mut RawBTree<K, V, C>,
     count: usize,

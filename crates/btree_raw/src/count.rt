@@ -1,4 +1,4 @@
-//! How many nodes splits take.
+//! How many nodes splits need.
 ghost use Rattle.std.specs.Prelude.{◌≡◌, ◌≤◌};
 ghost use Rattle.std.specs.FinMap as map;
 ghost use Rattle.btree_shape.specs.TreeState.{IsBTree, IsUsed, node_map, nodes_for_splits, nodes_needed};
@@ -8,8 +8,8 @@ use crate::raw::RawBTree;
 use btree_item::MAX_CLAIMS;
 use btree_nodes::NodesMut;
 
-/// How many nodes the splits take that begin at a node with an item too many: one for each full node from there upward without a gap,
-/// and one more where the last of them is the root.
+/// Returns how many nodes the splits need that begin at a node with an item too many: one for each consecutive full node from there
+/// upward, and one more if the last of them is the root. It reads at most one node of each level.
 pub fn split_need<K, V, C: NodesMut<K, V>>(tree: &RawBTree<K, V, C>, start: usize) -> usize
     requires { IsCounting (node_map tree.now) (map.len tree.now.nodes) start start 0 }
     ensures value { result ≡ nodes_for_splits tree.now start }
@@ -31,14 +31,14 @@ pub fn split_need<K, V, C: NodesMut<K, V>>(tree: &RawBTree<K, V, C>, start: usiz
     }
 }
 
-/// How many nodes an insertion in a leaf takes: those of the splits from there upward, if it is full.
+/// Returns how many nodes an insertion in a leaf needs: those for the splits from the leaf upward if it is full, and none otherwise.
 pub fn need<K: Ord, V, C: NodesMut<K, V>>(tree: &RawBTree<K, V, C>, start: usize) -> usize
     requires sound { IsBTree K.cmp tree.now }
     requires used { IsUsed tree.now start }
     ensures value { result ≡ nodes_needed tree.now start }
     ensures few { result ≤ MAX_CLAIMS }
 {
-    // The length is a `usize`, so there are at most 32 levels.
+    // For the prover alone: the length is a `usize`, so there are at most 32 levels.
     let _len = tree.len();
     split_need(tree, start)
 }

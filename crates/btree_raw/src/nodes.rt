@@ -1,4 +1,4 @@
-//! Single changes of a tree's nodes.
+//! Changes of single nodes.
 ghost use Rattle.std.specs.Prelude.{◌<◌};
 ghost use Rattle.btree_node.specs.Node.{view_of};
 ghost use Rattle.btree_view.specs.View.{children_in};
@@ -12,7 +12,7 @@ use btree_node::Node;
 use btree_nodes::NodesMut;
 use std::mem;
 
-/// Puts a node in the place of one that is let go.
+/// Puts a node in the place of another, which is dropped.
 pub fn put<K: Drop, V: Drop, C: NodesMut<K, V>>(
     tree: &mut RawBTree<K, V, C>,
     id: usize,
@@ -24,7 +24,7 @@ pub fn put<K: Drop, V: Drop, C: NodesMut<K, V>>(
     drop(mem::replace(tree.node_mut(id), node));
 }
 
-// Puts a node under another parent.
+// Sets the parent of a node.
 pub(crate) fn set_parent<K, V, C: NodesMut<K, V>>(
     tree: &mut RawBTree<K, V, C>,
     id: usize,
@@ -38,7 +38,7 @@ pub(crate) fn set_parent<K, V, C: NodesMut<K, V>>(
     tree.node_mut(id).set_parent(Some(parent));
 }
 
-/// Puts an item into a node, and a child after it where one is given.
+/// Inserts an item into a node at an index, and a child after it if one is given. The node may overflow then; it is not split.
 pub fn add_item<K: Drop, V: Drop, C: NodesMut<K, V>>(
     tree: &mut RawBTree<K, V, C>,
     id: usize,
@@ -53,7 +53,7 @@ pub fn add_item<K: Drop, V: Drop, C: NodesMut<K, V>>(
     tree.node_mut(id).insert(Offset::from(index), item, child);
 }
 
-// Splits a node, of which the left part stays. Returns how many items stay, the median and the right part.
+// Splits an overflowing node, which keeps its left part. Returns how many items it keeps, the median and the right part.
 pub(crate) fn split_node<K: Drop, V: Drop, C: NodesMut<K, V>>(
     tree: &mut RawBTree<K, V, C>,
     id: usize,
@@ -65,7 +65,7 @@ pub(crate) fn split_node<K: Drop, V: Drop, C: NodesMut<K, V>>(
     tree.node_mut(id).split()
 }
 
-// Makes a node the parent of its children.
+// Sets the parent of all children of a node.
 pub(crate) fn reparent_children<K, V, C: NodesMut<K, V>>(tree: &mut RawBTree<K, V, C>, id: usize)
     requires { CanReparent (node_map tree.old) id }
     ensures { Changes (λ a b. Reparents a b id (children_in (node_map tree.old id))) tree.old tree.new }

@@ -12,7 +12,7 @@ use btree_moved::moved_by_split;
 use btree_node::Node;
 use btree_nodes::NodesMut;
 
-// Splits a node, and puts its right part in the place of another node. Returns how many items stay, and the median.
+// Splits a node and puts its right part in the place of node `right`. Returns how many items the node keeps, and the median.
 fn split_at<K: Drop, V: Drop, C: NodesMut<K, V>>(
     tree: &mut RawBTree<K, V, C>,
     id: usize,
@@ -29,7 +29,7 @@ fn split_at<K: Drop, V: Drop, C: NodesMut<K, V>>(
     (count, median)
 }
 
-// Puts a new root over two nodes.
+// Makes node `root` a new root over two nodes.
 fn grow_root<K: Drop, V: Drop, C: NodesMut<K, V>>(
     tree: &mut RawBTree<K, V, C>,
     left: usize,
@@ -47,7 +47,7 @@ fn grow_root<K: Drop, V: Drop, C: NodesMut<K, V>>(
     set_parent(tree, right, root);
 }
 
-// Puts a median and a new child into a node, behind another child. Returns that child's index.
+// Inserts a median and a new child into a node, after the child `id`. Returns the index of `id`.
 fn insert_separator<K: Drop, V: Drop, C: NodesMut<K, V>>(
     tree: &mut RawBTree<K, V, C>,
     above: usize,
@@ -72,7 +72,8 @@ fn take_claim(claims: &mut ClaimedIds) -> usize
     claims.pop().unwrap()
 }
 
-/// Splits a node that has an item too many, and so on upward, into claimed nodes. Returns where the address is then.
+/// Splits an overflowing node into itself and a claimed one, then its parent if that overflows, and so on upward. Returns the new address
+/// of what was at `addr`. It uses all claims: one for each split, and one for a new root if the root is split.
 pub fn split_upward<K: Drop, V: Drop, C: NodesMut<K, V>>(
     tree: &mut RawBTree<K, V, C>,
     start: usize,

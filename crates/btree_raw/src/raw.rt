@@ -1,4 +1,4 @@
-//! A tree of any content.
+//! A raw tree: a tree of any content.
 ghost use Rattle.std.specs.Prelude.{◌≡◌, ◌↔◌, ◌+◌, ◌<◌, None, IsTrue, Some, option_copied, IfOk, OnOk, IfErr, OnErr};
 ghost use Rattle.std.specs.FinMap as map;
 ghost use Rattle.std.specs.Borrow.{Lends, sem};
@@ -14,7 +14,7 @@ use btree_nodes::{Nodes, NodesMut};
 use btree_valid::is_off;
 use std::marker::{Model, PhantomData};
 
-/// Nodes in a store, the number of a root, and a length, of which nothing is known: a tree in the middle of a change, or one from
+/// Nodes in a store, the number of a root, and a length, none of which need fit together: a tree in the middle of a change, or one from
 /// elsewhere. Contracts see it as a `TreeState`.
 #[derive(Drop)]
 pub struct RawBTree<K, V, C: NodesMut<K, V>> {
@@ -43,9 +43,9 @@ impl<K, V, C: NodesMut<K, V>> RawBTree<K, V, C> {
     ghost use Rattle.btree_raw.specs.Raw.{AreUsed, GainsNode, Refuses, with_node};
     ghost use Rattle.btree_raw.specs.contracts.raw.RawBTree.{the_row};
 
-    /// No root, the length 0, and an empty store that is made from its origin. It takes no memory.
+    /// Returns a tree with no root, the length 0, and an empty store made from `origin`. It allocates no memory.
     ///
-    /// That a node fits in memory is known wherever the types of key and value are.
+    /// The contract requires that a node fits in memory. The prover finds that by itself if the types of key and value are known.
     pub fn new(origin: C::Origin) -> Self
         requires { FitsInMemory (node_row K.row V.row) }
         ensures { result ≡ record { nodes = map.empty; root = None; len = 0; refusals = 0 } }
@@ -59,7 +59,8 @@ impl<K, V, C: NodesMut<K, V>> RawBTree<K, V, C> {
         }
     }
 
-    /// Tells that a node fits in memory, where the types of key and value are parameters. It does nothing when it runs.
+    /// Gives the prover the fact that a node fits in memory, which it does not find where the types of key and value are parameters. It
+    /// does nothing at run time.
     pub fn tell_fits(&self)
         ensures { FitsInMemory (node_row K.row V.row) }
     {
@@ -67,28 +68,28 @@ impl<K, V, C: NodesMut<K, V>> RawBTree<K, V, C> {
         C::tell_fits();
     }
 
-    /// The length, which is what it was last set to.
+    /// Returns the length: the one that was last set.
     pub fn len(&self) -> usize
         ensures { result ≡ self.now.len }
     {
         self.len
     }
 
-    /// The number of the root, which need not be a node's.
+    /// Returns the number of the root, which need not be that of a node.
     pub fn root_id(&self) -> Option<usize>
         ensures { result ≡ self.now.root }
     {
         self.root
     }
 
-    /// How many nodes there are.
+    /// Returns how many nodes the store has.
     pub fn node_count(&self) -> usize
         ensures { result ≡ map.len self.now.nodes }
     {
         self.store.len()
     }
 
-    /// Whether a node has this number.
+    /// Returns whether a node has this number.
     pub fn has_node(&self, id: usize) -> bool
         ensures { IsTrue result ↔ IsUsed self.now id }
     {
@@ -96,7 +97,7 @@ impl<K, V, C: NodesMut<K, V>> RawBTree<K, V, C> {
         self.store.get(id).is_some()
     }
 
-    /// The node with a number, for which `has_node` is the test. The number is below `usize::MAX`.
+    /// Returns the node with a number that is used, which `has_node` decides. The number is below `usize::MAX`.
     pub fn node(&self, id: usize) -> &Node<K, V>
         requires { IsUsed self.now id }
         ensures value { map.get self.now.nodes id ≡ Some result.now }
@@ -108,7 +109,7 @@ impl<K, V, C: NodesMut<K, V>> RawBTree<K, V, C> {
         }
     }
 
-    /// The item at an address, and `None` where none stands: at -1, past the last, nowhere, or at an address of no node.
+    /// Returns the item at an address, or `None` if there is none: at -1, past the last item, nowhere, or at a number without a node.
     pub fn item(&self, addr: Address) -> Option<&Item<K, V>>
         ensures { option_copied result ≡ item_of self.now addr }
     {
@@ -119,7 +120,7 @@ impl<K, V, C: NodesMut<K, V>> RawBTree<K, V, C> {
         }
     }
 
-    /// Whether an address is in a node, from -1 to the number of its items, or is the one of nowhere and there is no root.
+    /// Returns whether an address is in a node, from -1 to the number of its items, or is nowhere in a tree without a root.
     pub fn is_valid(&self, addr: Address) -> bool
         ensures { IsTrue result ↔ IsValidIn self.now addr }
     {
@@ -129,21 +130,21 @@ impl<K, V, C: NodesMut<K, V>> RawBTree<K, V, C> {
         self.root.is_none() && addr == Address::nowhere()
     }
 
-    /// Sets the length, and nothing else.
+    /// Sets the length. Nothing else changes.
     pub fn set_len(&mut self, len: usize)
         ensures { self.new ≡ record self.old { len = len } }
     {
         self.len = len;
     }
 
-    /// Sets the number of the root, and nothing else.
+    /// Sets the number of the root. Nothing else changes.
     pub fn set_root_id(&mut self, id: Option<usize>)
         ensures { self.new ≡ record self.old { root = id } }
     {
         self.root = id;
     }
 
-    /// The node with a number, to be written, for which `has_node` is the test.
+    /// Returns the node with a number that is used, for writing. `has_node` decides whether it is.
     pub fn node_mut(&mut self, id: usize) -> &mut Node<K, V>
         requires { IsUsed self.old id }
         ensures* writes_back { sem 𝓛 (Lends
@@ -159,7 +160,7 @@ impl<K, V, C: NodesMut<K, V>> RawBTree<K, V, C> {
         }
     }
 
-    /// Takes a node out of the store, for which `has_node` is the test. Nothing else changes.
+    /// Removes and returns the node with a number that is used, which `has_node` decides. Nothing else changes.
     pub fn release_node(&mut self, id: usize) -> Node<K, V>
         requires { IsUsed self.old id }
         ensures node { map.get self.old.nodes id ≡ Some result }
@@ -168,7 +169,7 @@ impl<K, V, C: NodesMut<K, V>> RawBTree<K, V, C> {
         self.store.remove(id)
     }
 
-    // Puts a node into the store, as it is.
+    // Inserts a node into the store as it is.
     pub(crate) fn store_node(&mut self, node: Node<K, V>) -> Result<usize, Node<K, V>>
         ensures number { IfOk result (λ id. id < usize.MAX) }
         ensures unused { IfOk result (λ id. map.get self.old.nodes id ≡ None) }
@@ -180,7 +181,8 @@ impl<K, V, C: NodesMut<K, V>> RawBTree<K, V, C> {
         self.store.insert(node)
     }
 
-    /// Puts a node into the store, and makes it the parent of its children. A refused node comes back, and is counted.
+    /// Inserts a node into the store and sets the parent of its children. If the store refuses the node, returns it and counts the
+    /// refusal.
     pub fn allocate_node(&mut self, node: Node<K, V>) -> Result<usize, Node<K, V>>
         requires { AreUsed self.old.nodes (children_of (view_of node)) }
         ensures gained { IfOk result (λ id. GainsNode self.old self.new id node) }
@@ -202,11 +204,11 @@ impl<K, V, C: NodesMut<K, V>> RawBTree<K, V, C> {
 impl<K: Ord, V, C: NodesMut<K, V>> RawBTree<K, V, C> {
     ghost use Rattle.btree_shape.specs.TreeState.{IsOff};
 
-    /// Whether the tree has a root, at most 32 levels, and is well formed but for its length and the number of items of one node: that one
-    /// may have one item too many or too few, and none if it is the root. It is what `rebalance` requires of the tree.
+    /// Returns whether the tree has a root and at most 32 levels, and is well formed but for its length and the number of items of node
+    /// `id`, which may have one item too many or too few, and none if it is the root. This is what `rebalance` requires of the tree.
     ///
-    /// It takes no memory but the stack. For each of the 32 heights that such a tree may have it looks at no more nodes than there are,
-    /// and one.
+    /// It uses no memory but the stack. For each of the 32 heights that such a tree may have, it visits at most one node more than there
+    /// are.
     pub fn is_off_by_one(&self, id: usize) -> bool
         ensures { IsTrue result ↔ IsOff K.cmp self.now id }
     {
@@ -218,7 +220,7 @@ impl<K: Ord, V, C: NodesMut<K, V>> RawBTree<K, V, C> {
     }
 }
 
-// Whether an address is in a node, from -1 to the number of its items.
+// Returns whether an address is in a node, from -1 to the number of its items.
 fn is_within<K, V, C: NodesMut<K, V>>(tree: &RawBTree<K, V, C>, addr: Address) -> bool
     ensures { IsTrue result ↔ IsWithinNode tree.now addr }
 {

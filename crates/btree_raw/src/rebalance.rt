@@ -12,7 +12,7 @@ use crate::underflow::fix_underflow_upward;
 use btree_item::{Address, Cause};
 use btree_nodes::NodesMut;
 
-// Claims the nodes that the splits take, and splits from a node with an item too many upward.
+// Claims the nodes that the splits need, and splits an overflowing node and so on upward.
 fn rebalance_over<K: Ord + Drop, V: Drop, C: NodesMut<K, V>>(
     tree: &mut RawBTree<K, V, C>,
     id: usize,
@@ -32,7 +32,7 @@ fn rebalance_over<K: Ord + Drop, V: Drop, C: NodesMut<K, V>>(
     Ok(split_upward(tree, id, addr, &mut claims))
 }
 
-// Mends from a node without an item too many upward.
+// Fixes the underflow of a node that does not overflow, if it has one, and so on upward.
 fn rebalance_under<K: Ord + Drop, V: Drop, C: NodesMut<K, V>>(
     tree: &mut RawBTree<K, V, C>,
     id: usize,
@@ -47,13 +47,14 @@ fn rebalance_under<K: Ord + Drop, V: Drop, C: NodesMut<K, V>>(
 }
 
 impl<K: Ord + Drop, V: Drop, C: NodesMut<K, V>> RawBTree<K, V, C> {
-    /// Makes a tree that is off by one at a node well formed but for its length: splits a node with an item too many, and so on upward;
-    /// mends one with an item too few by an item of its right sibling if that has more than three, else of its left one, else by a
-    /// merge with the left one, at the first child with the right one, and so on upward. A node with enough items is left, and nothing
-    /// changes. At most as many nodes are given up as the tree had levels. Returns where the address is then, at the same place and item.
+    /// Makes a tree that is off by one at node `id` well formed but for its length. A node that overflows is split, and so on upward. A
+    /// node that underflows borrows an item from its right sibling if that has more than three, else from its left one if that has; else
+    /// it is merged with the left one, or, if it is the first child, with the right one, and so on upward. If the node has enough items
+    /// and not too many, nothing changes. At most as many nodes are freed as the tree had levels. Returns the new address of what was at
+    /// `addr`, at the same place and item.
     ///
-    /// It is refused, and nothing changes but the count of refusals, only where the node has an item too many and the store refuses a node
-    /// that a split takes.
+    /// It returns an error, and nothing but the count of refusals changes, only if the node overflows and the store refuses a node that a
+    /// split needs.
     pub fn rebalance(&mut self, id: usize, addr: Address) -> Result<Address, Cause>
         requires odd { IsOff K.cmp self.old id }
         requires valid { IsValidIn self.old addr }

@@ -1,4 +1,4 @@
-//! Steps that mend a node with too few items.
+//! The steps that fix an underflow.
 ghost use Rattle.std.specs.Prelude.{◌<◌};
 ghost use Rattle.btree_node.specs.Node.{view_of};
 ghost use Rattle.btree_shape.specs.Lists.{as_list};
@@ -14,7 +14,7 @@ use btree_moved::Siblings;
 use btree_node::Node;
 use btree_nodes::NodesMut;
 
-// Takes the first item out of a node that has one to spare, with the first child.
+// Removes and returns the first item of a node that has one to spare, with the first child of an internal node.
 fn take_first<K: Drop, V: Drop, C: NodesMut<K, V>>(
     tree: &mut RawBTree<K, V, C>,
     id: usize,
@@ -26,7 +26,7 @@ fn take_first<K: Drop, V: Drop, C: NodesMut<K, V>>(
     tree.node_mut(id).pop_left().unwrap()
 }
 
-// Takes the last item out of a node that has one to spare, with the last child.
+// Removes and returns the last item of a node that has one to spare, with the last child of an internal node.
 fn take_last<K: Drop, V: Drop, C: NodesMut<K, V>>(
     tree: &mut RawBTree<K, V, C>,
     id: usize,
@@ -39,7 +39,7 @@ fn take_last<K: Drop, V: Drop, C: NodesMut<K, V>>(
     (item, child)
 }
 
-// Exchanges the item at an index of an internal node.
+// Replaces the item at an index of an internal node, and returns the old one.
 fn change_separator<K: Drop, V: Drop, C: NodesMut<K, V>>(
     tree: &mut RawBTree<K, V, C>,
     id: usize,
@@ -53,7 +53,7 @@ fn change_separator<K: Drop, V: Drop, C: NodesMut<K, V>>(
     tree.node_mut(id).replace(Offset::from(index), item)
 }
 
-// Puts an item before the others of a node, with a child.
+// Inserts an item before the others of a node, and in an internal node a child before the others.
 fn put_first<K: Drop, V: Drop, C: NodesMut<K, V>>(
     tree: &mut RawBTree<K, V, C>,
     id: usize,
@@ -67,7 +67,7 @@ fn put_first<K: Drop, V: Drop, C: NodesMut<K, V>>(
     tree.node_mut(id).push_left(item, child);
 }
 
-// Puts an item behind the others of a node, with a child.
+// Inserts an item after the others of a node, and in an internal node a child after the others.
 fn put_last<K: Drop, V: Drop, C: NodesMut<K, V>>(
     tree: &mut RawBTree<K, V, C>,
     id: usize,
@@ -81,7 +81,7 @@ fn put_last<K: Drop, V: Drop, C: NodesMut<K, V>>(
     let _offset = tree.node_mut(id).push_right(item, child);
 }
 
-// Takes an item out of an internal node, with the child after it.
+// Removes and returns an item of an internal node, and removes the child after it.
 fn take_separator<K: Drop, V: Drop, C: NodesMut<K, V>>(
     tree: &mut RawBTree<K, V, C>,
     id: usize,
@@ -95,7 +95,7 @@ fn take_separator<K: Drop, V: Drop, C: NodesMut<K, V>>(
     item
 }
 
-// Puts a separator and then what another node holds behind the items of a node.
+// Appends a separator, and then what another node holds, to a node.
 fn put_all<K: Drop, V: Drop, C: NodesMut<K, V>>(
     tree: &mut RawBTree<K, V, C>,
     id: usize,
@@ -109,7 +109,7 @@ fn put_all<K: Drop, V: Drop, C: NodesMut<K, V>>(
     let _offset = tree.node_mut(id).append(separator, other);
 }
 
-// Puts a moved child, if there is one, under its new parent.
+// Sets the parent of a child that has moved, if there is one.
 fn move_child<K, V, C: NodesMut<K, V>>(
     tree: &mut RawBTree<K, V, C>,
     child: Option<usize>,
@@ -125,7 +125,7 @@ fn move_child<K, V, C: NodesMut<K, V>>(
     }
 }
 
-// Takes a node's parent away.
+// Clears the parent of a node.
 fn clear_parent<K, V, C: NodesMut<K, V>>(tree: &mut RawBTree<K, V, C>, id: usize)
     requires { IsUsed tree.old id }
     ensures { Changes (λ a b. ClearsParent a b id) tree.old tree.new }
@@ -134,7 +134,7 @@ fn clear_parent<K, V, C: NodesMut<K, V>>(tree: &mut RawBTree<K, V, C>, id: usize
     tree.node_mut(id).set_parent(None);
 }
 
-/// Rotation to the left: the first item of the right sibling goes up, and the parent's item down to the end of the left one.
+/// Rotates left: the first item of the right sibling moves up to the parent, and the parent's item down to the end of the left sibling.
 pub(crate) fn rotate_left<K: Drop, V: Drop, C: NodesMut<K, V>>(
     tree: &mut RawBTree<K, V, C>,
     siblings: Siblings,
@@ -149,7 +149,7 @@ pub(crate) fn rotate_left<K: Drop, V: Drop, C: NodesMut<K, V>>(
     move_child(tree, child, siblings.left);
 }
 
-/// Rotation to the right: the last item of the left sibling goes up, and the parent's item down to the front of the right one.
+/// Rotates right: the last item of the left sibling moves up to the parent, and the parent's item down to the front of the right sibling.
 pub(crate) fn rotate_right<K: Drop, V: Drop, C: NodesMut<K, V>>(
     tree: &mut RawBTree<K, V, C>,
     siblings: Siblings,
@@ -164,7 +164,7 @@ pub(crate) fn rotate_right<K: Drop, V: Drop, C: NodesMut<K, V>>(
     move_child(tree, child, siblings.right);
 }
 
-/// Merge: the parent's item and what the right sibling holds go behind what the left one holds, and the right one leaves the store.
+/// Merges two siblings: the parent's item and what the right sibling holds are appended to the left one, and the right one is removed.
 pub(crate) fn merge<K: Drop, V: Drop, C: NodesMut<K, V>>(
     tree: &mut RawBTree<K, V, C>,
     siblings: Siblings,
@@ -179,7 +179,7 @@ pub(crate) fn merge<K: Drop, V: Drop, C: NodesMut<K, V>>(
     reparent_children(tree, siblings.left);
 }
 
-/// Release of an internal root without items, whose only child is then the root.
+/// Shrinks the root: removes an internal root without items. Its only child has no parent then.
 pub(crate) fn shrink_root<K: Drop, V: Drop, C: NodesMut<K, V>>(
     tree: &mut RawBTree<K, V, C>,
     root: usize,

@@ -1,4 +1,4 @@
-//! Nodes with too few items, from a node upward.
+//! Fixes of underflows, from a node upward.
 ghost use Rattle.std.specs.Prelude.{◌≡◌, ℕ, ◌<◌, ◌≤◌, IfSome, IsSome, Some, None, option_map, true, false};
 ghost use Rattle.btree_view.specs.View.{parent_of};
 ghost use Rattle.btree_shape.specs.UnderflowFix.{Borrows, MergesNode};
@@ -15,7 +15,7 @@ use btree_item::{Address, LEAF_SLOTS, MIN_ITEMS};
 use btree_moved::{Siblings, moved_by_shrink_root};
 use btree_nodes::NodesMut;
 
-// How many items a node has.
+// Returns how many items a node has.
 fn count_of<K, V, C: NodesMut<K, V>>(tree: &RawBTree<K, V, C>, id: usize) -> usize
     requires { 0 < times_used (node_map tree.now id) }
     ensures count { HasCount (node_map tree.now) id result }
@@ -26,7 +26,7 @@ fn count_of<K, V, C: NodesMut<K, V>>(tree: &RawBTree<K, V, C>, id: usize) -> usi
     tree.node(id).item_count()
 }
 
-// Two neighbouring children, if both are there.
+// Returns two adjacent children, if both are there.
 fn siblings_of(
     parent: usize,
     index: usize,
@@ -49,7 +49,7 @@ fn siblings_of(
     }
 }
 
-// The children at an index and at the next one, if there are such.
+// Returns the children at an index and at the next one, if both are there.
 fn siblings_at<K, V, C: NodesMut<K, V>>(
     tree: &RawBTree<K, V, C>,
     parent: usize,
@@ -66,7 +66,7 @@ fn siblings_at<K, V, C: NodesMut<K, V>>(
     siblings_of(parent, index, left, right)
 }
 
-// A child with the child before it, and with the child after it, if there are such.
+// Returns a child with the child before it, and with the child after it, if there are such.
 fn siblings<K, V, C: NodesMut<K, V>>(
     tree: &RawBTree<K, V, C>,
     parent: usize,
@@ -77,7 +77,7 @@ fn siblings<K, V, C: NodesMut<K, V>>(
 {
     tree.tell_fits();
     let node = tree.node(parent);
-    // A node has few children, so an index has a next one.
+    // For the prover alone: a node has few children, so an index has a next one.
     let _few = node.child_count();
     let index = node.child_index(id).unwrap();
     let after = siblings_at(tree, parent, index);
@@ -87,7 +87,7 @@ fn siblings<K, V, C: NodesMut<K, V>>(
     (siblings_at(tree, parent, index - 1), after)
 }
 
-// A step between a node with an item too few and its left sibling. Returns where the address is then, and whether the two are one node.
+// Fixes an underflow with the left sibling. Returns the new address of what was at `addr`, and whether the two were merged.
 fn fix_underflow_with_left<K: Drop, V: Drop, C: NodesMut<K, V>>(
     tree: &mut RawBTree<K, V, C>,
     siblings: Siblings,
@@ -112,8 +112,8 @@ fn fix_underflow_with_left<K: Drop, V: Drop, C: NodesMut<K, V>>(
     (merge_siblings(tree, siblings, held, addr), true)
 }
 
-// One step at a node with a parent that has so many items, one too few. Returns where the address is then, and whether a node was given
-// up, so that the parent may have an item too few.
+// Takes one step at a node that underflows, has `count` items and has a parent. Returns the new address of what was at `addr`, and
+// whether a node was freed, so that the parent may underflow.
 fn fix_underflow_at<K: Drop, V: Drop, C: NodesMut<K, V>>(
     tree: &mut RawBTree<K, V, C>,
     parent: usize,
@@ -149,7 +149,8 @@ fn fix_underflow_at<K: Drop, V: Drop, C: NodesMut<K, V>>(
     }
 }
 
-// What is left to do at the root, which has so many items: without an item an internal node gives way to its child, and a leaf to nothing.
+// Finishes at the root, which has `count` items: an internal root without items is freed and its only child becomes the root, and a leaf
+// without items is freed.
 fn fix_root<K: Drop, V: Drop, C: NodesMut<K, V>>(
     tree: &mut RawBTree<K, V, C>,
     id: usize,
@@ -177,7 +178,8 @@ fn fix_root<K: Drop, V: Drop, C: NodesMut<K, V>>(
     moved_by_shrink_root(addr, id, child, held)
 }
 
-/// Mends a node that has an item too few, and so on upward. Returns where the address is then.
+/// Fixes the underflow of a node, if it has one, then of its parent, and so on upward, up to the root. Returns the new address of what
+/// was at `addr`. It needs no new node, so it cannot fail.
 pub fn fix_underflow_upward<K: Drop, V: Drop, C: NodesMut<K, V>>(
     tree: &mut RawBTree<K, V, C>,
     start: usize,

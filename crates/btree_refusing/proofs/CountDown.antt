@@ -1,4 +1,4 @@
--- `count_down` at a call: what it is handed, and what the caller has of it. Assumes `Logic`.
+-- `count_down` at a call: what it is given, and what the caller has of it. Assumes `Logic`.
 use Rattle.std.proofs.Common.{◌≡◌, ℕ, Bool, List, [], ◌∷◌, refl, ap}
 use seplogic.Ra.Ura.{Ura}
 use mir.Val.{Val, vbool, vptr}

@@ -1,4 +1,4 @@
--- The two fields of a shared `Refusing`: the allocator inside, and the cell that counts. Assumes `Logic`.
+-- The two fields of a shared `Refusing`: the inner allocator, and the cell that counts. Assumes `Logic`.
 use Rattle.std.proofs.Common.{ℕ, ◌+◌, [], ◌∷◌, Bor}
 use seplogic.Ra.Ura.{Ura}
 use mir.Syntax.{Args, a_type, dnil, dcons}
@@ -33,16 +33,16 @@ module _ (inner : Al) where
   abbrev pub self_slot : Slot 2
   self_slot = RefOf (0 ∷ []) tt (plain (λ _. refusing.the_row (param 0 inner.row))) (λ _. tt)
 
-  -- where the allocator inside lies
+  -- the place of the inner allocator
   abbrev pub inner_place : Bor Outer.Denot → ℕ × ℕ
   inner_place self = (self.ref_ptr.0, self.ref_ptr.1 + up (align (α inner)) 0)
 
-  -- where the cell lies
+  -- the place of the cell
   abbrev pub cell_place : Bor Outer.Denot → ℕ × ℕ
   cell_place self = (self.ref_ptr.0, self.ref_ptr.1 + up 8 (up (align (α inner)) 0 + size (α inner)))
 
   module _ {M : Type 1} {𝓤 : Ura M} (𝓛 : Logic 𝓤) (borrow : Lft) (self : Bor Outer.Denot) where
-    -- who may read the whole may read both fields
+    -- a reader of the whole may read both fields
     pub self_parts : (others : Lft × Unit {0}) → ent 𝓤 (sem 𝓛 ((self_slot.row (borrow, others)).own_val self (shr_vals self)))
         (sep 𝓤 (sem 𝓛 (seen inner borrow (inner_place self) self.now.inner)) (sem 𝓛 (hidden_shr Counter borrow (record { value = tt }) (cell_place self).0 (cell_place self).1)))
     self_parts others =

@@ -1,4 +1,4 @@
-//! An allocator for tests, which refuses the allocation that it is asked to refuse.
+//! An allocator for tests that refuses one chosen allocation.
 #![tactic(auto)]
 
 use std::alloc::{AllocError, Allocator};
@@ -7,18 +7,18 @@ use std::cell::Cell;
 #[cfg(test)]
 mod tests;
 
-/// An allocator that refuses one allocation, and passes every other call on to an allocator inside.
+/// An allocator that refuses one allocation, and passes every other call on to an inner allocator.
 ///
-/// Lend it to what allocates, as `&Refusing<Global>`. Each block that grows or shrinks is one more allocation. What it
-/// has counted is in a cell, which no contract sees: a caller reads it by `refuses`.
+/// Lend it to what allocates, as `&Refusing<Global>`. A block that grows or shrinks counts as one more allocation. Its count is in a
+/// cell, which no contract sees: a caller reads it by `refuses`.
 pub struct Refusing<B: Allocator> {
     inner: B,
-    // Which allocation from now on is refused: 1 is the next one, 0 none.
+    // Which allocation from now on is refused: 1 is the next one, 0 is none.
     at: Cell<u64>,
 }
 
 impl<B: Allocator> Refusing<B> {
-    /// Refuses the `at`-th allocation from now on, where 1 is the next one and 0 none.
+    /// Returns an allocator that refuses the `at`-th allocation from now on: 1 is the next one, 0 is none.
     pub fn over(inner: B, at: u64) -> Refusing<B> {
         Refusing {
             inner,
@@ -26,12 +26,12 @@ impl<B: Allocator> Refusing<B> {
         }
     }
 
-    /// Refuses the `at`-th allocation from now on, where 1 is the next one and 0 none.
+    /// Refuses the `at`-th allocation from now on: 1 is the next one, 0 is none.
     pub fn refuse(&self, at: u64) {
         self.at.set(at);
     }
 
-    /// Which allocation from now on is refused, where 1 is the next one, and 0 none or one that was refused already.
+    /// Returns which allocation from now on is refused: 1 is the next one, 0 is none, or one that was refused already.
     pub fn refuses(&self) -> u64 {
         self.at.get()
     }
@@ -43,7 +43,7 @@ impl<B: Allocator> Drop for Refusing<B> {
     }
 }
 
-// Counts one allocation, and says whether it is the one to refuse.
+// Counts one allocation, and returns whether it is the one to refuse.
 fn count_down(at: &Cell<u64>) -> bool {
     let left = at.get();
     if left > 0 {

@@ -3,7 +3,7 @@ use std::alloc::{AllocError, Global};
 use std::process::Abort;
 use std::test::Fail;
 
-// Of five allocations the one asked for is refused, and no other.
+// Of five allocations only the chosen one is refused.
 fn check_refusals(rt: &impl Abort, memory: &Refusing<Global>, at: u64) {
     for allocation in 1..6u64 {
         let block: Result<Vec<u32, &Refusing<Global>>, AllocError> = Vec::with_capacity(memory, 4);

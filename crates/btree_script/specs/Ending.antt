@@ -1,4 +1,4 @@
--- What a run that did not come to the end of its input ends with.
+-- The exit status and the message of a run that did not reach the end of its input.
 use Rattle.std.specs.Prelude.{ℕ, List, ◌++◌, codes, decimal}
 use Rattle.btree_session.specs.declared.script.Stop.TheVariants.{NotACommand, Memory, Input, Output}
 use Rattle.btree_script.specs.declared.Ending.{Ending}

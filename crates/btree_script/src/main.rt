@@ -15,17 +15,17 @@ use std::process::ExitCode;
 use std::rt::Env;
 use std::{fmt, io};
 
-/// How a run ended that did not come to the end of its input.
+/// How a run ended that did not reach the end of its input.
 #[derive(Clone, Copy, Debug, PartialEq, Eq)]
 pub enum Ending {
     /// There were arguments.
     WrongArguments,
-    /// The commands came to a stop.
+    /// A line or a failure stopped it.
     Stopped(Stop),
 }
 
 impl Ending {
-    /// The exit status, which is 0 for no such run.
+    /// Returns the exit status. It is never 0, the status of a run that reached the end.
     pub fn status(self) -> u8
         ensures { result ≡ status_of self }
     {
@@ -53,7 +53,7 @@ impl fmt::Display for Ending {
     }
 }
 
-// No argument is taken, and one that cannot be read is one too many.
+// Takes no arguments; one that cannot be read is an argument too.
 fn check_arguments(rt: &impl Env) -> Result<(), Ending> {
     match rt.arg(1, &mut []) {
         Err(FillError::NotPresent) => Ok(()),
@@ -72,7 +72,7 @@ fn main(rt: HostRuntime) -> ExitCode {
     let Err(ending) = run(&rt) else {
         return ExitCode::SUCCESS;
     };
-    // Where standard error fails too, the status alone says how it ended.
+    // If standard error fails too, the status alone shows how the run ended.
     let _ = rt.eprintln(ending);
     ExitCode::from(ending.status())
 }

@@ -12,7 +12,7 @@ lines_among-cons : (part : List ℕ) (parts : List (List ℕ)) → 0 < length pa
 lines_among-cons part [] some = absurd (omega arith)
 lines_among-cons part (next ∷ parts) some = refl
 
--- one more byte in front of the first line
+-- one more byte before the first line
 lines_among-onto : (byte : ℕ) (parts : List (List ℕ)) (line : List ℕ) (lines : List (List ℕ)) → lines_among parts ≡ line ∷ lines → lines_among (onto_first byte parts) ≡ (byte ∷ line) ∷ lines
 lines_among-onto byte [] line lines is = cc
 lines_among-onto byte ([] ∷ []) line lines is = cc
@@ -47,7 +47,7 @@ some_taken : (b : Bool) (byte : ℕ) (taken : List ℕ) → 0 < length (cond b (
 some_taken true byte taken = omega arith
 some_taken false byte taken = omega arith
 
--- a byte in front of a line
+-- a byte before a line
 other_first : (byte : ℕ) (text : List ℕ) → is_newline byte ≡ false → (0 < length text → lines_of text ≡ strip_last 10 (take_through 10 text) ∷ lines_of (drop_through 10 text))
     → lines_of (byte ∷ text) ≡ strip_last 10 (take_through 10 (byte ∷ text)) ∷ lines_of (drop_through 10 (byte ∷ text))
 other_first byte [] other rest =

@@ -1,4 +1,4 @@
--- Texts that are put piece by piece.
+-- Texts that are appended piece by piece.
 use Rattle.std.proofs.Common.{◌≡◌, ◌≢◌, ℕ, zero, suc, ◌-◌, ◌<◌, List, [], ◌∷◌, ◌++◌, map, Some, None, option_map, refl, sym, ap, ◌∙◌, arith, append_assoc, append-nil, decimal}
 use Rattle.std.specs.FinMap as finite
 use Rattle.std.specs.Prelude.{Result, Ok, Err, OnOk, OnErr}
@@ -16,7 +16,7 @@ use Rattle.btree_shape.specs.TreeState.{views}
 use Rattle.btree_session.specs.Answer.{pair_text, list_text, bracketed, shape_in, shape_under}
 use Rattle.btree_session.specs.Text.{Grows}
 
--- so much of a text stands behind the start, and this is left of it
+-- this much of a text is after the start, and this is left of it
 pub record Printed (start now left whole : List ℕ) : Type 0 where
   pub done : List ℕ
   pub grown : now ≡ start ++ done
@@ -25,11 +25,11 @@ pub record Printed (start now left whole : List ℕ) : Type 0 where
 pub to_print : (start whole : List ℕ) → Printed start start whole whole
 to_print start whole = record { done = []; grown = sym (append-nil start); rest = refl }
 
--- in other words
+-- the same by equations
 pub to_print-as : (start left whole : List ℕ) → left ≡ whole → Printed start start left whole
 to_print-as start left whole same = record { done = []; grown = sym (append-nil start); rest = same }
 
--- the next piece is put
+-- the next piece is appended
 pub next_piece : (start now new left whole piece rest : List ℕ) → Printed start now left whole → left ≡ piece ++ rest → new ≡ now ++ piece → Printed start new rest whole
 next_piece start now new left whole piece rest so_far is_left is_new = record {
   done = so_far.done ++ piece;
@@ -37,7 +37,7 @@ next_piece start now new left whole piece rest so_far is_left is_new = record {
   rest = append_assoc so_far.done piece rest ∙ ap (λ t. so_far.done ++ t) (sym is_left) ∙ so_far.rest;
 }
 
--- all that is left is put
+-- all that is left is appended
 pub last_piece : (start now new left whole : List ℕ) → Printed start now left whole → new ≡ now ++ left → new ≡ start ++ whole
 last_piece start now new left whole so_far is_new = is_new ∙ ap (λ t. t ++ left) so_far.grown ∙ append_assoc start so_far.done left ∙ ap (λ t. start ++ t) so_far.rest
 
@@ -51,11 +51,11 @@ Grows-same now new same = ([], same ∙ sym (append-nil now))
 pub Grows-by : (start mid new more : List ℕ) → Grows start mid → new ≡ mid ++ more → Grows start new
 Grows-by start mid new more first is_new = (first.0 ++ more, is_new ∙ ap (λ t. t ++ more) first.1 ∙ append_assoc start first.0 more)
 
--- it goes no further
+-- it stops before the end
 pub given_up : (start now new left whole : List ℕ) → Printed start now left whole → Grows now new → Grows start new
 given_up start now new left whole so_far more = Grows-by start now new more.0 (so_far.done, so_far.grown) more.1
 
--- what holds anyway
+-- what holds in any case
 pub on_err : {P : Type 0} (result : Result (Unit {0}) AllocError) → P → OnErr result P
 on_err (Ok _) p = tt
 on_err (Err _) p = p
@@ -65,7 +65,7 @@ module _ (start now new left whole : List ℕ) (result : Result (Unit {0}) Alloc
   pub at_error : Grows now new → OnErr result (Grows start new)
   at_error more = on_err result (given_up start now new left whole so_far more)
 
-  -- the last piece is put, or not
+  -- the last piece is appended, or not
   pub at_end : (last : List ℕ) → left ≡ last → OnOk result (new ≡ now ++ last) → OnOk result (new ≡ start ++ whole)
   at_end last is_last is_new = by result is_new where
     by : (r : Result (Unit {0}) AllocError) → OnOk r (new ≡ now ++ last) → OnOk r (new ≡ start ++ whole)
@@ -78,7 +78,7 @@ module _ (start now new left whole : List ℕ) (result : Result (Unit {0}) Alloc
     by (Ok _) is = tt
     by (Err _) is = given_up start now new left whole so_far (Grows-same now new is)
 
--- texts, each behind a space but the first, which is behind what is given
+-- texts, each after a space, but the first, which is after `before`
 abbrev pub behind : (before : List ℕ) → List (List ℕ) → List ℕ
 behind before [] = []
 behind before (text ∷ texts) = (before ++ text) ++ behind (32 ∷ []) texts
@@ -103,7 +103,7 @@ join-branches node_at levels first (b ∷ bs) =
     ap (λ t. first ++ (32 ∷ (decimal b.item.0 ++ (32 ∷ t)))) (join-branches node_at levels (shape_under node_at levels b.child) bs)
     ∙ ap (λ t. first ++ (32 ∷ t)) (between (decimal b.item.0) (shape_under node_at levels b.child ++ branches_text node_at levels bs))
 
--- the shape under a node by its levels
+-- the shape under a node, by its levels
 shape_under-suc : (node_at : NodeMap (ℕ × ℕ)) (levels id : ℕ) → 0 < levels → shape_under node_at levels id ≡ shape_in (shape_under node_at (levels - 1)) (node_at id)
 shape_under-suc node_at zero id some = absurd (omega arith)
 shape_under-suc node_at (suc levels) id some =
@@ -135,7 +135,7 @@ module _ (nodes : Content (Node ℕ ℕ)) (levels id : ℕ) where
 pub bracket_open : (before : List ℕ) (texts all : List (List ℕ)) → before ≡ [] → texts ≡ all → bracketed all ≡ (40 ∷ []) ++ (behind before texts ++ 41 ∷ [])
 bracket_open before texts all first same = ap (λ t. (40 ∷ t) ++ 41 ∷ []) (join-behind all ∙ ap (λ b. behind b all) (sym first) ∙ ap (behind before) (sym same))
 
--- the next text and what stands before it
+-- the next text and what is before it
 pub behind-next : (before after text piece tail : List ℕ) (texts rest : List (List ℕ)) → texts ≡ text ∷ rest → after ≡ 32 ∷ [] → piece ≡ before ++ text
     → behind before texts ++ tail ≡ piece ++ (behind after rest ++ tail)
 behind-next before after text piece tail texts rest is_next is_after is_piece =
@@ -158,7 +158,7 @@ list_open before left pairs first same some =
 
 -- the branches of a node, one after another
 module _ (node_at : NodeMap (ℕ × ℕ)) (levels : ℕ) (start : List ℕ) (whole : List ℕ) (tail : List ℕ) where
-  -- the key of the next branch is put, with a space on either side
+  -- the key of the next branch is appended, with a space on either side
   pub key_put : (now new : List ℕ) (left bs : List (Branch ℕ ℕ)) (b : Branch ℕ ℕ) (key : ℕ) → Printed start now (branches_text node_at levels left ++ tail) whole
       → left ≡ b ∷ bs → key ≡ b.item.0 → new ≡ now ++ ((32 ∷ []) ++ decimal key ++ 32 ∷ [])
       → Printed start new ((shape_under node_at levels b.child ++ branches_text node_at levels bs) ++ tail) whole
@@ -169,7 +169,7 @@ module _ (node_at : NodeMap (ℕ × ℕ)) (levels : ℕ) (start : List ℕ) (who
       ∙ ap (λ k. ((32 ∷ []) ++ decimal k ++ 32 ∷ []) ++ ((shape_under node_at levels b.child ++ branches_text node_at levels bs) ++ tail)) (sym is_key))
       is_new
 
-  -- a child is put
+  -- a child is appended
   pub child_put : (now new : List ℕ) (child : ℕ) (bs : List (Branch ℕ ℕ)) → Printed start now ((shape_under node_at levels child ++ branches_text node_at levels bs) ++ tail) whole
       → new ≡ now ++ shape_under node_at levels child → Printed start new (branches_text node_at levels bs ++ tail) whole
   child_put now new child bs so_far is_new =

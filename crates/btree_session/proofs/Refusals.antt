@@ -1,4 +1,4 @@
--- Steps of the machine, by what the map says.
+-- Steps of the machine, by the contract of the map.
 use Rattle.std.proofs.Common.{◌≡◌, ℕ, None, length, sym, ap, ◌∙◌}
 use Rattle.std.specs.Ordering.{nat_cmp}
 use Rattle.btree_item.specs.Pairs.{found}

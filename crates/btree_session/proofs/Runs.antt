@@ -1,4 +1,4 @@
--- Runs of the machine, joined.
+-- Runs of the machine, one after another.
 use Rattle.std.proofs.Common.{◌≡◌, ℕ, ◌+◌, ◌<◌, ◌≤◌, List, [], ◌∷◌, ◌++◌, take, length, get_or, refl, sym, ap, ◌∙◌, append_assoc, append-nil}
 use Rattle.std.proofs.lemmas.List.{take_more, take_all}
 use Rattle.btree_store.specs.Content.{Content}
@@ -8,14 +8,14 @@ use Rattle.btree_session.specs.declared.command.Command.{Command}
 use Rattle.btree_session.specs.declared.command.Reply.{Reply}
 use Rattle.btree_session.specs.Machine.{IsStep, IsRun}
 
--- a run goes on with another
+-- a run continues with another
 pub IsRun-append : (May : Content (Node ℕ ℕ) → Type 0) (old mid new : TreeState ℕ ℕ) (cs ds : List Command) (rs ss : List Reply) → IsRun May old cs rs mid → IsRun May mid ds ss new → IsRun May old (cs ++ ds) (rs ++ ss) new
 IsRun-append May old mid new [] ds [] ss first second = let same : mid ≡ old = first in rw same at second
 IsRun-append May old mid new (c ∷ cs) ds (r ∷ rs) ss first second = (first.0, first.1, IsRun-append May first.0 mid new cs ds rs ss first.2 second)
 IsRun-append May old mid new [] ds (r ∷ rs) ss first second = absurd first
 IsRun-append May old mid new (c ∷ cs) ds [] ss first second = absurd first
 
--- behind the replies of before stand those to a run
+-- the replies to a run are after those that were there before
 abbrev pub HasAnswered : (Content (Node ℕ ℕ) → Type 0) → TreeState ℕ ℕ → List Command → List Reply → List Reply → TreeState ℕ ℕ → Type 0
 HasAnswered May old commands before after new = (given : List Reply) × (after ≡ before ++ given) × IsRun May old commands given new
 

@@ -34,7 +34,7 @@ Serves-append May old mid new (line ∷ lines) more first second served next = (
 Serves-one : (May : Content (Node ℕ ℕ) → Type 0) (old new : TreeState ℕ ℕ) (line : List ℕ) (said : Line) (printed : List ℕ) → IsSaid (line_words line) said → Does May old said printed new → Serves May old (line ∷ []) printed new
 Serves-one May old new line said printed says does = (said, new, printed, [], says, does, (refl, refl), sym (append-nil printed))
 
--- how far it has come
+-- the progress so far
 pub record Progress (May : Content (Node ℕ ℕ) → Type 0) (old : TreeState ℕ ℕ) (input before rest after : Option (List ℕ)) (new : TreeState ℕ ℕ) (number : ℕ) : Type 0 where
   pub served : List (List ℕ)
   pub printed : List ℕ
@@ -102,7 +102,7 @@ at_end : (rest : Option (List ℕ)) → IsAtEnd rest → IfSome rest (λ left. l
 at_end None none = tt
 at_end (Some left) none = ap lines_of none
 
--- the input came to its end
+-- the input has ended
 pub ended : {A : Type 0} (May : Content (Node ℕ ℕ) → Type 0) (old new : TreeState ℕ ℕ) (input before rest after : Option (List ℕ)) (number : ℕ) (x : A) →
     Progress May old input before rest after new number → IsAtEnd rest → Drives May old input before (Ok x) after new
 ended May old new input before rest after number x so_far none =
@@ -123,7 +123,7 @@ ends_anywhere A served lines Memory anywhere rest = rest
 ends_anywhere A served lines Input anywhere rest = rest
 ends_anywhere A served lines Output anywhere rest = rest
 
--- what holds anyway
+-- what holds in any case
 pub anyway : {A : Type 0} (P : Type 0) (result : Result A Stop) → P → UnlessOutput result P
 anyway P (Ok _) p = p
 anyway P (Err (NotACommand number)) p = p
@@ -161,7 +161,7 @@ failed May old new input before rest between after number so_far =
       writes = tt;
     }
 
--- it stops while it looks for the next line
+-- it stops while it reads the next line
 pub between_lines : {A : Type 0} (May : Content (Node ℕ ℕ) → Type 0) (old new : TreeState ℕ ℕ) (input before rest between after : Option (List ℕ)) (number : ℕ) (stop : Stop) →
     Progress May old input before rest between new number → ComesAnywhere stop → UnlessOutput {A = A} (Err stop) (Keeps between after) → Drives {A = A} May old input before (Err stop) after new
 between_lines May old new input before rest between after number (NotACommand at) so_far anywhere keeps = absurd anywhere
@@ -178,7 +178,7 @@ first_line rest next said reads = at rest reads.some reads.first where
   at None some first = ([], tt)
   at (Some left) some first = (lines_of (drop_through 10 left), lines_of-cons left some ∙ ap (λ line. line ∷ lines_of (drop_through 10 left)) (sym first))
 
--- the next line is no command
+-- the next line is not a command
 pub not_a_command : {A : Type 0} (May : Content (Node ℕ ℕ) → Type 0) (old new : TreeState ℕ ℕ) (input before rest next after : Option (List ℕ)) (number : ℕ) →
     Progress May old input before rest after new number → ReadsLine rest next Other → Drives {A = A} May old input before (Err (NotACommand number)) after new
 not_a_command May old new input before rest next after number so_far reads =
@@ -194,7 +194,7 @@ not_a_command May old new input before rest next after number so_far reads =
       writes = so_far.writes;
     }
 
--- at the next line it stops
+-- it stops at the next line
 pub at_line : {A : Type 0} (May : Content (Node ℕ ℕ) → Type 0) (old new : TreeState ℕ ℕ) (input before rest next after : Option (List ℕ)) (number : ℕ) (said : Line) (stop : Stop) →
     Progress May old input before rest after new number → ReadsLine rest next said
     → StopsAt said number stop → Drives {A = A} May old input before (Err stop) after new
@@ -209,7 +209,7 @@ Appends-append (Some xs) None after first second one two = absurd one
 Appends-append (Some xs) (Some ys) None first second one two = absurd two
 Appends-append (Some xs) (Some ys) (Some zs) first second one two = two ∙ ap (λ bytes. bytes ++ second) one ∙ append_assoc xs first second
 
--- text behind known bytes grows
+-- text after known bytes grows
 pub append_known-grows : (known : Option (List ℕ)) (text more added : List ℕ) → more ≡ text ++ added → Appends (append_known known text) (append_known known more) added
 append_known-grows None text more added is = tt
 append_known-grows (Some xs) text more added is = ap (λ bytes. xs ++ bytes) is ∙ sym (append_assoc xs text added)
@@ -241,7 +241,7 @@ goes_on May old mid new input before rest next between after number said reads p
   count = omega (arith, so_far.count, length-append so_far.served (reads.line ∷ []));
 }
 
--- a line in the front of known bytes
+-- a line at the front of known bytes
 pub in_buffer : (known next : Option (List ℕ)) (buffer : List ℕ) (len : ℕ) (said : Line) → position is_newline buffer ≡ Some len → IsSaid (line_words (take len buffer)) said
     → DropsConsumable (prepend_known buffer known) next (Some (length buffer)) (len + 1) → ReadsLine (prepend_known buffer known) next said
 in_buffer None next buffer len said place says drops = record { line = take len buffer; says = says; some = tt; first = tt; rest = tt }
@@ -256,13 +256,13 @@ in_buffer (Some behind) next buffer len said place says drops =
       rest = drops (omega (arith, at.0)) ∙ ap (λ n. Some (drop n (buffer ++ behind))) (add-one len) ∙ ap (λ left. Some left) cut.1;
     }
 
--- the same of a reader's bytes, which are not known where it has no buffer
+-- the same for the bytes of a reader, which are not known if it has no buffer
 pub in_reader : (has_none : Bool) (known next : Option (List ℕ)) (buffer : List ℕ) (len : ℕ) (said : Line) → position is_newline buffer ≡ Some len → IsSaid (line_words (take len buffer)) said
     → DropsConsumable (cond has_none None (prepend_known buffer known)) next (Some (length buffer)) (len + 1) → ReadsLine (cond has_none None (prepend_known buffer known)) next said
 in_reader true known next buffer len said place says drops = record { line = take len buffer; says = says; some = tt; first = tt; rest = tt }
 in_reader false known next buffer len said place says drops = in_buffer known next buffer len said place says drops
 
--- a line that `read_until` took
+-- a line that `read_until` has read
 pub read_through : (old new : Option (List ℕ)) (line : List ℕ) (said : Line) → IfSome old (λ text. line ≡ take_through 10 text) → DropsThrough old new 10 → 0 < length line
     → IsSaid (line_words (strip_last 10 line)) said → ReadsLine old new said
 read_through None new line said taken dropped some says = record { line = strip_last 10 line; says = says; some = tt; first = tt; rest = tt }

@@ -36,7 +36,7 @@ module _ (node_at : NodeMap (ℕ × ℕ)) where
   rest-written height levels parent each [] all = tt
   rest-written height levels parent each (r ∷ rest) all = (each r.1 r.2 all.0, rest-written height levels parent each rest all.1)
 
-  -- a bound on the levels that is above the height cuts nothing off
+  -- a bound on the levels that is above the height loses nothing
   pub written : (height levels : ℕ) (parent : Option ℕ) (id : ℕ) (xs : List (ℕ × ℕ)) → height < levels → Represents node_at height parent id xs → IsWritten node_at height id (shape_under node_at levels id)
   written height zero parent id xs low h = absurd (omega arith)
   written zero (suc levels) parent id xs low h = (parent, xs, h, rw h refl)

@@ -9,11 +9,11 @@ use Rattle.std.proofs.lemmas.List.Sums.{passes_at_first, fails_before_first, pre
 use Rattle.std.proofs.lemmas.Bool.{cases_lt}
 use Rattle.btree_session.specs.Line.{is_space, words_of}
 
--- the place of the first that passes, or the length
+-- the index of the first element that passes, or the length
 unwrap_or-position : {X : Type 0} (p : X → Bool) (xs : List X) → unwrap_or (position p xs) (length xs) ≡ position_or_len p xs
 unwrap_or-position p xs = grind (arith, prefix_len-le-length (λ x. not (p x)) xs)
 
--- a space at the front divides nothing
+-- a space at the front changes no word
 words_of-space : (byte : ℕ) (text : List ℕ) → is_space byte ≡ true → words_of (byte ∷ text) ≡ words_of text
 words_of-space byte text space = ap (filter (λ word. nat_lt 0 (length word))) (slice_split-cons_yes is_space byte text space)
 
@@ -22,7 +22,7 @@ drop-space true byte n text space rest =
     let one : drop (1 + n) (byte ∷ text) ≡ drop n text = grind (arith, common_steps) in ap words_of one ∙ rest ∙ sym (words_of-space byte text space)
 drop-space false byte n text space rest = refl
 
--- nor do spaces
+-- nor do several
 words_of-drop : (text : List ℕ) → words_of (drop (position_or_len (λ byte. not (is_space byte)) text) text) ≡ words_of text
 words_of-drop [] = refl
 words_of-drop (byte ∷ text) = drop-space (is_space byte) byte (position_or_len (λ byte. not (is_space byte)) text) text refl (words_of-drop text)
@@ -46,7 +46,7 @@ word_before text long within =
     ∙ is_kept (before_first is_space text) (slice_split is_space (after_first is_space text)) (long_enough text (position_or_len is_space text) long (omega arith))
     ∙ ap (λ rest. before_first is_space text ∷ rest) (sym (at_space text within))
 
--- or with the text
+-- or at the end of the text
 last_word : (text : List ℕ) → 0 < position_or_len is_space text → length text ≤ position_or_len is_space text
     → words_of text ≡ before_first is_space text ∷ words_of (drop (position_or_len is_space text) text)
 last_word text long past =
@@ -87,7 +87,7 @@ pub no_word : (text : List ℕ) (spaces : ℕ) → spaces ≡ unwrap_or (positio
 no_word text spaces is_spaces none =
     from_word text spaces is_spaces ∙ ap words_of (drop_all spaces text (omega (arith, length-drop spaces text)))
 
--- a word behind spaces
+-- a word after spaces
 pub word_behind : (text : List ℕ) (spaces len : ℕ) → spaces ≡ unwrap_or (position (λ byte. not (is_space byte)) text) (length text)
     → 0 < length (drop spaces text) → len ≡ unwrap_or (position is_space (drop spaces text)) (length (drop spaces text))
     → words_of text ≡ take len (drop spaces text) ∷ words_of (drop len (drop spaces text))

@@ -1,4 +1,5 @@
 -- What is printed for a question about the map.
+-- The bound on the levels in `answer_text` loses nothing of a well formed tree (`is-answer` in `proofs/Shapes.antt`).
 use Rattle.std.specs.Prelude.{◌≡◌, ℕ, zero, suc, List, [], ◌∷◌, ◌++◌, length, map, Option, Some, None, Vec, codes}
 use Rattle.std.specs.FinMap as finite
 use Rattle.std.specs.Fmt.{decimal}
@@ -26,8 +27,8 @@ bracketed texts = codes "(" ++ join_with_byte 32 texts ++ codes ")"
 abbrev pub leaf_text : List (ℕ × ℕ) → List ℕ
 leaf_text items = bracketed (map (λ pair. decimal pair.0) items)
 
--- Node `id`, `height` levels above the leaves, is written so with all below it: a leaf as its keys; an internal node as its
--- first child, and then each key and the child after it.
+-- the text of node `id`, `height` levels above the leaves, with all nodes below it: a leaf is written as its keys; an
+-- internal node as its first child, and then each key and the child after it
 abbrev pub IsWritten : NodeMap (ℕ × ℕ) → (height : ℕ) → (id : ℕ) → List ℕ → Type 0
 IsWritten node_at zero id text =
     (parent : Option ℕ) × (items : List (ℕ × ℕ)) × (node_at id ≡ Some (leaf parent items)) × (text ≡ leaf_text items)
@@ -38,7 +39,7 @@ IsWritten node_at (suc height) id text =
     × AllByRecursion (λ r. IsWritten node_at height r.1 r.2) rest
     × (text ≡ bracketed (front ∷ flat_map (λ r. decimal r.0.0 ∷ r.2 ∷ []) rest))
 
--- a tree is written as its root, whatever its height, and one without pairs as two brackets
+-- the text of a tree: that of its root, whatever the height; without pairs it is two brackets
 abbrev pub IsShapeOf : NodeMap (ℕ × ℕ) → (root : Option ℕ) → List ℕ → Type 0
 IsShapeOf node_at None text = text ≡ codes "()"
 IsShapeOf node_at (Some root) text = (height : ℕ) × IsWritten node_at height root text
@@ -50,11 +51,11 @@ IsAnswer m questions.Len text = text ≡ decimal (length (pairs_of m))
 IsAnswer m questions.Nodes text = text ≡ decimal (finite.len m.nodes)
 IsAnswer m questions.Shape text = IsShapeOf (node_map m) m.root text
 
--- the answer to a question was put behind a text, on a line of its own
+-- the answer to a question was appended to a text, on a line of its own
 abbrev pub Answers : {Z : Type 0} → TreeState ℕ ℕ → Question → (text more : Vec ℕ Z) → Type 0
 Answers m question text more = (answer : List ℕ) × IsAnswer m question answer × Pushes text more (as_line answer)
 
--- Below, the same as a function, in the steps in which it is printed.
+-- Below, the same as functions, in the steps in which code prints it.
 
 -- the text of a node, given that of each child: a leaf's keys, or an internal node's children and keys in turn
 abbrev pub shape_in : (ℕ → List ℕ) → Option (View (ℕ × ℕ)) → List ℕ
@@ -63,7 +64,7 @@ shape_in below (Some (leaf parent items)) = leaf_text items
 shape_in below (Some (internal parent first branches)) =
     bracketed (below first ∷ flat_map (λ b. decimal b.0.0 ∷ below b.1 ∷ []) branches)
 
--- the text of a node and of those below it, by at most so many levels
+-- the text of a node and of those below it, down to at most `levels` levels
 abbrev pub shape_under : NodeMap (ℕ × ℕ) → (levels : ℕ) → (id : ℕ) → List ℕ
 shape_under node_at zero id = []
 shape_under node_at (suc levels) id = shape_in (shape_under node_at levels) (node_at id)

@@ -1,4 +1,4 @@
--- What a line says.
+-- What a line of text means.
 use Rattle.std.specs.Prelude.{◌≡◌, ◌≢◌, ℕ, ◌^◌, ◌<◌, Bool, List, [], ◌∷◌, length, filter, nat_lt, ◌==◌, Option, Some, None, codes}
 use Rattle.std.specs.List.{slice_split}
 use Rattle.std.specs.Io.BufRead.{strip_last}
@@ -10,7 +10,7 @@ use Rattle.btree_session.specs.declared.question.Question.{Question}
 use Rattle.btree_session.specs.declared.question.Question.TheVariants as questions
 use Rattle.btree_session.specs.declared.line.Line.TheVariants as lines
 
--- a value that is so, or none where no value is so
+-- a value with this property, or `None` if no value has it
 abbrev pub Finds : {A : Type 0} → (A → Type 0) → Option A → Type 0
 Finds IsSo (Some x) = IsSo x
 Finds {A} IsSo None = (x : A) → IsSo x → ⊥
@@ -19,15 +19,15 @@ Finds {A} IsSo None = (x : A) → IsSo x → ⊥
 abbrev pub is_space : ℕ → Bool
 is_space byte = byte == 32
 
--- what one or more spaces divide
+-- the parts that one or more spaces divide
 abbrev pub words_of : List ℕ → List (List ℕ)
 words_of text = filter (λ word. nat_lt 0 (length word)) (slice_split is_space text)
 
--- the words of a line, whose last byte may be a carriage return
+-- the words of a line; a carriage return as its last byte is dropped
 abbrev pub line_words : List ℕ → List (List ℕ)
 line_words line = words_of (strip_last 13 line)
 
--- the word is this number in decimal digits, one of 64 bits
+-- the word is this number in decimal digits, and the number fits in 64 bits
 pub record IsNumber (number : ℕ) (word : List ℕ) : Type 0 where
   pub numeral : IsNumeral 10 word
   pub value : digits_value 10 word ≡ number
@@ -40,7 +40,7 @@ AreNumbers (number ∷ numbers) (word ∷ words) = IsNumber number word × AreNu
 AreNumbers [] (word ∷ words) = ⊥
 AreNumbers (number ∷ numbers) [] = ⊥
 
--- the text's first word is this number, and the words of the rest are the others
+-- the first word of the text is this number, and the words of the rest are the other words
 abbrev pub BeginsWith : (text : List ℕ) → (number : ℕ) → (rest : List ℕ) → Type 0
 BeginsWith text number rest = (word : List ℕ) × IsNumber number word × (words_of text ≡ word ∷ words_of rest)
 
@@ -49,7 +49,7 @@ abbrev pub IsCall : List ℕ → List ℕ → List (List ℕ) → Type 0
 IsCall name numbers [] = ⊥
 IsCall name numbers (word ∷ words) = (word ≡ name) × AreNumbers numbers words
 
--- the words say the command
+-- the words mean the command
 abbrev pub Says : List (List ℕ) → Command → Type 0
 Says words (Insert key value) = IsCall (codes "insert") (key ∷ value ∷ []) words
 Says words (Get key) = IsCall (codes "get") (key ∷ []) words
@@ -61,11 +61,11 @@ name_of questions.Len = codes "len"
 name_of questions.Nodes = codes "nodes"
 name_of questions.Shape = codes "shape"
 
--- the words ask the question: its name alone
+-- the words mean the question: they are its name alone
 abbrev pub IsQuestion : List (List ℕ) → Question → Type 0
 IsQuestion words question = words ≡ name_of question ∷ []
 
--- a line with these words says this: nothing, a command, a question, or neither
+-- a line with these words means this: nothing, a command, a question, or something else
 abbrev pub IsSaid : List (List ℕ) → Line → Type 0
 IsSaid words lines.Empty = words ≡ []
 IsSaid words (lines.Command said) = Says words said

@@ -1,4 +1,7 @@
--- What driving a session by lines of text does.
+-- What driving a session with lines of text does.
+-- A text is served to its end, or up to the first line that is neither a command nor a question, whose number, counted
+-- from 1, is returned; if memory, the reader or the writer fails, a first part of the lines is served. The bytes of the
+-- writer have grown by what was printed, unless the writer failed.
 use Rattle.std.specs.Prelude.{◌≡◌, ℕ, ◌+◌, ◌<◌, Bool, List, [], ◌∷◌, ◌++◌, length, Option, Some, Result, Ok, Err, IfSome, ⊤, ◌==◌, ◌⊎◌, Vec}
 use Rattle.std.specs.List.{slice_split}
 use Rattle.std.specs.Io.BufRead.{take_through, drop_through, strip_last}
@@ -24,12 +27,12 @@ use Rattle.btree_session.specs.Text.{Pushes, as_line, line_of}
 abbrev pub is_newline : ℕ → Bool
 is_newline byte = byte == 10
 
--- the last of the parts that newlines divide is a line unless it is empty
+-- the last of the parts that newlines divide, as a line unless it is empty
 abbrev pub last_line : List ℕ → List (List ℕ)
 last_line [] = []
 last_line (byte ∷ part) = (byte ∷ part) ∷ []
 
--- of the parts that newlines divide, the lines
+-- the lines among the parts that newlines divide
 abbrev pub lines_among : List (List ℕ) → List (List ℕ)
 lines_among [] = []
 lines_among (part ∷ []) = last_line part
@@ -39,7 +42,7 @@ lines_among (part ∷ next ∷ parts) = part ∷ lines_among (next ∷ parts)
 abbrev pub lines_of : List ℕ → List (List ℕ)
 lines_of text = lines_among (slice_split is_newline text)
 
--- known bytes lose their first line and its newline, and that line says this
+-- the known bytes lose their first line and its newline, and that line means `said`
 pub record ReadsLine (old new : Option (List ℕ)) (said : Line) : Type 0 where
   pub line : List ℕ
   pub says : IsSaid (line_words line) said
@@ -47,52 +50,53 @@ pub record ReadsLine (old new : Option (List ℕ)) (said : Line) : Type 0 where
   pub first : IfSome old (λ text. line ≡ strip_last 10 (take_through 10 text))
   pub rest : IfSome old (λ text. new ≡ Some (drop_through 10 text))
 
--- of a reader whose bytes to come are told so
+-- for a reader with these bytes still to come
 module _ {R A : Type 0} (remaining : R → Option (List ℕ)) where
-  -- the bytes that are still to come, where they are known: those in the reader's buffer, and those behind
+  -- the bytes that are still to come, if they are known: those in the reader's buffer, and those after them
   abbrev pub input_of : BufReader R A → Option (List ℕ)
   input_of reader = reader_remaining remaining reader
 
-  -- the reader's next line was taken, and says this
+  -- the reader's next line was read, and means `said`
   abbrev pub TakesLine : (old new : BufReader R A) → (said : Line) → Type 0
   TakesLine old new said = ReadsLine (input_of old) (input_of new) said
 
--- of a writer whose bytes are told so, with a text that is still to be written
+-- for a writer with these bytes, and a text that is still to be written
 module _ {W Z : Type 0} (contents : W → Option (List ℕ)) where
-  -- the bytes written, where they are known, and the text behind them
+  -- the bytes written, if they are known, and the text after them
   abbrev pub output_of : W → Vec ℕ Z → Option (List ℕ)
   output_of output text = append_known (contents output) text.items
 
-  -- what the text has lost was written
+  -- what was removed from the text was written
   abbrev pub WritesOut : (output : W) (text : Vec ℕ Z) (new_output : W) (new_text : Vec ℕ Z) → Type 0
   WritesOut output text new_output new_text = Keeps (output_of output text) (output_of new_output new_text)
 
 -- over stores that may refuse a node in these contents
 module _ (MayRefuse : Content (Node ℕ ℕ) → Type 0) where
-  -- What a line says was done, and this was printed: for a command the reply of a step, for a question the answer, each on a line of its
-  -- own. A question changes nothing.
+  -- What a line means was done, and `printed` was printed: for a command the reply of a step, for a question the
+  -- answer, each on a line of its own. A question changes nothing.
   abbrev pub Does : (old : TreeState ℕ ℕ) → Line → (printed : List ℕ) → (new : TreeState ℕ ℕ) → Type 0
   Does old Empty printed new = (printed ≡ []) × (new ≡ old)
   Does old (line_kinds.Command command) printed new = (reply : Reply) × IsStep MayRefuse old command reply new × (printed ≡ line_of reply)
   Does old (Question question) printed new = (answer : List ℕ) × IsAnswer old question answer × (printed ≡ as_line answer) × (new ≡ old)
   Does old Other printed new = ⊥
 
-  -- what a line says was done, and what that prints was put behind a text
+  -- what a line means was done, and what that prints was appended to a text
   abbrev pub Performs : {Z : Type 0} → (old : TreeState ℕ ℕ) → Line → (new : TreeState ℕ ℕ) → (text more : Vec ℕ Z) → Type 0
   Performs old said new text more = (printed : List ℕ) × Does old said printed new × Pushes text more printed
 
-  -- the same of a command
+  -- the same for a command
   abbrev pub Obeys : {Z : Type 0} → (old : TreeState ℕ ℕ) → Command → (new : TreeState ℕ ℕ) → (text more : Vec ℕ Z) → Type 0
   Obeys old command new text more = Performs old (line_kinds.Command command) new text more
 
-  -- what the lines say was done, one after another, and this was printed
+  -- what the lines mean was done, one after another, and `printed` was printed
   abbrev pub Serves : (old : TreeState ℕ ℕ) → (lines : List (List ℕ)) → (printed : List ℕ) → (new : TreeState ℕ ℕ) → Type 0
   Serves old [] printed new = (printed ≡ []) × (new ≡ old)
   Serves old (line ∷ lines) printed new =
       (said : Line) × (mid : TreeState ℕ ℕ) × (first : List ℕ) × (rest : List ℕ)
       × IsSaid (line_words line) said × Does old said first mid × Serves mid lines rest new × (printed ≡ first ++ rest)
 
--- the lines that were served, of all, where it ends so: all of them, or those before the first that says neither, or only some
+-- which of all lines were served, by the result: all of them, or those before the first that is neither a command nor a
+-- question, or a first part of them
 abbrev pub EndsAfter : {A : Type 0} → List (List ℕ) → List (List ℕ) → Result A Stop → Type 0
 EndsAfter served all (Ok _) = all ≡ served
 EndsAfter served all (Err (NotACommand number)) = (line : List ℕ) × (rest : List (List ℕ)) × (all ≡ served ++ line ∷ rest) × IsSaid (line_words line) Other × (number ≡ length served + 1)
@@ -108,18 +112,19 @@ UnlessOutput (Err Memory) Holds = Holds
 UnlessOutput (Err Input) Holds = Holds
 UnlessOutput (Err Output) Holds = ⊤
 
--- a stop that may come at any line
+-- a stop that may occur at any line
 abbrev pub ComesAnywhere : Stop → Type 0
 ComesAnywhere (NotACommand number) = ⊥
 ComesAnywhere Memory = Unit {0}
 ComesAnywhere Input = Unit {0}
 ComesAnywhere Output = Unit {0}
 
--- why the line with a number was not served: for want of memory, or since it says neither command nor question
+-- why the line with a number was not served: memory was refused, or it is neither a command nor a question
 abbrev pub StopsAt : (said : Line) → (number : ℕ) → Stop → Type 0
 StopsAt said number stop = (stop ≡ Memory) ⊎ ((stop ≡ NotACommand number) × (said ≡ Other))
 
--- Lines of the input were served, and what they print was written. Where the bytes of the input are known, the lines are theirs.
+-- Lines of the input were served, and what they print was written. If the bytes of the input are known, the lines are
+-- theirs.
 pub record Drives {A : Type 0} (MayRefuse : Content (Node ℕ ℕ) → Type 0) (old : TreeState ℕ ℕ) (input before : Option (List ℕ)) (result : Result A Stop) (after : Option (List ℕ)) (new : TreeState ℕ ℕ) : Type 0 where
   pub lines : List (List ℕ)
   pub known : IfSome input (λ text. lines ≡ lines_of text)

@@ -1,4 +1,4 @@
--- What is printed for a reply.
+-- The printed text of a reply.
 use Rattle.std.specs.Prelude.{◌≡◌, ℕ, ◌+◌, ◌≤◌, List, [], ◌∷◌, ◌++◌, Vec, vec_len, vec_capacity, codes}
 use Rattle.std.specs.Fmt.{decimal}
 use Rattle.btree_item.specs.declared.refused.Cause.{Cause}
@@ -17,15 +17,15 @@ reply_text Nothing = codes "none"
 reply_text (Value value) = codes "some " ++ decimal value
 reply_text (Refused cause) = codes "refused " ++ cause_text cause
 
--- a vector with these values more behind those that it has
+-- a vector with these values appended
 abbrev pub Pushes : {X Z : Type 0} → (old new : Vec X Z) → List X → Type 0
 Pushes old new more = new.items ≡ old.items ++ more
 
--- a vector that can take so many more values without more memory
+-- a vector that can hold `count` more values without more memory
 abbrev pub HasCapacityFor : {X Z : Type 0} → Vec X Z → ℕ → Type 0
 HasCapacityFor values count = vec_len values + count ≤ vec_capacity values
 
--- a text with something more behind it
+-- a text with something appended
 abbrev pub Grows : (old new : List ℕ) → Type 0
 Grows old new = (added : List ℕ) × (new ≡ old ++ added)
 

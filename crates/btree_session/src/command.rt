@@ -1,25 +1,25 @@
-//! What a session is told, and what it replies.
+//! The commands of a session, and its replies.
 ghost use Rattle.std.specs.Prelude.{Some};
 ghost use Rattle.btree_session.specs.Text.{reply_text};
 
 use btree_item::Cause;
 use std::fmt;
 
-/// What a session is told to do.
+/// A command to a session.
 #[derive(Clone, Copy, Debug, PartialEq, Eq)]
 pub enum Command {
-    /// Put a value under a key.
+    /// Insert a value at a key.
     Insert(u64, u64),
     /// Look a key up.
     Get(u64),
 }
 
-/// What a session replies to a command.
+/// A reply of a session to a command.
 #[derive(Clone, Copy, Debug, PartialEq, Eq)]
 pub enum Reply {
     /// There was no value.
     Nothing,
-    /// The value that there was.
+    /// The value that was there.
     Value(u64),
     /// The insertion was refused.
     Refused(Cause),

@@ -1,4 +1,4 @@
-//! Commands over a map from `u64` to `u64`, each with its reply, and the lines of text that say them.
+//! Commands over a map from `u64` to `u64`, each with its reply, and the lines of text that express them.
 //!
 //! [`run`] takes commands as values. [`drive`] reads them as lines from any reader and writes their replies to any
 //! writer.

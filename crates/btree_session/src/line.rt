@@ -1,4 +1,4 @@
-//! Lines of text, and the commands that they say.
+//! Lines of text, and the commands that they express.
 ghost use Rattle.std.specs.Prelude.{◌≡◌, ◌≢◌, ℕ, List, [], ◌∷◌, IfSome, IfNone, not, position, codes};
 ghost use Rattle.std.specs.Io.BufRead.{strip_last};
 ghost use Rattle.btree_session.specs.Line.{is_space, words_of, line_words, AreNumbers, BeginsWith, Finds, IsNumber, IsSaid, name_of};
@@ -6,7 +6,7 @@ ghost use Rattle.btree_session.specs.Line.{is_space, words_of, line_words, AreNu
 use crate::Command;
 use crate::question::Question;
 
-/// What a line says.
+/// The meaning of a line.
 #[derive(Clone, Copy, Debug, PartialEq, Eq)]
 pub(crate) enum Line {
     /// Nothing: it has no words.
@@ -19,7 +19,7 @@ pub(crate) enum Line {
     Other,
 }
 
-/// What a line, without its newline, says.
+/// Returns the meaning of a line, which is given without its newline.
 pub(crate) fn parse(line: &[u8]) -> Line
     ensures { IsSaid (line_words line.now) result }
 {
@@ -35,7 +35,7 @@ pub(crate) fn parse(line: &[u8]) -> Line
     parse_question(name, rest)
 }
 
-/// The line without its last byte, if that is `byte`.
+/// Returns the line without its last byte, if that is `byte`.
 pub(crate) fn without_last(line: &[u8], byte: u8) -> &[u8]
     ensures { result.now ≡ strip_last byte line.now }
 {
@@ -45,7 +45,7 @@ pub(crate) fn without_last(line: &[u8], byte: u8) -> &[u8]
     }
 }
 
-/// What a line says that begins with `insert`.
+/// Returns the meaning of a line that begins with `insert`.
 fn parse_insert(rest: &[u8]) -> Line
     ensures { IsSaid (codes "insert" ∷ words_of rest.now) result }
 {
@@ -55,7 +55,7 @@ fn parse_insert(rest: &[u8]) -> Line
     }
 }
 
-/// What a line says that begins with `get`.
+/// Returns the meaning of a line that begins with `get`.
 fn parse_get(rest: &[u8]) -> Line
     ensures { IsSaid (codes "get" ∷ words_of rest.now) result }
 {
@@ -65,7 +65,7 @@ fn parse_get(rest: &[u8]) -> Line
     }
 }
 
-/// What a line says that begins with another word.
+/// Returns the meaning of a line that begins with another word.
 fn parse_question(name: &[u8], rest: &[u8]) -> Line
     requires not_insert { name.now ≢ codes "insert" }
     requires not_get { name.now ≢ codes "get" }
@@ -77,7 +77,7 @@ fn parse_question(name: &[u8], rest: &[u8]) -> Line
     }
 }
 
-/// The question with a name.
+/// Returns the question with a name.
 fn question_named(name: &[u8]) -> Option<Question>
     ensures { Finds (λ asked. name.now ≡ name_of asked) result }
 {
@@ -96,7 +96,7 @@ fn question_named(name: &[u8]) -> Option<Question>
     None
 }
 
-/// The number, where the text is just one.
+/// Returns the number, if the text is exactly one.
 fn one_number(text: &[u8]) -> Option<u64>
     ensures { Finds (λ n. AreNumbers (n ∷ []) (words_of text.now)) result }
 {
@@ -107,7 +107,7 @@ fn one_number(text: &[u8]) -> Option<u64>
     Some(number)
 }
 
-/// The numbers, where the text is just two.
+/// Returns the numbers, if the text is exactly two.
 fn two_numbers(text: &[u8]) -> Option<(u64, u64)>
     ensures { Finds (λ pair. AreNumbers (pair.0 ∷ pair.1 ∷ []) (words_of text.now)) result }
 {
@@ -116,7 +116,7 @@ fn two_numbers(text: &[u8]) -> Option<(u64, u64)>
     Some((first, second))
 }
 
-/// The number that the text begins with and the text behind it, if it begins with one.
+/// Returns the number that the text begins with and the text after it, if it begins with one.
 fn next_number(text: &[u8]) -> Option<(u64, &[u8])>
     ensures none { IfNone result ((n : ℕ) (ns : List ℕ)
         → AreNumbers (n ∷ ns) (words_of text.now) → ⊥) }
@@ -126,7 +126,7 @@ fn next_number(text: &[u8]) -> Option<(u64, &[u8])>
     Some((number(word)?, rest))
 }
 
-/// The first word and the text behind it, if there is a word.
+/// Returns the first word and the text after it, if there is a word.
 fn next_word(text: &[u8]) -> Option<(&[u8], &[u8])>
     ensures none { IfNone result (words_of text.now ≡ []) }
     ensures some { IfSome result
@@ -153,7 +153,7 @@ fn first_space(text: &[u8]) -> Option<usize>
     text.iter().position(|byte| *byte == b' ')
 }
 
-/// The number that a word writes in decimal digits, if it does and the number has 64 bits.
+/// Returns the number that a word writes in decimal digits, if it does and the number fits in 64 bits.
 fn number(word: &[u8]) -> Option<u64>
     ensures { Finds (λ n. IsNumber n word.now) result }
 {

@@ -12,7 +12,7 @@ use btree_node::Node;
 use btree_nodes::NodesMut;
 use std::alloc::AllocError;
 
-/// What a line may ask of the map, which stays as it is.
+/// A question that a line may ask about the map. It changes nothing.
 #[derive(Clone, Copy, Debug, PartialEq, Eq)]
 pub(crate) enum Question {
     /// The pairs.
@@ -21,11 +21,11 @@ pub(crate) enum Question {
     Len,
     /// How many nodes there are.
     Nodes,
-    /// Which keys stand in which node.
+    /// Which keys are in which node.
     Shape,
 }
 
-/// Puts the answer on a line of its own behind the text. Where memory for it is refused, some of it may stand there.
+/// Appends the answer to the text, on a line of its own. If memory for it is refused, part of it may be there.
 pub(crate) fn push_answer_line<C: NodesMut<u64, u64>>(
     map: &BTreeMap<u64, u64, C>,
     question: Question,
@@ -77,7 +77,7 @@ fn push_list<C: NodesMut<u64, u64>>(
     Ok(())
 }
 
-// Puts the text of a node and of those below it, by at most so many levels. In a well formed tree as many levels as pairs
+// Appends the text of a node and of those below it, down to at most `levels` levels. In a well formed tree as many levels as pairs
 // suffice, and each number is used.
 fn push_shape<C: NodesMut<u64, u64>>(
     map: &BTreeMap<u64, u64, C>,

@@ -1,4 +1,4 @@
-//! Commands from lines of text, and replies to lines of text.
+//! Reads commands from lines of text, and writes replies as lines of text.
 ghost use Rattle.std.specs.Prelude.{◌≡◌, ◌⊎◌, [], position, IfSome, IfNone, IfOk, IfErr, OnOk, OnErr};
 ghost use Rattle.std.specs.Io.KnownBytes.{IsAtEnd};
 ghost use Rattle.btree_session.specs.Line.{line_words, IsSaid};
@@ -13,7 +13,7 @@ use btree_nodes::NodesMut;
 use std::alloc::{AllocError, Global};
 use std::io::{BufRead, BufReader, ErrorKind, Read, Write};
 
-/// Why driving came to an end before the end of the input.
+/// Why driving stopped before the end of the input.
 #[derive(Clone, Copy, Debug, PartialEq, Eq)]
 pub enum Stop {
     /// The line with this number, counted from 1, is neither a command nor a question.
@@ -26,14 +26,14 @@ pub enum Stop {
     Output,
 }
 
-/// Reads lines of text, runs the commands and answers the questions that they say, and writes each reply on a line of its own.
+/// Reads lines of text, runs the commands and answers the questions on them, and writes each reply on a line of its own.
 ///
-/// The replies so far are written and flushed at the end, before a stop, and before the reader is asked for bytes
-/// while no whole line is left of those that it gave. Commands that were run keep their effect, however it ends.
+/// The replies so far are written and flushed at the end, before a stop, and before each read from the reader if no whole line is left of
+/// the bytes that were read. Commands that were run keep their effect, however it ends.
 ///
-/// But for nodes it takes memory for three buffers alone: the reader's, one for a line that no single read gave whole, and
-/// one for the replies to the lines that were read at once. A reader's error of the kind `OutOfMemory` counts as want of
-/// memory. An input of `u64::MAX` lines or more ends like one that fails.
+/// Except for nodes, it allocates memory for three buffers only: the reader's, one for a line that no single read gave whole, and one for
+/// the replies to the lines that were read at once. A reader's error of the kind `OutOfMemory` counts as refused memory. An input of
+/// `u64::MAX` lines or more ends like one that fails.
 pub fn drive<C: NodesMut<u64, u64>, R: Read, W: Write>(
     alloc: Global,
     session: &mut Session<C>,
@@ -52,7 +52,7 @@ pub fn drive<C: NodesMut<u64, u64>, R: Read, W: Write>(
     result
 }
 
-/// Serves lines until the input ends. What it leaves in `text` is still to be written.
+/// Serves lines until the input ends. What is left in `text` is still to be written.
 fn serve<C: NodesMut<u64, u64>, R: Read, W: Write>(
     alloc: Global,
     session: &mut Session<C>,
@@ -74,7 +74,7 @@ fn serve<C: NodesMut<u64, u64>, R: Read, W: Write>(
     Err(Stop::Input)
 }
 
-/// Reads what the next line says, if there is one. Before it asks for more input, it writes the text out.
+/// Reads the next line, if there is one, and returns its meaning. Before it reads more input, it writes the text out.
 fn next_line<R: Read, W: Write>(
     reader: &mut BufReader<R>,
     line: &mut Vec<u8>,
@@ -96,7 +96,7 @@ fn next_line<R: Read, W: Write>(
     read_line(reader, line)
 }
 
-/// What the next line says, where the reader has the whole of it.
+/// Returns the meaning of the next line, if the reader's buffer has the whole line.
 fn buffered_line<R: Read>(reader: &mut BufReader<R>) -> Option<Line>
     ensures line { IfSome result (TakesLine R.remaining reader.old reader.new) }
     ensures none { IfNone result (reader.new ≡ reader.old) }
@@ -114,7 +114,7 @@ fn newline_place(bytes: &[u8]) -> Option<usize>
     bytes.iter().position(|byte| *byte == b'\n')
 }
 
-/// Reads what the next line says, if there is one. The vector is used for the line.
+/// Reads the next line, if there is one, and returns its meaning. The vector holds the line.
 fn read_line<R: Read>(reader: &mut BufReader<R>, line: &mut Vec<u8>) -> Result<Option<Line>, Stop>
     ensures line { IfOk result (λ next. IfSome next
         (TakesLine R.remaining reader.old reader.new)) }
@@ -131,7 +131,7 @@ fn read_line<R: Read>(reader: &mut BufReader<R>, line: &mut Vec<u8>) -> Result<O
     }
 }
 
-/// Runs what a line says and puts the reply behind the text. An `Err` changes nothing.
+/// Runs what a line means and appends the reply to the text. An `Err` changes nothing.
 fn serve_line<C: NodesMut<u64, u64>>(
     session: &mut Session<C>,
     said: Line,
@@ -158,8 +158,7 @@ fn serve_line<C: NodesMut<u64, u64>>(
     }
 }
 
-/// Runs a command and puts the reply behind the text. Room for the reply is made first, and where that is refused, the
-/// command is not run.
+/// Runs a command and appends the reply to the text. Room for the reply is made first; if that is refused, the command is not run.
 fn obey<C: NodesMut<u64, u64>>(
     session: &mut Session<C>,
     command: Command,
@@ -176,7 +175,7 @@ fn obey<C: NodesMut<u64, u64>>(
     Ok(())
 }
 
-/// Puts the answer to a question behind the text. An `Err` changes nothing.
+/// Appends the answer to a question to the text. An `Err` changes nothing.
 fn answer<C: NodesMut<u64, u64>>(
     session: &Session<C>,
     question: Question,
@@ -195,7 +194,7 @@ fn answer<C: NodesMut<u64, u64>>(
     }
 }
 
-/// Writes the text out and leaves it empty, whether that succeeds or not.
+/// Writes the text out and empties it, whether the write succeeds or not.
 fn write_out<W: Write>(text: &mut Vec<u8>, output: &mut W) -> Result<(), Stop>
     ensures empty { text.new.items ≡ [] }
     ensures ok { OnOk result (WritesOut W.contents output.old text.old output.new text.new) }

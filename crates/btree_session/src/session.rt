@@ -1,4 +1,4 @@
-//! A session: a map that commands are run on.
+//! A session: a map, and commands that are run on it.
 ghost use Rattle.std.specs.Prelude.{◌≡◌, [], None, length, IsOk, OnOk, OnErr};
 ghost use Rattle.std.specs.FinMap as map;
 ghost use Rattle.btree_shape.specs.TreeState.{pairs_of};
@@ -12,7 +12,7 @@ use btree_nodes::NodesMut;
 use std::alloc::{AllocError, Allocator};
 use std::marker::Model;
 
-/// A map from `K` to `V` that commands are run on. Commands are about a [`Session`], where both are `u64`.
+/// A map from `K` to `V` that commands are run on. The commands are for a [`Session`], where both are `u64`.
 #[derive(Drop)]
 pub struct SessionOver<K: Ord, V, C: NodesMut<K, V>> {
     map: BTreeMap<K, V, C>,
@@ -33,7 +33,7 @@ impl<K: Ord, V, C: NodesMut<K, V>> Model for SessionOver<K, V, C> {
 pub type Session<C> = SessionOver<u64, u64, C>;
 
 impl<C: NodesMut<u64, u64>> Session<C> {
-    /// A session over an empty map, whose store is made from its origin. It takes no memory.
+    /// Returns a session over an empty map, with a store made from `origin`. It allocates no memory.
     pub fn new(origin: C::Origin) -> Self
         ensures empty { pairs_of result ≡ [] }
         ensures state { result ≡ record { nodes = map.empty; root = None; len = 0; refusals = 0 } }
@@ -43,14 +43,14 @@ impl<C: NodesMut<u64, u64>> Session<C> {
         }
     }
 
-    /// The map as the commands so far have made it.
+    /// Returns the map after the commands so far.
     pub fn map(&self) -> &BTreeMap<u64, u64, C>
         ensures { result.now ≡ self.now }
     {
         &self.map
     }
 
-    /// Runs one command. It takes no memory but for nodes.
+    /// Runs one command. It allocates no memory except for nodes.
     pub(crate) fn execute(&mut self, command: Command) -> Reply
         ensures { IsStep C.MayRefuse self.old command result self.new }
     {
@@ -65,7 +65,7 @@ fn insert<C: NodesMut<u64, u64>>(map: &mut BTreeMap<u64, u64, C>, key: u64, valu
     ensures { IsStep C.MayRefuse map.old (Command.Insert key value) result map.new }
 {
     let outcome = map.insert(key, value);
-    let _root = map.root_id(); // it tells that the map is a well formed tree
+    let _root = map.root_id(); // for the prover alone: its contract says that the map is a well formed tree
     match outcome {
         Ok(Some(was)) => Reply::Value(was),
         Ok(None) => Reply::Nothing,
@@ -79,17 +79,16 @@ fn insert<C: NodesMut<u64, u64>>(map: &mut BTreeMap<u64, u64, C>, key: u64, valu
 fn get<C: NodesMut<u64, u64>>(map: &BTreeMap<u64, u64, C>, key: u64) -> Reply
     ensures { IsStep C.MayRefuse map.now (Command.Get key) result map.now }
 {
-    let _root = map.root_id(); // it tells that the map is a well formed tree
+    let _root = map.root_id(); // for the prover alone: its contract says that the map is a well formed tree
     match map.get(&key) {
         Some(value) => Reply::Value(*value),
         None => Reply::Nothing,
     }
 }
 
-/// Runs the commands in order, and puts a reply to each behind the replies that are there.
+/// Runs the commands in order, and appends a reply to each to `replies`.
 ///
-/// Room for the replies is made first, and is all the memory that it takes but for nodes. Where that is refused, no
-/// command is run.
+/// Room for the replies is made first, and is all the memory that it allocates except for nodes. If that is refused, no command is run.
 pub fn run<C: NodesMut<u64, u64>, B: Allocator>(
     session: &mut Session<C>,
     commands: &[Command],

@@ -7,13 +7,13 @@ use crate::Reply;
 use btree_item::Cause;
 use std::alloc::AllocError;
 
-/// The most bytes that a reply's line has.
+/// The most bytes of a reply's line.
 pub(crate) const LONGEST_LINE: usize = 26;
 
-/// The most digits that a number has.
+/// The most digits of a number.
 const LONGEST_NUMBER: usize = 20;
 
-/// Puts a reply on a line of its own behind the text, in room that is there.
+/// Appends a reply to the text, on a line of its own, in room that is there.
 #[tactic(auto, using(crate::proofs::Digits::decimals))]
 pub(crate) fn push_line(text: &mut Vec<u8>, reply: Reply)
     requires { HasCapacityFor text.old LONGEST_LINE }
@@ -34,7 +34,7 @@ pub(crate) fn push_line(text: &mut Vec<u8>, reply: Reply)
     }
 }
 
-/// Puts bytes behind the text.
+/// Appends bytes to the text.
 pub(crate) fn push_text(text: &mut Vec<u8>, bytes: &[u8]) -> Result<(), AllocError>
     ensures put { OnOk result (Pushes text.old text.new bytes.now) }
     ensures kept { OnErr result (text.new.items ≡ text.old.items) }
@@ -42,7 +42,7 @@ pub(crate) fn push_text(text: &mut Vec<u8>, bytes: &[u8]) -> Result<(), AllocErr
     text.extend_from_slice(bytes)
 }
 
-/// Puts a number behind the text.
+/// Appends a number to the text.
 #[tactic(auto, using(crate::proofs::Digits::decimals))]
 pub(crate) fn push_number(text: &mut Vec<u8>, number: u64) -> Result<(), AllocError>
     ensures put { OnOk result (Pushes text.old text.new (decimal number)) }
@@ -53,7 +53,7 @@ pub(crate) fn push_number(text: &mut Vec<u8>, number: u64) -> Result<(), AllocEr
     Ok(())
 }
 
-/// Puts a key behind the text, with at most a byte before and after it.
+/// Appends a key to the text, with at most one byte before and after it.
 #[tactic(auto, using(crate::proofs::Digits::decimals))]
 pub(crate) fn push_key(
     text: &mut Vec<u8>,
@@ -73,7 +73,7 @@ pub(crate) fn push_key(
     Ok(())
 }
 
-/// Puts a pair behind the text, with at most a byte before it.
+/// Appends a pair to the text, with at most one byte before it.
 #[tactic(auto, using(crate::proofs::Digits::decimals))]
 pub(crate) fn push_pair(
     text: &mut Vec<u8>,

@@ -31,7 +31,7 @@ fn write_node(
     Ok(())
 }
 
-/// A whole tree as text, the nodes of its store by their numbers, those below 64.
+/// Returns a whole tree as text: the nodes of its store by their numbers, those below 64.
 pub(crate) fn content_of<C: NodesMut<u64, u64>>(
     raw: &RawBTree<u64, u64, C>,
     alloc: Global,

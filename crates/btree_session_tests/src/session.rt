@@ -1,4 +1,4 @@
-//! Sessions: commands as values over memory that is refused, and lines of text from readers and to writers that fail.
+//! Sessions: commands as values while memory is refused, and lines of text from readers and to writers that fail.
 use crate::content::content_of;
 use btree_ext::BTreeExt;
 use btree_item::Cause;
@@ -24,7 +24,7 @@ const FOURTEEN: &[u8] =
     b"insert 0 0\ninsert 1 1\ninsert 2 2\ninsert 3 3\ninsert 4 4\ninsert 5 5\ninsert 6 6\n\
 insert 7 7\ninsert 8 8\ninsert 9 9\ninsert 10 10\ninsert 11 11\ninsert 12 12\ninsert 13 13\nshape\nnodes\nlen\n";
 
-// What is written for lines that are all served.
+// Returns what is written for lines that are all served.
 fn written_for<C: NodesMut<u64, u64>>(
     session: &mut Session<C>,
     lines: &[u8],
@@ -150,14 +150,14 @@ fn other_words_are_no_commands(rt: HostRuntime) -> Result<(), Fail> {
     Ok(())
 }
 
-// What one read gives.
+// The result of one read.
 #[derive(Clone, Copy)]
 enum Piece<'a> {
     Bytes(&'a [u8]),
     Fails(ErrorKind),
 }
 
-// Gives one piece a read, and notes how many bytes had been flushed whenever it was asked.
+// Gives one piece at each read, and records how many bytes had been flushed at each.
 #[derive(Drop)]
 struct Pieces<'a> {
     pieces: &'a [Piece<'a>],
@@ -182,7 +182,7 @@ impl Read for Pieces<'_> {
     }
 }
 
-// Takes at most three bytes a write, counts what is flushed, and fails once so many bytes are written.
+// Accepts at most three bytes at each write, counts what is flushed, and fails after a given number of bytes.
 #[derive(Drop)]
 struct Slow<'a> {
     written: Vec<u8>,
@@ -293,7 +293,7 @@ fn replies_are_written_before_more_is_read(rt: HostRuntime) -> Result<(), Fail> 
             "in run {number}"
         );
         assert_eq!(rt; input.seen.as_slice(), wanted.seen, "in run {number}");
-        // What was run keeps its effect, whether its reply could be written or not.
+        // A command that was run keeps its effect, whether its reply could be written or not.
         assert_eq!(rt; session.map().get(&1).copied(), Some(10), "in run {number}");
         if result != Err(Stop::Output) {
             assert_eq!(rt; flushed.get(), wanted.written.len(), "in run {number}");
@@ -302,7 +302,7 @@ fn replies_are_written_before_more_is_read(rt: HostRuntime) -> Result<(), Fail> 
     Ok(())
 }
 
-// A read fails with this kind of error after a line and a half: how the run ends.
+// A read fails with this kind of error after a line and a half. Returns how the run ends.
 fn end_at(rt: &impl Abort, kind: ErrorKind, alloc: Global) -> Result<(), Stop> {
     let flushed = Cell::new(0);
     let pieces = [
@@ -392,7 +392,7 @@ fn refused_room_for_replies_changes_nothing(rt: HostRuntime) -> Result<(), Fail>
     Ok(())
 }
 
-// The store refuses the first node.
+// Checks a run in which the store refuses the first node.
 fn check_first_refused<C: NodesMut<u64, u64> + Drop>(
     rt: &impl Abort,
     alloc: Global,
@@ -432,7 +432,7 @@ fn a_refused_node_is_a_reply(rt: HostRuntime) -> Result<(), Fail> {
     Ok(())
 }
 
-// Drives a line that puts a key in, and answers whether it was refused. A refused line changes nothing, and is taken when it is said again.
+// Drives a line that inserts a key, and returns whether it was refused. A refused line changes nothing, and is accepted the next time.
 fn is_refused<C: NodesMut<u64, u64>>(
     rt: &impl Abort,
     session: &mut Session<C>,
@@ -453,7 +453,7 @@ fn is_refused<C: NodesMut<u64, u64>>(
     Ok(true)
 }
 
-// Drives 44 insertions, and answers how many were refused.
+// Drives 44 insertions, and returns how many were refused.
 fn refusals_of_44<C: NodesMut<u64, u64> + Drop>(
     rt: &impl Abort,
     origin: C::Origin,
@@ -471,7 +471,7 @@ fn refusals_of_44<C: NodesMut<u64, u64> + Drop>(
     Ok(refusals)
 }
 
-// Each allocation of the store in a run of 44 insertions is refused in turn, until a run meets none.
+// Each allocation of the store in a run of 44 insertions is refused in turn, until a run has none that is refused.
 #[test]
 fn a_refused_line_changes_nothing(rt: HostRuntime) -> Result<(), Fail> {
     for nth in 1..44u64 {

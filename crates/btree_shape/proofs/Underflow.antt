@@ -1,4 +1,8 @@
--- Underflow.
+-- Nodes that underflow, and their fixes from a node upward. Main theorem: `beside` in Adjacent, for two siblings, one
+-- of which underflows: a rotation ends the fix, and a merge makes the parent the next node. Upward has the cases of one
+-- node (no underflow, a parent, the root), which the loop `fix_underflow_upward` of btree_raw goes through.
+-- Order: siblings and their items (Items), what steps write (Writes, Calls), where addresses go (SiblingRows to
+-- TreeAddresses), each step (Rotations, Merges, ShrunkRoot, Adjacent), the fix (Upward, Order), and trees off by one.
 pub mod Items
 pub mod Writes
 pub mod Calls

@@ -1,4 +1,7 @@
 -- Laws of the lists of addresses of a tree.
+-- There are as many occupied addresses as items, so an index below the number of items is the place of exactly one of
+-- them (`one-occupied` in `proofs/AddressLists/ItemAddresses.antt`). There is one more back address in leaves than
+-- items, so a place has exactly one back address in a leaf (`one-leaf-back` in `proofs/AddressLists/LeafBacks.antt`).
 use Rattle.std.specs.Prelude.{◌≡◌, ℕ, suc, ◌+◌, ◌<◌, ◌≤◌, List, [], length, slice_get, Option, Some, None}
 use Rattle.btree_item.specs.declared.address.Address.{Address}
 use Rattle.btree_view.specs.View.{NodeMap, View, size_of}
@@ -8,7 +11,8 @@ use Rattle.btree_shape.specs.WellFormed.{IsRooted, times_used}
 use Rattle.btree_shape.specs.Lists.{times_listed}
 
 module _ {A : Type 0} (node_at : NodeMap A) where
-  -- the nodes are one tree of at most so many levels, whatever their numbers of items, and each of its addresses has one place
+  -- the nodes are one tree of at most `levels` levels, whatever their numbers of items, and each of its addresses has
+  -- one place
   pub record IsPlaced (levels root : ℕ) (xs : List A) : Type 0 where
     pub rooted : IsRooted (λ id node. Unit {0}) node_at root xs
     pub low : rooted.height < levels
@@ -40,7 +44,8 @@ module _ {A : Type 0} (node_at : NodeMap A) where
       pub each : (place : ℕ) (a : Address) → IsOccupied node_at a.id a.offset → IsPlace node_at root xs a.id a.offset place
           → slice_get list place ≡ Some a
 
-    -- the list has the back addresses in leaves, each at the index that is its place; in an empty tree the address nowhere
+    -- the list has the back addresses in leaves, each at the index that is its place; in an empty tree the address
+    -- nowhere
     pub record ListsLeafBacks : Type 0 where
       pub counted : length list ≡ suc (length xs)
       pub right : (place : ℕ) (a : Address) → slice_get list place ≡ Some a
@@ -49,7 +54,7 @@ module _ {A : Type 0} (node_at : NodeMap A) where
       pub each : (place : ℕ) (a : Address) → IsValid node_at root a.id a.offset → IsLeafAddress node_at root a.id a.offset
           → IsBack node_at a.offset → IsPlace node_at root xs a.id a.offset place → slice_get list place ≡ Some a
 
-    -- no address is twice in the list, and their places never fall
+    -- no address is twice in the list, and the places of its addresses never fall
     pub record IsInOrder : Type 0 where
       pub once : (i j : ℕ) (a : Address) → slice_get list i ≡ Some a → slice_get list j ≡ Some a → i ≡ j
       pub rising : (i j : ℕ) (a b : Address) (p q : ℕ) → i ≤ j → slice_get list i ≡ Some a → slice_get list j ≡ Some b
@@ -57,7 +62,8 @@ module _ {A : Type 0} (node_at : NodeMap A) where
       pub placed : (i : ℕ) (a : Address) → slice_get list i ≡ Some a
           → (place : ℕ) × IsPlace node_at root xs a.id a.offset place
 
-    -- the list has the back addresses in nodes, in order; with the numbers of the nodes, there are as many as items and nodes
+    -- the list has the back addresses in nodes, in order; `numbers` has the numbers of the nodes, each once, and there
+    -- are as many addresses as items and nodes together
     pub record ListsBacks (numbers : List ℕ) : Type 0 where
       pub used : (n : ℕ) → times_listed n numbers ≡ times_used (node_at n)
       pub counted : length list ≡ length xs + length numbers
@@ -66,7 +72,7 @@ module _ {A : Type 0} (node_at : NodeMap A) where
           → (i : ℕ) × (slice_get list i ≡ Some a)
       pub order : IsInOrder
 
-    -- the list has the front addresses, in order; there are as many
+    -- the list has the front addresses, in order; there are as many as items and nodes together
     pub record ListsFronts (numbers : List ℕ) : Type 0 where
       pub used : (n : ℕ) → times_listed n numbers ≡ times_used (node_at n)
       pub counted : length list ≡ length xs + length numbers

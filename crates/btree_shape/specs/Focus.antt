@@ -1,4 +1,8 @@
--- A tree seen from one of its nodes.
+-- A tree seen from one of its nodes, as a zipper: the path above the focus (`Path`, a list of `Frame`s, one for each
+-- node above) and the subtree at the focus (`Shape`). `IsFocus` and `IsUnsizedFocus` say that a map of nodes holds the
+-- two and that they represent a list; `Positions` are the addresses of such a tree in order. These are tools of proofs
+-- and of what loops keep: `Overflow` and `Underflow` are the states of splits and of underflow fixes that go upward,
+-- `Search` and `Left` those of a look-up and of a walk. What public contracts cite stands in specs/*.antt.
 pub mod Pair
 pub mod TreePositions
 pub mod Shape

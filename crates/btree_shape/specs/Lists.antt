@@ -6,7 +6,7 @@ abbrev pub total : {X : Type 0} → (X → ℕ) → List X → ℕ
 total f [] = 0
 total f (x ∷ xs) = f x + total f xs
 
--- 1 where two numbers are the same
+-- 1 if two numbers are equal, else 0
 abbrev pub one : ℕ → ℕ → ℕ
 one n id = if n == id then 1 else 0
 

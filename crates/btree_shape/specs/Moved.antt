@@ -1,42 +1,46 @@
--- What an address becomes when a step of rebalancing moves items: a plain function of the address for each step.
+-- What an address becomes when a step of rebalancing moves items: one plain function of the address for each step.
 -- No step changes the place of an address or the item that stands there, and an offset other than -1 stays one.
+-- That each step keeps the place and the item of every address is proved in `proofs/Splits/Carried.antt` (splits) and
+-- `proofs/Underflow/TreeAddresses.antt` (rotations, merges, a shrunk root); `proofs/Examples/MovedAddresses.antt` has
+-- each line at given numbers. `moved_by_take` is no such step: each address after the removed item has one place less
+-- (`take-later` in `proofs/Removal/FromTree.antt`).
 use Rattle.std.specs.Prelude.{ℕ, zero, suc, ◌+◌, ◌-◌, ◌==◌, nat_lt, if◌then◌else◌, Option, Some, None}
 use Rattle.btree_item.specs.declared.address.Address.{Address}
 use Rattle.btree_view.specs.View.{View, leaf, internal}
 use Rattle.btree_shape.specs.Place.{NOWHERE}
 use Rattle.btree_shape.specs.Focus.Positions.{address_before, address_at}
 
--- by whether n is below, equal to or above m
+-- one of three values, by whether n is below, equal to or above m
 abbrev pub by_order : {X : Type 0} → (n m : ℕ) → (below equal above : X) → X
 by_order n m below equal above = if nat_lt n m then below else (if n == m then equal else above)
 
--- in the split node, of which `kept` items stay: those stay where they are, the median goes up between the two parts,
--- and what stands behind it is in the right part
+-- in the split node, which keeps `kept` items: those stay, the median goes up between the two parts, and what is after
+-- it is in the right part
 abbrev pub in_split : (left right parent index kept : ℕ) → Option ℕ → Address
 in_split left right parent index kept None = address_before left
 in_split left right parent index kept (Some offset) =
     by_order offset kept (address_at left offset) (address_at parent index) (address_at right (offset - suc kept))
 
--- in its parent, which has one item more
+-- in the parent of the split node, which has one item more
 abbrev pub over_split : (parent index : ℕ) → Option ℕ → Address
 over_split parent index None = address_before parent
 over_split parent index (Some offset) = if nat_lt offset index then address_at parent offset else address_at parent (offset + 1)
 
--- node `left`, child `index` of `parent`, is split, and its right part is node `right`: any other address stays
+-- node `left`, child `index` of `parent`, is split, and its right part is node `right`; any other address stays
 abbrev pub moved_by_split : (left right parent index kept : ℕ) → Address → Address
 moved_by_split left right parent index kept a =
     if a.id == left then in_split left right parent index kept a.offset
     else (if a.id == parent then over_split parent index a.offset else a)
 
--- In the steps below `left` and `right` are neighbouring children of `parent`, with its item at offset `index` between
+-- In the steps below `left` and `right` are adjacent children of `parent`, with its item at offset `index` between
 -- them; `count` is the number of items of `left` before the step, `child` the first child of `right`, if it has one.
 
--- offset -1 of a node that has lost its first child is then that child's -1; of a leaf it is another address
+-- offset -1 of a node that has lost its first child becomes that child's -1; in a leaf it becomes another address
 abbrev pub down_to : (child : Option ℕ) → (other : Address) → Address
 down_to None other = other
 down_to (Some child) other = address_before child
 
--- the address of the item between the two goes where that item goes, and the parent's others stay
+-- the address of the separator goes where the separator goes, and the parent's other addresses stay
 abbrev pub at_separator : (parent index : ℕ) → (to : Address) → Option ℕ → Address
 at_separator parent index to None = address_before parent
 at_separator parent index to (Some offset) = if offset == index then to else address_at parent offset
@@ -68,7 +72,7 @@ moved_by_rotate_right left right parent index count child a =
     else (if a.id == right then in_right_receiver right child a.offset
     else (if a.id == parent then at_separator parent index (address_at right 0) a.offset else a))
 
--- merge: the item between the two goes to the end of `left`, and all of `right` behind it; the parent has one item less
+-- merge: the separator goes to the end of `left`, and all of `right` after it; the parent has one item less
 abbrev pub in_merged : (left count : ℕ) → (child : Option ℕ) → Option ℕ → Address
 in_merged left count child None = down_to child (address_at left (suc count))
 in_merged left count child (Some offset) = address_at left (suc count + offset)
@@ -83,7 +87,7 @@ moved_by_merge left right parent index count child a =
     if a.id == right then in_merged left count child a.offset
     else (if a.id == parent then over_merged left parent index count a.offset else a)
 
--- release of an internal root without items: its only child, of `count` items, is then the root
+-- shrinking the root: an internal root without items is freed; its only child, with `count` items, becomes the root
 abbrev pub in_shrunk_root : (child count : ℕ) → Option ℕ → Address
 in_shrunk_root child count None = address_before child
 in_shrunk_root child count (Some offset) = address_at child count
@@ -91,11 +95,11 @@ in_shrunk_root child count (Some offset) = address_at child count
 abbrev pub moved_by_shrink_root : (root child count : ℕ) → Address → Address
 moved_by_shrink_root root child count a = if a.id == root then in_shrunk_root child count a.offset else a
 
--- a root leaf without items is released: each of its addresses becomes nowhere
+-- a root leaf without items is freed: each of its addresses becomes nowhere
 abbrev pub moved_by_emptying : Address → Address
 moved_by_emptying a = record { id = NOWHERE; offset = Some 0 }
 
--- the item at an offset of a leaf is taken out: what stands behind it in that leaf moves up by one
+-- the item at an offset of a leaf is removed: what is after it in that leaf moves left by one
 abbrev pub in_shortened : (leaf_id offset : ℕ) → Option ℕ → Address
 in_shortened leaf_id offset None = address_before leaf_id
 in_shortened leaf_id offset (Some other) =

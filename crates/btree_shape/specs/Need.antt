@@ -1,4 +1,5 @@
--- How many nodes an insertion at a node takes, and how many levels stand above it: by the nodes as they are.
+-- How many nodes an insertion at a node uses, and how many levels are above a node, computed from the nodes as they
+-- are.
 use Rattle.std.specs.Prelude.{◌≡◌, ℕ, zero, suc, ◌+◌, ◌<◌, nat_lt, if◌then◌else◌, List, [], Option, Some, None}
 use Rattle.btree_item.specs.declared.TheConstants.{MAX_INTERNAL_ITEMS}
 use Rattle.btree_view.specs.View.{View, NodeMap, parent_of, size_of, most_of}
@@ -6,29 +7,29 @@ use Rattle.btree_shape.specs.Focus.Shape.{Shape, most_at, count_at, id_of}
 use Rattle.btree_shape.specs.Focus.Path.{Path, top, under, frame_count, depth}
 use Rattle.btree_shape.specs.Focus.Focus.{IsUnsizedFocus}
 
--- for a node that is split: its right part, and what its parent needs, or a new root
+-- for a node that is split: one for its right part and what its parent needs, or two if it is the root
 abbrev pub need_of_split : (ℕ → ℕ) → (parent : Option ℕ) → ℕ
 need_of_split above None = 2
 need_of_split above (Some parent) = suc (above parent)
 
--- a node with room for an item takes it, any other is split
+-- a node with room for an item needs none; any other is split
 abbrev pub split_need_in : {A : Type 0} → (ℕ → ℕ) → Option (View A) → ℕ
 split_need_in above None = 0
 split_need_in above (Some node) = if nat_lt (size_of node) (most_of node) then 0 else need_of_split above (parent_of node)
 
--- what the splits take that begin at node `id`, where it is full or has an item too many: the nodes from there upward
--- without a gap that have at least as many items as they may, and one more where the last of them is the root, on at most
--- so many levels
+-- how many nodes the splits from node `id` upward use, if it is full or overflows: the number of consecutive nodes from
+-- there upward that have at least as many items as they may, and one more if the last of them is the root; at most
+-- `most` levels are counted
 abbrev pub split_need : {A : Type 0} → NodeMap A → (most : ℕ) → (id : ℕ) → ℕ
 split_need node_at zero id = 0
 split_need node_at (suc most) id = split_need_in (split_need node_at most) (node_at id)
 
--- what an insertion at node `id` takes in a tree of at most so many levels; an empty one takes its first node
+-- how many nodes an insertion at node `id` uses in a tree of at most `most` levels; an empty tree uses its first node
 abbrev pub need : {A : Type 0} → NodeMap A → (root : Option ℕ) → (most : ℕ) → (id : ℕ) → ℕ
 need node_at None most id = 1
 need node_at (Some root) most id = split_need node_at most id
 
--- how many levels stand above a node, by the parents, at most so many
+-- how many levels are above a node, by the parents; at most `most` are counted
 abbrev pub levels_up : (ℕ → ℕ) → Option ℕ → ℕ
 levels_up above None = 0
 levels_up above (Some parent) = suc (above parent)
@@ -41,7 +42,8 @@ abbrev pub levels_above : {A : Type 0} → NodeMap A → (most : ℕ) → (id : 
 levels_above node_at zero id = 0
 levels_above node_at (suc most) id = levels_over (levels_above node_at most) (node_at id)
 
--- what splits take on the way above a node: for a split at its end, and for an item put into a node of `count` items there
+-- how many nodes the splits on the path above a node use: for a split at its end, and for an item put into a node of
+-- `count` items there
 abbrev pub path_need : {A : Type 0} {height : ℕ} → Path A height → ℕ
 path_need top = 2
 path_need (under frame path) = suc (if nat_lt (frame_count frame) MAX_INTERNAL_ITEMS then 0 else path_need path)
@@ -49,7 +51,8 @@ path_need (under frame path) = suc (if nat_lt (frame_count frame) MAX_INTERNAL_I
 abbrev pub path_need_from : {A : Type 0} {height : ℕ} → Path A height → (count : ℕ) → ℕ
 path_need_from {A} {height} path count = if nat_lt count (most_at height) then 0 else path_need path
 
--- a count of what the splits take has come up to node `id`, with so many counted below it; there are at most so many levels
+-- the count of the nodes that the splits use has reached node `id`, with `counted` counted below it; there are at most
+-- `most` levels
 pub record IsCountingUpward (A : Type 0) (node_at : NodeMap A) (root : ℕ) (xs : List A) (most id counted all : ℕ) : Type 0 where
   pub height : ℕ
   pub path : Path A height

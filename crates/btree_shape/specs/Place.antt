@@ -1,4 +1,8 @@
 -- The addresses of a tree, their kinds, and their places in its list.
+-- In the empty tree `nowhere` is the only valid address. The other kinds (occupied, back, leaf address) are meant for
+-- valid addresses. In a tree that is well formed, or off by one at a node, each address in a node has a place
+-- (`has_place` in `proofs/Places/HasPlace.antt`), and only one (`one_place` and `one_place-well` in
+-- `proofs/Places/OnePlace.antt`).
 use Rattle.std.specs.Prelude.{◌≡◌, ℕ, ◌+◌, ◌^◌, ◌-◌, ◌≤◌, ◌⊎◌, List, ◌++◌, length, slice_get, Option, Some, None}
 use Rattle.std.specs.Option.{option_and_then}
 use Rattle.btree_item.specs.declared.address.Address.{Address}
@@ -10,13 +14,13 @@ abbrev pub NOWHERE : ℕ
 NOWHERE = 2 ^ 64 - 1
 
 module _ {A : Type 0} (node_at : NodeMap A) where
-  -- node `id` is a node whose subtree spells the list
+  -- node `id` is a node whose subtree represents the list
   pub record IsSubtree (id : ℕ) (ys : List A) : Type 0 where
     pub height : ℕ
     pub parent : Option ℕ
     pub represents : Represents node_at height parent id ys
 
-  -- the items of the subtree of node `id` stand in the list behind `before` others
+  -- the items of the subtree of node `id` stand in the list after `before` others
   pub record StandsAt (xs : List A) (id : ℕ) (ys : List A) (before : ℕ) : Type 0 where
     pub front : List A
     pub back : List A
@@ -63,11 +67,11 @@ module _ {A : Type 0} (node_at : NodeMap A) where
   IsEnd None offset = ⊥
   IsEnd (Some node) offset = offset ≡ size_of node
 
-  -- at -1: as many items as come before the subtree
+  -- at -1: the number of items before the subtree
   abbrev pub IsPlaceBefore : List A → ℕ → ℕ → Type 0
   IsPlaceBefore xs id place = (ys : List A) × StandsAt xs id ys place
 
-  -- past the last item: these, and those of the subtree
+  -- past the last item: that number, and the number of items of the subtree
   abbrev pub IsPlaceAfter : List A → ℕ → ℕ → Type 0
   IsPlaceAfter xs id place = (ys : List A) × (before : ℕ) × StandsAt xs id ys before × (place ≡ before + length ys)
 

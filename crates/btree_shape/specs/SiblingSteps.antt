@@ -1,12 +1,12 @@
--- What the steps that mend a node with too few items leave of a store: a rotation between two neighbouring children of a
--- parent, a merge of them, and the release of a root.
+-- What the steps that fix an underflow leave of a store: a rotation between two adjacent siblings, a merge of them, and
+-- shrinking the root.
 use Rattle.std.specs.Prelude.{◌≡◌, ◌≢◌, ℕ, suc, ◌<◌, List, [], ◌∷◌, ◌++◌, set, slice_get, Option, Some, None, option_map}
 use Rattle.std.specs.List.{remove}
 use Rattle.btree_view.specs.View.{View, NodeMap, parent_of, items_of, children_of}
 use Rattle.btree_view.specs.Edits.{with_parent, is_internal, HasChildFor}
 use Rattle.btree_shape.specs.Lists.{as_list, times_listed}
 
--- a node with these items and children, and otherwise as another one
+-- a node with these items and children, and otherwise like the old one
 pub record IsRemade {A : Type 0} (old new : View A) (items : List A) (children : List ℕ) : Type 0 where
   pub kind : is_internal new ≡ is_internal old
   pub parent : parent_of new ≡ parent_of old
@@ -14,8 +14,8 @@ pub record IsRemade {A : Type 0} (old new : View A) (items : List A) (children :
   pub children_are : children_of new ≡ children
 
 module _ {A : Type 0} (node_at new : NodeMap A) where
-  -- under the three numbers stood and stand now these nodes, which are a parent and two children of it; the children
-  -- listed have another parent now, and no other node has changed
+  -- the old and the new nodes under the three numbers, those of a parent and two of its children; the listed children
+  -- have `adopter` as their parent now, and no other node has changed
   pub record Writes (parent left right : ℕ) (top low high : View A) (new_top new_low new_high : View A)
       (children : List ℕ) (adopter : ℕ) : Type 0 where
     pub at_parent : node_at parent ≡ Some top
@@ -28,8 +28,8 @@ module _ {A : Type 0} (node_at new : NodeMap A) where
         → new n ≡ option_map (with_parent (Some adopter)) (node_at n)
     pub kept : (n : ℕ) → n ≢ parent → n ≢ left → n ≢ right → times_listed n children ≡ 0 → new n ≡ node_at n
 
-  -- rotation to the left: the parent's item at `index` goes to the end of `left`, and the first item of `right` in its
-  -- place, whose first child, if it has one, goes to the end of the children of `left`
+  -- rotation to the left: the parent's item at `index` goes to the end of `left`, and the first item of `right` takes
+  -- its place; the first child of `right`, if it has one, goes to the end of the children of `left`
   pub record RotatesLeft (parent index left right : ℕ) : Type 0 where
     pub top : View A
     pub low : View A
@@ -47,8 +47,8 @@ module _ {A : Type 0} (node_at new : NodeMap A) where
     pub high_is : IsRemade new_high high (up ∷ items_of new_high) (as_list child ++ children_of new_high)
     pub writes : Writes parent left right top low high new_top new_low new_high (as_list child) left
 
-  -- rotation to the right: the parent's item at `index` goes to the front of `right`, and the last item of `left` in its
-  -- place, whose last child, if it has one, is then the first of `right`
+  -- rotation to the right: the parent's item at `index` goes to the front of `right`, and the last item of `left` takes
+  -- its place; the last child of `left`, if it has one, becomes the first child of `right`
   pub record RotatesRight (parent index left right : ℕ) : Type 0 where
     pub top : View A
     pub low : View A
@@ -66,8 +66,8 @@ module _ {A : Type 0} (node_at new : NodeMap A) where
     pub high_is : IsRemade high new_high (down ∷ items_of high) (as_list child ++ children_of high)
     pub writes : Writes parent left right top low high new_top new_low new_high (as_list child) right
 
-  -- merge: the parent loses its item at `index` and the child after it, which is `right`; `left` has then its own items,
-  -- that item and those of `right`, with the children of both; `right` is no node any more
+  -- merge: the parent loses its item at `index` and the child after it, which is `right`; `left` then has its own
+  -- items, that item and those of `right`, with the children of both; `right` is removed
   pub record Merges (parent index left right : ℕ) : Type 0 where
     pub top : View A
     pub low : View A
@@ -88,7 +88,7 @@ module _ {A : Type 0} (node_at new : NodeMap A) where
         → new n ≡ option_map (with_parent (Some left)) (node_at n)
     pub kept : (n : ℕ) → n ≢ parent → n ≢ left → n ≢ right → times_listed n (children_of high) ≡ 0 → new n ≡ node_at n
 
-  -- an internal root without items is no node any more, and its only child has no parent
+  -- an internal root without items is removed, and its only child has no parent
   pub record ShrinksRoot (root child : ℕ) : Type 0 where
     pub node : View A
     pub at_root : node_at root ≡ Some node

@@ -1,4 +1,4 @@
--- What calls on a store's nodes leave: one node written, numbers claimed, children under a new parent, a node split.
+-- What calls leave of a store's nodes: one node written, numbers claimed, children under a new parent, a node split.
 use Rattle.std.specs.Prelude.{◌≡◌, ◌≢◌, ℕ, ◌+◌, ◌<◌, List, [], ◌∷◌, Option, Some, None, option_map}
 use Rattle.btree_view.specs.View.{View, internal, NodeMap, parent_of, items_of, children_of}
 use Rattle.btree_view.specs.Edits.{with_parent, is_internal, IsSplit}
@@ -6,7 +6,7 @@ use Rattle.btree_shape.specs.WellFormed.{times_used}
 use Rattle.btree_shape.specs.Lists.{times_listed}
 
 module _ {A : Type 0} (node_at new : NodeMap A) where
-  -- this is under number `id` now, a node or nothing, and no other node has changed
+  -- `node` is under number `id` now, a node or nothing; no other node has changed
   pub record Becomes (id : ℕ) (node : Option (View A)) : Type 0 where
     pub here : new id ≡ node
     pub others : (n : ℕ) → n ≢ id → new n ≡ node_at n
@@ -17,17 +17,17 @@ module _ {A : Type 0} (node_at new : NodeMap A) where
   abbrev pub RemovesNode : (id : ℕ) → Type 0
   RemovesNode id = Becomes id None
 
-  -- these numbers were not used and are now, and no other has changed
+  -- these numbers were not used and are used now; no other node has changed
   pub record Claims (spare : List ℕ) : Type 0 where
     pub counted : (n : ℕ) → times_used (new n) ≡ times_used (node_at n) + times_listed n spare
     pub kept : (n : ℕ) → times_listed n spare ≡ 0 → new n ≡ node_at n
 
-  -- these children have a new parent, and no other node has changed
+  -- these children have a new parent; no other node has changed
   pub record Reparents (parent : ℕ) (children : List ℕ) : Type 0 where
     pub moved : (n : ℕ) → 0 < times_listed n children → new n ≡ option_map (with_parent (Some parent)) (node_at n)
     pub kept : (n : ℕ) → times_listed n children ≡ 0 → new n ≡ node_at n
 
-  -- node i is split: its left part stays there, its right part is node j, whose children name j as their parent, and no
+  -- node i is split: its left part stays there, and its right part is node j, whose children name j as their parent; no
   -- other node has changed
   pub record Splits (i j : ℕ) (median : A) : Type 0 where
     pub node : View A
@@ -49,7 +49,7 @@ module _ {A : Type 0} (node_at new : NodeMap A) where
     pub at_right : new j ≡ option_map (with_parent (Some r)) (node_at j)
     pub kept : (n : ℕ) → n ≢ r → n ≢ i → n ≢ j → new n ≡ node_at n
 
--- a node with these items and otherwise as another one
+-- a node with these items, and otherwise like the old one
 pub record HasItems {A : Type 0} (old new : View A) (items : List A) : Type 0 where
   pub kind : is_internal new ≡ is_internal old
   pub parent : parent_of new ≡ parent_of old

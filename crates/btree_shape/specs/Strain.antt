@@ -1,4 +1,10 @@
--- How near the nodes of a tree are to a split or a merge: what pays for the nodes that later steps take or give up.
+-- Strain, a potential: how near the nodes of a tree are to a split or a merge. It bounds the nodes that later steps
+-- allocate or free.
+-- In an insertion and its splits, the nodes allocated and the strain afterwards are together at most the strain before,
+-- plus one for the item that is inserted (`repaired-paid` in `proofs/Splits/Insertion.antt`). In rotations, merges and
+-- a shrunk root, the nodes freed and the strain afterwards are together at most the strain before, plus one for a root
+-- without items (`Beside` in `proofs/Underflow/Adjacent.antt`, `to-child` and `to-nothing` in
+-- `proofs/Underflow/Upward.antt`).
 use Rattle.std.specs.Prelude.{◌≡◌, ℕ, zero, suc, ◌+◌, ◌-◌, ◌==◌, if◌then◌else◌, List, length, Option, Some, None}
 use Rattle.btree_item.specs.declared.TheConstants.{MAX_INTERNAL_ITEMS, MAX_LEAF_ITEMS, MIN_ITEMS}
 use Rattle.btree_view.specs.View.{View, leaf, internal, NodeMap, size_of}
@@ -19,32 +25,32 @@ UNSTRAINED_INTERNAL_ITEMS = MAX_INTERNAL_ITEMS - 2
 abbrev pub UNSTRAINED_MIN_ITEMS : ℕ
 UNSTRAINED_MIN_ITEMS = MIN_ITEMS + 1
 
--- how many items a node has above the most of one that is not strained
+-- how many items a node has above the most of a node that is not strained
 abbrev pub surplus_of : {A : Type 0} → View A → ℕ
 surplus_of (leaf parent items) = length items - UNSTRAINED_LEAF_ITEMS
 surplus_of (internal parent first branches) = length branches - UNSTRAINED_INTERNAL_ITEMS
 
--- the strain of a node: its surplus, and what it has fewer than 4 items if it is not the root
+-- the strain of a node: its surplus, and, if it is not the root, by how many items it has fewer than 4
 abbrev pub strain_in : {A : Type 0} → (root id : ℕ) → Option (View A) → ℕ
 strain_in root id None = 0
 strain_in root id (Some node) = surplus_of node + (if id == root then 0 else UNSTRAINED_MIN_ITEMS - size_of node)
 
--- that of the nodes with these numbers
+-- the strain of the nodes with these numbers
 abbrev pub strain_under : {A : Type 0} → NodeMap A → (root : ℕ) → List ℕ → ℕ
 strain_under node_at root ids = total (λ id. strain_in root id (node_at id)) ids
 
--- that of the tree with this root: of its nodes, each listed once; without a root there is none
+-- the strain of the tree with this root: that of its nodes, each listed once; without a root it is 0
 abbrev pub IsStrain : {A : Type 0} → NodeMap A → Option ℕ → ℕ → Type 0
 IsStrain node_at None strain = strain ≡ 0
 IsStrain node_at (Some root) strain = (ids : List ℕ) × ((n : ℕ) → times_listed n ids ≡ times_used (node_at n)) × (strain ≡ strain_under node_at root ids)
 
--- the same of a tree in parts: of a node by its height and number of items
+-- the same for a tree in parts: the surplus of a node, by its height and number of items
 abbrev pub surplus : (height count : ℕ) → ℕ
 surplus zero count = count - UNSTRAINED_LEAF_ITEMS
 surplus (suc height) count = count - UNSTRAINED_INTERNAL_ITEMS
 
 module _ (A : Type 0) where
-  -- of a tree that is not at the root, and of the nodes below its top
+  -- of a subtree that is not at the root; and of the nodes below its root
   abbrev pub strain : (height : ℕ) → Shape A height → ℕ
   strain zero shape = surplus zero (length shape.1) + (UNSTRAINED_MIN_ITEMS - length shape.1)
   strain (suc height) shape =
@@ -55,7 +61,7 @@ module _ (A : Type 0) where
   strain_below zero shape = 0
   strain_below (suc height) shape = strain height shape.1 + total (λ b. strain height b.1) shape.2
 
-  -- of a node with this above it
+  -- of a node with this path above it
   abbrev pub own_strain : {height : ℕ} → Path A height → (count : ℕ) → ℕ
   own_strain {height} top count = surplus height count
   own_strain {height} (under frame path) count = surplus height count + (UNSTRAINED_MIN_ITEMS - count)
@@ -69,6 +75,6 @@ module _ (A : Type 0) where
   strain_above {height} top = 0
   strain_above {height} (under frame path) = own_strain path (frame_count frame) + strain_beside frame + strain_above path
 
-  -- of the whole tree, seen from one of its nodes
+  -- of the whole tree, given as a focus
   abbrev pub strain_of : (height : ℕ) → Path A height → Shape A height → ℕ
   strain_of height path shape = strain_above path + (own_strain path (count_at A height shape) + strain_below height shape)

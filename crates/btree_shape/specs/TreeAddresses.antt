@@ -1,4 +1,6 @@
--- The addresses of a tree in lists, as words on its state. A tree has at most as many levels as nodes.
+-- The lists of addresses of a tree, as functions of its state. A tree has at most as many levels as nodes.
+-- `HasAddresses` holds for every well formed tree, whatever its length, and for every tree that is off by one at a node
+-- (`proofs/AddressLists/Whole.antt`).
 use Rattle.std.specs.Prelude.{◌≡◌, ℕ, suc, List, length, slice_get, Option, Some, None}
 use Rattle.std.specs.FinMap as map
 use Rattle.btree_item.specs.declared.address.Address.{Address}
@@ -9,12 +11,12 @@ use Rattle.btree_shape.specs.Focus.Positions.{address_at}
 use Rattle.btree_shape.specs.TreeState.{TreeState, node_map, pairs_of}
 use Rattle.btree_shape.specs.Visits.{back_after, front_before, prior}
 
--- the back address under a root that is visited first: in the leaf at the left end
+-- the first back address under a root: offset 0 in the leftmost leaf
 abbrev pub first_back_under : {A : Type 0} → NodeMap A → (levels : ℕ) → Option ℕ → Option Address
 first_back_under node_at levels None = None
 first_back_under node_at levels (Some root) = Some (address_at (first_leaf node_at levels root) 0)
 
--- the front address under a root that is visited first, backwards: the last item of the leaf at the right end
+-- the last front address under a root, where a backward visit begins: the last item of the rightmost leaf
 abbrev pub last_front_under : {A : Type 0} → NodeMap A → (levels : ℕ) → Option ℕ → Option Address
 last_front_under node_at levels None = None
 last_front_under node_at levels (Some root) = Some (last_item node_at levels root)
@@ -28,19 +30,19 @@ module _ {K V : Type 0} (s : TreeState K V) where
   abbrev pub leaf_backs_of : List Address
   leaf_backs_of = leaf_backs_under (node_map s) (map.len s.nodes) s.root
 
-  -- the back addresses in nodes, in the order of visits; an empty tree has none
+  -- the back addresses in nodes, in the order of a forward visit; an empty tree has none
   abbrev pub backs_of : List Address
   backs_of = backs_under (node_map s) (map.len s.nodes) s.root
 
-  -- the front addresses, which are visited from the last to the first; an empty tree has none
+  -- the front addresses, which a backward visit passes from the last to the first; an empty tree has none
   abbrev pub fronts_of : List Address
   fronts_of = fronts_under (node_map s) (map.len s.nodes) s.root
 
-  -- where a visit of the back addresses begins
+  -- where a forward visit of the back addresses begins
   abbrev pub first_back : Option Address
   first_back = first_back_under (node_map s) (map.len s.nodes) s.root
 
-  -- where a visit of the front addresses begins, backwards
+  -- where a backward visit of the front addresses begins
   abbrev pub last_front : Option Address
   last_front = last_front_under (node_map s) (map.len s.nodes) s.root
 
@@ -52,7 +54,7 @@ module _ {K V : Type 0} (s : TreeState K V) where
   abbrev pub previous_front : Address → Option Address
   previous_front a = front_before (node_map s) (map.len s.nodes) a
 
-  -- the lists have the tree's addresses, and the rules tell their order
+  -- the lists have the tree's addresses, and the functions above give their order
   pub record HasAddresses : Type 0 where
     pub items : ListsItems (node_map s) s.root (pairs_of s) item_addresses_of
     pub leaf_backs : ListsLeafBacks (node_map s) s.root (pairs_of s) leaf_backs_of

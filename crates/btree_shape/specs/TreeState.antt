@@ -1,4 +1,6 @@
--- What a contract sees of a tree, its list, and the words on it.
+-- A tree as contracts see it: its state, its list, and the definitions that contracts cite.
+-- A contract says that nothing changes by an equation of two states. The bound on the levels is the number of nodes, so
+-- the list is right for every tree, whatever its length.
 use Rattle.std.specs.Prelude.{◌≡◌, ℕ, suc, List, [], length, Option, Some, None, IsSome, option_map, refl}
 use Rattle.std.specs.Coded.{Coded, code_by, coded×, coded_ℕ, coded_option}
 use Rattle.std.specs.declared.cmp.Ordering.{Ordering}
@@ -31,11 +33,11 @@ tree_code {K} {V} code =
     (λ _. refl)
 
 module _ {K V : Type 0} where
-  -- the nodes of a store as definitions see them
+  -- the nodes of a store as a map of nodes
   abbrev pub views : Content (Node K V) → NodeMap (K × V)
   views nodes id = option_map view_of (map.get nodes id)
 
-  -- what the nodes under a root spell, by at most so many levels
+  -- the list that the nodes under a root represent, down to at most `levels` levels
   abbrev pub pairs_under : NodeMap (K × V) → Option ℕ → (levels : ℕ) → List (K × V)
   pairs_under node_at None levels = []
   pairs_under node_at (Some root) levels = represented node_at levels root
@@ -45,7 +47,7 @@ module _ {K V : Type 0} where
     pub rest : new ≡ record old { nodes = new.nodes }
 
 module _ {K V : Type 0} (s : TreeState K V) where
-  -- the nodes as definitions see them
+  -- the nodes as a map of nodes
   abbrev pub node_map : NodeMap (K × V)
   node_map = views s.nodes
 
@@ -77,11 +79,11 @@ module _ {K V : Type 0} (s : TreeState K V) where
   abbrev pub item_of : Address → Option (K × V)
   item_of a = item_at node_map a
 
-  -- how many nodes an insertion at a leaf takes
+  -- how many nodes an insertion at a leaf uses
   abbrev pub nodes_needed : ℕ → ℕ
   nodes_needed leaf = needs.need node_map s.root (map.len s.nodes) leaf
 
-  -- how many nodes the splits take that begin at a node with an item too many
+  -- how many nodes the splits that begin at a node with an item too many use
   abbrev pub nodes_for_splits : ℕ → ℕ
   nodes_for_splits id = needs.split_need node_map (map.len s.nodes) id
 
@@ -89,7 +91,7 @@ module _ {K V : Type 0} (s : TreeState K V) where
   abbrev pub HasStrain : ℕ → Type 0
   HasStrain strain = IsStrain node_map s.root strain
 
-  -- how many levels of nodes there are under a root: one more than the root is above the leaves
+  -- how many levels of nodes are under a root: one more than the height of the root
   abbrev pub HasLevelsUnder : Option ℕ → ℕ → Type 0
   HasLevelsUnder None levels = levels ≡ 0
   HasLevelsUnder (Some root) levels = (height : ℕ) × Represents node_map height None root pairs_of × (levels ≡ suc height)
@@ -102,7 +104,7 @@ module _ {K V : Type 0} (cmp : K → K → Ordering) where
   abbrev pub IsBTree : TreeState K V → Type 0
   IsBTree s = IsWellFormed cmp (node_map s) s.root s.len (pairs_of s)
 
-  -- the same but for its length
+  -- the same, without the clause on the length
   abbrev pub IsBTreeButLength : TreeState K V → Type 0
   IsBTreeButLength s = IsWellFormed cmp (node_map s) s.root (length (pairs_of s)) (pairs_of s)
 
@@ -112,7 +114,7 @@ module _ {K V : Type 0} (cmp : K → K → Ordering) where
     pub at_root : s.root ≡ Some root
     pub off : IsOffByOne cmp (node_map s) root id (pairs_of s)
 
--- the nodes have changed so, and nothing else has
+-- the nodes have changed as `How` says, and nothing else has changed
 pub record Changes {K V : Type 0} (How : NodeMap (K × V) → NodeMap (K × V) → Type 0) (old new : TreeState K V) : Type 0 where
   pub nodes : How (node_map old) (node_map new)
   pub rest : KeepsRest old new

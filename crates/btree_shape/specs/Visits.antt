@@ -5,13 +5,13 @@ use Rattle.btree_view.specs.View.{View, leaf, NodeMap, children_in, children_of,
 use Rattle.btree_shape.specs.Addresses.{first_leaf, last_item, slot_before}
 use Rattle.btree_shape.specs.Focus.Positions.{address_before, address_at}
 
--- the index before an index has this address
+-- the index before `i` has this address
 pub record ComesBefore (list : List Address) (i : ℕ) (a : Address) : Type 0 where
   pub index : ℕ
   pub is : i ≡ suc index
   pub at : slice_get list index ≡ Some a
 
--- what stands before an index
+-- what is before an index
 abbrev pub prior : {X : Type 0} → List X → ℕ → Option X
 prior list zero = None
 prior list (suc i) = slice_get list i
@@ -22,7 +22,7 @@ index_in n [] = None
 index_in n (m ∷ numbers) = if n == m then Some 0 else option_map suc (index_in n numbers)
 
 module _ {A : Type 0} (node_at : NodeMap A) where
-  -- the address in a node's parent that is told by the index of the node among its children
+  -- the address in a node's parent that `at` gives for the index of the node among its children
   abbrev pub in_parent : (ℕ → ℕ → Address) → (id : ℕ) → Option ℕ → Option Address
   in_parent at id None = None
   in_parent at id (Some parent) = option_map (at parent) (index_in id (children_in (node_at parent)))
@@ -55,18 +55,18 @@ module _ {A : Type 0} (node_at : NodeMap A) where
     front_before_at id (Some node) None = in_parent slot_before id (parent_of node)
     front_before_at id (Some node) (Some offset) = Some (front_before_in id offset (slice_get (children_of node) offset))
 
-    -- the front address that is visited after one, backwards
+    -- the front address that a backward visit reaches after one
     abbrev pub front_before : Address → Option Address
     front_before a = front_before_at a.id (node_at a.id) a.offset
 
 module _ {A : Type 0} (node_at : NodeMap A) (levels root : ℕ) (list : List Address) where
-  -- the list begins in the leaf at the left end; each address is followed by the next back one
+  -- the list begins in the leftmost leaf, and each address is followed by the next back one
   pub record VisitsBacks : Type 0 where
     pub first : slice_get list 0 ≡ Some (address_at (first_leaf node_at levels root) 0)
     -- in a leaf, before its end: the next offset
     pub along : (i id offset : ℕ) (parent : Option ℕ) (items : List A) → node_at id ≡ Some (leaf parent items) → offset < length items
         → slice_get list i ≡ Some (address_at id offset) → slice_get list (suc i) ≡ Some (address_at id (suc offset))
-    -- at an item of an internal node: the first one in the leaf at the left end under the child after the item
+    -- at an item of an internal node: the first one in the leftmost leaf under the child after the item
     pub down : (i id offset child : ℕ) → slice_get (children_in (node_at id)) (suc offset) ≡ Some child
         → slice_get list i ≡ Some (address_at id offset) → slice_get list (suc i) ≡ Some (address_at (first_leaf node_at levels child) 0)
     -- past the last item: in the parent, at the index of the node among its children
@@ -77,13 +77,14 @@ module _ {A : Type 0} (node_at : NodeMap A) (levels root : ℕ) (list : List Add
     pub last : (i id offset : ℕ) (node : View A) → node_at id ≡ Some node → offset ≡ size_of node → parent_of node ≡ None
         → slice_get list i ≡ Some (address_at id offset) → length list ≡ suc i
 
-  -- the list ends at the last item of the leaf at the right end; before each address stands the next front one backwards
+  -- the list ends at the last item of the rightmost leaf, and before each address is the next front one of a backward
+  -- visit
   pub record VisitsFronts : Type 0 where
     pub last : ComesBefore list (length list) (last_item node_at levels root)
-    -- in a leaf, at an item: the offset before
+    -- in a leaf, at an item: the address one before
     pub along : (i id offset : ℕ) (parent : Option ℕ) (items : List A) → node_at id ≡ Some (leaf parent items)
         → slice_get list i ≡ Some (address_at id offset) → ComesBefore list i (slot_before id offset)
-    -- at an item of an internal node: the last item of the leaf at the right end under the child before the item
+    -- at an item of an internal node: the last item of the rightmost leaf under the child before the item
     pub down : (i id offset child : ℕ) → slice_get (children_in (node_at id)) offset ≡ Some child
         → slice_get list i ≡ Some (address_at id offset) → ComesBefore list i (last_item node_at levels child)
     -- at -1: in the parent, one before the index of the node among its children

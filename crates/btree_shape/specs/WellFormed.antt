@@ -1,4 +1,7 @@
--- When nodes under numbers are a B-tree.
+-- When a map of nodes is a B-tree.
+-- A leaf has 3 to 8 items and an internal node 3 to 7; the root has at least 1, and at most as many as its kind. The
+-- numbers under the root are exactly those in use, so a store holds nothing but the nodes of the tree. `IsOffByOne` is
+-- the state in which rebalancing begins; it leaves the length open, since a caller sets that apart from the nodes.
 use Rattle.std.specs.Prelude.{◌-◌, ◌≡◌, ℕ, ◌+◌, ◌<◌, ◌≤◌, ◌==◌, if◌then◌else◌, List, [], length, Option, Some, None, IsSome}
 use Rattle.std.specs.declared.cmp.Ordering.{Ordering}
 use Rattle.btree_item.specs.declared.TheConstants.{MAX_LEVELS, MIN_ITEMS}
@@ -16,23 +19,23 @@ times_used (Some x) = 1
 abbrev pub least_of : (root id : ℕ) → ℕ
 least_of root id = if id == root then 1 else MIN_ITEMS
 
--- a node of a tree at rest has enough items and not too many
+-- a node of a well formed tree has enough items and not too many
 abbrev pub IsSized : {A : Type 0} → (root id : ℕ) → View A → Type 0
 IsSized root id node = (least_of root id ≤ size_of node) × (size_of node ≤ most_of node)
 
--- the fewest items where node `odd` may lack one, and may have none if it is the root
+-- the fewest items of a node if node `odd` may have one too few, and none if it is the root
 abbrev pub least_beside : (root odd id : ℕ) → ℕ
 least_beside root odd id = if id == odd then (if odd == root then 0 else MIN_ITEMS - 1) else least_of root id
 
--- how many items more than the most there may be, where node `odd` may have one
+-- how many items above the most a node may have: one for node `odd`, none for another
 abbrev pub excess_beside : (odd id : ℕ) → ℕ
 excess_beside odd id = if id == odd then 1 else 0
 
--- the same as `IsSized`, but that node `odd` may have one item too many or one too few
+-- like `IsSized`, except that node `odd` may have one item too many or one too few
 abbrev pub IsNearlySized : {A : Type 0} → (root odd id : ℕ) → View A → Type 0
 IsNearlySized root odd id node = (least_beside root odd id ≤ size_of node) × (size_of node ≤ most_of node + excess_beside odd id)
 
--- the nodes form one tree with this root, it spells the list, and each node's number of items is right
+-- the nodes form one tree with this root, it represents the list, and each node's number of items is right
 pub record IsRooted {A : Type 0} (is_right : (id : ℕ) → View A → Type 0) (node_at : NodeMap A) (root : ℕ) (xs : List A) : Type 0 where
   -- how many levels the root is above the leaves
   pub height : ℕ
@@ -46,13 +49,14 @@ abbrev pub IsFormed : {A : Type 0} → NodeMap A → Option ℕ → List A → T
 IsFormed node_at None xs = ((n : ℕ) → node_at n ≡ None) × (xs ≡ [])
 IsFormed node_at (Some root) xs = IsRooted (IsSized root) node_at root xs
 
--- a well formed tree, whose pairs are these
+-- a well formed tree with these pairs
 pub record IsWellFormed {K V : Type 0} (cmp : K → K → Ordering) (node_at : NodeMap (K × V)) (root : Option ℕ) (len : ℕ) (xs : List (K × V)) : Type 0 where
   pub ascends : Ascends cmp xs
   pub formed : IsFormed node_at root xs
   pub counted : len ≡ length xs
 
--- a tree of at most 32 levels, whose pairs are these, off by one at node `odd`: well formed but for the items there and the length
+-- a tree of at most 32 levels with these pairs, off by one at node `odd`: well formed but for the items there and the
+-- length
 pub record IsOffByOne {K V : Type 0} (cmp : K → K → Ordering) (node_at : NodeMap (K × V)) (root odd : ℕ) (xs : List (K × V)) : Type 0 where
   pub ascends : Ascends cmp xs
   pub rooted : IsRooted (IsNearlySized root odd) node_at root xs

@@ -1,6 +1,6 @@
-//! An ordered map whose nodes lie in a slab and name one another by numbers.
+//! An ordered map: a B-tree whose nodes lie in a slab and refer to one another by numbers.
 //!
-//! This crate gives the public names of the crates below it.
+//! This crate re-exports the public names of the crates below it.
 #![tactic(auto)]
 
 use btree_store::SlabStore;
@@ -8,7 +8,7 @@ use btree_store::SlabStore;
 #[cfg(test)]
 mod tests;
 
-/// A map in nodes that lie in a slab, with memory from the global allocator.
+/// A map with its nodes in a slab, with memory from the global allocator.
 pub type BTreeMap<K, V> = generic::BTreeMap<K, V, SlabStore<generic::Node<K, V>>>;
 
 /// The types over any store of nodes.
@@ -37,7 +37,7 @@ pub mod generic {
     }
 }
 
-/// What a store of nodes promises, as bounds on any store and on one of nodes, and a store.
+/// The contracts of a store, for any values and for nodes, and one store.
 pub mod store {
     pub use btree_nodes::{ClearNodes, Nodes, NodesMut};
     pub use btree_store::{Clear, Slab, SlabMut, SlabStore};

@@ -18,7 +18,7 @@ fn a_map_in_a_slab(rt: HostRuntime) -> Result<(), Fail> {
     for (key, value) in map.iter() {
         sum = sum.wrapping_add(key.wrapping_mul(*value));
     }
-    // 10 times the sum of the squares of 0 to 8, and 3 times 3 more.
+    // 10 times the sum of the squares of 0 to 8, plus 3 times 3.
     assert_eq!(rt; sum, 2049);
     Ok(())
 }

@@ -8,7 +8,7 @@ use std::marker::{Model, PhantomData};
 #[cfg(test)]
 mod tests;
 
-/// A counter that takes no bytes and costs no time, kept for contracts to read. Only `tick` changes its count.
+/// A counter that takes no bytes and no time, for contracts to read. Only `tick` changes its count.
 pub struct Steps {
     marker: PhantomData<()>,
     pub ghost count: { ℕ },
@@ -21,7 +21,7 @@ impl Model for Steps {
 }
 
 impl Steps {
-    /// A counter that starts from nothing.
+    /// Returns a counter with the count 0.
     pub fn new() -> Steps
         ensures { result.count ≡ 0 }
     {
@@ -30,7 +30,7 @@ impl Steps {
         }
     }
 
-    /// Counts one more step.
+    /// Counts one more step. It does nothing at run time.
     pub fn tick(&mut self)
         ensures { self.new.count ≡ self.old.count + 1 }
     {}

@@ -25,7 +25,7 @@ module _ {T : Type 0} where
   pub get-remove_other : (m : Content T) (k q : ℕ) → q ≢ k → get (remove m k) q ≡ get m q
   get-remove_other m k q differs = rw (get-remove nat_cmp_total m k q, tied_other q k differs) refl
 
-  -- contents that answer alike are equal
+  -- contents with the same value, or none, under each number are equal
   pub same_content : (m n : Content T) → ((q : ℕ) → get m q ≡ get n q) → m ≡ n
   same_content m n alike = same_map nat_cmp_total nat_cmp-IsAntisymmetric m n alike
 
@@ -37,59 +37,59 @@ module _ {T : Type 0} where
         | inr differs ↦ others q differs
       ])
 
-  -- a content that has this value there and is otherwise as the old one
+  -- a content that has this value under the number, and is otherwise like the old one, is the old one with an insertion
   pub is_insert : (m n : Content T) (k : ℕ) (v : T) → get n k ≡ Some v → ((q : ℕ) → q ≢ k → get n q ≡ get m q) → n ≡ insert m k v
   is_insert m n k v at others =
       same_at_and_others n (insert m k v) k (at ∙ sym (get-insert_same m k v)) (λ q differs. others q differs ∙ sym (get-insert_other m k v q differs))
 
-  -- a content that has nothing there and is otherwise as the old one
+  -- a content that has nothing under the number, and is otherwise like the old one, is the old one with a removal
   pub is_remove : (m n : Content T) (k : ℕ) → get n k ≡ None → ((q : ℕ) → q ≢ k → get n q ≡ get m q) → n ≡ remove m k
   is_remove m n k at others =
       same_at_and_others n (remove m k) k (at ∙ sym (get-remove_same m k)) (λ q differs. others q differs ∙ sym (get-remove_other m k q differs))
 
-  -- a used number stays used when a value is put under any number
+  -- a used number stays used when a value is inserted under any number
   pub insert-used : (m : Content T) (k : ℕ) (v : T) (q : ℕ) → IsSome (get m q) → IsSome (get (insert m k v) q)
   insert-used m k v q used = elim (cases_eq q k) [
     | inl same ↦ rw (same, get-insert_same m k v) refl
     | inr differs ↦ rw (get-insert_other m k v q differs) used
   ]
 
-  -- to put what is there changes nothing
+  -- to insert the value that is there changes nothing
   pub insert-same : (m : Content T) (k : ℕ) (v : T) → get m k ≡ Some v → insert m k v ≡ m
   insert-same m k v at = sym (is_insert m m k v at (λ q differs. refl))
 
-  -- of two values that are put under one number the second stays
+  -- of two values inserted under one number, the second stays
   pub insert-insert : (m : Content T) (k : ℕ) (v w : T) → insert (insert m k v) k w ≡ insert m k w
   insert-insert m k v w =
       is_insert m _ k w (get-insert_same (insert m k v) k w) (λ q differs. get-insert_other (insert m k v) k w q differs ∙ get-insert_other m k v q differs)
 
-  -- to take out what was put under an unused number
+  -- to remove what was inserted under an unused number undoes the insertion
   pub remove-insert : (m : Content T) (k : ℕ) (v : T) → get m k ≡ None → remove (insert m k v) k ≡ m
   remove-insert m k v unused =
       same_at_and_others _ m k (get-remove_same (insert m k v) k ∙ sym unused) (λ q differs. get-remove_other (insert m k v) k q differs ∙ get-insert_other m k v q differs)
 
-  -- to put back what was taken out
+  -- to insert what was removed undoes the removal
   pub insert-remove : (m : Content T) (k : ℕ) (v : T) → get m k ≡ Some v → insert (remove m k) k v ≡ m
   insert-remove m k v at =
       same_at_and_others _ m k (get-insert_same (remove m k) k v ∙ sym at) (λ q differs. get-insert_other (remove m k) k v q differs ∙ get-remove_other m k q differs)
 
-  -- a value under an unused number is one more
+  -- an insertion under an unused number adds one
   pub len-insert_unused : (m : Content T) (k : ℕ) (v : T) → get m k ≡ None → len (insert m k v) ≡ len m + 1
   len-insert_unused m k v unused =
       let absent : contains_key m k ≡ false = ap is_some unused in
       rw (len-insert nat_cmp_total m k v, absent) refl
 
-  -- a value under a used number is none more
+  -- an insertion under a used number keeps the count
   pub len-insert_used : (m : Content T) (k : ℕ) (v : T) → IsSome (get m k) → len (insert m k v) ≡ len m
   len-insert_used m k v used =
       let present : contains_key m k ≡ true = used in
       rw (len-insert nat_cmp_total m k v, present) refl
 
-  -- a value that is taken out is one fewer
+  -- a removal of a used number takes one away
   pub len-remove_used : (m : Content T) (k : ℕ) (v : T) → get m k ≡ Some v → len (remove m k) + 1 ≡ len m
   len-remove_used m k v at = sym (len-insert_unused (remove m k) k v (get-remove_same m k)) ∙ ap len (insert-remove m k v at)
 
--- what each change of a content leaves
+-- what is under a number after each change
 pub ruleset stores = (get-insert_same, get-insert_other, get-remove_same, get-remove_other, insert-used, insert-same, insert-insert, remove-insert, insert-remove)
 
 -- how many numbers are used after each change

@@ -28,7 +28,7 @@ module _ {T : Type 0} where
       ∙ ap (get (content_from (first + 1) rest)) shift
       ∙ get_from (first + 1) rest place
 
-  -- under a number is what its slot has
+  -- the value under a number is that of its slot
   pub get-content : (slots : List (Option T)) (q : ℕ) → get (content_from 0 slots) q ≡ get_or slots q None
   get-content slots q =
       let here : q ≡ 0 + q = omega arith in
@@ -45,18 +45,18 @@ module _ {T : Type 0} where
   pub len-content : (slots : List (Option T)) → len (content_from 0 slots) ≡ count_by is_some slots
   len-content slots = len_from 0 slots
 
-  -- one slot has this value, and the others have what they had
+  -- one slot has this value, and the others are unchanged
   pub content-insert : (old new : List (Option T)) (k : ℕ) (v : T) → get_or new k None ≡ Some v → ((q : ℕ) → q ≢ k → get_or new q None ≡ get_or old q None) → content_from 0 new ≡ insert (content_from 0 old) k v
   content-insert old new k v at others = is_insert _ _ k v (get-content new k ∙ at) (λ q differs. get-content new q ∙ others q differs ∙ sym (get-content old q))
 
-  -- one slot has nothing, and the others have what they had
+  -- one slot is empty, and the others are unchanged
   pub content-remove : (old new : List (Option T)) (k : ℕ) → get_or new k None ≡ None → ((q : ℕ) → q ≢ k → get_or new q None ≡ get_or old q None) → content_from 0 new ≡ remove (content_from 0 old) k
   content-remove old new k at others = is_remove _ _ k (get-content new k ∙ at) (λ q differs. get-content new q ∙ others q differs ∙ sym (get-content old q))
 
   some_within : (slots : List (Option T)) (k : ℕ) → IsSome (get_or slots k None) → k < length slots
   some_within slots k used = grind (arith, get_or_past)
 
-  -- a used number is the place of a slot
+  -- a used number is the index of a slot
   pub used_within : (slots : List (Option T)) (k : ℕ) → IsSome (get (content_from 0 slots) k) → k < length slots
   used_within slots k used = some_within slots k (rw (get-content slots k) at used)
 
@@ -66,9 +66,9 @@ module _ {T : Type 0} where
   pub content-empty : (slots : List (Option T)) (k : ℕ) → k < length slots → content_from 0 (set slots k None) ≡ remove (content_from 0 slots) k
   content-empty slots k within = content-remove slots (set slots k None) k (get_or-set_same slots k None None within) (λ q differs. get_or-set_other slots k q None None differs)
 
-  -- a write of a used slot
+  -- a write to a used slot
   pub content-written : (slots : List (Option T)) (k : ℕ) (v : T) → IsSome (get (content_from 0 slots) k) → content_from 0 (set slots k (Some v)) ≡ insert (content_from 0 slots) k v
   content-written slots k v used = content-fill slots k v (used_within slots k used)
 
--- what a store over slots needs of its content
+-- what a store over slots needs to know of its content
 pub ruleset slots = (get-content, len-content, content-fill, content-empty)

@@ -8,9 +8,9 @@ use crate::{Clear, Slab, SlabMut};
 use btree_steps::Steps;
 use std::alloc::{Allocator, Global};
 
-/// A store in memory from an allocator. Each call takes constant time, but for `clear` and an `insert` that makes room.
+/// A store in memory from an allocator. Each call takes constant time, except `clear` and an `insert` that has to make room.
 ///
-/// It refuses a value only where it has to make room and cannot: the allocator has no memory, or no number is left.
+/// It refuses a value only if it has to make room and cannot: the allocator has no memory, or no number is left.
 #[derive(Drop)]
 pub struct SlabStore<T, A: Allocator = Global> {
     slab: slab::Slab<T, A>,
@@ -25,13 +25,13 @@ impl<T, A: Allocator> Slab<T> for SlabStore<T, A> {
     ghost CanHold = { λ _. Unit {0} };
 
     fn len(&self) -> usize {
-        // Each number is below the room, which is a `usize`.
+        // For the prover alone: each number is below the capacity, which is a `usize`.
         let _room = self.slab.capacity();
         self.slab.len()
     }
 
     fn get(&self, id: usize) -> Option<&T> {
-        // Each number is below the room, which is a `usize`.
+        // For the prover alone: each number is below the capacity, which is a `usize`.
         let _room = self.slab.capacity();
         self.slab.get(id)
     }

@@ -7,7 +7,7 @@ use std::test::Fail;
 
 const VALUES: u32 = 4096;
 
-// Puts the values from 0 on, none of which may be refused, and answers their numbers.
+// Inserts the values from 0 on, none of which may be refused, and lists their numbers.
 fn fill(rt: &impl Abort, store: &mut SlabStore<u32>, numbers: &mut Vec<usize>) -> Result<(), Fail> {
     for value in 0..VALUES {
         let answer = store.insert(value);
@@ -19,14 +19,14 @@ fn fill(rt: &impl Abort, store: &mut SlabStore<u32>, numbers: &mut Vec<usize>) -
     Ok(())
 }
 
-// Under these numbers are the values from 0 on.
+// Checks that the values from 0 on are under these numbers.
 fn check_values(rt: &impl Abort, store: &SlabStore<u32>, numbers: &[usize]) {
     for (value, id) in (0..VALUES).zip(numbers) {
         assert_eq!(rt; store.get(*id).copied(), Some(value));
     }
 }
 
-// Takes the values out again, in the order in which they were put.
+// Removes the values, in the order in which they were inserted.
 fn take_out(rt: &impl Abort, store: &mut SlabStore<u32>, numbers: &[usize]) {
     for (value, id) in (0..VALUES).zip(numbers) {
         assert!(rt; store.get(*id).is_some(), "{value} is absent");

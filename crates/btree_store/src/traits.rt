@@ -1,4 +1,4 @@
-//! What every store promises.
+//! The contracts of every store.
 ghost use Rattle.std.specs.Prelude.{◌≡◌, ℕ, ◌+◌, ◌<◌, Some, None, IsSome, IfOk, IfErr, OnOk, OnErr, OnSome, option_copied};
 ghost use Rattle.std.specs.Option.{option_copied_mut};
 ghost use Rattle.std.specs.FinMap as map;
@@ -17,13 +17,13 @@ pub trait Slab<T> {
     /// The contents that it can have.
     ghost CanHold: { Content T → Type 0 };
 
-    /// How many numbers are used.
+    /// Returns how many numbers are used.
     fn len(&self) -> usize
         ensures len { result ≡ map.len (content self.now) }
         ensures can_hold { CanHold (content self.now) }
         ensures numbers { (id : ℕ) → IsSome (map.get (content self.now) id) → id < usize.MAX };
 
-    /// The value under `id`, if that number is used.
+    /// Returns the value under `id`, or `None` if that number is not used.
     fn get(&self, id: usize) -> Option<&T>
         ensures value { option_copied result ≡ map.get (content self.now) id }
         ensures number { OnSome result (id < usize.MAX) };
@@ -31,39 +31,39 @@ pub trait Slab<T> {
 
 /// A store of values under numbers, for changing.
 pub trait SlabMut<T>: Slab<T> + Sized {
-    /// What a store is made from, as the allocator of its memory.
+    /// What a store is made from, for example the allocator of its memory.
     type Origin;
 
-    /// The contents in which it may refuse a value. In every other content it takes one.
+    /// The contents in which it may refuse a value. In every other content it accepts one.
     ghost MayRefuse: { Content T → Type 0 };
 
-    /// A value fits in memory, as calls that hand one on require.
+    /// The fact that a value fits in memory, which calls that pass a value on require.
     ghost Fits: { Type 0 };
 
-    /// The store with another value under a number that it uses.
+    /// The store with another value under a number that is used.
     ghost written: { Self → ℕ → T → Self };
 
-    /// Notes that a value fits in memory, where the type is known. It does nothing when it runs.
+    /// Records for the prover that a value fits in memory; called where the type is known. It does nothing at run time.
     fn note_fits()
         requires { FitsInMemory T.row }
         ensures { Fits };
 
-    /// Tells what `note_fits` noted, where the type is a parameter. It does nothing when it runs.
+    /// Gives the prover the fact that `note_fits` recorded; called where the type is a parameter. It does nothing at run time.
     fn tell_fits()
         requires { Fits }
         ensures { FitsInMemory T.row };
 
-    /// A store with no value, which takes no memory until the first `insert`.
+    /// Returns a store without values, which allocates no memory until the first `insert`.
     fn empty(origin: Self::Origin) -> Self
         ensures content { Self.content result ≡ map.empty }
         ensures refusals { Self.refusals result ≡ 0 };
 
-    /// The value under `id` for writing, if that number is used.
+    /// Returns the value under `id` for writing, or `None` if that number is not used.
     fn get_mut(&mut self, id: usize) -> Option<&mut T>
         ensures* writes_back { sem 𝓛 (lends_under Self.row T.row written self.entry id result) }
         ensures value { option_copied_mut result ≡ map.get (Self.content self.old) id };
 
-    /// Stores `value` under a number that was not used, or hands it back.
+    /// Stores `value` under a number that was not used and returns the number, or returns `value` if the store refuses it.
     fn insert(&mut self, value: T) -> Result<usize, T>
         ensures number { IfOk result (λ id. id < usize.MAX) }
         ensures unused { IfOk result (λ id. map.get (Self.content self.old) id ≡ None) }
@@ -71,13 +71,13 @@ pub trait SlabMut<T>: Slab<T> + Sized {
         ensures can_hold { OnOk result (Self.CanHold (Self.content self.new)) }
         ensures uncounted { OnOk result (Self.refusals self.new ≡ Self.refusals self.old) }
 
-        // A refusal is counted, and comes only where the store may refuse.
+        // A refusal is counted, and happens only if the store may refuse.
         ensures returned { IfErr result (λ back. back ≡ value) }
         ensures unchanged { OnErr result (Self.content self.new ≡ Self.content self.old) }
         ensures counted { OnErr result (Self.refusals self.new ≡ Self.refusals self.old + 1) }
         ensures may_refuse { OnErr result (MayRefuse (Self.content self.old)) };
 
-    /// Takes out the value under `id`, a number that is used.
+    /// Removes and returns the value under `id`, a number that is used.
     fn remove(&mut self, id: usize) -> T
         requires { IsSome (map.get (Self.content self.old) id) }
         ensures value { map.get (Self.content self.old) id ≡ Some result }

@@ -1,4 +1,4 @@
-//! A store over memory of which one allocation is refused.
+//! A store over memory in which one allocation is refused.
 use btree_refusing::Refusing;
 use btree_store::{Slab, SlabMut, SlabStore};
 use std::alloc::Global;
@@ -9,7 +9,7 @@ type LentStore<'a> = SlabStore<u32, &'a Refusing<Global>>;
 
 const VALUES: u32 = 200;
 
-// Under these numbers are the values from 0 on, and no other number is used.
+// Checks that the values from 0 on are under these numbers, and that no other number is used.
 fn check_content(rt: &impl Abort, store: &LentStore<'_>, numbers: &[usize]) {
     assert_eq!(rt; store.len(), numbers.len());
     for (value, id) in (0..VALUES).zip(numbers) {
@@ -17,8 +17,8 @@ fn check_content(rt: &impl Abort, store: &LentStore<'_>, numbers: &[usize]) {
     }
 }
 
-// Puts in the values from 0 on, and answers which of them were refused. After a refusal the store is as before, and takes
-// the same value when it is asked again.
+// Inserts the values from 0 on, and returns which of them were refused. After a refusal the store is as before, and accepts the same
+// value the next time.
 fn fill(rt: &impl Abort, store: &mut LentStore<'_>, alloc: Global) -> Result<Vec<u32>, Fail> {
     let mut refused = Vec::new(alloc);
     let mut numbers = Vec::new(alloc);
@@ -39,7 +39,7 @@ fn fill(rt: &impl Abort, store: &mut LentStore<'_>, alloc: Global) -> Result<Vec
     Ok(refused)
 }
 
-// Where a store grows is its own affair. So each growth is refused in turn, until a run has fewer growths than that.
+// When a store grows is not specified. So each growth is refused in turn, until a run has fewer growths than that.
 #[test]
 fn each_growth_is_refused_in_turn(rt: HostRuntime) -> Result<(), Fail> {
     let mut places: Vec<u32> = Vec::new(rt.alloc());

@@ -9,12 +9,12 @@ use std::process::Abort;
 
 type CountedTree<'a> = Tree<Counted<'a>, u32, SlabStore<Node<Counted<'a>, u32>>>;
 
-// Since the count began, at most six keys a level were compared.
+// Checks that at most six keys at each level were compared since the count began.
 fn check_count(rt: &impl Abort, tree: &CountedTree<'_>, compared: &Cell<u32>, number: u32) {
     assert!(rt; compared.get() as usize <= 6 * tree.height(), "at {number}");
 }
 
-// A tree of the keys 1, 3, 5 and so on up to 87.
+// Returns a tree of the keys 1, 3, 5 and so on up to 87.
 fn odd_keys<'a>(rt: &impl Abort, compared: &'a Cell<u32>, alloc: Global) -> CountedTree<'a> {
     let mut tree: CountedTree<'a> = Tree::new(alloc);
     for value in 0..44u32 {
@@ -29,7 +29,7 @@ fn odd_keys<'a>(rt: &impl Abort, compared: &'a Cell<u32>, alloc: Global) -> Coun
     tree
 }
 
-// The value at the address of a key that is there.
+// Returns the value at the address of a key that is there.
 fn value_at<'a>(tree: &CountedTree<'a>, key: &Counted<'a>) -> Option<u32> {
     match tree.address_of(key) {
         Ok(addr) => tree.item(addr).map(|item| *item.value()),
@@ -37,7 +37,7 @@ fn value_at<'a>(tree: &CountedTree<'a>, key: &Counted<'a>) -> Option<u32> {
     }
 }
 
-// Each of the keys and each number between is sought.
+// Each of the keys and each number between is searched for.
 #[test]
 fn compares_at_most_six_keys_a_level(rt: HostRuntime) {
     let compared = Cell::new(0);

@@ -1,5 +1,5 @@
-//! Trees drawn as text: a digit is a leaf of so many items, brackets are an internal node around its children. The keys number a tree's
-//! items in order from 0.
+//! Trees drawn as text: a digit is a leaf with that many items, brackets are an internal node around its children. The keys number a
+//! tree's items in order from 0.
 ghost use Rattle.std.specs.Prelude.{◌≡◌, ◌∷◌, []};
 ghost use Rattle.btree_node.specs.Node.{view_of};
 ghost use Rattle.btree_view.specs.View.{children_of};
@@ -20,7 +20,7 @@ struct Open {
     key: u64,
 }
 
-// A leaf of so many items with the keys from a first one on.
+// Returns a leaf with `items` items, with keys from `first` on.
 fn leaf_from(rt: &impl Abort, first: u64, items: u64) -> Node<u64, u64>
     ensures { children_of (view_of result) ≡ [] }
 {
@@ -33,7 +33,7 @@ fn leaf_from(rt: &impl Abort, first: u64, items: u64) -> Node<u64, u64>
     Node::Leaf(leaf)
 }
 
-// An internal node without items.
+// Returns an internal node without items.
 fn over(child: usize) -> Node<u64, u64>
     ensures { children_of (view_of result) ≡ child ∷ [] }
 {
@@ -42,7 +42,7 @@ fn over(child: usize) -> Node<u64, u64>
     node
 }
 
-// The key after the next one, which is kept for the node being drawn if it has a child already; else the next one.
+// Keeps the next key for the node being drawn, if that has a child already, and returns the key after it; else returns the next key.
 fn keep_key(open: &mut Vec<Open>, key: u64) -> u64 {
     match open.last_mut() {
         Some(last) => {
@@ -56,7 +56,7 @@ fn keep_key(open: &mut Vec<Open>, key: u64) -> u64 {
     }
 }
 
-/// Allocates a node of which no child is missing.
+/// Allocates a node whose children are all there.
 pub(crate) fn put<C: NodesMut<u64, u64>>(
     rt: &impl Abort,
     raw: &mut RawBTree<u64, u64, C>,
@@ -70,7 +70,7 @@ pub(crate) fn put<C: NodesMut<u64, u64>>(
     }
 }
 
-// Puts one more child into a node, behind a key; makes the node with its first child.
+// Adds one more child to a node, after a key; makes the node with its first child.
 fn put_child<C: NodesMut<u64, u64>>(
     rt: &impl Abort,
     raw: &mut RawBTree<u64, u64, C>,
@@ -90,7 +90,7 @@ fn put_child<C: NodesMut<u64, u64>>(
     id
 }
 
-// Puts a node that is drawn to its end under the one around it; the outermost one is the root.
+// Puts a finished node under the one around it; the outermost one becomes the root.
 fn close<C: NodesMut<u64, u64>>(
     rt: &impl Abort,
     raw: &mut RawBTree<u64, u64, C>,
@@ -109,7 +109,7 @@ fn close<C: NodesMut<u64, u64>>(
     Ok(())
 }
 
-// Reads one letter of a text: the key after it.
+// Reads one letter of a text, and returns the key after it.
 fn draw<C: NodesMut<u64, u64>>(
     rt: &impl Abort,
     raw: &mut RawBTree<u64, u64, C>,
@@ -136,7 +136,7 @@ fn draw<C: NodesMut<u64, u64>>(
     Ok(key.wrapping_add(items))
 }
 
-/// The tree of a text, with 77 as its length.
+/// Returns the tree of a text, with 77 as its length.
 pub(crate) fn drawn<C: NodesMut<u64, u64> + Drop>(
     rt: &impl Abort,
     origin: C::Origin,
@@ -153,7 +153,7 @@ pub(crate) fn drawn<C: NodesMut<u64, u64> + Drop>(
     Ok(raw)
 }
 
-/// An address on the way through a tree, from its front on: its place, and the key of its item.
+/// An address that a forward walk through a tree passes: its place, and the key of its item.
 #[derive(Clone, Copy)]
 pub(crate) struct Stop {
     pub(crate) addr: Address,
@@ -177,7 +177,7 @@ impl Walked {
     }
 }
 
-// Notes what comes in a node after so many of its children.
+// Records what comes in a node after a number of its children.
 fn pass(node: &Node<u64, u64>, id: usize, passed: usize, walked: &mut Walked) -> Result<(), Fail> {
     let items = node.item_count();
     if passed == 0 {
@@ -235,7 +235,7 @@ pub(crate) fn walk<C: NodesMut<u64, u64>>(
     Err(Fail::from("a walk without an end"))
 }
 
-/// The keys of a node, each with a blank behind it, and `-` where there is no node.
+/// Returns the keys of a node, each followed by a blank, or `-` if there is no node.
 pub(crate) fn keys_of<C: NodesMut<u64, u64>>(
     raw: &RawBTree<u64, u64, C>,
     id: usize,
@@ -280,7 +280,7 @@ fn write_node(
     Ok(())
 }
 
-/// A whole tree as text, the nodes of its store by their numbers, those below 64.
+/// Returns a whole tree as text: the nodes of its store by their numbers, those below 64.
 pub(crate) fn content_of<C: NodesMut<u64, u64>>(
     raw: &RawBTree<u64, u64, C>,
     alloc: Global,
@@ -299,7 +299,7 @@ pub(crate) fn content_of<C: NodesMut<u64, u64>>(
     Ok(text)
 }
 
-/// The node at the end of a way down from the root, child by child.
+/// Returns the node at the end of a path down from the root, child by child.
 pub(crate) fn follow<C: NodesMut<u64, u64>>(
     rt: &impl Abort,
     raw: &RawBTree<u64, u64, C>,
@@ -319,7 +319,7 @@ pub(crate) fn follow<C: NodesMut<u64, u64>>(
     id
 }
 
-/// Puts so many leaves beside the tree, and takes them out again.
+/// Inserts some leaves into the store that are no part of the tree, and removes them again.
 pub(crate) fn put_spare<C: NodesMut<u64, u64>>(
     rt: &impl Abort,
     raw: &mut RawBTree<u64, u64, C>,

@@ -1,4 +1,4 @@
-//! The test for trees that are off by one at a node.
+//! `is_off_by_one`, for trees that are off by one at a node and trees that are not.
 use crate::drawn::{drawn, put};
 use crate::rebalance::{Raw, leaf_of, two};
 use btree_item::Item;
@@ -7,12 +7,12 @@ use std::alloc::Global;
 use std::process::Abort;
 use std::test::Fail;
 
-// A tree of two leaves that is well formed but for its length.
+// Returns a tree of two leaves that is well formed but for its length.
 fn even(rt: &impl Abort, alloc: Global) -> (Raw, usize, usize, usize) {
     two(rt, alloc, &[0, 1, 2], 3, &[4, 5, 6])
 }
 
-// Whether a drawn tree is off by one at its root.
+// Returns whether a drawn tree is off by one at its root.
 fn is_off_at_root(rt: &impl Abort, text: &str, alloc: Global) -> Result<bool, Fail> {
     let raw: Raw = drawn(rt, alloc, text, alloc)?;
     Ok(match raw.root_id() {

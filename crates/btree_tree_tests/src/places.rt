@@ -1,4 +1,4 @@
-//! Every address of trees that are off by one at a node, through rebalancing: found by a walk, it has the same place as before.
+//! Rebalancing keeps the place of every address of trees that are off by one at a node, as a walk finds it.
 use crate::drawn::{Stop, Walked, drawn, follow, keys_of, walk};
 use btree_item::Address;
 use btree_node::Node;
@@ -10,7 +10,7 @@ use std::test::Fail;
 
 type Raw = RawBTree<u64, u64, SlabStore<Node<u64, u64>>>;
 
-// A tree that is off by one at a node: its text, the way down to the node, child by child, and how many addresses and nodes it has.
+// A tree that is off by one at a node: its text, the path down to the node, child by child, and how many addresses and nodes it has.
 #[derive(Clone, Copy)]
 struct Before<'a> {
     text: &'a str,
@@ -19,7 +19,7 @@ struct Before<'a> {
     nodes: usize,
 }
 
-// What rebalancing makes of it: its text, the keys of its root, and how many nodes it has.
+// The tree after rebalancing: its text, the keys of its root, and how many nodes it has.
 #[derive(Clone, Copy)]
 struct After<'a> {
     text: &'a str,
@@ -30,7 +30,7 @@ struct After<'a> {
 // A row of a table: the fields of `Before`, and those of `After`.
 type Row<'a> = (&'a str, &'a [usize], usize, usize, &'a str, &'a str, usize);
 
-// The answered address is found with the place of the asked one, at its item if it has one, and not at -1 unless that one was.
+// Checks that the returned address has the place of the given one, is at its item if it has one, and is not at -1 unless that one was.
 fn check_place(rt: &impl Abort, walked: &Walked, asked: &Stop, answer: Address) {
     for found in &walked.stops {
         if found.addr == answer {
@@ -51,7 +51,7 @@ fn check_place(rt: &impl Abort, walked: &Walked, asked: &Stop, answer: Address) 
     panic!(rt; "{} is not found again", asked.addr);
 }
 
-// Each item's key is its place.
+// Checks that each item's key is its place.
 fn check_keys(rt: &impl Abort, walked: &Walked) {
     for stop in &walked.stops {
         if let Some(key) = stop.key {

@@ -1,4 +1,4 @@
-//! Trees that are off by one at a node, rebalanced: rows of addresses, and memory that is refused.
+//! Rebalancing of trees that are off by one at a node: tables of addresses, and memory that is refused.
 ghost use Rattle.std.specs.Prelude.{◌≡◌, []};
 ghost use Rattle.btree_node.specs.Node.{view_of};
 ghost use Rattle.btree_view.specs.View.{children_of};
@@ -25,7 +25,7 @@ pub(crate) fn leaf_of(rt: &impl Abort, keys: &[u64]) -> Node<u64, u64>
     Node::Leaf(leaf)
 }
 
-// A root leaf.
+// Returns a tree with a root leaf of these keys, and the number of the root.
 fn one(rt: &impl Abort, alloc: Global, keys: &[u64]) -> (Raw, usize) {
     let mut raw = Raw::new(alloc);
     let id = put(rt, &mut raw, leaf_of(rt, keys));
@@ -34,7 +34,7 @@ fn one(rt: &impl Abort, alloc: Global, keys: &[u64]) -> (Raw, usize) {
     (raw, id)
 }
 
-// A root with one item over two leaves: the tree, and the numbers of the root and the leaves.
+// Returns a tree with a root of one item over two leaves, and the numbers of the root and the leaves.
 pub(crate) fn two(
     rt: &impl Abort,
     alloc: Global,
@@ -65,7 +65,7 @@ fn before(id: usize) -> Address {
     Address::new(id, Offset::before())
 }
 
-// Rebalances a tree at a node, where its tests allow it.
+// Rebalances a tree at a node, if `is_off_by_one` and `is_valid` allow it.
 fn rebalanced(rt: &impl Abort, raw: &mut Raw, id: usize, addr: Address) -> Address {
     assert!(rt; raw.is_off_by_one(id));
     assert!(rt; raw.is_valid(addr), "{addr}");
@@ -75,7 +75,7 @@ fn rebalanced(rt: &impl Abort, raw: &mut Raw, id: usize, addr: Address) -> Addre
     }
 }
 
-// The tree has this root, so many nodes, and among them these numbers with these keys.
+// Checks that the tree has this root, this number of nodes, and among them these numbers with these keys.
 fn check_tree(
     rt: &impl Abort,
     raw: &Raw,
@@ -159,7 +159,7 @@ fn merges_below_a_root(rt: HostRuntime) -> Result<(), Fail> {
     Ok(())
 }
 
-// The root's number, and that of its second child, where there are such.
+// Returns the root's number, and that of its second child, if there are such.
 fn root_and_second(raw: &Raw) -> Option<(usize, usize)> {
     let root = raw.root_id()?;
     if !raw.has_node(root) {

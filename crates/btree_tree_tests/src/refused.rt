@@ -11,7 +11,7 @@ use std::alloc::Global;
 use std::process::Abort;
 use std::test::Fail;
 
-// Rebalances a tree at a node, where its tests allow it.
+// Rebalances a tree at a node, if `is_off_by_one` and `is_valid` allow it.
 fn rebalanced<C: NodesMut<u64, u64>>(
     rt: &impl Abort,
     raw: &mut RawBTree<u64, u64, C>,
@@ -23,8 +23,8 @@ fn rebalanced<C: NodesMut<u64, u64>>(
     raw.rebalance(id, addr)
 }
 
-// The leaf of 9 items splits, and the node above it, where the next allocation is refused: with an error nothing has changed, and it
-// does not come again. Answers whether it came.
+// The leaf of 9 items is split, and the node above it, where the next allocation is refused: with an error nothing has changed, and the
+// error does not occur again. Returns whether it occurred.
 fn is_refused<C: NodesMut<u64, u64> + Drop>(
     rt: &impl Abort,
     origin: C::Origin,
@@ -55,7 +55,7 @@ fn is_refused<C: NodesMut<u64, u64> + Drop>(
     Ok(true)
 }
 
-// In 16 slots there is room for one node more than 15, and for none more than 16; two that have gone leave room for two.
+// In 16 slots there is room for one node more than 15, and for none more than 16; two that were removed leave room for two.
 #[test]
 fn a_refused_node_of_a_split_changes_nothing(rt: HostRuntime) -> Result<(), Fail> {
     for (text, spare, refused) in [
@@ -78,7 +78,7 @@ fn a_refused_node_of_a_split_changes_nothing(rt: HostRuntime) -> Result<(), Fail
     Ok(())
 }
 
-// Allocates a leaf where the store has no memory: the leaf comes back, and is taken when it is put again.
+// Allocates a leaf while the store has no memory: the leaf is returned, and is accepted the next time.
 fn check_allocated<C: NodesMut<u64, u64> + Drop>(
     rt: &impl Abort,
     origin: C::Origin,

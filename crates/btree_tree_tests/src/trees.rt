@@ -11,7 +11,7 @@ use std::alloc::{AllocError, Global};
 use std::process::Abort;
 use std::test::Fail;
 
-// The keys of each node, level by level from the root, `|` behind each node and `/` behind each level.
+// Returns the keys of each node, level by level from the root, `|` after each node and `/` after each level.
 fn levels_of<C: NodesMut<u64, u64>>(
     tree: &Tree<u64, u64, C>,
     alloc: Global,
@@ -58,8 +58,8 @@ fn write_node<C: NodesMut<u64, u64>>(
     Ok(())
 }
 
-// Puts the keys from 0 on into a new tree. A refused pair comes back with the tree as before, and is taken when it is put again.
-// Answers the tree, and how many pairs were refused.
+// Inserts the keys from 0 on into a new tree. A refused pair is returned with the tree as before, and is accepted the next time. Returns
+// the tree, and how many pairs were refused.
 fn grow<C: NodesMut<u64, u64> + Drop>(
     rt: &impl Abort,
     origin: C::Origin,
@@ -123,7 +123,7 @@ fn splits_a_leaf_and_a_root(rt: HostRuntime) -> Result<(), Fail> {
     Ok(())
 }
 
-// Puts keys into a tree, which takes so many nodes on three levels, and answers how many were refused once.
+// Inserts keys into a tree, which uses `nodes` nodes on three levels, and returns how many were refused once.
 fn refusals_of<C: NodesMut<u64, u64> + Drop>(
     rt: &impl Abort,
     origin: C::Origin,
@@ -155,7 +155,7 @@ fn walks_from_the_front(rt: HostRuntime) -> Result<(), Fail> {
     Ok(())
 }
 
-// Each allocation of a run of insertions is refused in turn, until a run meets none.
+// Each allocation of a run of insertions is refused in turn, until a run has none that is refused.
 fn check_each_refused(rt: &impl Abort, keys: u64, nodes: usize, alloc: Global) -> Result<(), Fail> {
     for nth in 1..64u64 {
         let memory = Refusing::over(alloc, nth);
@@ -171,8 +171,8 @@ fn check_each_refused(rt: &impl Abort, keys: u64, nodes: usize, alloc: Global) -
     Err(Fail::from("each run met a refusal"))
 }
 
-// The last of 44 keys takes three nodes. That of 64 takes two, a leaf and a node above it, the 17th. There the store grows, so that the first
-// of the two claimed nodes is given back.
+// The last of 44 keys uses three new nodes. That of 64 uses two, a leaf and a node above it, the 17th. There the store grows, so that the
+// first of the two claimed nodes is given back.
 #[test]
 fn a_refused_node_changes_nothing(rt: HostRuntime) -> Result<(), Fail> {
     check_each_refused(&rt, 44, 12, rt.alloc())?;

@@ -1,4 +1,4 @@
--- The tests by which a walk comes to a node.
+-- The tests by which a walk enters a node.
 use Rattle.std.proofs.Common.{◌≡◌, ◌<◌, ◌≤◌, ◌+◌, ℕ, true, false, not, eqb, leb, Option, Some, None, IsTrue, refl, ap, arith}
 use Rattle.std.specs.Option.{option_eq}
 use Rattle.std.proofs.lemmas.Bool.Decides.{nat_tests}

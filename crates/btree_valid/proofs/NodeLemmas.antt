@@ -1,4 +1,4 @@
--- A node of a store to which a walk comes.
+-- A node of a store that a walk enters.
 use Rattle.std.proofs.Common.{◌≡◌, ◌∙◌, ◌-◌, ◌<◌, ◌≤◌, ℕ, zero, suc, List, length, map, IsTrue, false, true, Option, Some, None, option_map, option_copied, slice_get, refl, sym, ap, subst, arith}
 use Rattle.std.specs.FinMap as finite
 use Rattle.std.specs.Prelude.{IfSome}
@@ -48,7 +48,7 @@ module _ {K V : Type 0} (cmp : K → K → Ordering) (nodes : Content (Node K V)
   own-listed zero = let s = one-self id in omega arith
   own-listed (suc h) = let s = one-self id in omega arith
 
-  -- where the walk can pass the node, it comes to it
+  -- if the walk can pass the node, it enters it
   pub not-entered : (MayEnter (view_of node) root odd id left parent → IsTrue false) → Can → ⊥
   not-entered not c =
       let no : false ≡ true = not (some-left height c.enough, parent-is height (represented (views nodes) (suc height) id) c.right, c.sized id (view_of node) (own-listed height) here) in
@@ -58,7 +58,7 @@ module _ {K V : Type 0} (cmp : K → K → Ordering) (nodes : Content (Node K V)
     leaf-here : views nodes id ≡ Some (leaf (parent_of (view_of node)) items)
     leaf-here = here ∙ ap (λ v. Some v) is
 
-    -- a leaf is no level above the leaves
+    -- a leaf has height 0
     pub leaf-low : (height ≡ 0 → ⊥) → Can → ⊥
     leaf-low some c = by height some (represented (views nodes) (suc height) id) c.right where
       by : (h : ℕ) → (h ≡ 0 → ⊥) → (xs : List (K × V)) → Represents (views nodes) h parent id xs → ⊥
@@ -101,7 +101,7 @@ module _ {K V : Type 0} (cmp : K → K → Ordering) (nodes : Content (Node K V)
     inner-can c = first-can cmp (views nodes) root odd parent id left last may.0 (height - 1) first branches inner-here
         (subst (λ h. CanPassUnder cmp (views nodes) root odd h parent id left last) higher c)
 
-    -- what is left of the node, where `rest` are the branches to come
+    -- what is left of the node, if `rest` are the branches to come
     abbrev pub InNode : (rest : List ((K × V) × ℕ)) → (left : ℕ) → (last : Option K) → Type 0
     InNode rest = IsInNode cmp (views nodes) root odd (Represents (views nodes) height parent id (represented (views nodes) (suc height) id)) (numbers_under (views nodes) height id) (represented (views nodes) (suc height) id)
         left last (height - 1) id rest
@@ -116,7 +116,7 @@ module _ {K V : Type 0} (cmp : K → K → Ordering) (nodes : Content (Node K V)
         let w = first-passed cmp (views nodes) root odd parent id left last may.0 (height - 1) first branches inner-here sized_here left_mid last_mid p in
         subst (by height) (sym same) (subst (λ h. by h branches) (sym higher) w)
 
--- where there is no node, nothing can be passed
+-- if there is no node, nothing can be passed
 pub nothing-there : {K V : Type 0} (cmp : K → K → Ordering) (node_at : NodeMap (K × V)) (root odd height : ℕ) (parent : Option ℕ) (id left : ℕ) (last : Option K)
     → node_at id ≡ None → CanPassUnder cmp node_at root odd height parent id left last → ⊥
 nothing-there cmp node_at root odd zero parent id left last none can = let right = can.right in absurd (cc)

@@ -1,4 +1,4 @@
--- A walk of all nodes, and whether the tree is off by one at a node.
+-- A walk of all nodes decides whether the tree is off by one at a node.
 use Rattle.std.proofs.Common.{◌≡◌, [], ◌∙◌, ◌+◌, ◌<◌, ℕ, suc, List, length, IsTrue, Bool, false, true, eqb, inl, inr, Option, Some, None, IsSome, option_map, refl, sym, subst, arith}
 use Rattle.std.proofs.lemmas.Bool.Decides.{nat_tests}
 use Rattle.std.specs.Cmp.{IsTotalOrder}
@@ -68,7 +68,7 @@ module _ {K V : Type 0} (cmp : K → K → Ordering) (nodes : Content (Node K V)
     all-listed : (n : ℕ) → times_listed n ids ≡ times_used (node_at n)
     all-listed n = subst (λ h. times_listed n (numbers_under node_at h root) ≡ times_used (node_at n)) off.3 (off.2.once n)
 
-    -- as many numbers as nodes
+    -- there are as many numbers as nodes
     pub all-counted : map.len nodes ≡ length ids
     all-counted = len-views nodes ids all-listed
 

@@ -1,4 +1,4 @@
--- That numbers are used, each once, where keys ascend and there are as many of them as nodes.
+-- Numbers are used, each once, if keys ascend and there are as many numbers as nodes.
 use Rattle.std.proofs.Common.{◌≡◌, ◌≢◌, ◌∷◌, [], ◌∙◌, ◌+◌, ◌<◌, ◌≤◌, ℕ, zero, suc, inl, inr, false, List, length, map, is_some, Option, Some, None, refl, sym, ap, subst, arith}
 use Rattle.std.proofs.lemmas.Bool.Decides.{nat_tests}
 use Rattle.std.specs.Cmp.{IsTotalOrder, nat_cmp_total}
@@ -17,7 +17,7 @@ use Rattle.btree_shape.proofs.Paths.Frames.{one-other, one-self, total-append}
 use Rattle.btree_shape.proofs.Trees.Numbers.{same-or, used-low, used-one, zero-or}
 use Rattle.btree_shape.proofs.LookUp.KeyInList.{Rises}
 
--- as many numbers as a content has, each used and none twice, are all that it has
+-- as many numbers as a content has, each used and none twice, are all of its numbers
 module _ {T : Type 0} where
   without-one : (m : Content T) (i : ℕ) (u : T) → get m i ≡ Some u → len m ≡ len (remove m i) + 1
   without-one m i u at =
@@ -65,7 +65,7 @@ module _ {T : Type 0} where
             omega arith
       ]
 
--- 1 where two keys are equal
+-- 1 if two keys are equal, else 0
 abbrev alike : Ordering → ℕ
 alike Less = 0
 alike Equal = 1
@@ -100,7 +100,7 @@ module _ {K V : Type 0} (cmp : K → K → Ordering) (laws : IsTotalOrder cmp) (
   by-first Equal y xs e all low = let r = none-behind y e xs all in omega arith
   by-first Greater y xs e all low = omega arith
 
-  -- in ascending pairs at most one
+  -- in ascending pairs there is at most one
   key-once : (xs : List (K × V)) → Rises cmp xs → at-key xs ≤ 1
   key-once [] up = omega arith
   key-once (x ∷ xs) up = by-first (cmp x.0 key) x.0 xs refl up.0 (key-once xs up.1)
@@ -132,7 +132,7 @@ module _ {K V : Type 0} (cmp : K → K → Ordering) (laws : IsTotalOrder cmp) (
         let l = total-append (λ x. alike (cmp x.0 key)) (items_under (K × V) h b.1) (later_items (K × V) h bs) in
         omega arith
 
-    -- a node stands at most as often in a tree as its first key
+    -- a node occurs at most as often in a tree as its first key
     times-keys : (h : ℕ) (p : Option ℕ) (t : Shape (K × V) h) → Holds (K × V) node_at h p t → times_under (K × V) h n t ≤ at-key (items_under (K × V) h t)
     times-keys zero p t d = elim (same-or n t.0) [
       | inl same ↦
@@ -182,7 +182,7 @@ module _ {A : Type 0} (node_at : NodeMap A) (n : ℕ) (apart : (p : ℕ) (v : Vi
         omega arith
   ]
 
-  -- so it is at most the root
+  -- so it is at most the root of the subtree
   pub at-root : (h : ℕ) (p : Option ℕ) (t : Shape A h) → Holds A node_at h p t → times_under A h n t ≡ one n (id_of A h t)
   at-root zero p t d = refl
   at-root (suc h) p t d =
@@ -247,6 +247,6 @@ module _ {K V : Type 0} (cmp : K → K → Ordering) (laws : IsTotalOrder cmp) (
         low : (m i : ℕ) → one m i ≤ 1
         low m i = elim (same-or m i) [ inl same ↦ grind (arith, nat_tests) | inr apart ↦ let z = one-other m i apart in omega arith ]
 
-    -- no number stands twice under the root, and each is used
+    -- no number occurs twice under the root, and each is used
     pub few : (n : ℕ) → times_under (K × V) h n t ≤ times_used (node_at n)
     few n = few-at n (node_at n) refl

@@ -54,7 +54,7 @@ module _ {K V : Type 0} (cmp : K → K → Ordering) where
   pub orders-append : (xs ys : List (K × V)) (last mid after : Option K) → Orders cmp xs last mid → Orders cmp ys mid after → Orders cmp (xs ++ ys) last after
   orders-append xs ys last mid after f g done p = subst (HasPassed cmp after) (append_assoc done xs ys) (g (done ++ xs) (f done p))
 
-  -- where the pairs can be passed, so can those at the front, and then the others
+  -- if the pairs can be passed, so can those at the front, and then the others
   pub can-front : (xs ys : List (K × V)) (last : Option K) → CanOrder cmp (xs ++ ys) last → CanOrder cmp xs last
   can-front xs ys last c =
       let up = subst (Ascends cmp) (sym (append_assoc c.0 xs ys)) c.2 in

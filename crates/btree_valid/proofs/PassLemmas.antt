@@ -14,7 +14,7 @@ use Rattle.btree_valid.specs.OffByOne.{AreNearlySized, CanOrder, CanPass, CanPas
 use Rattle.btree_valid.proofs.OrderLemmas.{can-back, can-front, can-above, orders-append, orders-none, orders-one}
 
 module _ {K V : Type 0} (cmp : K → K → Ordering) (node_at : NodeMap (K × V)) (root odd : ℕ) where
-  -- what the branches of a node are to be, under the node `id`, their children so many levels above the leaves
+  -- the branches of node `id` are as they should be, with their children `height` levels above the leaves
   abbrev pub AreRight : (height id : ℕ) → List ((K × V) × ℕ) → Type 0
   AreRight height id bs = AllByRecursion (λ b. Represents node_at height (Some id) b.1 (represented node_at (suc height) b.1)) bs
 
@@ -91,7 +91,7 @@ module _ {K V : Type 0} (cmp : K → K → Ordering) (node_at : NodeMap (K × V)
       enough = let l = length-append (numbers_under node_at height b.1) (numbers-in height bs) in let e = c.enough in let q = p.paid in omega arith;
     }
 
-  -- the branches `rest` of the node that `IsRight` speaks of come next, and then all is passed
+  -- the branches `rest` of a node come next, and then all of it is passed
   pub record IsInNode (IsRight : Type 0) (ids : List ℕ) (xs : List (K × V)) (start_left : ℕ) (start : Option K) (height id : ℕ) (rest : List ((K × V) × ℕ)) (left : ℕ) (last : Option K) : Type 0 where
     pub only : (left_after : ℕ) (last_after : Option K) → PassesRow height id rest left last left_after last_after
         → Passes cmp node_at root odd IsRight ids xs start_left start left_after last_after
@@ -193,7 +193,7 @@ module _ {K V : Type 0} (cmp : K → K → Ordering) (node_at : NodeMap (K × V)
           let e = represented-is node_at height (suc height) (Some id) r.1 r.2 (omega arith) all.0 in
           (subst (λ l. Represents node_at height (Some id) r.1 l) (sym e) all.0, right-rows rs all.1)
 
-      -- an internal node spells what its parts spell
+      -- an internal node represents the list of its parts
       represents-node : Represents node_at height (Some id) first front → AreRight height id bs → Represents node_at (suc height) parent id (front ++ pairs-in height bs)
       represents-node s all = (
         first,
@@ -217,7 +217,7 @@ module _ {K V : Type 0} (cmp : K → K → Ordering) (node_at : NodeMap (K × V)
       abbrev pub Whole : Type 0
       Whole = Represents node_at (suc height) parent id (represented node_at (suc (suc height)) id)
 
-      -- where an internal node can be passed, so can its first child
+      -- if an internal node can be passed, so can its first child
       pub first-can : CanPassUnder cmp node_at root odd (suc height) parent id left last → CanPassUnder cmp node_at root odd height (Some id) first (left - 1) last
       first-can c =
           let sized = subst (AreNearlySized cmp node_at root odd) (sym numbers-are) c.sized in

@@ -1,4 +1,9 @@
--- What a walk in order of the nodes of a tree of any content passes.
+-- What an in-order walk through the nodes of a tree of any content passes.
+-- The walk passes nodes in the order of their keys, and keeps the last key that it passed and how many nodes may still
+-- come. A part of the tree is passed if it represents its pairs at its height under its parent, each of its nodes has
+-- its number of items, but for one more or less at node `odd`, and the keys of its pairs, after those passed before,
+-- still ascend. A whole tree is passed from its root with as many nodes as the store has; that each number then occurs
+-- once follows from the parent numbers and the order of the keys.
 use Rattle.std.specs.Prelude.{◌≡◌, ℕ, ◌+◌, ◌<◌, ◌≤◌, suc, List, ◌++◌, length, Option, Some, None}
 use Rattle.std.specs.List.{AllByRecursion}
 use Rattle.std.specs.declared.cmp.Ordering.{Ordering}
@@ -13,32 +18,32 @@ use Rattle.btree_shape.specs.Represents.{Represents, numbers_under, represented}
 use Rattle.btree_shape.specs.TreeState.{views}
 use Rattle.btree_shape.specs.WellFormed.{IsNearlySized, IsOffByOne, IsRooted}
 
--- the key is above the last one passed, if there is one
+-- the key is greater than the last one passed, if there is one
 abbrev pub IsAbove : {K : Type 0} → (cmp : K → K → Ordering) → (last : Option K) → K → Type 0
 IsAbove cmp None key = Unit {0}
 IsAbove cmp (Some last) key = cmp last key ≡ Less
 
--- the walk may come to a node here: one more may come, the node names its parent, and it has its number of items, but for one more or
--- less at node `odd`
+-- the walk may enter this node: at least one more node may come, the node names this parent, and it has its number of
+-- items, but for one more or less at node `odd`
 abbrev pub MayEnter : {A : Type 0} → View A → (root odd id left : ℕ) → (parent : Option ℕ) → Type 0
 MayEnter node root odd id left parent = (0 < left) × (parent_of node ≡ parent) × IsNearlySized root odd id node
 
 module _ {K V : Type 0} (cmp : K → K → Ordering) where
-  -- the keys of the pairs passed ascend, and the keys above `last` are those that are above them all
+  -- the keys of the pairs passed ascend, and a key is above `last` exactly if it is above them all
   pub record HasPassed (last : Option K) (xs : List (K × V)) : Type 0 where
     pub ascends : Ascends cmp xs
     pub below : (key : K) → IsAbove cmp last key → AllByRecursion (λ x. cmp x.0 key ≡ Less) xs
     pub above : (key : K) → AllByRecursion (λ x. cmp x.0 key ≡ Less) xs → IsAbove cmp last key
 
-  -- the walk passes these pairs next
+  -- the walk passes these pairs next: `last` is the last key before them, and `after` the last key after them
   abbrev pub Orders : List (K × V) → (last after : Option K) → Type 0
   Orders xs last after = (done : List (K × V)) → HasPassed last done → HasPassed after (done ++ xs)
 
-  -- with these pairs behind those that were passed, the keys still ascend
+  -- these pairs can come after those that were passed: the keys still ascend
   abbrev pub CanOrder : List (K × V) → (last : Option K) → Type 0
   CanOrder xs last = (done : List (K × V)) × HasPassed last done × Ascends cmp (done ++ xs)
 
-  -- the tree is off by one at a node, and its root is so many levels above the leaves
+  -- the tree is off by one at a node, and its root is `height` levels above the leaves
   abbrev pub IsOffAt : NodeMap (K × V) → (root odd height : ℕ) → Type 0
   IsOffAt node_at root odd height = (xs : List (K × V)) × Ascends cmp xs × (rooted : IsRooted (IsNearlySized root odd) node_at root xs) × (rooted.height ≡ height)
 
@@ -47,8 +52,8 @@ module _ {K V : Type 0} (cmp : K → K → Ordering) where
     abbrev pub AreNearlySized : List ℕ → Type 0
     AreNearlySized ids = (n : ℕ) (node : View (K × V)) → 0 < times_listed n ids → node_at n ≡ Some node → IsNearlySized root odd n node
 
-    -- a part of the tree, its nodes under these numbers, with these pairs, is passed: it is as it should be, and `left`, the
-    -- number of nodes that may still come, is less by its nodes
+    -- a part of the tree, with these numbers of nodes and these pairs, is passed: it is as it should be, and `left`,
+    -- the number of nodes that may still come, has decreased by the number of its nodes
     pub record Passes (IsRight : Type 0) (ids : List ℕ) (xs : List (K × V)) (left : ℕ) (last : Option K) (left_after : ℕ) (last_after : Option K) : Type 0 where
       pub right : IsRight
       pub sized : AreNearlySized ids
@@ -63,14 +68,14 @@ module _ {K V : Type 0} (cmp : K → K → Ordering) where
       pub enough : length ids ≤ left
 
     module _ (height : ℕ) (parent : Option ℕ) (id : ℕ) where
-      -- node `id` under this parent, so many levels above the leaves, and all below it are passed
+      -- node `id` under this parent, `height` levels above the leaves, and all nodes below it are passed
       abbrev pub PassesUnder : (left : ℕ) (last : Option K) (left_after : ℕ) (last_after : Option K) → Type 0
       PassesUnder = Passes (Represents node_at height parent id (represented node_at (suc height) id)) (numbers_under node_at height id) (represented node_at (suc height) id)
 
       abbrev pub CanPassUnder : (left : ℕ) (last : Option K) → Type 0
       CanPassUnder = CanPass (Represents node_at height parent id (represented node_at (suc height) id)) (numbers_under node_at height id) (represented node_at (suc height) id)
 
-  -- the same of the nodes of a store
+  -- the same for the nodes of a store
   module _ (nodes : Content (Node K V)) (root odd : ℕ) where
     abbrev pub IsOffAtHeight : (height : ℕ) → Type 0
     IsOffAtHeight = IsOffAt (views nodes) root odd

@@ -1,4 +1,4 @@
--- The walk by what code carries of it: how many nodes may still come, and the last key that was passed.
+-- The walk as a state of the code: how many nodes may still come, and the last key that was passed.
 use Rattle.std.specs.Prelude.{◌≡◌, ℕ, Some, option_copied}
 use Rattle.std.specs.declared.cmp.Ordering.{Ordering}
 use Rattle.btree_node.specs.declared.node.Node.{Node}

@@ -1,4 +1,4 @@
-//! Whether nodes of any content form a tree: walks that take no memory.
+//! Decides whether nodes of any content form a tree, by walks that allocate no memory.
 #![tactic(auto, using(btree_store::specs::ContentLaws::stores))]
 
 mod off_by_one;

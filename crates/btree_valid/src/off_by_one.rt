@@ -1,4 +1,4 @@
-//! Whether a tree of any content is off by one at a node.
+//! Decides whether a tree of any content is off by one at a node.
 ghost use Rattle.std.specs.Prelude.{◌≡◌, ℕ, ◌+◌, ◌↔◌, ◌<◌, IfSome, IsTrue, IsSome, List, None, option_copied};
 ghost use Rattle.std.specs.Mem.{FitsInMemory};
 ghost use Rattle.btree_node.specs.contracts.node.Node.{the_row as node_row};
@@ -13,14 +13,14 @@ use btree_node::Node;
 use btree_nodes::Nodes;
 use std::cmp::Ordering;
 
-// A walk of the nodes in order: how many nodes may still come, and the last key that was passed.
+// An in-order walk through the nodes: how many nodes may still come, and the last key that was passed.
 #[derive(Drop)]
 struct Walk<'a, K> {
     left: usize,
     last: Option<&'a K>,
 }
 
-// A part of a tree as it is to be: a node with all below it, so many levels above the leaves, under this parent.
+// A subtree as it should be: its root, the height of that node above the leaves, and its parent.
 #[derive(Clone, Copy)]
 struct Part {
     height: usize,
@@ -28,7 +28,7 @@ struct Part {
     id: usize,
 }
 
-// Whether a key is above the last one passed.
+// Returns whether a key is above the last one passed.
 fn is_above<K: Ord>(last: Option<&K>, key: &K) -> bool
     ensures { IsTrue result ↔ IsAbove K.cmp (option_copied last.entry) key.now }
 {
@@ -38,7 +38,7 @@ fn is_above<K: Ord>(last: Option<&K>, key: &K) -> bool
     }
 }
 
-// The fewest items of a node, where node `odd` may lack one.
+// Returns the fewest items of a node; node `odd` may have one too few.
 fn least_items(root: usize, odd: usize, id: usize) -> usize
     ensures { result ≡ least_beside root odd id }
 {
@@ -48,7 +48,7 @@ fn least_items(root: usize, odd: usize, id: usize) -> usize
     if id == root { 1 } else { MIN_ITEMS }
 }
 
-// The most items of a node, where node `odd` may have one more.
+// Returns the most items of a node; node `odd` may have one too many.
 fn most_items<K, V>(node: &Node<K, V>, odd: usize, id: usize) -> usize
     ensures { result ≡ most_of (view_of node.now) + excess_beside odd id }
 {
@@ -66,8 +66,8 @@ fn most_items<K, V>(node: &Node<K, V>, odd: usize, id: usize) -> usize
     }
 }
 
-// Whether the walk may come to a node here: there may be one more, it names its parent, and it has its number of items, but for one
-// more or less at node `odd`.
+// Returns whether the walk may enter a node: at least one more node may come, the node names this parent, and it has its number of items,
+// but for one more or less at node `odd`.
 fn may_enter<K, V>(
     node: &Node<K, V>,
     root: usize,
@@ -91,7 +91,7 @@ fn may_enter<K, V>(
     count <= most_items(node, odd, id)
 }
 
-// Passes the items of a leaf, if each key is above the one before it.
+// Passes the items of a leaf, or returns `None` if a key is not above the one before it.
 fn pass_items<'a, K: Ord, V>(node: &'a Node<K, V>, seen: Walk<'a, K>) -> Option<Walk<'a, K>>
     requires { view_of node.now ≡ leaf (parent_of (view_of node.now)) (items_of (view_of node.now)) }
     ensures left { IfSome result (λ after. after.left ≡ seen.entry.left) }
@@ -116,7 +116,7 @@ fn pass_items<'a, K: Ord, V>(node: &'a Node<K, V>, seen: Walk<'a, K>) -> Option<
     })
 }
 
-// Passes a key, if it is above the last one.
+// Passes a key, or returns `None` if it is not above the last one.
 fn pass_key<'a, K: Ord>(seen: Walk<'a, K>, key: &'a K) -> Option<Walk<'a, K>>
     ensures only { IfSome result (PassesKey K.cmp key.now seen.entry) }
     ensures always { IsAbove K.cmp (option_copied seen.entry.last) key.now → IsSome result }
@@ -130,7 +130,7 @@ fn pass_key<'a, K: Ord>(seen: Walk<'a, K>, key: &'a K) -> Option<Walk<'a, K>>
     })
 }
 
-// Passes a part of the tree, if it is as it should be.
+// Passes a subtree, or returns `None` if it is not as it should be.
 fn pass_node<'a, K: Ord + 'a, V: 'a, C: Nodes<K, V>>(
     nodes: &'a C,
     root: usize,
@@ -179,7 +179,7 @@ fn pass_node<'a, K: Ord + 'a, V: 'a, C: Nodes<K, V>>(
     Some(passed)
 }
 
-// Whether the tree is off by one at node `odd`, its root so many levels above the leaves: then a walk passes all nodes.
+// Returns whether the tree is off by one at node `odd`, with its root `height` levels above the leaves: if so, the walk passes all nodes.
 fn is_off_at<K: Ord, V, C: Nodes<K, V>>(nodes: &C, root: usize, odd: usize, height: usize) -> bool
     requires { FitsInMemory (node_row K.row V.row) }
     ensures { IsTrue result ↔ IsOffAtHeight K.cmp (C.content nodes.now) root odd height }
@@ -199,7 +199,7 @@ fn is_off_at<K: Ord, V, C: Nodes<K, V>>(nodes: &C, root: usize, odd: usize, heig
     }
 }
 
-// Whether the tree is off by one at node `odd`, at one of the heights that such a tree may have.
+// Returns whether the tree is off by one at node `odd`, at one of the heights that such a tree may have.
 fn is_off_at_some<K: Ord, V, C: Nodes<K, V>>(nodes: &C, root: usize, odd: usize) -> bool
     requires { FitsInMemory (node_row K.row V.row) }
     ensures { IsTrue result ↔ IsOffAtSomeHeight K.cmp (C.content nodes.now) root odd }
@@ -212,11 +212,10 @@ fn is_off_at_some<K: Ord, V, C: Nodes<K, V>>(nodes: &C, root: usize, odd: usize)
     false
 }
 
-/// Whether the nodes form a tree of at most 32 levels under a root, well formed but for its length and the number of items of node `odd`,
-/// which is there: that one may have one item too many or too few, and none if it is the root.
+/// Returns whether the nodes form a tree of at most 32 levels under a root, well formed but for its length and the number of items of
+/// node `odd`. That node is there, and may have one item too many or too few, and none if it is the root.
 ///
-/// It takes no memory but the stack. For each of the 32 heights that such a tree may have it looks at no more nodes than there are, and
-/// one.
+/// It uses no memory but the stack. For each of the 32 heights that such a tree may have, it visits at most one node more than there are.
 pub fn is_off<K: Ord, V, C: Nodes<K, V>>(nodes: &C, root: usize, odd: usize) -> bool
     requires { FitsInMemory (node_row K.row V.row) }
     ensures { IsTrue result ↔ IsOffAmong K.cmp (C.content nodes.now) root odd }

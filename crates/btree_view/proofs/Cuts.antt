@@ -1,4 +1,4 @@
--- A list that is cut behind its n-th element, whose front then loses its last; and lists put behind one another.
+-- A list that is cut after its n-th element, and its front then loses its last; and lists appended to one another.
 use Rattle.std.proofs.Common.{◌≡◌, ℕ, ◌-◌, ◌<◌, List, [], ◌∷◌, ◌++◌, Option, Some, length, take, drop, zero, suc, refl, sym, ◌∙◌, ap, arith, length-drop}
 use Rattle.std.specs.Prelude.{slice_get, IsSome}
 use Rattle.std.proofs.lemmas.List.{append_assoc, length-take-le}
@@ -50,7 +50,7 @@ module _ {T : Type 0} where
   last_parts (y ∷ z ∷ zs) zero x long at = absurd (omega (arith, long))
   last_parts (y ∷ ys) (suc n) x long at = ap (λ l. y ∷ l) (last_parts ys n x (omega (arith, long)) at)
 
-  -- the last taken out
+  -- the last element is removed
   pub last_out : (xs rest : List T) (x : T) → Some x ≡ slice_get xs (length xs - 1) → rest ≡ take (length xs - 1) xs → xs ≡ rest ++ x ∷ []
   last_out [] rest x at is = absurd (cc)
   last_out (y ∷ ys) rest x at is =

@@ -4,7 +4,7 @@ use Rattle.btree_item.specs.declared.TheConstants.{MIN_ITEMS}
 use Rattle.btree_view.specs.declared.balance.Balance.{Balance}
 use Rattle.btree_view.specs.declared.balance.Balance.TheVariants.{Balanced, Overflow, Underflow}
 
--- how so many items stand to the most that a node holds at rest
+-- how a number of items compares with `most`, the most that a well formed tree has in such a node, and with the fewest
 abbrev pub balance_with : (most items : ℕ) → Balance
 balance_with most items =
     if nat_lt most items then Overflow

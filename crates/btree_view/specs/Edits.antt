@@ -1,4 +1,4 @@
--- What calls on a node make of it.
+-- What calls on a node leave of it.
 use Rattle.std.specs.Prelude.{◌≡◌, ℕ, ◌+◌, ◌<◌, ◌≤◌, List, [], ◌∷◌, ◌++◌, length, map, set, Option, Some, None, is_some, Bool, true, false}
 use Rattle.std.specs.List.{insert, remove, zip}
 use Rattle.btree_item.specs.declared.TheConstants.{INTERNAL_MEDIAN, LEAF_MEDIAN, MIN_ITEMS}
@@ -7,7 +7,7 @@ use Rattle.btree_view.specs.Balances.{balance_with}
 use Rattle.btree_view.specs.View.{View, leaf, internal, items_of, size_of, most_of}
 
 module _ {A : Type 0} where
-  -- the node under another parent
+  -- with another parent
   abbrev pub with_parent : Option ℕ → View A → View A
   with_parent parent (leaf old items) = leaf parent items
   with_parent parent (internal old first branches) = internal parent first branches
@@ -21,17 +21,17 @@ module _ {A : Type 0} where
   is_internal (leaf parent items) = false
   is_internal (internal parent first branches) = true
 
-  -- a child is handed over exactly to an internal node
+  -- a child is given exactly if the node is an internal node
   abbrev pub HasChildFor : Option ℕ → View A → Type 0
   HasChildFor child node = is_some child ≡ is_internal node
 
-  -- with an item put at an index, and in an internal node the child after it
+  -- with an item inserted at an index, and in an internal node the child inserted after it
   abbrev pub with_item : ℕ → A → Option ℕ → View A → View A
   with_item index x child (leaf parent items) = leaf parent (insert items index x)
   with_item index x None (internal parent first branches) = internal parent first branches
   with_item index x (Some child) (internal parent first branches) = internal parent first (insert branches index (x, child))
 
-  -- the same at an offset; at -1 nothing is put
+  -- the same at an offset; at -1 nothing is inserted
   abbrev pub with_item_at : Option ℕ → A → Option ℕ → View A → View A
   with_item_at None x child node = node
   with_item_at (Some index) x child node = with_item index x child node
@@ -45,7 +45,7 @@ module _ {A : Type 0} where
   abbrev pub with_other_item : ℕ → A → View A → View A
   with_other_item index x node = with_items (set (items_of node) index x) node
 
-  -- the same at an offset; at -1 nothing is put
+  -- the same at an offset; at -1 nothing is replaced
   abbrev pub with_other_item_at : Option ℕ → A → View A → View A
   with_other_item_at None x node = node
   with_other_item_at (Some index) x node = with_other_item index x node
@@ -56,17 +56,17 @@ module _ {A : Type 0} where
   pushed_left x None (internal parent first branches) = internal parent first branches
   pushed_left x (Some child) (internal parent first branches) = internal parent child ((x, first) ∷ branches)
 
-  -- with an item behind the others, and in an internal node a child behind the others
+  -- with an item after the others, and in an internal node a child after the others
   abbrev pub pushed_right : A → Option ℕ → View A → View A
   pushed_right x child (leaf parent items) = leaf parent (items ++ x ∷ [])
   pushed_right x None (internal parent first branches) = internal parent first branches
   pushed_right x (Some child) (internal parent first branches) = internal parent first (branches ++ (x, child) ∷ [])
 
-  -- this item, and this child or none, stood before those of the rest
+  -- the node is the rest with this item, and this child if there is one, before its own
   abbrev pub PopsLeft : View A → View A → A × Option ℕ → Type 0
   PopsLeft node rest popped = node ≡ pushed_left popped.0 popped.1 rest
 
-  -- this item, and this child or none, stood behind those of the rest
+  -- the node is the rest with this item, and this child if there is one, after its own
   abbrev pub PopsRight : View A → View A → Option ℕ × A × Option ℕ → Type 0
   PopsRight node rest popped = node ≡ pushed_right popped.1 popped.2 rest
 
@@ -75,33 +75,33 @@ module _ {A : Type 0} where
   behind x (leaf parent items) = []
   behind x (internal parent first branches) = (x, first) ∷ branches
 
-  -- with a separator and then what a node of the same kind holds, behind the others
+  -- with a separator and then what a node of the same kind holds, after the others
   abbrev pub joined : View A → A → View A → View A
   joined (leaf parent items) x other = leaf parent (items ++ x ∷ items_of other)
   joined (internal parent first branches) x other = internal parent first (branches ++ behind x other)
 
-  -- the two nodes, with a separator between them, hold at most one item more than one does at rest
+  -- the two nodes, with a separator between them, hold at most one item more than one node of a well formed tree
   abbrev pub HaveRoom : View A → View A → Type 0
   HaveRoom node other = size_of node + size_of other ≤ most_of node
 
-  -- the node has more items than it has to keep
+  -- the node has more items than the fewest that it must keep
   abbrev pub HasSpare : View A → Type 0
   HasSpare node = MIN_ITEMS < size_of node
 
-  -- the node has more items than it holds at rest
+  -- the node has more items than a node of a well formed tree
   abbrev pub IsOverflowing : View A → Type 0
   IsOverflowing node = most_of node < size_of node
 
-  -- the node, other than a root, has fewer items than it holds at rest
+  -- the node has fewer items than a node of a well formed tree other than the root
   abbrev pub IsUnderflowing : View A → Type 0
   IsUnderflowing node = size_of node < MIN_ITEMS
 
-  -- how the number of items stands to what the node holds at rest, where it is no root
+  -- how the number of items compares with what a node of a well formed tree other than the root has
   abbrev pub balance_of : View A → Balance
   balance_of node = balance_with (most_of node) (size_of node)
 
-  -- a node in two parts with the median between them, which is the item at that index;
-  -- the right part has the same parent, and of an internal node it begins with the child after the median
+  -- a node in two parts with the median between them, which is the item at that index; the right part has the same
+  -- parent, and if it is an internal node, it begins with the child after the median
   abbrev pub IsSplit : View A → A → View A → View A → Type 0
   IsSplit (leaf parent items) median left right =
       (front : List A) × (back : List A)

@@ -1,4 +1,7 @@
--- What a definition sees of a node, and of a store of nodes.
+-- A node as definitions see it, and the map of nodes of a store.
+-- The definitions of trees are about a `NodeMap` alone, so they hold for any store and for any representation of a
+-- node. `view_of` of `btree_node` gives the view of a `Node`; `leaf_view` and `internal_view` give those of the two
+-- kinds.
 use Rattle.std.specs.Prelude.{◌≡◌, ℕ, ◌+◌, List, [], ◌∷◌, drop, length, map, slice_get, Option, Some, None}
 use Rattle.std.specs.Option.{option_and_then, option_map}
 use Rattle.btree_item.specs.declared.TheConstants.{MAX_INTERNAL_ITEMS, MAX_LEAF_ITEMS}
@@ -9,7 +12,7 @@ pub data View (A : Type 0) : Type 0 where
   leaf : Option ℕ → List A → View A
   internal : Option ℕ → ℕ → List (A × ℕ) → View A
 
--- the nodes under their numbers
+-- the map of nodes of a store: the node under each number that is used
 abbrev pub NodeMap : Type 0 → Type 0
 NodeMap A = ℕ → Option (View A)
 
@@ -38,24 +41,24 @@ module _ {A : Type 0} where
   abbrev pub size_of : View A → ℕ
   size_of node = length (items_of node)
 
-  -- the most items that such a node holds, but in passing
+  -- the most items of such a node in a well formed tree; a change may leave one more for a while
   abbrev pub most_of : View A → ℕ
   most_of (leaf parent items) = MAX_LEAF_ITEMS
   most_of (internal parent first branches) = MAX_INTERNAL_ITEMS
 
-  -- the item at an offset, and none at -1
+  -- the item at an offset; none at -1
   abbrev pub item_at_offset : View A → Option ℕ → Option A
   item_at_offset node offset = option_and_then (slice_get (items_of node)) offset
 
-  -- the child before the item at an offset, and none at -1
+  -- the child before the item at an offset; none at -1
   abbrev pub child_before_offset : View A → Option ℕ → Option ℕ
   child_before_offset node offset = option_and_then (slice_get (children_of node)) offset
 
-  -- the child after the item at an offset, and none at -1
+  -- the child after the item at an offset; none at -1
   abbrev pub child_after_offset : View A → Option ℕ → Option ℕ
   child_after_offset node offset = option_and_then (λ index. slice_get (children_of node) (index + 1)) offset
 
-  -- the branches from an index on begin with this one, or there are none
+  -- the branches from an index on begin with this one, or there are none if none is given
   abbrev pub BeginsAt : View A → ℕ → Option (A × ℕ) → Type 0
   BeginsAt node index None = drop index (branches_of node) ≡ []
   BeginsAt node index (Some branch) = drop index (branches_of node) ≡ branch ∷ drop (index + 1) (branches_of node)
@@ -70,6 +73,6 @@ module _ {A : Type 0} where
   children_in None = []
   children_in (Some node) = children_of node
 
--- the value at an offset, and none at -1
+-- the value at an offset; none at -1
 abbrev pub value_at_offset : {K V : Type 0} → View (K × V) → Option ℕ → Option V
 value_at_offset node offset = option_map (λ x. x.1) (item_at_offset node offset)

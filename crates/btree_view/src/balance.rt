@@ -4,13 +4,12 @@ ghost use Rattle.btree_view.specs.Balances.{balance_with};
 
 use btree_item::MIN_ITEMS;
 
-/// How the number of a node's items stands to what a node holds at rest. A root is judged like any
-/// other node.
+/// How a node's number of items compares with what a node of a well formed tree has. A root is judged like any other node.
 #[derive(Clone, Copy, Debug, PartialEq, Eq)]
 pub enum Balance {
     Balanced,
     Overflow,
-    /// With whether the node has no item at all.
+    /// Too few items; `true` if there is none.
     Underflow(bool),
 }
 
@@ -19,7 +18,7 @@ pub enum Balance {
 pub struct WouldUnderflow;
 
 impl Balance {
-    /// Of a node with so many items, which holds at most `most` at rest.
+    /// Returns the balance of a node with this number of items, where such a node has at most `most` in a well formed tree.
     pub fn of(items: usize, most: usize) -> Balance
         ensures { result ≡ balance_with most items }
     {

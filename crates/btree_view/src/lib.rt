@@ -1,4 +1,4 @@
-//! What nodes of both kinds share: how they are seen, what calls make of them, and how full one is.
+//! What nodes of both kinds share: how contracts see them, what calls leave of them, and how full one is.
 #![tactic(auto)]
 
 mod balance;

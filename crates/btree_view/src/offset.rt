@@ -3,7 +3,7 @@ ghost use Rattle.std.specs.Prelude.{◌≡◌, ◌<◌, Some};
 
 use btree_item::Offset;
 
-/// The offset at an index.
+/// Returns the offset at an index.
 pub fn offset_at(index: usize) -> Offset
     requires { index < usize.MAX }
     ensures { result ≡ Some index }

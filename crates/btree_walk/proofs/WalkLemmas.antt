@@ -28,7 +28,7 @@ module _ {K V : Type 0} (nodes : Content (Node K V)) (len : ℕ) where
   abbrev AreOpen : List (Ancestor K V) → Type 0
   AreOpen ancestors = AreRows (views nodes) len 0 (rows_of ancestors)
 
-  -- on the way down: the list of the start is still that of a node and of the rows above it
+  -- going down: the list at the start is still that of a node and of the rows above it
   pub record IsDown (start : List (K × V)) (ancestors : List (Ancestor K V)) (id : ℕ) : Type 0 where
     pub rows : AreOpen ancestors
     pub under : IsUnder (views nodes) len (length (rows_of ancestors)) id
@@ -87,12 +87,12 @@ module _ {K V : Type 0} (nodes : Content (Node K V)) (len : ℕ) where
                     ∙ ap (λ rows. represented (views nodes) len first ++ left_above (views nodes) len rows) (sym more);
               }
 
-  -- on the way up: what the ancestors that are passed had left is nothing
+  -- going up: the ancestors that are passed had nothing left
   pub record IsUp (start ancestors : List (Ancestor K V)) : Type 0 where
     pub rows : AreOpen ancestors
     pub list : left_over start ≡ left_over ancestors
 
-  -- an ancestor that was taken off: above it the rest, whose rows are as they were
+  -- an ancestor was popped: the rest are above it, with their rows unchanged
   pub record IsTakenOff (ancestors rest : List (Ancestor K V)) (f : Ancestor K V) : Type 0 where
     pub fewer : length rest < length ancestors
     pub rows : AreOpen rest

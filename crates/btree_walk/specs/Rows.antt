@@ -1,4 +1,4 @@
--- What the parts of a walk have left.
+-- What the parts of a walk still have to pass.
 use Rattle.std.specs.Prelude.{◌≡◌, ℕ, ◌+◌, List, [], ◌∷◌, ◌++◌, length, map, drop, Option, Some, None}
 use Rattle.std.specs.Borrow.{Bor}
 use Rattle.std.specs.FinMap as finite
@@ -11,7 +11,7 @@ use Rattle.btree_shape.specs.TreeState.{TreeState, node_map}
 use Rattle.btree_walk.specs.declared.ancestors.Ancestor.{Ancestor}
 
 module _ {K V : Type 0} where
-  -- the items of each ancestor that are not passed, with the child after each
+  -- for each ancestor the items that are not passed, each with the child after it
   abbrev pub rows_of : List (Ancestor K V) → List (List ((K × V) × ℕ))
   rows_of ancestors = map (λ f. drop f.passed (branches_of (view_of f.node.now))) ancestors
 
@@ -20,33 +20,33 @@ module _ {K V : Type 0} where
   left_in_leaf None passed = []
   left_in_leaf (Some leaf) passed = drop passed (items_of (view_of leaf.now))
 
-  -- the first of these items, or none where all are passed
+  -- the first of these items, or none if all are passed
   abbrev pub IsNextIn : Option (Bor (Node K V)) → (passed : ℕ) → Option (Bor K × Bor V) → Type 0
   IsNextIn leaf passed None = left_in_leaf leaf passed ≡ []
   IsNextIn leaf passed (Some pair) = left_in_leaf leaf passed ≡ (pair.0.now, pair.1.now) ∷ left_in_leaf leaf (passed + 1)
 
 module _ {K V : Type 0} (tree : TreeState K V) where
-  -- ancestors from the root down: under each item that is not passed stands a child, one level lower
+  -- ancestors from the root down: the child after each item that is not passed is one level below
   abbrev pub AreAncestors : List (Ancestor K V) → Type 0
   AreAncestors ancestors = AreRows (node_map tree) (finite.len tree.nodes) 0 (rows_of ancestors)
 
-  -- a node that can stand below the last ancestor
+  -- a node that can be below the last ancestor
   abbrev pub IsBelow : List (Ancestor K V) → (id : ℕ) → Type 0
   IsBelow ancestors id = IsUnder (node_map tree) (finite.len tree.nodes) (length (rows_of ancestors)) id
 
-  -- what the ancestors have left
+  -- what is left in the ancestors
   abbrev pub left_in_ancestors : List (Ancestor K V) → List (K × V)
   left_in_ancestors ancestors = left_above (node_map tree) (finite.len tree.nodes) (rows_of ancestors)
 
-  -- what is left of a walk that comes to a node: what the node spells, and what its ancestors have left
+  -- what is left of a walk that comes to a node: the list that the node represents, and what is left in its ancestors
   abbrev pub left_at : (id : ℕ) → List (Ancestor K V) → List (K × V)
   left_at id ancestors = represented (node_map tree) (finite.len tree.nodes) id ++ left_in_ancestors ancestors
 
-  -- what is left of a walk that stands in a leaf
+  -- what is left of a walk that is in a leaf
   abbrev pub left_of : Option (Bor (Node K V)) → (passed : ℕ) → List (Ancestor K V) → List (K × V)
   left_of leaf passed ancestors = left_in_leaf leaf passed ++ left_in_ancestors ancestors
 
-  -- the first item that the ancestors have left, with the first leaf after it, or none where nothing is left
+  -- the first item that is left in the ancestors, with the first leaf after it, or none if nothing is left
   abbrev pub IsNextAbove : (old new : List (Ancestor K V)) → Option ((Bor K × Bor V) × Bor (Node K V)) → Type 0
   IsNextAbove old new None = (left_in_ancestors old ≡ []) × (rows_of new ≡ [])
   IsNextAbove old new (Some next) = left_in_ancestors old ≡ (next.0.0.now, next.0.1.now) ∷ left_of (Some next.1) 0 new

@@ -1,4 +1,4 @@
-//! The way from the root to the leaf in which a walk stands.
+//! The path from the root to the leaf that a walk is in.
 ghost use Rattle.std.specs.Prelude.{◌≡◌, ◌<◌, [], Some, OnSome};
 ghost use Rattle.btree_shape.specs.TreeState.{pairs_of};
 ghost use Rattle.btree_walk.specs.Rows.{AreAncestors, IsBelow, IsNextAbove, IsNextIn, left_at, left_of};
@@ -18,7 +18,7 @@ pub(crate) struct Ancestor<'a, K, V> {
 /// The internal nodes above the leaf, from the root down.
 pub(crate) type Ancestors<'a, K, V> = Slots<Ancestor<'a, K, V>, MAX_LEVELS>;
 
-// The item of a leaf after those that are passed.
+// Returns the first item of a leaf after those that are passed.
 pub(crate) fn next_in_leaf<'a, K, V>(
     leaf: Option<&'a Node<K, V>>,
     passed: usize,
@@ -35,7 +35,7 @@ pub(crate) fn next_in_leaf<'a, K, V>(
     }
 }
 
-// The first leaf under a node, with the internal nodes on the way put behind the ancestors.
+// Returns the leftmost leaf under a node, and appends the internal nodes on the path to it to the ancestors.
 fn descend<'a, K: Ord + 'a, V: 'a, C: NodesMut<K, V> + 'a>(
     tree: &'a Tree<K, V, C>,
     top: usize,
@@ -60,7 +60,7 @@ fn descend<'a, K: Ord + 'a, V: 'a, C: NodesMut<K, V> + 'a>(
     }
 }
 
-// The first leaf of a tree, with the internal nodes above it put into the list of ancestors.
+// Returns the first leaf of a tree, and puts the internal nodes above it into the empty list of ancestors.
 pub(crate) fn start<'a, K: Ord + 'a, V: 'a, C: NodesMut<K, V> + 'a>(
     tree: &'a Tree<K, V, C>,
     ancestors: &mut Ancestors<'a, K, V>,
@@ -77,7 +77,7 @@ pub(crate) fn start<'a, K: Ord + 'a, V: 'a, C: NodesMut<K, V> + 'a>(
     }
 }
 
-// The next item of the ancestors, and the first leaf after it.
+// Returns the next item of the ancestors, and the first leaf after it.
 pub(crate) fn next_above<'a, K: Ord + 'a, V: 'a, C: NodesMut<K, V> + 'a>(
     tree: &'a Tree<K, V, C>,
     ancestors: &mut Ancestors<'a, K, V>,

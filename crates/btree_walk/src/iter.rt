@@ -11,8 +11,8 @@ use btree_nodes::NodesMut;
 use std::iter::{ExactSizeIterator, FusedIterator};
 use std::marker::Model;
 
-/// The pairs of a tree in the order of the keys, seen as the list of those that are left. It takes no memory of the heap. Each
-/// node is fetched from the store once in a whole walk, and a step inside a leaf reads that leaf alone.
+/// An iterator over the pairs of a tree in the order of the keys, seen by contracts as the list of those that are left. It allocates no
+/// memory. A whole walk fetches each node from the store once, and a step inside a leaf reads that leaf alone.
 #[derive(Drop)]
 pub struct Iter<'a, K: Ord, V, C: NodesMut<K, V>> {
     tree: &'a Tree<K, V, C>,
@@ -40,7 +40,7 @@ impl<'a, K: Ord, V, C: NodesMut<K, V>> Model for Iter<'a, K, V, C> {
 impl<'a, K: Ord, V, C: NodesMut<K, V>> Iter<'a, K, V, C> {
     ghost use Rattle.btree_shape.specs.TreeState.{pairs_of};
 
-    /// A walk from the first pair on.
+    /// Returns an iterator that starts at the first pair.
     pub fn new(tree: &'a Tree<K, V, C>) -> Self
         ensures { result ≡ pairs_of tree.now }
     {
@@ -84,7 +84,7 @@ impl<'a, K: Ord, V, C: NodesMut<K, V>> Iterator for Iter<'a, K, V, C> {
         }
     }
 
-    /// How many pairs are left, twice.
+    /// Returns how many pairs are left, as both bounds.
     fn size_hint(&self) -> (usize, Option<usize>)
         ensures exact { result ≡ (length self.now, Some (length self.now)) }
         ensures lower { IsWithinCount result.0 (item_count (λ rest. rest) self.now) }

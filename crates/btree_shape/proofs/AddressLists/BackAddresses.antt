@@ -19,7 +19,7 @@ use Rattle.btree_shape.proofs.Trees.Numbers.{used-some}
 use Rattle.btree_shape.proofs.AddressLists.OnePlaceEach.{addressed-kept, kept-addressed, ticks_of, toured}
 use Rattle.btree_shape.proofs.Trees.Stores.{within-used}
 
--- in a row one more than its entries and what is below them
+-- a row has one more than its entries and what is below them
 module _ {A : Type 0} where
   node_positions-length : {X : Type 0} (key : X → A) (below : X → List (Position A)) (id offset : ℕ) (xs : List X)
       → length (kept keep_back (positions_from key below id offset xs)) ≡ suc (total (λ x. suc (length (kept keep_back (below x)))) xs)
@@ -93,7 +93,7 @@ module _ {A : Type 0} (node_at : NodeMap A) where
   not-within : ((n : ℕ) → node_at n ≡ None) → (id : ℕ) (offset : Option ℕ) → IsWithin node_at (node_at id) offset → ⊥
   not-within none id offset l = subst (λ v. IsWithin node_at v offset) (none id) l
 
-  -- the law of the list, of each tree that is so
+  -- the law of the list, for each tree whose addresses have one place each
   pub backs-listed : (levels : ℕ) (root : Option ℕ) (xs : List A) (p : IsPlacedUnder node_at levels root xs)
       → ListsBacks node_at root xs (backs_under node_at levels root) (numbers_of node_at levels root xs p)
   backs-listed levels None xs p = record {

@@ -1,4 +1,4 @@
--- How the back addresses of a tree follow one another.
+-- The order of the back addresses of a tree: each follows the one before it by a rule.
 use Rattle.std.proofs.Common.{◌≡◌, ◌<◌, ◌∙◌, ◌+◌, [], ℕ, zero, suc, List, length, Option, Some, None, sym, ap, subst, arith, append-nil}
 use Rattle.std.specs.Prelude.{slice_get}
 use Rattle.btree_item.specs.declared.address.Address.{Address}
@@ -44,7 +44,7 @@ module _ {A : Type 0} (node_at : NodeMap A) (levels root : ℕ) (xs : List A) (p
         let v = top-view A node_at (suc h) (parent_above c) u w.inner in
         absurd (cc)
 
-    -- the node without a parent is the top, where the list ends
+    -- the node without a parent is the root, where the list ends
     top-end : (h : ℕ) (c : Path A h) (u : Shape A h) → IsUnsizedFocus A node_at [] root xs h c u → (node : View A)
         → node_at (id_of A h u) ≡ Some node → parent_of node ≡ None → Ends (address_at (id_of A h u) (size_of node)) all
     top-end h top u w node e none =
@@ -107,7 +107,7 @@ module _ {A : Type 0} (node_at : NodeMap A) (levels root : ℕ) (xs : List A) (p
         (subst (λ o. Ends (address_at (id_of A n.height n.shape) o) all) (sym o)
         (top-end n.height n.path n.shape n.stands node (ap node_at n.here ∙ e) none))
 
-  -- the law of the order, of each tree that is so
+  -- the law of the order, for each tree whose addresses have one place each
   pub backs-visited : VisitsBacks node_at levels root (backs_under node_at levels (Some root))
   backs-visited =
       let t = toured node_at levels root xs p in

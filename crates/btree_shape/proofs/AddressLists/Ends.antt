@@ -1,4 +1,4 @@
--- With which back and front addresses the tour of a tree, and the parts of it before and behind a hole, begin and end.
+-- The back and front addresses at which the positions of a tree, and the parts before and after a hole, begin and end.
 use Rattle.std.proofs.Common.{◌≡◌, ◌<◌, ◌++◌, ◌∷◌, ◌∙◌, ◌+◌, [], ℕ, zero, suc, Bool, List, length, map, Option, Some, None, refl, sym, ap, subst, arith, append_assoc, append-nil, length-append}
 use Rattle.std.specs.List.{AllByRecursion}
 use Rattle.btree_item.specs.declared.address.Address.{Address}
@@ -52,7 +52,7 @@ module _ {A X : Type 0} (key : X → A) (below : X → List (Position A)) (id : 
       (kept-ends keep_back (address_at id (offset + length xs)) (positions_to key below id offset xs)
       (mark (address_at id (offset + length xs)) None ∷ []) (record { front = []; is = refl }))
 
-  -- behind its last entry nothing is kept of the front ones
+  -- after its last entry no front address is kept
   node_positions-last : (a : Address) (offset : ℕ) (front : List X) (x : X) → Ends a (address_at id (offset + length front) ∷ kept keep_front (below x))
       → Ends a (kept keep_front (positions_from key below id offset (front ++ x ∷ [])))
   node_positions-last a offset front x e =
@@ -75,7 +75,7 @@ module _ (A : Type 0) where
       kept-begins keep_back (address_at (first_of h t.1) 0) (positions A h t.1) (positions_from (branch_key A h) (branch_positions A h) t.0 0 t.2)
       (positions-begins h t.1)
 
-  -- the tour ends past the last item of its top
+  -- the positions of a subtree end past the last item of its root
   pub positions-ends : (h : ℕ) (t : Shape A h) → Ends (address_at (id_of A h t) (count_at A h t)) (kept keep_back (positions A h t))
   positions-ends zero t =
       subst (λ n. Ends (address_at t.0 n) (kept keep_back (positions A 0 t))) (let q : 0 + length t.1 ≡ length t.1 = omega arith in q)
@@ -85,7 +85,7 @@ module _ (A : Type 0) where
       (kept-ends keep_back (address_at t.0 (0 + length t.2)) (positions A h t.1) (positions_from (branch_key A h) (branch_positions A h) t.0 0 t.2)
       (node_positions-ends (branch_key A h) (branch_positions A h) t.0 0 t.2))
 
-  -- and begins at its -1
+  -- and begin at -1 of its root
   pub positions-begins-front : (h : ℕ) (t : Shape A h) → Begins (address_before (id_of A h t)) (kept keep_front (positions A h t))
   positions-begins-front zero t = record { rest = kept keep_front (positions_from {A = A} {X = A} (λ x. x) (λ x. []) t.0 0 t.1); is = refl }
   positions-begins-front (suc h) t =
@@ -99,7 +99,7 @@ module _ (A : Type 0) where
     first-is (suc h) (suc levels) p t l d =
         ap (first_leaf_in (first_leaf node_at levels) t.0) d.0 ∙ first-is h levels (Some t.0) t.1 (omega arith) d.1
 
-    -- the tour begins in the leaf at the left end
+    -- the back addresses begin in the leftmost leaf
     pub positions-first : (h levels : ℕ) (p : Option ℕ) (t : Shape A h) → h < levels → Holds A node_at h p t
         → Begins (address_at (first_leaf node_at levels (id_of A h t)) 0) (kept keep_back (positions A h t))
     positions-first h levels p t l d =
@@ -125,7 +125,7 @@ module _ (A : Type 0) where
         (kept keep_front (positions_from {A = A} {X = A} (λ x. x) (λ x. []) id 0 (s.0 ++ s.1 ∷ [])))
         (node_positions-last {A = A} {X = A} (λ x. x) (λ x. []) id (address_at id (0 + length s.0)) 0 s.0 s.1 (record { front = []; is = refl }))))
 
-    -- those of an internal node end as those of its last child do
+    -- those of an internal node end like those of its last child
     module _ (h levels : ℕ) (p : Option ℕ)
         (each : (t : Shape A h) → Holds A node_at h p t → Ends (last_item node_at levels (id_of A h t)) (kept keep_front (positions A h t))) where
       last-node_positions : (id : ℕ) (first : Shape A h) (bs : List (A × Shape A h)) → Holds A node_at h p first
@@ -155,7 +155,7 @@ module _ (A : Type 0) where
           (node_positions-last (branch_key A h) (branch_positions A h) id a 0 s.0 s.1
           (ends-more a (address_at id (0 + length s.0) ∷ []) (kept keep_front (positions A h s.1.1)) (each s.1.1 u.0))))))
 
-    -- the front addresses end at the last item of the leaf at the right end
+    -- the front addresses end at the last item of the rightmost leaf
     pub positions-last : (h levels : ℕ) (p : Option ℕ) (t : Shape A h) → h < levels → Holds A node_at h p t
         → Ends (last_item node_at levels (id_of A h t)) (kept keep_front (positions A h t))
     positions-last h zero p t l d = absurd (omega arith)

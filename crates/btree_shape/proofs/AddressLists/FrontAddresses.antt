@@ -20,7 +20,7 @@ use Rattle.btree_shape.proofs.Trees.Numbers.{used-some}
 use Rattle.btree_shape.proofs.AddressLists.OnePlaceEach.{Toured, addressed-kept, kept-addressed, ticks_of, toured}
 use Rattle.btree_shape.proofs.Trees.Stores.{within-used}
 
--- in a row as many as its entries and what is below them
+-- a row has as many as its entries and what is below them
 module _ {A : Type 0} where
   node_positions-length : {X : Type 0} (key : X → A) (below : X → List (Position A)) (id offset : ℕ) (xs : List X)
       → length (kept keep_front (positions_from key below id offset xs)) ≡ total (λ x. suc (length (kept keep_front (below x)))) xs
@@ -74,7 +74,7 @@ module _ {A : Type 0} (node_at : NodeMap A) where
   ]
 
   module _ (levels root : ℕ) (xs : List A) (p : IsPlaced node_at levels root xs) where
-    -- what is kept is in front of the end of its node
+    -- what is kept is before the end of its node
     is-front : (t : Toured node_at levels root xs p) (id : ℕ) (offset : Option ℕ) (item : Option A) → is_front offset item ≡ true
         → ((asked : Option A) → Asks asked item → (place : ℕ) × IsAddressed A node_at root xs asked (record { id = id; offset = offset }) place)
         → IsFront node_at (node_at id) offset
@@ -82,7 +82,7 @@ module _ {A : Type 0} (node_at : NodeMap A) where
     is-front t id (Some o) None k d = absurd (cc)
     is-front t id (Some o) (Some x) k d = item-front (node_at id) o x (d (Some x) refl).1.item
 
-    -- the item that is asked for at an offset
+    -- each front address is kept, by the item at its offset
     front-kept : (t : Toured node_at levels root xs p) (id : ℕ) (offset : Option ℕ) (place : ℕ) → IsFront node_at (node_at id) offset
         → IsPlace node_at (Some root) xs id offset place
         → IndexOf keep_front (ticks_of node_at levels root xs p t) (record { id = id; offset = offset }) place
@@ -126,7 +126,7 @@ module _ {A : Type 0} (node_at : NodeMap A) where
   not-front : ((n : ℕ) → node_at n ≡ None) → (id : ℕ) (offset : Option ℕ) → IsFront node_at (node_at id) offset → ⊥
   not-front none id offset l = subst (λ v. IsFront node_at v offset) (none id) l
 
-  -- the law of the list, of each tree that is so
+  -- the law of the list, for each tree whose addresses have one place each
   pub fronts-listed : (levels : ℕ) (root : Option ℕ) (xs : List A) (p : IsPlacedUnder node_at levels root xs)
       → ListsFronts node_at root xs (fronts_under node_at levels root) (numbers_of node_at levels root xs p)
   fronts-listed levels None xs p = record {

@@ -1,4 +1,4 @@
--- How the front addresses of a tree follow one another backwards.
+-- The order of the front addresses of a tree: each comes before the next by a rule.
 use Rattle.std.proofs.Common.{◌≡◌, ◌<◌, ◌∙◌, [], ℕ, zero, suc, List, length, Option, Some, None, sym, ap, subst, arith, append-nil}
 use Rattle.std.specs.Prelude.{slice_get}
 use Rattle.btree_item.specs.declared.address.Address.{Address}
@@ -42,7 +42,7 @@ module _ {A : Type 0} (node_at : NodeMap A) (levels root : ℕ) (xs : List A) (p
         let v = top-view A node_at (suc h) (parent_above c) u w.inner in
         absurd (cc)
 
-    -- the list begins at the -1 of the node without a parent
+    -- the list begins at -1 of the node without a parent
     top-start : (h : ℕ) (c : Path A h) (u : Shape A h) → IsUnsizedFocus A node_at [] root xs h c u → (node : View A)
         → node_at (id_of A h u) ≡ Some node → parent_of node ≡ None → Begins (address_before (id_of A h u)) all
     top-start h top u w node e none =
@@ -100,7 +100,7 @@ module _ {A : Type 0} (node_at : NodeMap A) (levels root : ℕ) (xs : List A) (p
       → IsFront node_at v (Some offset) → offset < length items
   in-leaf v parent items offset e l = subst (λ w. IsFront node_at w (Some offset)) e l
 
-  -- the law of the order, of each tree that is so
+  -- the law of the order, for each tree whose addresses have one place each
   pub fronts-visited : VisitsFronts node_at levels root (fronts_under node_at levels (Some root))
   fronts-visited =
       let t = toured node_at levels root xs p in

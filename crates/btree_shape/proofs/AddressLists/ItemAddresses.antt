@@ -1,4 +1,5 @@
--- The list of the occupied addresses of a tree: each stands at the index that is its place. Navigation and cursors will cite it.
+-- The list of the occupied addresses of a tree: each is at the index that is its place. Navigation and cursors will
+-- cite it.
 use Rattle.std.proofs.Common.{◌≡◌, ◌<◌, ◌≤◌, ◌∙◌, ◌∷◌, [], ℕ, zero, suc, inl, inr, true, List, length, Option, Some, None, refl, sym, ap, subst, arith, option_and_then}
 use Rattle.std.proofs.lemmas.Option.{slice_get_cases, slice_get_within}
 use Rattle.std.specs.List.{AllByRecursion}
@@ -15,7 +16,7 @@ use Rattle.btree_shape.proofs.AddressLists.OfPositions.{item-positions, keep_ite
 use Rattle.btree_shape.proofs.AddressLists.Kept.{Strung, kept, strung-append}
 use Rattle.btree_shape.proofs.AddressLists.OnePlaceEach.{Toured, addressed-strung, strung-addressed, strung-counted, ticks_of, toured}
 
--- between two items of a tour one occupied address comes
+-- between two items of the positions there is one occupied address
 module _ {A : Type 0} where
   items-strung : {X : Type 0} (key : X → A) (below : X → List (Position A)) (id offset : ℕ) (xs : List X)
       → AllByRecursion (λ x. Strung keep_item 0 (below x) 0) xs → Strung keep_item 0 (positions_from key below id offset xs) 0
@@ -58,7 +59,7 @@ kept-some : {A : Type 0} (x : A) (item : Option A) → item ≡ Some x → is_so
 kept-some x item e = ap is_some e
 
 module _ {A : Type 0} (node_at : NodeMap A) where
-  -- an address is occupied where an item stands
+  -- an address is occupied if an item stands there
   pub occupied-by : (id : ℕ) (offset : Option ℕ) (x : A) → option_and_then (item_in (node_at id)) offset ≡ Some x
       → IsOccupied node_at id offset
   occupied-by id None x e = absurd (cc)
@@ -123,7 +124,7 @@ module _ {A : Type 0} (node_at : NodeMap A) where
       let f = o.1 in
       absurd (cc)
 
-  -- the law of the list, of each tree that is so
+  -- the law of the list, for each tree whose addresses have one place each
   pub items-listed : (levels : ℕ) (root : Option ℕ) (xs : List A) → IsPlacedUnder node_at levels root xs
       → ListsItems node_at root xs (item_addresses_under node_at levels root)
   items-listed levels None xs p = record {
@@ -134,7 +135,7 @@ module _ {A : Type 0} (node_at : NodeMap A) where
   items-listed levels (Some root) xs p = items-placed levels root xs p
 
   module _ (root : Option ℕ) (xs : List A) (list : List Address) (law : ListsItems node_at root xs list) where
-    -- occupied addresses with one place are the same
+    -- occupied addresses with the same place are equal
     pub one-occupied : (place : ℕ) (a b : Address) → IsOccupied node_at a.id a.offset → IsOccupied node_at b.id b.offset
         → IsPlace node_at root xs a.id a.offset place → IsPlace node_at root xs b.id b.offset place → a ≡ b
     one-occupied place a b o q i j =
@@ -150,7 +151,7 @@ module _ {A : Type 0} (node_at : NodeMap A) where
       pub at_place : IsPlace node_at root xs address.id address.offset place
       pub item : item_at node_at address ≡ slice_get xs place
 
-    -- each index of the list of pairs is the place of one
+    -- each index of the list of pairs is the place of an occupied address
     pub occupied-at : (place : ℕ) → place < length xs → OccupiedAt place
     occupied-at place l =
         let n = law.counted in

@@ -1,4 +1,5 @@
--- The addresses of a list of ticks that are kept, in order: where each stands, and how many items are passed before it.
+-- The addresses of a list of positions that are kept, in order: the index of each, and how many items are passed before
+-- it.
 use Rattle.std.proofs.Common.{◌≡◌, ◌<◌, ◌≤◌, ◌++◌, ◌∷◌, [], ◌∙◌, ◌+◌, ℕ, zero, suc, inl, inr, Bool, true, false, List, length, Option, Some, refl, sym, ap, subst, arith}
 use Rattle.std.specs.Prelude.{slice_get}
 use Rattle.btree_item.specs.declared.address.Address.{Address}
@@ -13,7 +14,7 @@ skip true f zero = 0
 skip true f (suc i) = f i
 skip false f i = f i
 
--- of 0 or 1 kept address since the last item: one more where it is kept, and then none was before
+-- 0 or 1 addresses are kept since the last item; one more if this one is kept, and then none was before
 abbrev pub Counts : Bool → ℕ → ℕ → Type 0
 Counts true n m = (n ≡ 0) × (m ≡ 1)
 Counts false n m = n ≡ m
@@ -40,7 +41,7 @@ module _ {A : Type 0} (keep : Address → Option A → Bool) where
       ap (λ z. put (keep a item) a z) (kept-append ts ss) ∙ put-append (keep a item) a (kept ts) (kept ss)
   kept-append (over ∷ ts) ss = kept-append ts ss
 
-  -- a kept address comes behind so many items, at an item that makes it kept
+  -- a kept address comes after `place` items, at an item that makes it kept
   pub record KeptAt (ts : List (Position A)) (a : Address) (place : ℕ) : Type 0 where
     pub item : Option A
     pub keeps : keep a item ≡ true
@@ -75,13 +76,13 @@ module _ {A : Type 0} (keep : Address → Option A → Bool) where
         there = λ asked m. (passed_to ts i, refl, r.there asked m);
       }
 
-  -- and back
+  -- and the converse: a kept address has an index
   pub record IndexOf (ts : List (Position A)) (a : Address) (place : ℕ) : Type 0 where
     pub index : ℕ
     pub at : slice_get (kept ts) index ≡ Some a
     pub is : passed_to ts index ≡ place
 
-  -- the same for a mark of which it is known whether it is kept
+  -- the same for a mark for which it is known whether it is kept
   record MarkIndex (c : Bool) (b : Address) (ts : List (Position A)) (a : Address) (place : ℕ) : Type 0 where
     pub index : ℕ
     pub at : slice_get (put c b (kept ts)) index ≡ Some a
@@ -108,7 +109,7 @@ module _ {A : Type 0} (keep : Address → Option A → Bool) where
       let r = kept-of asked a ts i.0 k i.2 in
       record { index = r.index; at = r.at; is = ap suc r.is ∙ sym i.1 }
 
-  -- further on, no fewer items are passed
+  -- at a later index at least as many items are passed
   skip-rise : (c : Bool) (f : ℕ → ℕ) → ((i j : ℕ) → i ≤ j → f i ≤ f j) → (i j : ℕ) → i ≤ j → skip c f i ≤ skip c f j
   skip-rise true f r zero j l = omega arith
   skip-rise true f r (suc i) zero l = absurd (omega arith)
@@ -131,7 +132,7 @@ module _ {A : Type 0} (keep : Address → Option A → Bool) where
   strung-append n k m (mark a item ∷ ts) ss s t = (s.0, s.1, strung-append s.0 k m ts ss s.2 t)
   strung-append n k m (over ∷ ts) ss s t = (s.0, strung-append 0 k m ts ss s.1 t)
 
-  -- then the index of an address is how many items are passed before it
+  -- then the index of an address is the number of items passed before it
   count-index : (c : Bool) (b : Address) (ts : List (Position A)) (n k : ℕ) → Counts c n k
       → ((i : ℕ) → i < length (kept ts) → passed_to ts i ≡ k + i)
       → (i : ℕ) → i < length (put c b (kept ts)) → skip c (passed_to ts) i ≡ n + i

@@ -1,4 +1,4 @@
--- What is kept of a tour is kept once: an address is on the tour at most as often as its number is in the tree.
+-- An address is kept once: it is among the positions at most as often as its number is in the tree.
 use Rattle.std.proofs.Common.{◌≡◌, ◌<◌, ◌≤◌, ◌++◌, ◌∷◌, ◌+◌, ◌∙◌, [], ℕ, zero, suc, inl, inr, Bool, true, false, List, Option, Some, None, refl, sym, ap, subst, arith}
 use Rattle.std.specs.Prelude.{slice_get}
 use Rattle.btree_item.specs.declared.address.Address.{Address}
@@ -9,7 +9,7 @@ use Rattle.btree_shape.proofs.Paths.Frames.{one-other, one-self}
 use Rattle.btree_shape.proofs.AddressLists.Kept.{kept, put}
 use Rattle.btree_shape.proofs.Trees.Numbers.{same-or}
 
--- 1 where two offsets are the same, and where two addresses are
+-- 1 if two offsets are equal, and if two addresses are, else 0
 abbrev same_offset : Option ℕ → Option ℕ → ℕ
 same_offset None None = 1
 same_offset None (Some o) = 0
@@ -50,7 +50,7 @@ same-offset-self (Some k) = one-self k
 same-self : (a : Address) → same_address a a ≡ 1
 same-self a = ap (λ m. both m (same_offset a.offset a.offset)) (one-self a.id) ∙ same-offset-self a.offset
 
--- how often an address is in a list, and on a tour
+-- how often an address is in a list, and among positions
 abbrev times_in : Address → List Address → ℕ
 times_in a list = total (λ b. same_address a b) list
 
@@ -111,7 +111,7 @@ module _ {A : Type 0} where
   kept-times keep a (mark b item ∷ ts) = put-times (keep b item) a b (kept keep ts) (met a ts) (kept-times keep a ts)
   kept-times keep a (over ∷ ts) = kept-times keep a ts
 
-  -- a row has an address of its node once, and none that comes before its first
+  -- a row has each address of its node once, and none before its first
   module _ {X : Type 0} (key : X → A) (below : X → List (Position A)) (a : Address) (id : ℕ) where
     node_positions-free : (o : ℕ) (xs : List X) → Earlier a.offset o → met a (positions_from key below id o xs) ≡ total (λ x. met a (below x)) xs
     node_positions-free o [] e =
@@ -144,7 +144,7 @@ module _ {A : Type 0} where
               omega arith
         ]
 
-    -- with its -1
+    -- the same with -1
     whole-once : (k : Option ℕ) → a.offset ≡ k → (xs : List X)
         → same_address a (address_before id) + met a (positions_from key below id 0 xs) ≤ one a.id id + total (λ x. met a (below x)) xs
     whole-once None e xs =
@@ -178,7 +178,7 @@ module _ (A : Type 0) (a : Address) where
       let r = met-append a (positions A h t.1) (positions_from (branch_key A h) (branch_positions A h) t.0 0 t.2) in
       omega arith
 
-  -- so in a tree that has each number once
+  -- so an address is kept once in a tree that has each number once
   pub kept-once : (keep : Address → Option A → Bool) (h : ℕ) (t : Shape A h) → times_under A h a.id t ≤ 1
       → (i j : ℕ) → slice_get (kept keep (positions A h t)) i ≡ Some a → slice_get (kept keep (positions A h t)) j ≡ Some a → i ≡ j
   kept-once keep h t l i j e f =

@@ -1,4 +1,4 @@
--- What is kept of the tour of a tree is in order, each address once; and how many nodes and items a tree has.
+-- What is kept of the positions of a tree is in order, each address once; and how many nodes and items a tree has.
 use Rattle.std.proofs.Common.{◌≡◌, ◌≤◌, ◌∷◌, ◌+◌, ◌∙◌, [], ℕ, suc, inl, inr, Bool, List, length, Option, Some, None, refl, sym, ap, subst, arith, length-append}
 use Rattle.std.specs.Prelude.{slice_get}
 use Rattle.btree_item.specs.declared.address.Address.{Address}
@@ -17,7 +17,7 @@ use Rattle.btree_shape.proofs.Trees.Numbers.{numbers-shape, used-low}
 use Rattle.btree_shape.proofs.AddressLists.OnePlaceEach.{Toured, kept-addressed, ticks_of}
 
 module _ (A : Type 0) where
-  -- the lengths of what is kept of the branches, where each tree has as many as items and nodes
+  -- the lengths of what is kept of the branches, if each subtree has as many as items and nodes
   pub branch-sum : (keep : Address → Option A → Bool) (h : ℕ)
       → ((t : Shape A h) → length (kept keep (positions A h t)) ≡ length (items_under A h t) + nodes_in A h t)
       → (bs : List (A × Shape A h))
@@ -57,7 +57,7 @@ module _ {A : Type 0} (node_at : NodeMap A) where
         subst (λ i. length (numbers_under node_at p.rooted.height i) ≡ nodes_in A p.rooted.height t.shape) t.here
         (node-numbers A node_at p.rooted.height None t.shape t.holds)
 
-    -- what is kept of the tour is in order
+    -- what is kept of the positions is in order
     pub kept-order : (keep : Address → Option A → Bool) (list : List Address)
         → list ≡ kept keep (ticks_of node_at levels root xs p t) → IsInOrder node_at (Some root) xs list
     kept-order keep list e = record {

@@ -1,5 +1,5 @@
--- The list of the back addresses in the leaves of a tree: each stands at the index that is its place.
--- Navigation and cursors will cite it.
+-- The list of the back addresses in the leaves of a tree: each is at the index that is its place. Navigation and
+-- cursors will cite it.
 use Rattle.std.proofs.Common.{◌≡◌, ◌≤◌, ◌∙◌, ◌∷◌, [], ℕ, zero, suc, inl, inr, true, false, Bool, List, length, Option, Some, None, refl, sym, ap, subst, arith}
 use Rattle.std.proofs.lemmas.Option.{slice_get_cases}
 use Rattle.std.specs.List.{AllByRecursion}
@@ -25,7 +25,8 @@ module _ {A : Type 0} (node_at : NodeMap A) where
   abbrev kept_leaf : Address → Option A → Bool
   kept_leaf = keep_leaf_back node_at
 
-  -- between two items of a tour one back address in a leaf comes, and one before the first item and behind the last
+  -- between two items of the positions there is one back address in a leaf; there is one before the first item, and one
+  -- after the last
   leaf-strung : (id offset : ℕ) (xs : List A) → ((o : ℕ) → is_leaf_back (node_at id) (Some o) ≡ true)
       → Strung kept_leaf 0 (positions_from {A = A} {X = A} (λ x. x) (λ x. []) id offset xs) 1
   leaf-strung id offset [] e = (1, counts-true (is_leaf_back (node_at id) (Some offset)) (e offset), refl)
@@ -127,7 +128,7 @@ module _ {A : Type 0} (node_at : NodeMap A) where
   nowhere-back id None n = let e = n.2 in absurd (cc)
   nowhere-back id (Some o) n = tt
 
-  -- the law of the list, of each tree that is so, and of the empty one
+  -- the law of the list, for each tree whose addresses have one place each, and for the empty one
   pub leaf-backs-listed : (levels : ℕ) (root : Option ℕ) (xs : List A) → IsPlacedUnder node_at levels root xs
       → ListsLeafBacks node_at root xs (leaf_backs_under node_at levels root)
   leaf-backs-listed levels None xs p = record {
@@ -140,14 +141,14 @@ module _ {A : Type 0} (node_at : NodeMap A) where
   leaf-backs-listed levels (Some root) xs p = leaf-backs-placed levels root xs p
 
   module _ (root : Option ℕ) (xs : List A) (list : List Address) (law : ListsLeafBacks node_at root xs list) where
-    -- an address of the tree that is a back one in a leaf, or nowhere, at a place
+    -- a back address in a leaf of the tree, or nowhere, with a place
     pub record IsLeafBack (a : Address) (place : ℕ) : Type 0 where
       pub valid : IsValid node_at root a.id a.offset
       pub in_leaf : IsLeafAddress node_at root a.id a.offset
       pub back : IsBack node_at a.offset
       pub at_place : IsPlace node_at root xs a.id a.offset place
 
-    -- two of them with one place are the same
+    -- two of them with the same place are equal
     pub one-leaf-back : (place : ℕ) (a b : Address) → IsLeafBack a place → IsLeafBack b place → a ≡ b
     one-leaf-back place a b i j =
         let e = law.each place a i.valid i.in_leaf i.back i.at_place in
@@ -159,7 +160,7 @@ module _ {A : Type 0} (node_at : NodeMap A) where
       pub listed : slice_get list place ≡ Some address
       pub is : IsLeafBack address place
 
-    -- each number from 0 to the length is the place of one
+    -- each number from 0 to the length is the place of one of them
     pub leaf-back-at : (place : ℕ) → place ≤ length xs → LeafBackAt place
     leaf-back-at place l =
         let n = law.counted in

@@ -1,5 +1,5 @@
--- The leaves at the ends of a tree, from a node to its child; and that further levels change neither these nor the lists.
--- Walks from both ends will cite it.
+-- The leftmost and the rightmost leaf under a node and under its children; and more levels change neither these nor the
+-- lists. Walks from both ends will cite it.
 use Rattle.std.proofs.Common.{◌≡◌, ◌<◌, ◌∷◌, ◌∙◌, [], ℕ, zero, suc, List, length, map, Option, Some, None, refl, sym, ap, subst, arith}
 use Rattle.std.specs.List.{AllByRecursion}
 use Rattle.std.specs.Prelude.{slice_get}
@@ -17,7 +17,7 @@ use Rattle.btree_shape.proofs.Paths.FromRoot.{node-rooted}
 use Rattle.btree_shape.proofs.Trees.Shapes.{shape-of}
 
 module _ (A : Type 0) (node_at : NodeMap A) where
-  -- what holds of the number of each tree holds of that of the last child
+  -- what holds for the number of each subtree holds for that of the last child
   at-last : (P : ℕ → Type 0) (h : ℕ) (p : Option ℕ) → ((t : Shape A h) → Holds A node_at h p t → P (id_of A h t)) → (first : Shape A h)
       → Holds A node_at h p first → (bs : List (A × Shape A h)) → AllByRecursion (λ b. Holds A node_at h p b.1) bs
       → P (last_child (id_of A h first) (map {B = A × ℕ} (λ b. (b.0, id_of A h b.1)) bs))
@@ -47,7 +47,7 @@ module _ (A : Type 0) (node_at : NodeMap A) where
       (λ u e. last-levels h m n (Some t.0) u (omega arith) (omega arith) e) t.1 d.1 t.2 d.2
       ∙ sym (ap (last_leaf_in (last_leaf node_at n) t.0) d.0))
 
-  -- the ends are leaves
+  -- the leftmost and the rightmost leaf are leaves
   abbrev IsLeafAt : ℕ → Type 0
   IsLeafAt id = (parent : Option ℕ) × (items : List A) × (node_at id ≡ Some (leaf parent items))
 
@@ -91,14 +91,14 @@ module _ (A : Type 0) (node_at : NodeMap A) where
       (λ u e. last-levels h n (suc n) (Some t.0) u (omega arith) (omega arith) e) t.1 d.1 t.2 d.2
       ∙ ap (λ v. last_leaf_in (last_leaf node_at (suc n)) t.0 (Some v)) same)
 
--- the last child is at the index past the last item's
+-- the last child is at the index past that of the last item
 pub last-child-at : {A : Type 0} (first : ℕ) (branches : List (A × ℕ))
     → slice_get (first ∷ map {B = ℕ} (λ (b : A × ℕ). b.1) branches) (length branches) ≡ Some (last_child first branches)
 last-child-at first [] = refl
 last-child-at first (b ∷ branches) = last-child-at b.1 branches
 
 module _ {A : Type 0} (node_at : NodeMap A) (levels root : ℕ) (xs : List A) (p : IsPlaced node_at levels root xs) (id : ℕ) where
-  -- in a leaf both ends are the leaf itself
+  -- in a leaf both are the leaf itself
   module _ (parent : Option ℕ) (items : List A) (e : node_at id ≡ Some (leaf parent items)) where
     first-self-by : (n : ℕ) → 0 < n → first_leaf node_at n id ≡ id
     first-self-by zero l = absurd (omega arith)
@@ -152,7 +152,7 @@ module _ {A : Type 0} (node_at : NodeMap A) (levels root : ℕ) (xs : List A) (p
         subst (λ i. (parent : Option ℕ) × (items : List A) × (node_at (last_leaf node_at levels i) ≡ Some (leaf parent items))) n.here
         (last-leaf-at A node_at n.height levels (parent_above n.path) n.shape (omega arith) n.stands.inner)
 
--- the lists are the same by any levels above the height
+-- the lists are the same for any number of levels above the height
 module _ {A : Type 0} (is_right : (id : ℕ) → View A → Type 0) (node_at : NodeMap A) (root : ℕ) (xs : List A) (r : IsRooted is_right node_at root xs)
     (m n : ℕ) (l : r.height < m) (k : r.height < n) where
   pub item-levels : item_addresses_under node_at m (Some root) ≡ item_addresses_under node_at n (Some root)

@@ -1,4 +1,4 @@
--- Addresses that follow one another in a list, and in what is kept of a tour.
+-- Addresses that follow one another in a list, and in what is kept of positions.
 use Rattle.std.proofs.Common.{◌≡◌, ◌<◌, ◌≤◌, ◌++◌, ◌∷◌, ◌∙◌, ◌+◌, [], ℕ, zero, suc, Bool, List, length, Option, Some, None, refl, sym, ap, subst, arith, append_assoc, length-append}
 use Rattle.std.specs.Prelude.{slice_get}
 use Rattle.btree_item.specs.declared.address.Address.{Address}
@@ -34,7 +34,7 @@ adjacent-within a b front list back n =
           ∙ sym (append_assoc front n.front (a ∷ b ∷ (n.back ++ back))));
     }
 
--- where one part ends and the next begins
+-- at the end of one part and the beginning of the next
 pub adjacent-between : (a b : Address) (front left right back : List Address) → Ends a left → Begins b right
     → Adjacent a b (front ++ (left ++ (right ++ back)))
 adjacent-between a b front left right back e s =
@@ -151,7 +151,7 @@ module _ {A : Type 0} (node_at : NodeMap A) (levels root : ℕ) (xs : List A) (p
       let l = no-higher (suc h) c (fill f u) (stand-up A node_at [] root xs h f c u w) in
       omega arith
 
--- what is kept of the tour of a tree, by its parts seen from a node, and from a child
+-- what is kept of the positions of a tree, in parts: by a focus at a node, and at a child
 module _ {A : Type 0} (node_at : NodeMap A) (levels root : ℕ) (xs : List A) (p : IsPlaced node_at levels root xs) (t : Toured node_at levels root xs p)
     (keep : Address → Option A → Bool) where
   pub kept-parts : (h : ℕ) (c : Path A h) (u : Shape A h) → IsUnsizedFocus A node_at [] root xs h c u
@@ -170,7 +170,7 @@ module _ {A : Type 0} (node_at : NodeMap A) (levels root : ℕ) (xs : List A) (p
 
   module _ (a b : Address) (h : ℕ) (f : Frame A h) (c : Path A (suc h)) (u : Shape A h)
       (w : IsUnsizedFocus A node_at [] root xs h (under f c) u) where
-    -- from the node to the child behind its item, and from the child on to the node
+    -- from the node to the child after its item, and from the child on to the node
     pub adjacent-down : Ends a (kept keep (positions_before A f)) → Begins b (kept keep (positions A h u))
         → Adjacent a b (kept keep (ticks_of node_at levels root xs p t))
     adjacent-down e s =

@@ -1,4 +1,4 @@
--- The rules that tell the next address agree with the lists. Navigation and cursors will cite it.
+-- The functions that give the next address agree with the lists. Navigation and cursors will cite it.
 use Rattle.std.proofs.Common.{◌≡◌, ◌≢◌, ◌<◌, ◌≤◌, ◌∷◌, ◌∙◌, [], ℕ, zero, suc, inl, inr, true, false, List, length, map, Option, Some, None, refl, sym, ap, subst, arith, option_map, ◌⊎◌}
 use Rattle.std.proofs.lemmas.Bool.Decides.{nat_tests}
 use Rattle.std.proofs.lemmas.List.{length-map}
@@ -24,7 +24,7 @@ use Rattle.btree_shape.proofs.Trees.Numbers.{less-or, same-or, used-there}
 use Rattle.btree_shape.proofs.Paths.FromRoot.{node-rooted}
 use Rattle.btree_shape.proofs.Trees.Sizes.{view-parent}
 
--- where a number is in a list, it has an index
+-- a number in a list has an index
 pub record Indexed (n : ℕ) (numbers : List ℕ) : Type 0 where
   pub index : ℕ
   pub is : index_in n numbers ≡ Some index
@@ -59,7 +59,7 @@ low-or o n l = elim (less-or o n) [
 ]
 
 module _ {A : Type 0} (node_at : NodeMap A) (levels root : ℕ) (xs : List A) (p : IsPlaced node_at levels root xs) where
-  -- a node with a parent is one of its children
+  -- a node with a parent is one of the parent's children
   parent-seen : (h : ℕ) (c : Path A h) (u : Shape A h) → IsUnsizedFocus A node_at [] root xs h c u → (node : View A) (parent : ℕ)
       → node_at (id_of A h u) ≡ Some node → parent_of node ≡ Some parent → Indexed (id_of A h u) (children_in (node_at parent))
   parent-seen h top u w node parent e is =
@@ -85,7 +85,7 @@ module _ {A : Type 0} (node_at : NodeMap A) (levels root : ℕ) (xs : List A) (p
       subst (λ i. Indexed i (children_in (node_at parent))) n.here
       (parent-seen n.height n.path n.shape n.stands node parent (ap node_at n.here ∙ e) is)
 
-  -- an item of a node with no child behind it is in a leaf
+  -- an item with no child after it is in a leaf
   in-leaf : (node : View A) (o : ℕ) → slice_get (children_of node) (suc o) ≡ None → o < size_of node
       → (parent : Option ℕ) × (items : List A) × (node ≡ leaf parent items)
   in-leaf (leaf parent items) o e l = (parent, items, refl)
@@ -133,7 +133,7 @@ module _ {A : Type 0} (node_at : NodeMap A) (levels root : ℕ) (xs : List A) (p
   back-at i id (Some node) e None l b g = absurd b
   back-at i id (Some node) e (Some o) l b g = back-in i id o node e l g (slice_get (children_of node) (suc o)) refl
 
-  -- behind each back address stands the one that the rule tells, or none
+  -- after each back address in the list comes the one that `back_after` gives, or none
   pub back-rule : (i : ℕ) (a : Address) → slice_get back_list i ≡ Some a → slice_get back_list (suc i) ≡ back_after node_at levels a
   back-rule i a g =
       let r = (backs-listed node_at levels (Some root) xs p).right i a g in
@@ -176,7 +176,7 @@ module _ {A : Type 0} (node_at : NodeMap A) (levels root : ℕ) (xs : List A) (p
   front-at i id (Some node) e None l g = front-out i id node e g (parent_of node) refl
   front-at i id (Some node) e (Some o) l g = front-in i id o node e l g (slice_get (children_of node) o) refl
 
-  -- before each front address stands the one that the rule tells, or none
+  -- before each front address in the list comes the one that `front_before` gives, or none
   pub front-rule : (i : ℕ) (a : Address) → slice_get front_list i ≡ Some a → prior front_list i ≡ front_before node_at levels a
   front-rule i a g =
       front-at i a.id (node_at a.id) refl a.offset ((fronts-listed node_at levels (Some root) xs p).right i a g) g

@@ -1,4 +1,4 @@
--- The lists of addresses of a tree are what is kept of its tour.
+-- The lists of addresses of a tree are what is kept of its positions.
 use Rattle.std.proofs.Common.{◌≡◌, ◌<◌, ◌++◌, ◌∷◌, [], ◌∙◌, ℕ, zero, suc, Bool, true, false, List, map, Option, Some, None, refl, sym, ap, arith}
 use Rattle.std.specs.List.{AllByRecursion, flat_map}
 use Rattle.std.specs.Prelude.{is_some}
@@ -9,7 +9,7 @@ use Rattle.btree_shape.specs.Focus.Shape.{Holds, Shape, id_of}
 use Rattle.btree_shape.specs.Focus.Positions.{Position, branch_key, branch_positions, address_at, positions_from, positions}
 use Rattle.btree_shape.proofs.AddressLists.Kept.{kept, kept-append, put}
 
--- which marks are kept: those at an item, the back ones in a leaf, the back ones, the front ones
+-- which positions are kept: those at an item; the back ones in a leaf; the back ones; the front ones
 abbrev pub keep_item : {A : Type 0} → Address → Option A → Bool
 keep_item a item = is_some item
 
@@ -40,7 +40,7 @@ module _ {A : Type 0} (keep : Address → Option A → Bool) where
       → first ++ more ≡ kept keep (ts ++ ss)
   joined first more ts ss e f = ap (λ z. z ++ more) e ∙ (ap (λ z. kept keep ts ++ z) f ∙ sym (kept-append keep ts ss))
 
-  -- a row of a node, by what is kept of it
+  -- what is kept of a row of a node
   module _ {X Y : Type 0} (f : X → Y) (list : Y → List Address) (key : X → A) (below : X → List (Position A)) (id : ℕ) where
     node_positions-slots : (offset : ℕ) (xs : List X) → ((o : ℕ) (x : A) → keep (address_at id o) (Some x) ≡ true) → ((o : ℕ) → keep (address_at id o) None ≡ false)
         → AllByRecursion (λ x. list (f x) ≡ kept keep (below x)) xs
@@ -83,7 +83,7 @@ module _ {A : Type 0} (keep : Address → Option A → Bool) where
     branches-below [] d = tt
     branches-below (b ∷ bs) d = (each b.1 d.0, branches-below bs d.1)
 
--- the number of each branch's child
+-- each branch with the number of its child
 abbrev named : {A : Type 0} (h : ℕ) → A × Shape A h → A × ℕ
 named {A} h b = (b.0, id_of A h b.1)
 

@@ -1,4 +1,4 @@
--- A tree each of whose addresses has one place: which trees are so, and what is kept of its tour.
+-- Trees in which each address has one place: which trees these are, and what is kept of their positions.
 use Rattle.std.proofs.Common.{◌≡◌, ◌<◌, ◌∙◌, ◌+◌, ℕ, Bool, true, List, length, Option, Some, None, sym, ap, subst, arith}
 use Rattle.std.proofs.lemmas.Option.{slice_get_within}
 use Rattle.std.specs.Cmp.{IsTotalOrder}
@@ -19,7 +19,7 @@ use Rattle.btree_shape.proofs.Places.OfTree.{positions-addressed, valid-on}
 use Rattle.btree_shape.proofs.Trees.Shapes.{shape-of}
 
 module _ {K V : Type 0} (cmp : K → K → Ordering) (laws : IsTotalOrder cmp) (node_at : NodeMap (K × V)) (levels : ℕ) (xs : List (K × V)) where
-  -- a well formed tree is so, for more levels than its height
+  -- a well formed tree is one, for more levels than its height
   abbrev pub placed-formed : (root len : ℕ) (w : IsWellFormed cmp node_at (Some root) len xs) → w.formed.height < levels → IsPlaced node_at levels root xs
   placed-formed root len w l =
       record {
@@ -28,7 +28,7 @@ module _ {K V : Type 0} (cmp : K → K → Ordering) (laws : IsTotalOrder cmp) (
         one = λ id offset p q s t. one_place-well cmp laws node_at xs len (Some root) w id offset p q s t;
       }
 
-  -- and so is one that is off by one at a node
+  -- and so is a tree that is off by one at a node
   abbrev pub placed-odd : (root odd : ℕ) (w : IsOffByOne cmp node_at root odd xs) → w.rooted.height < levels → IsPlaced node_at levels root xs
   placed-odd root odd w l =
       record {
@@ -38,7 +38,7 @@ module _ {K V : Type 0} (cmp : K → K → Ordering) (laws : IsTotalOrder cmp) (
       }
 
 module _ {A : Type 0} (node_at : NodeMap A) (levels root : ℕ) (xs : List A) (p : IsPlaced node_at levels root xs) where
-  -- the shape of the tree, and its tour
+  -- the shape of the tree, and its positions
   pub record Toured : Type 0 where
     pub shape : Shape A p.rooted.height
     pub here : id_of A p.rooted.height shape ≡ root
@@ -100,7 +100,7 @@ module _ {A : Type 0} (node_at : NodeMap A) (levels root : ℕ) (xs : List A) (p
           → IndexOf keep ticks_of a place
       addressed-kept asked a place k d = kept-of keep asked a ticks_of place k (addressed-in asked a place d)
 
-      -- where one address is kept between any two items, the index is the place
+      -- if one address is kept between any two items, the index is the place
       pub strung-addressed : (m : ℕ) → Strung keep 0 ticks_of m → (i : ℕ) (a : Address)
           → slice_get (kept keep ticks_of) i ≡ Some a → Addressed a i
       strung-addressed m s i a at =

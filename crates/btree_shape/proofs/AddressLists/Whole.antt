@@ -1,5 +1,5 @@
--- A well formed tree, and one that is off by one at a node, has the lists of its addresses, and the rules tell their order.
--- Navigation and cursors will cite it.
+-- A well formed tree, and one that is off by one at a node, has the lists of its addresses, in the order that the rules
+-- give. Navigation and cursors will cite it.
 use Rattle.std.proofs.Common.{◌≡◌, ℕ, suc, List, length, Option, Some, None, refl, sym, subst}
 use Rattle.std.specs.Cmp.{IsTotalOrder}
 use Rattle.std.specs.FinMap as finite
@@ -50,7 +50,7 @@ module _ {A : Type 0} (node_at : NodeMap A) (levels : ℕ) (xs : List A) where
   previous-under (Some root) p i a g = front-rule node_at levels root xs p i a g
 
 module _ {K V : Type 0} (s : TreeState K V) where
-  -- the addresses of a tree that is placed
+  -- the addresses of a tree in which each address has one place
   addresses-placed : IsPlacedUnder (node_map s) (finite.len s.nodes) s.root (pairs_of s) → HasAddresses s
   addresses-placed p =
       let levels = finite.len s.nodes in
@@ -76,7 +76,7 @@ module _ {K V : Type 0} (cmp : K → K → Ordering) (laws : IsTotalOrder cmp) (
   placed-under (Some root) len xs w =
       placed-formed cmp laws (node_map s) (finite.len s.nodes) xs root len w (height_held s _ root xs w.formed)
 
-  -- of one that is well formed, whatever its length
+  -- the same for a tree that is well formed, whatever its length
   pub addresses-formed : (len : ℕ) → IsWellFormed cmp (node_map s) s.root len (pairs_of s) → HasAddresses s
   addresses-formed len w = addresses-placed s (placed-under s.root len (pairs_of s) w)
 
@@ -86,7 +86,7 @@ module _ {K V : Type 0} (cmp : K → K → Ordering) (laws : IsTotalOrder cmp) (
   pub addresses-but-length : IsBTreeButLength cmp s → HasAddresses s
   addresses-but-length w = addresses-formed (length (pairs_of s)) w
 
-  -- of one that is off by one at a node
+  -- the same for a tree that is off by one at a node
   pub addresses-off : (id : ℕ) → IsOff cmp s id → HasAddresses s
   addresses-off id o =
       addresses-placed s

@@ -1,11 +1,11 @@
--- Where steps send addresses, checked by computing at numbers. Left is node 10, right is 11, their parent is 9, the item
--- between them is at offset 2 (in a split node 10 is child 2 of node 9), left has 3 items (3 stay in a split), and the
--- first child of right, if it has one, is 20.
+-- The new addresses after each step, checked by computing at numbers. Left is node 10, right is 11, their parent is 9,
+-- the item between them is at offset 2 (in a split node 10 is child 2 of node 9), left has 3 items (3 stay in a split),
+-- and the first child of right, if it has one, is 20.
 use Rattle.std.proofs.Common.{◌≡◌, Some, None, refl}
 use Rattle.btree_shape.specs.Moved.{moved_by_merge, moved_by_shrink_root, moved_by_rotate_left, moved_by_rotate_right, moved_by_split, moved_by_take}
 use Rattle.btree_shape.specs.Focus.Positions.{address_before, address_at}
 
--- a split: below the median, at it, above it; in the parent before the child index and from it on; elsewhere
+-- a split: before the median, at it, after it; in the parent before the child index and from it on; elsewhere
 pub split_front : moved_by_split 10 11 9 2 3 (address_before 10) ≡ address_before 10
 split_front = refl
 
@@ -106,7 +106,7 @@ merge_front_of_internal = refl
 pub merge_parent_front : moved_by_merge 10 11 9 2 3 None (address_before 9) ≡ address_before 9
 merge_parent_front = refl
 
--- the release of the root 10, whose only child 11 has 4 items
+-- shrinking the root 10, whose only child 11 has 4 items
 pub release_front : moved_by_shrink_root 10 11 4 (address_before 10) ≡ address_before 11
 release_front = refl
 
@@ -116,7 +116,7 @@ release_end = refl
 pub release_elsewhere : moved_by_shrink_root 10 11 4 (address_at 12 1) ≡ address_at 12 1
 release_elsewhere = refl
 
--- the item at offset 2 of leaf 10 taken out
+-- the item at offset 2 of leaf 10 is removed
 pub take_front : moved_by_take 10 2 (address_before 10) ≡ address_before 10
 take_front = refl
 

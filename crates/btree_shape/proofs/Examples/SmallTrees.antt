@@ -1,11 +1,11 @@
--- The order of the steps at small trees, checked row by row.
+-- The order of the underflow fixes at small trees, checked line by line.
 use Rattle.std.proofs.Common.{◌≡◌, ◌≢◌, ℕ, zero, suc, [], ◌∷◌, Some, None, refl, arith}
 use Rattle.btree_view.specs.View.{leaf, internal, NodeMap}
 use Rattle.btree_shape.specs.SiblingSteps.{Merges, ShrinksRoot, RotatesLeft}
 use Rattle.btree_shape.specs.UnderflowFix.{IsUnderflowFixed, borrows, empties, from_right, merges, shrinks_root, with_right}
 use Rattle.btree_shape.specs.Lists.{times_listed}
 
--- the middle leaf has two items, and both its siblings have one to spare: it takes one from the right one
+-- the middle leaf has two items, and both its siblings have one to spare: it borrows one from the right sibling
 abbrev short : NodeMap ℕ
 short zero = Some (leaf (Some 3) (1 ∷ 2 ∷ 3 ∷ 4 ∷ []))
 short (suc zero) = Some (leaf (Some 3) (6 ∷ 7 ∷ []))
@@ -59,7 +59,7 @@ pub takes_from_the_right : IsUnderflowFixed short even 3 (Some 3) 1
 takes_from_the_right = borrows short 1 3 (record { apart = λ e. absurd (omega arith); few = omega arith; named = refl })
     (from_right 1 2 refl (refl, omega arith) turned) refl
 
--- the first leaf has two items, and its sibling three: they are one node, and the root, left without items, is released
+-- the first leaf has two items, and its sibling three: they are merged, and the root, left without items, is freed
 abbrev pair : NodeMap ℕ
 pair zero = Some (leaf (Some 2) (1 ∷ 2 ∷ []))
 pair (suc zero) = Some (leaf (Some 2) (4 ∷ 5 ∷ 6 ∷ []))
@@ -123,7 +123,7 @@ pub merges_and_releases : IsUnderflowFixed pair single 2 (Some 0) 0
 merges_and_releases = merges pair merged 0 2 (record { apart = λ e. absurd (omega arith); few = omega arith; named = refl })
     (with_right 1 refl refl (omega arith) merging) (shrinks_root merged 2 0 refl refl released refl)
 
--- a root leaf without items goes
+-- a root leaf without items is freed
 abbrev bare : NodeMap ℕ
 bare zero = Some (leaf None [])
 bare (suc n) = None

@@ -1,4 +1,4 @@
--- How many nodes splits take, checked by computing: leaf 1 under root 0, by their numbers of items.
+-- How many nodes splits need, checked by computing: leaf 1 under root 0, by their numbers of items.
 use Rattle.std.proofs.Common.{◌≡◌, ◌∷◌, [], ℕ, zero, suc, List, Some, None, refl}
 use Rattle.btree_view.specs.View.{NodeMap, internal, leaf}
 use Rattle.btree_shape.specs.Need.{split_need}
@@ -16,7 +16,7 @@ tree branches items (suc n) = Some (leaf (Some 0) items)
 abbrev alone : List ℕ → NodeMap ℕ
 alone items n = Some (leaf None items)
 
--- nine items under a root of six: the right part alone; under one of seven: a right part for each, and a new root
+-- nine items under a root of six: the right part alone; under a root of seven: a right part for each, and a new root
 pub under_room : split_need (tree six (8 ∷ eight)) 5 1 ≡ 1
 under_room = refl
 
@@ -27,6 +27,6 @@ under_full = refl
 pub root_leaf : split_need (alone (8 ∷ eight)) 5 1 ≡ 2
 root_leaf = refl
 
--- an item too few takes none
+-- a node with an item too few needs none
 pub too_few : split_need (tree ((70, 8) ∷ six) (1 ∷ 2 ∷ [])) 5 1 ≡ 0
 too_few = refl

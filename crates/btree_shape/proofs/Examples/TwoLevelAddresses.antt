@@ -1,5 +1,5 @@
--- The lists of addresses of a tree of two levels, written out: root 2 with the item 4 over the leaves 0, with the items 0 to 3,
--- and 1, with the items 5 to 8; and those of the empty tree.
+-- The lists of addresses of a tree of two levels, written out: root 2 with the item 4 over the leaves 0, with the items
+-- 0 to 3, and 1, with the items 5 to 8; and those of the empty tree.
 use Rattle.std.proofs.Common.{◌≡◌, [], ◌∷◌, Some, None, refl, ℕ, zero, suc}
 use Rattle.btree_view.specs.View.{NodeMap, leaf, internal}
 use Rattle.btree_shape.specs.Addresses.{item_addresses_under, leaf_backs_under, backs_under, fronts_under}
@@ -31,16 +31,16 @@ pub fronts_of_base : fronts_under tree 2 (Some 2)
     ∷ address_before 1 ∷ address_at 1 0 ∷ address_at 1 1 ∷ address_at 1 2 ∷ address_at 1 3 ∷ []
 fronts_of_base = refl
 
--- further levels change nothing
+-- more levels change nothing
 pub backs_by_more : backs_under tree 9 (Some 2) ≡ backs_under tree 2 (Some 2)
 backs_by_more = refl
 
--- a bound that is too low loses what is further down
+-- a number of levels that is too low loses what is below
 pub backs_by_one : backs_under tree 1 (Some 2) ≡ address_at 2 0 ∷ address_at 2 1 ∷ []
 backs_by_one = refl
 
--- the next back address: in the left leaf, from its end into the root, from the root's item into the right leaf, and from the
--- root's end to none
+-- the next back address: in the left leaf; from its end to the root; from the root's item to the right leaf; and from
+-- the root's end to none
 pub back_after_item : back_after tree 2 (address_at 0 1) ≡ Some (address_at 0 2)
 back_after_item = refl
 
@@ -56,8 +56,8 @@ back_after_right = refl
 pub back_after_all : back_after tree 2 (address_at 2 1) ≡ None
 back_after_all = refl
 
--- the next front address backwards: in the right leaf to its -1, from there into the root, from the root's item into the left leaf,
--- from its -1 to the root's -1, and from there to none
+-- the next front address backwards: in the right leaf to its -1; from there to the root; from the root's item to the
+-- left leaf; from its -1 to the root's -1; and from there to none
 pub front_before_item : front_before tree 2 (address_at 1 0) ≡ Some (address_before 1)
 front_before_item = refl
 

@@ -1,5 +1,5 @@
--- The tour of a tree of two levels, written out: root 2 with the item 4 over the leaves 0, with the items 0 to 3, and 1,
--- with the items 5 to 8.
+-- The positions of a tree of two levels, written out: root 2 with the item 4 over the leaves 0, with the items 0 to 3,
+-- and 1, with the items 5 to 8.
 use Rattle.std.proofs.Common.{◌≡◌, ℕ, List, [], ◌∷◌, ◌++◌, Some, None, refl}
 use Rattle.btree_shape.specs.Focus.Shape.{Shape}
 use Rattle.btree_shape.specs.Focus.Positions.{Position, mark, over, address_before, address_at, positions, passed}
@@ -26,6 +26,6 @@ pub tour_of_base : positions ℕ 1 base ≡ mark
     (address_before 2) None ∷ (left_leaf ++ (mark (address_at 2 0) (Some 4) ∷ over ∷ (right_leaf ++ (mark (address_at 2 1) None ∷ []))))
 tour_of_base = refl
 
--- it passes each item once
+-- each item is passed once
 pub passed_of_base : passed (positions ℕ 1 base) ≡ 9
 passed_of_base = refl

@@ -1,5 +1,5 @@
--- The definitions at a tree of two levels, checked row by row: the keys 0 to 8, put in in order, make a root 2 with the item 4
--- over the leaves 0, with the items 0 to 3, and 1, with the items 5 to 8.
+-- The definitions at a tree of two levels, checked line by line: the keys 0 to 8, inserted in order, make a root 2 with
+-- the item 4 over the leaves 0, with the items 0 to 3, and 1, with the items 5 to 8.
 use Rattle.std.proofs.Common.{◌≡◌, ℕ, zero, suc, ◌≤◌, List, [], ◌∷◌, ◌++◌, Some, None, refl, inl, inr, arith, rules}
 use Rattle.std.proofs.lemmas.Bool.Decides.{nat_tests}
 use Rattle.std.specs.List.Sorted.{IsStrictlySortedBy}
@@ -55,7 +55,7 @@ well_formed = record {
   counted = refl;
 }
 
--- the left leaf, the right leaf and the root in the list
+-- the places of the left leaf, the right leaf and the root in the list
 left_stands : StandsAt tree all 0 lefts 0
 left_stands = record { front = []; back = (4, 40) ∷ rights; subtree = record { height = 0; parent = Some 2; represents = refl }; split = refl; counted = refl }
 
@@ -65,7 +65,7 @@ right_stands = record { front = lefts ++ (4, 40) ∷ []; back = []; subtree = re
 root_stands : StandsAt tree all 2 all 0
 root_stands = record { front = []; back = []; subtree = record { height = 1; parent = None; represents = spells_tree }; split = refl; counted = refl }
 
--- in front of each node's subtree
+-- the places before each node's subtree
 pub before_left : IsPlace tree (Some 2) all 0 None 0
 before_left = (lefts, left_stands)
 
@@ -75,7 +75,7 @@ before_right = (rights, right_stands)
 pub before_root : IsPlace tree (Some 2) all 2 None 0
 before_root = (all, root_stands)
 
--- past each node's last item
+-- the places past each node's last item
 pub after_left : IsPlace tree (Some 2) all 0 (Some 4) 4
 after_left = inr (refl, (lefts, 0, left_stands, refl))
 
@@ -85,7 +85,7 @@ after_right = inr (refl, (rights, 5, right_stands, refl))
 pub after_root : IsPlace tree (Some 2) all 2 (Some 1) 9
 after_root = inr (refl, (all, 0, root_stands, refl))
 
--- at an item of each node
+-- the places at an item of each node
 pub at_left : IsPlace tree (Some 2) all 0 (Some 2) 2
 at_left = inl refl
 
@@ -95,7 +95,7 @@ at_right = inl refl
 pub at_root : IsPlace tree (Some 2) all 2 (Some 0) 4
 at_root = inl refl
 
--- the list by the function
+-- the list by the function `represented`
 pub list_of_tree : represented tree 9 2 ≡ all
 list_of_tree = refl
 
@@ -113,7 +113,7 @@ at_nowhere = ((refl, refl, refl), refl)
 pub valid_nowhere : IsValid nothing None NOWHERE (Some 0)
 valid_nowhere = inr (refl, refl, refl)
 
--- a root leaf without items, as a removal leaves it before it is released: both its addresses have place 0
+-- a root leaf without items, as a removal leaves it before it is freed: both its addresses have place 0
 abbrev bare : NodeMap Pair
 bare zero = Some (leaf None [])
 bare (suc n) = None

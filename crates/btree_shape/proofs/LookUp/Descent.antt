@@ -1,4 +1,4 @@
--- A search for a key on its way down: what the items of a node say of the whole list, and which child comes next.
+-- A search for a key that goes down: what the items of a node decide about the whole list, and which child is next.
 use Rattle.std.proofs.Common.{◌≡◌, ◌<◌, ◌++◌, ◌∷◌, [], ◌∙◌, ℕ, zero, suc, List, length, map, Option, Some, Err, refl, sym, ap, subst, arith, append_assoc, append-nil, length-append}
 use Rattle.std.proofs.lemmas.Grind.{flat_map-append}
 use Rattle.std.proofs.lemmas.List.{length-map, map-append}
@@ -21,7 +21,7 @@ use Rattle.btree_shape.proofs.Paths.FromRoot.{rooted-tree, standing-rooted}
 use Rattle.btree_shape.proofs.LookUp.KeyInList.{AreAbove, AreBelow, Rises, above-pivot, ascends, below-pivot, rises-left, rises-right, searched, side}
 use Rattle.btree_shape.proofs.Paths.Focus.{descend, from-tree}
 
--- a list that maps to two parts is two parts
+-- a list whose image is two parts is itself two parts
 pub record Halves {X Y : Type 0} (f : X → Y) (xs : List X) (ys zs : List Y) : Type 0 where
   pub left : List X
   pub right : List X
@@ -88,7 +88,7 @@ module _ {K : Type 0} (V : Type 0) (cmp : K → K → Ordering) where
     branches-rise h bs (rises-right cmp (items_under (K × V) h b.1) (later_items (K × V) h bs) up.1),
   )
 
-  -- the items of a node ascend where those of its subtree do
+  -- the items of a node ascend if those of its subtree do
   pub items-rise : (h : ℕ) (p : Option ℕ) (t : Shape (K × V) h) → Rises cmp (items_under (K × V) h t)
       → Rises cmp (items_of (view_at (K × V) h p t))
   items-rise zero p t up = up
@@ -179,7 +179,7 @@ module _ {K V : Type 0} (cmp : K → K → Ordering) where
         in
         rw is (later-above h ps back (items_after c) (subst (λ ys. Rises cmp ys) e up) g high)
 
-    -- down to the child at an index: `left` are the branches before it
+    -- down to the child at an index; `left` are the branches before it
     at-child : (h : ℕ) (c : Path A (suc h)) (t : Shape A (suc h)) → IsFocus A node_at [] root xs (suc h) c t
         → IsFilled (least_at c) (suc h) (count_at A (suc h) t)
         → AreBelow cmp k (items_before c) → AreAbove cmp k (items_after c)

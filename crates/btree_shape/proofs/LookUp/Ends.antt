@@ -1,4 +1,4 @@
--- Where a search ends: at the item of a node, or at a leaf's address for a key that is not there.
+-- The end of a search: at the item of a node, or at a leaf's address for a key that is not there.
 use Rattle.std.proofs.Common.{◌≡◌, ◌++◌, ◌∷◌, [], ◌∙◌, ◌+◌, ℕ, zero, suc, List, length, map, take, Option, Some, None, Ok, Err, refl, sym, ap, subst, arith, append_assoc, length-append}
 use Rattle.std.proofs.lemmas.Grind.{flat_map-append}
 use Rattle.std.proofs.lemmas.List.{length-map, take_at}
@@ -23,14 +23,14 @@ module _ {K V : Type 0} (cmp : K → K → Ordering) (k : K) (laws : IsTotalOrde
   abbrev A : Type 0
   A = K × V
 
-  -- the key is found at an offset of node `id`, and that is its place
+  -- the key is found at an offset of node `id`, which has the key's place
   pub record Hit (id o : ℕ) : Type 0 where
     pub place : ℕ
     pub is : place_of cmp k xs ≡ Ok place
     pub at : IsPlace node_at (Some root) xs id (Some o) place
     pub item : found cmp k xs ≡ item_in (node_at id) o
 
-  -- the key is not there, and an offset of leaf `id` is its place
+  -- the key is not there, and an offset of leaf `id` has its place
   pub record Miss (id o : ℕ) : Type 0 where
     pub place : ℕ
     pub is : place_of cmp k xs ≡ Err place

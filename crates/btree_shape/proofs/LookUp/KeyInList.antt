@@ -12,7 +12,7 @@ use Rattle.btree_item.specs.Pairs.{Ascends, before, found, place_of}
 use Rattle.btree_shape.proofs.Paths.Frames.{AllByRecursion-left, AllByRecursion-right}
 
 module _ {K V : Type 0} (cmp : K → K → Ordering) where
-  -- the keys ascend, read off the pairs
+  -- the keys ascend, as a property of the pairs
   abbrev pub Rises : List (K × V) → Type 0
   Rises [] = Unit {0}
   Rises (x ∷ xs) = AllByRecursion (λ y. cmp x.0 y.0 ≡ Less) xs × Rises xs
@@ -62,7 +62,7 @@ module _ {K : Type 0} {cmp : K → K → Ordering} (laws : IsTotalOrder cmp) whe
   reversed-back x y e = let r = laws.antisymm y x in rw e at r
 
 module _ {K V : Type 0} (cmp : K → K → Ordering) (k : K) where
-  -- where a pair lies against the key
+  -- how a pair compares with the key
   abbrev pub side : K × V → Ordering
   side x = cmp x.0 k
 
@@ -72,7 +72,7 @@ module _ {K V : Type 0} (cmp : K → K → Ordering) (k : K) where
   abbrev pub AreAbove : List (K × V) → Type 0
   AreAbove xs = AllByRecursion (λ x. side x ≡ Greater) xs
 
-  -- Ok: the pairs before the one with the key, and those behind it; Err: the pairs below the key, and those above
+  -- Ok: the pairs before the one with the key, and those after it; Err: the pairs below the key, and those above
   abbrev pub IsSearched : List (K × V) → Result ℕ ℕ → Type 0
   IsSearched xs (Ok i) =
       (front : List (K × V)) × (x : K × V) × (back : List (K × V)) × (xs ≡ front ++ x ∷ back) × (length front ≡ i)
@@ -175,7 +175,7 @@ module _ {K V : Type 0} (cmp : K → K → Ordering) (k : K) where
     pub above-pivot : (x : K × V) (ys : List (K × V)) → Rises cmp (x ∷ ys) → side x ≡ Greater → AreAbove (x ∷ ys)
     above-pivot x ys a g = (g, above-all x ys a.0 g)
 
-    -- each list that ascends has such parts
+    -- each ascending list has such parts
     some-search : (xs : List (K × V)) → Rises cmp xs → (r : Result ℕ ℕ) × IsSearched xs r
     some-search [] up = (Err 0, ([], [], refl, refl, tt, tt))
     some-search (x ∷ xs) up = by (side x) refl (some-search xs up.1)

@@ -22,7 +22,7 @@ rest-none (x ∷ xs) zero e = absurd (cc)
 rest-none (x ∷ xs) (suc i) e = rest-none xs i e
 
 module _ {A : Type 0} (node_at : NodeMap A) (levels : ℕ) where
-  -- a row put below the others is left first
+  -- of the rows, the last one added is passed first
   pub left-push : (rows : List (List (A × ℕ))) (node_positions : List (A × ℕ)) → left_above node_at levels (rows ++ node_positions ∷ []) ≡ left_in node_at levels node_positions ++ left_above node_at levels rows
   left-push [] node_positions = sym (append-nil (left_in node_at levels node_positions))
   left-push (r ∷ rows) node_positions = ap (λ l. l ++ left_in node_at levels r) (left-push rows node_positions) ∙ append_assoc (left_in node_at levels node_positions) (left_above node_at levels rows) (left_in node_at levels r)
@@ -43,7 +43,7 @@ module _ {A : Type 0} (node_at : NodeMap A) (levels : ℕ) where
       let low = rows-pop (suc depth) rows node_positions are.1 in
       record { above = (are.0, low.above); under = rw s low.under }
 
-  -- a leaf spells its items
+  -- a leaf represents its items
   pub under-leaf : (depth id : ℕ) (p : Option ℕ) (ys : List A) → IsUnder node_at levels depth id → node_at id ≡ Some (leaf p ys) → represented node_at levels id ≡ ys
   under-leaf depth id p ys u e = at u.height u.parent u.list u.low u.room u.represents
     where
@@ -51,7 +51,7 @@ module _ {A : Type 0} (node_at : NodeMap A) (levels : ℕ) where
       at zero parent xs low room h = let same : xs ≡ ys = cc in represented-is node_at zero levels parent id xs (omega arith) h ∙ same
       at (suc height) parent xs low room h = let was = h.3 in absurd (cc)
 
-  -- an internal node: what its first child spells, and then its row
+  -- an internal node represents the list of its first child, and then its row
   pub record Inside (depth id first : ℕ) (node_positions : List (A × ℕ)) : Type 0 where
     pub first_under : IsUnder node_at levels (suc depth) first
     pub row_under : AllByRecursion (λ (b : A × ℕ). IsUnder node_at levels (suc depth) b.1) node_positions

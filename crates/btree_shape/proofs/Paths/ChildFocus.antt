@@ -1,4 +1,4 @@
--- A tree seen from the child at an index of one of its nodes, and what is next to that child's part of the tour.
+-- A focus at the child at an index of a node, and the positions next to that child's.
 use Rattle.std.proofs.Common.{◌≡◌, ◌<◌, ◌++◌, ◌∷◌, ◌∙◌, ◌+◌, [], ℕ, zero, suc, List, length, map, Option, Some, None, Bool, true, refl, sym, ap, subst, arith, append_assoc}
 use Rattle.std.specs.Prelude.{slice_get}
 use Rattle.btree_item.specs.declared.address.Address.{Address}
@@ -41,7 +41,7 @@ cut g (x ∷ xs) (suc k) n e =
     }
 
 module _ (A : Type 0) (node_at : NodeMap A) (root : ℕ) (xs : List A) where
-  -- the tree seen from the child at an index of a node
+  -- a focus at the child at an index of a node
   pub record ChildAt (id index child : ℕ) : Type 0 where
     pub height : ℕ
     pub frame : Frame A height
@@ -102,7 +102,7 @@ module _ (A : Type 0) (node_at : NodeMap A) (root : ℕ) (xs : List A) where
       (subst (λ w. slice_get (children_in w) index ≡ Some child) v e))
 
 module _ (A : Type 0) where
-  -- in front of a child the node's item before it is kept, or its -1
+  -- before a child, the node's item before it is kept, or its -1
   last-before : (keep : Address → Option A → Bool) (h n : ℕ) → ((o : ℕ) (x : A) → keep (address_at n o) (Some x) ≡ true) → (first : Shape A h)
       (front : List (A × Shape A h)) (x : A) (back : List (A × Shape A h))
       → Ends (address_at n (length front)) (kept keep (positions_before A (at_branch n first front x back)))
@@ -132,7 +132,7 @@ module _ (A : Type 0) where
       (let q : suc (length front) ≡ length front + 1 = omega arith in q)
       (last-before keep_front h n (λ o x. refl) first front x back)
 
-  -- behind it the node goes on at the child's index
+  -- after a child, the node goes on at the child's index
   pub back-after : (h : ℕ) (f : Frame A h) → Begins (address_at (frame_id f) (frame_index f)) (kept keep_back (positions_after A f (frame_index f)))
   back-after h f = node_positions-begins (branch_key A h) (branch_positions A h) (frame_id f) (frame_index f) (branches_after A f)
 

@@ -1,4 +1,4 @@
--- From a node to the one above it and down to a child: the tree stays the same.
+-- The focus moves from a node to its parent and to a child: the tree stays the same.
 use Rattle.std.proofs.Common.{◌≡◌, ◌++◌, ◌∷◌, [], ◌∙◌, ℕ, suc, List, sym, ap, subst, arith, append_assoc, append-nil}
 use Rattle.btree_view.specs.View.{NodeMap}
 use Rattle.btree_shape.specs.Focus.Shape.{IsFilled, IsFilledBelow, Shape, count_at, items_under}

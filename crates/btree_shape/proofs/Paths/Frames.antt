@@ -1,4 +1,4 @@
--- What a frame filled with a child is, and a tree in a store that is the same at its numbers.
+-- A frame filled with a child, and trees in stores that agree at the tree's numbers.
 use Rattle.std.proofs.Common.{◌≡◌, ◌≢◌, ◌<◌, ◌++◌, ◌∷◌, [], ◌∙◌, ◌+◌, ℕ, zero, suc, List, Option, Some, refl, sym, ap, arith, append_assoc, length-append}
 use Rattle.std.proofs.lemmas.Bool.Decides.{nat_tests}
 use Rattle.std.proofs.lemmas.Grind.{flat_map-append}
@@ -114,7 +114,7 @@ module _ (A : Type 0) where
         ((x, t) ∷ back) s.2 ((z, b), s.3),
   )
 
-  -- a store that is the same at the numbers of a tree still has it
+  -- a store that agrees at the numbers of a tree still holds it
   module _ (node_at new : NodeMap A) where
     each-same : (h : ℕ) (p : Option ℕ) (below : (t : Shape A h) → ((n : ℕ) → 0 < times_under A h n t → new n ≡ node_at n)
         → Holds A node_at h p t → Holds A new h p t)

@@ -1,4 +1,4 @@
--- Between the public words on a tree and the tree seen from one of its nodes.
+-- Between the public definitions of a tree and a focus at one of its nodes.
 use Rattle.std.proofs.Common.{◌≡◌, ◌≢◌, ◌<◌, ◌≤◌, [], ◌∙◌, ◌+◌, ℕ, suc, inl, inr, List, Some, None, refl, sym, ap, subst, arith, append-nil}
 use Rattle.std.proofs.lemmas.Bool.Decides.{nat_tests}
 use Rattle.btree_view.specs.View.{NodeMap, View, most_of, size_of}
@@ -17,7 +17,7 @@ use Rattle.btree_shape.proofs.Paths.UnsizedFocus.{AtNode, AtRoot, stand-at, stan
 use Rattle.btree_shape.proofs.Trees.Subtrees.{stands}
 
 module _ (root odd : ℕ) where
-  -- the bounds where one node may be off by one
+  -- the bounds if one node may be off by one
   least-odd : (id : ℕ) → id ≡ odd → suc (least_beside root odd id) ≡ least_of root odd
   least-odd id e = elim (same-or odd root) [ inl s ↦ grind (arith, nat_tests) | inr s ↦ grind (arith, nat_tests) ]
 
@@ -38,7 +38,7 @@ excess-odd : (odd id : ℕ) → id ≡ odd → excess_beside odd id ≡ 1
 excess-odd odd id e = grind (arith, nat_tests)
 
 module _ (A : Type 0) (node_at : NodeMap A) where
-  -- each node above and beside the hole has its number of items, where each used number's node has it
+  -- each node of the path, and below its other children, has its number of items, if each used number's node has it
   pub above-filled : (h : ℕ) (c : Path A h) (hole : ℕ) → HoldsAbove node_at c hole
       → ((n : ℕ) (v : View A) → 0 < times_above n c → node_at n ≡ Some v → IsSized (root_above c hole) n v)
       → ((n : ℕ) → one n hole + times_above n c ≤ 1) → AreFilled c
@@ -78,7 +78,7 @@ module _ (A : Type 0) (node_at : NodeMap A) where
           (frame_id f) ≡ 1 = subst (λ m. one r m ≡ 1) (sym same) (one-self r) in omega arith) in
           omega arith
 
-  -- the public words, from a tree seen from any of its nodes
+  -- the public definition, from a focus at any node
   module _ (is_right : (id : ℕ) → View A → Type 0) (root : ℕ) (xs : List A) where
     pub rooted-standing : (h : ℕ) (c : Path A h) (t : Shape A h) → IsUnsizedFocus A node_at [] root xs h c t
         → ((n : ℕ) (v : View A) → node_at n ≡ Some v → is_right n v) → IsRooted is_right node_at root xs
@@ -100,7 +100,7 @@ module _ (A : Type 0) (node_at : NodeMap A) where
               omega arith;
         }
 
-    -- and back
+    -- and the converse
     pub standing-rooted : IsRooted is_right node_at root xs → AtRoot A node_at [] root xs
     standing-rooted r =
         let s = shape-of A node_at r.height None root xs r.represents in
@@ -126,7 +126,7 @@ module _ (A : Type 0) (node_at : NodeMap A) where
         let s = standing-rooted r in
         stand-at A node_at [] root xs id s.height top s.shape s.stands (let o = s.stands.once id in omega arith)
 
-    -- where each node but this one has its number of items, the tree seen from it is whole
+    -- if each node but this one has its number of items, there is a focus at it
     pub whole-node : (id : ℕ) (s : AtNode A node_at [] root xs id)
         → ((n : ℕ) (v : View A) → n ≢ id → node_at n ≡ Some v → IsSized root n v)
         → IsFocus A node_at [] root xs s.height s.path s.shape
@@ -182,7 +182,7 @@ module _ (A : Type 0) (node_at : NodeMap A) where
               (above-sized A node_at h c (id_of A h t) w.above w.filled n v some e)
         ]
 
-    -- and that one has as many as the shape says
+    -- and that one has as many items as its shape
     pub top-counts : (h : ℕ) (c : Path A h) (t : Shape A h) → IsFocus A node_at [] root xs h c t → (n : ℕ) (v : View A)
         → n ≡ id_of A h t → node_at n ≡ Some v
         → (size_of v ≡ count_at A h t) × (most_of v ≡ most_at h)
@@ -205,13 +205,13 @@ module _ (A : Type 0) (node_at : NodeMap A) where
         let b = times-has A h root t in
         omega arith
 
-    -- the root has none above it, and no other node is the root
+    -- no node is above the root, and no other node is the root
     pub least-top : (h : ℕ) (c : Path A h) (t : Shape A h) → IsFocus A node_at [] root xs h c t → (n : ℕ)
         → n ≡ id_of A h t → least_of root n ≡ least_at c
     least-top h top t w n same = least-root root n (same ∙ w.root_is)
     least-top h (under f c) t w n same = least-other root n (λ e. under-apart h f c t w (sym same ∙ e))
 
-    -- a well formed tree, seen from any of its nodes
+    -- a well formed tree has a focus at each of its nodes
     pub node-at : IsRooted (IsSized root) node_at root xs → (id : ℕ) → 0 < times_used (node_at id) → IsNode A node_at root xs id
     node-at r id u =
         let s = node-rooted (IsSized root) root xs r id u in
@@ -233,7 +233,7 @@ module _ (A : Type 0) (node_at : NodeMap A) where
             let y = least-top h c t w (id_of A h t) refl in
             (omega arith, omega arith)
 
-    -- and back
+    -- and the converse
     pub rooted-node : (id : ℕ) → IsNode A node_at root xs id → IsRooted (IsSized root) node_at root xs
     rooted-node id n =
         rooted-standing (IsSized root) root xs n.seen.height n.seen.path n.seen.shape
@@ -254,7 +254,7 @@ module _ (A : Type 0) (node_at : NodeMap A) where
           | inr ne ↦ whole-sized h c t w k v ne e
         ]
 
-    -- a tree that is off by one at a node, seen from that node
+    -- a tree that is off by one at a node has a focus at that node
     pub odd-at : (odd : ℕ) → IsRooted (IsNearlySized root odd) node_at root xs → 0 < times_used (node_at odd)
         → IsOddNode A node_at root xs odd
     odd-at odd r u =
@@ -283,7 +283,7 @@ module _ (A : Type 0) (node_at : NodeMap A) where
             let p : least_of root odd ≡ least_at c = subst (λ m. least_of root m ≡ least_at c) here q in
             (omega arith, omega arith)
 
-    -- and back
+    -- and the converse
     pub rooted-odd : (odd : ℕ) → IsOddNode A node_at root xs odd → IsRooted (IsNearlySized root odd) node_at root xs
     rooted-odd odd n =
         rooted-standing (IsNearlySized root odd) root xs n.seen.height n.seen.path n.seen.shape
@@ -306,7 +306,7 @@ module _ (A : Type 0) (node_at : NodeMap A) where
           | inr ne ↦ sized-nearly root odd k v (λ s. ne (s ∙ sym here)) (whole-sized h c t w k v ne e)
         ]
 
-    -- the whole tree from its root, so many levels above the leaves
+    -- the whole tree with its focus at the root, which is `height` levels above the leaves
     pub record HasShape (height : ℕ) : Type 0 where
       pub shape : Shape A height
       pub at_root : id_of A height shape ≡ root

@@ -1,4 +1,4 @@
--- The levels above a node of a tree and below it are those of the tree.
+-- The levels above a node of a tree and those below it are together those of the tree.
 use Rattle.std.proofs.Common.{◌≡◌, ◌+◌, ◌∙◌, ℕ, suc, List, [], None, sym, ap, subst, arith}
 use Rattle.btree_view.specs.View.{NodeMap, View}
 use Rattle.btree_shape.specs.Focus.Search.{levels_below}
@@ -11,7 +11,7 @@ use Rattle.btree_shape.proofs.Trees.Shapes.{shape-of}
 use Rattle.btree_shape.proofs.Paths.UnsizedFocus.{stand-up}
 
 module _ (A : Type 0) (node_at : NodeMap A) (root : ℕ) (xs : List A) where
-  -- the levels above a node and below it are those of the tree
+  -- `sum` is the number of levels above a node and below it
   record Levels (sum : ℕ) : Type 0 where
     shape : Shape A sum
     stands : IsUnsizedFocus A node_at [] root xs sum top shape

@@ -1,4 +1,4 @@
--- From a node up to its parent: which child it is, and how many levels are left.
+-- From a node to its parent: which child it is, and how many levels are left.
 use Rattle.std.proofs.Common.{◌≡◌, ◌<◌, ◌≤◌, ◌++◌, ◌∷◌, [], ◌∙◌, ◌+◌, ℕ, zero, suc, List, length, map, Option, Some, refl, sym, ap, subst, arith, length-append}
 use Rattle.std.proofs.lemmas.List.{map-append}
 use Rattle.std.specs.Prelude.{slice_get}
@@ -13,7 +13,7 @@ use Rattle.btree_shape.proofs.Trees.Heights.{low-enough}
 use Rattle.btree_shape.proofs.Trees.Numbers.{times-has}
 use Rattle.btree_shape.proofs.Trees.Sizes.{frame-parent}
 
--- the numbers of a node's children, behind a front of branches
+-- the numbers of a node's children, after a front of branches
 pub ids-append : {A : Type 0} (front back : List (A × ℕ)) → map {B = ℕ} (λ b. b.1) (front ++ back) ≡ map {B = ℕ}
     (λ b. b.1) front ++ map {B = ℕ} (λ b. b.1) back
 ids-append front back = map-append (λ b. b.1) front back
@@ -24,7 +24,7 @@ get-times (m ∷ ns) zero n e =
     let s : m ≡ n = cc in let o = one-self n in let q : one n m ≡ 1 = subst (λ z. one n z ≡ 1) (sym s) o in omega arith
 get-times (m ∷ ns) (suc k) n e = let r = get-times ns k n e in omega arith
 
--- a number that is in a list once stands at one index
+-- a number that is in a list once is at one index
 pub get-once : (front : List ℕ) (n : ℕ) (back : List ℕ) (k : ℕ) → times_listed n front + times_listed n back ≡ 0
     → slice_get (front ++ n ∷ back) k ≡ Some n → k ≡ length front
 get-once [] n back zero none e = refl

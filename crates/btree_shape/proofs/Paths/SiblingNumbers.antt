@@ -1,4 +1,4 @@
--- A node and the children before and after it under its parent, by the numbers that the parent names.
+-- A node and the children before and after it, by the numbers in their parent.
 use Rattle.std.proofs.Common.{◌≡◌, ◌≤◌, ◌++◌, ◌∷◌, [], ◌∙◌, ◌+◌, ℕ, suc, List, length, map, Option, Some, refl, sym, ap, subst, arith, append_assoc, length-append}
 use Rattle.std.proofs.lemmas.Option.{same_Some, slice_get_within}
 use Rattle.std.specs.Prelude.{IsTrue, slice_get}
@@ -58,7 +58,7 @@ module _ (A : Type 0) (node_at : NodeMap A) (root : ℕ) (xs : List A) (id : ℕ
         let s = frame-size A h (parent_above c) f (id_of A h t) in
         omega arith
 
-    -- the children, where the frame is filled with two
+    -- the children, if the frame is filled with two
     two-children : (f2 : Frame A h) (l : Shape A h) (x : A) (r : Shape A h) → fill f t ≡ fill_two f2 l x r
         → children_of Node ≡ children_at A (suc h) (fill_two f2 l x r)
     two-children f2 l x r same =

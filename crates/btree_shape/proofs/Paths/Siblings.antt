@@ -1,4 +1,4 @@
--- Two neighbouring children of a node, whatever their numbers of items: a node and the child before or after it.
+-- Two adjacent siblings, whatever their numbers of items: a node and the child before or after it.
 use Rattle.std.proofs.Common.{◌≡◌, ◌<◌, ◌++◌, ◌∷◌, [], ◌∙◌, ◌+◌, ℕ, suc, List, map, Some, refl, sym, ap, subst, arith, append_assoc, append-nil, length-append}
 use Rattle.std.proofs.lemmas.Grind.{flat_map-append}
 use Rattle.std.proofs.lemmas.List.{map-append}
@@ -43,7 +43,7 @@ module _ (A : Type 0) (node_at : NodeMap A) (root : ℕ) (xs : List A) (h : ℕ)
     pub pair-near : Apart A h (frame_id f) a b
     pair-near = record { sum = λ n. let o = pair-alone.sum n in omega arith }
 
-    -- where both have their number of items
+    -- if both have their number of items
     pub pair-whole : IsFilled 3 h (count_at A h a) → IsFilled 3 h (count_at A h b)
         → IsFocus A node_at [] root xs (suc h) c (fill_two f a x b)
     pair-whole za zb = record {

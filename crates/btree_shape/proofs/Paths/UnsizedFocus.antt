@@ -1,4 +1,4 @@
--- A tree seen from one of its nodes, whatever the numbers of items: up to the root and down to any node.
+-- A focus whatever the numbers of items are: up to the root and down to any node.
 use Rattle.std.proofs.Common.{◌≡◌, ◌<◌, ◌++◌, ◌∙◌, ℕ, zero, suc, inl, inr, List, sym, ap, subst, arith}
 use Rattle.btree_view.specs.View.{NodeMap}
 use Rattle.btree_shape.specs.Focus.Shape.{IsFilledBelow, Shape, id_of, items_under, times_under}
@@ -58,7 +58,7 @@ module _ (A : Type 0) where
           root_is = sym (ap (root_above c) (fill-id A h f t)) ∙ w.root_is;
         }
 
-    -- the tree from its root
+    -- a focus at the root
     pub record AtRoot : Type 0 where
       pub height : ℕ
       pub shape : Shape A height
@@ -68,7 +68,7 @@ module _ (A : Type 0) where
     stand-root h top t s = record { height = h; shape = t; stands = s }
     stand-root h (under f c) t s = stand-root (suc h) c (fill f t) (stand-up h f c t s)
 
-    -- the tree from one of its nodes
+    -- a focus at one of the nodes
     pub record AtNode (id : ℕ) : Type 0 where
       pub height : ℕ
       pub path : Path A height

@@ -1,4 +1,4 @@
--- Choices by a test on two numbers; and that a node of the tree is used.
+-- Choices by a test on two numbers; and a node of the tree is used.
 use Rattle.std.proofs.Common.{◌≡◌, ◌≢◌, ◌<◌, ◌≤◌, ◌==◌, if◌then◌else◌, ℕ, List, Some, subst, arith}
 use Rattle.std.proofs.lemmas.Bool.Decides.{nat_tests}
 use Rattle.std.specs.Prelude.{nat_lt}

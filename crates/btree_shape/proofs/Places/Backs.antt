@@ -1,4 +1,4 @@
--- A back address stays one: no step sends an offset other than -1 to -1.
+-- A back address stays one: no step moves an offset other than -1 to -1.
 use Rattle.std.proofs.Common.{◌+◌, ◌-◌, ◌==◌, if◌then◌else◌, ℕ, zero, suc, Bool, true, false, Option, Some, None}
 use Rattle.std.specs.Prelude.{nat_lt}
 use Rattle.btree_item.specs.declared.address.Address.{Address}

@@ -1,11 +1,11 @@
--- Addresses in lists of ticks, and functions that carry them from one list to another.
+-- Addresses in lists of positions, and functions that move them from one list to another and keep their places.
 use Rattle.std.proofs.Common.{◌≡◌, ◌<◌, ◌≤◌, ◌⊎◌, ◌++◌, ◌∷◌, [], ◌∙◌, ◌+◌, ℕ, suc, inl, inr, List, length, Option, Some, None, refl, sym, ap, subst, arith, append_assoc, append-nil}
 use Rattle.std.specs.List.{AllByRecursion}
 use Rattle.btree_item.specs.declared.address.Address.{Address}
 use Rattle.btree_shape.specs.Lists.{total}
 use Rattle.btree_shape.specs.Focus.Positions.{Asks, KeepsPositions, IsAt, Position, mark, over, passed, address_at, positions_from, positions_to}
 
--- lists of ticks
+-- lists of positions
 module _ {A : Type 0} where
   pub passed-append : (ts ss : List (Position A)) → passed (ts ++ ss) ≡ passed ts + passed ss
   passed-append [] ss = omega arith
@@ -49,7 +49,7 @@ module _ {A : Type 0} where
         | inr q ↦ inr (record { rest = q.rest; is = (let e = i.1 in let w = q.is in omega arith); there = q.there })
       ]
 
-  -- ways to carry
+  -- how such a function is composed from parts
   pub carry-append : (g : Address → Address) (ts ss ts' ss' : List (Position A)) → passed ts ≡ passed ss → KeepsPositions g ts ss
       → KeepsPositions g ts' ss' → KeepsPositions g (ts ++ ts') (ss ++ ss')
   carry-append g ts ss ts' ss' e c d o a u i =
@@ -61,12 +61,12 @@ module _ {A : Type 0} where
   pub carry-over : (g : Address → Address) (ts ss : List (Position A)) → KeepsPositions g ts ss → KeepsPositions g (over ∷ ts) (over ∷ ss)
   carry-over g ts ss c o a u i = (i.0, i.1, c o a i.0 i.2)
 
-  -- an address that is not in the image
+  -- an address that is no image of the function
   pub carry-more : (g : Address → Address) (b : Address) (k : Option A) (ts ss : List (Position A)) → KeepsPositions g ts ss
       → KeepsPositions g ts (mark b k ∷ ss)
   carry-more g b k ts ss c o a u i = inr (c o a u i)
 
-  -- an address that goes somewhere else
+  -- an address that moves elsewhere
   pub carry-to : (g : Address → Address) (b : Address) (k : Option A) (ts ss : List (Position A))
       → ((o : Option A) → Asks o k → IsAt o (g b) ss 0) → KeepsPositions g ts ss → KeepsPositions g (mark b k ∷ ts) ss
   carry-to g b k ts ss here c o a u (inl i) = subst (λ z. IsAt o (g z) ss u) (sym i.0)
@@ -109,7 +109,7 @@ module _ {A : Type 0} where
           (suc o) xs,
     )
 
-    -- a row moves to other offsets
+    -- a row whose offsets change
     pub carry-positions_from : (g : Address → Address) (i o j p : ℕ) (xs : List X)
         → ((k : ℕ) → k ≤ length xs → g (address_at i (o + k)) ≡ address_at j (p + k))
         → AllByRecursion (λ x. KeepsPositions g (f x) (f x)) xs → KeepsPositions g (positions_from key f i o xs) (positions_from key f j p xs)

@@ -1,4 +1,4 @@
--- The places of the addresses of a node, from the tree seen from it.
+-- The places of the addresses of a node, by a focus at it.
 use Rattle.std.proofs.Common.{◌≡◌, ◌≤◌, ◌++◌, ◌∷◌, [], ◌∙◌, ◌+◌, ℕ, zero, suc, inl, inr, List, length, map, take, Option, Some, refl, sym, ap, subst, arith, append_assoc, length-append}
 use Rattle.std.proofs.lemmas.List.{take_all}
 use Rattle.std.specs.Prelude.{slice_get}
@@ -14,7 +14,7 @@ use Rattle.btree_shape.proofs.Trees.Shapes.{represents-of}
 use Rattle.btree_shape.proofs.Paths.UnsizedFocus.{whole-standing}
 
 module _ (A : Type 0) where
-  -- the number of items of a subtree before an offset of its top
+  -- the number of items of a subtree before an offset of its root
   abbrev pub items_upto : (h : ℕ) → Shape A h → ℕ → ℕ
   items_upto zero t o = o
   items_upto (suc h) t o = length (items_under A h t.1 ++ later_items A h (take o t.2))
@@ -34,7 +34,7 @@ module _ (A : Type 0) where
       ap (slice_get ((b.0 ∷ items_under A h b.1) ++ later_items A h bs)) l
       ∙ behind (b.0 ∷ items_under A h b.1) (later_items A h bs) (length (later_items A h (take o bs))) x r
 
-  -- an item of a node stands in its subtree's list behind those before its offset
+  -- an item of a node is in its subtree's list after those before its offset
   pub upto-item : (h : ℕ) (p : Option ℕ) (t : Shape A h) (o : ℕ) (x : A)
       → slice_get (items_of (view_at A h p t)) o ≡ Some x → slice_get (items_under A h t) (items_upto h t o) ≡ Some x
   upto-item zero p t o x e = e

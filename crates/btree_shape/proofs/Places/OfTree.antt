@@ -1,4 +1,4 @@
--- The tour of the tree under a root, seen from any node, says the same as the public words on addresses.
+-- The positions of the tree under a root, by any focus, agree with the public definitions for addresses.
 use Rattle.std.proofs.Common.{◌≡◌, ◌≤◌, [], ◌∙◌, ◌+◌, ℕ, inl, inr, List, length, Option, Some, None, refl, sym, ap, subst, arith, append-nil, option_and_then}
 use Rattle.std.specs.Cmp.{IsTotalOrder}
 use Rattle.std.specs.FinMap.{len}
@@ -23,7 +23,7 @@ use Rattle.btree_shape.proofs.Trees.Stores.{within-used}
 use Rattle.btree_shape.proofs.Places.TreePlaces.{hole-in, in-addressed, top-item, top_item}
 
 module _ (A : Type 0) (node_at : NodeMap A) where
-  -- the tour seen from a node is that from the root
+  -- the positions by a focus at a node are those by a focus at the root
   pub root-positions : (spare : List ℕ) (root : ℕ) (xs : List A) (h : ℕ) (c : Path A h) (t : Shape A h)
       → IsUnsizedFocus A node_at spare root xs h c t
       → (height : ℕ) (shape : Shape A height) → id_of A height shape ≡ root → Holds A node_at height None shape
@@ -34,7 +34,7 @@ module _ (A : Type 0) (node_at : NodeMap A) where
       ∙ one-positions A node_at r.height height None None r.shape shape (r.at_root ∙ (w.root_is ∙ sym at_root)) r.holds holds
 
   module _ (spare : List ℕ) (root : ℕ) (xs : List A) (asked : Option A) (a : Address) (place : ℕ) where
-    -- what is on the tour seen from a node is on the tree's, and the other way round
+    -- a position by a focus is one of the tree, and the converse
     pub standing-on : (h : ℕ) (c : Path A h) (t : Shape A h) → IsUnsizedFocus A node_at spare root xs h c t
         → IsAt asked a (all_positions A h c t) place → HasPosition A node_at root asked a place
     standing-on h c t w i =
@@ -61,7 +61,7 @@ module _ (A : Type 0) (node_at : NodeMap A) where
         → HasPosition A node_at root asked a place → IsAt asked a (all_positions A h c t) place
     on-whole h c t w i = on-standing h c t (whole-standing A node_at spare root xs h c t w) i
 
-    -- an address on the tour is valid, and has its place and the item that is asked for
+    -- an address at a position is valid, and has its place and the item that is required
     pub standing-addressed : (h : ℕ) (c : Path A h) (t : Shape A h) → IsUnsizedFocus A node_at spare root xs h c t
         → HasPosition A node_at root asked a place → IsAddressed A node_at root xs asked a place
     standing-addressed h c t w i =
@@ -81,12 +81,12 @@ module _ (A : Type 0) (node_at : NodeMap A) where
         let s = standing-rooted A node_at is_right root xs r in
         standing-addressed [] root xs asked a place s.height top s.shape s.stands i
 
-    -- and back: a valid address is on the tour, at one of its places
+    -- and the converse: a valid address is at a position, at one of its places
     pub record OnTour : Type 0 where
       pub place : ℕ
       pub on : HasPosition A node_at root asked a place
 
-    -- seen from its own node
+    -- by a focus at its own node
     pub seen-on : (spare : List ℕ) (h : ℕ) (c : Path A h) (t : Shape A h) → id_of A h t ≡ a.id
         → IsUnsizedFocus A node_at spare root xs h c t
         → IsWithin node_at (node_at a.id) a.offset → Asks asked (item_at node_at a) → OnTour
@@ -125,7 +125,7 @@ module _ (A : Type 0) (node_at : NodeMap A) where
 
 module _ {K V : Type 0} (cmp : K → K → Ordering) (laws : IsTotalOrder cmp) (node_at : NodeMap (K × V)) (root : ℕ)
     (xs : List (K × V)) (asked : Option (K × V)) (a : Address) (place : ℕ) where
-  -- in a tree whose keys ascend an address has one place, and it is on the tour there
+  -- in a tree whose keys ascend an address has one place, and its position is at that place
   pub well-on : (len : ℕ) → IsWellFormed cmp node_at (Some root) len xs → IsAddressed (K × V) node_at root xs asked a place
       → HasPosition (K × V) node_at root asked a place
   well-on len w d =

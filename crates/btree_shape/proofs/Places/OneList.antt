@@ -1,4 +1,4 @@
--- A tree has one tour of its addresses, from whichever of its nodes it is seen.
+-- A tree has one list of positions, whatever the focus.
 use Rattle.std.proofs.Common.{◌≡◌, ◌++◌, ◌∷◌, [], ◌∙◌, ℕ, zero, suc, List, map, Option, Some, None, refl, sym, ap, subst, append_assoc, append-nil}
 use Rattle.std.specs.List.{AllByRecursion}
 use Rattle.btree_view.specs.View.{NodeMap, leaf}
@@ -9,7 +9,7 @@ use Rattle.btree_shape.proofs.Paths.Frames.{fill-holds, fill-id}
 use Rattle.btree_shape.proofs.Places.Untouched.{positions-fill}
 
 module _ (A : Type 0) where
-  -- the same addresses, seen from the parent
+  -- the same positions, by a focus at the parent
   pub positions-close : (h : ℕ) (f : Frame A h) (c : Path A (suc h)) (t : Shape A h)
       → all_positions A h (under f c) t ≡ all_positions A (suc h) c (fill f t)
   positions-close h f c t =
@@ -19,7 +19,7 @@ module _ (A : Type 0) where
       ∙ sym (append_assoc (positions_before A f) (positions A h t ++ positions_after A f (frame_index f)) (path_after A c))
       ∙ ap (λ z. z ++ path_after A c) (sym (positions-fill A h f t)))
 
--- A store has one tree, so its nodes' addresses are the same from wherever it is seen.
+-- A store holds one tree, so its positions are the same for every focus.
 
 module _ (A : Type 0) (node_at : NodeMap A) where
   same-positions_from : (h g i j o : ℕ) (p q : Option ℕ) → i ≡ j

@@ -1,4 +1,4 @@
--- In a list whose keys ascend strictly an address has one place.
+-- If the keys of the list ascend strictly, an address has one place.
 use Rattle.std.proofs.Common.{◌≡◌, ◌⊎◌, ℕ, zero, suc, ◌+◌, ◌<◌, List, [], ◌∷◌, ◌++◌, length, Option, Some, None, refl, sym, ap, ◌∙◌, inl, inr, arith, length-append}
 use Rattle.std.specs.Prelude.{slice_get}
 use Rattle.std.specs.List.{AllByRecursion}
@@ -20,7 +20,7 @@ module _ {A : Type 0} (node_at : NodeMap A) where
   same_spells h k p q id ys zs s t =
       sym (represented-is node_at h (suc (h + k)) p id ys (omega arith) s) ∙ represented-is node_at k (suc (h + k)) q id zs (omega arith) t
 
-  -- a node spells one list
+  -- a node represents one list
   pub same_subtree : (id : ℕ) (ys zs : List A) → IsSubtree node_at id ys → IsSubtree node_at id zs → ys ≡ zs
   same_subtree id ys zs s t = same_spells s.height t.height s.parent t.parent id ys zs s.represents t.represents
 
@@ -38,7 +38,7 @@ module _ {K V : Type 0} (cmp : K → K → Ordering) (o : IsTotalOrder cmp) wher
       not_below_itself (cmp k k) (o.antisymm k k) l
   apart k (y ∷ xs) (suc j) x all at e = apart k xs j x all.1 at e
 
-  -- no pair stands twice
+  -- no pair occurs twice
   pub same_index : (xs : List (K × V)) (i j : ℕ) (x : K × V) → Ascends cmp xs → slice_get xs i ≡ Some x → slice_get xs j ≡ Some x → i ≡ j
   unfolding IsStrictlySortedBy
   same_index [] i j x up at too = absurd (cc)

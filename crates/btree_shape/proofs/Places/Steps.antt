@@ -1,4 +1,4 @@
--- A step of a climb sends every address of the tree, not the followed one alone.
+-- At the end of splits or underflow fixes the followed address is at its place, and any address may be followed.
 use Rattle.std.proofs.Common.{[], ℕ, List, Option}
 use Rattle.btree_item.specs.declared.address.Address.{Address}
 use Rattle.btree_view.specs.View.{NodeMap}

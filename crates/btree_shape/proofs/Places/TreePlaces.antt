@@ -1,4 +1,4 @@
--- The addresses on a tour are those of the nodes, each at its place.
+-- The addresses at positions are those of the nodes, each at its place.
 use Rattle.std.proofs.Common.{◌≡◌, ◌≤◌, ◌⊎◌, ◌++◌, ◌∷◌, [], ◌∙◌, ◌+◌, ℕ, zero, suc, inl, inr, List, length, map, take, Option, Some, None, refl, sym, ap, subst, arith, length-append}
 use Rattle.std.specs.Prelude.{slice_get}
 use Rattle.btree_item.specs.declared.address.Address.{Address}
@@ -22,7 +22,7 @@ module _ {A X : Type 0} (item : X → A) (below : X → List (Position A)) where
   abbrev Weight : X → ℕ
   Weight x = suc (passed (below x))
 
-  -- the item of an entry, if there is one there
+  -- the item of an entry, if there is one at the index
   abbrev pub nth_item : List X → ℕ → Option A
   nth_item xs k = slice_get (map {B = A} item xs) k
 
@@ -43,7 +43,7 @@ module _ {A X : Type 0} (item : X → A) (below : X → List (Position A)) where
             (node_positions-at asked i (suc o) k xs (omega arith) m)),
       )
 
-  -- an address of a row is the node's own, or it stands below an entry
+  -- an address of a row is the node's own, or it is below an entry
   pub record Own (asked : Option A) (a : Address) (i o : ℕ) (xs : List X) (u : ℕ) : Type 0 where
     pub offset : ℕ
     pub small : offset ≤ length xs
@@ -114,7 +114,7 @@ module _ {A X : Type 0} (item : X → A) (below : X → List (Position A)) where
       ]
 
 module _ (A : Type 0) where
-  -- how many items stand in a tree before an offset of its top
+  -- how many items of a subtree are before an offset of its root
   abbrev pub upto : (h : ℕ) → Shape A h → Option ℕ → ℕ
   upto h t None = 0
   upto h t (Some o) = items_upto A h t o
@@ -123,7 +123,7 @@ module _ (A : Type 0) where
   within None n = Unit {0}
   within (Some o) n = o ≤ n
 
-  -- the item at an offset of the top, if there is one
+  -- the item at an offset of the root, if there is one
   abbrev pub top_item : (h : ℕ) → Shape A h → Option ℕ → Option A
   top_item h t None = None
   top_item zero t (Some o) = nth_item {A = A} {X = A} (λ x. x) (λ x. []) t.1 o
@@ -138,7 +138,7 @@ module _ (A : Type 0) where
   items-twice h [] = refl
   items-twice h (b ∷ bs) = ap (λ l. b.0 ∷ l) (items-twice h bs)
 
-  -- that is the item of the top's node
+  -- that is the item of the root's node
   pub top-item : (h : ℕ) (p : Option ℕ) (t : Shape A h) (o : ℕ)
       → slice_get (items_of (view_at A h p t)) o ≡ top_item h t (Some o)
   top-item zero p t o = ap (λ l. slice_get l o) (sym (items-self t.1))
@@ -159,7 +159,7 @@ module _ (A : Type 0) where
     node_positions-passed A h (positions-passed A h) bs,
   )
 
-  -- an address of the top is on its tour
+  -- an address of the root is at a position
   pub own-in : (asked : Option A) (h : ℕ) (t : Shape A h) (o : Option ℕ) → within o (count_at A h t)
       → Asks asked (top_item h t o)
       → IsAt asked (record { id = id_of A h t; offset = o }) (positions A h t) (upto h t o)
@@ -202,7 +202,7 @@ module _ (A : Type 0) where
     length-append (items_before c) (before_in f),
   )
 
-  -- an address of the node at the hole is on the tour of the whole tree
+  -- an address of the node at the hole is at a position of the whole tree
   pub hole-in : (asked : Option A) (h : ℕ) (c : Path A h) (t : Shape A h) (o : Option ℕ) → within o (count_at A h t)
       → Asks asked (top_item h t o)
       → IsAt asked (record { id = id_of A h t; offset = o }) (all_positions A h c t) (length (items_before c) + upto h t o)
@@ -217,7 +217,7 @@ module _ (A : Type 0) where
       → IsAt (Some x) (address_at (id_of A h t) o) (all_positions A h c t) (length (items_before c) + items_upto A h t o)
   item-in h c p t o x got low = hole-in (Some x) h c t (Some o) low (sym (top-item h p t o) ∙ got)
 
-  -- and each address on the tour is one of a node, at its place
+  -- and each address at a position is one of a node, at its place
   module _ (node_at : NodeMap A) (spare : List ℕ) (root : ℕ) (xs : List A) (asked : Option A) (a : Address) where
     hole-addressed : (h : ℕ) (c : Path A h) (t : Shape A h) (o : Option ℕ) → IsUnsizedFocus A node_at spare root xs h c t
         → within o (count_at A h t) → Asks asked (top_item h t o)

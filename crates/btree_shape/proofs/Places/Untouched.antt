@@ -1,4 +1,4 @@
--- Addresses that a step does not touch, around the hole of a frame and all the way up.
+-- Addresses that a step does not change, around the hole of a frame and all the way up the path.
 use Rattle.std.proofs.Common.{◌≡◌, ◌≢◌, ◌<◌, ◌≤◌, ◌++◌, ◌∷◌, [], ◌∙◌, ◌+◌, ◌==◌, if◌then◌else◌, ℕ, zero, suc, true, false, List, length, Some, None, refl, sym, ap, arith, append_assoc}
 use Rattle.std.proofs.lemmas.Bool.Decides.{nat_tests}
 use Rattle.std.specs.FinMap.{len}
@@ -51,7 +51,7 @@ if-less n m here there h = let q = lt-test n m h in rw q refl
 pub if-not-less : {X : Type 0} (n m : ℕ) (here there : X) → m ≤ n → (if nat_lt n m then here else there) ≡ there
 if-not-less n m here there h = let q = ge-test n m h in rw q refl
 
--- a tree that the step does not touch
+-- a subtree that the step does not change
 module _ (A : Type 0) (g : Address → Address) where
   pub each-nothing : (xs : List A) → AllByRecursion (λ x. KeepsPositions {A = A} g [] []) xs
   each-nothing [] = tt
@@ -138,7 +138,7 @@ module _ (A : Type 0) (g : Address → Address) where
       (λ k. same (address_at (frame_id f) (frame_index f + k)) pos))
       (path-after-same (suc h) c (λ v m. same v (omega arith)))
 
-  -- a step at the hole, whose parent's later addresses move from o to p
+  -- a step at the hole, where the later addresses of the parent move from o to p
   pub step-carries : (h : ℕ) (f : Frame A h) (c : Path A (suc h)) (old new : List (Position A)) (o p : ℕ)
       → KeepsPositions g old new → passed old ≡ passed new
       → ((v : Address) → 0 < times_beside v.id f + times_above v.id c → g v ≡ v)
@@ -185,7 +185,7 @@ module _ (A : Type 0) (g : Address → Address) where
           )
 
 module _ (A : Type 0) where
-  -- the addresses of a node with its child, or with two
+  -- the positions of a node with its child, or with two children
   pub positions-fill : (h : ℕ) (f : Frame A h) (t : Shape A h)
       → positions A (suc h) (fill f t) ≡ positions_before A f ++ (positions A h t ++ positions_after A f (frame_index f))
   positions-fill h (at_first n back) t = refl

@@ -1,5 +1,5 @@
--- The tour of a tree, seen from a node, and the public words on addresses and places say the same.
--- Edits by address will cite what nothing cites yet.
+-- The positions of a tree by a focus agree with the public definitions for addresses and places. Edits by address will
+-- cite what nothing cites yet.
 use Rattle.std.proofs.Common.{◌≡◌, ◌<◌, ◌≤◌, ◌∷◌, [], ◌∙◌, ℕ, zero, suc, inl, inr, List, length, Option, Some, None, refl, arith, option_and_then}
 use Rattle.std.specs.Cmp.{IsTotalOrder}
 use Rattle.std.specs.Prelude.{slice_get}
@@ -23,13 +23,13 @@ module _ {A : Type 0} (node_at : NodeMap A) where
   get-low (y ∷ xs) zero x e = omega arith
   get-low (y ∷ xs) (suc o) x e = let r = get-low xs o x e in omega arith
 
-  -- where an item stands, there is an address
+  -- the offset of an item is within the node
   pub item-within : (o : ℕ) (x : A) (v : Option (View A)) → item_in v o ≡ Some x → IsWithin node_at v (Some o)
   item-within o x None e = absurd (cc)
   item-within o x (Some v) e = get-low (items_of v) o x e
 
 module _ (A : Type 0) (node_at : NodeMap A) (root : ℕ) (xs : List A) where
-  -- the address is one of the tree, with this place; asked for an item, that stands there
+  -- the address is one of the tree, with this place; if an item is required, it stands there
   pub record AddressIn (asked : Option A) (a : Address) (p : ℕ) : Type 0 where
     pub used : 0 < times_used (node_at a.id)
     pub within : IsWithin node_at (node_at a.id) a.offset
@@ -58,13 +58,13 @@ module _ (A : Type 0) (node_at : NodeMap A) (root : ℕ) (xs : List A) where
             asked-item asked a.id a.offset d.item;
       }
 
-  -- each address of the tour is one of the tree, with the place that it has in the tour
+  -- each address at a position is one of the tree, with the place that it has in the positions
   pub address-in : (h : ℕ) (c : Path A h) (t : Shape A h) → IsFocus A node_at [] root xs h c t
       → (asked : Option A) (a : Address) (p : ℕ) → IsAt asked a (all_positions A h c t) p → AddressIn asked a p
   address-in h c t w asked a p i = addressed-in asked a p
       (whole-addressed A node_at [] root xs asked a p h c t w (whole-on A node_at [] root xs asked a p h c t w i))
 
-  -- and each address of the tree is in the tour
+  -- and each address of the tree is at a position
   pub record TourAt (ts : List (Position A)) (asked : Option A) (a : Address) : Type 0 where
     pub place : ℕ
     pub there : IsAt asked a ts place
@@ -84,7 +84,7 @@ module _ (A : Type 0) (node_at : NodeMap A) (root : ℕ) (xs : List A) where
           is = (whole-addressed A node_at s root xs asked a r.place h c t w r.on).at_place;
         }
 
-    -- from any node of the tree, where it can be seen from the address's node too
+    -- by any focus, if the tree has a focus at the address's node too
     pub positions-address : (s2 : List ℕ) (a : Address) → HasFocus A node_at s2 root xs a.id → IsWithin node_at (node_at a.id) a.offset
         → TourAt (all_positions A h c t) None a
     positions-address s2 a n l = positions-at s2 None a n l tt
@@ -93,7 +93,7 @@ module _ (A : Type 0) (node_at : NodeMap A) (root : ℕ) (xs : List A) where
         → TourAt (all_positions A h c t) (Some x) (address_at id o)
     positions-item s2 id o x n got = positions-at s2 (Some x) (address_at id o) n (item-within node_at o x (node_at id) got) got
 
--- for keys that ascend the place is the one that the address has
+-- if the keys ascend, the place is the one that the address has
 module _ {K V : Type 0} (cmp : K → K → Ordering) (laws : IsTotalOrder cmp) (node_at : NodeMap (K × V)) (root len : ℕ)
     (xs : List (K × V)) (well : IsWellFormed cmp node_at (Some root) len xs)
     (h : ℕ) (c : Path (K × V) h) (t : Shape (K × V) h) (w : IsFocus (K × V) node_at [] root xs h c t) where

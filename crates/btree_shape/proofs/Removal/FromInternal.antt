@@ -1,5 +1,5 @@
--- An item taken out of an internal node of a well formed tree: the item before it, which stands in a leaf, is taken out
--- there and put in its place. The tree is off by one at that leaf. Removal will cite it.
+-- An item removed from an internal node of a well formed tree: the item before it, which is in a leaf, is removed there
+-- and replaces it. The tree is off by one at that leaf. Removal will cite it.
 use Rattle.std.proofs.Common.{◌≡◌, ◌≢◌, ◌<◌, ◌≤◌, ◌⊎◌, ◌∙◌, ◌+◌, ℕ, suc, inl, inr, List, set, Option, Some, sym, ap, subst, arith}
 use Rattle.std.proofs.lemmas.Option.{slice_get_within}
 use Rattle.std.specs.Cmp.{IsTotalOrder}
@@ -24,7 +24,7 @@ use Rattle.btree_shape.proofs.Places.OfTree.{positions-addressed, well-on}
 use Rattle.btree_shape.proofs.Removal.OtherItemInState.{ReplacedOdd, replaced-odd, replaced-remove}
 use Rattle.btree_shape.proofs.Removal.FromTree.{Ascends-remove, take-item, take-keeps, take-later, take-odd, take-paid}
 
--- the item at an address stands in the list at the address's place
+-- the item at an address is in the list at the address's place
 pub place-item : {A : Type 0} (node_at : NodeMap A) (root : ℕ) (xs : List A) (n k : ℕ) (x : A) (v : View A)
     → node_at n ≡ Some v → slice_get (items_of v) k ≡ Some x → (q : ℕ) → IsPlace node_at (Some root) xs n (Some k) q
     → slice_get xs q ≡ Some x
@@ -56,7 +56,7 @@ module _ {K V : Type 0} (cmp : K → K → Ordering) (laws : IsTotalOrder cmp) (
   there : mid n ≡ Some v
   there = leaf_put.others n apart ∙ here
 
-  -- another node's address stays
+  -- an address of another node stays
   elsewhere : (b : Address) → b.id ≢ leaf_id → moved_by_take leaf_id o b ≡ b
   elsewhere b away = if-other b.id leaf_id (in_shortened leaf_id o b.offset) b away
 
@@ -94,13 +94,13 @@ module _ {K V : Type 0} (cmp : K → K → Ordering) (laws : IsTotalOrder cmp) (
       (subst (λ l. Ascends cmp l) (sym taken-list) (Ascends-remove cmp xs (suc before) x inner-item well.ascends)) leaf_id
       took
 
-  -- the tree without the item, what it may then cost, and its addresses
+  -- the tree without the item, its strain, and its addresses
   pub record TakenInner (list : List Pair) : Type 0 where
     pub tree : IsOffByOne cmp new root leaf_id list
     pub paid : strain_under new root (numbers_under new tree.rooted.height root) + owed_by (leaf p (remove ys o))
         ≤ suc (strain_under node_at root (numbers_under node_at well.formed.height root))
-    -- an address at a smaller place than the leaf's item keeps it, one at a greater place than the item taken has one
-    -- less, with its item
+    -- an address at a smaller place than the leaf's item keeps it, and its item; one at a greater place than the
+    -- removed item has one less
     pub earlier : (asked : Option Pair) (b : Address) (q : ℕ) → q < before → b ≢ address_at n k
         → HasPosition Pair node_at root asked b q → HasPosition Pair new root asked b q
     pub later : (asked : Option Pair) (b : Address) (q : ℕ) → suc before ≤ q → b.id ≢ leaf_id → b ≢ address_at n k

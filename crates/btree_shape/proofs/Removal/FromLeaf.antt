@@ -1,4 +1,4 @@
--- An item taken out of a leaf: the tree, its strain, and where its addresses are then.
+-- An item removed from a leaf: the tree, its strain, and the new addresses.
 use Rattle.std.proofs.Common.{◌≡◌, ◌<◌, ◌≤◌, ◌++◌, ◌∷◌, [], ◌∙◌, ◌+◌, ◌-◌, ℕ, suc, inl, inr, List, length, Option, Some, None, refl, sym, ap, subst, arith, append_assoc, length-append}
 use Rattle.std.specs.List.{remove}
 use Rattle.btree_item.specs.declared.address.Address.{Address}
@@ -56,7 +56,7 @@ module _ (A : Type 0) (c : Path A 0) (i : ℕ) (l : List A) (x : A) (r : List A)
         root_is = w.root_is;
       }
 
-  -- what is then owed included
+  -- the strain, with what is then owed
   pub take-strain : strain_of A 0 c (i, l ++ r) + owed c (length (l ++ r)) ≤ suc (strain_of A 0 c (i, l ++ x ∷ r))
   take-strain =
       let p = length-append l (x ∷ r) in
@@ -68,14 +68,14 @@ module _ (A : Type 0) (c : Path A 0) (i : ℕ) (l : List A) (x : A) (r : List A)
   abbrev Ticks : ℕ → List (Position A)
   Ticks o = positions_from {A = A} {X = A} (λ x. x) (λ x. []) i o r
 
-  -- what is met before the item stays
+  -- an address before the item stays
   pub take-before : (asked : Option A) (b : Address) (q : ℕ) → IsAt asked b (tour_to A c i l) q
       → IsAt asked b (all_positions A 0 c (i, l ++ r)) q
   take-before asked b q s =
       subst (λ z. IsAt asked b z q) (sym (positions-parts A c i l r))
       (in-left asked b (tour_to A c i l) (Ticks (length l) ++ path_after A c) q s)
 
-  -- the item's own address is then that of what was behind it
+  -- the item's own address becomes that of what was after it
   pub take-itself : IsAt None (address_at i (length l)) (all_positions A 0 c (i, l ++ r)) (length (items_before c) + length l)
   take-itself =
       subst (λ z. IsAt None (address_at i (length l)) z (length (items_before c) + length l)) (sym (positions-parts A c i l r))
@@ -87,7 +87,7 @@ module _ (A : Type 0) (c : Path A 0) (i : ℕ) (l : List A) (x : A) (r : List A)
       first [] = inl (refl, refl, tt)
       first (y ∷ r) = inl (refl, refl, tt)
 
-  -- what is met behind the item comes one place earlier
+  -- an address after the item is one place earlier
   module _ (apart : times_above i c ≡ 0) where
     abbrev G : Address → Address
     G = moved_by_take i (length l)

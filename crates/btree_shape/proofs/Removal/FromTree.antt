@@ -1,5 +1,5 @@
--- An item taken out of a leaf of a well formed tree, in the public words: the tree is off by one there.
--- Removal will cite what nothing cites yet.
+-- An item removed from a leaf of a well formed tree, in the public terms: the tree is off by one there. Removal will
+-- cite what nothing cites yet.
 use Rattle.std.proofs.Common.{◌≡◌, ◌<◌, ◌≤◌, ◌++◌, ◌∷◌, [], ◌∙◌, ◌+◌, ◌==◌, if◌then◌else◌, ℕ, zero, suc, List, length, Option, Some, None, refl, sym, ap, subst, arith, append_assoc, length-append}
 use Rattle.std.specs.Cmp.{IsTotalOrder}
 use Rattle.std.specs.List.{AllByRecursion, remove}
@@ -46,7 +46,7 @@ parts-at (y ∷ ys) zero x e = ([], ys, (let q : y ≡ x = cc in ap (λ z. z ∷
 parts-at (y ∷ ys) (suc o) x e =
     let s = parts-at ys o x e in (y ∷ s.0, s.1, ap (λ z. y ∷ z) s.2, (let q = s.3 in omega arith))
 
--- keys that ascend do so without one of them
+-- ascending keys ascend without one of them
 module _ {K V : Type 0} (cmp : K → K → Ordering) where
   all-without : (P : K × V → Type 0) (f : List (K × V)) (x : K × V) (b : List (K × V)) → AllByRecursion P (f ++ x ∷ b)
       → AllByRecursion P (f ++ b)
@@ -175,7 +175,7 @@ module _ {K V : Type 0} (cmp : K → K → Ordering) (laws : IsTotalOrder cmp) (
   shorter-count : (s : Seat) → length (remove ys o) ≡ length (s.left ++ s.right)
   shorter-count s = ap length (ap (λ z. remove z o) s.parts ∙ remove-seam s.left x s.right o s.count)
 
-  -- its strain and what it then owes have grown by one at most
+  -- its strain and what it then owes have grown by at most one
   pub take-paid : strain_under new root (numbers_under new take-odd.rooted.height root) + owed_by (leaf p (remove ys o))
       ≤ suc (strain_under node_at root (numbers_under node_at well.formed.height root))
   take-paid =
@@ -214,7 +214,7 @@ module _ {K V : Type 0} (cmp : K → K → Ordering) (laws : IsTotalOrder cmp) (
       (take-before Pair s.path id s.left x s.right asked b q
       (smaller-before Pair s.path id s.left x (x ∷ s.right) asked b q m (omega arith)))
 
-  -- so does each address that is met before the item's
+  -- so does each address that occurs before the item's
   pub take-keeps-ahead : (asked : Option Pair) (b : Address) (q : ℕ) → IsAhead Pair node_at root asked b (address_at id o) q
       → HasPosition Pair new root asked b q
   take-keeps-ahead asked b q on =
@@ -230,7 +230,7 @@ module _ {K V : Type 0} (cmp : K → K → Ordering) (laws : IsTotalOrder cmp) (
       (take-before Pair s.path id s.left x s.right asked b q
       (ahead-before Pair s.path id s.left x (x ∷ s.right) asked b q a))
 
-  -- an address at a greater place has one less, with its item, where the function says
+  -- an address at a greater place has one less, with its item, at its new address
   pub take-later : (asked : Option Pair) (b : Address) (q : ℕ) → place ≤ q → HasPosition Pair node_at root asked b (suc q)
       → HasPosition Pair new root asked (moved_by_take id o b) q
   take-later asked b q more on =

@@ -1,4 +1,4 @@
--- An item exchanged for another one in a well formed tree and in one that is off by one at a node, in the public words.
+-- An item replaced by another in a well formed tree and in one that is off by one at a node, in the public terms.
 use Rattle.std.proofs.Common.{◌≡◌, ◌≢◌, ◌<◌, ◌++◌, ◌∷◌, [], ◌∙◌, ℕ, zero, suc, inl, inr, List, length, set, Option, Some, IsSome, refl, sym, ap, subst, arith}
 use Rattle.std.specs.Cmp.{IsTotalOrder}
 use Rattle.std.proofs.lemmas.List.{length-set}
@@ -20,7 +20,7 @@ use Rattle.btree_shape.proofs.Trees.Numbers.{same-or}
 use Rattle.btree_shape.proofs.Places.OnePlace.{one_place, one_place-well}
 use Rattle.btree_shape.proofs.Removal.OtherItemInTree.{replaced}
 
--- the item before the one that is taken out in its place
+-- to remove an item and put it in the place of the next one is to remove the next one
 pub replaced-remove : {X : Type 0} (xs : List X) (q : ℕ) (y : X) → slice_get xs q ≡ Some y → suc q < length xs
     → set (remove xs q) q y ≡ remove xs (suc q)
 replaced-remove [] q y e lt = absurd (cc)
@@ -33,7 +33,7 @@ module _ {K V : Type 0} (cmp : K → K → Ordering) (laws : IsTotalOrder cmp) (
     (item : slice_get (items_of v) k ≡ Some x) (put : WritesNode node_at new n w)
     (has : HasItems v w (set (items_of v) k y)) (place : ℕ) (at_place : IsPlace node_at (Some root) xs n (Some k) place)
     (up : Ascends cmp (set xs place y)) where
-  -- every other address stays, at its place and item, and this one is the new item's
+  -- every other address stays, at its place and item, and this one is at the new item
   pub record Stays : Type 0 where
     pub keeps : (asked : Option (K × V)) (b : Address) (q : ℕ) → b ≢ address_at n k → HasPosition (K × V) node_at root asked b q
         → HasPosition (K × V) new root asked b q

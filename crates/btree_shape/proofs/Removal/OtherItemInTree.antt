@@ -1,4 +1,4 @@
--- An item of a node exchanged for another one, in any tree: the list, the sizes, the strain and every other address.
+-- An item of a node replaced by another, in any tree: the list, the sizes, the strain and every other address.
 use Rattle.std.proofs.Common.{◌≡◌, ◌≢◌, ◌≤◌, ◌++◌, ◌∷◌, [], ◌∙◌, ◌+◌, ℕ, inl, inr, List, length, set, Option, Some, refl, sym, ap, subst, arith, append_assoc, length-append}
 use Rattle.std.proofs.lemmas.List.{length-set}
 use Rattle.std.specs.Prelude.{slice_get}

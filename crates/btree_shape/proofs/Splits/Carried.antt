@@ -1,4 +1,4 @@
--- A split carries each address of the tree to where it belongs.
+-- A split keeps the place of each address of the tree.
 use Rattle.std.proofs.Common.{◌≡◌, ◌≢◌, ◌<◌, ◌≤◌, ◌++◌, ◌∷◌, [], ◌∙◌, ◌+◌, ℕ, zero, suc, List, length, Some, None, refl, sym, ap, subst, arith, append_assoc, append-nil, length-append}
 use Rattle.std.proofs.lemmas.Grind.{flat_map-append}
 use Rattle.btree_item.specs.declared.address.Address.{Address}
@@ -14,7 +14,7 @@ use Rattle.btree_shape.proofs.Splits.Halves.{join, times-top}
 use Rattle.btree_shape.proofs.Places.Lists.{carry-more, in-left, passed-append, passed-positions_from}
 
 module _ (A : Type 0) where
-  -- a tour passes the tree's items
+  -- the positions pass the tree's items
   pub node_positions-passed : (h : ℕ) (below : (t : Shape A h) → passed (positions A h t) ≡ length (items_under A h t))
       (bs : List (A × Shape A h))
       → total (λ b. suc (passed (positions A h b.1))) bs ≡ length (later_items A h bs)
@@ -62,7 +62,7 @@ module _ (A : Type 0) where
         length-append (items_under A h a) (x ∷ items_under A h b),
       )
 
-  -- two neighbours in their tree, whose nodes are apart
+  -- two adjacent siblings in their tree, whose nodes are different
   pub record Alone (h : ℕ) (f : Frame A h) (c : Path A (suc h)) (a b : Shape A h) : Type 0 where
     pub sum : (n : ℕ)
         → times_above n c + (one n (frame_id f) + times_beside n f + (times_under A h n a + times_under A h n b)) ≤ 1

@@ -1,4 +1,4 @@
--- Numbers claimed before a change: the last of them, and a tree in which they are claimed.
+-- Numbers claimed before a change: the last of them, and a tree in whose store they are claimed.
 use Rattle.std.proofs.Common.{◌≡◌, ◌<◌, ◌++◌, ◌∷◌, [], ◌∙◌, ◌+◌, ℕ, suc, List, length, ap, arith, length-append}
 use Rattle.btree_view.specs.View.{NodeMap}
 use Rattle.btree_shape.specs.Lists.{one, times_listed}
@@ -17,7 +17,7 @@ push-spare spare rest j is = (
 )
 
 module _ (A : Type 0) where
-  -- a tree stays where numbers are claimed
+  -- a tree stays when numbers are claimed
   pub claimed : (node_at new : NodeMap A) (spare : List ℕ) (root : ℕ) (xs : List A) (h : ℕ) (c : Path A h) (t : Shape A h)
       → Claims node_at new spare
       → IsFocus A node_at [] root xs h c t → IsFocus A new spare root xs h c t

@@ -1,4 +1,4 @@
--- The addresses of a node that is cut in two.
+-- The positions of a node that is cut in two.
 use Rattle.std.proofs.Common.{◌≡◌, ◌<◌, ◌≤◌, ◌++◌, ◌∷◌, [], ◌∙◌, ◌+◌, ℕ, suc, inl, List, length, Option, Some, None, refl, sym, ap, subst, arith, append_assoc, append-nil}
 use Rattle.std.specs.List.{AllByRecursion}
 use Rattle.btree_item.specs.declared.address.Address.{Address}
@@ -51,7 +51,7 @@ module _ {A X : Type 0} (key : X → A) (f : X → List (Position A)) where
       carry-positions_to key f g i 0 i 0 xs (λ k l. ap (λ z. g (address_at i z)) (let q : 0 + k ≡ k = omega arith in q)
       ∙ (e k l ∙ ap (λ z. address_at i z) (let q : k ≡ 0 + k = omega arith in q))) c
 
-  -- what both rows keep in front
+  -- what both rows keep at the front
   pub carry-front : (g : Address → Address) (i : ℕ) (pre : List (Position A)) (xs : List X) (ts ss : List (Position A))
       → g (address_before i) ≡ address_before i → ((k : ℕ) → k < length xs → g (address_at i k) ≡ address_at i k)
       → KeepsPositions g pre pre → AllByRecursion (λ x. KeepsPositions g (f x) (f x)) xs → KeepsPositions g ts ss

@@ -68,12 +68,12 @@ split-of {A} node_at new i j x s v e =
           },
         )
 
--- two neighbours in one node, with the item between them
+-- two adjacent siblings as one node, with the item between them
 abbrev pub join : (A : Type 0) (h : ℕ) → Shape A h → A → Shape A h → Shape A h
 join A zero a x b = (a.0, a.1 ++ x ∷ b.1)
 join A (suc h) a x b = (a.0, a.1, a.2 ++ (x, b.1) ∷ b.2)
 
--- a tree in two parts, with x between
+-- a subtree in two parts, with x between
 pub record IsCut (A : Type 0) (h : ℕ) (t : Shape A h) (j : ℕ) (x : A) (a b : Shape A h) : Type 0 where
   pub joined : t ≡ join A h a x b
   pub list : items_under A h t ≡ items_under A h a ++ x ∷ items_under A h b
@@ -92,7 +92,7 @@ module _ (A : Type 0) where
   right-filled zero b e = (omega arith, omega arith)
   right-filled (suc h) b e = (omega arith, omega arith)
 
-  -- the numbers below the top
+  -- the numbers below the root of a subtree
   abbrev pub times_below : (h : ℕ) → ℕ → Shape A h → ℕ
   times_below zero n t = 0
   times_below (suc h) n t = times_under A h n t.1 + total (λ b. times_under A h n b.1) t.2
@@ -101,7 +101,7 @@ module _ (A : Type 0) where
   times-top zero n t = omega arith
   times-top (suc h) n t = refl
 
-  -- a tree whose top has a new parent
+  -- a subtree whose root has a new parent
   pub reparent_children : (node_at new : NodeMap A) (h : ℕ) (p q : Option ℕ) (t : Shape A h)
       → new (id_of A h t) ≡ option_map (with_parent q) (node_at (id_of A h t))
       → ((n : ℕ) → 0 < times_below h n t → new n ≡ node_at n) → Holds A node_at h p t → Holds A new h q t
@@ -112,7 +112,7 @@ module _ (A : Type 0) where
     eachs-same A node_at new h (Some t.0) t.2 (λ n m. same n (omega arith)) d.2,
   )
 
-  -- the tops of branches, and the rest of them
+  -- the roots of the children, and the rest of them
   pub total-top : (h n : ℕ) (bs : List (A × Shape A h)) → total (λ b. times_under A h n b.1) bs
       ≡ times_listed n (map (λ (b : A × ℕ). b.1) (map (λ (b : A × Shape A h). (b.0, id_of A h b.1)) bs)) + total
       (λ b. times_below h n b.1) bs
@@ -120,7 +120,7 @@ module _ (A : Type 0) where
   total-top h n (b ∷ bs) = omega (arith, times-top h n b.1, total-top h n bs)
 
   module _ (node_at new : NodeMap A) where
-    -- each of some branches has the new parent
+    -- each of some children has the new parent
     pub adopts : (h i j : ℕ) (p : Option ℕ) (bs : List (A × Shape A h))
         → ((n : ℕ) → 0 < times_listed n
         (map (λ (b : A × ℕ). b.1) (map (λ (b : A × Shape A h). (b.0, id_of A h b.1)) bs)) → new n ≡ option_map

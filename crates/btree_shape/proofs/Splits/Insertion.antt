@@ -1,4 +1,4 @@
--- An item put into a leaf.
+-- An item inserted into a leaf.
 use Rattle.std.proofs.Common.{◌≡◌, ◌≢◌, ◌<◌, ◌≤◌, ◌++◌, ◌∷◌, [], ◌∙◌, ◌+◌, ◌-◌, ℕ, zero, suc, inl, inr, List, length, Option, Some, None, refl, sym, ap, subst, arith}
 use Rattle.std.proofs.lemmas.List.Edits.{insert-append_left, insert-append_right, length-insert}
 use Rattle.std.specs.Cmp.{IsTotalOrder}
@@ -86,13 +86,14 @@ module _ (A : Type 0) where
       let e : own_strain A c (length (insert ys o x)) ≡ own_strain A c (suc (length ys)) = ap (own_strain A c) n in
       omega (arith, own-more A 0 c (length ys))
 
-  -- the climb that begins at a leaf of a tree at rest, into which an item was put: `node_at` is the tree before the numbers were claimed
+  -- the splits that begin at a leaf of a well formed tree, into which an item was inserted: `node_at` is the tree
+  -- before the numbers were claimed
   module _ (node_at mid new : NodeMap A) (root : ℕ) (xs : List A) (id : ℕ) (p : Option ℕ) (ys : List A) (o : ℕ) (x : A)
       (spare : List ℕ)
       (node : IsNode A node_at root xs id) (here : node_at id ≡ Some (leaf p ys)) (low : o ≤ length ys)
       (most : ℕ) (deep : depth node.seen.path < most) (cl : Claims node_at mid spare) (enough : length spare ≡ split_need node_at most id)
       (pu : WritesNode mid new id (with_item o x None (leaf p ys))) where
-    -- the place in the list, the tree with the item, and what it has gained
+    -- the place in the list, the tree with the item, and the nodes it has gained
     pub record PutAt : Type 0 where
       pub place : ℕ
       pub is : IsPlace node_at (Some root) xs id (Some o) place
@@ -144,7 +145,7 @@ module _ (A : Type 0) where
               };
             }
 
-  -- the end of a climb, in the public words
+  -- the end of the splits, in the public terms
   module _ (new : NodeMap A) (root : ℕ) (xs : List A) (asked : Option A) (a : Address) (place gained bound : ℕ)
       (g : IsRepaired A new root xs asked a place gained bound) where
     pub repaired-rooted : IsRooted (IsSized root) new root xs
@@ -162,7 +163,7 @@ module _ (A : Type 0) where
         let p = g.paid in
         omega arith
 
--- a leaf's item in a well formed tree, at an address whose place is known
+-- an item inserted into a leaf of a well formed tree, at an address whose place is known
 module _ {K V : Type 0} (cmp : K → K → Ordering) (laws : IsTotalOrder cmp) (node_at : NodeMap (K × V)) (root len : ℕ)
     (xs : List (K × V)) (well : IsWellFormed cmp node_at (Some root) len xs) where
   pub leaf-grows : (mid new : NodeMap (K × V)) (id : ℕ) (p : Option ℕ) (ys : List (K × V)) (o place : ℕ) (x : K × V)
@@ -188,7 +189,7 @@ module _ {K V : Type 0} (cmp : K → K → Ordering) (laws : IsTotalOrder cmp) (
       (subst (λ s. MayOverflowAt (K × V) new root (insert xs r.place x) id spare (Some x) (address_at id o) r.place 0 (suc s)) st
       r.grows)
 
-  -- and the tree after the climb
+  -- and the tree after the splits
   pub repaired-well : (k : K) (w : V) (place : ℕ) → KeyFits cmp k place xs
       → (new : NodeMap (K × V)) (r : ℕ) (asked : Option (K × V)) (a : Address) (gained bound : ℕ)
       → IsRepaired (K × V) new r (insert xs place (k, w)) asked a place gained bound

@@ -1,4 +1,4 @@
--- The addresses of a tree through putting an item into a leaf: those before it keep their places, and its own is then
+-- The addresses of a tree when an item is inserted into a leaf: those before it keep their places, and its own is then
 -- the item's. Edits by address will cite what nothing cites yet.
 use Rattle.std.proofs.Common.{◌≡◌, ◌<◌, ◌≤◌, ◌++◌, ◌∷◌, [], ◌∙◌, ◌+◌, ℕ, zero, suc, inl, inr, List, length, Option, Some, None, refl, sym, ap, subst, arith, append_assoc}
 use Rattle.std.specs.Cmp.{IsTotalOrder}
@@ -29,7 +29,7 @@ use Rattle.btree_shape.proofs.Places.TreePlaces.{path-passed}
 use Rattle.btree_shape.proofs.Places.Lists.{in-cases, in-left, in-right, passed-append, passed-positions_to, positions_from-append}
 
 module _ (A : Type 0) (c : Path A 0) (i : ℕ) (l : List A) where
-  -- the tour before the offset of a leaf, of whose items `l` stand before it
+  -- the positions before the offset of a leaf, which has the items `l` before that offset
   abbrev pub tour_to : List (Position A)
   tour_to = path_before A c ++ (mark (address_before i) None ∷ positions_to {A = A} {X = A} (λ x. x) (λ x. []) i 0 l)
 
@@ -56,13 +56,13 @@ module _ (A : Type 0) (c : Path A 0) (i : ℕ) (l : List A) where
       omega arith
 
   module _ (x : A) (r : List A) (asked : Option A) (b : Address) (q : ℕ) where
-    -- what is met before stays
+    -- an address that occurs before the offset stays
     pub put-before : IsAt asked b tour_to q → IsAt asked b (all_positions A 0 c (i, l ++ x ∷ r)) q
     put-before s =
         subst (λ z. IsAt asked b z q) (sym (positions-parts (x ∷ r)))
         (in-left asked b tour_to (positions_from {A = A} {X = A} (λ x. x) (λ x. []) i (length l) (x ∷ r) ++ path_after A c) q s)
 
-    -- an address at a smaller place is met before
+    -- an address at a smaller place occurs before the offset
     pub smaller-before : IsAt asked b (all_positions A 0 c (i, l ++ r)) q → q < length (items_before c) + length l
         → IsAt asked b tour_to q
     smaller-before s low =
@@ -72,7 +72,7 @@ module _ (A : Type 0) (c : Path A 0) (i : ℕ) (l : List A) where
           | inr later ↦ let n = later.is in let p = to-passed in absurd (omega arith)
         ]
 
-    -- and so is one that is met before the offset
+    -- and so does one that occurs before the offset's own address
     pub ahead-before : Ahead asked b (address_at i (length l)) (all_positions A 0 c (i, l ++ r)) q → IsAt asked b tour_to q
     ahead-before s =
         let e = starts r (subst (λ z. Ahead asked b (address_at i (length l)) z q) (positions-parts r) s) in
@@ -132,7 +132,7 @@ module _ (A : Type 0) (node_at new : NodeMap A) (spare : List ℕ) (root : ℕ) 
       whole-on A new spare root ys2 asked b q 0 c (i, insert ys o x) w2
       (subst (λ (z : List A). IsAt asked b (all_positions A 0 c (i, z)) q) (sym e) p)
 
-  -- and so does each that is met before the offset
+  -- and so does each that occurs before the offset
   pub leaf-keeps-ahead : (asked : Option A) (b : Address) (q : ℕ) → IsAhead A node_at root asked b (address_at i o) q
       → HasPosition A new root asked b q
   leaf-keeps-ahead asked b q on =
@@ -160,7 +160,7 @@ module _ (A : Type 0) (node_at new : NodeMap A) (spare : List ℕ) (root : ℕ) 
       (subst (λ (z : List A). IsAt (Some x) (address_at i o) (all_positions A 0 c (i, z)) (length (items_before c) + o)) (sym e)
       (subst (λ n. IsAt (Some x) (address_at i n) (all_positions A 0 c (i, s.0 ++ x ∷ s.1)) (length (items_before c) + n)) s.3 p))
 
--- the same in the words of a well formed tree: `node_at` is the tree before numbers are claimed
+-- the same in the terms of a well formed tree: `node_at` is the tree before numbers are claimed
 module _ {K V : Type 0} (cmp : K → K → Ordering) (laws : IsTotalOrder cmp) (node_at : NodeMap (K × V)) (root len : ℕ)
     (xs : List (K × V)) (well : IsWellFormed cmp node_at (Some root) len xs)
     (mid new : NodeMap (K × V)) (id : ℕ) (p : Option ℕ) (ys : List (K × V)) (o place : ℕ) (x : K × V) (spare : List ℕ)
@@ -211,7 +211,7 @@ module _ {K V : Type 0} (cmp : K → K → Ordering) (laws : IsTotalOrder cmp) (
       leaf-keeps (K × V) mid new spare root xs (insert xs (length (items_before seats.path) + o) x) seats.path id ys o x
       low seats.old seats.now asked b q (omega arith) m
 
-  -- so does each address that is met before this one
+  -- so does each address that occurs before this one
   pub put-keeps-ahead : (asked : Option (K × V)) (b : Address) (q : ℕ) → IsAhead (K × V) node_at root asked b (address_at id o) q
       → HasPosition (K × V) new root asked b q
   put-keeps-ahead asked b q on =

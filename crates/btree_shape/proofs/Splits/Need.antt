@@ -1,4 +1,4 @@
--- The nodes that the splits take which begin at a node with an item too many, counted from it upward.
+-- The nodes needed by the splits that begin at a node with an item too many, counted from it upward.
 use Rattle.std.proofs.Common.{◌≡◌, ◌<◌, ◌≤◌, [], ◌∙◌, ◌+◌, ℕ, zero, suc, List, Some, None, refl, sym, ap, subst, arith}
 use Rattle.btree_view.specs.View.{NodeMap, View, most_of, parent_of, size_of}
 use Rattle.btree_shape.specs.Focus.Focus.{IsUnsizedFocus}
@@ -27,7 +27,7 @@ module _ (A : Type 0) where
       let r = split_need-path_need node_at (suc h) n c (frame_id f) (omega arith) d.2 in
       ap suc (rw (d.0, s, m, p, r) refl)
 
-  -- by the look, and by the way above
+  -- by the map of nodes, and by the path above
   pub split_need-is : (node_at : NodeMap A) (h n : ℕ) (c : Path A h) (t : Shape A h) → depth c < n
       → HoldsAbove node_at c (id_of A h t) → Holds A node_at h (parent_above c) t
       → split_need node_at n (id_of A h t) ≡ path_need_from c (count_at A h t)
@@ -40,7 +40,7 @@ module _ (A : Type 0) where
       let r = split_need-path_need node_at h n c (id_of A h t) (omega arith) a in
       rw (v, s, l, p, r) refl
 
-  -- from a node of a tree at rest
+  -- from a node of a well formed tree
   pub split_need-node : (node_at : NodeMap A) (root : ℕ) (xs : List A) (id : ℕ) (n : IsNode A node_at root xs id) (most : ℕ) → depth n.seen.path < most
       → split_need node_at most id ≡ path_need_from n.seen.path (count_at A n.seen.height n.seen.shape)
   split_need-node node_at root xs id n most deep =
@@ -98,7 +98,7 @@ module _ (A : Type 0) where
             let q = less-no (count_at A s.height s.shape) (most_at s.height) 0 (path_need s.path) (omega arith) in
             omega arith
 
-        -- a full root: two more
+        -- a full root needs two more
         pub upward-root : most_of v ≤ size_of v → parent_of v ≡ None → counted + 2 ≡ all
         upward-root le up = at s.height s.path s.shape (full-is le) (ap parent_of (sym v-is) ∙ up)
           where
@@ -107,7 +107,7 @@ module _ (A : Type 0) where
             at h top t q e = q
             at h (under f c) t q e = let e' = view-parent A h (Some (frame_id f)) t in absurd (cc)
 
-        -- a full node below another: one more, and on to that
+        -- a full node under a parent needs one more, and the parent is next
         pub upward-up : (p : ℕ) → most_of v ≤ size_of v → parent_of v ≡ Some p
             → IsCountingUpward A node_at root xs most p (counted + 1) all × (levels_above node_at most p < levels_above node_at most id)
         upward-up p le up = at s.height s.path s.shape s.here s.stands (full-is le)

@@ -1,4 +1,4 @@
--- The addresses of a node that is split, and those below it.
+-- The positions of a node that is split, and those below it.
 use Rattle.std.proofs.Common.{◌≡◌, ◌≢◌, ◌<◌, ◌≤◌, ◌++◌, ◌∷◌, [], ◌∙◌, ◌+◌, ◌-◌, ◌==◌, if◌then◌else◌, ℕ, zero, suc, inl, List, length, Option, Some, None, refl, sym, ap, subst, arith}
 use Rattle.btree_item.specs.declared.address.Address.{Address}
 use Rattle.btree_shape.specs.Moved.{in_split, moved_by_split, over_split}
@@ -11,7 +11,7 @@ use Rattle.btree_shape.proofs.Splits.CutPositions.{node_positions-split}
 use Rattle.btree_shape.proofs.Splits.Halves.{join, times-top, times_below}
 use Rattle.btree_shape.proofs.Places.Lists.{carry-none}
 
--- the function at the addresses that it names
+-- `moved_by_split` at the addresses that it names
 module _ (i j p s n : ℕ) (ip : i ≢ p) where
   pub split-stays : (v : Address) → v.id ≢ i → v.id ≢ p → moved_by_split i j p s n v ≡ v
   split-stays v ni np = if-other v.id i (in_split i j p s n v.offset) (if v.id == p then over_split p s v.offset else v)
@@ -32,7 +32,7 @@ module _ (A : Type 0) where
   positions-first zero t = inl (refl, refl, tt)
   positions-first (suc h) t = inl (refl, refl, tt)
 
-  -- the three nodes of a step are apart, and so are those below
+  -- the three nodes of a step are different, and so are those below them
   pub record Apart (h p : ℕ) (a b : Shape A h) : Type 0 where
     pub sum : (n : ℕ) → one n p + (times_under A h n a + times_under A h n b) ≤ 1
 

@@ -1,4 +1,4 @@
--- The addresses of a tree through a split: at the parent, or under a new root.
+-- The positions of a tree after a split: at the parent, or under a new root.
 use Rattle.std.proofs.Common.{◌∷◌, [], ℕ, suc, List, Some, None, sym, subst, arith}
 use Rattle.btree_view.specs.View.{NodeMap}
 use Rattle.btree_shape.specs.Moved.{moved_by_split}

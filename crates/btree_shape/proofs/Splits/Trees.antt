@@ -1,4 +1,4 @@
--- The tree after a node is split: seen from the parent, which has an item more, or under a new root.
+-- The tree after a node is split: with its focus at the parent, which has one item more, or under a new root.
 use Rattle.std.proofs.Common.{◌≡◌, ◌≢◌, ◌<◌, ◌≤◌, ◌++◌, ◌∷◌, [], ◌∙◌, ◌+◌, ◌-◌, ℕ, suc, inl, inr, List, length, map, Option, Some, None, refl, sym, ap, subst, arith, append_assoc, append-nil, length-append}
 use Rattle.std.proofs.lemmas.Grind.{flat_map-append}
 use Rattle.std.proofs.lemmas.List.{length-map, map-append}
@@ -63,7 +63,7 @@ module _ (A : Type 0) where
         ((y, a) ∷ (x, b) ∷ back) s.2 ((za, ba), ((zb, bb), s.3)),
   )
 
-  -- a branch put in the parent at the child's index
+  -- a branch inserted into the parent at the child's index
   pub fill_two-view : (h : ℕ) (p : Option ℕ) (f : Frame A h) (a : Shape A h) (x : A) (b : Shape A h)
       → with_item (frame_index f) x (Some (id_of A h b)) (frame_view p f (id_of A h a)) ≡ view_at A (suc h) p
       (fill_two f a x b)

@@ -1,4 +1,4 @@
--- A climb that splits nodes: from a node with an item too many to its parent, or to a new root.
+-- One step of a split upward: from a node with an item too many to its parent, or to a new root.
 use Rattle.std.proofs.Common.{◌≡◌, ◌≢◌, ◌<◌, ◌≤◌, ◌++◌, ◌∷◌, [], ◌∙◌, ◌+◌, ℕ, zero, suc, List, length, map, Option, Some, None, refl, sym, ap, subst, arith}
 use Rattle.std.proofs.lemmas.List.{map-append}
 use Rattle.std.specs.Prelude.{IsTrue, option_map, slice_get}
@@ -43,7 +43,7 @@ respare A node_at s s' root xs h c t e w =
     }
 
 module _ (A : Type 0) where
-  -- the numbers of the children stand below the top
+  -- the numbers of the children are below the root of the subtree
   pub children-below : (h n : ℕ) (p : Option ℕ) (t : Shape A h)
       → times_listed n (children_of (view_at A h p t)) ≤ times_below A h n t
   children-below zero n p t = omega arith
@@ -53,7 +53,7 @@ module _ (A : Type 0) where
   path_need-some top = omega arith
   path_need-some (under f c) = omega arith
 
-  -- what code does to split node i: it writes the left part, puts the right part at j, and hands j's children over
+  -- how code splits node i: it writes the left part, writes the right part at j, and sets the parent of j's children
   pub splits-made : (node_at mid two new : NodeMap A) (i j : ℕ) (median : A) (v left right : View A) → node_at i ≡ Some v
       → IsSplit v median left right → j ≢ i
       → times_listed i (children_of right) ≡ 0 → times_listed j (children_of right) ≡ 0
@@ -106,7 +106,7 @@ module _ (A : Type 0) where
       most-is : most_of v ≡ most_at g.seen.height
       most-is = ap most_of view-is ∙ view-most A g.seen.height (parent_above g.seen.path) g.seen.shape
 
-      -- no item too many: the climb is over, and no number is left
+      -- no item too many: the splits end, and no number is left
       pub grows-done : size_of v ≤ most_of v → IsRepaired A node_at root xs asked a place gained bound
       grows-done low =
           let s = size-is in
@@ -144,7 +144,7 @@ module _ (A : Type 0) where
         tops n = subst (λ m. one n m ≤ times_under A g.seen.height n g.seen.shape) g.seen.here
             (times-has A g.seen.height n g.seen.shape)
 
-        -- it is used, and not the node's own
+        -- it is used, and is not the node's own
         pub spare-used : 0 < times_used (node_at j)
         spare-used = let o = whole.once j in let s = one-self j in omega arith
 
@@ -209,7 +209,8 @@ module _ (A : Type 0) where
           long : suc (length rest) ≡ path_need g.seen.path
           long = sym fewer ∙ g.enough (grows-over lt)
 
-          -- the node above: it is there, unchanged, with this child, and it takes the median and the right part behind it
+          -- the parent: it is there, unchanged, with this child, and the median and the right part are inserted after
+          -- the child
           pub record UpTo (p : ℕ) : Type 0 where
             pub node : View A
             pub here : mid p ≡ Some node
@@ -319,7 +320,7 @@ module _ (A : Type 0) where
                         paid = omega arith;
                       }
 
-          -- the node is the root: one number is left, and that is the new root's
+          -- the node is the root: one number is left, which is that of the new root
           pub root-spare : parent_of v ≡ None → (id ≡ root) × (length rest ≡ 1)
           root-spare up = at g.seen.height g.seen.path g.seen.shape g.seen.here whole long
               (ap parent_of (sym view-is) ∙ up)

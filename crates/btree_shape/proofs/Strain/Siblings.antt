@@ -1,4 +1,4 @@
--- A merge pays for the node that it gives up by the strain of the nodes, and a rotation takes nothing.
+-- The node that a merge frees is within the strain of the nodes, and a rotation needs none.
 use Rattle.std.proofs.Common.{◌≡◌, ◌≤◌, [], ◌∙◌, ◌+◌, ◌-◌, ℕ, zero, suc, sym, ap, arith}
 use Rattle.btree_shape.specs.Focus.Pair.{Rotates}
 use Rattle.btree_shape.specs.Focus.Shape.{Shape, count_at}
@@ -13,7 +13,7 @@ use Rattle.btree_shape.proofs.Strain.Splits.{fill-strain, fill_two-strain, join-
 use Rattle.btree_shape.proofs.Underflow.Items.{turned}
 
 module _ (A : Type 0) where
-  -- a node with an item fewer, and what it then owes as a root
+  -- a node with one item fewer, and what it then owes as a root
   pub own-fewer : (h : ℕ) (c : Path A h) (k : ℕ) → own_strain A c k + owed c k ≤ suc (own_strain A c (suc k))
   own-fewer zero top zero = omega arith
   own-fewer zero top (suc k) = omega arith
@@ -34,7 +34,7 @@ module _ (A : Type 0) where
   turn-sizes (suc h) m n e1 e2 = omega arith
 
   module _ (h : ℕ) (f : Frame A h) (c : Path A (suc h)) (a : Shape A h) (x : A) (b : Shape A h) where
-    -- one for the node that is gone, and what the parent may then owe
+    -- one for the node that is freed, and what the parent may then owe
     pub merge-strain : count_at A h a + count_at A h b ≡ 5 → count_at A h a ≤ 3 → count_at A h b ≤ 3
         → 1 + (strain_of A (suc h) c (fill f (join A h a x b)) + owed c (frame_count f))
         ≤ strain_of A (suc h) c (fill_two f a x b)
@@ -116,6 +116,6 @@ module _ (A : Type 0) where
             turn-sizes h (count_at A h b) (count_at A h new_a) lb (omega arith),
           )
 
-  -- a root without items that is released
+  -- a root without items that is freed
   pub release-strain : (h n : ℕ) (u : Shape A h) → strain_of A h top u ≤ strain_of A (suc h) top (n, u, [])
   release-strain h n u = omega (arith, strain-is A h u)

@@ -1,4 +1,4 @@
--- A split pays for the node that it takes by the strain of the nodes.
+-- The node that a split uses is within the strain of the nodes.
 use Rattle.std.proofs.Common.{◌≡◌, ◌≤◌, ◌++◌, ◌∷◌, [], ◌+◌, ◌-◌, ℕ, zero, suc, List, length, refl, ap, arith, length-append}
 use Rattle.btree_shape.specs.Focus.Shape.{Shape, count_at, most_at}
 use Rattle.btree_shape.specs.Strain.{own_strain, strain, strain_below, strain_beside, strain_of, surplus}
@@ -35,14 +35,14 @@ module _ (A : Type 0) where
   join-count zero a x b = length-append a.1 (x ∷ b.1)
   join-count (suc h) a x b = length-append a.2 ((x, b.1) ∷ b.2)
 
-  -- a node with an item more
+  -- a node with one item more
   pub own-more : (h : ℕ) (c : Path A h) (k : ℕ) → own_strain A c (suc k) ≤ suc (own_strain A c k)
   own-more zero top k = omega arith
   own-more (suc h) top k = omega arith
   own-more zero (under f c) k = omega arith
   own-more (suc h) (under f c) k = omega arith
 
-  -- the same tree, seen from the parent
+  -- the same tree, with its focus at the parent
   pub strain-close : (h : ℕ) (f : Frame A h) (c : Path A (suc h)) (t : Shape A h)
       → strain_of A h (under f c) t ≡ strain_of A (suc h) c (fill f t)
   strain-close h f c t =
@@ -69,7 +69,7 @@ module _ (A : Type 0) where
               (count_at A h a) (count_at A h b) e (join-count h a x b) n,
         )
 
-    -- a split takes one node
+    -- a split uses one node
     pub split-strain : (f : Frame A h) (c : Path A (suc h)) → count_at A h (join A h a x b) ≡ suc (most_at h)
         → count_at A h b ≡ 4
         → 1 + strain_of A (suc h) c (fill_two f a x b) ≤ strain_of A h (under f c) (join A h a x b)
@@ -83,7 +83,7 @@ module _ (A : Type 0) where
         → 2 + strain_of A (suc h) top (r, a, (x, b) ∷ []) ≤ strain_of A h top (join A h a x b)
     split-root-strain r e n = omega (arith, parts-strain e n)
 
-  -- an item put in a leaf
+  -- an item inserted into a leaf
   pub put-strain : (c : Path A 0) (i : ℕ) (l : List A) (x : A) (r : List A)
       → strain_of A 0 c (i, l ++ x ∷ r) ≤ suc (strain_of A 0 c (i, l ++ r))
   put-strain c i l x r =

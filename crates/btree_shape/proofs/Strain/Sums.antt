@@ -21,7 +21,7 @@ use Rattle.btree_shape.proofs.Paths.UnsizedFocus.{stand-up, whole-standing}
 use Rattle.btree_shape.proofs.Strain.Splits.{strain-close}
 
 module _ (A : Type 0) where
-  -- the same from each of its nodes
+  -- the same by a focus at each of its nodes
   pub record RootStrain (node_at : NodeMap A) (spare : List ℕ) (root : ℕ) (xs : List A) (amount : ℕ) : Type 0 where
     pub height : ℕ
     pub shape : Shape A height

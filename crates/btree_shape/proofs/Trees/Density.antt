@@ -19,7 +19,7 @@ use Rattle.btree_shape.proofs.Trees.Numbers.{less-or, same-or, used-low, used-ma
 use Rattle.btree_shape.proofs.Paths.FromRoot.{rooted-shape}
 
 module _ (A : Type 0) where
-  -- each level has four times the places of the one above
+  -- each level has four times the room of the one above
   four-each : (h w : ℕ) (bs : List (A × Shape A h))
       → ((t : Shape A h) → 3 ≤ count_at A h t → IsFilledBelow A h t → w ≤ length (items_under A h t) + 1)
       → AllByRecursion (λ b. IsFilled 3 h (count_at A h b.1) × IsFilledBelow A h b.1) bs
@@ -122,7 +122,7 @@ module _ (A : Type 0) where
         omega arith
 
     module _ (root : ℕ) (xs : List A) (r : IsRooted (IsSized root) node_at root xs) where
-      -- a tree of so many levels above its leaves has at least 2 * 4^height - 1 items
+      -- a tree whose root is `height` levels above the leaves has at least 2 * 4^height - 1 items
       pub height-dense : 2 * 4 ^ r.height ≤ length xs + 1
       height-dense =
           let t = rooted-shape A node_at root xs r in
@@ -154,7 +154,7 @@ module _ (A : Type 0) where
           (node-numbers r.height None t.shape t.holds) in
           omega arith
 
--- a content with just these numbers, each once, has as many as the list
+-- a content with exactly these numbers, each once, has as many values as the list
 module _ {T : Type 0} where
   pub len-listed : (ns : List ℕ) (m : Content T) → ((n : ℕ) → times_listed n ns ≡ times_used (get m n))
       → len m ≡ length ns
@@ -185,7 +185,7 @@ module _ {T : Type 0} where
       ap len back ∙ (len-insert nat_cmp_total (remove m i) i u.0 ∙ rw gone refl) in
       omega arith
 
--- a well formed tree whose nodes are a store's: at most (n + 2) / 3 numbers are used
+-- a well formed tree whose nodes are those of a store: at most (n + 2) / 3 numbers are used
 pub few-used : {A T : Type 0} (view : T → View A) (m : Content T) (root : ℕ) (xs : List A)
     → IsRooted (IsSized root) (λ id. option_map view (get m id)) root xs → 3 * len m ≤ length xs + 2
 few-used {A} {T} view m root xs r =

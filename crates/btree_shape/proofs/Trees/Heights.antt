@@ -1,4 +1,4 @@
--- How high a tree is, and how many items its levels ask for.
+-- How high a tree is, and how many items its levels require.
 use Rattle.std.proofs.Common.{◌≡◌, ◌<◌, ◌≤◌, ◌++◌, ◌∷◌, [], ℕ, zero, suc, List, length, Option, Some, refl, ap, arith, length-append}
 use Rattle.btree_view.specs.View.{NodeMap}
 use Rattle.btree_shape.specs.Focus.Search.{levels_below}
@@ -19,7 +19,7 @@ module _ (A : Type 0) where
   some-items h first [] z r = absurd (omega arith)
   some-items h first (x ∷ bs) z r = omega (arith, length-append (items_under A h first) (later_items A h (x ∷ bs)), r)
 
-  -- a tree has an item on each level
+  -- a tree has at least one item on each level
   pub high-enough : (h : ℕ) (t : Shape A h) → 0 < count_at A h t → IsFilledBelow A h t → h < length (items_under A h t)
   high-enough zero t pos b = pos
   high-enough (suc h) t pos b = some-items h t.1 t.2 pos (high-enough h t.1 (omega (arith, b.0.0)) b.1)

@@ -56,7 +56,7 @@ pub used-one : {X : Type 0} (o : Option X) (x : X) → o ≡ Some x → times_us
 used-one None x e = absurd (cc)
 used-one (Some y) x e = refl
 
--- an element that brings some of a sum
+-- an element that contributes to a sum
 pub record Picked {X : Type 0} (f : X → ℕ) (xs : List X) : Type 0 where
   pub front : List X
   pub found : X
@@ -126,7 +126,7 @@ module _ (A : Type 0) (node_at : NodeMap A) (n : ℕ) where
       omega arith
 
 module _ (A : Type 0) where
-  -- a tree's own number is under it
+  -- the number of a subtree's root is under it
   pub times-has : (h n : ℕ) (t : Shape A h) → one n (id_of A h t) ≤ times_under A h n t
   times-has zero n t = omega arith
   times-has (suc h) n t = omega arith

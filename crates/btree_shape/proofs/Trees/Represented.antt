@@ -1,4 +1,4 @@
--- The list that a tree spells, as a function of its nodes.
+-- The list that a tree represents, as a function of its nodes.
 use Rattle.std.proofs.Common.{◌≡◌, ℕ, zero, suc, ◌<◌, List, [], ◌∷◌, ◌++◌, length, map, Option, Some, refl, sym, ap, arith, length-append}
 use Rattle.std.specs.List.{flat_map, AllByRecursion}
 use Rattle.btree_view.specs.View.{View, leaf, NodeMap, size_of}
@@ -15,7 +15,7 @@ module _ {A : Type 0} (node_at : NodeMap A) where
       let later = represented-rest height levels parent each rest all.1 in
       rw (here, later) refl
 
-  -- with a level more than the height, the function gives the list of the relation
+  -- with one level more than the height, the function gives the list of the relation
   pub represented-is : (height levels : ℕ) (parent : Option ℕ) (id : ℕ) (xs : List A) → height < levels → Represents node_at height parent id xs → represented node_at levels id ≡ xs
   represented-is height zero parent id xs low h = absurd (omega arith)
   represented-is zero (suc levels) parent id xs low h = rw h refl
@@ -24,7 +24,7 @@ module _ {A : Type 0} (node_at : NodeMap A) where
       let rest = represented-rest height levels (Some id) (λ i ys s. represented-is height levels (Some id) i ys (omega arith) s) h.2 h.5 in
       rw (h.3, front, rest) (sym h.6)
 
-  -- where each node has an item, a tree has more items than levels above its leaves
+  -- if each node has an item, a tree has more items than levels above its leaves
   pub height_below : (height : ℕ) (parent : Option ℕ) (id : ℕ) (xs : List A)
       → ((i : ℕ) (node : View A) → node_at i ≡ Some node → 0 < size_of node) → Represents node_at height parent id xs → height < length xs
   height_below zero parent id xs filled h = filled id (leaf parent xs) h

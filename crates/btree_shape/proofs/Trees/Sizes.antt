@@ -1,4 +1,4 @@
--- The numbers of items of nodes, said of a look or of the shapes that it holds.
+-- The numbers of items of nodes, for a map of nodes and for the shapes that it holds.
 use Rattle.std.proofs.Common.{◌≡◌, ◌≢◌, ◌<◌, ◌≤◌, ◌++◌, ◌∷◌, [], ◌∙◌, ◌+◌, ℕ, zero, suc, inl, inr, List, length, map, Option, Some, refl, sym, ap, subst, arith}
 use Rattle.std.proofs.lemmas.Bool.Decides.{nat_tests}
 use Rattle.std.specs.List.{AllByRecursion}
@@ -56,7 +56,7 @@ module _ (A : Type 0) where
   frame-most h p (at_first n back) hole = refl
   frame-most h p (at_branch n first front x back) hole = refl
 
-  -- the root is the top or above it
+  -- the root is the root of the subtree or above it
   pub root-there : (h : ℕ) (c : Path A h) (id : ℕ) → 1 ≤ one (root_above c id) id + times_above (root_above c id) c
   root-there h top id = omega (arith, one-self id)
   root-there h (under f c) id =
@@ -186,7 +186,7 @@ module _ (A : Type 0) where
           | inr some ↦ tree-middle h (Some i) first d.0 z.0 z.1 n some
         ]
 
-    -- each node above and beside the hole has its number of items, by the numbers of items or by the shapes
+    -- each node of the path, and below its other children, has its number of items, by the nodes or by the shapes
     pub above-sized : (h : ℕ) (c : Path A h) (hole : ℕ) → HoldsAbove node_at c hole → AreFilled c → (n : ℕ) (v : View A)
         → 0 < times_above n c → node_at n ≡ Some v → IsSized (root_above c hole) n v
     above-sized h top hole d z n v q e = absurd (omega arith)

@@ -1,4 +1,4 @@
--- The words on a tree's state, from those on its nodes: the list is the one that the nodes spell.
+-- The definitions on a tree's state, from those on its nodes: the list is the one that the nodes represent.
 use Rattle.std.proofs.Common.{◌≡◌, ℕ, zero, suc, ◌+◌, ◌*◌, ◌<◌, ◌≤◌, List, [], ◌++◌, length, map, Option, Some, None, option_map, refl, sym, ap, subst, ◌∙◌, arith, length-append}
 use Rattle.std.specs.FinMap as finite
 use Rattle.std.specs.Ordering.{nat_cmp}
@@ -86,6 +86,6 @@ module _ {K V : Type 0} where
   few-formed cmp s None len xs w = let e = unused s.nodes w.formed.0 in let z = finite.len-empty nat_cmp (Node K V) in rw (e, z) (omega arith)
   few-formed cmp s (Some root) len xs w = few-used view_of s.nodes root xs w.formed
 
-  -- at most a third of the number of pairs and two
+  -- at most a third of the number of pairs plus two
   pub few-nodes : (cmp : K → K → Ordering) (s : TreeState K V) → IsBTree cmp s → 3 * finite.len s.nodes ≤ length (pairs_of s) + 2
   few-nodes cmp s w = few-formed cmp s s.root s.len (pairs_of s) w

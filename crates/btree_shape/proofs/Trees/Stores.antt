@@ -1,4 +1,4 @@
--- Stores of nodes, as definitions see them.
+-- Stores of nodes as maps of nodes.
 use Rattle.std.proofs.Common.{◌≡◌, ℕ, ◌<◌, ◌≤◌, List, length, Option, Some, None, IsSome, refl, sym, ap, ◌∙◌, option_map, option_and_then, slice_get, arith}
 use Rattle.std.specs.FinMap as map
 use Rattle.btree_store.specs.Content.{Content}

@@ -1,4 +1,4 @@
--- Where the items of a node's subtree stand in the list of the tree.
+-- Where the items of a node's subtree are in the list of the tree.
 use Rattle.std.proofs.Common.{◌≡◌, ◌⊎◌, ℕ, zero, suc, ◌+◌, ◌<◌, List, [], ◌∷◌, ◌++◌, length, map, Option, Some, refl, sym, ap, subst, ◌∙◌, inl, inr, arith, append_assoc, append-nil}
 use Rattle.std.specs.List.{AllByRecursion, flat_map}
 use Rattle.std.proofs.lemmas.Bool.{cases_eq}
@@ -55,7 +55,7 @@ module _ {A : Type 0} (node_at : NodeMap A) where
         | inr there ↦ subst (λ l. Stands (r.0 ∷ (r.2 ++ l)) id) (append-nil long) (widen (r.0 ∷ r.2) long [] id (later h p id each rest all.1 there))
       ]
 
-  -- a number under a node is that of a node whose items stand among those of the node
+  -- a number under a node is that of a node whose items are among those of the node
   pub stands : (h : ℕ) (p : Option ℕ) (id n : ℕ) (ys : List A) → Represents node_at h p n ys → 0 < times_listed id (numbers_under node_at h n) → Stands ys id
   stands zero p id n ys s many =
       let same : n ≡ id = grind (arith, nat_tests) in

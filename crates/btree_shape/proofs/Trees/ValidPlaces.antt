@@ -1,4 +1,4 @@
--- Nodes that spell a list are there, and addresses that have a place are valid.
+-- Nodes that represent a list are there, and addresses that have a place are valid.
 use Rattle.std.proofs.Common.{◌≡◌, ℕ, zero, suc, inl, inr, List, map, Option, Some, None, refl, sym, subst, arith}
 use Rattle.btree_view.specs.View.{View, NodeMap, leaf, internal, item_in}
 use Rattle.btree_shape.specs.Place.{IsEnd, IsPlace, IsPlaceOf, IsValid, IsWithin}
@@ -6,7 +6,7 @@ use Rattle.btree_shape.specs.Represents.{Represents}
 use Rattle.btree_shape.proofs.Places.Words.{item-within}
 
 module _ {A : Type 0} (node_at : NodeMap A) where
-  -- a node that spells a list is there
+  -- a node that represents a list is there
   pub represents-node : (h : ℕ) (p : Option ℕ) (id : ℕ) (ys : List A) → Represents node_at h p id ys → (v : View A) × (node_at id ≡ Some v)
   represents-node zero p id ys s = (leaf p ys, s)
   represents-node (suc h) p id ys s = (internal p s.0 (map {B = A × ℕ} (λ r. (r.0, r.1)) s.2), s.3)

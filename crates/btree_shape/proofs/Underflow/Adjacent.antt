@@ -1,4 +1,4 @@
--- Two neighbours of which one has too few items, as code sees them, and the steps that mend that.
+-- Two adjacent siblings, one of them with too few items, as code sees them, and the steps that fix it.
 use Rattle.std.proofs.Common.{◌≡◌, ◌≢◌, ◌<◌, ◌≤◌, ◌++◌, ◌∷◌, [], ◌+◌, ℕ, zero, suc, inl, inr, List, length, map, Option, Some, None, refl, sym, ap, subst, arith, length-append}
 use Rattle.std.specs.List.{AllByRecursion}
 use Rattle.std.specs.Prelude.{IsTrue, option_map}
@@ -34,8 +34,8 @@ use Rattle.btree_shape.proofs.Splits.Halves.{join, times-top}
 use Rattle.btree_shape.proofs.Underflow.Items.{kind-is, turned}
 
 module _ (A : Type 0) (node_at : NodeMap A) (root : ℕ) (xs : List A) (asked : Option A) (a : Address) (place given bound : ℕ) where
-  -- children `left` and `right` of node `parent`, with its item at `index` between them, of which one may have an item
-  -- too few: what stands there, and which step leads where
+  -- children `left` and `right` of node `parent`, with its item at `index` between them; one of them may have an item
+  -- too few: what is there, and which step leads where
   pub record Beside (parent index left right : ℕ) : Type 0 where
     pub node : View A
     pub low : View A
@@ -55,7 +55,7 @@ module _ (A : Type 0) (node_at : NodeMap A) (root : ℕ) (xs : List A) (asked : 
         → (0 < times_used (node_at n)) × (n ≢ parent) × (n ≢ left) × (n ≢ right)
     pub low_children : (n : ℕ) → 0 < times_listed n (children_of low)
         → option_map (with_parent (Some left)) (node_at n) ≡ node_at n
-    -- the right one lends an item, or the left one, and the tree is at rest
+    -- one borrows an item from the other, and the tree is well formed
     pub rotate_left : (new : NodeMap A) → RotatesLeft node_at new parent index left right → size_of low ≤ 2
         → 3 < size_of high
         → IsRepaired A new root xs asked
@@ -68,7 +68,7 @@ module _ (A : Type 0) (node_at : NodeMap A) (root : ℕ) (xs : List A) (asked : 
     pub merge : (new : NodeMap A) → Merges node_at new parent index left right → size_of low + size_of high ≤ 5
         → MayUnderflowAt A new root xs parent asked
         (moved_by_merge left right parent index (size_of low) (first_in high) a) place (suc given) bound
-    -- so the climb comes to an end
+    -- so the fixes come to an end
     pub lower : (new : NodeMap A) → Merges node_at new parent index left right → size_of low + size_of high ≤ 5
         → (levels_above new (length xs) parent < levels_above node_at (length xs) left)
         × (levels_above new (length xs) parent < levels_above node_at (length xs) right)

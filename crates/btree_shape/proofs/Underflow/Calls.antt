@@ -1,5 +1,5 @@
--- What code does for a rotation or a merge, call by call: three nodes are written one after another, or one of them is
--- taken out, and then children get their new parent.
+-- What code does for a rotation or a merge, call by call: three nodes are written one after another, or two are written
+-- and one is removed, and then children get their new parent.
 use Rattle.std.proofs.Common.{◌≡◌, ◌≢◌, ◌<◌, ◌++◌, ◌∷◌, ◌∙◌, ◌+◌, ℕ, suc, inl, inr, List, Some, refl, sym, ap, arith}
 use Rattle.std.specs.Prelude.{option_map, slice_get}
 use Rattle.std.specs.List.{remove}
@@ -11,7 +11,7 @@ use Rattle.btree_shape.specs.Step.{Reparents, RemovesNode, WritesNode}
 use Rattle.btree_shape.proofs.Paths.Frames.{total-append}
 use Rattle.btree_shape.proofs.Trees.Numbers.{zero-or}
 
--- a list of children without one is without it
+-- a list of children that does not have a number
 none-of : (children : List ℕ) (m : ℕ) → ((n : ℕ) → 0 < times_listed n children → n ≢ m) → times_listed m children ≡ 0
 none-of children m away = elim (zero-or (times_listed m children)) [ inl z ↦ z | inr some ↦ absurd (away m some refl) ]
 
@@ -30,7 +30,7 @@ module _ {A : Type 0} (node_at one_look two three new : NodeMap A) (parent left 
     not-right : times_listed right children ≡ 0
     not-right = none-of children right (λ n m. (away n m).2)
 
-    -- the right node first, then the parent, then the left node: a rotation to the left
+    -- a rotation to the left: the right node first, then the parent, then the left node
     pub left-written : WritesNode node_at one_look right new_high → WritesNode one_look two parent new_top → WritesNode two three left new_low
         → Writes node_at new parent left right top low high new_top new_low new_high children adopter
     left-written a b c =
@@ -48,7 +48,7 @@ module _ {A : Type 0} (node_at one_look two three new : NodeMap A) (parent left 
           kept = λ n np nl nr z. adopts.kept n z ∙ still n np nl nr;
         }
 
-    -- the left node first, then the parent, then the right node: a rotation to the right
+    -- a rotation to the right: the left node first, then the parent, then the right node
     pub right-written : WritesNode node_at one_look left new_low → WritesNode one_look two parent new_top → WritesNode two three right new_high
         → Writes node_at new parent left right top low high new_top new_low new_high children adopter
     right-written a b c =
@@ -65,8 +65,8 @@ module _ {A : Type 0} (node_at one_look two three new : NodeMap A) (parent left 
           kept = λ n np nl nr z. adopts.kept n z ∙ still n np nl nr;
         }
 
-  -- the parent first, then the right node is taken out, then the left one is written, and all its children get it as
-  -- their parent, which its own ones had already: a merge
+  -- a merge: the parent first, then the right node is removed, then the left one is written and made the parent of all
+  -- its children, which changes nothing in its own ones
   module _ (index : ℕ) (top low high new_top new_low : View A) (down : A)
       (away : (n : ℕ) → 0 < times_listed n (children_of low) + times_listed n (children_of high)
       → (n ≢ parent) × (n ≢ left) × (n ≢ right))

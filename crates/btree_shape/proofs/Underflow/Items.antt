@@ -1,4 +1,4 @@
--- Two neighbours of which one lends the other an item, or that are merged: their items, children, numbers and counts.
+-- Two adjacent siblings between which an item moves, or that are merged: their items, children, numbers and counts.
 use Rattle.std.proofs.Common.{◌≡◌, ◌<◌, ◌++◌, ◌∷◌, [], ◌∙◌, ◌+◌, ℕ, zero, suc, List, length, map, Option, None, refl, sym, ap, subst, arith, length-append}
 use Rattle.btree_view.specs.Edits.{is_internal}
 use Rattle.btree_view.specs.View.{View, children_of, internal, items_of, leaf, parent_of}
@@ -64,7 +64,7 @@ module _ (A : Type 0) where
   ids-append h [] r = refl
   ids-append h (b ∷ l) r = ap (λ z. id_of A h b.1 ∷ z) (ids-append h l r)
 
-  -- a neighbour with an item can lend it
+  -- a sibling with an item can give it
   pub turns-left : (h : ℕ) (a : Shape A h) (x : A) (b : Shape A h) → 0 < count_at A h b
       → (new_a : Shape A h) × (y : A) × (new_b : Shape A h) × Rotates A h a x b new_a y new_b
   turns-left zero a x (j, []) some = absurd (omega arith)
@@ -130,7 +130,7 @@ module _ (A : Type 0) where
         right_children = ap (λ (z : Shape A (suc h)). children_at (suc h) z) t.1;
       }
 
-  -- the two as one
+  -- the two merged into one
   pub join-id : (h : ℕ) (a : Shape A h) (x : A) (b : Shape A h) → id_of A h (join A h a x b) ≡ id_of A h a
   join-id zero a x b = refl
   join-id (suc h) a x b = refl
@@ -165,7 +165,7 @@ module _ (A : Type 0) where
       let r = AllByRecursion-right (FilledBranch h) a.2 ((x, b.1) ∷ b.2) f.2 in
       ((f.0, f.1, AllByRecursion-left (FilledBranch h) a.2 ((x, b.1) ∷ b.2) f.2), (r.0.0, r.0.1, r.1))
 
-  -- a lent item changes nothing of the two together
+  -- an item that moves changes nothing of the two together
   module _ (h : ℕ) (a : Shape A h) (x : A) (b new_a : Shape A h) (y : A) (new_b : Shape A h)
       (same : join A h a x b ≡ join A h new_a y new_b) where
     pub same-items : items_under A h a ++ x ∷ items_under A h b ≡ items_under A h new_a ++ y ∷ items_under A h new_b

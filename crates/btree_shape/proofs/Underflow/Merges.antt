@@ -1,4 +1,4 @@
--- A merge of two neighbours: the tree seen from their parent, which has an item fewer.
+-- A merge of two adjacent siblings: the tree with its focus at their parent, which has one item fewer.
 use Rattle.std.proofs.Common.{◌≡◌, ◌≢◌, ◌<◌, ◌≤◌, ◌++◌, ◌∷◌, [], ◌∙◌, ◌+◌, ℕ, zero, suc, inl, inr, List, length, map, Option, Some, None, refl, sym, ap, subst, arith, append_assoc, length-append}
 use Rattle.std.specs.List.{remove}
 use Rattle.std.specs.Prelude.{option_map}
@@ -49,7 +49,7 @@ module _ (A : Type 0) where
       ∙ (ap (λ n. k.before ++ n ∷ k.behind) (sym et) ∙ sym (k.one_children t)))))
 
 module _ (A : Type 0) (node_at new : NodeMap A) where
-  -- the two as one node, with the nodes below both
+  -- the two merged into one node, with the nodes below both
   merged-holds : (h q : ℕ) (a : Shape A h) (x : A) (b : Shape A h) → Apart A h q a b
       → ((n : ℕ) → n ≢ q → n ≢ id_of A h a → n ≢ id_of A h b
       → 0 < times_listed n (children_at A h b) → new n ≡ option_map (with_parent (Some (id_of A h a))) (node_at n))

@@ -1,4 +1,4 @@
--- A tree that is off by one at a node, in the public words: where its mending begins, and how it ends.
+-- A tree that is off by one at a node, in the public terms: where its repair begins, and how it ends.
 use Rattle.std.proofs.Common.{◌≡◌, ◌<◌, ◌≤◌, [], ◌∙◌, ◌+◌, ◌==◌, if◌then◌else◌, ℕ, zero, suc, List, length, Option, Some, None, IsSome, refl, sym, ap, subst, arith}
 use Rattle.std.specs.Cmp.{IsTotalOrder}
 use Rattle.std.specs.declared.cmp.Ordering.{Ordering}
@@ -75,7 +75,7 @@ module _ {K V : Type 0} (cmp : K → K → Ordering) (laws : IsTotalOrder cmp) (
       node.seen.shape stands in
       omega arith
 
-  -- the node has no item too many: a climb that mends it if it has one too few, and that is over if it has not
+  -- the node does not overflow: an underflow fix begins at it, and ends there at once if the node does not underflow
   pub odd-shrinks : size_of v ≤ most_of v → (asked : Option (K × V)) (a : Address) (place : ℕ)
       → IsAddressed (K × V) node_at root xs asked a place
       → MayUnderflowAt (K × V) node_at root xs odd asked a place 0 (strain_before + owed_by v)
@@ -97,7 +97,7 @@ module _ {K V : Type 0} (cmp : K → K → Ordering) (laws : IsTotalOrder cmp) (
         paid = omega arith;
       }
 
-  -- the nodes that its splits take, counted from it upward
+  -- the nodes that its splits need, counted from it upward
   pub odd-climbs : (most : ℕ) → w.rooted.height < most
       → IsCountingUpward (K × V) node_at root xs most odd 0 (split_need node_at most odd)
   odd-climbs most lt =
@@ -106,7 +106,7 @@ module _ {K V : Type 0} (cmp : K → K → Ordering) (laws : IsTotalOrder cmp) (
       (upward-start (K × V) node_at root xs most node.seen.height node.seen.path node.seen.shape stands
       (omega arith))
 
-  -- the node has an item too many, and a number was claimed for each node that the splits take: they begin
+  -- the node overflows, and a number was claimed for each node that the splits need: the splits begin
   pub odd-grows : most_of v < size_of v → (most : ℕ) → w.rooted.height < most → (mid : NodeMap (K × V)) (spare : List ℕ)
       → Claims node_at mid spare → length spare ≡ split_need node_at most odd
       → (asked : Option (K × V)) (a : Address) (place : ℕ) → IsAddressed (K × V) node_at root xs asked a place

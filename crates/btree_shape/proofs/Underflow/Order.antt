@@ -1,4 +1,4 @@
--- Which step mends a node, and how many levels stand above it.
+-- Which step fixes an underflow, and how many levels are above a node.
 use Rattle.std.proofs.Common.{◌≡◌, ◌≢◌, ◌≤◌, ◌∙◌, ◌+◌, [], ℕ, zero, suc, List, length, Option, Some, None, sym, ap, subst, arith}
 use Rattle.std.specs.Prelude.{IfSome}
 use Rattle.std.proofs.lemmas.Option.{same_Some}
@@ -34,7 +34,7 @@ module _ {A : Type 0} where
       sym (levels-is A node_at h most None a.shape (omega arith) a.holds)
       ∙ (ap (levels_below node_at most) (a.here ∙ sym b.here) ∙ levels-is A node_at g most None b.shape (omega arith) b.holds)
 
-  -- as many levels stand above a node as its way has, or as may be counted
+  -- as many levels are above a node as its path has, or as may be counted
   levels-low : (node_at : NodeMap A) (h n : ℕ) (c : Path A h) (hole : ℕ) (v : View A) → node_at hole ≡ Some v
       → parent_of v ≡ parent_above c → HoldsAbove node_at c hole → levels_above node_at n hole ≤ depth c
   levels-low node_at h zero c hole v e p d = omega arith
@@ -45,7 +45,7 @@ module _ {A : Type 0} where
 
 module _ (A : Type 0) (node_at : NodeMap A) (root : ℕ) (xs : List A) (id : ℕ) (asked : Option A) (a : Address)
     (place given bound : ℕ) (g : MayUnderflowAt A node_at root xs id asked a place given bound) where
-  -- at most as many levels stand above the node as the root is above the leaves
+  -- at most as many levels are above the node as the root has below it
   pub shrinks-levels : (is_right : (id : ℕ) → View A → Type 0) → IsRooted is_right node_at root xs → (height : ℕ)
       → Represents node_at height None root xs → levels_above node_at (length xs) id ≤ height
   shrinks-levels is_right r height s =
@@ -102,7 +102,7 @@ module _ {A : Type 0} (new : NodeMap A) (root : ℕ) (new_root : Option ℕ) whe
   least-other : (id : ℕ) → id ≢ root → least_of root id ≡ 3
   least-other id apart = full-no id root 1 3 apart
 
-  -- a sibling on the right that has an item to spare gives it, whatever else could be done
+  -- a right sibling that has an item to spare gives it, whatever else could be done
   module _ (node_at : NodeMap A) (parent index right id : ℕ) (child : child_at node_at parent index ≡ Some id)
       (only : (k : ℕ) → child_at node_at parent k ≡ Some id → k ≡ index) (spare : CanSpare node_at parent (suc index) right) where
     clash : (k : ℕ) → suc k ≡ index → NoneSpares node_at parent (suc (suc k)) → ⊥

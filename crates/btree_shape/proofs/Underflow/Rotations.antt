@@ -1,4 +1,4 @@
--- A rotation makes of two neighbours two others, with the same list and the same numbers.
+-- A rotation makes two other nodes of two adjacent siblings, with the same list and the same numbers.
 use Rattle.std.proofs.Common.{◌≡◌, ◌≢◌, ◌<◌, ◌≤◌, ◌++◌, ◌∷◌, [], ◌∙◌, ◌+◌, ℕ, zero, suc, inl, inr, List, length, set, Option, Some, None, refl, sym, ap, subst, arith, append-nil, length-append}
 use Rattle.std.specs.Prelude.{is_some, option_map}
 use Rattle.btree_view.specs.Edits.{HasChildFor, is_internal, with_parent}
@@ -48,7 +48,7 @@ first-kind A zero s = refl
 first-kind A (suc h) s = refl
 
 module _ (A : Type 0) (node_at new : NodeMap A) where
-  -- the two nodes and those below them, after an item went to the left one
+  -- the two nodes and those below them, after an item moved to the left one
   lent-left : (h q : ℕ) (a : Shape A h) (x : A) (b new_a : Shape A h) (y : A) (new_b : Shape A h)
       → Rotates A h a x b new_a y new_b → Apart A h q a b
       → ((n : ℕ) → n ≢ q → n ≢ id_of A h a → n ≢ id_of A h b → 0 < times_listed n (as_list (first_of A h b))
@@ -80,7 +80,7 @@ module _ (A : Type 0) (node_at new : NodeMap A) where
       to-left A node_at new h q a.0 new_b.0 a.1 a.2 x u y new_b.1 new_b.2 near2 moved2 kept2 ei2 ej2 da db2 in
       (subst (λ (z : Shape A (suc h)). Holds A new (suc h) (Some q) z) (sym t.0) r.0, r.1)
 
-  -- after an item went to the right one
+  -- the same after an item moved to the right one
   lent-right : (h q : ℕ) (a : Shape A h) (x : A) (b new_a : Shape A h) (y : A) (new_b : Shape A h)
       → Rotates A h new_a y new_b a x b → Apart A h q a b
       → ((n : ℕ) → n ≢ q → n ≢ id_of A h a → n ≢ id_of A h b → 0 < times_listed n (as_list (first_of A h new_b))
@@ -113,7 +113,7 @@ module _ (A : Type 0) (node_at new : NodeMap A) where
 
 module _ (A : Type 0) (node_at new : NodeMap A) (root : ℕ) (xs : List A) (h : ℕ) (f : Frame A h) (c : Path A (suc h))
     (a : Shape A h) (x : A) (b : Shape A h) (p : IsPair A node_at root xs h f c a x b) where
-  -- the tree around two new neighbours that stand for the old ones
+  -- the tree around two new siblings in the place of the old ones
   module _ (new_a : Shape A h) (y : A) (new_b : Shape A h) (same : join A h a x b ≡ join A h new_a y new_b)
       (ea : id_of A h new_a ≡ id_of A h a) (eb : id_of A h new_b ≡ id_of A h b) (child : Option ℕ) (adopter : ℕ)
       (inside : (n : ℕ) → times_listed n (as_list child) ≤ times_under A h n a + times_under A h n b)

@@ -1,4 +1,4 @@
--- A root without items is no node any more: its only child is the root, or the tree is empty.
+-- A root without items is freed: its only child becomes the root, or the tree is empty.
 use Rattle.std.proofs.Common.{◌≡◌, ◌≢◌, ◌≤◌, [], ◌∙◌, ◌+◌, ℕ, suc, inl, inr, List, Some, None, refl, sym, ap, subst, arith, append-nil}
 use Rattle.std.specs.Prelude.{option_map}
 use Rattle.btree_view.specs.Edits.{with_parent}

@@ -1,4 +1,4 @@
--- The addresses of two neighbouring nodes that are merged, or of which one lends the other an item, and those below.
+-- The positions of two adjacent siblings that are merged, or between which an item moves, and those below.
 use Rattle.std.proofs.Common.{◌≡◌, ◌≢◌, ◌<◌, ◌++◌, ◌∷◌, [], ◌∙◌, ◌+◌, ◌-◌, ◌==◌, if◌then◌else◌, ℕ, zero, suc, inl, inr, List, length, Option, Some, None, refl, sym, ap, subst, arith, length-append}
 use Rattle.btree_item.specs.declared.address.Address.{Address}
 use Rattle.btree_shape.specs.Moved.{at_separator, in_left_giver, in_merged, in_right_giver, in_right_receiver, moved_by_merge, moved_by_rotate_left, moved_by_rotate_right, over_merged}

@@ -1,4 +1,4 @@
--- The addresses of two neighbouring nodes A and B, by rows: B goes into A, or one lends the other an item.
+-- The positions of two adjacent siblings A and B, by rows: B is merged into A, or an item moves between them.
 use Rattle.std.proofs.Common.{◌≡◌, ◌<◌, ◌≤◌, ◌++◌, ◌∷◌, [], ◌∙◌, ◌+◌, ℕ, suc, inl, List, length, Some, None, refl, sym, ap, subst, arith, append_assoc}
 use Rattle.std.specs.List.{AllByRecursion}
 use Rattle.btree_item.specs.declared.address.Address.{Address}
@@ -32,7 +32,7 @@ module _ {A X : Type 0} (key : X → A) (f : X → List (Position A)) where
       (lead_kept : g (address_before i) ≡ address_before i) (pre_kept : KeepsPositions g pre pre)
       (xs_kept : AllByRecursion (λ x. KeepsPositions g (f x) (f x)) xs)
       (ys_kept : AllByRecursion (λ x. KeepsPositions g (f x) (f x)) ys) where
-    -- B goes into A
+    -- B is merged into A
     pub node_positions-merge : (e : X) → KeepsPositions g (f e) (f e) → ((k : ℕ) → k ≤ length xs → g (address_at i k) ≡ address_at i k)
         → g (address_at p s) ≡ address_at i (length xs)
         → ((k : ℕ) → k ≤ length ys → g (address_at j k) ≡ address_at i (suc (length xs) + k))
@@ -57,7 +57,7 @@ module _ {A X : Type 0} (key : X → A) (f : X → List (Position A)) where
         (carry-append g (f e) (f e) (positions_from key f j 0 ys) (positions_from key f i (suc n) ys) refl ce
         (carry-from g j i (suc n) ys ej ys_kept))))))))
 
-    -- B lends its first item, with the child before it
+    -- B gives its first item, with the child before it
     pub node_positions-left : (e d : X) → KeepsPositions g (f e) (f e) → KeepsPositions g (f d) (f d)
         → ((k : ℕ) → k ≤ length xs → g (address_at i k) ≡ address_at i k) → g (address_at p s) ≡ address_at i (length xs)
         → g (address_at j 0) ≡ address_at p s → ((k : ℕ) → k ≤ length ys → g (address_at j (1 + k)) ≡ address_at j k)
@@ -90,7 +90,7 @@ module _ {A X : Type 0} (key : X → A) (f : X → List (Position A)) where
         (carry-append g (f d) (f d) (positions_from key f j 1 ys) (positions_from key f j 0 ys) refl cd
         (carry-back key f g j 1 j ys ej ys_kept)))))))))))))
 
-    -- A lends its last item, with the child after it
+    -- A gives its last item, with the child after it
     pub node_positions-right : (e d : X) → KeepsPositions g (f e) (f e) → KeepsPositions g (f d) (f d)
         → ((k : ℕ) → k < length xs → g (address_at i k) ≡ address_at i k) → g (address_at i (length xs)) ≡ address_at p s
         → g (address_at i (suc (length xs))) ≡ address_at j 0 → g (address_at p s) ≡ address_at j 0

@@ -1,4 +1,4 @@
--- A climb that mends nodes with too few items: from a node to a neighbour of it, or to the end.
+-- One step of an underflow fix upward: from a node to one of its siblings, or to the end.
 use Rattle.std.proofs.Common.{◌≡◌, ◌≢◌, ◌<◌, ◌≤◌, ◌∷◌, [], ◌∙◌, ◌+◌, ℕ, zero, suc, inr, true, false, List, Option, Some, None, refl, sym, ap, subst, arith, append-nil}
 use Rattle.std.specs.Prelude.{IsTrue, slice_get}
 use Rattle.btree_item.specs.declared.address.Address.{Address}
@@ -31,7 +31,7 @@ use Rattle.std.proofs.lemmas.Option.{same_Some}
 
 module _ (A : Type 0) (node_at : NodeMap A) (root : ℕ) (xs : List A) (id : ℕ) (asked : Option A) (a : Address)
     (place given bound : ℕ) (g : MayUnderflowAt A node_at root xs id asked a place given bound) where
-  -- the node is used, and it stands here
+  -- the node is used, and this is its view
   pub shrinks-node : node_at id ≡ Some (view_at A g.seen.height (parent_above g.seen.path) g.seen.shape)
   shrinks-node =
       subst (λ n. node_at n ≡ Some (view_at A g.seen.height (parent_above g.seen.path) g.seen.shape)) g.seen.here
@@ -60,7 +60,7 @@ module _ (A : Type 0) (node_at : NodeMap A) (root : ℕ) (xs : List A) (id : ℕ
           paid = omega arith;
         }
 
-    -- no item too few: the climb is over
+    -- no item too few: the fix ends
     pub shrinks-done : 3 ≤ size_of v → IsRepaired A node_at root xs asked a place given bound
     shrinks-done enough = at-rest (let s = size-is in let l = low g.seen.height g.seen.path in omega arith)
       where
@@ -78,7 +78,7 @@ module _ (A : Type 0) (node_at : NodeMap A) (root : ℕ) (xs : List A) (id : ℕ
         low h top t q = refl
         low h (under f c) t q = let e = view-parent A h (Some (frame_id f)) t in absurd (cc)
 
-    -- the node above, with the child's index, and the neighbours of the child
+    -- the parent, with the child's index, and the siblings of the child
     pub record Over (p : ℕ) : Type 0 where
       pub node : View A
       pub here : node_at p ≡ Some node
@@ -127,7 +127,7 @@ module _ (A : Type 0) (node_at : NodeMap A) (root : ℕ) (xs : List A) (id : ℕ
             low h top = omega arith
             low h (under f c) = omega arith
 
-    -- the root without an item, and its only child, which is the next root
+    -- the root without items, and its only child, which becomes the root
     pub record OnlyChild : Type 0 where
       pub child : ℕ
       pub only : children_of v ≡ child ∷ []
@@ -195,7 +195,7 @@ module _ (A : Type 0) (node_at : NodeMap A) (root : ℕ) (xs : List A) (id : ℕ
         at (suc h) top (n, u, b ∷ bs) here w is th pd z = absurd (omega arith)
         at (suc h) top (n, u, []) here w is th pd z = released-child h n u here w is th pd
 
-    -- the root is a leaf without an item: the tree is empty, and the address was at place 0
+    -- the root is a leaf without items: the tree is empty, and the address was at place 0
     pub record Emptied (new : NodeMap A) : Type 0 where
       pub formed : IsFormed new None xs
       pub at_zero : place ≡ 0

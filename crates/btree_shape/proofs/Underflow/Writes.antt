@@ -1,4 +1,4 @@
--- What a rotation writes: the parent with another item, and the two children, of which one has the outer child of the other.
+-- What a rotation writes: the parent with another item, and the two children, one with the outer child of the other.
 use Rattle.std.proofs.Common.{◌≡◌, ◌≢◌, ◌<◌, ◌≤◌, ◌++◌, ◌∷◌, [], ◌∙◌, ◌+◌, ◌-◌, ℕ, zero, suc, List, length, map, set, Option, Some, None, refl, sym, ap, subst, arith, append_assoc, length-append}
 use Rattle.std.proofs.Math.Seq.{set-append_seam}
 use Rattle.std.proofs.lemmas.List.{length-map}
@@ -32,7 +32,7 @@ remove-seam front x back n e =
     remove-append_right front (x ∷ back) n n e (omega arith) ∙ ap (λ k. front ++ remove (x ∷ back) k) z
 
 module _ (A : Type 0) where
-  -- the items and children of a node with a hole for two neighbours
+  -- the items and children of a node with a hole for two siblings
   pub record FrameParts (h : ℕ) (f : Frame A h) : Type 0 where
     pub front : List A
     pub back : List A
@@ -83,7 +83,7 @@ module _ (A : Type 0) where
         one_children = λ t. ap (λ l. id_of A h first ∷ l) (ids-append A h front ((z, t) ∷ back));
       }
 
-  -- a node that is remade as the shape says
+  -- a node that is changed to what the shape says
   pub remade-view : (h : ℕ) (p : Option ℕ) (t s : Shape A h) (old new : View A) (is : List A) (cs : List ℕ)
       → old ≡ view_at A h p t → IsRemade old new is cs → is ≡ items_at A h s → cs ≡ children_at A h s
       → new ≡ view_at A h p s
@@ -112,7 +112,7 @@ module _ (A : Type 0) where
       (c1 ∙ (ap (λ i. k.before ++ i ∷ id_of A h b ∷ k.behind) (sym ea)
       ∙ (ap (λ i. k.before ++ id_of A h new_a ∷ i ∷ k.behind) (sym eb) ∙ sym (k.children_are new_a y new_b))))
 
-  -- the item at the index is the one between the two
+  -- the item at the index is the separator of the two
   pub down-between : (h : ℕ) (p : Option ℕ) (f : Frame A h) (a : Shape A h) (x : A) (b : Shape A h) (old : View A)
       (down : A) → old ≡ view_at A (suc h) p (fill_two f a x b) → slice_get (items_of old) (frame_index f) ≡ Some down
       → down ≡ x
@@ -123,7 +123,7 @@ module _ (A : Type 0) where
       same_Some down x (sym g ∙ (ap (λ l. slice_get l (frame_index f)) i1
       ∙ get-after k.front x k.back (frame_index f) (sym k.front_count)))
 
-  -- the first child, where there is one
+  -- the first child, if there is one
   pub child-is : (h : ℕ) (p : Option ℕ) (t : Shape A h) (v : View A) (child : Option ℕ) (rest : List ℕ)
       → v ≡ view_at A h p t → HasChildFor child v → children_of v ≡ as_list child ++ rest
       → (child ≡ first_of A h t)
@@ -138,7 +138,7 @@ module _ (A : Type 0) where
   first-inside (suc h) n t = omega (arith, times-top A h n t.1)
 
 module _ (A : Type 0) (node_at new : NodeMap A) where
-  -- a child that goes from one of two nodes to the other, and what stays below them
+  -- a child that moves from one of two nodes to the other, and what stays below them
   module _ (h i j q adopter : ℕ) (u : Shape A h) (inside : ℕ → ℕ)
       (apart : (n : ℕ) → one n q + (one n i + one n j + (times_under A h n u + inside n)) ≤ 1)
       (moved : (n : ℕ) → n ≢ q → n ≢ i → n ≢ j → 0 < times_listed n (id_of A h u ∷ [])
@@ -160,7 +160,7 @@ module _ (A : Type 0) (node_at new : NodeMap A) where
         (λ n m. let o = apart n in let t = times-top A h n u in
         kept n (one-zero n q (omega arith)) (one-zero n i (omega arith)) (one-zero n j (omega arith)) (omega arith)) d
 
-  -- the nodes below two neighbours, of which one lends the other its outer child
+  -- the nodes below two siblings, one of which gives the other its outer child
   module _ (h q i j : ℕ) (first : Shape A h) (left : List (A × Shape A h)) (x : A) (u : Shape A h) (y : A)
       (w : Shape A h) (right : List (A × Shape A h)) where
     pub to-left : Apart A (suc h) q (i, first, left) (j, u, (y, w) ∷ right)

@@ -1,4 +1,4 @@
--- A tree seen from one of its nodes, whose own number of items is left open.
+-- A focus: a tree seen from one of its nodes, whose own number of items is left open.
 use Rattle.std.specs.Prelude.{◌≡◌, ℕ, ◌+◌, List, ◌++◌, None}
 use Rattle.btree_view.specs.View.{NodeMap}
 use Rattle.btree_shape.specs.WellFormed.{times_used}
@@ -6,8 +6,8 @@ use Rattle.btree_shape.specs.Lists.{times_listed}
 use Rattle.btree_shape.specs.Focus.Shape.{IsFilled, Shape, id_of, items_under, times_under, Holds, count_at, IsFilledBelow}
 use Rattle.btree_shape.specs.Focus.Path.{Path, parent_above, items_before, items_after, times_above, HoldsAbove, AreFilled, root_above}
 
--- the way above a node and the tree under it are one tree with this root, which spells the list; the numbers in `spare`
--- are used too, each once, and are no nodes of it
+-- the path above a node and the subtree at it are one tree with this root, which represents the list; the numbers in
+-- `spare` are used too, each once, and are no nodes of the tree
 pub record IsFocus (A : Type 0) (node_at : NodeMap A) (spare : List ℕ) (root : ℕ) (xs : List A)
     (height : ℕ) (path : Path A height) (shape : Shape A height) : Type 0 where
   pub above : HoldsAbove node_at path (id_of A height shape)
@@ -18,7 +18,7 @@ pub record IsFocus (A : Type 0) (node_at : NodeMap A) (spare : List ℕ) (root :
   pub list : xs ≡ items_before path ++ (items_under A height shape ++ items_after path)
   pub root_is : root_above path (id_of A height shape) ≡ root
 
--- the same, whatever the numbers of items
+-- the same, whatever the numbers of items are
 pub record IsUnsizedFocus (A : Type 0) (node_at : NodeMap A) (spare : List ℕ) (root : ℕ) (xs : List A)
     (height : ℕ) (path : Path A height) (shape : Shape A height) : Type 0 where
   pub above : HoldsAbove node_at path (id_of A height shape)
@@ -27,7 +27,7 @@ pub record IsUnsizedFocus (A : Type 0) (node_at : NodeMap A) (spare : List ℕ) 
   pub list : xs ≡ items_before path ++ (items_under A height shape ++ items_after path)
   pub root_is : root_above path (id_of A height shape) ≡ root
 
--- a tree seen from its root, where each node has its number of items and no number is spare
+-- a tree with its focus at the root, where each node has its number of items and no number is spare
 pub record IsTree (A : Type 0) (node_at : NodeMap A) (root : ℕ) (xs : List A) : Type 0 where
   pub height : ℕ
   pub shape : Shape A height
@@ -38,7 +38,7 @@ pub record IsTree (A : Type 0) (node_at : NodeMap A) (root : ℕ) (xs : List A) 
   pub below : IsFilledBelow A height shape
   pub represents : items_under A height shape ≡ xs
 
--- a tree can be seen from node `id`
+-- the tree has a focus at node `id`
 pub record HasFocus (A : Type 0) (node_at : NodeMap A) (spare : List ℕ) (root : ℕ) (xs : List A) (id : ℕ) : Type 0 where
   pub height : ℕ
   pub path : Path A height

@@ -1,23 +1,24 @@
--- What is left of a walk through a tree in order, from the front.
+-- What is left of a forward walk through a tree in order.
 use Rattle.std.specs.Prelude.{ℕ, suc, ◌+◌, ◌<◌, List, [], ◌∷◌, ◌++◌, Option}
 use Rattle.std.specs.List.{flat_map, AllByRecursion}
 use Rattle.btree_item.specs.declared.TheConstants.{MAX_LEVELS}
 use Rattle.btree_view.specs.View.{NodeMap}
 use Rattle.btree_shape.specs.Represents.{Represents, represented}
 
--- A row is what is left of one internal node: the items that are not passed yet, each with the child after it. The rows of a
--- place go from the root down to it.
+-- A row is what is left of one internal node: the items that are not passed yet, each with the child after it. The rows
+-- of a place go from the root down to it.
 module _ {A : Type 0} (node_at : NodeMap A) (levels : ℕ) where
-  -- each item of a row, and what the child after it spells
+  -- each item of a row, and the list that the child after it represents
   abbrev pub left_in : List (A × ℕ) → List A
   left_in node_positions = flat_map (λ b. b.0 ∷ represented node_at levels b.1) node_positions
 
-  -- what is left in all rows: the lowest comes first
+  -- what is left in all rows; the lowest row comes first
   abbrev pub left_above : List (List (A × ℕ)) → List A
   left_above [] = []
   left_above (node_positions ∷ rows) = left_above rows ++ left_in node_positions
 
-  -- a node with so many above it, which spells a list by so many levels; a tree has at most 32
+  -- node `id`, with `depth` nodes above it, represents a list and is fewer than `levels` levels above the leaves; a
+  -- tree has at most 32 levels
   pub record IsUnder (depth id : ℕ) : Type 0 where
     pub height : ℕ
     pub parent : Option ℕ
@@ -26,7 +27,7 @@ module _ {A : Type 0} (node_at : NodeMap A) (levels : ℕ) where
     pub low : height < levels
     pub room : depth + height < MAX_LEVELS
 
-  -- each row's children stand one level below its own
+  -- the children of a row are one level below the row's node, and so is the node of the next row
   abbrev pub AreRows : (depth : ℕ) → List (List (A × ℕ)) → Type 0
   AreRows depth [] = Unit {0}
   AreRows depth (node_positions ∷ rows) = AllByRecursion (λ b. IsUnder (suc depth) b.1) node_positions × AreRows (suc depth) rows

@@ -1,16 +1,16 @@
--- A node of a tree at rest, and a node that may have one item too many or one too few.
+-- A node of a well formed tree, and a node that may have one item too many or one too few.
 use Rattle.std.specs.Prelude.{ℕ, suc, ◌≤◌, List, []}
 use Rattle.btree_view.specs.View.{NodeMap}
 use Rattle.btree_shape.specs.Focus.Shape.{most_at, IsFilled, count_at}
 use Rattle.btree_shape.specs.Focus.Path.{least_at}
 use Rattle.btree_shape.specs.Focus.Focus.{HasFocus}
 
--- each node of the tree has its number of items, and it is seen from node `id`
+-- each node of the tree has its number of items, and the focus is at node `id`
 pub record IsNode (A : Type 0) (node_at : NodeMap A) (root : ℕ) (xs : List A) (id : ℕ) : Type 0 where
   pub seen : HasFocus A node_at [] root xs id
   pub sized : IsFilled (least_at seen.path) seen.height (count_at A seen.height seen.shape)
 
--- each other node has its number of items, and node `id` may have one too many or one too few
+-- each other node has its number of items, and node `id` may have one item too many or one too few
 pub record IsOddNode (A : Type 0) (node_at : NodeMap A) (root : ℕ) (xs : List A) (id : ℕ) : Type 0 where
   pub seen : HasFocus A node_at [] root xs id
   pub low : least_at seen.path ≤ suc (count_at A seen.height seen.shape)

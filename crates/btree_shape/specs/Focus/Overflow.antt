@@ -1,4 +1,4 @@
--- The states of a climb that splits nodes, with the address that it follows and what it has paid.
+-- The states of a split upward, with the address that is followed and the bound that the strain gives.
 use Rattle.std.specs.Prelude.{◌≡◌, ℕ, suc, ◌+◌, ◌≤◌, List, length, Option}
 use Rattle.btree_item.specs.declared.address.Address.{Address}
 use Rattle.btree_view.specs.View.{NodeMap}
@@ -10,8 +10,9 @@ use Rattle.btree_shape.specs.Need.{path_need}
 use Rattle.btree_shape.specs.Focus.Positions.{IsAt, all_positions}
 use Rattle.btree_shape.specs.Strain.{strain_of}
 
--- node `id` may have one item too many, and `spare` has a number for each node that its splits take; address `a` has this
--- place, and the item `asked` stands there if one is asked; the nodes gained so far and the strain are at most `bound`
+-- node `id` may have one item too many, and `spare` has a number for each node that its splits use; address `a` has
+-- this place, and the item `asked` stands there if one is required; the nodes gained so far and the strain are at most
+-- `bound`
 pub record MayOverflowAt (A : Type 0) (node_at : NodeMap A) (root : ℕ) (xs : List A) (id : ℕ) (spare : List ℕ)
     (asked : Option A) (a : Address) (place gained bound : ℕ) : Type 0 where
   pub seen : HasFocus A node_at spare root xs id
@@ -22,7 +23,7 @@ pub record MayOverflowAt (A : Type 0) (node_at : NodeMap A) (root : ℕ) (xs : L
   pub there : IsAt asked a (all_positions A seen.height seen.path seen.shape) place
   pub paid : gained + strain_of A seen.height seen.path seen.shape ≤ bound
 
--- the climb is over, as is one that mends nodes with too few items: each node has its number of items
+-- each node has its number of items: the end of a split upward, and of an underflow fix upward
 pub record IsRepaired (A : Type 0) (node_at : NodeMap A) (root : ℕ) (xs : List A)
     (asked : Option A) (a : Address) (place gained bound : ℕ) : Type 0 where
   pub id : ℕ

@@ -1,4 +1,4 @@
--- Two neighbouring subtrees of the same height, with the item of their parent between them.
+-- Two adjacent subtrees of the same height, with the item of their parent between them.
 use Rattle.std.specs.Prelude.{◌≡◌, ℕ, zero, suc, [], ◌∷◌, ◌++◌, Option, Some, None}
 use Rattle.btree_shape.specs.Focus.Shape.{Shape, id_of}
 
@@ -8,8 +8,8 @@ module _ (A : Type 0) where
   first_of zero shape = None
   first_of (suc height) shape = Some (id_of A height shape.1)
 
-  -- one item goes from right to left, through the item between them, and with it the first child of the right one; read
-  -- backwards, one item goes from left to right
+  -- one item goes from right to left, through the item between them, together with the first child of the right one;
+  -- read backwards, one item goes from left to right
   abbrev pub Rotates : (height : ℕ) → (left : Shape A height) → A → (right : Shape A height) → (new_left : Shape A height)
       → A → (new_right : Shape A height) → Type 0
   Rotates zero left x right new_left y new_right =

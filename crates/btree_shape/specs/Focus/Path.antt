@@ -1,5 +1,5 @@
--- The way from a subtree up to the root, with all that stands beside it. A way and the subtree at its end are the whole
--- tree.
+-- The path from a subtree up to the root: each node above the subtree, with the subtrees of its other children. A path
+-- and the subtree at its end are the whole tree.
 use Rattle.std.specs.Prelude.{◌≡◌, ℕ, suc, ◌+◌, List, [], ◌∷◌, ◌++◌, length, map, Option, Some, None}
 use Rattle.std.specs.List.{AllByRecursion}
 use Rattle.btree_item.specs.declared.TheConstants.{MIN_ITEMS}
@@ -7,7 +7,7 @@ use Rattle.btree_view.specs.View.{View, internal, NodeMap}
 use Rattle.btree_shape.specs.Lists.{one, total}
 use Rattle.btree_shape.specs.Focus.Shape.{Shape, id_of, items_under, later_items, times_under, Holds, count_at, IsFilled, IsFilledBelow}
 
--- a node without one of its children, the hole: that is the first child, or one after an item
+-- a node without one of its children, the hole: the first child, or one after an item
 pub data Frame (A : Type 0) (height : ℕ) : Type 0 where
   at_first : ℕ → List (A × Shape A height) → Frame A height
   at_branch : ℕ → Shape A height → List (A × Shape A height) → A → List (A × Shape A height) → Frame A height
@@ -42,7 +42,7 @@ module _ {A : Type 0} {height : ℕ} where
   frame_count (at_first id back) = length back
   frame_count (at_branch id first front x back) = length front + suc (length back)
 
-  -- the items under the node before the hole, and behind it
+  -- the items under the node before the hole, and after it
   abbrev pub before_in : Frame A height → List A
   before_in (at_first id back) = []
   before_in (at_branch id first front x back) = (items_under A height first ++ later_items A height front) ++ x ∷ []
@@ -51,7 +51,8 @@ module _ {A : Type 0} {height : ℕ} where
   after_in (at_first id back) = later_items A height back
   after_in (at_branch id first front x back) = later_items A height back
 
-  -- how often n is among the numbers beside the hole, and with the node's own
+  -- how often n is among the numbers of the hole's siblings and of the nodes below them; and the same with the node's
+  -- own
   abbrev pub times_beside : ℕ → Frame A height → ℕ
   times_beside n (at_first id back) = total (λ b. times_under A height n b.1) back
   times_beside n (at_branch id first front x back) =
@@ -61,21 +62,21 @@ module _ {A : Type 0} {height : ℕ} where
   abbrev pub times_in : ℕ → Frame A height → ℕ
   times_in n frame = one n (frame_id frame) + times_beside n frame
 
-  -- the node itself, where the hole's number is `hole`
+  -- the node itself, with `hole` as the number of the hole
   abbrev pub frame_view : Option ℕ → Frame A height → ℕ → View A
   frame_view parent (at_first id back) hole = internal parent hole (map (λ b. (b.0, id_of A height b.1)) back)
   frame_view parent (at_branch id first front x back) hole =
       internal parent (id_of A height first)
       (map (λ b. (b.0, id_of A height b.1)) front ++ (x, hole) ∷ map (λ b. (b.0, id_of A height b.1)) back)
 
-  -- the nodes beside the hole stand under their numbers
+  -- the hole's siblings and the nodes below them stand under their numbers
   abbrev pub SiblingsHold : NodeMap A → Frame A height → Type 0
   SiblingsHold node_at (at_first id back) = AllByRecursion (λ b. Holds A node_at height (Some id) b.1) back
   SiblingsHold node_at (at_branch id first front x back) =
       Holds A node_at height (Some id) first × AllByRecursion (λ b. Holds A node_at height (Some id) b.1) front
       × AllByRecursion (λ b. Holds A node_at height (Some id) b.1) back
 
-  -- each node beside the hole has its number of items, and so has each below those
+  -- each sibling of the hole has its number of items, and so has each node below them
   abbrev pub SiblingsFilled : Frame A height → Type 0
   SiblingsFilled (at_first id back) =
       AllByRecursion (λ b. IsFilled MIN_ITEMS height (count_at A height b.1) × IsFilledBelow A height b.1) back
@@ -89,7 +90,7 @@ abbrev pub parent_above : {A : Type 0} {height : ℕ} → Path A height → Opti
 parent_above top = None
 parent_above (under frame path) = Some (frame_id frame)
 
--- the items of the whole tree before the hole, and behind it
+-- the items of the whole tree before the hole, and after it
 abbrev pub items_before : {A : Type 0} {height : ℕ} → Path A height → List A
 items_before top = []
 items_before (under frame path) = items_before path ++ before_in frame
@@ -98,35 +99,35 @@ abbrev pub items_after : {A : Type 0} {height : ℕ} → Path A height → List 
 items_after top = []
 items_after (under frame path) = after_in frame ++ items_after path
 
--- how often n is among the numbers of the whole tree but those of the hole
+-- how often n is among the numbers of the whole tree without those of the hole
 abbrev pub times_above : {A : Type 0} {height : ℕ} → ℕ → Path A height → ℕ
 times_above n top = 0
 times_above n (under frame path) = times_in n frame + times_above n path
 
--- the nodes above and beside the hole stand under their numbers
+-- the nodes of the path, and the subtrees of their other children, stand under their numbers
 abbrev pub HoldsAbove : {A : Type 0} {height : ℕ} → NodeMap A → Path A height → ℕ → Type 0
 HoldsAbove node_at top hole = Unit {0}
 HoldsAbove node_at (under frame path) hole =
     (node_at (frame_id frame) ≡ Some (frame_view (parent_above path) frame hole)) × SiblingsHold node_at frame
     × HoldsAbove node_at path (frame_id frame)
 
--- the fewest items of a node with this above it
+-- the fewest items of a node with this path above it
 abbrev pub least_at : {A : Type 0} {height : ℕ} → Path A height → ℕ
 least_at top = 1
 least_at (under frame path) = MIN_ITEMS
 
--- each node above and beside the hole has its number of items
+-- each node of the path, and each node below its other children, has its number of items
 abbrev pub AreFilled : {A : Type 0} {height : ℕ} → Path A height → Type 0
 AreFilled top = Unit {0}
 AreFilled {A} {height} (under frame path) =
     IsFilled (least_at path) (suc height) (frame_count frame) × SiblingsFilled frame × AreFilled path
 
--- the root's number, where the hole's number is `hole`
+-- the root's number, with `hole` as the number of the hole
 abbrev pub root_above : {A : Type 0} {height : ℕ} → Path A height → ℕ → ℕ
 root_above top hole = hole
 root_above (under frame path) hole = root_above path (frame_id frame)
 
--- how many levels stand above the hole
+-- how many levels are above the hole
 abbrev pub depth : {A : Type 0} {height : ℕ} → Path A height → ℕ
 depth top = 0
 depth (under frame path) = suc (depth path)

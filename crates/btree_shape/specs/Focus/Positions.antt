@@ -1,45 +1,47 @@
--- The addresses of a tree in their order, with the items between them.
+-- The positions of a tree: all its addresses in order, offset -1 of each node included, with a step over each item
+-- between them; so the place of an address is the number of items stepped over before it. `proofs/Places/OfTree.antt`
+-- shows that this agrees with `IsPlace`.
 use Rattle.std.specs.Prelude.{◌≡◌, ℕ, zero, suc, ◌⊎◌, List, [], ◌∷◌, ◌++◌, length, Option, Some, None}
 use Rattle.btree_item.specs.declared.address.Address.{Address}
 use Rattle.btree_shape.specs.Focus.Shape.{Shape}
 use Rattle.btree_shape.specs.Focus.Path.{Frame, at_first, at_branch, Path, top, under, frame_id, frame_index}
 
--- the address of a node at offset -1, and at another one
+-- the address at offset -1 of a node, and at another offset
 abbrev pub address_before : ℕ → Address
 address_before id = record { id = id; offset = None }
 
 abbrev pub address_at : ℕ → ℕ → Address
 address_at id offset = record { id = id; offset = Some offset }
 
--- an address, with the item that stands there if there is one, or a step over an item
+-- an address, with the item that stands there if there is one; or a step over an item
 pub data Position (A : Type 0) : Type 0 where
   mark : Address → Option A → Position A
   over : Position A
 
--- how many items are passed
+-- how many items are stepped over
 abbrev pub passed : {A : Type 0} → List (Position A) → ℕ
 passed [] = 0
 passed (mark address item ∷ positions_from) = passed positions_from
 passed (over ∷ positions_from) = suc (passed positions_from)
 
--- nothing is asked of an address, or just this item
+-- no item is required at an address, or exactly this one
 abbrev pub Asks : {A : Type 0} → Option A → Option A → Type 0
 Asks None item = Unit {0}
 Asks (Some x) item = item ≡ Some x
 
--- the address comes behind so many items; asked with `Some x`, the item x stands there
+-- the address comes after `place` items; if `asked` is `Some x`, the item x stands there
 abbrev pub IsAt : {A : Type 0} → Option A → Address → List (Position A) → ℕ → Type 0
 IsAt asked a [] place = ⊥
 IsAt asked a (mark b item ∷ positions_from) place = ((a ≡ b) × (place ≡ 0) × Asks asked item) ⊎ IsAt asked a positions_from place
 IsAt asked a (over ∷ positions_from) place = (rest : ℕ) × (place ≡ suc rest) × IsAt asked a positions_from rest
 
--- the addresses of a node from an offset on: each entry's, then those below the entry, and the one past the last
+-- the addresses of a node from an offset on: that of each entry, then those below the entry, and the one past the last
 abbrev pub positions_from : {A X : Type 0} → (X → A) → (X → List (Position A)) → (id offset : ℕ) → List X → List (Position A)
 positions_from key below id offset [] = mark (address_at id offset) None ∷ []
 positions_from key below id offset (entry ∷ entries) =
     mark (address_at id offset) (Some (key entry)) ∷ over ∷ (below entry ++ positions_from key below id (suc offset) entries)
 
--- the same without the one past the last
+-- the same without the one past the last entry
 abbrev pub positions_to : {A X : Type 0} → (X → A) → (X → List (Position A)) → (id offset : ℕ) → List X → List (Position A)
 positions_to key below id offset [] = []
 positions_to key below id offset (entry ∷ entries) =
@@ -61,7 +63,7 @@ module _ (A : Type 0) where
   abbrev pub branch_positions : (height : ℕ) → A × Shape A height → List (Position A)
   branch_positions height b = positions height b.1
 
-  -- the addresses of a node before its hole, and those behind it, which begin at an offset
+  -- the addresses of a node before its hole, and those after it, which begin at an offset
   abbrev pub positions_before : {height : ℕ} → Frame A height → List (Position A)
   positions_before {height} (at_first id back) = mark (address_before id) None ∷ []
   positions_before {height} (at_branch id first front x back) =
@@ -84,11 +86,11 @@ module _ (A : Type 0) where
   path_after {height} top = []
   path_after {height} (under frame path) = positions_after frame (frame_index frame) ++ path_after path
 
-  -- all addresses of a tree, seen from one of its nodes
+  -- all addresses of a tree, given as a focus
   abbrev pub all_positions : (height : ℕ) → Path A height → Shape A height → List (Position A)
   all_positions height path shape = path_before path ++ (positions height shape ++ path_after path)
 
--- each address is where the function sends it, behind as many items, and at its item if one stands there
+-- `moved` sends each address to one with the same number of items before it, and at the same item if one stands there
 abbrev pub KeepsPositions : {A : Type 0} → (Address → Address) → List (Position A) → List (Position A) → Type 0
 KeepsPositions {A} moved old new =
     (asked : Option A) (a : Address) (place : ℕ) → IsAt asked a old place → IsAt asked (moved a) new place

@@ -6,7 +6,7 @@ ghost use Rattle.std.specs.FinMap as map;
 
 use crate::SlabMut;
 
-/// Adds one to the value under `id`, if there is one that is not the greatest, and says whether it did.
+/// Adds one to the value under `id`, if there is one that is not the greatest, and returns whether it did.
 pub fn raise<S: SlabMut<u32>>(store: &mut S, id: usize) -> bool
     ensures raised { (n : ℕ) → map.get (S.content store.old) id ≡ Some n → IsTrue result →
         S.content store.new ≡ map.insert (S.content store.old) id (n + 1) }

@@ -7,10 +7,10 @@ drop-requires g c = let fits = c.well_formed in omega arith
 pub drop-requires-2 : goal.drop-requires-2
 drop-requires-2 g c = let fits = c.well_formed in omega arith
 
--- /work/h_up/crates/btree_node/out/rlib/btree_node.rlib/interface/lang/src/node.rt:8:32
+-- the derived drop of `Node` (btree_node/src/node.rt)
 pub returns : goal.returns
 returns g c = search rules steps 200000
 
--- /work/h_up/crates/btree_node/out/rlib/btree_node.rlib/interface/lang/src/node.rt:8:32
+-- the derived drop of `Node` (btree_node/src/node.rt)
 pub returns-2 : goal.returns-2
 returns-2 g c = search rules steps 200000

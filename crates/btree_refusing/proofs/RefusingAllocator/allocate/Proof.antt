@@ -1,4 +1,4 @@
--- `allocate` counts the call, and answers that there is no memory or what the allocator inside answers. Assumes `Logic`.
+-- `allocate` counts the call, and returns an error or what the inner allocator returns. Assumes `Logic`.
 use Rattle.std.proofs.Common.{◌≡◌, ℕ, ◌^◌, ◌<◌, Bool, true, false, List, [], ◌∷◌, Ok, Err, refl, w64, Bor}
 use seplogic.Ra.Ura.{Ura}
 use mir.Syntax.{Ty, Fn}
@@ -71,7 +71,7 @@ module _ (inner : Al) {M : Type 1} {𝓤 : Ura M} (𝓛 : Logic 𝓤) (at_mem : 
     abbrev Post : Val → SProp 𝓤
     Post = (walk_of 𝓛 (ended inner) (stayed inner) clauses).post entry
 
-    -- what is left at a return is what the contract wants there
+    -- what is left at a return is what the contract requires there
     ends : (found : Bool) (b o : ℕ) → Sq 𝓛 (‵ (got (token inner self.now.inner) τ found b o) ∷ ‵ (flft borrow q) ∷ (‵ (flft lives q') ⊛ ‵ ftrue) ∷ []) (prop (Post (answer_val found b o)))
     ends true b o =
         suffices ! _ (ends_at 𝓛 (ended inner) (stayed inner) clauses entry (answer_val true b o) (Ok (block_ptr b o)) (tt, (tt, (tt, tt))) (tt, (tt, (tt, tt)))) $

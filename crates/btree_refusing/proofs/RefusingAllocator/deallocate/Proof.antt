@@ -1,4 +1,4 @@
--- `deallocate` hands the block to the allocator inside. Assumes `Logic`.
+-- `deallocate` passes the block to the inner allocator. Assumes `Logic`.
 use Rattle.std.proofs.Common.{◌≡◌, ℕ, ◌^◌, ◌<◌, List, [], ◌∷◌, refl, w64, Bor}
 use seplogic.Ra.Ura.{Ura}
 use mir.Syntax.{Ty, Fn}

@@ -1,4 +1,4 @@
--- `new` makes a value of no bytes, whose count is 0.
+-- `new` makes a value without bytes, with the count 0.
 use Rattle.std.proofs.Common.{[], ◌∷◌, refl}
 use Rattle.std.proofs.raw_atomic.Walks.{proved}
 use base.Fml.{Fml, ftrue}
@@ -31,7 +31,7 @@ new_spec 𝓤 𝓛 𝓜 𝓡 wired =
     let owned : Fml = steps_row.own_val fresh (v ∷ []) in
     qed 𝓛 ((‵ ftrue ⊛ ‵ ftrue) ∷ ‵ ftrue ∷ []) ∵ keep ! [] $
     enter ! _ _ _ _ _ $ alloc_all ! (λ l. pass_all ! refl tt $
-    -- the two writes of the body: the marker, and the struct round it
+    -- the two writes of the body: the marker, and the struct around it
     sets ! (agg ! (no_more !)) refl (tt, tt) $
     sets ! (agg ! (and_then ! (get ! refl) (no_more !))) refl (tt, (tt, tt)) $
     returns ! (look_at ! 0 refl) $ free_all ! refl $

@@ -1,4 +1,4 @@
--- `tick` writes no bytes, and raises the count by one.
+-- `tick` writes no bytes, and adds one to the count.
 use Rattle.std.proofs.Common.{◌+◌, [], ◌∷◌, refl}
 use Rattle.std.proofs.raw_atomic.Walks.{proved}
 use base.Fml.{ftrue, flft}
