@@ -1,4 +1,4 @@
-//! A map in use: the stock of parts, by their numbers.
+//! A map in use: a stock of parts, by part number.
 #![tactic(auto)]
 
 ghost use Rattle.std.specs.Prelude.{◌≡◌, ◌+◌, OnOk, OnErr, unwrap_or};
@@ -11,9 +11,9 @@ use btree_slab::generic::map::Refused;
 use std::alloc::AllocError;
 use std::io;
 
-/// Puts a part into the stock, or replaces its count.
+/// Sets how many of a part are in stock.
 ///
-/// A caller knows from the map's contract what the stock holds afterwards, and that nothing is lost if memory is refused.
+/// The map's contract says what the stock holds afterwards, and that a refused insertion changes nothing.
 fn set_stock(stock: &mut BTreeMap<u32, u64>, part: u32, count: u64) -> Result<(), Refused<u32, u64>>
     ensures set { OnOk result (pairs_of stock.new ≡ inserted nat_cmp part count (pairs_of stock.old)) }
     ensures kept { OnErr result (pairs_of stock.new ≡ pairs_of stock.old) }
@@ -22,7 +22,7 @@ fn set_stock(stock: &mut BTreeMap<u32, u64>, part: u32, count: u64) -> Result<()
     Ok(())
 }
 
-/// Returns how many of a part there are, or 0 if it was never in stock.
+/// How many of a part are in stock, and 0 for a part that was never there.
 fn in_stock(stock: &BTreeMap<u32, u64>, part: u32) -> u64
     ensures { result ≡ unwrap_or (found_value nat_cmp part (pairs_of stock.now)) 0 }
 {
