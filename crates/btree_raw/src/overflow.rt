@@ -5,7 +5,7 @@ ghost use Rattle.btree_shape.specs.TreeState.{Changes, node_map};
 ghost use Rattle.btree_raw.specs.Steps.{CanSplitInto, CanGrowRoot, HasCount, CanAddSeparator, AddsSeparator, IsSplitting, SplitsUpward};
 
 use crate::claims::ClaimedIds;
-use crate::nodes::{add_item, put, set_parent, reparent_children, split_node};
+use crate::nodes::{add_item, put, reparent_children, set_parent, split_node};
 use crate::raw::RawBTree;
 use btree_item::{Address, INTERNAL_SLOTS, Item};
 use btree_moved::moved_by_split;

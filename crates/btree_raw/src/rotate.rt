@@ -7,7 +7,7 @@ ghost use Rattle.btree_shape.specs.Step.{Reparents};
 ghost use Rattle.btree_shape.specs.TreeState.{Changes, IsUsed, node_map};
 ghost use Rattle.btree_raw.specs.NodeSteps.{MergesSiblings, CanGiveItem, RotatesSiblingsLeft, RotatesSiblingsRight, HasRoomFor, HasRoomForAll, HasSeparator, LosesFirst, LosesLast, ChangesSeparator, GainsFirst, GainsLast, GainsAll, LosesSeparator, ClearsParent, CanRotateLeft, CanRotateRight, CanMerge, CanShrinkRoot, IsThere};
 
-use crate::nodes::{set_parent, reparent_children};
+use crate::nodes::{reparent_children, set_parent};
 use crate::raw::RawBTree;
 use btree_item::{Item, Offset};
 use btree_moved::Siblings;

@@ -134,10 +134,10 @@ module _ {K V : Type 0} (cmp : K → K → Ordering) where
         let d = descend A node_at [] root xs h f c t w z in
         let e = height-fits A c (fill f t) w z in
         let seen : HasFocus A node_at [] root xs (id_of A h t) =
-        record { height = h; path = under f c; shape = t; here = refl; whole = d.0; } in
-        let node : IsNode A node_at root xs (id_of A h t) = record { seen = seen; sized = d.1; } in
+        record { height = h; path = under f c; shape = t; here = refl; whole = d.0 } in
+        let node : IsNode A node_at root xs (id_of A h t) = record { seen = seen; sized = d.1 } in
         record {
-          next = record { node = node; low = low; high = high; };
+          next = record { node = node; low = low; high = high };
           smaller =
               let u = levels-is A node_at h (length xs) (Some (frame_id f)) t (omega arith) d.0.inner in
               let v = levels-is A node_at (suc h) (length xs) (parent_above c) (fill f t) (omega arith) w.inner in

@@ -121,8 +121,8 @@ module _ (A : Type 0) where
             whole = respare A node_at spare [] root xs g.seen.height g.seen.path g.seen.shape
                 (none-listed spare (g.none c)) g.seen.whole;
           } in
-          let node : IsNode A node_at root xs id = record { seen = seen; sized = (g.low, c); } in
-          record { id = id; node = node; there = g.there; paid = g.paid; }
+          let node : IsNode A node_at root xs id = record { seen = seen; sized = (g.low, c) } in
+          record { id = id; node = node; there = g.there; paid = g.paid }
 
       pub grows-over : most_of v < size_of v → count_at A g.seen.height g.seen.shape ≡ suc (most_at g.seen.height)
       grows-over lt = let s = size-is in let l = most-is in let u = g.high in omega arith
@@ -309,7 +309,7 @@ module _ (A : Type 0) where
                       let st2 : strain_of A h (under f c) t ≡ strain_of A h (under f c) (join A h l x r) =
                       ap (strain_of A h (under f c)) q.joined in
                       let seen : HasFocus A new rest root xs (frame_id f) =
-                      record { height = suc h; path = c; shape = fill_two f l x r; here = fill_two-id A h f l x r; whole = w'; } in
+                      record { height = suc h; path = c; shape = fill_two f l x r; here = fill_two-id A h f l x r; whole = w' } in
                       record {
                         seen = seen;
                         low = omega arith;
@@ -366,6 +366,6 @@ module _ (A : Type 0) where
                   let st2 : strain_of A h top t ≡ strain_of A h top (join A h l x b) =
                   ap (strain_of A h top) k.joined in
                   let seen : HasFocus A new [] r xs r =
-                  record { height = suc h; path = top; shape = (r, l, (x, b) ∷ []); here = refl; whole = w2; } in
-                  let node : IsNode A new r xs r = record { seen = seen; sized = (omega arith, omega arith); } in
-                  record { id = r; node = node; there = carried2; paid = omega arith; }
+                  record { height = suc h; path = top; shape = (r, l, (x, b) ∷ []); here = refl; whole = w2 } in
+                  let node : IsNode A new r xs r = record { seen = seen; sized = (omega arith, omega arith) } in
+                  record { id = r; node = node; there = carried2; paid = omega arith }

@@ -171,8 +171,8 @@ module _ (A : Type 0) (node_at : NodeMap A) (root : ℕ) (xs : List A) (id : ℕ
                   let r2 = subst (λ z. ShrinksRoot node_at new z (id_of A h u)) (sym here) r in
                   let there = release-places A h n u sum asked a place th in
                   let seen : HasFocus A new [] (id_of A h u) xs (id_of A h u) =
-                  record { height = h; path = top; shape = u; here = refl; whole = released A node_at new xs n h u w2 (id_of A h u) r2; } in
-                  let node_is : IsNode A new (id_of A h u) xs (id_of A h u) = record { seen = seen; sized = (omega arith, below.1); } in
+                  record { height = h; path = top; shape = u; here = refl; whole = released A node_at new xs n h u w2 (id_of A h u) r2 } in
+                  let node_is : IsNode A new (id_of A h u) xs (id_of A h u) = record { seen = seen; sized = (omega arith, below.1) } in
                   record {
                     id = id_of A h u;
                     node = node_is;
