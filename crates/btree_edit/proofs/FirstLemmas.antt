@@ -61,13 +61,13 @@ module _ {K V : Type 0} (cmp : K → K → Ordering) (old mid put : TreeState K 
   calm : strain_under (node_map new) root (root ∷ []) ≡ 0
   calm = rw here (let s = full-yes root root 0 3 refl in omega arith)
 
-  is-paid : map.len old.nodes ≡ 0 → map.len new.nodes ≡ 1 → IsWithinStrain old new
-  is-paid old_len new_len = record {
+  is-within : map.len old.nodes ≡ 0 → map.len new.nodes ≡ 1 → IsWithinStrain old new
+  is-within old_len new_len = record {
     before = 0;
     after = 0;
     strain_before = subst (λ t. IsStrain (node_map old) t 0) (sym empty) refl;
     strain_after = (root ∷ [], used-new, sym calm);
-    paid = omega arith;
+    within_strain = omega arith;
   }
 
   pub first-inserted : IsInserted cmp old new a b x
@@ -87,6 +87,6 @@ module _ {K V : Type 0} (cmp : K → K → Ordering) (old mid put : TreeState K 
         item = rw b_is (ap (λ v. item_in v 0) here);
         longer = omega arith;
         nodes = rw empty (omega arith);
-        strain = is-paid old_len new_len;
+        strain = is-within old_len new_len;
         uncounted = same-refusals changes.rest ∙ ap (λ (s : TreeState K V). s.refusals) claimed;
       }

@@ -94,6 +94,6 @@ module _ {K V : Type 0} (cmp : K → K → Ordering) (laws : IsTotalOrder cmp) (
             let e = is.nodes in
             let n = need-levels cmp old tree a gap.in_leaf levels are in
             omega arith;
-        paid = λ none. is.strain;
+        within_strain = λ none. is.strain;
         present = λ some. absurd (not-both (found cmp k xs) some absent);
       }

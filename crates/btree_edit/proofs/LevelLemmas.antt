@@ -6,14 +6,14 @@ use Rattle.btree_item.specs.declared.address.Address.{Address}
 use Rattle.btree_view.specs.View.{View, NodeMap, leaf, internal}
 use Rattle.btree_shape.specs.Need.{need}
 use Rattle.btree_shape.specs.Place.{IsLeaf, IsLeafAddress}
-use Rattle.btree_shape.specs.Focus.Shape.{count_at}
+use Rattle.btree_shape.specs.Focus.Subtree.{count_at}
 use Rattle.btree_shape.specs.TreeState.{TreeState, HasLevels, HasLevelsUnder, IsBTree, IsLeafAddressIn, node_map, nodes_needed, pairs_of}
 use Rattle.btree_shape.specs.WellFormed.{IsSized, IsWellFormed, times_used}
 use Rattle.btree_shape.proofs.Splits.Need.{split_need-node}
 use Rattle.btree_shape.proofs.Paths.Levels.{levels-rooted}
 use Rattle.btree_shape.proofs.Underflow.Order.{one-height}
 use Rattle.btree_shape.proofs.Paths.FromRoot.{node-at}
-use Rattle.btree_shape.proofs.Paths.UnsizedFocus.{whole-standing}
+use Rattle.btree_shape.proofs.Paths.UnsizedFocus.{focus-unsized}
 use Rattle.btree_shape.proofs.Trees.States.{height_held}
 use Rattle.btree_raw.proofs.NeedLemmas.{path_need_from-few}
 
@@ -31,10 +31,10 @@ module _ {K V : Type 0} (cmp : K → K → Ordering) (s : TreeState K V) where
         let node_at : NodeMap (K × V) = node_map s in
         let xs : List (K × V) = pairs_of s in
         let n = node-at (K × V) node_at root xs w.formed id (leaf-used node_at (node_at id) in_leaf) in
-        let t = whole-standing (K × V) node_at [] root xs n.seen.height n.seen.path n.seen.shape n.seen.whole in
-        let d = levels-rooted (K × V) node_at root xs (IsSized root) w.formed n.seen.height n.seen.path n.seen.shape t in
+        let t = focus-unsized (K × V) node_at [] root xs n.focus.height n.focus.path n.focus.subtree n.focus.whole in
+        let d = levels-rooted (K × V) node_at root xs (IsSized root) w.formed n.focus.height n.focus.path n.focus.subtree t in
         let e = one-height node_at root xs w.formed.height are.0 w.formed.represents are.1 in
-        let f = path_need_from-few (K × V) n.seen.height n.seen.path (count_at (K × V) n.seen.height n.seen.shape) in
+        let f = path_need_from-few (K × V) n.focus.height n.focus.path (count_at (K × V) n.focus.height n.focus.subtree) in
         let h = height_held s (IsSized root) root xs w.formed in
         let k = split_need-node (K × V) node_at root xs id n (map.len s.nodes) (omega arith) in
         let l = are.2 in

@@ -20,14 +20,14 @@ use Rattle.btree_shape.specs.TreeState.{TreeState, Changes, IsBTree, IsPlaceIn, 
 use Rattle.btree_shape.specs.WellFormed.{IsSized, IsWellFormed, times_used}
 use Rattle.btree_shape.proofs.Trees.Numbers.{less-or, listed-append, same-or, used-low, used-one}
 use Rattle.btree_shape.proofs.Places.OnePlace.{one_place-well}
-use Rattle.btree_shape.proofs.Splits.Insertion.{leaf-grows, repaired-well, repaired-address, repaired-paid, repaired-rooted}
+use Rattle.btree_shape.proofs.Splits.Insertion.{leaf-overflow, repaired-well, repaired-address, repaired-within, repaired-rooted}
 use Rattle.btree_shape.proofs.Trees.Stores.{used-view, len-views}
 use Rattle.btree_shape.proofs.Trees.States.{height_held, is-tree, pairs-tree}
-use Rattle.btree_raw.proofs.ClaimLemmas.{claims-low, claims-seen}
+use Rattle.btree_raw.proofs.ClaimLemmas.{claims-low, claims-focus}
 use Rattle.btree_raw.proofs.UpwardLemmas.{split_need-done, split_need-left, split_need-start}
 use Rattle.btree_raw.proofs.StateLemmas.{same-len, same-refusals, same-root}
 use Rattle.btree_raw.specs.Claimed.{AreClaimed}
-use Rattle.btree_raw.specs.Steps.{AddsItem, AreSplit, CanTake, IsSplitting, SplitsUpward}
+use Rattle.btree_raw.specs.Steps.{AddsItem, AreSplit, CanAddItem, IsSplitting, SplitsUpward}
 use Rattle.btree_edit.specs.Insert.{IsGapFor, IsInserted, IsWithinStrain}
 
 module _ {K V : Type 0} where
@@ -106,7 +106,7 @@ module _ {K V : Type 0} (cmp : K → K → Ordering) (laws : IsTotalOrder cmp) (
   -- after the claims, and with the pair in the leaf
   module _ (ids : List ℕ) (mid : TreeState K V) (claimed : AreClaimed old mid ids) (count : length ids ≡ nodes_needed old a.id) where
     claims : Claims node_at (node_map mid) ids
-    claims = subst (λ m. Claims node_at (views m) ids) (sym claimed.claimed.after) (claims-seen old.nodes ids claimed.claimed.claims)
+    claims = subst (λ m. Claims node_at (views m) ids) (sym claimed.claimed.after) (claims-focus old.nodes ids claimed.claimed.claims)
 
     leaf-kept : node_map mid a.id ≡ Some (leaf the-leaf.parent the-leaf.items)
     leaf-kept =
@@ -118,8 +118,8 @@ module _ {K V : Type 0} (cmp : K → K → Ordering) (laws : IsTotalOrder cmp) (
     same-top : mid.root ≡ Some root
     same-top = same-root claimed.rest ∙ is
 
-    pub can-take : (index : ℕ) → Some index ≡ a.offset → CanTake (node_map mid) a.id index None
-    can-take index at = subst (λ n. CanTake (node_map mid) a.id n None) (index-is index at)
+    pub can-take : (index : ℕ) → Some index ≡ a.offset → CanAddItem (node_map mid) a.id index None
+    can-take index at = subst (λ n. CanAddItem (node_map mid) a.id n None) (index-is index at)
         (record { node = leaf the-leaf.parent the-leaf.items; here = leaf-kept; room = the-leaf.few; within = the-leaf.within; kind = refl })
 
     module _ (put : TreeState K V) (index : ℕ) (offset : Some index ≡ a.offset) (adds : Changes (λ p q. AddsItem p q a.id index (k, w) None) mid put) where
@@ -137,14 +137,14 @@ module _ {K V : Type 0} (cmp : K → K → Ordering) (laws : IsTotalOrder cmp) (
           let slot_is : address_at a.id the-leaf.index ≡ a = ap (λ o. record { id = a.id; offset = o }) (sym the-leaf.offset) in
           let enough : length ids ≡ need node_at (Some root) (map.len old.nodes) a.id = count ∙ ap (λ t. need node_at t (map.len old.nodes) a.id) is in
           subst (λ b. MayOverflowAt (K × V) (node_map put) root (insert pairs gap.place (k, w)) a.id ids (Some (k, w)) b gap.place 0 bound) slot_is
-          (leaf-grows cmp laws node_at root old.len pairs well (node_map mid) (node_map put) a.id the-leaf.parent the-leaf.items the-leaf.index gap.place (k, w) ids the-leaf.here the-leaf.within the-leaf.place
+          (leaf-overflow cmp laws node_at root old.len pairs well (node_map mid) (node_map put) a.id the-leaf.parent the-leaf.items the-leaf.index gap.place (k, w) ids the-leaf.here the-leaf.within the-leaf.place
           (map.len old.nodes) (height_held old (IsSized root) root pairs well.formed) claims enough writes_node)
 
       put-top : put.root ≡ Some root
       put-top = same-root adds.rest ∙ same-top
 
       pub splitting : IsSplitting (node_map put) put.root a.id ids a
-      splitting = record { top = root; at_root = put-top; xs = insert pairs gap.place (k, w); asked = Some (k, w); place = gap.place; gained = 0; bound = bound; overflow = overflow }
+      splitting = record { top = root; at_root = put-top; xs = insert pairs gap.place (k, w); expected = Some (k, w); place = gap.place; allocated = 0; bound = bound; overflow = overflow }
 
       abbrev repaired-leaf : View (K × V)
       repaired-leaf = with_item the-leaf.index (k, w) None (leaf the-leaf.parent the-leaf.items)
@@ -202,12 +202,12 @@ module _ {K V : Type 0} (cmp : K → K → Ordering) (laws : IsTotalOrder cmp) (
         end-pairs : pairs_of ended ≡ insert pairs gap.place (k, w)
         end-pairs = pairs-tree cmp ended ended.len (insert pairs gap.place (k, w)) end-well
 
-        is-paid : IsWithinStrain old ended
-        is-paid =
+        is-within : IsWithinStrain old ended
+        is-within =
             let rooted = repaired-rooted (K × V) (node_map new) s.split.top (insert pairs gap.place (k, w)) (Some (k, w)) b gap.place (0 + length ids) bound repaired in
             let all : List ℕ = numbers_under (node_map new) rooted.height s.split.top in
             let each : (n : ℕ) → times_listed n all ≡ times_used (node_map new n) = rooted.once in
-            let paid = repaired-paid (K × V) (node_map new) s.split.top (insert pairs gap.place (k, w)) (Some (k, w)) b gap.place (0 + length ids) bound repaired in
+            let within_strain = repaired-within (K × V) (node_map new) s.split.top (insert pairs gap.place (k, w)) (Some (k, w)) b gap.place (0 + length ids) bound repaired in
             let l1 = len-views new.nodes (numbers_under node_at well.formed.height root ++ ids) listed in
             let l2 = len-views old.nodes (numbers_under node_at well.formed.height root) was-listed in
             let l3 = length-append (numbers_under node_at well.formed.height root) ids in
@@ -216,7 +216,7 @@ module _ {K V : Type 0} (cmp : K → K → Ordering) (laws : IsTotalOrder cmp) (
               after = strain_under (node_map new) s.split.top all;
               strain_before = subst (λ t. IsStrain node_at t (strain_under node_at root (numbers_under node_at well.formed.height root))) (sym is) (numbers_under node_at well.formed.height root, was-listed, refl);
               strain_after = subst (λ t. IsStrain (node_map new) t (strain_under (node_map new) s.split.top all)) (sym s.split.at_root) (all, each, refl);
-              paid = omega arith;
+              within_strain = omega arith;
             }
 
         pub more-inserted : IsInserted cmp old ended a b (k, w)
@@ -239,7 +239,7 @@ module _ {K V : Type 0} (cmp : K → K → Ordering) (laws : IsTotalOrder cmp) (
               item = ap (option_and_then (item_in (node_map new b.id))) i.1 ∙ i.2;
               longer = ap (λ n. n + 1) (s.len ∙ (same-len adds.rest ∙ same-len claimed.rest));
               nodes = omega arith;
-              strain = is-paid;
+              strain = is-within;
               uncounted = s.uncounted ∙ (same-refusals adds.rest ∙ same-refusals claimed.rest);
             }
 

@@ -21,7 +21,7 @@ pub record IsWithinStrain {K V : Type 0} (old new : TreeState K V) : Type 0 wher
   pub after : ℕ
   pub strain_before : HasStrain old before
   pub strain_after : HasStrain new after
-  pub paid : map.len new.nodes + after ≤ map.len old.nodes + (before + 1)
+  pub within_strain : map.len new.nodes + after ≤ map.len old.nodes + (before + 1)
 
 module _ {K V : Type 0} (cmp : K → K → Ordering) where
   -- a back address in a leaf, or nowhere in the empty tree, with a place that the key fits
@@ -64,7 +64,7 @@ module _ {K V : Type 0} (cmp : K → K → Ordering) (k : K) (old new : TreeStat
   pub record InsertsByKey (value : V) : Type 0 where
     pub absent : found cmp k (pairs_of old) ≡ None → (a : Address) × IsGapAt cmp k old a × (map.len new.nodes ≡ map.len old.nodes + nodes_needed old a.id)
     pub few : (levels : ℕ) → HasLevels old levels → map.len new.nodes ≤ map.len old.nodes + (levels + 1)
-    pub paid : found cmp k (pairs_of old) ≡ None → IsWithinStrain old new
+    pub within_strain : found cmp k (pairs_of old) ≡ None → IsWithinStrain old new
     pub present : IsSome (found cmp k (pairs_of old)) → (was : V) × ExchangesValueAt was value
 
   -- an insertion by key was refused at the gap of the key

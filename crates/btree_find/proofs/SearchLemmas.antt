@@ -17,7 +17,7 @@ use Rattle.btree_shape.specs.TreeState.{TreeState, IsBTree, node_map, pairs_of}
 use Rattle.btree_shape.specs.WellFormed.{IsWellFormed}
 use Rattle.btree_shape.proofs.LookUp.Descent.{Down, get-after, search-start, search-ascends, search-down}
 use Rattle.btree_shape.proofs.LookUp.Ends.{search-hit, search-miss}
-use Rattle.btree_shape.proofs.Paths.Used.{seen-used}
+use Rattle.btree_shape.proofs.Paths.Used.{focus-used}
 use Rattle.btree_shape.proofs.LookUp.KeyInList.{Rises, rises, searched}
 use Rattle.btree_find.specs.Answers.{IsFoundAt, IsGapAt}
 use Rattle.btree_shape.proofs.Trees.ValidPlaces.{place-valid}
@@ -76,7 +76,7 @@ module _ {K V : Type 0} (cmp : K → K → Ordering) (k : K) (laws : IsTotalOrde
 
     module _ (id : ℕ) (q : IsSearching cmp k node_at root pairs id) where
       pub node-used : IsSome (nodes_map.get s.nodes id)
-      node-used = used-view s.nodes id (seen-used (K × V) node_at root pairs id q.node)
+      node-used = used-view s.nodes id (focus-used (K × V) node_at root pairs id q.node)
 
       module _ (node : Node K V) (at : nodes_map.get s.nodes id ≡ Some node) where
         here : node_at id ≡ Some (view_of node)

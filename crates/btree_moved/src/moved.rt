@@ -7,8 +7,8 @@ ghost use Rattle.btree_shape.specs.Moved as moved;
 use crate::Siblings;
 use btree_item::{Address, Offset};
 
-fn down_to(child: Option<usize>, other: Address) -> Address
-    ensures { result ≡ moved.down_to child other }
+fn before_child_or(child: Option<usize>, other: Address) -> Address
+    ensures { result ≡ moved.before_child_or child other }
 {
     match child {
         Some(child) => Address::new(child, Offset::before()),
@@ -25,7 +25,7 @@ fn at_separator(offset: Offset, siblings: Siblings, to: Address) -> Address
     }
 }
 
-fn in_right_giver(
+fn right_after_lending(
     offset: Offset,
     right: usize,
     parent: usize,
@@ -33,12 +33,12 @@ fn in_right_giver(
     child: Option<usize>,
 ) -> Address
     requires { index < usize.MAX }
-    ensures { result ≡ moved.in_right_giver right parent index child offset }
+    ensures { result ≡ moved.right_after_lending right parent index child offset }
 {
     match offset.value() {
         Some(0) => Address::new(parent, Offset::from(index)),
         Some(offset) => Address::new(right, Offset::from(offset - 1)),
-        None => down_to(child, Address::new(parent, Offset::from(index))),
+        None => before_child_or(child, Address::new(parent, Offset::from(index))),
     }
 }
 
@@ -55,7 +55,7 @@ pub fn moved_by_rotate_left(
     ensures { result ≡ between moved.moved_by_rotate_left siblings count child addr }
 {
     if addr.id == siblings.right {
-        in_right_giver(
+        right_after_lending(
             addr.offset,
             siblings.right,
             siblings.parent,
@@ -73,9 +73,9 @@ pub fn moved_by_rotate_left(
     }
 }
 
-fn in_left_giver(offset: Offset, siblings: Siblings, count: usize) -> Address
+fn left_after_lending(offset: Offset, siblings: Siblings, count: usize) -> Address
     requires { siblings.index < usize.MAX }
-    ensures { result ≡ between moved.in_left_giver siblings count offset }
+    ensures { result ≡ between moved.left_after_lending siblings count offset }
 {
     let Siblings {
         parent,
@@ -90,13 +90,13 @@ fn in_left_giver(offset: Offset, siblings: Siblings, count: usize) -> Address
     }
 }
 
-fn in_right_receiver(offset: Offset, right: usize, child: Option<usize>) -> Address
+fn right_after_borrowing(offset: Offset, right: usize, child: Option<usize>) -> Address
     requires { IfSome offset (λ n. n + 1 < usize.MAX) }
-    ensures { result ≡ moved.in_right_receiver right child offset }
+    ensures { result ≡ moved.right_after_borrowing right child offset }
 {
     match offset.value() {
         Some(offset) => Address::new(right, Offset::from(offset + 1)),
-        None => down_to(child, Address::new(right, Offset::from(1))),
+        None => before_child_or(child, Address::new(right, Offset::from(1))),
     }
 }
 
@@ -113,9 +113,9 @@ pub fn moved_by_rotate_right(
     ensures { result ≡ between moved.moved_by_rotate_right siblings count child addr }
 {
     if addr.id == siblings.left {
-        in_left_giver(addr.offset, siblings, count)
+        left_after_lending(addr.offset, siblings, count)
     } else if addr.id == siblings.right {
-        in_right_receiver(addr.offset, siblings.right, child)
+        right_after_borrowing(addr.offset, siblings.right, child)
     } else if addr.id == siblings.parent {
         at_separator(
             addr.offset,
@@ -127,20 +127,20 @@ pub fn moved_by_rotate_right(
     }
 }
 
-fn in_merged(offset: Offset, left: usize, count: usize, child: Option<usize>) -> Address
+fn right_after_merge(offset: Offset, left: usize, count: usize, child: Option<usize>) -> Address
     requires count { count + 1 < usize.MAX }
     requires offset { IfSome offset (λ n. n + count + 1 < usize.MAX) }
-    ensures { result ≡ moved.in_merged left count child offset }
+    ensures { result ≡ moved.right_after_merge left count child offset }
 {
     match offset.value() {
         Some(offset) => Address::new(left, Offset::from(count + 1 + offset)),
-        None => down_to(child, Address::new(left, Offset::from(count + 1))),
+        None => before_child_or(child, Address::new(left, Offset::from(count + 1))),
     }
 }
 
-fn over_merged(offset: Offset, siblings: Siblings, count: usize) -> Address
+fn parent_after_merge(offset: Offset, siblings: Siblings, count: usize) -> Address
     requires { count < usize.MAX }
-    ensures { result ≡ moved.over_merged siblings.left siblings.parent siblings.index count offset }
+    ensures { result ≡ moved.parent_after_merge siblings.left siblings.parent siblings.index count offset }
 {
     let Siblings {
         parent,
@@ -167,17 +167,17 @@ pub fn moved_by_merge(
     ensures { result ≡ between moved.moved_by_merge siblings count child addr }
 {
     if addr.id == siblings.right {
-        in_merged(addr.offset, siblings.left, count, child)
+        right_after_merge(addr.offset, siblings.left, count, child)
     } else if addr.id == siblings.parent {
-        over_merged(addr.offset, siblings, count)
+        parent_after_merge(addr.offset, siblings, count)
     } else {
         addr
     }
 }
 
-fn in_shrunk_root(offset: Offset, child: usize, count: usize) -> Address
+fn root_after_shrinking(offset: Offset, child: usize, count: usize) -> Address
     requires { count < usize.MAX }
-    ensures { result ≡ moved.in_shrunk_root child count offset }
+    ensures { result ≡ moved.root_after_shrinking child count offset }
 {
     match offset.value() {
         Some(_offset) => Address::new(child, Offset::from(count)),
@@ -191,7 +191,7 @@ pub fn moved_by_shrink_root(addr: Address, root: usize, child: usize, count: usi
     ensures { result ≡ moved.moved_by_shrink_root root child count addr }
 {
     if addr.id == root {
-        in_shrunk_root(addr.offset, child, count)
+        root_after_shrinking(addr.offset, child, count)
     } else {
         addr
     }

@@ -5,7 +5,7 @@ ghost use Rattle.btree_shape.specs.Moved as moved;
 use btree_item::{Address, Offset};
 
 // Returns the new address of an offset of a node that was split and has kept `kept` items.
-fn in_split(
+fn node_after_split(
     offset: Offset,
     left: usize,
     right: usize,
@@ -14,7 +14,7 @@ fn in_split(
     kept: usize,
 ) -> Address
     requires { index < usize.MAX }
-    ensures { result ≡ moved.in_split left right parent index kept offset }
+    ensures { result ≡ moved.node_after_split left right parent index kept offset }
 {
     match offset.value() {
         Some(offset) if offset == kept => Address::new(parent, Offset::from(index)),
@@ -24,9 +24,9 @@ fn in_split(
 }
 
 // Returns the new address of an offset of a node that has one item more, at the index.
-fn over_split(offset: Offset, parent: usize, index: usize) -> Address
+fn parent_after_split(offset: Offset, parent: usize, index: usize) -> Address
     requires { IfSome offset (λ n. n + 1 < usize.MAX) }
-    ensures { result ≡ moved.over_split parent index offset }
+    ensures { result ≡ moved.parent_after_split parent index offset }
 {
     match offset.value() {
         Some(offset) if index <= offset => Address::new(parent, Offset::from(offset + 1)),
@@ -49,9 +49,9 @@ pub fn moved_by_split(
     ensures { result ≡ moved.moved_by_split left right parent index kept addr }
 {
     if addr.id == left {
-        in_split(addr.offset, left, right, parent, index, kept)
+        node_after_split(addr.offset, left, right, parent, index, kept)
     } else if addr.id == parent {
-        over_split(addr.offset, parent, index)
+        parent_after_split(addr.offset, parent, index)
     } else {
         addr
     }

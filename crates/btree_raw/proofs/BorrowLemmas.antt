@@ -20,12 +20,12 @@ use Rattle.btree_shape.proofs.Places.Backs.{merge-back, rotate-left-back, rotate
 use Rattle.btree_shape.proofs.Paths.Frames.{one-other, one-self}
 use Rattle.btree_shape.proofs.Trees.Numbers.{same-node, same-or, used-mapped, used-one, zero-or}
 use Rattle.btree_raw.specs.NodeSteps.{AreSiblings, MergesSiblings, CanGiveItem, CanMerge, CanRotateLeft, CanRotateRight, RotatesSiblingsLeft, RotatesSiblingsRight}
-use Rattle.btree_raw.specs.Underflow.{AreAdjacent, HaveFew, Underflows, PassesUnderflowUp, EndsUnderflow, IsFollowed}
+use Rattle.btree_raw.specs.Underflow.{AreAdjacent, FitTogether, Underflows, PassesUnderflowUp, EndsUnderflow, IsFollowed}
 use Rattle.btree_raw.specs.Steps.{HasCount}
 use Rattle.btree_raw.proofs.UpwardLemmas.{back-some, some-back}
 use Rattle.btree_raw.proofs.StepLemmas.{size-at}
-use Rattle.btree_shape.proofs.Underflow.Adjacent.{Beside}
-use Rattle.btree_shape.proofs.Underflow.Upward.{shrinks-node, to-over}
+use Rattle.btree_shape.proofs.Underflow.Adjacent.{AdjacentSteps}
+use Rattle.btree_shape.proofs.Underflow.Upward.{underflow-node, to-over}
 use Rattle.btree_shape.specs.Need.{levels_above}
 
 pub first-at : {K V : Type 0} (nodes : Content (Node K V)) (id : ℕ) (node : Node K V) (o : Option ℕ) → nodes_map.get nodes id ≡ Some node
@@ -39,7 +39,7 @@ first-at {K} {V} nodes id node o at is = ap (λ n. option_map first_in (option_m
 -- the node at which an underflow fix that follows an address is
 module _ {A : Type 0} (node_at : NodeMap A) (id : ℕ) (a : Address) (s : IsFollowed node_at id a) where
   pub followed-node : (v : View A) × (node_at id ≡ Some v)
-  followed-node = (_, shrinks-node A node_at s.root s.xs id s.asked a s.place s.given s.bound s.underflow)
+  followed-node = (_, underflow-node A node_at s.root s.xs id s.expected a s.place s.freed s.bound s.underflow)
 
   pub followed-under : (o : Option ℕ) → option_map parent_of (node_at id) ≡ Some o → parent_of followed-node.0 ≡ o
   followed-under o under = let q : Some (parent_of followed-node.0) ≡ Some o = sym (ap (option_map parent_of) followed-node.1) ∙ under in cc
@@ -75,7 +75,7 @@ module _ {A : Type 0} where
   -- a merge frees one number
   merge-used : (node_at new : NodeMap A) (p s l r : ℕ) → (l ≢ r) × (l ≢ p) × (r ≢ p) → Merges node_at new p s l r → (n : ℕ) → times_used (node_at n) ≡ times_used (new n) + one n r
   merge-used node_at new p s l r apart w n = elim (same-or n r) [
-    | inl e ↦ rw e (let a = used-one (node_at r) w.high w.at_right in let b = ap times_used w.gone in let c = one-self r in omega arith)
+    | inl e ↦ rw e (let a = used-one (node_at r) w.high w.at_right in let b = ap times_used w.removed in let c = one-self r in omega arith)
     | inr nr ↦ let o = one-other n r nr in elim (same-or n p) [
       | inl e ↦ let u = both-used node_at new p w.top w.new_top w.at_parent w.new_parent in let q = subst (λ k. one k r ≡ 0) e o in rw e (omega arith)
       | inr np ↦ elim (same-or n l) [
@@ -96,19 +96,19 @@ module _ {A : Type 0} (node_at : NodeMap A) (siblings : Siblings) (id : ℕ) (a 
   short-up = followed-under node_at id a s.followed (Some siblings.parent) s.under
 
   -- what holds for the two in whatever tree they are
-  adjacent : (root : ℕ) (xs : List A) (asked : Option A) (place given bound : ℕ) → MayUnderflowAt A node_at root xs id asked a place given bound
-      → Beside A node_at root xs asked a place given bound siblings.parent siblings.index siblings.left siblings.right
-  adjacent root xs asked place given bound g =
-      let o = to-over A node_at root xs id asked a place given bound g short-node.0 short-node.1 siblings.parent short-up in
+  adjacent : (root : ℕ) (xs : List A) (expected : Option A) (place freed bound : ℕ) → MayUnderflowAt A node_at root xs id expected a place freed bound
+      → AdjacentSteps A node_at root xs expected a place freed bound siblings.parent siblings.index siblings.left siblings.right
+  adjacent root xs expected place freed bound g =
+      let o = to-over A node_at root xs id expected a place freed bound g short-node.0 short-node.1 siblings.parent short-up in
       let l : slice_get (children_of o.node) siblings.index ≡ Some siblings.left = sym (ap (λ v. slice_get (children_in v) siblings.index) o.here) ∙ s.at_left in
       let r : slice_get (children_of o.node) (suc siblings.index) ≡ Some siblings.right = sym (ap (λ v. slice_get (children_in v) (suc siblings.index)) o.here) ∙ s.at_right in
       elim s.one_of [
-        | inl e ↦ subst (λ k. Beside A node_at root xs asked a place given bound siblings.parent siblings.index k siblings.right) e (o.after siblings.index siblings.right (l ∙ ap Some (sym e)) r)
-        | inr e ↦ subst (λ k. Beside A node_at root xs asked a place given bound siblings.parent siblings.index siblings.left k) e (o.before siblings.index siblings.left l (r ∙ ap Some (sym e)))
+        | inl e ↦ subst (λ k. AdjacentSteps A node_at root xs expected a place freed bound siblings.parent siblings.index k siblings.right) e (o.after siblings.index siblings.right (l ∙ ap Some (sym e)) r)
+        | inr e ↦ subst (λ k. AdjacentSteps A node_at root xs expected a place freed bound siblings.parent siblings.index siblings.left k) e (o.before siblings.index siblings.left l (r ∙ ap Some (sym e)))
       ]
 
-  pub pair : Beside A node_at s.followed.root s.followed.xs s.followed.asked a s.followed.place s.followed.given s.followed.bound siblings.parent siblings.index siblings.left siblings.right
-  pair = adjacent s.followed.root s.followed.xs s.followed.asked s.followed.place s.followed.given s.followed.bound s.followed.underflow
+  pub pair : AdjacentSteps A node_at s.followed.root s.followed.xs s.followed.expected a s.followed.place s.followed.freed s.followed.bound siblings.parent siblings.index siblings.left siblings.right
+  pair = adjacent s.followed.root s.followed.xs s.followed.expected s.followed.place s.followed.freed s.followed.bound s.followed.underflow
 
   abbrev are-siblings : AreSiblings node_at siblings
   are-siblings = record {
@@ -147,28 +147,28 @@ module _ {A : Type 0} (node_at : NodeMap A) (siblings : Siblings) (id : ℕ) (a 
           (subst (λ k. P (g (size_of low) k)) (first-is node_at siblings.right child high h first) p)
 
       module _ (short : Underflows node_at siblings.left) (giver : CanGiveItem node_at siblings.right) (new : NodeMap A) (rot : RotatesSiblingsLeft node_at new siblings) where
-        pub even-left : EndsUnderflow node_at new id a (between moved_by_rotate_left siblings count child a)
-        even-left = record {
-          repaired = λ root xs asked place given bound g.
-              let b = adjacent root xs asked place given bound g in
-              so (λ n k. between moved_by_rotate_left siblings n k a) b.low b.high b.at_left b.at_right (λ v. IsRepaired A new root xs asked v place given bound)
+        pub borrowed-left : EndsUnderflow node_at new id a (between moved_by_rotate_left siblings count child a)
+        borrowed-left = record {
+          repaired = λ root xs expected place freed bound g.
+              let b = adjacent root xs expected place freed bound g in
+              so (λ n k. between moved_by_rotate_left siblings n k a) b.low b.high b.at_left b.at_right (λ v. IsRepaired A new root xs expected v place freed bound)
               (b.rotate_left new rot (subst (λ v. size_of v ≤ 2) (same-node node_at siblings.left short.node b.low short.here b.at_left) short.few)
               (subst (λ v. 3 < size_of v) (same-node node_at siblings.right giver.node b.high giver.here b.at_right) giver.spare));
           used = writes-used node_at new siblings.parent siblings.left siblings.right rot.top rot.low rot.high rot.new_top rot.new_low rot.new_high (as_list rot.child) siblings.left rot.writes;
         }
 
       module _ (short : Underflows node_at siblings.right) (giver : CanGiveItem node_at siblings.left) (new : NodeMap A) (rot : RotatesSiblingsRight node_at new siblings) where
-        pub even-right : EndsUnderflow node_at new id a (between moved_by_rotate_right siblings count child a)
-        even-right = record {
-          repaired = λ root xs asked place given bound g.
-              let b = adjacent root xs asked place given bound g in
-              so (λ n k. between moved_by_rotate_right siblings n k a) b.low b.high b.at_left b.at_right (λ v. IsRepaired A new root xs asked v place given bound)
+        pub borrowed-right : EndsUnderflow node_at new id a (between moved_by_rotate_right siblings count child a)
+        borrowed-right = record {
+          repaired = λ root xs expected place freed bound g.
+              let b = adjacent root xs expected place freed bound g in
+              so (λ n k. between moved_by_rotate_right siblings n k a) b.low b.high b.at_left b.at_right (λ v. IsRepaired A new root xs expected v place freed bound)
               (b.rotate_right new rot (subst (λ v. size_of v ≤ 2) (same-node node_at siblings.right short.node b.high short.here b.at_right) short.few)
               (subst (λ v. 3 < size_of v) (same-node node_at siblings.left giver.node b.low giver.here b.at_left) giver.spare));
           used = writes-used node_at new siblings.parent siblings.left siblings.right rot.top rot.low rot.high rot.new_top rot.new_low rot.new_high (as_list rot.child) siblings.right rot.writes;
         }
 
-      module _ (few : HaveFew node_at siblings) (new : NodeMap A) (mg : MergesSiblings node_at new siblings) where
+      module _ (few : FitTogether node_at siblings) (new : NodeMap A) (mg : MergesSiblings node_at new siblings) where
         sum-few : (low high : View A) → node_at siblings.left ≡ Some low → node_at siblings.right ≡ Some high → size_of low + size_of high ≤ 5
         sum-few low high l h =
             let a1 = ap size_of (same-node node_at siblings.left few.low low few.at_left l) in
@@ -177,17 +177,17 @@ module _ {A : Type 0} (node_at : NodeMap A) (siblings : Siblings) (id : ℕ) (a 
 
         pub joined-both : PassesUnderflowUp node_at new id siblings.parent a (between moved_by_merge siblings count child a)
         joined-both = record {
-          underflow = λ root xs asked place given bound g.
-              let b = adjacent root xs asked place given bound g in
+          underflow = λ root xs expected place freed bound g.
+              let b = adjacent root xs expected place freed bound g in
               let f = sum-few b.low b.high b.at_left b.at_right in
               let low = b.lower new mg f in (
-                so (λ n k. between moved_by_merge siblings n k a) b.low b.high b.at_left b.at_right (λ v. MayUnderflowAt A new root xs siblings.parent asked v place (suc given) bound) (b.merge new mg f),
+                so (λ n k. between moved_by_merge siblings n k a) b.low b.high b.at_left b.at_right (λ v. MayUnderflowAt A new root xs siblings.parent expected v place (suc freed) bound) (b.merge new mg f),
                 elim s.one_of [
                   | inl e ↦ subst (λ k. levels_above new (length xs) siblings.parent < levels_above node_at (length xs) k) (sym e) low.0
                   | inr e ↦ subst (λ k. levels_above new (length xs) siblings.parent < levels_above node_at (length xs) k) (sym e) low.1
                 ],
               );
-          gone = siblings.right;
+          removed = siblings.right;
           used = merge-used node_at new siblings.parent siblings.index siblings.left siblings.right pair.apart mg;
         }
 
@@ -205,7 +205,7 @@ module _ {A : Type 0} (node_at : NodeMap A) (siblings : Siblings) (id : ℕ) (a 
     spare = subst (λ v. 3 < size_of v) (same-node node_at siblings.left giver.node pair.low giver.here pair.at_left) giver.spare;
   }
 
-  pub can-merge : HaveFew node_at siblings → CanMerge node_at siblings
+  pub can-merge : FitTogether node_at siblings → CanMerge node_at siblings
   can-merge few = record {
     pair = are-siblings;
     room =

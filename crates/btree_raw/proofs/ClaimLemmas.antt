@@ -51,10 +51,10 @@ module _ {N : Type 0} (empty : N) where
 
 module _ {K V : Type 0} where
   -- claims in a map of nodes
-  pub claims-seen : (nodes : Content (Node K V)) (ids : List ℕ) → AreClaims EMPTY nodes ids → Claims (views nodes) (views (with_claims EMPTY nodes ids)) ids
-  claims-seen nodes [] a = record { counted = λ n. omega arith; kept = λ n none. refl }
-  claims-seen nodes (id ∷ ids) a =
-      let rest = claims-seen (map.insert nodes id EMPTY) ids a.2 in
+  pub claims-focus : (nodes : Content (Node K V)) (ids : List ℕ) → AreClaims EMPTY nodes ids → Claims (views nodes) (views (with_claims EMPTY nodes ids)) ids
+  claims-focus nodes [] a = record { counted = λ n. omega arith; kept = λ n none. refl }
+  claims-focus nodes (id ∷ ids) a =
+      let rest = claims-focus (map.insert nodes id EMPTY) ids a.2 in
       let was : views nodes id ≡ None = ap (option_map view_of) a.0 in
       let is : views (map.insert nodes id EMPTY) id ≡ Some (view_of EMPTY) = ap (option_map view_of) (get-insert_same nodes id EMPTY) in
       let other : (n : ℕ) → n ≢ id → views (map.insert nodes id EMPTY) n ≡ views nodes n = λ n ne. ap (option_map view_of) (get-insert_other nodes id EMPTY n ne) in

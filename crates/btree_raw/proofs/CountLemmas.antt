@@ -9,9 +9,9 @@ use Rattle.btree_shape.specs.Need.{IsCountingUpward, split_need, levels_above}
 use Rattle.btree_shape.specs.TreeState.{views}
 use Rattle.btree_shape.proofs.Splits.Need.{upward-done, upward-root, upward-up, upward-used}
 use Rattle.btree_shape.proofs.Trees.Stores.{used-view}
-use Rattle.btree_raw.specs.Steps.{IsCounting}
+use Rattle.btree_raw.specs.Steps.{IsCountingSplits}
 
-module _ {K V : Type 0} (nodes : Content (Node K V)) (most start id counted : ℕ) (s : IsCounting (views nodes) most start id counted) where
+module _ {K V : Type 0} (nodes : Content (Node K V)) (most start id counted : ℕ) (s : IsCountingSplits (views nodes) most start id counted) where
   pub count-there : IsSome (map.get nodes id)
   count-there = used-view nodes id (upward-used (K × V) (views nodes) s.root s.xs most id counted (split_need (views nodes) most start) s.upward)
 
@@ -36,7 +36,7 @@ module _ {K V : Type 0} (nodes : Content (Node K V)) (most start id counted : �
         next : IsCountingUpward (K × V) (views nodes) s.root s.xs most p (counted + 1) (split_need (views nodes) most start) × (levels_above (views nodes) most p < levels_above (views nodes) most id)
         next = upward-up (K × V) (views nodes) s.root s.xs most id counted (split_need (views nodes) most start) s.upward (view_of node) here p full up
 
-        pub count-next : IsCounting (views nodes) most start p (counted + 1)
+        pub count-next : IsCountingSplits (views nodes) most start p (counted + 1)
         count-next = record { root = s.root; xs = s.xs; upward = next.0; few = s.few }
 
         pub count-smaller : levels_above (views nodes) most p < levels_above (views nodes) most id

@@ -4,7 +4,7 @@ use Rattle.std.specs.Prelude.{nat_lt}
 use Rattle.std.specs.declared.cmp.Ordering.{Ordering}
 use Rattle.btree_view.specs.View.{NodeMap}
 use Rattle.btree_shape.specs.Need.{IsCountingUpward, path_need}
-use Rattle.btree_shape.specs.Focus.Shape.{count_at, most_at}
+use Rattle.btree_shape.specs.Focus.Subtree.{count_at, most_at}
 use Rattle.btree_shape.specs.WellFormed.{IsNearlySized, IsOffByOne}
 use Rattle.btree_shape.proofs.Paths.Levels.{levels-rooted}
 use Rattle.btree_raw.proofs.NeedLemmas.{path_need-few}
@@ -14,12 +14,12 @@ either-low true x y = omega arith
 either-low false x y = omega arith
 
 -- splits on at most 32 levels need few nodes
-pub split_need-few : {K V : Type 0} (cmp : K → K → Ordering) (node_at : NodeMap (K × V)) (root odd most id all : ℕ) (xs : List (K × V))
-    → IsOffByOne cmp node_at root odd xs → IsCountingUpward (K × V) node_at root xs most id 0 all → all ≤ 33
-split_need-few {K} {V} cmp node_at root odd most id all xs w s =
-    let d = levels-rooted (K × V) node_at root xs (IsNearlySized root odd) w.rooted s.height s.path s.shape s.stands in
+pub split_need-few : {K V : Type 0} (cmp : K → K → Ordering) (node_at : NodeMap (K × V)) (root exempt most id all : ℕ) (xs : List (K × V))
+    → IsOffByOne cmp node_at root exempt xs → IsCountingUpward (K × V) node_at root xs most id 0 all → all ≤ 33
+split_need-few {K} {V} cmp node_at root exempt most id all xs w s =
+    let d = levels-rooted (K × V) node_at root xs (IsNearlySized root exempt) w.rooted s.height s.path s.subtree s.focused in
     let n = path_need-few (K × V) s.height s.path in
     let low = w.low in
     let l = s.left in
-    let e = either-low (nat_lt (count_at (K × V) s.height s.shape) (most_at s.height)) 0 (path_need s.path) in
+    let e = either-low (nat_lt (count_at (K × V) s.height s.subtree) (most_at s.height)) 0 (path_need s.path) in
     omega arith

@@ -5,13 +5,13 @@ pub mod CountLemmas
 pub mod OverflowLemmas
 pub mod BorrowLemmas
 pub mod SeparatorLemmas
-pub mod RotateLemmas
+pub mod SingleNodeLemmas
 pub mod FixedLemmas
 pub mod NeedLemmas
 pub mod OffsetLemmas
 pub mod UnderflowLemmas
 pub mod StepLemmas
-pub mod RotationLemmas
+pub mod SiblingLemmas
 pub mod StateLemmas
 pub mod RefuseLemmas
 pub mod LevelLemmas

@@ -8,7 +8,7 @@ use Rattle.btree_node.specs.Node.{view_of}
 use Rattle.btree_view.specs.View.{NodeMap, most_of, size_of}
 use Rattle.btree_shape.specs.Need.{IsCountingUpward, split_need, path_need_from, need, path_need}
 use Rattle.btree_shape.specs.Focus.Node.{IsNode}
-use Rattle.btree_shape.specs.Focus.Shape.{IsFilled, IsFilledBelow, Shape, count_at, items_under, later_items, most_at}
+use Rattle.btree_shape.specs.Focus.Subtree.{IsFilled, IsFilledBelow, Subtree, count_at, items_under, later_items, most_at}
 use Rattle.btree_shape.specs.TreeState.{TreeState, IsBTree, IsUsed, node_map, nodes_for_splits, nodes_needed, pairs_of}
 use Rattle.btree_shape.specs.Focus.Path.{Path, depth, fill, frame_count, least_at, top, under}
 use Rattle.btree_shape.specs.WellFormed.{IsFormed, IsRooted, IsSized, times_used}
@@ -19,8 +19,8 @@ use Rattle.btree_shape.proofs.Paths.Levels.{levels-rooted}
 use Rattle.btree_shape.proofs.Trees.States.{height_held}
 use Rattle.btree_shape.proofs.Paths.Used.{less-no, less-yes}
 use Rattle.btree_shape.proofs.Splits.Need.{split_need-node, upward-start}
-use Rattle.btree_shape.proofs.Paths.UnsizedFocus.{whole-standing}
-use Rattle.btree_raw.specs.Steps.{IsCounting}
+use Rattle.btree_shape.proofs.Paths.UnsizedFocus.{focus-unsized}
+use Rattle.btree_raw.specs.Steps.{IsCountingSplits}
 use Rattle.btree_shape.proofs.Trees.Numbers.{less-or}
 use Rattle.btree_shape.proofs.Paths.FromRoot.{node-at}
 use Rattle.btree_shape.proofs.Trees.Stores.{some-used}
@@ -38,7 +38,7 @@ not-full node e = elim (less-or (size_of (view_of node)) (most_of (view_of node)
 
 module _ (A : Type 0) where
   -- a tree whose length fits in a `usize` has at most 32 levels
-  levels-few : (h : ℕ) (t : Shape A h) → 1 ≤ count_at A h t → IsFilledBelow A h t → length (items_under A h t) < 2 ^ 64 → h ≤ 31
+  levels-few : (h : ℕ) (t : Subtree A h) → 1 ≤ count_at A h t → IsFilledBelow A h t → length (items_under A h t) < 2 ^ 64 → h ≤ 31
   levels-few zero t some filled low = omega arith
   levels-few (suc h) (id, first, []) some filled low = absurd (omega arith)
   levels-few (suc h) (id, first, b ∷ bs) some filled low =
@@ -53,7 +53,7 @@ module _ (A : Type 0) where
             absurd (omega arith)
       ]
 
-  levels-above-few : (node_at : NodeMap A) (root : ℕ) (xs : List A) (h : ℕ) (c : Path A h) (t : Shape A h) → IsFocus A node_at [] root xs h c t
+  levels-above-few : (node_at : NodeMap A) (root : ℕ) (xs : List A) (h : ℕ) (c : Path A h) (t : Subtree A h) → IsFocus A node_at [] root xs h c t
       → IsFilled (least_at c) h (count_at A h t) → length xs < 2 ^ 64 → depth c + h ≤ 31
   levels-above-few node_at root xs h top t w z low =
       let l = ap length w.list in
@@ -109,22 +109,22 @@ module _ {K V : Type 0} (cmp : K → K → Ordering) (s : TreeState K V) (start 
     pub need-split_need : nodes_for_splits s start ≡ nodes_needed s start
     need-split_need = let r = root-is s.root sound.formed in sym (ap (λ t. need sight t (map.len s.nodes) start) r.1)
 
-  pub need-counting : s.len < 2 ^ 64 → (used : IsUsed s start) → IsCounting sight (map.len s.nodes) start start 0
+  pub need-counting : s.len < 2 ^ 64 → (used : IsUsed s start) → IsCountingSplits sight (map.len s.nodes) start start 0
   need-counting low used =
       let r = root-is used s.root sound.formed in
       let n = first used r.0 r.1 in
       let up = rooted used r.0 r.1 in
-      let w = whole-standing (K × V) sight [] r.0 listed n.seen.height n.seen.path n.seen.shape n.seen.whole in
-      let levels = levels-rooted (K × V) sight r.0 listed (IsSized r.0) up n.seen.height n.seen.path n.seen.shape w in
+      let w = focus-unsized (K × V) sight [] r.0 listed n.focus.height n.focus.path n.focus.subtree n.focus.whole in
+      let levels = levels-rooted (K × V) sight r.0 listed (IsSized r.0) up n.focus.height n.focus.path n.focus.subtree w in
       let deep = height_held s (IsSized r.0) r.0 listed up in
       let a = split_need-node (K × V) sight r.0 listed start n (map.len s.nodes) (omega arith) in
-      let b = path_need_from-few (K × V) n.seen.height n.seen.path (count_at (K × V) n.seen.height n.seen.shape) in
+      let b = path_need_from-few (K × V) n.focus.height n.focus.path (count_at (K × V) n.focus.height n.focus.subtree) in
       let k = sound.counted in
-      let d = levels-above-few (K × V) sight r.0 listed n.seen.height n.seen.path n.seen.shape n.seen.whole n.sized (omega arith) in
-      let c = upward-start (K × V) sight r.0 listed (map.len s.nodes) n.seen.height n.seen.path n.seen.shape w (omega arith) in
+      let d = levels-above-few (K × V) sight r.0 listed n.focus.height n.focus.path n.focus.subtree n.focus.whole n.sized (omega arith) in
+      let c = upward-start (K × V) sight r.0 listed (map.len s.nodes) n.focus.height n.focus.path n.focus.subtree w (omega arith) in
       record {
         root = r.0;
         xs = listed;
-        upward = subst (λ i. IsCountingUpward (K × V) sight r.0 listed (map.len s.nodes) i 0 (split_need sight (map.len s.nodes) i)) n.seen.here c;
+        upward = subst (λ i. IsCountingUpward (K × V) sight r.0 listed (map.len s.nodes) i 0 (split_need sight (map.len s.nodes) i)) n.focus.here c;
         few = omega arith;
       }

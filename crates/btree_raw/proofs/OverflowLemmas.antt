@@ -7,9 +7,9 @@ use Rattle.btree_shape.specs.Step.{Reparents, WritesNode, GrowsRoot, Splits}
 use Rattle.btree_shape.specs.WellFormed.{times_used}
 use Rattle.btree_shape.proofs.Splits.Upward.{right-children, splits-made}
 use Rattle.btree_shape.proofs.Trees.Numbers.{same-or, used-same, used-there}
-use Rattle.btree_raw.specs.Steps.{CanReparent, CanGrowRoot, CanSplitInto, Halves, HasCount, SetsParent}
+use Rattle.btree_raw.specs.Steps.{CanReparent, CanGrowRoot, CanSplitInto, CutsAtMedian, HasCount, SetsParent}
 
-module _ {A : Type 0} (node_at mid : NodeMap A) (id right count : ℕ) (median : A) (part : View A) (can : CanSplitInto node_at id right) (half : Halves node_at mid id count median part) where
+module _ {A : Type 0} (node_at mid : NodeMap A) (id right count : ℕ) (median : A) (part : View A) (can : CanSplitInto node_at id right) (half : CutsAtMedian node_at mid id count median part) where
   parts : IsSplit can.can.node median half.left part
   parts = half.parts can.can.node can.can.here
 
@@ -47,14 +47,14 @@ module _ {A : Type 0} (node_at mid : NodeMap A) (id right count : ℕ) (median :
           ]
         ]
 
-    module _ (new : NodeMap A) (adopts : Reparents two new right (children_in (two right))) where
+    module _ (new : NodeMap A) (reparents : Reparents two new right (children_in (two right))) where
       pub splits : Splits node_at new id right median
       splits = splits-made A node_at mid two new id right median can.can.node half.left part can.can.here parts can.apart apart-left apart-right half.writes_node writes_node
-          (subst (λ ids. Reparents two new right ids) children-are adopts)
+          (subst (λ ids. Reparents two new right ids) children-are reparents)
 
       pub leaves : HasCount new id count
       leaves =
-          let kept : new id ≡ two id = adopts.kept id (ap (times_listed id) children-are ∙ apart-left) in
+          let kept : new id ≡ two id = reparents.kept id (ap (times_listed id) children-are ∙ apart-left) in
           rw (kept, writes_node.others id (λ e. can.apart (sym e)), half.writes_node.here) (ap Some (sym half.counted))
 
 module _ {A : Type 0} (node_at : NodeMap A) (left right root : ℕ) (median : A) (can : CanGrowRoot node_at left right root) where
@@ -66,8 +66,8 @@ module _ {A : Type 0} (node_at : NodeMap A) (left right root : ℕ) (median : A)
       pub right-still : 0 < times_used (two right)
       right-still = used-same node_at two right (first.others right (λ e. can.apart.0 (sym e)) ∙ writes_node.others right can.apart.2) can.right_used
 
-      pub raises : (new : NodeMap A) → SetsParent two new right root → GrowsRoot node_at new left right root median
-      raises new second = record {
+      pub grows-root : (new : NodeMap A) → SetsParent two new right root → GrowsRoot node_at new left right root median
+      grows-root new second = record {
         root = second.others root (λ e. can.apart.2 (sym e)) ∙ (first.others root (λ e. can.apart.1 (sym e)) ∙ writes_node.here);
         at_left = second.others left can.apart.0 ∙ (first.here ∙ ap (option_map (with_parent (Some root))) (writes_node.others left can.apart.1));
         at_right = second.here ∙ ap (option_map (with_parent (Some root))) (first.others right (λ e. can.apart.0 (sym e)) ∙ writes_node.others right can.apart.2);

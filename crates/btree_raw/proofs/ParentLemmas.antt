@@ -40,20 +40,20 @@ module _ {A : Type 0} (node_at : NodeMap A) (id : ℕ) (can : CanReparent node_a
   children = children_in (node_at id)
 
   module _ (now : NodeMap A) (index : ℕ) (partly : Reparents node_at now id (take index children)) where
-    pub adopter-kept : now id ≡ node_at id
-    adopter-kept = partly.kept id (let z = can.apart in omega (arith, times-take id index children))
+    pub parent-kept : now id ≡ node_at id
+    parent-kept = partly.kept id (let z = can.apart in omega (arith, times-take id index children))
 
     module _ (child : ℕ) (is : slice_get children index ≡ Some child) where
-      pub adoptee-used : 0 < times_used (now child)
-      adoptee-used =
+      pub child-used : 0 < times_used (now child)
+      child-used =
           let used = can.children child (get-times children index child is) in
           elim (zero-or (times_listed child (take index children))) [
             | inl none ↦ rw (partly.kept child none) used
             | inr some ↦ rw (partly.moved child some, used-mapped (with_parent (Some id)) (node_at child)) used
           ]
 
-      pub adopts-more : (new : NodeMap A) → SetsParent now new child id → Reparents node_at new id (take (index + 1) children)
-      adopts-more new s =
+      pub reparents-more : (new : NodeMap A) → SetsParent now new child id → Reparents node_at new id (take (index + 1) children)
+      reparents-more new s =
           let sum : (n : ℕ) → times_listed n (take (index + 1) children) ≡ times_listed n (take index children) + one n child =
           λ n. ap (times_listed n) (take-more index children child is) ∙ (let q = listed-append n (take index children) (child ∷ []) in omega arith) in
           record {
@@ -75,11 +75,11 @@ module _ {K V : Type 0} where
   -- one iteration of the loop: the node as it was and as it is now
   module _ (old now : Content (Node K V)) (id : ℕ) (can : CanReparent (views old) id) (index : ℕ) (partly : Reparents (views old) (views now) id (take index (children_in (views old id)))) where
     pub still-used : IsSome (map.get now id)
-    still-used = used-view now id (rw (adopter-kept (views old) id can (views now) index partly) can.used)
+    still-used = used-view now id (rw (parent-kept (views old) id can (views now) index partly) can.used)
 
     module _ (node : Node K V) (at : map.get now id ≡ Some node) where
       same-children : children_of (view_of node) ≡ children_in (views old id)
-      same-children = sym (children-at now id node at) ∙ ap children_in (adopter-kept (views old) id can (views now) index partly)
+      same-children = sym (children-at now id node at) ∙ ap children_in (parent-kept (views old) id can (views now) index partly)
 
       pub index-below : (first : Node K V) (count : ℕ) → map.get old id ≡ Some first → count ≡ length (children_of (view_of first)) → index < count → index < length (children_of (view_of node))
       index-below first count was many below = let a = ap length same-children in let b = ap length (children-at old id first was) in omega arith
@@ -89,7 +89,7 @@ module _ {K V : Type 0} where
         the-child = ap (λ ids. slice_get ids index) (sym same-children) ∙ is
 
         pub child-used : IsSome (map.get now child)
-        child-used = used-view now child (adoptee-used (views old) id can (views now) index partly child the-child)
+        child-used = used-view now child (child-used (views old) id can (views now) index partly child the-child)
 
         pub child-adopted : (new : Content (Node K V)) → SetsParent (views now) (views new) child id → Reparents (views old) (views new) id (take (index + 1) (children_in (views old id)))
-        child-adopted new s = adopts-more (views old) id can (views now) index partly child the-child (views new) s
+        child-adopted new s = reparents-more (views old) id can (views now) index partly child the-child (views new) s

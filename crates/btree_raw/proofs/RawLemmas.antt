@@ -8,10 +8,10 @@ use Rattle.btree_node.specs.Node.{view_of}
 use Rattle.btree_view.specs.View.{children_in, children_of}
 use Rattle.btree_shape.specs.Lists.{times_listed}
 use Rattle.btree_shape.specs.Step.{Reparents}
-use Rattle.btree_shape.specs.TreeState.{TreeState, IsOff, node_map, pairs_of, views}
+use Rattle.btree_shape.specs.TreeState.{TreeState, IsOffByOneAt, node_map, pairs_of, views}
 use Rattle.btree_shape.specs.WellFormed.{IsOffByOne, times_used}
 use Rattle.btree_shape.proofs.Trees.States.{is-off}
-use Rattle.btree_valid.specs.OffByOne.{IsOffAmong}
+use Rattle.btree_valid.specs.OffByOne.{IsOffByOneAmong}
 use Rattle.btree_shape.proofs.Trees.Numbers.{zero-or}
 use Rattle.btree_raw.specs.Raw.{AreUsed}
 use Rattle.btree_raw.specs.Steps.{CanReparent}
@@ -48,8 +48,8 @@ module _ {K V : Type 0} (nodes : Content (Node K V)) (id : ℕ) (node : Node K V
       apart = rw here none-listed;
     }
 
-    pub adopts : (last : Content (Node K V)) → Reparents (views after) (views last) id (children_in (views after id)) → Reparents (views (map.insert nodes id node)) (views last) id (children_of (view_of node))
-    adopts last a =
+    pub reparents : (last : Content (Node K V)) → Reparents (views after) (views last) id (children_in (views after id)) → Reparents (views (map.insert nodes id node)) (views last) id (children_of (view_of node))
+    reparents last a =
         let P : List ℕ → Type 0 = λ l. Reparents (views after) (views last) id l in
         let Q : Content (Node K V) → Type 0 = λ m. Reparents (views m) (views last) id (children_of (view_of node)) in
         subst Q is (subst P (ap children_in here) a)
@@ -57,12 +57,12 @@ module _ {K V : Type 0} (nodes : Content (Node K V)) (id : ℕ) (node : Node K V
 module _ {K V : Type 0} (cmp : K → K → Ordering) (s : TreeState K V) (id : ℕ) where
   -- the walk of the nodes under the root decides whether the tree is off by one
   pub off-found : (root : ℕ) → s.root ≡ Some root → (result : Bool)
-      → (IsTrue result → IsOffAmong cmp s.nodes root id) × (IsOffAmong cmp s.nodes root id → IsTrue result)
-      → (IsTrue result → IsOff cmp s id) × (IsOff cmp s id → IsTrue result)
+      → (IsTrue result → IsOffByOneAmong cmp s.nodes root id) × (IsOffByOneAmong cmp s.nodes root id → IsTrue result)
+      → (IsTrue result → IsOffByOneAt cmp s id) × (IsOffByOneAt cmp s id → IsTrue result)
   off-found root at result walk = (
     λ yes. let off = walk.0 yes in is-off cmp s root id off.0 at off.1,
     λ o. let same : o.root ≡ root = (let e = o.at_root in cc) in walk.1 (pairs_of s, subst (λ r. IsOffByOne cmp (node_map s) r id (pairs_of s)) same o.off),
   )
 
-  pub no-root-off : s.root ≡ None → (IsTrue false → IsOff cmp s id) × (IsOff cmp s id → IsTrue false)
+  pub no-root-off : s.root ≡ None → (IsTrue false → IsOffByOneAt cmp s id) × (IsOffByOneAt cmp s id → IsTrue false)
   no-root-off none = (λ no. absurd (cc), λ o. let e = o.at_root in absurd (cc))

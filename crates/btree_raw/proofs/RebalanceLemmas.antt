@@ -14,31 +14,31 @@ use Rattle.btree_shape.specs.Need.{split_need}
 use Rattle.btree_shape.specs.Focus.TreePositions.{IsAddressed}
 use Rattle.btree_shape.specs.Place.{IsEnd, IsPlace, IsPlaceOf, IsValid}
 use Rattle.btree_shape.specs.Lists.{times_listed}
-use Rattle.btree_shape.specs.Focus.Underflow.{MayUnderflowAt, owed_by}
+use Rattle.btree_shape.specs.Focus.Underflow.{MayUnderflowAt, debt_of}
 use Rattle.btree_shape.specs.Represents.{Represents, numbers_under}
 use Rattle.btree_shape.specs.Step.{Claims}
 use Rattle.btree_shape.specs.Strain.{IsStrain, strain_under}
-use Rattle.btree_shape.specs.Focus.Positions.{Asks}
-use Rattle.btree_shape.specs.TreeState.{TreeState, HasLevels, HasLevelsUnder, IsOff, IsUsed, IsValidIn, node_map, nodes_for_splits, pairs_of, views}
+use Rattle.btree_shape.specs.Focus.Positions.{IsExpected}
+use Rattle.btree_shape.specs.TreeState.{TreeState, HasLevels, HasLevelsUnder, IsOffByOneAt, IsUsed, IsValidIn, node_map, nodes_for_splits, pairs_of, views}
 use Rattle.btree_shape.specs.WellFormed.{IsNearlySized, IsWellFormed, times_used}
-use Rattle.btree_shape.proofs.Underflow.Order.{shrinks-levels}
+use Rattle.btree_shape.proofs.Underflow.Order.{underflow-levels}
 use Rattle.btree_shape.proofs.Trees.Numbers.{listed-append}
-use Rattle.btree_shape.proofs.Underflow.OffByOne.{emptied-well, fixed-well, odd-climbs, odd-grows, odd-shrinks}
+use Rattle.btree_shape.proofs.Underflow.OffByOne.{emptied-well, fixed-well, off-need, off-overflow, off-underflow}
 use Rattle.btree_shape.proofs.Places.OfTree.{positions-addressed, valid-on}
-use Rattle.btree_shape.proofs.Splits.Insertion.{repaired-paid, repaired-rooted}
+use Rattle.btree_shape.proofs.Splits.Insertion.{repaired-within, repaired-rooted}
 use Rattle.btree_shape.proofs.Places.Steps.{repaired-addressed}
 use Rattle.btree_shape.specs.Place.{item_at}
 use Rattle.btree_raw.specs.Claimed.{EMPTY, MayRefuseOneOf}
-use Rattle.btree_raw.specs.Steps.{IsCounting}
+use Rattle.btree_raw.specs.Steps.{IsCountingSplits}
 use Rattle.btree_raw.specs.Claimed.{AreClaimed}
 use Rattle.btree_raw.specs.Raw.{Refuses}
-use Rattle.btree_raw.specs.Rebalance.{HasGiven, HasRoom, HasTaken, IsRebalanced, IsRefusal}
-use Rattle.btree_raw.specs.Underflow.{AreFixed, IsFixingOf, FixesUnderflowUpward, IsAtRest}
+use Rattle.btree_raw.specs.Rebalance.{FreesNodes, HasRoom, AllocatesForSplits, IsRebalanced, IsRefusal}
+use Rattle.btree_raw.specs.Underflow.{AreFixed, IsFixingOf, FixesUnderflowUpward, IsRepairedOrEmpty}
 use Rattle.btree_raw.specs.Steps.{IsSplitting, Overflows, SplitsUpward}
 use Rattle.btree_raw.proofs.LevelLemmas.{split_need-few}
 use Rattle.btree_shape.proofs.Trees.States.{height_held, is-tree-but-length, pairs-tree}
 use Rattle.btree_shape.proofs.Trees.Stores.{used-view, len-views}
-use Rattle.btree_raw.proofs.ClaimLemmas.{claims-seen}
+use Rattle.btree_raw.proofs.ClaimLemmas.{claims-focus}
 use Rattle.btree_raw.proofs.StateLemmas.{same-len, same-refusals, same-root}
 use Rattle.std.proofs.lemmas.Option.{slice_get_within}
 
@@ -69,32 +69,32 @@ nothing-there {A} node_at root id (Some o) place x d = elim d.at_place [
 
 module _ {K V : Type 0} (cmp : K → K → Ordering) (node_at new : NodeMap (K × V)) (root : ℕ) (xs : List (K × V)) (a b : Address) where
   -- the address at the end: valid, at the place, and at the item that is required
-  pub record Follows (t : Option ℕ) (asked : Option (K × V)) (place : ℕ) : Type 0 where
+  pub record Follows (t : Option ℕ) (expected : Option (K × V)) (place : ℕ) : Type 0 where
     pub valid : IsValid new t b.id b.offset
     pub at_place : IsPlace new t xs b.id b.offset place
-    pub item : (x : K × V) → asked ≡ Some x → item_at new b ≡ Some x
+    pub item : (x : K × V) → expected ≡ Some x → item_at new b ≡ Some x
 
   -- what holds for the tree under root t at the end of the steps
-  pub record Ends (t : Option ℕ) (gained bound : ℕ) : Type 0 where
+  pub record Ends (t : Option ℕ) (allocated bound : ℕ) : Type 0 where
     pub well : IsWellFormed cmp new t (length xs) xs
     pub ids : List ℕ
     pub each : (n : ℕ) → times_listed n ids ≡ times_used (new n)
     pub after : ℕ
     pub strain : IsStrain new t after
-    pub paid : gained + after ≤ bound
-    pub follow : (asked : Option (K × V)) (place : ℕ) → IsAddressed (K × V) node_at root xs asked a place → Follows t asked place
+    pub within_strain : allocated + after ≤ bound
+    pub follow : (expected : Option (K × V)) (place : ℕ) → IsAddressed (K × V) node_at root xs expected a place → Follows t expected place
 
-  repaired-follows : (t place : ℕ) (asked : Option (K × V)) → IsAddressed (K × V) new t xs asked b place → Follows (Some t) asked place
-  repaired-follows t place asked d = record {
+  repaired-follows : (t place : ℕ) (expected : Option (K × V)) → IsAddressed (K × V) new t xs expected b place → Follows (Some t) expected place
+  repaired-follows t place expected d = record {
     valid = d.valid;
     at_place = d.at_place;
-    item = λ x q. subst (λ o. Asks o (item_at new b)) q d.item;
+    item = λ x q. subst (λ o. IsExpected o (item_at new b)) q d.item;
   }
 
-  pub repaired-ends : (t place gained bound : ℕ) → IsWellFormed cmp new (Some t) (length xs) xs → IsRepaired (K × V) new t xs None b place gained bound
-      → ((asked : Option (K × V)) (q : ℕ) → IsAddressed (K × V) node_at root xs asked a q → IsRepaired (K × V) new t xs asked b q gained bound) → Ends (Some t) gained bound
-  repaired-ends t place gained bound well g all =
-      let rooted = repaired-rooted (K × V) new t xs None b place gained bound g in
+  pub repaired-ends : (t place allocated bound : ℕ) → IsWellFormed cmp new (Some t) (length xs) xs → IsRepaired (K × V) new t xs None b place allocated bound
+      → ((expected : Option (K × V)) (q : ℕ) → IsAddressed (K × V) node_at root xs expected a q → IsRepaired (K × V) new t xs expected b q allocated bound) → Ends (Some t) allocated bound
+  repaired-ends t place allocated bound well g all =
+      let rooted = repaired-rooted (K × V) new t xs None b place allocated bound g in
       let ids : List ℕ = numbers_under new rooted.height t in
       let each : (n : ℕ) → times_listed n ids ≡ times_used (new n) = rooted.once in
       record {
@@ -103,11 +103,11 @@ module _ {K V : Type 0} (cmp : K → K → Ordering) (node_at new : NodeMap (K �
         each = each;
         after = strain_under new t ids;
         strain = (ids, each, refl);
-        paid = repaired-paid (K × V) new t xs None b place gained bound g;
-        follow = λ asked q d. repaired-follows t q asked (repaired-addressed (K × V) new t xs asked b q gained bound (all asked q d));
+        within_strain = repaired-within (K × V) new t xs None b place allocated bound g;
+        follow = λ expected q d. repaired-follows t q expected (repaired-addressed (K × V) new t xs expected b q allocated bound (all expected q d));
       }
 
-module _ {K V : Type 0} (cmp : K → K → Ordering) (laws : IsTotalOrder cmp) (old : TreeState K V) (id : ℕ) (o : IsOff cmp old id) where
+module _ {K V : Type 0} (cmp : K → K → Ordering) (laws : IsTotalOrder cmp) (old : TreeState K V) (id : ℕ) (o : IsOffByOneAt cmp old id) where
   abbrev node_at : NodeMap (K × V)
   node_at = node_map old
 
@@ -123,33 +123,33 @@ module _ {K V : Type 0} (cmp : K → K → Ordering) (laws : IsTotalOrder cmp) (
   listed : (n : ℕ) → times_listed n numbers ≡ times_used (node_at n)
   listed n = o.off.rooted.once n
 
-  pub odd-node : (v : View (K × V)) × (node_at id ≡ Some v)
-  odd-node = some-there (node_at id) o.off.used
+  pub off-node : (v : View (K × V)) × (node_at id ≡ Some v)
+  off-node = some-there (node_at id) o.off.used
 
-  pub odd-used : IsUsed old id
-  odd-used = used-view old.nodes id (rw odd-node.1 (omega arith))
+  pub off-used : IsUsed old id
+  off-used = used-view old.nodes id (rw off-node.1 (omega arith))
 
   module _ (a : Address) (valid : IsValidIn old a) where
     valid-root : IsValid node_at (Some o.root) a.id a.offset
     valid-root = subst (λ t. IsValid node_at t a.id a.offset) o.at_root valid
 
-    place-of : (asked : Option (K × V)) → Asks asked (item_at node_at a) → (place : ℕ) × IsAddressed (K × V) node_at o.root xs asked a place
-    place-of asked m =
-        let n = valid-on (K × V) node_at o.root xs asked a (IsNearlySized o.root id) o.off.rooted valid-root m in
-        (n.place, positions-addressed (K × V) node_at o.root xs asked a (IsNearlySized o.root id) n.place o.off.rooted n.on)
+    place-of : (expected : Option (K × V)) → IsExpected expected (item_at node_at a) → (place : ℕ) × IsAddressed (K × V) node_at o.root xs expected a place
+    place-of expected m =
+        let n = valid-on (K × V) node_at o.root xs expected a (IsNearlySized o.root id) o.off.rooted valid-root m in
+        (n.place, positions-addressed (K × V) node_at o.root xs expected a (IsNearlySized o.root id) n.place o.off.rooted n.on)
 
     at-some : (place : ℕ) × IsAddressed (K × V) node_at o.root xs None a place
     at-some = place-of None tt
 
     module _ (new : TreeState K V) (b : Address) (same_len : new.len ≡ old.len) (uncounted : new.refusals ≡ old.refusals)
-        (back : IsSome a.offset → IsSome b.offset) (gained bound : ℕ) (e : Ends cmp node_at (node_map new) o.root xs a b new.root gained bound) where
+        (back : IsSome a.offset → IsSome b.offset) (allocated bound : ℕ) (e : Ends cmp node_at (node_map new) o.root xs a b new.root allocated bound) where
       same-pairs : pairs_of new ≡ xs
       same-pairs = pairs-tree cmp new (length xs) xs e.well
 
-      rebalanced : (Overflows node_at id → HasTaken old new id strain e.after) → ((room : HasRoom node_at id) → HasGiven old new id room.node strain e.after)
+      rebalanced : (Overflows node_at id → AllocatesForSplits old new id strain e.after) → ((room : HasRoom node_at id) → FreesNodes old new id room.node strain e.after)
           → (HasRoom node_at id → (t : ℕ) → old.root ≡ Some t → IsUnderflowFixed node_at (node_map new) t new.root id)
           → IsRebalanced old new id cmp a b
-      rebalanced taken given steps = record {
+      rebalanced taken freed steps = record {
         well = is-tree-but-length cmp new xs e.well;
         pairs = same-pairs;
         len = same_len;
@@ -166,7 +166,7 @@ module _ {K V : Type 0} (cmp : K → K → Ordering) (laws : IsTotalOrder cmp) (
         strain_before = subst (λ t. IsStrain node_at t strain) (sym o.at_root) (numbers, listed, refl);
         strain_after = e.strain;
         taken = taken;
-        given = given;
+        freed = freed;
       }
 
     same-node : (v node : View (K × V)) → node_at id ≡ Some v → node_at id ≡ Some node → v ≡ node
@@ -175,10 +175,10 @@ module _ {K V : Type 0} (cmp : K → K → Ordering) (laws : IsTotalOrder cmp) (
     -- no item too many
     module _ (fits : HasRoom node_at id) where
       abbrev low-bound : ℕ
-      low-bound = strain + owed_by fits.node
+      low-bound = strain + debt_of fits.node
 
-      shrinks : (asked : Option (K × V)) (place : ℕ) → IsAddressed (K × V) node_at o.root xs asked a place → MayUnderflowAt (K × V) node_at o.root xs id asked a place 0 low-bound
-      shrinks asked place d = odd-shrinks cmp laws node_at o.root id xs o.off fits.node fits.here fits.room asked a place d
+      shrinks : (expected : Option (K × V)) (place : ℕ) → IsAddressed (K × V) node_at o.root xs expected a place → MayUnderflowAt (K × V) node_at o.root xs id expected a place 0 low-bound
+      shrinks expected place d = off-underflow cmp laws node_at o.root id xs o.off fits.node fits.here fits.room expected a place d
 
       pub fixing : IsFixingOf node_at old.root id a (length xs)
       fixing = record {
@@ -186,9 +186,9 @@ module _ {K V : Type 0} (cmp : K → K → Ordering) (laws : IsTotalOrder cmp) (
           followed = record {
             root = o.root;
             xs = xs;
-            asked = None;
+            expected = None;
             place = at-some.0;
-            given = 0;
+            freed = 0;
             bound = low-bound;
             underflow = shrinks None at-some.0 at-some.1;
           };
@@ -202,13 +202,13 @@ module _ {K V : Type 0} (cmp : K → K → Ordering) (laws : IsTotalOrder cmp) (
         m = u.fixed
 
         abbrev Rest : Option ℕ → Type 0
-        Rest t = (asked : Option (K × V)) (place : ℕ) → IsAddressed (K × V) node_at o.root xs asked a place → IsAtRest (node_map new) t xs asked b place (0 + length m.gone) low-bound
+        Rest t = (expected : Option (K × V)) (place : ℕ) → IsAddressed (K × V) node_at o.root xs expected a place → IsRepairedOrEmpty (node_map new) t xs expected b place (0 + length m.removed) low-bound
 
-        fixed-ends : (t : Option ℕ) → Rest t → Ends cmp node_at (node_map new) o.root xs a b t (0 + length m.gone) low-bound
+        fixed-ends : (t : Option ℕ) → Rest t → Ends cmp node_at (node_map new) o.root xs a b t (0 + length m.removed) low-bound
         fixed-ends (Some t) f =
             let g = f None at-some.0 at-some.1 in
-            repaired-ends cmp node_at (node_map new) o.root xs a b t at-some.0 (0 + length m.gone) low-bound
-            (fixed-well cmp laws node_at o.root id xs o.off fits.node fits.here (node_map new) t None b at-some.0 (0 + length m.gone) low-bound g) g f
+            repaired-ends cmp node_at (node_map new) o.root xs a b t at-some.0 (0 + length m.removed) low-bound
+            (fixed-well cmp laws node_at o.root id xs o.off fits.node fits.here (node_map new) t None b at-some.0 (0 + length m.removed) low-bound g) g f
         fixed-ends None f =
             let g = f None at-some.0 at-some.1 in
             let p = g.3 in
@@ -218,9 +218,9 @@ module _ {K V : Type 0} (cmp : K → K → Ordering) (laws : IsTotalOrder cmp) (
               each = λ n. sym (ap times_used (g.0.0 n));
               after = 0;
               strain = refl;
-              paid = omega arith;
-              follow = λ asked place d.
-                  let f2 = f asked place d in
+              within_strain = omega arith;
+              follow = λ expected place d.
+                  let f2 = f expected place d in
                   record {
                     valid = f2.1;
                     at_place = f2.2;
@@ -230,24 +230,24 @@ module _ {K V : Type 0} (cmp : K → K → Ordering) (laws : IsTotalOrder cmp) (
                   };
             }
 
-        ends : Ends cmp node_at (node_map new) o.root xs a b new.root (0 + length m.gone) low-bound
-        ends = fixed-ends new.root (λ asked place d. m.fixed o.root xs asked place 0 low-bound o.at_root (shrinks asked place d))
+        ends : Ends cmp node_at (node_map new) o.root xs a b new.root (0 + length m.removed) low-bound
+        ends = fixed-ends new.root (λ expected place d. m.fixed o.root xs expected place 0 low-bound o.at_root (shrinks expected place d))
 
-        fewer : map.len old.nodes ≡ map.len new.nodes + length m.gone
+        fewer : map.len old.nodes ≡ map.len new.nodes + length m.removed
         fewer =
-            let l1 = len-views old.nodes (ends.ids ++ m.gone) (listed-both node_at (node_map new) ends.ids m.gone ends.each m.counted) in
+            let l1 = len-views old.nodes (ends.ids ++ m.removed) (listed-both node_at (node_map new) ends.ids m.removed ends.each m.counted) in
             let l2 = len-views new.nodes ends.ids ends.each in
-            let l3 = length-append ends.ids m.gone in
+            let l3 = length-append ends.ids m.removed in
             omega arith
 
-        within-root : (height : ℕ) → Represents node_at height None o.root xs → length m.gone ≤ suc height
+        within-root : (height : ℕ) → Represents node_at height None o.root xs → length m.removed ≤ suc height
         within-root height represents =
             let g = shrinks None at-some.0 at-some.1 in
             let f = m.few o.root xs None at-some.0 0 low-bound o.at_root g in
-            let l = shrinks-levels (K × V) node_at o.root xs id None a at-some.0 0 low-bound g (IsNearlySized o.root id) o.off.rooted height represents in
+            let l = underflow-levels (K × V) node_at o.root xs id None a at-some.0 0 low-bound g (IsNearlySized o.root id) o.off.rooted height represents in
             omega arith
 
-        within : (levels : ℕ) → HasLevels old levels → length m.gone ≤ levels
+        within : (levels : ℕ) → HasLevels old levels → length m.removed ≤ levels
         within levels has =
             let h : HasLevelsUnder old (Some o.root) levels = subst (λ t. HasLevelsUnder old t levels) o.at_root has in
             let e = h.2 in
@@ -256,11 +256,11 @@ module _ {K V : Type 0} (cmp : K → K → Ordering) (laws : IsTotalOrder cmp) (
 
         pub fixed : (IsSome a.offset → IsSome b.offset) → IsRebalanced old new id cmp a b
         fixed back =
-            rebalanced new b u.len u.uncounted back (0 + length m.gone) low-bound ends
+            rebalanced new b u.len u.uncounted back (0 + length m.removed) low-bound ends
             (λ over. let s = same-node over.node fits.node over.here fits.here in let z = ap size_of s in let y = ap most_of s in let f = fits.room in let g = over.over in absurd (omega arith))
             (λ room.
-            subst (λ n. HasGiven old new id n strain ends.after) (same-node fits.node room.node fits.here room.here)
-            (record { given = length m.gone; fewer = fewer; within = within; paid = (let p = ends.paid in omega arith) }))
+            subst (λ n. FreesNodes old new id n strain ends.after) (same-node fits.node room.node fits.here room.here)
+            (record { freed = length m.removed; fewer = fewer; within = within; within_strain = (let p = ends.within_strain in omega arith) }))
             (λ room t same. m.steps t same)
 
     -- an item too many
@@ -271,9 +271,9 @@ module _ {K V : Type 0} (cmp : K → K → Ordering) (laws : IsTotalOrder cmp) (
       high : o.off.rooted.height < most
       high = height_held old (IsNearlySized o.root id) o.root xs o.off.rooted
 
-      pub counting : IsCounting node_at most id id 0
+      pub counting : IsCountingSplits node_at most id id 0
       counting =
-          let s = odd-climbs cmp laws node_at o.root id xs o.off over.node over.here most high in
+          let s = off-need cmp laws node_at o.root id xs o.off over.node over.here most high in
           record { root = o.root; xs = xs; upward = s; few = split_need-few cmp node_at o.root id most id (split_need node_at most id) xs o.off s }
 
       pub refusal : (MayRefuse : Content (Node K V) → Type 0) (new : TreeState K V) (count : ℕ) → count ≡ nodes_for_splits old id → Refuses old new
@@ -287,10 +287,10 @@ module _ {K V : Type 0} (cmp : K → K → Ordering) (laws : IsTotalOrder cmp) (
 
       module _ (ids : List ℕ) (mid : TreeState K V) (claimed : AreClaimed old mid ids) (count : length ids ≡ nodes_for_splits old id) where
         claims : Claims node_at (node_map mid) ids
-        claims = subst (λ n. Claims node_at (views n) ids) (sym claimed.claimed.after) (claims-seen old.nodes ids claimed.claimed.claims)
+        claims = subst (λ n. Claims node_at (views n) ids) (sym claimed.claimed.after) (claims-focus old.nodes ids claimed.claimed.claims)
 
-        grows : (asked : Option (K × V)) (place : ℕ) → IsAddressed (K × V) node_at o.root xs asked a place → MayOverflowAt (K × V) (node_map mid) o.root xs id ids asked a place 0 strain
-        grows asked place d = odd-grows cmp laws node_at o.root id xs o.off over.node over.here over.over most high (node_map mid) ids claims count asked a place d
+        grows : (expected : Option (K × V)) (place : ℕ) → IsAddressed (K × V) node_at o.root xs expected a place → MayOverflowAt (K × V) (node_map mid) o.root xs id ids expected a place 0 strain
+        grows expected place d = off-overflow cmp laws node_at o.root id xs o.off over.node over.here over.over most high (node_map mid) ids claims count expected a place d
 
         same-top : mid.root ≡ Some o.root
         same-top = same-root claimed.rest ∙ o.at_root
@@ -300,16 +300,16 @@ module _ {K V : Type 0} (cmp : K → K → Ordering) (laws : IsTotalOrder cmp) (
           top = o.root;
           at_root = same-top;
           xs = xs;
-          asked = None;
+          expected = None;
           place = at-some.0;
-          gained = 0;
+          allocated = 0;
           bound = strain;
           overflow = grows None at-some.0 at-some.1;
         }
 
         module _ (new : TreeState K V) (b : Address) (s : SplitsUpward mid new id ids a b) where
-          repaired : (asked : Option (K × V)) (place : ℕ) → IsAddressed (K × V) node_at o.root xs asked a place → IsRepaired (K × V) (node_map new) s.split.top xs asked b place (0 + length ids) strain
-          repaired asked place d = s.split.repaired o.root xs asked place 0 strain same-top (grows asked place d)
+          repaired : (expected : Option (K × V)) (place : ℕ) → IsAddressed (K × V) node_at o.root xs expected a place → IsRepaired (K × V) (node_map new) s.split.top xs expected b place (0 + length ids) strain
+          repaired expected place d = s.split.repaired o.root xs expected place 0 strain same-top (grows expected place d)
 
           split-ends : Ends cmp node_at (node_map new) o.root xs a b new.root (0 + length ids) strain
           split-ends =
@@ -329,6 +329,6 @@ module _ {K V : Type 0} (cmp : K → K → Ordering) (laws : IsTotalOrder cmp) (
           pub is-split : (IsSome a.offset → IsSome b.offset) → IsRebalanced old new id cmp a b
           is-split back =
               rebalanced new b (s.len ∙ same-len claimed.rest) (s.uncounted ∙ same-refusals claimed.rest) back (0 + length ids) strain split-ends
-              (λ full. record { more = (let m = more in omega arith); paid = (let p = split-ends.paid in omega arith) })
+              (λ full. record { more = (let m = more in omega arith); within_strain = (let p = split-ends.within_strain in omega arith) })
               (λ room. let t = same-node over.node room.node over.here room.here in let z = ap size_of t in let y = ap most_of t in let f = room.room in let g = over.over in absurd (omega arith))
               (λ room t same. let q = same-node over.node room.node over.here room.here in let z = ap size_of q in let y = ap most_of q in let f = room.room in let g = over.over in absurd (omega arith))

@@ -15,7 +15,7 @@ use Rattle.btree_view.specs.View.{View, leaf, internal, children_of, most_of, si
 use Rattle.btree_shape.specs.Lists.{times_listed}
 use Rattle.btree_shape.specs.TreeState.{views}
 use Rattle.btree_shape.proofs.Trees.Numbers.{same-or}
-use Rattle.btree_raw.specs.Steps.{AddsItem, CanAddSeparator, CanTake, AddsSeparator}
+use Rattle.btree_raw.specs.Steps.{AddsItem, CanAddSeparator, CanAddItem, AddsSeparator}
 use Rattle.btree_shape.proofs.Paths.Frames.{one-other}
 use Rattle.btree_shape.proofs.Places.Untouched.{other-test, same-test}
 
@@ -64,7 +64,7 @@ module _ {K V : Type 0} (nodes : Content (Node K V)) (above id : ℕ) (can : Can
         pub index-few : index ≤ 8
         index-few = let k = one-more can.node can.inner in let k0 = k.0 in let k1 = k.1 in let l = child-at.0 in let r = can.room in omega arith
 
-        pub can-take : (right : ℕ) → CanTake (views nodes) above index (Some right)
+        pub can-take : (right : ℕ) → CanAddItem (views nodes) above index (Some right)
         can-take right = record {
           node = can.node;
           here = can.here;

@@ -12,7 +12,7 @@ use Rattle.btree_shape.specs.TreeState.{TreeState, KeepsRest, views}
 use Rattle.btree_shape.proofs.Places.Untouched.{other-test}
 use Rattle.btree_shape.proofs.Trees.Numbers.{used-one}
 use Rattle.btree_shape.proofs.Trees.Stores.{most-few, writes_node, used-view}
-use Rattle.btree_raw.specs.Steps.{AddsItem, CanTake, SetsParent}
+use Rattle.btree_raw.specs.Steps.{AddsItem, CanAddItem, SetsParent}
 
 module _ {K V : Type 0} where
   -- a state with other nodes
@@ -47,5 +47,5 @@ module _ {K V : Type 0} where
   used-here nodes id v at = used-view nodes id (let u = used-one (views nodes id) v at in omega arith)
 
   module _ (nodes : Content (Node K V)) (id : ℕ) (node : Node K V) (at : Some node ≡ map.get nodes id) (after : Node K V) where
-    seen : views nodes id ≡ Some (view_of node)
-    seen = ap (option_map view_of) (sym at)
+    focus : views nodes id ≡ Some (view_of node)
+    focus = ap (option_map view_of) (sym at)

@@ -8,7 +8,7 @@ use Rattle.btree_view.specs.Edits.{HasChildFor, IsOverflowing, IsSplit}
 use Rattle.btree_node.specs.Node.{view_of}
 use Rattle.btree_view.specs.View.{size_of, most_of, View, NodeMap}
 use Rattle.btree_shape.specs.TreeState.{views}
-use Rattle.btree_raw.specs.Steps.{CanTake, Overflows, Halves, HasCount}
+use Rattle.btree_raw.specs.Steps.{CanAddItem, Overflows, CutsAtMedian, HasCount}
 use Rattle.btree_shape.proofs.Places.Untouched.{other-test}
 use Rattle.btree_shape.proofs.Trees.Stores.{most-few, writes_node, view-at}
 
@@ -23,7 +23,7 @@ size-at node_at id count v e l = let q : Some (size_of v) ≡ Some count = sym (
 module _ {K V : Type 0} where
   module _ (nodes : Content (Node K V)) (id : ℕ) (node : Node K V) (at : Some node ≡ map.get nodes id) where
     -- what `insert` of a node requires
-    pub take-room : (index : ℕ) (child : Option ℕ) (o : Option ℕ) → o ≡ index_offset index → CanTake (views nodes) id index child
+    pub take-room : (index : ℕ) (child : Option ℕ) (o : Option ℕ) → o ≡ index_offset index → CanAddItem (views nodes) id index child
         → (size_of (view_of node) ≤ most_of (view_of node)) × (IsSomeAnd o (λ i. i ≤ size_of (view_of node)) × HasChildFor child (view_of node))
     take-room index child o e can =
         let is = view-at nodes id node can.node at can.here in
@@ -33,7 +33,7 @@ module _ {K V : Type 0} where
     split-over can = rw (view-at nodes id node can.node at can.here) can.over
 
     pub halves : (new : Content (Node K V)) (left right : Node K V) (count : ℕ) (median : K × V) → count ≡ size_of (view_of left) → IsSplit (view_of node) median (view_of left) (view_of right)
-        → new ≡ map.insert nodes id left → Halves (views nodes) (views new) id count median (view_of right)
+        → new ≡ map.insert nodes id left → CutsAtMedian (views nodes) (views new) id count median (view_of right)
     halves new left right count median counted parts e = record {
       left = view_of left;
       counted = counted;

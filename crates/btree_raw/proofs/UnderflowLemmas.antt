@@ -18,11 +18,11 @@ use Rattle.btree_shape.specs.WellFormed.{times_used}
 use Rattle.btree_shape.proofs.Paths.Parents.{get-times}
 use Rattle.btree_shape.proofs.Underflow.Upward.{to-over}
 use Rattle.btree_raw.specs.NodeSteps.{MergesSiblings, CanGiveItem, RotatesSiblingsLeft, RotatesSiblingsRight}
-use Rattle.btree_raw.specs.Underflow.{AreAdjacent, HasSiblings, HaveFew, IsChild, IsFollowed, Underflows, siblings_at, siblings_of}
+use Rattle.btree_raw.specs.Underflow.{AreAdjacent, HasSiblings, FitTogether, IsChild, IsFollowed, Underflows, siblings_at, siblings_of}
 use Rattle.btree_raw.specs.Steps.{HasCount}
 use Rattle.btree_raw.proofs.SeparatorLemmas.{has-index, index-is}
 use Rattle.btree_raw.proofs.StepLemmas.{size-at}
-use Rattle.btree_shape.proofs.Underflow.Adjacent.{Beside}
+use Rattle.btree_shape.proofs.Underflow.Adjacent.{AdjacentSteps}
 use Rattle.btree_shape.proofs.Trees.Numbers.{used-there, same-node}
 use Rattle.btree_raw.proofs.BorrowLemmas.{followed-node, followed-under, pair}
 use Rattle.std.proofs.lemmas.Option.{slice_get_within, slice_get-get_or}
@@ -75,9 +75,9 @@ module _ {K V : Type 0} (nodes : Content (Node K V)) (parent : ℕ) where
     child-is : (index : ℕ) (o : Option ℕ) → o ≡ slice_get (children_of (view_of node)) index → child_at (views nodes) parent index ≡ o
     child-is index o e = child-here (views nodes) parent index (view_of node) o here-now (sym e)
 
-    pub siblings-seen : (index : ℕ) (left right : Option ℕ) → left ≡ slice_get (children_of (view_of node)) index → right ≡ slice_get (children_of (view_of node)) (index + 1)
+    pub siblings-focus : (index : ℕ) (left right : Option ℕ) → left ≡ slice_get (children_of (view_of node)) index → right ≡ slice_get (children_of (view_of node)) (index + 1)
         → (found : Option Siblings) → found ≡ siblings_of parent index left right → found ≡ siblings_at (views nodes) parent index
-    siblings-seen index left right l r found e =
+    siblings-focus index left right l r found e =
         let n : suc index ≡ index + 1 = omega arith in
         let next : child_at (views nodes) parent (suc index) ≡ right = subst (λ k. child_at (views nodes) parent k ≡ right) (sym n) (child-is (index + 1) right r) in
         rw (child-is index left l, next) e
@@ -118,7 +118,7 @@ module _ {K V : Type 0} (nodes : Content (Node K V)) (parent : ℕ) where
 
 -- a step with the left sibling
 module _ {A : Type 0} (node_at : NodeMap A) (siblings : Siblings) (a : Address) (s : AreAdjacent node_at siblings siblings.right a) where
-  abbrev two : Beside A node_at s.followed.root s.followed.xs s.followed.asked a s.followed.place s.followed.given s.followed.bound
+  abbrev two : AdjacentSteps A node_at s.followed.root s.followed.xs s.followed.expected a s.followed.place s.followed.freed s.followed.bound
       siblings.parent siblings.index siblings.left siblings.right
   two = pair node_at siblings siblings.right a s
 
@@ -126,10 +126,10 @@ module _ {A : Type 0} (node_at : NodeMap A) (siblings : Siblings) (a : Address) 
   left-there = used-there node_at siblings.left two.low two.at_left
 
   module _ (held : ℕ) (counted : HasCount node_at siblings.left held) where
-    pub left-lends : 3 < held → CanGiveItem node_at siblings.left
-    left-lends many = record { node = two.low; here = two.at_left; spare = let e = size-at node_at siblings.left held two.low two.at_left counted in omega arith }
+    pub left-spares : 3 < held → CanGiveItem node_at siblings.left
+    left-spares many = record { node = two.low; here = two.at_left; spare = let e = size-at node_at siblings.left held two.low two.at_left counted in omega arith }
 
-    pub left-few : held ≤ 3 → Underflows node_at siblings.right → HaveFew node_at siblings
+    pub left-few : held ≤ 3 → Underflows node_at siblings.right → FitTogether node_at siblings
     left-few few short = record {
       low = two.low;
       high = short.node;
@@ -187,7 +187,7 @@ module _ {A : Type 0} (node_at : NodeMap A) (id p : ℕ) (a : Address) (s : IsFo
 
   pub is-child : IsChild node_at p id
   is-child =
-      let o = to-over A node_at s.root s.xs id s.asked a s.place s.given s.bound s.underflow at-node.0 at-node.1 p up in
+      let o = to-over A node_at s.root s.xs id s.expected a s.place s.freed s.bound s.underflow at-node.0 at-node.1 p up in
       record { node = o.node; here = o.here; child = get-times (children_of o.node) o.index id o.child }
 
   pub is-short : (count : ℕ) → HasCount node_at id count → count ≤ 2 → Underflows node_at id
@@ -208,7 +208,7 @@ module _ {A : Type 0} (node_at : NodeMap A) (id p : ℕ) (a : Address) (s : IsFo
     -- without a right sibling there is a left one
     pub before-there : after ≡ None → IsSome before
     before-there none =
-        let o = to-over A node_at s.root s.xs id s.asked a s.place s.given s.bound s.underflow at-node.0 at-node.1 p up in
+        let o = to-over A node_at s.root s.xs id s.expected a s.place s.freed s.bound s.underflow at-node.0 at-node.1 p up in
         let same : children_in (node_at p) ≡ children_of o.node = ap children_in o.here in
         let last = none-of p sib.index (child_at node_at p sib.index) (child_at node_at p (suc sib.index)) id sib.child (sym sib.after_is ∙ none) in
         let n = get-none (children_in (node_at p)) (suc sib.index) last in
@@ -249,17 +249,17 @@ module _ {A : Type 0} (node_at : NodeMap A) (id p : ℕ) (a : Address) (s : IsFo
       pub after-adjacent : AreAdjacent node_at j j.left a
       after-adjacent = subst (λ n. AreAdjacent node_at j n a) (sym after-left) are-after
 
-      abbrev with-after : Beside A node_at s.root s.xs s.asked a s.place s.given s.bound j.parent j.index j.left j.right
+      abbrev with-after : AdjacentSteps A node_at s.root s.xs s.expected a s.place s.freed s.bound j.parent j.index j.left j.right
       with-after = pair node_at j id a are-after
 
       pub after-there : 0 < times_used (node_at j.right)
       after-there = let b = with-after in used-there node_at j.right b.high b.at_right
 
-      pub after-lends : (held : ℕ) → HasCount node_at j.right held → 3 < held → CanGiveItem node_at j.right
-      after-lends held counted many = let b = with-after in
+      pub after-spares : (held : ℕ) → HasCount node_at j.right held → 3 < held → CanGiveItem node_at j.right
+      after-spares held counted many = let b = with-after in
           record { node = b.high; here = b.at_right; spare = let e = size-at node_at j.right held b.high b.at_right counted in omega arith }
 
-      pub after-few : (held count : ℕ) → HasCount node_at j.right held → held ≤ 3 → HasCount node_at id count → count ≤ 2 → HaveFew node_at j
+      pub after-few : (held count : ℕ) → HasCount node_at j.right held → held ≤ 3 → HasCount node_at id count → count ≤ 2 → FitTogether node_at j
       after-few held count counted few here short = let b = with-after in
           record {
             low = b.low;

@@ -12,7 +12,7 @@ use Rattle.btree_shape.specs.Focus.Overflow.{MayOverflowAt, IsRepaired}
 use Rattle.btree_shape.specs.Moved.{moved_by_split}
 use Rattle.btree_shape.specs.Place.{IsBack}
 use Rattle.btree_shape.specs.Lists.{one, times_listed}
-use Rattle.btree_shape.specs.Focus.Shape.{count_at, times_under, view_at}
+use Rattle.btree_shape.specs.Focus.Subtree.{count_at, times_under, view_at}
 use Rattle.btree_shape.specs.Step.{WritesNode, GrowsRoot, Splits}
 use Rattle.btree_shape.specs.Focus.Path.{parent_above}
 use Rattle.btree_shape.specs.WellFormed.{times_used}
@@ -20,12 +20,12 @@ use Rattle.btree_shape.proofs.Places.Backs.{split-back}
 use Rattle.btree_shape.proofs.Splits.Claims.{push-spare}
 use Rattle.btree_shape.proofs.Paths.Parents.{get-times}
 use Rattle.btree_shape.proofs.Paths.Frames.{one-self}
-use Rattle.btree_shape.proofs.Splits.Upward.{UpTo, child-apart, child-used, grows-done, grows-node, grows-spare, grows-used, new-root, root-spare, spare-apart, spare-used, to-parent}
+use Rattle.btree_shape.proofs.Splits.Upward.{UpTo, child-apart, child-used, overflow-done, overflow-node, overflow-spare, overflow-used, new-root, root-spare, spare-apart, spare-used, to-parent}
 use Rattle.btree_shape.proofs.Trees.Numbers.{less-or, none-listed, same-or, times-has, used-low, used-mapped, used-one, zero-or}
 use Rattle.btree_shape.proofs.Trees.Sizes.{view-most, view-size}
 use Rattle.btree_raw.specs.Steps.{AreSplit, CanAddSeparator, CanGrowRoot, CanSplitInto, IsSplitting, HasCount, AddsSeparator}
 use Rattle.btree_raw.proofs.SeparatorLemmas.{one-more}
-use Rattle.btree_raw.proofs.OffsetLemmas.{grows-low}
+use Rattle.btree_raw.proofs.OffsetLemmas.{overflow-low}
 
 -- each of the numbers is one of the list's
 all-listed : (P : ℕ → Type 0) (ids : List ℕ) → All P ids → (n : ℕ) → 0 < times_listed n ids → P n
@@ -77,87 +77,87 @@ grow_root-used node_at new i j r x s used n = elim (same-or n r) [
 module _ (A : Type 0) (old now : NodeMap A) (root : Option ℕ) (start id : ℕ) (spare rest : List ℕ) (a b : Address) where
   -- what held for the tree at the start holds at the node that the splits have reached, with as many nodes gained as
   -- numbers used
-  pub record Climbs : Type 0 where
+  pub record SplitUpTo : Type 0 where
     pub taken : ℕ
     pub counted : taken + length rest ≡ length spare
-    pub next : (top : ℕ) (xs : List A) (asked : Option A) (place gained bound : ℕ) → root ≡ Some top
-        → MayOverflowAt A old top xs start spare asked a place gained bound → MayOverflowAt A now top xs id rest asked b place (gained + taken) bound
+    pub next : (top : ℕ) (xs : List A) (expected : Option A) (place allocated bound : ℕ) → root ≡ Some top
+        → MayOverflowAt A old top xs start spare expected a place allocated bound → MayOverflowAt A now top xs id rest expected b place (allocated + taken) bound
     pub used : (n : ℕ) → times_used (now n) ≡ times_used (old n)
     pub back : IsSome a.offset → IsSome b.offset
     pub low : (n : ℕ) → 0 < times_listed n rest → n < 2 ^ 64 - 1
 
-pub split_need-start : (A : Type 0) (node_at : NodeMap A) (root : Option ℕ) (start : ℕ) (spare : List ℕ) (a : Address) → All (λ n. n < 2 ^ 64 - 1) spare → Climbs A node_at node_at root start start spare spare a a
-split_need-start A node_at root start spare a low = record {
+pub upward-start : (A : Type 0) (node_at : NodeMap A) (root : Option ℕ) (start : ℕ) (spare : List ℕ) (a : Address) → All (λ n. n < 2 ^ 64 - 1) spare → SplitUpTo A node_at node_at root start start spare spare a a
+upward-start A node_at root start spare a low = record {
   taken = 0;
   counted = omega arith;
-  next = λ top xs asked place gained bound is g. let e : gained ≡ gained + 0 = omega arith in subst (λ n. MayOverflowAt A node_at top xs start spare asked a place n bound) e g;
+  next = λ top xs expected place allocated bound is g. let e : allocated ≡ allocated + 0 = omega arith in subst (λ n. MayOverflowAt A node_at top xs start spare expected a place n bound) e g;
   used = λ n. refl;
   back = λ x. x;
   low = all-listed (λ n. n < 2 ^ 64 - 1) spare low;
 }
 
-module _ (A : Type 0) (old now : NodeMap A) (root : Option ℕ) (start id : ℕ) (spare rest : List ℕ) (a b : Address) (s : IsSplitting old root start spare a) (c : Climbs A old now root start id spare rest a b) where
-  here : MayOverflowAt A now s.top s.xs id rest s.asked b s.place (s.gained + c.taken) s.bound
-  here = c.next s.top s.xs s.asked s.place s.gained s.bound s.at_root s.overflow
+module _ (A : Type 0) (old now : NodeMap A) (root : Option ℕ) (start id : ℕ) (spare rest : List ℕ) (a b : Address) (s : IsSplitting old root start spare a) (c : SplitUpTo A old now root start id spare rest a b) where
+  here : MayOverflowAt A now s.top s.xs id rest s.expected b s.place (s.allocated + c.taken) s.bound
+  here = c.next s.top s.xs s.expected s.place s.allocated s.bound s.at_root s.overflow
 
-  pub split_need-used : 0 < times_used (now id)
-  split_need-used = grows-used A now s.top s.xs id rest s.asked b s.place (s.gained + c.taken) s.bound here
+  pub upward-used : 0 < times_used (now id)
+  upward-used = overflow-used A now s.top s.xs id rest s.expected b s.place (s.allocated + c.taken) s.bound here
 
   -- the offset of the address is small
-  pub split_need-offset : IfSome b.offset (λ n. n + 1 < 2 ^ 64 - 1)
-  split_need-offset = grows-low A now s.top s.xs id rest s.asked b s.place (s.gained + c.taken) s.bound here
+  pub upward-offset : IfSome b.offset (λ n. n + 1 < 2 ^ 64 - 1)
+  upward-offset = overflow-low A now s.top s.xs id rest s.expected b s.place (s.allocated + c.taken) s.bound here
 
   module _ (v : View A) (e : now id ≡ Some v) where
     -- the splits end: no number is left
     none-left : size_of v ≤ most_of v → length rest ≡ 0
     none-left low =
-        let at = grows-node A now s.top s.xs id rest s.asked b s.place (s.gained + c.taken) s.bound here in
-        let is : v ≡ view_at A here.seen.height (parent_above here.seen.path) here.seen.shape = cc in
-        let z : size_of v ≡ count_at A here.seen.height here.seen.shape = ap size_of is ∙ view-size A here.seen.height (parent_above here.seen.path) here.seen.shape in
-        let m = ap most_of is ∙ view-most A here.seen.height (parent_above here.seen.path) here.seen.shape in
+        let at = overflow-node A now s.top s.xs id rest s.expected b s.place (s.allocated + c.taken) s.bound here in
+        let is : v ≡ view_at A here.focus.height (parent_above here.focus.path) here.focus.subtree = cc in
+        let z : size_of v ≡ count_at A here.focus.height here.focus.subtree = ap size_of is ∙ view-size A here.focus.height (parent_above here.focus.path) here.focus.subtree in
+        let m = ap most_of is ∙ view-most A here.focus.height (parent_above here.focus.path) here.focus.subtree in
         here.none (omega arith)
 
-    pub split_need-none-left : size_of v ≤ most_of v → rest ≡ []
-    split_need-none-left low = nil_from_length rest (none-left low)
+    pub upward-none-left : size_of v ≤ most_of v → rest ≡ []
+    upward-none-left low = nil_from_length rest (none-left low)
 
-    pub split_need-done : size_of v ≤ most_of v → AreSplit old now root root start spare a b
-    split_need-done low =
+    pub upward-done : size_of v ≤ most_of v → AreSplit old now root root start spare a b
+    upward-done low =
         let z = none-left low in
         let k = c.counted in
         let t : c.taken ≡ length spare = omega arith in
         record {
           top = s.top;
           at_root = s.at_root;
-          repaired = λ top xs asked place gained bound is g.
+          repaired = λ top xs expected place allocated bound is g.
               let same : top ≡ s.top = (let w = s.at_root in cc) in
-              subst (λ r. IsRepaired A now r xs asked b place (gained + length spare) bound) same
-              (subst (λ n. IsRepaired A now top xs asked b place (gained + n) bound) t
-              (grows-done A now top xs id rest asked b place (gained + c.taken) bound (c.next top xs asked place gained bound is g) v e low));
+              subst (λ r. IsRepaired A now r xs expected b place (allocated + length spare) bound) same
+              (subst (λ n. IsRepaired A now top xs expected b place (allocated + n) bound) t
+              (overflow-done A now top xs id rest expected b place (allocated + c.taken) bound (c.next top xs expected place allocated bound is g) v e low));
         }
 
     module _ (lt : most_of v < size_of v) where
-      pub split_need-left : 0 < length rest
-      split_need-left = grows-spare A now s.top s.xs id rest s.asked b s.place (s.gained + c.taken) s.bound here v e lt
+      pub upward-left : 0 < length rest
+      upward-left = overflow-spare A now s.top s.xs id rest s.expected b s.place (s.allocated + c.taken) s.bound here v e lt
 
       module _ (more : List ℕ) (j : ℕ) (is : rest ≡ more ++ j ∷ []) where
         ps : ((n : ℕ) → times_listed n rest ≡ one n j + times_listed n more) × (length rest ≡ suc (length more))
         ps = push-spare rest more j is
 
         j-used : 0 < times_used (now j)
-        j-used = spare-used A now s.top s.xs id rest s.asked b s.place (s.gained + c.taken) s.bound here v e lt more j ps.0 ps.1
+        j-used = spare-used A now s.top s.xs id rest s.expected b s.place (s.allocated + c.taken) s.bound here v e lt more j ps.0 ps.1
 
         j-apart : j ≢ id
-        j-apart = spare-apart A now s.top s.xs id rest s.asked b s.place (s.gained + c.taken) s.bound here v e lt more j ps.0 ps.1
+        j-apart = spare-apart A now s.top s.xs id rest s.expected b s.place (s.allocated + c.taken) s.bound here v e lt more j ps.0 ps.1
 
-        pub split_need-split : CanSplitInto now id j
-        split_need-split =
+        pub upward-split : CanSplitInto now id j
+        upward-split =
             let kids : children_in (now id) ≡ children_of v = ap children_in e in
-            let ca = child-apart A now s.top s.xs id rest s.asked b s.place (s.gained + c.taken) s.bound here v e lt more j ps.0 ps.1 in
+            let ca = child-apart A now s.top s.xs id rest s.expected b s.place (s.allocated + c.taken) s.bound here v e lt more j ps.0 ps.1 in
             record {
               can = record { node = v; here = e; over = lt };
               right_used = j-used;
               apart = j-apart;
-              children = λ n some. child-used A now s.top s.xs id rest s.asked b s.place (s.gained + c.taken) s.bound here v e lt more j ps.0 ps.1 n (subst (λ ids. 0 < times_listed n ids) kids some);
+              children = λ n some. child-used A now s.top s.xs id rest s.expected b s.place (s.allocated + c.taken) s.bound here v e lt more j ps.0 ps.1 n (subst (λ ids. 0 < times_listed n ids) kids some);
               children_apart = rw kids ca;
             }
 
@@ -172,11 +172,11 @@ module _ (A : Type 0) (old now : NodeMap A) (root : Option ℕ) (start id : ℕ)
           moved-back p k is = some-back now (moved_by_split id j p k kept b).offset (split-back now id j p k kept b (back-some now b.offset is))
 
           module _ (p : ℕ) (up : parent_of v ≡ Some p) where
-            to : UpTo A now s.top s.xs id rest s.asked b s.place (s.gained + c.taken) s.bound here v e lt more j ps.0 ps.1 mid x sp p
-            to = to-parent A now s.top s.xs id rest s.asked b s.place (s.gained + c.taken) s.bound here v e lt more j ps.0 ps.1 mid x sp p up
+            to : UpTo A now s.top s.xs id rest s.expected b s.place (s.allocated + c.taken) s.bound here v e lt more j ps.0 ps.1 mid x sp p
+            to = to-parent A now s.top s.xs id rest s.expected b s.place (s.allocated + c.taken) s.bound here v e lt more j ps.0 ps.1 mid x sp p up
 
-            pub split_need-insert_separator : CanAddSeparator mid p id
-            split_need-insert_separator = record {
+            pub upward-insert_separator : CanAddSeparator mid p id
+            upward-insert_separator = record {
               node = to.node;
               here = to.here;
               inner = to.inner;
@@ -184,17 +184,17 @@ module _ (A : Type 0) (old now : NodeMap A) (root : Option ℕ) (start id : ℕ)
               child = get-times (children_of to.node) to.index id to.child;
             }
 
-            pub split_need-next : (new : NodeMap A) (k : ℕ) → AddsSeparator mid new p id j k x → Climbs A old new root start p spare more a (moved_by_split id j p k kept b)
-            split_need-next new k l = record {
+            pub upward-next : (new : NodeMap A) (k : ℕ) → AddsSeparator mid new p id j k x → SplitUpTo A old new root start p spare more a (moved_by_split id j p k kept b)
+            upward-next new k l = record {
               taken = suc c.taken;
               counted = let q = c.counted in let f = ps.1 in omega arith;
-              next = λ top xs asked place gained bound at g.
-                  let g1 = c.next top xs asked place gained bound at g in
-                  let t = to-parent A now top xs id rest asked b place (gained + c.taken) bound g1 v e lt more j ps.0 ps.1 mid x sp p up in
+              next = λ top xs expected place allocated bound at g.
+                  let g1 = c.next top xs expected place allocated bound at g in
+                  let t = to-parent A now top xs id rest expected b place (allocated + c.taken) bound g1 v e lt more j ps.0 ps.1 mid x sp p up in
                   let same : l.node ≡ t.node = (let w1 = l.here in let w2 = t.here in cc) in
-                  let n : suc (gained + c.taken) ≡ gained + suc c.taken = omega arith in
-                  subst (λ m. MayOverflowAt A new top xs p more asked (moved_by_split id j p k kept b) place m bound) n
-                  (subst (λ m. MayOverflowAt A new top xs p more asked (moved_by_split id j p k m b) place (suc (gained + c.taken)) bound) kept-is
+                  let n : suc (allocated + c.taken) ≡ allocated + suc c.taken = omega arith in
+                  subst (λ m. MayOverflowAt A new top xs p more expected (moved_by_split id j p k kept b) place m bound) n
+                  (subst (λ m. MayOverflowAt A new top xs p more expected (moved_by_split id j p k m b) place (suc (allocated + c.taken)) bound) kept-is
                   (t.next new k (subst (λ u. slice_get (children_of u) k ≡ Some id) same l.child) (subst (λ u. WritesNode mid new p (with_item k x (Some j) u)) same l.writes_node)));
               used = λ n. put-used mid new p l.node (with_item k x (Some j) l.node) l.here l.writes_node n ∙ (mid-used n ∙ c.used n);
               back = λ is. moved-back p k (c.back is);
@@ -204,39 +204,39 @@ module _ (A : Type 0) (old now : NodeMap A) (root : Option ℕ) (start id : ℕ)
           -- the node is the root
           module _ (up : parent_of v ≡ None) where
             alone : length more ≡ 1
-            alone = (root-spare A now s.top s.xs id rest s.asked b s.place (s.gained + c.taken) s.bound here v e lt more j ps.0 ps.1 mid x sp up).1
+            alone = (root-spare A now s.top s.xs id rest s.expected b s.place (s.allocated + c.taken) s.bound here v e lt more j ps.0 ps.1 mid x sp up).1
 
-            pub split_need-left-root : 0 < length more
-            split_need-left-root = let q = alone in omega arith
+            pub upward-left-root : 0 < length more
+            upward-left-root = let q = alone in omega arith
 
             module _ (none : List ℕ) (r : ℕ) (is2 : more ≡ none ++ r ∷ []) where
               qs : ((n : ℕ) → times_listed n more ≡ one n r + times_listed n none) × (length more ≡ suc (length none))
               qs = push-spare more none r is2
 
-              pub split_need-none-left-root : none ≡ []
-              split_need-none-left-root = nil_from_length none (let y = qs.1 in let w = alone in omega arith)
+              pub upward-none-left-root : none ≡ []
+              upward-none-left-root = nil_from_length none (let y = qs.1 in let w = alone in omega arith)
 
               r-listed : times_listed r rest ≡ one r j + (1 + times_listed r none)
               r-listed = let x1 = ps.0 r in let x2 = qs.0 r in let x3 = one-self r in omega arith
 
-              sum : times_under A here.seen.height r here.seen.shape + times_listed r rest ≤ 1
-              sum = let o = here.seen.whole.once r in let k = used-low (now r) in omega arith
+              sum : times_under A here.focus.height r here.focus.subtree + times_listed r rest ≤ 1
+              sum = let o = here.focus.whole.once r in let k = used-low (now r) in omega arith
 
               r-used : 0 < times_used (mid r)
-              r-used = let o = here.seen.whole.once r in let l = r-listed in let m = mid-used r in omega arith
+              r-used = let o = here.focus.whole.once r in let l = r-listed in let m = mid-used r in omega arith
 
-              pub split_need-number : r < 2 ^ 64 - 1
-              split_need-number = c.low r (let l = r-listed in omega arith)
+              pub upward-number : r < 2 ^ 64 - 1
+              upward-number = c.low r (let l = r-listed in omega arith)
 
-              pub split_need-grow_root : CanGrowRoot mid id j r
-              split_need-grow_root = record {
+              pub upward-grow_root : CanGrowRoot mid id j r
+              upward-grow_root = record {
                 left_used = let u = used-one (mid id) sp.left sp.at_left in omega arith;
                 right_used = let u = used-one (mid j) sp.right sp.at_right in omega arith;
                 root_used = r-used;
                 apart = (
                   (λ q. j-apart (sym q)),
                   (λ q.
-                      let t : one r id ≤ times_under A here.seen.height r here.seen.shape = subst (λ m. one r m ≤ times_under A here.seen.height r here.seen.shape) here.seen.here (times-has A here.seen.height r here.seen.shape) in
+                      let t : one r id ≤ times_under A here.focus.height r here.focus.subtree = subst (λ m. one r m ≤ times_under A here.focus.height r here.focus.subtree) here.focus.here (times-has A here.focus.height r here.focus.subtree) in
                       let o : one r id ≡ 1 = subst (λ m. one r m ≡ 1) (sym q) (one-self r) in
                       let l = r-listed in let m = sum in omega arith),
                   (λ q.
@@ -246,24 +246,24 @@ module _ (A : Type 0) (old now : NodeMap A) (root : Option ℕ) (start id : ℕ)
               }
 
               module _ (new : NodeMap A) (ra : GrowsRoot mid new id j r x) where
-                pub split_need-used-end : (n : ℕ) → times_used (new n) ≡ times_used (old n)
-                split_need-used-end n = grow_root-used mid new id j r x ra r-used n ∙ (mid-used n ∙ c.used n)
+                pub upward-used-end : (n : ℕ) → times_used (new n) ≡ times_used (old n)
+                upward-used-end n = grow_root-used mid new id j r x ra r-used n ∙ (mid-used n ∙ c.used n)
 
-                pub split_need-root : AreSplit old new root (Some r) start spare a (moved_by_split id j r 0 kept b)
-                split_need-root = record {
+                pub upward-root : AreSplit old new root (Some r) start spare a (moved_by_split id j r 0 kept b)
+                upward-root = record {
                   top = r;
                   at_root = refl;
-                  repaired = λ top xs asked place gained bound at g.
-                      let g1 = c.next top xs asked place gained bound at g in
+                  repaired = λ top xs expected place allocated bound at g.
+                      let g1 = c.next top xs expected place allocated bound at g in
                       let only : (n : ℕ) → times_listed n more ≡ one n r = λ n. let q = qs.0 n in let z = none-listed none (let y = qs.1 in let w = alone in omega arith) n in omega arith in
-                      let t = new-root A now top xs id rest asked b place (gained + c.taken) bound g1 v e lt more j ps.0 ps.1 mid x sp up r only new ra in
-                      let n : suc (suc (gained + c.taken)) ≡ gained + length spare = (let q1 = c.counted in let q2 = ps.1 in let q3 = alone in omega arith) in
-                      subst (λ m. IsRepaired A new r xs asked (moved_by_split id j r 0 kept b) place m bound) n
-                      (subst (λ m. IsRepaired A new r xs asked (moved_by_split id j r 0 m b) place (suc (suc (gained + c.taken))) bound) kept-is t);
+                      let t = new-root A now top xs id rest expected b place (allocated + c.taken) bound g1 v e lt more j ps.0 ps.1 mid x sp up r only new ra in
+                      let n : suc (suc (allocated + c.taken)) ≡ allocated + length spare = (let q1 = c.counted in let q2 = ps.1 in let q3 = alone in omega arith) in
+                      subst (λ m. IsRepaired A new r xs expected (moved_by_split id j r 0 kept b) place m bound) n
+                      (subst (λ m. IsRepaired A new r xs expected (moved_by_split id j r 0 m b) place (suc (suc (allocated + c.taken))) bound) kept-is t);
                 }
 
-                pub split_need-back-end : IsSome a.offset → IsSome (moved_by_split id j r 0 kept b).offset
-                split_need-back-end is = moved-back r 0 (c.back is)
+                pub upward-back-end : IsSome a.offset → IsSome (moved_by_split id j r 0 kept b).offset
+                upward-back-end is = moved-back r 0 (c.back is)
 
 -- what the test of a node returns
 pub is-over : {A : Type 0} (v : View A) → (IsTrue true ↔ IsOverflowing v) → IsOverflowing v

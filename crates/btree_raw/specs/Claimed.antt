@@ -39,5 +39,5 @@ pub record AreClaimed {K V : Type 0} (old new : TreeState K V) (ids : List ℕ) 
   pub rest : KeepsRest old new
 
 -- whatever tree these numbers were claimed from, the new tree is that tree
-abbrev pub GivesBack : {K V : Type 0} → (old new : TreeState K V) → List ℕ → Type 0
-GivesBack {K} {V} old new ids = (base : TreeState K V) → AreClaimed base old ids → new ≡ base
+abbrev pub UndoesClaims : {K V : Type 0} → (old new : TreeState K V) → List ℕ → Type 0
+UndoesClaims {K} {V} old new ids = (base : TreeState K V) → AreClaimed base old ids → new ≡ base

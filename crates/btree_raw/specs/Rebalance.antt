@@ -9,7 +9,7 @@ use Rattle.btree_item.specs.declared.refused.Cause.TheVariants.{Store}
 use Rattle.btree_node.specs.declared.node.Node.{Node}
 use Rattle.btree_view.specs.View.{View, NodeMap, most_of, size_of}
 use Rattle.btree_shape.specs.UnderflowFix.{IsUnderflowFixed}
-use Rattle.btree_shape.specs.Focus.Underflow.{owed_by}
+use Rattle.btree_shape.specs.Focus.Underflow.{debt_of}
 use Rattle.btree_shape.specs.TreeState.{TreeState, HasLevels, HasStrain, IsBTreeButLength, IsPlaceIn, IsValidIn, item_of, node_map, nodes_for_splits, pairs_of}
 use Rattle.btree_raw.specs.Claimed.{EMPTY, MayRefuseOneOf}
 use Rattle.btree_raw.specs.Raw.{Refuses}
@@ -24,17 +24,17 @@ pub record HasRoom {A : Type 0} (node_at : NodeMap A) (id : ℕ) : Type 0 where
 module _ {K V : Type 0} (old new : TreeState K V) (id : ℕ) where
   -- the tree has gained exactly the nodes that the splits need; their number and the strain afterwards are together at
   -- most the strain before
-  pub record HasTaken (before after : ℕ) : Type 0 where
+  pub record AllocatesForSplits (before after : ℕ) : Type 0 where
     pub more : map.len new.nodes ≡ map.len old.nodes + nodes_for_splits old id
-    pub paid : nodes_for_splits old id + after ≤ before
+    pub within_strain : nodes_for_splits old id + after ≤ before
 
-  -- `given` nodes were freed, at most as many as the tree had levels; their number and the strain afterwards are
+  -- `freed` nodes were freed, at most as many as the tree had levels; their number and the strain afterwards are
   -- together at most the strain before, plus one if the node had no items
-  pub record HasGiven (node : View (K × V)) (before after : ℕ) : Type 0 where
-    pub given : ℕ
-    pub fewer : map.len old.nodes ≡ map.len new.nodes + given
-    pub within : (levels : ℕ) → HasLevels old levels → given ≤ levels
-    pub paid : given + after ≤ before + owed_by node
+  pub record FreesNodes (node : View (K × V)) (before after : ℕ) : Type 0 where
+    pub freed : ℕ
+    pub fewer : map.len old.nodes ≡ map.len new.nodes + freed
+    pub within : (levels : ℕ) → HasLevels old levels → freed ≤ levels
+    pub within_strain : freed + after ≤ before + debt_of node
 
   -- the tree is well formed but for its length, with the same pairs; address a became b, at the same place, and at the
   -- same item if one stood there; the nodes gained or freed are within the strain; and if node `id` does not overflow,
@@ -53,8 +53,8 @@ module _ {K V : Type 0} (old new : TreeState K V) (id : ℕ) where
     pub after : ℕ
     pub strain_before : HasStrain old before
     pub strain_after : HasStrain new after
-    pub taken : Overflows (node_map old) id → HasTaken before after
-    pub given : (room : HasRoom (node_map old) id) → HasGiven room.node before after
+    pub taken : Overflows (node_map old) id → AllocatesForSplits before after
+    pub freed : (room : HasRoom (node_map old) id) → FreesNodes room.node before after
 
   -- the store refused a node, and the refusal was counted; this happens only if node `id` overflows and the store may
   -- refuse one of the nodes that the splits need; nothing else has changed

@@ -13,7 +13,7 @@ use Rattle.btree_shape.specs.WellFormed.{times_used}
 
 module _ {A : Type 0} (node_at : NodeMap A) where
   -- node `id` has room for an item at the index, and a child is given exactly if it is an internal node
-  pub record CanTake (id index : ℕ) (child : Option ℕ) : Type 0 where
+  pub record CanAddItem (id index : ℕ) (child : Option ℕ) : Type 0 where
     pub node : View A
     pub here : node_at id ≡ Some node
     pub room : size_of node ≤ most_of node
@@ -42,7 +42,7 @@ module _ {A : Type 0} (node_at : NodeMap A) where
     AddsItem id index x child = Becomes node_at new id (option_map (with_item index x child) (node_at id))
 
     -- node `id` is cut at the median, and its left part, with `left_count` items, stays there; nothing else has changed
-    pub record Halves (id left_count : ℕ) (median : A) (right : View A) : Type 0 where
+    pub record CutsAtMedian (id left_count : ℕ) (median : A) (right : View A) : Type 0 where
       pub left : View A
       pub counted : left_count ≡ size_of left
       pub parts : (node : View A) → node_at id ≡ Some node → IsSplit node median left right
@@ -90,19 +90,19 @@ module _ {A : Type 0} (node_at : NodeMap A) where
     pub top : ℕ
     pub at_root : root ≡ Some top
     pub xs : List A
-    pub asked : Option A
+    pub expected : Option A
     pub place : ℕ
-    pub gained : ℕ
+    pub allocated : ℕ
     pub bound : ℕ
-    pub overflow : MayOverflowAt A node_at top xs id spare asked a place gained bound
+    pub overflow : MayOverflowAt A node_at top xs id spare expected a place allocated bound
 
   -- the result of a split upward: whatever held of the tree and of address `a` holds of the tree under the new root and
   -- of address `b`, no node overflows, and each of the numbers is that of a node
   pub record AreSplit (new : NodeMap A) (root new_root : Option ℕ) (id : ℕ) (spare : List ℕ) (a b : Address) : Type 0 where
     pub top : ℕ
     pub at_root : new_root ≡ Some top
-    pub repaired : (old_top : ℕ) (xs : List A) (asked : Option A) (place gained bound : ℕ) → root ≡ Some old_top
-        → MayOverflowAt A node_at old_top xs id spare asked a place gained bound → IsRepaired A new top xs asked b place (gained + length spare) bound
+    pub repaired : (old_top : ℕ) (xs : List A) (expected : Option A) (place allocated bound : ℕ) → root ≡ Some old_top
+        → MayOverflowAt A node_at old_top xs id spare expected a place allocated bound → IsRepaired A new top xs expected b place (allocated + length spare) bound
 
 -- the same for the whole tree: nothing but its nodes and its root has changed, and the same numbers are used
 pub record SplitsUpward {K V : Type 0} (old new : TreeState K V) (id : ℕ) (spare : List ℕ) (a b : Address) : Type 0 where
@@ -114,7 +114,7 @@ pub record SplitsUpward {K V : Type 0} (old new : TreeState K V) (id : ℕ) (spa
 module _ {A : Type 0} (node_at : NodeMap A) where
   -- the count of the nodes that splits from `start` need has reached node `id`; it comes to at most 33, on at most
   -- `most` levels
-  pub record IsCounting (most start id counted : ℕ) : Type 0 where
+  pub record IsCountingSplits (most start id counted : ℕ) : Type 0 where
     pub root : ℕ
     pub xs : List A
     pub upward : IsCountingUpward A node_at root xs most id counted (split_need node_at most start)

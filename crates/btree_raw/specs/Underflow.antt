@@ -28,7 +28,7 @@ module _ {A : Type 0} (node_at : NodeMap A) where
     pub few : size_of node ≤ MIN_ITEMS - 1
 
   -- the two siblings have at most five items together, so that they fit into one node with one item more
-  pub record HaveFew (siblings : Siblings) : Type 0 where
+  pub record FitTogether (siblings : Siblings) : Type 0 where
     pub low : View A
     pub high : View A
     pub at_left : node_at siblings.left ≡ Some low
@@ -58,11 +58,11 @@ module _ {A : Type 0} (node_at : NodeMap A) where
   pub record IsFollowed (id : ℕ) (a : Address) : Type 0 where
     pub root : ℕ
     pub xs : List A
-    pub asked : Option A
+    pub expected : Option A
     pub place : ℕ
-    pub given : ℕ
+    pub freed : ℕ
     pub bound : ℕ
-    pub underflow : MayUnderflowAt A node_at root xs id asked a place given bound
+    pub underflow : MayUnderflowAt A node_at root xs id expected a place freed bound
 
   -- the two are children of their parent, with its item at the index between them; node `id`, one of the two, may have
   -- an item too few, and an address is followed
@@ -75,19 +75,19 @@ module _ {A : Type 0} (node_at : NodeMap A) where
 
   -- whatever held of the tree and of address `a` holds with address `b`, and each node has its number of items
   pub record EndsUnderflow (new : NodeMap A) (id : ℕ) (a b : Address) : Type 0 where
-    pub repaired : (root : ℕ) (xs : List A) (asked : Option A) (place given bound : ℕ)
-        → MayUnderflowAt A node_at root xs id asked a place given bound → IsRepaired A new root xs asked b place given bound
+    pub repaired : (root : ℕ) (xs : List A) (expected : Option A) (place freed bound : ℕ)
+        → MayUnderflowAt A node_at root xs id expected a place freed bound → IsRepaired A new root xs expected b place freed bound
     pub used : (n : ℕ) → times_used (new n) ≡ times_used (node_at n)
 
   -- the same, except that one node is freed and that the parent, which has fewer levels above it, may have an item too
   -- few
   pub record PassesUnderflowUp (new : NodeMap A) (id parent : ℕ) (a b : Address) : Type 0 where
-    pub underflow : (root : ℕ) (xs : List A) (asked : Option A) (place given bound : ℕ)
-        → MayUnderflowAt A node_at root xs id asked a place given bound
-        → MayUnderflowAt A new root xs parent asked b place (suc given) bound
+    pub underflow : (root : ℕ) (xs : List A) (expected : Option A) (place freed bound : ℕ)
+        → MayUnderflowAt A node_at root xs id expected a place freed bound
+        → MayUnderflowAt A new root xs parent expected b place (suc freed) bound
         × (levels_above new (length xs) parent < levels_above node_at (length xs) id)
-    pub gone : ℕ
-    pub used : (n : ℕ) → times_used (node_at n) ≡ times_used (new n) + one n gone
+    pub removed : ℕ
+    pub used : (n : ℕ) → times_used (node_at n) ≡ times_used (new n) + one n removed
 
 module _ {K V : Type 0} (old new : TreeState K V) where
   -- a step at node `id` that freed no node is the last one
@@ -114,10 +114,10 @@ module _ {K V : Type 0} (old new : TreeState K V) where
 
 -- a well formed tree under this root, with the address at its place; or the empty tree, in which every address is
 -- nowhere
-abbrev pub IsAtRest : {A : Type 0} → NodeMap A → (root : Option ℕ) → List A → (asked : Option A) → Address → (place given bound : ℕ) → Type 0
-IsAtRest {A} node_at (Some top) xs asked a place given bound = IsRepaired A node_at top xs asked a place given bound
-IsAtRest node_at None xs asked a place given bound =
-    IsFormed node_at None xs × IsValid node_at None a.id a.offset × IsPlace node_at None xs a.id a.offset place × (given ≤ bound)
+abbrev pub IsRepairedOrEmpty : {A : Type 0} → NodeMap A → (root : Option ℕ) → List A → (expected : Option A) → Address → (place freed bound : ℕ) → Type 0
+IsRepairedOrEmpty {A} node_at (Some top) xs expected a place freed bound = IsRepaired A node_at top xs expected a place freed bound
+IsRepairedOrEmpty node_at None xs expected a place freed bound =
+    IsFormed node_at None xs × IsValid node_at None a.id a.offset × IsPlace node_at None xs a.id a.offset place × (freed ≤ bound)
 
 module _ {A : Type 0} (node_at : NodeMap A) where
   -- node `id` of the tree with this root may have an item too few, and an address is followed
@@ -131,16 +131,16 @@ module _ {A : Type 0} (node_at : NodeMap A) where
     pub items : length fixing.followed.xs ≡ count
 
   -- the result of an underflow fix upward: whatever held of the tree and of address `a` holds of the tree under the new
-  -- root and of address `b`, no node underflows, and the nodes in `gone` were freed, at most as many as there are
+  -- root and of address `b`, no node underflows, and the nodes in `removed` were freed, at most as many as there are
   -- levels from node `id` up to the root; the steps are those of `IsUnderflowFixed`, in their order
   pub record AreFixed (new : NodeMap A) (root new_root : Option ℕ) (id : ℕ) (a b : Address) : Type 0 where
-    pub gone : List ℕ
-    pub counted : (n : ℕ) → times_used (node_at n) ≡ times_used (new n) + times_listed n gone
-    pub fixed : (top : ℕ) (xs : List A) (asked : Option A) (place given bound : ℕ) → root ≡ Some top
-        → MayUnderflowAt A node_at top xs id asked a place given bound → IsAtRest new new_root xs asked b place (given + length gone) bound
-    pub few : (top : ℕ) (xs : List A) (asked : Option A) (place given bound : ℕ) → root ≡ Some top
-        → MayUnderflowAt A node_at top xs id asked a place given bound
-        → length gone ≤ suc (levels_above node_at (length xs) id)
+    pub removed : List ℕ
+    pub counted : (n : ℕ) → times_used (node_at n) ≡ times_used (new n) + times_listed n removed
+    pub fixed : (top : ℕ) (xs : List A) (expected : Option A) (place freed bound : ℕ) → root ≡ Some top
+        → MayUnderflowAt A node_at top xs id expected a place freed bound → IsRepairedOrEmpty new new_root xs expected b place (freed + length removed) bound
+    pub few : (top : ℕ) (xs : List A) (expected : Option A) (place freed bound : ℕ) → root ≡ Some top
+        → MayUnderflowAt A node_at top xs id expected a place freed bound
+        → length removed ≤ suc (levels_above node_at (length xs) id)
     pub steps : (top : ℕ) → root ≡ Some top → IsUnderflowFixed node_at new top new_root id
 
 -- the same for the whole tree: nothing but its nodes and its root has changed

@@ -3,7 +3,7 @@ ghost use Rattle.std.specs.Prelude.{◌≡◌, ℕ, ◌<◌, ◌≤◌, IfSome, 
 ghost use Rattle.btree_shape.specs.Moved.{first_in};
 ghost use Rattle.btree_shape.specs.TreeState.{Changes, IsUsed, node_map};
 ghost use Rattle.btree_raw.specs.NodeSteps.{MergesSiblings, CanGiveItem, RotatesSiblingsLeft, RotatesSiblingsRight};
-ghost use Rattle.btree_raw.specs.Underflow.{AreAdjacent, GoesUpFromEither, HaveFew, Underflows, EndsUnderflow};
+ghost use Rattle.btree_raw.specs.Underflow.{AreAdjacent, GoesUpFromEither, FitTogether, Underflows, EndsUnderflow};
 ghost use Rattle.btree_raw.specs.Steps.{HasCount};
 
 use crate::raw::RawBTree;
@@ -78,7 +78,7 @@ pub(crate) fn merge_siblings<K: Drop, V: Drop, C: NodesMut<K, V>>(
     addr: Address,
 ) -> Address
     requires adjacent { (id : ℕ) × AreAdjacent (node_map tree.old) siblings id addr }
-    requires few { HaveFew (node_map tree.old) siblings }
+    requires few { FitTogether (node_map tree.old) siblings }
     requires count { HasCount (node_map tree.old) siblings.left count }
     requires low { IfSome addr.offset (λ n. n ≤ LEAF_SLOTS) }
     ensures merges { Changes (λ a b. MergesSiblings a b siblings) tree.old tree.new }

@@ -2,7 +2,7 @@
 ghost use Rattle.std.specs.Prelude.{◌≡◌, ◌<◌, ◌≤◌, [], length, None, IfSome, IfNone, IsTrue, false};
 ghost use Rattle.std.specs.FinMap as map;
 ghost use Rattle.btree_shape.specs.TreeState.{TreeState};
-ghost use Rattle.btree_raw.specs.Claimed.{AreClaimed, EMPTY, GivesBack, MayRefuseOneOf};
+ghost use Rattle.btree_raw.specs.Claimed.{AreClaimed, EMPTY, UndoesClaims, MayRefuseOneOf};
 ghost use Rattle.btree_raw.specs.Raw.{Refuses, with_node};
 
 use crate::raw::RawBTree;
@@ -20,7 +20,7 @@ pub(crate) fn release<K: Drop, V: Drop, C: NodesMut<K, V>>(
     claims: &mut ClaimedIds,
 )
     requires { (base : TreeState K V) × AreClaimed base tree.old claims.old.items }
-    ensures back { GivesBack tree.old tree.new claims.old.items }
+    ensures back { UndoesClaims tree.old tree.new claims.old.items }
     ensures none { claims.new.items ≡ [] }
 {
     tree.tell_fits();

@@ -2,7 +2,7 @@
 ghost use Rattle.std.specs.Prelude.{◌≡◌, ◌≤◌};
 ghost use Rattle.std.specs.FinMap as map;
 ghost use Rattle.btree_shape.specs.TreeState.{IsBTree, IsUsed, node_map, nodes_for_splits, nodes_needed};
-ghost use Rattle.btree_raw.specs.Steps.{IsCounting};
+ghost use Rattle.btree_raw.specs.Steps.{IsCountingSplits};
 
 use crate::raw::RawBTree;
 use btree_item::MAX_CLAIMS;
@@ -11,7 +11,7 @@ use btree_nodes::NodesMut;
 /// Returns how many nodes the splits need that begin at a node with an item too many: one for each consecutive full node from there
 /// upward, and one more if the last of them is the root. It reads at most one node of each level.
 pub fn split_need<K, V, C: NodesMut<K, V>>(tree: &RawBTree<K, V, C>, start: usize) -> usize
-    requires { IsCounting (node_map tree.now) (map.len tree.now.nodes) start start 0 }
+    requires { IsCountingSplits (node_map tree.now) (map.len tree.now.nodes) start start 0 }
     ensures value { result ≡ nodes_for_splits tree.now start }
     ensures few { result ≤ MAX_CLAIMS }
 {

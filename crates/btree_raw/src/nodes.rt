@@ -4,7 +4,7 @@ ghost use Rattle.btree_node.specs.Node.{view_of};
 ghost use Rattle.btree_view.specs.View.{children_in};
 ghost use Rattle.btree_shape.specs.Step.{Reparents, WritesNode};
 ghost use Rattle.btree_shape.specs.TreeState.{Changes, IsUsed, node_map};
-ghost use Rattle.btree_raw.specs.Steps.{CanReparent, CanTake, Overflows, SetsParent, AddsItem, Halves};
+ghost use Rattle.btree_raw.specs.Steps.{CanReparent, CanAddItem, Overflows, SetsParent, AddsItem, CutsAtMedian};
 
 use crate::raw::RawBTree;
 use btree_item::{Item, Offset};
@@ -46,7 +46,7 @@ pub fn add_item<K: Drop, V: Drop, C: NodesMut<K, V>>(
     item: Item<K, V>,
     child: Option<usize>,
 )
-    requires { CanTake (node_map tree.old) id index child }
+    requires { CanAddItem (node_map tree.old) id index child }
     ensures { Changes (λ a b. AddsItem a b id index item child) tree.old tree.new }
 {
     tree.tell_fits();
@@ -59,7 +59,7 @@ pub(crate) fn split_node<K: Drop, V: Drop, C: NodesMut<K, V>>(
     id: usize,
 ) -> (usize, Item<K, V>, Node<K, V>)
     requires { Overflows (node_map tree.old) id }
-    ensures { Changes (λ a b. Halves a b id result.0 result.1 (view_of result.2)) tree.old tree.new }
+    ensures { Changes (λ a b. CutsAtMedian a b id result.0 result.1 (view_of result.2)) tree.old tree.new }
 {
     tree.tell_fits();
     tree.node_mut(id).split()

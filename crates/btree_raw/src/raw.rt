@@ -11,7 +11,7 @@ use crate::nodes::reparent_children;
 use btree_item::{Address, Item};
 use btree_node::Node;
 use btree_nodes::{Nodes, NodesMut};
-use btree_valid::is_off;
+use btree_valid::is_off_by_one;
 use std::marker::{Model, PhantomData};
 
 /// Nodes in a store, the number of a root, and a length, none of which need fit together: a tree in the middle of a change, or one from
@@ -185,7 +185,7 @@ impl<K, V, C: NodesMut<K, V>> RawBTree<K, V, C> {
     /// refusal.
     pub fn allocate_node(&mut self, node: Node<K, V>) -> Result<usize, Node<K, V>>
         requires { AreUsed self.old.nodes (children_of (view_of node)) }
-        ensures gained { IfOk result (λ id. GainsNode self.old self.new id node) }
+        ensures allocated { IfOk result (λ id. GainsNode self.old self.new id node) }
         ensures number { IfOk result (λ id. id < usize.MAX) }
         ensures returned { IfErr result (λ back. back ≡ node) }
         ensures unchanged { OnErr result (Refuses self.old self.new) }
@@ -202,7 +202,7 @@ impl<K, V, C: NodesMut<K, V>> RawBTree<K, V, C> {
 }
 
 impl<K: Ord, V, C: NodesMut<K, V>> RawBTree<K, V, C> {
-    ghost use Rattle.btree_shape.specs.TreeState.{IsOff};
+    ghost use Rattle.btree_shape.specs.TreeState.{IsOffByOneAt};
 
     /// Returns whether the tree has a root and at most 32 levels, and is well formed but for its length and the number of items of node
     /// `id`, which may have one item too many or too few, and none if it is the root. This is what `rebalance` requires of the tree.
@@ -210,11 +210,11 @@ impl<K: Ord, V, C: NodesMut<K, V>> RawBTree<K, V, C> {
     /// It uses no memory but the stack. For each of the 32 heights that such a tree may have, it visits at most one node more than there
     /// are.
     pub fn is_off_by_one(&self, id: usize) -> bool
-        ensures { IsTrue result ↔ IsOff K.cmp self.now id }
+        ensures { IsTrue result ↔ IsOffByOneAt K.cmp self.now id }
     {
         self.tell_fits();
         match self.root {
-            Some(root) => is_off(&self.store, root, id),
+            Some(root) => is_off_by_one(&self.store, root, id),
             None => false,
         }
     }

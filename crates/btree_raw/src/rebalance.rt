@@ -1,6 +1,6 @@
 //! Rebalancing a tree that is off by one at a node.
 ghost use Rattle.std.specs.Prelude.{IfOk, IfErr};
-ghost use Rattle.btree_shape.specs.TreeState.{IsOff, IsValidIn, node_map};
+ghost use Rattle.btree_shape.specs.TreeState.{IsOffByOneAt, IsValidIn, node_map};
 ghost use Rattle.btree_raw.specs.Steps.{Overflows};
 ghost use Rattle.btree_raw.specs.Rebalance.{HasRoom, IsRebalanced, IsRefusal};
 
@@ -13,12 +13,12 @@ use btree_item::{Address, Cause};
 use btree_nodes::NodesMut;
 
 // Claims the nodes that the splits need, and splits an overflowing node and so on upward.
-fn rebalance_over<K: Ord + Drop, V: Drop, C: NodesMut<K, V>>(
+fn rebalance_overflow<K: Ord + Drop, V: Drop, C: NodesMut<K, V>>(
     tree: &mut RawBTree<K, V, C>,
     id: usize,
     addr: Address,
 ) -> Result<Address, Cause>
-    requires odd { IsOff K.cmp tree.old id }
+    requires off_by_one { IsOffByOneAt K.cmp tree.old id }
     requires valid { IsValidIn tree.old addr }
     requires over { Overflows (node_map tree.old) id }
     ensures rebalanced { IfOk result (λ b. IsRebalanced tree.old tree.new id K.cmp addr b) }
@@ -33,12 +33,12 @@ fn rebalance_over<K: Ord + Drop, V: Drop, C: NodesMut<K, V>>(
 }
 
 // Fixes the underflow of a node that does not overflow, if it has one, and so on upward.
-fn rebalance_under<K: Ord + Drop, V: Drop, C: NodesMut<K, V>>(
+fn rebalance_underflow<K: Ord + Drop, V: Drop, C: NodesMut<K, V>>(
     tree: &mut RawBTree<K, V, C>,
     id: usize,
     addr: Address,
 ) -> Address
-    requires odd { IsOff K.cmp tree.old id }
+    requires off_by_one { IsOffByOneAt K.cmp tree.old id }
     requires valid { IsValidIn tree.old addr }
     requires room { HasRoom (node_map tree.old) id }
     ensures { IsRebalanced tree.old tree.new id K.cmp addr result }
@@ -56,15 +56,15 @@ impl<K: Ord + Drop, V: Drop, C: NodesMut<K, V>> RawBTree<K, V, C> {
     /// It returns an error, and nothing but the count of refusals changes, only if the node overflows and the store refuses a node that a
     /// split needs.
     pub fn rebalance(&mut self, id: usize, addr: Address) -> Result<Address, Cause>
-        requires odd { IsOff K.cmp self.old id }
+        requires off_by_one { IsOffByOneAt K.cmp self.old id }
         requires valid { IsValidIn self.old addr }
         ensures rebalanced { IfOk result (λ b. IsRebalanced self.old self.new id K.cmp addr b) }
         ensures refused { IfErr result (λ cause. IsRefusal self.old self.new id C.MayRefuse cause) }
     {
         self.tell_fits();
         if self.node(id).is_overflowing() {
-            return rebalance_over(self, id, addr);
+            return rebalance_overflow(self, id, addr);
         }
-        Ok(rebalance_under(self, id, addr))
+        Ok(rebalance_underflow(self, id, addr))
     }
 }

@@ -124,7 +124,7 @@ fn fix_underflow_at<K: Drop, V: Drop, C: NodesMut<K, V>>(
     requires followed { IsFollowed (node_map tree.old) id addr }
     requires under { option_map parent_of (node_map tree.old id) ≡ Some (Some parent) }
     requires count { HasCount (node_map tree.old) id count }
-    requires short { count ≤ 2 }
+    requires short { count < MIN_ITEMS }
     requires low { IfSome addr.offset (λ n. n ≤ LEAF_SLOTS) }
     requires number { id < usize.MAX }
     ensures borrows { result.1 ≡ false → Borrows (node_map tree.old) (node_map tree.new) parent id }
@@ -196,7 +196,7 @@ pub fn fix_underflow_upward<K: Drop, V: Drop, C: NodesMut<K, V>>(
     loop {
         let node = tree.node(id);
         let count = node.item_count();
-        if count > 2 {
+        if count >= MIN_ITEMS {
             return at;
         }
         let Some(parent) = node.parent() else {

@@ -8,11 +8,11 @@ use Rattle.btree_session.specs.declared.line.Line.{Line}
 use Rattle.btree_session.specs.declared.line.Line.TheVariants.{Other}
 use Rattle.btree_session.specs.declared.script.Stop.{Stop}
 use Rattle.btree_session.specs.declared.script.Stop.TheVariants.{NotACommand, Memory, Input, Output}
-use Rattle.btree_session.specs.Line.{line_words, IsSaid}
+use Rattle.btree_session.specs.Line.{line_words, MeansLine}
 use Rattle.btree_store.specs.Content.{Content}
 use Rattle.btree_node.specs.declared.node.Node.{Node}
 use Rattle.btree_shape.specs.TreeState.{TreeState}
-use Rattle.btree_session.specs.Script.{is_newline, lines_of, ComesAnywhere, Does, Drives, EndsAfter, ReadsLine, Serves, StopsAt, UnlessOutput}
+use Rattle.btree_session.specs.Script.{is_newline, lines_of, MayStopAnywhere, Does, Drives, EndsAfter, ReadsLine, Serves, StopsAt, UnlessOutput}
 use Rattle.btree_session.proofs.Lines.{lines_of-cons, cut_at_newline}
 
 -- more lines are served
@@ -31,7 +31,7 @@ Serves-append May old mid new (line ∷ lines) more first second served next = (
 )
 
 -- one line is served
-Serves-one : (May : Content (Node ℕ ℕ) → Type 0) (old new : TreeState ℕ ℕ) (line : List ℕ) (said : Line) (printed : List ℕ) → IsSaid (line_words line) said → Does May old said printed new → Serves May old (line ∷ []) printed new
+Serves-one : (May : Content (Node ℕ ℕ) → Type 0) (old new : TreeState ℕ ℕ) (line : List ℕ) (said : Line) (printed : List ℕ) → MeansLine (line_words line) said → Does May old said printed new → Serves May old (line ∷ []) printed new
 Serves-one May old new line said printed says does = (said, new, printed, [], says, does, (refl, refl), sym (append-nil printed))
 
 -- the progress so far
@@ -117,7 +117,7 @@ ended May old new input before rest after number x so_far none =
       writes = so_far.writes;
     }
 
-ends_anywhere : (A : Type 0) (served lines : List (List ℕ)) (stop : Stop) → ComesAnywhere stop → (rest : List (List ℕ)) × (lines ≡ served ++ rest) → EndsAfter {A = A} served lines (Err stop)
+ends_anywhere : (A : Type 0) (served lines : List (List ℕ)) (stop : Stop) → MayStopAnywhere stop → (rest : List (List ℕ)) × (lines ≡ served ++ rest) → EndsAfter {A = A} served lines (Err stop)
 ends_anywhere A served lines (NotACommand number) anywhere rest = absurd anywhere
 ends_anywhere A served lines Memory anywhere rest = rest
 ends_anywhere A served lines Input anywhere rest = rest
@@ -133,7 +133,7 @@ anyway P (Err Output) p = tt
 
 -- it stops between two lines
 pub stopped : {A : Type 0} (May : Content (Node ℕ ℕ) → Type 0) (old new : TreeState ℕ ℕ) (input before rest after : Option (List ℕ)) (number : ℕ) (stop : Stop) →
-    Progress May old input before rest after new number → ComesAnywhere stop → Drives {A = A} May old input before (Err stop) after new
+    Progress May old input before rest after new number → MayStopAnywhere stop → Drives {A = A} May old input before (Err stop) after new
 stopped {A} May old new input before rest after number stop so_far anywhere =
     let all = some_lines input rest so_far.served so_far.known in
     record {
@@ -163,7 +163,7 @@ failed May old new input before rest between after number so_far =
 
 -- it stops while it reads the next line
 pub between_lines : {A : Type 0} (May : Content (Node ℕ ℕ) → Type 0) (old new : TreeState ℕ ℕ) (input before rest between after : Option (List ℕ)) (number : ℕ) (stop : Stop) →
-    Progress May old input before rest between new number → ComesAnywhere stop → UnlessOutput {A = A} (Err stop) (Keeps between after) → Drives {A = A} May old input before (Err stop) after new
+    Progress May old input before rest between new number → MayStopAnywhere stop → UnlessOutput {A = A} (Err stop) (Keeps between after) → Drives {A = A} May old input before (Err stop) after new
 between_lines May old new input before rest between after number (NotACommand at) so_far anywhere keeps = absurd anywhere
 between_lines May old new input before rest between after number Memory so_far anywhere keeps =
     stopped May old new input before rest after number Memory (written May old new input before rest between after number so_far keeps) tt
@@ -242,7 +242,7 @@ goes_on May old mid new input before rest next between after number said reads p
 }
 
 -- a line at the front of known bytes
-pub in_buffer : (known next : Option (List ℕ)) (buffer : List ℕ) (len : ℕ) (said : Line) → position is_newline buffer ≡ Some len → IsSaid (line_words (take len buffer)) said
+pub in_buffer : (known next : Option (List ℕ)) (buffer : List ℕ) (len : ℕ) (said : Line) → position is_newline buffer ≡ Some len → MeansLine (line_words (take len buffer)) said
     → DropsConsumable (prepend_known buffer known) next (Some (length buffer)) (len + 1) → ReadsLine (prepend_known buffer known) next said
 in_buffer None next buffer len said place says drops = record { line = take len buffer; says = says; some = tt; first = tt; rest = tt }
 in_buffer (Some behind) next buffer len said place says drops =
@@ -257,14 +257,14 @@ in_buffer (Some behind) next buffer len said place says drops =
     }
 
 -- the same for the bytes of a reader, which are not known if it has no buffer
-pub in_reader : (has_none : Bool) (known next : Option (List ℕ)) (buffer : List ℕ) (len : ℕ) (said : Line) → position is_newline buffer ≡ Some len → IsSaid (line_words (take len buffer)) said
+pub in_reader : (has_none : Bool) (known next : Option (List ℕ)) (buffer : List ℕ) (len : ℕ) (said : Line) → position is_newline buffer ≡ Some len → MeansLine (line_words (take len buffer)) said
     → DropsConsumable (cond has_none None (prepend_known buffer known)) next (Some (length buffer)) (len + 1) → ReadsLine (cond has_none None (prepend_known buffer known)) next said
 in_reader true known next buffer len said place says drops = record { line = take len buffer; says = says; some = tt; first = tt; rest = tt }
 in_reader false known next buffer len said place says drops = in_buffer known next buffer len said place says drops
 
 -- a line that `read_until` has read
 pub read_through : (old new : Option (List ℕ)) (line : List ℕ) (said : Line) → IfSome old (λ text. line ≡ take_through 10 text) → DropsThrough old new 10 → 0 < length line
-    → IsSaid (line_words (strip_last 10 line)) said → ReadsLine old new said
+    → MeansLine (line_words (strip_last 10 line)) said → ReadsLine old new said
 read_through None new line said taken dropped some says = record { line = strip_last 10 line; says = says; some = tt; first = tt; rest = tt }
 read_through (Some text) new line said taken dropped some says = record {
   line = strip_last 10 line;

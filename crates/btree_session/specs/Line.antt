@@ -11,9 +11,9 @@ use Rattle.btree_session.specs.declared.question.Question.TheVariants as questio
 use Rattle.btree_session.specs.declared.line.Line.TheVariants as lines
 
 -- a value with this property, or `None` if no value has it
-abbrev pub Finds : {A : Type 0} → (A → Type 0) → Option A → Type 0
-Finds IsSo (Some x) = IsSo x
-Finds {A} IsSo None = (x : A) → IsSo x → ⊥
+abbrev pub SomeIfAny : {A : Type 0} → (A → Type 0) → Option A → Type 0
+SomeIfAny IsSo (Some x) = IsSo x
+SomeIfAny {A} IsSo None = (x : A) → IsSo x → ⊥
 
 -- only a space divides words
 abbrev pub is_space : ℕ → Bool
@@ -50,9 +50,9 @@ IsCall name numbers [] = ⊥
 IsCall name numbers (word ∷ words) = (word ≡ name) × AreNumbers numbers words
 
 -- the words mean the command
-abbrev pub Says : List (List ℕ) → Command → Type 0
-Says words (Insert key value) = IsCall (codes "insert") (key ∷ value ∷ []) words
-Says words (Get key) = IsCall (codes "get") (key ∷ []) words
+abbrev pub MeansCommand : List (List ℕ) → Command → Type 0
+MeansCommand words (Insert key value) = IsCall (codes "insert") (key ∷ value ∷ []) words
+MeansCommand words (Get key) = IsCall (codes "get") (key ∷ []) words
 
 -- the name of a question
 abbrev pub name_of : Question → List ℕ
@@ -66,8 +66,8 @@ abbrev pub IsQuestion : List (List ℕ) → Question → Type 0
 IsQuestion words question = words ≡ name_of question ∷ []
 
 -- a line with these words means this: nothing, a command, a question, or something else
-abbrev pub IsSaid : List (List ℕ) → Line → Type 0
-IsSaid words lines.Empty = words ≡ []
-IsSaid words (lines.Command said) = Says words said
-IsSaid words (lines.Question asked) = IsQuestion words asked
-IsSaid words lines.Other = (words ≢ []) × ((said : Command) → Says words said → ⊥) × ((asked : Question) → IsQuestion words asked → ⊥)
+abbrev pub MeansLine : List (List ℕ) → Line → Type 0
+MeansLine words lines.Empty = words ≡ []
+MeansLine words (lines.Command said) = MeansCommand words said
+MeansLine words (lines.Question asked) = IsQuestion words asked
+MeansLine words lines.Other = (words ≢ []) × ((said : Command) → MeansCommand words said → ⊥) × ((asked : Question) → IsQuestion words asked → ⊥)

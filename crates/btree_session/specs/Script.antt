@@ -19,7 +19,7 @@ use Rattle.btree_session.specs.declared.line.Line.TheVariants as line_kinds
 use Rattle.btree_session.specs.declared.script.Stop.{Stop}
 use Rattle.btree_session.specs.declared.script.Stop.TheVariants.{NotACommand, Memory, Input, Output}
 use Rattle.btree_session.specs.Answer.{IsAnswer}
-use Rattle.btree_session.specs.Line.{line_words, IsSaid}
+use Rattle.btree_session.specs.Line.{line_words, MeansLine}
 use Rattle.btree_session.specs.Machine.{IsStep}
 use Rattle.btree_session.specs.Text.{Pushes, as_line, line_of}
 
@@ -45,7 +45,7 @@ lines_of text = lines_among (slice_split is_newline text)
 -- the known bytes lose their first line and its newline, and that line means `said`
 pub record ReadsLine (old new : Option (List ℕ)) (said : Line) : Type 0 where
   pub line : List ℕ
-  pub says : IsSaid (line_words line) said
+  pub says : MeansLine (line_words line) said
   pub some : IfSome old (λ text. 0 < length text)
   pub first : IfSome old (λ text. line ≡ strip_last 10 (take_through 10 text))
   pub rest : IfSome old (λ text. new ≡ Some (drop_through 10 text))
@@ -85,21 +85,21 @@ module _ (MayRefuse : Content (Node ℕ ℕ) → Type 0) where
   Performs old said new text more = (printed : List ℕ) × Does old said printed new × Pushes text more printed
 
   -- the same for a command
-  abbrev pub Obeys : {Z : Type 0} → (old : TreeState ℕ ℕ) → Command → (new : TreeState ℕ ℕ) → (text more : Vec ℕ Z) → Type 0
-  Obeys old command new text more = Performs old (line_kinds.Command command) new text more
+  abbrev pub RunsCommand : {Z : Type 0} → (old : TreeState ℕ ℕ) → Command → (new : TreeState ℕ ℕ) → (text more : Vec ℕ Z) → Type 0
+  RunsCommand old command new text more = Performs old (line_kinds.Command command) new text more
 
   -- what the lines mean was done, one after another, and `printed` was printed
   abbrev pub Serves : (old : TreeState ℕ ℕ) → (lines : List (List ℕ)) → (printed : List ℕ) → (new : TreeState ℕ ℕ) → Type 0
   Serves old [] printed new = (printed ≡ []) × (new ≡ old)
   Serves old (line ∷ lines) printed new =
       (said : Line) × (mid : TreeState ℕ ℕ) × (first : List ℕ) × (rest : List ℕ)
-      × IsSaid (line_words line) said × Does old said first mid × Serves mid lines rest new × (printed ≡ first ++ rest)
+      × MeansLine (line_words line) said × Does old said first mid × Serves mid lines rest new × (printed ≡ first ++ rest)
 
 -- which of all lines were served, by the result: all of them, or those before the first that is neither a command nor a
 -- question, or a first part of them
 abbrev pub EndsAfter : {A : Type 0} → List (List ℕ) → List (List ℕ) → Result A Stop → Type 0
 EndsAfter served all (Ok _) = all ≡ served
-EndsAfter served all (Err (NotACommand number)) = (line : List ℕ) × (rest : List (List ℕ)) × (all ≡ served ++ line ∷ rest) × IsSaid (line_words line) Other × (number ≡ length served + 1)
+EndsAfter served all (Err (NotACommand number)) = (line : List ℕ) × (rest : List (List ℕ)) × (all ≡ served ++ line ∷ rest) × MeansLine (line_words line) Other × (number ≡ length served + 1)
 EndsAfter served all (Err Memory) = (rest : List (List ℕ)) × (all ≡ served ++ rest)
 EndsAfter served all (Err Input) = (rest : List (List ℕ)) × (all ≡ served ++ rest)
 EndsAfter served all (Err Output) = (rest : List (List ℕ)) × (all ≡ served ++ rest)
@@ -113,11 +113,11 @@ UnlessOutput (Err Input) Holds = Holds
 UnlessOutput (Err Output) Holds = ⊤
 
 -- a stop that may occur at any line
-abbrev pub ComesAnywhere : Stop → Type 0
-ComesAnywhere (NotACommand number) = ⊥
-ComesAnywhere Memory = Unit {0}
-ComesAnywhere Input = Unit {0}
-ComesAnywhere Output = Unit {0}
+abbrev pub MayStopAnywhere : Stop → Type 0
+MayStopAnywhere (NotACommand number) = ⊥
+MayStopAnywhere Memory = Unit {0}
+MayStopAnywhere Input = Unit {0}
+MayStopAnywhere Output = Unit {0}
 
 -- why the line with a number was not served: memory was refused, or it is neither a command nor a question
 abbrev pub StopsAt : (said : Line) → (number : ℕ) → Stop → Type 0

@@ -1,7 +1,7 @@
 //! Lines of text, and the commands that they express.
 ghost use Rattle.std.specs.Prelude.{◌≡◌, ◌≢◌, ℕ, List, [], ◌∷◌, IfSome, IfNone, not, position, codes};
 ghost use Rattle.std.specs.Io.BufRead.{strip_last};
-ghost use Rattle.btree_session.specs.Line.{is_space, words_of, line_words, AreNumbers, BeginsWith, Finds, IsNumber, IsSaid, name_of};
+ghost use Rattle.btree_session.specs.Line.{is_space, words_of, line_words, AreNumbers, BeginsWith, SomeIfAny, IsNumber, MeansLine, name_of};
 
 use crate::Command;
 use crate::question::Question;
@@ -21,7 +21,7 @@ pub(crate) enum Line {
 
 /// Returns the meaning of a line, which is given without its newline.
 pub(crate) fn parse(line: &[u8]) -> Line
-    ensures { IsSaid (line_words line.now) result }
+    ensures { MeansLine (line_words line.now) result }
 {
     let Some((name, rest)) = next_word(without_last(line, b'\r')) else {
         return Line::Empty;
@@ -47,7 +47,7 @@ pub(crate) fn without_last(line: &[u8], byte: u8) -> &[u8]
 
 /// Returns the meaning of a line that begins with `insert`.
 fn parse_insert(rest: &[u8]) -> Line
-    ensures { IsSaid (codes "insert" ∷ words_of rest.now) result }
+    ensures { MeansLine (codes "insert" ∷ words_of rest.now) result }
 {
     match two_numbers(rest) {
         Some((key, value)) => Line::Command(Command::Insert(key, value)),
@@ -57,7 +57,7 @@ fn parse_insert(rest: &[u8]) -> Line
 
 /// Returns the meaning of a line that begins with `get`.
 fn parse_get(rest: &[u8]) -> Line
-    ensures { IsSaid (codes "get" ∷ words_of rest.now) result }
+    ensures { MeansLine (codes "get" ∷ words_of rest.now) result }
 {
     match one_number(rest) {
         Some(key) => Line::Command(Command::Get(key)),
@@ -69,7 +69,7 @@ fn parse_get(rest: &[u8]) -> Line
 fn parse_question(name: &[u8], rest: &[u8]) -> Line
     requires not_insert { name.now ≢ codes "insert" }
     requires not_get { name.now ≢ codes "get" }
-    ensures { IsSaid (name.now ∷ words_of rest.now) result }
+    ensures { MeansLine (name.now ∷ words_of rest.now) result }
 {
     match question_named(name) {
         Some(asked) if next_word(rest).is_none() => Line::Question(asked),
@@ -79,7 +79,7 @@ fn parse_question(name: &[u8], rest: &[u8]) -> Line
 
 /// Returns the question with a name.
 fn question_named(name: &[u8]) -> Option<Question>
-    ensures { Finds (λ asked. name.now ≡ name_of asked) result }
+    ensures { SomeIfAny (λ asked. name.now ≡ name_of asked) result }
 {
     if name == b"list".as_slice() {
         return Some(Question::List);
@@ -98,7 +98,7 @@ fn question_named(name: &[u8]) -> Option<Question>
 
 /// Returns the number, if the text is exactly one.
 fn one_number(text: &[u8]) -> Option<u64>
-    ensures { Finds (λ n. AreNumbers (n ∷ []) (words_of text.now)) result }
+    ensures { SomeIfAny (λ n. AreNumbers (n ∷ []) (words_of text.now)) result }
 {
     let (number, rest) = next_number(text)?;
     if next_word(rest).is_some() {
@@ -109,7 +109,7 @@ fn one_number(text: &[u8]) -> Option<u64>
 
 /// Returns the numbers, if the text is exactly two.
 fn two_numbers(text: &[u8]) -> Option<(u64, u64)>
-    ensures { Finds (λ pair. AreNumbers (pair.0 ∷ pair.1 ∷ []) (words_of text.now)) result }
+    ensures { SomeIfAny (λ pair. AreNumbers (pair.0 ∷ pair.1 ∷ []) (words_of text.now)) result }
 {
     let (first, rest) = next_number(text)?;
     let second = one_number(rest)?;
@@ -155,7 +155,7 @@ fn first_space(text: &[u8]) -> Option<usize>
 
 /// Returns the number that a word writes in decimal digits, if it does and the number fits in 64 bits.
 fn number(word: &[u8]) -> Option<u64>
-    ensures { Finds (λ n. IsNumber n word.now) result }
+    ensures { SomeIfAny (λ n. IsNumber n word.now) result }
 {
     if word.is_empty() {
         return None;

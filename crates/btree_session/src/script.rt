@@ -1,9 +1,9 @@
 //! Reads commands from lines of text, and writes replies as lines of text.
 ghost use Rattle.std.specs.Prelude.{◌≡◌, ◌⊎◌, [], position, IfSome, IfNone, IfOk, IfErr, OnOk, OnErr};
 ghost use Rattle.std.specs.Io.KnownBytes.{IsAtEnd};
-ghost use Rattle.btree_session.specs.Line.{line_words, IsSaid};
+ghost use Rattle.btree_session.specs.Line.{line_words, MeansLine};
 ghost use Rattle.btree_session.specs.Answer.{Answers};
-ghost use Rattle.btree_session.specs.Script.{is_newline, input_of, output_of, ComesAnywhere, Drives, Obeys, Performs, StopsAt, TakesLine, UnlessOutput, WritesOut};
+ghost use Rattle.btree_session.specs.Script.{is_newline, input_of, output_of, MayStopAnywhere, Drives, RunsCommand, Performs, StopsAt, TakesLine, UnlessOutput, WritesOut};
 
 use crate::line::{Line, parse, without_last};
 use crate::question::{Question, push_answer_line};
@@ -87,7 +87,7 @@ fn next_line<R: Read, W: Write>(
         (IsAtEnd (input_of R.remaining reader.old))) }
     ensures text { UnlessOutput result
         (WritesOut W.contents output.old text.old output.new text.new) }
-    ensures stop { IfErr result ComesAnywhere }
+    ensures stop { IfErr result MayStopAnywhere }
 {
     if let Some(said) = buffered_line(reader) {
         return Ok(Some(said));
@@ -165,7 +165,7 @@ fn obey<C: NodesMut<u64, u64>>(
     text: &mut Vec<u8>,
 ) -> Result<(), AllocError>
     ensures done { OnOk result
-        (Obeys C.MayRefuse session.old command session.new text.old text.new) }
+        (RunsCommand C.MayRefuse session.old command session.new text.old text.new) }
     ensures session_kept { OnErr result (session.new ≡ session.old) }
     ensures text_kept { OnErr result (text.new.items ≡ text.old.items) }
 {

@@ -1,4 +1,4 @@
--- Nodes that underflow, and their fixes from a node upward. Main theorem: `beside` in Adjacent, for two siblings, one
+-- Nodes that underflow, and their fixes from a node upward. Main theorem: `adjacent-steps` in Adjacent, for two siblings, one
 -- of which underflows: a rotation ends the fix, and a merge makes the parent the next node. Upward has the cases of one
 -- node (no underflow, a parent, the root), which the loop `fix_underflow_upward` of btree_raw goes through.
 -- Order: siblings and their items (Items), what steps write (Writes, Calls), where addresses go (SiblingRows to

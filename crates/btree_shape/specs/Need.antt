@@ -3,7 +3,7 @@
 use Rattle.std.specs.Prelude.{◌≡◌, ℕ, zero, suc, ◌+◌, ◌<◌, nat_lt, if◌then◌else◌, List, [], Option, Some, None}
 use Rattle.btree_item.specs.declared.TheConstants.{MAX_INTERNAL_ITEMS}
 use Rattle.btree_view.specs.View.{View, NodeMap, parent_of, size_of, most_of}
-use Rattle.btree_shape.specs.Focus.Shape.{Shape, most_at, count_at, id_of}
+use Rattle.btree_shape.specs.Focus.Subtree.{Subtree, most_at, count_at, id_of}
 use Rattle.btree_shape.specs.Focus.Path.{Path, top, under, frame_count, depth}
 use Rattle.btree_shape.specs.Focus.Focus.{IsUnsizedFocus}
 
@@ -56,8 +56,8 @@ path_need_from {A} {height} path count = if nat_lt count (most_at height) then 0
 pub record IsCountingUpward (A : Type 0) (node_at : NodeMap A) (root : ℕ) (xs : List A) (most id counted all : ℕ) : Type 0 where
   pub height : ℕ
   pub path : Path A height
-  pub shape : Shape A height
-  pub here : id_of A height shape ≡ id
-  pub stands : IsUnsizedFocus A node_at [] root xs height path shape
-  pub left : counted + path_need_from path (count_at A height shape) ≡ all
+  pub subtree : Subtree A height
+  pub here : id_of A height subtree ≡ id
+  pub focused : IsUnsizedFocus A node_at [] root xs height path subtree
+  pub left : counted + path_need_from path (count_at A height subtree) ≡ all
   pub room : depth path < most

@@ -21,7 +21,7 @@ module _ {A : Type 0} (node_at : NodeMap A) where
     pub represents : Represents node_at height parent id ys
 
   -- the items of the subtree of node `id` stand in the list after `before` others
-  pub record StandsAt (xs : List A) (id : ℕ) (ys : List A) (before : ℕ) : Type 0 where
+  pub record IsSubtreeAt (xs : List A) (id : ℕ) (ys : List A) (before : ℕ) : Type 0 where
     pub front : List A
     pub back : List A
     pub subtree : IsSubtree id ys
@@ -69,11 +69,11 @@ module _ {A : Type 0} (node_at : NodeMap A) where
 
   -- at -1: the number of items before the subtree
   abbrev pub IsPlaceBefore : List A → ℕ → ℕ → Type 0
-  IsPlaceBefore xs id place = (ys : List A) × StandsAt xs id ys place
+  IsPlaceBefore xs id place = (ys : List A) × IsSubtreeAt xs id ys place
 
   -- past the last item: that number, and the number of items of the subtree
   abbrev pub IsPlaceAfter : List A → ℕ → ℕ → Type 0
-  IsPlaceAfter xs id place = (ys : List A) × (before : ℕ) × StandsAt xs id ys before × (place ≡ before + length ys)
+  IsPlaceAfter xs id place = (ys : List A) × (before : ℕ) × IsSubtreeAt xs id ys before × (place ≡ before + length ys)
 
   -- at an item: its index in the list
   abbrev pub IsPlaceOf : List A → Option A → ℕ → Type 0

@@ -83,7 +83,7 @@ module _ {A : Type 0} (node_at new : NodeMap A) where
     pub low_is : IsRemade low new_low (items_of low ++ down ∷ items_of high) (children_of low ++ children_of high)
     pub new_parent : new parent ≡ Some new_top
     pub new_left : new left ≡ Some new_low
-    pub gone : new right ≡ None
+    pub removed : new right ≡ None
     pub moved : (n : ℕ) → n ≢ parent → n ≢ left → n ≢ right → 0 < times_listed n (children_of high)
         → new n ≡ option_map (with_parent (Some left)) (node_at n)
     pub kept : (n : ℕ) → n ≢ parent → n ≢ left → n ≢ right → times_listed n (children_of high) ≡ 0 → new n ≡ node_at n
@@ -93,6 +93,6 @@ module _ {A : Type 0} (node_at new : NodeMap A) where
     pub node : View A
     pub at_root : node_at root ≡ Some node
     pub only : children_of node ≡ child ∷ []
-    pub gone : new root ≡ None
+    pub removed : new root ≡ None
     pub new_child : new child ≡ option_map (with_parent None) (node_at child)
     pub kept : (n : ℕ) → n ≢ root → n ≢ child → new n ≡ node_at n

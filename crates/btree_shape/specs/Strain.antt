@@ -1,15 +1,15 @@
 -- Strain, a potential: how near the nodes of a tree are to a split or a merge. It bounds the nodes that later steps
 -- allocate or free.
 -- In an insertion and its splits, the nodes allocated and the strain afterwards are together at most the strain before,
--- plus one for the item that is inserted (`repaired-paid` in `proofs/Splits/Insertion.antt`). In rotations, merges and
+-- plus one for the item that is inserted (`repaired-within` in `proofs/Splits/Insertion.antt`). In rotations, merges and
 -- a shrunk root, the nodes freed and the strain afterwards are together at most the strain before, plus one for a root
--- without items (`Beside` in `proofs/Underflow/Adjacent.antt`, `to-child` and `to-nothing` in
+-- without items (`AdjacentSteps` in `proofs/Underflow/Adjacent.antt`, `to-child` and `to-nothing` in
 -- `proofs/Underflow/Upward.antt`).
 use Rattle.std.specs.Prelude.{◌≡◌, ℕ, zero, suc, ◌+◌, ◌-◌, ◌==◌, if◌then◌else◌, List, length, Option, Some, None}
 use Rattle.btree_item.specs.declared.TheConstants.{MAX_INTERNAL_ITEMS, MAX_LEAF_ITEMS, MIN_ITEMS}
 use Rattle.btree_view.specs.View.{View, leaf, internal, NodeMap, size_of}
 use Rattle.btree_shape.specs.Lists.{times_listed, total}
-use Rattle.btree_shape.specs.Focus.Shape.{Shape, count_at}
+use Rattle.btree_shape.specs.Focus.Subtree.{Subtree, count_at}
 use Rattle.btree_shape.specs.Focus.Path.{Frame, at_first, at_branch, Path, top, under, frame_count}
 use Rattle.btree_shape.specs.WellFormed.{times_used}
 
@@ -51,30 +51,30 @@ surplus (suc height) count = count - UNSTRAINED_INTERNAL_ITEMS
 
 module _ (A : Type 0) where
   -- of a subtree that is not at the root; and of the nodes below its root
-  abbrev pub strain : (height : ℕ) → Shape A height → ℕ
-  strain zero shape = surplus zero (length shape.1) + (UNSTRAINED_MIN_ITEMS - length shape.1)
-  strain (suc height) shape =
-      surplus (suc height) (length shape.2) + (UNSTRAINED_MIN_ITEMS - length shape.2)
-      + (strain height shape.1 + total (λ b. strain height b.1) shape.2)
+  abbrev pub strain : (height : ℕ) → Subtree A height → ℕ
+  strain zero subtree = surplus zero (length subtree.1) + (UNSTRAINED_MIN_ITEMS - length subtree.1)
+  strain (suc height) subtree =
+      surplus (suc height) (length subtree.2) + (UNSTRAINED_MIN_ITEMS - length subtree.2)
+      + (strain height subtree.1 + total (λ b. strain height b.1) subtree.2)
 
-  abbrev pub strain_below : (height : ℕ) → Shape A height → ℕ
-  strain_below zero shape = 0
-  strain_below (suc height) shape = strain height shape.1 + total (λ b. strain height b.1) shape.2
+  abbrev pub strain_below : (height : ℕ) → Subtree A height → ℕ
+  strain_below zero subtree = 0
+  strain_below (suc height) subtree = strain height subtree.1 + total (λ b. strain height b.1) subtree.2
 
   -- of a node with this path above it
   abbrev pub own_strain : {height : ℕ} → Path A height → (count : ℕ) → ℕ
   own_strain {height} top count = surplus height count
   own_strain {height} (under frame path) count = surplus height count + (UNSTRAINED_MIN_ITEMS - count)
 
-  abbrev pub strain_beside : {height : ℕ} → Frame A height → ℕ
-  strain_beside {height} (at_first id back) = total (λ b. strain height b.1) back
-  strain_beside {height} (at_branch id first front x back) =
+  abbrev pub strain_of_siblings : {height : ℕ} → Frame A height → ℕ
+  strain_of_siblings {height} (at_first id back) = total (λ b. strain height b.1) back
+  strain_of_siblings {height} (at_branch id first front x back) =
       strain height first + total (λ b. strain height b.1) front + total (λ b. strain height b.1) back
 
   abbrev pub strain_above : {height : ℕ} → Path A height → ℕ
   strain_above {height} top = 0
-  strain_above {height} (under frame path) = own_strain path (frame_count frame) + strain_beside frame + strain_above path
+  strain_above {height} (under frame path) = own_strain path (frame_count frame) + strain_of_siblings frame + strain_above path
 
   -- of the whole tree, given as a focus
-  abbrev pub strain_of : (height : ℕ) → Path A height → Shape A height → ℕ
-  strain_of height path shape = strain_above path + (own_strain path (count_at A height shape) + strain_below height shape)
+  abbrev pub strain_of : (height : ℕ) → Path A height → Subtree A height → ℕ
+  strain_of height path subtree = strain_above path + (own_strain path (count_at A height subtree) + strain_below height subtree)

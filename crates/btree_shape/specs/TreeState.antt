@@ -109,7 +109,7 @@ module _ {K V : Type 0} (cmp : K → K → Ordering) where
   IsBTreeButLength s = IsWellFormed cmp (node_map s) s.root (length (pairs_of s)) (pairs_of s)
 
   -- the tree has a root, and is off by one at node `id`
-  pub record IsOff (s : TreeState K V) (id : ℕ) : Type 0 where
+  pub record IsOffByOneAt (s : TreeState K V) (id : ℕ) : Type 0 where
     pub root : ℕ
     pub at_root : s.root ≡ Some root
     pub off : IsOffByOne cmp (node_map s) root id (pairs_of s)

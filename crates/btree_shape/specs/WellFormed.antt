@@ -23,17 +23,17 @@ least_of root id = if id == root then 1 else MIN_ITEMS
 abbrev pub IsSized : {A : Type 0} → (root id : ℕ) → View A → Type 0
 IsSized root id node = (least_of root id ≤ size_of node) × (size_of node ≤ most_of node)
 
--- the fewest items of a node if node `odd` may have one too few, and none if it is the root
-abbrev pub least_beside : (root odd id : ℕ) → ℕ
-least_beside root odd id = if id == odd then (if odd == root then 0 else MIN_ITEMS - 1) else least_of root id
+-- the fewest items of a node if node `exempt` may have one too few, and none if it is the root
+abbrev pub least_allowed : (root exempt id : ℕ) → ℕ
+least_allowed root exempt id = if id == exempt then (if exempt == root then 0 else MIN_ITEMS - 1) else least_of root id
 
--- how many items above the most a node may have: one for node `odd`, none for another
-abbrev pub excess_beside : (odd id : ℕ) → ℕ
-excess_beside odd id = if id == odd then 1 else 0
+-- how many items above the most a node may have: one for node `exempt`, none for another
+abbrev pub excess_allowed : (exempt id : ℕ) → ℕ
+excess_allowed exempt id = if id == exempt then 1 else 0
 
--- like `IsSized`, except that node `odd` may have one item too many or one too few
-abbrev pub IsNearlySized : {A : Type 0} → (root odd id : ℕ) → View A → Type 0
-IsNearlySized root odd id node = (least_beside root odd id ≤ size_of node) × (size_of node ≤ most_of node + excess_beside odd id)
+-- like `IsSized`, except that node `exempt` may have one item too many or one too few
+abbrev pub IsNearlySized : {A : Type 0} → (root exempt id : ℕ) → View A → Type 0
+IsNearlySized root exempt id node = (least_allowed root exempt id ≤ size_of node) × (size_of node ≤ most_of node + excess_allowed exempt id)
 
 -- the nodes form one tree with this root, it represents the list, and each node's number of items is right
 pub record IsRooted {A : Type 0} (is_right : (id : ℕ) → View A → Type 0) (node_at : NodeMap A) (root : ℕ) (xs : List A) : Type 0 where
@@ -55,10 +55,10 @@ pub record IsWellFormed {K V : Type 0} (cmp : K → K → Ordering) (node_at : N
   pub formed : IsFormed node_at root xs
   pub counted : len ≡ length xs
 
--- a tree of at most 32 levels with these pairs, off by one at node `odd`: well formed but for the items there and the
+-- a tree of at most 32 levels with these pairs, off by one at node `exempt`: well formed but for the items there and the
 -- length
-pub record IsOffByOne {K V : Type 0} (cmp : K → K → Ordering) (node_at : NodeMap (K × V)) (root odd : ℕ) (xs : List (K × V)) : Type 0 where
+pub record IsOffByOne {K V : Type 0} (cmp : K → K → Ordering) (node_at : NodeMap (K × V)) (root exempt : ℕ) (xs : List (K × V)) : Type 0 where
   pub ascends : Ascends cmp xs
-  pub rooted : IsRooted (IsNearlySized root odd) node_at root xs
+  pub rooted : IsRooted (IsNearlySized root exempt) node_at root xs
   pub low : rooted.height < MAX_LEVELS
-  pub used : IsSome (node_at odd)
+  pub used : IsSome (node_at exempt)

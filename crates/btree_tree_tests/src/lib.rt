@@ -6,7 +6,7 @@ mod counted;
 #[cfg(test)]
 mod drawn;
 #[cfg(test)]
-mod odd;
+mod off_by_one;
 #[cfg(test)]
 mod places;
 #[cfg(test)]

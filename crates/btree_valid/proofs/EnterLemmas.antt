@@ -3,7 +3,7 @@ use Rattle.std.proofs.Common.{◌≡◌, ◌<◌, ◌≤◌, ◌+◌, ℕ, true,
 use Rattle.std.specs.Option.{option_eq}
 use Rattle.std.proofs.lemmas.Bool.Decides.{nat_tests}
 use Rattle.btree_view.specs.View.{View, most_of, parent_of, size_of}
-use Rattle.btree_shape.specs.WellFormed.{excess_beside, least_beside}
+use Rattle.btree_shape.specs.WellFormed.{excess_allowed, least_allowed}
 use Rattle.btree_valid.specs.OffByOne.{MayEnter}
 
 same-number : (m n : ℕ) → eqb m n ≡ true → m ≡ n
@@ -36,9 +36,9 @@ at-most m n e = grind (arith, nat_tests)
 most-at : (m n : ℕ) → m ≤ n → IsTrue (leb m n)
 most-at m n e = grind (arith, nat_tests)
 
-module _ {A : Type 0} (v : View A) (root odd id left : ℕ) (parent : Option ℕ) where
-  pub enters : (count most : ℕ) → count ≡ size_of v → most ≡ most_of v + excess_beside odd id → (left ≡ 0 → ⊥) → parent_of v ≡ parent → (least : ℕ) → least ≡ least_beside root odd id → least ≤ count
-      → (IsTrue (leb count most) → MayEnter v root odd id left parent) × (MayEnter v root odd id left parent → IsTrue (leb count most))
+module _ {A : Type 0} (v : View A) (root exempt id left : ℕ) (parent : Option ℕ) where
+  pub enters : (count most : ℕ) → count ≡ size_of v → most ≡ most_of v + excess_allowed exempt id → (left ≡ 0 → ⊥) → parent_of v ≡ parent → (least : ℕ) → least ≡ least_allowed root exempt id → least ≤ count
+      → (IsTrue (leb count most) → MayEnter v root exempt id left parent) × (MayEnter v root exempt id left parent → IsTrue (leb count most))
   enters count most c m some up least is low = (
     λ yes. let l = at-most count most yes in (positive left some, up, (omega arith, omega arith)),
     λ p. let l = p.2.1 in most-at count most (omega arith),

@@ -3,4 +3,4 @@ pub mod PassLemmas
 pub mod EnterLemmas
 pub mod NodeLemmas
 pub mod OnceLemmas
-pub mod OffLemmas
+pub mod OffByOneLemmas

@@ -11,8 +11,8 @@ use Rattle.btree_store.specs.Content.{Content}
 use Rattle.btree_store.specs.ContentLaws.{get-remove_other, get-remove_same, is_insert}
 use Rattle.btree_view.specs.View.{NodeMap, View, internal, items_of, leaf, parent_of}
 use Rattle.btree_shape.specs.Lists.{one, times_listed, total}
-use Rattle.btree_shape.specs.Focus.Shape.{Holds, Shape, id_of, items_under, later_items, times_under}
-use Rattle.btree_shape.specs.WellFormed.{IsNearlySized, least_beside, times_used}
+use Rattle.btree_shape.specs.Focus.Subtree.{Holds, Subtree, id_of, items_under, later_items, times_under}
+use Rattle.btree_shape.specs.WellFormed.{IsNearlySized, least_allowed, times_used}
 use Rattle.btree_shape.proofs.Paths.Frames.{one-other, one-self, total-append}
 use Rattle.btree_shape.proofs.Trees.Numbers.{same-or, used-low, used-one, zero-or}
 use Rattle.btree_shape.proofs.LookUp.KeyInList.{Rises}
@@ -112,7 +112,7 @@ module _ {K V : Type 0} (cmp : K → K → Ordering) (laws : IsTotalOrder cmp) (
     own-key : (xs : List (K × V)) → xs ≡ (key, value) ∷ more → 1 ≤ at-key xs
     own-key xs e = let a = self-equal (cmp key key) (laws.antisymm key key) in let b = ap at-key e in omega arith
 
-    own-branch : (h : ℕ) (bs : List ((K × V) × Shape (K × V) h)) → map {B = K × V} (λ b. b.0) (map {B = (K × V) × ℕ} (λ (b : (K × V) × Shape (K × V) h). (b.0, id_of (K × V) h b.1)) bs) ≡ (key, value) ∷ more
+    own-branch : (h : ℕ) (bs : List ((K × V) × Subtree (K × V) h)) → map {B = K × V} (λ b. b.0) (map {B = (K × V) × ℕ} (λ (b : (K × V) × Subtree (K × V) h). (b.0, id_of (K × V) h b.1)) bs) ≡ (key, value) ∷ more
         → 1 ≤ total (λ b. alike (cmp b.0.0 key)) bs
     own-branch h [] e = absurd (cc)
     own-branch h (b ∷ bs) e =
@@ -121,8 +121,8 @@ module _ {K V : Type 0} (cmp : K → K → Ordering) (laws : IsTotalOrder cmp) (
         let c : alike (cmp b.0.0 key) ≡ alike (cmp key key) = ap (λ x. alike (cmp x.0 key)) is in
         omega arith
 
-    later-keys : (h : ℕ) (bs : List ((K × V) × Shape (K × V) h)) (p : Option ℕ)
-        → ((t : Shape (K × V) h) → Holds (K × V) node_at h p t → times_under (K × V) h n t ≤ at-key (items_under (K × V) h t))
+    later-keys : (h : ℕ) (bs : List ((K × V) × Subtree (K × V) h)) (p : Option ℕ)
+        → ((t : Subtree (K × V) h) → Holds (K × V) node_at h p t → times_under (K × V) h n t ≤ at-key (items_under (K × V) h t))
         → AllByRecursion (λ b. Holds (K × V) node_at h p b.1) bs
         → total (λ b. alike (cmp b.0.0 key)) bs + total (λ b. times_under (K × V) h n b.1) bs ≤ at-key (later_items (K × V) h bs)
     later-keys h [] p each all = omega arith
@@ -133,7 +133,7 @@ module _ {K V : Type 0} (cmp : K → K → Ordering) (laws : IsTotalOrder cmp) (
         omega arith
 
     -- a node occurs at most as often in a tree as its first key
-    times-keys : (h : ℕ) (p : Option ℕ) (t : Shape (K × V) h) → Holds (K × V) node_at h p t → times_under (K × V) h n t ≤ at-key (items_under (K × V) h t)
+    times-keys : (h : ℕ) (p : Option ℕ) (t : Subtree (K × V) h) → Holds (K × V) node_at h p t → times_under (K × V) h n t ≤ at-key (items_under (K × V) h t)
     times-keys zero p t d = elim (same-or n t.0) [
       | inl same ↦
           let f = first-is (leaf p t.1) (subst (λ i. node_at i ≡ Some (leaf p t.1)) (sym same) d) in
@@ -156,17 +156,17 @@ module _ {K V : Type 0} (cmp : K → K → Ordering) (laws : IsTotalOrder cmp) (
           | inr other ↦ let z = one-other n t.0 other in omega arith
         ]
 
-    pub times-once : (h : ℕ) (p : Option ℕ) (t : Shape (K × V) h) → Holds (K × V) node_at h p t → Rises cmp (items_under (K × V) h t) → times_under (K × V) h n t ≤ 1
+    pub times-once : (h : ℕ) (p : Option ℕ) (t : Subtree (K × V) h) → Holds (K × V) node_at h p t → Rises cmp (items_under (K × V) h t) → times_under (K × V) h n t ≤ 1
     times-once h p t d up = let a = times-keys h p t d in let b = key-once (items_under (K × V) h t) up in omega arith
 
 module _ {A : Type 0} (node_at : NodeMap A) (n : ℕ) (apart : (p : ℕ) (v : View A) → node_at n ≡ Some v → parent_of v ≡ Some p → ⊥) where
-  none-in : (h : ℕ) (p : ℕ) (bs : List (A × Shape A h)) → ((t : Shape A h) → Holds A node_at h (Some p) t → times_under A h n t ≡ 0)
+  none-in : (h : ℕ) (p : ℕ) (bs : List (A × Subtree A h)) → ((t : Subtree A h) → Holds A node_at h (Some p) t → times_under A h n t ≡ 0)
       → AllByRecursion (λ b. Holds A node_at h (Some p) b.1) bs → total (λ b. times_under A h n b.1) bs ≡ 0
   none-in h p [] each all = refl
   none-in h p (b ∷ bs) each all = let a = each b.1 all.0 in let r = none-in h p bs each all.1 in omega arith
 
   -- a number of no node, or of one without a parent, is not below a parent
-  pub none-below : (h : ℕ) (p : ℕ) (t : Shape A h) → Holds A node_at h (Some p) t → times_under A h n t ≡ 0
+  pub none-below : (h : ℕ) (p : ℕ) (t : Subtree A h) → Holds A node_at h (Some p) t → times_under A h n t ≡ 0
   none-below zero p t d = elim (same-or n t.0) [
     | inl same ↦ absurd (apart p (leaf (Some p) t.1) (subst (λ i. node_at i ≡ Some (leaf (Some p) t.1)) (sym same) d) refl)
     | inr other ↦ one-other n t.0 other
@@ -183,16 +183,16 @@ module _ {A : Type 0} (node_at : NodeMap A) (n : ℕ) (apart : (p : ℕ) (v : Vi
   ]
 
   -- so it is at most the root of the subtree
-  pub at-root : (h : ℕ) (p : Option ℕ) (t : Shape A h) → Holds A node_at h p t → times_under A h n t ≡ one n (id_of A h t)
+  pub at-root : (h : ℕ) (p : Option ℕ) (t : Subtree A h) → Holds A node_at h p t → times_under A h n t ≡ one n (id_of A h t)
   at-root zero p t d = refl
   at-root (suc h) p t d =
       let a = none-below h t.0 t.1 d.1 in
       let r = none-in h t.0 t.2 (none-below h t.0) d.2 in
       omega arith
 
-module _ {K V : Type 0} (cmp : K → K → Ordering) (laws : IsTotalOrder cmp) (node_at : NodeMap (K × V)) (root odd : ℕ) where
-  two-items : (n : ℕ) → n ≢ root → 2 ≤ least_beside root odd n
-  two-items n other = elim (same-or n odd) [
+module _ {K V : Type 0} (cmp : K → K → Ordering) (laws : IsTotalOrder cmp) (node_at : NodeMap (K × V)) (root exempt : ℕ) where
+  two-items : (n : ℕ) → n ≢ root → 2 ≤ least_allowed root exempt n
+  two-items n other = elim (same-or n exempt) [
     | inl same ↦ grind (arith, nat_tests)
     | inr apart ↦ grind (arith, nat_tests)
   ]
@@ -201,11 +201,11 @@ module _ {K V : Type 0} (cmp : K → K → Ordering) (laws : IsTotalOrder cmp) (
   first-item [] some = absurd (omega arith)
   first-item (x ∷ xs) some = (x, xs, refl)
 
-  module _ (h : ℕ) (t : Shape (K × V) h) (here : id_of (K × V) h t ≡ root) (d : Holds (K × V) node_at h None t) (up : Rises cmp (items_under (K × V) h t))
-      (sized : (n : ℕ) (v : View (K × V)) → 0 < times_under (K × V) h n t → node_at n ≡ Some v → IsNearlySized root odd n v) where
+  module _ (h : ℕ) (t : Subtree (K × V) h) (here : id_of (K × V) h t ≡ root) (d : Holds (K × V) node_at h None t) (up : Rises cmp (items_under (K × V) h t))
+      (sized : (n : ℕ) (v : View (K × V)) → 0 < times_under (K × V) h n t → node_at n ≡ Some v → IsNearlySized root exempt n v) where
     root-view : (v : View (K × V)) → node_at root ≡ Some v → parent_of v ≡ None
     root-view v at = by h t d here where
-      by : (h : ℕ) (t : Shape (K × V) h) → Holds (K × V) node_at h None t → id_of (K × V) h t ≡ root → parent_of v ≡ None
+      by : (h : ℕ) (t : Subtree (K × V) h) → Holds (K × V) node_at h None t → id_of (K × V) h t ≡ root → parent_of v ≡ None
       by zero t d same =
           let e : node_at root ≡ Some (leaf None t.1) = subst (λ i. node_at i ≡ Some (leaf None t.1)) same d in
           let is : v ≡ leaf None t.1 = cc in
@@ -216,7 +216,7 @@ module _ {K V : Type 0} (cmp : K → K → Ordering) (laws : IsTotalOrder cmp) (
           let is : v ≡ w = cc in
           ap parent_of is
 
-    used-root : (h : ℕ) (t : Shape (K × V) h) → Holds (K × V) node_at h None t → times_used (node_at (id_of (K × V) h t)) ≡ 1
+    used-root : (h : ℕ) (t : Subtree (K × V) h) → Holds (K × V) node_at h None t → times_used (node_at (id_of (K × V) h t)) ≡ 1
     used-root zero t d = rw d refl
     used-root (suc h) t d = rw d.0 refl
 

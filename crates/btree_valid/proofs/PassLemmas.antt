@@ -13,7 +13,7 @@ use Rattle.btree_shape.proofs.Trees.Represented.{represented-is}
 use Rattle.btree_valid.specs.OffByOne.{AreNearlySized, CanOrder, CanPass, CanPassUnder, IsAbove, Orders, Passes, PassesUnder}
 use Rattle.btree_valid.proofs.OrderLemmas.{can-back, can-front, can-above, orders-append, orders-none, orders-one}
 
-module _ {K V : Type 0} (cmp : K → K → Ordering) (node_at : NodeMap (K × V)) (root odd : ℕ) where
+module _ {K V : Type 0} (cmp : K → K → Ordering) (node_at : NodeMap (K × V)) (root exempt : ℕ) where
   -- the branches of node `id` are as they should be, with their children `height` levels above the leaves
   abbrev pub AreRight : (height id : ℕ) → List ((K × V) × ℕ) → Type 0
   AreRight height id bs = AllByRecursion (λ b. Represents node_at height (Some id) b.1 (represented node_at (suc height) b.1)) bs
@@ -26,12 +26,12 @@ module _ {K V : Type 0} (cmp : K → K → Ordering) (node_at : NodeMap (K × V)
 
   -- the branches that come next are passed, or can be
   abbrev pub PassesRow : (height id : ℕ) → List ((K × V) × ℕ) → (left : ℕ) (last : Option K) (left_after : ℕ) (last_after : Option K) → Type 0
-  PassesRow height id bs = Passes cmp node_at root odd (AreRight height id bs) (numbers-in height bs) (pairs-in height bs)
+  PassesRow height id bs = Passes cmp node_at root exempt (AreRight height id bs) (numbers-in height bs) (pairs-in height bs)
 
   abbrev pub CanPassRow : (height id : ℕ) → List ((K × V) × ℕ) → (left : ℕ) (last : Option K) → Type 0
-  CanPassRow height id bs = CanPass cmp node_at root odd (AreRight height id bs) (numbers-in height bs) (pairs-in height bs)
+  CanPassRow height id bs = CanPass cmp node_at root exempt (AreRight height id bs) (numbers-in height bs) (pairs-in height bs)
 
-  sized-append : (ids more : List ℕ) → AreNearlySized cmp node_at root odd ids → AreNearlySized cmp node_at root odd more → AreNearlySized cmp node_at root odd (ids ++ more)
+  sized-append : (ids more : List ℕ) → AreNearlySized cmp node_at root exempt ids → AreNearlySized cmp node_at root exempt more → AreNearlySized cmp node_at root exempt (ids ++ more)
   sized-append ids more f g n node some at =
       let a = listed-append n ids more in
       elim (zero-or (times_listed n ids)) [
@@ -39,10 +39,10 @@ module _ {K V : Type 0} (cmp : K → K → Ordering) (node_at : NodeMap (K × V)
         | inr some ↦ f n node some at
       ]
 
-  sized-front : (ids more : List ℕ) → AreNearlySized cmp node_at root odd (ids ++ more) → AreNearlySized cmp node_at root odd ids
+  sized-front : (ids more : List ℕ) → AreNearlySized cmp node_at root exempt (ids ++ more) → AreNearlySized cmp node_at root exempt ids
   sized-front ids more f n node some at = let a = listed-append n ids more in f n node (omega arith) at
 
-  sized-back : (ids more : List ℕ) → AreNearlySized cmp node_at root odd (ids ++ more) → AreNearlySized cmp node_at root odd more
+  sized-back : (ids more : List ℕ) → AreNearlySized cmp node_at root exempt (ids ++ more) → AreNearlySized cmp node_at root exempt more
   sized-back ids more f n node some at = let a = listed-append n ids more in f n node (omega arith) at
 
   -- no branches are left
@@ -59,7 +59,7 @@ module _ {K V : Type 0} (cmp : K → K → Ordering) (node_at : NodeMap (K × V)
     child = represented node_at (suc height) b.1
 
     -- the item and then its child are passed, and then the other branches
-    pub row-passed : IsTotalOrder cmp → IsAbove cmp last b.0.0 → (left_mid : ℕ) (last_mid : Option K) → PassesUnder cmp node_at root odd height (Some id) b.1 left (Some b.0.0) left_mid last_mid
+    pub row-passed : IsTotalOrder cmp → IsAbove cmp last b.0.0 → (left_mid : ℕ) (last_mid : Option K) → PassesUnder cmp node_at root exempt height (Some id) b.1 left (Some b.0.0) left_mid last_mid
         → (left_after : ℕ) (last_after : Option K) → PassesRow height id bs left_mid last_mid left_after last_after → PassesRow height id (b ∷ bs) left last left_after last_after
     row-passed laws up left_mid last_mid c left_after last_after r = record {
       right = (c.right, r.right);
@@ -72,7 +72,7 @@ module _ {K V : Type 0} (cmp : K → K → Ordering) (node_at : NodeMap (K × V)
     pub row-above : CanPassRow height id (b ∷ bs) left last → IsAbove cmp last b.0.0
     row-above c = can-above cmp b.0 (child ++ pairs-in height bs) last c.order
 
-    pub row-child : IsTotalOrder cmp → IsAbove cmp last b.0.0 → CanPassRow height id (b ∷ bs) left last → CanPassUnder cmp node_at root odd height (Some id) b.1 left (Some b.0.0)
+    pub row-child : IsTotalOrder cmp → IsAbove cmp last b.0.0 → CanPassRow height id (b ∷ bs) left last → CanPassUnder cmp node_at root exempt height (Some id) b.1 left (Some b.0.0)
     row-child laws up c = record {
       right = c.right.0;
       sized = sized-front (numbers_under node_at height b.1) (numbers-in height bs) c.sized;
@@ -81,7 +81,7 @@ module _ {K V : Type 0} (cmp : K → K → Ordering) (node_at : NodeMap (K × V)
       enough = let l = length-append (numbers_under node_at height b.1) (numbers-in height bs) in let e = c.enough in omega arith;
     }
 
-    pub row-rest : IsTotalOrder cmp → IsAbove cmp last b.0.0 → (left_mid : ℕ) (last_mid : Option K) → PassesUnder cmp node_at root odd height (Some id) b.1 left (Some b.0.0) left_mid last_mid
+    pub row-rest : IsTotalOrder cmp → IsAbove cmp last b.0.0 → (left_mid : ℕ) (last_mid : Option K) → PassesUnder cmp node_at root exempt height (Some id) b.1 left (Some b.0.0) left_mid last_mid
         → CanPassRow height id (b ∷ bs) left last → CanPassRow height id bs left_mid last_mid
     row-rest laws up left_mid last_mid p c = record {
       right = c.right.1;
@@ -94,21 +94,21 @@ module _ {K V : Type 0} (cmp : K → K → Ordering) (node_at : NodeMap (K × V)
   -- the branches `rest` of a node come next, and then all of it is passed
   pub record IsInNode (IsRight : Type 0) (ids : List ℕ) (xs : List (K × V)) (start_left : ℕ) (start : Option K) (height id : ℕ) (rest : List ((K × V) × ℕ)) (left : ℕ) (last : Option K) : Type 0 where
     pub only : (left_after : ℕ) (last_after : Option K) → PassesRow height id rest left last left_after last_after
-        → Passes cmp node_at root odd IsRight ids xs start_left start left_after last_after
-    pub always : CanPass cmp node_at root odd IsRight ids xs start_left start → CanPassRow height id rest left last
+        → Passes cmp node_at root exempt IsRight ids xs start_left start left_after last_after
+    pub always : CanPass cmp node_at root exempt IsRight ids xs start_left start → CanPassRow height id rest left last
 
   module _ (IsRight : Type 0) (ids : List ℕ) (xs : List (K × V)) (start_left : ℕ) (start : Option K) (height id : ℕ) (rest : List ((K × V) × ℕ)) (left : ℕ) (last : Option K)
       (w : IsInNode IsRight ids xs start_left start height id rest left last) where
-    pub node-end : rest ≡ [] → Passes cmp node_at root odd IsRight ids xs start_left start left last
+    pub node-end : rest ≡ [] → Passes cmp node_at root exempt IsRight ids xs start_left start left last
     node-end none =
         let P : List ((K × V) × ℕ) → Type 0 = λ l. PassesRow height id l left last left last in
         w.only left last (subst P (sym none) (row-none height id left last))
 
     module _ (more : List ((K × V) × ℕ)) (x : K × V) (child : ℕ) (next : rest ≡ (x, child) ∷ more) (key : K) (same : key ≡ x.0) where
-      can-next : CanPass cmp node_at root odd IsRight ids xs start_left start → CanPassRow height id ((x, child) ∷ more) left last
+      can-next : CanPass cmp node_at root exempt IsRight ids xs start_left start → CanPassRow height id ((x, child) ∷ more) left last
       can-next c = let P : List ((K × V) × ℕ) → Type 0 = λ l. CanPassRow height id l left last in subst P next (w.always c)
 
-      pub node-stops : (IsAbove cmp last key → IsTrue false) → CanPass cmp node_at root odd IsRight ids xs start_left start → ⊥
+      pub node-stops : (IsAbove cmp last key → IsTrue false) → CanPass cmp node_at root exempt IsRight ids xs start_left start → ⊥
       node-stops not c =
           let P : K → Type 0 = λ k. IsAbove cmp last k in
           let no : false ≡ true = not (subst P (sym same) (row-above height id (x, child) more left last (can-next c))) in
@@ -118,15 +118,15 @@ module _ {K V : Type 0} (cmp : K → K → Ordering) (node_at : NodeMap (K × V)
         up-there : IsAbove cmp last x.0
         up-there = let P : K → Type 0 = λ k. IsAbove cmp last k in subst P same up
 
-        pub node-child : CanPass cmp node_at root odd IsRight ids xs start_left start → CanPassUnder cmp node_at root odd height (Some id) child left (Some key)
+        pub node-child : CanPass cmp node_at root exempt IsRight ids xs start_left start → CanPassUnder cmp node_at root exempt height (Some id) child left (Some key)
         node-child c =
-            let P : K → Type 0 = λ k. CanPassUnder cmp node_at root odd height (Some id) child left (Some k) in
+            let P : K → Type 0 = λ k. CanPassUnder cmp node_at root exempt height (Some id) child left (Some k) in
             subst P (sym same) (row-child height id (x, child) more left last laws up-there (can-next c))
 
-        pub node-next : (left_mid : ℕ) (last_mid : Option K) → PassesUnder cmp node_at root odd height (Some id) child left (Some key) left_mid last_mid
+        pub node-next : (left_mid : ℕ) (last_mid : Option K) → PassesUnder cmp node_at root exempt height (Some id) child left (Some key) left_mid last_mid
             → IsInNode IsRight ids xs start_left start height id more left_mid last_mid
         node-next left_mid last_mid p =
-            let P : K → Type 0 = λ k. PassesUnder cmp node_at root odd height (Some id) child left (Some k) left_mid last_mid in
+            let P : K → Type 0 = λ k. PassesUnder cmp node_at root exempt height (Some id) child left (Some k) left_mid last_mid in
             let q = subst P same p in
             let R : (left_after : ℕ) (last_after : Option K) → List ((K × V) × ℕ) → Type 0 = λ m o l. PassesRow height id l left last m o in
             record {
@@ -135,13 +135,13 @@ module _ {K V : Type 0} (cmp : K → K → Ordering) (node_at : NodeMap (K × V)
             }
 
   -- one node's number of items
-  one-sized : (id : ℕ) (v : View (K × V)) → node_at id ≡ Some v → IsNearlySized root odd id v → AreNearlySized cmp node_at root odd (id ∷ [])
+  one-sized : (id : ℕ) (v : View (K × V)) → node_at id ≡ Some v → IsNearlySized root exempt id v → AreNearlySized cmp node_at root exempt (id ∷ [])
   one-sized id v here sized n node some at = elim (same-or n id) [
     | inl same ↦
         let there : node_at id ≡ Some node = subst (λ m. node_at m ≡ Some node) same at in
         let is : v ≡ node = cc in
-        let P : ℕ → Type 0 = λ m. IsNearlySized root odd m v in
-        subst (λ z. IsNearlySized root odd n z) is (subst P (sym same) sized)
+        let P : ℕ → Type 0 = λ m. IsNearlySized root exempt m v in
+        subst (λ z. IsNearlySized root exempt n z) is (subst P (sym same) sized)
     | inr other ↦ let z = one-other n id other in absurd (omega arith)
   ]
 
@@ -151,8 +151,8 @@ module _ {K V : Type 0} (cmp : K → K → Ordering) (node_at : NodeMap (K × V)
       items-are = sym (ap (represented_in (represented node_at 0)) here)
 
       -- a leaf is passed with its items
-      pub leaf-passed : IsNearlySized root odd id (leaf parent items) → (last_after : Option K) → Orders cmp items last last_after
-          → PassesUnder cmp node_at root odd zero parent id left last (left - 1) last_after
+      pub leaf-passed : IsNearlySized root exempt id (leaf parent items) → (last_after : Option K) → Orders cmp items last last_after
+          → PassesUnder cmp node_at root exempt zero parent id left last (left - 1) last_after
       leaf-passed sized last_after f = record {
         right = subst (λ l. node_at id ≡ Some (leaf parent l)) items-are here;
         sized = one-sized id (leaf parent items) here sized;
@@ -160,7 +160,7 @@ module _ {K V : Type 0} (cmp : K → K → Ordering) (node_at : NodeMap (K × V)
         paid = omega arith;
       }
 
-      pub leaf-can : CanPassUnder cmp node_at root odd zero parent id left last → CanOrder cmp items last
+      pub leaf-can : CanPassUnder cmp node_at root exempt zero parent id left last → CanOrder cmp items last
       leaf-can c = subst (λ l. CanOrder cmp l last) (sym items-are) c.order
 
     module _ (height first : ℕ) (bs : List ((K × V) × ℕ)) (here : node_at id ≡ Some (internal parent first bs)) where
@@ -218,9 +218,9 @@ module _ {K V : Type 0} (cmp : K → K → Ordering) (node_at : NodeMap (K × V)
       Whole = Represents node_at (suc height) parent id (represented node_at (suc (suc height)) id)
 
       -- if an internal node can be passed, so can its first child
-      pub first-can : CanPassUnder cmp node_at root odd (suc height) parent id left last → CanPassUnder cmp node_at root odd height (Some id) first (left - 1) last
+      pub first-can : CanPassUnder cmp node_at root exempt (suc height) parent id left last → CanPassUnder cmp node_at root exempt height (Some id) first (left - 1) last
       first-can c =
-          let sized = subst (AreNearlySized cmp node_at root odd) (sym numbers-are) c.sized in
+          let sized = subst (AreNearlySized cmp node_at root exempt) (sym numbers-are) c.sized in
           let inner = sized-back (id ∷ []) (numbers_under node_at height first ++ numbers-in height bs) sized in
           let order = subst (λ l. CanOrder cmp l last) (sym pairs-are) c.order in
           let l = length-append (numbers_under node_at height first) (numbers-in height bs) in
@@ -234,7 +234,7 @@ module _ {K V : Type 0} (cmp : K → K → Ordering) (node_at : NodeMap (K × V)
           }
 
       -- after its first child its branches come next
-      pub first-passed : IsNearlySized root odd id (internal parent first bs) → (left_mid : ℕ) (last_mid : Option K) → PassesUnder cmp node_at root odd height (Some id) first (left - 1) last left_mid last_mid
+      pub first-passed : IsNearlySized root exempt id (internal parent first bs) → (left_mid : ℕ) (last_mid : Option K) → PassesUnder cmp node_at root exempt height (Some id) first (left - 1) last left_mid last_mid
           → IsInNode Whole (numbers_under node_at (suc height) id) (represented node_at (suc (suc height)) id) left last height id bs left_mid last_mid
       first-passed sized left_mid last_mid p =
           let l = length-append (numbers_under node_at height first) (numbers-in height bs) in
@@ -243,14 +243,14 @@ module _ {K V : Type 0} (cmp : K → K → Ordering) (node_at : NodeMap (K × V)
           record {
             only = λ left_after last_after r. record {
               right = subst (λ l. Represents node_at (suc height) parent id l) pairs-are (represents-node p.right r.right);
-              sized = subst (AreNearlySized cmp node_at root odd) numbers-are
+              sized = subst (AreNearlySized cmp node_at root exempt) numbers-are
                   (sized-append (id ∷ []) (numbers_under node_at height first ++ numbers-in height bs) (one-sized id (internal parent first bs) here sized)
                   (sized-append (numbers_under node_at height first) (numbers-in height bs) p.sized r.sized));
               order = subst (λ l. Orders cmp l last last_after) pairs-are (orders-append cmp front (pairs-in height bs) last last_mid last_after p.order r.order);
               paid = let z = r.paid in omega arith;
             };
             always = λ c.
-                let sizes = subst (AreNearlySized cmp node_at root odd) (sym numbers-are) c.sized in
+                let sizes = subst (AreNearlySized cmp node_at root exempt) (sym numbers-are) c.sized in
                 let inner = sized-back (id ∷ []) (numbers_under node_at height first ++ numbers-in height bs) sizes in
                 let order = subst (λ l. CanOrder cmp l last) (sym pairs-are) c.order in
                 let e = c.enough in

@@ -1,7 +1,7 @@
 -- What an in-order walk through the nodes of a tree of any content passes.
 -- The walk passes nodes in the order of their keys, and keeps the last key that it passed and how many nodes may still
 -- come. A part of the tree is passed if it represents its pairs at its height under its parent, each of its nodes has
--- its number of items, but for one more or less at node `odd`, and the keys of its pairs, after those passed before,
+-- its number of items, but for one more or less at node `exempt`, and the keys of its pairs, after those passed before,
 -- still ascend. A whole tree is passed from its root with as many nodes as the store has; that each number then occurs
 -- once follows from the parent numbers and the order of the keys.
 use Rattle.std.specs.Prelude.{◌≡◌, ℕ, ◌+◌, ◌<◌, ◌≤◌, suc, List, ◌++◌, length, Option, Some, None}
@@ -24,9 +24,9 @@ IsAbove cmp None key = Unit {0}
 IsAbove cmp (Some last) key = cmp last key ≡ Less
 
 -- the walk may enter this node: at least one more node may come, the node names this parent, and it has its number of
--- items, but for one more or less at node `odd`
-abbrev pub MayEnter : {A : Type 0} → View A → (root odd id left : ℕ) → (parent : Option ℕ) → Type 0
-MayEnter node root odd id left parent = (0 < left) × (parent_of node ≡ parent) × IsNearlySized root odd id node
+-- items, but for one more or less at node `exempt`
+abbrev pub MayEnter : {A : Type 0} → View A → (root exempt id left : ℕ) → (parent : Option ℕ) → Type 0
+MayEnter node root exempt id left parent = (0 < left) × (parent_of node ≡ parent) × IsNearlySized root exempt id node
 
 module _ {K V : Type 0} (cmp : K → K → Ordering) where
   -- the keys of the pairs passed ascend, and a key is above `last` exactly if it is above them all
@@ -44,13 +44,13 @@ module _ {K V : Type 0} (cmp : K → K → Ordering) where
   CanOrder xs last = (done : List (K × V)) × HasPassed last done × Ascends cmp (done ++ xs)
 
   -- the tree is off by one at a node, and its root is `height` levels above the leaves
-  abbrev pub IsOffAt : NodeMap (K × V) → (root odd height : ℕ) → Type 0
-  IsOffAt node_at root odd height = (xs : List (K × V)) × Ascends cmp xs × (rooted : IsRooted (IsNearlySized root odd) node_at root xs) × (rooted.height ≡ height)
+  abbrev pub IsOffAt : NodeMap (K × V) → (root exempt height : ℕ) → Type 0
+  IsOffAt node_at root exempt height = (xs : List (K × V)) × Ascends cmp xs × (rooted : IsRooted (IsNearlySized root exempt) node_at root xs) × (rooted.height ≡ height)
 
-  module _ (node_at : NodeMap (K × V)) (root odd : ℕ) where
-    -- each node under these numbers has its number of items, but for one more or less at node `odd`
+  module _ (node_at : NodeMap (K × V)) (root exempt : ℕ) where
+    -- each node under these numbers has its number of items, but for one more or less at node `exempt`
     abbrev pub AreNearlySized : List ℕ → Type 0
-    AreNearlySized ids = (n : ℕ) (node : View (K × V)) → 0 < times_listed n ids → node_at n ≡ Some node → IsNearlySized root odd n node
+    AreNearlySized ids = (n : ℕ) (node : View (K × V)) → 0 < times_listed n ids → node_at n ≡ Some node → IsNearlySized root exempt n node
 
     -- a part of the tree, with these numbers of nodes and these pairs, is passed: it is as it should be, and `left`,
     -- the number of nodes that may still come, has decreased by the number of its nodes
@@ -76,14 +76,14 @@ module _ {K V : Type 0} (cmp : K → K → Ordering) where
       CanPassUnder = CanPass (Represents node_at height parent id (represented node_at (suc height) id)) (numbers_under node_at height id) (represented node_at (suc height) id)
 
   -- the same for the nodes of a store
-  module _ (nodes : Content (Node K V)) (root odd : ℕ) where
-    abbrev pub IsOffAtHeight : (height : ℕ) → Type 0
-    IsOffAtHeight = IsOffAt (views nodes) root odd
+  module _ (nodes : Content (Node K V)) (root exempt : ℕ) where
+    abbrev pub IsOffByOneAtHeight : (height : ℕ) → Type 0
+    IsOffByOneAtHeight = IsOffAt (views nodes) root exempt
 
     -- at one of the heights that such a tree may have
-    abbrev pub IsOffAtSomeHeight : Type 0
-    IsOffAtSomeHeight = (height : ℕ) × (height < MAX_LEVELS) × IsOffAtHeight height
+    abbrev pub IsOffByOneAtSomeHeight : Type 0
+    IsOffByOneAtSomeHeight = (height : ℕ) × (height < MAX_LEVELS) × IsOffByOneAtHeight height
 
-    -- the tree under the root is off by one at node `odd`, with some pairs
-    abbrev pub IsOffAmong : Type 0
-    IsOffAmong = (xs : List (K × V)) × IsOffByOne cmp (views nodes) root odd xs
+    -- the tree under the root is off by one at node `exempt`, with some pairs
+    abbrev pub IsOffByOneAmong : Type 0
+    IsOffByOneAmong = (xs : List (K × V)) × IsOffByOne cmp (views nodes) root exempt xs

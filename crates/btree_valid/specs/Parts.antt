@@ -24,11 +24,11 @@ module _ {K V : Type 0} (cmp : K → K → Ordering) where
   abbrev pub CanPassItems : Node K V → (seen : Walk K) → Type 0
   CanPassItems node seen = CanOrder cmp (items_of (view_of node)) (option_copied seen.last)
 
-  module _ (nodes : Content (Node K V)) (root odd : ℕ) where
+  module _ (nodes : Content (Node K V)) (root exempt : ℕ) where
     -- the walk passes a part of the tree
     abbrev pub PassesPart : Part → (seen after : Walk K) → Type 0
     PassesPart part seen after =
-        PassesUnder cmp (views nodes) root odd part.height part.parent part.id seen.left (option_copied seen.last) after.left (option_copied after.last)
+        PassesUnder cmp (views nodes) root exempt part.height part.parent part.id seen.left (option_copied seen.last) after.left (option_copied after.last)
 
     abbrev pub CanPassPart : Part → (seen : Walk K) → Type 0
-    CanPassPart part seen = CanPassUnder cmp (views nodes) root odd part.height part.parent part.id seen.left (option_copied seen.last)
+    CanPassPart part seen = CanPassUnder cmp (views nodes) root exempt part.height part.parent part.id seen.left (option_copied seen.last)

@@ -3,4 +3,4 @@
 
 mod off_by_one;
 
-pub use off_by_one::is_off;
+pub use off_by_one::is_off_by_one;

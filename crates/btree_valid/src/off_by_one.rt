@@ -4,8 +4,8 @@ ghost use Rattle.std.specs.Mem.{FitsInMemory};
 ghost use Rattle.btree_node.specs.contracts.node.Node.{the_row as node_row};
 ghost use Rattle.btree_node.specs.Node.{view_of};
 ghost use Rattle.btree_view.specs.View.{items_of, leaf, most_of, parent_of};
-ghost use Rattle.btree_shape.specs.WellFormed.{excess_beside, least_beside};
-ghost use Rattle.btree_valid.specs.OffByOne.{IsAbove, IsOffAmong, IsOffAtHeight, IsOffAtSomeHeight, MayEnter};
+ghost use Rattle.btree_shape.specs.WellFormed.{excess_allowed, least_allowed};
+ghost use Rattle.btree_valid.specs.OffByOne.{IsAbove, IsOffByOneAmong, IsOffByOneAtHeight, IsOffByOneAtSomeHeight, MayEnter};
 ghost use Rattle.btree_valid.specs.Parts.{CanPassItems, CanPassPart, PassesItems, PassesKey, PassesPart};
 
 use btree_item::{MAX_INTERNAL_ITEMS, MAX_LEAF_ITEMS, MAX_LEVELS, MIN_ITEMS};
@@ -38,27 +38,27 @@ fn is_above<K: Ord>(last: Option<&K>, key: &K) -> bool
     }
 }
 
-// Returns the fewest items of a node; node `odd` may have one too few.
-fn least_items(root: usize, odd: usize, id: usize) -> usize
-    ensures { result ≡ least_beside root odd id }
+// Returns the fewest items of a node; node `exempt` may have one too few.
+fn least_items(root: usize, exempt: usize, id: usize) -> usize
+    ensures { result ≡ least_allowed root exempt id }
 {
-    if id == odd {
-        return if odd == root { 0 } else { MIN_ITEMS - 1 };
+    if id == exempt {
+        return if exempt == root { 0 } else { MIN_ITEMS - 1 };
     }
     if id == root { 1 } else { MIN_ITEMS }
 }
 
-// Returns the most items of a node; node `odd` may have one too many.
-fn most_items<K, V>(node: &Node<K, V>, odd: usize, id: usize) -> usize
-    ensures { result ≡ most_of (view_of node.now) + excess_beside odd id }
+// Returns the most items of a node; node `exempt` may have one too many.
+fn most_items<K, V>(node: &Node<K, V>, exempt: usize, id: usize) -> usize
+    ensures { result ≡ most_of (view_of node.now) + excess_allowed exempt id }
 {
     match node {
-        Node::Leaf(_) => if id == odd {
+        Node::Leaf(_) => if id == exempt {
             MAX_LEAF_ITEMS + 1
         } else {
             MAX_LEAF_ITEMS
         },
-        Node::Internal(_) => if id == odd {
+        Node::Internal(_) => if id == exempt {
             MAX_INTERNAL_ITEMS + 1
         } else {
             MAX_INTERNAL_ITEMS
@@ -67,16 +67,16 @@ fn most_items<K, V>(node: &Node<K, V>, odd: usize, id: usize) -> usize
 }
 
 // Returns whether the walk may enter a node: at least one more node may come, the node names this parent, and it has its number of items,
-// but for one more or less at node `odd`.
+// but for one more or less at node `exempt`.
 fn may_enter<K, V>(
     node: &Node<K, V>,
     root: usize,
-    odd: usize,
+    exempt: usize,
     parent: Option<usize>,
     id: usize,
     left: usize,
 ) -> bool
-    ensures { IsTrue result ↔ MayEnter (view_of node.now) root odd id left parent }
+    ensures { IsTrue result ↔ MayEnter (view_of node.now) root exempt id left parent }
 {
     if left == 0 {
         return false;
@@ -85,10 +85,10 @@ fn may_enter<K, V>(
         return false;
     }
     let count = node.item_count();
-    if count < least_items(root, odd, id) {
+    if count < least_items(root, exempt, id) {
         return false;
     }
-    count <= most_items(node, odd, id)
+    count <= most_items(node, exempt, id)
 }
 
 // Passes the items of a leaf, or returns `None` if a key is not above the one before it.
@@ -134,17 +134,17 @@ fn pass_key<'a, K: Ord>(seen: Walk<'a, K>, key: &'a K) -> Option<Walk<'a, K>>
 fn pass_node<'a, K: Ord + 'a, V: 'a, C: Nodes<K, V>>(
     nodes: &'a C,
     root: usize,
-    odd: usize,
+    exempt: usize,
     part: Part,
     seen: Walk<'a, K>,
 ) -> Option<Walk<'a, K>>
     requires { FitsInMemory (node_row K.row V.row) }
-    ensures only { IfSome result (PassesPart K.cmp (C.content nodes.now) root odd part seen.entry) }
-    ensures always { CanPassPart K.cmp (C.content nodes.now) root odd part seen.entry → IsSome result }
+    ensures only { IfSome result (PassesPart K.cmp (C.content nodes.now) root exempt part seen.entry) }
+    ensures always { CanPassPart K.cmp (C.content nodes.now) root exempt part seen.entry → IsSome result }
 {
     let Part { height, parent, id } = part;
     let node = nodes.get(id)?;
-    if !may_enter(node, root, odd, parent, id, seen.left) {
+    if !may_enter(node, root, exempt, parent, id, seen.left) {
         return None;
     }
     let entered = Walk {
@@ -165,7 +165,7 @@ fn pass_node<'a, K: Ord + 'a, V: 'a, C: Nodes<K, V>>(
         parent: Some(id),
         id: first,
     };
-    let mut passed = pass_node(nodes, root, odd, leftmost, entered)?;
+    let mut passed = pass_node(nodes, root, exempt, leftmost, entered)?;
     let mut index = 0;
     while let Some((item, child)) = node.branch_at_index(index) {
         let next = pass_key(passed, item.key())?;
@@ -173,16 +173,16 @@ fn pass_node<'a, K: Ord + 'a, V: 'a, C: Nodes<K, V>>(
             id: child,
             ..leftmost
         };
-        passed = pass_node(nodes, root, odd, below, next)?;
+        passed = pass_node(nodes, root, exempt, below, next)?;
         index += 1;
     }
     Some(passed)
 }
 
-// Returns whether the tree is off by one at node `odd`, with its root `height` levels above the leaves: if so, the walk passes all nodes.
-fn is_off_at<K: Ord, V, C: Nodes<K, V>>(nodes: &C, root: usize, odd: usize, height: usize) -> bool
+// Returns whether the tree is off by one at node `exempt`, with its root `height` levels above the leaves: if so, the walk passes all nodes.
+fn is_off_by_one_at_height<K: Ord, V, C: Nodes<K, V>>(nodes: &C, root: usize, exempt: usize, height: usize) -> bool
     requires { FitsInMemory (node_row K.row V.row) }
-    ensures { IsTrue result ↔ IsOffAtHeight K.cmp (C.content nodes.now) root odd height }
+    ensures { IsTrue result ↔ IsOffByOneAtHeight K.cmp (C.content nodes.now) root exempt height }
 {
     let start = Walk {
         left: nodes.len(),
@@ -193,19 +193,19 @@ fn is_off_at<K: Ord, V, C: Nodes<K, V>>(nodes: &C, root: usize, odd: usize, heig
         parent: None,
         id: root,
     };
-    match pass_node(nodes, root, odd, whole, start) {
+    match pass_node(nodes, root, exempt, whole, start) {
         Some(after) => after.left == 0,
         None => false,
     }
 }
 
-// Returns whether the tree is off by one at node `odd`, at one of the heights that such a tree may have.
-fn is_off_at_some<K: Ord, V, C: Nodes<K, V>>(nodes: &C, root: usize, odd: usize) -> bool
+// Returns whether the tree is off by one at node `exempt`, at one of the heights that such a tree may have.
+fn is_off_by_one_at_some_height<K: Ord, V, C: Nodes<K, V>>(nodes: &C, root: usize, exempt: usize) -> bool
     requires { FitsInMemory (node_row K.row V.row) }
-    ensures { IsTrue result ↔ IsOffAtSomeHeight K.cmp (C.content nodes.now) root odd }
+    ensures { IsTrue result ↔ IsOffByOneAtSomeHeight K.cmp (C.content nodes.now) root exempt }
 {
     for height in 0..MAX_LEVELS {
-        if is_off_at(nodes, root, odd, height) {
+        if is_off_by_one_at_height(nodes, root, exempt, height) {
             return true;
         }
     }
@@ -213,15 +213,15 @@ fn is_off_at_some<K: Ord, V, C: Nodes<K, V>>(nodes: &C, root: usize, odd: usize)
 }
 
 /// Returns whether the nodes form a tree of at most 32 levels under a root, well formed but for its length and the number of items of
-/// node `odd`. That node is there, and may have one item too many or too few, and none if it is the root.
+/// node `exempt`. That node is there, and may have one item too many or too few, and none if it is the root.
 ///
 /// It uses no memory but the stack. For each of the 32 heights that such a tree may have, it visits at most one node more than there are.
-pub fn is_off<K: Ord, V, C: Nodes<K, V>>(nodes: &C, root: usize, odd: usize) -> bool
+pub fn is_off_by_one<K: Ord, V, C: Nodes<K, V>>(nodes: &C, root: usize, exempt: usize) -> bool
     requires { FitsInMemory (node_row K.row V.row) }
-    ensures { IsTrue result ↔ IsOffAmong K.cmp (C.content nodes.now) root odd }
+    ensures { IsTrue result ↔ IsOffByOneAmong K.cmp (C.content nodes.now) root exempt }
 {
-    match nodes.get(odd) {
-        Some(_) => is_off_at_some(nodes, root, odd),
+    match nodes.get(exempt) {
+        Some(_) => is_off_by_one_at_some_height(nodes, root, exempt),
         None => false,
     }
 }

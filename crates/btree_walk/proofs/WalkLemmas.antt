@@ -9,8 +9,8 @@ use Rattle.btree_node.specs.Node.{view_of}
 use Rattle.btree_view.specs.View.{View, leaf, internal, branches_of, items_of, children_of}
 use Rattle.btree_shape.specs.Represents.{Represents, represented}
 use Rattle.btree_shape.specs.TreeState.{views}
-use Rattle.btree_shape.specs.Focus.Left.{left_above, left_in, IsUnder, AreRows}
-use Rattle.btree_shape.proofs.LookUp.Walk.{left-push, rows-push, rows-pop, under-leaf, under-internal}
+use Rattle.btree_shape.specs.Focus.Remaining.{remaining_above, remaining_in, IsUnder, AreRows}
+use Rattle.btree_shape.proofs.LookUp.Walk.{remaining-push, rows-push, rows-pop, under-leaf, under-internal}
 use Rattle.btree_walk.specs.declared.ancestors.Ancestor.{Ancestor}
 use Rattle.btree_walk.specs.Rows.{rows_of}
 
@@ -23,7 +23,7 @@ module _ {K V : Type 0} where
 
 module _ {K V : Type 0} (nodes : Content (Node K V)) (len : ℕ) where
   abbrev left_over : List (Ancestor K V) → List (K × V)
-  left_over ancestors = left_above (views nodes) len (rows_of ancestors)
+  left_over ancestors = remaining_above (views nodes) len (rows_of ancestors)
 
   abbrev AreOpen : List (Ancestor K V) → Type 0
   AreOpen ancestors = AreRows (views nodes) len 0 (rows_of ancestors)
@@ -53,11 +53,11 @@ module _ {K V : Type 0} (nodes : Content (Node K V)) (len : ℕ) where
     down-smaller f new is = let room = down-room in let more = ap length is in let one = length_push ancestors f in omega arith
 
     module _ (node : Node K V) (here : map.get nodes id ≡ Some node) where
-      seen : views nodes id ≡ Some (view_of node)
-      seen = ap (option_map view_of) here
+      focus : views nodes id ≡ Some (view_of node)
+      focus = ap (option_map view_of) here
 
       pub down-leaf : None ≡ slice_get (children_of (view_of node)) 0 → start ≡ items_of (view_of node) ++ left_over ancestors
-      down-leaf none = at (view_of node) seen none
+      down-leaf none = at (view_of node) focus none
         where
           at : (v : View (K × V)) → views nodes id ≡ Some v → None ≡ slice_get (children_of v) 0 → start ≡ items_of v ++ left_over ancestors
           at (leaf p ys) e n = d.list ∙ ap (λ zs. zs ++ left_over ancestors) (under-leaf (views nodes) len (length (rows_of ancestors)) id p ys d.under e)
@@ -67,7 +67,7 @@ module _ {K V : Type 0} (nodes : Content (Node K V)) (len : ℕ) where
           → (new : List (Ancestor K V)) → new ≡ ancestors ++ f ∷ [] → IsDown start new child
       down-internal child is f row new made =
           let more : rows_of new ≡ rows_of ancestors ++ branches_of (view_of node) ∷ [] = ap rows_of made ∙ rows-of-push ancestors f ∙ ap (λ r. rows_of ancestors ++ r ∷ []) row in
-          at (view_of node) seen is more
+          at (view_of node) focus is more
         where
           at : (v : View (K × V)) → views nodes id ≡ Some v → Some child ≡ slice_get (children_of v) 0 → rows_of new ≡ rows_of ancestors ++ branches_of v ∷ [] → IsDown start new child
           at (leaf p ys) e c more = absurd (cc)
@@ -82,9 +82,9 @@ module _ {K V : Type 0} (nodes : Content (Node K V)) (len : ℕ) where
                 list =
                     d.list
                     ∙ ap (λ ys. ys ++ left_over ancestors) i.list
-                    ∙ append_assoc (represented (views nodes) len first) (left_in (views nodes) len bs) (left_over ancestors)
-                    ∙ ap (λ ys. represented (views nodes) len first ++ ys) (sym (left-push (views nodes) len (rows_of ancestors) bs))
-                    ∙ ap (λ rows. represented (views nodes) len first ++ left_above (views nodes) len rows) (sym more);
+                    ∙ append_assoc (represented (views nodes) len first) (remaining_in (views nodes) len bs) (left_over ancestors)
+                    ∙ ap (λ ys. represented (views nodes) len first ++ ys) (sym (remaining-push (views nodes) len (rows_of ancestors) bs))
+                    ∙ ap (λ rows. represented (views nodes) len first ++ remaining_above (views nodes) len rows) (sym more);
               }
 
   -- going up: the ancestors that are passed had nothing left
@@ -97,7 +97,7 @@ module _ {K V : Type 0} (nodes : Content (Node K V)) (len : ℕ) where
     pub fewer : length rest < length ancestors
     pub rows : AreOpen rest
     pub under : AllByRecursion (λ (b : (K × V) × ℕ). IsUnder (views nodes) len (suc (length (rows_of rest))) b.1) (row_of f)
-    pub list : left_over ancestors ≡ left_in (views nodes) len (row_of f) ++ left_over rest
+    pub list : left_over ancestors ≡ remaining_in (views nodes) len (row_of f) ++ left_over rest
 
   split-last : (ancestors : List (Ancestor K V)) (f : Ancestor K V) → Some f ≡ slice_get ancestors (length ancestors - 1) → ancestors ≡ take (length ancestors - 1) ancestors ++ f ∷ []
   split-last [] f e = absurd (cc)
@@ -117,13 +117,13 @@ module _ {K V : Type 0} (nodes : Content (Node K V)) (len : ℕ) where
         fewer = let q = length_push rest f in let w = ap length whole in omega arith;
         rows = low.above;
         under = subst (λ n. AllByRecursion (λ (b : (K × V) × ℕ). IsUnder (views nodes) len (suc n) b.1) (row_of f)) none_more low.under;
-        list = ap (left_above (views nodes) len) rows ∙ left-push (views nodes) len (rows_of rest) (row_of f);
+        list = ap (remaining_above (views nodes) len) rows ∙ remaining-push (views nodes) len (rows_of rest) (row_of f);
       }
 
   module _ (start ancestors : List (Ancestor K V)) (up : IsUp start ancestors) (rest : List (Ancestor K V)) (f : Ancestor K V) (off : IsTakenOff ancestors rest f) where
     -- no item was left in it
     pub up-passed : row_of f ≡ [] → IsUp start rest
-    up-passed none = record { rows = off.rows; list = up.list ∙ off.list ∙ ap (λ row. left_in (views nodes) len row ++ left_over rest) none }
+    up-passed none = record { rows = off.rows; list = up.list ∙ off.list ∙ ap (λ row. remaining_in (views nodes) len row ++ left_over rest) none }
 
     -- the next item is its own
     module _ (x : K × V) (child : ℕ) (after : Ancestor K V) (next : row_of f ≡ (x, child) ∷ row_of after) (new : List (Ancestor K V)) (made : new ≡ rest ++ after ∷ []) where
@@ -146,9 +146,9 @@ module _ {K V : Type 0} (nodes : Content (Node K V)) (len : ℕ) where
       pub up-list : left_over start ≡ x ∷ (represented (views nodes) len child ++ left_over new)
       up-list =
           up.list ∙ off.list
-          ∙ ap (λ row. left_in (views nodes) len row ++ left_over rest) next
-          ∙ ap (λ l. x ∷ l) (append_assoc (represented (views nodes) len child) (left_in (views nodes) len (row_of after)) (left_over rest)
-          ∙ ap (λ l. represented (views nodes) len child ++ l) (sym (ap (left_above (views nodes) len) more ∙ left-push (views nodes) len (rows_of rest) (row_of after))))
+          ∙ ap (λ row. remaining_in (views nodes) len row ++ left_over rest) next
+          ∙ ap (λ l. x ∷ l) (append_assoc (represented (views nodes) len child) (remaining_in (views nodes) len (row_of after)) (left_over rest)
+          ∙ ap (λ l. represented (views nodes) len child ++ l) (sym (ap (remaining_above (views nodes) len) more ∙ remaining-push (views nodes) len (rows_of rest) (row_of after))))
 
       pub up-room : length rest < 32
       up-room = let r = all.0.room in let m = length-map rest (row_of {K = K} {V = V}) in omega arith

@@ -5,7 +5,7 @@ use Rattle.std.specs.FinMap as finite
 use Rattle.btree_node.specs.declared.node.Node.{Node}
 use Rattle.btree_node.specs.Node.{view_of}
 use Rattle.btree_view.specs.View.{branches_of, items_of}
-use Rattle.btree_shape.specs.Focus.Left.{left_above, AreRows, IsUnder}
+use Rattle.btree_shape.specs.Focus.Remaining.{remaining_above, AreRows, IsUnder}
 use Rattle.btree_shape.specs.Represents.{represented}
 use Rattle.btree_shape.specs.TreeState.{TreeState, node_map}
 use Rattle.btree_walk.specs.declared.ancestors.Ancestor.{Ancestor}
@@ -16,14 +16,14 @@ module _ {K V : Type 0} where
   rows_of ancestors = map (λ f. drop f.passed (branches_of (view_of f.node.now))) ancestors
 
   -- the items of a leaf that are not passed
-  abbrev pub left_in_leaf : Option (Bor (Node K V)) → (passed : ℕ) → List (K × V)
-  left_in_leaf None passed = []
-  left_in_leaf (Some leaf) passed = drop passed (items_of (view_of leaf.now))
+  abbrev pub remaining_in_leaf : Option (Bor (Node K V)) → (passed : ℕ) → List (K × V)
+  remaining_in_leaf None passed = []
+  remaining_in_leaf (Some leaf) passed = drop passed (items_of (view_of leaf.now))
 
   -- the first of these items, or none if all are passed
   abbrev pub IsNextIn : Option (Bor (Node K V)) → (passed : ℕ) → Option (Bor K × Bor V) → Type 0
-  IsNextIn leaf passed None = left_in_leaf leaf passed ≡ []
-  IsNextIn leaf passed (Some pair) = left_in_leaf leaf passed ≡ (pair.0.now, pair.1.now) ∷ left_in_leaf leaf (passed + 1)
+  IsNextIn leaf passed None = remaining_in_leaf leaf passed ≡ []
+  IsNextIn leaf passed (Some pair) = remaining_in_leaf leaf passed ≡ (pair.0.now, pair.1.now) ∷ remaining_in_leaf leaf (passed + 1)
 
 module _ {K V : Type 0} (tree : TreeState K V) where
   -- ancestors from the root down: the child after each item that is not passed is one level below
@@ -35,18 +35,18 @@ module _ {K V : Type 0} (tree : TreeState K V) where
   IsBelow ancestors id = IsUnder (node_map tree) (finite.len tree.nodes) (length (rows_of ancestors)) id
 
   -- what is left in the ancestors
-  abbrev pub left_in_ancestors : List (Ancestor K V) → List (K × V)
-  left_in_ancestors ancestors = left_above (node_map tree) (finite.len tree.nodes) (rows_of ancestors)
+  abbrev pub remaining_in_ancestors : List (Ancestor K V) → List (K × V)
+  remaining_in_ancestors ancestors = remaining_above (node_map tree) (finite.len tree.nodes) (rows_of ancestors)
 
   -- what is left of a walk that comes to a node: the list that the node represents, and what is left in its ancestors
-  abbrev pub left_at : (id : ℕ) → List (Ancestor K V) → List (K × V)
-  left_at id ancestors = represented (node_map tree) (finite.len tree.nodes) id ++ left_in_ancestors ancestors
+  abbrev pub remaining_at : (id : ℕ) → List (Ancestor K V) → List (K × V)
+  remaining_at id ancestors = represented (node_map tree) (finite.len tree.nodes) id ++ remaining_in_ancestors ancestors
 
   -- what is left of a walk that is in a leaf
-  abbrev pub left_of : Option (Bor (Node K V)) → (passed : ℕ) → List (Ancestor K V) → List (K × V)
-  left_of leaf passed ancestors = left_in_leaf leaf passed ++ left_in_ancestors ancestors
+  abbrev pub remaining_of : Option (Bor (Node K V)) → (passed : ℕ) → List (Ancestor K V) → List (K × V)
+  remaining_of leaf passed ancestors = remaining_in_leaf leaf passed ++ remaining_in_ancestors ancestors
 
   -- the first item that is left in the ancestors, with the first leaf after it, or none if nothing is left
   abbrev pub IsNextAbove : (old new : List (Ancestor K V)) → Option ((Bor K × Bor V) × Bor (Node K V)) → Type 0
-  IsNextAbove old new None = (left_in_ancestors old ≡ []) × (rows_of new ≡ [])
-  IsNextAbove old new (Some next) = left_in_ancestors old ≡ (next.0.0.now, next.0.1.now) ∷ left_of (Some next.1) 0 new
+  IsNextAbove old new None = (remaining_in_ancestors old ≡ []) × (rows_of new ≡ [])
+  IsNextAbove old new (Some next) = remaining_in_ancestors old ≡ (next.0.0.now, next.0.1.now) ∷ remaining_of (Some next.1) 0 new

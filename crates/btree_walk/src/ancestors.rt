@@ -1,7 +1,7 @@
 //! The path from the root to the leaf that a walk is in.
 ghost use Rattle.std.specs.Prelude.{◌≡◌, ◌<◌, [], Some, OnSome};
 ghost use Rattle.btree_shape.specs.TreeState.{pairs_of};
-ghost use Rattle.btree_walk.specs.Rows.{AreAncestors, IsBelow, IsNextAbove, IsNextIn, left_at, left_of};
+ghost use Rattle.btree_walk.specs.Rows.{AreAncestors, IsBelow, IsNextAbove, IsNextIn, remaining_at, remaining_of};
 
 use btree_ext::{BTreeExt, Tree};
 use btree_item::{LEAF_SLOTS, MAX_LEVELS, Slots};
@@ -44,7 +44,7 @@ fn descend<'a, K: Ord + 'a, V: 'a, C: NodesMut<K, V> + 'a>(
     requires above { AreAncestors tree.now ancestors.old }
     requires below { IsBelow tree.now ancestors.old top }
     ensures above { AreAncestors tree.now ancestors.new }
-    ensures left { left_at tree.now top ancestors.old ≡ left_of tree.now (Some result) 0 ancestors.new }
+    ensures left { remaining_at tree.now top ancestors.old ≡ remaining_of tree.now (Some result) 0 ancestors.new }
 {
     tree.tell_fits();
     let mut id = top;
@@ -67,7 +67,7 @@ pub(crate) fn start<'a, K: Ord + 'a, V: 'a, C: NodesMut<K, V> + 'a>(
 ) -> Option<&'a Node<K, V>>
     requires none { ancestors.old ≡ [] }
     ensures above { AreAncestors tree.now ancestors.new }
-    ensures left { left_of tree.now result 0 ancestors.new ≡ pairs_of tree.now }
+    ensures left { remaining_of tree.now result 0 ancestors.new ≡ pairs_of tree.now }
 {
     tree.tell_fits();
     let _len = tree.len();

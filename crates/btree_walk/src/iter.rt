@@ -26,15 +26,15 @@ pub struct Iter<'a, K: Ord, V, C: NodesMut<K, V>> {
 
 impl<'a, K: Ord, V, C: NodesMut<K, V>> Model for Iter<'a, K, V, C> {
     ghost use Rattle.std.specs.Prelude.{◌≡◌, List, length};
-    ghost use Rattle.btree_walk.specs.Rows.{AreAncestors, left_of};
+    ghost use Rattle.btree_walk.specs.Rows.{AreAncestors, remaining_of};
 
     ghost Value = { List (K × V) };
 
-    ghost view = { λ it. left_of it.tree.now it.leaf it.passed it.ancestors };
+    ghost view = { λ it. remaining_of it.tree.now it.leaf it.passed it.ancestors };
 
     ghost invariant = { λ it. C.Fits
         × AreAncestors it.tree.now it.ancestors
-        × (it.left ≡ length (left_of it.tree.now it.leaf it.passed it.ancestors)) };
+        × (it.left ≡ length (remaining_of it.tree.now it.leaf it.passed it.ancestors)) };
 }
 
 impl<'a, K: Ord, V, C: NodesMut<K, V>> Iter<'a, K, V, C> {

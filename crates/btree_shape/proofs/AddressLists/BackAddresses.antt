@@ -7,7 +7,7 @@ use Rattle.btree_shape.specs.Addresses.{backs_under}
 use Rattle.btree_shape.specs.AddressLaws.{IsPlaced, IsPlacedUnder, ListsBacks, numbers_of}
 use Rattle.btree_shape.specs.Place.{IsBack, IsValid, IsWithin}
 use Rattle.btree_shape.specs.Lists.{total}
-use Rattle.btree_shape.specs.Focus.Shape.{Shape, items_under, later_items}
+use Rattle.btree_shape.specs.Focus.Subtree.{Subtree, items_under, later_items}
 use Rattle.btree_shape.specs.Represents.{numbers_under}
 use Rattle.btree_shape.specs.Focus.Positions.{Position, branch_key, branch_positions, positions_from, positions}
 use Rattle.btree_shape.proofs.AddressLists.OfPositions.{back-positions, keep_back}
@@ -16,7 +16,7 @@ use Rattle.btree_shape.proofs.Places.HasPlace.{has_place}
 use Rattle.btree_shape.proofs.AddressLists.Kept.{kept, kept-append}
 use Rattle.btree_shape.proofs.AddressLists.KeptOrder.{branch-sum, kept-order, numbers-counted, numbers-once, valid-within}
 use Rattle.btree_shape.proofs.Trees.Numbers.{used-some}
-use Rattle.btree_shape.proofs.AddressLists.OnePlaceEach.{addressed-kept, kept-addressed, ticks_of, toured}
+use Rattle.btree_shape.proofs.AddressLists.OnePlaceEach.{addressed-kept, kept-addressed, ticks_of, as-subtree}
 use Rattle.btree_shape.proofs.Trees.Stores.{within-used}
 
 -- a row has one more than its entries and what is below them
@@ -36,7 +36,7 @@ module _ {A : Type 0} where
 
 module _ (A : Type 0) where
   -- as many as items and nodes
-  back-length : (h : ℕ) (t : Shape A h) → length (kept keep_back (positions A h t)) ≡ length (items_under A h t) + nodes_in A h t
+  back-length : (h : ℕ) (t : Subtree A h) → length (kept keep_back (positions A h t)) ≡ length (items_under A h t) + nodes_in A h t
   back-length zero t =
       let r = node_positions-length {A = A} {X = A} (λ x. x) (λ x. []) t.0 0 t.1 in
       let s = singles t.1 in
@@ -63,16 +63,16 @@ module _ {A : Type 0} (node_at : NodeMap A) where
   module _ (levels root : ℕ) (xs : List A) (p : IsPlaced node_at levels root xs) where
     backs-placed : ListsBacks node_at (Some root) xs (backs_under node_at levels (Some root)) (numbers_under node_at p.rooted.height root)
     backs-placed =
-        let t = toured node_at levels root xs p in
+        let t = as-subtree node_at levels root xs p in
         let ts : List (Position A) = ticks_of node_at levels root xs p t in
         let e : backs_under node_at levels (Some root) ≡ kept keep_back ts =
         subst (λ i. backs_under node_at levels (Some i) ≡ kept keep_back ts) t.here
-        (back-positions node_at p.rooted.height levels None t.shape p.low t.holds) in
+        (back-positions node_at p.rooted.height levels None t.subtree p.low t.holds) in
         record {
           used = p.rooted.once;
           counted =
               let l = ap length e in
-              let b = back-length A p.rooted.height t.shape in
+              let b = back-length A p.rooted.height t.subtree in
               let n = numbers-counted node_at levels root xs p t in
               let i = ap length t.list in
               omega arith;

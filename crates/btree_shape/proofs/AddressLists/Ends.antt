@@ -4,7 +4,7 @@ use Rattle.std.specs.List.{AllByRecursion}
 use Rattle.btree_item.specs.declared.address.Address.{Address}
 use Rattle.btree_view.specs.View.{NodeMap, leaf}
 use Rattle.btree_shape.specs.Addresses.{first_leaf, first_leaf_in, last_child, last_item, last_item_in, last_leaf, last_leaf_in, slot_before}
-use Rattle.btree_shape.specs.Focus.Shape.{Holds, Shape, count_at, id_of}
+use Rattle.btree_shape.specs.Focus.Subtree.{Holds, Subtree, count_at, id_of}
 use Rattle.btree_shape.specs.Focus.Positions.{Position, branch_key, branch_positions, address_before, mark, address_at, positions_from, positions_to, positions}
 use Rattle.btree_shape.proofs.AddressLists.OfPositions.{keep_back, keep_front}
 use Rattle.btree_shape.proofs.LookUp.Descent.{snoc}
@@ -65,18 +65,18 @@ module _ {A X : Type 0} (key : X → A) (below : X → List (Position A)) (id : 
       (subst (λ l. Ends a l) (sym last) e))
 
 module _ (A : Type 0) where
-  abbrev first_of : (h : ℕ) → Shape A h → ℕ
+  abbrev first_of : (h : ℕ) → Subtree A h → ℕ
   first_of zero t = t.0
   first_of (suc h) t = first_of h t.1
 
-  positions-begins : (h : ℕ) (t : Shape A h) → Begins (address_at (first_of h t) 0) (kept keep_back (positions A h t))
+  positions-begins : (h : ℕ) (t : Subtree A h) → Begins (address_at (first_of h t) 0) (kept keep_back (positions A h t))
   positions-begins zero t = node_positions-begins {A = A} {X = A} (λ x. x) (λ x. []) t.0 0 t.1
   positions-begins (suc h) t =
       kept-begins keep_back (address_at (first_of h t.1) 0) (positions A h t.1) (positions_from (branch_key A h) (branch_positions A h) t.0 0 t.2)
       (positions-begins h t.1)
 
   -- the positions of a subtree end past the last item of its root
-  pub positions-ends : (h : ℕ) (t : Shape A h) → Ends (address_at (id_of A h t) (count_at A h t)) (kept keep_back (positions A h t))
+  pub positions-ends : (h : ℕ) (t : Subtree A h) → Ends (address_at (id_of A h t) (count_at A h t)) (kept keep_back (positions A h t))
   positions-ends zero t =
       subst (λ n. Ends (address_at t.0 n) (kept keep_back (positions A 0 t))) (let q : 0 + length t.1 ≡ length t.1 = omega arith in q)
       (node_positions-ends {A = A} {X = A} (λ x. x) (λ x. []) t.0 0 t.1)
@@ -86,13 +86,13 @@ module _ (A : Type 0) where
       (node_positions-ends (branch_key A h) (branch_positions A h) t.0 0 t.2))
 
   -- and begin at -1 of its root
-  pub positions-begins-front : (h : ℕ) (t : Shape A h) → Begins (address_before (id_of A h t)) (kept keep_front (positions A h t))
+  pub positions-begins-front : (h : ℕ) (t : Subtree A h) → Begins (address_before (id_of A h t)) (kept keep_front (positions A h t))
   positions-begins-front zero t = record { rest = kept keep_front (positions_from {A = A} {X = A} (λ x. x) (λ x. []) t.0 0 t.1); is = refl }
   positions-begins-front (suc h) t =
       record { rest = kept keep_front (positions A h t.1 ++ positions_from (branch_key A h) (branch_positions A h) t.0 0 t.2); is = refl }
 
   module _ (node_at : NodeMap A) where
-    first-is : (h levels : ℕ) (p : Option ℕ) (t : Shape A h) → h < levels → Holds A node_at h p t
+    first-is : (h levels : ℕ) (p : Option ℕ) (t : Subtree A h) → h < levels → Holds A node_at h p t
         → first_leaf node_at levels (id_of A h t) ≡ first_of h t
     first-is h zero p t l d = absurd (omega arith)
     first-is zero (suc levels) p t l d = ap (first_leaf_in (first_leaf node_at levels) t.0) d
@@ -100,12 +100,12 @@ module _ (A : Type 0) where
         ap (first_leaf_in (first_leaf node_at levels) t.0) d.0 ∙ first-is h levels (Some t.0) t.1 (omega arith) d.1
 
     -- the back addresses begin in the leftmost leaf
-    pub positions-first : (h levels : ℕ) (p : Option ℕ) (t : Shape A h) → h < levels → Holds A node_at h p t
+    pub positions-first : (h levels : ℕ) (p : Option ℕ) (t : Subtree A h) → h < levels → Holds A node_at h p t
         → Begins (address_at (first_leaf node_at levels (id_of A h t)) 0) (kept keep_back (positions A h t))
     positions-first h levels p t l d =
         subst (λ n. Begins (address_at n 0) (kept keep_back (positions A h t))) (sym (first-is h levels p t l d)) (positions-begins h t)
 
-    last-named : (h first : ℕ) (front : List (A × Shape A h)) (b : A × Shape A h)
+    last-named : (h first : ℕ) (front : List (A × Subtree A h)) (b : A × Subtree A h)
         → last_child first (map {B = A × ℕ} (λ b. (b.0, id_of A h b.1)) (front ++ b ∷ [])) ≡ id_of A h b.1
     last-named h first [] b = refl
     last-named h first (f ∷ front) b = last-named h (id_of A h f.1) front b
@@ -127,8 +127,8 @@ module _ (A : Type 0) where
 
     -- those of an internal node end like those of its last child
     module _ (h levels : ℕ) (p : Option ℕ)
-        (each : (t : Shape A h) → Holds A node_at h p t → Ends (last_item node_at levels (id_of A h t)) (kept keep_front (positions A h t))) where
-      last-node_positions : (id : ℕ) (first : Shape A h) (bs : List (A × Shape A h)) → Holds A node_at h p first
+        (each : (t : Subtree A h) → Holds A node_at h p t → Ends (last_item node_at levels (id_of A h t)) (kept keep_front (positions A h t))) where
+      last-node_positions : (id : ℕ) (first : Subtree A h) (bs : List (A × Subtree A h)) → Holds A node_at h p first
           → AllByRecursion (λ b. Holds A node_at h p b.1) bs
           → Ends (last_item node_at levels (last_child (id_of A h first) (map {B = A × ℕ} (λ b. (b.0, id_of A h b.1)) bs)))
           (kept keep_front (positions A (suc h) (id, first, bs)))
@@ -140,23 +140,23 @@ module _ (A : Type 0) where
           (each first d))
       last-node_positions id first (b ∷ bs) d e =
           let s = snoc b bs in
-          let e2 : AllByRecursion (λ (b : A × Shape A h). Holds A node_at h p b.1) (s.0 ++ s.1 ∷ []) =
-          subst (λ (l : List (A × Shape A h)). AllByRecursion (λ (b : A × Shape A h). Holds A node_at h p b.1) l) s.2 e in
-          let u = AllByRecursion-right (λ (b : A × Shape A h). Holds A node_at h p b.1) s.0 (s.1 ∷ []) e2 in
-          let n : last_child (id_of A h first) (map {B = A × ℕ} (λ (b : A × Shape A h). (b.0, id_of A h b.1)) (b ∷ bs)) ≡ id_of A h s.1.1 =
-          ap (λ (l : List (A × Shape A h)). last_child (id_of A h first) (map {B = A × ℕ} (λ (b : A × Shape A h). (b.0, id_of A h b.1)) l)) s.2
+          let e2 : AllByRecursion (λ (b : A × Subtree A h). Holds A node_at h p b.1) (s.0 ++ s.1 ∷ []) =
+          subst (λ (l : List (A × Subtree A h)). AllByRecursion (λ (b : A × Subtree A h). Holds A node_at h p b.1) l) s.2 e in
+          let u = AllByRecursion-right (λ (b : A × Subtree A h). Holds A node_at h p b.1) s.0 (s.1 ∷ []) e2 in
+          let n : last_child (id_of A h first) (map {B = A × ℕ} (λ (b : A × Subtree A h). (b.0, id_of A h b.1)) (b ∷ bs)) ≡ id_of A h s.1.1 =
+          ap (λ (l : List (A × Subtree A h)). last_child (id_of A h first) (map {B = A × ℕ} (λ (b : A × Subtree A h). (b.0, id_of A h b.1)) l)) s.2
           ∙ last-named h (id_of A h first) s.0 s.1 in
           let a : Address = last_item node_at levels (id_of A h s.1.1) in
           let node_positions : List (Position A) = positions_from (branch_key A h) (branch_positions A h) id 0 (s.0 ++ s.1 ∷ []) in
           subst (λ i. Ends (last_item node_at levels i) (kept keep_front (positions A (suc h) (id, first, b ∷ bs)))) (sym n)
-          (subst (λ (l : List (A × Shape A h)). Ends a (kept keep_front (positions A (suc h) (id, first, l)))) (sym s.2)
+          (subst (λ (l : List (A × Subtree A h)). Ends a (kept keep_front (positions A (suc h) (id, first, l)))) (sym s.2)
           (ends-more a (address_before id ∷ []) (kept keep_front (positions A h first ++ node_positions))
           (kept-ends keep_front a (positions A h first) node_positions
           (node_positions-last (branch_key A h) (branch_positions A h) id a 0 s.0 s.1
           (ends-more a (address_at id (0 + length s.0) ∷ []) (kept keep_front (positions A h s.1.1)) (each s.1.1 u.0))))))
 
     -- the front addresses end at the last item of the rightmost leaf
-    pub positions-last : (h levels : ℕ) (p : Option ℕ) (t : Shape A h) → h < levels → Holds A node_at h p t
+    pub positions-last : (h levels : ℕ) (p : Option ℕ) (t : Subtree A h) → h < levels → Holds A node_at h p t
         → Ends (last_item node_at levels (id_of A h t)) (kept keep_front (positions A h t))
     positions-last h zero p t l d = absurd (omega arith)
     positions-last zero (suc levels) p t l d =

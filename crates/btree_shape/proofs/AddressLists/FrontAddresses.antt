@@ -8,16 +8,16 @@ use Rattle.btree_shape.specs.AddressLaws.{IsFront, IsPlaced, IsPlacedUnder, List
 use Rattle.btree_shape.specs.Focus.TreePositions.{IsAddressed}
 use Rattle.btree_shape.specs.Place.{IsPlace, IsWithin}
 use Rattle.btree_shape.specs.Lists.{total}
-use Rattle.btree_shape.specs.Focus.Shape.{Shape, items_under, later_items}
+use Rattle.btree_shape.specs.Focus.Subtree.{Subtree, items_under, later_items}
 use Rattle.btree_shape.specs.Represents.{numbers_under}
-use Rattle.btree_shape.specs.Focus.Positions.{Asks, Position, branch_key, branch_positions, positions_from, positions}
+use Rattle.btree_shape.specs.Focus.Positions.{IsExpected, Position, branch_key, branch_positions, positions_from, positions}
 use Rattle.btree_shape.proofs.AddressLists.OfPositions.{front-positions, is_front, keep_front}
 use Rattle.btree_shape.proofs.Trees.Density.{nodes_in}
 use Rattle.btree_shape.proofs.Places.HasPlace.{has_place}
 use Rattle.btree_shape.proofs.AddressLists.Kept.{IndexOf, kept, kept-append}
 use Rattle.btree_shape.proofs.AddressLists.KeptOrder.{branch-sum, kept-order, numbers-counted, numbers-once, valid-within}
 use Rattle.btree_shape.proofs.Trees.Numbers.{used-some}
-use Rattle.btree_shape.proofs.AddressLists.OnePlaceEach.{Toured, addressed-kept, kept-addressed, ticks_of, toured}
+use Rattle.btree_shape.proofs.AddressLists.OnePlaceEach.{AsSubtree, addressed-kept, kept-addressed, ticks_of, as-subtree}
 use Rattle.btree_shape.proofs.Trees.Stores.{within-used}
 
 -- a row has as many as its entries and what is below them
@@ -37,7 +37,7 @@ module _ {A : Type 0} where
 
 module _ (A : Type 0) where
   -- as many as items and nodes
-  front-length : (h : ℕ) (t : Shape A h) → length (kept keep_front (positions A h t)) ≡ length (items_under A h t) + nodes_in A h t
+  front-length : (h : ℕ) (t : Subtree A h) → length (kept keep_front (positions A h t)) ≡ length (items_under A h t) + nodes_in A h t
   front-length zero t =
       let r = node_positions-length {A = A} {X = A} (λ x. x) (λ x. []) t.0 0 t.1 in
       let s = singles t.1 in
@@ -75,15 +75,15 @@ module _ {A : Type 0} (node_at : NodeMap A) where
 
   module _ (levels root : ℕ) (xs : List A) (p : IsPlaced node_at levels root xs) where
     -- what is kept is before the end of its node
-    is-front : (t : Toured node_at levels root xs p) (id : ℕ) (offset : Option ℕ) (item : Option A) → is_front offset item ≡ true
-        → ((asked : Option A) → Asks asked item → (place : ℕ) × IsAddressed A node_at root xs asked (record { id = id; offset = offset }) place)
+    is-front : (t : AsSubtree node_at levels root xs p) (id : ℕ) (offset : Option ℕ) (item : Option A) → is_front offset item ≡ true
+        → ((expected : Option A) → IsExpected expected item → (place : ℕ) × IsAddressed A node_at root xs expected (record { id = id; offset = offset }) place)
         → IsFront node_at (node_at id) offset
     is-front t id None item k d = within-front (node_at id) (valid-within node_at root id None (d None tt).1.valid)
     is-front t id (Some o) None k d = absurd (cc)
     is-front t id (Some o) (Some x) k d = item-front (node_at id) o x (d (Some x) refl).1.item
 
     -- each front address is kept, by the item at its offset
-    front-kept : (t : Toured node_at levels root xs p) (id : ℕ) (offset : Option ℕ) (place : ℕ) → IsFront node_at (node_at id) offset
+    front-kept : (t : AsSubtree node_at levels root xs p) (id : ℕ) (offset : Option ℕ) (place : ℕ) → IsFront node_at (node_at id) offset
         → IsPlace node_at (Some root) xs id offset place
         → IndexOf keep_front (ticks_of node_at levels root xs p t) (record { id = id; offset = offset }) place
     front-kept t id None place l w =
@@ -97,22 +97,22 @@ module _ {A : Type 0} (node_at : NodeMap A) where
 
     fronts-placed : ListsFronts node_at (Some root) xs (fronts_under node_at levels (Some root)) (numbers_under node_at p.rooted.height root)
     fronts-placed =
-        let t = toured node_at levels root xs p in
+        let t = as-subtree node_at levels root xs p in
         let ts : List (Position A) = ticks_of node_at levels root xs p t in
         let e : fronts_under node_at levels (Some root) ≡ kept keep_front ts =
         subst (λ i. fronts_under node_at levels (Some i) ≡ kept keep_front ts) t.here
-        (front-positions node_at p.rooted.height levels None t.shape p.low t.holds) in
+        (front-positions node_at p.rooted.height levels None t.subtree p.low t.holds) in
         record {
           used = p.rooted.once;
           counted =
               let l = ap length e in
-              let b = front-length A p.rooted.height t.shape in
+              let b = front-length A p.rooted.height t.subtree in
               let n = numbers-counted node_at levels root xs p t in
               let i = ap length t.list in
               omega arith;
           right = λ i a at.
               let r = kept-addressed node_at levels root xs p t keep_front i a (ap (λ l. slice_get l i) (sym e) ∙ at) in
-              is-front t a.id a.offset r.item r.keeps (λ asked m. (_, r.is asked m));
+              is-front t a.id a.offset r.item r.keeps (λ expected m. (_, r.is expected m));
           each = λ a f.
               let l = front-within (node_at a.id) a.offset f in
               let u = used-some (node_at a.id) (within-used node_at (node_at a.id) a.offset l) in

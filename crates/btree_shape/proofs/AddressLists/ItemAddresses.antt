@@ -9,12 +9,12 @@ use Rattle.btree_view.specs.View.{NodeMap, View, item_in, items_of}
 use Rattle.btree_shape.specs.Addresses.{item_addresses_under}
 use Rattle.btree_shape.specs.AddressLaws.{IsPlaced, IsPlacedUnder, ListsItems}
 use Rattle.btree_shape.specs.Place.{IsEnd, IsOccupied, IsPlace, IsPlaceOf, item_at}
-use Rattle.btree_shape.specs.Focus.Shape.{Shape}
+use Rattle.btree_shape.specs.Focus.Subtree.{Subtree}
 use Rattle.btree_shape.specs.Focus.Positions.{Position, branch_key, branch_positions, positions_from, positions}
 use Rattle.btree_shape.proofs.Places.Words.{item-within}
 use Rattle.btree_shape.proofs.AddressLists.OfPositions.{item-positions, keep_item}
 use Rattle.btree_shape.proofs.AddressLists.Kept.{Strung, kept, strung-append}
-use Rattle.btree_shape.proofs.AddressLists.OnePlaceEach.{Toured, addressed-strung, strung-addressed, strung-counted, ticks_of, toured}
+use Rattle.btree_shape.proofs.AddressLists.OnePlaceEach.{AsSubtree, addressed-strung, strung-addressed, strung-counted, ticks_of, as-subtree}
 
 -- between two items of the positions there is one occupied address
 module _ {A : Type 0} where
@@ -36,12 +36,12 @@ module _ {A : Type 0} where
   leaf-each (x ∷ xs) = (refl, leaf-each xs)
 
 module _ (A : Type 0) where
-  branch-each : (h : ℕ) → ((t : Shape A h) → Strung keep_item 0 (positions A h t) 0) → (bs : List (A × Shape A h))
+  branch-each : (h : ℕ) → ((t : Subtree A h) → Strung keep_item 0 (positions A h t) 0) → (bs : List (A × Subtree A h))
       → AllByRecursion (λ b. Strung keep_item 0 (branch_positions A h b) 0) bs
   branch-each h each [] = tt
   branch-each h each (b ∷ bs) = (each b.1, branch-each h each bs)
 
-  pub positions-strung : (h : ℕ) (t : Shape A h) → Strung keep_item 0 (positions A h t) 0
+  pub positions-strung : (h : ℕ) (t : Subtree A h) → Strung keep_item 0 (positions A h t) 0
   positions-strung zero t = (0, refl, items-strung {X = A} (λ x. x) (λ x. []) t.0 0 t.1 (leaf-each t.1))
   positions-strung (suc h) t = (
     0,
@@ -78,17 +78,17 @@ module _ {A : Type 0} (node_at : NodeMap A) where
   place-item root xs id (Some o) x place e (inr i) = absurd (not-end (node_at id) o x e i.0)
 
   module _ (levels root : ℕ) (xs : List A) (p : IsPlaced node_at levels root xs) where
-    list-kept : (t : Toured node_at levels root xs p)
+    list-kept : (t : AsSubtree node_at levels root xs p)
         → item_addresses_under node_at levels (Some root) ≡ kept keep_item (ticks_of node_at levels root xs p t)
     list-kept t =
         subst (λ i. item_addresses_under node_at levels (Some i) ≡ kept keep_item (ticks_of node_at levels root xs p t)) t.here
-        (item-positions node_at p.rooted.height levels None t.shape p.low t.holds)
+        (item-positions node_at p.rooted.height levels None t.subtree p.low t.holds)
 
-    item-right : (t : Toured node_at levels root xs p) (place : ℕ) (a : Address)
+    item-right : (t : AsSubtree node_at levels root xs p) (place : ℕ) (a : Address)
         → slice_get (kept keep_item (ticks_of node_at levels root xs p t)) place ≡ Some a
         → IsOccupied node_at a.id a.offset × IsPlace node_at (Some root) xs a.id a.offset place × (item_at node_at a ≡ slice_get xs place)
     item-right t place a at =
-        let r = strung-addressed node_at levels root xs p t keep_item 0 (positions-strung A p.rooted.height t.shape) place a at in
+        let r = strung-addressed node_at levels root xs p t keep_item 0 (positions-strung A p.rooted.height t.subtree) place a at in
         let x = some-of r.item r.keeps in
         let d = r.is (Some x.0) x.1 in (
           occupied-by a.id a.offset x.0 d.item,
@@ -96,22 +96,22 @@ module _ {A : Type 0} (node_at : NodeMap A) where
           d.item ∙ sym (place-item root xs a.id a.offset x.0 place d.item d.at_place),
         )
 
-    occupied-listed : (t : Toured node_at levels root xs p) (place id : ℕ) (offset : Option ℕ)
+    occupied-listed : (t : AsSubtree node_at levels root xs p) (place id : ℕ) (offset : Option ℕ)
         → IsOccupied node_at id offset → IsPlace node_at (Some root) xs id offset place
         → slice_get (kept keep_item (ticks_of node_at levels root xs p t)) place ≡ Some (record { id = id; offset = offset })
     occupied-listed t place id None o i = absurd o
     occupied-listed t place id (Some offset) o i =
-        addressed-strung node_at levels root xs p t keep_item 0 (positions-strung A p.rooted.height t.shape) (Some o.0)
+        addressed-strung node_at levels root xs p t keep_item 0 (positions-strung A p.rooted.height t.subtree) (Some o.0)
         (record { id = id; offset = Some offset }) place (kept-some o.0)
         (record { valid = inl (item-within node_at offset o.0 (node_at id) o.1); at_place = i; item = o.1 })
 
     items-placed : ListsItems node_at (Some root) xs (item_addresses_under node_at levels (Some root))
     items-placed =
-        let t = toured node_at levels root xs p in
+        let t = as-subtree node_at levels root xs p in
         let e = list-kept t in
         record {
           counted = ap length e
-              ∙ (let n = strung-counted node_at levels root xs p t keep_item 0 (positions-strung A p.rooted.height t.shape) in
+              ∙ (let n = strung-counted node_at levels root xs p t keep_item 0 (positions-strung A p.rooted.height t.subtree) in
               let q : length (kept keep_item (ticks_of node_at levels root xs p t)) ≡ length xs = omega arith in q);
           right = λ place a at. item-right t place a (ap (λ l. slice_get l place) (sym e) ∙ at);
           each = λ place a o i. ap (λ l. slice_get l place) e ∙ occupied-listed t place a.id a.offset o i;

@@ -3,7 +3,7 @@
 use Rattle.std.proofs.Common.{◌≡◌, ◌<◌, ◌≤◌, ◌++◌, ◌∷◌, [], ◌∙◌, ◌+◌, ℕ, zero, suc, inl, inr, Bool, true, false, List, length, Option, Some, refl, sym, ap, subst, arith}
 use Rattle.std.specs.Prelude.{slice_get}
 use Rattle.btree_item.specs.declared.address.Address.{Address}
-use Rattle.btree_shape.specs.Focus.Positions.{Asks, IsAt, Position, mark, over, passed}
+use Rattle.btree_shape.specs.Focus.Positions.{IsExpected, IsAt, Position, mark, over, passed}
 
 abbrev pub put : Bool → Address → List Address → List Address
 put true a list = a ∷ list
@@ -45,7 +45,7 @@ module _ {A : Type 0} (keep : Address → Option A → Bool) where
   pub record KeptAt (ts : List (Position A)) (a : Address) (place : ℕ) : Type 0 where
     pub item : Option A
     pub keeps : keep a item ≡ true
-    pub there : (asked : Option A) → Asks asked item → IsAt asked a ts place
+    pub there : (expected : Option A) → IsExpected expected item → IsAt expected a ts place
 
   at-mark : (b : Address) (item : Option A) (ts : List (Position A))
       → ((i : ℕ) (a : Address) → slice_get (kept ts) i ≡ Some a → KeptAt ts a (passed_to ts i))
@@ -56,14 +56,14 @@ module _ {A : Type 0} (keep : Address → Option A → Bool) where
       record {
         item = item;
         keeps = subst (λ z. keep z item ≡ true) same e;
-        there = λ asked m. inl (sym same, refl, m);
+        there = λ expected m. inl (sym same, refl, m);
       }
   at-mark b item ts rest true e (suc i) a at =
       let r = rest i a at in
-      record { item = r.item; keeps = r.keeps; there = λ asked m. inr (r.there asked m) }
+      record { item = r.item; keeps = r.keeps; there = λ expected m. inr (r.there expected m) }
   at-mark b item ts rest false e i a at =
       let r = rest i a at in
-      record { item = r.item; keeps = r.keeps; there = λ asked m. inr (r.there asked m) }
+      record { item = r.item; keeps = r.keeps; there = λ expected m. inr (r.there expected m) }
 
   pub kept-at : (ts : List (Position A)) (i : ℕ) (a : Address) → slice_get (kept ts) i ≡ Some a → KeptAt ts a (passed_to ts i)
   kept-at [] i a at = absurd (cc)
@@ -73,7 +73,7 @@ module _ {A : Type 0} (keep : Address → Option A → Bool) where
       record {
         item = r.item;
         keeps = r.keeps;
-        there = λ asked m. (passed_to ts i, refl, r.there asked m);
+        there = λ expected m. (passed_to ts i, refl, r.there expected m);
       }
 
   -- and the converse: a kept address has an index
@@ -96,17 +96,17 @@ module _ {A : Type 0} (keep : Address → Option A → Bool) where
   mark-here true b ts a place k e z = record { index = 0; at = ap (λ w. Some w) (sym e); is = sym z }
   mark-here false b ts a place k e z = absurd (cc)
 
-  pub kept-of : (asked : Option A) (a : Address) (ts : List (Position A)) (place : ℕ)
-      → ((item : Option A) → Asks asked item → keep a item ≡ true) → IsAt asked a ts place → IndexOf ts a place
-  kept-of asked a [] place k i = absurd i
-  kept-of asked a (mark b item ∷ ts) place k (inl i) =
+  pub kept-of : (expected : Option A) (a : Address) (ts : List (Position A)) (place : ℕ)
+      → ((item : Option A) → IsExpected expected item → keep a item ≡ true) → IsAt expected a ts place → IndexOf ts a place
+  kept-of expected a [] place k i = absurd i
+  kept-of expected a (mark b item ∷ ts) place k (inl i) =
       let r = mark-here (keep b item) b ts a place (subst (λ z. keep z item ≡ true) i.0 (k item i.2)) i.0 i.1 in
       record { index = r.index; at = r.at; is = r.is }
-  kept-of asked a (mark b item ∷ ts) place k (inr i) =
-      let r = mark-later (keep b item) b ts a place (kept-of asked a ts place k i) in
+  kept-of expected a (mark b item ∷ ts) place k (inr i) =
+      let r = mark-later (keep b item) b ts a place (kept-of expected a ts place k i) in
       record { index = r.index; at = r.at; is = r.is }
-  kept-of asked a (over ∷ ts) place k i =
-      let r = kept-of asked a ts i.0 k i.2 in
+  kept-of expected a (over ∷ ts) place k i =
+      let r = kept-of expected a ts i.0 k i.2 in
       record { index = r.index; at = r.at; is = ap suc r.is ∙ sym i.1 }
 
   -- at a later index at least as many items are passed

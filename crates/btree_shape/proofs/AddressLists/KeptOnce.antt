@@ -3,7 +3,7 @@ use Rattle.std.proofs.Common.{◌≡◌, ◌<◌, ◌≤◌, ◌++◌, ◌∷◌
 use Rattle.std.specs.Prelude.{slice_get}
 use Rattle.btree_item.specs.declared.address.Address.{Address}
 use Rattle.btree_shape.specs.Lists.{one, total}
-use Rattle.btree_shape.specs.Focus.Shape.{Shape, times_under}
+use Rattle.btree_shape.specs.Focus.Subtree.{Subtree, times_under}
 use Rattle.btree_shape.specs.Focus.Positions.{Position, branch_key, branch_positions, address_before, mark, over, address_at, positions_from, positions}
 use Rattle.btree_shape.proofs.Paths.Frames.{one-other, one-self}
 use Rattle.btree_shape.proofs.AddressLists.Kept.{kept, put}
@@ -166,7 +166,7 @@ total-less f g l [] = omega arith
 total-less f g l (x ∷ xs) = omega (arith, l x, total-less f g l xs)
 
 module _ (A : Type 0) (a : Address) where
-  pub positions-met : (h : ℕ) (t : Shape A h) → met a (positions A h t) ≤ times_under A h a.id t
+  pub positions-met : (h : ℕ) (t : Subtree A h) → met a (positions A h t) ≤ times_under A h a.id t
   positions-met zero t =
       let q = whole-once {A = A} {X = A} (λ x. x) (λ x. []) a t.0 a.offset refl t.1 in
       let z = total-none t.1 in
@@ -174,12 +174,12 @@ module _ (A : Type 0) (a : Address) where
   positions-met (suc h) t =
       let q = whole-once (branch_key A h) (branch_positions A h) a t.0 a.offset refl t.2 in
       let f = positions-met h t.1 in
-      let b = total-less (λ (b : A × Shape A h). met a (positions A h b.1)) (λ b. times_under A h a.id b.1) (λ b. positions-met h b.1) t.2 in
+      let b = total-less (λ (b : A × Subtree A h). met a (positions A h b.1)) (λ b. times_under A h a.id b.1) (λ b. positions-met h b.1) t.2 in
       let r = met-append a (positions A h t.1) (positions_from (branch_key A h) (branch_positions A h) t.0 0 t.2) in
       omega arith
 
   -- so an address is kept once in a tree that has each number once
-  pub kept-once : (keep : Address → Option A → Bool) (h : ℕ) (t : Shape A h) → times_under A h a.id t ≤ 1
+  pub kept-once : (keep : Address → Option A → Bool) (h : ℕ) (t : Subtree A h) → times_under A h a.id t ≤ 1
       → (i j : ℕ) → slice_get (kept keep (positions A h t)) i ≡ Some a → slice_get (kept keep (positions A h t)) j ≡ Some a → i ≡ j
   kept-once keep h t l i j e f =
       one-index a (kept keep (positions A h t))

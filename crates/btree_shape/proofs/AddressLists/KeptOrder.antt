@@ -6,23 +6,23 @@ use Rattle.btree_view.specs.View.{NodeMap}
 use Rattle.btree_shape.specs.AddressLaws.{IsInOrder, IsPlaced, IsPlacedUnder, numbers_of}
 use Rattle.btree_shape.specs.Place.{IsValid, IsWithin}
 use Rattle.btree_shape.specs.Lists.{times_listed, total}
-use Rattle.btree_shape.specs.Focus.Shape.{Shape, items_under, later_items, times_under}
+use Rattle.btree_shape.specs.Focus.Subtree.{Subtree, items_under, later_items, times_under}
 use Rattle.btree_shape.specs.Represents.{numbers_under}
 use Rattle.btree_shape.specs.Focus.Positions.{positions}
 use Rattle.btree_shape.specs.WellFormed.{times_used}
 use Rattle.btree_shape.proofs.Trees.Density.{node-numbers, nodes_in}
 use Rattle.btree_shape.proofs.AddressLists.Kept.{kept, passed-rise}
 use Rattle.btree_shape.proofs.AddressLists.KeptOnce.{kept-once}
-use Rattle.btree_shape.proofs.Trees.Numbers.{numbers-shape, used-low}
-use Rattle.btree_shape.proofs.AddressLists.OnePlaceEach.{Toured, kept-addressed, ticks_of}
+use Rattle.btree_shape.proofs.Trees.Numbers.{numbers-subtree, used-low}
+use Rattle.btree_shape.proofs.AddressLists.OnePlaceEach.{AsSubtree, kept-addressed, ticks_of}
 
 module _ (A : Type 0) where
   -- the lengths of what is kept of the branches, if each subtree has as many as items and nodes
   pub branch-sum : (keep : Address → Option A → Bool) (h : ℕ)
-      → ((t : Shape A h) → length (kept keep (positions A h t)) ≡ length (items_under A h t) + nodes_in A h t)
-      → (bs : List (A × Shape A h))
-      → total (λ (b : A × Shape A h). suc (length (kept keep (positions A h b.1)))) bs
-      ≡ length (later_items A h bs) + total (λ (b : A × Shape A h). nodes_in A h b.1) bs
+      → ((t : Subtree A h) → length (kept keep (positions A h t)) ≡ length (items_under A h t) + nodes_in A h t)
+      → (bs : List (A × Subtree A h))
+      → total (λ (b : A × Subtree A h). suc (length (kept keep (positions A h b.1)))) bs
+      ≡ length (later_items A h bs) + total (λ (b : A × Subtree A h). nodes_in A h b.1) bs
   branch-sum keep h each [] = refl
   branch-sum keep h each (b ∷ bs) =
       let q = each b.1 in
@@ -42,27 +42,27 @@ module _ {A : Type 0} (node_at : NodeMap A) where
   numbers-once levels None xs p n = sym (ap times_used (p.0 n))
   numbers-once levels (Some root) xs p n = p.rooted.once n
 
-  module _ (levels root : ℕ) (xs : List A) (p : IsPlaced node_at levels root xs) (t : Toured node_at levels root xs p) where
-    pub times-few : (n : ℕ) → times_under A p.rooted.height n t.shape ≤ 1
+  module _ (levels root : ℕ) (xs : List A) (p : IsPlaced node_at levels root xs) (t : AsSubtree node_at levels root xs p) where
+    pub times-few : (n : ℕ) → times_under A p.rooted.height n t.subtree ≤ 1
     times-few n =
         let b =
-        subst (λ i. times_listed n (numbers_under node_at p.rooted.height i) ≡ times_under A p.rooted.height n t.shape) t.here
-        (numbers-shape A node_at n p.rooted.height None t.shape t.holds) in
+        subst (λ i. times_listed n (numbers_under node_at p.rooted.height i) ≡ times_under A p.rooted.height n t.subtree) t.here
+        (numbers-subtree A node_at n p.rooted.height None t.subtree t.holds) in
         let o = p.rooted.once n in
         let u = used-low (node_at n) in
         omega arith
 
-    pub numbers-counted : length (numbers_under node_at p.rooted.height root) ≡ nodes_in A p.rooted.height t.shape
+    pub numbers-counted : length (numbers_under node_at p.rooted.height root) ≡ nodes_in A p.rooted.height t.subtree
     numbers-counted =
-        subst (λ i. length (numbers_under node_at p.rooted.height i) ≡ nodes_in A p.rooted.height t.shape) t.here
-        (node-numbers A node_at p.rooted.height None t.shape t.holds)
+        subst (λ i. length (numbers_under node_at p.rooted.height i) ≡ nodes_in A p.rooted.height t.subtree) t.here
+        (node-numbers A node_at p.rooted.height None t.subtree t.holds)
 
     -- what is kept of the positions is in order
     pub kept-order : (keep : Address → Option A → Bool) (list : List Address)
         → list ≡ kept keep (ticks_of node_at levels root xs p t) → IsInOrder node_at (Some root) xs list
     kept-order keep list e = record {
       once = λ i j a f g.
-          kept-once A a keep p.rooted.height t.shape (times-few a.id) i j (ap (λ l. slice_get l i) (sym e) ∙ f)
+          kept-once A a keep p.rooted.height t.subtree (times-few a.id) i j (ap (λ l. slice_get l i) (sym e) ∙ f)
           (ap (λ l. slice_get l j) (sym e) ∙ g);
       rising = λ i j a b m n l f g k q.
           let u = (kept-addressed node_at levels root xs p t keep i a (ap (λ l. slice_get l i) (sym e) ∙ f)).is None tt in

@@ -9,11 +9,11 @@ use Rattle.btree_view.specs.View.{NodeMap, View, leaf, internal}
 use Rattle.btree_shape.specs.Addresses.{leaf_backs_under}
 use Rattle.btree_shape.specs.AddressLaws.{IsPlaced, IsPlacedUnder, ListsLeafBacks}
 use Rattle.btree_shape.specs.Place.{NOWHERE, IsBack, IsLeaf, IsLeafAddress, IsNowhere, IsPlace, IsValid}
-use Rattle.btree_shape.specs.Focus.Shape.{Holds, Shape}
+use Rattle.btree_shape.specs.Focus.Subtree.{Holds, Subtree}
 use Rattle.btree_shape.specs.Focus.Positions.{Position, branch_key, branch_positions, address_at, positions_from, positions}
 use Rattle.btree_shape.proofs.AddressLists.OfPositions.{is_leaf_back, keep_leaf_back, leaf-back-positions}
 use Rattle.btree_shape.proofs.AddressLists.Kept.{Counts, Strung, kept, strung-append}
-use Rattle.btree_shape.proofs.AddressLists.OnePlaceEach.{addressed-strung, strung-addressed, strung-counted, ticks_of, toured}
+use Rattle.btree_shape.proofs.AddressLists.OnePlaceEach.{addressed-strung, strung-addressed, strung-counted, ticks_of, as-subtree}
 
 counts-true : (c : Bool) → c ≡ true → Counts c 0 1
 counts-true c e = subst (λ z. Counts z 0 1) (sym e) (refl, refl)
@@ -47,13 +47,13 @@ module _ {A : Type 0} (node_at : NodeMap A) where
     ),
   )
 
-  branch-each : (h : ℕ) (p : Option ℕ) → ((t : Shape A h) → Holds A node_at h p t → Strung kept_leaf 0 (positions A h t) 1)
-      → (bs : List (A × Shape A h)) → AllByRecursion (λ b. Holds A node_at h p b.1) bs
+  branch-each : (h : ℕ) (p : Option ℕ) → ((t : Subtree A h) → Holds A node_at h p t → Strung kept_leaf 0 (positions A h t) 1)
+      → (bs : List (A × Subtree A h)) → AllByRecursion (λ b. Holds A node_at h p b.1) bs
       → AllByRecursion (λ b. Strung kept_leaf 0 (branch_positions A h b) 1) bs
   branch-each h p each [] d = tt
   branch-each h p each (b ∷ bs) d = (each b.1 d.0, branch-each h p each bs d.1)
 
-  pub positions-strung : (h : ℕ) (p : Option ℕ) (t : Shape A h) → Holds A node_at h p t → Strung kept_leaf 0 (positions A h t) 1
+  pub positions-strung : (h : ℕ) (p : Option ℕ) (t : Subtree A h) → Holds A node_at h p t → Strung kept_leaf 0 (positions A h t) 1
   positions-strung zero p t d =
       let is = λ (o : Option ℕ). ap (λ v. is_leaf_back {A = A} v o) d in
       (0, counts-false (is_leaf_back (node_at t.0) None) 0 (is None), leaf-strung t.0 0 t.1 (λ o. is (Some o)))
@@ -87,12 +87,12 @@ module _ {A : Type 0} (node_at : NodeMap A) where
   module _ (levels root : ℕ) (xs : List A) (p : IsPlaced node_at levels root xs) where
     leaf-backs-placed : ListsLeafBacks node_at (Some root) xs (leaf_backs_under node_at levels (Some root))
     leaf-backs-placed =
-        let t = toured node_at levels root xs p in
+        let t = as-subtree node_at levels root xs p in
         let ts : List (Position A) = ticks_of node_at levels root xs p t in
-        let s : Strung kept_leaf 0 ts 1 = positions-strung p.rooted.height None t.shape t.holds in
+        let s : Strung kept_leaf 0 ts 1 = positions-strung p.rooted.height None t.subtree t.holds in
         let e : leaf_backs_under node_at levels (Some root) ≡ kept kept_leaf ts =
         subst (λ i. leaf_backs_under node_at levels (Some i) ≡ kept kept_leaf ts) t.here
-        (leaf-back-positions node_at p.rooted.height levels None t.shape p.low t.holds) in
+        (leaf-back-positions node_at p.rooted.height levels None t.subtree p.low t.holds) in
         record {
           counted = ap length e
               ∙ (let n = strung-counted node_at levels root xs p t kept_leaf 1 s in

@@ -6,25 +6,25 @@ use Rattle.std.specs.Prelude.{slice_get}
 use Rattle.btree_view.specs.View.{NodeMap, View, leaf, internal}
 use Rattle.btree_shape.specs.Addresses.{backs_under, first_leaf, first_leaf_in, fronts_under, item_addresses_under, last_child, last_leaf, last_leaf_in, leaf_backs_under}
 use Rattle.btree_shape.specs.AddressLaws.{IsPlaced}
-use Rattle.btree_shape.specs.Focus.Shape.{Holds, Shape, id_of, view_at}
+use Rattle.btree_shape.specs.Focus.Subtree.{Holds, Subtree, id_of, view_at}
 use Rattle.btree_shape.specs.Focus.Path.{parent_above}
 use Rattle.btree_shape.specs.WellFormed.{IsRooted}
 use Rattle.btree_shape.proofs.AddressLists.OfPositions.{back-positions, front-positions, item-positions, leaf-back-positions}
 use Rattle.btree_shape.proofs.AddressLists.Neighbours.{no-higher}
 use Rattle.btree_shape.proofs.Trees.Numbers.{used-there}
-use Rattle.btree_shape.proofs.AddressLists.OnePlaceEach.{toured}
+use Rattle.btree_shape.proofs.AddressLists.OnePlaceEach.{as-subtree}
 use Rattle.btree_shape.proofs.Paths.FromRoot.{node-rooted}
-use Rattle.btree_shape.proofs.Trees.Shapes.{shape-of}
+use Rattle.btree_shape.proofs.Trees.Subtrees.{subtree-of}
 
 module _ (A : Type 0) (node_at : NodeMap A) where
   -- what holds for the number of each subtree holds for that of the last child
-  at-last : (P : ℕ → Type 0) (h : ℕ) (p : Option ℕ) → ((t : Shape A h) → Holds A node_at h p t → P (id_of A h t)) → (first : Shape A h)
-      → Holds A node_at h p first → (bs : List (A × Shape A h)) → AllByRecursion (λ b. Holds A node_at h p b.1) bs
+  at-last : (P : ℕ → Type 0) (h : ℕ) (p : Option ℕ) → ((t : Subtree A h) → Holds A node_at h p t → P (id_of A h t)) → (first : Subtree A h)
+      → Holds A node_at h p first → (bs : List (A × Subtree A h)) → AllByRecursion (λ b. Holds A node_at h p b.1) bs
       → P (last_child (id_of A h first) (map {B = A × ℕ} (λ b. (b.0, id_of A h b.1)) bs))
   at-last P h p each first d [] e = each first d
   at-last P h p each first d (b ∷ bs) e = at-last P h p each b.1 e.0 bs e.1
 
-  first-levels : (h m n : ℕ) (p : Option ℕ) (t : Shape A h) → h < m → h < n → Holds A node_at h p t
+  first-levels : (h m n : ℕ) (p : Option ℕ) (t : Subtree A h) → h < m → h < n → Holds A node_at h p t
       → first_leaf node_at m (id_of A h t) ≡ first_leaf node_at n (id_of A h t)
   first-levels h zero n p t l k d = absurd (omega arith)
   first-levels h (suc m) zero p t l k d = absurd (omega arith)
@@ -35,7 +35,7 @@ module _ (A : Type 0) (node_at : NodeMap A) where
       ∙ (first-levels h m n (Some t.0) t.1 (omega arith) (omega arith) d.1
       ∙ sym (ap (first_leaf_in (first_leaf node_at n) t.0) d.0))
 
-  last-levels : (h m n : ℕ) (p : Option ℕ) (t : Shape A h) → h < m → h < n → Holds A node_at h p t
+  last-levels : (h m n : ℕ) (p : Option ℕ) (t : Subtree A h) → h < m → h < n → Holds A node_at h p t
       → last_leaf node_at m (id_of A h t) ≡ last_leaf node_at n (id_of A h t)
   last-levels h zero n p t l k d = absurd (omega arith)
   last-levels h (suc m) zero p t l k d = absurd (omega arith)
@@ -51,7 +51,7 @@ module _ (A : Type 0) (node_at : NodeMap A) where
   abbrev IsLeafAt : ℕ → Type 0
   IsLeafAt id = (parent : Option ℕ) × (items : List A) × (node_at id ≡ Some (leaf parent items))
 
-  first-leaf-at : (h n : ℕ) (p : Option ℕ) (t : Shape A h) → h < n → Holds A node_at h p t → IsLeafAt (first_leaf node_at n (id_of A h t))
+  first-leaf-at : (h n : ℕ) (p : Option ℕ) (t : Subtree A h) → h < n → Holds A node_at h p t → IsLeafAt (first_leaf node_at n (id_of A h t))
   first-leaf-at h zero p t l d = absurd (omega arith)
   first-leaf-at zero (suc n) p t l d =
       subst (λ i. IsLeafAt i) (sym (ap (first_leaf_in (first_leaf node_at n) t.0) d)) (p, t.1, d)
@@ -59,7 +59,7 @@ module _ (A : Type 0) (node_at : NodeMap A) where
       subst (λ i. IsLeafAt i) (sym (ap (first_leaf_in (first_leaf node_at n) t.0) d.0))
       (first-leaf-at h n (Some t.0) t.1 (omega arith) d.1)
 
-  last-leaf-at : (h n : ℕ) (p : Option ℕ) (t : Shape A h) → h < n → Holds A node_at h p t → IsLeafAt (last_leaf node_at n (id_of A h t))
+  last-leaf-at : (h n : ℕ) (p : Option ℕ) (t : Subtree A h) → h < n → Holds A node_at h p t → IsLeafAt (last_leaf node_at n (id_of A h t))
   last-leaf-at h zero p t l d = absurd (omega arith)
   last-leaf-at zero (suc n) p t l d =
       subst (λ i. IsLeafAt i) (sym (ap (last_leaf_in (last_leaf node_at n) t.0) d)) (p, t.1, d)
@@ -67,7 +67,7 @@ module _ (A : Type 0) (node_at : NodeMap A) where
       subst (λ i. IsLeafAt i) (sym (ap (last_leaf_in (last_leaf node_at n) t.0) d.0))
       (at-last (λ i. IsLeafAt (last_leaf node_at n i)) h (Some t.0) (λ u e. last-leaf-at h n (Some t.0) u (omega arith) e) t.1 d.1 t.2 d.2)
 
-  first-down : (h n : ℕ) (p : Option ℕ) (t : Shape A h) → h < n → Holds A node_at h p t → (parent : Option ℕ) (first : ℕ)
+  first-down : (h n : ℕ) (p : Option ℕ) (t : Subtree A h) → h < n → Holds A node_at h p t → (parent : Option ℕ) (first : ℕ)
       (branches : List (A × ℕ)) → node_at (id_of A h t) ≡ Some (internal parent first branches)
       → first_leaf node_at n (id_of A h t) ≡ first_leaf node_at n first
   first-down h zero p t l d parent first branches e = absurd (omega arith)
@@ -78,7 +78,7 @@ module _ (A : Type 0) (node_at : NodeMap A) where
       ap (first_leaf_in (first_leaf node_at n) t.0) d.0
       ∙ (first-levels h n (suc n) (Some t.0) t.1 (omega arith) (omega arith) d.1 ∙ ap (first_leaf node_at (suc n)) same)
 
-  last-down : (h n : ℕ) (p : Option ℕ) (t : Shape A h) → h < n → Holds A node_at h p t → (parent : Option ℕ) (first : ℕ)
+  last-down : (h n : ℕ) (p : Option ℕ) (t : Subtree A h) → h < n → Holds A node_at h p t → (parent : Option ℕ) (first : ℕ)
       (branches : List (A × ℕ)) → node_at (id_of A h t) ≡ Some (internal parent first branches)
       → last_leaf node_at n (id_of A h t) ≡ last_leaf node_at n (last_child first branches)
   last-down h zero p t l d parent first branches e = absurd (omega arith)
@@ -119,19 +119,19 @@ module _ {A : Type 0} (node_at : NodeMap A) (levels root : ℕ) (xs : List A) (p
     pub first-leaf-down : first_leaf node_at levels id ≡ first_leaf node_at levels first
     first-leaf-down =
         let n = node-rooted A node_at (λ id node. Unit {0}) root xs p.rooted id (used-there node_at id (internal parent first branches) e) in
-        let l = no-higher node_at levels root xs p (toured node_at levels root xs p) n.height n.path n.shape n.stands in
+        let l = no-higher node_at levels root xs p (as-subtree node_at levels root xs p) n.height n.path n.subtree n.focused in
         let k = p.low in
         subst (λ i. first_leaf node_at levels i ≡ first_leaf node_at levels first) n.here
-        (first-down A node_at n.height levels (parent_above n.path) n.shape (omega arith) n.stands.inner parent first branches
+        (first-down A node_at n.height levels (parent_above n.path) n.subtree (omega arith) n.focused.inner parent first branches
         (ap node_at n.here ∙ e))
 
     pub last-leaf-down : last_leaf node_at levels id ≡ last_leaf node_at levels (last_child first branches)
     last-leaf-down =
         let n = node-rooted A node_at (λ id node. Unit {0}) root xs p.rooted id (used-there node_at id (internal parent first branches) e) in
-        let l = no-higher node_at levels root xs p (toured node_at levels root xs p) n.height n.path n.shape n.stands in
+        let l = no-higher node_at levels root xs p (as-subtree node_at levels root xs p) n.height n.path n.subtree n.focused in
         let k = p.low in
         subst (λ i. last_leaf node_at levels i ≡ last_leaf node_at levels (last_child first branches)) n.here
-        (last-down A node_at n.height levels (parent_above n.path) n.shape (omega arith) n.stands.inner parent first branches
+        (last-down A node_at n.height levels (parent_above n.path) n.subtree (omega arith) n.focused.inner parent first branches
         (ap node_at n.here ∙ e))
 
   -- and they are leaves
@@ -139,42 +139,42 @@ module _ {A : Type 0} (node_at : NodeMap A) (levels root : ℕ) (xs : List A) (p
     pub first-leaf-is : (parent : Option ℕ) × (items : List A) × (node_at (first_leaf node_at levels id) ≡ Some (leaf parent items))
     first-leaf-is =
         let n = node-rooted A node_at (λ id node. Unit {0}) root xs p.rooted id (used-there node_at id node e) in
-        let l = no-higher node_at levels root xs p (toured node_at levels root xs p) n.height n.path n.shape n.stands in
+        let l = no-higher node_at levels root xs p (as-subtree node_at levels root xs p) n.height n.path n.subtree n.focused in
         let k = p.low in
         subst (λ i. (parent : Option ℕ) × (items : List A) × (node_at (first_leaf node_at levels i) ≡ Some (leaf parent items))) n.here
-        (first-leaf-at A node_at n.height levels (parent_above n.path) n.shape (omega arith) n.stands.inner)
+        (first-leaf-at A node_at n.height levels (parent_above n.path) n.subtree (omega arith) n.focused.inner)
 
     pub last-leaf-is : (parent : Option ℕ) × (items : List A) × (node_at (last_leaf node_at levels id) ≡ Some (leaf parent items))
     last-leaf-is =
         let n = node-rooted A node_at (λ id node. Unit {0}) root xs p.rooted id (used-there node_at id node e) in
-        let l = no-higher node_at levels root xs p (toured node_at levels root xs p) n.height n.path n.shape n.stands in
+        let l = no-higher node_at levels root xs p (as-subtree node_at levels root xs p) n.height n.path n.subtree n.focused in
         let k = p.low in
         subst (λ i. (parent : Option ℕ) × (items : List A) × (node_at (last_leaf node_at levels i) ≡ Some (leaf parent items))) n.here
-        (last-leaf-at A node_at n.height levels (parent_above n.path) n.shape (omega arith) n.stands.inner)
+        (last-leaf-at A node_at n.height levels (parent_above n.path) n.subtree (omega arith) n.focused.inner)
 
 -- the lists are the same for any number of levels above the height
 module _ {A : Type 0} (is_right : (id : ℕ) → View A → Type 0) (node_at : NodeMap A) (root : ℕ) (xs : List A) (r : IsRooted is_right node_at root xs)
     (m n : ℕ) (l : r.height < m) (k : r.height < n) where
   pub item-levels : item_addresses_under node_at m (Some root) ≡ item_addresses_under node_at n (Some root)
   item-levels =
-      let s = shape-of A node_at r.height None root xs r.represents in
+      let s = subtree-of A node_at r.height None root xs r.represents in
       subst (λ i. item_addresses_under node_at m (Some i) ≡ item_addresses_under node_at n (Some i)) s.here
-      (item-positions node_at r.height m None s.shape l s.holds ∙ sym (item-positions node_at r.height n None s.shape k s.holds))
+      (item-positions node_at r.height m None s.subtree l s.holds ∙ sym (item-positions node_at r.height n None s.subtree k s.holds))
 
   pub leaf-back-levels : leaf_backs_under node_at m (Some root) ≡ leaf_backs_under node_at n (Some root)
   leaf-back-levels =
-      let s = shape-of A node_at r.height None root xs r.represents in
+      let s = subtree-of A node_at r.height None root xs r.represents in
       subst (λ i. leaf_backs_under node_at m (Some i) ≡ leaf_backs_under node_at n (Some i)) s.here
-      (leaf-back-positions node_at r.height m None s.shape l s.holds ∙ sym (leaf-back-positions node_at r.height n None s.shape k s.holds))
+      (leaf-back-positions node_at r.height m None s.subtree l s.holds ∙ sym (leaf-back-positions node_at r.height n None s.subtree k s.holds))
 
   pub back-levels : backs_under node_at m (Some root) ≡ backs_under node_at n (Some root)
   back-levels =
-      let s = shape-of A node_at r.height None root xs r.represents in
+      let s = subtree-of A node_at r.height None root xs r.represents in
       subst (λ i. backs_under node_at m (Some i) ≡ backs_under node_at n (Some i)) s.here
-      (back-positions node_at r.height m None s.shape l s.holds ∙ sym (back-positions node_at r.height n None s.shape k s.holds))
+      (back-positions node_at r.height m None s.subtree l s.holds ∙ sym (back-positions node_at r.height n None s.subtree k s.holds))
 
   pub front-levels : fronts_under node_at m (Some root) ≡ fronts_under node_at n (Some root)
   front-levels =
-      let s = shape-of A node_at r.height None root xs r.represents in
+      let s = subtree-of A node_at r.height None root xs r.represents in
       subst (λ i. fronts_under node_at m (Some i) ≡ fronts_under node_at n (Some i)) s.here
-      (front-positions node_at r.height m None s.shape l s.holds ∙ sym (front-positions node_at r.height n None s.shape k s.holds))
+      (front-positions node_at r.height m None s.subtree l s.holds ∙ sym (front-positions node_at r.height n None s.subtree k s.holds))

@@ -6,7 +6,7 @@ use Rattle.btree_view.specs.View.{NodeMap}
 use Rattle.btree_shape.specs.Addresses.{slot_before}
 use Rattle.btree_shape.specs.AddressLaws.{IsPlaced}
 use Rattle.btree_shape.specs.Focus.Search.{levels_below}
-use Rattle.btree_shape.specs.Focus.Shape.{Shape, id_of}
+use Rattle.btree_shape.specs.Focus.Subtree.{Subtree, id_of}
 use Rattle.btree_shape.specs.Focus.Positions.{Position, address_before, address_at, positions_from, positions, positions_after, positions_before, path_after, path_before}
 use Rattle.btree_shape.specs.Visits.{ComesBefore}
 use Rattle.btree_shape.specs.Focus.Path.{Path, Frame, fill, frame_index, top, under}
@@ -16,8 +16,8 @@ use Rattle.btree_shape.proofs.LookUp.Descent.{get-after}
 use Rattle.btree_shape.proofs.Trees.Heights.{levels-is}
 use Rattle.btree_shape.proofs.AddressLists.Kept.{kept, kept-append}
 use Rattle.btree_shape.proofs.Places.OfTree.{root-positions}
-use Rattle.btree_shape.proofs.AddressLists.OnePlaceEach.{Toured, ticks_of}
-use Rattle.btree_shape.proofs.Paths.UnsizedFocus.{stand-up}
+use Rattle.btree_shape.proofs.AddressLists.OnePlaceEach.{AsSubtree, ticks_of}
+use Rattle.btree_shape.proofs.Paths.UnsizedFocus.{unsized-up}
 use Rattle.btree_shape.proofs.AddressLists.Ends.{Begins, Ends, node_positions-begins, node_positions-begins-front}
 
 pub record Adjacent (a b : Address) (list : List Address) : Type 0 where
@@ -138,59 +138,59 @@ module _ {A : Type 0} (id : ℕ) where
       (record { front = address_before id ∷ r.front; back = r.back; is = ap (λ l. address_before id ∷ l) r.is })
 
 -- a node of a tree is no higher than its root
-module _ {A : Type 0} (node_at : NodeMap A) (levels root : ℕ) (xs : List A) (p : IsPlaced node_at levels root xs) (t : Toured node_at levels root xs p) where
-  pub no-higher : (h : ℕ) (c : Path A h) (u : Shape A h) → IsUnsizedFocus A node_at [] root xs h c u → h ≤ p.rooted.height
+module _ {A : Type 0} (node_at : NodeMap A) (levels root : ℕ) (xs : List A) (p : IsPlaced node_at levels root xs) (t : AsSubtree node_at levels root xs p) where
+  pub no-higher : (h : ℕ) (c : Path A h) (u : Subtree A h) → IsUnsizedFocus A node_at [] root xs h c u → h ≤ p.rooted.height
   no-higher h top u w =
       let n : ℕ = h + p.rooted.height in
       let a = levels-is A node_at h n None u (omega arith) w.inner in
-      let b = levels-is A node_at p.rooted.height n None t.shape (omega arith) t.holds in
-      let same : id_of A h u ≡ id_of A p.rooted.height t.shape = w.root_is ∙ sym t.here in
+      let b = levels-is A node_at p.rooted.height n None t.subtree (omega arith) t.holds in
+      let same : id_of A h u ≡ id_of A p.rooted.height t.subtree = w.root_is ∙ sym t.here in
       let q : h ≡ p.rooted.height = sym a ∙ (ap (levels_below node_at n) same ∙ b) in
       omega arith
   no-higher h (under f c) u w =
-      let l = no-higher (suc h) c (fill f u) (stand-up A node_at [] root xs h f c u w) in
+      let l = no-higher (suc h) c (fill f u) (unsized-up A node_at [] root xs h f c u w) in
       omega arith
 
 -- what is kept of the positions of a tree, in parts: by a focus at a node, and at a child
-module _ {A : Type 0} (node_at : NodeMap A) (levels root : ℕ) (xs : List A) (p : IsPlaced node_at levels root xs) (t : Toured node_at levels root xs p)
+module _ {A : Type 0} (node_at : NodeMap A) (levels root : ℕ) (xs : List A) (p : IsPlaced node_at levels root xs) (t : AsSubtree node_at levels root xs p)
     (keep : Address → Option A → Bool) where
-  pub kept-parts : (h : ℕ) (c : Path A h) (u : Shape A h) → IsUnsizedFocus A node_at [] root xs h c u
+  pub kept-parts : (h : ℕ) (c : Path A h) (u : Subtree A h) → IsUnsizedFocus A node_at [] root xs h c u
       → kept keep (ticks_of node_at levels root xs p t)
       ≡ kept keep (path_before A c) ++ (kept keep (positions A h u) ++ kept keep (path_after A c))
   kept-parts h c u w =
-      ap (kept keep) (sym (root-positions A node_at [] root xs h c u w p.rooted.height t.shape t.here t.holds))
+      ap (kept keep) (sym (root-positions A node_at [] root xs h c u w p.rooted.height t.subtree t.here t.holds))
       ∙ (kept-append keep (path_before A c) (positions A h u ++ path_after A c)
       ∙ ap (λ l. kept keep (path_before A c) ++ l) (kept-append keep (positions A h u) (path_after A c)))
 
-  pub adjacent-node : (a b : Address) (h : ℕ) (c : Path A h) (u : Shape A h) → IsUnsizedFocus A node_at [] root xs h c u
+  pub adjacent-node : (a b : Address) (h : ℕ) (c : Path A h) (u : Subtree A h) → IsUnsizedFocus A node_at [] root xs h c u
       → Adjacent a b (kept keep (positions A h u)) → Adjacent a b (kept keep (ticks_of node_at levels root xs p t))
   adjacent-node a b h c u w n =
       subst (λ l. Adjacent a b l) (sym (kept-parts h c u w))
       (adjacent-within a b (kept keep (path_before A c)) (kept keep (positions A h u)) (kept keep (path_after A c)) n)
 
-  module _ (a b : Address) (h : ℕ) (f : Frame A h) (c : Path A (suc h)) (u : Shape A h)
+  module _ (a b : Address) (h : ℕ) (f : Frame A h) (c : Path A (suc h)) (u : Subtree A h)
       (w : IsUnsizedFocus A node_at [] root xs h (under f c) u) where
     -- from the node to the child after its item, and from the child on to the node
     pub adjacent-down : Ends a (kept keep (positions_before A f)) → Begins b (kept keep (positions A h u))
         → Adjacent a b (kept keep (ticks_of node_at levels root xs p t))
     adjacent-down e s =
         let before : List Address = kept keep (path_before A c) in
-        let beside : List Address = kept keep (positions_before A f) in
+        let siblings : List Address = kept keep (positions_before A f) in
         let here : List Address = kept keep (positions A h u) in
         let after : List Address = kept keep (path_after A (under f c)) in
         subst (λ l. Adjacent a b l)
         (sym (kept-parts h (under f c) u w ∙ (ap (λ l. l ++ (here ++ after)) (kept-append keep (path_before A c) (positions_before A f))
-        ∙ append_assoc before beside (here ++ after))))
-        (adjacent-between a b before beside here after e s)
+        ∙ append_assoc before siblings (here ++ after))))
+        (adjacent-between a b before siblings here after e s)
 
     pub adjacent-up : Ends a (kept keep (positions A h u)) → Begins b (kept keep (positions_after A f (frame_index f)))
         → Adjacent a b (kept keep (ticks_of node_at levels root xs p t))
     adjacent-up e s =
         let before : List Address = kept keep (path_before A (under f c)) in
         let here : List Address = kept keep (positions A h u) in
-        let beside : List Address = kept keep (positions_after A f (frame_index f)) in
+        let siblings : List Address = kept keep (positions_after A f (frame_index f)) in
         let after : List Address = kept keep (path_after A c) in
         subst (λ l. Adjacent a b l)
         (sym (kept-parts h (under f c) u w
         ∙ ap (λ l. before ++ (here ++ l)) (kept-append keep (positions_after A f (frame_index f)) (path_after A c))))
-        (adjacent-between a b before here beside after e s)
+        (adjacent-between a b before here siblings after e s)

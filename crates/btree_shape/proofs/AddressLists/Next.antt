@@ -9,7 +9,7 @@ use Rattle.btree_view.specs.View.{NodeMap, View, leaf, internal, children_in, ch
 use Rattle.btree_shape.specs.Addresses.{backs_under, fronts_under, last_item, slot_before}
 use Rattle.btree_shape.specs.AddressLaws.{IsFront, IsPlaced}
 use Rattle.btree_shape.specs.Place.{IsBack, IsWithin}
-use Rattle.btree_shape.specs.Focus.Shape.{Shape, id_of, view_at}
+use Rattle.btree_shape.specs.Focus.Subtree.{Subtree, id_of, view_at}
 use Rattle.btree_shape.specs.Focus.Positions.{address_before, address_at}
 use Rattle.btree_shape.specs.Visits.{ComesBefore, VisitsBacks, VisitsFronts, back_after, back_after_at, back_after_in, front_before, front_before_at, front_before_in, in_parent, index_in, prior}
 use Rattle.btree_shape.specs.Focus.Path.{Path, frame_id, frame_index, parent_above, top, under}
@@ -60,14 +60,14 @@ low-or o n l = elim (less-or o n) [
 
 module _ {A : Type 0} (node_at : NodeMap A) (levels root : ℕ) (xs : List A) (p : IsPlaced node_at levels root xs) where
   -- a node with a parent is one of the parent's children
-  parent-seen : (h : ℕ) (c : Path A h) (u : Shape A h) → IsUnsizedFocus A node_at [] root xs h c u → (node : View A) (parent : ℕ)
+  parent-focus : (h : ℕ) (c : Path A h) (u : Subtree A h) → IsUnsizedFocus A node_at [] root xs h c u → (node : View A) (parent : ℕ)
       → node_at (id_of A h u) ≡ Some node → parent_of node ≡ Some parent → Indexed (id_of A h u) (children_in (node_at parent))
-  parent-seen h top u w node parent e is =
+  parent-focus h top u w node parent e is =
       let v = top-view A node_at h None u w.inner in
       let same : view_at A h None u ≡ node = cc in
       let q = sym (view-parent A h None u) ∙ ap parent_of same in
       absurd (cc)
-  parent-seen h (under f c) u w node parent e is =
+  parent-focus h (under f c) u w node parent e is =
       let v = top-view A node_at h (Some (frame_id f)) u w.inner in
       let same : view_at A h (Some (frame_id f)) u ≡ node = cc in
       let q : Some (frame_id f) ≡ Some parent = sym (view-parent A h (Some (frame_id f)) u) ∙ (ap parent_of same ∙ is) in
@@ -83,7 +83,7 @@ module _ {A : Type 0} (node_at : NodeMap A) (levels root : ℕ) (xs : List A) (p
   parent-index id node parent e is =
       let n = node-rooted A node_at (λ id node. Unit {0}) root xs p.rooted id (used-there node_at id node e) in
       subst (λ i. Indexed i (children_in (node_at parent))) n.here
-      (parent-seen n.height n.path n.shape n.stands node parent (ap node_at n.here ∙ e) is)
+      (parent-focus n.height n.path n.subtree n.focused node parent (ap node_at n.here ∙ e) is)
 
   -- an item with no child after it is in a leaf
   in-leaf : (node : View A) (o : ℕ) → slice_get (children_of node) (suc o) ≡ None → o < size_of node

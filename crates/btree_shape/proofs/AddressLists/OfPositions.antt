@@ -5,7 +5,7 @@ use Rattle.std.specs.Prelude.{is_some}
 use Rattle.btree_item.specs.declared.address.Address.{Address}
 use Rattle.btree_view.specs.View.{View, leaf, internal, NodeMap}
 use Rattle.btree_shape.specs.Addresses.{slots, slots_to_end, item_addresses, item_addresses_in, leaf_backs, leaf_backs_in, backs, backs_in, fronts, fronts_in}
-use Rattle.btree_shape.specs.Focus.Shape.{Holds, Shape, id_of}
+use Rattle.btree_shape.specs.Focus.Subtree.{Holds, Subtree, id_of}
 use Rattle.btree_shape.specs.Focus.Positions.{Position, branch_key, branch_positions, address_at, positions_from, positions}
 use Rattle.btree_shape.proofs.AddressLists.Kept.{kept, kept-append, put}
 
@@ -77,18 +77,18 @@ module _ {A : Type 0} (keep : Address → Option A → Bool) where
   none-below (x ∷ xs) = (refl, none-below xs)
 
   module _ (node_at : NodeMap A) (list : ℕ → List Address) (h : ℕ) (p : Option ℕ)
-      (each : (t : Shape A h) → Holds A node_at h p t → list (id_of A h t) ≡ kept keep (positions A h t)) where
-    branches-below : (bs : List (A × Shape A h)) → AllByRecursion (λ b. Holds A node_at h p b.1) bs
+      (each : (t : Subtree A h) → Holds A node_at h p t → list (id_of A h t) ≡ kept keep (positions A h t)) where
+    branches-below : (bs : List (A × Subtree A h)) → AllByRecursion (λ b. Holds A node_at h p b.1) bs
         → AllByRecursion (λ b. list (id_of A h b.1) ≡ kept keep (positions A h b.1)) bs
     branches-below [] d = tt
     branches-below (b ∷ bs) d = (each b.1 d.0, branches-below bs d.1)
 
 -- each branch with the number of its child
-abbrev named : {A : Type 0} (h : ℕ) → A × Shape A h → A × ℕ
+abbrev named : {A : Type 0} (h : ℕ) → A × Subtree A h → A × ℕ
 named {A} h b = (b.0, id_of A h b.1)
 
 module _ {A : Type 0} (node_at : NodeMap A) where
-  pub item-positions : (h levels : ℕ) (p : Option ℕ) (t : Shape A h) → h < levels → Holds A node_at h p t
+  pub item-positions : (h levels : ℕ) (p : Option ℕ) (t : Subtree A h) → h < levels → Holds A node_at h p t
       → item_addresses node_at levels (id_of A h t) ≡ kept keep_item (positions A h t)
   item-positions h zero p t l d = absurd (omega arith)
   item-positions zero (suc levels) p t l d =
@@ -97,7 +97,7 @@ module _ {A : Type 0} (node_at : NodeMap A) where
       ∙ node_positions-slots keep_item {X = A} {Y = A} (λ x. x) (λ x. []) (λ x. x) (λ x. []) t.0 0 t.1 (λ o x. refl) (λ o. refl)
       (none-below keep_item t.1))
   item-positions (suc h) (suc levels) p t l d =
-      let below = λ (q : Option ℕ) (s : Shape A h) (e : Holds A node_at h q s). item-positions h levels q s (omega arith) e in
+      let below = λ (q : Option ℕ) (s : Subtree A h) (e : Holds A node_at h q s). item-positions h levels q s (omega arith) e in
       ap (item_addresses_in (item_addresses node_at levels) t.0) d.0
       ∙ joined keep_item (item_addresses node_at levels (id_of A h t.1))
       (slots {X = A × ℕ} (λ b. item_addresses node_at levels b.1) t.0 0 (map {B = A × ℕ} (named h) t.2)) (positions A h t.1)
@@ -106,7 +106,7 @@ module _ {A : Type 0} (node_at : NodeMap A) where
       (λ o x. refl) (λ o. refl)
       (branches-below keep_item node_at (item_addresses node_at levels) h (Some t.0) (below (Some t.0)) t.2 d.2))
 
-  pub leaf-back-positions : (h levels : ℕ) (p : Option ℕ) (t : Shape A h) → h < levels → Holds A node_at h p t
+  pub leaf-back-positions : (h levels : ℕ) (p : Option ℕ) (t : Subtree A h) → h < levels → Holds A node_at h p t
       → leaf_backs node_at levels (id_of A h t) ≡ kept (keep_leaf_back node_at) (positions A h t)
   leaf-back-positions h zero p t l d = absurd (omega arith)
   leaf-back-positions zero (suc levels) p t l d =
@@ -118,7 +118,7 @@ module _ {A : Type 0} (node_at : NodeMap A) where
       (none-below (keep_leaf_back node_at) t.1)
       ∙ sym (ap (λ c. put c (record { id = t.0; offset = None }) (kept (keep_leaf_back node_at) node_positions)) (is None))))
   leaf-back-positions (suc h) (suc levels) p t l d =
-      let below = λ (q : Option ℕ) (s : Shape A h) (e : Holds A node_at h q s). leaf-back-positions h levels q s (omega arith) e in
+      let below = λ (q : Option ℕ) (s : Subtree A h) (e : Holds A node_at h q s). leaf-back-positions h levels q s (omega arith) e in
       let is = λ (o : Option ℕ). ap (λ v. is_leaf_back {A = A} v o) d.0 in
       ap (leaf_backs_in (leaf_backs node_at levels) t.0) d.0
       ∙ (joined (keep_leaf_back node_at) (leaf_backs node_at levels (id_of A h t.1))
@@ -130,7 +130,7 @@ module _ {A : Type 0} (node_at : NodeMap A) where
       ∙ sym (ap (λ c. put c (record { id = t.0; offset = None })
       (kept (keep_leaf_back node_at) (positions A h t.1 ++ positions_from (branch_key A h) (branch_positions A h) t.0 0 t.2))) (is None)))
 
-  pub back-positions : (h levels : ℕ) (p : Option ℕ) (t : Shape A h) → h < levels → Holds A node_at h p t
+  pub back-positions : (h levels : ℕ) (p : Option ℕ) (t : Subtree A h) → h < levels → Holds A node_at h p t
       → backs node_at levels (id_of A h t) ≡ kept keep_back (positions A h t)
   back-positions h zero p t l d = absurd (omega arith)
   back-positions zero (suc levels) p t l d =
@@ -139,7 +139,7 @@ module _ {A : Type 0} (node_at : NodeMap A) where
       ∙ node_positions-to-end keep_back {X = A} {Y = A} (λ x. x) (λ x. []) (λ x. x) (λ x. []) t.0 0 t.1 (λ o item. refl)
       (none-below keep_back t.1))
   back-positions (suc h) (suc levels) p t l d =
-      let below = λ (q : Option ℕ) (s : Shape A h) (e : Holds A node_at h q s). back-positions h levels q s (omega arith) e in
+      let below = λ (q : Option ℕ) (s : Subtree A h) (e : Holds A node_at h q s). back-positions h levels q s (omega arith) e in
       ap (backs_in (backs node_at levels) t.0) d.0
       ∙ joined keep_back (backs node_at levels (id_of A h t.1))
       (slots_to_end {X = A × ℕ} (λ b. backs node_at levels b.1) t.0 0 (map {B = A × ℕ} (named h) t.2)) (positions A h t.1)
@@ -148,7 +148,7 @@ module _ {A : Type 0} (node_at : NodeMap A) where
       (λ o item. refl)
       (branches-below keep_back node_at (backs node_at levels) h (Some t.0) (below (Some t.0)) t.2 d.2))
 
-  pub front-positions : (h levels : ℕ) (p : Option ℕ) (t : Shape A h) → h < levels → Holds A node_at h p t
+  pub front-positions : (h levels : ℕ) (p : Option ℕ) (t : Subtree A h) → h < levels → Holds A node_at h p t
       → fronts node_at levels (id_of A h t) ≡ kept keep_front (positions A h t)
   front-positions h zero p t l d = absurd (omega arith)
   front-positions zero (suc levels) p t l d =
@@ -157,7 +157,7 @@ module _ {A : Type 0} (node_at : NodeMap A) where
       ∙ node_positions-slots keep_front {X = A} {Y = A} (λ x. x) (λ x. []) (λ x. x) (λ x. []) t.0 0 t.1 (λ o x. refl) (λ o. refl)
       (none-below keep_front t.1))
   front-positions (suc h) (suc levels) p t l d =
-      let below = λ (q : Option ℕ) (s : Shape A h) (e : Holds A node_at h q s). front-positions h levels q s (omega arith) e in
+      let below = λ (q : Option ℕ) (s : Subtree A h) (e : Holds A node_at h q s). front-positions h levels q s (omega arith) e in
       ap (fronts_in (fronts node_at levels) t.0) d.0
       ∙ ap (λ z. record { id = t.0; offset = None } ∷ z) (joined keep_front (fronts node_at levels (id_of A h t.1))
       (slots {X = A × ℕ} (λ b. fronts node_at levels b.1) t.0 0 (map {B = A × ℕ} (named h) t.2)) (positions A h t.1)

@@ -8,15 +8,15 @@ use Rattle.btree_item.specs.declared.address.Address.{Address}
 use Rattle.btree_view.specs.View.{NodeMap}
 use Rattle.btree_shape.specs.AddressLaws.{IsPlaced}
 use Rattle.btree_shape.specs.Focus.TreePositions.{IsAddressed, HasPosition}
-use Rattle.btree_shape.specs.Focus.Shape.{Holds, Shape, id_of, items_under}
-use Rattle.btree_shape.specs.Focus.Positions.{Asks, Position, IsAt, positions, passed}
+use Rattle.btree_shape.specs.Focus.Subtree.{Holds, Subtree, id_of, items_under}
+use Rattle.btree_shape.specs.Focus.Positions.{IsExpected, Position, IsAt, positions, passed}
 use Rattle.btree_shape.specs.WellFormed.{IsOffByOne, IsWellFormed}
-use Rattle.btree_shape.proofs.Splits.Carried.{positions-passed}
+use Rattle.btree_shape.proofs.Splits.KeptPositions.{positions-passed}
 use Rattle.btree_shape.proofs.AddressLists.Kept.{IndexOf, Strung, kept, kept-at, kept-of, passed_to, strung-index, strung-length}
 use Rattle.btree_shape.proofs.Places.OnePlace.{one_place, one_place-well}
 use Rattle.btree_shape.proofs.Places.OneList.{one-positions}
 use Rattle.btree_shape.proofs.Places.OfTree.{positions-addressed, valid-on}
-use Rattle.btree_shape.proofs.Trees.Shapes.{shape-of}
+use Rattle.btree_shape.proofs.Trees.Subtrees.{subtree-of}
 
 module _ {K V : Type 0} (cmp : K → K → Ordering) (laws : IsTotalOrder cmp) (node_at : NodeMap (K × V)) (levels : ℕ) (xs : List (K × V)) where
   -- a well formed tree is one, for more levels than its height
@@ -29,61 +29,61 @@ module _ {K V : Type 0} (cmp : K → K → Ordering) (laws : IsTotalOrder cmp) (
       }
 
   -- and so is a tree that is off by one at a node
-  abbrev pub placed-odd : (root odd : ℕ) (w : IsOffByOne cmp node_at root odd xs) → w.rooted.height < levels → IsPlaced node_at levels root xs
-  placed-odd root odd w l =
+  abbrev pub placed-off : (root exempt : ℕ) (w : IsOffByOne cmp node_at root exempt xs) → w.rooted.height < levels → IsPlaced node_at levels root xs
+  placed-off root exempt w l =
       record {
         rooted = record { height = w.rooted.height; represents = w.rooted.represents; sized = λ id node e. tt; once = w.rooted.once };
         low = l;
-        one = λ id offset p q s t. one_place cmp laws node_at root odd xs w id offset p q s t;
+        one = λ id offset p q s t. one_place cmp laws node_at root exempt xs w id offset p q s t;
       }
 
 module _ {A : Type 0} (node_at : NodeMap A) (levels root : ℕ) (xs : List A) (p : IsPlaced node_at levels root xs) where
   -- the shape of the tree, and its positions
-  pub record Toured : Type 0 where
-    pub shape : Shape A p.rooted.height
-    pub here : id_of A p.rooted.height shape ≡ root
-    pub holds : Holds A node_at p.rooted.height None shape
-    pub list : items_under A p.rooted.height shape ≡ xs
+  pub record AsSubtree : Type 0 where
+    pub subtree : Subtree A p.rooted.height
+    pub here : id_of A p.rooted.height subtree ≡ root
+    pub holds : Holds A node_at p.rooted.height None subtree
+    pub list : items_under A p.rooted.height subtree ≡ xs
 
-  pub toured : Toured
-  toured =
-      let s = shape-of A node_at p.rooted.height None root xs p.rooted.represents in
-      record { shape = s.shape; here = s.here; holds = s.holds; list = s.list }
+  pub as-subtree : AsSubtree
+  as-subtree =
+      let s = subtree-of A node_at p.rooted.height None root xs p.rooted.represents in
+      record { subtree = s.subtree; here = s.here; holds = s.holds; list = s.list }
 
-  module _ (t : Toured) where
+  module _ (t : AsSubtree) where
     abbrev pub ticks_of : List (Position A)
-    ticks_of = positions A p.rooted.height t.shape
+    ticks_of = positions A p.rooted.height t.subtree
 
     pub positions_from-passed : passed ticks_of ≡ length xs
-    positions_from-passed = positions-passed A p.rooted.height t.shape ∙ ap length t.list
+    positions_from-passed = positions-passed A p.rooted.height t.subtree ∙ ap length t.list
 
-    pub on-positions : (asked : Option A) (a : Address) (place : ℕ) → IsAt asked a ticks_of place → HasPosition A node_at root asked a place
-    on-positions asked a place i = record { height = p.rooted.height; shape = t.shape; at_root = t.here; holds = t.holds; there = i }
+    pub on-positions : (expected : Option A) (a : Address) (place : ℕ) → IsAt expected a ticks_of place → HasPosition A node_at root expected a place
+    on-positions expected a place i = record { height = p.rooted.height; subtree = t.subtree; at_root = t.here; holds = t.holds; there = i }
 
-    pub in-positions : (asked : Option A) (a : Address) (place : ℕ) → HasPosition A node_at root asked a place → IsAt asked a ticks_of place
-    in-positions asked a place i =
-        subst (λ z. IsAt asked a z place)
-        (one-positions A node_at i.height p.rooted.height None None i.shape t.shape (i.at_root ∙ sym t.here) i.holds t.holds) i.there
+    pub in-positions : (expected : Option A) (a : Address) (place : ℕ) → HasPosition A node_at root expected a place → IsAt expected a ticks_of place
+    in-positions expected a place i =
+        subst (λ z. IsAt expected a z place)
+        (one-positions A node_at i.height p.rooted.height None None i.subtree t.subtree (i.at_root ∙ sym t.here) i.holds t.holds) i.there
 
-    pub in-addressed : (asked : Option A) (a : Address) (place : ℕ) → IsAt asked a ticks_of place
-        → IsAddressed A node_at root xs asked a place
-    in-addressed asked a place i =
-        positions-addressed A node_at root xs asked a (λ id node. Unit {0}) place p.rooted (on-positions asked a place i)
+    pub in-addressed : (expected : Option A) (a : Address) (place : ℕ) → IsAt expected a ticks_of place
+        → IsAddressed A node_at root xs expected a place
+    in-addressed expected a place i =
+        positions-addressed A node_at root xs expected a (λ id node. Unit {0}) place p.rooted (on-positions expected a place i)
 
-    pub addressed-in : (asked : Option A) (a : Address) (place : ℕ) → IsAddressed A node_at root xs asked a place
-        → IsAt asked a ticks_of place
-    addressed-in asked a place d =
-        let n = valid-on A node_at root xs asked a (λ id node. Unit {0}) p.rooted d.valid d.item in
-        let q = positions-addressed A node_at root xs asked a (λ id node. Unit {0}) n.place p.rooted n.on in
-        subst (λ z. IsAt asked a ticks_of z) (p.one a.id a.offset n.place place q.at_place d.at_place)
-        (in-positions asked a n.place n.on)
+    pub addressed-in : (expected : Option A) (a : Address) (place : ℕ) → IsAddressed A node_at root xs expected a place
+        → IsAt expected a ticks_of place
+    addressed-in expected a place d =
+        let n = valid-on A node_at root xs expected a (λ id node. Unit {0}) p.rooted d.valid d.item in
+        let q = positions-addressed A node_at root xs expected a (λ id node. Unit {0}) n.place p.rooted n.on in
+        subst (λ z. IsAt expected a ticks_of z) (p.one a.id a.offset n.place place q.at_place d.at_place)
+        (in-positions expected a n.place n.on)
 
     module _ (keep : Address → Option A → Bool) where
       -- a kept address is one of the tree, at its place
       pub record Addressed (a : Address) (place : ℕ) : Type 0 where
         pub item : Option A
         pub keeps : keep a item ≡ true
-        pub is : (asked : Option A) → Asks asked item → IsAddressed A node_at root xs asked a place
+        pub is : (expected : Option A) → IsExpected expected item → IsAddressed A node_at root xs expected a place
 
       pub kept-addressed : (i : ℕ) (a : Address) → slice_get (kept keep ticks_of) i ≡ Some a
           → Addressed a (passed_to keep ticks_of i)
@@ -92,13 +92,13 @@ module _ {A : Type 0} (node_at : NodeMap A) (levels root : ℕ) (xs : List A) (p
           record {
             item = k.item;
             keeps = k.keeps;
-            is = λ asked m. in-addressed asked a (passed_to keep ticks_of i) (k.there asked m);
+            is = λ expected m. in-addressed expected a (passed_to keep ticks_of i) (k.there expected m);
           }
 
-      pub addressed-kept : (asked : Option A) (a : Address) (place : ℕ)
-          → ((item : Option A) → Asks asked item → keep a item ≡ true) → IsAddressed A node_at root xs asked a place
+      pub addressed-kept : (expected : Option A) (a : Address) (place : ℕ)
+          → ((item : Option A) → IsExpected expected item → keep a item ≡ true) → IsAddressed A node_at root xs expected a place
           → IndexOf keep ticks_of a place
-      addressed-kept asked a place k d = kept-of keep asked a ticks_of place k (addressed-in asked a place d)
+      addressed-kept expected a place k d = kept-of keep expected a ticks_of place k (addressed-in expected a place d)
 
       -- if one address is kept between any two items, the index is the place
       pub strung-addressed : (m : ℕ) → Strung keep 0 ticks_of m → (i : ℕ) (a : Address)
@@ -109,11 +109,11 @@ module _ {A : Type 0} (node_at : NodeMap A) (levels root : ℕ) (xs : List A) (p
           ∙ (let q : 0 + i ≡ i = omega arith in q) in
           subst (λ z. Addressed a z) e (kept-addressed i a at)
 
-      pub addressed-strung : (m : ℕ) → Strung keep 0 ticks_of m → (asked : Option A) (a : Address) (place : ℕ)
-          → ((item : Option A) → Asks asked item → keep a item ≡ true) → IsAddressed A node_at root xs asked a place
+      pub addressed-strung : (m : ℕ) → Strung keep 0 ticks_of m → (expected : Option A) (a : Address) (place : ℕ)
+          → ((item : Option A) → IsExpected expected item → keep a item ≡ true) → IsAddressed A node_at root xs expected a place
           → slice_get (kept keep ticks_of) place ≡ Some a
-      addressed-strung m s asked a place k d =
-          let r = addressed-kept asked a place k d in
+      addressed-strung m s expected a place k d =
+          let r = addressed-kept expected a place k d in
           let e = strung-index keep 0 m ticks_of s r.index (slice_get_within (kept keep ticks_of) r.index a r.at) in
           let q = r.is in
           let same : r.index ≡ place = omega arith in

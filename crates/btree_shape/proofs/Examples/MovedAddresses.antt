@@ -81,11 +81,11 @@ right_front_of_leaf = refl
 pub right_front_of_internal : moved_by_rotate_right 10 11 9 2 3 (Some 20) (address_before 11) ≡ address_before 20
 right_front_of_internal = refl
 
-pub right_lender : moved_by_rotate_right 10 11 9 2 3 None (address_at 10 1) ≡ address_at 10 1
-right_lender = refl
+pub right_spares : moved_by_rotate_right 10 11 9 2 3 None (address_at 10 1) ≡ address_at 10 1
+right_spares = refl
 
-pub right_lender_front : moved_by_rotate_right 10 11 9 2 3 None (address_before 10) ≡ address_before 10
-right_lender_front = refl
+pub right_spares_front : moved_by_rotate_right 10 11 9 2 3 None (address_before 10) ≡ address_before 10
+right_spares_front = refl
 
 -- a merge
 pub merge_separator : moved_by_merge 10 11 9 2 3 None (address_at 9 2) ≡ address_at 10 3

@@ -92,7 +92,7 @@ merging = record {
   low_is = record { kind = refl; parent = refl; items_are = refl; children_are = refl };
   new_parent = refl;
   new_left = refl;
-  gone = refl;
+  removed = refl;
   moved = λ n p l r m. absurd (omega arith);
   kept = kept;
 }
@@ -108,7 +108,7 @@ released = record {
   node = internal None 0 [];
   at_root = refl;
   only = refl;
-  gone = refl;
+  removed = refl;
   new_child = refl;
   kept = kept;
 }

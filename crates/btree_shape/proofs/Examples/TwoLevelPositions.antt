@@ -1,10 +1,10 @@
 -- The positions of a tree of two levels, written out: root 2 with the item 4 over the leaves 0, with the items 0 to 3,
 -- and 1, with the items 5 to 8.
 use Rattle.std.proofs.Common.{◌≡◌, ℕ, List, [], ◌∷◌, ◌++◌, Some, None, refl}
-use Rattle.btree_shape.specs.Focus.Shape.{Shape}
+use Rattle.btree_shape.specs.Focus.Subtree.{Subtree}
 use Rattle.btree_shape.specs.Focus.Positions.{Position, mark, over, address_before, address_at, positions, passed}
 
-abbrev base : Shape ℕ 1
+abbrev base : Subtree ℕ 1
 base = (2, (0, 0 ∷ 1 ∷ 2 ∷ 3 ∷ []), (4, (1, 5 ∷ 6 ∷ 7 ∷ 8 ∷ [])) ∷ [])
 
 abbrev left_leaf : List (Position ℕ)
@@ -22,9 +22,9 @@ right_leaf =
     ∷ mark (address_at 1 4) None ∷ []
 
 -- the root's -1, the left leaf, the root's item, the right leaf, and past the root's last item
-pub tour_of_base : positions ℕ 1 base ≡ mark
+pub positions_of_base : positions ℕ 1 base ≡ mark
     (address_before 2) None ∷ (left_leaf ++ (mark (address_at 2 0) (Some 4) ∷ over ∷ (right_leaf ++ (mark (address_at 2 1) None ∷ []))))
-tour_of_base = refl
+positions_of_base = refl
 
 -- each item is passed once
 pub passed_of_base : passed (positions ℕ 1 base) ≡ 9

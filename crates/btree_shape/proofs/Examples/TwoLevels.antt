@@ -7,7 +7,7 @@ use Rattle.std.specs.Ordering.{nat_cmp}
 use Rattle.btree_view.specs.View.{View, leaf, internal, NodeMap, size_of, most_of}
 use Rattle.btree_shape.specs.Represents.{Represents, numbers_under, represented}
 use Rattle.btree_shape.specs.WellFormed.{times_used, least_of, IsNearlySized, IsWellFormed, IsOffByOne}
-use Rattle.btree_shape.specs.Place.{NOWHERE, StandsAt, IsPlace, IsValid}
+use Rattle.btree_shape.specs.Place.{NOWHERE, IsSubtreeAt, IsPlace, IsValid}
 use Rattle.btree_shape.specs.Lists.{times_listed}
 
 abbrev Pair : Type 0
@@ -28,8 +28,8 @@ tree (suc zero) = Some (leaf (Some 2) rights)
 tree (suc (suc zero)) = Some (internal None 0 (((4, 40), 1) ∷ []))
 tree (suc (suc (suc n))) = None
 
-spells_tree : Represents tree 1 None 2 all
-spells_tree = (0, lefts, ((4, 40), 1, rights) ∷ [], refl, refl, (refl, tt), refl)
+represents_tree : Represents tree 1 None 2 all
+represents_tree = (0, lefts, ((4, 40), 1, rights) ∷ [], refl, refl, (refl, tt), refl)
 
 sized_tree : (id : ℕ) (node : View Pair) → tree id ≡ Some node → (least_of 2 id ≤ size_of node) × (size_of node ≤ most_of node)
 sized_tree zero node e = let i : leaf (Some 2) lefts ≡ node = cc in rw (← i) (omega arith, omega arith)
@@ -51,39 +51,39 @@ ascends_tree = search rules
 pub well_formed : IsWellFormed nat_cmp tree (Some 2) 9 all
 well_formed = record {
   ascends = ascends_tree;
-  formed = record { height = 1; represents = spells_tree; sized = sized_tree; once = once_tree };
+  formed = record { height = 1; represents = represents_tree; sized = sized_tree; once = once_tree };
   counted = refl;
 }
 
 -- the places of the left leaf, the right leaf and the root in the list
-left_stands : StandsAt tree all 0 lefts 0
-left_stands = record { front = []; back = (4, 40) ∷ rights; subtree = record { height = 0; parent = Some 2; represents = refl }; split = refl; counted = refl }
+left_subtree : IsSubtreeAt tree all 0 lefts 0
+left_subtree = record { front = []; back = (4, 40) ∷ rights; subtree = record { height = 0; parent = Some 2; represents = refl }; split = refl; counted = refl }
 
-right_stands : StandsAt tree all 1 rights 5
-right_stands = record { front = lefts ++ (4, 40) ∷ []; back = []; subtree = record { height = 0; parent = Some 2; represents = refl }; split = refl; counted = refl }
+right_subtree : IsSubtreeAt tree all 1 rights 5
+right_subtree = record { front = lefts ++ (4, 40) ∷ []; back = []; subtree = record { height = 0; parent = Some 2; represents = refl }; split = refl; counted = refl }
 
-root_stands : StandsAt tree all 2 all 0
-root_stands = record { front = []; back = []; subtree = record { height = 1; parent = None; represents = spells_tree }; split = refl; counted = refl }
+root_subtree : IsSubtreeAt tree all 2 all 0
+root_subtree = record { front = []; back = []; subtree = record { height = 1; parent = None; represents = represents_tree }; split = refl; counted = refl }
 
 -- the places before each node's subtree
 pub before_left : IsPlace tree (Some 2) all 0 None 0
-before_left = (lefts, left_stands)
+before_left = (lefts, left_subtree)
 
 pub before_right : IsPlace tree (Some 2) all 1 None 5
-before_right = (rights, right_stands)
+before_right = (rights, right_subtree)
 
 pub before_root : IsPlace tree (Some 2) all 2 None 0
-before_root = (all, root_stands)
+before_root = (all, root_subtree)
 
 -- the places past each node's last item
 pub after_left : IsPlace tree (Some 2) all 0 (Some 4) 4
-after_left = inr (refl, (lefts, 0, left_stands, refl))
+after_left = inr (refl, (lefts, 0, left_subtree, refl))
 
 pub after_right : IsPlace tree (Some 2) all 1 (Some 4) 9
-after_right = inr (refl, (rights, 5, right_stands, refl))
+after_right = inr (refl, (rights, 5, right_subtree, refl))
 
 pub after_root : IsPlace tree (Some 2) all 2 (Some 1) 9
-after_root = inr (refl, (all, 0, root_stands, refl))
+after_root = inr (refl, (all, 0, root_subtree, refl))
 
 -- the places at an item of each node
 pub at_left : IsPlace tree (Some 2) all 0 (Some 2) 2
@@ -135,11 +135,11 @@ off_by_one_bare = record {
   used = refl;
 }
 
-bare_stands : StandsAt bare [] 0 [] 0
-bare_stands = record { front = []; back = []; subtree = record { height = 0; parent = None; represents = refl }; split = refl; counted = refl }
+bare_subtree : IsSubtreeAt bare [] 0 [] 0
+bare_subtree = record { front = []; back = []; subtree = record { height = 0; parent = None; represents = refl }; split = refl; counted = refl }
 
 pub before_bare : IsPlace bare (Some 0) [] 0 None 0
-before_bare = ([], bare_stands)
+before_bare = ([], bare_subtree)
 
 pub after_bare : IsPlace bare (Some 0) [] 0 (Some 0) 0
-after_bare = inr (refl, ([], 0, bare_stands, refl))
+after_bare = inr (refl, ([], 0, bare_subtree, refl))

@@ -10,19 +10,19 @@ use Rattle.std.specs.declared.cmp.Ordering.TheVariants.{Less}
 use Rattle.btree_item.specs.Pairs.{Ascends, place_of}
 use Rattle.btree_view.specs.View.{NodeMap, View, children_of, items_of, leaf}
 use Rattle.btree_shape.specs.Focus.Search.{IsSearching, levels_below}
-use Rattle.btree_shape.specs.Focus.Shape.{IsFilled, Shape, count_at, id_of, items_under, later_items, view_at}
+use Rattle.btree_shape.specs.Focus.Subtree.{IsFilled, Subtree, count_at, id_of, items_under, later_items, view_at}
 use Rattle.btree_shape.specs.Focus.Path.{Path, Frame, after_in, at_branch, at_first, before_in, fill, frame_id, items_after, items_before, least_at, parent_above, top, under}
 use Rattle.btree_shape.specs.WellFormed.{IsRooted, IsSized}
 use Rattle.btree_shape.specs.Focus.Focus.{HasFocus, IsFocus}
 use Rattle.btree_shape.specs.Focus.Node.{IsNode}
 use Rattle.btree_shape.proofs.Paths.Frames.{AllByRecursion-append, AllByRecursion-right, fill-id, fill-items, top-view}
 use Rattle.btree_shape.proofs.Trees.Heights.{height-fits, levels-is}
-use Rattle.btree_shape.proofs.Paths.FromRoot.{rooted-tree, standing-rooted}
+use Rattle.btree_shape.proofs.Paths.FromRoot.{rooted-tree, unsized-rooted}
 use Rattle.btree_shape.proofs.LookUp.KeyInList.{AreAbove, AreBelow, Rises, above-pivot, ascends, below-pivot, rises-left, rises-right, searched, side}
 use Rattle.btree_shape.proofs.Paths.Focus.{descend, from-tree}
 
 -- a list whose image is two parts is itself two parts
-pub record Halves {X Y : Type 0} (f : X → Y) (xs : List X) (ys zs : List Y) : Type 0 where
+pub record MapParts {X Y : Type 0} (f : X → Y) (xs : List X) (ys zs : List Y) : Type 0 where
   pub left : List X
   pub right : List X
   pub is : xs ≡ left ++ right
@@ -32,12 +32,12 @@ pub record Halves {X Y : Type 0} (f : X → Y) (xs : List X) (ys zs : List Y) : 
 pub cons-parts : {X : Type 0} {x y : X} {xs ys : List X} → x ∷ xs ≡ y ∷ ys → (x ≡ y) × (xs ≡ ys)
 cons-parts e = (cc, cc)
 
-pub halves : {X Y : Type 0} (f : X → Y) (xs : List X) (ys zs : List Y) → map f xs ≡ ys ++ zs → Halves f xs ys zs
-halves f xs [] zs e = record { left = []; right = xs; is = refl; first = refl; second = e }
-halves f [] (y ∷ ys) zs e = absurd (cc)
-halves f (x ∷ xs) (y ∷ ys) zs e =
+pub map-parts : {X Y : Type 0} (f : X → Y) (xs : List X) (ys zs : List Y) → map f xs ≡ ys ++ zs → MapParts f xs ys zs
+map-parts f xs [] zs e = record { left = []; right = xs; is = refl; first = refl; second = e }
+map-parts f [] (y ∷ ys) zs e = absurd (cc)
+map-parts f (x ∷ xs) (y ∷ ys) zs e =
     let b = cons-parts e in
-    let r = halves f xs ys zs b.1 in
+    let r = map-parts f xs ys zs b.1 in
     record {
       left = x ∷ r.left;
       right = r.right;
@@ -60,27 +60,27 @@ get-after (y ∷ front) x back zero e = absurd (omega arith)
 get-after (y ∷ front) x back (suc n) e = get-after front x back n (omega arith)
 
 module _ (A : Type 0) where
-  pub view-items : (h : ℕ) (bs : List (A × Shape A h)) → map {B = A} (λ b. b.0)
-      (map {B = A × ℕ} (λ (b : A × Shape A h). (b.0, id_of A h b.1)) bs) ≡ map {B = A} (λ (b : A × Shape A h). b.0) bs
+  pub view-items : (h : ℕ) (bs : List (A × Subtree A h)) → map {B = A} (λ b. b.0)
+      (map {B = A × ℕ} (λ (b : A × Subtree A h). (b.0, id_of A h b.1)) bs) ≡ map {B = A} (λ (b : A × Subtree A h). b.0) bs
   view-items h [] = refl
   view-items h (b ∷ bs) = ap (λ l. b.0 ∷ l) (view-items h bs)
 
   -- the numbers of children after a front of branches
-  pub child-numbers : (h : ℕ) (bs : List (A × Shape A h)) → map {B = ℕ} (λ b. b.1)
-      (map {B = A × ℕ} (λ (b : A × Shape A h). (b.0, id_of A h b.1)) bs) ≡ map {B = ℕ}
-      (λ (b : A × Shape A h). id_of A h b.1) bs
+  pub child-numbers : (h : ℕ) (bs : List (A × Subtree A h)) → map {B = ℕ} (λ b. b.1)
+      (map {B = A × ℕ} (λ (b : A × Subtree A h). (b.0, id_of A h b.1)) bs) ≡ map {B = ℕ}
+      (λ (b : A × Subtree A h). id_of A h b.1) bs
   child-numbers h [] = refl
   child-numbers h (b ∷ bs) = ap (λ l. id_of A h b.1 ∷ l) (child-numbers h bs)
 
-  all-branches : (P : A → Type 0) (h : ℕ) (bs : List (A × Shape A h)) → AllByRecursion P (later_items A h bs)
-      → AllByRecursion P (map {B = A} (λ (b : A × Shape A h). b.0) bs)
+  all-branches : (P : A → Type 0) (h : ℕ) (bs : List (A × Subtree A h)) → AllByRecursion P (later_items A h bs)
+      → AllByRecursion P (map {B = A} (λ (b : A × Subtree A h). b.0) bs)
   all-branches P h [] a = tt
   all-branches P h (b ∷ bs) a =
       (a.0, all-branches P h bs (AllByRecursion-right P (items_under A h b.1) (later_items A h bs) a.1))
 
 module _ {K : Type 0} (V : Type 0) (cmp : K → K → Ordering) where
-  branches-rise : (h : ℕ) (bs : List ((K × V) × Shape (K × V) h)) → Rises cmp (later_items (K × V) h bs) → Rises cmp
-      (map {B = K × V} (λ (b : (K × V) × Shape (K × V) h). b.0) bs)
+  branches-rise : (h : ℕ) (bs : List ((K × V) × Subtree (K × V) h)) → Rises cmp (later_items (K × V) h bs) → Rises cmp
+      (map {B = K × V} (λ (b : (K × V) × Subtree (K × V) h). b.0) bs)
   branches-rise h [] up = tt
   branches-rise h (b ∷ bs) up = (
     all-branches (K × V) (λ y. cmp b.0.0 y.0 ≡ Less) h bs
@@ -89,7 +89,7 @@ module _ {K : Type 0} (V : Type 0) (cmp : K → K → Ordering) where
   )
 
   -- the items of a node ascend if those of its subtree do
-  pub items-rise : (h : ℕ) (p : Option ℕ) (t : Shape (K × V) h) → Rises cmp (items_under (K × V) h t)
+  pub items-rise : (h : ℕ) (p : Option ℕ) (t : Subtree (K × V) h) → Rises cmp (items_under (K × V) h t)
       → Rises cmp (items_of (view_at (K × V) h p t))
   items-rise zero p t up = up
   items-rise (suc h) p t up =
@@ -106,7 +106,7 @@ module _ {K V : Type 0} (cmp : K → K → Ordering) where
     abbrev A : Type 0
     A = K × V
 
-    pub hole-rises : (h : ℕ) (c : Path A h) (t : Shape A h) → IsFocus A node_at [] root xs h c t
+    pub hole-rises : (h : ℕ) (c : Path A h) (t : Subtree A h) → IsFocus A node_at [] root xs h c t
         → Rises cmp (items_under A h t)
     hole-rises h c t w =
         rises-left cmp (items_under A h t) (items_after c)
@@ -114,9 +114,9 @@ module _ {K V : Type 0} (cmp : K → K → Ordering) where
 
     pub search-ascends : (id : ℕ) → IsSearching cmp k node_at root xs id → (v : View A) → node_at id ≡ Some v
         → Ascends cmp (items_of v)
-    search-ascends id s v e = at s.node.seen.height s.node.seen.path s.node.seen.shape s.node.seen.here s.node.seen.whole
+    search-ascends id s v e = at s.node.focus.height s.node.focus.path s.node.focus.subtree s.node.focus.here s.node.focus.whole
       where
-        at : (h : ℕ) (c : Path A h) (t : Shape A h) → id_of A h t ≡ id → IsFocus A node_at [] root xs h c t
+        at : (h : ℕ) (c : Path A h) (t : Subtree A h) → id_of A h t ≡ id → IsFocus A node_at [] root xs h c t
             → Ascends cmp (items_of v)
         at h c t here w =
             let d = top-view A node_at h (parent_above c) t w.inner in
@@ -125,7 +125,7 @@ module _ {K V : Type 0} (cmp : K → K → Ordering) where
             ascends cmp (items_of v)
             (subst (λ u. Rises cmp (items_of u)) is (items-rise V cmp h (parent_above c) t (hole-rises h c t w)))
 
-    go-down : (h : ℕ) (f : Frame A h) (c : Path A (suc h)) (t : Shape A h)
+    go-down : (h : ℕ) (f : Frame A h) (c : Path A (suc h)) (t : Subtree A h)
         → IsFocus A node_at [] root xs (suc h) c (fill f t)
         → IsFilled (least_at c) (suc h) (count_at A (suc h) (fill f t)) → AreBelow cmp k (items_before c ++ before_in f)
         → AreAbove cmp k (after_in f ++ items_after c)
@@ -133,9 +133,9 @@ module _ {K V : Type 0} (cmp : K → K → Ordering) where
     go-down h f c t w z low high =
         let d = descend A node_at [] root xs h f c t w z in
         let e = height-fits A c (fill f t) w z in
-        let seen : HasFocus A node_at [] root xs (id_of A h t) =
-        record { height = h; path = under f c; shape = t; here = refl; whole = d.0 } in
-        let node : IsNode A node_at root xs (id_of A h t) = record { seen = seen; sized = d.1 } in
+        let focus : HasFocus A node_at [] root xs (id_of A h t) =
+        record { height = h; path = under f c; subtree = t; here = refl; whole = d.0 } in
+        let node : IsNode A node_at root xs (id_of A h t) = record { focus = focus; sized = d.1 } in
         record {
           next = record { node = node; low = low; high = high };
           smaller =
@@ -145,8 +145,8 @@ module _ {K V : Type 0} (cmp : K → K → Ordering) where
               omega arith;
         }
 
-    low-of : (h : ℕ) (c : Path A (suc h)) (n : ℕ) (first : Shape A h) (front : List (A × Shape A h)) (x : A)
-        (u : Shape A h) (back : List (A × Shape A h))
+    low-of : (h : ℕ) (c : Path A (suc h)) (n : ℕ) (first : Subtree A h) (front : List (A × Subtree A h)) (x : A)
+        (u : Subtree A h) (back : List (A × Subtree A h))
         → IsFocus A node_at [] root xs (suc h) c (n, first, front ++ (x, u) ∷ back) → side cmp k x ≡ Less
         → AreBelow cmp k (items_before c ++ ((items_under A h first ++ later_items A h front) ++ x ∷ []))
     low-of h c n first front x u back w l =
@@ -158,19 +158,19 @@ module _ {K V : Type 0} (cmp : K → K → Ordering) where
         (AllByRecursion-append (λ y. side cmp k y ≡ Less) ps (x ∷ [])
         (below-pivot cmp k laws ps x qs (subst (λ ys. Rises cmp ys) e up) l) (l, tt))
 
-    later-above : (h : ℕ) (ps : List A) (bs : List (A × Shape A h)) (qs : List A)
+    later-above : (h : ℕ) (ps : List A) (bs : List (A × Subtree A h)) (qs : List A)
         → Rises cmp (ps ++ (later_items A h bs ++ qs))
-        → AreAbove cmp k (map {B = A} (λ (b : A × Shape A h). b.0) bs) → AreAbove cmp k qs → AreAbove cmp k
+        → AreAbove cmp k (map {B = A} (λ (b : A × Subtree A h). b.0) bs) → AreAbove cmp k qs → AreAbove cmp k
         (later_items A h bs ++ qs)
     later-above h ps [] qs a g q = q
     later-above h ps (b ∷ bs) qs a g q =
         above-pivot cmp k laws b.0 ((items_under A h b.1 ++ later_items A h bs) ++ qs)
         (rises-right cmp ps (b.0 ∷ ((items_under A h b.1 ++ later_items A h bs) ++ qs)) a) g.0
 
-    high-of : (h : ℕ) (f : Frame A h) (c : Path A (suc h)) (t : Shape A h) (back : List (A × Shape A h))
+    high-of : (h : ℕ) (f : Frame A h) (c : Path A (suc h)) (t : Subtree A h) (back : List (A × Subtree A h))
         → after_in f ≡ later_items A h back
         → IsFocus A node_at [] root xs (suc h) c (fill f t) → AreAbove cmp k
-        (map {B = A} (λ (b : A × Shape A h). b.0) back)
+        (map {B = A} (λ (b : A × Subtree A h). b.0) back)
         → AreAbove cmp k (items_after c) → AreAbove cmp k (after_in f ++ items_after c)
     high-of h f c t back is w g high =
         let ps : List A = items_before c ++ (before_in f ++ items_under A h t) in
@@ -180,50 +180,50 @@ module _ {K V : Type 0} (cmp : K → K → Ordering) where
         rw is (later-above h ps back (items_after c) (subst (λ ys. Rises cmp ys) e up) g high)
 
     -- down to the child at an index; `left` are the branches before it
-    at-child : (h : ℕ) (c : Path A (suc h)) (t : Shape A (suc h)) → IsFocus A node_at [] root xs (suc h) c t
+    at-child : (h : ℕ) (c : Path A (suc h)) (t : Subtree A (suc h)) → IsFocus A node_at [] root xs (suc h) c t
         → IsFilled (least_at c) (suc h) (count_at A (suc h) t)
         → AreBelow cmp k (items_before c) → AreAbove cmp k (items_after c)
-        → (child : ℕ) (left right : List (A × Shape A h)) → t.2 ≡ left ++ right
-        → slice_get (id_of A h t.1 ∷ map {B = ℕ} (λ (b : A × Shape A h). id_of A h b.1) (left ++ right))
+        → (child : ℕ) (left right : List (A × Subtree A h)) → t.2 ≡ left ++ right
+        → slice_get (id_of A h t.1 ∷ map {B = ℕ} (λ (b : A × Subtree A h). id_of A h b.1) (left ++ right))
         (length left) ≡ Some child
-        → AreBelow cmp k (map {B = A} (λ (b : A × Shape A h). b.0) left) → AreAbove cmp k
-        (map {B = A} (λ (b : A × Shape A h). b.0) right) → Down t.0 child
+        → AreBelow cmp k (map {B = A} (λ (b : A × Subtree A h). b.0) left) → AreAbove cmp k
+        (map {B = A} (λ (b : A × Subtree A h). b.0) right) → Down t.0 child
     at-child h c t w z low high child [] right is get l g =
         let f : Frame A h = at_first t.0 t.2 in
         let e : id_of A h t.1 ≡ child = cc in
-        let g' : AreAbove cmp k (map {B = A} (λ (b : A × Shape A h). b.0) t.2) = rw is g in
+        let g' : AreAbove cmp k (map {B = A} (λ (b : A × Subtree A h). b.0) t.2) = rw is g in
         rw (← e) (go-down h f c t.1 w z (rw (append-nil (items_before c)) low) (high-of h f c t.1 t.2 refl w g' high))
     at-child h c t w z low high child (y ∷ left) right is get l g =
         let r = snoc y left in
         let x : A = r.1.0 in
-        let u : Shape A h = r.1.1 in
+        let u : Subtree A h = r.1.1 in
         let f : Frame A h = at_branch t.0 t.1 r.0 x right in
         let e3 : t.2 ≡ r.0 ++ (x, u) ∷ right = is ∙ (ap (λ z. z ++ right) r.2 ∙ append_assoc r.0 ((x, u) ∷ []) right) in
         let w' : IsFocus A node_at [] root xs (suc h) c (fill f u) =
         subst (λ bs. IsFocus A node_at [] root xs (suc h) c (t.0, t.1, bs)) e3 w in
         let z' : IsFilled (least_at c) (suc h) (count_at A (suc h) (fill f u)) =
         subst (λ bs. IsFilled (least_at c) (suc h) (length bs)) e3 z in
-        let e4 : map {B = A} (λ (b : A × Shape A h). b.0) (y ∷ left) ≡ map {B = A}
-        (λ (b : A × Shape A h). b.0) r.0 ++ x ∷ [] =
-        ap (map {B = A} (λ (b : A × Shape A h). b.0)) r.2 ∙ map-append (λ (b : A × Shape A h). b.0) r.0 ((x, u) ∷ []) in
+        let e4 : map {B = A} (λ (b : A × Subtree A h). b.0) (y ∷ left) ≡ map {B = A}
+        (λ (b : A × Subtree A h). b.0) r.0 ++ x ∷ [] =
+        ap (map {B = A} (λ (b : A × Subtree A h). b.0)) r.2 ∙ map-append (λ (b : A × Subtree A h). b.0) r.0 ((x, u) ∷ []) in
         let lx =
-        (AllByRecursion-right (λ y. side cmp k y ≡ Less) (map {B = A} (λ (b : A × Shape A h). b.0) r.0) (x ∷ [])
+        (AllByRecursion-right (λ y. side cmp k y ≡ Less) (map {B = A} (λ (b : A × Subtree A h). b.0) r.0) (x ∷ [])
         (subst (λ ys. AreBelow cmp k ys) e4 l)).0 in
         let d = go-down h f c u w' z' (low-of h c t.0 t.1 r.0 x u right w' lx) (high-of h f c u right refl w' g high) in
-        let e5 : map {B = ℕ} (λ (b : A × Shape A h). id_of A h b.1) ((y ∷ left) ++ right) ≡ map {B = ℕ}
-        (λ (b : A × Shape A h). id_of A h b.1) r.0 ++ id_of A h u ∷ map {B = ℕ}
-        (λ (b : A × Shape A h). id_of A h b.1) right =
-        ap (λ z. map {B = ℕ} (λ (b : A × Shape A h). id_of A h b.1) (z ++ right)) r.2
-        ∙ (ap (map {B = ℕ} (λ (b : A × Shape A h). id_of A h b.1)) (append_assoc r.0 ((x, u) ∷ []) right) ∙ map-append
-        (λ (b : A × Shape A h). id_of A h b.1) r.0 ((x, u) ∷ right)) in
-        let n : length left ≡ length (map {B = ℕ} (λ (b : A × Shape A h). id_of A h b.1) r.0) =
+        let e5 : map {B = ℕ} (λ (b : A × Subtree A h). id_of A h b.1) ((y ∷ left) ++ right) ≡ map {B = ℕ}
+        (λ (b : A × Subtree A h). id_of A h b.1) r.0 ++ id_of A h u ∷ map {B = ℕ}
+        (λ (b : A × Subtree A h). id_of A h b.1) right =
+        ap (λ z. map {B = ℕ} (λ (b : A × Subtree A h). id_of A h b.1) (z ++ right)) r.2
+        ∙ (ap (map {B = ℕ} (λ (b : A × Subtree A h). id_of A h b.1)) (append_assoc r.0 ((x, u) ∷ []) right) ∙ map-append
+        (λ (b : A × Subtree A h). id_of A h b.1) r.0 ((x, u) ∷ right)) in
+        let n : length left ≡ length (map {B = ℕ} (λ (b : A × Subtree A h). id_of A h b.1) r.0) =
         (let a = ap length r.2 in let b = length-append r.0 ((x, u) ∷ []) in let m : length
-        (map {B = ℕ} (λ (b : A × Shape A h). id_of A h b.1) r.0) ≡ length r.0 = length-map r.0
-        (λ (b : A × Shape A h). id_of A h b.1) in omega arith) in
-        let e6 : slice_get (map {B = ℕ} (λ (b : A × Shape A h). id_of A h b.1) ((y ∷ left) ++ right))
+        (map {B = ℕ} (λ (b : A × Subtree A h). id_of A h b.1) r.0) ≡ length r.0 = length-map r.0
+        (λ (b : A × Subtree A h). id_of A h b.1) in omega arith) in
+        let e6 : slice_get (map {B = ℕ} (λ (b : A × Subtree A h). id_of A h b.1) ((y ∷ left) ++ right))
         (length left) ≡ Some (id_of A h u) =
-        ap (λ z. slice_get z (length left)) e5 ∙ get-after (map {B = ℕ} (λ (b : A × Shape A h). id_of A h b.1) r.0)
-        (id_of A h u) (map {B = ℕ} (λ (b : A × Shape A h). id_of A h b.1) right) (length left) n in
+        ap (λ z. slice_get z (length left)) e5 ∙ get-after (map {B = ℕ} (λ (b : A × Subtree A h). id_of A h b.1) r.0)
+        (id_of A h u) (map {B = ℕ} (λ (b : A × Subtree A h). id_of A h b.1) right) (length left) n in
         let e7 : id_of A h u ≡ child = cc in
         subst (λ z. Down t.0 z) e7 d
 
@@ -231,10 +231,10 @@ module _ {K V : Type 0} (cmp : K → K → Ordering) where
     pub search-down : (id : ℕ) → IsSearching cmp k node_at root xs id → (v : View A) → node_at id ≡ Some v → (o : ℕ)
         → place_of cmp k (items_of v) ≡ Err o
         → (child : ℕ) → slice_get (children_of v) o ≡ Some child → Down id child
-    search-down id s v e o place child get = at s.node.seen.height s.node.seen.path s.node.seen.shape s.node.seen.here
-        s.node.seen.whole s.node.sized s.low s.high
+    search-down id s v e o place child get = at s.node.focus.height s.node.focus.path s.node.focus.subtree s.node.focus.here
+        s.node.focus.whole s.node.sized s.low s.high
       where
-        at : (h : ℕ) (c : Path A h) (t : Shape A h) → id_of A h t ≡ id → IsFocus A node_at [] root xs h c t
+        at : (h : ℕ) (c : Path A h) (t : Subtree A h) → id_of A h t ≡ id → IsFocus A node_at [] root xs h c t
             → IsFilled (least_at c) h (count_at A h t)
             → AreBelow cmp k (items_before c) → AreAbove cmp k (items_after c) → Down id child
         at zero c t here w z low high =
@@ -252,17 +252,17 @@ module _ {K V : Type 0} (cmp : K → K → Ordering) where
             let place2 : place_of cmp k (items_of (view_at A (suc h) (parent_above c) t)) ≡ Err o =
             subst (λ u. place_of cmp k (items_of u) ≡ Err o) (sym is) place in
             let r = searched cmp k laws (items_of (view_at A (suc h) (parent_above c) t)) (Err o) up2 place2 in
-            let q = halves (λ (b : A × Shape A h). b.0) t.2 r.0 r.1 (sym (view-items A h t.2) ∙ r.2) in
+            let q = map-parts (λ (b : A × Subtree A h). b.0) t.2 r.0 r.1 (sym (view-items A h t.2) ∙ r.2) in
             let get2 : slice_get (children_of (view_at A (suc h) (parent_above c) t)) o ≡ Some child =
             subst (λ u. slice_get (children_of u) o ≡ Some child) (sym is) get in
             let len : o ≡ length q.left =
-            sym r.3 ∙ (ap length (sym q.first) ∙ length-map q.left (λ (b : A × Shape A h). b.0)) in
-            let get3 : slice_get (id_of A h t.1 ∷ map {B = ℕ} (λ (b : A × Shape A h). id_of A h b.1)
+            sym r.3 ∙ (ap length (sym q.first) ∙ length-map q.left (λ (b : A × Subtree A h). b.0)) in
+            let get3 : slice_get (id_of A h t.1 ∷ map {B = ℕ} (λ (b : A × Subtree A h). id_of A h b.1)
             (q.left ++ q.right)) (length q.left) ≡ Some child =
-            ap (slice_get (id_of A h t.1 ∷ map {B = ℕ} (λ (b : A × Shape A h). id_of A h b.1) (q.left ++ q.right)))
+            ap (slice_get (id_of A h t.1 ∷ map {B = ℕ} (λ (b : A × Subtree A h). id_of A h b.1) (q.left ++ q.right)))
             (sym len)
-            ∙ (ap (λ (bs : List (A × Shape A h)). slice_get
-            (id_of A h t.1 ∷ map {B = ℕ} (λ (b : A × Shape A h). id_of A h b.1) bs) o) (sym q.is)
+            ∙ (ap (λ (bs : List (A × Subtree A h)). slice_get
+            (id_of A h t.1 ∷ map {B = ℕ} (λ (b : A × Subtree A h). id_of A h b.1) bs) o) (sym q.is)
             ∙ (ap (λ l. slice_get (id_of A h t.1 ∷ l) o) (sym (child-numbers A h t.2)) ∙ get2)) in
             subst (λ n. Down n child) here
             (at-child h c t w z low high child q.left q.right q.is get3
@@ -272,14 +272,14 @@ module _ {K V : Type 0} (cmp : K → K → Ordering) where
     -- a search begins at the root
     pub search-start : IsRooted (IsSized root) node_at root xs → IsSearching cmp k node_at root xs root
     search-start r =
-        let s = standing-rooted A node_at (IsSized root) root xs r in
+        let s = unsized-rooted A node_at (IsSized root) root xs r in
         let n = rooted-tree A node_at root xs r in
         record {
           node = record {
-            seen = record {
+            focus = record {
               height = n.height;
               path = top;
-              shape = n.shape;
+              subtree = n.subtree;
               here = n.at_root;
               whole =
                   from-tree A node_at root xs n;

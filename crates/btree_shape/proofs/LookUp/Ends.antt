@@ -10,10 +10,10 @@ use Rattle.btree_item.specs.Pairs.{found, place_of}
 use Rattle.btree_view.specs.View.{NodeMap, View, item_in, items_of, leaf}
 use Rattle.btree_shape.specs.Place.{IsPlace}
 use Rattle.btree_shape.specs.Focus.Search.{IsSearching}
-use Rattle.btree_shape.specs.Focus.Shape.{Shape, id_of, items_under, later_items, view_at}
+use Rattle.btree_shape.specs.Focus.Subtree.{Subtree, id_of, items_under, later_items, view_at}
 use Rattle.btree_shape.specs.Focus.Path.{Path, items_after, items_before, parent_above}
 use Rattle.btree_shape.specs.Focus.Focus.{IsFocus}
-use Rattle.btree_shape.proofs.LookUp.Descent.{get-after, halves, hole-rises, items-rise, view-items}
+use Rattle.btree_shape.proofs.LookUp.Descent.{get-after, map-parts, hole-rises, items-rise, view-items}
 use Rattle.btree_shape.proofs.Paths.Frames.{AllByRecursion-append}
 use Rattle.btree_shape.proofs.Places.NodePlaces.{hole-place, items_upto}
 use Rattle.btree_shape.proofs.LookUp.KeyInList.{AreAbove, AreBelow, IsSearched, Rises, equal-back, equal-front, place-hit, place-miss, rises-right, searched, side}
@@ -37,7 +37,7 @@ module _ {K V : Type 0} (cmp : K → K → Ordering) (k : K) (laws : IsTotalOrde
     pub at : IsPlace node_at (Some root) xs id (Some o) place
     pub absent : found cmp k xs ≡ None
 
-  leaf-hit : (h : ℕ) (c : Path A 0) (t : Shape A 0) (o : ℕ) → IsFocus A node_at [] root xs 0 c t
+  leaf-hit : (h : ℕ) (c : Path A 0) (t : Subtree A 0) (o : ℕ) → IsFocus A node_at [] root xs 0 c t
       → AreBelow cmp k (items_before c) → AreAbove cmp k (items_after c)
       → IsSearched cmp k t.1 (Ok o) → Hit t.0 o
   leaf-hit h c t o w low high r =
@@ -68,8 +68,8 @@ module _ {K V : Type 0} (cmp : K → K → Ordering) (k : K) (laws : IsTotalOrde
         item = p.1 ∙ sym here;
       }
 
-  inner-hit : (h : ℕ) (c : Path A (suc h)) (t : Shape A (suc h)) (o : ℕ) → IsFocus A node_at [] root xs (suc h) c t
-      → (left : List (A × Shape A h)) (b : A × Shape A h) (right : List (A × Shape A h))
+  inner-hit : (h : ℕ) (c : Path A (suc h)) (t : Subtree A (suc h)) (o : ℕ) → IsFocus A node_at [] root xs (suc h) c t
+      → (left : List (A × Subtree A h)) (b : A × Subtree A h) (right : List (A × Subtree A h))
       → t.2 ≡ left ++ b ∷ right → length left ≡ o → side cmp k b.0 ≡ Equal
       → slice_get (items_of (view_at A (suc h) (parent_above c) t)) o ≡ Some b.0 → Hit t.0 o
   inner-hit h c t o w left b right is n l got =
@@ -93,7 +93,7 @@ module _ {K V : Type 0} (cmp : K → K → Ordering) (k : K) (laws : IsTotalOrde
       let taken : take o t.2 ≡ left = rw is (take_at left (b ∷ right) o n) in
       let m : length ps ≡ length (items_before c) + items_upto A (suc h) t o =
       length-append (items_before c) (items_under A h t.1 ++ later_items A h left)
-      ∙ ap (λ (ys : List (A × Shape A h)). length (items_before c) + length
+      ∙ ap (λ (ys : List (A × Subtree A h)). length (items_before c) + length
       (items_under A h t.1 ++ later_items A h ys)) (sym taken) in
       let here : item_in (node_at t.0) o ≡ Some b.0 = ap (λ z. item_in z o) w.inner.0 ∙ got in
       record {
@@ -105,10 +105,10 @@ module _ {K V : Type 0} (cmp : K → K → Ordering) (k : K) (laws : IsTotalOrde
 
   pub search-hit : (id : ℕ) → IsSearching cmp k node_at root xs id → (v : View A) → node_at id ≡ Some v → (o : ℕ)
       → place_of cmp k (items_of v) ≡ Ok o → Hit id o
-  search-hit id s v e o place = at s.node.seen.height s.node.seen.path s.node.seen.shape s.node.seen.here
-      s.node.seen.whole s.low s.high
+  search-hit id s v e o place = at s.node.focus.height s.node.focus.path s.node.focus.subtree s.node.focus.here
+      s.node.focus.whole s.low s.high
     where
-      at : (h : ℕ) (c : Path A h) (t : Shape A h) → id_of A h t ≡ id → IsFocus A node_at [] root xs h c t
+      at : (h : ℕ) (c : Path A h) (t : Subtree A h) → id_of A h t ≡ id → IsFocus A node_at [] root xs h c t
           → AreBelow cmp k (items_before c) → AreAbove cmp k (items_after c) → Hit id o
       at zero c t here w low high =
           let e2 : node_at t.0 ≡ Some v = rw here e in
@@ -125,29 +125,29 @@ module _ {K V : Type 0} (cmp : K → K → Ordering) (k : K) (laws : IsTotalOrde
           let up2 = items-rise V cmp (suc h) (parent_above c) t (hole-rises cmp k laws node_at root xs up (suc h) c t w) in
           let place2 : place_of cmp k ys ≡ Ok o = subst (λ u. place_of cmp k (items_of u) ≡ Ok o) (sym is) place in
           let r = searched cmp k laws ys (Ok o) up2 place2 in
-          let q = halves (λ (b : A × Shape A h). b.0) t.2 r.0 (r.1 ∷ r.2) (sym (view-items A h t.2) ∙ r.3) in
+          let q = map-parts (λ (b : A × Subtree A h). b.0) t.2 r.0 (r.1 ∷ r.2) (sym (view-items A h t.2) ∙ r.3) in
           subst (λ n. Hit n o) here
           (parts q.left q.right q.is q.first q.second (r.4) r.6
           (ap (λ z. slice_get z o) r.3 ∙ get-after r.0 r.1 r.2 o (sym r.4)) r.0 r.1 r.2)
         where
-          parts : (left right : List (A × Shape A h)) → t.2 ≡ left ++ right → {front : List A} {x : A} {back : List A}
-              → map {B = A} (λ (b : A × Shape A h). b.0) left ≡ front
-              → map {B = A} (λ (b : A × Shape A h). b.0) right ≡ x ∷ back → length front ≡ o → side cmp k x ≡ Equal
+          parts : (left right : List (A × Subtree A h)) → t.2 ≡ left ++ right → {front : List A} {x : A} {back : List A}
+              → map {B = A} (λ (b : A × Subtree A h). b.0) left ≡ front
+              → map {B = A} (λ (b : A × Subtree A h). b.0) right ≡ x ∷ back → length front ≡ o → side cmp k x ≡ Equal
               → slice_get (items_of (view_at A (suc h) (parent_above c) t)) o ≡ Some x
               → (f : List A) (y : A) (g : List A) → Hit t.0 o
           parts left [] is e1 e2 n l got f y g = absurd (cc)
           parts left (b ∷ right) is {front} {x} {back} e1 e2 n l got f y g =
               let e3 : b.0 ≡ x = cc in
               inner-hit h c t o w left b right is
-              (sym (length-map left (λ (b : A × Shape A h). b.0)) ∙ (ap length e1 ∙ n)) (ap (side cmp k) e3 ∙ l)
+              (sym (length-map left (λ (b : A × Subtree A h). b.0)) ∙ (ap length e1 ∙ n)) (ap (side cmp k) e3 ∙ l)
               (got ∙ ap Some (sym e3))
 
   pub search-miss : (id : ℕ) → IsSearching cmp k node_at root xs id → (p : Option ℕ) (ys : List A)
       → node_at id ≡ Some (leaf p ys) → (o : ℕ) → place_of cmp k ys ≡ Err o → Miss id o
-  search-miss id s p ys e o place = at s.node.seen.height s.node.seen.path s.node.seen.shape s.node.seen.here
-      s.node.seen.whole s.low s.high
+  search-miss id s p ys e o place = at s.node.focus.height s.node.focus.path s.node.focus.subtree s.node.focus.here
+      s.node.focus.whole s.low s.high
     where
-      at : (h : ℕ) (c : Path A h) (t : Shape A h) → id_of A h t ≡ id → IsFocus A node_at [] root xs h c t
+      at : (h : ℕ) (c : Path A h) (t : Subtree A h) → id_of A h t ≡ id → IsFocus A node_at [] root xs h c t
           → AreBelow cmp k (items_before c) → AreAbove cmp k (items_after c) → Miss id o
       at (suc h) c t here w low high =
           let d = w.inner.0 in let e2 : node_at t.0 ≡ Some (leaf p ys) = rw here e in absurd (cc)

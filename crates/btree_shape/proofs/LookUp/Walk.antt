@@ -3,7 +3,7 @@ use Rattle.std.proofs.Common.{◌≡◌, ℕ, zero, suc, ◌+◌, ◌<◌, List,
 use Rattle.std.specs.List.{flat_map, AllByRecursion}
 use Rattle.btree_view.specs.View.{leaf, internal, NodeMap}
 use Rattle.btree_shape.specs.Represents.{Represents, represented}
-use Rattle.btree_shape.specs.Focus.Left.{left_in, left_above, IsUnder, AreRows}
+use Rattle.btree_shape.specs.Focus.Remaining.{remaining_in, remaining_above, IsUnder, AreRows}
 use Rattle.btree_shape.proofs.Trees.Represented.{represented-is}
 
 -- the next item of a list, at an index
@@ -23,9 +23,9 @@ rest-none (x ∷ xs) (suc i) e = rest-none xs i e
 
 module _ {A : Type 0} (node_at : NodeMap A) (levels : ℕ) where
   -- of the rows, the last one added is passed first
-  pub left-push : (rows : List (List (A × ℕ))) (node_positions : List (A × ℕ)) → left_above node_at levels (rows ++ node_positions ∷ []) ≡ left_in node_at levels node_positions ++ left_above node_at levels rows
-  left-push [] node_positions = sym (append-nil (left_in node_at levels node_positions))
-  left-push (r ∷ rows) node_positions = ap (λ l. l ++ left_in node_at levels r) (left-push rows node_positions) ∙ append_assoc (left_in node_at levels node_positions) (left_above node_at levels rows) (left_in node_at levels r)
+  pub remaining-push : (rows : List (List (A × ℕ))) (node_positions : List (A × ℕ)) → remaining_above node_at levels (rows ++ node_positions ∷ []) ≡ remaining_in node_at levels node_positions ++ remaining_above node_at levels rows
+  remaining-push [] node_positions = sym (append-nil (remaining_in node_at levels node_positions))
+  remaining-push (r ∷ rows) node_positions = ap (λ l. l ++ remaining_in node_at levels r) (remaining-push rows node_positions) ∙ append_assoc (remaining_in node_at levels node_positions) (remaining_above node_at levels rows) (remaining_in node_at levels r)
 
   pub rows-push : (depth : ℕ) (rows : List (List (A × ℕ))) (node_positions : List (A × ℕ)) → AreRows node_at levels depth rows
       → AllByRecursion (λ (b : A × ℕ). IsUnder node_at levels (suc (depth + length rows)) b.1) node_positions → AreRows node_at levels depth (rows ++ node_positions ∷ [])
@@ -55,7 +55,7 @@ module _ {A : Type 0} (node_at : NodeMap A) (levels : ℕ) where
   pub record Inside (depth id first : ℕ) (node_positions : List (A × ℕ)) : Type 0 where
     pub first_under : IsUnder node_at levels (suc depth) first
     pub row_under : AllByRecursion (λ (b : A × ℕ). IsUnder node_at levels (suc depth) b.1) node_positions
-    pub list : represented node_at levels id ≡ represented node_at levels first ++ left_in node_at levels node_positions
+    pub list : represented node_at levels id ≡ represented node_at levels first ++ remaining_in node_at levels node_positions
 
   module _ (depth height id : ℕ) (low : height < levels) (room : suc depth + height < 32) where
     abbrev row_of : List (A × ℕ × List A) → List (A × ℕ)
@@ -65,7 +65,7 @@ module _ {A : Type 0} (node_at : NodeMap A) (levels : ℕ) where
     node_positions-under [] all = tt
     node_positions-under (r ∷ rest) all = (record { height = height; parent = Some id; list = r.2; represents = all.0; low = low; room = room }, node_positions-under rest all.1)
 
-    node_positions-left : (rest : List (A × ℕ × List A)) → AllByRecursion (λ r. Represents node_at height (Some id) r.1 r.2) rest → left_in node_at levels (row_of rest) ≡ flat_map (λ r. r.0 ∷ r.2) rest
+    node_positions-left : (rest : List (A × ℕ × List A)) → AllByRecursion (λ r. Represents node_at height (Some id) r.1 r.2) rest → remaining_in node_at levels (row_of rest) ≡ flat_map (λ r. r.0 ∷ r.2) rest
     node_positions-left [] all = refl
     node_positions-left (r ∷ rest) all =
         let here = represented-is node_at height levels (Some id) r.1 r.2 (omega arith) all.0 in

@@ -4,7 +4,7 @@ use Rattle.std.specs.Prelude.{slice_get}
 use Rattle.btree_item.specs.declared.address.Address.{Address}
 use Rattle.btree_view.specs.View.{NodeMap, View, children_in, children_of}
 use Rattle.btree_shape.specs.Addresses.{slot_before}
-use Rattle.btree_shape.specs.Focus.Shape.{Shape, id_of, view_at}
+use Rattle.btree_shape.specs.Focus.Subtree.{Subtree, id_of, view_at}
 use Rattle.btree_shape.specs.Focus.Positions.{Position, branch_key, branch_positions, branches_after, address_before, mark, over, address_at, positions_to, positions, positions_after, positions_before}
 use Rattle.btree_shape.specs.Focus.Path.{Path, Frame, at_branch, at_first, frame_count, frame_id, frame_index, parent_above, under}
 use Rattle.btree_shape.specs.WellFormed.{IsRooted, times_used}
@@ -14,7 +14,7 @@ use Rattle.btree_shape.proofs.LookUp.Descent.{child-numbers}
 use Rattle.btree_shape.proofs.Paths.Frames.{top-view}
 use Rattle.btree_shape.proofs.AddressLists.Kept.{kept, kept-append, put}
 use Rattle.btree_shape.proofs.Paths.FromRoot.{node-rooted}
-use Rattle.btree_shape.proofs.Paths.UnsizedFocus.{stand-down}
+use Rattle.btree_shape.proofs.Paths.UnsizedFocus.{unsized-down}
 use Rattle.btree_shape.proofs.AddressLists.Ends.{Begins, Ends, ends-more, node_positions-begins, node_positions-begins-front}
 
 -- a list around an index
@@ -46,35 +46,35 @@ module _ (A : Type 0) (node_at : NodeMap A) (root : ℕ) (xs : List A) where
     pub height : ℕ
     pub frame : Frame A height
     pub path : Path A (suc height)
-    pub shape : Shape A height
-    pub stands : IsUnsizedFocus A node_at [] root xs height (under frame path) shape
-    pub here : id_of A height shape ≡ child
+    pub subtree : Subtree A height
+    pub focused : IsUnsizedFocus A node_at [] root xs height (under frame path) subtree
+    pub here : id_of A height subtree ≡ child
     pub above : frame_id frame ≡ id
     pub at : frame_index frame ≡ index
 
-  at-index : (h : ℕ) (c : Path A (suc h)) (t : Shape A (suc h)) → IsUnsizedFocus A node_at [] root xs (suc h) c t → (index child : ℕ)
-      → slice_get (id_of A h t.1 ∷ map {B = ℕ} (λ (b : A × Shape A h). id_of A h b.1) t.2) index ≡ Some child
+  at-index : (h : ℕ) (c : Path A (suc h)) (t : Subtree A (suc h)) → IsUnsizedFocus A node_at [] root xs (suc h) c t → (index child : ℕ)
+      → slice_get (id_of A h t.1 ∷ map {B = ℕ} (λ (b : A × Subtree A h). id_of A h b.1) t.2) index ≡ Some child
       → ChildAt t.0 index child
   at-index h c t w zero child e =
       record {
         height = h;
         frame = at_first t.0 t.2;
         path = c;
-        shape = t.1;
-        stands = stand-down A node_at [] root xs h (at_first t.0 t.2) c t.1 w;
+        subtree = t.1;
+        focused = unsized-down A node_at [] root xs h (at_first t.0 t.2) c t.1 w;
         here = cc;
         above = refl;
         at = refl;
       }
   at-index h c t w (suc index) child e =
-      let r = cut (λ (b : A × Shape A h). id_of A h b.1) t.2 index child e in
+      let r = cut (λ (b : A × Subtree A h). id_of A h b.1) t.2 index child e in
       record {
         height = h;
         frame = at_branch t.0 t.1 r.front r.found.0 r.back;
         path = c;
-        shape = r.found.1;
-        stands = stand-down A node_at [] root xs h (at_branch t.0 t.1 r.front r.found.0 r.back) c r.found.1
-            (subst (λ (bs : List (A × Shape A h)). IsUnsizedFocus A node_at [] root xs (suc h) c (t.0, t.1, bs)) r.is w);
+        subtree = r.found.1;
+        focused = unsized-down A node_at [] root xs h (at_branch t.0 t.1 r.front r.found.0 r.back) c r.found.1
+            (subst (λ (bs : List (A × Subtree A h)). IsUnsizedFocus A node_at [] root xs (suc h) c (t.0, t.1, bs)) r.is w);
         here = r.named;
         above = refl;
         at = let l = r.at in omega arith;
@@ -84,27 +84,27 @@ module _ (A : Type 0) (node_at : NodeMap A) (root : ℕ) (xs : List A) where
   children-used None index child e = absurd (cc)
   children-used (Some v) index child e = omega arith
 
-  seen-child : (h : ℕ) (c : Path A h) (t : Shape A h) → IsUnsizedFocus A node_at [] root xs h c t → (index child : ℕ)
+  focus-child : (h : ℕ) (c : Path A h) (t : Subtree A h) → IsUnsizedFocus A node_at [] root xs h c t → (index child : ℕ)
       → slice_get (children_of (view_at A h (parent_above c) t)) index ≡ Some child → ChildAt (id_of A h t) index child
-  seen-child zero c t w index child e = absurd (cc)
-  seen-child (suc h) c t w index child e =
+  focus-child zero c t w index child e = absurd (cc)
+  focus-child (suc h) c t w index child e =
       at-index h c t w index child (ap (λ l. slice_get (id_of A h t.1 ∷ l) index) (sym (child-numbers A h t.2)) ∙ e)
 
   pub child-at : (is_right : (id : ℕ) → View A → Type 0) → IsRooted is_right node_at root xs → (id index child : ℕ)
       → slice_get (children_in (node_at id)) index ≡ Some child → ChildAt id index child
   child-at is_right r id index child e =
       let n = node-rooted A node_at is_right root xs r id (children-used (node_at id) index child e) in
-      let v : node_at id ≡ Some (view_at A n.height (parent_above n.path) n.shape) =
-      subst (λ i. node_at i ≡ Some (view_at A n.height (parent_above n.path) n.shape)) n.here
-      (top-view A node_at n.height (parent_above n.path) n.shape n.stands.inner) in
+      let v : node_at id ≡ Some (view_at A n.height (parent_above n.path) n.subtree) =
+      subst (λ i. node_at i ≡ Some (view_at A n.height (parent_above n.path) n.subtree)) n.here
+      (top-view A node_at n.height (parent_above n.path) n.subtree n.focused.inner) in
       subst (λ i. ChildAt i index child) n.here
-      (seen-child n.height n.path n.shape n.stands index child
+      (focus-child n.height n.path n.subtree n.focused index child
       (subst (λ w. slice_get (children_in w) index ≡ Some child) v e))
 
 module _ (A : Type 0) where
   -- before a child, the node's item before it is kept, or its -1
-  last-before : (keep : Address → Option A → Bool) (h n : ℕ) → ((o : ℕ) (x : A) → keep (address_at n o) (Some x) ≡ true) → (first : Shape A h)
-      (front : List (A × Shape A h)) (x : A) (back : List (A × Shape A h))
+  last-before : (keep : Address → Option A → Bool) (h n : ℕ) → ((o : ℕ) (x : A) → keep (address_at n o) (Some x) ≡ true) → (first : Subtree A h)
+      (front : List (A × Subtree A h)) (x : A) (back : List (A × Subtree A h))
       → Ends (address_at n (length front)) (kept keep (positions_before A (at_branch n first front x back)))
   last-before keep h n each first front x back =
       let end : List (Position A) = mark (address_at n (length front)) (Some x) ∷ over ∷ [] in

@@ -1,7 +1,7 @@
 -- The focus moves from a node to its parent and to a child: the tree stays the same.
 use Rattle.std.proofs.Common.{◌≡◌, ◌++◌, ◌∷◌, [], ◌∙◌, ℕ, suc, List, sym, ap, subst, arith, append_assoc, append-nil}
 use Rattle.btree_view.specs.View.{NodeMap}
-use Rattle.btree_shape.specs.Focus.Shape.{IsFilled, IsFilledBelow, Shape, count_at, items_under}
+use Rattle.btree_shape.specs.Focus.Subtree.{IsFilled, IsFilledBelow, Subtree, count_at, items_under}
 use Rattle.btree_shape.specs.Focus.Path.{Path, Frame, HoldsAbove, SiblingsFilled, after_in, at_branch, at_first, before_in, fill, frame_count, items_after, items_before, least_at, parent_above, root_above, top, under}
 use Rattle.btree_shape.specs.Focus.Focus.{IsTree, IsFocus}
 use Rattle.btree_shape.proofs.Paths.Frames.{AllByRecursion-left, AllByRecursion-right, fill-count, fill-filled, fill-holds, fill-id, fill-items, fill-times, open-holds}
@@ -12,7 +12,7 @@ module _ (A : Type 0) where
 
   module _ (node_at : NodeMap A) (spare : List ℕ) (root : ℕ) (xs : List A) where
     -- up to the parent
-    pub close : (h : ℕ) (f : Frame A h) (c : Path A (suc h)) (t : Shape A h)
+    pub close : (h : ℕ) (f : Frame A h) (c : Path A (suc h)) (t : Subtree A h)
         → IsFocus A node_at spare root xs h (under f c) t → IsFilled 3 h (count_at A h t)
         → IsFocus A node_at spare root xs (suc h) c (fill f t)
     close h f c t w z =
@@ -27,15 +27,15 @@ module _ (A : Type 0) where
           root_is = ap (root_above c) (fill-id A h f t) ∙ w.root_is;
         }
 
-    pub record Below (h : ℕ) (f : Frame A h) (t : Shape A h) : Type 0 where
+    pub record Below (h : ℕ) (f : Frame A h) (t : Subtree A h) : Type 0 where
       pub siblings : SiblingsFilled f
       pub sized : IsFilled 3 h (count_at A h t)
       pub inner : IsFilledBelow A h t
 
-    open-filled : (h : ℕ) (f : Frame A h) (t : Shape A h) → IsFilledBelow A (suc h) (fill f t) → Below h f t
+    open-filled : (h : ℕ) (f : Frame A h) (t : Subtree A h) → IsFilledBelow A (suc h) (fill f t) → Below h f t
     open-filled h (at_first i back) t b = record { siblings = b.2; sized = b.0; inner = b.1 }
     open-filled h (at_branch i first front x back) t b =
-        let P : A × Shape A h → Type 0 = λ b. IsFilled 3 h (count_at A h b.1) × IsFilledBelow A h b.1 in
+        let P : A × Subtree A h → Type 0 = λ b. IsFilled 3 h (count_at A h b.1) × IsFilledBelow A h b.1 in
         let r = AllByRecursion-right P front ((x, t) ∷ back) b.2 in
         record {
           siblings = (b.0, b.1, AllByRecursion-left P front ((x, t) ∷ back) b.2, r.1);
@@ -45,7 +45,7 @@ module _ (A : Type 0) where
         }
 
     -- down to a child
-    pub descend : (h : ℕ) (f : Frame A h) (c : Path A (suc h)) (t : Shape A h)
+    pub descend : (h : ℕ) (f : Frame A h) (c : Path A (suc h)) (t : Subtree A h)
         → IsFocus A node_at spare root xs (suc h) c (fill f t)
         → IsFilled (least_at c) (suc h) (count_at A (suc h) (fill f t))
         → IsFocus A node_at spare root xs h (under f c) t × IsFilled 3 h (count_at A h t)
@@ -55,7 +55,7 @@ module _ (A : Type 0) where
         let z' : IsFilled (least_at c) (suc h) (frame_count f) =
         subst (λ n. IsFilled (least_at c) (suc h) n) (fill-count A h f t) z in (
           record {
-            above = (o.node, o.beside, subst (λ i. HoldsAbove node_at c i) (fill-id A h f t) w.above);
+            above = (o.node, o.siblings, subst (λ i. HoldsAbove node_at c i) (fill-id A h f t) w.above);
             inner = o.inner;
             once = λ n. omega (arith, w.once n, fill-times A h n f t);
             filled = (z', b.siblings, w.filled);
@@ -68,7 +68,7 @@ module _ (A : Type 0) where
         )
 
   module _ (node_at : NodeMap A) (root : ℕ) (xs : List A) where
-    pub from-tree : (t : IsTree A node_at root xs) → IsFocus A node_at [] root xs t.height top t.shape
+    pub from-tree : (t : IsTree A node_at root xs) → IsFocus A node_at [] root xs t.height top t.subtree
     from-tree t =
         record {
           above = tt;
@@ -76,6 +76,6 @@ module _ (A : Type 0) where
           once = λ n. omega (arith, t.once n);
           filled = tt;
           below = t.below;
-          list = sym t.represents ∙ sym (append-nil (items_under A t.height t.shape));
+          list = sym t.represents ∙ sym (append-nil (items_under A t.height t.subtree));
           root_is = t.at_root;
         }

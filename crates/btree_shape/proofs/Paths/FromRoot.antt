@@ -2,40 +2,40 @@
 use Rattle.std.proofs.Common.{◌≡◌, ◌≢◌, ◌<◌, ◌≤◌, [], ◌∙◌, ◌+◌, ℕ, suc, inl, inr, List, Some, None, refl, sym, ap, subst, arith, append-nil}
 use Rattle.std.proofs.lemmas.Bool.Decides.{nat_tests}
 use Rattle.btree_view.specs.View.{NodeMap, View, most_of, size_of}
-use Rattle.btree_shape.specs.Focus.Node.{IsNode, IsOddNode}
+use Rattle.btree_shape.specs.Focus.Node.{IsNode, IsExemptNode}
 use Rattle.btree_shape.specs.Lists.{one, times_listed}
-use Rattle.btree_shape.specs.Focus.Shape.{Holds, IsFilled, IsFilledBelow, Shape, count_at, id_of, items_under, most_at, times_under, view_at}
+use Rattle.btree_shape.specs.Focus.Subtree.{Holds, IsFilled, IsFilledBelow, Subtree, count_at, id_of, items_under, most_at, times_under, view_at}
 use Rattle.btree_shape.specs.Represents.{Represents, numbers_under}
-use Rattle.btree_shape.specs.Focus.Path.{Path, AreFilled, Frame, HoldsAbove, frame_id, frame_view, least_at, parent_above, root_above, times_above, times_beside, top, under}
-use Rattle.btree_shape.specs.WellFormed.{IsNearlySized, IsRooted, IsSized, excess_beside, least_beside, least_of, times_used}
+use Rattle.btree_shape.specs.Focus.Path.{Path, AreFilled, Frame, HoldsAbove, frame_id, frame_view, least_at, parent_above, root_above, times_above, times_in_siblings, top, under}
+use Rattle.btree_shape.specs.WellFormed.{IsNearlySized, IsRooted, IsSized, excess_allowed, least_allowed, least_of, times_used}
 use Rattle.btree_shape.specs.Focus.Focus.{IsUnsizedFocus, IsTree, IsFocus}
 use Rattle.btree_shape.proofs.Paths.Frames.{one-other, one-self, one-zero, times_in-is, top-view}
-use Rattle.btree_shape.proofs.Trees.Numbers.{numbers-shape, same-or, times-has, used-low, used-one, zero-or}
+use Rattle.btree_shape.proofs.Trees.Numbers.{numbers-subtree, same-or, times-has, used-low, used-one, zero-or}
 use Rattle.btree_shape.proofs.Trees.Sizes.{above-sized, below-filled, below-middle, frame-most, frame-size, frames-filled, least-low, least-other, least-root, root-there, view-most, view-size}
-use Rattle.btree_shape.proofs.Trees.Shapes.{shape-of, represents-of}
-use Rattle.btree_shape.proofs.Paths.UnsizedFocus.{AtNode, AtRoot, stand-at, stand-root, standing-whole, whole-standing}
-use Rattle.btree_shape.proofs.Trees.Subtrees.{stands}
+use Rattle.btree_shape.proofs.Trees.Subtrees.{subtree-of, represents-of}
+use Rattle.btree_shape.proofs.Paths.UnsizedFocus.{AtNode, AtRoot, unsized-at, unsized-root, unsized-focus, focus-unsized}
+use Rattle.btree_shape.proofs.Trees.SubtreePlaces.{focused}
 
-module _ (root odd : ℕ) where
+module _ (root exempt : ℕ) where
   -- the bounds if one node may be off by one
-  least-odd : (id : ℕ) → id ≡ odd → suc (least_beside root odd id) ≡ least_of root odd
-  least-odd id e = elim (same-or odd root) [ inl s ↦ grind (arith, nat_tests) | inr s ↦ grind (arith, nat_tests) ]
+  least-exempt : (id : ℕ) → id ≡ exempt → suc (least_allowed root exempt id) ≡ least_of root exempt
+  least-exempt id e = elim (same-or exempt root) [ inl s ↦ grind (arith, nat_tests) | inr s ↦ grind (arith, nat_tests) ]
 
-  module _ {A : Type 0} (id : ℕ) (v : View A) (away : id ≢ odd) where
-    is-away : least_beside root odd id ≡ least_of root id
+  module _ {A : Type 0} (id : ℕ) (v : View A) (away : id ≢ exempt) where
+    is-away : least_allowed root exempt id ≡ least_of root id
     is-away = grind (arith, nat_tests)
 
-    no-more : excess_beside odd id ≡ 0
+    no-more : excess_allowed exempt id ≡ 0
     no-more = grind (arith, nat_tests)
 
-    nearly-sized : IsNearlySized root odd id v → IsSized root id v
+    nearly-sized : IsNearlySized root exempt id v → IsSized root id v
     nearly-sized z = let a = is-away in let b = no-more in let z0 = z.0 in let z1 = z.1 in (omega arith, omega arith)
 
-    sized-nearly : IsSized root id v → IsNearlySized root odd id v
+    sized-nearly : IsSized root id v → IsNearlySized root exempt id v
     sized-nearly z = let a = is-away in let b = no-more in let z0 = z.0 in let z1 = z.1 in (omega arith, omega arith)
 
-excess-odd : (odd id : ℕ) → id ≡ odd → excess_beside odd id ≡ 1
-excess-odd odd id e = grind (arith, nat_tests)
+excess-exempt : (exempt id : ℕ) → id ≡ exempt → excess_allowed exempt id ≡ 1
+excess-exempt exempt id e = grind (arith, nat_tests)
 
 module _ (A : Type 0) (node_at : NodeMap A) where
   -- each node of the path, and below its other children, has its number of items, if each used number's node has it
@@ -57,7 +57,7 @@ module _ (A : Type 0) (node_at : NodeMap A) where
         frames-filled A node_at h f d.1 (λ n q v e.
             let k = root-there A (suc h) c (frame_id f) in
             let away : n ≢ r = λ same.
-            let q2 : 0 < times_beside r f = subst (λ m. 0 < times_beside m f) same q in
+            let q2 : 0 < times_in_siblings r f = subst (λ m. 0 < times_in_siblings m f) same q in
             let u = times_in-is A h r f in let p = o r in omega arith in
             let y = z n v (let u = times_in-is A h n f in omega arith) e in
             let y0 = y.0 in
@@ -80,59 +80,59 @@ module _ (A : Type 0) (node_at : NodeMap A) where
 
   -- the public definition, from a focus at any node
   module _ (is_right : (id : ℕ) → View A → Type 0) (root : ℕ) (xs : List A) where
-    pub rooted-standing : (h : ℕ) (c : Path A h) (t : Shape A h) → IsUnsizedFocus A node_at [] root xs h c t
+    pub rooted-unsized : (h : ℕ) (c : Path A h) (t : Subtree A h) → IsUnsizedFocus A node_at [] root xs h c t
         → ((n : ℕ) (v : View A) → node_at n ≡ Some v → is_right n v) → IsRooted is_right node_at root xs
-    rooted-standing h c t s z =
-        let r = stand-root A node_at [] root xs h c t s in
-        let list : xs ≡ items_under A r.height r.shape = r.stands.list ∙ append-nil (items_under A r.height r.shape) in
-        let top = r.stands.root_is in
+    rooted-unsized h c t s z =
+        let r = unsized-root A node_at [] root xs h c t s in
+        let list : xs ≡ items_under A r.height r.subtree = r.focused.list ∙ append-nil (items_under A r.height r.subtree) in
+        let top = r.focused.root_is in
         record {
           height = r.height;
           represents = subst (λ i. Represents node_at r.height None i xs) top
-              (subst (λ ys. Represents node_at r.height None (id_of A r.height r.shape) ys) (sym list)
-              (represents-of A node_at r.height None r.shape r.stands.inner));
+              (subst (λ ys. Represents node_at r.height None (id_of A r.height r.subtree) ys) (sym list)
+              (represents-of A node_at r.height None r.subtree r.focused.inner));
           sized = z;
           once = λ n.
               let b =
-              subst (λ i. times_listed n (numbers_under node_at r.height i) ≡ times_under A r.height n r.shape) top
-              (numbers-shape A node_at n r.height None r.shape r.stands.inner) in
-              let o = r.stands.once n in
+              subst (λ i. times_listed n (numbers_under node_at r.height i) ≡ times_under A r.height n r.subtree) top
+              (numbers-subtree A node_at n r.height None r.subtree r.focused.inner) in
+              let o = r.focused.once n in
               omega arith;
         }
 
     -- and the converse
-    pub standing-rooted : IsRooted is_right node_at root xs → AtRoot A node_at [] root xs
-    standing-rooted r =
-        let s = shape-of A node_at r.height None root xs r.represents in
+    pub unsized-rooted : IsRooted is_right node_at root xs → AtRoot A node_at [] root xs
+    unsized-rooted r =
+        let s = subtree-of A node_at r.height None root xs r.represents in
         record {
           height = r.height;
-          shape = s.shape;
-          stands = record {
+          subtree = s.subtree;
+          focused = record {
             above = tt;
             inner = s.holds;
             once = λ n.
                 let b =
-                subst (λ i. times_listed n (numbers_under node_at r.height i) ≡ times_under A r.height n s.shape) s.here
-                (numbers-shape A node_at n r.height None s.shape s.holds) in
+                subst (λ i. times_listed n (numbers_under node_at r.height i) ≡ times_under A r.height n s.subtree) s.here
+                (numbers-subtree A node_at n r.height None s.subtree s.holds) in
                 let o = r.once n in
                 omega arith;
-            list = sym s.list ∙ sym (append-nil (items_under A r.height s.shape));
+            list = sym s.list ∙ sym (append-nil (items_under A r.height s.subtree));
             root_is = s.here;
           };
         }
 
     pub node-rooted : IsRooted is_right node_at root xs → (id : ℕ) → 0 < times_used (node_at id) → AtNode A node_at [] root xs id
     node-rooted r id u =
-        let s = standing-rooted r in
-        stand-at A node_at [] root xs id s.height top s.shape s.stands (let o = s.stands.once id in omega arith)
+        let s = unsized-rooted r in
+        unsized-at A node_at [] root xs id s.height top s.subtree s.focused (let o = s.focused.once id in omega arith)
 
     -- if each node but this one has its number of items, there is a focus at it
     pub whole-node : (id : ℕ) (s : AtNode A node_at [] root xs id)
         → ((n : ℕ) (v : View A) → n ≢ id → node_at n ≡ Some v → IsSized root n v)
-        → IsFocus A node_at [] root xs s.height s.path s.shape
-    whole-node id s z = at s.height s.path s.shape s.here s.stands
+        → IsFocus A node_at [] root xs s.height s.path s.subtree
+    whole-node id s z = at s.height s.path s.subtree s.here s.focused
       where
-        at : (h : ℕ) (c : Path A h) (t : Shape A h) → id_of A h t ≡ id → IsUnsizedFocus A node_at [] root xs h c t
+        at : (h : ℕ) (c : Path A h) (t : Subtree A h) → id_of A h t ≡ id → IsUnsizedFocus A node_at [] root xs h c t
             → IsFocus A node_at [] root xs h c t
         at h c t here w =
             let sum : (n : ℕ) → times_above n c + times_under A h n t ≤ 1 = λ n. let o = w.once n in
@@ -142,7 +142,7 @@ module _ (A : Type 0) (node_at : NodeMap A) where
             let r-is = w.root_is in
             let z2 : (n : ℕ) (v : View A) → n ≢ id_of A h t → node_at n ≡ Some v → IsSized root n v =
             λ n v ne e. z n v (λ s. ne (s ∙ sym here)) e in
-            standing-whole A node_at [] root xs h c t w
+            unsized-focus A node_at [] root xs h c t w
             (above-filled h c (id_of A h t) w.above
             (λ n v q e. subst (λ m. IsSized m n v) (sym r-is)
             (z2 n v (λ s. let a = sum n in let b = topone n in let k : one n (id_of A h t) ≡ 1 =
@@ -165,7 +165,7 @@ module _ (A : Type 0) (node_at : NodeMap A) where
 
   module _ (root : ℕ) (xs : List A) where
     -- each node but the one at the hole has its number of items
-    pub whole-sized : (h : ℕ) (c : Path A h) (t : Shape A h) → IsFocus A node_at [] root xs h c t → (n : ℕ) (v : View A)
+    pub whole-sized : (h : ℕ) (c : Path A h) (t : Subtree A h) → IsFocus A node_at [] root xs h c t → (n : ℕ) (v : View A)
         → n ≢ id_of A h t → node_at n ≡ Some v → IsSized root n v
     whole-sized h c t w n v ne e =
         let o = w.once n in
@@ -183,7 +183,7 @@ module _ (A : Type 0) (node_at : NodeMap A) where
         ]
 
     -- and that one has as many items as its shape
-    pub top-counts : (h : ℕ) (c : Path A h) (t : Shape A h) → IsFocus A node_at [] root xs h c t → (n : ℕ) (v : View A)
+    pub top-counts : (h : ℕ) (c : Path A h) (t : Subtree A h) → IsFocus A node_at [] root xs h c t → (n : ℕ) (v : View A)
         → n ≡ id_of A h t → node_at n ≡ Some v
         → (size_of v ≡ count_at A h t) × (most_of v ≡ most_at h)
     top-counts h c t w n v same e =
@@ -192,7 +192,7 @@ module _ (A : Type 0) (node_at : NodeMap A) where
         let is : v ≡ view_at A h (parent_above c) t = cc in
         (ap size_of is ∙ view-size A h (parent_above c) t, ap most_of is ∙ view-most A h (parent_above c) t)
 
-    pub under-apart : (h : ℕ) (f : Frame A h) (c : Path A (suc h)) (t : Shape A h)
+    pub under-apart : (h : ℕ) (f : Frame A h) (c : Path A (suc h)) (t : Subtree A h)
         → IsFocus A node_at [] root xs h (under f c) t → id_of A h t ≢ root
     under-apart h f c t w same =
         let k = root-there A (suc h) c (frame_id f) in
@@ -206,7 +206,7 @@ module _ (A : Type 0) (node_at : NodeMap A) where
         omega arith
 
     -- no node is above the root, and no other node is the root
-    pub least-top : (h : ℕ) (c : Path A h) (t : Shape A h) → IsFocus A node_at [] root xs h c t → (n : ℕ)
+    pub least-top : (h : ℕ) (c : Path A h) (t : Subtree A h) → IsFocus A node_at [] root xs h c t → (n : ℕ)
         → n ≡ id_of A h t → least_of root n ≡ least_at c
     least-top h top t w n same = least-root root n (same ∙ w.root_is)
     least-top h (under f c) t w n same = least-other root n (λ e. under-apart h f c t w (sym same ∙ e))
@@ -217,11 +217,11 @@ module _ (A : Type 0) (node_at : NodeMap A) where
         let s = node-rooted (IsSized root) root xs r id u in
         let w = whole-node (IsSized root) root xs id s (λ n v ne e. r.sized n v e) in
         record {
-          seen = record { height = s.height; path = s.path; shape = s.shape; here = s.here; whole = w };
-          sized = at s.height s.path s.shape w;
+          focus = record { height = s.height; path = s.path; subtree = s.subtree; here = s.here; whole = w };
+          sized = at s.height s.path s.subtree w;
         }
       where
-        at : (h : ℕ) (c : Path A h) (t : Shape A h) → IsFocus A node_at [] root xs h c t
+        at : (h : ℕ) (c : Path A h) (t : Subtree A h) → IsFocus A node_at [] root xs h c t
             → IsFilled (least_at c) h (count_at A h t)
         at h c t w =
             let v = top-view A node_at h (parent_above c) t w.inner in
@@ -236,11 +236,11 @@ module _ (A : Type 0) (node_at : NodeMap A) where
     -- and the converse
     pub rooted-node : (id : ℕ) → IsNode A node_at root xs id → IsRooted (IsSized root) node_at root xs
     rooted-node id n =
-        rooted-standing (IsSized root) root xs n.seen.height n.seen.path n.seen.shape
-        (whole-standing A node_at [] root xs n.seen.height n.seen.path n.seen.shape n.seen.whole)
-        (at n.seen.height n.seen.path n.seen.shape n.seen.whole n.sized)
+        rooted-unsized (IsSized root) root xs n.focus.height n.focus.path n.focus.subtree
+        (focus-unsized A node_at [] root xs n.focus.height n.focus.path n.focus.subtree n.focus.whole)
+        (at n.focus.height n.focus.path n.focus.subtree n.focus.whole n.sized)
       where
-        at : (h : ℕ) (c : Path A h) (t : Shape A h) → IsFocus A node_at [] root xs h c t
+        at : (h : ℕ) (c : Path A h) (t : Subtree A h) → IsFocus A node_at [] root xs h c t
             → IsFilled (least_at c) h (count_at A h t) → (k : ℕ) (v : View A) → node_at k ≡ Some v → IsSized root k v
         at h c t w z k v e = elim (same-or k (id_of A h t)) [
           | inl same ↦
@@ -255,20 +255,20 @@ module _ (A : Type 0) (node_at : NodeMap A) where
         ]
 
     -- a tree that is off by one at a node has a focus at that node
-    pub odd-at : (odd : ℕ) → IsRooted (IsNearlySized root odd) node_at root xs → 0 < times_used (node_at odd)
-        → IsOddNode A node_at root xs odd
-    odd-at odd r u =
-        let s = node-rooted (IsNearlySized root odd) root xs r odd u in
+    pub off-at : (exempt : ℕ) → IsRooted (IsNearlySized root exempt) node_at root xs → 0 < times_used (node_at exempt)
+        → IsExemptNode A node_at root xs exempt
+    off-at exempt r u =
+        let s = node-rooted (IsNearlySized root exempt) root xs r exempt u in
         let w =
-        whole-node (IsNearlySized root odd) root xs odd s (λ n v ne e. nearly-sized root odd n v ne (r.sized n v e)) in
-        let b = at s.height s.path s.shape s.here w in
+        whole-node (IsNearlySized root exempt) root xs exempt s (λ n v ne e. nearly-sized root exempt n v ne (r.sized n v e)) in
+        let b = at s.height s.path s.subtree s.here w in
         record {
-          seen = record { height = s.height; path = s.path; shape = s.shape; here = s.here; whole = w };
+          focus = record { height = s.height; path = s.path; subtree = s.subtree; here = s.here; whole = w };
           low = b.0;
           high = b.1;
         }
       where
-        at : (h : ℕ) (c : Path A h) (t : Shape A h) → id_of A h t ≡ odd → IsFocus A node_at [] root xs h c t
+        at : (h : ℕ) (c : Path A h) (t : Subtree A h) → id_of A h t ≡ exempt → IsFocus A node_at [] root xs h c t
             → (least_at c ≤ suc (count_at A h t)) × (count_at A h t ≤ suc (most_at h))
         at h c t here w =
             let v = top-view A node_at h (parent_above c) t w.inner in
@@ -277,58 +277,58 @@ module _ (A : Type 0) (node_at : NodeMap A) where
             let l = view-most A h (parent_above c) t in
             let z0 = z.0 in
             let z1 = z.1 in
-            let y = least-odd root odd (id_of A h t) here in
-            let x = excess-odd odd (id_of A h t) here in
+            let y = least-exempt root exempt (id_of A h t) here in
+            let x = excess-exempt exempt (id_of A h t) here in
             let q = least-top h c t w (id_of A h t) refl in
-            let p : least_of root odd ≡ least_at c = subst (λ m. least_of root m ≡ least_at c) here q in
+            let p : least_of root exempt ≡ least_at c = subst (λ m. least_of root m ≡ least_at c) here q in
             (omega arith, omega arith)
 
     -- and the converse
-    pub rooted-odd : (odd : ℕ) → IsOddNode A node_at root xs odd → IsRooted (IsNearlySized root odd) node_at root xs
-    rooted-odd odd n =
-        rooted-standing (IsNearlySized root odd) root xs n.seen.height n.seen.path n.seen.shape
-        (whole-standing A node_at [] root xs n.seen.height n.seen.path n.seen.shape n.seen.whole)
-        (at n.seen.height n.seen.path n.seen.shape n.seen.here n.seen.whole n.low n.high)
+    pub rooted-off : (exempt : ℕ) → IsExemptNode A node_at root xs exempt → IsRooted (IsNearlySized root exempt) node_at root xs
+    rooted-off exempt n =
+        rooted-unsized (IsNearlySized root exempt) root xs n.focus.height n.focus.path n.focus.subtree
+        (focus-unsized A node_at [] root xs n.focus.height n.focus.path n.focus.subtree n.focus.whole)
+        (at n.focus.height n.focus.path n.focus.subtree n.focus.here n.focus.whole n.low n.high)
       where
-        at : (h : ℕ) (c : Path A h) (t : Shape A h) → id_of A h t ≡ odd → IsFocus A node_at [] root xs h c t
+        at : (h : ℕ) (c : Path A h) (t : Subtree A h) → id_of A h t ≡ exempt → IsFocus A node_at [] root xs h c t
             → least_at c ≤ suc (count_at A h t) → count_at A h t ≤ suc (most_at h)
-            → (k : ℕ) (v : View A) → node_at k ≡ Some v → IsNearlySized root odd k v
+            → (k : ℕ) (v : View A) → node_at k ≡ Some v → IsNearlySized root exempt k v
         at h c t here w low high k v e = elim (same-or k (id_of A h t)) [
           | inl same ↦
               let m = top-counts h c t w k v same e in
               let m0 = m.0 in
               let m1 = m.1 in
-              let y = least-odd root odd k (same ∙ here) in
-              let x = excess-odd odd k (same ∙ here) in
+              let y = least-exempt root exempt k (same ∙ here) in
+              let x = excess-exempt exempt k (same ∙ here) in
               let q = least-top h c t w (id_of A h t) refl in
-              let p : least_of root odd ≡ least_at c = subst (λ m. least_of root m ≡ least_at c) here q in
+              let p : least_of root exempt ≡ least_at c = subst (λ m. least_of root m ≡ least_at c) here q in
               (omega arith, omega arith)
-          | inr ne ↦ sized-nearly root odd k v (λ s. ne (s ∙ sym here)) (whole-sized h c t w k v ne e)
+          | inr ne ↦ sized-nearly root exempt k v (λ s. ne (s ∙ sym here)) (whole-sized h c t w k v ne e)
         ]
 
     -- the whole tree with its focus at the root, which is `height` levels above the leaves
     pub record HasShape (height : ℕ) : Type 0 where
-      pub shape : Shape A height
-      pub at_root : id_of A height shape ≡ root
-      pub holds : Holds A node_at height None shape
-      pub once : (n : ℕ) → times_under A height n shape ≡ times_used (node_at n)
-      pub sized : IsFilled 1 height (count_at A height shape)
-      pub below : IsFilledBelow A height shape
-      pub represents : items_under A height shape ≡ xs
+      pub subtree : Subtree A height
+      pub at_root : id_of A height subtree ≡ root
+      pub holds : Holds A node_at height None subtree
+      pub once : (n : ℕ) → times_under A height n subtree ≡ times_used (node_at n)
+      pub sized : IsFilled 1 height (count_at A height subtree)
+      pub below : IsFilledBelow A height subtree
+      pub represents : items_under A height subtree ≡ xs
 
-    pub rooted-shape : (r : IsRooted (IsSized root) node_at root xs) → HasShape r.height
-    unfolding standing-rooted
-    rooted-shape r = at r.height s.shape s.stands
+    pub rooted-subtree : (r : IsRooted (IsSized root) node_at root xs) → HasShape r.height
+    unfolding unsized-rooted
+    rooted-subtree r = at r.height s.subtree s.focused
         (whole-node (IsSized root) root xs root
-        (record { height = s.height; path = top; shape = s.shape; here = s.stands.root_is; stands = s.stands })
+        (record { height = s.height; path = top; subtree = s.subtree; here = s.focused.root_is; focused = s.focused })
         (λ n v ne e. r.sized n v e))
       where
         s : AtRoot A node_at [] root xs
-        s = standing-rooted (IsSized root) root xs r
+        s = unsized-rooted (IsSized root) root xs r
 
-        at : (h : ℕ) (t : Shape A h) → IsUnsizedFocus A node_at [] root xs h top t → IsFocus A node_at [] root xs h top t
+        at : (h : ℕ) (t : Subtree A h) → IsUnsizedFocus A node_at [] root xs h top t → IsFocus A node_at [] root xs h top t
             → HasShape h
-        at h t stands w =
+        at h t focused w =
             let v = top-view A node_at h None t w.inner in
             let z = r.sized (id_of A h t) (view_at A h None t) v in
             let n = view-size A h None t in
@@ -337,7 +337,7 @@ module _ (A : Type 0) (node_at : NodeMap A) where
             let z1 = z.1 in
             let y = least-root root (id_of A h t) w.root_is in
             record {
-              shape = t;
+              subtree = t;
               at_root = w.root_is;
               holds = w.inner;
               once = λ n. omega (arith, w.once n);
@@ -348,10 +348,10 @@ module _ (A : Type 0) (node_at : NodeMap A) where
 
     pub rooted-tree : IsRooted (IsSized root) node_at root xs → IsTree A node_at root xs
     rooted-tree r =
-        let t = rooted-shape r in
+        let t = rooted-subtree r in
         record {
           height = r.height;
-          shape = t.shape;
+          subtree = t.subtree;
           at_root = t.at_root;
           holds = t.holds;
           once = t.once;

@@ -5,8 +5,8 @@ use Rattle.std.specs.Prelude.{slice_get}
 use Rattle.btree_view.specs.View.{NodeMap, View, children_of, parent_of}
 use Rattle.btree_shape.specs.Need.{levels_above}
 use Rattle.btree_shape.specs.Lists.{one, times_listed, total}
-use Rattle.btree_shape.specs.Focus.Shape.{Shape, id_of, items_under, later_items, times_under}
-use Rattle.btree_shape.specs.Focus.Path.{Path, AreFilled, Frame, HoldsAbove, after_in, at_branch, at_first, before_in, depth, frame_count, frame_id, frame_index, frame_view, items_after, items_before, parent_above, times_beside, top, under}
+use Rattle.btree_shape.specs.Focus.Subtree.{Subtree, id_of, items_under, later_items, times_under}
+use Rattle.btree_shape.specs.Focus.Path.{Path, AreFilled, Frame, HoldsAbove, after_in, at_branch, at_first, before_in, depth, frame_count, frame_id, frame_index, frame_view, items_after, items_before, parent_above, times_in_siblings, top, under}
 use Rattle.btree_shape.proofs.LookUp.Descent.{get-after}
 use Rattle.btree_shape.proofs.Paths.Frames.{one-self}
 use Rattle.btree_shape.proofs.Trees.Heights.{low-enough}
@@ -36,26 +36,26 @@ get-once (m ∷ front) n back zero none e =
 get-once (m ∷ front) n back (suc k) none e = ap suc (get-once front n back k (omega arith) e)
 
 module _ (A : Type 0) where
-  pub ids-times : (h n : ℕ) (bs : List (A × Shape A h)) → times_listed n
-      (map {B = ℕ} (λ b. b.1) (map {B = A × ℕ} (λ (b : A × Shape A h). (b.0, id_of A h b.1)) bs)) ≤ total
-      (λ (b : A × Shape A h). times_under A h n b.1) bs
+  pub ids-times : (h n : ℕ) (bs : List (A × Subtree A h)) → times_listed n
+      (map {B = ℕ} (λ b. b.1) (map {B = A × ℕ} (λ (b : A × Subtree A h). (b.0, id_of A h b.1)) bs)) ≤ total
+      (λ (b : A × Subtree A h). times_under A h n b.1) bs
   ids-times h n [] = omega arith
   ids-times h n (b ∷ bs) = omega (arith, ids-times h n bs, times-has A h n b.1)
 
-  ids-length : (h : ℕ) (bs : List (A × Shape A h)) → length
-      (map {B = ℕ} (λ b. b.1) (map {B = A × ℕ} (λ (b : A × Shape A h). (b.0, id_of A h b.1)) bs)) ≡ length bs
+  ids-length : (h : ℕ) (bs : List (A × Subtree A h)) → length
+      (map {B = ℕ} (λ b. b.1) (map {B = A × ℕ} (λ (b : A × Subtree A h). (b.0, id_of A h b.1)) bs)) ≡ length bs
   ids-length h [] = refl
   ids-length h (b ∷ bs) = ap suc (ids-length h bs)
 
   -- the hole is the only child with its number
-  pub index-is : (h : ℕ) (p : Option ℕ) (f : Frame A h) (hole k : ℕ) → times_beside hole f ≡ 0
+  pub index-is : (h : ℕ) (p : Option ℕ) (f : Frame A h) (hole k : ℕ) → times_in_siblings hole f ≡ 0
       → slice_get (children_of (frame_view p f hole)) k ≡ Some hole → k ≡ frame_index f
   index-is h p (at_first n back) hole k none e = get-once [] hole
-      (map {B = ℕ} (λ b. b.1) (map {B = A × ℕ} (λ (b : A × Shape A h). (b.0, id_of A h b.1)) back)) k
+      (map {B = ℕ} (λ b. b.1) (map {B = A × ℕ} (λ (b : A × Subtree A h). (b.0, id_of A h b.1)) back)) k
       (omega (arith, ids-times h hole back)) e
   index-is h p (at_branch n first front x back) hole k none e =
-      let fs : List (A × ℕ) = map {B = A × ℕ} (λ (b : A × Shape A h). (b.0, id_of A h b.1)) front in
-      let bs : List (A × ℕ) = map {B = A × ℕ} (λ (b : A × Shape A h). (b.0, id_of A h b.1)) back in
+      let fs : List (A × ℕ) = map {B = A × ℕ} (λ (b : A × Subtree A h). (b.0, id_of A h b.1)) front in
+      let bs : List (A × ℕ) = map {B = A × ℕ} (λ (b : A × Subtree A h). (b.0, id_of A h b.1)) back in
       let e2 : slice_get ((id_of A h first ∷ map {B = ℕ} (λ b. b.1) fs) ++ hole ∷ map {B = ℕ} (λ b. b.1) bs) k ≡ Some
       hole =
       ap (λ l. slice_get (id_of A h first ∷ l) k) (sym (ids-append fs ((x, hole) ∷ bs))) ∙ e in
@@ -68,8 +68,8 @@ module _ (A : Type 0) where
       → slice_get (children_of (frame_view p f hole)) (frame_index f) ≡ Some hole
   index-here h p (at_first n back) hole = refl
   index-here h p (at_branch n first front x back) hole =
-      let fs : List (A × ℕ) = map {B = A × ℕ} (λ (b : A × Shape A h). (b.0, id_of A h b.1)) front in
-      let bs : List (A × ℕ) = map {B = A × ℕ} (λ (b : A × Shape A h). (b.0, id_of A h b.1)) back in
+      let fs : List (A × ℕ) = map {B = A × ℕ} (λ (b : A × Subtree A h). (b.0, id_of A h b.1)) front in
+      let bs : List (A × ℕ) = map {B = A × ℕ} (λ (b : A × Subtree A h). (b.0, id_of A h b.1)) back in
       let l = ids-length h front in
       ap (λ l. slice_get (id_of A h first ∷ l) (length front + 1)) (ids-append fs ((x, hole) ∷ bs))
       ∙ get-after (id_of A h first ∷ map {B = ℕ} (λ b. b.1) fs) hole (map {B = ℕ} (λ b. b.1) bs) (length front + 1)

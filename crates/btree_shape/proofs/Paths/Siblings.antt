@@ -3,11 +3,11 @@ use Rattle.std.proofs.Common.{◌≡◌, ◌<◌, ◌++◌, ◌∷◌, [], ◌�
 use Rattle.std.proofs.lemmas.Grind.{flat_map-append}
 use Rattle.std.proofs.lemmas.List.{map-append}
 use Rattle.btree_view.specs.View.{NodeMap, internal}
-use Rattle.btree_shape.specs.Focus.Shape.{Holds, IsFilled, IsFilledBelow, Shape, count_at, id_of, items_under, times_under, view_at}
+use Rattle.btree_shape.specs.Focus.Subtree.{Holds, IsFilled, IsFilledBelow, Subtree, count_at, id_of, items_under, times_under, view_at}
 use Rattle.btree_shape.specs.Focus.Path.{Path, AreFilled, Frame, HoldsAbove, SiblingsFilled, SiblingsHold, after_in, at_branch, at_first, before_in, fill, fill_two, frame_count, frame_id, frame_index, items_after, items_before, parent_above, root_above, times_above, times_in, under}
 use Rattle.btree_shape.specs.WellFormed.{times_used}
 use Rattle.btree_shape.specs.Focus.Focus.{IsFocus}
-use Rattle.btree_shape.proofs.Splits.Carried.{Alone}
+use Rattle.btree_shape.proofs.Splits.KeptPositions.{Alone}
 use Rattle.btree_shape.proofs.LookUp.Descent.{snoc}
 use Rattle.btree_shape.proofs.Paths.Frames.{AllByRecursion-left, AllByRecursion-right, fill-view, times_in-is, total-append}
 use Rattle.btree_shape.proofs.Splits.NodeAddresses.{Apart}
@@ -16,16 +16,16 @@ use Rattle.btree_shape.proofs.Splits.Trees.{fill_two-filled, fill_two-holds, fil
 
 -- the two, with the item between them, in their tree
 pub record IsPair (A : Type 0) (node_at : NodeMap A) (root : ℕ) (xs : List A) (h : ℕ) (f : Frame A h) (c : Path A (suc h))
-    (a : Shape A h) (x : A) (b : Shape A h) : Type 0 where
+    (a : Subtree A h) (x : A) (b : Subtree A h) : Type 0 where
   pub above : HoldsAbove node_at c (frame_id f)
   pub parent : node_at (frame_id f) ≡ Some (view_at A (suc h) (parent_above c) (fill_two f a x b))
-  pub beside : SiblingsHold node_at f
+  pub siblings : SiblingsHold node_at f
   pub left : Holds A node_at h (Some (frame_id f)) a
   pub right : Holds A node_at h (Some (frame_id f)) b
   pub once : (n : ℕ)
       → times_above n c + (times_in n f + (times_under A h n a + times_under A h n b)) ≡ times_used (node_at n)
   pub filled : AreFilled c
-  pub beside_filled : SiblingsFilled f
+  pub siblings_filled : SiblingsFilled f
   pub left_below : IsFilledBelow A h a
   pub right_below : IsFilledBelow A h b
   pub list : xs ≡ items_before c
@@ -33,7 +33,7 @@ pub record IsPair (A : Type 0) (node_at : NodeMap A) (root : ℕ) (xs : List A) 
   pub root_is : root_above c (frame_id f) ≡ root
 
 module _ (A : Type 0) (node_at : NodeMap A) (root : ℕ) (xs : List A) (h : ℕ) where
-  module _ (f : Frame A h) (c : Path A (suc h)) (a : Shape A h) (x : A) (b : Shape A h)
+  module _ (f : Frame A h) (c : Path A (suc h)) (a : Subtree A h) (x : A) (b : Subtree A h)
       (p : IsPair A node_at root xs h f c a x b) where
     pub pair-alone : Alone A h f c a b
     pair-alone = record {
@@ -48,20 +48,20 @@ module _ (A : Type 0) (node_at : NodeMap A) (root : ℕ) (xs : List A) (h : ℕ)
         → IsFocus A node_at [] root xs (suc h) c (fill_two f a x b)
     pair-whole za zb = record {
       above = subst (λ i. HoldsAbove node_at c i) (sym (fill_two-id A h f a x b)) p.above;
-      inner = fill_two-holds A node_at h (parent_above c) f a x b p.parent p.beside p.left p.right;
+      inner = fill_two-holds A node_at h (parent_above c) f a x b p.parent p.siblings p.left p.right;
       once = λ n. omega (arith, p.once n, fill_two-times A h n f a x b);
       filled = p.filled;
-      below = fill_two-filled A h f a x b p.beside_filled za p.left_below zb p.right_below;
+      below = fill_two-filled A h f a x b p.siblings_filled za p.left_below zb p.right_below;
       list = p.list ∙ ap (λ ys. items_before c ++ (ys ++ items_after c)) (sym (fill_two-items A h f a x b));
       root_is = ap (root_above c) (fill_two-id A h f a x b) ∙ p.root_is;
     }
 
-  module _ (c : Path A (suc h)) (t : Shape A h) where
+  module _ (c : Path A (suc h)) (t : Subtree A h) where
     -- a node and the child after it
     pub record AfterIt (f : Frame A h) : Type 0 where
       pub frame : Frame A h
       pub between : A
-      pub right : Shape A h
+      pub right : Subtree A h
       pub pair : IsPair A node_at root xs h frame c t between right
       pub same : fill f t ≡ fill_two frame t between right
       pub index_is : frame_index frame ≡ frame_index f
@@ -80,12 +80,12 @@ module _ (A : Type 0) (node_at : NodeMap A) (root : ℕ) (xs : List A) (h : ℕ)
           pair = record {
             above = w.above.2;
             parent = w.above.0;
-            beside = w.above.1.1;
+            siblings = w.above.1.1;
             left = w.inner;
             right = w.above.1.0;
             once = λ m. omega (arith, w.once m);
             filled = w.filled.2;
-            beside_filled = w.filled.1.1;
+            siblings_filled = w.filled.1.1;
             left_below = w.below;
             right_below = w.filled.1.0.1;
             list = w.list ∙ simp append_assoc;
@@ -107,12 +107,12 @@ module _ (A : Type 0) (node_at : NodeMap A) (root : ℕ) (xs : List A) (h : ℕ)
             above = w.above.2;
             parent = w.above.0
                 ∙ ap Some (sym (fill-view A h (parent_above c) (at_branch n first front y ((x, b) ∷ back)) t));
-            beside = (w.above.1.0, w.above.1.1, w.above.1.2.1);
+            siblings = (w.above.1.0, w.above.1.1, w.above.1.2.1);
             left = w.inner;
             right = w.above.1.2.0;
             once = λ m. omega (arith, w.once m);
             filled = w.filled.2;
-            beside_filled = (w.filled.1.0, w.filled.1.1, w.filled.1.2, w.filled.1.3.1);
+            siblings_filled = (w.filled.1.0, w.filled.1.1, w.filled.1.2, w.filled.1.3.1);
             left_below = w.below;
             right_below = w.filled.1.3.0.1;
             list = w.list ∙ simp append_assoc;
@@ -128,7 +128,7 @@ module _ (A : Type 0) (node_at : NodeMap A) (root : ℕ) (xs : List A) (h : ℕ)
     -- a node and the child before it
     pub record BeforeIt (f : Frame A h) : Type 0 where
       pub frame : Frame A h
-      pub left : Shape A h
+      pub left : Subtree A h
       pub between : A
       pub pair : IsPair A node_at root xs h frame c left between t
       pub same : fill f t ≡ fill_two frame left between t
@@ -137,7 +137,7 @@ module _ (A : Type 0) (node_at : NodeMap A) (root : ℕ) (xs : List A) (h : ℕ)
       pub count_is : frame_count f ≡ suc (frame_count frame)
       pub left_filled : IsFilled 3 h (count_at A h left)
 
-    before-first : (n : ℕ) (l : Shape A h) (x : A) (back : List (A × Shape A h))
+    before-first : (n : ℕ) (l : Subtree A h) (x : A) (back : List (A × Subtree A h))
         → IsFocus A node_at [] root xs h (under (at_branch n l [] x back) c) t → BeforeIt (at_branch n l [] x back)
     before-first n l x back w =
         record {
@@ -147,12 +147,12 @@ module _ (A : Type 0) (node_at : NodeMap A) (root : ℕ) (xs : List A) (h : ℕ)
           pair = record {
             above = w.above.2;
             parent = w.above.0;
-            beside = w.above.1.2;
+            siblings = w.above.1.2;
             left = w.above.1.0;
             right = w.inner;
             once = λ m. omega (arith, w.once m);
             filled = w.filled.2;
-            beside_filled = w.filled.1.3;
+            siblings_filled = w.filled.1.3;
             left_below = w.filled.1.1;
             right_below = w.below;
             list = w.list ∙ simp (append_assoc, append-nil);
@@ -165,14 +165,14 @@ module _ (A : Type 0) (node_at : NodeMap A) (root : ℕ) (xs : List A) (h : ℕ)
           left_filled = w.filled.1.0;
         }
 
-    before-next : (n : ℕ) (first : Shape A h) (front : List (A × Shape A h)) (y : A) (l : Shape A h) (x : A)
-        (back : List (A × Shape A h))
+    before-next : (n : ℕ) (first : Subtree A h) (front : List (A × Subtree A h)) (y : A) (l : Subtree A h) (x : A)
+        (back : List (A × Subtree A h))
         → IsFocus A node_at [] root xs h (under (at_branch n first (front ++ (y, l) ∷ []) x back) c) t
         → BeforeIt (at_branch n first (front ++ (y, l) ∷ []) x back)
     before-next n first front y l x back w =
-        let M : A × Shape A h → A × ℕ = λ b. (b.0, id_of A h b.1) in
-        let H : A × Shape A h → Type 0 = λ b. Holds A node_at h (Some n) b.1 in
-        let F : A × Shape A h → Type 0 = λ b. IsFilled 3 h (count_at A h b.1) × IsFilledBelow A h b.1 in
+        let M : A × Subtree A h → A × ℕ = λ b. (b.0, id_of A h b.1) in
+        let H : A × Subtree A h → Type 0 = λ b. Holds A node_at h (Some n) b.1 in
+        let F : A × Subtree A h → Type 0 = λ b. IsFilled 3 h (count_at A h b.1) × IsFilledBelow A h b.1 in
         let e : map M (front ++ (y, l) ∷ []) ++ (x, id_of A h t) ∷ map M back ≡ map M (front ++ (y, l) ∷ (x, t) ∷ back)
         =
         sym (map-append M (front ++ (y, l) ∷ []) ((x, t) ∷ back))
@@ -185,12 +185,12 @@ module _ (A : Type 0) (node_at : NodeMap A) (root : ℕ) (xs : List A) (h : ℕ)
           pair = record {
             above = w.above.2;
             parent = w.above.0 ∙ ap (λ z. Some (internal (parent_above c) (id_of A h first) z)) e;
-            beside = (w.above.1.0, AllByRecursion-left H front ((y, l) ∷ []) w.above.1.1, w.above.1.2);
+            siblings = (w.above.1.0, AllByRecursion-left H front ((y, l) ∷ []) w.above.1.1, w.above.1.2);
             left = (AllByRecursion-right H front ((y, l) ∷ []) w.above.1.1).0;
             right = w.inner;
             once = λ m. omega (arith, w.once m, total-append (λ b. times_under A h m b.1) front ((y, l) ∷ []));
             filled = w.filled.2;
-            beside_filled = (
+            siblings_filled = (
               w.filled.1.0,
               w.filled.1.1,
               AllByRecursion-left F front ((y, l) ∷ []) w.filled.1.2,

@@ -1,7 +1,7 @@
 -- A focus whatever the numbers of items are: up to the root and down to any node.
 use Rattle.std.proofs.Common.{◌≡◌, ◌<◌, ◌++◌, ◌∙◌, ℕ, zero, suc, inl, inr, List, sym, ap, subst, arith}
 use Rattle.btree_view.specs.View.{NodeMap}
-use Rattle.btree_shape.specs.Focus.Shape.{IsFilledBelow, Shape, id_of, items_under, times_under}
+use Rattle.btree_shape.specs.Focus.Subtree.{IsFilledBelow, Subtree, id_of, items_under, times_under}
 use Rattle.btree_shape.specs.Focus.Path.{Path, AreFilled, Frame, HoldsAbove, after_in, at_branch, at_first, before_in, fill, items_after, items_before, parent_above, root_above, top, under}
 use Rattle.btree_shape.specs.Focus.Focus.{IsFocus, IsUnsizedFocus}
 use Rattle.btree_shape.proofs.Paths.Frames.{fill-holds, fill-id, fill-items, fill-times, one-other, open-holds}
@@ -9,9 +9,9 @@ use Rattle.btree_shape.proofs.Trees.Numbers.{pick, same-or, zero-or}
 use Rattle.btree_shape.proofs.Paths.Focus.{regroup}
 
 module _ (A : Type 0) where
-  pub whole-standing : (node_at : NodeMap A) (spare : List ℕ) (root : ℕ) (xs : List A) (h : ℕ) (c : Path A h) (t : Shape A h)
+  pub focus-unsized : (node_at : NodeMap A) (spare : List ℕ) (root : ℕ) (xs : List A) (h : ℕ) (c : Path A h) (t : Subtree A h)
       → IsFocus A node_at spare root xs h c t → IsUnsizedFocus A node_at spare root xs h c t
-  whole-standing node_at spare root xs h c t w = record {
+  focus-unsized node_at spare root xs h c t w = record {
     above = w.above;
     inner = w.inner;
     once = w.once;
@@ -19,10 +19,10 @@ module _ (A : Type 0) where
     root_is = w.root_is;
   }
 
-  pub standing-whole : (node_at : NodeMap A) (spare : List ℕ) (root : ℕ) (xs : List A) (h : ℕ) (c : Path A h) (t : Shape A h)
+  pub unsized-focus : (node_at : NodeMap A) (spare : List ℕ) (root : ℕ) (xs : List A) (h : ℕ) (c : Path A h) (t : Subtree A h)
       → IsUnsizedFocus A node_at spare root xs h c t → AreFilled c → IsFilledBelow A h t
       → IsFocus A node_at spare root xs h c t
-  standing-whole node_at spare root xs h c t s f b = record {
+  unsized-focus node_at spare root xs h c t s f b = record {
     above = s.above;
     inner = s.inner;
     once = s.once;
@@ -33,9 +33,9 @@ module _ (A : Type 0) where
   }
 
   module _ (node_at : NodeMap A) (spare : List ℕ) (root : ℕ) (xs : List A) where
-    pub stand-up : (h : ℕ) (f : Frame A h) (c : Path A (suc h)) (t : Shape A h)
+    pub unsized-up : (h : ℕ) (f : Frame A h) (c : Path A (suc h)) (t : Subtree A h)
         → IsUnsizedFocus A node_at spare root xs h (under f c) t → IsUnsizedFocus A node_at spare root xs (suc h) c (fill f t)
-    stand-up h f c t w =
+    unsized-up h f c t w =
         record {
           above = subst (λ i. HoldsAbove node_at c i) (sym (fill-id A h f t)) w.above.2;
           inner = fill-holds A node_at h (parent_above c) f t w.above.0 w.above.1 w.inner;
@@ -45,12 +45,12 @@ module _ (A : Type 0) where
           root_is = ap (root_above c) (fill-id A h f t) ∙ w.root_is;
         }
 
-    pub stand-down : (h : ℕ) (f : Frame A h) (c : Path A (suc h)) (t : Shape A h)
+    pub unsized-down : (h : ℕ) (f : Frame A h) (c : Path A (suc h)) (t : Subtree A h)
         → IsUnsizedFocus A node_at spare root xs (suc h) c (fill f t) → IsUnsizedFocus A node_at spare root xs h (under f c) t
-    stand-down h f c t w =
+    unsized-down h f c t w =
         let o = open-holds A node_at h (parent_above c) f t w.inner in
         record {
-          above = (o.node, o.beside, subst (λ i. HoldsAbove node_at c i) (fill-id A h f t) w.above);
+          above = (o.node, o.siblings, subst (λ i. HoldsAbove node_at c i) (fill-id A h f t) w.above);
           inner = o.inner;
           once = λ n. omega (arith, w.once n, fill-times A h n f t);
           list = w.list ∙ (ap (λ ys. items_before c ++ (ys ++ items_after c)) (fill-items A h f t) ∙ regroup A
@@ -61,39 +61,39 @@ module _ (A : Type 0) where
     -- a focus at the root
     pub record AtRoot : Type 0 where
       pub height : ℕ
-      pub shape : Shape A height
-      pub stands : IsUnsizedFocus A node_at spare root xs height top shape
+      pub subtree : Subtree A height
+      pub focused : IsUnsizedFocus A node_at spare root xs height top subtree
 
-    pub stand-root : (h : ℕ) (c : Path A h) (t : Shape A h) → IsUnsizedFocus A node_at spare root xs h c t → AtRoot
-    stand-root h top t s = record { height = h; shape = t; stands = s }
-    stand-root h (under f c) t s = stand-root (suc h) c (fill f t) (stand-up h f c t s)
+    pub unsized-root : (h : ℕ) (c : Path A h) (t : Subtree A h) → IsUnsizedFocus A node_at spare root xs h c t → AtRoot
+    unsized-root h top t s = record { height = h; subtree = t; focused = s }
+    unsized-root h (under f c) t s = unsized-root (suc h) c (fill f t) (unsized-up h f c t s)
 
     -- a focus at one of the nodes
     pub record AtNode (id : ℕ) : Type 0 where
       pub height : ℕ
       pub path : Path A height
-      pub shape : Shape A height
-      pub here : id_of A height shape ≡ id
-      pub stands : IsUnsizedFocus A node_at spare root xs height path shape
+      pub subtree : Subtree A height
+      pub here : id_of A height subtree ≡ id
+      pub focused : IsUnsizedFocus A node_at spare root xs height path subtree
 
-    pub stand-at : (id h : ℕ) (c : Path A h) (t : Shape A h) → IsUnsizedFocus A node_at spare root xs h c t
+    pub unsized-at : (id h : ℕ) (c : Path A h) (t : Subtree A h) → IsUnsizedFocus A node_at spare root xs h c t
         → 0 < times_under A h id t → AtNode id
-    stand-at id zero c t w p =
+    unsized-at id zero c t w p =
         elim (same-or id t.0) [
-          | inl e ↦ record { height = 0; path = c; shape = t; here = sym e; stands = w }
+          | inl e ↦ record { height = 0; path = c; subtree = t; here = sym e; focused = w }
           | inr ne ↦ absurd (let o = one-other id t.0 ne in let k : ⊥ = omega arith in k)
         ]
-    stand-at id (suc h) c t w p =
+    unsized-at id (suc h) c t w p =
         elim (same-or id t.0) [
-          | inl e ↦ record { height = suc h; path = c; shape = t; here = sym e; stands = w }
+          | inl e ↦ record { height = suc h; path = c; subtree = t; here = sym e; focused = w }
           | inr ne ↦ elim (zero-or (times_under A h id t.1)) [
-            | inr q ↦ stand-at id h (under (at_first t.0 t.2) c) t.1 (stand-down h (at_first t.0 t.2) c t.1 w) q
+            | inr q ↦ unsized-at id h (under (at_first t.0 t.2) c) t.1 (unsized-down h (at_first t.0 t.2) c t.1 w) q
             | inl q ↦
                 let o = one-other id t.0 ne in
-                let k = pick (λ (b : A × Shape A h). times_under A h id b.1) t.2 (omega arith) in
+                let k = pick (λ (b : A × Subtree A h). times_under A h id b.1) t.2 (omega arith) in
                 let f : Frame A h = at_branch t.0 t.1 k.front k.found.0 k.back in
                 let w' : IsUnsizedFocus A node_at spare root xs (suc h) c (fill f k.found.1) =
-                subst (λ (bs : List (A × Shape A h)). IsUnsizedFocus A node_at spare root xs (suc h) c (t.0, t.1, bs)) k.is w in
-                stand-at id h (under f c) k.found.1 (stand-down h f c k.found.1 w') k.some
+                subst (λ (bs : List (A × Subtree A h)). IsUnsizedFocus A node_at spare root xs (suc h) c (t.0, t.1, bs)) k.is w in
+                unsized-at id h (under f c) k.found.1 (unsized-down h f c k.found.1 w') k.some
           ]
         ]

@@ -4,7 +4,7 @@ use Rattle.std.proofs.lemmas.Bool.Decides.{nat_tests}
 use Rattle.std.specs.Prelude.{nat_lt}
 use Rattle.btree_view.specs.View.{NodeMap}
 use Rattle.btree_shape.specs.Focus.Node.{IsNode}
-use Rattle.btree_shape.specs.Focus.Shape.{view_at}
+use Rattle.btree_shape.specs.Focus.Subtree.{view_at}
 use Rattle.btree_shape.specs.Focus.Path.{parent_above}
 use Rattle.btree_shape.specs.WellFormed.{times_used}
 use Rattle.btree_shape.proofs.Paths.Frames.{top-view}
@@ -23,10 +23,10 @@ pub less-no : (m n x y : ℕ) → n ≤ m → (if nat_lt m n then x else y) ≡ 
 less-no m n x y l = grind (arith, nat_tests)
 
 module _ (A : Type 0) (node_at : NodeMap A) (root : ℕ) (xs : List A) where
-  pub seen-used : (id : ℕ) → IsNode A node_at root xs id → 0 < times_used (node_at id)
-  seen-used id n =
-      let v = top-view A node_at n.seen.height (parent_above n.seen.path) n.seen.shape n.seen.whole.inner in
-      let w : node_at id ≡ Some (view_at A n.seen.height (parent_above n.seen.path) n.seen.shape) =
-      subst (λ z. node_at z ≡ Some (view_at A n.seen.height (parent_above n.seen.path) n.seen.shape)) n.seen.here v in
-      let u = used-one (node_at id) (view_at A n.seen.height (parent_above n.seen.path) n.seen.shape) w in
+  pub focus-used : (id : ℕ) → IsNode A node_at root xs id → 0 < times_used (node_at id)
+  focus-used id n =
+      let v = top-view A node_at n.focus.height (parent_above n.focus.path) n.focus.subtree n.focus.whole.inner in
+      let w : node_at id ≡ Some (view_at A n.focus.height (parent_above n.focus.path) n.focus.subtree) =
+      subst (λ z. node_at z ≡ Some (view_at A n.focus.height (parent_above n.focus.path) n.focus.subtree)) n.focus.here v in
+      let u = used-one (node_at id) (view_at A n.focus.height (parent_above n.focus.path) n.focus.subtree) w in
       omega arith

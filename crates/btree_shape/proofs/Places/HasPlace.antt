@@ -6,7 +6,7 @@ use Rattle.btree_view.specs.View.{View, internal, NodeMap, items_of, item_in}
 use Rattle.btree_shape.specs.Represents.{Represents, numbers_under}
 use Rattle.btree_shape.specs.WellFormed.{times_used}
 use Rattle.btree_shape.specs.Place.{IsPlace, IsPlaceOf, IsEnd, IsWithin}
-use Rattle.btree_shape.proofs.Trees.Subtrees.{Stands, stands}
+use Rattle.btree_shape.proofs.Trees.SubtreePlaces.{HasSubtreeAt, focused}
 use Rattle.btree_shape.proofs.Trees.Numbers.{used-one}
 use Rattle.btree_shape.specs.Lists.{times_listed}
 
@@ -42,8 +42,8 @@ module _ {A : Type 0} (node_at : NodeMap A) where
       (length s.1 + there.0, ap (λ l. slice_get l (length s.1 + there.0)) s.6 ∙ behind s.1 (flat_map (λ (r : A × ℕ × List A). r.0 ∷ r.2) s.2) there.0 x there.1)
 
   module _ (root height : ℕ) (xs : List A) (top : Represents node_at height None root xs) (once : (n : ℕ) → times_listed n (numbers_under node_at height root) ≡ times_used (node_at n)) where
-    at_node : (id : ℕ) (v : View A) → node_at id ≡ Some v → Stands node_at xs id
-    at_node id v e = let c = used-one (node_at id) v e in let d = once id in stands node_at height None id root xs top (omega arith)
+    at_node : (id : ℕ) (v : View A) → node_at id ≡ Some v → HasSubtreeAt node_at xs id
+    at_node id v e = let c = used-one (node_at id) v e in let d = once id in focused node_at height None id root xs top (omega arith)
 
     -- an address in a node of the tree has a place
     pub has_place : (id : ℕ) (v : View A) (offset : Option ℕ) → node_at id ≡ Some v → IsWithin node_at (Some v) offset → (p : ℕ) × IsPlace node_at (Some root) xs id offset p

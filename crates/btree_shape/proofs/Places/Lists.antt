@@ -3,7 +3,7 @@ use Rattle.std.proofs.Common.{◌≡◌, ◌<◌, ◌≤◌, ◌⊎◌, ◌++◌
 use Rattle.std.specs.List.{AllByRecursion}
 use Rattle.btree_item.specs.declared.address.Address.{Address}
 use Rattle.btree_shape.specs.Lists.{total}
-use Rattle.btree_shape.specs.Focus.Positions.{Asks, KeepsPositions, IsAt, Position, mark, over, passed, address_at, positions_from, positions_to}
+use Rattle.btree_shape.specs.Focus.Positions.{IsExpected, KeepsPositions, IsAt, Position, mark, over, passed, address_at, positions_from, positions_to}
 
 -- lists of positions
 module _ {A : Type 0} where
@@ -50,36 +50,36 @@ module _ {A : Type 0} where
       ]
 
   -- how such a function is composed from parts
-  pub carry-append : (g : Address → Address) (ts ss ts' ss' : List (Position A)) → passed ts ≡ passed ss → KeepsPositions g ts ss
+  pub keep-append : (g : Address → Address) (ts ss ts' ss' : List (Position A)) → passed ts ≡ passed ss → KeepsPositions g ts ss
       → KeepsPositions g ts' ss' → KeepsPositions g (ts ++ ts') (ss ++ ss')
-  carry-append g ts ss ts' ss' e c d o a u i =
+  keep-append g ts ss ts' ss' e c d o a u i =
       elim (in-cases o a ts ts' u i) [
         | inl q ↦ in-left o (g a) ss ss' u (c o a u q)
         | inr q ↦ in-right o (g a) ss ss' u q.rest (q.is ∙ ap (λ z. z + q.rest) e) (d o a q.rest q.there)
       ]
 
-  pub carry-over : (g : Address → Address) (ts ss : List (Position A)) → KeepsPositions g ts ss → KeepsPositions g (over ∷ ts) (over ∷ ss)
-  carry-over g ts ss c o a u i = (i.0, i.1, c o a i.0 i.2)
+  pub keep-over : (g : Address → Address) (ts ss : List (Position A)) → KeepsPositions g ts ss → KeepsPositions g (over ∷ ts) (over ∷ ss)
+  keep-over g ts ss c o a u i = (i.0, i.1, c o a i.0 i.2)
 
   -- an address that is no image of the function
-  pub carry-more : (g : Address → Address) (b : Address) (k : Option A) (ts ss : List (Position A)) → KeepsPositions g ts ss
+  pub keep-more : (g : Address → Address) (b : Address) (k : Option A) (ts ss : List (Position A)) → KeepsPositions g ts ss
       → KeepsPositions g ts (mark b k ∷ ss)
-  carry-more g b k ts ss c o a u i = inr (c o a u i)
+  keep-more g b k ts ss c o a u i = inr (c o a u i)
 
   -- an address that moves elsewhere
-  pub carry-to : (g : Address → Address) (b : Address) (k : Option A) (ts ss : List (Position A))
-      → ((o : Option A) → Asks o k → IsAt o (g b) ss 0) → KeepsPositions g ts ss → KeepsPositions g (mark b k ∷ ts) ss
-  carry-to g b k ts ss here c o a u (inl i) = subst (λ z. IsAt o (g z) ss u) (sym i.0)
+  pub keep-to : (g : Address → Address) (b : Address) (k : Option A) (ts ss : List (Position A))
+      → ((o : Option A) → IsExpected o k → IsAt o (g b) ss 0) → KeepsPositions g ts ss → KeepsPositions g (mark b k ∷ ts) ss
+  keep-to g b k ts ss here c o a u (inl i) = subst (λ z. IsAt o (g z) ss u) (sym i.0)
       (subst (λ z. IsAt o (g b) ss z) (sym i.1) (here o i.2))
-  carry-to g b k ts ss here c o a u (inr i) = c o a u i
+  keep-to g b k ts ss here c o a u (inr i) = c o a u i
 
   -- an address that stays in its row
-  pub carry-mark : (g : Address → Address) (b d : Address) (k : Option A) (ts ss : List (Position A)) → g b ≡ d
+  pub keep-mark : (g : Address → Address) (b d : Address) (k : Option A) (ts ss : List (Position A)) → g b ≡ d
       → KeepsPositions g ts ss → KeepsPositions g (mark b k ∷ ts) (mark d k ∷ ss)
-  carry-mark g b d k ts ss e c = carry-to g b k ts (mark d k ∷ ss) (λ o f. inl (e, refl, f)) (carry-more g d k ts ss c)
+  keep-mark g b d k ts ss e c = keep-to g b k ts (mark d k ∷ ss) (λ o f. inl (e, refl, f)) (keep-more g d k ts ss c)
 
-  pub carry-none : (g : Address → Address) → KeepsPositions {A = A} g [] []
-  carry-none g o a u i = absurd i
+  pub keep-none : (g : Address → Address) → KeepsPositions {A = A} g [] []
+  keep-none g o a u i = absurd i
 
   -- rows
   module _ {X : Type 0} (key : X → A) (f : X → List (Position A)) where
@@ -110,37 +110,37 @@ module _ {A : Type 0} where
     )
 
     -- a row whose offsets change
-    pub carry-positions_from : (g : Address → Address) (i o j p : ℕ) (xs : List X)
+    pub keep-positions_from : (g : Address → Address) (i o j p : ℕ) (xs : List X)
         → ((k : ℕ) → k ≤ length xs → g (address_at i (o + k)) ≡ address_at j (p + k))
         → AllByRecursion (λ x. KeepsPositions g (f x) (f x)) xs → KeepsPositions g (positions_from key f i o xs) (positions_from key f j p xs)
-    carry-positions_from g i o j p [] e c =
-        carry-mark g (address_at i o) (address_at j p) None [] []
+    keep-positions_from g i o j p [] e c =
+        keep-mark g (address_at i o) (address_at j p) None [] []
         (let q = e 0 (omega arith) in let s : o + 0 ≡ o = omega arith in let r : p + 0 ≡ p = omega arith in
-        ap (λ z. g (address_at i z)) (sym s) ∙ (q ∙ ap (λ z. address_at j z) r)) (carry-none g)
-    carry-positions_from g i o j p (x ∷ xs) e c =
-        carry-mark g (address_at i o) (address_at j p) (Some (key x)) (over ∷ (f x ++ positions_from key f i (suc o) xs))
+        ap (λ z. g (address_at i z)) (sym s) ∙ (q ∙ ap (λ z. address_at j z) r)) (keep-none g)
+    keep-positions_from g i o j p (x ∷ xs) e c =
+        keep-mark g (address_at i o) (address_at j p) (Some (key x)) (over ∷ (f x ++ positions_from key f i (suc o) xs))
         (over ∷ (f x ++ positions_from key f j (suc p) xs))
         (let q = e 0 (omega arith) in let s : o + 0 ≡ o = omega arith in let r : p + 0 ≡ p = omega arith in
         ap (λ z. g (address_at i z)) (sym s) ∙ (q ∙ ap (λ z. address_at j z) r))
-        (carry-over g (f x ++ positions_from key f i (suc o) xs) (f x ++ positions_from key f j (suc p) xs)
-        (carry-append g (f x) (f x) (positions_from key f i (suc o) xs) (positions_from key f j (suc p) xs) refl c.0
-        (carry-positions_from g i (suc o) j (suc p) xs
+        (keep-over g (f x ++ positions_from key f i (suc o) xs) (f x ++ positions_from key f j (suc p) xs)
+        (keep-append g (f x) (f x) (positions_from key f i (suc o) xs) (positions_from key f j (suc p) xs) refl c.0
+        (keep-positions_from g i (suc o) j (suc p) xs
         (λ k l. let q = e (suc k) (omega arith) in let s : o + suc k ≡ suc o + k = omega arith in
         let r : p + suc k ≡ suc p + k = omega arith in
         ap (λ z. g (address_at i z)) (sym s) ∙ (q ∙ ap (λ z. address_at j z) r)) c.1)))
 
-    pub carry-positions_to : (g : Address → Address) (i o j p : ℕ) (xs : List X)
+    pub keep-positions_to : (g : Address → Address) (i o j p : ℕ) (xs : List X)
         → ((k : ℕ) → k < length xs → g (address_at i (o + k)) ≡ address_at j (p + k))
         → AllByRecursion (λ x. KeepsPositions g (f x) (f x)) xs → KeepsPositions g (positions_to key f i o xs) (positions_to key f j p xs)
-    carry-positions_to g i o j p [] e c = carry-none g
-    carry-positions_to g i o j p (x ∷ xs) e c =
-        carry-mark g (address_at i o) (address_at j p) (Some (key x)) (over ∷ (f x ++ positions_to key f i (suc o) xs))
+    keep-positions_to g i o j p [] e c = keep-none g
+    keep-positions_to g i o j p (x ∷ xs) e c =
+        keep-mark g (address_at i o) (address_at j p) (Some (key x)) (over ∷ (f x ++ positions_to key f i (suc o) xs))
         (over ∷ (f x ++ positions_to key f j (suc p) xs))
         (let q = e 0 (omega arith) in let s : o + 0 ≡ o = omega arith in let r : p + 0 ≡ p = omega arith in
         ap (λ z. g (address_at i z)) (sym s) ∙ (q ∙ ap (λ z. address_at j z) r))
-        (carry-over g (f x ++ positions_to key f i (suc o) xs) (f x ++ positions_to key f j (suc p) xs)
-        (carry-append g (f x) (f x) (positions_to key f i (suc o) xs) (positions_to key f j (suc p) xs) refl c.0
-        (carry-positions_to g i (suc o) j (suc p) xs
+        (keep-over g (f x ++ positions_to key f i (suc o) xs) (f x ++ positions_to key f j (suc p) xs)
+        (keep-append g (f x) (f x) (positions_to key f i (suc o) xs) (positions_to key f j (suc p) xs) refl c.0
+        (keep-positions_to g i (suc o) j (suc p) xs
         (λ k l. let q = e (suc k) (omega arith) in let s : o + suc k ≡ suc o + k = omega arith in
         let r : p + suc k ≡ suc p + k = omega arith in
         ap (λ z. g (address_at i z)) (sym s) ∙ (q ∙ ap (λ z. address_at j z) r)) c.1)))

@@ -7,7 +7,7 @@ use Rattle.std.proofs.lemmas.Bool.{cases_eq}
 use Rattle.std.proofs.lemmas.Bool.Decides.{nat_tests}
 use Rattle.btree_view.specs.View.{View, leaf, NodeMap, size_of}
 use Rattle.btree_shape.specs.Represents.{Represents}
-use Rattle.btree_shape.specs.WellFormed.{least_of, least_beside, IsWellFormed, IsOffByOne}
+use Rattle.btree_shape.specs.WellFormed.{least_of, least_allowed, IsWellFormed, IsOffByOne}
 use Rattle.btree_shape.specs.Place.{IsSubtree, IsPlace}
 use Rattle.btree_shape.proofs.Places.SamePlace.{same_subtree, same_place}
 
@@ -16,7 +16,7 @@ none_or_some [] = inr refl
 none_or_some (y ∷ ys) = inl (omega arith)
 
 module _ {A : Type 0} (node_at : NodeMap A) (root i : ℕ) (xs : List A) (top : IsSubtree node_at root xs)
-    (sized : (id : ℕ) (node : View A) → node_at id ≡ Some node → least_beside root i id ≤ size_of node) where
+    (sized : (id : ℕ) (node : View A) → node_at id ≡ Some node → least_allowed root i id ≤ size_of node) where
   pub filled : (h : ℕ) (p : Option ℕ) (id : ℕ) (ys : List A) → Represents node_at h p id ys → (0 < length ys) ⊎ (xs ≡ [])
   filled zero p id ys s = elim (none_or_some ys) [
     | inl some ↦ inl some
@@ -40,7 +40,7 @@ module _ {K V : Type 0} (cmp : K → K → Ordering) (o : IsTotalOrder cmp) (nod
       (λ id ys u. filled node_at root i xs (record { height = w.rooted.height; parent = None; represents = w.rooted.represents }) (λ id node e. (w.rooted.sized id node e).0) u.height u.parent id ys u.represents)
       (Some root) id offset p q s t
 
-fewer : (root id n : ℕ) → least_of root id ≤ n → least_beside root root id ≤ n
+fewer : (root id n : ℕ) → least_of root id ≤ n → least_allowed root root id ≤ n
 fewer root id n h = elim (cases_eq id root) [ inl same ↦ grind (arith, nat_tests) | inr differs ↦ grind (arith, nat_tests) ]
 
 module _ {K V : Type 0} (cmp : K → K → Ordering) (o : IsTotalOrder cmp) (node_at : NodeMap (K × V)) (xs : List (K × V)) (len : ℕ) where

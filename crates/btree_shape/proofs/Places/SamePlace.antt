@@ -11,18 +11,18 @@ use Rattle.std.specs.Ordering.{ordering_reverse}
 use Rattle.btree_item.specs.Pairs.{Ascends}
 use Rattle.btree_view.specs.View.{View, NodeMap, items_of, item_in}
 use Rattle.btree_shape.specs.Represents.{Represents}
-use Rattle.btree_shape.specs.Place.{IsSubtree, StandsAt, IsPlace, IsPlaceOf, IsEnd}
+use Rattle.btree_shape.specs.Place.{IsSubtree, IsSubtreeAt, IsPlace, IsPlaceOf, IsEnd}
 use Rattle.btree_shape.proofs.Trees.Represented.{represented-is}
 use Rattle.std.proofs.lemmas.Option.{slice_get_past}
 
 module _ {A : Type 0} (node_at : NodeMap A) where
-  same_spells : (h k : ℕ) (p q : Option ℕ) (id : ℕ) (ys zs : List A) → Represents node_at h p id ys → Represents node_at k q id zs → ys ≡ zs
-  same_spells h k p q id ys zs s t =
+  same_list : (h k : ℕ) (p q : Option ℕ) (id : ℕ) (ys zs : List A) → Represents node_at h p id ys → Represents node_at k q id zs → ys ≡ zs
+  same_list h k p q id ys zs s t =
       sym (represented-is node_at h (suc (h + k)) p id ys (omega arith) s) ∙ represented-is node_at k (suc (h + k)) q id zs (omega arith) t
 
   -- a node represents one list
   pub same_subtree : (id : ℕ) (ys zs : List A) → IsSubtree node_at id ys → IsSubtree node_at id zs → ys ≡ zs
-  same_subtree id ys zs s t = same_spells s.height t.height s.parent t.parent id ys zs s.represents t.represents
+  same_subtree id ys zs s t = same_list s.height t.height s.parent t.parent id ys zs s.represents t.represents
 
 not_below_itself : (c : Ordering) → c ≡ ordering_reverse c → c ≡ Less → ⊥
 not_below_itself Less e l = absurd (cc)
@@ -63,7 +63,7 @@ module _ {K V : Type 0} (cmp : K → K → Ordering) (o : IsTotalOrder cmp) wher
       omega (arith, length-append front ys, length-append front2 ys, length-append (front ++ ys) back, length-append (front2 ++ ys) back2)
 
   module _ (node_at : NodeMap (K × V)) (xs : List (K × V)) (up : Ascends cmp xs) (filled : (id : ℕ) (ys : List (K × V)) → IsSubtree node_at id ys → (0 < length ys) ⊎ (xs ≡ [])) where
-    same_before : (id : ℕ) (ys zs : List (K × V)) (p q : ℕ) → StandsAt node_at xs id ys p → StandsAt node_at xs id zs q → p ≡ q
+    same_before : (id : ℕ) (ys zs : List (K × V)) (p q : ℕ) → IsSubtreeAt node_at xs id ys p → IsSubtreeAt node_at xs id zs q → p ≡ q
     same_before id ys zs p q s t =
         let e = same_subtree node_at id ys zs s.subtree t.subtree in
         let split : xs ≡ t.front ++ ys ++ t.back = t.split ∙ ap (λ l. t.front ++ l ++ t.back) (sym e) in

@@ -8,13 +8,13 @@ use Rattle.btree_item.specs.declared.address.Address.{Address}
 use Rattle.btree_view.specs.View.{NodeMap, View, item_in, items_of}
 use Rattle.btree_shape.specs.Focus.TreePositions.{IsAddressed}
 use Rattle.btree_shape.specs.Place.{IsPlace, IsValid, IsWithin, item_at}
-use Rattle.btree_shape.specs.Focus.Shape.{Shape}
-use Rattle.btree_shape.specs.Focus.Positions.{Asks, IsAt, Position, address_at, all_positions}
+use Rattle.btree_shape.specs.Focus.Subtree.{Subtree}
+use Rattle.btree_shape.specs.Focus.Positions.{IsExpected, IsAt, Position, address_at, all_positions}
 use Rattle.btree_shape.specs.Focus.Path.{Path}
 use Rattle.btree_shape.specs.WellFormed.{IsWellFormed, times_used}
 use Rattle.btree_shape.specs.Focus.Focus.{IsFocus, HasFocus}
-use Rattle.btree_shape.proofs.Places.OfTree.{on-whole, seen-on, well-on, whole-addressed, whole-on}
-use Rattle.btree_shape.proofs.Paths.UnsizedFocus.{whole-standing}
+use Rattle.btree_shape.proofs.Places.OfTree.{on-whole, focus-on, well-on, whole-addressed, whole-on}
+use Rattle.btree_shape.proofs.Paths.UnsizedFocus.{focus-unsized}
 use Rattle.btree_shape.proofs.Trees.Stores.{within-used}
 
 module _ {A : Type 0} (node_at : NodeMap A) where
@@ -30,73 +30,73 @@ module _ {A : Type 0} (node_at : NodeMap A) where
 
 module _ (A : Type 0) (node_at : NodeMap A) (root : ℕ) (xs : List A) where
   -- the address is one of the tree, with this place; if an item is required, it stands there
-  pub record AddressIn (asked : Option A) (a : Address) (p : ℕ) : Type 0 where
+  pub record AddressIn (expected : Option A) (a : Address) (p : ℕ) : Type 0 where
     pub used : 0 < times_used (node_at a.id)
     pub within : IsWithin node_at (node_at a.id) a.offset
     pub place : IsPlace node_at (Some root) xs a.id a.offset p
-    pub item : (x : A) → asked ≡ Some x → (o : ℕ) × (a.offset ≡ Some o) × (item_in (node_at a.id) o ≡ Some x)
+    pub item : (x : A) → expected ≡ Some x → (o : ℕ) × (a.offset ≡ Some o) × (item_in (node_at a.id) o ≡ Some x)
 
   valid-within : (id : ℕ) (o : Option ℕ) → IsValid node_at (Some root) id o → IsWithin node_at (node_at id) o
   valid-within id o (inl l) = l
   valid-within id o (inr n) = let e = n.0 in absurd (cc)
 
-  asked-item : (asked : Option A) (id : ℕ) (offset : Option ℕ) → Asks asked (option_and_then (item_in (node_at id)) offset) → (x : A)
-      → asked ≡ Some x → (o : ℕ) × (offset ≡ Some o) × (item_in (node_at id) o ≡ Some x)
-  asked-item None id offset m x e = absurd (cc)
-  asked-item (Some y) id None m x e = absurd (cc)
-  asked-item (Some y) id (Some o) m x e = (o, refl, m ∙ e)
+  expected-item : (expected : Option A) (id : ℕ) (offset : Option ℕ) → IsExpected expected (option_and_then (item_in (node_at id)) offset) → (x : A)
+      → expected ≡ Some x → (o : ℕ) × (offset ≡ Some o) × (item_in (node_at id) o ≡ Some x)
+  expected-item None id offset m x e = absurd (cc)
+  expected-item (Some y) id None m x e = absurd (cc)
+  expected-item (Some y) id (Some o) m x e = (o, refl, m ∙ e)
 
-  pub addressed-in : (asked : Option A) (a : Address) (p : ℕ) → IsAddressed A node_at root xs asked a p
-      → AddressIn asked a p
-  addressed-in asked a p d =
+  pub addressed-in : (expected : Option A) (a : Address) (p : ℕ) → IsAddressed A node_at root xs expected a p
+      → AddressIn expected a p
+  addressed-in expected a p d =
       let l = valid-within a.id a.offset d.valid in
       record {
         used = within-used node_at (node_at a.id) a.offset l;
         within = l;
         place = d.at_place;
         item =
-            asked-item asked a.id a.offset d.item;
+            expected-item expected a.id a.offset d.item;
       }
 
   -- each address at a position is one of the tree, with the place that it has in the positions
-  pub address-in : (h : ℕ) (c : Path A h) (t : Shape A h) → IsFocus A node_at [] root xs h c t
-      → (asked : Option A) (a : Address) (p : ℕ) → IsAt asked a (all_positions A h c t) p → AddressIn asked a p
-  address-in h c t w asked a p i = addressed-in asked a p
-      (whole-addressed A node_at [] root xs asked a p h c t w (whole-on A node_at [] root xs asked a p h c t w i))
+  pub address-in : (h : ℕ) (c : Path A h) (t : Subtree A h) → IsFocus A node_at [] root xs h c t
+      → (expected : Option A) (a : Address) (p : ℕ) → IsAt expected a (all_positions A h c t) p → AddressIn expected a p
+  address-in h c t w expected a p i = addressed-in expected a p
+      (whole-addressed A node_at [] root xs expected a p h c t w (whole-on A node_at [] root xs expected a p h c t w i))
 
   -- and each address of the tree is at a position
-  pub record TourAt (ts : List (Position A)) (asked : Option A) (a : Address) : Type 0 where
+  pub record HasPositionAt (ts : List (Position A)) (expected : Option A) (a : Address) : Type 0 where
     pub place : ℕ
-    pub there : IsAt asked a ts place
+    pub there : IsAt expected a ts place
     pub is : IsPlace node_at (Some root) xs a.id a.offset place
 
-  module _ (s : List ℕ) (h : ℕ) (c : Path A h) (t : Shape A h) (w : IsFocus A node_at s root xs h c t) where
-    positions-at : (s2 : List ℕ) (asked : Option A) (a : Address) → HasFocus A node_at s2 root xs a.id
-        → IsWithin node_at (node_at a.id) a.offset → Asks asked (item_at node_at a)
-        → TourAt (all_positions A h c t) asked a
-    positions-at s2 asked a n l m =
+  module _ (s : List ℕ) (h : ℕ) (c : Path A h) (t : Subtree A h) (w : IsFocus A node_at s root xs h c t) where
+    positions-at : (s2 : List ℕ) (expected : Option A) (a : Address) → HasFocus A node_at s2 root xs a.id
+        → IsWithin node_at (node_at a.id) a.offset → IsExpected expected (item_at node_at a)
+        → HasPositionAt (all_positions A h c t) expected a
+    positions-at s2 expected a n l m =
         let r =
-        seen-on A node_at root xs asked a s2 n.height n.path n.shape n.here
-        (whole-standing A node_at s2 root xs n.height n.path n.shape n.whole) l m in
+        focus-on A node_at root xs expected a s2 n.height n.path n.subtree n.here
+        (focus-unsized A node_at s2 root xs n.height n.path n.subtree n.whole) l m in
         record {
           place = r.place;
-          there = on-whole A node_at s root xs asked a r.place h c t w r.on;
-          is = (whole-addressed A node_at s root xs asked a r.place h c t w r.on).at_place;
+          there = on-whole A node_at s root xs expected a r.place h c t w r.on;
+          is = (whole-addressed A node_at s root xs expected a r.place h c t w r.on).at_place;
         }
 
     -- by any focus, if the tree has a focus at the address's node too
     pub positions-address : (s2 : List ℕ) (a : Address) → HasFocus A node_at s2 root xs a.id → IsWithin node_at (node_at a.id) a.offset
-        → TourAt (all_positions A h c t) None a
+        → HasPositionAt (all_positions A h c t) None a
     positions-address s2 a n l = positions-at s2 None a n l tt
 
     pub positions-item : (s2 : List ℕ) (id o : ℕ) (x : A) → HasFocus A node_at s2 root xs id → item_in (node_at id) o ≡ Some x
-        → TourAt (all_positions A h c t) (Some x) (address_at id o)
+        → HasPositionAt (all_positions A h c t) (Some x) (address_at id o)
     positions-item s2 id o x n got = positions-at s2 (Some x) (address_at id o) n (item-within node_at o x (node_at id) got) got
 
 -- if the keys ascend, the place is the one that the address has
 module _ {K V : Type 0} (cmp : K → K → Ordering) (laws : IsTotalOrder cmp) (node_at : NodeMap (K × V)) (root len : ℕ)
     (xs : List (K × V)) (well : IsWellFormed cmp node_at (Some root) len xs)
-    (h : ℕ) (c : Path (K × V) h) (t : Shape (K × V) h) (w : IsFocus (K × V) node_at [] root xs h c t) where
+    (h : ℕ) (c : Path (K × V) h) (t : Subtree (K × V) h) (w : IsFocus (K × V) node_at [] root xs h c t) where
   pub positions-place : (a : Address) (p : ℕ) → IsWithin node_at (node_at a.id) a.offset
       → IsPlace node_at (Some root) xs a.id a.offset p → IsAt None a (all_positions (K × V) h c t) p
   positions-place a p l i =

@@ -12,7 +12,7 @@ use Rattle.btree_view.specs.View.{NodeMap, View, item_in, items_of, leaf}
 use Rattle.btree_shape.specs.Moved.{in_shortened, moved_by_take}
 use Rattle.btree_shape.specs.Focus.TreePositions.{HasPosition}
 use Rattle.btree_shape.specs.Place.{IsEnd, IsPlace, IsPlaceAfter, IsPlaceOf}
-use Rattle.btree_shape.specs.Focus.Underflow.{owed_by}
+use Rattle.btree_shape.specs.Focus.Underflow.{debt_of}
 use Rattle.btree_shape.specs.Represents.{numbers_under}
 use Rattle.btree_shape.specs.Step.{HasItems, WritesNode}
 use Rattle.btree_shape.specs.Strain.{strain_under}
@@ -21,8 +21,8 @@ use Rattle.btree_shape.specs.WellFormed.{IsNearlySized, IsOffByOne, IsWellFormed
 use Rattle.btree_shape.proofs.Places.Words.{item-within}
 use Rattle.btree_shape.proofs.Places.Untouched.{if-other}
 use Rattle.btree_shape.proofs.Places.OfTree.{positions-addressed, well-on}
-use Rattle.btree_shape.proofs.Removal.OtherItemInState.{ReplacedOdd, replaced-odd, replaced-remove}
-use Rattle.btree_shape.proofs.Removal.FromTree.{Ascends-remove, take-item, take-keeps, take-later, take-odd, take-paid}
+use Rattle.btree_shape.proofs.Removal.OtherItemInState.{ReplacedOdd, replaced-off, replaced-remove}
+use Rattle.btree_shape.proofs.Removal.FromTree.{Ascends-remove, take-item, take-keeps, take-later, take-off, take-within}
 
 -- the item at an address is in the list at the address's place
 pub place-item : {A : Type 0} (node_at : NodeMap A) (root : ℕ) (xs : List A) (n k : ℕ) (x : A) (v : View A)
@@ -51,7 +51,7 @@ module _ {K V : Type 0} (cmp : K → K → Ordering) (laws : IsTotalOrder cmp) (
   Pair = K × V
 
   abbrev took : IsOffByOne cmp mid root leaf_id (remove xs before)
-  took = take-odd cmp laws node_at root len xs well low mid leaf_id p ys o before y leaf_here leaf_item leaf_place leaf_put
+  took = take-off cmp laws node_at root len xs well low mid leaf_id p ys o before y leaf_here leaf_item leaf_place leaf_put
 
   there : mid n ≡ Some v
   there = leaf_put.others n apart ∙ here
@@ -90,37 +90,37 @@ module _ {K V : Type 0} (cmp : K → K → Ordering) (laws : IsTotalOrder cmp) (
   exchanged : ReplacedOdd cmp laws mid new root (remove xs before) n k x y v w there item put has before place-mid
       (subst (λ l. Ascends cmp l) (sym taken-list) (Ascends-remove cmp xs (suc before) x inner-item well.ascends)) leaf_id
       took (set (remove xs before) before y)
-  exchanged = replaced-odd cmp laws mid new root (remove xs before) n k x y v w there item put has before place-mid
+  exchanged = replaced-off cmp laws mid new root (remove xs before) n k x y v w there item put has before place-mid
       (subst (λ l. Ascends cmp l) (sym taken-list) (Ascends-remove cmp xs (suc before) x inner-item well.ascends)) leaf_id
       took
 
   -- the tree without the item, its strain, and its addresses
   pub record TakenInner (list : List Pair) : Type 0 where
     pub tree : IsOffByOne cmp new root leaf_id list
-    pub paid : strain_under new root (numbers_under new tree.rooted.height root) + owed_by (leaf p (remove ys o))
+    pub within_strain : strain_under new root (numbers_under new tree.rooted.height root) + debt_of (leaf p (remove ys o))
         ≤ suc (strain_under node_at root (numbers_under node_at well.formed.height root))
     -- an address at a smaller place than the leaf's item keeps it, and its item; one at a greater place than the
     -- removed item has one less
-    pub earlier : (asked : Option Pair) (b : Address) (q : ℕ) → q < before → b ≢ address_at n k
-        → HasPosition Pair node_at root asked b q → HasPosition Pair new root asked b q
-    pub later : (asked : Option Pair) (b : Address) (q : ℕ) → suc before ≤ q → b.id ≢ leaf_id → b ≢ address_at n k
-        → HasPosition Pair node_at root asked b (suc q) → HasPosition Pair new root asked b q
+    pub earlier : (expected : Option Pair) (b : Address) (q : ℕ) → q < before → b ≢ address_at n k
+        → HasPosition Pair node_at root expected b q → HasPosition Pair new root expected b q
+    pub later : (expected : Option Pair) (b : Address) (q : ℕ) → suc before ≤ q → b.id ≢ leaf_id → b ≢ address_at n k
+        → HasPosition Pair node_at root expected b (suc q) → HasPosition Pair new root expected b q
 
   pub inner-taken : TakenInner (remove xs (suc before))
   inner-taken =
       let e = exchanged in
       let t =
-      take-paid cmp laws node_at root len xs well low mid leaf_id p ys o before y leaf_here leaf_item leaf_place leaf_put in
+      take-within cmp laws node_at root len xs well low mid leaf_id p ys o before y leaf_here leaf_item leaf_place leaf_put in
       let s = e.strain_is in
       subst (λ l. TakenInner l) taken-list
       (record {
         tree = e.tree;
-        paid = omega arith;
-        earlier = λ asked b q lt away on. e.stays.keeps asked b q away
+        within_strain = omega arith;
+        earlier = λ expected b q lt away on. e.stays.keeps expected b q away
             (take-keeps cmp laws node_at root len xs well low mid leaf_id p ys o before y leaf_here leaf_item leaf_place
-            leaf_put asked b q lt on);
-        later = λ asked b q ge off away on. e.stays.keeps asked b q away
-            (subst (λ c. HasPosition Pair mid root asked c q) (elsewhere b off)
+            leaf_put expected b q lt on);
+        later = λ expected b q ge off away on. e.stays.keeps expected b q away
+            (subst (λ c. HasPosition Pair mid root expected c q) (elsewhere b off)
             (take-later cmp laws node_at root len xs well low mid leaf_id p ys o before y leaf_here leaf_item leaf_place
-            leaf_put asked b q (omega arith) on));
+            leaf_put expected b q (omega arith) on));
       })

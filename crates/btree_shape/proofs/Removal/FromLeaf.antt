@@ -5,7 +5,7 @@ use Rattle.btree_item.specs.declared.address.Address.{Address}
 use Rattle.btree_view.specs.View.{NodeMap, leaf}
 use Rattle.btree_shape.specs.Moved.{in_shortened, moved_by_take}
 use Rattle.btree_shape.specs.Lists.{one}
-use Rattle.btree_shape.specs.Focus.Underflow.{owed}
+use Rattle.btree_shape.specs.Focus.Underflow.{debt}
 use Rattle.btree_shape.specs.Step.{WritesNode}
 use Rattle.btree_shape.specs.Strain.{own_strain, strain_of}
 use Rattle.btree_shape.specs.Focus.Positions.{KeepsPositions, IsAt, Position, mark, over, passed, address_at, positions_from, path_after, all_positions}
@@ -17,8 +17,8 @@ use Rattle.btree_shape.proofs.Underflow.Writes.{remove-seam}
 use Rattle.btree_shape.proofs.Places.Untouched.{by-more, each-nothing, if-other, if-same, path-after-same}
 use Rattle.btree_shape.proofs.Trees.Numbers.{same-or, used-low}
 use Rattle.btree_shape.proofs.Strain.Siblings.{own-fewer}
-use Rattle.btree_shape.proofs.Splits.InsertionAddresses.{to-passed, positions-parts, tour_to}
-use Rattle.btree_shape.proofs.Places.Lists.{carry-append, carry-positions_from, in-cases, in-left, in-right, passed-positions_from}
+use Rattle.btree_shape.proofs.Splits.InsertionAddresses.{to-passed, positions-parts, positions_until}
+use Rattle.btree_shape.proofs.Places.Lists.{keep-append, keep-positions_from, in-cases, in-left, in-right, passed-positions_from}
 
 module _ (A : Type 0) (c : Path A 0) (i : ℕ) (l : List A) (x : A) (r : List A) where
   -- the list without the item
@@ -57,7 +57,7 @@ module _ (A : Type 0) (c : Path A 0) (i : ℕ) (l : List A) (x : A) (r : List A)
       }
 
   -- the strain, with what is then owed
-  pub take-strain : strain_of A 0 c (i, l ++ r) + owed c (length (l ++ r)) ≤ suc (strain_of A 0 c (i, l ++ x ∷ r))
+  pub take-strain : strain_of A 0 c (i, l ++ r) + debt c (length (l ++ r)) ≤ suc (strain_of A 0 c (i, l ++ x ∷ r))
   take-strain =
       let p = length-append l (x ∷ r) in
       let q = length-append l r in
@@ -69,17 +69,17 @@ module _ (A : Type 0) (c : Path A 0) (i : ℕ) (l : List A) (x : A) (r : List A)
   Ticks o = positions_from {A = A} {X = A} (λ x. x) (λ x. []) i o r
 
   -- an address before the item stays
-  pub take-before : (asked : Option A) (b : Address) (q : ℕ) → IsAt asked b (tour_to A c i l) q
-      → IsAt asked b (all_positions A 0 c (i, l ++ r)) q
-  take-before asked b q s =
-      subst (λ z. IsAt asked b z q) (sym (positions-parts A c i l r))
-      (in-left asked b (tour_to A c i l) (Ticks (length l) ++ path_after A c) q s)
+  pub take-before : (expected : Option A) (b : Address) (q : ℕ) → IsAt expected b (positions_until A c i l) q
+      → IsAt expected b (all_positions A 0 c (i, l ++ r)) q
+  take-before expected b q s =
+      subst (λ z. IsAt expected b z q) (sym (positions-parts A c i l r))
+      (in-left expected b (positions_until A c i l) (Ticks (length l) ++ path_after A c) q s)
 
   -- the item's own address becomes that of what was after it
   pub take-itself : IsAt None (address_at i (length l)) (all_positions A 0 c (i, l ++ r)) (length (items_before c) + length l)
   take-itself =
       subst (λ z. IsAt None (address_at i (length l)) z (length (items_before c) + length l)) (sym (positions-parts A c i l r))
-      (in-right None (address_at i (length l)) (tour_to A c i l) (Ticks (length l) ++ path_after A c)
+      (in-right None (address_at i (length l)) (positions_until A c i l) (Ticks (length l) ++ path_after A c)
       (length (items_before c) + length l) 0 (let p = to-passed A c i l in omega arith) (first r))
     where
       first : (r : List A) → IsAt None (address_at i (length l))
@@ -92,13 +92,13 @@ module _ (A : Type 0) (c : Path A 0) (i : ℕ) (l : List A) (x : A) (r : List A)
     abbrev G : Address → Address
     G = moved_by_take i (length l)
 
-    behind-carries : KeepsPositions G (Ticks (suc (length l)) ++ path_after A c) (Ticks (length l) ++ path_after A c)
-    behind-carries =
+    behind-keeps : KeepsPositions G (Ticks (suc (length l)) ++ path_after A c) (Ticks (length l) ++ path_after A c)
+    behind-keeps =
         let n : ℕ = length l in
-        carry-append G (Ticks (suc n)) (Ticks n) (path_after A c) (path_after A c)
+        keep-append G (Ticks (suc n)) (Ticks n) (path_after A c) (path_after A c)
         (passed-positions_from {A = A} {X = A} (λ x. x) (λ x. []) i (suc n) r
         ∙ sym (passed-positions_from {A = A} {X = A} (λ x. x) (λ x. []) i n r))
-        (carry-positions_from {A = A} {X = A} (λ x. x) (λ x. []) G i (suc n) i n r
+        (keep-positions_from {A = A} {X = A} (λ x. x) (λ x. []) G i (suc n) i n r
         (λ k low. if-same i i (in_shortened i n (Some (suc n + k))) (address_at i (suc n + k)) refl
         ∙ (by-more (address_at i (suc n + k)) (address_at i n) (address_at i (suc n + k - 1)) (suc n + k) n (omega arith)
         ∙ ap (λ z. address_at i z) (let q : suc n + k - 1 ≡ n + k = omega arith in q)))
@@ -106,29 +106,29 @@ module _ (A : Type 0) (c : Path A 0) (i : ℕ) (l : List A) (x : A) (r : List A)
         (path-after-same A G 0 c (λ v m. if-other v.id i (in_shortened i n v.offset) v
         (λ e. let z : 0 < times_above i c = subst (λ k. 0 < times_above k c) e m in omega arith)))
 
-    in-passed : (asked : Option A) (b : Address) (ts : List (Position A)) (q : ℕ) → IsAt asked b ts q → q ≤ passed ts
-    in-passed asked b [] q s = absurd s
-    in-passed asked b (mark d k ∷ ts) q (inl s) = let e = s.1 in omega arith
-    in-passed asked b (mark d k ∷ ts) q (inr s) = in-passed asked b ts q s
-    in-passed asked b (over ∷ ts) q s = let e = s.1 in let n = in-passed asked b ts s.0 s.2 in omega arith
+    in-passed : (expected : Option A) (b : Address) (ts : List (Position A)) (q : ℕ) → IsAt expected b ts q → q ≤ passed ts
+    in-passed expected b [] q s = absurd s
+    in-passed expected b (mark d k ∷ ts) q (inl s) = let e = s.1 in omega arith
+    in-passed expected b (mark d k ∷ ts) q (inr s) = in-passed expected b ts q s
+    in-passed expected b (over ∷ ts) q s = let e = s.1 in let n = in-passed expected b ts s.0 s.2 in omega arith
 
-    pub take-behind : (asked : Option A) (b : Address) (q : ℕ) → length (items_before c) + length l < suc q
-        → IsAt asked b (all_positions A 0 c (i, l ++ x ∷ r)) (suc q)
-        → IsAt asked (G b) (all_positions A 0 c (i, l ++ r)) q
-    take-behind asked b q lt s =
+    pub take-behind : (expected : Option A) (b : Address) (q : ℕ) → length (items_before c) + length l < suc q
+        → IsAt expected b (all_positions A 0 c (i, l ++ x ∷ r)) (suc q)
+        → IsAt expected (G b) (all_positions A 0 c (i, l ++ r)) q
+    take-behind expected b q lt s =
         let p = to-passed A c i l in
-        elim (in-cases asked b (tour_to A c i l)
+        elim (in-cases expected b (positions_until A c i l)
         (mark (address_at i (length l)) (Some x) ∷ over ∷ (Ticks (suc (length l)) ++ path_after A c)) (suc q)
-        (subst (λ z. IsAt asked b z (suc q)) (positions-parts A c i l (x ∷ r)) s)) [
-          | inl early ↦ absurd (let n = in-passed asked b (tour_to A c i l) (suc q) early in omega arith)
+        (subst (λ z. IsAt expected b z (suc q)) (positions-parts A c i l (x ∷ r)) s)) [
+          | inl early ↦ absurd (let n = in-passed expected b (positions_until A c i l) (suc q) early in omega arith)
           | inr later ↦ behind later.rest later.is later.there
         ]
       where
-        behind : (rest : ℕ) → suc q ≡ passed (tour_to A c i l) + rest
-            → IsAt asked b (mark (address_at i (length l)) (Some x) ∷ over ∷ (Ticks (suc (length l)) ++ path_after A c)) rest
-            → IsAt asked (G b) (all_positions A 0 c (i, l ++ r)) q
+        behind : (rest : ℕ) → suc q ≡ passed (positions_until A c i l) + rest
+            → IsAt expected b (mark (address_at i (length l)) (Some x) ∷ over ∷ (Ticks (suc (length l)) ++ path_after A c)) rest
+            → IsAt expected (G b) (all_positions A 0 c (i, l ++ r)) q
         behind rest is (inl here) = absurd (let e = here.1 in let p = to-passed A c i l in omega arith)
         behind rest is (inr (m, e, there)) =
-            subst (λ z. IsAt asked (G b) z q) (sym (positions-parts A c i l r))
-            (in-right asked (G b) (tour_to A c i l) (Ticks (length l) ++ path_after A c) q m
-            (omega arith) (behind-carries asked b m there))
+            subst (λ z. IsAt expected (G b) z q) (sym (positions-parts A c i l r))
+            (in-right expected (G b) (positions_until A c i l) (Ticks (length l) ++ path_after A c) q m
+            (omega arith) (behind-keeps expected b m there))

@@ -10,11 +10,11 @@ use Rattle.btree_item.specs.Pairs.{Ascends}
 use Rattle.btree_item.specs.declared.address.Address.{Address}
 use Rattle.btree_view.specs.View.{NodeMap, leaf}
 use Rattle.btree_shape.specs.Moved.{moved_by_take}
-use Rattle.btree_shape.specs.Focus.Node.{IsOddNode}
-use Rattle.btree_shape.specs.Focus.TreePositions.{Ahead, IsAhead, HasPosition}
+use Rattle.btree_shape.specs.Focus.Node.{IsExemptNode}
+use Rattle.btree_shape.specs.Focus.TreePositions.{IsAtBefore, HasPositionBefore, HasPosition}
 use Rattle.btree_shape.specs.Place.{IsPlace}
-use Rattle.btree_shape.specs.Focus.Shape.{IsFilled, Shape, count_at, id_of}
-use Rattle.btree_shape.specs.Focus.Underflow.{owed, owed_by}
+use Rattle.btree_shape.specs.Focus.Subtree.{IsFilled, Subtree, count_at, id_of}
+use Rattle.btree_shape.specs.Focus.Underflow.{debt, debt_of}
 use Rattle.btree_shape.specs.Represents.{numbers_under}
 use Rattle.btree_shape.specs.Step.{WritesNode}
 use Rattle.btree_shape.specs.Strain.{strain_under}
@@ -31,11 +31,11 @@ use Rattle.btree_shape.proofs.Trees.Numbers.{used-low, used-one}
 use Rattle.btree_shape.proofs.Paths.Levels.{levels-rooted}
 use Rattle.btree_shape.proofs.Places.OfTree.{on-whole, root-positions, whole-on}
 use Rattle.btree_shape.proofs.Places.OnePlace.{one_place-well}
-use Rattle.btree_shape.proofs.Splits.InsertionAddresses.{ahead-before, smaller-before}
-use Rattle.btree_shape.proofs.Paths.FromRoot.{node-at, rooted-odd}
+use Rattle.btree_shape.proofs.Splits.InsertionAddresses.{at-before, smaller-before}
+use Rattle.btree_shape.proofs.Paths.FromRoot.{node-at, rooted-off}
 use Rattle.btree_shape.proofs.LookUp.KeyInList.{Rises, ascends, rises}
-use Rattle.btree_shape.proofs.Paths.UnsizedFocus.{whole-standing}
-use Rattle.btree_shape.proofs.Strain.Sums.{strain-rooted, strain-standing}
+use Rattle.btree_shape.proofs.Paths.UnsizedFocus.{focus-unsized}
+use Rattle.btree_shape.proofs.Strain.Sums.{strain-rooted, strain-unsized}
 use Rattle.btree_shape.proofs.Removal.FromLeaf.{leaf-take, take-before, take-behind, take-itself, take-strain}
 
 -- a list in parts around the element at an index
@@ -88,9 +88,9 @@ module _ {K V : Type 0} (cmp : K → K → Ordering) (laws : IsTotalOrder cmp) (
   seat : Seat
   seat =
       let n = node-at Pair node_at root xs well.formed id (let u = used-one (node_at id) (leaf p ys) here in omega arith) in
-      at n.seen.height n.seen.path n.seen.shape n.seen.here n.seen.whole n.sized
+      at n.focus.height n.focus.path n.focus.subtree n.focus.here n.focus.whole n.sized
     where
-      at : (h : ℕ) (c : Path Pair h) (t : Shape Pair h) → id_of Pair h t ≡ id → IsFocus Pair node_at [] root xs h c t
+      at : (h : ℕ) (c : Path Pair h) (t : Subtree Pair h) → id_of Pair h t ≡ id → IsFocus Pair node_at [] root xs h c t
           → IsFilled (least_at c) h (count_at Pair h t) → Seat
       at (suc h) c t same w z = let d = w.inner.0 in let e2 : node_at t.0 ≡ Some (leaf p ys) = rw same here in absurd (cc)
       at zero c t same w z =
@@ -105,7 +105,7 @@ module _ {K V : Type 0} (cmp : K → K → Ordering) (laws : IsTotalOrder cmp) (
           let te : t ≡ (id, whole-list) =
           ap (λ (i : ℕ). (i, t.1)) same ∙ ap (λ (z : List Pair). (id, z)) (items ∙ s.2) in
           let w1 : IsFocus Pair node_at [] root xs 0 c (id, whole-list) =
-          subst (λ (s : Shape Pair 0). IsFocus Pair node_at [] root xs 0 c s) te w in
+          subst (λ (s : Subtree Pair 0). IsFocus Pair node_at [] root xs 0 c s) te w in
           let shorter : remove ys o ≡ l ++ r = ap (λ z. remove z o) s.2 ∙ remove-seam l x r o s.3 in
           let put2 : WritesNode node_at new id (leaf (parent_above c) (l ++ r)) =
           subst (λ z. WritesNode node_at new id (leaf (parent_above c) z)) shorter
@@ -139,32 +139,32 @@ module _ {K V : Type 0} (cmp : K → K → Ordering) (laws : IsTotalOrder cmp) (
       ap (λ l. slice_get l place) e1
       ∙ get-after (items_before s.path ++ s.left) x (s.right ++ items_after s.path) place (omega arith)
 
-  odd-node : IsOddNode Pair new root (remove xs place) id
-  odd-node =
+  off-node : IsExemptNode Pair new root (remove xs place) id
+  off-node =
       let s = seat in
       let z0 = s.sized.0 in
       let z1 = s.sized.1 in
       let a = length-append s.left (x ∷ s.right) in
       let b = length-append s.left s.right in
       record {
-        seen = record { height = 0; path = s.path; shape = (id, s.left ++ s.right); here = refl; whole = s.now };
+        focus = record { height = 0; path = s.path; subtree = (id, s.left ++ s.right); here = refl; whole = s.now };
         low = omega arith;
         high = omega arith;
       }
 
   rooted : IsRooted (IsNearlySized root id) new root (remove xs place)
-  rooted = rooted-odd Pair new root (remove xs place) id odd-node
+  rooted = rooted-off Pair new root (remove xs place) id off-node
 
   -- the tree is off by one at the leaf
-  pub take-odd : IsOffByOne cmp new root id (remove xs place)
-  take-odd =
+  pub take-off : IsOffByOne cmp new root id (remove xs place)
+  take-off =
       let s = seat in
       let h1 =
       levels-rooted Pair node_at root xs (IsSized root) well.formed 0 s.path (id, s.left ++ x ∷ s.right)
-      (whole-standing Pair node_at [] root xs 0 s.path (id, s.left ++ x ∷ s.right) s.old) in
+      (focus-unsized Pair node_at [] root xs 0 s.path (id, s.left ++ x ∷ s.right) s.old) in
       let h2 =
       levels-rooted Pair new root (remove xs place) (IsNearlySized root id) rooted 0 s.path (id, s.left ++ s.right)
-      (whole-standing Pair new [] root (remove xs place) 0 s.path (id, s.left ++ s.right) s.now) in
+      (focus-unsized Pair new [] root (remove xs place) 0 s.path (id, s.left ++ s.right) s.now) in
       record {
         ascends = Ascends-remove cmp xs place x take-item well.ascends;
         rooted = rooted;
@@ -176,27 +176,27 @@ module _ {K V : Type 0} (cmp : K → K → Ordering) (laws : IsTotalOrder cmp) (
   shorter-count s = ap length (ap (λ z. remove z o) s.parts ∙ remove-seam s.left x s.right o s.count)
 
   -- its strain and what it then owes have grown by at most one
-  pub take-paid : strain_under new root (numbers_under new take-odd.rooted.height root) + owed_by (leaf p (remove ys o))
+  pub take-within : strain_under new root (numbers_under new take-off.rooted.height root) + debt_of (leaf p (remove ys o))
       ≤ suc (strain_under node_at root (numbers_under node_at well.formed.height root))
-  take-paid =
+  take-within =
       let s = seat in
       let a =
-      strain-standing Pair (IsNearlySized root id) new root (remove xs place) take-odd.rooted 0 s.path
-      (id, s.left ++ s.right) (whole-standing Pair new [] root (remove xs place) 0 s.path (id, s.left ++ s.right) s.now)
+      strain-unsized Pair (IsNearlySized root id) new root (remove xs place) take-off.rooted 0 s.path
+      (id, s.left ++ s.right) (focus-unsized Pair new [] root (remove xs place) 0 s.path (id, s.left ++ s.right) s.now)
       in
       let b = strain-rooted Pair node_at root xs well.formed 0 s.path (id, s.left ++ x ∷ s.right) s.old in
       let t = take-strain Pair s.path id s.left x s.right in
-      let w = owed-is s in
+      let w = debt-is s in
       omega arith
     where
-      one-left : (c : Path Pair 0) (n : ℕ) → least_at c ≤ suc n → (if n == 0 then 1 else 0) ≡ owed c n
+      one-left : (c : Path Pair 0) (n : ℕ) → least_at c ≤ suc n → (if n == 0 then 1 else 0) ≡ debt c n
       one-left top zero l = refl
       one-left top (suc n) l = full-no (suc n) 0 1 0 (λ e. omega arith)
       one-left (under f c) zero l = absurd (omega arith)
       one-left (under f c) (suc n) l = full-no (suc n) 0 1 0 (λ e. omega arith)
 
-      owed-is : (s : Seat) → owed_by (leaf p (remove ys o)) ≡ owed s.path (length (s.left ++ s.right))
-      owed-is s =
+      debt-is : (s : Seat) → debt_of (leaf p (remove ys o)) ≡ debt s.path (length (s.left ++ s.right))
+      debt-is s =
           let z0 = s.sized.0 in
           let a = length-append s.left (x ∷ s.right) in
           let b = length-append s.left s.right in
@@ -204,46 +204,46 @@ module _ {K V : Type 0} (cmp : K → K → Ordering) (laws : IsTotalOrder cmp) (
           ∙ one-left s.path (length (s.left ++ s.right)) (omega arith)
 
   -- an address at a smaller place keeps it, and its item
-  pub take-keeps : (asked : Option Pair) (b : Address) (q : ℕ) → q < place → HasPosition Pair node_at root asked b q
-      → HasPosition Pair new root asked b q
-  take-keeps asked b q less on =
+  pub take-keeps : (expected : Option Pair) (b : Address) (q : ℕ) → q < place → HasPosition Pair node_at root expected b q
+      → HasPosition Pair new root expected b q
+  take-keeps expected b q less on =
       let s = seat in
       let pl = s.place_is in
-      let m = on-whole Pair node_at [] root xs asked b q 0 s.path (id, s.left ++ x ∷ s.right) s.old on in
-      whole-on Pair new [] root (remove xs place) asked b q 0 s.path (id, s.left ++ s.right) s.now
-      (take-before Pair s.path id s.left x s.right asked b q
-      (smaller-before Pair s.path id s.left x (x ∷ s.right) asked b q m (omega arith)))
+      let m = on-whole Pair node_at [] root xs expected b q 0 s.path (id, s.left ++ x ∷ s.right) s.old on in
+      whole-on Pair new [] root (remove xs place) expected b q 0 s.path (id, s.left ++ s.right) s.now
+      (take-before Pair s.path id s.left x s.right expected b q
+      (smaller-before Pair s.path id s.left x (x ∷ s.right) expected b q m (omega arith)))
 
   -- so does each address that occurs before the item's
-  pub take-keeps-ahead : (asked : Option Pair) (b : Address) (q : ℕ) → IsAhead Pair node_at root asked b (address_at id o) q
-      → HasPosition Pair new root asked b q
-  take-keeps-ahead asked b q on =
+  pub take-keeps-before : (expected : Option Pair) (b : Address) (q : ℕ) → HasPositionBefore Pair node_at root expected b (address_at id o) q
+      → HasPosition Pair new root expected b q
+  take-keeps-before expected b q on =
       let s = seat in
       let t =
       root-positions Pair node_at [] root xs 0 s.path (id, s.left ++ x ∷ s.right)
-      (whole-standing Pair node_at [] root xs 0 s.path (id, s.left ++ x ∷ s.right) s.old) on.height on.shape on.at_root
+      (focus-unsized Pair node_at [] root xs 0 s.path (id, s.left ++ x ∷ s.right) s.old) on.height on.subtree on.at_root
       on.holds in
-      let a : Ahead asked b (address_at id (length s.left)) (all_positions Pair 0 s.path (id, s.left ++ x ∷ s.right)) q =
-      subst (λ n. Ahead asked b (address_at id n) (all_positions Pair 0 s.path (id, s.left ++ x ∷ s.right)) q) (sym s.count)
-      (subst (λ z. Ahead asked b (address_at id o) z q) (sym t) on.there) in
-      whole-on Pair new [] root (remove xs place) asked b q 0 s.path (id, s.left ++ s.right) s.now
-      (take-before Pair s.path id s.left x s.right asked b q
-      (ahead-before Pair s.path id s.left x (x ∷ s.right) asked b q a))
+      let a : IsAtBefore expected b (address_at id (length s.left)) (all_positions Pair 0 s.path (id, s.left ++ x ∷ s.right)) q =
+      subst (λ n. IsAtBefore expected b (address_at id n) (all_positions Pair 0 s.path (id, s.left ++ x ∷ s.right)) q) (sym s.count)
+      (subst (λ z. IsAtBefore expected b (address_at id o) z q) (sym t) on.there) in
+      whole-on Pair new [] root (remove xs place) expected b q 0 s.path (id, s.left ++ s.right) s.now
+      (take-before Pair s.path id s.left x s.right expected b q
+      (at-before Pair s.path id s.left x (x ∷ s.right) expected b q a))
 
   -- an address at a greater place has one less, with its item, at its new address
-  pub take-later : (asked : Option Pair) (b : Address) (q : ℕ) → place ≤ q → HasPosition Pair node_at root asked b (suc q)
-      → HasPosition Pair new root asked (moved_by_take id o b) q
-  take-later asked b q more on =
+  pub take-later : (expected : Option Pair) (b : Address) (q : ℕ) → place ≤ q → HasPosition Pair node_at root expected b (suc q)
+      → HasPosition Pair new root expected (moved_by_take id o b) q
+  take-later expected b q more on =
       let s = seat in
       let pl = s.place_is in
-      let m = on-whole Pair node_at [] root xs asked b (suc q) 0 s.path (id, s.left ++ x ∷ s.right) s.old on in
+      let m = on-whole Pair node_at [] root xs expected b (suc q) 0 s.path (id, s.left ++ x ∷ s.right) s.old on in
       let once = s.old.once id in
       let u = used-low (node_at id) in
       let k = one-self id in
       let r =
-      take-behind Pair s.path id s.left x s.right (omega arith) asked b q (omega arith) m in
-      whole-on Pair new [] root (remove xs place) asked (moved_by_take id o b) q 0 s.path (id, s.left ++ s.right) s.now
-      (subst (λ n. IsAt asked (moved_by_take id n b) (all_positions Pair 0 s.path (id, s.left ++ s.right)) q) s.count r)
+      take-behind Pair s.path id s.left x s.right (omega arith) expected b q (omega arith) m in
+      whole-on Pair new [] root (remove xs place) expected (moved_by_take id o b) q 0 s.path (id, s.left ++ s.right) s.now
+      (subst (λ n. IsAt expected (moved_by_take id n b) (all_positions Pair 0 s.path (id, s.left ++ s.right)) q) s.count r)
 
   -- and the item's own address keeps the place
   pub take-address : HasPosition Pair new root None (address_at id o) place

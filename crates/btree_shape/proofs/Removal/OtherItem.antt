@@ -6,34 +6,34 @@ use Rattle.std.proofs.lemmas.List.{length-map}
 use Rattle.std.specs.Prelude.{slice_get}
 use Rattle.btree_item.specs.declared.address.Address.{Address}
 use Rattle.btree_view.specs.View.{NodeMap}
-use Rattle.btree_shape.specs.Focus.Shape.{Holds, Shape, count_at, id_of, items_under, later_items, times_under, view_at}
+use Rattle.btree_shape.specs.Focus.Subtree.{Holds, Subtree, count_at, id_of, items_under, later_items, times_under, view_at}
 use Rattle.btree_shape.specs.Strain.{strain, strain_below}
 use Rattle.btree_shape.specs.Focus.Positions.{IsAt, Position, branch_key, branch_positions, address_at, positions_from, positions}
 use Rattle.btree_shape.proofs.LookUp.Descent.{get-after}
 use Rattle.btree_shape.proofs.Paths.Frames.{AllByRecursion-append, AllByRecursion-left, AllByRecursion-right, eachs-same, holds-same, total-append}
 use Rattle.btree_shape.proofs.Underflow.Writes.{set-seam}
 use Rattle.btree_shape.proofs.Places.NodePlaces.{items_upto}
-use Rattle.btree_shape.proofs.Splits.Halves.{times_below}
+use Rattle.btree_shape.proofs.Splits.TwoParts.{times_below}
 use Rattle.btree_shape.proofs.Removal.FromTree.{parts-at}
 use Rattle.btree_shape.proofs.Places.Lists.{in-cases, in-left, in-right}
 use Rattle.btree_shape.proofs.Underflow.Items.{children_at, ids-append, items_at, keys-append, numbered}
 
-module _ {A X : Type 0} (key : X → A) (below : X → List (Position A)) (asked : Option A) (b : Address) where
+module _ {A X : Type 0} (key : X → A) (below : X → List (Position A)) (expected : Option A) (b : Address) where
   -- a row in which one entry has another item: every address but its own stays
   node_positions-swap : (i o : ℕ) (l : List X) (e e' : X) (r : List X) (q : ℕ) → below e ≡ below e' → b ≢ address_at i (o + length l)
-      → IsAt asked b (positions_from key below i o (l ++ e ∷ r)) q → IsAt asked b (positions_from key below i o (l ++ e' ∷ r)) q
+      → IsAt expected b (positions_from key below i o (l ++ e ∷ r)) q → IsAt expected b (positions_from key below i o (l ++ e' ∷ r)) q
   node_positions-swap i o [] e e' r q same away (inl s) =
       absurd (away (s.0 ∙ ap (λ n. address_at i n) (let k : o ≡ o + 0 = omega arith in k)))
   node_positions-swap i o [] e e' r q same away (inr (m, is, s)) =
-      inr (m, is, subst (λ z. IsAt asked b (z ++ positions_from key below i (suc o) r) m) same s)
+      inr (m, is, subst (λ z. IsAt expected b (z ++ positions_from key below i (suc o) r) m) same s)
   node_positions-swap i o (z ∷ l) e e' r q same away (inl s) = inl s
   node_positions-swap i o (z ∷ l) e e' r q same away (inr (m, is, s)) =
       inr (
         m,
         is,
-        elim (in-cases asked b (below z) (positions_from key below i (suc o) (l ++ e ∷ r)) m s) [
-          | inl early ↦ in-left asked b (below z) (positions_from key below i (suc o) (l ++ e' ∷ r)) m early
-          | inr later ↦ in-right asked b (below z) (positions_from key below i (suc o) (l ++ e' ∷ r)) m later.rest later.is
+        elim (in-cases expected b (below z) (positions_from key below i (suc o) (l ++ e ∷ r)) m s) [
+          | inl early ↦ in-left expected b (below z) (positions_from key below i (suc o) (l ++ e' ∷ r)) m early
+          | inr later ↦ in-right expected b (below z) (positions_from key below i (suc o) (l ++ e' ∷ r)) m later.rest later.is
               (node_positions-swap i (suc o) l e e' r later.rest same
               (λ k. away (k ∙ ap (λ n. address_at i n) (let j : suc o + length l ≡ o + suc (length l) = omega arith in j)))
               later.there)
@@ -42,8 +42,8 @@ module _ {A X : Type 0} (key : X → A) (below : X → List (Position A)) (asked
 
 module _ (A : Type 0) where
   -- the node with item y at index k in the place of x
-  pub record Swapped (h : ℕ) (t : Shape A h) (k : ℕ) (x y : A) : Type 0 where
-    pub now : Shape A h
+  pub record Swapped (h : ℕ) (t : Subtree A h) (k : ℕ) (x y : A) : Type 0 where
+    pub now : Subtree A h
     pub front : List A
     pub back : List A
     pub old_items : items_under A h t ≡ front ++ x ∷ back
@@ -61,8 +61,8 @@ module _ (A : Type 0) where
     pub holds : (node_at new : NodeMap A) (p : Option ℕ) → Holds A node_at h p t
         → new (id_of A h t) ≡ Some (view_at A h p now) → ((n : ℕ) → 0 < times_below A h n t → new n ≡ node_at n)
         → Holds A new h p now
-    pub stays : (asked : Option A) (b : Address) (q : ℕ) → b ≢ address_at (id_of A h t) k → IsAt asked b (positions A h t) q
-        → IsAt asked b (positions A h now) q
+    pub stays : (expected : Option A) (b : Address) (q : ℕ) → b ≢ address_at (id_of A h t) k → IsAt expected b (positions A h t) q
+        → IsAt expected b (positions A h now) q
 
   swapped-leaf : (i : ℕ) (l : List A) (x y : A) (r : List A) (k : ℕ) → length l ≡ k
       → Swapped 0 (i, l ++ x ∷ r) k x y
@@ -86,16 +86,16 @@ module _ (A : Type 0) where
         item_is = get-after l y r k (sym n);
         children_are = refl;
         holds = λ node_at new p d e same. e;
-        stays = λ asked b q away s.
+        stays = λ expected b q away s.
             elim s [
               | inl address_before ↦ inl address_before
-              | inr more ↦ inr (node_positions-swap {A = A} {X = A} (λ x. x) (λ x. []) asked b i 0 l x y r q refl
+              | inr more ↦ inr (node_positions-swap {A = A} {X = A} (λ x. x) (λ x. []) expected b i 0 l x y r q refl
                   (λ e. away (e ∙ ap (λ m. address_at i m) (let j : 0 + length l ≡ k = omega arith in j))) more)
             ];
       }
 
-  swapped-inner : (h i : ℕ) (first : Shape A h) (l : List (A × Shape A h)) (x y : A) (u : Shape A h)
-      (r : List (A × Shape A h)) (k : ℕ) → length l ≡ k
+  swapped-inner : (h i : ℕ) (first : Subtree A h) (l : List (A × Subtree A h)) (x y : A) (u : Subtree A h)
+      (r : List (A × Subtree A h)) (k : ℕ) → length l ≡ k
       → Swapped (suc h) (i, first, l ++ (x, u) ∷ r) k x y
   swapped-inner h i first l x y u r k n =
       let n1 = length-append l ((x, u) ∷ r) in
@@ -120,13 +120,13 @@ module _ (A : Type 0) where
         count = omega arith;
         times = λ m. omega (
           arith,
-          total-append (λ (b : A × Shape A h). times_under A h m b.1) l ((x, u) ∷ r),
-          total-append (λ (b : A × Shape A h). times_under A h m b.1) l ((y, u) ∷ r),
+          total-append (λ (b : A × Subtree A h). times_under A h m b.1) l ((x, u) ∷ r),
+          total-append (λ (b : A × Subtree A h). times_under A h m b.1) l ((y, u) ∷ r),
         );
         strain_is = omega (
           arith,
-          total-append (λ (b : A × Shape A h). strain A h b.1) l ((x, u) ∷ r),
-          total-append (λ (b : A × Shape A h). strain A h b.1) l ((y, u) ∷ r),
+          total-append (λ (b : A × Subtree A h). strain A h b.1) l ((x, u) ∷ r),
+          total-append (λ (b : A × Subtree A h). strain A h b.1) l ((y, u) ∷ r),
         );
         items_are = keys-append A h l ((y, u) ∷ r)
             ∙ (sym (set-seam kl x kr k y len) ∙ ap (λ m. set m k y) (sym (keys-append A h l ((x, u) ∷ r))));
@@ -134,33 +134,33 @@ module _ (A : Type 0) where
         children_are = ap (λ m. id_of A h first ∷ m)
             (ids-append A h l ((y, u) ∷ r) ∙ sym (ids-append A h l ((x, u) ∷ r)));
         holds = λ node_at new p d e same.
-            let H : A × Shape A h → Type 0 = λ b. Holds A new h (Some i) b.1 in
+            let H : A × Subtree A h → Type 0 = λ b. Holds A new h (Some i) b.1 in
             let all = eachs-same A node_at new h (Some i) (l ++ (x, u) ∷ r) (λ m z. same m (omega arith)) d.2 in
             let right = AllByRecursion-right H l ((x, u) ∷ r) all in (
               e,
               holds-same A node_at new h (Some i) first (λ m z. same m (omega arith)) d.1,
               AllByRecursion-append H l ((y, u) ∷ r) (AllByRecursion-left H l ((x, u) ∷ r) all) right,
             );
-        stays = λ asked b q away s.
+        stays = λ expected b q away s.
             elim s [
               | inl address_before ↦ inl address_before
               | inr more ↦ inr
-                  (elim (in-cases asked b (positions A h first)
+                  (elim (in-cases expected b (positions A h first)
                   (positions_from (branch_key A h) (branch_positions A h) i 0 (l ++ (x, u) ∷ r)) q more) [
-                    | inl early ↦ in-left asked b (positions A h first)
+                    | inl early ↦ in-left expected b (positions A h first)
                         (positions_from (branch_key A h) (branch_positions A h) i 0 (l ++ (y, u) ∷ r)) q early
-                    | inr later ↦ in-right asked b (positions A h first)
+                    | inr later ↦ in-right expected b (positions A h first)
                         (positions_from (branch_key A h) (branch_positions A h) i 0 (l ++ (y, u) ∷ r)) q later.rest later.is
-                        (node_positions-swap (branch_key A h) (branch_positions A h) asked b i 0 l (x, u) (y, u) r later.rest refl
+                        (node_positions-swap (branch_key A h) (branch_positions A h) expected b i 0 l (x, u) (y, u) r later.rest refl
                         (λ e. away (e ∙ ap (λ m. address_at i m) (let j : 0 + length l ≡ k = omega arith in j)))
                         later.there)
                   ])
             ];
       }
 
-  branch-at : (h : ℕ) (bs : List (A × Shape A h)) (k : ℕ) (x : A)
+  branch-at : (h : ℕ) (bs : List (A × Subtree A h)) (k : ℕ) (x : A)
       → slice_get (map {B = A} (λ b. b.0) (map (numbered A h) bs)) k ≡ Some x
-      → (l : List (A × Shape A h)) × (u : Shape A h) × (r : List (A × Shape A h)) × (bs ≡ l ++ (x, u) ∷ r)
+      → (l : List (A × Subtree A h)) × (u : Subtree A h) × (r : List (A × Subtree A h)) × (bs ≡ l ++ (x, u) ∷ r)
       × (length l ≡ k)
   branch-at h [] k x e = absurd (cc)
   branch-at h (b ∷ bs) zero x e = ([], b.1, bs, (let q : b.0 ≡ x = cc in ap (λ z. (z, b.1) ∷ bs) q), refl)
@@ -168,11 +168,11 @@ module _ (A : Type 0) where
       let s = branch-at h bs k x e in
       (b ∷ s.0, s.1, s.2, ap (λ z. b ∷ z) s.3, (let q = s.4 in omega arith))
 
-  pub swapped : (h : ℕ) (t : Shape A h) (k : ℕ) (x y : A) → slice_get (items_at A h t) k ≡ Some x → Swapped h t k x y
+  pub swapped : (h : ℕ) (t : Subtree A h) (k : ℕ) (x y : A) → slice_get (items_at A h t) k ≡ Some x → Swapped h t k x y
   swapped zero t k x y e =
       let s = parts-at t.1 k x e in
       subst (λ (m : List A). Swapped 0 (t.0, m) k x y) (sym s.2) (swapped-leaf t.0 s.0 x y s.1 k s.3)
   swapped (suc h) t k x y e =
       let s = branch-at h t.2 k x e in
-      subst (λ (m : List (A × Shape A h)). Swapped (suc h) (t.0, t.1, m) k x y) (sym s.3)
+      subst (λ (m : List (A × Subtree A h)). Swapped (suc h) (t.0, t.1, m) k x y) (sym s.3)
       (swapped-inner h t.0 t.1 s.0 x y s.1 s.2 k s.4)

@@ -35,25 +35,25 @@ module _ {K V : Type 0} (cmp : K → K → Ordering) (laws : IsTotalOrder cmp) (
     (up : Ascends cmp (set xs place y)) where
   -- every other address stays, at its place and item, and this one is at the new item
   pub record Stays : Type 0 where
-    pub keeps : (asked : Option (K × V)) (b : Address) (q : ℕ) → b ≢ address_at n k → HasPosition (K × V) node_at root asked b q
-        → HasPosition (K × V) new root asked b q
+    pub keeps : (expected : Option (K × V)) (b : Address) (q : ℕ) → b ≢ address_at n k → HasPosition (K × V) node_at root expected b q
+        → HasPosition (K × V) new root expected b q
     pub itself : HasPosition (K × V) new root (Some y) (address_at n k) place
 
   -- a tree that is off by one at a node
-  module _ (odd : ℕ) (d : IsOffByOne cmp node_at root odd xs) where
+  module _ (exempt : ℕ) (d : IsOffByOne cmp node_at root exempt xs) where
     pub record ReplacedOdd (ys : List (K × V)) : Type 0 where
-      pub tree : IsOffByOne cmp new root odd ys
+      pub tree : IsOffByOne cmp new root exempt ys
       pub strain_is : strain_under new root (numbers_under new tree.rooted.height root)
           ≡ strain_under node_at root (numbers_under node_at d.rooted.height root)
       pub stays : Stays
 
-    pub replaced-odd : ReplacedOdd (set xs place y)
-    replaced-odd =
+    pub replaced-off : ReplacedOdd (set xs place y)
+    replaced-off =
         let r =
-        replaced (K × V) (IsNearlySized root odd)
+        replaced (K × V) (IsNearlySized root exempt)
         (λ i v w e f z. let z0 = z.0 in let z1 = z.1 in (omega arith, omega arith)) node_at new root xs d.rooted n k x y v w
         here item put has in
-        let at : place ≡ length r.front = one_place cmp laws node_at root odd xs d n (Some k) place (length r.front)
+        let at : place ≡ length r.front = one_place cmp laws node_at root exempt xs d n (Some k) place (length r.front)
         at_place r.at_place in
         let list : set xs place y ≡ r.front ++ y ∷ r.back =
         ap (λ l. set l place y) r.old_list ∙ set-seam r.front x r.back place y (sym at) in
@@ -74,10 +74,10 @@ module _ {K V : Type 0} (cmp : K → K → Ordering) (laws : IsTotalOrder cmp) (
           };
         })
       where
-        used : IsSome (new odd)
-        used = elim (same-or odd n) [
+        used : IsSome (new exempt)
+        used = elim (same-or exempt n) [
           | inl e ↦ rw (e, put.here) refl
-          | inr away ↦ rw (put.others odd away) d.used
+          | inr away ↦ rw (put.others exempt away) d.used
         ]
 
   -- a well formed tree

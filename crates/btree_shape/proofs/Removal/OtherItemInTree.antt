@@ -9,23 +9,23 @@ use Rattle.btree_shape.specs.Focus.Focus.{IsUnsizedFocus}
 use Rattle.btree_shape.specs.Focus.TreePositions.{HasPosition}
 use Rattle.btree_shape.specs.Place.{IsPlace}
 use Rattle.btree_shape.specs.Lists.{one}
-use Rattle.btree_shape.specs.Focus.Shape.{Shape, count_at, id_of, items_under, times_under, view_at}
+use Rattle.btree_shape.specs.Focus.Subtree.{Subtree, count_at, id_of, items_under, times_under, view_at}
 use Rattle.btree_shape.specs.Represents.{numbers_under}
 use Rattle.btree_shape.specs.Step.{HasItems, WritesNode}
 use Rattle.btree_shape.specs.Strain.{own_strain, strain_under}
 use Rattle.btree_shape.specs.Focus.Positions.{IsAt, address_at, positions, path_after, path_before, all_positions}
 use Rattle.btree_shape.specs.Focus.Path.{Path, HoldsAbove, items_after, items_before, parent_above, root_above, times_above}
 use Rattle.btree_shape.specs.WellFormed.{IsRooted, times_used}
-use Rattle.btree_shape.proofs.Splits.Carried.{positions-passed}
+use Rattle.btree_shape.proofs.Splits.KeptPositions.{positions-passed}
 use Rattle.btree_shape.proofs.Paths.Frames.{above-same, one-zero, top-view}
 use Rattle.btree_shape.proofs.Underflow.Writes.{remade-view}
-use Rattle.btree_shape.proofs.Places.NodePlaces.{items_upto, standing-place}
+use Rattle.btree_shape.proofs.Places.NodePlaces.{items_upto, unsized-place}
 use Rattle.btree_shape.proofs.Trees.Numbers.{same-or, times-has, used-low, used-one}
 use Rattle.btree_shape.proofs.Paths.Levels.{levels-rooted}
-use Rattle.btree_shape.proofs.Places.OfTree.{on-standing, standing-on}
-use Rattle.btree_shape.proofs.Paths.FromRoot.{node-rooted, rooted-standing}
-use Rattle.btree_shape.proofs.Splits.Halves.{times-top}
-use Rattle.btree_shape.proofs.Strain.Sums.{strain-standing}
+use Rattle.btree_shape.proofs.Places.OfTree.{on-unsized, unsized-on}
+use Rattle.btree_shape.proofs.Paths.FromRoot.{node-rooted, rooted-unsized}
+use Rattle.btree_shape.proofs.Splits.TwoParts.{times-top}
+use Rattle.btree_shape.proofs.Strain.Sums.{strain-unsized}
 use Rattle.btree_shape.proofs.Removal.OtherItem.{Swapped, swapped}
 use Rattle.btree_shape.proofs.Places.TreePlaces.{item-in}
 use Rattle.btree_shape.proofs.Places.Lists.{in-cases, in-left, in-right}
@@ -53,11 +53,11 @@ module _ (A : Type 0) (is_right : (id : ℕ) → View A → Type 0)
     pub height_is : rooted.height ≡ r.height
     pub strain_is : strain_under new root (numbers_under new rooted.height root)
         ≡ strain_under node_at root (numbers_under node_at r.height root)
-    pub keeps : (asked : Option A) (b : Address) (q : ℕ) → b ≢ address_at n k → HasPosition A node_at root asked b q
-        → HasPosition A new root asked b q
+    pub keeps : (expected : Option A) (b : Address) (q : ℕ) → b ≢ address_at n k → HasPosition A node_at root expected b q
+        → HasPosition A new root expected b q
     pub itself : HasPosition A new root (Some y) (address_at n k) (length front)
 
-  module _ (h : ℕ) (c : Path A h) (t : Shape A h) (is : id_of A h t ≡ n) (s : IsUnsizedFocus A node_at [] root xs h c t) where
+  module _ (h : ℕ) (c : Path A h) (t : Subtree A h) (is : id_of A h t ≡ n) (s : IsUnsizedFocus A node_at [] root xs h c t) where
     view-is : v ≡ view_at A h (parent_above c) t
     view-is = same_Some v (view_at A h (parent_above c) t)
         (sym here ∙ subst (λ i. node_at i ≡ Some (view_at A h (parent_above c) t)) is
@@ -92,8 +92,8 @@ module _ (A : Type 0) (is_right : (id : ℕ) → View A → Type 0)
     new-list : Front ++ y ∷ Back ≡ items_before c ++ (items_under A h swap.now ++ items_after c)
     new-list = sym (ap (λ l. items_before c ++ (l ++ items_after c)) swap.new_items ∙ simp append_assoc)
 
-    stands : IsUnsizedFocus A new [] root (Front ++ y ∷ Back) h c swap.now
-    stands =
+    focused : IsUnsizedFocus A new [] root (Front ++ y ∷ Back) h c swap.now
+    focused =
         record {
           above = subst (λ i. HoldsAbove new c i) (sym swap.here) (above-same A node_at new h c (id_of A h t)
               (λ m z. let q = sum m in let t = times-has A h m t in others m (omega arith)) s.above);
@@ -117,15 +117,15 @@ module _ (A : Type 0) (is_right : (id : ℕ) → View A → Type 0)
           root_is = ap (root_above c) swap.here ∙ s.root_is;
         }
 
-    whole-stays : (asked : Option A) (b : Address) (q : ℕ) → b ≢ address_at n k → IsAt asked b (all_positions A h c t) q
-        → IsAt asked b (all_positions A h c swap.now) q
-    whole-stays asked b q away i =
-        elim (in-cases asked b (path_before A c) (positions A h t ++ path_after A c) q i) [
-          | inl early ↦ in-left asked b (path_before A c) (positions A h swap.now ++ path_after A c) q early
-          | inr later ↦ in-right asked b (path_before A c) (positions A h swap.now ++ path_after A c) q later.rest later.is
-              (elim (in-cases asked b (positions A h t) (path_after A c) later.rest later.there) [
-                | inl inside ↦ in-left asked b (positions A h swap.now) (path_after A c) later.rest
-                    (swap.stays asked b later.rest (λ e. away (e ∙ ap (λ i. address_at i k) is)) inside)
+    whole-stays : (expected : Option A) (b : Address) (q : ℕ) → b ≢ address_at n k → IsAt expected b (all_positions A h c t) q
+        → IsAt expected b (all_positions A h c swap.now) q
+    whole-stays expected b q away i =
+        elim (in-cases expected b (path_before A c) (positions A h t ++ path_after A c) q i) [
+          | inl early ↦ in-left expected b (path_before A c) (positions A h swap.now ++ path_after A c) q early
+          | inr later ↦ in-right expected b (path_before A c) (positions A h swap.now ++ path_after A c) q later.rest later.is
+              (elim (in-cases expected b (positions A h t) (path_after A c) later.rest later.there) [
+                | inl inside ↦ in-left expected b (positions A h swap.now) (path_after A c) later.rest
+                    (swap.stays expected b later.rest (λ e. away (e ∙ ap (λ i. address_at i k) is)) inside)
                 | inr behind ↦
                     let p1 = positions-passed A h t in
                     let p2 = positions-passed A h swap.now in
@@ -136,7 +136,7 @@ module _ (A : Type 0) (is_right : (id : ℕ) → View A → Type 0)
                     let a1 = length-append swap.front (x ∷ swap.back) in
                     let a2 = length-append swap.front (y ∷ swap.back) in
                     let b1 = behind.is in
-                    in-right asked b (positions A h swap.now) (path_after A c) later.rest behind.rest (omega arith)
+                    in-right expected b (positions A h swap.now) (path_after A c) later.rest behind.rest (omega arith)
                     behind.there
               ])
         ]
@@ -158,13 +158,13 @@ module _ (A : Type 0) (is_right : (id : ℕ) → View A → Type 0)
         ap (λ z. length (items_before c) + z) swap.old_upto ∙ sym (length-append (items_before c) swap.front) in
         let place2 : length (items_before c) + items_upto A h swap.now k ≡ length Front =
         ap (λ z. length (items_before c) + z) swap.upto ∙ sym (length-append (items_before c) swap.front) in
-        let rooted = rooted-standing A new is_right root (Front ++ y ∷ Back) h c swap.now stands sized in
+        let rooted = rooted-unsized A new is_right root (Front ++ y ∷ Back) h c swap.now focused sized in
         let wn = swap.within in
         let cn = swap.count in
         let h1 = levels-rooted A node_at root xs is_right r h c t s in
-        let h2 = levels-rooted A new root (Front ++ y ∷ Back) is_right rooted h c swap.now stands in
-        let s1 = strain-standing A is_right node_at root xs r h c t s in
-        let s2 = strain-standing A is_right new root (Front ++ y ∷ Back) rooted h c swap.now stands in
+        let h2 = levels-rooted A new root (Front ++ y ∷ Back) is_right rooted h c swap.now focused in
+        let s1 = strain-unsized A is_right node_at root xs r h c t s in
+        let s2 = strain-unsized A is_right new root (Front ++ y ∷ Back) rooted h c swap.now focused in
         let st = swap.strain_is in
         let so : own_strain A c (count_at A h swap.now) ≡ own_strain A c (count_at A h t) = ap (own_strain A c) cn in
         let low : k ≤ count_at A h t = omega arith in
@@ -175,16 +175,16 @@ module _ (A : Type 0) (is_right : (id : ℕ) → View A → Type 0)
           old_list = s.list ∙ (ap (λ l. items_before c ++ (l ++ items_after c)) swap.old_items ∙ simp append_assoc);
           at_place = subst (λ i. IsPlace node_at (Some root) xs i (Some k) (length Front)) is
               (subst (λ q. IsPlace node_at (Some root) xs (id_of A h t) (Some k) q) place
-              (standing-place A node_at [] root xs h c t s k low));
+              (unsized-place A node_at [] root xs h c t s k low));
           rooted = rooted;
           height_is = omega arith;
           strain_is = omega arith;
-          keeps = λ asked b q away on. standing-on A new [] root (Front ++ y ∷ Back) asked b q h c swap.now stands
-              (whole-stays asked b q away (on-standing A node_at [] root xs asked b q h c t s on));
+          keeps = λ expected b q away on. unsized-on A new [] root (Front ++ y ∷ Back) expected b q h c swap.now focused
+              (whole-stays expected b q away (on-unsized A node_at [] root xs expected b q h c t s on));
           itself = subst (λ i. HasPosition A new root (Some y) (address_at i k) (length Front)) (swap.here ∙ is)
               (subst (λ q. HasPosition A new root (Some y) (address_at (id_of A h swap.now) k) q) place2
-              (standing-on A new [] root (Front ++ y ∷ Back) (Some y) (address_at (id_of A h swap.now) k)
-              (length (items_before c) + items_upto A h swap.now k) h c swap.now stands
+              (unsized-on A new [] root (Front ++ y ∷ Back) (Some y) (address_at (id_of A h swap.now) k)
+              (length (items_before c) + items_upto A h swap.now k) h c swap.now focused
               (item-in A h c (parent_above c) swap.now k y
               (ap (λ l. slice_get l k) (items_at-is A h (parent_above c) swap.now) ∙ swap.item_is) low2)));
         }
@@ -192,4 +192,4 @@ module _ (A : Type 0) (is_right : (id : ℕ) → View A → Type 0)
   pub replaced : Replaced
   replaced =
       let m = node-rooted A node_at is_right root xs r n (let u = used-one (node_at n) v here in omega arith) in
-      replaced-at m.height m.path m.shape m.here m.stands
+      replaced-at m.height m.path m.subtree m.here m.focused

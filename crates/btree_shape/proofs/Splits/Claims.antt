@@ -2,7 +2,7 @@
 use Rattle.std.proofs.Common.{◌≡◌, ◌<◌, ◌++◌, ◌∷◌, [], ◌∙◌, ◌+◌, ℕ, suc, List, length, ap, arith, length-append}
 use Rattle.btree_view.specs.View.{NodeMap}
 use Rattle.btree_shape.specs.Lists.{one, times_listed}
-use Rattle.btree_shape.specs.Focus.Shape.{Shape, id_of, times_under}
+use Rattle.btree_shape.specs.Focus.Subtree.{Subtree, id_of, times_under}
 use Rattle.btree_shape.specs.Step.{Claims}
 use Rattle.btree_shape.specs.Focus.Path.{Path, parent_above, times_above}
 use Rattle.btree_shape.specs.Focus.Focus.{IsFocus}
@@ -18,7 +18,7 @@ push-spare spare rest j is = (
 
 module _ (A : Type 0) where
   -- a tree stays when numbers are claimed
-  pub claimed : (node_at new : NodeMap A) (spare : List ℕ) (root : ℕ) (xs : List A) (h : ℕ) (c : Path A h) (t : Shape A h)
+  pub claimed : (node_at new : NodeMap A) (spare : List ℕ) (root : ℕ) (xs : List A) (h : ℕ) (c : Path A h) (t : Subtree A h)
       → Claims node_at new spare
       → IsFocus A node_at [] root xs h c t → IsFocus A new spare root xs h c t
   claimed node_at new spare root xs h c t cl w =

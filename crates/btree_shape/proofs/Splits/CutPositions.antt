@@ -2,16 +2,16 @@
 use Rattle.std.proofs.Common.{◌≡◌, ◌<◌, ◌≤◌, ◌++◌, ◌∷◌, [], ◌∙◌, ◌+◌, ℕ, suc, inl, List, length, Option, Some, None, refl, sym, ap, subst, arith, append_assoc, append-nil}
 use Rattle.std.specs.List.{AllByRecursion}
 use Rattle.btree_item.specs.declared.address.Address.{Address}
-use Rattle.btree_shape.specs.Focus.Positions.{Asks, KeepsPositions, IsAt, Position, address_before, mark, over, node_positions, address_at, positions_from, positions_to}
-use Rattle.btree_shape.proofs.Places.Lists.{carry-append, carry-mark, carry-more, carry-over, carry-positions_from, carry-positions_to, positions_from-append}
+use Rattle.btree_shape.specs.Focus.Positions.{IsExpected, KeepsPositions, IsAt, Position, address_before, mark, over, node_positions, address_at, positions_from, positions_to}
+use Rattle.btree_shape.proofs.Places.Lists.{keep-append, keep-mark, keep-more, keep-over, keep-positions_from, keep-positions_to, positions_from-append}
 
 -- a node in two parts A and B, by rows: an entry is an item with the child after it, or an item alone
 module _ {A X : Type 0} (key : X → A) (f : X → List (Position A)) where
-  pub fits-none : (o k : Option A) → Asks o None → Asks o k
+  pub fits-none : (o k : Option A) → IsExpected o None → IsExpected o k
   fits-none None k h = tt
   fits-none (Some x) k h = absurd (cc)
 
-  pub in-none : (o : Option A) (a : Address) (ts : List (Position A)) (u : ℕ) → Asks o None → IsAt None a ts u → IsAt o a ts u
+  pub in-none : (o : Option A) (a : Address) (ts : List (Position A)) (u : ℕ) → IsExpected o None → IsAt None a ts u → IsAt o a ts u
   in-none None a ts u h i = i
   in-none (Some x) a ts u h i = absurd (cc)
 
@@ -39,29 +39,29 @@ module _ {A X : Type 0} (key : X → A) (f : X → List (Position A)) where
       (Some (key e)) ∷ over ∷ (f e ++ positions_from key f i (suc (length xs)) ys))))
   node_positions-joined i pre xs e ys = ap (λ z. mark (address_before i) None ∷ (pre ++ z)) (positions_from-from i xs (e ∷ ys))
 
-  pub carry-back : (g : Address → Address) (i o j : ℕ) (xs : List X)
+  pub keep-back : (g : Address → Address) (i o j : ℕ) (xs : List X)
       → ((k : ℕ) → k ≤ length xs → g (address_at i (o + k)) ≡ address_at j k)
       → AllByRecursion (λ x. KeepsPositions g (f x) (f x)) xs → KeepsPositions g (positions_from key f i o xs) (positions_from key f j 0 xs)
-  carry-back g i o j xs e c = carry-positions_from key f g i o j 0 xs
+  keep-back g i o j xs e c = keep-positions_from key f g i o j 0 xs
       (λ k l. e k l ∙ ap (λ z. address_at j z) (let q : k ≡ 0 + k = omega arith in q)) c
 
-  pub carry-start : (g : Address → Address) (i : ℕ) (xs : List X) → ((k : ℕ) → k < length xs → g (address_at i k) ≡ address_at i k)
+  pub keep-start : (g : Address → Address) (i : ℕ) (xs : List X) → ((k : ℕ) → k < length xs → g (address_at i k) ≡ address_at i k)
       → AllByRecursion (λ x. KeepsPositions g (f x) (f x)) xs → KeepsPositions g (positions_to key f i 0 xs) (positions_to key f i 0 xs)
-  carry-start g i xs e c =
-      carry-positions_to key f g i 0 i 0 xs (λ k l. ap (λ z. g (address_at i z)) (let q : 0 + k ≡ k = omega arith in q)
+  keep-start g i xs e c =
+      keep-positions_to key f g i 0 i 0 xs (λ k l. ap (λ z. g (address_at i z)) (let q : 0 + k ≡ k = omega arith in q)
       ∙ (e k l ∙ ap (λ z. address_at i z) (let q : k ≡ 0 + k = omega arith in q))) c
 
   -- what both rows keep at the front
-  pub carry-front : (g : Address → Address) (i : ℕ) (pre : List (Position A)) (xs : List X) (ts ss : List (Position A))
+  pub keep-front : (g : Address → Address) (i : ℕ) (pre : List (Position A)) (xs : List X) (ts ss : List (Position A))
       → g (address_before i) ≡ address_before i → ((k : ℕ) → k < length xs → g (address_at i k) ≡ address_at i k)
       → KeepsPositions g pre pre → AllByRecursion (λ x. KeepsPositions g (f x) (f x)) xs → KeepsPositions g ts ss
       → KeepsPositions g (mark (address_before i) None ∷ (pre ++ (positions_to key f i 0 xs ++ ts)))
       (mark (address_before i) None ∷ (pre ++ (positions_to key f i 0 xs ++ ss)))
-  carry-front g i pre xs ts ss el ek cp cx ct =
-      carry-mark g (address_before i) (address_before i) None (pre ++ (positions_to key f i 0 xs ++ ts))
+  keep-front g i pre xs ts ss el ek cp cx ct =
+      keep-mark g (address_before i) (address_before i) None (pre ++ (positions_to key f i 0 xs ++ ts))
       (pre ++ (positions_to key f i 0 xs ++ ss)) el
-      (carry-append g pre pre (positions_to key f i 0 xs ++ ts) (positions_to key f i 0 xs ++ ss) refl cp
-      (carry-append g (positions_to key f i 0 xs) (positions_to key f i 0 xs) ts ss refl (carry-start g i xs ek cx) ct))
+      (keep-append g pre pre (positions_to key f i 0 xs ++ ts) (positions_to key f i 0 xs ++ ss) refl cp
+      (keep-append g (positions_to key f i 0 xs) (positions_to key f i 0 xs) ts ss refl (keep-start g i xs ek cx) ct))
 
   module _ (g : Address → Address) (i j p s : ℕ) (pre : List (Position A)) (xs : List X) (ys : List X)
       (lead_kept : g (address_before i) ≡ address_before i) (pre_kept : KeepsPositions g pre pre)
@@ -81,11 +81,11 @@ module _ {A X : Type 0} (key : X → A) (f : X → List (Position A)) where
         (subst (λ z. KeepsPositions g z
         (mark (address_before i) None ∷ (pre ++ (positions_to key f i 0 xs ++ (mark (address_at i n) None ∷ new)))))
         (sym (node_positions-joined i pre xs e ys))
-        (carry-front g i pre xs old (mark (address_at i n) None ∷ new) lead_kept ei pre_kept xs_kept
-        (carry-more g (address_at i n) None old new
-        (carry-mark g (address_at i n) (address_at p s) (Some (key e)) (over ∷ (f e ++ positions_from key f i (suc n) ys))
+        (keep-front g i pre xs old (mark (address_at i n) None ∷ new) lead_kept ei pre_kept xs_kept
+        (keep-more g (address_at i n) None old new
+        (keep-mark g (address_at i n) (address_at p s) (Some (key e)) (over ∷ (f e ++ positions_from key f i (suc n) ys))
         (over ∷ node_positions key f j (f e) ys) es
-        (carry-over g (f e ++ positions_from key f i (suc n) ys) (node_positions key f j (f e) ys)
-        (carry-more g (address_before j) None (f e ++ positions_from key f i (suc n) ys) (f e ++ positions_from key f j 0 ys)
-        (carry-append g (f e) (f e) (positions_from key f i (suc n) ys) (positions_from key f j 0 ys) refl ce
-        (carry-back g i (suc n) j ys ej ys_kept))))))))
+        (keep-over g (f e ++ positions_from key f i (suc n) ys) (node_positions key f j (f e) ys)
+        (keep-more g (address_before j) None (f e ++ positions_from key f i (suc n) ys) (f e ++ positions_from key f j 0 ys)
+        (keep-append g (f e) (f e) (positions_from key f i (suc n) ys) (positions_from key f j 0 ys) refl ce
+        (keep-back g i (suc n) j ys ej ys_kept))))))))

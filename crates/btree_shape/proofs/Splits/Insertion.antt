@@ -14,7 +14,7 @@ use Rattle.btree_shape.specs.Need.{split_need, path_need_from, need, path_need}
 use Rattle.btree_shape.specs.Focus.Node.{IsNode}
 use Rattle.btree_shape.specs.Place.{IsPlace}
 use Rattle.btree_shape.specs.Lists.{one}
-use Rattle.btree_shape.specs.Focus.Shape.{IsFilled, Shape, count_at, id_of}
+use Rattle.btree_shape.specs.Focus.Subtree.{IsFilled, Subtree, count_at, id_of}
 use Rattle.btree_shape.specs.Represents.{numbers_under}
 use Rattle.btree_shape.specs.Step.{Claims, WritesNode}
 use Rattle.btree_shape.specs.Strain.{own_strain, strain_of, strain_under}
@@ -26,7 +26,7 @@ use Rattle.btree_shape.proofs.Places.Words.{AddressIn, address-in}
 use Rattle.btree_shape.proofs.Splits.Claims.{claimed}
 use Rattle.btree_shape.proofs.Paths.Frames.{above-same, one-zero}
 use Rattle.btree_shape.proofs.Paths.Levels.{levels-rooted}
-use Rattle.btree_shape.proofs.Paths.UnsizedFocus.{whole-standing}
+use Rattle.btree_shape.proofs.Paths.UnsizedFocus.{focus-unsized}
 use Rattle.btree_shape.proofs.Paths.Used.{less-no, less-yes}
 use Rattle.btree_shape.proofs.Places.NodePlaces.{hole-place}
 use Rattle.btree_shape.proofs.Trees.Numbers.{same-or, used-low, used-one}
@@ -91,24 +91,24 @@ module _ (A : Type 0) where
   module _ (node_at mid new : NodeMap A) (root : ℕ) (xs : List A) (id : ℕ) (p : Option ℕ) (ys : List A) (o : ℕ) (x : A)
       (spare : List ℕ)
       (node : IsNode A node_at root xs id) (here : node_at id ≡ Some (leaf p ys)) (low : o ≤ length ys)
-      (most : ℕ) (deep : depth node.seen.path < most) (cl : Claims node_at mid spare) (enough : length spare ≡ split_need node_at most id)
+      (most : ℕ) (deep : depth node.focus.path < most) (cl : Claims node_at mid spare) (enough : length spare ≡ split_need node_at most id)
       (pu : WritesNode mid new id (with_item o x None (leaf p ys))) where
     -- the place in the list, the tree with the item, and the nodes it has gained
     pub record PutAt : Type 0 where
       pub place : ℕ
       pub is : IsPlace node_at (Some root) xs id (Some o) place
       pub strain : ℕ
-      pub strain_is : strain ≡ strain_of A node.seen.height node.seen.path node.seen.shape
+      pub strain_is : strain ≡ strain_of A node.focus.height node.focus.path node.focus.subtree
       pub grows : MayOverflowAt A new root (insert xs place x) id spare (Some x) (address_at id o) place 0 (suc strain)
 
-    pub put-grows : PutAt
-    put-grows = at node.seen.height node.seen.path node.seen.shape node.seen.here node.seen.whole node.sized
+    pub put-overflow : PutAt
+    put-overflow = at node.focus.height node.focus.path node.focus.subtree node.focus.here node.focus.whole node.sized
         (split_need-node A node_at root xs id node most deep) refl
       where
-        at : (h : ℕ) (c : Path A h) (t : Shape A h) → id_of A h t ≡ id → IsFocus A node_at [] root xs h c t
+        at : (h : ℕ) (c : Path A h) (t : Subtree A h) → id_of A h t ≡ id → IsFocus A node_at [] root xs h c t
             → IsFilled (least_at c) h (count_at A h t)
             → split_need node_at most id ≡ path_need_from c (count_at A h t)
-            → strain_of A h c t ≡ strain_of A node.seen.height node.seen.path node.seen.shape → PutAt
+            → strain_of A h c t ≡ strain_of A node.focus.height node.focus.path node.focus.subtree → PutAt
         at (suc h) c t is w z nd st =
             let d = w.inner.0 in let e2 : node_at t.0 ≡ Some (leaf p ys) = rw is here in absurd (cc)
         at zero c t is w z nd st =
@@ -118,7 +118,7 @@ module _ (A : Type 0) where
             let same : t.1 ≡ ys = cc in
             let te : t ≡ (id, ys) = ap (λ (i : ℕ). (i, t.1)) is ∙ ap (λ (l : List A). (id, l)) same in
             let w1 : IsFocus A node_at [] root xs 0 c (id, ys) =
-            subst (λ (s : Shape A 0). IsFocus A node_at [] root xs 0 c s) te w in
+            subst (λ (s : Subtree A 0). IsFocus A node_at [] root xs 0 c s) te w in
             let wm = claimed A node_at mid spare root xs 0 c (id, ys) cl w1 in
             let pu2 : WritesNode mid new id (leaf (parent_above c) (insert ys o x)) =
             subst (λ q. WritesNode mid new id (leaf q (insert ys o x))) (sym parents) pu in
@@ -133,57 +133,57 @@ module _ (A : Type 0) where
               strain = strain_of A 0 c t;
               strain_is = st;
               grows = record {
-                seen = record { height = 0; path = c; shape = (id, insert ys o x); here = refl; whole = w2 };
+                focus = record { height = 0; path = c; subtree = (id, insert ys o x); here = refl; whole = w2 };
                 low = omega arith;
                 high = omega arith;
                 enough = λ full. let y = less-no (length t.1) 8 0 (path_need c) (omega arith) in enough ∙ (nd ∙ y);
                 none = λ few. let y = less-yes (length t.1) 8 0 (path_need c) (omega arith) in enough ∙ (nd ∙ y);
                 there = item-in A 0 c (parent_above c) (id, insert ys o x) o x (slice_get-insert ys o x low)
                     (omega arith);
-                paid = let q = put-strain c id ys o x low in let r : strain_of A 0 c t ≡ strain_of A 0 c (id, ys) =
+                within_strain = let q = put-strain c id ys o x low in let r : strain_of A 0 c t ≡ strain_of A 0 c (id, ys) =
                     ap (strain_of A 0 c) te in omega arith;
               };
             }
 
   -- the end of the splits, in the public terms
-  module _ (new : NodeMap A) (root : ℕ) (xs : List A) (asked : Option A) (a : Address) (place gained bound : ℕ)
-      (g : IsRepaired A new root xs asked a place gained bound) where
+  module _ (new : NodeMap A) (root : ℕ) (xs : List A) (expected : Option A) (a : Address) (place allocated bound : ℕ)
+      (g : IsRepaired A new root xs expected a place allocated bound) where
     pub repaired-rooted : IsRooted (IsSized root) new root xs
     repaired-rooted = rooted-node A new root xs g.id g.node
 
-    pub repaired-address : AddressIn A new root xs asked a place
-    repaired-address = address-in A new root xs g.node.seen.height g.node.seen.path g.node.seen.shape g.node.seen.whole
-        asked a place g.there
+    pub repaired-address : AddressIn A new root xs expected a place
+    repaired-address = address-in A new root xs g.node.focus.height g.node.focus.path g.node.focus.subtree g.node.focus.whole
+        expected a place g.there
 
-    pub repaired-paid : gained + strain_under new root (numbers_under new repaired-rooted.height root) ≤ bound
-    repaired-paid =
+    pub repaired-within : allocated + strain_under new root (numbers_under new repaired-rooted.height root) ≤ bound
+    repaired-within =
         let e =
-        strain-rooted A new root xs repaired-rooted g.node.seen.height g.node.seen.path g.node.seen.shape g.node.seen.whole
+        strain-rooted A new root xs repaired-rooted g.node.focus.height g.node.focus.path g.node.focus.subtree g.node.focus.whole
         in
-        let p = g.paid in
+        let p = g.within_strain in
         omega arith
 
 -- an item inserted into a leaf of a well formed tree, at an address whose place is known
 module _ {K V : Type 0} (cmp : K → K → Ordering) (laws : IsTotalOrder cmp) (node_at : NodeMap (K × V)) (root len : ℕ)
     (xs : List (K × V)) (well : IsWellFormed cmp node_at (Some root) len xs) where
-  pub leaf-grows : (mid new : NodeMap (K × V)) (id : ℕ) (p : Option ℕ) (ys : List (K × V)) (o place : ℕ) (x : K × V)
+  pub leaf-overflow : (mid new : NodeMap (K × V)) (id : ℕ) (p : Option ℕ) (ys : List (K × V)) (o place : ℕ) (x : K × V)
       (spare : List ℕ)
       → node_at id ≡ Some (leaf p ys) → o ≤ length ys
       → IsPlace node_at (Some root) xs id (Some o) place → (most : ℕ) → well.formed.height < most → Claims node_at mid spare
       → length spare ≡ need node_at (Some root) most id → WritesNode mid new id (with_item o x None (leaf p ys))
       → MayOverflowAt (K × V) new root (insert xs place x) id spare (Some x) (address_at id o) place 0
       (suc (strain_under node_at root (numbers_under node_at well.formed.height root)))
-  leaf-grows mid new id p ys o place x spare here low is most deep cl enough pu =
+  leaf-overflow mid new id p ys o place x spare here low is most deep cl enough pu =
       let node =
       node-at (K × V) node_at root xs well.formed id (let u = used-one (node_at id) (leaf p ys) here in omega arith) in
       let levels =
-      levels-rooted (K × V) node_at root xs (IsSized root) well.formed node.seen.height node.seen.path node.seen.shape
-      (whole-standing (K × V) node_at [] root xs node.seen.height node.seen.path node.seen.shape node.seen.whole) in
-      let r = put-grows (K × V) node_at mid new root xs id p ys o x spare node here low most (omega arith) cl enough pu in
+      levels-rooted (K × V) node_at root xs (IsSized root) well.formed node.focus.height node.focus.path node.focus.subtree
+      (focus-unsized (K × V) node_at [] root xs node.focus.height node.focus.path node.focus.subtree node.focus.whole) in
+      let r = put-overflow (K × V) node_at mid new root xs id p ys o x spare node here low most (omega arith) cl enough pu in
       let same = one_place-well cmp laws node_at xs len (Some root) well id (Some o) r.place place r.is is in
       let st : r.strain ≡ strain_under node_at root (numbers_under node_at well.formed.height root) =
-      r.strain_is ∙ strain-rooted (K × V) node_at root xs well.formed node.seen.height node.seen.path node.seen.shape
-      node.seen.whole in
+      r.strain_is ∙ strain-rooted (K × V) node_at root xs well.formed node.focus.height node.focus.path node.focus.subtree
+      node.focus.whole in
       subst (λ q. MayOverflowAt (K × V) new root (insert xs q x) id spare (Some x) (address_at id o) q 0
       (suc (strain_under node_at root (numbers_under node_at well.formed.height root)))) same
       (subst (λ s. MayOverflowAt (K × V) new root (insert xs r.place x) id spare (Some x) (address_at id o) r.place 0 (suc s)) st
@@ -191,14 +191,14 @@ module _ {K V : Type 0} (cmp : K → K → Ordering) (laws : IsTotalOrder cmp) (
 
   -- and the tree after the splits
   pub repaired-well : (k : K) (w : V) (place : ℕ) → KeyFits cmp k place xs
-      → (new : NodeMap (K × V)) (r : ℕ) (asked : Option (K × V)) (a : Address) (gained bound : ℕ)
-      → IsRepaired (K × V) new r (insert xs place (k, w)) asked a place gained bound
+      → (new : NodeMap (K × V)) (r : ℕ) (expected : Option (K × V)) (a : Address) (allocated bound : ℕ)
+      → IsRepaired (K × V) new r (insert xs place (k, w)) expected a place allocated bound
       → IsWellFormed cmp new (Some r) (len + 1) (insert xs place (k, w))
-  repaired-well k w place fits new r asked a gained bound g =
+  repaired-well k w place fits new r expected a allocated bound g =
       let counted = well.counted in
       record {
         ascends = Ascends-insert cmp laws k w place xs well.ascends fits;
-        formed = repaired-rooted (K × V) new r (insert xs place (k, w)) asked a place gained bound g;
+        formed = repaired-rooted (K × V) new r (insert xs place (k, w)) expected a place allocated bound g;
         counted = ap (λ n. n + 1) counted ∙ sym (length-insert xs place (k, w) fits.within);
       }
 

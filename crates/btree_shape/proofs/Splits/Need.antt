@@ -4,7 +4,7 @@ use Rattle.btree_view.specs.View.{NodeMap, View, most_of, parent_of, size_of}
 use Rattle.btree_shape.specs.Focus.Focus.{IsUnsizedFocus}
 use Rattle.btree_shape.specs.Need.{IsCountingUpward, split_need, path_need_from, levels_above, need_of_split, path_need}
 use Rattle.btree_shape.specs.Focus.Node.{IsNode}
-use Rattle.btree_shape.specs.Focus.Shape.{Holds, Shape, count_at, id_of, most_at, view_at}
+use Rattle.btree_shape.specs.Focus.Subtree.{Holds, Subtree, count_at, id_of, most_at, view_at}
 use Rattle.btree_shape.specs.Focus.Path.{Path, HoldsAbove, depth, fill, frame_count, frame_id, frame_view, parent_above, top, under}
 use Rattle.btree_shape.specs.WellFormed.{times_used}
 use Rattle.btree_shape.proofs.Paths.Parents.{levels-above-is}
@@ -12,7 +12,7 @@ use Rattle.btree_shape.proofs.Paths.Frames.{fill-count, fill-id, top-view}
 use Rattle.btree_shape.proofs.Paths.Used.{less-no, less-yes}
 use Rattle.btree_shape.proofs.Trees.Numbers.{used-one}
 use Rattle.btree_shape.proofs.Trees.Sizes.{frame-most, frame-parent, frame-size, view-most, view-parent, view-size}
-use Rattle.btree_shape.proofs.Paths.UnsizedFocus.{stand-up}
+use Rattle.btree_shape.proofs.Paths.UnsizedFocus.{unsized-up}
 use Rattle.std.proofs.lemmas.Option.{same_Some}
 
 module _ (A : Type 0) where
@@ -28,7 +28,7 @@ module _ (A : Type 0) where
       ap suc (rw (d.0, s, m, p, r) refl)
 
   -- by the map of nodes, and by the path above
-  pub split_need-is : (node_at : NodeMap A) (h n : ℕ) (c : Path A h) (t : Shape A h) → depth c < n
+  pub split_need-is : (node_at : NodeMap A) (h n : ℕ) (c : Path A h) (t : Subtree A h) → depth c < n
       → HoldsAbove node_at c (id_of A h t) → Holds A node_at h (parent_above c) t
       → split_need node_at n (id_of A h t) ≡ path_need_from c (count_at A h t)
   split_need-is node_at h zero c t lt a d = absurd (omega arith)
@@ -41,45 +41,45 @@ module _ (A : Type 0) where
       rw (v, s, l, p, r) refl
 
   -- from a node of a well formed tree
-  pub split_need-node : (node_at : NodeMap A) (root : ℕ) (xs : List A) (id : ℕ) (n : IsNode A node_at root xs id) (most : ℕ) → depth n.seen.path < most
-      → split_need node_at most id ≡ path_need_from n.seen.path (count_at A n.seen.height n.seen.shape)
+  pub split_need-node : (node_at : NodeMap A) (root : ℕ) (xs : List A) (id : ℕ) (n : IsNode A node_at root xs id) (most : ℕ) → depth n.focus.path < most
+      → split_need node_at most id ≡ path_need_from n.focus.path (count_at A n.focus.height n.focus.subtree)
   split_need-node node_at root xs id n most deep =
-      let w = n.seen.whole in
-      subst (λ z. split_need node_at most z ≡ path_need_from n.seen.path (count_at A n.seen.height n.seen.shape)) n.seen.here
-      (split_need-is node_at n.seen.height most n.seen.path n.seen.shape deep w.above w.inner)
+      let w = n.focus.whole in
+      subst (λ z. split_need node_at most z ≡ path_need_from n.focus.path (count_at A n.focus.height n.focus.subtree)) n.focus.here
+      (split_need-is node_at n.focus.height most n.focus.path n.focus.subtree deep w.above w.inner)
 
   module _ (node_at : NodeMap A) (root : ℕ) (xs : List A) (most : ℕ) where
-    pub upward-start : (h : ℕ) (c : Path A h) (t : Shape A h) → IsUnsizedFocus A node_at [] root xs h c t → depth c < most → IsCountingUpward A node_at root xs most (id_of A h t) 0 (split_need node_at most (id_of A h t))
+    pub upward-start : (h : ℕ) (c : Path A h) (t : Subtree A h) → IsUnsizedFocus A node_at [] root xs h c t → depth c < most → IsCountingUpward A node_at root xs most (id_of A h t) 0 (split_need node_at most (id_of A h t))
     upward-start h c t s r =
         let e = split_need-is node_at h most c t r s.above s.inner in
         record {
           height = h;
           path = c;
-          shape = t;
+          subtree = t;
           here = refl;
-          stands = s;
+          focused = s;
           left = omega arith;
           room = r;
         }
 
     module _ (id counted all : ℕ) (s : IsCountingUpward A node_at root xs most id counted all) where
-      upward-view : node_at id ≡ Some (view_at A s.height (parent_above s.path) s.shape)
-      upward-view = subst (λ z. node_at z ≡ Some (view_at A s.height (parent_above s.path) s.shape)) s.here
-          (top-view A node_at s.height (parent_above s.path) s.shape s.stands.inner)
+      upward-view : node_at id ≡ Some (view_at A s.height (parent_above s.path) s.subtree)
+      upward-view = subst (λ z. node_at z ≡ Some (view_at A s.height (parent_above s.path) s.subtree)) s.here
+          (top-view A node_at s.height (parent_above s.path) s.subtree s.focused.inner)
 
       pub upward-used : 0 < times_used (node_at id)
       upward-used =
-          let u = used-one (node_at id) (view_at A s.height (parent_above s.path) s.shape) upward-view in omega arith
+          let u = used-one (node_at id) (view_at A s.height (parent_above s.path) s.subtree) upward-view in omega arith
 
       module _ (v : View A) (e : node_at id ≡ Some v) where
-        v-is : v ≡ view_at A s.height (parent_above s.path) s.shape
-        v-is = same_Some v (view_at A s.height (parent_above s.path) s.shape) (sym e ∙ upward-view)
+        v-is : v ≡ view_at A s.height (parent_above s.path) s.subtree
+        v-is = same_Some v (view_at A s.height (parent_above s.path) s.subtree) (sym e ∙ upward-view)
 
-        size-is : size_of v ≡ count_at A s.height s.shape
-        size-is = ap size_of v-is ∙ view-size A s.height (parent_above s.path) s.shape
+        size-is : size_of v ≡ count_at A s.height s.subtree
+        size-is = ap size_of v-is ∙ view-size A s.height (parent_above s.path) s.subtree
 
         most-is : most_of v ≡ most_at s.height
-        most-is = ap most_of v-is ∙ view-most A s.height (parent_above s.path) s.shape
+        most-is = ap most_of v-is ∙ view-most A s.height (parent_above s.path) s.subtree
 
         -- a node with room: all are counted
         pub upward-done : size_of v < most_of v → counted ≡ all
@@ -87,7 +87,7 @@ module _ (A : Type 0) where
             let z0 = size-is in
             let z1 = most-is in
             let l = s.left in
-            let q = less-yes (count_at A s.height s.shape) (most_at s.height) 0 (path_need s.path) (omega arith) in
+            let q = less-yes (count_at A s.height s.subtree) (most_at s.height) 0 (path_need s.path) (omega arith) in
             omega arith
 
         full-is : most_of v ≤ size_of v → counted + path_need s.path ≡ all
@@ -95,14 +95,14 @@ module _ (A : Type 0) where
             let z0 = size-is in
             let z1 = most-is in
             let l = s.left in
-            let q = less-no (count_at A s.height s.shape) (most_at s.height) 0 (path_need s.path) (omega arith) in
+            let q = less-no (count_at A s.height s.subtree) (most_at s.height) 0 (path_need s.path) (omega arith) in
             omega arith
 
         -- a full root needs two more
         pub upward-root : most_of v ≤ size_of v → parent_of v ≡ None → counted + 2 ≡ all
-        upward-root le up = at s.height s.path s.shape (full-is le) (ap parent_of (sym v-is) ∙ up)
+        upward-root le up = at s.height s.path s.subtree (full-is le) (ap parent_of (sym v-is) ∙ up)
           where
-            at : (h : ℕ) (c : Path A h) (t : Shape A h) → counted + path_need c ≡ all
+            at : (h : ℕ) (c : Path A h) (t : Subtree A h) → counted + path_need c ≡ all
                 → parent_of (view_at A h (parent_above c) t) ≡ None → counted + 2 ≡ all
             at h top t q e = q
             at h (under f c) t q e = let e' = view-parent A h (Some (frame_id f)) t in absurd (cc)
@@ -110,10 +110,10 @@ module _ (A : Type 0) where
         -- a full node under a parent needs one more, and the parent is next
         pub upward-up : (p : ℕ) → most_of v ≤ size_of v → parent_of v ≡ Some p
             → IsCountingUpward A node_at root xs most p (counted + 1) all × (levels_above node_at most p < levels_above node_at most id)
-        upward-up p le up = at s.height s.path s.shape s.here s.stands (full-is le)
+        upward-up p le up = at s.height s.path s.subtree s.here s.focused (full-is le)
             (ap parent_of (sym v-is) ∙ up) s.room
           where
-            at : (h : ℕ) (c : Path A h) (t : Shape A h) → id_of A h t ≡ id → IsUnsizedFocus A node_at [] root xs h c t
+            at : (h : ℕ) (c : Path A h) (t : Subtree A h) → id_of A h t ≡ id → IsUnsizedFocus A node_at [] root xs h c t
                 → counted + path_need c ≡ all → parent_of (view_at A h (parent_above c) t) ≡ Some p
                 → depth c < most
                 → IsCountingUpward A node_at root xs most p (counted + 1) all × (levels_above node_at most p < levels_above node_at most id)
@@ -137,9 +137,9 @@ module _ (A : Type 0) where
                   record {
                     height = suc h;
                     path = c;
-                    shape = fill f t;
+                    subtree = fill f t;
                     here = fill-id A h f t ∙ is;
-                    stands = stand-up A node_at [] root xs h f c t w;
+                    focused = unsized-up A node_at [] root xs h f c t w;
                     left = omega arith;
                     room = omega arith;
                   },

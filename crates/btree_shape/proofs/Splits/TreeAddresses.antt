@@ -2,23 +2,23 @@
 use Rattle.std.proofs.Common.{◌∷◌, [], ℕ, suc, List, Some, None, sym, subst, arith}
 use Rattle.btree_view.specs.View.{NodeMap}
 use Rattle.btree_shape.specs.Moved.{moved_by_split}
-use Rattle.btree_shape.specs.Focus.Shape.{Shape, count_at, id_of}
+use Rattle.btree_shape.specs.Focus.Subtree.{Subtree, count_at, id_of}
 use Rattle.btree_shape.specs.Focus.Positions.{KeepsPositions, all_positions}
 use Rattle.btree_shape.specs.Focus.Path.{Path, Frame, fill, fill_two, frame_id, frame_index, top, under}
 use Rattle.btree_shape.specs.Focus.Focus.{IsFocus}
-use Rattle.btree_shape.proofs.Splits.Carried.{Alone, split-places, split-root-places}
+use Rattle.btree_shape.proofs.Splits.KeptPositions.{Alone, split-places, split-root-places}
 use Rattle.btree_shape.proofs.Paths.Frames.{times_in-is}
 use Rattle.btree_shape.proofs.Trees.Numbers.{used-low}
 use Rattle.btree_shape.proofs.Places.OneList.{positions-close}
-use Rattle.btree_shape.proofs.Splits.Halves.{Parted, join}
+use Rattle.btree_shape.proofs.Splits.TwoParts.{Parted, join}
 
 module _ (A : Type 0) (node_at mid : NodeMap A) (spare : List ℕ) (root : ℕ) (xs : List A) where
-  pub split-carries : (h : ℕ) (f : Frame A h) (c : Path A (suc h)) (t : Shape A h) (j : ℕ) (x : A)
+  pub split-keeps : (h : ℕ) (f : Frame A h) (c : Path A (suc h)) (t : Subtree A h) (j : ℕ) (x : A)
       → IsFocus A node_at (j ∷ spare) root xs h (under f c) t
       → (m : Parted A node_at mid h (Some (frame_id f)) t j x)
       → KeepsPositions (moved_by_split (id_of A h t) j (frame_id f) (frame_index f) (count_at A h m.cut.left))
       (all_positions A h (under f c) t) (all_positions A (suc h) c (fill_two f m.cut.left x m.cut.right))
-  split-carries h f c t j x w m =
+  split-keeps h f c t j x w m =
       let a = m.cut.left in
       let b = m.cut.right in
       let q = m.cut.cut in
@@ -40,11 +40,11 @@ module _ (A : Type 0) (node_at mid : NodeMap A) (spare : List ℕ) (root : ℕ) 
       (subst (λ z. KeepsPositions (moved_by_split (id_of A h t) j (frame_id f) (frame_index f) (count_at A h a))
       (all_positions A (suc h) c (fill f z)) (all_positions A (suc h) c (fill_two f a x b))) (sym q.joined) r2)
 
-  pub split-top-carries : (h : ℕ) (t : Shape A h) (j r : ℕ) (x : A) → IsFocus A node_at (j ∷ r ∷ spare) root xs h top t
+  pub split-top-keeps : (h : ℕ) (t : Subtree A h) (j r : ℕ) (x : A) → IsFocus A node_at (j ∷ r ∷ spare) root xs h top t
       → (m : Parted A node_at mid h None t j x)
       → KeepsPositions (moved_by_split (id_of A h t) j r 0 (count_at A h m.cut.left)) (all_positions A h top t)
       (all_positions A (suc h) top (r, m.cut.left, (x, m.cut.right) ∷ []))
-  split-top-carries h t j r x w m =
+  split-top-keeps h t j r x w m =
       let a = m.cut.left in
       let b = m.cut.right in
       let q = m.cut.cut in

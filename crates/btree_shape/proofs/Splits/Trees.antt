@@ -8,39 +8,39 @@ use Rattle.std.specs.Prelude.{option_map}
 use Rattle.btree_view.specs.Edits.{with_item, with_parent}
 use Rattle.btree_view.specs.View.{NodeMap, internal}
 use Rattle.btree_shape.specs.Lists.{one, times_listed}
-use Rattle.btree_shape.specs.Focus.Shape.{Holds, IsFilled, IsFilledBelow, Shape, count_at, id_of, items_under, times_under, view_at}
-use Rattle.btree_shape.specs.Focus.Path.{Path, Frame, HoldsAbove, SiblingsFilled, SiblingsHold, after_in, at_branch, at_first, before_in, fill_two, frame_count, frame_id, frame_index, frame_view, items_after, items_before, parent_above, root_above, times_above, times_beside, times_in, top, under}
+use Rattle.btree_shape.specs.Focus.Subtree.{Holds, IsFilled, IsFilledBelow, Subtree, count_at, id_of, items_under, times_under, view_at}
+use Rattle.btree_shape.specs.Focus.Path.{Path, Frame, HoldsAbove, SiblingsFilled, SiblingsHold, after_in, at_branch, at_first, before_in, fill_two, frame_count, frame_id, frame_index, frame_view, items_after, items_before, parent_above, root_above, times_above, times_in_siblings, times_in, top, under}
 use Rattle.btree_shape.specs.WellFormed.{times_used}
 use Rattle.btree_shape.specs.Focus.Focus.{IsFocus}
 use Rattle.btree_shape.proofs.Paths.Frames.{AllByRecursion-append, above-same, holds-same, one-other, one-self, one-zero, siblings-same, times_in-is, total-append}
 use Rattle.btree_shape.proofs.Trees.Numbers.{same-or, used-low, used-mapped}
-use Rattle.btree_shape.proofs.Splits.Halves.{Parted, reparent_children, right-filled, times-top, times_below}
+use Rattle.btree_shape.proofs.Splits.TwoParts.{Parted, reparent_children, right-filled, times-top, times_below}
 
 module _ (A : Type 0) where
-  pub fill_two-items : (h : ℕ) (f : Frame A h) (a : Shape A h) (x : A) (b : Shape A h)
+  pub fill_two-items : (h : ℕ) (f : Frame A h) (a : Subtree A h) (x : A) (b : Subtree A h)
       → items_under A (suc h)
       (fill_two f a x b) ≡ before_in f ++ ((items_under A h a ++ x ∷ items_under A h b) ++ after_in f)
   fill_two-items h (at_first n back) a x b = simp append_assoc
   fill_two-items h (at_branch n first front y back) a x b = simp (flat_map-append, append_assoc)
 
-  pub fill_two-times : (h n : ℕ) (f : Frame A h) (a : Shape A h) (x : A) (b : Shape A h)
+  pub fill_two-times : (h n : ℕ) (f : Frame A h) (a : Subtree A h) (x : A) (b : Subtree A h)
       → times_under A (suc h) n (fill_two f a x b) ≡ times_in n f + (times_under A h n a + times_under A h n b)
   fill_two-times h n (at_first i back) a x b = omega arith
   fill_two-times h n (at_branch i first front y back) a x b =
       omega (arith, total-append (λ b. times_under A h n b.1) front ((y, a) ∷ (x, b) ∷ back))
 
-  pub fill_two-id : (h : ℕ) (f : Frame A h) (a : Shape A h) (x : A) (b : Shape A h)
+  pub fill_two-id : (h : ℕ) (f : Frame A h) (a : Subtree A h) (x : A) (b : Subtree A h)
       → id_of A (suc h) (fill_two f a x b) ≡ frame_id f
   fill_two-id h (at_first n back) a x b = refl
   fill_two-id h (at_branch n first front y back) a x b = refl
 
-  pub fill_two-count : (h : ℕ) (f : Frame A h) (a : Shape A h) (x : A) (b : Shape A h)
+  pub fill_two-count : (h : ℕ) (f : Frame A h) (a : Subtree A h) (x : A) (b : Subtree A h)
       → count_at A (suc h) (fill_two f a x b) ≡ suc (frame_count f)
   fill_two-count h (at_first n back) a x b = refl
   fill_two-count h (at_branch n first front y back) a x b =
       let e = length-append front ((y, a) ∷ (x, b) ∷ back) in omega arith
 
-  pub fill_two-holds : (new : NodeMap A) (h : ℕ) (p : Option ℕ) (f : Frame A h) (a : Shape A h) (x : A) (b : Shape A h)
+  pub fill_two-holds : (new : NodeMap A) (h : ℕ) (p : Option ℕ) (f : Frame A h) (a : Subtree A h) (x : A) (b : Subtree A h)
       → new (frame_id f) ≡ Some (view_at A (suc h) p (fill_two f a x b))
       → SiblingsHold new f → Holds A new h (Some (frame_id f)) a → Holds A new h (Some (frame_id f)) b
       → Holds A new (suc h) p (fill_two f a x b)
@@ -52,7 +52,7 @@ module _ (A : Type 0) where
         (da, (db, s.2)),
   )
 
-  pub fill_two-filled : (h : ℕ) (f : Frame A h) (a : Shape A h) (x : A) (b : Shape A h) → SiblingsFilled f
+  pub fill_two-filled : (h : ℕ) (f : Frame A h) (a : Subtree A h) (x : A) (b : Subtree A h) → SiblingsFilled f
       → IsFilled 3 h (count_at A h a) → IsFilledBelow A h a
       → IsFilled 3 h (count_at A h b) → IsFilledBelow A h b → IsFilledBelow A (suc h) (fill_two f a x b)
   fill_two-filled h (at_first n back) a x b s za ba zb bb = (za, ba, ((zb, bb), s))
@@ -64,12 +64,12 @@ module _ (A : Type 0) where
   )
 
   -- a branch inserted into the parent at the child's index
-  pub fill_two-view : (h : ℕ) (p : Option ℕ) (f : Frame A h) (a : Shape A h) (x : A) (b : Shape A h)
+  pub fill_two-view : (h : ℕ) (p : Option ℕ) (f : Frame A h) (a : Subtree A h) (x : A) (b : Subtree A h)
       → with_item (frame_index f) x (Some (id_of A h b)) (frame_view p f (id_of A h a)) ≡ view_at A (suc h) p
       (fill_two f a x b)
   fill_two-view h p (at_first n back) a x b = refl
   fill_two-view h p (at_branch n first front y back) a x b =
-      let M : A × Shape A h → A × ℕ = λ b. (b.0, id_of A h b.1) in
+      let M : A × Subtree A h → A × ℕ = λ b. (b.0, id_of A h b.1) in
       let tail : List (A × ℕ) = (y, id_of A h a) ∷ map M back in
       let len : length (map M front) ≡ length front = length-map front M in
       let one-more : length front + 1 - length front ≡ 1 = omega arith in
@@ -79,7 +79,7 @@ module _ (A : Type 0) where
       ∙ sym (map-append M front ((y, a) ∷ (x, b) ∷ back))))
 
   module _ (node_at mid new : NodeMap A) (spare : List ℕ) (root : ℕ) (xs : List A) where
-    pub split-up : (h : ℕ) (f : Frame A h) (c : Path A (suc h)) (t : Shape A h) (j : ℕ) (x : A)
+    pub split-up : (h : ℕ) (f : Frame A h) (c : Path A (suc h)) (t : Subtree A h) (j : ℕ) (x : A)
         (w : IsFocus A node_at (j ∷ spare) root xs h (under f c) t)
         (m : Parted A node_at mid h (Some (frame_id f)) t j x)
         → new (frame_id f) ≡ Some (view_at A (suc h) (parent_above c) (fill_two f m.cut.left x m.cut.right))
@@ -89,7 +89,7 @@ module _ (A : Type 0) where
         let a = m.cut.left in
         let b = m.cut.right in
         let q = m.cut.cut in
-        let sum : (n : ℕ) → one n (frame_id f) + times_beside n f + times_above n
+        let sum : (n : ℕ) → one n (frame_id f) + times_in_siblings n f + times_above n
         c + (times_under A h n t + (one n j + times_listed n spare)) ≤ 1 =
         λ n. let o = w.once n in let k = used-low (node_at n) in omega (arith, times_in-is A h n f) in
         let keep : (n : ℕ) → times_under A h n t ≡ 0 → one n j ≡ 0 → one n (frame_id f) ≡ 0 → new n ≡ node_at n =
@@ -132,7 +132,7 @@ module _ (A : Type 0) where
 
   -- a new root over the two parts
   module _ (node_at mid new : NodeMap A) (spare : List ℕ) (r root : ℕ) (xs : List A) where
-    pub split-top : (h : ℕ) (t : Shape A h) (j : ℕ) (x : A) (w : IsFocus A node_at (j ∷ r ∷ spare) root xs h top t)
+    pub split-top : (h : ℕ) (t : Subtree A h) (j : ℕ) (x : A) (w : IsFocus A node_at (j ∷ r ∷ spare) root xs h top t)
         (m : Parted A node_at mid h None t j x)
         → new r ≡ Some (internal None (id_of A h t) ((x, j) ∷ []))
         → new (id_of A h t) ≡ option_map (with_parent (Some r)) (mid (id_of A h t))

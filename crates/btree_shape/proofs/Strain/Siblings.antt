@@ -1,20 +1,20 @@
 -- The node that a merge frees is within the strain of the nodes, and a rotation needs none.
 use Rattle.std.proofs.Common.{◌≡◌, ◌≤◌, [], ◌∙◌, ◌+◌, ◌-◌, ℕ, zero, suc, sym, ap, arith}
 use Rattle.btree_shape.specs.Focus.Pair.{Rotates}
-use Rattle.btree_shape.specs.Focus.Shape.{Shape, count_at}
-use Rattle.btree_shape.specs.Focus.Underflow.{owed}
+use Rattle.btree_shape.specs.Focus.Subtree.{Subtree, count_at}
+use Rattle.btree_shape.specs.Focus.Underflow.{debt}
 use Rattle.btree_shape.specs.Strain.{own_strain, strain_below, strain_of, surplus}
 use Rattle.btree_shape.specs.Focus.Path.{Path, Frame, fill, fill_two, frame_count, top, under}
 use Rattle.btree_shape.proofs.Paths.Frames.{fill-count}
-use Rattle.btree_shape.proofs.Underflow.TreeAddresses.{turn-join}
+use Rattle.btree_shape.proofs.Underflow.TreeAddresses.{rotate-join}
 use Rattle.btree_shape.proofs.Splits.Trees.{fill_two-count}
-use Rattle.btree_shape.proofs.Splits.Halves.{join}
+use Rattle.btree_shape.proofs.Splits.TwoParts.{join}
 use Rattle.btree_shape.proofs.Strain.Splits.{fill-strain, fill_two-strain, join-count, join-strain, strain-is}
 use Rattle.btree_shape.proofs.Underflow.Items.{turned}
 
 module _ (A : Type 0) where
   -- a node with one item fewer, and what it then owes as a root
-  pub own-fewer : (h : ℕ) (c : Path A h) (k : ℕ) → own_strain A c k + owed c k ≤ suc (own_strain A c (suc k))
+  pub own-fewer : (h : ℕ) (c : Path A h) (k : ℕ) → own_strain A c k + debt c k ≤ suc (own_strain A c (suc k))
   own-fewer zero top zero = omega arith
   own-fewer zero top (suc k) = omega arith
   own-fewer (suc h) top zero = omega arith
@@ -27,16 +27,16 @@ module _ (A : Type 0) where
   merge-sizes zero m n e1 e2 e3 = omega arith
   merge-sizes (suc h) m n e1 e2 e3 = omega arith
 
-  turn-sizes : (h m n : ℕ) → m ≤ 2 → 3 ≤ n
+  rotate-sizes : (h m n : ℕ) → m ≤ 2 → 3 ≤ n
       → surplus h (suc m) + (4 - suc m) + (surplus h n + (4 - n))
       ≤ surplus h m + (4 - m) + (surplus h (suc n) + (4 - suc n))
-  turn-sizes zero m n e1 e2 = omega arith
-  turn-sizes (suc h) m n e1 e2 = omega arith
+  rotate-sizes zero m n e1 e2 = omega arith
+  rotate-sizes (suc h) m n e1 e2 = omega arith
 
-  module _ (h : ℕ) (f : Frame A h) (c : Path A (suc h)) (a : Shape A h) (x : A) (b : Shape A h) where
+  module _ (h : ℕ) (f : Frame A h) (c : Path A (suc h)) (a : Subtree A h) (x : A) (b : Subtree A h) where
     -- one for the node that is freed, and what the parent may then owe
     pub merge-strain : count_at A h a + count_at A h b ≡ 5 → count_at A h a ≤ 3 → count_at A h b ≤ 3
-        → 1 + (strain_of A (suc h) c (fill f (join A h a x b)) + owed c (frame_count f))
+        → 1 + (strain_of A (suc h) c (fill f (join A h a x b)) + debt c (frame_count f))
         ≤ strain_of A (suc h) c (fill_two f a x b)
     merge-strain e la lb =
         let k1 : own_strain A c (count_at A (suc h) (fill_two f a x b)) ≡ own_strain A c (suc (frame_count f)) =
@@ -58,7 +58,7 @@ module _ (A : Type 0) where
           merge-sizes h (count_at A h a) (count_at A h b) e la lb,
         )
 
-    module _ (new_a : Shape A h) (y : A) (new_b : Shape A h) where
+    module _ (new_a : Subtree A h) (y : A) (new_b : Subtree A h) where
       same-strain : join A h a x b ≡ join A h new_a y new_b
           → strain_below A h a + strain_below A h b ≡ strain_below A h new_a + strain_below A h new_b
       same-strain e =
@@ -87,9 +87,9 @@ module _ (A : Type 0) where
             strain-is A h new_b,
             fill_two-strain A h f a x b,
             fill_two-strain A h f new_a y new_b,
-            same-strain (turn-join A h a x b new_a y new_b t),
+            same-strain (rotate-join A h a x b new_a y new_b t),
             same-parent,
-            turn-sizes h (count_at A h a) (count_at A h new_b) la (omega arith),
+            rotate-sizes h (count_at A h a) (count_at A h new_b) la (omega arith),
           )
 
       pub right-strain : Rotates A h new_a y new_b a x b → count_at A h b ≤ 2 → 4 ≤ count_at A h a
@@ -111,11 +111,11 @@ module _ (A : Type 0) where
             strain-is A h new_b,
             fill_two-strain A h f a x b,
             fill_two-strain A h f new_a y new_b,
-            same-strain (sym (turn-join A h new_a y new_b a x b t)),
+            same-strain (sym (rotate-join A h new_a y new_b a x b t)),
             same-parent,
-            turn-sizes h (count_at A h b) (count_at A h new_a) lb (omega arith),
+            rotate-sizes h (count_at A h b) (count_at A h new_a) lb (omega arith),
           )
 
   -- a root without items that is freed
-  pub release-strain : (h n : ℕ) (u : Shape A h) → strain_of A h top u ≤ strain_of A (suc h) top (n, u, [])
+  pub release-strain : (h n : ℕ) (u : Subtree A h) → strain_of A h top u ≤ strain_of A (suc h) top (n, u, [])
   release-strain h n u = omega (arith, strain-is A h u)

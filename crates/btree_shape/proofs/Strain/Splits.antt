@@ -1,36 +1,36 @@
 -- The node that a split uses is within the strain of the nodes.
 use Rattle.std.proofs.Common.{◌≡◌, ◌≤◌, ◌++◌, ◌∷◌, [], ◌+◌, ◌-◌, ℕ, zero, suc, List, length, refl, ap, arith, length-append}
-use Rattle.btree_shape.specs.Focus.Shape.{Shape, count_at, most_at}
-use Rattle.btree_shape.specs.Strain.{own_strain, strain, strain_below, strain_beside, strain_of, surplus}
+use Rattle.btree_shape.specs.Focus.Subtree.{Subtree, count_at, most_at}
+use Rattle.btree_shape.specs.Strain.{own_strain, strain, strain_below, strain_of_siblings, strain_of, surplus}
 use Rattle.btree_shape.specs.Focus.Path.{Path, Frame, at_branch, at_first, fill, fill_two, frame_count, top, under}
 use Rattle.btree_shape.proofs.Paths.Frames.{fill-count, total-append}
 use Rattle.btree_shape.proofs.Splits.Trees.{fill_two-count}
-use Rattle.btree_shape.proofs.Splits.Halves.{join}
+use Rattle.btree_shape.proofs.Splits.TwoParts.{join}
 
 module _ (A : Type 0) where
-  pub strain-is : (h : ℕ) (t : Shape A h)
+  pub strain-is : (h : ℕ) (t : Subtree A h)
       → strain A h t ≡ surplus h (count_at A h t) + (4 - count_at A h t) + strain_below A h t
   strain-is zero t = omega arith
   strain-is (suc h) t = refl
 
-  pub fill-strain : (h : ℕ) (f : Frame A h) (t : Shape A h)
-      → strain_below A (suc h) (fill f t) ≡ strain_beside A f + strain A h t
+  pub fill-strain : (h : ℕ) (f : Frame A h) (t : Subtree A h)
+      → strain_below A (suc h) (fill f t) ≡ strain_of_siblings A f + strain A h t
   fill-strain h (at_first n back) t = omega arith
   fill-strain h (at_branch n first front x back) t =
       omega (arith, total-append (λ b. strain A h b.1) front ((x, t) ∷ back))
 
-  pub fill_two-strain : (h : ℕ) (f : Frame A h) (a : Shape A h) (x : A) (b : Shape A h)
-      → strain_below A (suc h) (fill_two f a x b) ≡ strain_beside A f + (strain A h a + strain A h b)
+  pub fill_two-strain : (h : ℕ) (f : Frame A h) (a : Subtree A h) (x : A) (b : Subtree A h)
+      → strain_below A (suc h) (fill_two f a x b) ≡ strain_of_siblings A f + (strain A h a + strain A h b)
   fill_two-strain h (at_first n back) a x b = omega arith
   fill_two-strain h (at_branch n first front y back) a x b =
       omega (arith, total-append (λ b. strain A h b.1) front ((y, a) ∷ (x, b) ∷ back))
 
-  pub join-strain : (h : ℕ) (a : Shape A h) (x : A) (b : Shape A h)
+  pub join-strain : (h : ℕ) (a : Subtree A h) (x : A) (b : Subtree A h)
       → strain_below A h (join A h a x b) ≡ strain_below A h a + strain_below A h b
   join-strain zero a x b = omega arith
   join-strain (suc h) a x b = omega (arith, total-append (λ b. strain A h b.1) a.2 ((x, b.1) ∷ b.2))
 
-  pub join-count : (h : ℕ) (a : Shape A h) (x : A) (b : Shape A h)
+  pub join-count : (h : ℕ) (a : Subtree A h) (x : A) (b : Subtree A h)
       → count_at A h (join A h a x b) ≡ count_at A h a + suc (count_at A h b)
   join-count zero a x b = length-append a.1 (x ∷ b.1)
   join-count (suc h) a x b = length-append a.2 ((x, b.1) ∷ b.2)
@@ -43,7 +43,7 @@ module _ (A : Type 0) where
   own-more (suc h) (under f c) k = omega arith
 
   -- the same tree, with its focus at the parent
-  pub strain-close : (h : ℕ) (f : Frame A h) (c : Path A (suc h)) (t : Shape A h)
+  pub strain-close : (h : ℕ) (f : Frame A h) (c : Path A (suc h)) (t : Subtree A h)
       → strain_of A h (under f c) t ≡ strain_of A (suc h) c (fill f t)
   strain-close h f c t =
       let e : own_strain A c (count_at A (suc h) (fill f t)) ≡ own_strain A c (frame_count f) =
@@ -55,7 +55,7 @@ module _ (A : Type 0) where
   split-sizes zero m n k e1 e2 e3 = omega arith
   split-sizes (suc h) m n k e1 e2 e3 = omega arith
 
-  module _ (h : ℕ) (a : Shape A h) (x : A) (b : Shape A h) where
+  module _ (h : ℕ) (a : Subtree A h) (x : A) (b : Subtree A h) where
     parts-strain : count_at A h (join A h a x b) ≡ suc (most_at h) → count_at A h b ≡ 4
         → strain A h a + strain A h b + 2 ≤ surplus h (count_at A h (join A h a x b)) + strain_below A h
         (join A h a x b)

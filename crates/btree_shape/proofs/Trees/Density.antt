@@ -9,19 +9,19 @@ use Rattle.std.specs.Ordering.{nat_cmp}
 use Rattle.std.specs.Prelude.{is_some, option_map}
 use Rattle.btree_view.specs.View.{NodeMap, View, children_in}
 use Rattle.btree_shape.specs.Lists.{one, times_listed, total}
-use Rattle.btree_shape.specs.Focus.Shape.{Holds, IsFilled, IsFilledBelow, Shape, count_at, id_of, items_under, later_items}
+use Rattle.btree_shape.specs.Focus.Subtree.{Holds, IsFilled, IsFilledBelow, Subtree, count_at, id_of, items_under, later_items}
 use Rattle.btree_shape.specs.Represents.{numbers_under}
 use Rattle.btree_shape.specs.WellFormed.{IsRooted, IsSized, times_used}
 use Rattle.btree_store.specs.Content.{Content}
 use Rattle.btree_store.specs.ContentLaws.{get-remove_other, get-remove_same, is_insert, same_content}
 use Rattle.btree_shape.proofs.Paths.Frames.{one-other, one-self}
 use Rattle.btree_shape.proofs.Trees.Numbers.{less-or, same-or, used-low, used-mapped, used-none, used-some}
-use Rattle.btree_shape.proofs.Paths.FromRoot.{rooted-shape}
+use Rattle.btree_shape.proofs.Paths.FromRoot.{rooted-subtree}
 
 module _ (A : Type 0) where
   -- each level has four times the room of the one above
-  four-each : (h w : ℕ) (bs : List (A × Shape A h))
-      → ((t : Shape A h) → 3 ≤ count_at A h t → IsFilledBelow A h t → w ≤ length (items_under A h t) + 1)
+  four-each : (h w : ℕ) (bs : List (A × Subtree A h))
+      → ((t : Subtree A h) → 3 ≤ count_at A h t → IsFilledBelow A h t → w ≤ length (items_under A h t) + 1)
       → AllByRecursion (λ b. IsFilled 3 h (count_at A h b.1) × IsFilledBelow A h b.1) bs
       → length bs * w ≤ length (later_items A h bs)
   four-each h w [] f d = omega arith
@@ -32,7 +32,7 @@ module _ (A : Type 0) where
       let m : suc (length bs) * w ≡ w + length bs * w = omega arith in
       rw m (omega arith)
 
-  pub dense : (h : ℕ) (t : Shape A h) → 3 ≤ count_at A h t → IsFilledBelow A h t
+  pub dense : (h : ℕ) (t : Subtree A h) → 3 ≤ count_at A h t → IsFilledBelow A h t
       → 4 ^ suc h ≤ length (items_under A h t) + 1
   dense zero t c d = omega arith
   dense (suc h) t c d =
@@ -44,7 +44,7 @@ module _ (A : Type 0) where
       let e : 4 ^ suc (suc h) ≡ 4 * w = pow-succ' 4 (suc h) in
       omega arith
 
-  dense-root : (h : ℕ) (t : Shape A h) → 1 ≤ count_at A h t → IsFilledBelow A h t
+  dense-root : (h : ℕ) (t : Subtree A h) → 1 ≤ count_at A h t → IsFilledBelow A h t
       → 2 * 4 ^ h ≤ length (items_under A h t) + 1
   dense-root zero t c d = omega arith
   dense-root (suc h) t c d =
@@ -56,14 +56,14 @@ module _ (A : Type 0) where
       omega arith
 
   -- how many nodes a tree has
-  abbrev pub nodes_in : (h : ℕ) → Shape A h → ℕ
+  abbrev pub nodes_in : (h : ℕ) → Subtree A h → ℕ
   nodes_in zero t = 1
   nodes_in (suc h) t = suc (nodes_in h t.1 + total (λ b. nodes_in h b.1) t.2)
 
-  three-each : (h : ℕ) (bs : List (A × Shape A h))
-      → ((t : Shape A h) → 3 ≤ count_at A h t → IsFilledBelow A h t → 3 * nodes_in h t ≤ length (items_under A h t))
+  three-each : (h : ℕ) (bs : List (A × Subtree A h))
+      → ((t : Subtree A h) → 3 ≤ count_at A h t → IsFilledBelow A h t → 3 * nodes_in h t ≤ length (items_under A h t))
       → AllByRecursion (λ b. IsFilled 3 h (count_at A h b.1) × IsFilledBelow A h b.1) bs
-      → 3 * total (λ (b : A × Shape A h). nodes_in h b.1) bs + length bs ≤ length (later_items A h bs)
+      → 3 * total (λ (b : A × Subtree A h). nodes_in h b.1) bs + length bs ≤ length (later_items A h bs)
   three-each h [] f d = omega arith
   three-each h (b ∷ bs) f d =
       let r = three-each h bs f d.1 in
@@ -71,7 +71,7 @@ module _ (A : Type 0) where
       let l = length-append (items_under A h b.1) (later_items A h bs) in
       omega arith
 
-  three-items : (h : ℕ) (t : Shape A h) → 3 ≤ count_at A h t → IsFilledBelow A h t
+  three-items : (h : ℕ) (t : Subtree A h) → 3 ≤ count_at A h t → IsFilledBelow A h t
       → 3 * nodes_in h t ≤ length (items_under A h t)
   three-items zero t c d = omega arith
   three-items (suc h) t c d =
@@ -80,7 +80,7 @@ module _ (A : Type 0) where
       let l = length-append (items_under A h t.1) (later_items A h t.2) in
       omega arith
 
-  few-root : (h : ℕ) (t : Shape A h) → 1 ≤ count_at A h t → IsFilledBelow A h t
+  few-root : (h : ℕ) (t : Subtree A h) → 1 ≤ count_at A h t → IsFilledBelow A h t
       → 3 * nodes_in h t ≤ length (items_under A h t) + 2
   few-root zero t c d = omega arith
   few-root (suc h) t c d =
@@ -91,27 +91,27 @@ module _ (A : Type 0) where
 
   module _ (node_at : NodeMap A) where
     branch-lengths : (h : ℕ) (p : Option ℕ)
-        → ((t : Shape A h) → Holds A node_at h p t → length (numbers_under node_at h (id_of A h t)) ≡ nodes_in h t)
-        → (bs : List (A × Shape A h)) → AllByRecursion (λ b. Holds A node_at h p b.1) bs
+        → ((t : Subtree A h) → Holds A node_at h p t → length (numbers_under node_at h (id_of A h t)) ≡ nodes_in h t)
+        → (bs : List (A × Subtree A h)) → AllByRecursion (λ b. Holds A node_at h p b.1) bs
         → length (flat_map (numbers_under node_at h)
-        (map {B = ℕ} (λ b. b.1) (map {B = A × ℕ} (λ (b : A × Shape A h). (b.0, id_of A h b.1)) bs))) ≡ total
-        (λ (b : A × Shape A h). nodes_in h b.1) bs
+        (map {B = ℕ} (λ b. b.1) (map {B = A × ℕ} (λ (b : A × Subtree A h). (b.0, id_of A h b.1)) bs))) ≡ total
+        (λ (b : A × Subtree A h). nodes_in h b.1) bs
     branch-lengths h p each [] d = refl
     branch-lengths h p each (b ∷ bs) d =
         let q =
         length-append (numbers_under node_at h (id_of A h b.1))
         (flat_map (numbers_under node_at h)
-        (map {B = ℕ} (λ b. b.1) (map {B = A × ℕ} (λ (b : A × Shape A h). (b.0, id_of A h b.1)) bs))) in
+        (map {B = ℕ} (λ b. b.1) (map {B = A × ℕ} (λ (b : A × Subtree A h). (b.0, id_of A h b.1)) bs))) in
         let a = each b.1 d.0 in
         let r = branch-lengths h p each bs d.1 in
         omega arith
 
     -- a tree has as many numbers as nodes
-    pub node-numbers : (h : ℕ) (p : Option ℕ) (t : Shape A h) → Holds A node_at h p t
+    pub node-numbers : (h : ℕ) (p : Option ℕ) (t : Subtree A h) → Holds A node_at h p t
         → length (numbers_under node_at h (id_of A h t)) ≡ nodes_in h t
     node-numbers zero p t d = refl
     node-numbers (suc h) p t d =
-        let ns : List ℕ = map {B = ℕ} (λ b. b.1) (map {B = A × ℕ} (λ (b : A × Shape A h). (b.0, id_of A h b.1)) t.2) in
+        let ns : List ℕ = map {B = ℕ} (λ b. b.1) (map {B = A × ℕ} (λ (b : A × Subtree A h). (b.0, id_of A h b.1)) t.2) in
         let q = length-append (numbers_under node_at h (id_of A h t.1)) (flat_map (numbers_under node_at h) ns) in
         let a = node-numbers h (Some t.0) t.1 d.1 in
         let r = branch-lengths h (Some t.0) (node-numbers h (Some t.0)) t.2 d.2 in
@@ -125,8 +125,8 @@ module _ (A : Type 0) where
       -- a tree whose root is `height` levels above the leaves has at least 2 * 4^height - 1 items
       pub height-dense : 2 * 4 ^ r.height ≤ length xs + 1
       height-dense =
-          let t = rooted-shape A node_at root xs r in
-          let d = dense-root r.height t.shape t.sized.0 t.below in
+          let t = rooted-subtree A node_at root xs r in
+          let d = dense-root r.height t.subtree t.sized.0 t.below in
           let e = ap length t.represents in
           omega arith
 
@@ -146,12 +146,12 @@ module _ (A : Type 0) where
       -- and at most a third as many nodes as items, rounded up
       pub nodes-few : 3 * length (numbers_under node_at r.height root) ≤ length xs + 2
       nodes-few =
-          let t = rooted-shape A node_at root xs r in
-          let d = few-root r.height t.shape t.sized.0 t.below in
+          let t = rooted-subtree A node_at root xs r in
+          let d = few-root r.height t.subtree t.sized.0 t.below in
           let e = ap length t.represents in
           let n =
-          subst (λ i. length (numbers_under node_at r.height i) ≡ nodes_in r.height t.shape) t.at_root
-          (node-numbers r.height None t.shape t.holds) in
+          subst (λ i. length (numbers_under node_at r.height i) ≡ nodes_in r.height t.subtree) t.at_root
+          (node-numbers r.height None t.subtree t.holds) in
           omega arith
 
 -- a content with exactly these numbers, each once, has as many values as the list
@@ -180,9 +180,9 @@ module _ {T : Type 0} where
       ]) in
       let back : m ≡ insert (remove m i) i u.0 =
       is_insert (remove m i) m i u.0 u.1 (λ q ne. sym (get-remove_other m i q ne)) in
-      let gone : is_some (get (remove m i) i) ≡ false = ap is_some (get-remove_same m i) in
+      let removed : is_some (get (remove m i) i) ≡ false = ap is_some (get-remove_same m i) in
       let l : len m ≡ len (remove m i) + 1 =
-      ap len back ∙ (len-insert nat_cmp_total (remove m i) i u.0 ∙ rw gone refl) in
+      ap len back ∙ (len-insert nat_cmp_total (remove m i) i u.0 ∙ rw removed refl) in
       omega arith
 
 -- a well formed tree whose nodes are those of a store: at most (n + 2) / 3 numbers are used

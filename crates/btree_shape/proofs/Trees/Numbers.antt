@@ -3,7 +3,7 @@ use Rattle.std.proofs.Common.{◌≡◌, ◌≢◌, ◌<◌, ◌≤◌, ◌⊎�
 use Rattle.std.specs.List.{AllByRecursion, flat_map}
 use Rattle.btree_view.specs.View.{NodeMap, children_in, View}
 use Rattle.btree_shape.specs.Lists.{one, times_listed, total}
-use Rattle.btree_shape.specs.Focus.Shape.{Holds, Shape, id_of, times_under}
+use Rattle.btree_shape.specs.Focus.Subtree.{Holds, Subtree, id_of, times_under}
 use Rattle.btree_shape.specs.Represents.{numbers_under}
 use Rattle.btree_shape.specs.WellFormed.{times_used}
 use Rattle.btree_shape.proofs.Paths.Frames.{one-self, total-append}
@@ -88,48 +88,48 @@ listed-append n ns ms = total-append (λ i. one n i) ns ms
 
 module _ (A : Type 0) (node_at : NodeMap A) (n : ℕ) where
   branch-numbers : (h : ℕ) (p : Option ℕ)
-      → ((t : Shape A h) → Holds A node_at h p t → times_listed n (numbers_under node_at h (id_of A h t)) ≡ times_under A h n
+      → ((t : Subtree A h) → Holds A node_at h p t → times_listed n (numbers_under node_at h (id_of A h t)) ≡ times_under A h n
       t)
-      → (bs : List (A × Shape A h)) → AllByRecursion (λ b. Holds A node_at h p b.1) bs
+      → (bs : List (A × Subtree A h)) → AllByRecursion (λ b. Holds A node_at h p b.1) bs
       → times_listed n (flat_map (numbers_under node_at h)
-      (map {B = ℕ} (λ b. b.1) (map {B = A × ℕ} (λ (b : A × Shape A h). (b.0, id_of A h b.1)) bs))) ≡ total
-      (λ (b : A × Shape A h). times_under A h n b.1) bs
+      (map {B = ℕ} (λ b. b.1) (map {B = A × ℕ} (λ (b : A × Subtree A h). (b.0, id_of A h b.1)) bs))) ≡ total
+      (λ (b : A × Subtree A h). times_under A h n b.1) bs
   branch-numbers h p each [] d = refl
   branch-numbers h p each (b ∷ bs) d =
       let q =
       listed-append n (numbers_under node_at h (id_of A h b.1))
       (flat_map (numbers_under node_at h)
-      (map {B = ℕ} (λ b. b.1) (map {B = A × ℕ} (λ (b : A × Shape A h). (b.0, id_of A h b.1)) bs))) in
+      (map {B = ℕ} (λ b. b.1) (map {B = A × ℕ} (λ (b : A × Subtree A h). (b.0, id_of A h b.1)) bs))) in
       let a = each b.1 d.0 in
       let r = branch-numbers h p each bs d.1 in
       omega arith
 
   -- the numbers under a node are those of its shape
-  pub numbers-shape : (h : ℕ) (p : Option ℕ) (t : Shape A h) → Holds A node_at h p t
+  pub numbers-subtree : (h : ℕ) (p : Option ℕ) (t : Subtree A h) → Holds A node_at h p t
       → times_listed n (numbers_under node_at h (id_of A h t)) ≡ times_under A h n t
-  numbers-shape zero p t d = omega arith
-  numbers-shape (suc h) p t d =
+  numbers-subtree zero p t d = omega arith
+  numbers-subtree (suc h) p t d =
       let q =
       listed-append n (numbers_under node_at h (id_of A h t.1))
       (flat_map (numbers_under node_at h)
-      (map {B = ℕ} (λ b. b.1) (map {B = A × ℕ} (λ (b : A × Shape A h). (b.0, id_of A h b.1)) t.2))) in
-      let a = numbers-shape h (Some t.0) t.1 d.1 in
-      let r = branch-numbers h (Some t.0) (numbers-shape h (Some t.0)) t.2 d.2 in
+      (map {B = ℕ} (λ b. b.1) (map {B = A × ℕ} (λ (b : A × Subtree A h). (b.0, id_of A h b.1)) t.2))) in
+      let a = numbers-subtree h (Some t.0) t.1 d.1 in
+      let r = branch-numbers h (Some t.0) (numbers-subtree h (Some t.0)) t.2 d.2 in
       let e : children_in (node_at t.0) ≡ id_of A h t.1 ∷ map {B = ℕ} (λ b. b.1)
-      (map {B = A × ℕ} (λ (b : A × Shape A h). (b.0, id_of A h b.1)) t.2) =
+      (map {B = A × ℕ} (λ (b : A × Subtree A h). (b.0, id_of A h b.1)) t.2) =
       ap children_in d.0 in
       let f : times_listed n (flat_map (numbers_under node_at h) (children_in (node_at t.0))) ≡ times_listed n
       (flat_map (numbers_under node_at h)
-      (id_of A h t.1 ∷ map {B = ℕ} (λ b. b.1) (map {B = A × ℕ} (λ (b : A × Shape A h). (b.0, id_of A h b.1)) t.2)))
+      (id_of A h t.1 ∷ map {B = ℕ} (λ b. b.1) (map {B = A × ℕ} (λ (b : A × Subtree A h). (b.0, id_of A h b.1)) t.2)))
       =
       ap (λ l. times_listed n (flat_map (numbers_under node_at h) l)) e in
       omega arith
 
 module _ (A : Type 0) where
   -- the number of a subtree's root is under it
-  pub times-has : (h n : ℕ) (t : Shape A h) → one n (id_of A h t) ≤ times_under A h n t
+  pub times-has : (h n : ℕ) (t : Subtree A h) → one n (id_of A h t) ≤ times_under A h n t
   times-has zero n t = omega arith
   times-has (suc h) n t = omega arith
 
-  pub times-own : (h : ℕ) (t : Shape A h) → 1 ≤ times_under A h (id_of A h t) t
+  pub times-own : (h : ℕ) (t : Subtree A h) → 1 ≤ times_under A h (id_of A h t) t
   times-own h t = omega (arith, one-self (id_of A h t), times-has h (id_of A h t) t)

@@ -4,8 +4,8 @@ use Rattle.std.proofs.lemmas.Bool.Decides.{nat_tests}
 use Rattle.std.specs.List.{AllByRecursion}
 use Rattle.btree_view.specs.View.{NodeMap, View, most_of, parent_of, size_of}
 use Rattle.btree_shape.specs.Lists.{one, total}
-use Rattle.btree_shape.specs.Focus.Shape.{Holds, IsFilled, IsFilledBelow, Shape, count_at, id_of, most_at, times_under, view_at}
-use Rattle.btree_shape.specs.Focus.Path.{Path, AreFilled, Frame, HoldsAbove, SiblingsFilled, SiblingsHold, at_branch, at_first, frame_count, frame_id, frame_view, least_at, parent_above, root_above, times_above, times_beside, top, under}
+use Rattle.btree_shape.specs.Focus.Subtree.{Holds, IsFilled, IsFilledBelow, Subtree, count_at, id_of, most_at, times_under, view_at}
+use Rattle.btree_shape.specs.Focus.Path.{Path, AreFilled, Frame, HoldsAbove, SiblingsFilled, SiblingsHold, at_branch, at_first, frame_count, frame_id, frame_view, least_at, parent_above, root_above, times_above, times_in_siblings, top, under}
 use Rattle.btree_shape.specs.WellFormed.{IsSized, least_of}
 use Rattle.btree_shape.proofs.Paths.Frames.{one-other, one-self, times_in-is, top-view}
 use Rattle.btree_shape.proofs.Trees.Numbers.{same-or, zero-or}
@@ -20,20 +20,20 @@ pub least-other : (root id : ℕ) → id ≢ root → least_of root id ≡ 3
 least-other root id e = grind (arith, nat_tests)
 
 module _ (A : Type 0) where
-  pub view-parent : (h : ℕ) (p : Option ℕ) (t : Shape A h) → parent_of (view_at A h p t) ≡ p
+  pub view-parent : (h : ℕ) (p : Option ℕ) (t : Subtree A h) → parent_of (view_at A h p t) ≡ p
   view-parent zero p t = refl
   view-parent (suc h) p t = refl
 
-  pub branch-sizes : (h : ℕ) (bs : List (A × Shape A h)) → length
-      (map {B = A} (λ b. b.0) (map {B = A × ℕ} (λ (b : A × Shape A h). (b.0, id_of A h b.1)) bs)) ≡ length bs
+  pub branch-sizes : (h : ℕ) (bs : List (A × Subtree A h)) → length
+      (map {B = A} (λ b. b.0) (map {B = A × ℕ} (λ (b : A × Subtree A h). (b.0, id_of A h b.1)) bs)) ≡ length bs
   branch-sizes h [] = refl
   branch-sizes h (b ∷ bs) = ap suc (branch-sizes h bs)
 
-  pub view-size : (h : ℕ) (p : Option ℕ) (t : Shape A h) → size_of (view_at A h p t) ≡ count_at A h t
+  pub view-size : (h : ℕ) (p : Option ℕ) (t : Subtree A h) → size_of (view_at A h p t) ≡ count_at A h t
   view-size zero p t = refl
   view-size (suc h) p t = branch-sizes h t.2
 
-  pub view-most : (h : ℕ) (p : Option ℕ) (t : Shape A h) → most_of (view_at A h p t) ≡ most_at h
+  pub view-most : (h : ℕ) (p : Option ℕ) (t : Subtree A h) → most_of (view_at A h p t) ≡ most_at h
   view-most zero p t = refl
   view-most (suc h) p t = refl
 
@@ -41,10 +41,10 @@ module _ (A : Type 0) where
   frame-parent h p (at_first n back) hole = refl
   frame-parent h p (at_branch n first front x back) hole = refl
 
-  item-count : (h : ℕ) (front : List (A × Shape A h)) (x : A) (hole : ℕ) (back : List (A × Shape A h))
+  item-count : (h : ℕ) (front : List (A × Subtree A h)) (x : A) (hole : ℕ) (back : List (A × Subtree A h))
       → length (map {B = A} (λ b. b.0)
-      (map {B = A × ℕ} (λ (b : A × Shape A h). (b.0, id_of A h b.1)) front ++ (x, hole) ∷ map {B = A × ℕ}
-      (λ (b : A × Shape A h). (b.0, id_of A h b.1)) back)) ≡ length front + suc (length back)
+      (map {B = A × ℕ} (λ (b : A × Subtree A h). (b.0, id_of A h b.1)) front ++ (x, hole) ∷ map {B = A × ℕ}
+      (λ (b : A × Subtree A h). (b.0, id_of A h b.1)) back)) ≡ length front + suc (length back)
   item-count h [] x hole back = let e = branch-sizes h back in omega arith
   item-count h (b ∷ front) x hole back = let e = item-count h front x hole back in omega arith
 
@@ -67,7 +67,7 @@ module _ (A : Type 0) where
     abbrev pub IsMiddle : ℕ → Type 0
     IsMiddle n = (v : View A) → node_at n ≡ Some v → (3 ≤ size_of v) × (size_of v ≤ most_of v)
 
-    pub top-filled : (h : ℕ) (p : Option ℕ) (t : Shape A h) → Holds A node_at h p t → IsMiddle (id_of A h t)
+    pub top-filled : (h : ℕ) (p : Option ℕ) (t : Subtree A h) → Holds A node_at h p t → IsMiddle (id_of A h t)
         → IsFilled 3 h (count_at A h t)
     top-filled h p t d m =
         let r = m (view_at A h p t) (top-view A node_at h p t d) in
@@ -75,7 +75,7 @@ module _ (A : Type 0) where
         let l = view-most h p t in
         (omega arith, omega arith)
 
-    pub top-middle : (h : ℕ) (p : Option ℕ) (t : Shape A h) → Holds A node_at h p t → IsFilled 3 h (count_at A h t)
+    pub top-middle : (h : ℕ) (p : Option ℕ) (t : Subtree A h) → Holds A node_at h p t → IsFilled 3 h (count_at A h t)
         → IsMiddle (id_of A h t)
     top-middle h p t d z v e =
         let w = top-view A node_at h p t d in
@@ -86,9 +86,9 @@ module _ (A : Type 0) where
         (omega arith, omega arith)
 
     branches-filled : (h : ℕ) (p : Option ℕ)
-        → ((t : Shape A h) → Holds A node_at h p t → ((n : ℕ) → 0 < times_under A h n t → IsMiddle n) → IsFilled 3 h
+        → ((t : Subtree A h) → Holds A node_at h p t → ((n : ℕ) → 0 < times_under A h n t → IsMiddle n) → IsFilled 3 h
         (count_at A h t) × IsFilledBelow A h t)
-        → (bs : List (A × Shape A h)) → AllByRecursion (λ b. Holds A node_at h p b.1) bs
+        → (bs : List (A × Subtree A h)) → AllByRecursion (λ b. Holds A node_at h p b.1) bs
         → ((n : ℕ) → 0 < total (λ b. times_under A h n b.1) bs → IsMiddle n)
         → AllByRecursion (λ b. IsFilled 3 h (count_at A h b.1) × IsFilledBelow A h b.1) bs
     branches-filled h p each [] d m = tt
@@ -98,7 +98,7 @@ module _ (A : Type 0) where
           (λ n q. m n (omega arith)),
     )
 
-    pub tree-filled : (h : ℕ) (p : Option ℕ) (t : Shape A h) → Holds A node_at h p t
+    pub tree-filled : (h : ℕ) (p : Option ℕ) (t : Subtree A h) → Holds A node_at h p t
         → ((n : ℕ) → 0 < times_under A h n t → IsMiddle n) → IsFilled 3 h (count_at A h t) × IsFilledBelow A h t
     tree-filled zero p t d m = (top-filled zero p t d (m t.0 (let e = one-self t.0 in omega arith)), tt)
     tree-filled (suc h) p t d m =
@@ -112,7 +112,7 @@ module _ (A : Type 0) where
           ),
         )
 
-    pub below-filled : (h : ℕ) (p : Option ℕ) (t : Shape A h) → Holds A node_at h p t
+    pub below-filled : (h : ℕ) (p : Option ℕ) (t : Subtree A h) → Holds A node_at h p t
         → ((n : ℕ) → one n (id_of A h t) ≡ 0 → 0 < times_under A h n t → IsMiddle n)
         → ((n : ℕ) → times_under A h n t ≤ 1) → IsFilledBelow A h t
     below-filled zero p t d m o = tt
@@ -122,7 +122,7 @@ module _ (A : Type 0) where
         let first = tree-filled h (Some t.0) t.1 d.1 (λ n q. k n (omega arith)) in
         (first.0, first.1, branches-filled h (Some t.0) (tree-filled h (Some t.0)) t.2 d.2 (λ n q. k n (omega arith)))
 
-    pub frames-filled : (h : ℕ) (f : Frame A h) → SiblingsHold node_at f → ((n : ℕ) → 0 < times_beside n f → IsMiddle n)
+    pub frames-filled : (h : ℕ) (f : Frame A h) → SiblingsHold node_at f → ((n : ℕ) → 0 < times_in_siblings n f → IsMiddle n)
         → SiblingsFilled f
     frames-filled h (at_first i back) d m = branches-filled h (Some i) (tree-filled h (Some i)) back d
         (λ n q. m n (omega arith))
@@ -135,9 +135,9 @@ module _ (A : Type 0) where
         )
 
     branches-middle : (h : ℕ) (p : Option ℕ)
-        → ((t : Shape A h) → Holds A node_at h p t → IsFilled 3 h (count_at A h t) → IsFilledBelow A h t → (n : ℕ)
+        → ((t : Subtree A h) → Holds A node_at h p t → IsFilled 3 h (count_at A h t) → IsFilledBelow A h t → (n : ℕ)
         → 0 < times_under A h n t → IsMiddle n)
-        → (bs : List (A × Shape A h)) → AllByRecursion (λ b. Holds A node_at h p b.1) bs
+        → (bs : List (A × Subtree A h)) → AllByRecursion (λ b. Holds A node_at h p b.1) bs
         → AllByRecursion (λ b. IsFilled 3 h (count_at A h b.1) × IsFilledBelow A h b.1) bs
         → (n : ℕ) → 0 < total (λ b. times_under A h n b.1) bs → IsMiddle n
     branches-middle h p each [] d z n q = absurd (omega arith)
@@ -147,7 +147,7 @@ module _ (A : Type 0) where
           | inr some ↦ each b.1 d.0 z.0.0 z.0.1 n some
         ]
 
-    pub tree-middle : (h : ℕ) (p : Option ℕ) (t : Shape A h) → Holds A node_at h p t → IsFilled 3 h (count_at A h t)
+    pub tree-middle : (h : ℕ) (p : Option ℕ) (t : Subtree A h) → Holds A node_at h p t → IsFilled 3 h (count_at A h t)
         → IsFilledBelow A h t → (n : ℕ) → 0 < times_under A h n t → IsMiddle n
     tree-middle zero p t d y z n q =
         elim (same-or n t.0) [
@@ -165,7 +165,7 @@ module _ (A : Type 0) where
               ]
         ]
 
-    pub below-middle : (h : ℕ) (p : Option ℕ) (t : Shape A h) → Holds A node_at h p t → IsFilledBelow A h t → (n : ℕ)
+    pub below-middle : (h : ℕ) (p : Option ℕ) (t : Subtree A h) → Holds A node_at h p t → IsFilledBelow A h t → (n : ℕ)
         → one n (id_of A h t) ≡ 0 → 0 < times_under A h n t → IsMiddle n
     below-middle zero p t d z n away q = absurd (omega arith)
     below-middle (suc h) p t d z n away q =
@@ -175,7 +175,7 @@ module _ (A : Type 0) where
         ]
 
     pub frames-middle : (h : ℕ) (f : Frame A h) → SiblingsHold node_at f → SiblingsFilled f → (n : ℕ)
-        → 0 < times_beside n f → IsMiddle n
+        → 0 < times_in_siblings n f → IsMiddle n
     frames-middle h (at_first i back) d z n q = branches-middle h (Some i) (tree-middle h (Some i)) back d z n q
     frames-middle h (at_branch i first front x back) d z n q =
         elim (zero-or (times_under A h n first)) [
@@ -202,7 +202,7 @@ module _ (A : Type 0) where
               (omega arith, omega arith)
           | inr ne ↦
               let o = one-other n (frame_id f) ne in
-              elim (zero-or (times_beside n f)) [
+              elim (zero-or (times_in_siblings n f)) [
                 | inl none ↦ above-sized (suc h) c (frame_id f) d.2 z.2 n v (omega (arith, times_in-is A h n f)) e
                 | inr some ↦
                     let m = frames-middle h f d.1 z.1 n some v e in

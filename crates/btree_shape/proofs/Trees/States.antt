@@ -11,7 +11,7 @@ use Rattle.btree_node.specs.Node.{view_of}
 use Rattle.btree_node.specs.declared.node.Node.{Node}
 use Rattle.btree_view.specs.View.{NodeMap, View, children_in}
 use Rattle.btree_shape.specs.Represents.{Represents, numbers_under}
-use Rattle.btree_shape.specs.TreeState.{TreeState, IsBTree, IsBTreeButLength, IsOff, node_map, pairs_of, pairs_under, views}
+use Rattle.btree_shape.specs.TreeState.{TreeState, IsBTree, IsBTreeButLength, IsOffByOneAt, node_map, pairs_of, pairs_under, views}
 use Rattle.btree_shape.specs.WellFormed.{IsFormed, IsOffByOne, IsRooted, IsWellFormed}
 use Rattle.btree_shape.proofs.Trees.Represented.{represented-is}
 use Rattle.btree_shape.proofs.Trees.Density.{few-used}
@@ -59,7 +59,7 @@ module _ {K V : Type 0} (cmp : K → K → Ordering) where
   pub pairs-off : (s : TreeState K V) (root id : ℕ) (xs : List (K × V)) → s.root ≡ Some root → IsOffByOne cmp (node_map s) root id xs → pairs_of s ≡ xs
   pairs-off s root id xs at o = ap (λ top. pairs_under (node_map s) top (finite.len s.nodes)) at ∙ pairs-rooted s _ root xs o.rooted
 
-  pub is-off : (s : TreeState K V) (root id : ℕ) (xs : List (K × V)) → s.root ≡ Some root → IsOffByOne cmp (node_map s) root id xs → IsOff cmp s id
+  pub is-off : (s : TreeState K V) (root id : ℕ) (xs : List (K × V)) → s.root ≡ Some root → IsOffByOne cmp (node_map s) root id xs → IsOffByOneAt cmp s id
   is-off s root id xs at o = record {
     root = root;
     at_root = at;

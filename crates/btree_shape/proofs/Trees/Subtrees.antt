@@ -1,78 +1,87 @@
--- Where the items of a node's subtree are in the list of the tree.
-use Rattle.std.proofs.Common.{◌≡◌, ◌⊎◌, ℕ, zero, suc, ◌+◌, ◌<◌, List, [], ◌∷◌, ◌++◌, length, map, Option, Some, refl, sym, ap, subst, ◌∙◌, inl, inr, arith, append_assoc, append-nil}
+-- From the list that nodes represent to a shape, and back.
+use Rattle.std.proofs.Common.{◌≡◌, ◌++◌, ◌∷◌, [], ◌∙◌, ℕ, zero, suc, List, map, Option, Some, refl, sym, ap}
 use Rattle.std.specs.List.{AllByRecursion, flat_map}
-use Rattle.std.proofs.lemmas.Bool.{cases_eq}
-use Rattle.std.proofs.lemmas.Bool.Decides.{nat_tests}
-use Rattle.btree_view.specs.View.{NodeMap}
-use Rattle.btree_shape.specs.Represents.{Represents, numbers_under}
-use Rattle.btree_shape.specs.Place.{StandsAt}
-use Rattle.btree_shape.proofs.Trees.Numbers.{listed-append}
-use Rattle.btree_shape.proofs.Paths.Frames.{one-other}
-use Rattle.btree_shape.specs.Lists.{times_listed}
+use Rattle.btree_view.specs.View.{NodeMap, internal}
+use Rattle.btree_shape.specs.Focus.Subtree.{Holds, Subtree, id_of, items_under, later_items}
+use Rattle.btree_shape.specs.Represents.{Represents}
 
-module _ {A : Type 0} (node_at : NodeMap A) where
-  pub record Stands (xs : List A) (id : ℕ) : Type 0 where
-    pub ys : List A
-    pub before : ℕ
-    pub at : StandsAt node_at xs id ys before
+module _ (A : Type 0) where
+  represents-each : (node_at : NodeMap A) (h : ℕ) (p : Option ℕ)
+      (below : (t : Subtree A h) → Holds A node_at h p t → Represents node_at h p (id_of A h t) (items_under A h t))
+      (bs : List (A × Subtree A h)) → AllByRecursion (λ b. Holds A node_at h p b.1) bs
+      → AllByRecursion {X = A × ℕ × List A} (λ b. Represents node_at h p b.1 b.2)
+      (map (λ (b : A × Subtree A h). (b.0, id_of A h b.1, items_under A h b.1)) bs)
+  represents-each node_at h p below [] d = tt
+  represents-each node_at h p below (b ∷ bs) d = (below b.1 d.0, represents-each node_at h p below bs d.1)
 
-  widen : (front xs back : List A) (id : ℕ) → Stands xs id → Stands (front ++ (xs ++ back)) id
-  widen front xs back id s =
-      let l : List A = s.at.front in
-      let r : List A = s.at.back in
+  branches-again : (h : ℕ) (bs : List (A × Subtree A h)) → map {B = A × ℕ} (λ (b : A × Subtree A h). (b.0, id_of A h b.1))
+      bs
+      ≡ map {B = A × ℕ} (λ (b : A × ℕ × List A). (b.0, b.1))
+      (map {B = A × ℕ × List A} (λ (b : A × Subtree A h). (b.0, id_of A h b.1, items_under A h b.1)) bs)
+  branches-again h [] = refl
+  branches-again h (b ∷ bs) = ap (λ z. (b.0, id_of A h b.1) ∷ z) (branches-again h bs)
+
+  later-again : (h : ℕ) (bs : List (A × Subtree A h)) → later_items A h bs
+      ≡ flat_map (λ (b : A × ℕ × List A). b.0 ∷ b.2)
+      (map {B = A × ℕ × List A} (λ (b : A × Subtree A h). (b.0, id_of A h b.1, items_under A h b.1)) bs)
+  later-again h [] = refl
+  later-again h (b ∷ bs) = ap (λ z. (b.0 ∷ items_under A h b.1) ++ z) (later-again h bs)
+
+  pub represents-of : (node_at : NodeMap A) (h : ℕ) (p : Option ℕ) (t : Subtree A h) → Holds A node_at h p t
+      → Represents node_at h p (id_of A h t) (items_under A h t)
+  represents-of node_at zero p t d = d
+  represents-of node_at (suc h) p t d = (
+    id_of A h t.1,
+    items_under A h t.1,
+    map (λ (b : A × Subtree A h). (b.0, id_of A h b.1, items_under A h b.1)) t.2,
+    d.0 ∙ ap (λ z. Some (internal p (id_of A h t.1) z)) (branches-again h t.2),
+    represents-of node_at h (Some t.0) t.1 d.1,
+    represents-each node_at h (Some t.0) (represents-of node_at h (Some t.0)) t.2 d.2,
+    ap (λ z. items_under A h t.1 ++ z) (later-again h t.2),
+  )
+
+-- a shape whose nodes are under a number and represent the list
+pub record Shaped (A : Type 0) (node_at : NodeMap A) (h : ℕ) (p : Option ℕ) (i : ℕ) (xs : List A) : Type 0 where
+  pub subtree : Subtree A h
+  pub here : id_of A h subtree ≡ i
+  pub holds : Holds A node_at h p subtree
+  pub list : items_under A h subtree ≡ xs
+
+pub record Branches (A : Type 0) (node_at : NodeMap A) (h : ℕ) (p : Option ℕ) (bs : List (A × ℕ × List A)) : Type 0 where
+  pub shapes : List (A × Subtree A h)
+  pub named : map {B = A × ℕ} (λ b. (b.0, id_of A h b.1)) shapes ≡ map {B = A × ℕ} (λ b. (b.0, b.1)) bs
+  pub hold : AllByRecursion (λ b. Holds A node_at h p b.1) shapes
+  pub list : later_items A h shapes ≡ flat_map (λ b. b.0 ∷ b.2) bs
+
+module _ (A : Type 0) (node_at : NodeMap A) where
+  branches-of : (h : ℕ) (p : Option ℕ) (below : (i : ℕ) (xs : List A) → Represents node_at h p i xs → Shaped A node_at h p i xs)
+      (bs : List (A × ℕ × List A))
+      → AllByRecursion (λ b. Represents node_at h p b.1 b.2) bs → Branches A node_at h p bs
+  branches-of h p below [] d = record { shapes = []; named = refl; hold = tt; list = refl }
+  branches-of h p below (b ∷ bs) d =
+      let s = below b.1 b.2 d.0 in
+      let r = branches-of h p below bs d.1 in
       record {
-        ys = s.ys;
-        before = length (front ++ l);
-        at = record {
-          front = front ++ l;
-          back = r ++ back;
-          subtree = s.at.subtree;
-          split = ap (λ z. front ++ (z ++ back)) s.at.split ∙ shape front l s.ys r back;
-          counted = refl;
-        };
+        shapes = (b.0, s.subtree) ∷ r.shapes;
+        named = ap (λ (z : ℕ). (b.0, z) ∷ map {B = A × ℕ} (λ b. (b.0, id_of A h b.1)) r.shapes) s.here
+            ∙ ap (λ z. (b.0, b.1) ∷ z) r.named;
+        hold = (s.holds, r.hold);
+        list = ap (λ z. (b.0 ∷ z) ++ later_items A h r.shapes) s.list ∙ ap (λ z. (b.0 ∷ b.2) ++ z) r.list;
       }
-    where
-      shape : (a b c d e : List A) → a ++ ((b ++ c ++ d) ++ e) ≡ (a ++ b) ++ c ++ (d ++ e)
-      shape [] b c d e = append_assoc (b ++ c) d e
-      shape (x ∷ a) b c d e = ap (λ z. x ∷ z) (shape a b c d e)
 
-  split_sum : (a b : ℕ) → 0 < a + b → (0 < a) ⊎ (0 < b)
-  split_sum zero b h = inr (omega arith)
-  split_sum (suc a) b h = inl (omega arith)
-
-  later : (h : ℕ) (p : Option ℕ) (id : ℕ)
-      → ((n : ℕ) (ys : List A) → Represents node_at h p n ys → 0 < times_listed id (numbers_under node_at h n) → Stands ys id)
-      → (rest : List (A × ℕ × List A)) → AllByRecursion (λ r. Represents node_at h p r.1 r.2) rest
-      → 0 < times_listed id (flat_map (numbers_under node_at h) (map {B = ℕ} (λ b. b.1) (map {B = A × ℕ} (λ r. (r.0, r.1)) rest)))
-      → Stands (flat_map (λ r. r.0 ∷ r.2) rest) id
-  later h p id each [] all many = absurd (omega arith)
-  later h p id each (r ∷ rest) all many =
-      let others : List ℕ = flat_map (numbers_under node_at h) (map {B = ℕ} (λ b. b.1) (map {B = A × ℕ} (λ r. (r.0, r.1)) rest)) in
-      let sum = listed-append id (numbers_under node_at h r.1) others in
-      let long : List A = flat_map (λ (r : A × ℕ × List A). r.0 ∷ r.2) rest in
-      elim (split_sum (times_listed id (numbers_under node_at h r.1)) (times_listed id others) (omega arith)) [
-        | inl here ↦ widen (r.0 ∷ []) r.2 long id (each r.1 r.2 all.0 here)
-        | inr there ↦ subst (λ l. Stands (r.0 ∷ (r.2 ++ l)) id) (append-nil long) (widen (r.0 ∷ r.2) long [] id (later h p id each rest all.1 there))
-      ]
-
-  -- a number under a node is that of a node whose items are among those of the node
-  pub stands : (h : ℕ) (p : Option ℕ) (id n : ℕ) (ys : List A) → Represents node_at h p n ys → 0 < times_listed id (numbers_under node_at h n) → Stands ys id
-  stands zero p id n ys s many =
-      let same : n ≡ id = grind (arith, nat_tests) in
-      record { ys = ys; before = 0; at = record { front = []; back = []; subtree = record { height = 0; parent = p; represents = rw (← same) s }; split = sym (append-nil ys); counted = refl } }
-  stands (suc h) p id n ys s many = elim (cases_eq n id) [
-    | inl same ↦ record { ys = ys; before = 0; at = record { front = []; back = []; subtree = record { height = suc h; parent = p; represents = subst (λ z. Represents node_at (suc h) p z ys) same s }; split = sym (append-nil ys); counted = refl } }
-    | inr differs ↦
-        let others : List ℕ = flat_map (numbers_under node_at h) (map {B = ℕ} (λ b. b.1) (map {B = A × ℕ} (λ r. (r.0, r.1)) s.2)) in
-        let below : List ℕ = numbers_under node_at h s.0 ++ others in
-        let all : numbers_under node_at (suc h) n ≡ n ∷ below = rw s.3 refl in
-        let apart = one-other id n (λ e. differs (sym e)) in
-        let sum = listed-append id (numbers_under node_at h s.0) others in
-        let e = ap (times_listed id) all in
-        let long : List A = flat_map (λ (r : A × ℕ × List A). r.0 ∷ r.2) s.2 in
-        subst (λ l. Stands l id) (sym s.6)
-        (elim (split_sum (times_listed id (numbers_under node_at h s.0)) (times_listed id others) (omega arith)) [
-          | inl here ↦ widen [] s.1 long id (stands h (Some n) id s.0 s.1 s.4 here)
-          | inr there ↦ subst (λ l. Stands (s.1 ++ l) id) (append-nil long) (widen s.1 long [] id (later h (Some n) id (λ m zs t k. stands h (Some n) id m zs t k) s.2 s.5 there))
-        ])
-  ]
+  pub subtree-of : (h : ℕ) (p : Option ℕ) (i : ℕ) (xs : List A) → Represents node_at h p i xs → Shaped A node_at h p i xs
+  subtree-of zero p i xs s = record { subtree = (i, xs); here = refl; holds = s; list = refl }
+  subtree-of (suc h) p i xs s =
+      let f = subtree-of h (Some i) s.0 s.1 s.4 in
+      let r = branches-of h (Some i) (subtree-of h (Some i)) s.2 s.5 in
+      record {
+        subtree = (i, f.subtree, r.shapes);
+        here = refl;
+        holds = (
+          s.3 ∙ (ap (λ z. Some (internal p z (map (λ b. (b.0, b.1)) s.2))) (sym f.here)
+              ∙ ap (λ z. Some (internal p (id_of A h f.subtree) z)) (sym r.named)),
+          f.holds,
+          r.hold,
+        );
+        list = ap (λ z. z ++ later_items A h r.shapes) f.list ∙ (ap (λ z. s.1 ++ z) r.list ∙ sym s.6);
+      }

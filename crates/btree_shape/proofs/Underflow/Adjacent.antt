@@ -11,8 +11,8 @@ use Rattle.btree_shape.specs.SiblingSteps.{Merges, RotatesLeft, RotatesRight}
 use Rattle.btree_shape.specs.Moved.{first_in, moved_by_merge, moved_by_rotate_left, moved_by_rotate_right}
 use Rattle.btree_shape.specs.Need.{levels_above}
 use Rattle.btree_shape.specs.Focus.Pair.{first_of}
-use Rattle.btree_shape.specs.Focus.Shape.{Holds, IsFilled, Shape, count_at, id_of, items_under, most_at, view_at}
-use Rattle.btree_shape.specs.Focus.Underflow.{MayUnderflowAt, owed}
+use Rattle.btree_shape.specs.Focus.Subtree.{Holds, IsFilled, Subtree, count_at, id_of, items_under, most_at, view_at}
+use Rattle.btree_shape.specs.Focus.Underflow.{MayUnderflowAt, debt}
 use Rattle.btree_shape.specs.Strain.{strain_of}
 use Rattle.btree_shape.specs.Focus.Positions.{IsAt, all_positions}
 use Rattle.btree_shape.specs.Focus.Path.{Path, Frame, after_in, at_branch, at_first, before_in, depth, fill, fill_two, frame_count, frame_id, frame_index, items_after, items_before, least_at, parent_above}
@@ -27,16 +27,16 @@ use Rattle.btree_shape.proofs.Paths.Siblings.{IsPair, pair-alone, pair-near, pai
 use Rattle.btree_shape.proofs.Trees.Numbers.{same-or}
 use Rattle.btree_shape.proofs.Strain.Siblings.{left-strain, merge-strain, right-strain}
 use Rattle.btree_shape.proofs.Underflow.TreeAddresses.{left-places, merge-places, right-places}
-use Rattle.btree_shape.proofs.Underflow.Rotations.{turn-left, turn-right}
+use Rattle.btree_shape.proofs.Underflow.Rotations.{rotate-left, rotate-right}
 use Rattle.btree_shape.proofs.Trees.Sizes.{view-most, view-parent, view-size}
 use Rattle.btree_shape.proofs.Splits.Trees.{fill_two-count, fill_two-id}
-use Rattle.btree_shape.proofs.Splits.Halves.{join, times-top}
+use Rattle.btree_shape.proofs.Splits.TwoParts.{join, times-top}
 use Rattle.btree_shape.proofs.Underflow.Items.{kind-is, turned}
 
-module _ (A : Type 0) (node_at : NodeMap A) (root : ℕ) (xs : List A) (asked : Option A) (a : Address) (place given bound : ℕ) where
+module _ (A : Type 0) (node_at : NodeMap A) (root : ℕ) (xs : List A) (expected : Option A) (a : Address) (place freed bound : ℕ) where
   -- children `left` and `right` of node `parent`, with its item at `index` between them; one of them may have an item
   -- too few: what is there, and which step leads where
-  pub record Beside (parent index left right : ℕ) : Type 0 where
+  pub record AdjacentSteps (parent index left right : ℕ) : Type 0 where
     pub node : View A
     pub low : View A
     pub high : View A
@@ -58,16 +58,16 @@ module _ (A : Type 0) (node_at : NodeMap A) (root : ℕ) (xs : List A) (asked : 
     -- one borrows an item from the other, and the tree is well formed
     pub rotate_left : (new : NodeMap A) → RotatesLeft node_at new parent index left right → size_of low ≤ 2
         → 3 < size_of high
-        → IsRepaired A new root xs asked
-        (moved_by_rotate_left left right parent index (size_of low) (first_in high) a) place given bound
+        → IsRepaired A new root xs expected
+        (moved_by_rotate_left left right parent index (size_of low) (first_in high) a) place freed bound
     pub rotate_right : (new : NodeMap A) → RotatesRight node_at new parent index left right → size_of high ≤ 2
         → 3 < size_of low
-        → IsRepaired A new root xs asked
-        (moved_by_rotate_right left right parent index (size_of low) (first_in high) a) place given bound
+        → IsRepaired A new root xs expected
+        (moved_by_rotate_right left right parent index (size_of low) (first_in high) a) place freed bound
     -- the two are merged, and the parent may have an item too few
     pub merge : (new : NodeMap A) → Merges node_at new parent index left right → size_of low + size_of high ≤ 5
-        → MayUnderflowAt A new root xs parent asked
-        (moved_by_merge left right parent index (size_of low) (first_in high) a) place (suc given) bound
+        → MayUnderflowAt A new root xs parent expected
+        (moved_by_merge left right parent index (size_of low) (first_in high) a) place (suc freed) bound
     -- so the fixes come to an end
     pub lower : (new : NodeMap A) → Merges node_at new parent index left right → size_of low + size_of high ≤ 5
         → (levels_above new (length xs) parent < levels_above node_at (length xs) left)
@@ -86,17 +86,17 @@ most-some zero = omega arith
 most-some (suc h) = omega arith
 
 module _ (A : Type 0) where
-  first-of-view : (h : ℕ) (p : Option ℕ) (t : Shape A h) → first_in (view_at A h p t) ≡ first_of A h t
+  first-of-view : (h : ℕ) (p : Option ℕ) (t : Subtree A h) → first_in (view_at A h p t) ≡ first_of A h t
   first-of-view zero p t = refl
   first-of-view (suc h) p t = refl
 
   -- a node's children name it as their parent
-  top-parented : (node_at : NodeMap A) (h i : ℕ) (u : Shape A h) → Holds A node_at h (Some i) u
+  top-parented : (node_at : NodeMap A) (h i : ℕ) (u : Subtree A h) → Holds A node_at h (Some i) u
       → option_map (with_parent (Some i)) (node_at (id_of A h u)) ≡ node_at (id_of A h u)
   top-parented node_at zero i u d = rw d refl
   top-parented node_at (suc h) i u d = rw d.0 refl
 
-  parented : (node_at : NodeMap A) (h : ℕ) (p : Option ℕ) (t : Shape A h) (n : ℕ) → Holds A node_at h p t
+  parented : (node_at : NodeMap A) (h : ℕ) (p : Option ℕ) (t : Subtree A h) (n : ℕ) → Holds A node_at h p t
       → 0 < times_listed n (children_of (view_at A h p t))
       → option_map (with_parent (Some (id_of A h t))) (node_at n) ≡ node_at n
   parented node_at zero p t n d m = absurd (omega arith)
@@ -107,8 +107,8 @@ module _ (A : Type 0) where
         | inr ne ↦ each t.2 d.2 (let o = one-other n (id_of A h t.1) ne in omega arith)
       ]
     where
-      each : (bs : List (A × Shape A h)) → AllByRecursion (λ b. Holds A node_at h (Some t.0) b.1) bs
-          → 0 < times_listed n (map {B = ℕ} (λ b. b.1) (map {B = A × ℕ} (λ (b : A × Shape A h). (b.0, id_of A h b.1)) bs))
+      each : (bs : List (A × Subtree A h)) → AllByRecursion (λ b. Holds A node_at h (Some t.0) b.1) bs
+          → 0 < times_listed n (map {B = ℕ} (λ b. b.1) (map {B = A × ℕ} (λ (b : A × Subtree A h). (b.0, id_of A h b.1)) bs))
           → option_map (with_parent (Some t.0)) (node_at n) ≡ node_at n
       each [] d m = absurd (omega arith)
       each (b ∷ bs) d m =
@@ -118,11 +118,11 @@ module _ (A : Type 0) where
             | inr ne ↦ each bs d.1 (let o = one-other n (id_of A h b.1) ne in omega arith)
           ]
 
-  module _ (node_at : NodeMap A) (root : ℕ) (xs : List A) (asked : Option A) (a : Address) (place given bound : ℕ) where
-    module _ (h : ℕ) (f : Frame A h) (c : Path A (suc h)) (l : Shape A h) (x : A) (r : Shape A h)
+  module _ (node_at : NodeMap A) (root : ℕ) (xs : List A) (expected : Option A) (a : Address) (place freed bound : ℕ) where
+    module _ (h : ℕ) (f : Frame A h) (c : Path A (suc h)) (l : Subtree A h) (x : A) (r : Subtree A h)
         (p : IsPair A node_at root xs h f c l x r) (z : IsFilled (least_at c) (suc h) (suc (frame_count f)))
-        (th : IsAt asked a (all_positions A (suc h) c (fill_two f l x r)) place)
-        (pd : given + strain_of A (suc h) c (fill_two f l x r) ≤ bound)
+        (th : IsAt expected a (all_positions A (suc h) c (fill_two f l x r)) place)
+        (pd : freed + strain_of A (suc h) c (fill_two f l x r) ≤ bound)
         (l_least : 2 ≤ count_at A h l) (l_most : count_at A h l ≤ most_at h)
         (r_least : 2 ≤ count_at A h r) (r_most : count_at A h r ≤ most_at h)
         (least : 5 ≤ count_at A h l + count_at A h r) where
@@ -150,16 +150,16 @@ module _ (A : Type 0) where
       high-size : size_of High ≡ count_at A h r
       high-size = view-size A h (Some P) r
 
-      seen-so : (g : ℕ → Option ℕ → Address → Address) (new : NodeMap A) (at : Address → Type 0)
+      focus-so : (g : ℕ → Option ℕ → Address → Address) (new : NodeMap A) (at : Address → Type 0)
           → at (g (count_at A h l) (first_of A h r) a) → at (g (size_of Low) (first_in High) a)
-      seen-so g new at i =
+      focus-so g new at i =
           subst (λ n. at (g n (first_in High) a)) (sym low-size)
           (subst (λ k. at (g (count_at A h l) k a)) (sym (first-of-view h (Some P) r)) i)
 
-      turned-left : (new : NodeMap A) → RotatesLeft node_at new P S I J → size_of Low ≤ 2 → 3 < size_of High
-          → IsRepaired A new root xs asked (moved_by_rotate_left I J P S (size_of Low) (first_in High) a) place given bound
-      turned-left new rot few many =
-          let t = turn-left A node_at new root xs h f c l x r p rot in
+      rotated-left : (new : NodeMap A) → RotatesLeft node_at new P S I J → size_of Low ≤ 2 → 3 < size_of High
+          → IsRepaired A new root xs expected (moved_by_rotate_left I J P S (size_of Low) (first_in High) a) place freed bound
+      rotated-left new rot few many =
+          let t = rotate-left A node_at new root xs h f c l x r p rot in
           let n = turned A h l x r t.new_a t.up t.new_b t.turns in
           let nl = n.left_count in
           let nr = n.right_count in
@@ -170,31 +170,31 @@ module _ (A : Type 0) where
           pair-whole A new root xs h f c t.new_a t.up t.new_b t.pair (omega arith, omega arith)
           (omega arith, omega arith) in
           let there =
-          left-places A h f c l x r (pair-alone A node_at root xs h f c l x r p) t.new_a t.up t.new_b t.turns asked a place
+          left-places A h f c l x r (pair-alone A node_at root xs h f c l x r p) t.new_a t.up t.new_b t.turns expected a place
           th in
           let st = left-strain A h f c l x r t.new_a t.up t.new_b t.turns (omega arith) (omega arith) in
           record {
             id = P;
             node = record {
-              seen = record {
+              focus = record {
                 height = suc h;
                 path = c;
-                shape = fill_two f t.new_a t.up t.new_b;
+                subtree = fill_two f t.new_a t.up t.new_b;
                 here = fill_two-id A h f t.new_a t.up t.new_b;
                 whole = w;
               };
               sized = subst (λ k. IsFilled (least_at c) (suc h) k) (sym (fill_two-count A h f t.new_a t.up t.new_b)) z;
             };
-            there = seen-so (λ n k v. moved_by_rotate_left I J P S n k v) new
-                (λ v. IsAt asked v (all_positions A (suc h) c (fill_two f t.new_a t.up t.new_b)) place) there;
-            paid = omega arith;
+            there = focus-so (λ n k v. moved_by_rotate_left I J P S n k v) new
+                (λ v. IsAt expected v (all_positions A (suc h) c (fill_two f t.new_a t.up t.new_b)) place) there;
+            within_strain = omega arith;
           }
 
-      turned-right : (new : NodeMap A) → RotatesRight node_at new P S I J → size_of High ≤ 2 → 3 < size_of Low
-          → IsRepaired A new root xs asked (moved_by_rotate_right I J P S (size_of Low) (first_in High) a) place given
+      rotated-right : (new : NodeMap A) → RotatesRight node_at new P S I J → size_of High ≤ 2 → 3 < size_of Low
+          → IsRepaired A new root xs expected (moved_by_rotate_right I J P S (size_of Low) (first_in High) a) place freed
           bound
-      turned-right new rot few many =
-          let t = turn-right A node_at new root xs h f c l x r p rot in
+      rotated-right new rot few many =
+          let t = rotate-right A node_at new root xs h f c l x r p rot in
           let n = turned A h t.new_a t.up t.new_b l x r t.turns in
           let nl = n.left_count in
           let nr = n.right_count in
@@ -205,53 +205,53 @@ module _ (A : Type 0) where
           pair-whole A new root xs h f c t.new_a t.up t.new_b t.pair (omega arith, omega arith)
           (omega arith, omega arith) in
           let there =
-          right-places A h f c l x r (pair-alone A node_at root xs h f c l x r p) t.new_a t.up t.new_b t.turns asked a
+          right-places A h f c l x r (pair-alone A node_at root xs h f c l x r p) t.new_a t.up t.new_b t.turns expected a
           place th in
           let st = right-strain A h f c l x r t.new_a t.up t.new_b t.turns (omega arith) (omega arith) in
           record {
             id = P;
             node = record {
-              seen = record {
+              focus = record {
                 height = suc h;
                 path = c;
-                shape = fill_two f t.new_a t.up t.new_b;
+                subtree = fill_two f t.new_a t.up t.new_b;
                 here = fill_two-id A h f t.new_a t.up t.new_b;
                 whole = w;
               };
               sized = subst (λ k. IsFilled (least_at c) (suc h) k) (sym (fill_two-count A h f t.new_a t.up t.new_b)) z;
             };
-            there = seen-so (λ n k v. moved_by_rotate_right I J P S n k v) new
-                (λ v. IsAt asked v (all_positions A (suc h) c (fill_two f t.new_a t.up t.new_b)) place) there;
-            paid = omega arith;
+            there = focus-so (λ n k v. moved_by_rotate_right I J P S n k v) new
+                (λ v. IsAt expected v (all_positions A (suc h) c (fill_two f t.new_a t.up t.new_b)) place) there;
+            within_strain = omega arith;
           }
 
       joined : (new : NodeMap A) → Merges node_at new P S I J → size_of Low + size_of High ≤ 5
-          → MayUnderflowAt A new root xs P asked (moved_by_merge I J P S (size_of Low) (first_in High) a) place
-          (suc given) bound
+          → MayUnderflowAt A new root xs P expected (moved_by_merge I J P S (size_of Low) (first_in High) a) place
+          (suc freed) bound
       joined new mg few =
           let ls = low-size in
           let hs = high-size in
           let m = most-some h in
-          let t : Shape A (suc h) = fill f (join A h l x r) in
+          let t : Subtree A (suc h) = fill f (join A h l x r) in
           let n = fill-count A h f (join A h l x r) in
-          let ow : owed c (count_at A (suc h) t) ≡ owed c (frame_count f) = ap (owed c) n in
-          let there = merge-places A h f c l x r (pair-alone A node_at root xs h f c l x r p) asked a place th in
+          let ow : debt c (count_at A (suc h) t) ≡ debt c (frame_count f) = ap (debt c) n in
+          let there = merge-places A h f c l x r (pair-alone A node_at root xs h f c l x r p) expected a place th in
           let st = merge-strain A h f c l x r (omega arith) (omega arith) (omega arith) in
           let z0 = z.0 in
           let z1 = z.1 in
           record {
-            seen = record {
+            focus = record {
               height = suc h;
               path = c;
-              shape = t;
+              subtree = t;
               here = fill-id A h f (join A h l x r);
               whole = merged A node_at new root xs h f c l x r p mg (omega arith, omega arith);
             };
             low = omega arith;
             high = omega arith;
-            there = seen-so (λ n k v. moved_by_merge I J P S n k v) new
-                (λ v. IsAt asked v (all_positions A (suc h) c t) place) there;
-            paid = omega arith;
+            there = focus-so (λ n k v. moved_by_merge I J P S n k v) new
+                (λ v. IsAt expected v (all_positions A (suc h) c t) place) there;
+            within_strain = omega arith;
           }
 
       children-apart : (n : ℕ) → 0 < times_listed n (children_of Low) + times_listed n (children_of High)
@@ -292,7 +292,7 @@ module _ (A : Type 0) where
           let a5 = length-append (items_under A h l) (x ∷ items_under A h r) in
           omega arith
 
-      levels-child : (t : Shape A h) → Holds A node_at h (Some P) t → (n : ℕ) → depth c < n
+      levels-child : (t : Subtree A h) → Holds A node_at h (Some P) t → (n : ℕ) → depth c < n
           → levels_above node_at n (id_of A h t) ≡ suc (depth c)
       levels-child t d zero lt = absurd (omega arith)
       levels-child t d (suc n) lt =
@@ -308,7 +308,7 @@ module _ (A : Type 0) where
           let ls = low-size in
           let hs = high-size in
           let m = most-some h in
-          let t : Shape A (suc h) = fill f (join A h l x r) in
+          let t : Subtree A (suc h) = fill f (join A h l x r) in
           let w = merged A node_at new root xs h f c l x r p mg (omega arith, omega arith) in
           let id-is = fill-id A h f (join A h l x r) in
           let d = long in
@@ -322,8 +322,8 @@ module _ (A : Type 0) where
           let b = levels-child r p.right (length xs) d in
           (omega arith, omega arith)
 
-      pub beside : Beside A node_at root xs asked a place given bound P S I J
-      beside =
+      pub adjacent-steps : AdjacentSteps A node_at root xs expected a place freed bound P S I J
+      adjacent-steps =
           let ls = low-size in
           let hs = high-size in
           let lm = view-most A h (Some P) l in
@@ -348,8 +348,8 @@ module _ (A : Type 0) where
             high_most = omega arith;
             children_used = children-apart;
             low_children = own-children;
-            rotate_left = turned-left;
-            rotate_right = turned-right;
+            rotate_left = rotated-left;
+            rotate_right = rotated-right;
             merge = joined;
             lower = lower-parent;
           }

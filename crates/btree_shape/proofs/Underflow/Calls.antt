@@ -20,7 +20,7 @@ module _ {A : Type 0} (node_at one_look two three new : NodeMap A) (parent left 
   module _ (top low high new_top new_low new_high : View A) (children : List ℕ) (adopter : ℕ)
       (away : (n : ℕ) → 0 < times_listed n children → (n ≢ parent) × (n ≢ left) × (n ≢ right))
       (at_parent : node_at parent ≡ Some top) (at_left : node_at left ≡ Some low) (at_right : node_at right ≡ Some high)
-      (adopts : Reparents three new adopter children) where
+      (reparents : Reparents three new adopter children) where
     not-parent : times_listed parent children ≡ 0
     not-parent = none-of children parent (λ n m. (away n m).0)
 
@@ -40,12 +40,12 @@ module _ {A : Type 0} (node_at one_look two three new : NodeMap A) (parent left 
           at_parent = at_parent;
           at_left = at_left;
           at_right = at_right;
-          new_parent = adopts.kept parent not-parent ∙ (c.others parent (λ e. apart.1 (sym e)) ∙ b.here);
-          new_left = adopts.kept left not-left ∙ c.here;
-          new_right = adopts.kept right not-right
+          new_parent = reparents.kept parent not-parent ∙ (c.others parent (λ e. apart.1 (sym e)) ∙ b.here);
+          new_left = reparents.kept left not-left ∙ c.here;
+          new_right = reparents.kept right not-right
               ∙ (c.others right (λ e. apart.0 (sym e)) ∙ (b.others right apart.2 ∙ a.here));
-          moved = λ n np nl nr m. adopts.moved n m ∙ ap (option_map (with_parent (Some adopter))) (still n np nl nr);
-          kept = λ n np nl nr z. adopts.kept n z ∙ still n np nl nr;
+          moved = λ n np nl nr m. reparents.moved n m ∙ ap (option_map (with_parent (Some adopter))) (still n np nl nr);
+          kept = λ n np nl nr z. reparents.kept n z ∙ still n np nl nr;
         }
 
     -- a rotation to the right: the left node first, then the parent, then the right node
@@ -58,11 +58,11 @@ module _ {A : Type 0} (node_at one_look two three new : NodeMap A) (parent left 
           at_parent = at_parent;
           at_left = at_left;
           at_right = at_right;
-          new_parent = adopts.kept parent not-parent ∙ (c.others parent (λ e. apart.2 (sym e)) ∙ b.here);
-          new_left = adopts.kept left not-left ∙ (c.others left apart.0 ∙ (b.others left apart.1 ∙ a.here));
-          new_right = adopts.kept right not-right ∙ c.here;
-          moved = λ n np nl nr m. adopts.moved n m ∙ ap (option_map (with_parent (Some adopter))) (still n np nl nr);
-          kept = λ n np nl nr z. adopts.kept n z ∙ still n np nl nr;
+          new_parent = reparents.kept parent not-parent ∙ (c.others parent (λ e. apart.2 (sym e)) ∙ b.here);
+          new_left = reparents.kept left not-left ∙ (c.others left apart.0 ∙ (b.others left apart.1 ∙ a.here));
+          new_right = reparents.kept right not-right ∙ c.here;
+          moved = λ n np nl nr m. reparents.moved n m ∙ ap (option_map (with_parent (Some adopter))) (still n np nl nr);
+          kept = λ n np nl nr z. reparents.kept n z ∙ still n np nl nr;
         }
 
   -- a merge: the parent first, then the right node is removed, then the left one is written and made the parent of all
@@ -87,7 +87,7 @@ module _ {A : Type 0} (node_at one_look two three new : NodeMap A) (parent left 
 
     pub merge-written : WritesNode node_at one_look parent new_top → RemovesNode one_look two right → WritesNode two three left new_low
         → Reparents three new left children_of_both → Merges node_at new parent index left right
-    merge-written a b c adopts =
+    merge-written a b c reparents =
         let still : (n : ℕ) → n ≢ parent → n ≢ left → n ≢ right → three n ≡ node_at n =
         λ n np nl nr. c.others n nl ∙ (b.others n nr ∙ a.others n np) in
         record {
@@ -103,18 +103,18 @@ module _ {A : Type 0} (node_at one_look two three new : NodeMap A) (parent left 
           down_is = down_is;
           top_is = top_is;
           low_is = low_is;
-          new_parent = adopts.kept parent (none-of children_of_both parent (λ n m. (other n m).0))
+          new_parent = reparents.kept parent (none-of children_of_both parent (λ n m. (other n m).0))
               ∙ (c.others parent (λ e. apart.1 (sym e)) ∙ (b.others parent (λ e. apart.2 (sym e)) ∙ a.here));
-          new_left = adopts.kept left (none-of children_of_both left (λ n m. (other n m).1)) ∙ c.here;
-          gone = adopts.kept right (none-of children_of_both right (λ n m. (other n m).2))
+          new_left = reparents.kept left (none-of children_of_both left (λ n m. (other n m).1)) ∙ c.here;
+          removed = reparents.kept right (none-of children_of_both right (λ n m. (other n m).2))
               ∙ (c.others right (λ e. apart.0 (sym e)) ∙ b.here);
           moved = λ n np nl nr m.
-              adopts.moved n (let b = both-parts n in omega arith)
+              reparents.moved n (let b = both-parts n in omega arith)
               ∙ ap (option_map (with_parent (Some left))) (still n np nl nr);
           kept = λ n np nl nr z.
               elim (zero-or (times_listed n (children_of low))) [
-                | inl z2 ↦ adopts.kept n (let b = both-parts n in omega arith) ∙ still n np nl nr
-                | inr m ↦ adopts.moved n (let b = both-parts n in omega arith)
+                | inl z2 ↦ reparents.kept n (let b = both-parts n in omega arith) ∙ still n np nl nr
+                | inr m ↦ reparents.moved n (let b = both-parts n in omega arith)
                     ∙ (ap (option_map (with_parent (Some left))) (still n np nl nr) ∙ own n m)
               ];
         }

@@ -6,25 +6,25 @@ use Rattle.btree_view.specs.Edits.{with_parent}
 use Rattle.btree_view.specs.View.{NodeMap, View, children_of, items_of}
 use Rattle.btree_shape.specs.SiblingSteps.{IsRemade, Merges}
 use Rattle.btree_shape.specs.Lists.{one, times_listed, total}
-use Rattle.btree_shape.specs.Focus.Shape.{Holds, IsFilled, Shape, count_at, id_of, times_under, view_at}
+use Rattle.btree_shape.specs.Focus.Subtree.{Holds, IsFilled, Subtree, count_at, id_of, times_under, view_at}
 use Rattle.btree_shape.specs.Focus.Path.{Path, Frame, HoldsAbove, after_in, before_in, fill, fill_two, frame_id, frame_index, items_after, items_before, parent_above, root_above, times_above}
 use Rattle.btree_shape.specs.WellFormed.{times_used}
 use Rattle.btree_shape.specs.Focus.Focus.{IsFocus}
-use Rattle.btree_shape.proofs.Splits.Carried.{join-items}
+use Rattle.btree_shape.proofs.Splits.KeptPositions.{join-items}
 use Rattle.btree_shape.proofs.Paths.Frames.{AllByRecursion-append, above-same, eachs-same, fill-filled, fill-holds, fill-id, fill-items, fill-times, fill-view, holds-same, one-other, one-self, one-zero, siblings-same, times_in-is, top-view}
 use Rattle.btree_shape.proofs.Splits.Upward.{children-below}
 use Rattle.btree_shape.proofs.Underflow.Writes.{down-between, frame-parts, remade-view, remove-seam}
 use Rattle.btree_shape.proofs.Splits.NodeAddresses.{Apart}
 use Rattle.btree_shape.proofs.Paths.Siblings.{IsPair, pair-alone, pair-near}
 use Rattle.btree_shape.proofs.Trees.Numbers.{same-or, used-low, used-mapped, used-one, zero-or}
-use Rattle.btree_shape.proofs.Splits.Halves.{reparent_children, adopts, join, times-top, times_below, total-top}
+use Rattle.btree_shape.proofs.Splits.TwoParts.{reparent_children, reparents, join, times-top, times_below, total-top}
 use Rattle.btree_shape.proofs.Strain.Splits.{join-count}
 use Rattle.btree_shape.proofs.Underflow.Items.{children_at, children_at-is, items_at, items_at-is, join-below, join-id, join-times, join-views, numbered}
 use Rattle.std.proofs.lemmas.Option.{same_Some}
 
 module _ (A : Type 0) where
   -- the parent without the item and the child after it
-  dropped-view : (h : ℕ) (p : Option ℕ) (f : Frame A h) (a : Shape A h) (x : A) (b t : Shape A h) (old new : View A)
+  dropped-view : (h : ℕ) (p : Option ℕ) (f : Frame A h) (a : Subtree A h) (x : A) (b t : Subtree A h) (old new : View A)
       → id_of A h t ≡ id_of A h a → old ≡ view_at A (suc h) p (fill_two f a x b)
       → IsRemade old new (remove (items_of old) (frame_index f)) (remove (children_of old) (suc (frame_index f)))
       → new ≡ view_at A (suc h) p (fill f t)
@@ -50,7 +50,7 @@ module _ (A : Type 0) where
 
 module _ (A : Type 0) (node_at new : NodeMap A) where
   -- the two merged into one node, with the nodes below both
-  merged-holds : (h q : ℕ) (a : Shape A h) (x : A) (b : Shape A h) → Apart A h q a b
+  merged-holds : (h q : ℕ) (a : Subtree A h) (x : A) (b : Subtree A h) → Apart A h q a b
       → ((n : ℕ) → n ≢ q → n ≢ id_of A h a → n ≢ id_of A h b
       → 0 < times_listed n (children_at A h b) → new n ≡ option_map (with_parent (Some (id_of A h a))) (node_at n))
       → ((n : ℕ) → n ≢ q → n ≢ id_of A h a → n ≢ id_of A h b
@@ -61,9 +61,9 @@ module _ (A : Type 0) (node_at new : NodeMap A) where
   merged-holds (suc h) q a x b near moved kept e da db =
       let ids : List ℕ = map {B = ℕ} (λ (m : A × ℕ). m.1) (map (numbered A h) b.2) in
       let sum : (n : ℕ) → one n q
-      + (one n a.0 + (times_under A h n a.1 + total (λ (m : A × Shape A h). times_under A h n m.1) a.2))
+      + (one n a.0 + (times_under A h n a.1 + total (λ (m : A × Subtree A h). times_under A h n m.1) a.2))
       + (one n b.0 + ((one n (id_of A h b.1) + times_below A h n b.1)
-      + (times_listed n ids + total (λ (m : A × Shape A h). times_below A h n m.1) b.2))) ≤ 1 =
+      + (times_listed n ids + total (λ (m : A × Subtree A h). times_below A h n m.1) b.2))) ≤ 1 =
       λ n. let o = near.sum n in omega (arith, times-top A h n b.1, total-top A h n b.2) in
       let keep : (n : ℕ) → one n q ≡ 0 → one n a.0 ≡ 0 → one n b.0 ≡ 0
       → one n (id_of A h b.1) + times_listed n ids ≡ 0 → new n ≡ node_at n =
@@ -81,19 +81,19 @@ module _ (A : Type 0) (node_at new : NodeMap A) where
                   (let k = one-self (id_of A h b.1) in let s = sum (id_of A h b.1) in
                   move (id_of A h b.1) (omega arith) (omega arith) (omega arith) (omega arith))
                   (λ n m. let s = sum n in keep n (omega arith) (omega arith) (omega arith) (omega arith)) db.1,
-              adopts A node_at new h b.0 a.0 (Some b.0) b.2
+              reparents A node_at new h b.0 a.0 (Some b.0) b.2
                   (λ n m. let s = sum n in move n (omega arith) (omega arith) (omega arith) (omega arith))
                   (λ n m. let s = sum n in keep n (omega arith) (omega arith) (omega arith) (omega arith)) db.2,
             ),
       )
 
-  module _ (root : ℕ) (xs : List A) (h : ℕ) (f : Frame A h) (c : Path A (suc h)) (a : Shape A h) (x : A)
-      (b : Shape A h) (p : IsPair A node_at root xs h f c a x b)
+  module _ (root : ℕ) (xs : List A) (h : ℕ) (f : Frame A h) (c : Path A (suc h)) (a : Subtree A h) (x : A)
+      (b : Subtree A h) (p : IsPair A node_at root xs h f c a x b)
       (r : Merges node_at new (frame_id f) (frame_index f) (id_of A h a) (id_of A h b)) where
     abbrev Q : ℕ
     Q = frame_id f
 
-    abbrev J : Shape A h
+    abbrev J : Subtree A h
     J = join A h a x b
 
     low-is : r.low ≡ view_at A h (Some Q) a
@@ -161,7 +161,7 @@ module _ (A : Type 0) (node_at new : NodeMap A) where
         let tb = times-top A h n b in
         elim (same-or n (id_of A h b)) [
           | inl is ↦
-              let g : times_used (new n) ≡ 0 = rw (is, r.gone) refl in
+              let g : times_used (new n) ≡ 0 = rw (is, r.removed) refl in
               let k : one n (id_of A h b) ≡ 1 = subst (λ z. one n z ≡ 1) is (one-self n) in
               let l = used-low (node_at n) in
               omega arith
@@ -183,11 +183,11 @@ module _ (A : Type 0) (node_at new : NodeMap A) where
               (λ n m. let s = sum n in keep n (omega arith) (omega arith)) p.above);
           inner = fill-holds A new h (parent_above c) f J
               (r.new_parent ∙ ap Some (top2 ∙ fill-view A h (parent_above c) f J))
-              (siblings-same A node_at new h f (λ n m. let s = sum n in keep n (omega arith) (omega arith)) p.beside)
+              (siblings-same A node_at new h f (λ n m. let s = sum n in keep n (omega arith) (omega arith)) p.siblings)
               held;
           once = once-merged;
           filled = p.filled;
-          below = fill-filled A h f J p.beside_filled
+          below = fill-filled A h f J p.siblings_filled
               (subst (λ n. IsFilled 3 h n) (sym (join-count A h a x b)) z)
               (join-below A h a x b p.left_below p.right_below);
           list = p.list ∙ ap (λ ys. items_before c ++ (ys ++ items_after c))

@@ -8,7 +8,7 @@ use Rattle.btree_shape.specs.SiblingSteps.{RotatesLeft}
 use Rattle.btree_shape.specs.UnderflowFix.{Borrows, CanSpare, UnderflowsUnder, MergesNode, NoneSpares, child_at, from_left, from_right, size_in, with_left, with_right}
 use Rattle.btree_shape.specs.Need.{levels_above}
 use Rattle.btree_shape.specs.Focus.Search.{levels_below}
-use Rattle.btree_shape.specs.Focus.Shape.{Shape, id_of, view_at}
+use Rattle.btree_shape.specs.Focus.Subtree.{Subtree, id_of, view_at}
 use Rattle.btree_shape.specs.Focus.Underflow.{MayUnderflowAt}
 use Rattle.btree_shape.specs.Represents.{Represents}
 use Rattle.btree_shape.specs.Focus.Path.{Path, HoldsAbove, depth, frame_id, frame_view, parent_above, root_above, times_above, top, under}
@@ -20,19 +20,19 @@ use Rattle.btree_shape.proofs.Paths.Used.{full-no}
 use Rattle.btree_shape.proofs.Trees.Numbers.{times-own, used-low}
 use Rattle.btree_shape.proofs.Paths.Levels.{levels-rooted}
 use Rattle.btree_shape.proofs.Trees.Sizes.{frame-parent, root-there, view-parent}
-use Rattle.btree_shape.proofs.Trees.Shapes.{shape-of}
-use Rattle.btree_shape.proofs.Paths.UnsizedFocus.{whole-standing}
+use Rattle.btree_shape.proofs.Trees.Subtrees.{subtree-of}
+use Rattle.btree_shape.proofs.Paths.UnsizedFocus.{focus-unsized}
 
 module _ {A : Type 0} where
   -- a root has one height
   pub one-height : (node_at : NodeMap A) (root : ℕ) (xs : List A) (h g : ℕ) → Represents node_at h None root xs
       → Represents node_at g None root xs → h ≡ g
   one-height node_at root xs h g s t =
-      let a = shape-of A node_at h None root xs s in
-      let b = shape-of A node_at g None root xs t in
+      let a = subtree-of A node_at h None root xs s in
+      let b = subtree-of A node_at g None root xs t in
       let most : ℕ = h + g in
-      sym (levels-is A node_at h most None a.shape (omega arith) a.holds)
-      ∙ (ap (levels_below node_at most) (a.here ∙ sym b.here) ∙ levels-is A node_at g most None b.shape (omega arith) b.holds)
+      sym (levels-is A node_at h most None a.subtree (omega arith) a.holds)
+      ∙ (ap (levels_below node_at most) (a.here ∙ sym b.here) ∙ levels-is A node_at g most None b.subtree (omega arith) b.holds)
 
   -- as many levels are above a node as its path has, or as may be counted
   levels-low : (node_at : NodeMap A) (h n : ℕ) (c : Path A h) (hole : ℕ) (v : View A) → node_at hole ≡ Some v
@@ -43,47 +43,47 @@ module _ {A : Type 0} where
       rw (e, p) (let r = levels-low node_at (suc h) n c (frame_id f) (frame_view (parent_above c) f hole)
       d.0 (frame-parent A h (parent_above c) f hole) d.2 in omega arith)
 
-module _ (A : Type 0) (node_at : NodeMap A) (root : ℕ) (xs : List A) (id : ℕ) (asked : Option A) (a : Address)
-    (place given bound : ℕ) (g : MayUnderflowAt A node_at root xs id asked a place given bound) where
+module _ (A : Type 0) (node_at : NodeMap A) (root : ℕ) (xs : List A) (id : ℕ) (expected : Option A) (a : Address)
+    (place freed bound : ℕ) (g : MayUnderflowAt A node_at root xs id expected a place freed bound) where
   -- at most as many levels are above the node as the root has below it
-  pub shrinks-levels : (is_right : (id : ℕ) → View A → Type 0) → IsRooted is_right node_at root xs → (height : ℕ)
+  pub underflow-levels : (is_right : (id : ℕ) → View A → Type 0) → IsRooted is_right node_at root xs → (height : ℕ)
       → Represents node_at height None root xs → levels_above node_at (length xs) id ≤ height
-  shrinks-levels is_right r height s =
-      let w = g.seen.whole in
-      let d = levels-rooted A node_at root xs is_right r g.seen.height g.seen.path g.seen.shape
-      (whole-standing A node_at [] root xs g.seen.height g.seen.path g.seen.shape w) in
+  underflow-levels is_right r height s =
+      let w = g.focus.whole in
+      let d = levels-rooted A node_at root xs is_right r g.focus.height g.focus.path g.focus.subtree
+      (focus-unsized A node_at [] root xs g.focus.height g.focus.path g.focus.subtree w) in
       let e = one-height node_at root xs r.height height r.represents s in
-      let l = levels-low node_at g.seen.height (length xs) g.seen.path (id_of A g.seen.height g.seen.shape)
-      (view_at A g.seen.height (parent_above g.seen.path) g.seen.shape)
-      (top-view A node_at g.seen.height (parent_above g.seen.path) g.seen.shape w.inner)
-      (view-parent A g.seen.height (parent_above g.seen.path) g.seen.shape) w.above in
-      let k : levels_above node_at (length xs) id ≤ depth g.seen.path =
-      subst (λ i. levels_above node_at (length xs) i ≤ depth g.seen.path) g.seen.here l in
+      let l = levels-low node_at g.focus.height (length xs) g.focus.path (id_of A g.focus.height g.focus.subtree)
+      (view_at A g.focus.height (parent_above g.focus.path) g.focus.subtree)
+      (top-view A node_at g.focus.height (parent_above g.focus.path) g.focus.subtree w.inner)
+      (view-parent A g.focus.height (parent_above g.focus.path) g.focus.subtree) w.above in
+      let k : levels_above node_at (length xs) id ≤ depth g.focus.path =
+      subst (λ i. levels_above node_at (length xs) i ≤ depth g.focus.path) g.focus.here l in
       omega arith
 
   module _ (v : View A) (e : node_at id ≡ Some v) where
-    view-is : v ≡ view_at A g.seen.height (parent_above g.seen.path) g.seen.shape
+    view-is : v ≡ view_at A g.focus.height (parent_above g.focus.path) g.focus.subtree
     view-is =
-        let n : View A = view_at A g.seen.height (parent_above g.seen.path) g.seen.shape in
-        same_Some v n (sym e ∙ subst (λ i. node_at i ≡ Some n) g.seen.here
-        (top-view A node_at g.seen.height (parent_above g.seen.path) g.seen.shape g.seen.whole.inner))
+        let n : View A = view_at A g.focus.height (parent_above g.focus.path) g.focus.subtree in
+        same_Some v n (sym e ∙ subst (λ i. node_at i ≡ Some n) g.focus.here
+        (top-view A node_at g.focus.height (parent_above g.focus.path) g.focus.subtree g.focus.whole.inner))
 
     -- the node without a parent is the root
-    pub shrinks-root : parent_of v ≡ None → id ≡ root
-    shrinks-root up =
-        at g.seen.height g.seen.path g.seen.shape g.seen.here g.seen.whole (ap parent_of (sym view-is) ∙ up)
+    pub underflow-root : parent_of v ≡ None → id ≡ root
+    underflow-root up =
+        at g.focus.height g.focus.path g.focus.subtree g.focus.here g.focus.whole (ap parent_of (sym view-is) ∙ up)
       where
-        at : (h : ℕ) (c : Path A h) (t : Shape A h) → id_of A h t ≡ id → IsFocus A node_at [] root xs h c t
+        at : (h : ℕ) (c : Path A h) (t : Subtree A h) → id_of A h t ≡ id → IsFocus A node_at [] root xs h c t
             → parent_of (view_at A h (parent_above c) t) ≡ None → id ≡ root
         at h top t here w q = sym here ∙ w.root_is
         at h (under f c) t here w q = let p = view-parent A h (Some (frame_id f)) t in absurd (cc)
 
     -- and one with a parent is not
-    pub shrinks-apart : (p : ℕ) → parent_of v ≡ Some p → id ≢ root
-    shrinks-apart p up same =
-        at g.seen.height g.seen.path g.seen.shape g.seen.here g.seen.whole (ap parent_of (sym view-is) ∙ up)
+    pub underflow-apart : (p : ℕ) → parent_of v ≡ Some p → id ≢ root
+    underflow-apart p up same =
+        at g.focus.height g.focus.path g.focus.subtree g.focus.here g.focus.whole (ap parent_of (sym view-is) ∙ up)
       where
-        at : (h : ℕ) (c : Path A h) (t : Shape A h) → id_of A h t ≡ id → IsFocus A node_at [] root xs h c t
+        at : (h : ℕ) (c : Path A h) (t : Subtree A h) → id_of A h t ≡ id → IsFocus A node_at [] root xs h c t
             → parent_of (view_at A h (parent_above c) t) ≡ Some p → ⊥
         at h top t here w q = let n = view-parent A h None t in absurd (cc)
         at h (under f c) t here w q =

@@ -6,7 +6,7 @@ use Rattle.btree_view.specs.View.{NodeMap, View, children_of, items_of, size_of}
 use Rattle.btree_shape.specs.Lists.{as_list, one, times_listed}
 use Rattle.btree_shape.specs.SiblingSteps.{IsRemade, RotatesLeft, RotatesRight, Writes}
 use Rattle.btree_shape.specs.Focus.Pair.{Rotates, first_of}
-use Rattle.btree_shape.specs.Focus.Shape.{Holds, Shape, count_at, id_of, times_under, view_at}
+use Rattle.btree_shape.specs.Focus.Subtree.{Holds, Subtree, count_at, id_of, times_under, view_at}
 use Rattle.btree_shape.specs.Focus.Path.{Path, Frame, after_in, before_in, fill_two, frame_id, frame_index, items_after, items_before, parent_above}
 use Rattle.btree_shape.specs.WellFormed.{times_used}
 use Rattle.btree_shape.proofs.Paths.Frames.{above-same, one-zero, siblings-same, top-view}
@@ -14,10 +14,10 @@ use Rattle.btree_shape.proofs.Splits.NodeAddresses.{Apart}
 use Rattle.btree_shape.proofs.Underflow.Writes.{child-is, down-between, exchanged-view, first-inside, remade-view, to-left, to-right}
 use Rattle.btree_shape.proofs.Paths.Siblings.{IsPair, pair-alone, pair-near}
 use Rattle.btree_shape.proofs.Trees.Numbers.{same-or, used-mapped, used-one, zero-or}
-use Rattle.btree_shape.proofs.Underflow.TreeAddresses.{turn-join}
+use Rattle.btree_shape.proofs.Underflow.TreeAddresses.{rotate-join}
 use Rattle.btree_shape.proofs.Trees.Sizes.{view-size}
-use Rattle.btree_shape.proofs.Splits.Halves.{append_same, join, times-top}
-use Rattle.btree_shape.proofs.Underflow.Items.{children_at, children_at-is, items_at, items_at-is, kind-is, same-below, same-items, same-times, turned, turns-left, turns-right}
+use Rattle.btree_shape.proofs.Splits.TwoParts.{append_same, join, times-top}
+use Rattle.btree_shape.proofs.Underflow.Items.{children_at, children_at-is, items_at, items_at-is, kind-is, same-below, same-items, same-times, turned, rotates-left, rotates-right}
 use Rattle.btree_shape.proofs.LookUp.Descent.{cons-parts}
 use Rattle.std.proofs.lemmas.Option.{same_Some}
 
@@ -43,13 +43,13 @@ same-ends l l' None (Some n) k e = absurd (cc)
 same-ends l l' (Some m) None k e = absurd (cc)
 same-ends l l' (Some m) (Some n) k e = let q = snoc-parts l l' m n e in (ap Some q.1, q.0)
 
-first-kind : (A : Type 0) (h : ℕ) (s : Shape A h) → is_some (first_of A h s) ≡ is_internal (view_at A h None s)
+first-kind : (A : Type 0) (h : ℕ) (s : Subtree A h) → is_some (first_of A h s) ≡ is_internal (view_at A h None s)
 first-kind A zero s = refl
 first-kind A (suc h) s = refl
 
 module _ (A : Type 0) (node_at new : NodeMap A) where
   -- the two nodes and those below them, after an item moved to the left one
-  lent-left : (h q : ℕ) (a : Shape A h) (x : A) (b new_a : Shape A h) (y : A) (new_b : Shape A h)
+  borrowed-item : (h q : ℕ) (a : Subtree A h) (x : A) (b new_a : Subtree A h) (y : A) (new_b : Subtree A h)
       → Rotates A h a x b new_a y new_b → Apart A h q a b
       → ((n : ℕ) → n ≢ q → n ≢ id_of A h a → n ≢ id_of A h b → 0 < times_listed n (as_list (first_of A h b))
       → new n ≡ option_map (with_parent (Some (id_of A h a))) (node_at n))
@@ -58,30 +58,30 @@ module _ (A : Type 0) (node_at new : NodeMap A) where
       → new (id_of A h a) ≡ Some (view_at A h (Some q) new_a) → new (id_of A h b) ≡ Some (view_at A h (Some q) new_b)
       → Holds A node_at h (Some q) a → Holds A node_at h (Some q) b
       → Holds A new h (Some q) new_a × Holds A new h (Some q) new_b
-  lent-left zero q a x b new_a y new_b t near moved kept ei ej da db =
+  borrowed-item zero q a x b new_a y new_b t near moved kept ei ej da db =
       let n = turned A zero a x b new_a y new_b t in (
         subst (λ i. new i ≡ Some (view_at A zero (Some q) new_a)) (sym n.left_id) ei,
         subst (λ i. new i ≡ Some (view_at A zero (Some q) new_b)) n.right_id ej,
       )
-  lent-left (suc h) q a x b new_a y new_b t near moved kept ei ej da db =
-      let u : Shape A h = b.1 in
-      let l : List (A × Shape A h) = a.2 ++ (x, u) ∷ [] in
-      let near2 = subst (λ (z : Shape A (suc h)). Apart A (suc h) q a z) t.1 near in
+  borrowed-item (suc h) q a x b new_a y new_b t near moved kept ei ej da db =
+      let u : Subtree A h = b.1 in
+      let l : List (A × Subtree A h) = a.2 ++ (x, u) ∷ [] in
+      let near2 = subst (λ (z : Subtree A (suc h)). Apart A (suc h) q a z) t.1 near in
       let moved2 =
-      subst (λ (z : Shape A (suc h)). (n : ℕ) → n ≢ q → n ≢ a.0 → n ≢ z.0 → 0 < times_listed n (id_of A h u ∷ [])
+      subst (λ (z : Subtree A (suc h)). (n : ℕ) → n ≢ q → n ≢ a.0 → n ≢ z.0 → 0 < times_listed n (id_of A h u ∷ [])
       → new n ≡ option_map (with_parent (Some a.0)) (node_at n)) t.1 moved in
       let kept2 =
-      subst (λ (z : Shape A (suc h)). (n : ℕ) → n ≢ q → n ≢ a.0 → n ≢ z.0 → times_listed n (id_of A h u ∷ []) ≡ 0
+      subst (λ (z : Subtree A (suc h)). (n : ℕ) → n ≢ q → n ≢ a.0 → n ≢ z.0 → times_listed n (id_of A h u ∷ []) ≡ 0
       → new n ≡ node_at n) t.1 kept in
-      let ei2 = subst (λ (z : Shape A (suc h)). new a.0 ≡ Some (view_at A (suc h) (Some q) z)) t.0 ei in
-      let ej2 = subst (λ (z : Shape A (suc h)). new z.0 ≡ Some (view_at A (suc h) (Some q) new_b)) t.1 ej in
-      let db2 = subst (λ (z : Shape A (suc h)). Holds A node_at (suc h) (Some q) z) t.1 db in
+      let ei2 = subst (λ (z : Subtree A (suc h)). new a.0 ≡ Some (view_at A (suc h) (Some q) z)) t.0 ei in
+      let ej2 = subst (λ (z : Subtree A (suc h)). new z.0 ≡ Some (view_at A (suc h) (Some q) new_b)) t.1 ej in
+      let db2 = subst (λ (z : Subtree A (suc h)). Holds A node_at (suc h) (Some q) z) t.1 db in
       let r =
       to-left A node_at new h q a.0 new_b.0 a.1 a.2 x u y new_b.1 new_b.2 near2 moved2 kept2 ei2 ej2 da db2 in
-      (subst (λ (z : Shape A (suc h)). Holds A new (suc h) (Some q) z) (sym t.0) r.0, r.1)
+      (subst (λ (z : Subtree A (suc h)). Holds A new (suc h) (Some q) z) (sym t.0) r.0, r.1)
 
   -- the same after an item moved to the right one
-  lent-right : (h q : ℕ) (a : Shape A h) (x : A) (b new_a : Shape A h) (y : A) (new_b : Shape A h)
+  lent-right : (h q : ℕ) (a : Subtree A h) (x : A) (b new_a : Subtree A h) (y : A) (new_b : Subtree A h)
       → Rotates A h new_a y new_b a x b → Apart A h q a b
       → ((n : ℕ) → n ≢ q → n ≢ id_of A h a → n ≢ id_of A h b → 0 < times_listed n (as_list (first_of A h new_b))
       → new n ≡ option_map (with_parent (Some (id_of A h b))) (node_at n))
@@ -96,25 +96,25 @@ module _ (A : Type 0) (node_at new : NodeMap A) where
         subst (λ i. new i ≡ Some (view_at A zero (Some q) new_b)) (sym n.right_id) ej,
       )
   lent-right (suc h) q a x b new_a y new_b t near moved kept ei ej da db =
-      let u : Shape A h = new_b.1 in
-      let near2 = subst (λ (z : Shape A (suc h)). Apart A (suc h) q z b) t.0 near in
+      let u : Subtree A h = new_b.1 in
+      let near2 = subst (λ (z : Subtree A (suc h)). Apart A (suc h) q z b) t.0 near in
       let moved2 =
-      subst (λ (z : Shape A (suc h)). (n : ℕ) → n ≢ q → n ≢ z.0 → n ≢ b.0 → 0 < times_listed n (id_of A h u ∷ [])
+      subst (λ (z : Subtree A (suc h)). (n : ℕ) → n ≢ q → n ≢ z.0 → n ≢ b.0 → 0 < times_listed n (id_of A h u ∷ [])
       → new n ≡ option_map (with_parent (Some b.0)) (node_at n)) t.0 moved in
       let kept2 =
-      subst (λ (z : Shape A (suc h)). (n : ℕ) → n ≢ q → n ≢ z.0 → n ≢ b.0 → times_listed n (id_of A h u ∷ []) ≡ 0
+      subst (λ (z : Subtree A (suc h)). (n : ℕ) → n ≢ q → n ≢ z.0 → n ≢ b.0 → times_listed n (id_of A h u ∷ []) ≡ 0
       → new n ≡ node_at n) t.0 kept in
-      let ei2 = subst (λ (z : Shape A (suc h)). new z.0 ≡ Some (view_at A (suc h) (Some q) new_a)) t.0 ei in
-      let ej2 = subst (λ (z : Shape A (suc h)). new b.0 ≡ Some (view_at A (suc h) (Some q) z)) t.1 ej in
-      let da2 = subst (λ (z : Shape A (suc h)). Holds A node_at (suc h) (Some q) z) t.0 da in
+      let ei2 = subst (λ (z : Subtree A (suc h)). new z.0 ≡ Some (view_at A (suc h) (Some q) new_a)) t.0 ei in
+      let ej2 = subst (λ (z : Subtree A (suc h)). new b.0 ≡ Some (view_at A (suc h) (Some q) z)) t.1 ej in
+      let da2 = subst (λ (z : Subtree A (suc h)). Holds A node_at (suc h) (Some q) z) t.0 da in
       let r =
       to-right A node_at new h q new_a.0 b.0 new_a.1 new_a.2 y u x b.1 b.2 near2 moved2 kept2 ei2 ej2 da2 db in
-      (r.0, subst (λ (z : Shape A (suc h)). Holds A new (suc h) (Some q) z) (sym t.1) r.1)
+      (r.0, subst (λ (z : Subtree A (suc h)). Holds A new (suc h) (Some q) z) (sym t.1) r.1)
 
 module _ (A : Type 0) (node_at new : NodeMap A) (root : ℕ) (xs : List A) (h : ℕ) (f : Frame A h) (c : Path A (suc h))
-    (a : Shape A h) (x : A) (b : Shape A h) (p : IsPair A node_at root xs h f c a x b) where
+    (a : Subtree A h) (x : A) (b : Subtree A h) (p : IsPair A node_at root xs h f c a x b) where
   -- the tree around two new siblings in the place of the old ones
-  module _ (new_a : Shape A h) (y : A) (new_b : Shape A h) (same : join A h a x b ≡ join A h new_a y new_b)
+  module _ (new_a : Subtree A h) (y : A) (new_b : Subtree A h) (same : join A h a x b ≡ join A h new_a y new_b)
       (ea : id_of A h new_a ≡ id_of A h a) (eb : id_of A h new_b ≡ id_of A h b) (child : Option ℕ) (adopter : ℕ)
       (inside : (n : ℕ) → times_listed n (as_list child) ≤ times_under A h n a + times_under A h n b)
       (top low high new_top new_low new_high : View A)
@@ -158,8 +158,8 @@ module _ (A : Type 0) (node_at new : NodeMap A) (root : ℕ) (xs : List A) (h : 
           above = above-same A node_at new (suc h) c (frame_id f)
               (λ n m. let s = sum n in elsewhere n (omega arith) (omega arith)) p.above;
           parent = e;
-          beside = siblings-same A node_at new h f (λ n m. let s = sum n in elsewhere n (omega arith) (omega arith))
-              p.beside;
+          siblings = siblings-same A node_at new h f (λ n m. let s = sum n in elsewhere n (omega arith) (omega arith))
+              p.siblings;
           left = da;
           right = db;
           once = λ n.
@@ -168,7 +168,7 @@ module _ (A : Type 0) (node_at new : NodeMap A) (root : ℕ) (xs : List A) (h : 
               let o = p.once n in
               omega arith;
           filled = p.filled;
-          beside_filled = p.beside_filled;
+          siblings_filled = p.siblings_filled;
           left_below = below.0;
           right_below = below.1;
           list = p.list ∙ ap (λ ys. items_before c ++ ((before_in f ++ (ys ++ after_in f)) ++ items_after c))
@@ -190,21 +190,21 @@ module _ (A : Type 0) (node_at new : NodeMap A) (root : ℕ) (xs : List A) (h : 
 
   -- after a rotation to the left
   pub record LeftTurn : Type 0 where
-    pub new_a : Shape A h
+    pub new_a : Subtree A h
     pub up : A
-    pub new_b : Shape A h
+    pub new_b : Subtree A h
     pub turns : Rotates A h a x b new_a up new_b
     pub pair : IsPair A new root xs h f c new_a up new_b
 
-  pub turn-left : RotatesLeft node_at new FId (frame_index f) (id_of A h a) (id_of A h b) → LeftTurn
-  turn-left r =
+  pub rotate-left : RotatesLeft node_at new FId (frame_index f) (id_of A h a) (id_of A h b) → LeftTurn
+  rotate-left r =
       let w = r.writes in
       let low = left-view r.low w.at_left in
       let high = right-view r.high w.at_right in
       let top = parent-view r.top w.at_parent in
       let size : size_of r.high ≡ count_at A h b = ap size_of high ∙ view-size A h (Some FId) b in
       let longer : size_of r.high ≡ suc (size_of r.new_high) = ap length r.high_is.items_are in
-      let s = turns-left A h a x b (omega arith) in
+      let s = rotates-left A h a x b (omega arith) in
       let k = turned A h a x b s.0 s.1 s.2 s.3 in
       let child : r.child ≡ first_of A h b =
       child-is A h (Some FId) b r.high r.child (children_of r.new_high) high r.child_for r.high_is.children_are in
@@ -236,7 +236,7 @@ module _ (A : Type 0) (node_at new : NodeMap A) (root : ℕ) (xs : List A) (h : 
       exchanged-view A h (parent_above c) f a x b s.0 s.1 s.2 r.top r.new_top k.left_id (sym k.right_id) top
       (subst (λ z. IsRemade r.top r.new_top (set (items_of r.top) (frame_index f) z) (children_of r.top)) up r.top_is) in
       let both =
-      lent-left A node_at new h FId a x b s.0 s.1 s.2 s.3 (pair-near A node_at root xs h f c a x b p)
+      borrowed-item A node_at new h FId a x b s.0 s.1 s.2 s.3 (pair-near A node_at root xs h f c a x b p)
       (λ n nq na nb m. w.moved n nq na nb (subst (λ o. 0 < times_listed n (as_list o)) (sym child) m))
       (λ n nq na nb m. w.kept n nq na nb (subst (λ o. times_listed n (as_list o) ≡ 0) (sym child) m))
       (w.new_left ∙ ap Some low2) (w.new_right ∙ ap Some high2) p.left p.right in
@@ -245,7 +245,7 @@ module _ (A : Type 0) (node_at new : NodeMap A) (root : ℕ) (xs : List A) (h : 
         up = s.1;
         new_b = s.2;
         turns = s.3;
-        pair = rotated s.0 s.1 s.2 (turn-join A h a x b s.0 s.1 s.2 s.3) k.left_id (sym k.right_id) r.child
+        pair = rotated s.0 s.1 s.2 (rotate-join A h a x b s.0 s.1 s.2 s.3) k.left_id (sym k.right_id) r.child
             (id_of A h a)
             (λ n. subst (λ o. times_listed n (as_list o) ≤ times_under A h n a + times_under A h n b) (sym child)
             (let i = first-inside A h n b in let t = times-top A h n b in omega arith))
@@ -254,13 +254,13 @@ module _ (A : Type 0) (node_at new : NodeMap A) (root : ℕ) (xs : List A) (h : 
 
   -- after a rotation to the right
   pub record RightTurn : Type 0 where
-    pub new_a : Shape A h
+    pub new_a : Subtree A h
     pub up : A
-    pub new_b : Shape A h
+    pub new_b : Subtree A h
     pub turns : Rotates A h new_a up new_b a x b
     pub pair : IsPair A new root xs h f c new_a up new_b
 
-  last-child : (new_a : Shape A h) (y : A) (new_b : Shape A h) → Rotates A h new_a y new_b a x b → (v : View A)
+  last-child : (new_a : Subtree A h) (y : A) (new_b : Subtree A h) → Rotates A h new_a y new_b a x b → (v : View A)
       → v ≡ view_at A h (Some FId) a → (rest : List ℕ) (child : Option ℕ) → HasChildFor child v
       → children_of v ≡ rest ++ as_list child
       → (child ≡ first_of A h new_b) × (rest ≡ children_at A h new_a)
@@ -270,8 +270,8 @@ module _ (A : Type 0) (node_at new : NodeMap A) (root : ℕ) (xs : List A) (h : 
       (fits ∙ (ap is_internal e ∙ (kind-is A h (Some FId) None a new_b ∙ sym (first-kind A h new_b))))
       (sym is ∙ (ap children_of e ∙ (children_at-is A h (Some FId) a ∙ k.left_children)))
 
-  pub turn-right : RotatesRight node_at new FId (frame_index f) (id_of A h a) (id_of A h b) → RightTurn
-  turn-right r =
+  pub rotate-right : RotatesRight node_at new FId (frame_index f) (id_of A h a) (id_of A h b) → RightTurn
+  rotate-right r =
       let w = r.writes in
       let low = left-view r.low w.at_left in
       let high = right-view r.high w.at_right in
@@ -279,7 +279,7 @@ module _ (A : Type 0) (node_at new : NodeMap A) (root : ℕ) (xs : List A) (h : 
       let size : size_of r.low ≡ count_at A h a = ap size_of low ∙ view-size A h (Some FId) a in
       let longer = ap length r.low_is.items_are in
       let longer2 = length-append (items_of r.new_low) (r.up ∷ []) in
-      let s = turns-right A h a x b (omega arith) in
+      let s = rotates-right A h a x b (omega arith) in
       let k = turned A h s.0 s.1 s.2 a x b s.3 in
       let ends = last-child s.0 s.1 s.2 s.3 r.low low (children_of r.new_low) r.child r.child_for
       r.low_is.children_are in
@@ -312,7 +312,7 @@ module _ (A : Type 0) (node_at new : NodeMap A) (root : ℕ) (xs : List A) (h : 
       (λ n nq na nb m. w.moved n nq na nb (subst (λ o. 0 < times_listed n (as_list o)) (sym child) m))
       (λ n nq na nb m. w.kept n nq na nb (subst (λ o. times_listed n (as_list o) ≡ 0) (sym child) m))
       (w.new_left ∙ ap Some low2) (w.new_right ∙ ap Some high2) p.left p.right in
-      let join-same = sym (turn-join A h s.0 s.1 s.2 a x b s.3) in
+      let join-same = sym (rotate-join A h s.0 s.1 s.2 a x b s.3) in
       record {
         new_a = s.0;
         up = s.1;

@@ -5,19 +5,19 @@ use Rattle.btree_view.specs.Edits.{with_parent}
 use Rattle.btree_view.specs.View.{NodeMap, children_of}
 use Rattle.btree_shape.specs.SiblingSteps.{ShrinksRoot}
 use Rattle.btree_shape.specs.Lists.{one}
-use Rattle.btree_shape.specs.Focus.Shape.{Shape, id_of}
+use Rattle.btree_shape.specs.Focus.Subtree.{Subtree, id_of}
 use Rattle.btree_shape.specs.Step.{RemovesNode}
 use Rattle.btree_shape.specs.Focus.Path.{top}
 use Rattle.btree_shape.specs.WellFormed.{times_used}
 use Rattle.btree_shape.specs.Focus.Focus.{IsFocus}
 use Rattle.btree_shape.proofs.Paths.Frames.{one-other, one-self, one-zero}
 use Rattle.btree_shape.proofs.Trees.Numbers.{same-or, used-low, used-mapped, used-none}
-use Rattle.btree_shape.proofs.Splits.Halves.{reparent_children, times-top, times_below}
+use Rattle.btree_shape.proofs.Splits.TwoParts.{reparent_children, times-top, times_below}
 use Rattle.btree_shape.proofs.LookUp.Descent.{cons-parts}
 use Rattle.std.proofs.lemmas.Option.{same_Some}
 
 module _ (A : Type 0) (node_at new : NodeMap A) (xs : List A) (n : ℕ) where
-  module _ (h : ℕ) (u : Shape A h) (w : IsFocus A node_at [] n xs (suc h) top (n, u, [])) (child : ℕ)
+  module _ (h : ℕ) (u : Subtree A h) (w : IsFocus A node_at [] n xs (suc h) top (n, u, [])) (child : ℕ)
       (r : ShrinksRoot node_at new n child) where
     pub child-is-only : child ≡ id_of A h u
     child-is-only =
@@ -42,7 +42,7 @@ module _ (A : Type 0) (node_at new : NodeMap A) (xs : List A) (n : ℕ) where
           once = λ m.
               elim (same-or m n) [
                 | inl e ↦
-                    let g : times_used (new m) ≡ 0 = rw (e, r.gone) refl in
+                    let g : times_used (new m) ≡ 0 = rw (e, r.removed) refl in
                     let o : one m n ≡ 1 = subst (λ z. one m z ≡ 1) e (one-self m) in
                     let q = sum m in
                     let t = times-top A h m u in

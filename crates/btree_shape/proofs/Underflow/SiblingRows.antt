@@ -3,8 +3,8 @@ use Rattle.std.proofs.Common.{◌≡◌, ◌<◌, ◌≤◌, ◌++◌, ◌∷◌
 use Rattle.std.specs.List.{AllByRecursion}
 use Rattle.btree_item.specs.declared.address.Address.{Address}
 use Rattle.btree_shape.specs.Focus.Positions.{KeepsPositions, IsAt, Position, address_before, mark, over, node_positions, address_at, positions_from, positions_to}
-use Rattle.btree_shape.proofs.Splits.CutPositions.{carry-back, carry-front, fits-none, in-none, node_positions-joined, node_positions-then}
-use Rattle.btree_shape.proofs.Places.Lists.{carry-append, carry-mark, carry-more, carry-over, carry-positions_from, carry-to}
+use Rattle.btree_shape.proofs.Splits.CutPositions.{keep-back, keep-front, fits-none, in-none, node_positions-joined, node_positions-then}
+use Rattle.btree_shape.proofs.Places.Lists.{keep-append, keep-mark, keep-more, keep-over, keep-positions_from, keep-to}
 
 module _ {A X : Type 0} (key : X → A) (f : X → List (Position A)) where
   node_positions-one-more : (i : ℕ) (pre : List (Position A)) (xs : List X) (e : X) (ts : List (Position A))
@@ -22,10 +22,10 @@ module _ {A X : Type 0} (key : X → A) (f : X → List (Position A)) where
       ∙ ap (λ z. positions_to key f i 0 xs ++ (mark (address_at i (length xs)) (Some (key e)) ∷ over ∷ z))
       (append_assoc (f e) (mark (address_at i (suc (length xs))) None ∷ []) ts)))
 
-  carry-from : (g : Address → Address) (i j p : ℕ) (xs : List X)
+  keep-from : (g : Address → Address) (i j p : ℕ) (xs : List X)
       → ((k : ℕ) → k ≤ length xs → g (address_at i k) ≡ address_at j (p + k))
       → AllByRecursion (λ x. KeepsPositions g (f x) (f x)) xs → KeepsPositions g (positions_from key f i 0 xs) (positions_from key f j p xs)
-  carry-from g i j p xs e c = carry-positions_from key f g i 0 j p xs
+  keep-from g i j p xs e c = keep-positions_from key f g i 0 j p xs
       (λ k l. ap (λ z. g (address_at i z)) (let q : 0 + k ≡ k = omega arith in q) ∙ e k l) c
 
   module _ (g : Address → Address) (i j p s : ℕ) (pre : List (Position A)) (xs : List X) (ys : List X)
@@ -46,16 +46,16 @@ module _ {A X : Type 0} (key : X → A) (f : X → List (Position A)) where
         subst (λ z. KeepsPositions g z (node_positions key f i pre (xs ++ e ∷ ys))) (sym (node_positions-then key f i pre xs old))
         (subst (λ z. KeepsPositions g (mark (address_before i) None ∷ (pre ++ (positions_to key f i 0 xs ++ (mark (address_at i n) None ∷ old))))
         z) (sym (node_positions-joined key f i pre xs e ys))
-        (carry-front key f g i pre xs (mark (address_at i n) None ∷ old) new lead_kept
+        (keep-front key f g i pre xs (mark (address_at i n) None ∷ old) new lead_kept
         (λ k l. ei k (omega arith)) pre_kept xs_kept
-        (carry-to g (address_at i n) None old new (λ o h. inl (ei n (omega arith), refl, fits-none key f o (Some (key e)) h))
-        (carry-mark g (address_at p s) (address_at i n) (Some (key e)) (over ∷ node_positions key f j (f e) ys)
+        (keep-to g (address_at i n) None old new (λ o h. inl (ei n (omega arith), refl, fits-none key f o (Some (key e)) h))
+        (keep-mark g (address_at p s) (address_at i n) (Some (key e)) (over ∷ node_positions key f j (f e) ys)
         (over ∷ (f e ++ positions_from key f i (suc n) ys)) es
-        (carry-over g (node_positions key f j (f e) ys) (f e ++ positions_from key f i (suc n) ys)
-        (carry-to g (address_before j) None (f e ++ positions_from key f j 0 ys) (f e ++ positions_from key f i (suc n) ys)
+        (keep-over g (node_positions key f j (f e) ys) (f e ++ positions_from key f i (suc n) ys)
+        (keep-to g (address_before j) None (f e ++ positions_from key f j 0 ys) (f e ++ positions_from key f i (suc n) ys)
         (λ o h. in-none key f o (g (address_before j)) (f e ++ positions_from key f i (suc n) ys) 0 h el)
-        (carry-append g (f e) (f e) (positions_from key f j 0 ys) (positions_from key f i (suc n) ys) refl ce
-        (carry-from g j i (suc n) ys ej ys_kept))))))))
+        (keep-append g (f e) (f e) (positions_from key f j 0 ys) (positions_from key f i (suc n) ys) refl ce
+        (keep-from g j i (suc n) ys ej ys_kept))))))))
 
     -- B gives its first item, with the child before it
     pub node_positions-left : (e d : X) → KeepsPositions g (f e) (f e) → KeepsPositions g (f d) (f d)
@@ -74,21 +74,21 @@ module _ {A X : Type 0} (key : X → A) (f : X → List (Position A)) where
         subst (λ z. KeepsPositions g z (node_positions key f i pre (xs ++ e ∷ []) ++ new)) (sym (node_positions-then key f i pre xs old))
         (subst (λ z. KeepsPositions g (mark (address_before i) None ∷ (pre ++ (positions_to key f i 0 xs ++ (mark (address_at i n) None ∷ old))))
         z) (sym (node_positions-one-more i pre xs e new))
-        (carry-front key f g i pre xs (mark (address_at i n) None ∷ old) (mark (address_at i n) (Some (key e)) ∷ over ∷ mid)
+        (keep-front key f g i pre xs (mark (address_at i n) None ∷ old) (mark (address_at i n) (Some (key e)) ∷ over ∷ mid)
         lead_kept (λ k l. ei k (omega arith)) pre_kept xs_kept
-        (carry-to g (address_at i n) None old (mark (address_at i n) (Some (key e)) ∷ over ∷ mid)
+        (keep-to g (address_at i n) None old (mark (address_at i n) (Some (key e)) ∷ over ∷ mid)
         (λ o h. inl (ei n (omega arith), refl, fits-none key f o (Some (key e)) h))
-        (carry-mark g (address_at p s) (address_at i n) (Some (key e)) (over ∷ node_positions key f j (f e) (d ∷ ys)) (over ∷ mid) es
-        (carry-over g (node_positions key f j (f e) (d ∷ ys)) mid
-        (carry-to g (address_before j) None (f e ++ positions_from key f j 0 (d ∷ ys)) mid (λ o h. in-none key f o (g (address_before j)) mid 0 h el)
-        (carry-append g (f e) (f e) (positions_from key f j 0 (d ∷ ys)) (mark (address_at i (suc n)) None ∷ new) refl ce
-        (carry-more g (address_at i (suc n)) None (positions_from key f j 0 (d ∷ ys)) new
-        (carry-mark g (address_at j 0) (address_at p s) (Some (key d)) (over ∷ (f d ++ positions_from key f j 1 ys))
+        (keep-mark g (address_at p s) (address_at i n) (Some (key e)) (over ∷ node_positions key f j (f e) (d ∷ ys)) (over ∷ mid) es
+        (keep-over g (node_positions key f j (f e) (d ∷ ys)) mid
+        (keep-to g (address_before j) None (f e ++ positions_from key f j 0 (d ∷ ys)) mid (λ o h. in-none key f o (g (address_before j)) mid 0 h el)
+        (keep-append g (f e) (f e) (positions_from key f j 0 (d ∷ ys)) (mark (address_at i (suc n)) None ∷ new) refl ce
+        (keep-more g (address_at i (suc n)) None (positions_from key f j 0 (d ∷ ys)) new
+        (keep-mark g (address_at j 0) (address_at p s) (Some (key d)) (over ∷ (f d ++ positions_from key f j 1 ys))
         (over ∷ node_positions key f j (f d) ys) e0
-        (carry-over g (f d ++ positions_from key f j 1 ys) (node_positions key f j (f d) ys)
-        (carry-more g (address_before j) None (f d ++ positions_from key f j 1 ys) (f d ++ positions_from key f j 0 ys)
-        (carry-append g (f d) (f d) (positions_from key f j 1 ys) (positions_from key f j 0 ys) refl cd
-        (carry-back key f g j 1 j ys ej ys_kept)))))))))))))
+        (keep-over g (f d ++ positions_from key f j 1 ys) (node_positions key f j (f d) ys)
+        (keep-more g (address_before j) None (f d ++ positions_from key f j 1 ys) (f d ++ positions_from key f j 0 ys)
+        (keep-append g (f d) (f d) (positions_from key f j 1 ys) (positions_from key f j 0 ys) refl cd
+        (keep-back key f g j 1 j ys ej ys_kept)))))))))))))
 
     -- A gives its last item, with the child after it
     pub node_positions-right : (e d : X) → KeepsPositions g (f e) (f e) → KeepsPositions g (f d) (f d)
@@ -110,19 +110,19 @@ module _ {A X : Type 0} (key : X → A) (f : X → List (Position A)) where
         (pre ++ (positions_to key f i 0
         xs ++ (mark (address_at i n) (Some (key e)) ∷ over ∷ (f e ++ (mark (address_at i (suc n)) None ∷ old)))))) z)
         (sym (node_positions-then key f i pre xs new))
-        (carry-front key f g i pre xs
+        (keep-front key f g i pre xs
         (mark (address_at i n) (Some (key e)) ∷ over ∷ (f e ++ (mark (address_at i (suc n)) None ∷ old)))
         (mark (address_at i n) None ∷ new) lead_kept ei pre_kept xs_kept
-        (carry-more g (address_at i n) None
+        (keep-more g (address_at i n) None
         (mark (address_at i n) (Some (key e)) ∷ over ∷ (f e ++ (mark (address_at i (suc n)) None ∷ old))) new
-        (carry-mark g (address_at i n) (address_at p s) (Some (key e)) (over ∷ (f e ++ (mark (address_at i (suc n)) None ∷ old)))
+        (keep-mark g (address_at i n) (address_at p s) (Some (key e)) (over ∷ (f e ++ (mark (address_at i (suc n)) None ∷ old)))
         (over ∷ node_positions key f j (f e) (d ∷ ys)) en
-        (carry-over g (f e ++ (mark (address_at i (suc n)) None ∷ old)) (node_positions key f j (f e) (d ∷ ys))
-        (carry-more g (address_before j) None (f e ++ (mark (address_at i (suc n)) None ∷ old)) (f e ++ last)
-        (carry-append g (f e) (f e) (mark (address_at i (suc n)) None ∷ old) last refl ce
-        (carry-to g (address_at i (suc n)) None old last (λ o h. inl (em, refl, fits-none key f o (Some (key d)) h))
-        (carry-mark g (address_at p s) (address_at j 0) (Some (key d)) (over ∷ node_positions key f j (f d) ys) (over ∷ end) es
-        (carry-over g (node_positions key f j (f d) ys) end
-        (carry-to g (address_before j) None (f d ++ positions_from key f j 0 ys) end (λ o h. in-none key f o (g (address_before j)) end 0 h el)
-        (carry-append g (f d) (f d) (positions_from key f j 0 ys) (positions_from key f j 1 ys) refl cd
-        (carry-from g j j 1 ys ej ys_kept)))))))))))))
+        (keep-over g (f e ++ (mark (address_at i (suc n)) None ∷ old)) (node_positions key f j (f e) (d ∷ ys))
+        (keep-more g (address_before j) None (f e ++ (mark (address_at i (suc n)) None ∷ old)) (f e ++ last)
+        (keep-append g (f e) (f e) (mark (address_at i (suc n)) None ∷ old) last refl ce
+        (keep-to g (address_at i (suc n)) None old last (λ o h. inl (em, refl, fits-none key f o (Some (key d)) h))
+        (keep-mark g (address_at p s) (address_at j 0) (Some (key d)) (over ∷ node_positions key f j (f d) ys) (over ∷ end) es
+        (keep-over g (node_positions key f j (f d) ys) end
+        (keep-to g (address_before j) None (f d ++ positions_from key f j 0 ys) end (λ o h. in-none key f o (g (address_before j)) end 0 h el)
+        (keep-append g (f d) (f d) (positions_from key f j 0 ys) (positions_from key f j 1 ys) refl cd
+        (keep-from g j j 1 ys ej ys_kept)))))))))))))

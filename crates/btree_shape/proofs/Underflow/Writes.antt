@@ -10,13 +10,13 @@ use Rattle.btree_view.specs.View.{NodeMap, View, children_of, items_of, parent_o
 use Rattle.btree_shape.specs.Lists.{as_list, one, times_listed, total}
 use Rattle.btree_shape.specs.SiblingSteps.{IsRemade}
 use Rattle.btree_shape.specs.Focus.Pair.{first_of}
-use Rattle.btree_shape.specs.Focus.Shape.{Holds, Shape, id_of, times_under, view_at}
+use Rattle.btree_shape.specs.Focus.Subtree.{Holds, Subtree, id_of, times_under, view_at}
 use Rattle.btree_shape.specs.Focus.Path.{Frame, at_branch, at_first, fill, fill_two, frame_index}
 use Rattle.btree_shape.proofs.LookUp.Descent.{cons-parts, get-after}
 use Rattle.btree_shape.proofs.Paths.Frames.{AllByRecursion-append, AllByRecursion-left, AllByRecursion-right, eachs-same, holds-same, one-self, one-zero, total-append}
 use Rattle.btree_shape.proofs.Splits.NodeAddresses.{Apart}
 use Rattle.btree_shape.proofs.Trees.Sizes.{view-parent}
-use Rattle.btree_shape.proofs.Splits.Halves.{reparent_children, times-top, times_below}
+use Rattle.btree_shape.proofs.Splits.TwoParts.{reparent_children, times-top, times_below}
 use Rattle.btree_shape.proofs.Underflow.Items.{children_at, children_at-is, ids-append, items_at, items_at-is, keys-append, kind-is, numbered, view-same}
 use Rattle.std.proofs.lemmas.Option.{same_Some}
 
@@ -40,11 +40,11 @@ module _ (A : Type 0) where
     pub behind : List ℕ
     pub front_count : length front ≡ frame_index f
     pub before_count : length before ≡ frame_index f
-    pub items_are : (a : Shape A h) (x : A) (b : Shape A h) → items_at A (suc h) (fill_two f a x b) ≡ front ++ x ∷ back
-    pub children_are : (a : Shape A h) (x : A) (b : Shape A h)
+    pub items_are : (a : Subtree A h) (x : A) (b : Subtree A h) → items_at A (suc h) (fill_two f a x b) ≡ front ++ x ∷ back
+    pub children_are : (a : Subtree A h) (x : A) (b : Subtree A h)
         → children_at A (suc h) (fill_two f a x b) ≡ before ++ id_of A h a ∷ id_of A h b ∷ behind
-    pub one_items : (t : Shape A h) → items_at A (suc h) (fill f t) ≡ front ++ back
-    pub one_children : (t : Shape A h) → children_at A (suc h) (fill f t) ≡ before ++ id_of A h t ∷ behind
+    pub one_items : (t : Subtree A h) → items_at A (suc h) (fill f t) ≡ front ++ back
+    pub one_children : (t : Subtree A h) → children_at A (suc h) (fill f t) ≡ before ++ id_of A h t ∷ behind
 
   pub frame-parts : (h : ℕ) (f : Frame A h) → FrameParts h f
   frame-parts h (at_first n back) =
@@ -84,7 +84,7 @@ module _ (A : Type 0) where
       }
 
   -- a node that is changed to what the shape says
-  pub remade-view : (h : ℕ) (p : Option ℕ) (t s : Shape A h) (old new : View A) (is : List A) (cs : List ℕ)
+  pub remade-view : (h : ℕ) (p : Option ℕ) (t s : Subtree A h) (old new : View A) (is : List A) (cs : List ℕ)
       → old ≡ view_at A h p t → IsRemade old new is cs → is ≡ items_at A h s → cs ≡ children_at A h s
       → new ≡ view_at A h p s
   remade-view h p t s old new is cs e r ei ec =
@@ -93,8 +93,8 @@ module _ (A : Type 0) where
       (r.items_are ∙ (ei ∙ sym (items_at-is A h p s))) (r.children_are ∙ (ec ∙ sym (children_at-is A h p s)))
 
   -- the parent, with another item between the two
-  pub exchanged-view : (h : ℕ) (p : Option ℕ) (f : Frame A h) (a : Shape A h) (x : A) (b new_a : Shape A h) (y : A)
-      (new_b : Shape A h) (old new : View A)
+  pub exchanged-view : (h : ℕ) (p : Option ℕ) (f : Frame A h) (a : Subtree A h) (x : A) (b new_a : Subtree A h) (y : A)
+      (new_b : Subtree A h) (old new : View A)
       → id_of A h new_a ≡ id_of A h a → id_of A h new_b ≡ id_of A h b
       → old ≡ view_at A (suc h) p (fill_two f a x b)
       → IsRemade old new (set (items_of old) (frame_index f) y) (children_of old)
@@ -113,7 +113,7 @@ module _ (A : Type 0) where
       ∙ (ap (λ i. k.before ++ id_of A h new_a ∷ i ∷ k.behind) (sym eb) ∙ sym (k.children_are new_a y new_b))))
 
   -- the item at the index is the separator of the two
-  pub down-between : (h : ℕ) (p : Option ℕ) (f : Frame A h) (a : Shape A h) (x : A) (b : Shape A h) (old : View A)
+  pub down-between : (h : ℕ) (p : Option ℕ) (f : Frame A h) (a : Subtree A h) (x : A) (b : Subtree A h) (old : View A)
       (down : A) → old ≡ view_at A (suc h) p (fill_two f a x b) → slice_get (items_of old) (frame_index f) ≡ Some down
       → down ≡ x
   down-between h p f a x b old down e g =
@@ -124,7 +124,7 @@ module _ (A : Type 0) where
       ∙ get-after k.front x k.back (frame_index f) (sym k.front_count)))
 
   -- the first child, if there is one
-  pub child-is : (h : ℕ) (p : Option ℕ) (t : Shape A h) (v : View A) (child : Option ℕ) (rest : List ℕ)
+  pub child-is : (h : ℕ) (p : Option ℕ) (t : Subtree A h) (v : View A) (child : Option ℕ) (rest : List ℕ)
       → v ≡ view_at A h p t → HasChildFor child v → children_of v ≡ as_list child ++ rest
       → (child ≡ first_of A h t)
   child-is zero p t v None rest e k c = refl
@@ -133,13 +133,13 @@ module _ (A : Type 0) where
   child-is (suc h) p t v (Some n) rest e k c =
       ap Some (cons-parts {X = ℕ} (sym c ∙ ap children_of e)).0
 
-  pub first-inside : (h n : ℕ) (t : Shape A h) → times_listed n (as_list (first_of A h t)) ≤ times_below A h n t
+  pub first-inside : (h n : ℕ) (t : Subtree A h) → times_listed n (as_list (first_of A h t)) ≤ times_below A h n t
   first-inside zero n t = omega arith
   first-inside (suc h) n t = omega (arith, times-top A h n t.1)
 
 module _ (A : Type 0) (node_at new : NodeMap A) where
   -- a child that moves from one of two nodes to the other, and what stays below them
-  module _ (h i j q adopter : ℕ) (u : Shape A h) (inside : ℕ → ℕ)
+  module _ (h i j q adopter : ℕ) (u : Subtree A h) (inside : ℕ → ℕ)
       (apart : (n : ℕ) → one n q + (one n i + one n j + (times_under A h n u + inside n)) ≤ 1)
       (moved : (n : ℕ) → n ≢ q → n ≢ i → n ≢ j → 0 < times_listed n (id_of A h u ∷ [])
       → new n ≡ option_map (with_parent (Some adopter)) (node_at n))
@@ -161,8 +161,8 @@ module _ (A : Type 0) (node_at new : NodeMap A) where
         kept n (one-zero n q (omega arith)) (one-zero n i (omega arith)) (one-zero n j (omega arith)) (omega arith)) d
 
   -- the nodes below two siblings, one of which gives the other its outer child
-  module _ (h q i j : ℕ) (first : Shape A h) (left : List (A × Shape A h)) (x : A) (u : Shape A h) (y : A)
-      (w : Shape A h) (right : List (A × Shape A h)) where
+  module _ (h q i j : ℕ) (first : Subtree A h) (left : List (A × Subtree A h)) (x : A) (u : Subtree A h) (y : A)
+      (w : Subtree A h) (right : List (A × Subtree A h)) where
     pub to-left : Apart A (suc h) q (i, first, left) (j, u, (y, w) ∷ right)
         → ((n : ℕ) → n ≢ q → n ≢ i → n ≢ j → 0 < times_listed n (id_of A h u ∷ [])
         → new n ≡ option_map (with_parent (Some i)) (node_at n))
@@ -173,8 +173,8 @@ module _ (A : Type 0) (node_at new : NodeMap A) where
         → Holds A new (suc h) (Some q) (i, first, left ++ (x, u) ∷ []) × Holds A new (suc h) (Some q) (j, w, right)
     to-left near moved kept ei ej da db =
         let inside : ℕ → ℕ =
-        λ n. times_under A h n first + total (λ (b : A × Shape A h). times_under A h n b.1) left
-        + (times_under A h n w + total (λ (b : A × Shape A h). times_under A h n b.1) right) in
+        λ n. times_under A h n first + total (λ (b : A × Subtree A h). times_under A h n b.1) left
+        + (times_under A h n w + total (λ (b : A × Subtree A h). times_under A h n b.1) right) in
         let apart : (n : ℕ) → one n q + (one n i + one n j + (times_under A h n u + inside n)) ≤ 1 =
         λ n. let o = near.sum n in omega arith in
         let stay = stays h i j q i u inside apart moved kept in
@@ -201,13 +201,13 @@ module _ (A : Type 0) (node_at new : NodeMap A) where
         → Holds A node_at (suc h) (Some q) (i, first, left ++ (x, u) ∷ []) → Holds A node_at (suc h) (Some q) (j, w, right)
         → Holds A new (suc h) (Some q) (i, first, left) × Holds A new (suc h) (Some q) (j, u, (y, w) ∷ right)
     to-right near moved kept ei ej da db =
-        let H : A × Shape A h → Type 0 = λ b. Holds A node_at h (Some i) b.1 in
+        let H : A × Subtree A h → Type 0 = λ b. Holds A node_at h (Some i) b.1 in
         let inside : ℕ → ℕ =
-        λ n. times_under A h n first + total (λ (b : A × Shape A h). times_under A h n b.1) left
-        + (times_under A h n w + total (λ (b : A × Shape A h). times_under A h n b.1) right) in
+        λ n. times_under A h n first + total (λ (b : A × Subtree A h). times_under A h n b.1) left
+        + (times_under A h n w + total (λ (b : A × Subtree A h). times_under A h n b.1) right) in
         let apart : (n : ℕ) → one n q + (one n i + one n j + (times_under A h n u + inside n)) ≤ 1 =
         λ n. let o = near.sum n in
-        let s = total-append (λ (b : A × Shape A h). times_under A h n b.1) left ((x, u) ∷ []) in omega arith in
+        let s = total-append (λ (b : A × Subtree A h). times_under A h n b.1) left ((x, u) ∷ []) in omega arith in
         let stay = stays h i j q j u inside apart moved kept in
         let last = AllByRecursion-right H left ((x, u) ∷ []) da.2 in
         let go = goes h i j q j u inside apart moved kept (Some i) last.0 in (

@@ -2,7 +2,7 @@
 use Rattle.std.specs.Prelude.{◌≡◌, ℕ, suc, ◌+◌, ◌≤◌, List, length, Option}
 use Rattle.btree_item.specs.declared.address.Address.{Address}
 use Rattle.btree_view.specs.View.{NodeMap}
-use Rattle.btree_shape.specs.Focus.Shape.{most_at, count_at}
+use Rattle.btree_shape.specs.Focus.Subtree.{most_at, count_at}
 use Rattle.btree_shape.specs.Focus.Path.{least_at}
 use Rattle.btree_shape.specs.Focus.Focus.{HasFocus}
 use Rattle.btree_shape.specs.Focus.Node.{IsNode}
@@ -11,22 +11,22 @@ use Rattle.btree_shape.specs.Focus.Positions.{IsAt, all_positions}
 use Rattle.btree_shape.specs.Strain.{strain_of}
 
 -- node `id` may have one item too many, and `spare` has a number for each node that its splits use; address `a` has
--- this place, and the item `asked` stands there if one is required; the nodes gained so far and the strain are at most
+-- this place, and the item `expected` stands there if one is required; the nodes gained so far and the strain are at most
 -- `bound`
 pub record MayOverflowAt (A : Type 0) (node_at : NodeMap A) (root : ℕ) (xs : List A) (id : ℕ) (spare : List ℕ)
-    (asked : Option A) (a : Address) (place gained bound : ℕ) : Type 0 where
-  pub seen : HasFocus A node_at spare root xs id
-  pub low : least_at seen.path ≤ count_at A seen.height seen.shape
-  pub high : count_at A seen.height seen.shape ≤ suc (most_at seen.height)
-  pub enough : count_at A seen.height seen.shape ≡ suc (most_at seen.height) → length spare ≡ path_need seen.path
-  pub none : count_at A seen.height seen.shape ≤ most_at seen.height → length spare ≡ 0
-  pub there : IsAt asked a (all_positions A seen.height seen.path seen.shape) place
-  pub paid : gained + strain_of A seen.height seen.path seen.shape ≤ bound
+    (expected : Option A) (a : Address) (place allocated bound : ℕ) : Type 0 where
+  pub focus : HasFocus A node_at spare root xs id
+  pub low : least_at focus.path ≤ count_at A focus.height focus.subtree
+  pub high : count_at A focus.height focus.subtree ≤ suc (most_at focus.height)
+  pub enough : count_at A focus.height focus.subtree ≡ suc (most_at focus.height) → length spare ≡ path_need focus.path
+  pub none : count_at A focus.height focus.subtree ≤ most_at focus.height → length spare ≡ 0
+  pub there : IsAt expected a (all_positions A focus.height focus.path focus.subtree) place
+  pub within_strain : allocated + strain_of A focus.height focus.path focus.subtree ≤ bound
 
 -- each node has its number of items: the end of a split upward, and of an underflow fix upward
 pub record IsRepaired (A : Type 0) (node_at : NodeMap A) (root : ℕ) (xs : List A)
-    (asked : Option A) (a : Address) (place gained bound : ℕ) : Type 0 where
+    (expected : Option A) (a : Address) (place allocated bound : ℕ) : Type 0 where
   pub id : ℕ
   pub node : IsNode A node_at root xs id
-  pub there : IsAt asked a (all_positions A node.seen.height node.seen.path node.seen.shape) place
-  pub paid : gained + strain_of A node.seen.height node.seen.path node.seen.shape ≤ bound
+  pub there : IsAt expected a (all_positions A node.focus.height node.focus.path node.focus.subtree) place
+  pub within_strain : allocated + strain_of A node.focus.height node.focus.path node.focus.subtree ≤ bound

@@ -5,12 +5,12 @@ use Rattle.std.specs.List.{AllByRecursion}
 use Rattle.btree_item.specs.declared.TheConstants.{MIN_ITEMS}
 use Rattle.btree_view.specs.View.{View, internal, NodeMap}
 use Rattle.btree_shape.specs.Lists.{one, total}
-use Rattle.btree_shape.specs.Focus.Shape.{Shape, id_of, items_under, later_items, times_under, Holds, count_at, IsFilled, IsFilledBelow}
+use Rattle.btree_shape.specs.Focus.Subtree.{Subtree, id_of, items_under, later_items, times_under, Holds, count_at, IsFilled, IsFilledBelow}
 
 -- a node without one of its children, the hole: the first child, or one after an item
 pub data Frame (A : Type 0) (height : ℕ) : Type 0 where
-  at_first : ℕ → List (A × Shape A height) → Frame A height
-  at_branch : ℕ → Shape A height → List (A × Shape A height) → A → List (A × Shape A height) → Frame A height
+  at_first : ℕ → List (A × Subtree A height) → Frame A height
+  at_branch : ℕ → Subtree A height → List (A × Subtree A height) → A → List (A × Subtree A height) → Frame A height
 
 -- the nodes above a hole, up to the root
 pub data Path (A : Type 0) : ℕ → Type 0 where
@@ -19,12 +19,12 @@ pub data Path (A : Type 0) : ℕ → Type 0 where
 
 module _ {A : Type 0} {height : ℕ} where
   -- a node with the child in its place
-  abbrev pub fill : Frame A height → Shape A height → Shape A (suc height)
-  fill (at_first id back) shape = (id, shape, back)
-  fill (at_branch id first front x back) shape = (id, first, front ++ (x, shape) ∷ back)
+  abbrev pub fill : Frame A height → Subtree A height → Subtree A (suc height)
+  fill (at_first id back) subtree = (id, subtree, back)
+  fill (at_branch id first front x back) subtree = (id, first, front ++ (x, subtree) ∷ back)
 
   -- a node with two children in the place of the one, and an item between them
-  abbrev pub fill_two : Frame A height → Shape A height → A → Shape A height → Shape A (suc height)
+  abbrev pub fill_two : Frame A height → Subtree A height → A → Subtree A height → Subtree A (suc height)
   fill_two (at_first id back) left x right = (id, left, (x, right) ∷ back)
   fill_two (at_branch id first front y back) left x right = (id, first, front ++ (y, left) ∷ (x, right) ∷ back)
 
@@ -53,14 +53,14 @@ module _ {A : Type 0} {height : ℕ} where
 
   -- how often n is among the numbers of the hole's siblings and of the nodes below them; and the same with the node's
   -- own
-  abbrev pub times_beside : ℕ → Frame A height → ℕ
-  times_beside n (at_first id back) = total (λ b. times_under A height n b.1) back
-  times_beside n (at_branch id first front x back) =
+  abbrev pub times_in_siblings : ℕ → Frame A height → ℕ
+  times_in_siblings n (at_first id back) = total (λ b. times_under A height n b.1) back
+  times_in_siblings n (at_branch id first front x back) =
       times_under A height n first + total (λ b. times_under A height n b.1) front
       + total (λ b. times_under A height n b.1) back
 
   abbrev pub times_in : ℕ → Frame A height → ℕ
-  times_in n frame = one n (frame_id frame) + times_beside n frame
+  times_in n frame = one n (frame_id frame) + times_in_siblings n frame
 
   -- the node itself, with `hole` as the number of the hole
   abbrev pub frame_view : Option ℕ → Frame A height → ℕ → View A

@@ -3,7 +3,7 @@
 -- shows that this agrees with `IsPlace`.
 use Rattle.std.specs.Prelude.{◌≡◌, ℕ, zero, suc, ◌⊎◌, List, [], ◌∷◌, ◌++◌, length, Option, Some, None}
 use Rattle.btree_item.specs.declared.address.Address.{Address}
-use Rattle.btree_shape.specs.Focus.Shape.{Shape}
+use Rattle.btree_shape.specs.Focus.Subtree.{Subtree}
 use Rattle.btree_shape.specs.Focus.Path.{Frame, at_first, at_branch, Path, top, under, frame_id, frame_index}
 
 -- the address at offset -1 of a node, and at another offset
@@ -25,15 +25,15 @@ passed (mark address item ∷ positions_from) = passed positions_from
 passed (over ∷ positions_from) = suc (passed positions_from)
 
 -- no item is required at an address, or exactly this one
-abbrev pub Asks : {A : Type 0} → Option A → Option A → Type 0
-Asks None item = Unit {0}
-Asks (Some x) item = item ≡ Some x
+abbrev pub IsExpected : {A : Type 0} → Option A → Option A → Type 0
+IsExpected None item = Unit {0}
+IsExpected (Some x) item = item ≡ Some x
 
--- the address comes after `place` items; if `asked` is `Some x`, the item x stands there
+-- the address comes after `place` items; if `expected` is `Some x`, the item x stands there
 abbrev pub IsAt : {A : Type 0} → Option A → Address → List (Position A) → ℕ → Type 0
-IsAt asked a [] place = ⊥
-IsAt asked a (mark b item ∷ positions_from) place = ((a ≡ b) × (place ≡ 0) × Asks asked item) ⊎ IsAt asked a positions_from place
-IsAt asked a (over ∷ positions_from) place = (rest : ℕ) × (place ≡ suc rest) × IsAt asked a positions_from rest
+IsAt expected a [] place = ⊥
+IsAt expected a (mark b item ∷ positions_from) place = ((a ≡ b) × (place ≡ 0) × IsExpected expected item) ⊎ IsAt expected a positions_from place
+IsAt expected a (over ∷ positions_from) place = (rest : ℕ) × (place ≡ suc rest) × IsAt expected a positions_from rest
 
 -- the addresses of a node from an offset on: that of each entry, then those below the entry, and the one past the last
 abbrev pub positions_from : {A X : Type 0} → (X → A) → (X → List (Position A)) → (id offset : ℕ) → List X → List (Position A)
@@ -52,15 +52,15 @@ abbrev pub node_positions : {A X : Type 0} → (X → A) → (X → List (Positi
 node_positions key below id first entries = mark (address_before id) None ∷ (first ++ positions_from key below id 0 entries)
 
 module _ (A : Type 0) where
-  abbrev pub positions : (height : ℕ) → Shape A height → List (Position A)
-  positions zero shape = node_positions {A = A} {X = A} (λ x. x) (λ x. []) shape.0 [] shape.1
-  positions (suc height) shape =
-      node_positions {A = A} {X = A × Shape A height} (λ b. b.0) (λ b. positions height b.1) shape.0 (positions height shape.1) shape.2
+  abbrev pub positions : (height : ℕ) → Subtree A height → List (Position A)
+  positions zero subtree = node_positions {A = A} {X = A} (λ x. x) (λ x. []) subtree.0 [] subtree.1
+  positions (suc height) subtree =
+      node_positions {A = A} {X = A × Subtree A height} (λ b. b.0) (λ b. positions height b.1) subtree.0 (positions height subtree.1) subtree.2
 
-  abbrev pub branch_key : (height : ℕ) → A × Shape A height → A
+  abbrev pub branch_key : (height : ℕ) → A × Subtree A height → A
   branch_key height b = b.0
 
-  abbrev pub branch_positions : (height : ℕ) → A × Shape A height → List (Position A)
+  abbrev pub branch_positions : (height : ℕ) → A × Subtree A height → List (Position A)
   branch_positions height b = positions height b.1
 
   -- the addresses of a node before its hole, and those after it, which begin at an offset
@@ -70,7 +70,7 @@ module _ (A : Type 0) where
       mark (address_before id) None ∷ (positions height first ++ (positions_to (branch_key height) (branch_positions height) id 0 front
       ++ (mark (address_at id (length front)) (Some x) ∷ over ∷ [])))
 
-  abbrev pub branches_after : {height : ℕ} → Frame A height → List (A × Shape A height)
+  abbrev pub branches_after : {height : ℕ} → Frame A height → List (A × Subtree A height)
   branches_after {height} (at_first id back) = back
   branches_after {height} (at_branch id first front x back) = back
 
@@ -87,10 +87,10 @@ module _ (A : Type 0) where
   path_after {height} (under frame path) = positions_after frame (frame_index frame) ++ path_after path
 
   -- all addresses of a tree, given as a focus
-  abbrev pub all_positions : (height : ℕ) → Path A height → Shape A height → List (Position A)
-  all_positions height path shape = path_before path ++ (positions height shape ++ path_after path)
+  abbrev pub all_positions : (height : ℕ) → Path A height → Subtree A height → List (Position A)
+  all_positions height path subtree = path_before path ++ (positions height subtree ++ path_after path)
 
 -- `moved` sends each address to one with the same number of items before it, and at the same item if one stands there
 abbrev pub KeepsPositions : {A : Type 0} → (Address → Address) → List (Position A) → List (Position A) → Type 0
 KeepsPositions {A} moved old new =
-    (asked : Option A) (a : Address) (place : ℕ) → IsAt asked a old place → IsAt asked (moved a) new place
+    (expected : Option A) (a : Address) (place : ℕ) → IsAt expected a old place → IsAt expected (moved a) new place

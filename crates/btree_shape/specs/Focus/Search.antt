@@ -22,5 +22,5 @@ levels_below node_at (suc most) id = levels_in (levels_below node_at most) (node
 pub record IsSearching {K V : Type 0} (cmp : K → K → Ordering) (k : K) (node_at : NodeMap (K × V))
     (root : ℕ) (xs : List (K × V)) (id : ℕ) : Type 0 where
   pub node : IsNode (K × V) node_at root xs id
-  pub low : AllByRecursion (λ x. cmp x.0 k ≡ Less) (items_before node.seen.path)
-  pub high : AllByRecursion (λ x. cmp x.0 k ≡ Greater) (items_after node.seen.path)
+  pub low : AllByRecursion (λ x. cmp x.0 k ≡ Less) (items_before node.focus.path)
+  pub high : AllByRecursion (λ x. cmp x.0 k ≡ Greater) (items_after node.focus.path)

@@ -1,5 +1,5 @@
 use Rattle.btree_shape.specs.TreeState.{node_map}
-use Rattle.btree_raw.proofs.BorrowLemmas.{can-right, even-right, right-back, right-there, index-few}
+use Rattle.btree_raw.proofs.BorrowLemmas.{can-right, borrowed-right, right-back, right-there, index-few}
 use Rattle.btree_raw.proofs.OffsetLemmas.{offset-next}
 use Rattle.btree_raw.proofs.borrow.borrow_from_left.Goals as goal
 use Rattle.btree_shape.proofs.Trees.Stores.{used-view}
@@ -11,7 +11,7 @@ pub rotate_right-requires-clause-can : goal.rotate_right-requires-clause-can
 rotate_right-requires-clause-can g c = can-right (node_map c.args.tree.now) c.args.siblings c.args.siblings.right c.args.addr c.requires.adjacent c.requires.short c.requires.giver
 
 pub returns-clause-here : goal.returns-clause-here
-returns-clause-here g c = rw c.moved_by_rotate_right.ensures (even-right (node_map c.args.tree.now) c.args.siblings c.args.siblings.right c.args.addr c.requires.adjacent c.args.count c.requires.count c.first_child-child.result c.first_child-child.ensures c.requires.short c.requires.giver (node_map c.rotate_right.new.tree) c.rotate_right.ensures.nodes)
+returns-clause-here g c = rw c.moved_by_rotate_right.ensures (borrowed-right (node_map c.args.tree.now) c.args.siblings c.args.siblings.right c.args.addr c.requires.adjacent c.args.count c.requires.count c.first_child-child.result c.first_child-child.ensures c.requires.short c.requires.giver (node_map c.rotate_right.new.tree) c.rotate_right.ensures.nodes)
 
 pub returns-clause-back : goal.returns-clause-back
 returns-clause-back g c = λ is. rw c.moved_by_rotate_right.ensures (right-back c.args.siblings c.args.count c.first_child-child.result c.args.addr is)

@@ -1,7 +1,7 @@
 use Rattle.std.proofs.Common.{subst, arith, rules}
 use Rattle.btree_shape.specs.Step.{WritesNode}
 use Rattle.btree_shape.specs.TreeState.{node_map}
-use Rattle.btree_raw.proofs.OverflowLemmas.{left-there, right-still, raises}
+use Rattle.btree_raw.proofs.OverflowLemmas.{left-there, right-still, grows-root}
 use Rattle.btree_raw.proofs.StateLemmas.{then}
 use Rattle.btree_raw.proofs.overflow.grow_root.Goals as goal
 use Rattle.btree_shape.proofs.Trees.Stores.{used-view}
@@ -26,7 +26,7 @@ set_parent-requires-2-clause-used g c =
 pub returns : goal.returns
 returns g c = record {
   nodes =
-      raises (node_map c.args.tree.now) c.args.left c.args.right c.args.root c.args.median c.requires.can (node_map c.put.new.tree)
+      grows-root (node_map c.args.tree.now) c.args.left c.args.right c.args.root c.args.median c.requires.can (node_map c.put.new.tree)
       (subst (λ v. WritesNode (node_map c.args.tree.now) (node_map c.put.new.tree) c.args.root v) c.binary.ensures c.put.ensures.nodes)
       (node_map c.set_parent.new.tree) c.set_parent.ensures.nodes (node_map c.set_parent-2.new.tree) c.set_parent-2.ensures.nodes;
   rest = then (then c.put.ensures.rest c.set_parent.ensures.rest) c.set_parent-2.ensures.rest;

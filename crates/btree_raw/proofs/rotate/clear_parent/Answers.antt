@@ -1,6 +1,6 @@
 use Rattle.std.proofs.Common.{refl, arith, rules}
 use Rattle.std.specs.FinMap as map
-use Rattle.btree_raw.proofs.RotateLemmas.{clears-parent}
+use Rattle.btree_raw.proofs.SingleNodeLemmas.{clears-parent}
 use Rattle.btree_raw.proofs.rotate.clear_parent.Goals as goal
 use Rattle.std.proofs.lemmas.Grind.{common_steps}
 

@@ -2,7 +2,7 @@ use Rattle.std.proofs.Common.{refl, subst}
 use Rattle.btree_shape.specs.TreeState.{node_map}
 use Rattle.btree_shape.proofs.Trees.Stores.{used-view}
 use Rattle.btree_raw.specs.NodeSteps.{IsThere}
-use Rattle.btree_raw.proofs.RotateLemmas.{adopts-one, adopts-no}
+use Rattle.btree_raw.proofs.SingleNodeLemmas.{reparents-one, reparents-no}
 use Rattle.btree_raw.proofs.rotate.move_child.Goals as goal
 
 pub set_parent-requires-clause-used : goal.set_parent-requires-clause-used
@@ -10,9 +10,9 @@ set_parent-requires-clause-used g c = used-view c.args.tree.now.nodes c.in-Some.
 
 pub returns-in-Some : goal.returns-in-Some
 returns-in-Some g c = record {
-  nodes = adopts-one (node_map c.args.tree.now) (node_map c.set_parent.new.tree) c.args.parent c.args.child c.in-Some.id c.in-Some.is c.set_parent.ensures.nodes;
+  nodes = reparents-one (node_map c.args.tree.now) (node_map c.set_parent.new.tree) c.args.parent c.args.child c.in-Some.id c.in-Some.is c.set_parent.ensures.nodes;
   rest = c.set_parent.ensures.rest;
 }
 
 pub returns-in-None : goal.returns-in-None
-returns-in-None g c = record { nodes = adopts-no (node_map c.args.tree.now) c.args.parent c.args.child c.in-None.is; rest = record { rest = refl } }
+returns-in-None g c = record { nodes = reparents-no (node_map c.args.tree.now) c.args.parent c.args.child c.in-None.is; rest = record { rest = refl } }

@@ -1,7 +1,7 @@
 use Rattle.std.proofs.Common.{refl}
 use Rattle.std.specs.FinMap as map
 use Rattle.btree_node.specs.Node.{view_of}
-use Rattle.btree_raw.proofs.RotateLemmas.{gains-all, room-for-all}
+use Rattle.btree_raw.proofs.SingleNodeLemmas.{gains-all, room-for-all}
 use Rattle.btree_raw.proofs.StateLemmas.{used-here}
 use Rattle.btree_raw.proofs.rotate.put_all.Goals as goal
 

@@ -1,6 +1,6 @@
 use Rattle.std.proofs.Common.{refl}
 use Rattle.std.specs.FinMap as map
-use Rattle.btree_raw.proofs.RotateLemmas.{gains-last, room-for}
+use Rattle.btree_raw.proofs.SingleNodeLemmas.{gains-last, room-for}
 use Rattle.btree_raw.proofs.StateLemmas.{used-here}
 use Rattle.btree_raw.proofs.rotate.put_last.Goals as goal
 

@@ -1,6 +1,6 @@
 use Rattle.btree_shape.specs.TreeState.{node_map}
 use Rattle.btree_raw.proofs.StateLemmas.{then}
-use Rattle.btree_raw.proofs.RotationLemmas.{left-between, left-room, left-child, turns-left}
+use Rattle.btree_raw.proofs.SiblingLemmas.{left-between, left-room, left-child, rotates-left}
 use Rattle.btree_raw.proofs.rotate.rotate_left.Goals as goal
 
 pub change_separator-down-requires : goal.change_separator-down-requires
@@ -14,6 +14,6 @@ move_child-requires-clause-there g c = left-child (node_map c.args.tree.now) c.a
 
 pub returns : goal.returns
 returns g c = record {
-  nodes = turns-left (node_map c.args.tree.now) c.args.siblings c.requires.can (node_map c.take_first-up.new.tree) c.take_first-up.result.0 c.take_first-up.result.1 c.take_first-up.ensures.nodes (node_map c.change_separator-down.new.tree) c.change_separator-down.result c.change_separator-down.ensures.nodes (node_map c.put_last.new.tree) c.put_last.ensures.nodes (node_map c.move_child.new.tree) c.move_child.ensures.nodes;
+  nodes = rotates-left (node_map c.args.tree.now) c.args.siblings c.requires.can (node_map c.take_first-up.new.tree) c.take_first-up.result.0 c.take_first-up.result.1 c.take_first-up.ensures.nodes (node_map c.change_separator-down.new.tree) c.change_separator-down.result c.change_separator-down.ensures.nodes (node_map c.put_last.new.tree) c.put_last.ensures.nodes (node_map c.move_child.new.tree) c.move_child.ensures.nodes;
   rest = then (then (then c.take_first-up.ensures.rest c.change_separator-down.ensures.rest) c.put_last.ensures.rest) c.move_child.ensures.rest;
 }

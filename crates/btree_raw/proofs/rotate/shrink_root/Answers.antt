@@ -1,6 +1,6 @@
 use Rattle.btree_shape.specs.TreeState.{node_map}
 use Rattle.btree_shape.proofs.Trees.Stores.{used-view}
-use Rattle.btree_raw.proofs.RotateLemmas.{child-used, loses, shrinks_root}
+use Rattle.btree_raw.proofs.SingleNodeLemmas.{child-used, loses, shrinks_root}
 use Rattle.btree_raw.proofs.StateLemmas.{nodes-of, removed, then, used-here}
 use Rattle.btree_raw.proofs.rotate.shrink_root.Goals as goal
 use Rattle.std.proofs.Common.{rules}

@@ -3,7 +3,7 @@ use Rattle.std.specs.FinMap as map
 use Rattle.std.specs.Result.{IfOk}
 use Rattle.btree_node.specs.Node.{view_of}
 use Rattle.btree_view.specs.Edits.{HasChildFor, pushed_left}
-use Rattle.btree_raw.proofs.RotateLemmas.{loses-first}
+use Rattle.btree_raw.proofs.SingleNodeLemmas.{loses-first}
 use Rattle.btree_raw.proofs.StateLemmas.{used-here}
 use Rattle.btree_raw.proofs.rotate.take_first.Goals as goal
 use Rattle.std.proofs.lemmas.Grind.{common_steps}

@@ -1,6 +1,6 @@
 use Rattle.std.proofs.Common.{refl, arith, ◌+◌}
 use Rattle.std.specs.FinMap as map
-use Rattle.btree_raw.proofs.RotateLemmas.{loses-between, next-small, next-within}
+use Rattle.btree_raw.proofs.SingleNodeLemmas.{loses-between, next-small, next-within}
 use Rattle.btree_raw.proofs.StateLemmas.{used-here}
 use Rattle.btree_raw.proofs.rotate.take_separator.Goals as goal
 

@@ -1,7 +1,7 @@
 use Rattle.std.proofs.Common.{◌∙◌, Some, ap, refl, arith, rules, true, false}
 use Rattle.btree_shape.specs.TreeState.{node_map}
 use Rattle.btree_shape.proofs.Trees.Stores.{used-view}
-use Rattle.btree_raw.proofs.RotateLemmas.{loses}
+use Rattle.btree_raw.proofs.SingleNodeLemmas.{loses}
 use Rattle.btree_raw.proofs.FixedLemmas.{root-there, root-rests, can-release, released, emptied}
 use Rattle.btree_raw.proofs.StateLemmas.{nodes-of, removed, same-len, same-refusals}
 use Rattle.btree_raw.proofs.underflow.fix_root.Goals as goal

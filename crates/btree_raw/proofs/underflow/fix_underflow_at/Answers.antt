@@ -2,7 +2,7 @@ use Rattle.std.proofs.Common.{arith, subst, rules}
 use Rattle.btree_shape.specs.UnderflowFix.{Borrows, MergesNode}
 use Rattle.btree_shape.specs.TreeState.{node_map}
 use Rattle.btree_raw.specs.Underflow.{PassesUnderflowUp, EndsUnderflow}
-use Rattle.btree_raw.proofs.UnderflowLemmas.{is-child, is-short, before-there, are-after, after-adjacent, after-there, after-left, after-up, after-lends, after-few, are-before, as-after, as-before, before-right, low-after, none-after, right-borrows, right-merges}
+use Rattle.btree_raw.proofs.UnderflowLemmas.{is-child, is-short, before-there, are-after, after-adjacent, after-there, after-left, after-up, after-spares, after-few, are-before, as-after, as-before, before-right, low-after, none-after, right-borrows, right-merges}
 use Rattle.btree_raw.proofs.underflow.fix_underflow_at.Goals as goal
 use Rattle.std.proofs.lemmas.Grind.{common_steps}
 
@@ -64,7 +64,7 @@ pub borrow_from_right-requires-clause-short : goal.borrow_from_right-requires-cl
 borrow_from_right-requires-clause-short g c = rw (after-left (node_map c.args.tree.now) c.args.id c.args.parent c.args.addr c.requires.followed c.requires.under c.siblings-before.result.0 c.siblings-before.result.1 c.siblings-before.ensures c.in-Some.after c.in-Some.is) (is-short (node_map c.args.tree.now) c.args.id c.args.parent c.args.addr c.requires.followed c.requires.under c.args.count c.requires.count c.requires.short)
 
 pub borrow_from_right-requires-clause-giver : goal.borrow_from_right-requires-clause-giver
-borrow_from_right-requires-clause-giver g c = after-lends (node_map c.args.tree.now) c.args.id c.args.parent c.args.addr c.requires.followed c.requires.under c.siblings-before.result.0 c.siblings-before.result.1 c.siblings-before.ensures c.in-Some.after c.in-Some.is c.count_of-held.result c.count_of-held.ensures.count (omega arith)
+borrow_from_right-requires-clause-giver g c = after-spares (node_map c.args.tree.now) c.args.id c.args.parent c.args.addr c.requires.followed c.requires.under c.siblings-before.result.0 c.siblings-before.result.1 c.siblings-before.ensures c.in-Some.after c.in-Some.is c.count_of-held.result c.count_of-held.ensures.count (omega arith)
 
 pub borrow_from_right-requires-clause-count : goal.borrow_from_right-requires-clause-count
 borrow_from_right-requires-clause-count g c = rw (after-left (node_map c.args.tree.now) c.args.id c.args.parent c.args.addr c.requires.followed c.requires.under c.siblings-before.result.0 c.siblings-before.result.1 c.siblings-before.ensures c.in-Some.after c.in-Some.is) c.requires.count

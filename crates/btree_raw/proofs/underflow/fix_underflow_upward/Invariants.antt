@@ -1,11 +1,11 @@
 use Rattle.btree_shape.specs.Need.{levels_above}
 use Rattle.btree_shape.specs.TreeState.{KeepsRest, node_map}
-use Rattle.btree_raw.proofs.FixedLemmas.{Mends}
+use Rattle.btree_raw.proofs.FixedLemmas.{FixedUpTo}
 use Rattle.btree_raw.proofs.underflow.fix_underflow_upward.Given as goal
 
 abbrev pub invariant-loop-node : goal.invariant-loop-node
 invariant-loop-node g l = record {
-  mends : Mends _ (node_map l.fn.tree) (node_map l.tree) l.fn.tree.root l.start l.id l.fn.addr l.at;
+  up_to : FixedUpTo _ (node_map l.fn.tree) (node_map l.tree) l.fn.tree.root l.start l.id l.fn.addr l.at;
   rest : KeepsRest l.fn.tree l.tree;
 }
 

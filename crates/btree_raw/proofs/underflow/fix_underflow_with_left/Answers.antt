@@ -1,6 +1,6 @@
 use Rattle.std.proofs.Common.{arith, rules}
 use Rattle.btree_shape.specs.TreeState.{node_map}
-use Rattle.btree_raw.proofs.UnderflowLemmas.{left-borrows, left-few, left-merges, left-lends, left-there}
+use Rattle.btree_raw.proofs.UnderflowLemmas.{left-borrows, left-few, left-merges, left-spares, left-there}
 use Rattle.btree_raw.proofs.underflow.fix_underflow_with_left.Goals as goal
 use Rattle.std.proofs.lemmas.Grind.{common_steps}
 
@@ -15,7 +15,7 @@ pub count_of-held-requires : goal.count_of-held-requires
 count_of-held-requires g c = left-there (node_map c.args.tree.now) c.args.siblings c.args.addr c.requires.adjacent
 
 pub borrow_from_left-requires-clause-giver : goal.borrow_from_left-requires-clause-giver
-borrow_from_left-requires-clause-giver g c = left-lends (node_map c.args.tree.now) c.args.siblings c.args.addr c.requires.adjacent c.count_of-held.result c.count_of-held.ensures.count (omega arith)
+borrow_from_left-requires-clause-giver g c = left-spares (node_map c.args.tree.now) c.args.siblings c.args.addr c.requires.adjacent c.count_of-held.result c.count_of-held.ensures.count (omega arith)
 
 pub returns-clause-above : goal.returns-clause-above
 returns-clause-above g c = λ yes. c.merge_siblings.ensures.above c.args.siblings.right c.requires.adjacent

@@ -8,42 +8,42 @@ use Rattle.btree_valid.proofs.off_by_one.+pass_node.Goals as goal
 use Rattle.std.proofs.lemmas.Grind.{common_steps}
 
 pub returns-then-not-may_enter-clause-always : goal.returns-then-not-may_enter-clause-always
-returns-then-not-may_enter-clause-always g t c = λ can. absurd (not-entered g.K.Ord.cmp (g.C.Nodes.content c.args.nodes.now) c.args.root c.args.odd c.args.part.height c.args.part.parent c.args.part.id c.args.seen.left (option_copied c.args.seen.last) c.in_ok-node.node.now c.in_ok-node.ensures.value c.if-not-may_enter.ensures.1 can)
+returns-then-not-may_enter-clause-always g t c = λ can. absurd (not-entered g.K.Ord.cmp (g.C.Nodes.content c.args.nodes.now) c.args.root c.args.exempt c.args.part.height c.args.part.parent c.args.part.id c.args.seen.left (option_copied c.args.seen.last) c.in_ok-node.node.now c.in_ok-node.ensures.value c.if-not-may_enter.ensures.1 can)
 
 pub returns-then-height-ne0-clause-always : goal.returns-then-height-ne0-clause-always
-returns-then-height-ne0-clause-always g t c = λ can. absurd (leaf-low g.K.Ord.cmp (g.C.Nodes.content c.args.nodes.now) c.args.root c.args.odd c.args.part.height c.args.part.parent c.args.part.id c.args.seen.left (option_copied c.args.seen.last) c.in_ok-node.node.now c.in_ok-node.ensures.value (items_of (view_of c.in_ok-node.node.now)) (is-leaf (view_of c.in_ok-node.node.now) (sym c.in_default.is ∙ c.child_id_opt.ensures)) c.if-height-ne0.true can)
+returns-then-height-ne0-clause-always g t c = λ can. absurd (leaf-low g.K.Ord.cmp (g.C.Nodes.content c.args.nodes.now) c.args.root c.args.exempt c.args.part.height c.args.part.parent c.args.part.id c.args.seen.left (option_copied c.args.seen.last) c.in_ok-node.node.now c.in_ok-node.ensures.value (items_of (view_of c.in_ok-node.node.now)) (is-leaf (view_of c.in_ok-node.node.now) (sym c.in_default.is ∙ c.child_id_opt.ensures)) c.if-height-ne0.true can)
 
 pub returns-in_default-clause-only : goal.returns-in_default-clause-only
-returns-in_default-clause-only g t c = leaf-only g.K.Ord.cmp (g.C.Nodes.content c.args.nodes.now) c.args.root c.args.odd c.args.part.height c.args.part.parent c.args.part.id c.args.seen.left (option_copied c.args.seen.last) c.in_ok-node.node.now c.in_ok-node.ensures.value (items_of (view_of c.in_ok-node.node.now)) (is-leaf (view_of c.in_ok-node.node.now) (sym c.in_default.is ∙ c.child_id_opt.ensures)) c.if-height-ne0.false (c.if-not-may_enter.ensures.0 refl) c.pass_items.result c.pass_items.ensures.left c.pass_items.ensures.order
+returns-in_default-clause-only g t c = leaf-only g.K.Ord.cmp (g.C.Nodes.content c.args.nodes.now) c.args.root c.args.exempt c.args.part.height c.args.part.parent c.args.part.id c.args.seen.left (option_copied c.args.seen.last) c.in_ok-node.node.now c.in_ok-node.ensures.value (items_of (view_of c.in_ok-node.node.now)) (is-leaf (view_of c.in_ok-node.node.now) (sym c.in_default.is ∙ c.child_id_opt.ensures)) c.if-height-ne0.false (c.if-not-may_enter.ensures.0 refl) c.pass_items.result c.pass_items.ensures.left c.pass_items.ensures.order
 
 pub returns-in_default-clause-always : goal.returns-in_default-clause-always
-returns-in_default-clause-always g t c = λ can. c.pass_items.ensures.always (leaf-order g.K.Ord.cmp (g.C.Nodes.content c.args.nodes.now) c.args.root c.args.odd c.args.part.height c.args.part.parent c.args.part.id c.args.seen.left (option_copied c.args.seen.last) c.in_ok-node.node.now c.in_ok-node.ensures.value (items_of (view_of c.in_ok-node.node.now)) (is-leaf (view_of c.in_ok-node.node.now) (sym c.in_default.is ∙ c.child_id_opt.ensures)) c.if-height-ne0.false can)
+returns-in_default-clause-always g t c = λ can. c.pass_items.ensures.always (leaf-order g.K.Ord.cmp (g.C.Nodes.content c.args.nodes.now) c.args.root c.args.exempt c.args.part.height c.args.part.parent c.args.part.id c.args.seen.left (option_copied c.args.seen.last) c.in_ok-node.node.now c.in_ok-node.ensures.value (items_of (view_of c.in_ok-node.node.now)) (is-leaf (view_of c.in_ok-node.node.now) (sym c.in_default.is ∙ c.child_id_opt.ensures)) c.if-height-ne0.false can)
 
 pub returns-in_err-passed-clause-always : goal.returns-in_err-passed-clause-always
-returns-in_err-passed-clause-always g t c = λ can. let no : false ≡ true = c.in_err-passed.ensures.always (inner-can g.K.Ord.cmp (g.C.Nodes.content c.args.nodes.now) c.args.root c.args.odd c.args.part.height c.args.part.parent c.args.part.id c.args.seen.left (option_copied c.args.seen.last) c.in_ok-node.node.now c.in_ok-node.ensures.value c.in-Some.first (is-internal (view_of c.in_ok-node.node.now) c.in-Some.first (sym c.in-Some.is ∙ c.child_id_opt.ensures)) (c.if-not-may_enter.ensures.0 refl) c.if-height-eq0.false can) in absurd (cc)
+returns-in_err-passed-clause-always g t c = λ can. let no : false ≡ true = c.in_err-passed.ensures.always (inner-can g.K.Ord.cmp (g.C.Nodes.content c.args.nodes.now) c.args.root c.args.exempt c.args.part.height c.args.part.parent c.args.part.id c.args.seen.left (option_copied c.args.seen.last) c.in_ok-node.node.now c.in_ok-node.ensures.value c.in-Some.first (is-internal (view_of c.in_ok-node.node.now) c.in-Some.first (sym c.in-Some.is ∙ c.child_id_opt.ensures)) (c.if-not-may_enter.ensures.0 refl) c.if-height-eq0.false can) in absurd (cc)
 
 pub returns-in_err-next-clause-always : goal.returns-in_err-next-clause-always
-returns-in_err-next-clause-always g t c = λ can. absurd (node-stops g.K.Ord.cmp (views (g.C.Nodes.content c.args.nodes.now)) c.args.root c.args.odd _ _ _ _ _ _ _ _ _ _ c.loop-item.invariant (drop (c.loop-item.index + 1) (branches_of (view_of c.in_ok-node.node.now))) c.in-Some-branch_at_index.item.now c.in-Some-branch_at_index.child c.in-Some-branch_at_index.ensures.first c.key.result.now c.key.ensures c.in_err-next.ensures.always can)
+returns-in_err-next-clause-always g t c = λ can. absurd (node-stops g.K.Ord.cmp (views (g.C.Nodes.content c.args.nodes.now)) c.args.root c.args.exempt _ _ _ _ _ _ _ _ _ _ c.loop-item.invariant (drop (c.loop-item.index + 1) (branches_of (view_of c.in_ok-node.node.now))) c.in-Some-branch_at_index.item.now c.in-Some-branch_at_index.child c.in-Some-branch_at_index.ensures.first c.key.result.now c.key.ensures c.in_err-next.ensures.always can)
 
 pub returns-in_err-passed-2-clause-always : goal.returns-in_err-passed-2-clause-always
-returns-in_err-passed-2-clause-always g t c = λ can. let p = c.in_ok-next.ensures.only in let no : false ≡ true = c.in_err-passed-2.ensures.always (rw (p.left, p.last) (node-child g.K.Ord.cmp (views (g.C.Nodes.content c.args.nodes.now)) c.args.root c.args.odd _ _ _ _ _ _ _ _ _ _ c.loop-item.invariant (drop (c.loop-item.index + 1) (branches_of (view_of c.in_ok-node.node.now))) c.in-Some-branch_at_index.item.now c.in-Some-branch_at_index.child c.in-Some-branch_at_index.ensures.first c.key.result.now c.key.ensures g.met.K.Ord.total p.above can)) in absurd (cc)
+returns-in_err-passed-2-clause-always g t c = λ can. let p = c.in_ok-next.ensures.only in let no : false ≡ true = c.in_err-passed-2.ensures.always (rw (p.left, p.last) (node-child g.K.Ord.cmp (views (g.C.Nodes.content c.args.nodes.now)) c.args.root c.args.exempt _ _ _ _ _ _ _ _ _ _ c.loop-item.invariant (drop (c.loop-item.index + 1) (branches_of (view_of c.in_ok-node.node.now))) c.in-Some-branch_at_index.item.now c.in-Some-branch_at_index.child c.in-Some-branch_at_index.ensures.first c.key.result.now c.key.ensures g.met.K.Ord.total p.above can)) in absurd (cc)
 
 pub loop-item-init : goal.loop-item-init
-loop-item-init g t c = inner-start g.K.Ord.cmp (g.C.Nodes.content c.args.nodes.now) c.args.root c.args.odd c.args.part.height c.args.part.parent c.args.part.id c.args.seen.left (option_copied c.args.seen.last) c.in_ok-node.node.now c.in_ok-node.ensures.value c.in-Some.first (is-internal (view_of c.in_ok-node.node.now) c.in-Some.first (sym c.in-Some.is ∙ c.child_id_opt.ensures)) (c.if-not-may_enter.ensures.0 refl) c.if-height-eq0.false (drop 0 (branches_of (view_of c.in_ok-node.node.now))) refl _ _ c.in_ok-passed.ensures.only
+loop-item-init g t c = inner-start g.K.Ord.cmp (g.C.Nodes.content c.args.nodes.now) c.args.root c.args.exempt c.args.part.height c.args.part.parent c.args.part.id c.args.seen.left (option_copied c.args.seen.last) c.in_ok-node.node.now c.in_ok-node.ensures.value c.in-Some.first (is-internal (view_of c.in_ok-node.node.now) c.in-Some.first (sym c.in-Some.is ∙ c.child_id_opt.ensures)) (c.if-not-may_enter.ensures.0 refl) c.if-height-eq0.false (drop 0 (branches_of (view_of c.in_ok-node.node.now))) refl _ _ c.in_ok-passed.ensures.only
 
 pub loop-item-preserved : goal.loop-item-preserved
 loop-item-preserved g t c =
     let p = c.in_ok-next.ensures.only in
-    node-next g.K.Ord.cmp (views (g.C.Nodes.content c.args.nodes.now)) c.args.root c.args.odd _ _ _ _ _ _ _ _ _ _ c.loop-item.invariant (drop (c.loop-item.index + 1) (branches_of (view_of c.in_ok-node.node.now))) c.in-Some-branch_at_index.item.now c.in-Some-branch_at_index.child c.in-Some-branch_at_index.ensures.first c.key.result.now c.key.ensures g.met.K.Ord.total p.above _ _ (rw (← p.left, ← p.last) c.in_ok-passed-2.ensures.only)
+    node-next g.K.Ord.cmp (views (g.C.Nodes.content c.args.nodes.now)) c.args.root c.args.exempt _ _ _ _ _ _ _ _ _ _ c.loop-item.invariant (drop (c.loop-item.index + 1) (branches_of (view_of c.in_ok-node.node.now))) c.in-Some-branch_at_index.item.now c.in-Some-branch_at_index.child c.in-Some-branch_at_index.ensures.first c.key.result.now c.key.ensures g.met.K.Ord.total p.above _ _ (rw (← p.left, ← p.last) c.in_ok-passed-2.ensures.only)
 
 pub returns-clause-only : goal.returns-clause-only
-returns-clause-only g t c = node-end g.K.Ord.cmp (views (g.C.Nodes.content c.args.nodes.now)) c.args.root c.args.odd _ _ _ _ _ _ _ _ _ _ c.loop-item.invariant c.in_default-branch_at_index.ensures.first
+returns-clause-only g t c = node-end g.K.Ord.cmp (views (g.C.Nodes.content c.args.nodes.now)) c.args.root c.args.exempt _ _ _ _ _ _ _ _ _ _ c.loop-item.invariant c.in_default-branch_at_index.ensures.first
 
 pub pass_items-requires : goal.pass_items-requires
 pass_items-requires g t c = (c.requires, is-leaf (view_of c.in_ok-node.node.now) (sym c.in_default.is ∙ c.child_id_opt.ensures))
 
 pub returns-in_err-node-clause-always : goal.returns-in_err-node-clause-always
-returns-in_err-node-clause-always g t c = λ can. absurd (nothing-there g.K.Ord.cmp (views (g.C.Nodes.content c.args.nodes.now)) c.args.root c.args.odd c.args.part.height c.args.part.parent c.args.part.id c.args.seen.left (option_copied c.args.seen.last) (ap (option_map view_of) (sym c.in_err-node.ensures.value)) can)
+returns-in_err-node-clause-always g t c = λ can. absurd (nothing-there g.K.Ord.cmp (views (g.C.Nodes.content c.args.nodes.now)) c.args.root c.args.exempt c.args.part.height c.args.part.parent c.args.part.id c.args.seen.left (option_copied c.args.seen.last) (ap (option_map view_of) (sym c.in_err-node.ensures.value)) can)
 
 pub overflow_sub-entered : goal.overflow_sub-entered
 overflow_sub-entered g t c = let may = c.if-not-may_enter.ensures.0 refl in omega (arith, may.0)

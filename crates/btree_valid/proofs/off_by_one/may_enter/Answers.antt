@@ -7,7 +7,7 @@ pub returns-then-ne : goal.returns-then-ne
 returns-then-ne g c = (λ no. absurd (cc), λ p. absurd (parent-same c.parent.result c.args.parent (c.if-ne.ensures) (c.parent.ensures.value ∙ p.1)))
 
 pub returns : goal.returns
-returns g c = enters (view_of c.args.node.now) c.args.root c.args.odd c.args.id c.args.left c.args.parent c.item_count-count.result c.most_items.result
+returns g c = enters (view_of c.args.node.now) c.args.root c.args.exempt c.args.id c.args.left c.args.parent c.item_count-count.result c.most_items.result
     c.item_count-count.ensures.value c.most_items.ensures c.if-left-eq0.false (sym c.parent.ensures.value ∙ same-parent c.parent.result c.args.parent (c.if-ne.ensures)) c.least_items.result c.least_items.ensures c.if-count-least_items.false
 
 pub returns-then-left-eq0 : goal.returns-then-left-eq0

@@ -1,6 +1,6 @@
 use Rattle.std.proofs.Common.{◌++◌, ◌-◌, length}
 use Rattle.std.specs.FinMap as map
-use Rattle.btree_shape.specs.Focus.Left.{left_above}
+use Rattle.btree_shape.specs.Focus.Remaining.{remaining_above}
 use Rattle.btree_shape.specs.Represents.{represented}
 use Rattle.btree_shape.specs.TreeState.{views}
 use Rattle.btree_walk.specs.Rows.{rows_of}
@@ -9,7 +9,7 @@ use Rattle.btree_walk.proofs.ancestors.descend.Given as goal
 
 abbrev pub invariant-loop-child : goal.invariant-loop-child
 invariant-loop-child g l =
-    IsDown l.tree.nodes (map.len l.tree.nodes) (represented (views l.tree.nodes) (map.len l.tree.nodes) l.fn.top ++ left_above (views l.tree.nodes) (map.len l.tree.nodes) (rows_of l.initial.ancestors)) l.ancestors l.id
+    IsDown l.tree.nodes (map.len l.tree.nodes) (represented (views l.tree.nodes) (map.len l.tree.nodes) l.fn.top ++ remaining_above (views l.tree.nodes) (map.len l.tree.nodes) (rows_of l.initial.ancestors)) l.ancestors l.id
 
 abbrev pub decreases-loop-child : goal.decreases-loop-child
 decreases-loop-child g l = 32 - length l.ancestors

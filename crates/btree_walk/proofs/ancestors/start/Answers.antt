@@ -1,6 +1,6 @@
 use Rattle.std.proofs.Common.{sym, ap, subst, ◌∙◌, ◌++◌, arith, append-nil, rules}
 use Rattle.std.specs.FinMap as map
-use Rattle.btree_shape.specs.Focus.Left.{left_above}
+use Rattle.btree_shape.specs.Focus.Remaining.{remaining_above}
 use Rattle.btree_shape.specs.Represents.{represented}
 use Rattle.btree_shape.specs.TreeState.{node_map, pairs_under, pairs_of}
 use Rattle.btree_shape.specs.WellFormed.{IsWellFormed}
@@ -27,7 +27,7 @@ descend-requires g c =
 pub returns-in-Some-clause-left : goal.returns-in-Some-clause-left
 returns-in-Some-clause-left g c =
     sym c.descend.ensures.left
-    ∙ ap (λ fs. represented (node_map c.args.tree.now) (map.len c.args.tree.now.nodes) c.in-Some.root ++ left_above (node_map c.args.tree.now) (map.len c.args.tree.now.nodes) (rows_of fs)) c.requires.none
+    ∙ ap (λ fs. represented (node_map c.args.tree.now) (map.len c.args.tree.now.nodes) c.in-Some.root ++ remaining_above (node_map c.args.tree.now) (map.len c.args.tree.now.nodes) (rows_of fs)) c.requires.none
     ∙ append-nil (represented (node_map c.args.tree.now) (map.len c.args.tree.now.nodes) c.in-Some.root)
     ∙ ap (λ r. pairs_under (node_map c.args.tree.now) r (map.len c.args.tree.now.nodes)) c.in-Some.ensures.value
 

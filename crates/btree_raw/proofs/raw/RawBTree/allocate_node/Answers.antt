@@ -1,4 +1,4 @@
-use Rattle.btree_raw.proofs.RawLemmas.{adopts, can-reparent_children}
+use Rattle.btree_raw.proofs.RawLemmas.{reparents, can-reparent_children}
 use Rattle.btree_raw.proofs.StateLemmas.{inserted, nodes-of, then}
 use Rattle.btree_raw.proofs.raw.RawBTree.allocate_node.Goals as goal
 use Rattle.std.proofs.lemmas.Grind.{common_steps}
@@ -7,10 +7,10 @@ use Rattle.std.proofs.Common.{arith, rules}
 pub reparent_children-requires : goal.reparent_children-requires
 reparent_children-requires g c = can-reparent_children c.args.self.now.nodes c.in-Ok.id c.args.node c.in-Ok.ensures.unused c.requires c.store_node.new.self.nodes (nodes-of c.in-Ok.ensures.stored)
 
-pub returns-in-Ok-clause-gained : goal.returns-in-Ok-clause-gained
-returns-in-Ok-clause-gained g c = record {
+pub returns-in-Ok-clause-allocated : goal.returns-in-Ok-clause-allocated
+returns-in-Ok-clause-allocated g c = record {
   vacant = c.in-Ok.ensures.unused;
-  adopted = adopts c.args.self.now.nodes c.in-Ok.id c.args.node c.in-Ok.ensures.unused c.requires c.store_node.new.self.nodes (nodes-of c.in-Ok.ensures.stored) c.reparent_children.new.tree.nodes c.reparent_children.ensures.nodes;
+  adopted = reparents c.args.self.now.nodes c.in-Ok.id c.args.node c.in-Ok.ensures.unused c.requires c.store_node.new.self.nodes (nodes-of c.in-Ok.ensures.stored) c.reparent_children.new.tree.nodes c.reparent_children.ensures.nodes;
   rest = then (inserted c.in-Ok.id c.args.node c.in-Ok.ensures.stored) c.reparent_children.ensures.rest;
 }
 
@@ -26,8 +26,8 @@ returns-in-Ok-clause-unchanged g c = search rules steps 200000
 pub returns-in-Ok-clause-may_refuse : goal.returns-in-Ok-clause-may_refuse
 returns-in-Ok-clause-may_refuse g c = search rules steps 200000
 
-pub returns-in-Err-clause-gained : goal.returns-in-Err-clause-gained
-returns-in-Err-clause-gained g c = search rules steps 200000
+pub returns-in-Err-clause-allocated : goal.returns-in-Err-clause-allocated
+returns-in-Err-clause-allocated g c = search rules steps 200000
 
 pub returns-in-Err-clause-number : goal.returns-in-Err-clause-number
 returns-in-Err-clause-number g c = search rules steps 200000

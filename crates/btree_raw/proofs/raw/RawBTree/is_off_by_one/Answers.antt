@@ -3,7 +3,7 @@ use Rattle.btree_raw.proofs.raw.RawBTree.is_off_by_one.Goals as goal
 use Rattle.std.proofs.Common.{rules}
 
 pub returns-in-Some : goal.returns-in-Some
-returns-in-Some g c = rw (← c.self.view_is) (off-found g.K.Ord.cmp _ c.args.id c.in-Some.root c.in-Some.is c.is_off.result c.is_off.ensures)
+returns-in-Some g c = rw (← c.self.view_is) (off-found g.K.Ord.cmp _ c.args.id c.in-Some.root c.in-Some.is c.is_off_by_one.result c.is_off_by_one.ensures)
 
 pub returns-in-None : goal.returns-in-None
 returns-in-None g c = rw (← c.self.view_is) (no-root-off g.K.Ord.cmp _ c.args.id c.in-None.is)

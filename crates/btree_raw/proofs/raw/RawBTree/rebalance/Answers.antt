@@ -1,10 +1,10 @@
-use Rattle.btree_raw.proofs.RebalanceLemmas.{odd-used}
+use Rattle.btree_raw.proofs.RebalanceLemmas.{off-used}
 use Rattle.btree_raw.proofs.raw.RawBTree.rebalance.Goals as goal
 use Rattle.std.proofs.lemmas.Grind.{common_steps}
 use Rattle.std.proofs.Common.{arith, rules}
 
 pub node-requires : goal.node-requires
-node-requires g c = (c.tell_fits.ensures, odd-used g.K.Ord.cmp g.met.K.Ord.total c.args.self.now c.args.id c.requires.odd)
+node-requires g c = (c.tell_fits.ensures, off-used g.K.Ord.cmp g.met.K.Ord.total c.args.self.now c.args.id c.requires.exempt)
 
 pub tell_fits-requires : goal.tell_fits-requires
 tell_fits-requires g c κs = search rules steps 200000
@@ -16,14 +16,14 @@ returns-then-is_overflowing-clause-rebalanced g c = search rules steps 200000
 pub returns-then-is_overflowing-clause-refused : goal.returns-then-is_overflowing-clause-refused
 returns-then-is_overflowing-clause-refused g c = search rules steps 200000
 
-pub rebalance_under-requires-clause-odd : goal.rebalance_under-requires-clause-odd
-rebalance_under-requires-clause-odd g c = search rules steps 200000
+pub rebalance_underflow-requires-clause-off_by_one : goal.rebalance_underflow-requires-clause-off_by_one
+rebalance_underflow-requires-clause-off_by_one g c = search rules steps 200000
 
-pub rebalance_under-requires-clause-valid : goal.rebalance_under-requires-clause-valid
-rebalance_under-requires-clause-valid g c = search rules steps 200000
+pub rebalance_underflow-requires-clause-valid : goal.rebalance_underflow-requires-clause-valid
+rebalance_underflow-requires-clause-valid g c = search rules steps 200000
 
-pub rebalance_under-requires-clause-room : goal.rebalance_under-requires-clause-room
-rebalance_under-requires-clause-room g c = grind (arith, common_steps) steps 300000
+pub rebalance_underflow-requires-clause-room : goal.rebalance_underflow-requires-clause-room
+rebalance_underflow-requires-clause-room g c = grind (arith, common_steps) steps 300000
 
 pub returns-clause-rebalanced : goal.returns-clause-rebalanced
 returns-clause-rebalanced g c = search rules steps 200000

@@ -9,13 +9,13 @@ use Rattle.btree_shape.specs.Represents.{Represents, represented}
 -- of a place go from the root down to it.
 module _ {A : Type 0} (node_at : NodeMap A) (levels : ℕ) where
   -- each item of a row, and the list that the child after it represents
-  abbrev pub left_in : List (A × ℕ) → List A
-  left_in node_positions = flat_map (λ b. b.0 ∷ represented node_at levels b.1) node_positions
+  abbrev pub remaining_in : List (A × ℕ) → List A
+  remaining_in node_positions = flat_map (λ b. b.0 ∷ represented node_at levels b.1) node_positions
 
   -- what is left in all rows; the lowest row comes first
-  abbrev pub left_above : List (List (A × ℕ)) → List A
-  left_above [] = []
-  left_above (node_positions ∷ rows) = left_above rows ++ left_in node_positions
+  abbrev pub remaining_above : List (List (A × ℕ)) → List A
+  remaining_above [] = []
+  remaining_above (node_positions ∷ rows) = remaining_above rows ++ remaining_in node_positions
 
   -- node `id`, with `depth` nodes above it, represents a list and is fewer than `levels` levels above the leaves; a
   -- tree has at most 32 levels

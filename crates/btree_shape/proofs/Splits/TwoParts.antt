@@ -7,12 +7,12 @@ use Rattle.std.specs.Prelude.{option_map}
 use Rattle.btree_view.specs.Edits.{IsSplit, with_parent}
 use Rattle.btree_view.specs.View.{NodeMap, View, children_of, internal, leaf}
 use Rattle.btree_shape.specs.Lists.{one, times_listed, total}
-use Rattle.btree_shape.specs.Focus.Shape.{Holds, IsFilled, IsFilledBelow, Shape, count_at, id_of, items_under, later_items, most_at, times_under, view_at}
+use Rattle.btree_shape.specs.Focus.Subtree.{Holds, IsFilled, IsFilledBelow, Subtree, count_at, id_of, items_under, later_items, most_at, times_under, view_at}
 use Rattle.btree_shape.specs.Step.{Splits}
 use Rattle.btree_shape.specs.Focus.Path.{Path, parent_above}
 use Rattle.btree_shape.specs.WellFormed.{times_used}
 use Rattle.btree_shape.specs.Focus.Focus.{IsFocus}
-use Rattle.btree_shape.proofs.LookUp.Descent.{halves}
+use Rattle.btree_shape.proofs.LookUp.Descent.{map-parts}
 use Rattle.btree_shape.proofs.Paths.Frames.{AllByRecursion-left, AllByRecursion-right, eachs-same, holds-same, one-self, one-zero, total-append}
 use Rattle.btree_shape.proofs.Trees.Numbers.{same-or, used-low, used-mapped, zero-or}
 
@@ -69,12 +69,12 @@ split-of {A} node_at new i j x s v e =
         )
 
 -- two adjacent siblings as one node, with the item between them
-abbrev pub join : (A : Type 0) (h : ℕ) → Shape A h → A → Shape A h → Shape A h
+abbrev pub join : (A : Type 0) (h : ℕ) → Subtree A h → A → Subtree A h → Subtree A h
 join A zero a x b = (a.0, a.1 ++ x ∷ b.1)
 join A (suc h) a x b = (a.0, a.1, a.2 ++ (x, b.1) ∷ b.2)
 
 -- a subtree in two parts, with x between
-pub record IsCut (A : Type 0) (h : ℕ) (t : Shape A h) (j : ℕ) (x : A) (a b : Shape A h) : Type 0 where
+pub record IsCut (A : Type 0) (h : ℕ) (t : Subtree A h) (j : ℕ) (x : A) (a b : Subtree A h) : Type 0 where
   pub joined : t ≡ join A h a x b
   pub list : items_under A h t ≡ items_under A h a ++ x ∷ items_under A h b
   pub numbers : (n : ℕ) → times_under A h n t + one n j ≡ times_under A h n a + times_under A h n b
@@ -88,21 +88,21 @@ pub record IsCut (A : Type 0) (h : ℕ) (t : Shape A h) (j : ℕ) (x : A) (a b :
   pub left_count : count_at A h a + 5 ≡ suc (most_at h)
 
 module _ (A : Type 0) where
-  pub right-filled : (h : ℕ) (b : Shape A h) → count_at A h b ≡ 4 → IsFilled 3 h (count_at A h b)
+  pub right-filled : (h : ℕ) (b : Subtree A h) → count_at A h b ≡ 4 → IsFilled 3 h (count_at A h b)
   right-filled zero b e = (omega arith, omega arith)
   right-filled (suc h) b e = (omega arith, omega arith)
 
   -- the numbers below the root of a subtree
-  abbrev pub times_below : (h : ℕ) → ℕ → Shape A h → ℕ
+  abbrev pub times_below : (h : ℕ) → ℕ → Subtree A h → ℕ
   times_below zero n t = 0
   times_below (suc h) n t = times_under A h n t.1 + total (λ b. times_under A h n b.1) t.2
 
-  pub times-top : (h n : ℕ) (t : Shape A h) → times_under A h n t ≡ one n (id_of A h t) + times_below h n t
+  pub times-top : (h n : ℕ) (t : Subtree A h) → times_under A h n t ≡ one n (id_of A h t) + times_below h n t
   times-top zero n t = omega arith
   times-top (suc h) n t = refl
 
   -- a subtree whose root has a new parent
-  pub reparent_children : (node_at new : NodeMap A) (h : ℕ) (p q : Option ℕ) (t : Shape A h)
+  pub reparent_children : (node_at new : NodeMap A) (h : ℕ) (p q : Option ℕ) (t : Subtree A h)
       → new (id_of A h t) ≡ option_map (with_parent q) (node_at (id_of A h t))
       → ((n : ℕ) → 0 < times_below h n t → new n ≡ node_at n) → Holds A node_at h p t → Holds A new h q t
   reparent_children node_at new zero p q t e same d = e ∙ rw d refl
@@ -113,35 +113,35 @@ module _ (A : Type 0) where
   )
 
   -- the roots of the children, and the rest of them
-  pub total-top : (h n : ℕ) (bs : List (A × Shape A h)) → total (λ b. times_under A h n b.1) bs
-      ≡ times_listed n (map (λ (b : A × ℕ). b.1) (map (λ (b : A × Shape A h). (b.0, id_of A h b.1)) bs)) + total
+  pub total-top : (h n : ℕ) (bs : List (A × Subtree A h)) → total (λ b. times_under A h n b.1) bs
+      ≡ times_listed n (map (λ (b : A × ℕ). b.1) (map (λ (b : A × Subtree A h). (b.0, id_of A h b.1)) bs)) + total
       (λ b. times_below h n b.1) bs
   total-top h n [] = omega arith
   total-top h n (b ∷ bs) = omega (arith, times-top h n b.1, total-top h n bs)
 
   module _ (node_at new : NodeMap A) where
     -- each of some children has the new parent
-    pub adopts : (h i j : ℕ) (p : Option ℕ) (bs : List (A × Shape A h))
+    pub reparents : (h i j : ℕ) (p : Option ℕ) (bs : List (A × Subtree A h))
         → ((n : ℕ) → 0 < times_listed n
-        (map (λ (b : A × ℕ). b.1) (map (λ (b : A × Shape A h). (b.0, id_of A h b.1)) bs)) → new n ≡ option_map
+        (map (λ (b : A × ℕ). b.1) (map (λ (b : A × Subtree A h). (b.0, id_of A h b.1)) bs)) → new n ≡ option_map
         (with_parent (Some j)) (node_at n))
         → ((n : ℕ) → 0 < total (λ b. times_below h n b.1) bs → new n ≡ node_at n)
         → AllByRecursion (λ b. Holds A node_at h p b.1) bs → AllByRecursion (λ b. Holds A new h (Some j) b.1) bs
-    adopts h i j p [] moved same d = tt
-    adopts h i j p (b ∷ bs) moved same d = (
+    reparents h i j p [] moved same d = tt
+    reparents h i j p (b ∷ bs) moved same d = (
       reparent_children node_at new h p (Some j) b.1 (moved (id_of A h b.1) (let s = one-self (id_of A h b.1) in omega arith))
           (λ n m. same n (omega arith)) d.0,
-      adopts h i j p bs (λ n m. moved n (omega arith)) (λ n m. same n (omega arith)) d.1,
+      reparents h i j p bs (λ n m. moved n (omega arith)) (λ n m. same n (omega arith)) d.1,
     )
 
-    pub record Cut (h : ℕ) (p : Option ℕ) (t : Shape A h) (j : ℕ) (x : A) : Type 0 where
-      pub left : Shape A h
-      pub right : Shape A h
+    pub record Cut (h : ℕ) (p : Option ℕ) (t : Subtree A h) (j : ℕ) (x : A) : Type 0 where
+      pub left : Subtree A h
+      pub right : Subtree A h
       pub cut : IsCut A h t j x left right
       pub left_holds : Holds A new h p left
       pub right_holds : Holds A new h p right
 
-    pub split-leaf : (p : Option ℕ) (t : Shape A 0) (j : ℕ) (x : A) → length t.1 ≡ 9
+    pub split-leaf : (p : Option ℕ) (t : Subtree A 0) (j : ℕ) (x : A) → length t.1 ≡ 9
         → IsSplitOf node_at new t.0 j x (leaf p t.1) → Cut 0 p t j x
     split-leaf p t j x nine s =
         record {
@@ -163,10 +163,10 @@ module _ (A : Type 0) where
           right_holds = s.5;
         }
 
-    module _ (h i j : ℕ) (p : Option ℕ) (first : Shape A h) (left : List (A × Shape A h)) (x : A) (u : Shape A h)
-        (rest : List (A × Shape A h)) where
-      IdsOf : List (A × Shape A h) → List ℕ
-      IdsOf bs = map (λ (b : A × ℕ). b.1) (map (λ (b : A × Shape A h). (b.0, id_of A h b.1)) bs)
+    module _ (h i j : ℕ) (p : Option ℕ) (first : Subtree A h) (left : List (A × Subtree A h)) (x : A) (u : Subtree A h)
+        (rest : List (A × Subtree A h)) where
+      IdsOf : List (A × Subtree A h) → List ℕ
+      IdsOf bs = map (λ (b : A × ℕ). b.1) (map (λ (b : A × Subtree A h). (b.0, id_of A h b.1)) bs)
 
       pub split-parts : ((n : ℕ) → times_under A (suc h) n (i, first, left ++ (x, u) ∷ rest) + one n j ≤ 1)
           → new i ≡ Some (internal p (id_of A h first) (map (λ b. (b.0, id_of A h b.1)) left))
@@ -175,11 +175,11 @@ module _ (A : Type 0) where
           → Holds A node_at (suc h) p (i, first, left ++ (x, u) ∷ rest)
           → Holds A new (suc h) p (i, first, left) × Holds A new (suc h) p (j, u, rest)
       split-parts apart ei ej ad d =
-          let P : A × Shape A h → Type 0 = λ b. Holds A node_at h (Some i) b.1 in
+          let P : A × Subtree A h → Type 0 = λ b. Holds A node_at h (Some i) b.1 in
           let all : (n : ℕ) → one n
           i + (times_under A h n
           first + (total (λ b. times_under A h n b.1) left + ((one n (id_of A h u) + times_below h n u)
-          + (times_listed n (map (λ (b : A × ℕ). b.1) (map (λ (b : A × Shape A h). (b.0, id_of A h b.1)) rest)) + total
+          + (times_listed n (map (λ (b : A × ℕ). b.1) (map (λ (b : A × Subtree A h). (b.0, id_of A h b.1)) rest)) + total
           (λ b. times_below h n b.1) rest)))) + one n j ≤ 1 =
           λ n. omega (
             arith,
@@ -190,12 +190,12 @@ module _ (A : Type 0) where
           ) in
           let keep : (n : ℕ) → one n i ≡ 0 → one n j ≡ 0
           → one n (id_of A h u) + times_listed n
-          (map (λ (b : A × ℕ). b.1) (map (λ (b : A × Shape A h). (b.0, id_of A h b.1)) rest)) ≡ 0
+          (map (λ (b : A × ℕ). b.1) (map (λ (b : A × Subtree A h). (b.0, id_of A h b.1)) rest)) ≡ 0
           → new n ≡ node_at n =
           λ n a b c. ad.kept n (one-zero n i a) (one-zero n j b) c in
           let move : (n : ℕ) → one n i ≡ 0 → one n j ≡ 0
           → 0 < one n (id_of A h u) + times_listed n
-          (map (λ (b : A × ℕ). b.1) (map (λ (b : A × Shape A h). (b.0, id_of A h b.1)) rest))
+          (map (λ (b : A × ℕ). b.1) (map (λ (b : A × Subtree A h). (b.0, id_of A h b.1)) rest))
           → new n ≡ option_map (with_parent (Some j)) (node_at n) =
           λ n a b c. ad.moved n (one-zero n i a) (one-zero n j b) c in
           let r = AllByRecursion-right P left ((x, u) ∷ rest) d.2 in (
@@ -212,60 +212,60 @@ module _ (A : Type 0) where
               reparent_children node_at new h (Some i) (Some j) u (let q = all (id_of A h u) in let s = one-self (id_of A h u) in
                   move (id_of A h u) (omega arith) (omega arith) (omega arith))
                   (λ n m. let q = all n in keep n (omega arith) (omega arith) (omega arith)) r.0,
-              adopts h i j (Some i) rest (λ n m. let q = all n in move n (omega arith) (omega arith) (omega arith))
+              reparents h i j (Some i) rest (λ n m. let q = all n in move n (omega arith) (omega arith) (omega arith))
                   (λ n m. let q = all n in keep n (omega arith) (omega arith) (omega arith)) r.1,
             ),
           )
 
-    pub split-inner : (h : ℕ) (p : Option ℕ) (t : Shape A (suc h)) (j : ℕ) (x : A) → length t.2 ≡ 8
+    pub split-inner : (h : ℕ) (p : Option ℕ) (t : Subtree A (suc h)) (j : ℕ) (x : A) → length t.2 ≡ 8
         → ((n : ℕ) → times_under A (suc h) n t + one n j ≤ 1) → IsFilledBelow A (suc h) t
         → Holds A node_at (suc h) p t → IsSplitOf node_at new t.0 j x (view_at A (suc h) p t) → Cut (suc h) p t j x
     split-inner h p t j x eight apart below d s =
-        let q = halves (λ (b : A × Shape A h). (b.0, id_of A h b.1)) t.2 s.0 ((x, s.1) ∷ s.2) s.3 in
+        let q = map-parts (λ (b : A × Subtree A h). (b.0, id_of A h b.1)) t.2 s.0 ((x, s.1) ∷ s.2) s.3 in
         at q.left q.right q.is q.first q.second
       where
-        at : (left right : List (A × Shape A h)) → t.2 ≡ left ++ right
-            → map (λ (b : A × Shape A h). (b.0, id_of A h b.1)) left ≡ s.0
-            → map (λ (b : A × Shape A h). (b.0, id_of A h b.1)) right ≡ (x, s.1) ∷ s.2 → Cut (suc h) p t j x
+        at : (left right : List (A × Subtree A h)) → t.2 ≡ left ++ right
+            → map (λ (b : A × Subtree A h). (b.0, id_of A h b.1)) left ≡ s.0
+            → map (λ (b : A × Subtree A h). (b.0, id_of A h b.1)) right ≡ (x, s.1) ∷ s.2 → Cut (suc h) p t j x
         at left [] is e1 e2 = absurd (cc)
         at left ((y, u) ∷ rest) is e1 e2 =
-            let M : A × Shape A h → A × ℕ = λ b. (b.0, id_of A h b.1) in
+            let M : A × Subtree A h → A × ℕ = λ b. (b.0, id_of A h b.1) in
             let e3 : M (y, u) ≡ (x, s.1) = cc in
             let yx : y ≡ x = ap (λ (b : A × ℕ). b.0) e3 in
             let us : id_of A h u ≡ s.1 = ap (λ (b : A × ℕ). b.1) e3 in
-            let rs : map (λ (b : A × Shape A h). (b.0, id_of A h b.1)) rest ≡ s.2 = cc in
+            let rs : map (λ (b : A × Subtree A h). (b.0, id_of A h b.1)) rest ≡ s.2 = cc in
             let is' : t.2 ≡ left ++ (x, u) ∷ rest = is ∙ ap (λ z. left ++ (z, u) ∷ rest) yx in
             let ei : new t.0 ≡ Some
-            (internal p (id_of A h t.1) (map (λ (b : A × Shape A h). (b.0, id_of A h b.1)) left)) =
+            (internal p (id_of A h t.1) (map (λ (b : A × Subtree A h). (b.0, id_of A h b.1)) left)) =
             rw e1 s.5 in
-            let ej : new j ≡ Some (internal p (id_of A h u) (map (λ (b : A × Shape A h). (b.0, id_of A h b.1)) rest)) =
+            let ej : new j ≡ Some (internal p (id_of A h u) (map (λ (b : A × Subtree A h). (b.0, id_of A h b.1)) rest)) =
             rw (us, rs) s.6 in
             let ad : AdoptsBeside node_at new t.0 j
-            (child_ids (id_of A h u) (map (λ (b : A × Shape A h). (b.0, id_of A h b.1)) rest)) =
+            (child_ids (id_of A h u) (map (λ (b : A × Subtree A h). (b.0, id_of A h b.1)) rest)) =
             rw (us, rs) s.7 in
             let ap' : (n : ℕ) → times_under A (suc h) n (t.0, t.1, left ++ (x, u) ∷ rest) + one n j ≤ 1 =
-            subst (λ (bs : List (A × Shape A h)). (n : ℕ) → times_under A (suc h) n (t.0, t.1, bs) + one n j ≤ 1) is'
+            subst (λ (bs : List (A × Subtree A h)). (n : ℕ) → times_under A (suc h) n (t.0, t.1, bs) + one n j ≤ 1) is'
             apart in
             let d' : Holds A node_at (suc h) p (t.0, t.1, left ++ (x, u) ∷ rest) =
-            subst (λ (bs : List (A × Shape A h)). Holds A node_at (suc h) p (t.0, t.1, bs)) is' d in
+            subst (λ (bs : List (A × Subtree A h)). Holds A node_at (suc h) p (t.0, t.1, bs)) is' d in
             let b' : IsFilledBelow A (suc h) (t.0, t.1, left ++ (x, u) ∷ rest) =
-            subst (λ (bs : List (A × Shape A h)). IsFilledBelow A (suc h) (t.0, t.1, bs)) is' below in
-            let F : A × Shape A h → Type 0 = λ b. IsFilled 3 h (count_at A h b.1) × IsFilledBelow A h b.1 in
+            subst (λ (bs : List (A × Subtree A h)). IsFilledBelow A (suc h) (t.0, t.1, bs)) is' below in
+            let F : A × Subtree A h → Type 0 = λ b. IsFilled 3 h (count_at A h b.1) × IsFilledBelow A h b.1 in
             let fr = AllByRecursion-right F left ((x, u) ∷ rest) b'.2 in
             let parts = split-parts h t.0 j p t.1 left x u rest ap' ei ej ad d' in
             let n1 : length left ≡ 3 =
-            sym (length-map left (λ (b : A × Shape A h). (b.0, id_of A h b.1))) ∙ (ap length e1 ∙ s.4) in
+            sym (length-map left (λ (b : A × Subtree A h). (b.0, id_of A h b.1))) ∙ (ap length e1 ∙ s.4) in
             let n2 : length t.2 ≡ length left + suc (length rest) =
             ap length is' ∙ length-append left ((x, u) ∷ rest) in
             record {
               left = (t.0, t.1, left);
               right = (j, u, rest);
               cut = record {
-                joined = ap (λ (bs : List (A × Shape A h)). (t.0, t.1, bs)) is';
-                list = ap (λ (bs : List (A × Shape A h)). items_under A h t.1 ++ later_items A h bs) is'
+                joined = ap (λ (bs : List (A × Subtree A h)). (t.0, t.1, bs)) is';
+                list = ap (λ (bs : List (A × Subtree A h)). items_under A h t.1 ++ later_items A h bs) is'
                     ∙ simp (flat_map-append, append_assoc);
                 numbers = λ n. let e : total (λ b. times_under A h n b.1) t.2 ≡ total (λ b. times_under A h n b.1)
-                    (left ++ (x, u) ∷ rest) = ap (λ (bs : List (A × Shape A h)). total (λ b. times_under A h n b.1) bs)
+                    (left ++ (x, u) ∷ rest) = ap (λ (bs : List (A × Subtree A h)). total (λ b. times_under A h n b.1) bs)
                     is' in
                     omega (arith, total-append (λ b. times_under A h n b.1) left ((x, u) ∷ rest));
                 left_id = refl;
@@ -281,9 +281,9 @@ module _ (A : Type 0) where
             }
 
   module _ (node_at new : NodeMap A) (i j : ℕ) (x : A) where
-    adopts-used : (cs : List ℕ) → AdoptsBeside node_at new i j cs → (n : ℕ) → n ≢ i → n ≢ j
+    reparents-used : (cs : List ℕ) → AdoptsBeside node_at new i j cs → (n : ℕ) → n ≢ i → n ≢ j
         → times_used (new n) ≡ times_used (node_at n)
-    adopts-used cs ad n ni nj =
+    reparents-used cs ad n ni nj =
         elim (zero-or (times_listed n cs)) [
           | inl z ↦ ap times_used (ad.kept n ni nj z)
           | inr m ↦ ap times_used (ad.moved n ni nj m) ∙ used-mapped (with_parent (Some j)) (node_at n)
@@ -301,19 +301,19 @@ module _ (A : Type 0) where
           | inl e ↦ rw (e, s.5, hi) refl
           | inr ni ↦ elim (same-or n j) [
             | inl e ↦ rw (e, s.6, hj) refl
-            | inr nj ↦ adopts-used
+            | inr nj ↦ reparents-used
                 (child_ids s.1 s.2) s.7 n ni nj
           ]
         ]
 
   -- what a split of the node at the hole leaves
-  pub record Parted (node_at mid : NodeMap A) (h : ℕ) (p : Option ℕ) (t : Shape A h) (j : ℕ) (x : A) : Type 0 where
+  pub record Parted (node_at mid : NodeMap A) (h : ℕ) (p : Option ℕ) (t : Subtree A h) (j : ℕ) (x : A) : Type 0 where
     pub cut : Cut node_at mid h p t j x
     pub kept : (n : ℕ) → times_under A h n t ≡ 0 → n ≢ j → mid n ≡ node_at n
     pub as_used : (n : ℕ) → times_used (mid n) ≡ times_used (node_at n)
 
   module _ (node_at mid : NodeMap A) (spare : List ℕ) (root : ℕ) (xs : List A) where
-    pub parted : (h : ℕ) (c : Path A h) (t : Shape A h) (j : ℕ) (x : A) → IsFocus A node_at (j ∷ spare) root xs h c t
+    pub parted : (h : ℕ) (c : Path A h) (t : Subtree A h) (j : ℕ) (x : A) → IsFocus A node_at (j ∷ spare) root xs h c t
         → count_at A h t ≡ suc (most_at h)
         → IsSplitOf node_at mid (id_of A h t) j x (view_at A h (parent_above c) t)
         → Parted node_at mid h (parent_above c) t j x
@@ -336,11 +336,11 @@ module _ (A : Type 0) where
       where
         not-child : (m : ℕ) → times_under A (suc h) m t ≡ 0 → times_listed m (child_ids s.1 s.2) ≡ 0
         not-child m z =
-            let e : map (λ (b : A × ℕ). b.1) (map (λ (b : A × Shape A h). (b.0, id_of A h b.1)) t.2) ≡ map
+            let e : map (λ (b : A × ℕ). b.1) (map (λ (b : A × Subtree A h). (b.0, id_of A h b.1)) t.2) ≡ map
             (λ (b : A × ℕ). b.1) s.0 ++ s.1 ∷ map (λ (b : A × ℕ). b.1) s.2 =
             ap (map (λ (b : A × ℕ). b.1)) s.3 ∙ map-append (λ (b : A × ℕ). b.1) s.0 ((x, s.1) ∷ s.2) in
             let k : times_listed m
-            (map (λ (b : A × ℕ). b.1) (map (λ (b : A × Shape A h). (b.0, id_of A h b.1)) t.2)) ≡ times_listed m
+            (map (λ (b : A × ℕ). b.1) (map (λ (b : A × Subtree A h). (b.0, id_of A h b.1)) t.2)) ≡ times_listed m
             (map (λ (b : A × ℕ). b.1) s.0 ++ s.1 ∷ map (λ (b : A × ℕ). b.1) s.2) =
             ap (times_listed m) e in
             omega (

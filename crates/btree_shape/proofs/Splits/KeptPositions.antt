@@ -4,19 +4,19 @@ use Rattle.std.proofs.lemmas.Grind.{flat_map-append}
 use Rattle.btree_item.specs.declared.address.Address.{Address}
 use Rattle.btree_shape.specs.Moved.{moved_by_split}
 use Rattle.btree_shape.specs.Lists.{one, total}
-use Rattle.btree_shape.specs.Focus.Shape.{Shape, count_at, id_of, items_under, later_items, times_under}
+use Rattle.btree_shape.specs.Focus.Subtree.{Subtree, count_at, id_of, items_under, later_items, times_under}
 use Rattle.btree_shape.specs.Focus.Positions.{KeepsPositions, Position, branch_key, branch_positions, address_before, mark, over, passed, address_at, positions_from, positions, positions_after, positions_before, path_after, path_before, all_positions}
-use Rattle.btree_shape.specs.Focus.Path.{Path, Frame, fill, fill_two, frame_id, frame_index, times_above, times_beside, top}
+use Rattle.btree_shape.specs.Focus.Path.{Path, Frame, fill, fill_two, frame_id, frame_index, times_above, times_in_siblings, top}
 use Rattle.btree_shape.proofs.Paths.Frames.{one-zero}
 use Rattle.btree_shape.proofs.Splits.NodeAddresses.{Apart, ids-apart, split-local, split-parent, split-stays}
-use Rattle.btree_shape.proofs.Places.Untouched.{if-less, if-not-less, pair_tour, step-carries, positions-fill, positions-fill_two}
-use Rattle.btree_shape.proofs.Splits.Halves.{join, times-top}
-use Rattle.btree_shape.proofs.Places.Lists.{carry-more, in-left, passed-append, passed-positions_from}
+use Rattle.btree_shape.proofs.Places.Untouched.{if-less, if-not-less, pair_positions, step-keeps, positions-fill, positions-fill_two}
+use Rattle.btree_shape.proofs.Splits.TwoParts.{join, times-top}
+use Rattle.btree_shape.proofs.Places.Lists.{keep-more, in-left, passed-append, passed-positions_from}
 
 module _ (A : Type 0) where
   -- the positions pass the tree's items
-  pub node_positions-passed : (h : ℕ) (below : (t : Shape A h) → passed (positions A h t) ≡ length (items_under A h t))
-      (bs : List (A × Shape A h))
+  pub node_positions-passed : (h : ℕ) (below : (t : Subtree A h) → passed (positions A h t) ≡ length (items_under A h t))
+      (bs : List (A × Subtree A h))
       → total (λ b. suc (passed (positions A h b.1))) bs ≡ length (later_items A h bs)
   node_positions-passed h below [] = refl
   node_positions-passed h below (b ∷ bs) = omega (
@@ -31,7 +31,7 @@ module _ (A : Type 0) where
   singles [] = refl
   singles (x ∷ xs) = omega (arith, singles xs)
 
-  pub positions-passed : (h : ℕ) (t : Shape A h) → passed (positions A h t) ≡ length (items_under A h t)
+  pub positions-passed : (h : ℕ) (t : Subtree A h) → passed (positions A h t) ≡ length (items_under A h t)
   positions-passed zero t = passed-positions_from {A = A} {X = A} (λ x. x) (λ x. []) t.0 0 t.1 ∙ singles t.1
   positions-passed (suc h) t =
       omega (
@@ -43,13 +43,13 @@ module _ (A : Type 0) where
         length-append (items_under A h t.1) (later_items A h t.2),
       )
 
-  pub join-items : (h : ℕ) (a : Shape A h) (x : A) (b : Shape A h)
+  pub join-items : (h : ℕ) (a : Subtree A h) (x : A) (b : Subtree A h)
       → items_under A h (join A h a x b) ≡ items_under A h a ++ x ∷ items_under A h b
   join-items zero a x b = refl
   join-items (suc h) a x b = simp (flat_map-append, append_assoc)
 
-  pub pair-passed : (h : ℕ) (f : Frame A h) (a : Shape A h) (x : A) (b : Shape A h)
-      → passed (pair_tour A h f a x b) ≡ passed (positions A h (join A h a x b))
+  pub pair-passed : (h : ℕ) (f : Frame A h) (a : Subtree A h) (x : A) (b : Subtree A h)
+      → passed (pair_positions A h f a x b) ≡ passed (positions A h (join A h a x b))
   pair-passed h f a x b =
       let e : length (items_under A h (join A h a x b)) ≡ length (items_under A h a ++ x ∷ items_under A h b) =
       ap length (join-items h a x b) in
@@ -63,18 +63,18 @@ module _ (A : Type 0) where
       )
 
   -- two adjacent siblings in their tree, whose nodes are different
-  pub record Alone (h : ℕ) (f : Frame A h) (c : Path A (suc h)) (a b : Shape A h) : Type 0 where
+  pub record Alone (h : ℕ) (f : Frame A h) (c : Path A (suc h)) (a b : Subtree A h) : Type 0 where
     pub sum : (n : ℕ)
-        → times_above n c + (one n (frame_id f) + times_beside n f + (times_under A h n a + times_under A h n b)) ≤ 1
+        → times_above n c + (one n (frame_id f) + times_in_siblings n f + (times_under A h n a + times_under A h n b)) ≤ 1
 
-  module _ (h : ℕ) (f : Frame A h) (c : Path A (suc h)) (a : Shape A h) (x : A) (b : Shape A h)
+  module _ (h : ℕ) (f : Frame A h) (c : Path A (suc h)) (a : Subtree A h) (x : A) (b : Subtree A h)
       (o : Alone h f c a b) where
     pub near : Apart A h (frame_id f) a b
     near = record { sum = λ n. let q = o.sum n in omega arith }
 
     pub elsewhere : (g : Address → Address)
         → ((v : Address) → v.id ≢ id_of A h a → v.id ≢ id_of A h b → v.id ≢ frame_id f → g v ≡ v)
-        → (v : Address) → 0 < times_beside v.id f + times_above v.id c → g v ≡ v
+        → (v : Address) → 0 < times_in_siblings v.id f + times_above v.id c → g v ≡ v
     elsewhere g stays v m =
         let q = o.sum v.id in let ta = times-top A h v.id a in let tb = times-top A h v.id b in
         stays v (one-zero v.id (id_of A h a) (omega arith)) (one-zero v.id (id_of A h b) (omega arith))
@@ -95,9 +95,9 @@ module _ (A : Type 0) where
         subst (λ z. KeepsPositions g (all_positions A (suc h) c (fill f (join A h a x b)))
         (path_before A c ++ (z ++ path_after A c))) (sym (positions-fill_two A h f a x b))
         (subst (λ z. KeepsPositions g (path_before A c ++ (z ++ path_after A c))
-        (path_before A c ++ ((positions_before A f ++ (pair_tour A h f a x b ++ positions_after A f (suc S))) ++ path_after A
+        (path_before A c ++ ((positions_before A f ++ (pair_positions A h f a x b ++ positions_after A f (suc S))) ++ path_after A
         c))) (sym (positions-fill A h f (join A h a x b)))
-        (step-carries A g h f c (positions A h (join A h a x b)) (pair_tour A h f a x b) S (suc S)
+        (step-keeps A g h f c (positions A h (join A h a x b)) (pair_positions A h f a x b) S (suc S)
         (split-local A h P S a x b near) (sym (pair-passed h f a x b))
         (elsewhere g (λ v ni nj np. split-stays i j P S n d.1 v ni np))
         (split-parent i j P S n d.1 None)
@@ -107,7 +107,7 @@ module _ (A : Type 0) where
         (let q : S + m + 1 ≡ suc S + m = omega arith in q)))))
 
   -- a split of the root, under a new root r
-  pub split-root-places : (h r : ℕ) (a : Shape A h) (x : A) (b : Shape A h)
+  pub split-root-places : (h r : ℕ) (a : Subtree A h) (x : A) (b : Subtree A h)
       → ((m : ℕ) → one m r + (times_under A h m a + times_under A h m b) ≤ 1)
       → KeepsPositions (moved_by_split (id_of A h a) (id_of A h b) r 0 (count_at A h a)) (all_positions A h top (join A h a x b))
       (all_positions A (suc h) top (r, a, (x, b) ∷ []))
@@ -123,4 +123,4 @@ module _ (A : Type 0) where
       (subst (λ z. KeepsPositions g J z) (sym (append-nil (positions A (suc h) (r, a, (x, b) ∷ []))))
       (subst (λ z. KeepsPositions g J (mark (address_before r) None ∷ z))
       (append_assoc (positions A h a) (mark (address_at r 0) (Some x) ∷ over ∷ positions A h b) end)
-      (carry-more g (address_before r) None J new (λ o v u i. in-left o (g v) mid end u (local o v u i)))))
+      (keep-more g (address_before r) None J new (λ o v u i. in-left o (g v) mid end u (local o v u i)))))

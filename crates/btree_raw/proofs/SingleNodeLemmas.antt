@@ -108,8 +108,8 @@ module _ {K V : Type 0} (nodes : Content (Node K V)) (id : ℕ) (node : Node K V
     small : index < 2 ^ 64 - 1
     small = omega (arith, can.within, can.most, most-few can.node)
 
-    pub asks-between : (o : Option ℕ) → o ≡ index_offset index → IsTrue (is_internal (view_of node)) × IsSomeAnd o (λ i. i < size_of (view_of node))
-    asks-between o e = rw (same, index-is index o small e) (can.inner, can.within)
+    pub expects-between : (o : Option ℕ) → o ≡ index_offset index → IsTrue (is_internal (view_of node)) × IsSomeAnd o (λ i. i < size_of (view_of node))
+    expects-between o e = rw (same, index-is index o small e) (can.inner, can.within)
 
     pub next-small : index + 1 ≤ 2 ^ 64 - 1
     next-small = omega (arith, small)
@@ -178,14 +178,14 @@ module _ {K V : Type 0} (old new : Content (Node K V)) (id : ℕ) where
   }
 
 module _ {A : Type 0} (node_at new : NodeMap A) (parent : ℕ) where
-  pub adopts-one : (child : Option ℕ) (id : ℕ) → child ≡ Some id → SetsParent node_at new id parent → Reparents node_at new parent (as_list child)
-  adopts-one child id e s = rw e (record {
+  pub reparents-one : (child : Option ℕ) (id : ℕ) → child ≡ Some id → SetsParent node_at new id parent → Reparents node_at new parent (as_list child)
+  reparents-one child id e s = rw e (record {
     moved = λ n m. elim (same-or n id) [ inl eq ↦ rw eq s.here | inr ne ↦ absurd (let o = one-other n id ne in omega arith) ];
     kept = λ n z. s.others n (λ eq. absurd (let o = one-self id in let q = ap (λ k. one k id) eq in omega arith));
   })
 
-pub adopts-no : {A : Type 0} (node_at : NodeMap A) (parent : ℕ) (child : Option ℕ) → child ≡ None → Reparents node_at node_at parent (as_list child)
-adopts-no node_at parent child e = rw e (record { moved = λ n m. absurd (omega arith); kept = λ n z. refl })
+pub reparents-no : {A : Type 0} (node_at : NodeMap A) (parent : ℕ) (child : Option ℕ) → child ≡ None → Reparents node_at node_at parent (as_list child)
+reparents-no node_at parent child e = rw e (record { moved = λ n m. absurd (omega arith); kept = λ n z. refl })
 
 -- shrinking the root
 module _ {A : Type 0} (node_at one_look : NodeMap A) (root child : ℕ) (can : CanShrinkRoot node_at root child) (a : RemovesNode node_at one_look root) where
@@ -197,7 +197,7 @@ module _ {A : Type 0} (node_at one_look : NodeMap A) (root child : ℕ) (can : C
     node = can.node;
     at_root = can.here;
     only = can.only;
-    gone = b.others root (λ e. can.apart (sym e)) ∙ a.here;
+    removed = b.others root (λ e. can.apart (sym e)) ∙ a.here;
     new_child = b.here ∙ ap (option_map (with_parent None)) (a.others child can.apart);
     kept = λ n r c. b.others n c ∙ a.others n r;
   }

@@ -10,20 +10,20 @@ use Rattle.btree_node.specs.Node.{view_of}
 use Rattle.btree_node.specs.declared.node.Node.{Node}
 use Rattle.btree_view.specs.View.{NodeMap, View}
 use Rattle.btree_shape.specs.Lists.{times_listed}
-use Rattle.btree_shape.specs.Focus.Shape.{times_under}
+use Rattle.btree_shape.specs.Focus.Subtree.{times_under}
 use Rattle.btree_shape.specs.Represents.{Represents, numbers_under, represented}
 use Rattle.btree_shape.specs.TreeState.{views}
 use Rattle.btree_shape.specs.WellFormed.{IsOffByOne, times_used}
-use Rattle.btree_shape.proofs.Trees.Numbers.{less-or, numbers-shape, used-mapped, used-one}
+use Rattle.btree_shape.proofs.Trees.Numbers.{less-or, numbers-subtree, used-mapped, used-one}
 use Rattle.btree_shape.proofs.LookUp.KeyInList.{Rises, rises}
 use Rattle.btree_shape.proofs.Trees.Represented.{represented-is}
-use Rattle.btree_shape.proofs.Trees.Shapes.{shape-of}
+use Rattle.btree_shape.proofs.Trees.Subtrees.{subtree-of}
 use Rattle.btree_shape.proofs.Trees.Stores.{len-views}
-use Rattle.btree_valid.specs.OffByOne.{CanPassUnder, IsOffAmong, IsOffAt, IsOffAtSomeHeight, PassesUnder}
+use Rattle.btree_valid.specs.OffByOne.{CanPassUnder, IsOffByOneAmong, IsOffAt, IsOffByOneAtSomeHeight, PassesUnder}
 use Rattle.btree_valid.proofs.OnceLemmas.{all-used, few}
 use Rattle.btree_valid.proofs.OrderLemmas.{passed-none}
 
-module _ {K V : Type 0} (cmp : K → K → Ordering) (nodes : Content (Node K V)) (root odd height : ℕ) where
+module _ {K V : Type 0} (cmp : K → K → Ordering) (nodes : Content (Node K V)) (root exempt height : ℕ) where
   abbrev node_at : NodeMap (K × V)
   node_at = views nodes
 
@@ -33,22 +33,22 @@ module _ {K V : Type 0} (cmp : K → K → Ordering) (nodes : Content (Node K V)
   abbrev pairs : List (K × V)
   pairs = represented node_at (suc height) root
 
-  module _ (laws : IsTotalOrder cmp) (last : Option K) (left : ℕ) (p : PassesUnder cmp node_at root odd height None root (map.len nodes) None left last) (none : left ≡ 0) where
+  module _ (laws : IsTotalOrder cmp) (last : Option K) (left : ℕ) (p : PassesUnder cmp node_at root exempt height None root (map.len nodes) None left last) (none : left ≡ 0) where
     each-once : (n : ℕ) → times_listed n ids ≡ times_used (node_at n)
     each-once n =
-        let s = shape-of (K × V) node_at height None root pairs p.right in
-        let same : (m : ℕ) → times_listed m ids ≡ times_under (K × V) height m s.shape =
-        λ m. subst (λ i. times_listed m (numbers_under node_at height i) ≡ times_under (K × V) height m s.shape) s.here (numbers-shape (K × V) node_at m height None s.shape s.holds) in
+        let s = subtree-of (K × V) node_at height None root pairs p.right in
+        let same : (m : ℕ) → times_listed m ids ≡ times_under (K × V) height m s.subtree =
+        λ m. subst (λ i. times_listed m (numbers_under node_at height i) ≡ times_under (K × V) height m s.subtree) s.here (numbers-subtree (K × V) node_at m height None s.subtree s.holds) in
         let order = p.order [] (passed-none cmp) in
         let up = rises cmp pairs order.ascends in
-        let low = few cmp laws node_at root odd height s.shape s.here s.holds (subst (λ l. Rises cmp l) (sym s.list) up)
+        let low = few cmp laws node_at root exempt height s.subtree s.here s.holds (subst (λ l. Rises cmp l) (sym s.list) up)
         (λ m v some at. p.sized m v (let q = same m in omega arith) at) in
         let paid = p.paid in
         let all = all-used ids nodes (λ m. let q = same m in let l = low m in let z = used-mapped view_of (map.get nodes m) in omega arith) (omega arith) n in
         all ∙ sym (used-mapped view_of (map.get nodes n))
 
     -- all nodes were passed
-    pub off-found : IsOffAt cmp node_at root odd height
+    pub off-found : IsOffAt cmp node_at root exempt height
     off-found = (
       pairs,
       (p.order [] (passed-none cmp)).ascends,
@@ -61,7 +61,7 @@ module _ {K V : Type 0} (cmp : K → K → Ordering) (nodes : Content (Node K V)
       refl,
     )
 
-  module _ (off : IsOffAt cmp node_at root odd height) where
+  module _ (off : IsOffAt cmp node_at root exempt height) where
     represented-pairs : pairs ≡ off.0
     represented-pairs = let r = off.2 in represented-is node_at height (suc height) None root off.0 (omega arith) (subst (λ h. Represents node_at h None root off.0) off.3 r.represents)
 
@@ -77,7 +77,7 @@ module _ {K V : Type 0} (cmp : K → K → Ordering) (nodes : Content (Node K V)
     used-here (Some v) some = (v, refl)
 
     -- such a tree can be passed from its root
-    pub off-can : CanPassUnder cmp node_at root odd height None root (map.len nodes) None
+    pub off-can : CanPassUnder cmp node_at root exempt height None root (map.len nodes) None
     off-can = record {
       right = subst (λ l. Represents node_at height None root l) (sym represented-pairs) (subst (λ h. Represents node_at h None root off.0) off.3 off.2.represents);
       sized = λ n node some at. off.2.sized n node at;
@@ -86,32 +86,32 @@ module _ {K V : Type 0} (cmp : K → K → Ordering) (nodes : Content (Node K V)
     }
 
     -- and no node is left
-    pub none-left : (last : Option K) (left : ℕ) → PassesUnder cmp node_at root odd height None root (map.len nodes) None left last → left ≡ 0
+    pub none-left : (last : Option K) (left : ℕ) → PassesUnder cmp node_at root exempt height None root (map.len nodes) None left last → left ≡ 0
     none-left last left p = let e = all-counted in let q = p.paid in omega arith
 
-module _ {K V : Type 0} (cmp : K → K → Ordering) (nodes : Content (Node K V)) (root odd height : ℕ) where
+module _ {K V : Type 0} (cmp : K → K → Ordering) (nodes : Content (Node K V)) (root exempt height : ℕ) where
   -- the end of the walk
-  pub at-end : IsTotalOrder cmp → (count : ℕ) → count ≡ map.len nodes → (last : Option K) (left : ℕ) → PassesUnder cmp (views nodes) root odd height None root count None left last
-      → (IsTrue (eqb left 0) → IsOffAt cmp (views nodes) root odd height) × (IsOffAt cmp (views nodes) root odd height → IsTrue (eqb left 0))
+  pub at-end : IsTotalOrder cmp → (count : ℕ) → count ≡ map.len nodes → (last : Option K) (left : ℕ) → PassesUnder cmp (views nodes) root exempt height None root count None left last
+      → (IsTrue (eqb left 0) → IsOffAt cmp (views nodes) root exempt height) × (IsOffAt cmp (views nodes) root exempt height → IsTrue (eqb left 0))
   at-end laws count is last left p =
-      let q = subst (λ n. PassesUnder cmp (views nodes) root odd height None root n None left last) is p in (
-        λ yes. off-found cmp nodes root odd height laws last left q (grind (arith, nat_tests)),
-        λ off. let none = none-left cmp nodes root odd height off last left q in grind (arith, nat_tests),
+      let q = subst (λ n. PassesUnder cmp (views nodes) root exempt height None root n None left last) is p in (
+        λ yes. off-found cmp nodes root exempt height laws last left q (grind (arith, nat_tests)),
+        λ off. let none = none-left cmp nodes root exempt height off last left q in grind (arith, nat_tests),
       )
 
-  pub not-passed : (count : ℕ) → count ≡ map.len nodes → (CanPassUnder cmp (views nodes) root odd height None root count None → IsTrue false)
-      → (IsTrue false → IsOffAt cmp (views nodes) root odd height) × (IsOffAt cmp (views nodes) root odd height → IsTrue false)
+  pub not-passed : (count : ℕ) → count ≡ map.len nodes → (CanPassUnder cmp (views nodes) root exempt height None root count None → IsTrue false)
+      → (IsTrue false → IsOffAt cmp (views nodes) root exempt height) × (IsOffAt cmp (views nodes) root exempt height → IsTrue false)
   not-passed count is not = (
     λ no. absurd (cc),
-    λ off. not (subst (λ n. CanPassUnder cmp (views nodes) root odd height None root n None) (sym is) (off-can cmp nodes root odd height off)),
+    λ off. not (subst (λ n. CanPassUnder cmp (views nodes) root exempt height None root n None) (sym is) (off-can cmp nodes root exempt height off)),
   )
 
-module _ {K V : Type 0} (cmp : K → K → Ordering) (node_at : NodeMap (K × V)) (root odd : ℕ) where
+module _ {K V : Type 0} (cmp : K → K → Ordering) (node_at : NodeMap (K × V)) (root exempt : ℕ) where
   -- off by one, at one of 32 heights
-  pub is-off : (height : ℕ) → height < 32 → IsOffAt cmp node_at root odd height → IsSome (node_at odd) → (xs : List (K × V)) × IsOffByOne cmp node_at root odd xs
+  pub is-off : (height : ℕ) → height < 32 → IsOffAt cmp node_at root exempt height → IsSome (node_at exempt) → (xs : List (K × V)) × IsOffByOne cmp node_at root exempt xs
   is-off height low off used = (off.0, record { ascends = off.1; rooted = off.2; low = let e = off.3 in omega arith; used = used })
 
-  pub off-is : (xs : List (K × V)) → IsOffByOne cmp node_at root odd xs → (height : ℕ) × (height < 32) × IsOffAt cmp node_at root odd height
+  pub off-is : (xs : List (K × V)) → IsOffByOne cmp node_at root exempt xs → (height : ℕ) × (height < 32) × IsOffAt cmp node_at root exempt height
   off-is xs w = (w.rooted.height, w.low, (xs, w.ascends, w.rooted, refl))
 
 pub next-height : (P : ℕ → Type 0) (n : ℕ) → ((h : ℕ) → h < n → P h → ⊥) → (P n → IsTrue false) → (h : ℕ) → h < n + 1 → P h → ⊥
@@ -137,15 +137,15 @@ module _ {K V : Type 0} (cmp : K → K → Ordering) (nodes : Content (Node K V)
 
   -- it is off by one there, at one of the heights that such a tree may have
   pub found-off : (root : ℕ) (result : Bool) → IsSome (map.get nodes id)
-      → (IsTrue result → IsOffAtSomeHeight cmp nodes root id)
-      → (IsOffAtSomeHeight cmp nodes root id → IsTrue result)
-      → (IsTrue result → IsOffAmong cmp nodes root id) × (IsOffAmong cmp nodes root id → IsTrue result)
+      → (IsTrue result → IsOffByOneAtSomeHeight cmp nodes root id)
+      → (IsOffByOneAtSomeHeight cmp nodes root id → IsTrue result)
+      → (IsTrue result → IsOffByOneAmong cmp nodes root id) × (IsOffByOneAmong cmp nodes root id → IsTrue result)
   found-off root result there only always = (
     λ yes. let h = only yes in is-off cmp (views nodes) root id h.0 h.1 h.2 (is-there (map.get nodes id) there),
     λ off. always (off-is cmp (views nodes) root id off.0 off.1),
   )
 
-  pub not-there : (root : ℕ) → map.get nodes id ≡ None → (IsTrue false → IsOffAmong cmp nodes root id) × (IsOffAmong cmp nodes root id → IsTrue false)
+  pub not-there : (root : ℕ) → map.get nodes id ≡ None → (IsTrue false → IsOffByOneAmong cmp nodes root id) × (IsOffByOneAmong cmp nodes root id → IsTrue false)
   not-there root none = (
     λ no. absurd (cc),
     λ off. let Holds : Option (Node K V) → Type 0 = λ o. IsSome o in let some : Holds None = subst Holds none (off-there root off.0 off.1) in absurd (cc),

@@ -12,7 +12,7 @@ use Rattle.btree_shape.proofs.Trees.Numbers.{listed-append, same-node, used-same
 use Rattle.btree_shape.proofs.Underflow.Calls.{left-written, merge-written, right-written}
 use Rattle.btree_raw.specs.NodeSteps.{AreSiblings, MergesSiblings, CanMerge, CanRotateLeft, CanRotateRight, ChangesSeparator, GainsAll, GainsFirst, GainsLast, HasSeparator, HasRoomFor, HasRoomForAll, RotatesSiblingsLeft, RotatesSiblingsRight, LosesSeparator, LosesFirst, LosesLast}
 use Rattle.btree_raw.specs.Steps.{CanReparent}
-use Rattle.btree_raw.proofs.RotateLemmas.{kind-left, kind-right, remade-joined, remade-left, remade-other, remade-right, remade-without}
+use Rattle.btree_raw.proofs.SingleNodeLemmas.{kind-left, kind-right, remade-joined, remade-left, remade-other, remade-right, remade-without}
 
 one-child : (child : Option ℕ) (P : ℕ → Type 0) → ((n : ℕ) → 0 < times_listed n (as_list child) → P n) → IfSome child P
 one-child None P all = tt
@@ -73,8 +73,8 @@ module _ {A : Type 0} (node_at : NodeMap A) (siblings : Siblings) (can : CanRota
         left-child = child-there node_at siblings can.pair child listed-left three
             (λ n np nl nr. c.writes_node.others n nl ∙ (b.writes_node.others n np ∙ a.writes_node.others n nr))
 
-        pub turns-left : (new : NodeMap A) → Reparents three new siblings.left (as_list child) → RotatesSiblingsLeft node_at new siblings
-        turns-left new d = record {
+        pub rotates-left : (new : NodeMap A) → Reparents three new siblings.left (as_list child) → RotatesSiblingsLeft node_at new siblings
+        rotates-left new d = record {
           top = can.pair.top;
           low = can.pair.low;
           high = can.pair.high;
@@ -134,8 +134,8 @@ module _ {A : Type 0} (node_at : NodeMap A) (siblings : Siblings) (can : CanRota
         right-child = child-there node_at siblings can.pair child listed-right three
             (λ n np nl nr. c.writes_node.others n nr ∙ (b.writes_node.others n np ∙ a.writes_node.others n nl))
 
-        pub turns-right : (new : NodeMap A) → Reparents three new siblings.right (as_list child) → RotatesSiblingsRight node_at new siblings
-        turns-right new d = record {
+        pub rotates-right : (new : NodeMap A) → Reparents three new siblings.right (as_list child) → RotatesSiblingsRight node_at new siblings
+        rotates-right new d = record {
           top = can.pair.top;
           low = can.pair.low;
           high = can.pair.high;
@@ -201,8 +201,8 @@ module _ {A : Type 0} (node_at : NodeMap A) (siblings : Siblings) (can : CanMerg
         children-both : children_in (three siblings.left) ≡ both
         children-both = ap children_in writes_node-both.here ∙ remade-both.children_are
 
-        pub adopts-both : CanReparent three siblings.left
-        adopts-both = record {
+        pub reparents-both : CanReparent three siblings.left
+        reparents-both = record {
           used = used-there three siblings.left (joined can.pair.low down can.pair.high) writes_node-both.here;
           children = λ n m.
               let e = ap (times_listed n) children-both in
