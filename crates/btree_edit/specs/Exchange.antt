@@ -7,7 +7,7 @@ use Rattle.btree_shape.specs.TreeState.{TreeState, IsBTree, IsPlaceIn, IsValidIn
 
 module _ {K V : Type 0} (old new : TreeState K V) (a : Address) where
   -- every address stays valid, at the same place, and with the same item or again with none; only at address `a`
-  -- another item may stand
+  -- there may be another item
   pub record KeepsAddresses : Type 0 where
     pub root : new.root ≡ old.root
     pub len : new.len ≡ old.len

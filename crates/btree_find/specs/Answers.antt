@@ -6,7 +6,7 @@ use Rattle.btree_item.specs.declared.address.Address.{Address}
 use Rattle.btree_shape.specs.TreeState.{TreeState, IsLeafAddressIn, IsOccupiedIn, IsPlaceIn, IsValidIn, pairs_of}
 
 module _ {K V : Type 0} (cmp : K → K → Ordering) (k : K) (s : TreeState K V) where
-  -- an address at which the item with the key stands
+  -- an address at which the item with the key is
   pub record IsFoundAt (a : Address) : Type 0 where
     pub valid : IsValidIn s a
     pub place : ℕ

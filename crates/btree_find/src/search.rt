@@ -77,6 +77,7 @@ pub fn height<K: Ord, V, C: NodesMut<K, V>>(tree: &RawBTree<K, V, C>) -> usize
     ensures few { result ≤ MAX_LEVELS }
     ensures dense { IsDense tree.now result }
 {
+    // For the prover: the length is a `usize`, so there are at most `MAX_LEVELS` levels.
     let _len = tree.len();
     let Some(root) = tree.root_id() else {
         return 0;

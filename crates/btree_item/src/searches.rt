@@ -3,10 +3,10 @@ ghost use Rattle.std.specs.Prelude.{◌≡◌, ◌<◌, ◌≤◌, Some, IfNone,
 ghost use Rattle.std.specs.List.Sorted.{IsSearchInRange, IsSorted, IsStrictlySortedBy};
 ghost use Rattle.btree_item.specs.Keys.{key_place, AllAbove, AllBelow, IsFirstNotBelow, IsLastAtMost, IsNotBelowAt};
 
-use crate::{Keyed, Slots};
+use crate::{Keyed, LEAF_SLOTS, Slots};
 
-// The index at which a search divides the slots: the middle of nine.
-const MIDDLE: usize = 4;
+// The index at which a search divides the slots: the middle of a full leaf with one item too many.
+const MIDDLE: usize = LEAF_SLOTS / 2;
 
 fn key_at<T: Keyed, const N: usize>(slots: &Slots<T, N>, index: usize) -> &T::Key
     requires { index < length slots.now }

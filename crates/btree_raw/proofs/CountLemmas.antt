@@ -5,7 +5,8 @@ use Rattle.btree_store.specs.Content.{Content}
 use Rattle.btree_node.specs.declared.node.Node.{Node}
 use Rattle.btree_node.specs.Node.{view_of}
 use Rattle.btree_view.specs.View.{most_of, parent_of, size_of}
-use Rattle.btree_shape.specs.Need.{IsCountingUpward, split_need, levels_above}
+use Rattle.btree_shape.specs.Focus.Need.{IsCountingUpward}
+use Rattle.btree_shape.specs.Need.{split_need, levels_above}
 use Rattle.btree_shape.specs.TreeState.{views}
 use Rattle.btree_shape.proofs.Splits.Need.{upward-done, upward-root, upward-up, upward-used}
 use Rattle.btree_shape.proofs.Trees.Stores.{used-view}

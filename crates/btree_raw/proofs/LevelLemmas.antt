@@ -3,7 +3,7 @@ use Rattle.std.proofs.Common.{◌+◌, ◌≤◌, if◌then◌else◌, Bool, tru
 use Rattle.std.specs.Prelude.{nat_lt}
 use Rattle.std.specs.declared.cmp.Ordering.{Ordering}
 use Rattle.btree_view.specs.View.{NodeMap}
-use Rattle.btree_shape.specs.Need.{IsCountingUpward, path_need}
+use Rattle.btree_shape.specs.Focus.Need.{IsCountingUpward, path_need}
 use Rattle.btree_shape.specs.Focus.Subtree.{count_at, most_at}
 use Rattle.btree_shape.specs.WellFormed.{IsNearlySized, IsOffByOne}
 use Rattle.btree_shape.proofs.Paths.Levels.{levels-rooted}

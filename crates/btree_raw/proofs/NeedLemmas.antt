@@ -6,7 +6,8 @@ use Rattle.std.specs.declared.cmp.Ordering.{Ordering}
 use Rattle.btree_node.specs.declared.node.Node.{Node}
 use Rattle.btree_node.specs.Node.{view_of}
 use Rattle.btree_view.specs.View.{NodeMap, most_of, size_of}
-use Rattle.btree_shape.specs.Need.{IsCountingUpward, split_need, path_need_from, need, path_need}
+use Rattle.btree_shape.specs.Focus.Need.{IsCountingUpward, path_need_from, path_need}
+use Rattle.btree_shape.specs.Need.{split_need, need}
 use Rattle.btree_shape.specs.Focus.Node.{IsNode}
 use Rattle.btree_shape.specs.Focus.Subtree.{IsFilled, IsFilledBelow, Subtree, count_at, items_under, later_items, most_at}
 use Rattle.btree_shape.specs.TreeState.{TreeState, IsBTree, IsUsed, node_map, nodes_for_splits, nodes_needed, pairs_of}

@@ -14,7 +14,8 @@ use Rattle.btree_shape.specs.Need.{split_need}
 use Rattle.btree_shape.specs.Focus.TreePositions.{IsAddressed}
 use Rattle.btree_shape.specs.Place.{IsEnd, IsPlace, IsPlaceOf, IsValid}
 use Rattle.btree_shape.specs.Lists.{times_listed}
-use Rattle.btree_shape.specs.Focus.Underflow.{MayUnderflowAt, debt_of}
+use Rattle.btree_shape.specs.Focus.Underflow.{MayUnderflowAt}
+use Rattle.btree_shape.specs.Strain.{debt_of}
 use Rattle.btree_shape.specs.Represents.{Represents, numbers_under}
 use Rattle.btree_shape.specs.Step.{Claims}
 use Rattle.btree_shape.specs.Strain.{IsStrain, strain_under}
@@ -165,7 +166,7 @@ module _ {K V : Type 0} (cmp : K → K → Ordering) (laws : IsTotalOrder cmp) (
         after = e.after;
         strain_before = subst (λ t. IsStrain node_at t strain) (sym o.at_root) (numbers, listed, refl);
         strain_after = e.strain;
-        taken = taken;
+        allocated = taken;
         freed = freed;
       }
 

@@ -9,7 +9,7 @@ use Rattle.btree_item.specs.declared.refused.Cause.TheVariants.{Store}
 use Rattle.btree_node.specs.declared.node.Node.{Node}
 use Rattle.btree_view.specs.View.{View, NodeMap, most_of, size_of}
 use Rattle.btree_shape.specs.UnderflowFix.{IsUnderflowFixed}
-use Rattle.btree_shape.specs.Focus.Underflow.{debt_of}
+use Rattle.btree_shape.specs.Strain.{debt_of}
 use Rattle.btree_shape.specs.TreeState.{TreeState, HasLevels, HasStrain, IsBTreeButLength, IsPlaceIn, IsValidIn, item_of, node_map, nodes_for_splits, pairs_of}
 use Rattle.btree_raw.specs.Claimed.{EMPTY, MayRefuseOneOf}
 use Rattle.btree_raw.specs.Raw.{Refuses}
@@ -22,7 +22,7 @@ pub record HasRoom {A : Type 0} (node_at : NodeMap A) (id : ℕ) : Type 0 where
   pub room : size_of node ≤ most_of node
 
 module _ {K V : Type 0} (old new : TreeState K V) (id : ℕ) where
-  -- the tree has gained exactly the nodes that the splits need; their number and the strain afterwards are together at
+  -- exactly the nodes that the splits need were allocated; their number and the strain afterwards are together at
   -- most the strain before
   pub record AllocatesForSplits (before after : ℕ) : Type 0 where
     pub more : map.len new.nodes ≡ map.len old.nodes + nodes_for_splits old id
@@ -37,7 +37,7 @@ module _ {K V : Type 0} (old new : TreeState K V) (id : ℕ) where
     pub within_strain : freed + after ≤ before + debt_of node
 
   -- the tree is well formed but for its length, with the same pairs; address a became b, at the same place, and at the
-  -- same item if one stood there; the nodes gained or freed are within the strain; and if node `id` does not overflow,
+  -- same item if there was one; the nodes allocated or freed are within the strain; and if node `id` does not overflow,
   -- the steps are those of `IsUnderflowFixed`, so that a tree in which it has enough items is unchanged
   pub record IsRebalanced (cmp : K → K → Ordering) (a b : Address) : Type 0 where
     pub well : IsBTreeButLength cmp new
@@ -53,7 +53,7 @@ module _ {K V : Type 0} (old new : TreeState K V) (id : ℕ) where
     pub after : ℕ
     pub strain_before : HasStrain old before
     pub strain_after : HasStrain new after
-    pub taken : Overflows (node_map old) id → AllocatesForSplits before after
+    pub allocated : Overflows (node_map old) id → AllocatesForSplits before after
     pub freed : (room : HasRoom (node_map old) id) → FreesNodes room.node before after
 
   -- the store refused a node, and the refusal was counted; this happens only if node `id` overflows and the store may

@@ -5,7 +5,8 @@ use Rattle.btree_item.specs.declared.address.Address.{Address}
 use Rattle.btree_view.specs.View.{View, NodeMap, size_of, most_of, children_in, children_of}
 use Rattle.btree_view.specs.Edits.{with_parent, with_item, is_internal, HasChildFor, IsOverflowing, IsSplit}
 use Rattle.btree_shape.specs.Focus.Overflow.{MayOverflowAt, IsRepaired}
-use Rattle.btree_shape.specs.Need.{IsCountingUpward, split_need}
+use Rattle.btree_shape.specs.Focus.Need.{IsCountingUpward}
+use Rattle.btree_shape.specs.Need.{split_need}
 use Rattle.btree_shape.specs.Lists.{times_listed}
 use Rattle.btree_shape.specs.Step.{Becomes, WritesNode}
 use Rattle.btree_shape.specs.TreeState.{TreeState, node_map}

@@ -14,8 +14,8 @@ use btree_nodes::{Nodes, NodesMut};
 use btree_valid::is_off_by_one;
 use std::marker::{Model, PhantomData};
 
-/// Nodes in a store, the number of a root, and a length, none of which need fit together: a tree in the middle of a change, or one from
-/// elsewhere. Contracts see it as a `TreeState`.
+/// Nodes in a store, the number of a root, and a length. They need not fit together: the tree may be in the middle of a change, or come
+/// from elsewhere. Contracts see it as a `TreeState`.
 #[derive(Drop)]
 pub struct RawBTree<K, V, C: NodesMut<K, V>> {
     store: C,
@@ -64,6 +64,7 @@ impl<K, V, C: NodesMut<K, V>> RawBTree<K, V, C> {
     pub fn tell_fits(&self)
         ensures { FitsInMemory (node_row K.row V.row) }
     {
+        // For the prover: this opens the invariant, which has the fact.
         let _ = &self.store;
         C::tell_fits();
     }

@@ -10,7 +10,7 @@ use std::fmt;
 pub enum Command {
     /// Insert a value at a key.
     Insert(u64, u64),
-    /// Look a key up.
+    /// Look up a key.
     Get(u64),
 }
 

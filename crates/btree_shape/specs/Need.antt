@@ -1,11 +1,7 @@
 -- How many nodes an insertion at a node uses, and how many levels are above a node, computed from the nodes as they
 -- are.
-use Rattle.std.specs.Prelude.{◌≡◌, ℕ, zero, suc, ◌+◌, ◌<◌, nat_lt, if◌then◌else◌, List, [], Option, Some, None}
-use Rattle.btree_item.specs.declared.TheConstants.{MAX_INTERNAL_ITEMS}
+use Rattle.std.specs.Prelude.{ℕ, zero, suc, nat_lt, if◌then◌else◌, Option, Some, None}
 use Rattle.btree_view.specs.View.{View, NodeMap, parent_of, size_of, most_of}
-use Rattle.btree_shape.specs.Focus.Subtree.{Subtree, most_at, count_at, id_of}
-use Rattle.btree_shape.specs.Focus.Path.{Path, top, under, frame_count, depth}
-use Rattle.btree_shape.specs.Focus.Focus.{IsUnsizedFocus}
 
 -- for a node that is split: one for its right part and what its parent needs, or two if it is the root
 abbrev pub need_of_split : (ℕ → ℕ) → (parent : Option ℕ) → ℕ
@@ -41,23 +37,3 @@ levels_over above (Some node) = levels_up above (parent_of node)
 abbrev pub levels_above : {A : Type 0} → NodeMap A → (most : ℕ) → (id : ℕ) → ℕ
 levels_above node_at zero id = 0
 levels_above node_at (suc most) id = levels_over (levels_above node_at most) (node_at id)
-
--- how many nodes the splits on the path above a node use: for a split at its end, and for an item put into a node of
--- `count` items there
-abbrev pub path_need : {A : Type 0} {height : ℕ} → Path A height → ℕ
-path_need top = 2
-path_need (under frame path) = suc (if nat_lt (frame_count frame) MAX_INTERNAL_ITEMS then 0 else path_need path)
-
-abbrev pub path_need_from : {A : Type 0} {height : ℕ} → Path A height → (count : ℕ) → ℕ
-path_need_from {A} {height} path count = if nat_lt count (most_at height) then 0 else path_need path
-
--- the count of the nodes that the splits use has reached node `id`, with `counted` counted below it; there are at most
--- `most` levels
-pub record IsCountingUpward (A : Type 0) (node_at : NodeMap A) (root : ℕ) (xs : List A) (most id counted all : ℕ) : Type 0 where
-  pub height : ℕ
-  pub path : Path A height
-  pub subtree : Subtree A height
-  pub here : id_of A height subtree ≡ id
-  pub focused : IsUnsizedFocus A node_at [] root xs height path subtree
-  pub left : counted + path_need_from path (count_at A height subtree) ≡ all
-  pub room : depth path < most

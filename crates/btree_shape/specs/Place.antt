@@ -20,7 +20,7 @@ module _ {A : Type 0} (node_at : NodeMap A) where
     pub parent : Option ℕ
     pub represents : Represents node_at height parent id ys
 
-  -- the items of the subtree of node `id` stand in the list after `before` others
+  -- the items of the subtree of node `id` are in the list after `before` others
   pub record IsSubtreeAt (xs : List A) (id : ℕ) (ys : List A) (before : ℕ) : Type 0 where
     pub front : List A
     pub back : List A
@@ -42,7 +42,7 @@ module _ {A : Type 0} (node_at : NodeMap A) where
   abbrev pub IsValid : Option ℕ → ℕ → Option ℕ → Type 0
   IsValid root id offset = IsWithin (node_at id) offset ⊎ IsNowhere root id offset
 
-  -- an item stands at the address
+  -- an item is at the address
   abbrev pub IsOccupied : ℕ → Option ℕ → Type 0
   IsOccupied id None = ⊥
   IsOccupied id (Some offset) = (x : A) × (item_in (node_at id) offset ≡ Some x)
@@ -87,6 +87,6 @@ module _ {A : Type 0} (node_at : NodeMap A) where
   IsPlace (Some root) xs id (Some offset) place =
       IsPlaceOf xs (item_in (node_at id) offset) place ⊎ (IsEnd (node_at id) offset × IsPlaceAfter xs id place)
 
--- the item at an address, if one stands there
+-- the item at an address, if there is one
 abbrev pub item_at : {A : Type 0} → NodeMap A → Address → Option A
 item_at node_at a = option_and_then (item_in (node_at a.id)) a.offset

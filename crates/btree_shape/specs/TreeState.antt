@@ -67,7 +67,7 @@ module _ {K V : Type 0} (s : TreeState K V) where
   abbrev pub IsPlaceIn : Address → ℕ → Type 0
   IsPlaceIn a place = IsPlace node_map s.root pairs_of a.id a.offset place
 
-  -- an item stands at the address
+  -- an item is at the address
   abbrev pub IsOccupiedIn : Address → Type 0
   IsOccupiedIn a = IsOccupied node_map a.id a.offset
 
@@ -75,7 +75,7 @@ module _ {K V : Type 0} (s : TreeState K V) where
   abbrev pub IsLeafAddressIn : Address → Type 0
   IsLeafAddressIn a = IsLeafAddress node_map s.root a.id a.offset
 
-  -- the item at an address, if one stands there
+  -- the item at an address, if there is one
   abbrev pub item_of : Address → Option (K × V)
   item_of a = item_at node_map a
 

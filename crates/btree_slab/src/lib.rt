@@ -1,4 +1,4 @@
-//! An ordered map: a B-tree whose nodes lie in a slab and refer to one another by numbers.
+//! An ordered map: a B-tree whose nodes are kept in a slab and refer to one another by number.
 //!
 //! This crate re-exports the public names of the crates below it.
 #![tactic(auto)]

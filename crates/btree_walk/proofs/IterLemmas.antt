@@ -4,7 +4,7 @@ use Rattle.std.specs.FinMap as map
 use Rattle.std.specs.declared.cmp.Ordering.{Ordering}
 use Rattle.btree_shape.specs.TreeState.{TreeState, node_map, pairs_of}
 use Rattle.btree_shape.specs.WellFormed.{IsSized, IsWellFormed}
-use Rattle.btree_shape.specs.Focus.Remaining.{IsUnder}
+use Rattle.btree_shape.specs.Remaining.{IsUnder}
 use Rattle.btree_shape.proofs.Trees.Density.{height-low}
 use Rattle.btree_shape.proofs.Trees.States.{height_held}
 

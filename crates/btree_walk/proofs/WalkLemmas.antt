@@ -9,7 +9,7 @@ use Rattle.btree_node.specs.Node.{view_of}
 use Rattle.btree_view.specs.View.{View, leaf, internal, branches_of, items_of, children_of}
 use Rattle.btree_shape.specs.Represents.{Represents, represented}
 use Rattle.btree_shape.specs.TreeState.{views}
-use Rattle.btree_shape.specs.Focus.Remaining.{remaining_above, remaining_in, IsUnder, AreRows}
+use Rattle.btree_shape.specs.Remaining.{remaining_above, remaining_in, IsUnder, AreRows}
 use Rattle.btree_shape.proofs.LookUp.Walk.{remaining-push, rows-push, rows-pop, under-leaf, under-internal}
 use Rattle.btree_walk.specs.declared.ancestors.Ancestor.{Ancestor}
 use Rattle.btree_walk.specs.Rows.{rows_of}

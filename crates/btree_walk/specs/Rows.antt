@@ -5,7 +5,7 @@ use Rattle.std.specs.FinMap as finite
 use Rattle.btree_node.specs.declared.node.Node.{Node}
 use Rattle.btree_node.specs.Node.{view_of}
 use Rattle.btree_view.specs.View.{branches_of, items_of}
-use Rattle.btree_shape.specs.Focus.Remaining.{remaining_above, AreRows, IsUnder}
+use Rattle.btree_shape.specs.Remaining.{remaining_above, AreRows, IsUnder}
 use Rattle.btree_shape.specs.Represents.{represented}
 use Rattle.btree_shape.specs.TreeState.{TreeState, node_map}
 use Rattle.btree_walk.specs.declared.ancestors.Ancestor.{Ancestor}

@@ -70,6 +70,7 @@ pub(crate) fn start<'a, K: Ord + 'a, V: 'a, C: NodesMut<K, V> + 'a>(
     ensures left { remaining_of tree.now result 0 ancestors.new ≡ pairs_of tree.now }
 {
     tree.tell_fits();
+    // For the prover: the length is a `usize`, so there are at most `MAX_LEVELS` levels.
     let _len = tree.len();
     match tree.root_id() {
         Some(root) => Some(descend(tree, root, ancestors)),

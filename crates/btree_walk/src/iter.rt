@@ -45,6 +45,7 @@ impl<'a, K: Ord, V, C: NodesMut<K, V>> Iter<'a, K, V, C> {
         ensures { result ≡ pairs_of tree.now }
     {
         tree.tell_fits();
+        // For the prover: the iterator keeps the fact that a node fits in memory.
         C::note_fits();
         let mut ancestors = Slots::new();
         let leaf = start(tree, &mut ancestors);
@@ -66,6 +67,7 @@ impl<'a, K: Ord, V, C: NodesMut<K, V>> Iterator for Iter<'a, K, V, C> {
     ghost remaining = { item_count (λ rest. rest) };
 
     fn next(&mut self) -> Option<(&'a K, &'a V)> {
+        // For the prover: the number of pairs left is a `usize`, and a node fits in memory.
         let _left = self.left;
         C::tell_fits();
         if let Some(pair) = next_in_leaf(self.leaf, self.passed) {

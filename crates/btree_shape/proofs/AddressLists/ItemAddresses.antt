@@ -59,7 +59,7 @@ kept-some : {A : Type 0} (x : A) (item : Option A) → item ≡ Some x → is_so
 kept-some x item e = ap is_some e
 
 module _ {A : Type 0} (node_at : NodeMap A) where
-  -- an address is occupied if an item stands there
+  -- an address is occupied if an item is at it
   pub occupied-by : (id : ℕ) (offset : Option ℕ) (x : A) → option_and_then (item_in (node_at id)) offset ≡ Some x
       → IsOccupied node_at id offset
   occupied-by id None x e = absurd (cc)

@@ -3,7 +3,7 @@ use Rattle.std.proofs.Common.{◌≡◌, ℕ, zero, suc, ◌+◌, ◌<◌, List,
 use Rattle.std.specs.List.{flat_map, AllByRecursion}
 use Rattle.btree_view.specs.View.{leaf, internal, NodeMap}
 use Rattle.btree_shape.specs.Represents.{Represents, represented}
-use Rattle.btree_shape.specs.Focus.Remaining.{remaining_in, remaining_above, IsUnder, AreRows}
+use Rattle.btree_shape.specs.Remaining.{remaining_in, remaining_above, IsUnder, AreRows}
 use Rattle.btree_shape.proofs.Trees.Represented.{represented-is}
 
 -- the next item of a list, at an index

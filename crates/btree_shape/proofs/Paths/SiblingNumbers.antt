@@ -6,7 +6,7 @@ use Rattle.btree_item.specs.declared.address.Address.{Address}
 use Rattle.btree_view.specs.Edits.{is_internal}
 use Rattle.btree_view.specs.View.{NodeMap, View, children_of, internal, leaf, size_of}
 use Rattle.btree_shape.specs.Focus.Subtree.{Subtree, count_at, id_of, most_at}
-use Rattle.btree_shape.specs.Strain.{strain_of}
+use Rattle.btree_shape.specs.Focus.Strain.{strain_of}
 use Rattle.btree_shape.specs.Focus.Positions.{IsAt, all_positions}
 use Rattle.btree_shape.specs.Focus.Path.{Path, Frame, at_branch, at_first, fill, fill_two, frame_count, frame_id, frame_index, frame_view, parent_above, under}
 use Rattle.btree_shape.specs.Focus.Focus.{IsFocus}

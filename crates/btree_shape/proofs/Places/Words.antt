@@ -29,7 +29,7 @@ module _ {A : Type 0} (node_at : NodeMap A) where
   item-within o x (Some v) e = get-low (items_of v) o x e
 
 module _ (A : Type 0) (node_at : NodeMap A) (root : ℕ) (xs : List A) where
-  -- the address is one of the tree, with this place; if an item is required, it stands there
+  -- the address is one of the tree, with this place; if an item is expected, it is at it
   pub record AddressIn (expected : Option A) (a : Address) (p : ℕ) : Type 0 where
     pub used : 0 < times_used (node_at a.id)
     pub within : IsWithin node_at (node_at a.id) a.offset

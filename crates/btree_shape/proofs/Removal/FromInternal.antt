@@ -12,7 +12,7 @@ use Rattle.btree_view.specs.View.{NodeMap, View, item_in, items_of, leaf}
 use Rattle.btree_shape.specs.Moved.{in_shortened, moved_by_take}
 use Rattle.btree_shape.specs.Focus.TreePositions.{HasPosition}
 use Rattle.btree_shape.specs.Place.{IsEnd, IsPlace, IsPlaceAfter, IsPlaceOf}
-use Rattle.btree_shape.specs.Focus.Underflow.{debt_of}
+use Rattle.btree_shape.specs.Strain.{debt_of}
 use Rattle.btree_shape.specs.Represents.{numbers_under}
 use Rattle.btree_shape.specs.Step.{HasItems, WritesNode}
 use Rattle.btree_shape.specs.Strain.{strain_under}

@@ -7,7 +7,7 @@ use Rattle.btree_shape.specs.Moved.{in_shortened, moved_by_take}
 use Rattle.btree_shape.specs.Lists.{one}
 use Rattle.btree_shape.specs.Focus.Underflow.{debt}
 use Rattle.btree_shape.specs.Step.{WritesNode}
-use Rattle.btree_shape.specs.Strain.{own_strain, strain_of}
+use Rattle.btree_shape.specs.Focus.Strain.{own_strain, strain_of}
 use Rattle.btree_shape.specs.Focus.Positions.{KeepsPositions, IsAt, Position, mark, over, passed, address_at, positions_from, path_after, all_positions}
 use Rattle.btree_shape.specs.Focus.Path.{Path, items_after, items_before, parent_above, times_above}
 use Rattle.btree_shape.specs.WellFormed.{times_used}

@@ -14,7 +14,8 @@ use Rattle.btree_shape.specs.Focus.Node.{IsExemptNode}
 use Rattle.btree_shape.specs.Focus.TreePositions.{IsAtBefore, HasPositionBefore, HasPosition}
 use Rattle.btree_shape.specs.Place.{IsPlace}
 use Rattle.btree_shape.specs.Focus.Subtree.{IsFilled, Subtree, count_at, id_of}
-use Rattle.btree_shape.specs.Focus.Underflow.{debt, debt_of}
+use Rattle.btree_shape.specs.Focus.Underflow.{debt}
+use Rattle.btree_shape.specs.Strain.{debt_of}
 use Rattle.btree_shape.specs.Represents.{numbers_under}
 use Rattle.btree_shape.specs.Step.{WritesNode}
 use Rattle.btree_shape.specs.Strain.{strain_under}

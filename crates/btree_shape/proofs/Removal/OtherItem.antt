@@ -7,7 +7,7 @@ use Rattle.std.specs.Prelude.{slice_get}
 use Rattle.btree_item.specs.declared.address.Address.{Address}
 use Rattle.btree_view.specs.View.{NodeMap}
 use Rattle.btree_shape.specs.Focus.Subtree.{Holds, Subtree, count_at, id_of, items_under, later_items, times_under, view_at}
-use Rattle.btree_shape.specs.Strain.{strain, strain_below}
+use Rattle.btree_shape.specs.Focus.Strain.{strain, strain_below}
 use Rattle.btree_shape.specs.Focus.Positions.{IsAt, Position, branch_key, branch_positions, address_at, positions_from, positions}
 use Rattle.btree_shape.proofs.LookUp.Descent.{get-after}
 use Rattle.btree_shape.proofs.Paths.Frames.{AllByRecursion-append, AllByRecursion-left, AllByRecursion-right, eachs-same, holds-same, total-append}

@@ -12,7 +12,8 @@ use Rattle.btree_shape.specs.Lists.{one}
 use Rattle.btree_shape.specs.Focus.Subtree.{Subtree, count_at, id_of, items_under, times_under, view_at}
 use Rattle.btree_shape.specs.Represents.{numbers_under}
 use Rattle.btree_shape.specs.Step.{HasItems, WritesNode}
-use Rattle.btree_shape.specs.Strain.{own_strain, strain_under}
+use Rattle.btree_shape.specs.Focus.Strain.{own_strain}
+use Rattle.btree_shape.specs.Strain.{strain_under}
 use Rattle.btree_shape.specs.Focus.Positions.{IsAt, address_at, positions, path_after, path_before, all_positions}
 use Rattle.btree_shape.specs.Focus.Path.{Path, HoldsAbove, items_after, items_before, parent_above, root_above, times_above}
 use Rattle.btree_shape.specs.WellFormed.{IsRooted, times_used}

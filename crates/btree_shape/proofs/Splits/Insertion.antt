@@ -10,14 +10,16 @@ use Rattle.btree_item.specs.declared.address.Address.{Address}
 use Rattle.btree_view.specs.Edits.{with_item}
 use Rattle.btree_view.specs.View.{NodeMap, leaf}
 use Rattle.btree_shape.specs.Focus.Overflow.{MayOverflowAt, IsRepaired}
-use Rattle.btree_shape.specs.Need.{split_need, path_need_from, need, path_need}
+use Rattle.btree_shape.specs.Need.{split_need, need}
+use Rattle.btree_shape.specs.Focus.Need.{path_need_from, path_need}
 use Rattle.btree_shape.specs.Focus.Node.{IsNode}
 use Rattle.btree_shape.specs.Place.{IsPlace}
 use Rattle.btree_shape.specs.Lists.{one}
 use Rattle.btree_shape.specs.Focus.Subtree.{IsFilled, Subtree, count_at, id_of}
 use Rattle.btree_shape.specs.Represents.{numbers_under}
 use Rattle.btree_shape.specs.Step.{Claims, WritesNode}
-use Rattle.btree_shape.specs.Strain.{own_strain, strain_of, strain_under}
+use Rattle.btree_shape.specs.Focus.Strain.{own_strain, strain_of}
+use Rattle.btree_shape.specs.Strain.{strain_under}
 use Rattle.btree_shape.specs.Focus.Positions.{address_at}
 use Rattle.btree_shape.specs.Focus.Path.{Path, depth, items_after, items_before, least_at, parent_above, times_above}
 use Rattle.btree_shape.specs.WellFormed.{IsRooted, IsSized, IsWellFormed, times_used}

@@ -2,7 +2,8 @@
 use Rattle.std.proofs.Common.{◌≡◌, ◌<◌, ◌≤◌, [], ◌∙◌, ◌+◌, ℕ, zero, suc, List, Some, None, refl, sym, ap, subst, arith}
 use Rattle.btree_view.specs.View.{NodeMap, View, most_of, parent_of, size_of}
 use Rattle.btree_shape.specs.Focus.Focus.{IsUnsizedFocus}
-use Rattle.btree_shape.specs.Need.{IsCountingUpward, split_need, path_need_from, levels_above, need_of_split, path_need}
+use Rattle.btree_shape.specs.Focus.Need.{IsCountingUpward, path_need_from, path_need}
+use Rattle.btree_shape.specs.Need.{split_need, levels_above, need_of_split}
 use Rattle.btree_shape.specs.Focus.Node.{IsNode}
 use Rattle.btree_shape.specs.Focus.Subtree.{Holds, Subtree, count_at, id_of, most_at, view_at}
 use Rattle.btree_shape.specs.Focus.Path.{Path, HoldsAbove, depth, fill, frame_count, frame_id, frame_view, parent_above, top, under}

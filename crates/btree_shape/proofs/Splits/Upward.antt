@@ -7,11 +7,11 @@ use Rattle.btree_view.specs.Edits.{IsSplit, is_internal, with_item, with_parent}
 use Rattle.btree_view.specs.View.{NodeMap, View, children_of, internal, leaf, most_of, parent_of, size_of}
 use Rattle.btree_shape.specs.Focus.Overflow.{MayOverflowAt, IsRepaired}
 use Rattle.btree_shape.specs.Moved.{moved_by_split}
-use Rattle.btree_shape.specs.Need.{path_need}
+use Rattle.btree_shape.specs.Focus.Need.{path_need}
 use Rattle.btree_shape.specs.Lists.{one, times_listed}
 use Rattle.btree_shape.specs.Focus.Subtree.{Subtree, count_at, id_of, most_at, times_under, view_at}
 use Rattle.btree_shape.specs.Step.{Reparents, WritesNode, GrowsRoot, Splits}
-use Rattle.btree_shape.specs.Strain.{strain_of}
+use Rattle.btree_shape.specs.Focus.Strain.{strain_of}
 use Rattle.btree_shape.specs.Focus.Positions.{IsAt, all_positions}
 use Rattle.btree_shape.specs.Focus.Path.{Path, Frame, at_branch, at_first, fill_two, frame_count, frame_id, frame_index, frame_view, parent_above, top, under}
 use Rattle.btree_shape.specs.WellFormed.{times_used}

@@ -3,7 +3,7 @@ use Rattle.std.proofs.Common.{◌≡◌, ◌≤◌, [], ◌∙◌, ◌+◌, ◌-
 use Rattle.btree_shape.specs.Focus.Pair.{Rotates}
 use Rattle.btree_shape.specs.Focus.Subtree.{Subtree, count_at}
 use Rattle.btree_shape.specs.Focus.Underflow.{debt}
-use Rattle.btree_shape.specs.Strain.{own_strain, strain_below, strain_of, surplus}
+use Rattle.btree_shape.specs.Focus.Strain.{own_strain, strain_below, strain_of, surplus}
 use Rattle.btree_shape.specs.Focus.Path.{Path, Frame, fill, fill_two, frame_count, top, under}
 use Rattle.btree_shape.proofs.Paths.Frames.{fill-count}
 use Rattle.btree_shape.proofs.Underflow.TreeAddresses.{rotate-join}

@@ -1,7 +1,7 @@
 -- The node that a split uses is within the strain of the nodes.
 use Rattle.std.proofs.Common.{◌≡◌, ◌≤◌, ◌++◌, ◌∷◌, [], ◌+◌, ◌-◌, ℕ, zero, suc, List, length, refl, ap, arith, length-append}
 use Rattle.btree_shape.specs.Focus.Subtree.{Subtree, count_at, most_at}
-use Rattle.btree_shape.specs.Strain.{own_strain, strain, strain_below, strain_of_siblings, strain_of, surplus}
+use Rattle.btree_shape.specs.Focus.Strain.{own_strain, strain, strain_below, strain_of_siblings, strain_of, surplus}
 use Rattle.btree_shape.specs.Focus.Path.{Path, Frame, at_branch, at_first, fill, fill_two, frame_count, top, under}
 use Rattle.btree_shape.proofs.Paths.Frames.{fill-count, total-append}
 use Rattle.btree_shape.proofs.Splits.Trees.{fill_two-count}

@@ -7,7 +7,8 @@ use Rattle.btree_shape.specs.Focus.Search.{levels_below}
 use Rattle.btree_shape.specs.Lists.{one, total}
 use Rattle.btree_shape.specs.Focus.Subtree.{Holds, Subtree, count_at, id_of, times_under, view_at}
 use Rattle.btree_shape.specs.Represents.{numbers_under}
-use Rattle.btree_shape.specs.Strain.{strain, strain_in, strain_of, strain_under, surplus, surplus_of}
+use Rattle.btree_shape.specs.Focus.Strain.{strain, strain_of, surplus}
+use Rattle.btree_shape.specs.Strain.{strain_in, strain_under, surplus_of}
 use Rattle.btree_shape.specs.Focus.Path.{Path, fill, top, under}
 use Rattle.btree_shape.specs.WellFormed.{IsRooted, IsSized}
 use Rattle.btree_shape.specs.Focus.Focus.{IsUnsizedFocus, IsFocus}

@@ -13,7 +13,7 @@ use Rattle.btree_shape.specs.Need.{levels_above}
 use Rattle.btree_shape.specs.Focus.Pair.{first_of}
 use Rattle.btree_shape.specs.Focus.Subtree.{Holds, IsFilled, Subtree, count_at, id_of, items_under, most_at, view_at}
 use Rattle.btree_shape.specs.Focus.Underflow.{MayUnderflowAt, debt}
-use Rattle.btree_shape.specs.Strain.{strain_of}
+use Rattle.btree_shape.specs.Focus.Strain.{strain_of}
 use Rattle.btree_shape.specs.Focus.Positions.{IsAt, all_positions}
 use Rattle.btree_shape.specs.Focus.Path.{Path, Frame, after_in, at_branch, at_first, before_in, depth, fill, fill_two, frame_count, frame_id, frame_index, items_after, items_before, least_at, parent_above}
 use Rattle.btree_shape.specs.WellFormed.{times_used}

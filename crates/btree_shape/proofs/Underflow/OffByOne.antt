@@ -6,14 +6,17 @@ use Rattle.btree_item.specs.declared.address.Address.{Address}
 use Rattle.btree_view.specs.View.{NodeMap, View, most_of, size_of}
 use Rattle.btree_shape.specs.Focus.Focus.{IsUnsizedFocus}
 use Rattle.btree_shape.specs.Focus.Overflow.{MayOverflowAt, IsRepaired}
-use Rattle.btree_shape.specs.Need.{IsCountingUpward, split_need, path_need_from, path_need}
+use Rattle.btree_shape.specs.Focus.Need.{IsCountingUpward, path_need_from, path_need}
+use Rattle.btree_shape.specs.Need.{split_need}
 use Rattle.btree_shape.specs.Focus.Node.{IsExemptNode}
 use Rattle.btree_shape.specs.Focus.TreePositions.{IsAddressed}
 use Rattle.btree_shape.specs.Focus.Subtree.{count_at, most_at, view_at}
-use Rattle.btree_shape.specs.Focus.Underflow.{MayUnderflowAt, debt, debt_of}
+use Rattle.btree_shape.specs.Focus.Underflow.{MayUnderflowAt, debt}
+use Rattle.btree_shape.specs.Strain.{debt_of}
 use Rattle.btree_shape.specs.Represents.{numbers_under}
 use Rattle.btree_shape.specs.Step.{Claims}
-use Rattle.btree_shape.specs.Strain.{strain_of, strain_under}
+use Rattle.btree_shape.specs.Focus.Strain.{strain_of}
+use Rattle.btree_shape.specs.Strain.{strain_under}
 use Rattle.btree_shape.specs.Focus.Path.{Path, depth, least_at, parent_above, top, under}
 use Rattle.btree_shape.specs.WellFormed.{IsFormed, IsNearlySized, IsOffByOne, IsWellFormed, times_used}
 use Rattle.btree_shape.proofs.Underflow.Adjacent.{most-some}

@@ -13,7 +13,7 @@ use Rattle.btree_shape.specs.Lists.{one}
 use Rattle.btree_shape.specs.Focus.Subtree.{Subtree, count_at, id_of, most_at, times_under, view_at}
 use Rattle.btree_shape.specs.Focus.Underflow.{MayUnderflowAt, debt}
 use Rattle.btree_shape.specs.Step.{RemovesNode}
-use Rattle.btree_shape.specs.Strain.{strain_of}
+use Rattle.btree_shape.specs.Focus.Strain.{strain_of}
 use Rattle.btree_shape.specs.Focus.Positions.{IsAt, positions, all_positions}
 use Rattle.btree_shape.specs.Focus.Path.{Path, frame_id, frame_index, frame_view, least_at, parent_above, top, under}
 use Rattle.btree_shape.specs.WellFormed.{IsFormed, times_used}

@@ -6,13 +6,13 @@ use Rattle.btree_shape.specs.Focus.Subtree.{most_at, count_at}
 use Rattle.btree_shape.specs.Focus.Path.{least_at}
 use Rattle.btree_shape.specs.Focus.Focus.{HasFocus}
 use Rattle.btree_shape.specs.Focus.Node.{IsNode}
-use Rattle.btree_shape.specs.Need.{path_need}
+use Rattle.btree_shape.specs.Focus.Need.{path_need}
 use Rattle.btree_shape.specs.Focus.Positions.{IsAt, all_positions}
-use Rattle.btree_shape.specs.Strain.{strain_of}
+use Rattle.btree_shape.specs.Focus.Strain.{strain_of}
 
 -- node `id` may have one item too many, and `spare` has a number for each node that its splits use; address `a` has
--- this place, and the item `expected` stands there if one is required; the nodes gained so far and the strain are at most
--- `bound`
+-- this place, and the item `expected` is at it if one is expected; the nodes allocated so far and the strain are at
+-- most `bound`
 pub record MayOverflowAt (A : Type 0) (node_at : NodeMap A) (root : ℕ) (xs : List A) (id : ℕ) (spare : List ℕ)
     (expected : Option A) (a : Address) (place allocated bound : ℕ) : Type 0 where
   pub focus : HasFocus A node_at spare root xs id

@@ -69,7 +69,7 @@ module _ {A : Type 0} {height : ℕ} where
       internal parent (id_of A height first)
       (map (λ b. (b.0, id_of A height b.1)) front ++ (x, hole) ∷ map (λ b. (b.0, id_of A height b.1)) back)
 
-  -- the hole's siblings and the nodes below them stand under their numbers
+  -- the hole's siblings and the nodes below them are under their numbers
   abbrev pub SiblingsHold : NodeMap A → Frame A height → Type 0
   SiblingsHold node_at (at_first id back) = AllByRecursion (λ b. Holds A node_at height (Some id) b.1) back
   SiblingsHold node_at (at_branch id first front x back) =
@@ -104,7 +104,7 @@ abbrev pub times_above : {A : Type 0} {height : ℕ} → ℕ → Path A height �
 times_above n top = 0
 times_above n (under frame path) = times_in n frame + times_above n path
 
--- the nodes of the path, and the subtrees of their other children, stand under their numbers
+-- the nodes of the path, and the subtrees of their other children, are under their numbers
 abbrev pub HoldsAbove : {A : Type 0} {height : ℕ} → NodeMap A → Path A height → ℕ → Type 0
 HoldsAbove node_at top hole = Unit {0}
 HoldsAbove node_at (under frame path) hole =

@@ -13,7 +13,7 @@ address_before id = record { id = id; offset = None }
 abbrev pub address_at : ℕ → ℕ → Address
 address_at id offset = record { id = id; offset = Some offset }
 
--- an address, with the item that stands there if there is one; or a step over an item
+-- an address, with the item at it if there is one; or a step over an item
 pub data Position (A : Type 0) : Type 0 where
   mark : Address → Option A → Position A
   over : Position A
@@ -24,12 +24,12 @@ passed [] = 0
 passed (mark address item ∷ positions_from) = passed positions_from
 passed (over ∷ positions_from) = suc (passed positions_from)
 
--- no item is required at an address, or exactly this one
+-- no item is expected at an address, or exactly this one
 abbrev pub IsExpected : {A : Type 0} → Option A → Option A → Type 0
 IsExpected None item = Unit {0}
 IsExpected (Some x) item = item ≡ Some x
 
--- the address comes after `place` items; if `expected` is `Some x`, the item x stands there
+-- the address comes after `place` items; if `expected` is `Some x`, the item x is at it
 abbrev pub IsAt : {A : Type 0} → Option A → Address → List (Position A) → ℕ → Type 0
 IsAt expected a [] place = ⊥
 IsAt expected a (mark b item ∷ positions_from) place = ((a ≡ b) × (place ≡ 0) × IsExpected expected item) ⊎ IsAt expected a positions_from place
@@ -90,7 +90,7 @@ module _ (A : Type 0) where
   abbrev pub all_positions : (height : ℕ) → Path A height → Subtree A height → List (Position A)
   all_positions height path subtree = path_before path ++ (positions height subtree ++ path_after path)
 
--- `moved` sends each address to one with the same number of items before it, and at the same item if one stands there
+-- `moved` sends each address to one with the same number of items before it, and at the same item if there is one
 abbrev pub KeepsPositions : {A : Type 0} → (Address → Address) → List (Position A) → List (Position A) → Type 0
 KeepsPositions {A} moved old new =
     (expected : Option A) (a : Address) (place : ℕ) → IsAt expected a old place → IsAt expected (moved a) new place

@@ -47,7 +47,7 @@ module _ (A : Type 0) where
   view_at (suc height) parent subtree =
       internal parent (id_of height subtree.1) (map (λ b. (b.0, id_of height b.1)) subtree.2)
 
-  -- the nodes of the subtree stand under their numbers, and each names the one above it as its parent
+  -- the nodes of the subtree are under their numbers, and each names the one above it as its parent
   abbrev pub Holds : NodeMap A → (height : ℕ) → Option ℕ → Subtree height → Type 0
   Holds node_at zero parent subtree = node_at subtree.0 ≡ Some (leaf parent subtree.1)
   Holds node_at (suc height) parent subtree =

@@ -6,8 +6,8 @@ use Rattle.btree_shape.specs.Place.{IsValid, IsPlace, item_at}
 use Rattle.btree_shape.specs.Focus.Subtree.{Subtree, id_of, Holds}
 use Rattle.btree_shape.specs.Focus.Positions.{Position, mark, over, IsExpected, IsAt, positions}
 
--- among the positions of the tree under a root the address has this place, and the item `expected` stands there if one is
--- required
+-- among the positions of the tree under a root the address has this place, and the item `expected` is at it if one is
+-- expected
 pub record HasPosition (A : Type 0) (node_at : NodeMap A) (root : ℕ) (expected : Option A) (a : Address) (place : ℕ) : Type 0 where
   pub height : ℕ
   pub subtree : Subtree A height
@@ -31,15 +31,15 @@ pub record HasPositionBefore (A : Type 0) (node_at : NodeMap A) (root : ℕ) (ex
   pub there : IsAtBefore expected a c (positions A height subtree) place
 
 -- from the tree under a root to that under another, `moved` sends each address to one at the same place, and at the
--- same item if one stands there
+-- same item if there is one
 abbrev pub KeepsPlaces : (A : Type 0) → (node_at : NodeMap A) → (root : ℕ) → (new : NodeMap A) → (new_root : ℕ)
     → (Address → Address) → Type 0
 KeepsPlaces A node_at root new new_root moved =
     (expected : Option A) (a : Address) (place : ℕ)
     → HasPosition A node_at root expected a place → HasPosition A new new_root expected (moved a) place
 
--- in the public terms: the address is valid and has this place in the list, and the item `expected` stands there if one is
--- required
+-- in the public terms: the address is valid and has this place in the list, and the item `expected` is at it if one is
+-- expected
 pub record IsAddressed (A : Type 0) (node_at : NodeMap A) (root : ℕ) (xs : List A) (expected : Option A) (a : Address)
     (place : ℕ) : Type 0 where
   pub valid : IsValid node_at (Some root) a.id a.offset

@@ -1,28 +1,24 @@
 -- The state of an underflow fix that goes upward, with the address that is followed and the bound that the strain
 -- gives.
--- Every node but `id` has its number of items. What is owed is 1 for a root without items, else 0. The fix ends in
+-- Every node but `id` has its number of items. The debt is 1 for a root without items, else 0. The fix ends in
 -- `IsRepaired` (`Overflow.antt`), as splits do, where each node has its number of items, or in the empty tree.
-use Rattle.std.specs.Prelude.{ℕ, zero, suc, ◌+◌, ◌≤◌, ◌==◌, if◌then◌else◌, List, [], Option}
+use Rattle.std.specs.Prelude.{ℕ, zero, suc, ◌+◌, ◌≤◌, List, [], Option}
 use Rattle.btree_item.specs.declared.address.Address.{Address}
-use Rattle.btree_view.specs.View.{NodeMap, View, size_of}
+use Rattle.btree_view.specs.View.{NodeMap}
 use Rattle.btree_shape.specs.Focus.Subtree.{most_at, count_at}
 use Rattle.btree_shape.specs.Focus.Path.{Path, top, under, least_at}
 use Rattle.btree_shape.specs.Focus.Focus.{HasFocus}
 use Rattle.btree_shape.specs.Focus.Positions.{IsAt, all_positions}
-use Rattle.btree_shape.specs.Strain.{strain_of}
+use Rattle.btree_shape.specs.Focus.Strain.{strain_of}
 
--- 1 for a root without items, which is still to be freed, else 0
+-- what the fix still has to pay for: 1 for a root without items, which is to be freed, else 0
 abbrev pub debt : {A : Type 0} {height : ℕ} → Path A height → (count : ℕ) → ℕ
 debt top zero = 1
 debt top (suc count) = 0
 debt (under frame path) count = 0
 
--- the same for a node alone: no node but the root can be without items
-abbrev pub debt_of : {A : Type 0} → View A → ℕ
-debt_of node = if size_of node == 0 then 1 else 0
-
--- node `id` may have one item too few; address a has this place, and the item `expected` stands there if one is required;
--- the nodes freed so far, the strain and what is owed are at most `bound`
+-- node `id` may have one item too few; address a has this place, and the item `expected` is at it if one is expected;
+-- the nodes freed so far, the strain and the debt are at most `bound`
 pub record MayUnderflowAt (A : Type 0) (node_at : NodeMap A) (root : ℕ) (xs : List A) (id : ℕ)
     (expected : Option A) (a : Address) (place freed bound : ℕ) : Type 0 where
   pub focus : HasFocus A node_at [] root xs id

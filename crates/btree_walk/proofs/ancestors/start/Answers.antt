@@ -1,6 +1,6 @@
 use Rattle.std.proofs.Common.{sym, ap, subst, ◌∙◌, ◌++◌, arith, append-nil, rules}
 use Rattle.std.specs.FinMap as map
-use Rattle.btree_shape.specs.Focus.Remaining.{remaining_above}
+use Rattle.btree_shape.specs.Remaining.{remaining_above}
 use Rattle.btree_shape.specs.Represents.{represented}
 use Rattle.btree_shape.specs.TreeState.{node_map, pairs_under, pairs_of}
 use Rattle.btree_shape.specs.WellFormed.{IsWellFormed}

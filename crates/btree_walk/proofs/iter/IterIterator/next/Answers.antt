@@ -1,6 +1,6 @@
 use Rattle.std.proofs.Common.{sym, ap, ◌∙◌, ◌++◌, length, arith, rules}
 use Rattle.std.specs.FinMap as map
-use Rattle.btree_shape.specs.Focus.Remaining.{remaining_above}
+use Rattle.btree_shape.specs.Remaining.{remaining_above}
 use Rattle.btree_shape.specs.TreeState.{views}
 use Rattle.btree_walk.specs.Rows.{remaining_in_leaf, rows_of}
 use Rattle.btree_walk.proofs.IterLemmas.{one-less}
