@@ -24,7 +24,7 @@ use Rattle.btree_shape.proofs.Splits.Insertion.{leaf-overflow, repaired-well, re
 use Rattle.btree_shape.proofs.Trees.Stores.{used-view, len-views}
 use Rattle.btree_shape.proofs.Trees.States.{height_held, is-tree, pairs-tree}
 use Rattle.btree_raw.proofs.ClaimLemmas.{claims-low, claims-focus}
-use Rattle.btree_raw.proofs.UpwardLemmas.{split_need-done, split_need-left, split_need-start}
+use Rattle.btree_raw.proofs.UpwardLemmas.{upward-done, upward-left, upward-start}
 use Rattle.btree_raw.proofs.StateLemmas.{same-len, same-refusals, same-root}
 use Rattle.btree_raw.specs.Claimed.{AreClaimed}
 use Rattle.btree_raw.specs.Steps.{AddsItem, AreSplit, CanAddItem, IsSplitting, SplitsUpward}
@@ -155,10 +155,10 @@ module _ {K V : Type 0} (cmp : K → K → Ordering) (laws : IsTotalOrder cmp) (
         where
           still : AreSplit (node_map put) (node_map put) put.root put.root a.id ids a a
           still =
-              let start = split_need-start (K × V) (node_map put) put.root a.id ids a (claims-low old.nodes ids claimed.claimed.claims) in
+              let start = upward-start (K × V) (node_map put) put.root a.id ids a (claims-low old.nodes ids claimed.claimed.claims) in
               elim (less-or (most_of repaired-leaf) (size_of repaired-leaf)) [
-                | inl over ↦ let left = split_need-left (K × V) (node_map put) (node_map put) put.root a.id a.id ids ids a a splitting start repaired-leaf writes_node.here over in absurd (omega arith)
-                | inr room ↦ split_need-done (K × V) (node_map put) (node_map put) put.root a.id a.id ids ids a a splitting start repaired-leaf writes_node.here (elim room [ inl same ↦ omega arith | inr less ↦ omega arith ])
+                | inl over ↦ let left = upward-left (K × V) (node_map put) (node_map put) put.root a.id a.id ids ids a a splitting start repaired-leaf writes_node.here over in absurd (omega arith)
+                | inr room ↦ upward-done (K × V) (node_map put) (node_map put) put.root a.id a.id ids ids a a splitting start repaired-leaf writes_node.here (elim room [ inl same ↦ omega arith | inr less ↦ omega arith ])
               ]
 
       module _ (new : TreeState K V) (b : Address) (s : SplitsUpward put new a.id ids a b) where

@@ -44,8 +44,8 @@ module _ {A : Type 0} (node_at : NodeMap A) (id : ℕ) (can : CanReparent node_a
     parent-kept = partly.kept id (let z = can.apart in omega (arith, times-take id index children))
 
     module _ (child : ℕ) (is : slice_get children index ≡ Some child) where
-      pub child-used : 0 < times_used (now child)
-      child-used =
+      pub reparented-used : 0 < times_used (now child)
+      reparented-used =
           let used = can.children child (get-times children index child is) in
           elim (zero-or (times_listed child (take index children))) [
             | inl none ↦ rw (partly.kept child none) used
@@ -89,7 +89,7 @@ module _ {K V : Type 0} where
         the-child = ap (λ ids. slice_get ids index) (sym same-children) ∙ is
 
         pub child-used : IsSome (map.get now child)
-        child-used = used-view now child (child-used (views old) id can (views now) index partly child the-child)
+        child-used = used-view now child (reparented-used (views old) id can (views now) index partly child the-child)
 
-        pub child-adopted : (new : Content (Node K V)) → SetsParent (views now) (views new) child id → Reparents (views old) (views new) id (take (index + 1) (children_in (views old id)))
-        child-adopted new s = reparents-more (views old) id can (views now) index partly child the-child (views new) s
+        pub child-reparented : (new : Content (Node K V)) → SetsParent (views now) (views new) child id → Reparents (views old) (views new) id (take (index + 1) (children_in (views old id)))
+        child-reparented new s = reparents-more (views old) id can (views now) index partly child the-child (views new) s

@@ -1,5 +1,5 @@
 //! Fixes of underflows, from a node upward.
-ghost use Rattle.std.specs.Prelude.{◌≡◌, ℕ, ◌<◌, ◌≤◌, IfSome, IsSome, Some, None, option_map, true, false};
+ghost use Rattle.std.specs.Prelude.{◌≡◌, ◌-◌, ℕ, ◌<◌, ◌≤◌, IfSome, IsSome, Some, None, option_map, true, false};
 ghost use Rattle.btree_view.specs.View.{parent_of};
 ghost use Rattle.btree_shape.specs.UnderflowFix.{Borrows, MergesNode};
 ghost use Rattle.btree_shape.specs.TreeState.{IsUsed, KeepsRest, node_map};
@@ -124,7 +124,7 @@ fn fix_underflow_at<K: Drop, V: Drop, C: NodesMut<K, V>>(
     requires followed { IsFollowed (node_map tree.old) id addr }
     requires under { option_map parent_of (node_map tree.old id) ≡ Some (Some parent) }
     requires count { HasCount (node_map tree.old) id count }
-    requires short { count < MIN_ITEMS }
+    requires short { count ≤ MIN_ITEMS - 1 }
     requires low { IfSome addr.offset (λ n. n ≤ LEAF_SLOTS) }
     requires number { id < usize.MAX }
     ensures borrows { result.1 ≡ false → Borrows (node_map tree.old) (node_map tree.new) parent id }

@@ -4,4 +4,6 @@
 #[cfg(test)]
 mod content;
 #[cfg(test)]
+mod flush;
+#[cfg(test)]
 mod session;

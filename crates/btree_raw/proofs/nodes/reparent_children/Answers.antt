@@ -1,5 +1,5 @@
 use Rattle.btree_shape.proofs.Trees.Stores.{used-view}
-use Rattle.btree_raw.proofs.ParentLemmas.{still-used, index-below, child-used, child-adopted}
+use Rattle.btree_raw.proofs.ParentLemmas.{still-used, index-below, child-used, child-reparented}
 use Rattle.btree_raw.proofs.StateLemmas.{then}
 use Rattle.btree_raw.proofs.nodes.reparent_children.Goals as goal
 use Rattle.std.proofs.lemmas.Grind.{common_steps}
@@ -26,7 +26,7 @@ set_parent-requires-clause-used g c =
 pub loop-index-preserved : goal.loop-index-preserved
 loop-index-preserved g c = record {
   nodes =
-      child-adopted c.args.tree.now.nodes c.loop-index.tree.nodes c.args.id c.requires c.loop-index.index c.loop-index.invariant.nodes
+      child-reparented c.args.tree.now.nodes c.loop-index.tree.nodes c.args.id c.requires c.loop-index.index c.loop-index.invariant.nodes
       c.node-in-loop-index.result.now c.node-in-loop-index.ensures.value c.child_id-child.result c.child_id-child.ensures c.set_parent.new.tree.nodes c.set_parent.ensures.nodes;
   rest = then c.loop-index.invariant.rest c.set_parent.ensures.rest;
 }
