@@ -33,6 +33,6 @@ fn a_failed_flush_is_failed_output(rt: HostRuntime) -> Result<(), Fail> {
     let mut input: &[u8] = b"get 1\n";
     let end = drive(rt.alloc(), &mut session, &mut input, &mut output);
     assert_eq!(rt; end, Err(Stop::Output));
-    assert_eq!(rt; output.written.as_slice(), b"none\n");
+    assert_eq!(rt; output.written.as_slice(), b"none\n".as_slice());
     Ok(())
 }
