@@ -1,4 +1,9 @@
 -- What rebalancing makes of a tree that is off by one at a node.
+-- Read `IsRebalanced` first: the tree is well formed but for its length, which stays, with the same list and no refusal
+-- counted. The returned address is valid, at the place and item of the old one. Then its two bounds on nodes, both
+-- within the strain: `AllocatesForSplits` if the node overflowed, else `FreesNodes`, by the steps of
+-- `IsUnderflowFixed`. `IsRefusal` is the other outcome, only if the node overflows and the store may refuse one of the
+-- nodes of the splits. `rebalance` cites `IsRebalanced` and `IsRefusal`.
 use Rattle.std.specs.Prelude.{◌≡◌, ℕ, ◌+◌, ◌≤◌, Some, IsSome}
 use Rattle.std.specs.FinMap as map
 use Rattle.std.specs.declared.cmp.Ordering.{Ordering}
