@@ -4,6 +4,8 @@
 -- its number of items, but for one more or less at node `exempt`, and the keys of its pairs, after those passed before,
 -- still ascend. A whole tree is passed from its root with as many nodes as the store has; that each number then occurs
 -- once follows from the parent numbers and the order of the keys.
+-- `Passes` and `CanPass` say that a part was, or can be, passed; `MayEnter` is the condition on a single node.
+-- `is_off_by_one` cites `IsOffByOneAmong` alone: the nodes of a store are off by one, with some list.
 use Rattle.std.specs.Prelude.{◌≡◌, ℕ, ◌+◌, ◌<◌, ◌≤◌, suc, List, ◌++◌, length, Option, Some, None}
 use Rattle.std.specs.List.{AllByRecursion}
 use Rattle.std.specs.declared.cmp.Ordering.{Ordering}
