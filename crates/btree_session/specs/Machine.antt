@@ -30,7 +30,7 @@ pub record SessionState : Type 0 where
 abbrev pub after_insertion : SessionState → List (ℕ × ℕ) → SessionState
 after_insertion old pairs = record { pairs = pairs; place = None; refusals = old.refusals }
 
--- the state after a refusal: unchanged but for the store's count of its own refusals
+-- the state after a refusal: unchanged except for the store's count of its own refusals
 abbrev pub after_refusal : SessionState → Cause → SessionState
 after_refusal old Store = record old { refusals = old.refusals + 1 }
 after_refusal old Count = old
