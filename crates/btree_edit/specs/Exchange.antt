@@ -1,4 +1,7 @@
 -- The exchange of the item at an address for another one.
+-- Read `KeepsAddresses` first: root, length and number of nodes stay, and so does every address, with its place.
+-- `IsExchanged` adds the new list, with another item at the place of the address. `IsValueExchanged`, where the key
+-- stays, is what `exchange` ensures; `insert` cites it for a key that is there, by `ExchangesValueAt` (`Insert.antt`).
 use Rattle.std.specs.Prelude.{◌≡◌, ◌≢◌, ℕ, Some, set}
 use Rattle.std.specs.FinMap as map
 use Rattle.std.specs.declared.cmp.Ordering.{Ordering}

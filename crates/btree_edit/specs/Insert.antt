@@ -1,4 +1,10 @@
--- What an insertion leaves of a tree.
+-- What an insertion leaves of a tree, and what a refused one leaves.
+-- Read `IsInserted` first, with its condition `IsGapFor`: an insertion of a pair at a gap, cited by `insert_at_gap`.
+-- The number of new nodes is exactly `nodes_needed`, and they are within the strain (`IsWithinStrain`). `IsRefused` is
+-- the other outcome. Then `InsertsByKey`, cited by `insert` of tree and map: for an absent key, exactly the needed
+-- nodes were allocated, at most one more than the tree had levels; for a key that is there, `ExchangesValueAt` (its
+-- value is replaced, and every address stays). `IsRefusedAtGap` is its refusal: only at the greatest length, or if the
+-- store may refuse one of the needed nodes.
 use Rattle.std.specs.Prelude.{◌≡◌, ℕ, ◌+◌, ◌-◌, ◌^◌, ◌<◌, ◌≤◌, Some, None, IsSome}
 use Rattle.std.specs.FinMap as map
 use Rattle.std.specs.List.{insert}
@@ -15,7 +21,7 @@ use Rattle.btree_raw.specs.Raw.{Refuses}
 use Rattle.btree_find.specs.Answers.{IsFoundAt, IsGapAt}
 use Rattle.btree_edit.specs.Exchange.{IsValueExchanged}
 
--- the nodes gained and the strain afterwards are together at most the strain before plus one
+-- the nodes allocated and the strain afterwards are together at most the strain before plus one
 pub record IsWithinStrain {K V : Type 0} (old new : TreeState K V) : Type 0 where
   pub before : ℕ
   pub after : ℕ
@@ -32,8 +38,8 @@ module _ {K V : Type 0} (cmp : K → K → Ordering) where
     pub back : IsSome a.offset
     pub fits : KeyFits cmp k place (pairs_of s)
 
-  -- the pair was inserted at the place of address a, and is at address b; the store has gained exactly the nodes that
-  -- were needed
+  -- the pair was inserted at the place of address a, and is at address b; exactly the nodes that were needed were
+  -- allocated
   pub record IsInserted (old new : TreeState K V) (a b : Address) (x : K × V) : Type 0 where
     pub tree : IsBTree cmp new
     pub pairs : (place : ℕ) → IsPlaceIn old a place → (pairs_of new ≡ insert (pairs_of old) place x) × IsPlaceIn new b place

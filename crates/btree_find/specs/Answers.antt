@@ -1,4 +1,5 @@
--- What a search by key returns.
+-- What a search by key returns: the occupied address of a key that is there, else the gap where it would be.
+-- `address_of` cites `IsAddressOf`. Insertion cites its two cases, `IsFoundAt` and `IsGapAt`.
 use Rattle.std.specs.Prelude.{◌≡◌, ℕ, IsSome, Result, Ok, Err}
 use Rattle.std.specs.declared.cmp.Ordering.{Ordering}
 use Rattle.btree_item.specs.Pairs.{place_of}

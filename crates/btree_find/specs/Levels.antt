@@ -1,4 +1,4 @@
--- How many levels a tree may have.
+-- How many levels a tree may have; cited by `height`.
 use Rattle.std.specs.Prelude.{ℕ, ◌+◌, ◌*◌, ◌-◌, ◌^◌, ◌<◌, ◌≤◌, length}
 use Rattle.btree_shape.specs.TreeState.{TreeState, pairs_of}
 

@@ -1,4 +1,4 @@
--- An address as contracts see it.
+-- An address as contracts see it: a node's number with an offset, printed as `@id:offset`.
 use Rattle.std.specs.Prelude.{ℕ, List, ◌++◌, codes}
 use Rattle.std.specs.Fmt.{decimal}
 use Rattle.btree_item.specs.declared.address.Address.{Address}

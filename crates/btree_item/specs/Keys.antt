@@ -1,4 +1,6 @@
 -- Where a key is, or would be, in an ascending list of keys.
+-- `search` cites `key_place`, and `binary_search_min` cites `IsLastAtMost`. The other words are for the loops below
+-- them.
 use Rattle.std.specs.Prelude.{◌≡◌, ℕ, ◌<◌, ◌≤◌, Bool, true, false, suc, List, Some, Result, Ok, Err, length, slice_get, if◌then◌else◌}
 use Rattle.std.specs.List.{count_by, list_any}
 use Rattle.std.specs.declared.cmp.Ordering.{Ordering}

@@ -1,4 +1,4 @@
--- An offset as contracts see it: `None` stands for -1.
+-- An offset as contracts see it: `None` stands for -1, and `Some n` for the number n. -1 is below every number.
 use Rattle.std.specs.Prelude.{ℕ, ◌+◌, ◌-◌, ◌^◌, ◌==◌, zero, suc, List, Option, Some, None, codes, if◌then◌else◌}
 use Rattle.std.specs.Fmt.{decimal}
 

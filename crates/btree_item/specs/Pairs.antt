@@ -1,4 +1,7 @@
 -- Lists of pairs in the order of their keys, and where a key is, or would be, in one.
+-- A map is such a list, and the contracts of map and tree cite these words. Inserting and removing at a place are
+-- `insert` and `remove` of std's lists, which undo each other (`insert-remove` and `remove-insert` in
+-- `proofs/PairEdits.antt`).
 use Rattle.std.specs.Prelude.{◌≡◌, ℕ, ◌≤◌, suc, List, Option, Some, Result, Ok, Err, length, is_some, slice_get, if◌then◌else◌}
 use Rattle.std.specs.List.{count_by, insert}
 use Rattle.std.specs.List.Sorted.{IsStrictlySortedBy}

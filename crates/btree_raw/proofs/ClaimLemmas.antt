@@ -1,4 +1,4 @@
--- Claims one after another, which are given back from the last one on.
+-- Claims one after another, which are freed from the last one on.
 use Rattle.std.proofs.Common.{◌≡◌, ◌≢◌, ℕ, zero, suc, ◌<◌, ◌^◌, ◌-◌, ◌++◌, ◌∷◌, [], inl, inr, All, List, Some, None, IsSome, refl, sym, ap, subst, ◌∙◌, option_map, arith}
 use Rattle.std.specs.FinMap as map
 use Rattle.btree_store.specs.Content.{Content}
@@ -32,7 +32,7 @@ module _ {N : Type 0} (empty : N) where
     pub used : IsSome (map.get now id)
     pub less : IsClaimed empty base (map.remove now id) ids
 
-  -- the last claim is given back
+  -- the last claim is freed
   pub given-back : (base now : Content N) (all ids : List ℕ) (id : ℕ) → all ≡ ids ++ id ∷ [] → IsClaimed empty base now all → Back base now ids id
   given-back base now all ids id e c =
       let r = are-one_less base ids id (subst (λ l. AreClaims empty base l) e c.claims) in

@@ -48,7 +48,7 @@ some-there None is = absurd (cc)
 some-there (Some x) is = (x, refl)
 
 module _ {A : Type 0} where
-  -- the numbers of nodes, with those that were gained or freed
+  -- the numbers of nodes, with those that were allocated or freed
   listed-both : (node_at new : NodeMap A) (ids more : List ℕ) → ((n : ℕ) → times_listed n ids ≡ times_used (new n)) → ((n : ℕ) → times_used (node_at n) ≡ times_used (new n) + times_listed n more)
       → (n : ℕ) → times_listed n (ids ++ more) ≡ times_used (node_at n)
   listed-both node_at new ids more each both n = let a = listed-append n ids more in let b = each n in let c = both n in omega arith

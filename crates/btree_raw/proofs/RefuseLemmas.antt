@@ -1,4 +1,4 @@
--- Claims in a loop: one more, one given back, all given back.
+-- Claims in a loop: one more, one freed, all freed.
 use Rattle.std.proofs.Common.{◌≡◌, ℕ, ◌+◌, ◌<◌, ◌^◌, ◌-◌, List, [], ◌∷◌, ◌++◌, IsSome, None, ap, sym, subst, ◌∙◌}
 use Rattle.std.specs.FinMap as map
 use Rattle.btree_shape.specs.TreeState.{TreeState}
@@ -11,7 +11,7 @@ module _ {K V : Type 0} where
   abbrev counted : TreeState K V → TreeState K V
   counted s = record s { refusals = s.refusals + 1 }
 
-  -- a refusal is counted in the state to which the claims are given back
+  -- a refusal is counted in the state that is left when the claims are freed
   pub refused-claims : (base now mid : TreeState K V) (ids : List ℕ) → AreClaimed base now ids → Refuses now mid → AreClaimed (record base { refusals = base.refusals + 1 }) mid ids
   refused-claims base now mid ids c r = subst (λ s. AreClaimed (record base { refusals = base.refusals + 1 }) s ids) (sym r) (record { claimed = c.claimed; rest = record { rest = ap counted c.rest.rest } })
 

@@ -75,7 +75,7 @@ grow_root-used node_at new i j r x s used n = elim (same-or n r) [
 ]
 
 module _ (A : Type 0) (old now : NodeMap A) (root : Option ℕ) (start id : ℕ) (spare rest : List ℕ) (a b : Address) where
-  -- what held for the tree at the start holds at the node that the splits have reached, with as many nodes gained as
+  -- what held for the tree at the start holds at the node that the splits have reached, with as many nodes allocated as
   -- numbers used
   pub record SplitUpTo : Type 0 where
     pub taken : ℕ

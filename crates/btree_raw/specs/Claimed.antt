@@ -1,4 +1,6 @@
--- Numbers that are claimed from a store before a change, and given back if the change is refused.
+-- Numbers that are claimed from a store before a change, and freed again if one of them is refused.
+-- `claim` ensures `AreClaimed` (numbers allocated as empty leaves); `UndoesClaims` says that freeing them leaves the
+-- tree from which they were claimed. `MayRefuseOneOf` is the condition under which public calls may be refused.
 use Rattle.std.specs.Prelude.{◌≡◌, ℕ, ◌<◌, ◌^◌, ◌-◌, List, [], ◌∷◌, length, None}
 use Rattle.std.specs.FinMap as map
 use Rattle.btree_store.specs.Content.{Content}

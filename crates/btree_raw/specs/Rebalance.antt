@@ -1,4 +1,9 @@
 -- What rebalancing makes of a tree that is off by one at a node.
+-- Read `IsRebalanced` first: the tree is well formed except for its length, which stays, with the same list and no
+-- refusal counted. The returned address is valid, at the place and item of the old one. Then its two bounds on nodes,
+-- both within the strain: `AllocatesForSplits` if the node overflowed, else `FreesNodes`, by the steps of
+-- `IsUnderflowFixed`. `IsRefusal` is the other outcome, only if the node overflows and the store may refuse one of the
+-- nodes of the splits. `rebalance` cites `IsRebalanced` and `IsRefusal`.
 use Rattle.std.specs.Prelude.{◌≡◌, ℕ, ◌+◌, ◌≤◌, Some, IsSome}
 use Rattle.std.specs.FinMap as map
 use Rattle.std.specs.declared.cmp.Ordering.{Ordering}
@@ -36,9 +41,9 @@ module _ {K V : Type 0} (old new : TreeState K V) (id : ℕ) where
     pub within : (levels : ℕ) → HasLevels old levels → freed ≤ levels
     pub within_strain : freed + after ≤ before + debt_of node
 
-  -- the tree is well formed but for its length, with the same pairs; address a became b, at the same place, and at the
-  -- same item if there was one; the nodes allocated or freed are within the strain; and if node `id` does not overflow,
-  -- the steps are those of `IsUnderflowFixed`, so that a tree in which it has enough items is unchanged
+  -- the tree is well formed except for its length, with the same pairs; address a became b, at the same place, and at
+  -- the same item if there was one; the nodes allocated or freed are within the strain; and if node `id` does not
+  -- overflow, the steps are those of `IsUnderflowFixed`, so a tree in which it has enough items is unchanged
   pub record IsRebalanced (cmp : K → K → Ordering) (a b : Address) : Type 0 where
     pub well : IsBTreeButLength cmp new
     pub pairs : pairs_of new ≡ pairs_of old

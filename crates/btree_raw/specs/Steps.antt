@@ -1,4 +1,11 @@
--- Changes of single nodes: what they require, and what they leave.
+-- Changes of single nodes, and splits: what they require, and what they leave.
+-- `CanAddItem` and the other words with `Can` are what calls require of the nodes. What a call leaves is here or in
+-- `Step.antt` of `btree_shape`. Read them in the order of a split: `CanAddItem` and `AddsItem` (an item is added);
+-- `Overflows` and `CutsAtMedian`, `CanReparent`, `CanSplitInto` (a node is split); `CanAddSeparator` and
+-- `AddsSeparator` (the median goes to the parent); `CanGrowRoot` (or to a new root). Then the whole way upward:
+-- `split_upward` requires `IsSplitting` and ensures `SplitsUpward`, so what held of the tree and of the followed
+-- address at the start (`MayOverflowAt`) holds at the end (`IsRepaired`). `IsCountingSplits` is what `split_need`
+-- requires, and the state of its loop. The words of `Rebalance.antt` cite `Overflows` too.
 use Rattle.std.specs.Prelude.{◌≡◌, ◌≢◌, ℕ, ◌+◌, ◌<◌, ◌≤◌, List, length, slice_get, Option, Some, option_map, IsTrue}
 use Rattle.btree_item.specs.declared.TheConstants.{MAX_CLAIMS}
 use Rattle.btree_item.specs.declared.address.Address.{Address}

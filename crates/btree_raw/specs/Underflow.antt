@@ -1,5 +1,9 @@
 -- An underflow fix that goes upward: one step of it between two siblings, and what is then known of an address that is
 -- followed.
+-- Read `EndsUnderflow` and `PassesUnderflowUp` first: after the step the tree is repaired, or the parent may have an
+-- item too few. What a step requires is `AreAdjacent` with `Underflows`, and for a merge `FitTogether`. `IsFixingOf`
+-- and `FixesUnderflowUpward` are what `fix_underflow_upward` requires and ensures. The words with `siblings` in their
+-- names find the siblings of a node.
 use Rattle.std.specs.Prelude.{◌-◌, ◌*◌, ◌≡◌, ℕ, suc, ◌+◌, ◌<◌, ◌≤◌, ◌⊎◌, List, length, Option, Some, None, option_map, Bool, true, false}
 use Rattle.btree_item.specs.declared.TheConstants.{MIN_ITEMS}
 use Rattle.btree_item.specs.declared.address.Address.{Address}

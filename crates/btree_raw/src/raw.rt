@@ -205,7 +205,7 @@ impl<K, V, C: NodesMut<K, V>> RawBTree<K, V, C> {
 impl<K: Ord, V, C: NodesMut<K, V>> RawBTree<K, V, C> {
     ghost use Rattle.btree_shape.specs.TreeState.{IsOffByOneAt};
 
-    /// Returns whether the tree has a root and at most 32 levels, and is well formed but for its length and the number of items of node
+    /// Returns whether the tree has a root and at most 32 levels, and is well formed except for its length and the number of items of node
     /// `id`, which may have one item too many or too few, and none if it is the root. This is what `rebalance` requires of the tree.
     ///
     /// It uses no memory but the stack. For each of the 32 heights that such a tree may have, it visits at most one node more than there

@@ -1,4 +1,9 @@
 -- What a line of text means.
+-- Read `line_words` first: the words of a line, which one or more spaces divide. Then `IsNumber`: a word of decimal
+-- digits below 2^64. Then what a line means: a command (`MeansCommand`: a name and numbers), a question (`IsQuestion`:
+-- a name alone), and over both `MeansLine`: nothing, a command, a question, or something else. `parse` in `src/line.rt`
+-- ensures `MeansLine`, and the contract of `drive` cites it through `Drives` (`Script.antt`). `SomeIfAny`, `words_of`,
+-- `BeginsWith` and the others are for the private functions that read a word, a number or a call.
 use Rattle.std.specs.Prelude.{◌≡◌, ◌≢◌, ℕ, ◌^◌, ◌<◌, Bool, List, [], ◌∷◌, length, filter, nat_lt, ◌==◌, Option, Some, None, codes}
 use Rattle.std.specs.List.{slice_split}
 use Rattle.std.specs.Io.BufRead.{strip_last}

@@ -1,5 +1,9 @@
 -- A session as a machine: the replies that it may give to a command, and its state after each.
 -- Only a refusal by the store changes the count of refusals. A refusal with the cause `Count` changes nothing at all.
+-- Read `MachineStep` first (the reply and the state, over a list of pairs), then `Handles` (the nodes). `IsStep` is
+-- both, with a well formed tree after it. `IsRun` is a list of commands with a reply to each, and `Runs`, which `run`
+-- cites, the same with the replies appended to a vector. The held place of a state is for later commands; there is none
+-- yet.
 use Rattle.std.specs.Prelude.{◌≡◌, ℕ, ◌+◌, ◌-◌, ◌^◌, List, [], ◌∷◌, length, insert, Option, Some, None, Vec}
 use Rattle.std.specs.Ordering.{nat_cmp}
 use Rattle.btree_item.specs.Pairs.{found, found_value, before, with_value}
@@ -26,7 +30,7 @@ pub record SessionState : Type 0 where
 abbrev pub after_insertion : SessionState → List (ℕ × ℕ) → SessionState
 after_insertion old pairs = record { pairs = pairs; place = None; refusals = old.refusals }
 
--- the state after a refusal: unchanged but for the store's count of its own refusals
+-- the state after a refusal: unchanged except for the store's count of its own refusals
 abbrev pub after_refusal : SessionState → Cause → SessionState
 after_refusal old Store = record old { refusals = old.refusals + 1 }
 after_refusal old Count = old

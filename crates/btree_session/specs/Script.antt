@@ -2,6 +2,9 @@
 -- A text is served to its end, or up to the first line that is neither a command nor a question, whose number, counted
 -- from 1, is returned; if memory, the reader or the writer fails, a first part of the lines is served. The bytes of the
 -- writer have grown by what was printed, unless the writer failed.
+-- Read `lines_of` first (the lines of a text), then `Does` (one line), `Serves` (lines, one after another) and
+-- `Drives`, which `drive` cites: what was served up to where it ends (`EndsAfter`), and what was written
+-- (`UnlessOutput`). The other words are for the private functions.
 use Rattle.std.specs.Prelude.{◌≡◌, ℕ, ◌+◌, ◌<◌, Bool, List, [], ◌∷◌, ◌++◌, length, Option, Some, Result, Ok, Err, IfSome, ⊤, ◌==◌, ◌⊎◌, Vec}
 use Rattle.std.specs.List.{slice_split}
 use Rattle.std.specs.Io.BufRead.{take_through, drop_through, strip_last}

@@ -1,4 +1,8 @@
--- The printed text of a reply.
+-- The printed text of a reply, and vectors and texts that grow.
+-- `reply_text` is the text of a reply, as in the table in README.md; `Display` of `Reply` prints it. `line_of` is the
+-- same on a line of its own. `Pushes` and `Grows` say what was appended to a vector or a text; `run` cites `Pushes` by
+-- `Runs` (`Machine.antt`), and `HasCapacityFor` for the vector of replies. `as_line` is for the answers to questions
+-- too (`Answer.antt`).
 use Rattle.std.specs.Prelude.{◌≡◌, ℕ, ◌+◌, ◌≤◌, List, [], ◌∷◌, ◌++◌, Vec, vec_len, vec_capacity, codes}
 use Rattle.std.specs.Fmt.{decimal}
 use Rattle.btree_item.specs.declared.refused.Cause.{Cause}

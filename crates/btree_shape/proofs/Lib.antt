@@ -1,10 +1,10 @@
-pub mod Examples
 pub mod Trees
 pub mod Paths
+pub mod LookUp
 pub mod Places
 pub mod Splits
-pub mod Underflow
 pub mod Strain
+pub mod Underflow
 pub mod Removal
-pub mod LookUp
 pub mod AddressLists
+pub mod Examples

@@ -1,9 +1,9 @@
 -- What an address becomes when a step of rebalancing moves items: one plain function of the address for each step.
 -- No step changes the place of an address or the item at it, and an offset other than -1 stays one.
--- That each step keeps the place and the item of every address is proved in `proofs/Splits/KeptPositions.antt` (splits) and
--- `proofs/Underflow/TreeAddresses.antt` (rotations, merges, a shrunk root); `proofs/Examples/MovedAddresses.antt` has
--- each line at given numbers. `moved_by_take` is no such step: each address after the removed item has one place less
--- (`take-later` in `proofs/Removal/FromTree.antt`).
+-- That each step keeps the place and the item of every address is proved in `proofs/Splits/KeptPositions.antt` (splits)
+-- and `proofs/Underflow/TreeAddresses.antt` (rotations, merges, a shrunk root); `proofs/Examples/MovedAddresses.antt`
+-- has each line at given numbers. `moved_by_take` is no such step: each address after the removed item has one place
+-- less (`take-later` in `proofs/Removal/FromTree.antt`).
 use Rattle.std.specs.Prelude.{ℕ, zero, suc, ◌+◌, ◌-◌, ◌==◌, nat_lt, if◌then◌else◌, Option, Some, None}
 use Rattle.btree_item.specs.declared.address.Address.{Address}
 use Rattle.btree_view.specs.View.{View, leaf, internal}

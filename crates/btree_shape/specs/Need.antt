@@ -1,5 +1,8 @@
 -- How many nodes an insertion at a node uses, and how many levels are above a node, computed from the nodes as they
 -- are.
+-- A leaf of at least 8 items and an internal node of at least 7 are full. `split_need` counts the full nodes from a
+-- node upward without a gap, and one more if the last of them is the root. `need` is that count at a leaf, and 1 for
+-- the empty tree. Contracts cite them of a state, as `nodes_for_splits` and `nodes_needed` (`TreeState`).
 use Rattle.std.specs.Prelude.{ℕ, zero, suc, nat_lt, if◌then◌else◌, Option, Some, None}
 use Rattle.btree_view.specs.View.{View, NodeMap, parent_of, size_of, most_of}
 

@@ -1,4 +1,6 @@
 -- What is left of a forward walk through a tree in order.
+-- Such a walk keeps the internal nodes on its path, each with how many of its items it has passed. So the pairs that
+-- are left can be read off these nodes (`remaining_above`). `Rows.antt` of `btree_walk` says the same of an iterator.
 use Rattle.std.specs.Prelude.{ℕ, suc, ◌+◌, ◌<◌, List, [], ◌∷◌, ◌++◌, Option}
 use Rattle.std.specs.List.{flat_map, AllByRecursion}
 use Rattle.btree_item.specs.declared.TheConstants.{MAX_LEVELS}

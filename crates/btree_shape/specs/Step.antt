@@ -1,4 +1,5 @@
 -- What calls leave of a store's nodes: one node written, numbers claimed, children under a new parent, a node split.
+-- Each says what has changed, and that no other node has. Contracts cite them by `Changes` (`TreeState`).
 use Rattle.std.specs.Prelude.{◌≡◌, ◌≢◌, ℕ, ◌+◌, ◌<◌, List, [], ◌∷◌, Option, Some, None, option_map}
 use Rattle.btree_view.specs.View.{View, internal, NodeMap, parent_of, items_of, children_of}
 use Rattle.btree_view.specs.Edits.{with_parent, is_internal, IsSplit}

@@ -1,9 +1,11 @@
 -- Strain, a potential: how near the nodes of a tree are to a split or a merge. It bounds the nodes that later steps
 -- allocate or free.
+-- The strain of a leaf of k items is k - 7 and that of an internal node k - 5, if above 0; a node other than the root
+-- has 4 - k more, if above 0. The strain of a tree (`IsStrain`) is the sum over its nodes.
 -- In an insertion and its splits, the nodes allocated and the strain afterwards are together at most the strain before,
--- plus one for the item that is inserted (`repaired-within` in `proofs/Splits/Insertion.antt`). In rotations, merges and
--- a shrunk root, the nodes freed and the strain afterwards are together at most the strain before, plus one for a root
--- without items (`AdjacentSteps` in `proofs/Underflow/Adjacent.antt`, `to-child` and `to-nothing` in
+-- plus one for the item that is inserted (`repaired-within` in `proofs/Splits/Insertion.antt`). In rotations, merges
+-- and a shrunk root, the nodes freed and the strain afterwards are together at most the strain before, plus one for a
+-- root without items (`AdjacentSteps` in `proofs/Underflow/Adjacent.antt`, `to-child` and `to-nothing` in
 -- `proofs/Underflow/Upward.antt`).
 use Rattle.std.specs.Prelude.{◌≡◌, ℕ, ◌+◌, ◌-◌, ◌==◌, if◌then◌else◌, List, length, Option, Some, None}
 use Rattle.btree_item.specs.declared.TheConstants.{MAX_INTERNAL_ITEMS, MAX_LEAF_ITEMS, MIN_ITEMS}
@@ -43,7 +45,7 @@ abbrev pub IsStrain : {A : Type 0} → NodeMap A → Option ℕ → ℕ → Type
 IsStrain node_at None strain = strain ≡ 0
 IsStrain node_at (Some root) strain = (ids : List ℕ) × ((n : ℕ) → times_listed n ids ≡ times_used (node_at n)) × (strain ≡ strain_under node_at root ids)
 
--- what a fix still has to pay for at a node: 1 for a root without items, which is to be freed, else 0; no node but the
--- root can be without items
+-- the debt of a fix at a node: 1 for a root without items, which is still to be freed, else 0; no node but the root can
+-- be without items
 abbrev pub debt_of : {A : Type 0} → View A → ℕ
 debt_of node = if size_of node == 0 then 1 else 0

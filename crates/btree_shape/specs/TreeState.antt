@@ -1,6 +1,7 @@
 -- A tree as contracts see it: its state, its list, and the definitions that contracts cite.
 -- A contract says that nothing changes by an equation of two states. The bound on the levels is the number of nodes, so
--- the list is right for every tree, whatever its length.
+-- the list is right for every tree, whatever its length. Read `TreeState`, `pairs_of` and `IsBTree` first. The others
+-- are the words of `Place.antt`, `Need.antt` and `Strain.antt` for a state.
 use Rattle.std.specs.Prelude.{◌≡◌, ℕ, suc, List, [], length, Option, Some, None, IsSome, option_map, refl}
 use Rattle.std.specs.Coded.{Coded, code_by, coded×, coded_ℕ, coded_option}
 use Rattle.std.specs.declared.cmp.Ordering.{Ordering}

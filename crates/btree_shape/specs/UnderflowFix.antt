@@ -1,4 +1,8 @@
 -- The order in which underflows are fixed: which step is taken at a node that underflows, and which node is next.
+-- A node with enough items stays, and nothing changes. A node that underflows borrows an item from its right sibling,
+-- else from its left one (`Borrows`), and the fix ends. If neither can spare one, it is merged (`MergesNode`), and the
+-- parent is next. A root without items is freed. `proofs/Examples/SmallTrees.antt` checks this at small trees. The
+-- contract of `rebalance` cites `IsUnderflowFixed`.
 use Rattle.std.specs.Prelude.{◌≡◌, ◌≢◌, ℕ, suc, ◌<◌, ◌≤◌, [], slice_get, Option, Some, None, IfSome, option_map}
 use Rattle.btree_item.specs.declared.TheConstants.{MIN_ITEMS}
 use Rattle.btree_view.specs.View.{View, leaf, NodeMap, children_in, parent_of, size_of}

@@ -55,8 +55,8 @@ pub record IsWellFormed {K V : Type 0} (cmp : K → K → Ordering) (node_at : N
   pub formed : IsFormed node_at root xs
   pub counted : len ≡ length xs
 
--- a tree of at most 32 levels with these pairs, off by one at node `exempt`: well formed but for the items there and the
--- length
+-- a tree of at most 32 levels with these pairs, off by one at node `exempt`: well formed except for the number of items
+-- there and the length
 pub record IsOffByOne {K V : Type 0} (cmp : K → K → Ordering) (node_at : NodeMap (K × V)) (root exempt : ℕ) (xs : List (K × V)) : Type 0 where
   pub ascends : Ascends cmp xs
   pub rooted : IsRooted (IsNearlySized root exempt) node_at root xs

@@ -7,7 +7,7 @@ use std::alloc::Global;
 use std::process::Abort;
 use std::test::Fail;
 
-// Returns a tree of two leaves that is well formed but for its length.
+// Returns a tree of two leaves that is well formed except for its length.
 fn even(rt: &impl Abort, alloc: Global) -> (Raw, usize, usize, usize) {
     two(rt, alloc, &[0, 1, 2], 3, &[4, 5, 6])
 }

@@ -172,7 +172,7 @@ fn check_each_refused(rt: &impl Abort, keys: u64, nodes: usize, alloc: Global) -
 }
 
 // The last of 44 keys uses three new nodes. That of 64 uses two, a leaf and a node above it, the 17th. There the store grows, so that the
-// first of the two claimed nodes is given back.
+// first of the two claimed nodes is freed again.
 #[test]
 fn a_refused_node_changes_nothing(rt: HostRuntime) -> Result<(), Fail> {
     check_each_refused(&rt, 44, 12, rt.alloc())?;

@@ -1,9 +1,11 @@
 -- What an in-order walk through the nodes of a tree of any content passes.
 -- The walk passes nodes in the order of their keys, and keeps the last key that it passed and how many nodes may still
 -- come. A part of the tree is passed if it represents its pairs at its height under its parent, each of its nodes has
--- its number of items, but for one more or less at node `exempt`, and the keys of its pairs, after those passed before,
--- still ascend. A whole tree is passed from its root with as many nodes as the store has; that each number then occurs
--- once follows from the parent numbers and the order of the keys.
+-- its number of items, except for one more or less at node `exempt`, and the keys of its pairs, after those passed
+-- before, still ascend. A whole tree is passed from its root with as many nodes as the store has; that each number then
+-- occurs once follows from the parent numbers and the order of the keys.
+-- `Passes` and `CanPass` say that a part was, or can be, passed; `MayEnter` is the condition on a single node.
+-- `is_off_by_one` cites `IsOffByOneAmong` alone: the nodes of a store are off by one, with some list.
 use Rattle.std.specs.Prelude.{◌≡◌, ℕ, ◌+◌, ◌<◌, ◌≤◌, suc, List, ◌++◌, length, Option, Some, None}
 use Rattle.std.specs.List.{AllByRecursion}
 use Rattle.std.specs.declared.cmp.Ordering.{Ordering}
@@ -24,7 +26,7 @@ IsAbove cmp None key = Unit {0}
 IsAbove cmp (Some last) key = cmp last key ≡ Less
 
 -- the walk may enter this node: at least one more node may come, the node names this parent, and it has its number of
--- items, but for one more or less at node `exempt`
+-- items, except for one more or less at node `exempt`
 abbrev pub MayEnter : {A : Type 0} → View A → (root exempt id left : ℕ) → (parent : Option ℕ) → Type 0
 MayEnter node root exempt id left parent = (0 < left) × (parent_of node ≡ parent) × IsNearlySized root exempt id node
 
@@ -48,7 +50,7 @@ module _ {K V : Type 0} (cmp : K → K → Ordering) where
   IsOffAt node_at root exempt height = (xs : List (K × V)) × Ascends cmp xs × (rooted : IsRooted (IsNearlySized root exempt) node_at root xs) × (rooted.height ≡ height)
 
   module _ (node_at : NodeMap (K × V)) (root exempt : ℕ) where
-    -- each node under these numbers has its number of items, but for one more or less at node `exempt`
+    -- each node under these numbers has its number of items, except for one more or less at node `exempt`
     abbrev pub AreNearlySized : List ℕ → Type 0
     AreNearlySized ids = (n : ℕ) (node : View (K × V)) → 0 < times_listed n ids → node_at n ≡ Some node → IsNearlySized root exempt n node
 

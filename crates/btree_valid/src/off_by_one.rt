@@ -67,7 +67,7 @@ fn most_items<K, V>(node: &Node<K, V>, exempt: usize, id: usize) -> usize
 }
 
 // Returns whether the walk may enter a node: at least one more node may come, the node names this parent, and it has its number of items,
-// but for one more or less at node `exempt`.
+// except for one more or less at node `exempt`.
 fn may_enter<K, V>(
     node: &Node<K, V>,
     root: usize,
@@ -212,7 +212,7 @@ fn is_off_by_one_at_some_height<K: Ord, V, C: Nodes<K, V>>(nodes: &C, root: usiz
     false
 }
 
-/// Returns whether the nodes form a tree of at most 32 levels under a root, well formed but for its length and the number of items of
+/// Returns whether the nodes form a tree of at most 32 levels under a root, well formed except for its length and the number of items of
 /// node `exempt`. That node is there, and may have one item too many or too few, and none if it is the root.
 ///
 /// It uses no memory but the stack. For each of the 32 heights that such a tree may have, it visits at most one node more than there are.

@@ -1,4 +1,6 @@
--- What a look-up by key in one node returns.
+-- What a look-up by key in one node returns: the key's index or value if it is there, else the child to go on in.
+-- Of a node's calls by key, `get` and `get_mut` cite `look_up`, `find_mut` cites `find_in`, and `offset_of` cites
+-- `offset_in` and `PointsInto`.
 use Rattle.std.specs.Prelude.{◌≡◌, ℕ, ◌<◌, ◌≤◌, IsSomeAnd, List, Option, Some, None, Result, Ok, Err, slice_get}
 use Rattle.std.specs.Result.{result_map_both}
 use Rattle.std.specs.declared.cmp.Ordering.{Ordering}

@@ -1,7 +1,7 @@
 -- A node as definitions see it, and the map of nodes of a store.
 -- The definitions of trees are about a `NodeMap` alone, so they hold for any store and for any representation of a
 -- node. `view_of` of `btree_node` gives the view of a `Node`; `leaf_view` and `internal_view` give those of the two
--- kinds.
+-- kinds. A branch is an item of an internal node with the child after it.
 use Rattle.std.specs.Prelude.{◌≡◌, ℕ, ◌+◌, List, [], ◌∷◌, drop, length, map, slice_get, Option, Some, None}
 use Rattle.std.specs.Option.{option_and_then, option_map}
 use Rattle.btree_item.specs.declared.TheConstants.{MAX_INTERNAL_ITEMS, MAX_LEAF_ITEMS}

@@ -38,7 +38,7 @@ module _ {K V : Type 0} (cmp : K → K → Ordering) (laws : IsTotalOrder cmp) (
       }
 
 module _ {A : Type 0} (node_at : NodeMap A) (levels root : ℕ) (xs : List A) (p : IsPlaced node_at levels root xs) where
-  -- the shape of the tree, and its positions
+  -- the tree as one subtree, and its positions
   pub record AsSubtree : Type 0 where
     pub subtree : Subtree A p.rooted.height
     pub here : id_of A p.rooted.height subtree ≡ root

@@ -182,7 +182,7 @@ module _ (A : Type 0) (node_at : NodeMap A) where
               (above-sized A node_at h c (id_of A h t) w.above w.filled n v some e)
         ]
 
-    -- and that one has as many items as its shape
+    -- and that one has as many items as its subtree's root
     pub top-counts : (h : ℕ) (c : Path A h) (t : Subtree A h) → IsFocus A node_at [] root xs h c t → (n : ℕ) (v : View A)
         → n ≡ id_of A h t → node_at n ≡ Some v
         → (size_of v ≡ count_at A h t) × (most_of v ≡ most_at h)

@@ -56,7 +56,7 @@ module _ (A : Type 0) (c : Path A 0) (i : ℕ) (l : List A) (x : A) (r : List A)
         root_is = w.root_is;
       }
 
-  -- the strain, with what is then owed
+  -- the strain, with the debt that is then left
   pub take-strain : strain_of A 0 c (i, l ++ r) + debt c (length (l ++ r)) ≤ suc (strain_of A 0 c (i, l ++ x ∷ r))
   take-strain =
       let p = length-append l (x ∷ r) in

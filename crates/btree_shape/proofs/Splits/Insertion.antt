@@ -95,7 +95,7 @@ module _ (A : Type 0) where
       (node : IsNode A node_at root xs id) (here : node_at id ≡ Some (leaf p ys)) (low : o ≤ length ys)
       (most : ℕ) (deep : depth node.focus.path < most) (cl : Claims node_at mid spare) (enough : length spare ≡ split_need node_at most id)
       (pu : WritesNode mid new id (with_item o x None (leaf p ys))) where
-    -- the place in the list, the tree with the item, and the nodes it has gained
+    -- the place in the list, the strain before, and the tree with the item: the start of the splits
     pub record PutAt : Type 0 where
       pub place : ℕ
       pub is : IsPlace node_at (Some root) xs id (Some o) place

@@ -34,7 +34,7 @@ module _ (A : Type 0) where
   rotate-sizes (suc h) m n e1 e2 = omega arith
 
   module _ (h : ℕ) (f : Frame A h) (c : Path A (suc h)) (a : Subtree A h) (x : A) (b : Subtree A h) where
-    -- one for the node that is freed, and what the parent may then owe
+    -- one for the node that is freed, and the debt that the parent may then have
     pub merge-strain : count_at A h a + count_at A h b ≡ 5 → count_at A h a ≤ 3 → count_at A h b ≤ 3
         → 1 + (strain_of A (suc h) c (fill f (join A h a x b)) + debt c (frame_count f))
         ≤ strain_of A (suc h) c (fill_two f a x b)

@@ -104,7 +104,7 @@ module _ (A : Type 0) (node_at : NodeMap A) (n : ℕ) where
       let r = branch-numbers h p each bs d.1 in
       omega arith
 
-  -- the numbers under a node are those of its shape
+  -- the numbers under a node are those of its subtree
   pub numbers-subtree : (h : ℕ) (p : Option ℕ) (t : Subtree A h) → Holds A node_at h p t
       → times_listed n (numbers_under node_at h (id_of A h t)) ≡ times_under A h n t
   numbers-subtree zero p t d = omega arith

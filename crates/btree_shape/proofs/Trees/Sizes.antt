@@ -1,4 +1,4 @@
--- The numbers of items of nodes, for a map of nodes and for the shapes that it holds.
+-- The numbers of items of nodes, for a map of nodes and for the subtrees that it holds.
 use Rattle.std.proofs.Common.{◌≡◌, ◌≢◌, ◌<◌, ◌≤◌, ◌++◌, ◌∷◌, [], ◌∙◌, ◌+◌, ℕ, zero, suc, inl, inr, List, length, map, Option, Some, refl, sym, ap, subst, arith}
 use Rattle.std.proofs.lemmas.Bool.Decides.{nat_tests}
 use Rattle.std.specs.List.{AllByRecursion}
@@ -186,7 +186,8 @@ module _ (A : Type 0) where
           | inr some ↦ tree-middle h (Some i) first d.0 z.0 z.1 n some
         ]
 
-    -- each node of the path, and below its other children, has its number of items, by the nodes or by the shapes
+    -- each node of the path, and below its other children, has its number of items, by the nodes or by the
+    -- subtrees
     pub above-sized : (h : ℕ) (c : Path A h) (hole : ℕ) → HoldsAbove node_at c hole → AreFilled c → (n : ℕ) (v : View A)
         → 0 < times_above n c → node_at n ≡ Some v → IsSized (root_above c hole) n v
     above-sized h top hole d z n v q e = absurd (omega arith)

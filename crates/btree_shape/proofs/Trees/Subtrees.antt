@@ -1,4 +1,4 @@
--- From the list that nodes represent to a shape, and back.
+-- From the list that nodes represent to a subtree as one value, and back.
 use Rattle.std.proofs.Common.{◌≡◌, ◌++◌, ◌∷◌, [], ◌∙◌, ℕ, zero, suc, List, map, Option, Some, refl, sym, ap}
 use Rattle.std.specs.List.{AllByRecursion, flat_map}
 use Rattle.btree_view.specs.View.{NodeMap, internal}
@@ -40,7 +40,7 @@ module _ (A : Type 0) where
     ap (λ z. items_under A h t.1 ++ z) (later-again h t.2),
   )
 
--- a shape whose nodes are under a number and represent the list
+-- a subtree whose nodes are under a number and represent the list
 pub record Shaped (A : Type 0) (node_at : NodeMap A) (h : ℕ) (p : Option ℕ) (i : ℕ) (xs : List A) : Type 0 where
   pub subtree : Subtree A h
   pub here : id_of A h subtree ≡ i

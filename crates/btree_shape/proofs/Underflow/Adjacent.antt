@@ -73,7 +73,7 @@ module _ (A : Type 0) (node_at : NodeMap A) (root : ℕ) (xs : List A) (expected
         → (levels_above new (length xs) parent < levels_above node_at (length xs) left)
         × (levels_above new (length xs) parent < levels_above node_at (length xs) right)
 
--- the child that a node gives away at its front is its first one
+-- the child that a node lends at its front is its first one
 pub first-child : {A : Type 0} (v : View A) (child : Option ℕ) (rest : List ℕ) → HasChildFor child v
     → children_of v ≡ as_list child ++ rest → child ≡ first_in v
 first-child (leaf p xs) None rest k e = refl

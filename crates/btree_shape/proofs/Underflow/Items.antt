@@ -64,7 +64,7 @@ module _ (A : Type 0) where
   ids-append h [] r = refl
   ids-append h (b ∷ l) r = ap (λ z. id_of A h b.1 ∷ z) (ids-append h l r)
 
-  -- a sibling with an item can give it
+  -- a sibling with an item can lend it
   pub rotates-left : (h : ℕ) (a : Subtree A h) (x : A) (b : Subtree A h) → 0 < count_at A h b
       → (new_a : Subtree A h) × (y : A) × (new_b : Subtree A h) × Rotates A h a x b new_a y new_b
   rotates-left zero a x (j, []) some = absurd (omega arith)

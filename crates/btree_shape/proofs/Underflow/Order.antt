@@ -102,7 +102,7 @@ module _ {A : Type 0} (new : NodeMap A) (root : ℕ) (new_root : Option ℕ) whe
   least-other : (id : ℕ) → id ≢ root → least_of root id ≡ 3
   least-other id apart = full-no id root 1 3 apart
 
-  -- a right sibling that has an item to spare gives it, whatever else could be done
+  -- a right sibling that has an item to spare lends it, whatever else could be done
   module _ (node_at : NodeMap A) (parent index right id : ℕ) (child : child_at node_at parent index ≡ Some id)
       (only : (k : ℕ) → child_at node_at parent k ≡ Some id → k ≡ index) (spare : CanSpare node_at parent (suc index) right) where
     clash : (k : ℕ) → suc k ≡ index → NoneSpares node_at parent (suc (suc k)) → ⊥

@@ -57,7 +57,7 @@ module _ {A X : Type 0} (key : X → A) (f : X → List (Position A)) where
         (keep-append g (f e) (f e) (positions_from key f j 0 ys) (positions_from key f i (suc n) ys) refl ce
         (keep-from g j i (suc n) ys ej ys_kept))))))))
 
-    -- B gives its first item, with the child before it
+    -- B lends its first item, with the child before it
     pub node_positions-left : (e d : X) → KeepsPositions g (f e) (f e) → KeepsPositions g (f d) (f d)
         → ((k : ℕ) → k ≤ length xs → g (address_at i k) ≡ address_at i k) → g (address_at p s) ≡ address_at i (length xs)
         → g (address_at j 0) ≡ address_at p s → ((k : ℕ) → k ≤ length ys → g (address_at j (1 + k)) ≡ address_at j k)
@@ -90,7 +90,7 @@ module _ {A X : Type 0} (key : X → A) (f : X → List (Position A)) where
         (keep-append g (f d) (f d) (positions_from key f j 1 ys) (positions_from key f j 0 ys) refl cd
         (keep-back key f g j 1 j ys ej ys_kept)))))))))))))
 
-    -- A gives its last item, with the child after it
+    -- A lends its last item, with the child after it
     pub node_positions-right : (e d : X) → KeepsPositions g (f e) (f e) → KeepsPositions g (f d) (f d)
         → ((k : ℕ) → k < length xs → g (address_at i k) ≡ address_at i k) → g (address_at i (length xs)) ≡ address_at p s
         → g (address_at i (suc (length xs))) ≡ address_at j 0 → g (address_at p s) ≡ address_at j 0

@@ -83,7 +83,7 @@ module _ (A : Type 0) where
         one_children = λ t. ap (λ l. id_of A h first ∷ l) (ids-append A h front ((z, t) ∷ back));
       }
 
-  -- a node that is changed to what the shape says
+  -- a node that is changed to the root of another subtree
   pub remade-view : (h : ℕ) (p : Option ℕ) (t s : Subtree A h) (old new : View A) (is : List A) (cs : List ℕ)
       → old ≡ view_at A h p t → IsRemade old new is cs → is ≡ items_at A h s → cs ≡ children_at A h s
       → new ≡ view_at A h p s
@@ -160,7 +160,7 @@ module _ (A : Type 0) (node_at new : NodeMap A) where
         (λ n m. let o = apart n in let t = times-top A h n u in
         kept n (one-zero n q (omega arith)) (one-zero n i (omega arith)) (one-zero n j (omega arith)) (omega arith)) d
 
-  -- the nodes below two siblings, one of which gives the other its outer child
+  -- the nodes below two siblings, one of which lends the other its outer child
   module _ (h q i j : ℕ) (first : Subtree A h) (left : List (A × Subtree A h)) (x : A) (u : Subtree A h) (y : A)
       (w : Subtree A h) (right : List (A × Subtree A h)) where
     pub to-left : Apart A (suc h) q (i, first, left) (j, u, (y, w) ∷ right)

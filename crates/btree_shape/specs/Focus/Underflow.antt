@@ -11,7 +11,7 @@ use Rattle.btree_shape.specs.Focus.Focus.{HasFocus}
 use Rattle.btree_shape.specs.Focus.Positions.{IsAt, all_positions}
 use Rattle.btree_shape.specs.Focus.Strain.{strain_of}
 
--- what the fix still has to pay for: 1 for a root without items, which is to be freed, else 0
+-- the debt of the fix: 1 for a root without items, which is still to be freed, else 0
 abbrev pub debt : {A : Type 0} {height : ℕ} → Path A height → (count : ℕ) → ℕ
 debt top zero = 1
 debt top (suc count) = 0
