@@ -118,8 +118,8 @@ module _ {K V : Type 0} (cmp : K → K → Ordering) (laws : IsTotalOrder cmp) (
     same-top : mid.root ≡ Some root
     same-top = same-root claimed.rest ∙ is
 
-    pub can-take : (index : ℕ) → Some index ≡ a.offset → CanAddItem (node_map mid) a.id index None
-    can-take index at = subst (λ n. CanAddItem (node_map mid) a.id n None) (index-is index at)
+    pub can-add : (index : ℕ) → Some index ≡ a.offset → CanAddItem (node_map mid) a.id index None
+    can-add index at = subst (λ n. CanAddItem (node_map mid) a.id n None) (index-is index at)
         (record { node = leaf the-leaf.parent the-leaf.items; here = leaf-kept; room = the-leaf.few; within = the-leaf.within; kind = refl })
 
     module _ (put : TreeState K V) (index : ℕ) (offset : Some index ≡ a.offset) (adds : Changes (λ p q. AddsItem p q a.id index (k, w) None) mid put) where

@@ -33,8 +33,8 @@ module _ {N : Type 0} (empty : N) where
     pub less : IsClaimed empty base (map.remove now id) ids
 
   -- the last claim is freed
-  pub given-back : (base now : Content N) (all ids : List ℕ) (id : ℕ) → all ≡ ids ++ id ∷ [] → IsClaimed empty base now all → Back base now ids id
-  given-back base now all ids id e c =
+  pub claims-undone : (base now : Content N) (all ids : List ℕ) (id : ℕ) → all ≡ ids ++ id ∷ [] → IsClaimed empty base now all → Back base now ids id
+  claims-undone base now all ids id e c =
       let r = are-one_less base ids id (subst (λ l. AreClaims empty base l) e c.claims) in
       let is : now ≡ map.insert (with_claims empty base ids) id empty = c.after ∙ (ap (with_claims empty base) e ∙ with-one_more base ids id) in
       record {

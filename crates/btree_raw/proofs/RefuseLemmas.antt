@@ -4,7 +4,7 @@ use Rattle.std.specs.FinMap as map
 use Rattle.btree_shape.specs.TreeState.{TreeState}
 use Rattle.btree_raw.specs.Claimed.{AreClaimed, EMPTY, IsClaimed}
 use Rattle.btree_raw.specs.Raw.{Refuses}
-use Rattle.btree_raw.proofs.ClaimLemmas.{given-back, one-more}
+use Rattle.btree_raw.proofs.ClaimLemmas.{claims-undone, one-more}
 use Rattle.btree_raw.proofs.StateLemmas.{with_nodes}
 
 module _ {K V : Type 0} where
@@ -24,11 +24,11 @@ module _ {K V : Type 0} where
       })
 
   pub claim-used : (base now : TreeState K V) (all ids : List ℕ) (id : ℕ) → all ≡ ids ++ id ∷ [] → AreClaimed base now all → IsSome (map.get now.nodes id)
-  claim-used base now all ids id e c = (given-back EMPTY base.nodes now.nodes all ids id e c.claimed).used
+  claim-used base now all ids id e c = (claims-undone EMPTY base.nodes now.nodes all ids id e c.claimed).used
 
   pub less-claims : (base now mid : TreeState K V) (all ids : List ℕ) (id : ℕ) → all ≡ ids ++ id ∷ [] → mid ≡ record now { nodes = map.remove now.nodes id }
       → AreClaimed base now all → AreClaimed base mid ids
   less-claims base now mid all ids id e is c = subst (λ s. AreClaimed base s ids) (sym is) (record {
-    claimed = (given-back EMPTY base.nodes now.nodes all ids id e c.claimed).less;
+    claimed = (claims-undone EMPTY base.nodes now.nodes all ids id e c.claimed).less;
     rest = record { rest = ap (with_nodes (map.remove now.nodes id)) c.rest.rest };
   })

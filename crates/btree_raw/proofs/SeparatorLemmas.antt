@@ -64,8 +64,8 @@ module _ {K V : Type 0} (nodes : Content (Node K V)) (above id : ℕ) (can : Can
         pub index-few : index ≤ 8
         index-few = let k = one-more can.node can.inner in let k0 = k.0 in let k1 = k.1 in let l = child-at.0 in let r = can.room in omega arith
 
-        pub can-take : (right : ℕ) → CanAddItem (views nodes) above index (Some right)
-        can-take right = record {
+        pub can-add : (right : ℕ) → CanAddItem (views nodes) above index (Some right)
+        can-add right = record {
           node = can.node;
           here = can.here;
           room = can.room;

@@ -12,12 +12,12 @@ use Rattle.btree_shape.specs.Represents.{Represents, represented}
 module _ {A : Type 0} (node_at : NodeMap A) (levels : ℕ) where
   -- each item of a row, and the list that the child after it represents
   abbrev pub remaining_in : List (A × ℕ) → List A
-  remaining_in node_positions = flat_map (λ b. b.0 ∷ represented node_at levels b.1) node_positions
+  remaining_in row = flat_map (λ b. b.0 ∷ represented node_at levels b.1) row
 
   -- what is left in all rows; the lowest row comes first
   abbrev pub remaining_above : List (List (A × ℕ)) → List A
   remaining_above [] = []
-  remaining_above (node_positions ∷ rows) = remaining_above rows ++ remaining_in node_positions
+  remaining_above (row ∷ rows) = remaining_above rows ++ remaining_in row
 
   -- node `id`, with `depth` nodes above it, represents a list and is fewer than `levels` levels above the leaves; a
   -- tree has at most 32 levels
@@ -32,4 +32,4 @@ module _ {A : Type 0} (node_at : NodeMap A) (levels : ℕ) where
   -- the children of a row are one level below the row's node, and so is the node of the next row
   abbrev pub AreRows : (depth : ℕ) → List (List (A × ℕ)) → Type 0
   AreRows depth [] = Unit {0}
-  AreRows depth (node_positions ∷ rows) = AllByRecursion (λ b. IsUnder (suc depth) b.1) node_positions × AreRows (suc depth) rows
+  AreRows depth (row ∷ rows) = AllByRecursion (λ b. IsUnder (suc depth) b.1) row × AreRows (suc depth) rows

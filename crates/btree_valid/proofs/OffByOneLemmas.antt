@@ -19,7 +19,7 @@ use Rattle.btree_shape.proofs.LookUp.KeyInList.{Rises, rises}
 use Rattle.btree_shape.proofs.Trees.Represented.{represented-is}
 use Rattle.btree_shape.proofs.Trees.Subtrees.{subtree-of}
 use Rattle.btree_shape.proofs.Trees.Stores.{len-views}
-use Rattle.btree_valid.specs.OffByOne.{CanPassUnder, IsOffByOneAmong, IsOffAt, IsOffByOneAtSomeHeight, PassesUnder}
+use Rattle.btree_valid.specs.OffByOne.{CanPassUnder, IsOffByOneAmong, IsOffByOneWithHeight, IsOffByOneAtSomeHeight, PassesUnder}
 use Rattle.btree_valid.proofs.OnceLemmas.{all-used, few}
 use Rattle.btree_valid.proofs.OrderLemmas.{passed-none}
 
@@ -43,12 +43,12 @@ module _ {K V : Type 0} (cmp : K → K → Ordering) (nodes : Content (Node K V)
         let up = rises cmp pairs order.ascends in
         let low = few cmp laws node_at root exempt height s.subtree s.here s.holds (subst (λ l. Rises cmp l) (sym s.list) up)
         (λ m v some at. p.sized m v (let q = same m in omega arith) at) in
-        let paid = p.paid in
+        let counted = p.counted in
         let all = all-used ids nodes (λ m. let q = same m in let l = low m in let z = used-mapped view_of (map.get nodes m) in omega arith) (omega arith) n in
         all ∙ sym (used-mapped view_of (map.get nodes n))
 
     -- all nodes were passed
-    pub off-found : IsOffAt cmp node_at root exempt height
+    pub off-found : IsOffByOneWithHeight cmp node_at root exempt height
     off-found = (
       pairs,
       (p.order [] (passed-none cmp)).ascends,
@@ -61,7 +61,7 @@ module _ {K V : Type 0} (cmp : K → K → Ordering) (nodes : Content (Node K V)
       refl,
     )
 
-  module _ (off : IsOffAt cmp node_at root exempt height) where
+  module _ (off : IsOffByOneWithHeight cmp node_at root exempt height) where
     represented-pairs : pairs ≡ off.0
     represented-pairs = let r = off.2 in represented-is node_at height (suc height) None root off.0 (omega arith) (subst (λ h. Represents node_at h None root off.0) off.3 r.represents)
 
@@ -87,12 +87,12 @@ module _ {K V : Type 0} (cmp : K → K → Ordering) (nodes : Content (Node K V)
 
     -- and no node is left
     pub none-left : (last : Option K) (left : ℕ) → PassesUnder cmp node_at root exempt height None root (map.len nodes) None left last → left ≡ 0
-    none-left last left p = let e = all-counted in let q = p.paid in omega arith
+    none-left last left p = let e = all-counted in let q = p.counted in omega arith
 
 module _ {K V : Type 0} (cmp : K → K → Ordering) (nodes : Content (Node K V)) (root exempt height : ℕ) where
   -- the end of the walk
   pub at-end : IsTotalOrder cmp → (count : ℕ) → count ≡ map.len nodes → (last : Option K) (left : ℕ) → PassesUnder cmp (views nodes) root exempt height None root count None left last
-      → (IsTrue (eqb left 0) → IsOffAt cmp (views nodes) root exempt height) × (IsOffAt cmp (views nodes) root exempt height → IsTrue (eqb left 0))
+      → (IsTrue (eqb left 0) → IsOffByOneWithHeight cmp (views nodes) root exempt height) × (IsOffByOneWithHeight cmp (views nodes) root exempt height → IsTrue (eqb left 0))
   at-end laws count is last left p =
       let q = subst (λ n. PassesUnder cmp (views nodes) root exempt height None root n None left last) is p in (
         λ yes. off-found cmp nodes root exempt height laws last left q (grind (arith, nat_tests)),
@@ -100,7 +100,7 @@ module _ {K V : Type 0} (cmp : K → K → Ordering) (nodes : Content (Node K V)
       )
 
   pub not-passed : (count : ℕ) → count ≡ map.len nodes → (CanPassUnder cmp (views nodes) root exempt height None root count None → IsTrue false)
-      → (IsTrue false → IsOffAt cmp (views nodes) root exempt height) × (IsOffAt cmp (views nodes) root exempt height → IsTrue false)
+      → (IsTrue false → IsOffByOneWithHeight cmp (views nodes) root exempt height) × (IsOffByOneWithHeight cmp (views nodes) root exempt height → IsTrue false)
   not-passed count is not = (
     λ no. absurd (cc),
     λ off. not (subst (λ n. CanPassUnder cmp (views nodes) root exempt height None root n None) (sym is) (off-can cmp nodes root exempt height off)),
@@ -108,10 +108,10 @@ module _ {K V : Type 0} (cmp : K → K → Ordering) (nodes : Content (Node K V)
 
 module _ {K V : Type 0} (cmp : K → K → Ordering) (node_at : NodeMap (K × V)) (root exempt : ℕ) where
   -- off by one, at one of 32 heights
-  pub is-off : (height : ℕ) → height < 32 → IsOffAt cmp node_at root exempt height → IsSome (node_at exempt) → (xs : List (K × V)) × IsOffByOne cmp node_at root exempt xs
+  pub is-off : (height : ℕ) → height < 32 → IsOffByOneWithHeight cmp node_at root exempt height → IsSome (node_at exempt) → (xs : List (K × V)) × IsOffByOne cmp node_at root exempt xs
   is-off height low off used = (off.0, record { ascends = off.1; rooted = off.2; low = let e = off.3 in omega arith; used = used })
 
-  pub off-is : (xs : List (K × V)) → IsOffByOne cmp node_at root exempt xs → (height : ℕ) × (height < 32) × IsOffAt cmp node_at root exempt height
+  pub off-is : (xs : List (K × V)) → IsOffByOne cmp node_at root exempt xs → (height : ℕ) × (height < 32) × IsOffByOneWithHeight cmp node_at root exempt height
   off-is xs w = (w.rooted.height, w.low, (xs, w.ascends, w.rooted, refl))
 
 pub next-height : (P : ℕ → Type 0) (n : ℕ) → ((h : ℕ) → h < n → P h → ⊥) → (P n → IsTrue false) → (h : ℕ) → h < n + 1 → P h → ⊥

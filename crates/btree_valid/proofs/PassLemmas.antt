@@ -51,7 +51,7 @@ module _ {K V : Type 0} (cmp : K → K → Ordering) (node_at : NodeMap (K × V)
     right = tt;
     sized = λ n node some at. absurd (omega arith);
     order = orders-none cmp last;
-    paid = omega arith;
+    counted = omega arith;
   }
 
   module _ (height id : ℕ) (b : (K × V) × ℕ) (bs : List ((K × V) × ℕ)) (left : ℕ) (last : Option K) where
@@ -66,7 +66,7 @@ module _ {K V : Type 0} (cmp : K → K → Ordering) (node_at : NodeMap (K × V)
       sized = sized-append (numbers_under node_at height b.1) (numbers-in height bs) c.sized r.sized;
       order = orders-append cmp (b.0 ∷ child) (pairs-in height bs) last last_mid last_after
           (orders-append cmp (b.0 ∷ []) child last (Some b.0.0) last_mid (orders-one cmp laws last b.0 b.0.0 refl up) c.order) r.order;
-      paid = let l = length-append (numbers_under node_at height b.1) (numbers-in height bs) in let p = c.paid in let q = r.paid in omega arith;
+      counted = let l = length-append (numbers_under node_at height b.1) (numbers-in height bs) in let p = c.counted in let q = r.counted in omega arith;
     }
 
     pub row-above : CanPassRow height id (b ∷ bs) left last → IsAbove cmp last b.0.0
@@ -88,7 +88,7 @@ module _ {K V : Type 0} (cmp : K → K → Ordering) (node_at : NodeMap (K × V)
       sized = sized-back (numbers_under node_at height b.1) (numbers-in height bs) c.sized;
       order = can-back cmp child (pairs-in height bs) (Some b.0.0) last_mid
           (can-back cmp (b.0 ∷ []) (child ++ pairs-in height bs) last (Some b.0.0) c.order (orders-one cmp laws last b.0 b.0.0 refl up)) p.order;
-      enough = let l = length-append (numbers_under node_at height b.1) (numbers-in height bs) in let e = c.enough in let q = p.paid in omega arith;
+      enough = let l = length-append (numbers_under node_at height b.1) (numbers-in height bs) in let e = c.enough in let q = p.counted in omega arith;
     }
 
   -- the branches `rest` of a node come next, and then all of it is passed
@@ -157,7 +157,7 @@ module _ {K V : Type 0} (cmp : K → K → Ordering) (node_at : NodeMap (K × V)
         right = subst (λ l. node_at id ≡ Some (leaf parent l)) items-are here;
         sized = one-sized id (leaf parent items) here sized;
         order = subst (λ l. Orders cmp l last last_after) items-are f;
-        paid = omega arith;
+        counted = omega arith;
       }
 
       pub leaf-can : CanPassUnder cmp node_at root exempt zero parent id left last → CanOrder cmp items last
@@ -239,7 +239,7 @@ module _ {K V : Type 0} (cmp : K → K → Ordering) (node_at : NodeMap (K × V)
       first-passed sized left_mid last_mid p =
           let l = length-append (numbers_under node_at height first) (numbers-in height bs) in
           let m = ap length numbers-are in
-          let q = p.paid in
+          let q = p.counted in
           record {
             only = λ left_after last_after r. record {
               right = subst (λ l. Represents node_at (suc height) parent id l) pairs-are (represents-node p.right r.right);
@@ -247,7 +247,7 @@ module _ {K V : Type 0} (cmp : K → K → Ordering) (node_at : NodeMap (K × V)
                   (sized-append (id ∷ []) (numbers_under node_at height first ++ numbers-in height bs) (one-sized id (internal parent first bs) here sized)
                   (sized-append (numbers_under node_at height first) (numbers-in height bs) p.sized r.sized));
               order = subst (λ l. Orders cmp l last last_after) pairs-are (orders-append cmp front (pairs-in height bs) last last_mid last_after p.order r.order);
-              paid = let z = r.paid in omega arith;
+              counted = let z = r.counted in omega arith;
             };
             always = λ c.
                 let sizes = subst (AreNearlySized cmp node_at root exempt) (sym numbers-are) c.sized in

@@ -46,8 +46,8 @@ module _ {K V : Type 0} (cmp : K → K → Ordering) where
   CanOrder xs last = (done : List (K × V)) × HasPassed last done × Ascends cmp (done ++ xs)
 
   -- the tree is off by one at a node, and its root is `height` levels above the leaves
-  abbrev pub IsOffAt : NodeMap (K × V) → (root exempt height : ℕ) → Type 0
-  IsOffAt node_at root exempt height = (xs : List (K × V)) × Ascends cmp xs × (rooted : IsRooted (IsNearlySized root exempt) node_at root xs) × (rooted.height ≡ height)
+  abbrev pub IsOffByOneWithHeight : NodeMap (K × V) → (root exempt height : ℕ) → Type 0
+  IsOffByOneWithHeight node_at root exempt height = (xs : List (K × V)) × Ascends cmp xs × (rooted : IsRooted (IsNearlySized root exempt) node_at root xs) × (rooted.height ≡ height)
 
   module _ (node_at : NodeMap (K × V)) (root exempt : ℕ) where
     -- each node under these numbers has its number of items, except for one more or less at node `exempt`
@@ -60,7 +60,7 @@ module _ {K V : Type 0} (cmp : K → K → Ordering) where
       pub right : IsRight
       pub sized : AreNearlySized ids
       pub order : Orders xs last last_after
-      pub paid : left ≡ length ids + left_after
+      pub counted : left ≡ length ids + left_after
 
     -- the part can be passed
     pub record CanPass (IsRight : Type 0) (ids : List ℕ) (xs : List (K × V)) (left : ℕ) (last : Option K) : Type 0 where
@@ -80,7 +80,7 @@ module _ {K V : Type 0} (cmp : K → K → Ordering) where
   -- the same for the nodes of a store
   module _ (nodes : Content (Node K V)) (root exempt : ℕ) where
     abbrev pub IsOffByOneAtHeight : (height : ℕ) → Type 0
-    IsOffByOneAtHeight = IsOffAt (views nodes) root exempt
+    IsOffByOneAtHeight = IsOffByOneWithHeight (views nodes) root exempt
 
     -- at one of the heights that such a tree may have
     abbrev pub IsOffByOneAtSomeHeight : Type 0

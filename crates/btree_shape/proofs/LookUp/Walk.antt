@@ -23,24 +23,24 @@ rest-none (x ∷ xs) (suc i) e = rest-none xs i e
 
 module _ {A : Type 0} (node_at : NodeMap A) (levels : ℕ) where
   -- of the rows, the last one added is passed first
-  pub remaining-push : (rows : List (List (A × ℕ))) (node_positions : List (A × ℕ)) → remaining_above node_at levels (rows ++ node_positions ∷ []) ≡ remaining_in node_at levels node_positions ++ remaining_above node_at levels rows
-  remaining-push [] node_positions = sym (append-nil (remaining_in node_at levels node_positions))
-  remaining-push (r ∷ rows) node_positions = ap (λ l. l ++ remaining_in node_at levels r) (remaining-push rows node_positions) ∙ append_assoc (remaining_in node_at levels node_positions) (remaining_above node_at levels rows) (remaining_in node_at levels r)
+  pub remaining-push : (rows : List (List (A × ℕ))) (row : List (A × ℕ)) → remaining_above node_at levels (rows ++ row ∷ []) ≡ remaining_in node_at levels row ++ remaining_above node_at levels rows
+  remaining-push [] row = sym (append-nil (remaining_in node_at levels row))
+  remaining-push (r ∷ rows) row = ap (λ l. l ++ remaining_in node_at levels r) (remaining-push rows row) ∙ append_assoc (remaining_in node_at levels row) (remaining_above node_at levels rows) (remaining_in node_at levels r)
 
-  pub rows-push : (depth : ℕ) (rows : List (List (A × ℕ))) (node_positions : List (A × ℕ)) → AreRows node_at levels depth rows
-      → AllByRecursion (λ (b : A × ℕ). IsUnder node_at levels (suc (depth + length rows)) b.1) node_positions → AreRows node_at levels depth (rows ++ node_positions ∷ [])
-  rows-push depth [] node_positions are all = let z : depth + 0 ≡ depth = omega arith in (rw (sym z) all, tt)
-  rows-push depth (r ∷ rows) node_positions are all = let s : suc depth + length rows ≡ depth + suc (length rows) = omega arith in (are.0, rows-push (suc depth) rows node_positions are.1 (rw s all))
+  pub rows-push : (depth : ℕ) (rows : List (List (A × ℕ))) (row : List (A × ℕ)) → AreRows node_at levels depth rows
+      → AllByRecursion (λ (b : A × ℕ). IsUnder node_at levels (suc (depth + length rows)) b.1) row → AreRows node_at levels depth (rows ++ row ∷ [])
+  rows-push depth [] row are all = let z : depth + 0 ≡ depth = omega arith in (rw (sym z) all, tt)
+  rows-push depth (r ∷ rows) row are all = let s : suc depth + length rows ≡ depth + suc (length rows) = omega arith in (are.0, rows-push (suc depth) rows row are.1 (rw s all))
 
-  pub record Lowest (depth : ℕ) (rows : List (List (A × ℕ))) (node_positions : List (A × ℕ)) : Type 0 where
+  pub record Lowest (depth : ℕ) (rows : List (List (A × ℕ))) (row : List (A × ℕ)) : Type 0 where
     pub above : AreRows node_at levels depth rows
-    pub under : AllByRecursion (λ (b : A × ℕ). IsUnder node_at levels (suc (depth + length rows)) b.1) node_positions
+    pub under : AllByRecursion (λ (b : A × ℕ). IsUnder node_at levels (suc (depth + length rows)) b.1) row
 
-  pub rows-pop : (depth : ℕ) (rows : List (List (A × ℕ))) (node_positions : List (A × ℕ)) → AreRows node_at levels depth (rows ++ node_positions ∷ []) → Lowest depth rows node_positions
-  rows-pop depth [] node_positions are = let z : depth + 0 ≡ depth = omega arith in record { above = tt; under = rw z are.0 }
-  rows-pop depth (r ∷ rows) node_positions are =
+  pub rows-pop : (depth : ℕ) (rows : List (List (A × ℕ))) (row : List (A × ℕ)) → AreRows node_at levels depth (rows ++ row ∷ []) → Lowest depth rows row
+  rows-pop depth [] row are = let z : depth + 0 ≡ depth = omega arith in record { above = tt; under = rw z are.0 }
+  rows-pop depth (r ∷ rows) row are =
       let s : depth + suc (length rows) ≡ suc depth + length rows = omega arith in
-      let low = rows-pop (suc depth) rows node_positions are.1 in
+      let low = rows-pop (suc depth) rows row are.1 in
       record { above = (are.0, low.above); under = rw s low.under }
 
   -- a leaf represents its items
@@ -52,10 +52,10 @@ module _ {A : Type 0} (node_at : NodeMap A) (levels : ℕ) where
       at (suc height) parent xs low room h = let was = h.3 in absurd (cc)
 
   -- an internal node represents the list of its first child, and then its row
-  pub record Inside (depth id first : ℕ) (node_positions : List (A × ℕ)) : Type 0 where
+  pub record Inside (depth id first : ℕ) (row : List (A × ℕ)) : Type 0 where
     pub first_under : IsUnder node_at levels (suc depth) first
-    pub row_under : AllByRecursion (λ (b : A × ℕ). IsUnder node_at levels (suc depth) b.1) node_positions
-    pub list : represented node_at levels id ≡ represented node_at levels first ++ remaining_in node_at levels node_positions
+    pub row_under : AllByRecursion (λ (b : A × ℕ). IsUnder node_at levels (suc depth) b.1) row
+    pub list : represented node_at levels id ≡ represented node_at levels first ++ remaining_in node_at levels row
 
   module _ (depth height id : ℕ) (low : height < levels) (room : suc depth + height < 32) where
     abbrev row_of : List (A × ℕ × List A) → List (A × ℕ)
@@ -72,15 +72,15 @@ module _ {A : Type 0} (node_at : NodeMap A) (levels : ℕ) where
         let later = node_positions-left rest all.1 in
         rw (here, later) refl
 
-  pub under-internal : (depth id : ℕ) (p : Option ℕ) (first : ℕ) (node_positions : List (A × ℕ)) → IsUnder node_at levels depth id → node_at id ≡ Some (internal p first node_positions) → Inside depth id first node_positions
-  under-internal depth id p first node_positions u e = at u.height u.parent u.list u.low u.room u.represents
+  pub under-internal : (depth id : ℕ) (p : Option ℕ) (first : ℕ) (row : List (A × ℕ)) → IsUnder node_at levels depth id → node_at id ≡ Some (internal p first row) → Inside depth id first row
+  under-internal depth id p first row u e = at u.height u.parent u.list u.low u.room u.represents
     where
-      at : (height : ℕ) (parent : Option ℕ) (xs : List A) → height < levels → depth + height < 32 → Represents node_at height parent id xs → Inside depth id first node_positions
+      at : (height : ℕ) (parent : Option ℕ) (xs : List A) → height < levels → depth + height < 32 → Represents node_at height parent id xs → Inside depth id first row
       at zero parent xs low room h = absurd (cc)
       at (suc height) parent xs low room h =
           let was = h.3 in
           let same_first : h.0 ≡ first = cc in
-          let same_row : row_of depth height id (omega arith) (omega arith) h.2 ≡ node_positions = cc in
+          let same_row : row_of depth height id (omega arith) (omega arith) h.2 ≡ row = cc in
           let lower : height < levels = omega arith in
           let below : suc depth + height < 32 = omega arith in
           let front = represented-is node_at height levels (Some id) h.0 h.1 (omega arith) h.4 in

@@ -307,7 +307,7 @@ module _ (A : Type 0) (node_at : NodeMap A) where
         ]
 
     -- the whole tree with its focus at the root, which is `height` levels above the leaves
-    pub record HasShape (height : ℕ) : Type 0 where
+    pub record HasSubtree (height : ℕ) : Type 0 where
       pub subtree : Subtree A height
       pub at_root : id_of A height subtree ≡ root
       pub holds : Holds A node_at height None subtree
@@ -316,7 +316,7 @@ module _ (A : Type 0) (node_at : NodeMap A) where
       pub below : IsFilledBelow A height subtree
       pub represents : items_under A height subtree ≡ xs
 
-    pub rooted-subtree : (r : IsRooted (IsSized root) node_at root xs) → HasShape r.height
+    pub rooted-subtree : (r : IsRooted (IsSized root) node_at root xs) → HasSubtree r.height
     unfolding unsized-rooted
     rooted-subtree r = at r.height s.subtree s.focused
         (whole-node (IsSized root) root xs root
@@ -327,7 +327,7 @@ module _ (A : Type 0) (node_at : NodeMap A) where
         s = unsized-rooted (IsSized root) root xs r
 
         at : (h : ℕ) (t : Subtree A h) → IsUnsizedFocus A node_at [] root xs h top t → IsFocus A node_at [] root xs h top t
-            → HasShape h
+            → HasSubtree h
         at h t focused w =
             let v = top-view A node_at h None t w.inner in
             let z = r.sized (id_of A h t) (view_at A h None t) v in

@@ -21,7 +21,7 @@ use Rattle.btree_shape.specs.WellFormed.{IsNearlySized, IsOffByOne, IsWellFormed
 use Rattle.btree_shape.proofs.Places.Words.{item-within}
 use Rattle.btree_shape.proofs.Places.Untouched.{if-other}
 use Rattle.btree_shape.proofs.Places.OfTree.{positions-addressed, well-on}
-use Rattle.btree_shape.proofs.Removal.OtherItemInState.{ReplacedOdd, replaced-off, replaced-remove}
+use Rattle.btree_shape.proofs.Removal.OtherItemInState.{ReplacedOff, replaced-off, replaced-remove}
 use Rattle.btree_shape.proofs.Removal.FromTree.{Ascends-remove, take-item, take-keeps, take-later, take-off, take-within}
 
 -- the item at an address is in the list at the address's place
@@ -87,7 +87,7 @@ module _ {K V : Type 0} (cmp : K → K → Ordering) (laws : IsTotalOrder cmp) (
       take-item cmp laws node_at root len xs well low mid leaf_id p ys o before y leaf_here leaf_item leaf_place leaf_put in
       replaced-remove xs before y e (slice_get_within xs (suc before) x inner-item)
 
-  exchanged : ReplacedOdd cmp laws mid new root (remove xs before) n k x y v w there item put has before place-mid
+  exchanged : ReplacedOff cmp laws mid new root (remove xs before) n k x y v w there item put has before place-mid
       (subst (λ l. Ascends cmp l) (sym taken-list) (Ascends-remove cmp xs (suc before) x inner-item well.ascends)) leaf_id
       took (set (remove xs before) before y)
   exchanged = replaced-off cmp laws mid new root (remove xs before) n k x y v w there item put has before place-mid
@@ -95,7 +95,7 @@ module _ {K V : Type 0} (cmp : K → K → Ordering) (laws : IsTotalOrder cmp) (
       took
 
   -- the tree without the item, its strain, and its addresses
-  pub record TakenInner (list : List Pair) : Type 0 where
+  pub record RemovedInner (list : List Pair) : Type 0 where
     pub tree : IsOffByOne cmp new root leaf_id list
     pub within_strain : strain_under new root (numbers_under new tree.rooted.height root) + debt_of (leaf p (remove ys o))
         ≤ suc (strain_under node_at root (numbers_under node_at well.formed.height root))
@@ -106,13 +106,13 @@ module _ {K V : Type 0} (cmp : K → K → Ordering) (laws : IsTotalOrder cmp) (
     pub later : (expected : Option Pair) (b : Address) (q : ℕ) → suc before ≤ q → b.id ≢ leaf_id → b ≢ address_at n k
         → HasPosition Pair node_at root expected b (suc q) → HasPosition Pair new root expected b q
 
-  pub inner-taken : TakenInner (remove xs (suc before))
-  inner-taken =
+  pub inner-removed : RemovedInner (remove xs (suc before))
+  inner-removed =
       let e = exchanged in
       let t =
       take-within cmp laws node_at root len xs well low mid leaf_id p ys o before y leaf_here leaf_item leaf_place leaf_put in
       let s = e.strain_is in
-      subst (λ l. TakenInner l) taken-list
+      subst (λ l. RemovedInner l) taken-list
       (record {
         tree = e.tree;
         within_strain = omega arith;

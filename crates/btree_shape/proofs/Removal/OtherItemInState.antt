@@ -41,13 +41,13 @@ module _ {K V : Type 0} (cmp : K → K → Ordering) (laws : IsTotalOrder cmp) (
 
   -- a tree that is off by one at a node
   module _ (exempt : ℕ) (d : IsOffByOne cmp node_at root exempt xs) where
-    pub record ReplacedOdd (ys : List (K × V)) : Type 0 where
+    pub record ReplacedOff (ys : List (K × V)) : Type 0 where
       pub tree : IsOffByOne cmp new root exempt ys
       pub strain_is : strain_under new root (numbers_under new tree.rooted.height root)
           ≡ strain_under node_at root (numbers_under node_at d.rooted.height root)
       pub stays : Stays
 
-    pub replaced-off : ReplacedOdd (set xs place y)
+    pub replaced-off : ReplacedOff (set xs place y)
     replaced-off =
         let r =
         replaced (K × V) (IsNearlySized root exempt)
@@ -59,7 +59,7 @@ module _ {K V : Type 0} (cmp : K → K → Ordering) (laws : IsTotalOrder cmp) (
         ap (λ l. set l place y) r.old_list ∙ set-seam r.front x r.back place y (sym at) in
         let h = r.height_is in
         let l = d.low in
-        subst (λ l. ReplacedOdd l) (sym list)
+        subst (λ l. ReplacedOff l) (sym list)
         (record {
           tree = record {
             ascends = subst (λ l. Ascends cmp l) list up;

@@ -41,7 +41,7 @@ module _ (A : Type 0) where
   )
 
 -- a subtree whose nodes are under a number and represent the list
-pub record Shaped (A : Type 0) (node_at : NodeMap A) (h : ℕ) (p : Option ℕ) (i : ℕ) (xs : List A) : Type 0 where
+pub record RepresentedSubtree (A : Type 0) (node_at : NodeMap A) (h : ℕ) (p : Option ℕ) (i : ℕ) (xs : List A) : Type 0 where
   pub subtree : Subtree A h
   pub here : id_of A h subtree ≡ i
   pub holds : Holds A node_at h p subtree
@@ -54,7 +54,7 @@ pub record Branches (A : Type 0) (node_at : NodeMap A) (h : ℕ) (p : Option ℕ
   pub list : later_items A h shapes ≡ flat_map (λ b. b.0 ∷ b.2) bs
 
 module _ (A : Type 0) (node_at : NodeMap A) where
-  branches-of : (h : ℕ) (p : Option ℕ) (below : (i : ℕ) (xs : List A) → Represents node_at h p i xs → Shaped A node_at h p i xs)
+  branches-of : (h : ℕ) (p : Option ℕ) (below : (i : ℕ) (xs : List A) → Represents node_at h p i xs → RepresentedSubtree A node_at h p i xs)
       (bs : List (A × ℕ × List A))
       → AllByRecursion (λ b. Represents node_at h p b.1 b.2) bs → Branches A node_at h p bs
   branches-of h p below [] d = record { shapes = []; named = refl; hold = tt; list = refl }
@@ -69,7 +69,7 @@ module _ (A : Type 0) (node_at : NodeMap A) where
         list = ap (λ z. (b.0 ∷ z) ++ later_items A h r.shapes) s.list ∙ ap (λ z. (b.0 ∷ b.2) ++ z) r.list;
       }
 
-  pub subtree-of : (h : ℕ) (p : Option ℕ) (i : ℕ) (xs : List A) → Represents node_at h p i xs → Shaped A node_at h p i xs
+  pub subtree-of : (h : ℕ) (p : Option ℕ) (i : ℕ) (xs : List A) → Represents node_at h p i xs → RepresentedSubtree A node_at h p i xs
   subtree-of zero p i xs s = record { subtree = (i, xs); here = refl; holds = s; list = refl }
   subtree-of (suc h) p i xs s =
       let f = subtree-of h (Some i) s.0 s.1 s.4 in

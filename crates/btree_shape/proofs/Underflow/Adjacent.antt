@@ -160,7 +160,7 @@ module _ (A : Type 0) where
           → IsRepaired A new root xs expected (moved_by_rotate_left I J P S (size_of Low) (first_in High) a) place freed bound
       rotated-left new rot few many =
           let t = rotate-left A node_at new root xs h f c l x r p rot in
-          let n = turned A h l x r t.new_a t.up t.new_b t.turns in
+          let n = turned A h l x r t.new_a t.up t.new_b t.rotations in
           let nl = n.left_count in
           let nr = n.right_count in
           let ls = low-size in
@@ -170,9 +170,9 @@ module _ (A : Type 0) where
           pair-whole A new root xs h f c t.new_a t.up t.new_b t.pair (omega arith, omega arith)
           (omega arith, omega arith) in
           let there =
-          left-places A h f c l x r (pair-alone A node_at root xs h f c l x r p) t.new_a t.up t.new_b t.turns expected a place
+          left-places A h f c l x r (pair-alone A node_at root xs h f c l x r p) t.new_a t.up t.new_b t.rotations expected a place
           th in
-          let st = left-strain A h f c l x r t.new_a t.up t.new_b t.turns (omega arith) (omega arith) in
+          let st = left-strain A h f c l x r t.new_a t.up t.new_b t.rotations (omega arith) (omega arith) in
           record {
             id = P;
             node = record {
@@ -195,7 +195,7 @@ module _ (A : Type 0) where
           bound
       rotated-right new rot few many =
           let t = rotate-right A node_at new root xs h f c l x r p rot in
-          let n = turned A h t.new_a t.up t.new_b l x r t.turns in
+          let n = turned A h t.new_a t.up t.new_b l x r t.rotations in
           let nl = n.left_count in
           let nr = n.right_count in
           let ls = low-size in
@@ -205,9 +205,9 @@ module _ (A : Type 0) where
           pair-whole A new root xs h f c t.new_a t.up t.new_b t.pair (omega arith, omega arith)
           (omega arith, omega arith) in
           let there =
-          right-places A h f c l x r (pair-alone A node_at root xs h f c l x r p) t.new_a t.up t.new_b t.turns expected a
+          right-places A h f c l x r (pair-alone A node_at root xs h f c l x r p) t.new_a t.up t.new_b t.rotations expected a
           place th in
-          let st = right-strain A h f c l x r t.new_a t.up t.new_b t.turns (omega arith) (omega arith) in
+          let st = right-strain A h f c l x r t.new_a t.up t.new_b t.rotations (omega arith) (omega arith) in
           record {
             id = P;
             node = record {

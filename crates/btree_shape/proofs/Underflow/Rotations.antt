@@ -189,14 +189,14 @@ module _ (A : Type 0) (node_at new : NodeMap A) (root : ℕ) (xs : List A) (h : 
   parent-view v e = same_Some v (view_at A (suc h) (parent_above c) (fill_two f a x b)) (sym e ∙ p.parent)
 
   -- after a rotation to the left
-  pub record LeftTurn : Type 0 where
+  pub record LeftRotation : Type 0 where
     pub new_a : Subtree A h
     pub up : A
     pub new_b : Subtree A h
-    pub turns : Rotates A h a x b new_a up new_b
+    pub rotations : Rotates A h a x b new_a up new_b
     pub pair : IsPair A new root xs h f c new_a up new_b
 
-  pub rotate-left : RotatesLeft node_at new FId (frame_index f) (id_of A h a) (id_of A h b) → LeftTurn
+  pub rotate-left : RotatesLeft node_at new FId (frame_index f) (id_of A h a) (id_of A h b) → LeftRotation
   rotate-left r =
       let w = r.writes in
       let low = left-view r.low w.at_left in
@@ -244,7 +244,7 @@ module _ (A : Type 0) (node_at new : NodeMap A) (root : ℕ) (xs : List A) (h : 
         new_a = s.0;
         up = s.1;
         new_b = s.2;
-        turns = s.3;
+        rotations = s.3;
         pair = rotated s.0 s.1 s.2 (rotate-join A h a x b s.0 s.1 s.2 s.3) k.left_id (sym k.right_id) r.child
             (id_of A h a)
             (λ n. subst (λ o. times_listed n (as_list o) ≤ times_under A h n a + times_under A h n b) (sym child)
@@ -253,11 +253,11 @@ module _ (A : Type 0) (node_at new : NodeMap A) (root : ℕ) (xs : List A) (h : 
       }
 
   -- after a rotation to the right
-  pub record RightTurn : Type 0 where
+  pub record RightRotation : Type 0 where
     pub new_a : Subtree A h
     pub up : A
     pub new_b : Subtree A h
-    pub turns : Rotates A h new_a up new_b a x b
+    pub rotations : Rotates A h new_a up new_b a x b
     pub pair : IsPair A new root xs h f c new_a up new_b
 
   last-child : (new_a : Subtree A h) (y : A) (new_b : Subtree A h) → Rotates A h new_a y new_b a x b → (v : View A)
@@ -270,7 +270,7 @@ module _ (A : Type 0) (node_at new : NodeMap A) (root : ℕ) (xs : List A) (h : 
       (fits ∙ (ap is_internal e ∙ (kind-is A h (Some FId) None a new_b ∙ sym (first-kind A h new_b))))
       (sym is ∙ (ap children_of e ∙ (children_at-is A h (Some FId) a ∙ k.left_children)))
 
-  pub rotate-right : RotatesRight node_at new FId (frame_index f) (id_of A h a) (id_of A h b) → RightTurn
+  pub rotate-right : RotatesRight node_at new FId (frame_index f) (id_of A h a) (id_of A h b) → RightRotation
   rotate-right r =
       let w = r.writes in
       let low = left-view r.low w.at_left in
@@ -317,7 +317,7 @@ module _ (A : Type 0) (node_at new : NodeMap A) (root : ℕ) (xs : List A) (h : 
         new_a = s.0;
         up = s.1;
         new_b = s.2;
-        turns = s.3;
+        rotations = s.3;
         pair = rotated s.0 s.1 s.2 join-same (sym k.left_id) k.right_id r.child (id_of A h b)
             (λ n. subst (λ o. times_listed n (as_list o) ≤ times_under A h n a + times_under A h n b) (sym child)
             (let i = first-inside A h n s.2 in let t = times-top A h n s.2 in

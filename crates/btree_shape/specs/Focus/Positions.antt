@@ -21,8 +21,8 @@ pub data Position (A : Type 0) : Type 0 where
 -- how many items are stepped over
 abbrev pub passed : {A : Type 0} → List (Position A) → ℕ
 passed [] = 0
-passed (mark address item ∷ positions_from) = passed positions_from
-passed (over ∷ positions_from) = suc (passed positions_from)
+passed (mark address item ∷ later) = passed later
+passed (over ∷ later) = suc (passed later)
 
 -- no item is expected at an address, or exactly this one
 abbrev pub IsExpected : {A : Type 0} → Option A → Option A → Type 0
@@ -32,8 +32,8 @@ IsExpected (Some x) item = item ≡ Some x
 -- the address comes after `place` items; if `expected` is `Some x`, the item x is at it
 abbrev pub IsAt : {A : Type 0} → Option A → Address → List (Position A) → ℕ → Type 0
 IsAt expected a [] place = ⊥
-IsAt expected a (mark b item ∷ positions_from) place = ((a ≡ b) × (place ≡ 0) × IsExpected expected item) ⊎ IsAt expected a positions_from place
-IsAt expected a (over ∷ positions_from) place = (rest : ℕ) × (place ≡ suc rest) × IsAt expected a positions_from rest
+IsAt expected a (mark b item ∷ later) place = ((a ≡ b) × (place ≡ 0) × IsExpected expected item) ⊎ IsAt expected a later place
+IsAt expected a (over ∷ later) place = (rest : ℕ) × (place ≡ suc rest) × IsAt expected a later rest
 
 -- the addresses of a node from an offset on: that of each entry, then those below the entry, and the one past the last
 abbrev pub positions_from : {A X : Type 0} → (X → A) → (X → List (Position A)) → (id offset : ℕ) → List X → List (Position A)

@@ -18,9 +18,9 @@ pub record HasPosition (A : Type 0) (node_at : NodeMap A) (root : ℕ) (expected
 -- the address occurs after `place` items, before the first occurrence of address c
 abbrev pub IsAtBefore : {A : Type 0} → Option A → Address → (c : Address) → List (Position A) → ℕ → Type 0
 IsAtBefore expected a c [] place = ⊥
-IsAtBefore expected a c (mark b item ∷ positions_from) place =
-    (b ≢ c) × (((a ≡ b) × (place ≡ 0) × IsExpected expected item) ⊎ IsAtBefore expected a c positions_from place)
-IsAtBefore expected a c (over ∷ positions_from) place = (rest : ℕ) × (place ≡ suc rest) × IsAtBefore expected a c positions_from rest
+IsAtBefore expected a c (mark b item ∷ later) place =
+    (b ≢ c) × (((a ≡ b) × (place ≡ 0) × IsExpected expected item) ⊎ IsAtBefore expected a c later place)
+IsAtBefore expected a c (over ∷ later) place = (rest : ℕ) × (place ≡ suc rest) × IsAtBefore expected a c later rest
 
 -- the same among the positions of the tree under a root
 pub record HasPositionBefore (A : Type 0) (node_at : NodeMap A) (root : ℕ) (expected : Option A) (a c : Address) (place : ℕ) : Type 0 where

@@ -1,7 +1,7 @@
 use Rattle.std.proofs.Common.{◌∙◌, arith, refl, sym, rules}
 use Rattle.btree_raw.proofs.ClaimLemmas.{claims-low}
 use Rattle.btree_raw.proofs.StateLemmas.{same-len}
-use Rattle.btree_edit.proofs.MoreLemmas.{can-take, more-inserted, splitting, the-leaf}
+use Rattle.btree_edit.proofs.MoreLemmas.{can-add, more-inserted, splitting, the-leaf}
 use Rattle.btree_edit.proofs.insertion.insert_and_split.Goals as goal
 use Rattle.std.proofs.lemmas.Grind.{common_steps}
 
@@ -11,7 +11,7 @@ unwrap-requires g c =
 
 pub add_item-requires : goal.add_item-requires
 add_item-requires g c =
-    can-take g.K.Ord.cmp g.met.K.Ord.total c.args.tree.now c.requires.some c.requires.tree c.args.item.0 c.args.item.1 c.args.addr c.requires.gap
+    can-add g.K.Ord.cmp g.met.K.Ord.total c.args.tree.now c.requires.some c.requires.tree c.args.item.0 c.args.item.1 c.args.addr c.requires.gap
     c.claim.new.claims.items c.claim.new.tree (c.claim.ensures.claimed c.if-not-claim.false) (c.claim.ensures.count c.if-not-claim.false ∙ c.requires.enough) c.unwrap.result (sym c.unwrap.ensures.value)
 
 pub split_upward-at-requires-clause-splitting : goal.split_upward-at-requires-clause-splitting

@@ -1,5 +1,5 @@
 use Rattle.std.proofs.Common.{[], refl, sym, arith, rules}
-use Rattle.btree_edit.proofs.MoreLemmas.{can-take, more-inserted, none-claimed, the-leaf, unsplit}
+use Rattle.btree_edit.proofs.MoreLemmas.{can-add, more-inserted, none-claimed, the-leaf, unsplit}
 use Rattle.btree_edit.proofs.insertion.insert_in_room.Goals as goal
 use Rattle.std.proofs.lemmas.Grind.{common_steps}
 
@@ -9,7 +9,7 @@ unwrap-index-requires g c =
 
 pub add_item-requires : goal.add_item-requires
 add_item-requires g c =
-    can-take g.K.Ord.cmp g.met.K.Ord.total c.args.tree.now c.requires.some c.requires.tree c.args.item.0 c.args.item.1 c.args.addr c.requires.gap
+    can-add g.K.Ord.cmp g.met.K.Ord.total c.args.tree.now c.requires.some c.requires.tree c.args.item.0 c.args.item.1 c.args.addr c.requires.gap
     [] c.args.tree.now (none-claimed c.args.tree.now) (sym c.requires.enough) c.unwrap-index.result (sym c.unwrap-index.ensures.value)
 
 pub returns : goal.returns

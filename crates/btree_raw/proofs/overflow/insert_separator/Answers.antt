@@ -1,4 +1,4 @@
-use Rattle.btree_raw.proofs.SeparatorLemmas.{above-used, child-there, index-few, can-take, inserts}
+use Rattle.btree_raw.proofs.SeparatorLemmas.{above-used, child-there, index-few, can-add, inserts}
 use Rattle.btree_raw.proofs.overflow.insert_separator.Goals as goal
 
 pub node-requires : goal.node-requires
@@ -13,7 +13,7 @@ unwrap-index-requires g c =
 
 pub add_item-requires : goal.add_item-requires
 add_item-requires g c =
-    can-take c.args.tree.now.nodes c.args.above c.args.id c.requires c.node.result.now c.node.ensures.value c.child_index.result c.child_index.ensures.value
+    can-add c.args.tree.now.nodes c.args.above c.args.id c.requires c.node.result.now c.node.ensures.value c.child_index.result c.child_index.ensures.value
     c.unwrap-index.result c.unwrap-index.ensures c.args.right
 
 pub returns-clause-adds : goal.returns-clause-adds

@@ -1,12 +1,12 @@
 use Rattle.std.proofs.Common.{arith, refl, rules}
 use Rattle.btree_shape.specs.TreeState.{views}
-use Rattle.btree_valid.specs.OffByOne.{IsOffAt}
+use Rattle.btree_valid.specs.OffByOne.{IsOffByOneWithHeight}
 use Rattle.btree_valid.proofs.OffByOneLemmas.{next-height}
 use Rattle.btree_valid.proofs.off_by_one.is_off_by_one_at_some_height.Goals as goal
 use Rattle.std.proofs.lemmas.Grind.{common_steps}
 
 pub loop-height-preserved : goal.loop-height-preserved
-loop-height-preserved g c = next-height (λ h. IsOffAt g.K.Ord.cmp (views (g.C.Nodes.content c.args.nodes.now)) c.args.root c.args.exempt h) c.loop-height.height c.loop-height.invariant c.if-is_off_by_one_at_height.ensures.1
+loop-height-preserved g c = next-height (λ h. IsOffByOneWithHeight g.K.Ord.cmp (views (g.C.Nodes.content c.args.nodes.now)) c.args.root c.args.exempt h) c.loop-height.height c.loop-height.invariant c.if-is_off_by_one_at_height.ensures.1
 
 pub returns-then-is_off_by_one_at_height : goal.returns-then-is_off_by_one_at_height
 returns-then-is_off_by_one_at_height g c = (λ yes. (c.loop-height.height, omega arith, c.if-is_off_by_one_at_height.ensures.0 refl), λ some. refl)
