@@ -1,5 +1,5 @@
 -- What calls on a node leave of it.
-use Rattle.std.specs.Prelude.{◌≡◌, ℕ, ◌+◌, ◌<◌, ◌≤◌, List, [], ◌∷◌, ◌++◌, length, map, set, Option, Some, None, is_some, Bool, true, false}
+use Rattle.std.specs.Prelude.{◌≡◌, ℕ, ◌+◌, ◌-◌, ◌<◌, ◌≤◌, List, [], ◌∷◌, ◌++◌, length, map, set, Option, Some, None, is_some, Bool, true, false}
 use Rattle.std.specs.List.{insert, remove, zip}
 use Rattle.btree_item.specs.declared.TheConstants.{INTERNAL_MEDIAN, LEAF_MEDIAN, MIN_ITEMS}
 use Rattle.btree_view.specs.declared.balance.Balance.{Balance}
@@ -40,6 +40,15 @@ module _ {A : Type 0} where
   abbrev pub without : ℕ → View A → View A
   without index (leaf parent items) = leaf parent (remove items index)
   without index (internal parent first branches) = internal parent first (remove branches index)
+
+  -- the same at an offset; at -1 nothing is removed
+  abbrev pub without_at : Option ℕ → View A → View A
+  without_at None node = node
+  without_at (Some index) node = without index node
+
+  -- without the last item, and in an internal node without the last child
+  abbrev pub without_last : View A → View A
+  without_last node = without (size_of node - 1) node
 
   -- with another item at an index; the children stay
   abbrev pub with_other_item : ℕ → A → View A → View A
