@@ -398,7 +398,7 @@ impl<K: Ord, V> InternalNode<K, V> {
 }
 
 impl<K: Drop, V: Drop> InternalNode<K, V> {
-    ghost use Rattle.btree_view.specs.Edits.{HasSpare, HaveRoom, IsSplit, joined, pushed_left, pushed_right, with_item_at, with_other_item_at, without};
+    ghost use Rattle.btree_view.specs.Edits.{HasSpare, HaveRoom, IsSplit, joined, pushed_left, pushed_right, with_item_at, with_other_item_at, without, without_at};
     ghost use Rattle.btree_view.specs.View.{child_after_offset, child_before_offset};
 
     /// Inserts an item at an offset, with a child after it, and moves those from there on right by one. The order of the keys and the
@@ -437,7 +437,7 @@ impl<K: Drop, V: Drop> InternalNode<K, V> {
         ensures left { Some result.0 ≡ child_before_offset (view_of self.old) offset }
         ensures item { Some result.1 ≡ item_at_offset (view_of self.old) offset }
         ensures right { Some result.2 ≡ child_after_offset (view_of self.old) offset }
-        ensures after { IfSome offset (λ index. view_of self.new ≡ without index (view_of self.old)) }
+        ensures after { view_of self.new ≡ without_at offset (view_of self.old) }
     {
         let index = offset.unwrap();
         let left = self.child_id(index);

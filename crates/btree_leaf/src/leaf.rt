@@ -241,7 +241,8 @@ impl<K: Ord + Drop, V: Drop> LeafNode<K, V> {
 }
 
 impl<K: Drop, V: Drop> LeafNode<K, V> {
-    ghost use Rattle.btree_view.specs.Edits.{HasSpare, HaveRoom, IsOverflowing, IsSplit, joined, pushed_left, pushed_right, without};
+    ghost use Rattle.btree_view.specs.Edits.{HasSpare, HaveRoom, IsOverflowing, IsSplit, joined, pushed_left, pushed_right, without_at, without_last};
+    ghost use Rattle.btree_view.specs.View.{last_item_of};
 
     /// Inserts an item at an offset, and moves those from there on right by one. The order of the keys is then up to the caller.
     pub fn insert(&mut self, offset: Offset, item: Item<K, V>)
@@ -256,9 +257,18 @@ impl<K: Drop, V: Drop> LeafNode<K, V> {
     pub fn remove(&mut self, offset: Offset) -> Item<K, V>
         requires { IsSomeAnd offset (λ index. index < length self.old.items) }
         ensures answer { Some result ≡ option_and_then (slice_get self.old.items) offset }
-        ensures after { IfSome offset (λ index. view_of self.new ≡ without index (view_of self.old)) }
+        ensures after { view_of self.new ≡ without_at offset (view_of self.old) }
     {
         self.items.remove(offset.unwrap())
+    }
+
+    /// Removes and returns the last item.
+    pub fn remove_last(&mut self) -> Item<K, V>
+        requires { 0 < length self.old.items }
+        ensures answer { Some result ≡ last_item_of (view_of self.old) }
+        ensures after { view_of self.new ≡ without_last (view_of self.old) }
+    {
+        self.items.pop().unwrap()
     }
 
     /// Appends the separator and then the items of the other leaf. Each moves once. Returns the separator's offset. The order of the keys

@@ -195,9 +195,11 @@ impl<K, V> Node<K, V> {
 }
 
 impl<K: Drop, V: Drop> Node<K, V> {
-    ghost use Rattle.std.specs.Prelude.{[], ◌∷◌, ◌+◌, IfOk, OnErr};
-    ghost use Rattle.btree_view.specs.View.{leaf, internal};
-    ghost use Rattle.btree_view.specs.Edits.{HasSpare, HaveRoom, is_internal, joined, PopsLeft, PopsRight, pushed_left, pushed_right, with_item_at, with_other_item_at, without};
+    ghost use Rattle.std.specs.Prelude.{[], ◌∷◌, ◌+◌, IfNone, IfOk, IsFalse, OnErr, OnOk};
+    ghost use Rattle.std.specs.Result.{result_err};
+    ghost use Rattle.btree_view.specs.Removal.{removal_in};
+    ghost use Rattle.btree_view.specs.View.{leaf, internal, last_child_of, last_item_of};
+    ghost use Rattle.btree_view.specs.Edits.{HasSpare, HaveRoom, is_internal, joined, PopsLeft, PopsRight, pushed_left, pushed_right, with_item_at, with_other_item_at, without, without_at, without_last};
 
     /// Returns a leaf with one item. `Some(usize::MAX)` as the parent is read as `None`.
     pub fn leaf(parent: Option<usize>, item: Item<K, V>) -> Self
@@ -246,6 +248,41 @@ impl<K: Drop, V: Drop> Node<K, V> {
         match self {
             Node::Internal(node) => node.replace(offset, item),
             Node::Leaf(_) => unreachable!(),
+        }
+    }
+
+    /// Removes and returns the item at an offset of a leaf, and moves those after it left by one. At an item of an internal node nothing
+    /// changes, and it returns `Err` with the number of the child before the item. Returns `None` at -1 and past the end.
+    pub fn leaf_remove(&mut self, offset: Offset) -> Option<Result<Item<K, V>, usize>>
+        ensures answer { result ≡ removal_in offset (view_of self.old) }
+        ensures taken { IfSome result (λ r.
+            OnOk r (view_of self.new ≡ without_at offset (view_of self.old))) }
+        ensures inner { IfSome result (λ r. OnErr r (self.new ≡ self.old)) }
+        ensures none { IfNone result (self.new ≡ self.old) }
+    {
+        let Some(index) = offset.value() else {
+            return None;
+        };
+        if index >= self.item_count() {
+            return None;
+        }
+        match self {
+            Node::Internal(node) => Some(Err(node.child_id(index))),
+            Node::Leaf(leaf) => Some(Ok(leaf.remove(offset))),
+        }
+    }
+
+    /// Removes and returns the last item of a leaf. An internal node stays, and it returns `Err` with the number of the last child.
+    pub fn remove_rightmost_leaf(&mut self) -> Result<Item<K, V>, usize>
+        requires { IsFalse (is_internal (view_of self.old)) → 0 < size_of (view_of self.old) }
+        ensures child { result_err result ≡ last_child_of (view_of self.old) }
+        ensures item { IfOk result (λ item. Some item ≡ last_item_of (view_of self.old)) }
+        ensures taken { OnOk result (view_of self.new ≡ without_last (view_of self.old)) }
+        ensures inner { OnErr result (self.new ≡ self.old) }
+    {
+        match self {
+            Node::Internal(node) => Err(node.child_id(node.item_count())),
+            Node::Leaf(leaf) => Ok(leaf.remove_last()),
         }
     }
 

@@ -156,10 +156,61 @@ fn removes_by_offset(rt: HostRuntime) {
     let mut leaf = leaf_of(&rt, &[0, 10, 20]);
     assert!(rt; leaf.item_count() > 1);
     assert_eq!(rt; *leaf.remove(at(1)).key(), 10);
-    assert!(rt; is_node(&Node::Leaf(leaf), &[0, 20], &[]));
+    assert!(rt; leaf.item_count() > 0);
+    assert_eq!(rt; *leaf.remove_last().key(), 20);
+    assert!(rt; is_node(&Node::Leaf(leaf), &[0], &[]));
     let mut node = internal_of(&rt, &[10, 20]);
     assert!(rt; node.item_count() > 0);
     let (left, item, right) = node.remove(at(0));
     assert_eq!(rt; (left, *item.key(), right), (100, 0, 101));
     assert!(rt; is_node(&Node::Internal(node), &[10, 20], &[100, 102, 103]));
+}
+
+fn leaf_remove(node: &mut Node<u32, char>, offset: Offset) -> Option<Result<u32, usize>> {
+    match node.leaf_remove(offset) {
+        Some(Ok(item)) => Some(Ok(*item.key())),
+        Some(Err(child)) => Some(Err(child)),
+        None => None,
+    }
+}
+
+#[test]
+fn removes_from_a_leaf(rt: HostRuntime) {
+    for (index, key, keys) in [(0, 0, [10, 20]), (1, 10, [0, 20]), (2, 20, [0, 10])] {
+        let mut leaf = Node::Leaf(leaf_of(&rt, &[0, 10, 20]));
+        assert_eq!(rt; leaf_remove(&mut leaf, Offset::from(index)), Some(Ok(key)));
+        assert!(rt; is_node(&leaf, &keys, &[]), "{index}");
+    }
+    for offset in [Offset::before(), Offset::from(3)] {
+        let mut leaf = Node::Leaf(leaf_of(&rt, &[0, 10, 20]));
+        assert_eq!(rt; leaf_remove(&mut leaf, offset), None, "{offset}");
+        assert!(rt; is_node(&leaf, &[0, 10, 20], &[]), "{offset}");
+    }
+}
+
+#[test]
+fn names_the_child_before_an_item(rt: HostRuntime) {
+    for (offset, child) in [
+        (Offset::before(), None),
+        (Offset::from(0), Some(Err(100))),
+        (Offset::from(1), Some(Err(101))),
+        (Offset::from(2), None),
+    ] {
+        let mut node = Node::Internal(internal_of(&rt, &[10]));
+        assert_eq!(rt; leaf_remove(&mut node, offset), child, "{offset}");
+        assert!(rt; is_node(&node, &[0, 10], &[100, 101, 102]), "{offset}");
+    }
+}
+
+#[test]
+fn removes_the_last_item_of_a_leaf(rt: HostRuntime) {
+    let mut leaf = Node::Leaf(leaf_of(&rt, &[0, 10]));
+    assert!(rt; leaf.item_count() > 0);
+    let last = leaf.remove_rightmost_leaf().map(|item| *item.key());
+    assert_eq!(rt; last, Ok(10));
+    assert!(rt; is_node(&leaf, &[0], &[]));
+    let mut node = Node::Internal(internal_of(&rt, &[10]));
+    let child = node.remove_rightmost_leaf().map(|item| *item.key());
+    assert_eq!(rt; child, Err(102));
+    assert!(rt; is_node(&node, &[0, 10], &[100, 101, 102]));
 }

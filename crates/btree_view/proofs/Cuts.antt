@@ -1,6 +1,7 @@
 -- A list that is cut after its n-th element, and its front then loses its last; and lists appended to one another.
 use Rattle.std.proofs.Common.{◌≡◌, ℕ, ◌-◌, ◌<◌, List, [], ◌∷◌, ◌++◌, Option, Some, length, take, drop, zero, suc, refl, sym, ◌∙◌, ap, arith, length-drop}
 use Rattle.std.specs.Prelude.{slice_get, IsSome}
+use Rattle.std.specs.List.{remove}
 use Rattle.std.proofs.lemmas.List.{append_assoc, length-take-le}
 
 module _ {T : Type 0} where
@@ -55,6 +56,19 @@ module _ {T : Type 0} where
   last_out [] rest x at is = absurd (cc)
   last_out (y ∷ ys) rest x at is =
       last_parts (y ∷ ys) (length (y ∷ ys) - 1) x (omega arith) (sym at) ∙ ap (λ l. l ++ x ∷ []) (sym is)
+
+  -- a list has an element at each index below its length
+  pub is_some-within : (xs : List T) (n : ℕ) → n < length xs → IsSome (slice_get xs n)
+  is_some-within [] n within = absurd (omega arith)
+  is_some-within (x ∷ xs) zero within = refl
+  is_some-within (x ∷ xs) (suc n) within = is_some-within xs n (omega arith)
+
+  -- a list without its last element is one with the element at the last index removed
+  pub take-last : (xs : List T) (n : ℕ) → suc n ≡ length xs → take n xs ≡ remove xs n
+  take-last [] n long = absurd (cc)
+  take-last (y ∷ []) zero long = refl
+  take-last (y ∷ z ∷ zs) zero long = absurd (omega (arith, long))
+  take-last (y ∷ ys) (suc n) long = ap (λ l. y ∷ l) (take-last ys n (omega (arith, long)))
 
   -- one more element, and then another list
   pub joined_behind : (base more front all : List T) (x : T) → front ≡ base ++ x ∷ [] → all ≡ front ++ more → all ≡ base ++ x ∷ more

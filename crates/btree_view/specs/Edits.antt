@@ -1,8 +1,13 @@
+<<<<<<< HEAD
 -- What calls on a node leave of it, and how full a node is.
 -- In an internal node, an item is inserted and removed together with the child after it, or at the front together with
 -- the child before it. A child is given exactly for an internal node (`HasChildFor`). A split keeps 4 items in a leaf
 -- and 3 in an internal node (`IsSplit`).
 use Rattle.std.specs.Prelude.{◌≡◌, ℕ, ◌+◌, ◌<◌, ◌≤◌, List, [], ◌∷◌, ◌++◌, length, map, set, Option, Some, None, is_some, Bool, true, false}
+=======
+-- What calls on a node leave of it.
+use Rattle.std.specs.Prelude.{◌≡◌, ℕ, ◌+◌, ◌-◌, ◌<◌, ◌≤◌, List, [], ◌∷◌, ◌++◌, length, map, set, Option, Some, None, is_some, Bool, true, false}
+>>>>>>> 5f7730dc56b2d4f3be5d02b7caaa3be95ef6264c
 use Rattle.std.specs.List.{insert, remove, zip}
 use Rattle.btree_item.specs.declared.TheConstants.{INTERNAL_MEDIAN, LEAF_MEDIAN, MIN_ITEMS}
 use Rattle.btree_view.specs.declared.balance.Balance.{Balance}
@@ -43,6 +48,15 @@ module _ {A : Type 0} where
   abbrev pub without : ℕ → View A → View A
   without index (leaf parent items) = leaf parent (remove items index)
   without index (internal parent first branches) = internal parent first (remove branches index)
+
+  -- the same at an offset; at -1 nothing is removed
+  abbrev pub without_at : Option ℕ → View A → View A
+  without_at None node = node
+  without_at (Some index) node = without index node
+
+  -- without the last item, and in an internal node without the last child
+  abbrev pub without_last : View A → View A
+  without_last node = without (size_of node - 1) node
 
   -- with another item at an index; the children stay
   abbrev pub with_other_item : ℕ → A → View A → View A

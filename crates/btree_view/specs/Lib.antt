@@ -3,3 +3,4 @@ pub mod Balances
 pub mod Edits
 pub mod Kept
 pub mod LookUp
+pub mod Removal

@@ -1,8 +1,13 @@
 -- A node as definitions see it, and the map of nodes of a store.
 -- The definitions of trees are about a `NodeMap` alone, so they hold for any store and for any representation of a
 -- node. `view_of` of `btree_node` gives the view of a `Node`; `leaf_view` and `internal_view` give those of the two
+<<<<<<< HEAD
 -- kinds. A branch is an item of an internal node with the child after it.
 use Rattle.std.specs.Prelude.{◌≡◌, ℕ, ◌+◌, List, [], ◌∷◌, drop, length, map, slice_get, Option, Some, None}
+=======
+-- kinds.
+use Rattle.std.specs.Prelude.{◌≡◌, ℕ, ◌+◌, ◌-◌, List, [], ◌∷◌, drop, length, map, slice_get, Option, Some, None}
+>>>>>>> 5f7730dc56b2d4f3be5d02b7caaa3be95ef6264c
 use Rattle.std.specs.Option.{option_and_then, option_map}
 use Rattle.btree_item.specs.declared.TheConstants.{MAX_INTERNAL_ITEMS, MAX_LEAF_ITEMS}
 
@@ -57,6 +62,14 @@ module _ {A : Type 0} where
   -- the child after the item at an offset; none at -1
   abbrev pub child_after_offset : View A → Option ℕ → Option ℕ
   child_after_offset node offset = option_and_then (λ index. slice_get (children_of node) (index + 1)) offset
+
+  -- the last item; none if there is no item
+  abbrev pub last_item_of : View A → Option A
+  last_item_of node = slice_get (items_of node) (size_of node - 1)
+
+  -- the last child; none in a leaf
+  abbrev pub last_child_of : View A → Option ℕ
+  last_child_of node = slice_get (children_of node) (size_of node)
 
   -- the branches from an index on begin with this one, or there are none if none is given
   abbrev pub BeginsAt : View A → ℕ → Option (A × ℕ) → Type 0
