@@ -1,13 +1,8 @@
-<<<<<<< HEAD
 -- What calls on a node leave of it, and how full a node is.
 -- In an internal node, an item is inserted and removed together with the child after it, or at the front together with
 -- the child before it. A child is given exactly for an internal node (`HasChildFor`). A split keeps 4 items in a leaf
 -- and 3 in an internal node (`IsSplit`).
-use Rattle.std.specs.Prelude.{◌≡◌, ℕ, ◌+◌, ◌<◌, ◌≤◌, List, [], ◌∷◌, ◌++◌, length, map, set, Option, Some, None, is_some, Bool, true, false}
-=======
--- What calls on a node leave of it.
 use Rattle.std.specs.Prelude.{◌≡◌, ℕ, ◌+◌, ◌-◌, ◌<◌, ◌≤◌, List, [], ◌∷◌, ◌++◌, length, map, set, Option, Some, None, is_some, Bool, true, false}
->>>>>>> 5f7730dc56b2d4f3be5d02b7caaa3be95ef6264c
 use Rattle.std.specs.List.{insert, remove, zip}
 use Rattle.btree_item.specs.declared.TheConstants.{INTERNAL_MEDIAN, LEAF_MEDIAN, MIN_ITEMS}
 use Rattle.btree_view.specs.declared.balance.Balance.{Balance}

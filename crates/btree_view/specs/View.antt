@@ -1,13 +1,8 @@
 -- A node as definitions see it, and the map of nodes of a store.
 -- The definitions of trees are about a `NodeMap` alone, so they hold for any store and for any representation of a
 -- node. `view_of` of `btree_node` gives the view of a `Node`; `leaf_view` and `internal_view` give those of the two
-<<<<<<< HEAD
 -- kinds. A branch is an item of an internal node with the child after it.
-use Rattle.std.specs.Prelude.{◌≡◌, ℕ, ◌+◌, List, [], ◌∷◌, drop, length, map, slice_get, Option, Some, None}
-=======
--- kinds.
 use Rattle.std.specs.Prelude.{◌≡◌, ℕ, ◌+◌, ◌-◌, List, [], ◌∷◌, drop, length, map, slice_get, Option, Some, None}
->>>>>>> 5f7730dc56b2d4f3be5d02b7caaa3be95ef6264c
 use Rattle.std.specs.Option.{option_and_then, option_map}
 use Rattle.btree_item.specs.declared.TheConstants.{MAX_INTERNAL_ITEMS, MAX_LEAF_ITEMS}
 
