@@ -3,3 +3,4 @@ pub mod MoreLemmas
 pub mod LevelLemmas
 pub mod ExchangeLemmas
 pub mod InsertLemmas
+pub mod RemoveLemmas

@@ -1,2 +1,3 @@
 pub mod Exchange
 pub mod Insert
+pub mod Remove

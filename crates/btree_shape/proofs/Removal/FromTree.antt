@@ -156,22 +156,31 @@ module _ {K V : Type 0} (cmp : K → K → Ordering) (laws : IsTotalOrder cmp) (
   rooted : IsRooted (IsNearlySized root id) new root (remove xs place)
   rooted = rooted-off Pair new root (remove xs place) id off-node
 
-  -- the tree is off by one at the leaf
-  pub take-off : IsOffByOne cmp new root id (remove xs place)
-  take-off =
+  same-height : (r : IsRooted (IsNearlySized root id) new root (remove xs place)) → r.height ≡ well.formed.height
+  same-height r =
       let s = seat in
       let h1 =
       levels-rooted Pair node_at root xs (IsSized root) well.formed 0 s.path (id, s.left ++ x ∷ s.right)
       (focus-unsized Pair node_at [] root xs 0 s.path (id, s.left ++ x ∷ s.right) s.old) in
       let h2 =
-      levels-rooted Pair new root (remove xs place) (IsNearlySized root id) rooted 0 s.path (id, s.left ++ s.right)
+      levels-rooted Pair new root (remove xs place) (IsNearlySized root id) r 0 s.path (id, s.left ++ s.right)
       (focus-unsized Pair new [] root (remove xs place) 0 s.path (id, s.left ++ s.right) s.now) in
+      omega arith
+
+  -- the tree is off by one at the leaf
+  pub take-off : IsOffByOne cmp new root id (remove xs place)
+  take-off =
+      let h = same-height rooted in
       record {
         ascends = Ascends-remove cmp xs place x take-item well.ascends;
         rooted = rooted;
         low = omega arith;
         used = rw put.here refl;
       }
+
+  -- it is as high as before
+  pub take-height : take-off.rooted.height ≡ well.formed.height
+  take-height = same-height take-off.rooted
 
   shorter-count : (s : Seat) → length (remove ys o) ≡ length (s.left ++ s.right)
   shorter-count s = ap length (ap (λ z. remove z o) s.parts ∙ remove-seam s.left x s.right o s.count)

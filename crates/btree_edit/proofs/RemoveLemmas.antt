@@ -1,0 +1,200 @@
+-- An item removed from a leaf, and the leaf's underflow fixed: the tree afterwards.
+use Rattle.std.proofs.Common.{◌≡◌, ◌∙◌, ◌+◌, ◌<◌, ◌≤◌, ℕ, suc, inl, inr, List, length, Option, Some, None, IsSome, refl, sym, ap, subst, option_and_then, slice_get, arith, ◌^◌}
+use Rattle.std.proofs.lemmas.List.Edits.{length-remove}
+use Rattle.std.proofs.lemmas.Option.{slice_get_within}
+use Rattle.std.specs.Cmp.{IsTotalOrder}
+use Rattle.std.specs.FinMap as map
+use Rattle.std.specs.List.{remove}
+use Rattle.std.specs.declared.cmp.Ordering.{Ordering}
+use Rattle.btree_item.specs.declared.address.Address.{Address}
+use Rattle.btree_view.specs.View.{NodeMap, View, leaf, item_in}
+use Rattle.btree_shape.specs.Focus.Positions.{address_at}
+use Rattle.btree_shape.specs.Focus.TreePositions.{IsAddressed}
+use Rattle.btree_shape.specs.Lists.{times_listed}
+use Rattle.btree_shape.specs.Place.{IsPlace, IsValid}
+use Rattle.btree_shape.specs.Represents.{Represents, numbers_under}
+use Rattle.btree_shape.specs.Step.{WritesNode}
+use Rattle.btree_shape.specs.Strain.{IsStrain, strain_under}
+use Rattle.btree_shape.specs.TreeState.{TreeState, HasLevels, HasLevelsUnder, HasStrain, IsBTree, IsOffByOneAt, IsPlaceIn, IsValidIn, item_of, node_map, pairs_of}
+use Rattle.btree_shape.specs.WellFormed.{IsNearlySized, IsOffByOne, IsSized, IsWellFormed, times_used}
+use Rattle.btree_shape.proofs.Places.OfTree.{positions-addressed, valid-on}
+use Rattle.btree_shape.proofs.Places.Words.{item-within}
+use Rattle.btree_shape.proofs.Removal.FromTree.{take-address, take-height, take-item, take-off, take-within}
+use Rattle.btree_shape.proofs.Strain.OneStrain.{one-strain}
+use Rattle.btree_shape.proofs.Trees.Density.{height-low}
+use Rattle.btree_shape.proofs.Trees.Numbers.{same-or, used-one}
+use Rattle.btree_shape.proofs.Trees.States.{is-off, pairs-off}
+use Rattle.btree_shape.proofs.Trees.Stores.{len-views}
+use Rattle.btree_shape.proofs.Underflow.Order.{one-height}
+use Rattle.btree_raw.specs.Rebalance.{HasRoom, IsRebalanced}
+use Rattle.btree_edit.specs.Remove.{FreesWithinStrain, IsRemoved}
+
+-- at most as many elements as before
+pub remove-shorter : {X : Type 0} (xs : List X) (i : ℕ) (x : X) → slice_get xs i ≡ Some x → length (remove xs i) + 1 ≡ length xs
+remove-shorter xs i x e = length-remove xs i (slice_get_within xs i x e)
+
+module _ {K V : Type 0} (cmp : K → K → Ordering) (laws : IsTotalOrder cmp) (old mid : TreeState K V) (tree : IsBTree cmp old) (small : old.len < 2 ^ 64)
+    (a : Address) (o : ℕ) (offset : a.offset ≡ Some o) (p : Option ℕ) (ys : List (K × V)) (x : K × V)
+    (here : node_map old a.id ≡ Some (leaf p ys)) (stood : slice_get ys o ≡ Some x)
+    (put : WritesNode (node_map old) (node_map mid) a.id (leaf p (remove ys o))) (top : mid.root ≡ old.root) where
+  abbrev node_at : NodeMap (K × V)
+  node_at = node_map old
+
+  abbrev xs : List (K × V)
+  xs = pairs_of old
+
+  pub rooted : (t : Option ℕ) → old.root ≡ t → (root : ℕ) × (old.root ≡ Some root)
+  rooted None e =
+      let w = subst (λ t. IsWellFormed cmp node_at t old.len xs) e tree in
+      let none = w.formed.0 a.id in
+      absurd (cc)
+  rooted (Some root) e = (root, e)
+
+  abbrev root : ℕ
+  root = (rooted old.root refl).0
+
+  at-root : old.root ≡ Some root
+  at-root = (rooted old.root refl).1
+
+  mid-root : mid.root ≡ Some root
+  mid-root = top ∙ at-root
+
+  pub well : IsWellFormed cmp node_at (Some root) old.len xs
+  well = subst (λ t. IsWellFormed cmp node_at t old.len xs) at-root tree
+
+  low : well.formed.height < 32
+  low = height-low (K × V) node_at root xs well.formed (let c = well.counted in omega arith)
+
+  a-is : a ≡ address_at a.id o
+  a-is = λ i. record { id = a.id; offset = offset i }
+
+  item-here : item_in (node_at a.id) o ≡ Some x
+  item-here = ap (λ v. item_in v o) here ∙ stood
+
+  pub place-on : (place : ℕ) × IsPlace node_at (Some root) xs a.id (Some o) place
+  place-on =
+      let n = valid-on (K × V) node_at root xs None (address_at a.id o) (IsSized root) well.formed (inl (item-within node_at o x (node_at a.id) item-here)) tt in
+      let d = positions-addressed (K × V) node_at root xs None (address_at a.id o) (IsSized root) n.place well.formed n.on in
+      (n.place, d.at_place)
+
+  abbrev place : ℕ
+  place = place-on.0
+
+  abbrev took : IsOffByOne cmp (node_map mid) root a.id (remove xs place)
+  took = take-off cmp laws node_at root old.len xs well low (node_map mid) a.id p ys o place x here stood place-on.1 put
+
+  listed : slice_get xs place ≡ Some x
+  listed = take-item cmp laws node_at root old.len xs well low (node_map mid) a.id p ys o place x here stood place-on.1 put
+
+  there : IsAddressed (K × V) (node_map mid) root (remove xs place) None a place
+  there =
+      subst (λ (b : Address). IsAddressed (K × V) (node_map mid) root (remove xs place) None b place) (sym a-is)
+      (positions-addressed (K × V) (node_map mid) root (remove xs place) None (address_at a.id o) (IsNearlySized root a.id) place took.rooted
+      (take-address cmp laws node_at root old.len xs well low (node_map mid) a.id p ys o place x here stood place-on.1 put))
+
+  pub taken-pairs : pairs_of mid ≡ remove xs place
+  taken-pairs = pairs-off cmp mid root a.id (remove xs place) mid-root took
+
+  -- what `rebalance` requires
+  pub taken-off : IsOffByOneAt cmp mid a.id
+  taken-off = is-off cmp mid root a.id (remove xs place) mid-root took
+
+  pub taken-valid : IsValidIn mid a
+  taken-valid = subst (λ t. IsValid (node_map mid) t a.id a.offset) (sym mid-root) there.valid
+
+  abbrev pub taken-room : HasRoom (node_map mid) a.id
+  taken-room = record {
+    node = leaf p (remove ys o);
+    here = put.here;
+    room = let n = remove-shorter ys o x stood in let m = (well.formed.sized a.id (leaf p ys) here).1 in omega arith;
+  }
+
+  taken-place : IsPlaceIn mid a place
+  taken-place =
+      subst (λ l. IsPlace (node_map mid) mid.root l a.id a.offset place) (sym taken-pairs)
+      (subst (λ t. IsPlace (node_map mid) t (remove xs place) a.id a.offset place) (sym mid-root) there.at_place)
+
+  at-place : IsPlaceIn old a place
+  at-place =
+      subst (λ t. IsPlace node_at t xs a.id a.offset place) (sym at-root)
+      (subst (λ q. IsPlace node_at (Some root) xs a.id q place) (sym offset) place-on.1)
+
+  had : item_of old a ≡ Some x
+  had = ap (option_and_then (item_in (node_at a.id))) offset ∙ item-here
+
+  -- as many levels as before
+  same-levels : (levels : ℕ) → HasLevels old levels → HasLevels mid levels
+  same-levels levels are =
+      let l = subst (λ t. HasLevelsUnder old t levels) at-root are in
+      let e = one-height node_at root xs well.formed.height l.0 well.formed.represents l.1 in
+      let s = take-height cmp laws node_at root old.len xs well low (node_map mid) a.id p ys o place x here stood place-on.1 put in
+      let n = l.2 in
+      let at : Represents (node_map mid) took.rooted.height None root (pairs_of mid) =
+      subst (λ z. Represents (node_map mid) took.rooted.height None root z) (sym taken-pairs) took.rooted.represents in
+      subst (λ t. HasLevelsUnder mid t levels) (sym mid-root) (took.rooted.height, at, (let q : levels ≡ suc took.rooted.height = omega arith in q))
+
+  used : (n : ℕ) → times_used (node_map mid n) ≡ times_used (node_at n)
+  used n = elim (same-or n a.id) [
+    | inl e ↦ let u = used-one (node_map mid a.id) (leaf p (remove ys o)) put.here in let v = used-one (node_at a.id) (leaf p ys) here in rw e (omega arith)
+    | inr ne ↦ ap times_used (put.others n ne)
+  ]
+
+  as-many : map.len mid.nodes ≡ map.len old.nodes
+  as-many =
+      let ids = numbers_under node_at well.formed.height root in
+      let each : (n : ℕ) → times_listed n ids ≡ times_used (node_at n) = well.formed.once in
+      len-views mid.nodes ids (λ n. each n ∙ sym (used n)) ∙ sym (len-views old.nodes ids each)
+
+  abbrev before : ℕ
+  before = strain_under node_at root (numbers_under node_at well.formed.height root)
+
+  strain-before : HasStrain old before
+  strain-before = subst (λ t. IsStrain node_at t before) (sym at-root) (numbers_under node_at well.formed.height root, well.formed.once, refl)
+
+  abbrev between : ℕ
+  between = strain_under (node_map mid) root (numbers_under (node_map mid) took.rooted.height root)
+
+  strain-between : HasStrain mid between
+  strain-between = subst (λ t. IsStrain (node_map mid) t between) (sym mid-root) (numbers_under (node_map mid) took.rooted.height root, took.rooted.once, refl)
+
+  -- after the underflow is fixed
+  module _ (new : TreeState K V) (b : Address) (len : mid.len + 1 ≡ old.len) (uncounted : mid.refusals ≡ old.refusals) (r : IsRebalanced mid new a.id cmp a b) where
+    new-pairs : pairs_of new ≡ remove xs place
+    new-pairs = r.pairs ∙ taken-pairs
+
+    frees : FreesWithinStrain old new
+    frees =
+        let f = r.freed taken-room in
+        let s = one-strain (node_map mid) mid.root r.before between r.strain_before strain-between in
+        let t = take-within cmp laws node_at root old.len xs well low (node_map mid) a.id p ys o place x here stood place-on.1 put in
+        let w = f.within_strain in
+        record {
+          freed = f.freed;
+          fewer = sym as-many ∙ f.fewer;
+          few = λ levels are. f.within levels (same-levels levels are);
+          before = before;
+          after = r.after;
+          strain_before = strain-before;
+          strain_after = r.strain_after;
+          within_strain = omega arith;
+        }
+
+    pub removed-from-leaf : IsRemoved old new cmp a x b
+    removed-from-leaf =
+        let n = remove-shorter xs place x listed in
+        let c = well.counted in
+        let l = r.len in
+        let m = ap length new-pairs in
+        record {
+          tree = record { ascends = r.well.ascends; formed = r.well.formed; counted = omega arith };
+          had = had;
+          place = place;
+          at = at-place;
+          pairs = new-pairs;
+          valid = r.valid;
+          there = r.place place taken-place;
+          back = r.back (subst (λ q. IsSome q) (sym offset) refl);
+          shorter = omega arith;
+          frees = frees;
+          uncounted = r.uncounted ∙ uncounted;
+        }
