@@ -1,11 +1,14 @@
 //! Reads of a tree by its nodes and addresses.
 ghost use Rattle.std.specs.Prelude.{◌≡◌, ◌↔◌, ◌*◌, ◌+◌, ◌≤◌, length, IsTrue, Some, option_copied};
 ghost use Rattle.std.specs.FinMap as map;
-ghost use Rattle.btree_shape.specs.TreeState.{TreeState, HasLevels, IsBTree, IsUsed, item_of, pairs_of};
+ghost use Rattle.btree_shape.specs.TreeState.{TreeState, HasLevels, IsBTree, IsUsed, IsValidIn, item_of, pairs_of};
 ghost use Rattle.btree_find.specs.Answers.{IsAddressOf};
 ghost use Rattle.btree_find.specs.Levels.{IsDense};
+ghost use Rattle.btree_find.specs.Navigation.{IsLeafAddressFor, IsNext, IsNormalized, IsPrevious};
 
-use btree_find::{address_of, height};
+use btree_find::{
+    address_of, height, leaf_address, next_item_address, normalize, previous_item_address,
+};
 use btree_item::{Address, Item, MAX_LEVELS};
 use btree_node::Node;
 use btree_nodes::NodesMut;
@@ -78,5 +81,47 @@ pub trait BTreeExt<K: Ord, V> {
         ensures { IsAddressOf K.cmp key.now (state self.now) result }
     {
         address_of(self.as_raw(), key)
+    }
+
+    /// Returns whether an address is one of the tree: in a node, from -1 to the number of its items, or nowhere if there are no pairs.
+    fn is_valid(&self, addr: Address) -> bool
+        ensures { IsTrue result ↔ IsValidIn (state self.now) addr }
+    {
+        self.as_raw().is_valid(addr)
+    }
+
+    /// Returns the address of the item at the place of a valid address, which is the address itself if there is an item. Returns
+    /// `None` if the place is the number of pairs. It reads at most one node of each level.
+    fn normalize(&self, addr: Address) -> Option<Address>
+        requires { IsValidIn (state self.now) addr }
+        ensures { IsNormalized (state self.now) addr result }
+    {
+        normalize(self.as_raw(), addr)
+    }
+
+    /// Returns the address of the item after the one at a valid address. If there is no item, returns the address of the item at its
+    /// place. Returns `None` if there is no such item. It reads at most one node of each level.
+    fn next_item_address(&self, addr: Address) -> Option<Address>
+        requires { IsValidIn (state self.now) addr }
+        ensures { IsNext (state self.now) addr result }
+    {
+        next_item_address(self.as_raw(), addr)
+    }
+
+    /// Returns the address of the item before the place of a valid address, or `None` at place 0. It reads at most one node of each level.
+    fn previous_item_address(&self, addr: Address) -> Option<Address>
+        requires { IsValidIn (state self.now) addr }
+        ensures { IsPrevious (state self.now) addr result }
+    {
+        previous_item_address(self.as_raw(), addr)
+    }
+
+    /// Returns an address in a leaf at the place of a valid address: past the end of a leaf, or -1 of a leaf if the address is at -1. An
+    /// address in a leaf, or nowhere, is returned as it is. It reads at most one node of each level.
+    fn leaf_address(&self, addr: Address) -> Address
+        requires { IsValidIn (state self.now) addr }
+        ensures { IsLeafAddressFor (state self.now) addr result }
+    {
+        leaf_address(self.as_raw(), addr)
     }
 }

@@ -47,7 +47,7 @@ absent-at f n m p None e = refl
 absent-at f n m p (Some x) e = absurd (cc)
 
 -- an internal node has a child at each index up to its number of items
-has-child : {A : Type 0} (first : ℕ) (bs : List (A × ℕ)) (index : ℕ) → index ≤ length bs → slice_get (first ∷ map {B = ℕ} (λ b. b.1) bs) index ≡ None → ⊥
+pub has-child : {A : Type 0} (first : ℕ) (bs : List (A × ℕ)) (index : ℕ) → index ≤ length bs → slice_get (first ∷ map {B = ℕ} (λ b. b.1) bs) index ≡ None → ⊥
 has-child first bs zero few e = absurd (cc)
 has-child first [] (suc index) few e = absurd (omega arith)
 has-child first (b ∷ bs) (suc index) few e = has-child b.1 bs index (omega arith) e

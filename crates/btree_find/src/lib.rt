@@ -1,6 +1,8 @@
-//! Look-up in a well formed tree, over any lawful store of nodes.
+//! Look-up and navigation in a well formed tree, over any lawful store of nodes.
 #![tactic(auto, using(btree_store::specs::ContentLaws::stores))]
 
+mod navigation;
 mod search;
 
+pub use navigation::{leaf_address, next_item_address, normalize, previous_item_address};
 pub use search::{address_of, get, height};

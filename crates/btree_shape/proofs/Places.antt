@@ -2,7 +2,8 @@
 -- address of a well formed tree has one place (`has_place`: it has one). `positions-addressed` and `well-on` in OfTree:
 -- a position of the tree and `IsPlace` agree, so a step that keeps positions keeps places.
 -- Order: lists of positions (Lists, Untouched, OneList), places as the specs say them (HasPlace, SamePlace, OnePlace),
--- places by a focus (NodePlaces, TreePlaces), the two together (OfTree, Words), and single steps (Steps, Backs).
+-- places by a focus (NodePlaces, TreePlaces), the two together (OfTree, Words), from a node to its children, along a
+-- leaf and to the parent (ChildPlaces, InNode), and single steps (Steps, Backs).
 pub mod Lists
 pub mod Untouched
 pub mod OneList
@@ -13,5 +14,7 @@ pub mod NodePlaces
 pub mod TreePlaces
 pub mod OfTree
 pub mod Words
+pub mod ChildPlaces
+pub mod InNode
 pub mod Steps
 pub mod Backs

@@ -6,6 +6,8 @@ mod counted;
 #[cfg(test)]
 mod drawn;
 #[cfg(test)]
+mod navigation;
+#[cfg(test)]
 mod off_by_one;
 #[cfg(test)]
 mod places;
