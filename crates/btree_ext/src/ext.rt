@@ -4,10 +4,11 @@ ghost use Rattle.std.specs.FinMap as map;
 ghost use Rattle.btree_shape.specs.TreeState.{TreeState, HasLevels, IsBTree, IsUsed, IsValidIn, item_of, pairs_of};
 ghost use Rattle.btree_find.specs.Answers.{IsAddressOf};
 ghost use Rattle.btree_find.specs.Levels.{IsDense};
-ghost use Rattle.btree_find.specs.Navigation.{IsLeafAddressFor, IsNext, IsNormalized, IsPrevious};
+ghost use Rattle.btree_find.specs.Navigation.{IsLeafAddressFor, IsNext, IsNextOrBack, IsNormalized, IsPrevious};
 
 use btree_find::{
-    address_of, height, leaf_address, next_item_address, normalize, previous_item_address,
+    address_of, height, leaf_address, next_item_address, next_item_or_back_address, normalize,
+    previous_item_address,
 };
 use btree_item::{Address, Item, MAX_LEVELS};
 use btree_node::Node;
@@ -123,5 +124,14 @@ pub trait BTreeExt<K: Ord, V> {
         ensures { IsLeafAddressFor (state self.now) addr result }
     {
         leaf_address(self.as_raw(), addr)
+    }
+
+    /// Returns the address of the next item, as `next_item_address` does, if there is one. Otherwise returns the offset after the address
+    /// if there is an item, and else the address itself. Returns `None` if there are no pairs. It reads at most one node of each level.
+    fn next_item_or_back_address(&self, addr: Address) -> Option<Address>
+        requires { IsValidIn (state self.now) addr }
+        ensures { IsNextOrBack (state self.now) addr result }
+    {
+        next_item_or_back_address(self.as_raw(), addr)
     }
 }

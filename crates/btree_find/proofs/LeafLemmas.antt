@@ -1,15 +1,15 @@
 -- From an address to the one in a leaf at its place.
-use Rattle.std.proofs.Common.{◌≡◌, ◌≤◌, ◌∙◌, ◌^◌, ◌-◌, ◌⊎◌, ℕ, inl, inr, List, length, Option, Some, None, IsSome, refl, sym, ap, subst, arith, option_map, slice_get}
+use Rattle.std.proofs.Common.{◌≡◌, ◌≤◌, ◌∙◌, ◌^◌, ◌-◌, ℕ, inl, inr, Option, Some, None, IsSome, refl, sym, ap, subst, option_map, slice_get}
 use Rattle.std.specs.Cmp.{IsTotalOrder}
 use Rattle.std.specs.FinMap as finite
 use Rattle.std.specs.declared.cmp.Ordering.{Ordering}
 use Rattle.btree_item.specs.declared.address.Address.{Address}
 use Rattle.btree_node.specs.declared.node.Node.{Node}
 use Rattle.btree_node.specs.Node.{view_of}
-use Rattle.btree_view.specs.View.{NodeMap, View, leaf, internal, children_in, children_of, size_of}
+use Rattle.btree_view.specs.View.{children_in, children_of, size_of}
 use Rattle.btree_shape.specs.Focus.Positions.{address_at, address_before}
-use Rattle.btree_shape.specs.Place.{IsLeaf, IsLeafAddress, IsPlace, IsValid}
-use Rattle.btree_shape.specs.TreeState.{TreeState, IsBTree, IsLeafAddressIn, IsPlaceIn, IsUsed, IsValidIn, node_map, pairs_of}
+use Rattle.btree_shape.specs.Place.{IsPlace, IsValid}
+use Rattle.btree_shape.specs.TreeState.{TreeState, IsBTree, IsLeafAddressIn, IsValidIn, node_map, pairs_of}
 use Rattle.btree_shape.proofs.Trees.ValidPlaces.{place-valid}
 use Rattle.btree_find.specs.Navigation.{BeginsInLeaf, EndsInLeaf, IsLeafAddressFor}
 use Rattle.btree_find.proofs.NextLemmas.{leaf-without}

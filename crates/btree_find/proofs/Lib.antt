@@ -5,3 +5,4 @@ pub mod WalkLemmas
 pub mod NextLemmas
 pub mod PreviousLemmas
 pub mod LeafLemmas
+pub mod OrBackLemmas

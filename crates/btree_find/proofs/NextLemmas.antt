@@ -1,5 +1,5 @@
 -- From an address to the next item, which has the address before it.
-use Rattle.std.proofs.Common.{◌≡◌, ◌<◌, ◌≤◌, ◌∙◌, ◌+◌, ℕ, zero, suc, List, ◌∷◌, length, map, Option, Some, None, refl, sym, ap, subst, arith, option_map, slice_get}
+use Rattle.std.proofs.Common.{◌≡◌, ◌<◌, ◌≤◌, ◌∙◌, ◌+◌, ℕ, suc, List, length, Option, Some, None, refl, sym, ap, subst, arith, option_map, slice_get}
 use Rattle.std.proofs.lemmas.List.{length-map}
 use Rattle.std.proofs.lemmas.Option.{slice_get_past}
 use Rattle.std.specs.Cmp.{IsTotalOrder}
@@ -11,7 +11,7 @@ use Rattle.btree_node.specs.declared.node.Node.{Node}
 use Rattle.btree_node.specs.Node.{view_of}
 use Rattle.btree_view.specs.View.{NodeMap, View, leaf, internal, children_in, children_of, items_of, item_in, size_of}
 use Rattle.btree_shape.specs.Focus.Positions.{address_at, address_before}
-use Rattle.btree_shape.specs.Place.{IsOccupied, IsPlace}
+use Rattle.btree_shape.specs.Place.{IsOccupied}
 use Rattle.btree_shape.specs.TreeState.{TreeState, IsBTree, IsOccupiedIn, IsPlaceIn, IsUsed, IsValidIn, node_map, pairs_of}
 use Rattle.btree_shape.proofs.Places.ChildPlaces.{child-places, down-from-item}
 use Rattle.btree_shape.proofs.Places.InNode.{leaf-along}
@@ -28,7 +28,7 @@ leaf-without {A} (internal parent first bs) index low e =
     let n = length-map {A = A × ℕ} {B = A} bs (λ b. b.0) in absurd (has-child first bs index (omega arith) e)
 
 -- no item stands past the last one
-not-past : {A : Type 0} (node_at : NodeMap A) (id offset : ℕ) (v : View A) → node_at id ≡ Some v → size_of v ≤ offset
+pub not-past : {A : Type 0} (node_at : NodeMap A) (id offset : ℕ) (v : View A) → node_at id ≡ Some v → size_of v ≤ offset
     → IsOccupied node_at id (Some offset) → ⊥
 not-past node_at id offset v e low o =
     let none = slice_get_past (items_of v) offset low in

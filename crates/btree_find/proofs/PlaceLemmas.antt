@@ -1,5 +1,5 @@
 -- The place of an address in a well formed tree, in the words of a state: one for each valid address, and the item there.
-use Rattle.std.proofs.Common.{◌≡◌, ◌<◌, ◌≤◌, ◌∙◌, ◌⊎◌, ℕ, zero, suc, inl, inr, List, length, Option, Some, None, IsSome, refl, sym, ap, subst, arith, option_map, slice_get}
+use Rattle.std.proofs.Common.{◌≡◌, ◌<◌, ◌≤◌, ◌∙◌, ℕ, inl, inr, List, length, Option, Some, None, refl, sym, ap, subst, arith, option_map}
 use Rattle.std.proofs.lemmas.Option.{slice_get_past}
 use Rattle.std.specs.Cmp.{IsTotalOrder}
 use Rattle.std.specs.FinMap as finite
@@ -7,23 +7,22 @@ use Rattle.std.specs.declared.cmp.Ordering.{Ordering}
 use Rattle.btree_item.specs.declared.address.Address.{Address}
 use Rattle.btree_node.specs.declared.node.Node.{Node}
 use Rattle.btree_node.specs.Node.{view_of}
-use Rattle.btree_view.specs.View.{NodeMap, View, items_of, item_in, size_of}
+use Rattle.btree_view.specs.View.{NodeMap, View, item_in, size_of}
 use Rattle.btree_shape.specs.AddressLaws.{IsPlaced}
-use Rattle.btree_shape.specs.Focus.Positions.{address_at, address_before}
 use Rattle.btree_shape.specs.Place.{IsNowhere, IsOccupied, IsPlace, IsValid, IsWithin}
 use Rattle.btree_shape.specs.TreeAddresses.{HasAddresses, item_addresses_of}
 use Rattle.btree_shape.specs.TreeState.{TreeState, IsBTree, IsOccupiedIn, IsPlaceIn, IsUsed, IsValidIn, node_map, pairs_of}
 use Rattle.btree_shape.specs.WellFormed.{IsWellFormed, least_of}
 use Rattle.btree_shape.proofs.AddressLists.OnePlaceEach.{placed-formed}
 use Rattle.btree_shape.proofs.AddressLists.Whole.{addresses-tree}
-use Rattle.btree_shape.proofs.Places.HasPlace.{has_place, low_or_end}
+use Rattle.btree_shape.proofs.Places.HasPlace.{has_place}
 use Rattle.btree_shape.proofs.Places.OnePlace.{one_place-well}
 use Rattle.btree_shape.proofs.Trees.Numbers.{same-or, used-one}
 use Rattle.btree_shape.proofs.Trees.Sizes.{least-other, least-root}
 use Rattle.btree_shape.proofs.Trees.States.{height_held}
 use Rattle.btree_shape.proofs.Trees.Stores.{most-few, used-view}
 use Rattle.btree_shape.proofs.Trees.ValidPlaces.{place-valid}
-use Rattle.btree_find.specs.Navigation.{HasPlace, IsItemAddress, IsItemAt, IsNormalized, LeadsToItem}
+use Rattle.btree_find.specs.Navigation.{HasPlace, IsItemAt, IsNormalized, LeadsToItem}
 
 at-least-one : (root id : ℕ) → 1 ≤ least_of root id
 at-least-one root id = elim (same-or id root) [

@@ -1,5 +1,5 @@
 -- From an address to the item before its place: down to the rightmost leaf, or up past the first children.
-use Rattle.std.proofs.Common.{◌≡◌, ◌==◌, ◌<◌, ◌≤◌, ◌∙◌, ◌+◌, ◌-◌, ℕ, zero, suc, List, length, Option, Some, None, IsSome, refl, sym, ap, subst, arith, option_map, slice_get}
+use Rattle.std.proofs.Common.{◌≡◌, ◌==◌, ◌<◌, ◌≤◌, ◌∙◌, ℕ, suc, List, length, Option, Some, None, IsSome, refl, sym, ap, subst, arith, option_map, slice_get}
 use Rattle.std.specs.Cmp.{IsTotalOrder}
 use Rattle.std.specs.FinMap as finite
 use Rattle.std.specs.List.{position}
@@ -7,21 +7,21 @@ use Rattle.std.specs.declared.cmp.Ordering.{Ordering}
 use Rattle.btree_item.specs.declared.address.Address.{Address}
 use Rattle.btree_node.specs.declared.node.Node.{Node}
 use Rattle.btree_node.specs.Node.{view_of}
-use Rattle.btree_view.specs.View.{NodeMap, View, leaf, internal, children_in, children_of, parent_of, size_of}
+use Rattle.btree_view.specs.View.{View, leaf, children_in, children_of, parent_of, size_of}
 use Rattle.btree_shape.specs.Focus.Positions.{address_at, address_before}
 use Rattle.btree_shape.specs.Focus.Search.{levels_below}
 use Rattle.btree_shape.specs.Need.{levels_above}
-use Rattle.btree_shape.specs.Place.{IsLeaf, IsPlace}
-use Rattle.btree_shape.specs.TreeState.{TreeState, IsBTree, IsOccupiedIn, IsPlaceIn, IsUsed, IsValidIn, node_map, pairs_of}
+use Rattle.btree_shape.specs.Place.{IsPlace}
+use Rattle.btree_shape.specs.TreeState.{TreeState, IsBTree, IsPlaceIn, IsUsed, IsValidIn, node_map, pairs_of}
 use Rattle.btree_shape.specs.WellFormed.{times_used}
 use Rattle.btree_shape.proofs.Paths.Parents.{get-times}
 use Rattle.btree_shape.proofs.Places.ChildPlaces.{child-places, down-to-end, up-from-first, up-to-item}
 use Rattle.btree_shape.proofs.Places.InNode.{index-in-parent, leaf-back, leaf-start, root-start}
 use Rattle.btree_shape.proofs.Trees.Stores.{used-view}
 use Rattle.btree_raw.proofs.SeparatorLemmas.{has-index, index-is}
-use Rattle.btree_find.specs.Navigation.{EndsInLeaf, IsItemAt, IsItemBefore, IsPrevious, LeadsBefore}
+use Rattle.btree_find.specs.Navigation.{EndsInLeaf, IsItemBefore, IsPrevious, LeadsBefore}
 use Rattle.btree_find.proofs.NextLemmas.{leaf-without}
-use Rattle.btree_find.proofs.PlaceLemmas.{empty-place, few-items, has-place, in-state, in-tree, item-here, only, place-there, placed, root-there, some-items}
+use Rattle.btree_find.proofs.PlaceLemmas.{empty-place, few-items, has-place, in-state, in-tree, item-here, place-there, placed, root-there, some-items}
 use Rattle.btree_find.proofs.WalkLemmas.{leaf-focus, occupied-below, used-of}
 
 module _ {K V : Type 0} (s : TreeState K V) where

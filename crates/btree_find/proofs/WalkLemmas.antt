@@ -1,5 +1,5 @@
 -- The walks of navigation, step by step: down to an end leaf, and up to an item.
-use Rattle.std.proofs.Common.{◌≡◌, ◌≢◌, ◌==◌, ◌<◌, ◌≤◌, ◌∙◌, ◌^◌, ◌-◌, ℕ, zero, suc, inl, inr, List, length, Option, Some, None, IsSome, refl, sym, ap, subst, arith, option_map, slice_get}
+use Rattle.std.proofs.Common.{◌≡◌, ◌≢◌, ◌==◌, ◌<◌, ◌≤◌, ◌∙◌, ◌^◌, ◌-◌, ℕ, inl, inr, List, length, Option, Some, None, IsSome, refl, sym, ap, subst, arith, option_map, slice_get}
 use Rattle.std.proofs.lemmas.List.{length-map}
 use Rattle.std.specs.Cmp.{IsTotalOrder}
 use Rattle.std.specs.FinMap as finite
@@ -14,10 +14,10 @@ use Rattle.btree_shape.specs.Focus.Positions.{address_at, address_before}
 use Rattle.btree_shape.specs.Focus.Search.{levels_below}
 use Rattle.btree_shape.specs.Need.{levels_above}
 use Rattle.btree_shape.specs.Place.{IsLeaf, IsOccupied}
-use Rattle.btree_shape.specs.TreeState.{TreeState, IsBTree, IsOccupiedIn, IsPlaceIn, IsUsed, node_map, pairs_of}
+use Rattle.btree_shape.specs.TreeState.{TreeState, IsBTree, IsPlaceIn, IsUsed, node_map, pairs_of}
 use Rattle.btree_shape.specs.WellFormed.{times_used}
 use Rattle.btree_shape.proofs.Paths.Parents.{get-times}
-use Rattle.btree_shape.proofs.Places.ChildPlaces.{child-places, up-from-end, down-to-first, down-to-end}
+use Rattle.btree_shape.proofs.Places.ChildPlaces.{child-places, up-from-end, down-to-first}
 use Rattle.btree_shape.proofs.Places.HasPlace.{low_or_end}
 use Rattle.btree_shape.proofs.Places.InNode.{index-in-parent, leaf-first, root-end}
 use Rattle.btree_shape.proofs.Trees.Numbers.{used-one}

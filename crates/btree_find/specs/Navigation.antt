@@ -1,7 +1,7 @@
 -- What navigation by address returns: addresses of items, by place.
 -- `IsItemAt` names the one occupied address of a place, so the address that is returned is determined by the place of
 -- the given one.
-use Rattle.std.specs.Prelude.{◌≡◌, ℕ, zero, suc, ◌≤◌, length, slice_get, Option, Some, None, IfSome, IsSome, ◌↔◌}
+use Rattle.std.specs.Prelude.{◌≡◌, ◌≢◌, ◌+◌, ℕ, zero, suc, ◌≤◌, length, slice_get, Option, Some, None, IfSome, IsSome, ◌↔◌}
 use Rattle.std.specs.Option.{option_map}
 use Rattle.btree_item.specs.declared.address.Address.{Address}
 use Rattle.btree_view.specs.View.{size_of}
@@ -53,6 +53,18 @@ module _ {K V : Type 0} (s : TreeState K V) where
     pub after : IsOccupiedIn s a → IsItemAt (suc place) found
     pub back : IsOccupiedIn s a → IfSome found (λ b. IsPrevious b (Some a))
     pub here : (IsOccupiedIn s a → ⊥) → IsItemAt place found
+
+  -- the next item where there is one; else the offset after the address if an item is at it, and the address itself
+  -- if none does; none in an empty tree
+  pub record IsNextOrBack (a : Address) (found : Option Address) : Type 0 where
+    pub next : Option Address
+    pub is_next : IsNext a next
+    pub item : IfSome next (λ b. found ≡ Some b)
+    pub after : (n : ℕ) → a.offset ≡ Some n → next ≡ None → IsOccupiedIn s a → found ≡ Some (address_at a.id (n + 1))
+    pub stays : next ≡ None → (IsOccupiedIn s a → ⊥) → s.root ≢ None → found ≡ Some a
+    pub empty : s.root ≡ None → found ≡ None
+    pub valid : IfSome found (IsValidIn s)
+    pub back : IfSome found (λ b. IsSome b.offset)
 
   -- an address in a leaf, or nowhere, at the same place, which is at -1 exactly if the address is; the address itself if
   -- it is one

@@ -4,5 +4,7 @@
 mod navigation;
 mod search;
 
-pub use navigation::{leaf_address, next_item_address, normalize, previous_item_address};
+pub use navigation::{
+    leaf_address, next_item_address, next_item_or_back_address, normalize, previous_item_address,
+};
 pub use search::{address_of, get, height};

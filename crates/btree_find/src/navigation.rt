@@ -5,7 +5,7 @@ ghost use Rattle.btree_node.specs.Node.{view_of};
 ghost use Rattle.btree_view.specs.View.{size_of};
 ghost use Rattle.btree_shape.specs.Focus.Positions.{address_at, address_before};
 ghost use Rattle.btree_shape.specs.TreeState.{IsBTree, IsUsed, IsValidIn};
-ghost use Rattle.btree_find.specs.Navigation.{BeginsInLeaf, EndsInLeaf, IsLeafAddressFor, IsNext, IsNormalized, IsPrevious, LeadsBefore, LeadsToItem, LeadsToNext};
+ghost use Rattle.btree_find.specs.Navigation.{BeginsInLeaf, EndsInLeaf, IsLeafAddressFor, IsNext, IsNextOrBack, IsNormalized, IsPrevious, LeadsBefore, LeadsToItem, LeadsToNext};
 
 use btree_item::{Address, Offset};
 use btree_node::Node;
@@ -248,4 +248,33 @@ pub fn leaf_address<K: Ord, V, C: NodesMut<K, V>>(
     };
     let (leaf, count) = rightmost_leaf(tree, child);
     Address::new(leaf, Offset::from(count))
+}
+
+/// Returns the address of the next item, as `next_item_address` does, if there is one. Otherwise returns the offset after the address if an
+/// item is at it, and else the address itself. Returns `None` if there are no pairs.
+///
+/// It reads at most one node of each level. `RawBTree::is_valid` decides whether an address is valid.
+pub fn next_item_or_back_address<K: Ord, V, C: NodesMut<K, V>>(
+    tree: &RawBTree<K, V, C>,
+    addr: Address,
+) -> Option<Address>
+    requires tree { IsBTree K.cmp tree.now }
+    requires valid { IsValidIn tree.now addr }
+    ensures { IsNextOrBack tree.now addr result }
+{
+    let Some(_root) = tree.root_id() else {
+        return None;
+    };
+    tree.tell_fits();
+    let Some(offset) = addr.offset.value() else {
+        return Some(first_item(tree, addr.id));
+    };
+    let node = tree.node(addr.id);
+    if let Some(next) = item_after(tree, node, addr.id, offset) {
+        return Some(next);
+    }
+    if offset < node.item_count() {
+        return Some(Address::new(addr.id, Offset::from(offset + 1)));
+    }
+    Some(addr)
 }

@@ -99,3 +99,18 @@ fn goes_to_a_leaf(rt: HostRuntime) -> Result<(), Fail> {
     }
     Ok(())
 }
+
+#[test]
+fn finds_the_next_item_or_the_end(rt: HostRuntime) -> Result<(), Fail> {
+    let (tree, top, left, right) = two_leaves(&rt, rt.alloc());
+    for (addr, found) in [
+        (at(right, 3), at(right, 4)),
+        (at(right, 4), at(right, 4)),
+        (at(top, 1), at(top, 1)),
+        (at(left, 3), at(top, 0)),
+    ] {
+        assert!(rt; tree.is_valid(addr), "{addr}");
+        assert_eq!(rt; tree.next_item_or_back_address(addr), Some(found), "{addr}");
+    }
+    Ok(())
+}

@@ -180,7 +180,12 @@ fn pass_node<'a, K: Ord + 'a, V: 'a, C: Nodes<K, V>>(
 }
 
 // Returns whether the tree is off by one at node `exempt`, with its root `height` levels above the leaves: if so, the walk passes all nodes.
-fn is_off_by_one_at_height<K: Ord, V, C: Nodes<K, V>>(nodes: &C, root: usize, exempt: usize, height: usize) -> bool
+fn is_off_by_one_at_height<K: Ord, V, C: Nodes<K, V>>(
+    nodes: &C,
+    root: usize,
+    exempt: usize,
+    height: usize,
+) -> bool
     requires { FitsInMemory (node_row K.row V.row) }
     ensures { IsTrue result ↔ IsOffByOneAtHeight K.cmp (C.content nodes.now) root exempt height }
 {
@@ -200,7 +205,11 @@ fn is_off_by_one_at_height<K: Ord, V, C: Nodes<K, V>>(nodes: &C, root: usize, ex
 }
 
 // Returns whether the tree is off by one at node `exempt`, at one of the heights that such a tree may have.
-fn is_off_by_one_at_some_height<K: Ord, V, C: Nodes<K, V>>(nodes: &C, root: usize, exempt: usize) -> bool
+fn is_off_by_one_at_some_height<K: Ord, V, C: Nodes<K, V>>(
+    nodes: &C,
+    root: usize,
+    exempt: usize,
+) -> bool
     requires { FitsInMemory (node_row K.row V.row) }
     ensures { IsTrue result ↔ IsOffByOneAtSomeHeight K.cmp (C.content nodes.now) root exempt }
 {

@@ -1,7 +1,7 @@
 -- The places in one node: along a leaf, and at the two ends of the root; and the index of a node in its parent.
-use Rattle.std.proofs.Common.{◌≡◌, ◌<◌, ◌≤◌, ◌∙◌, ◌+◌, [], ℕ, zero, suc, List, length, Option, Some, None, refl, sym, ap, subst, arith, append-nil}
+use Rattle.std.proofs.Common.{◌≡◌, ◌<◌, ◌≤◌, ◌∙◌, ◌+◌, [], ℕ, zero, suc, List, length, Option, Some, None, sym, ap, subst, arith, append-nil}
 use Rattle.std.specs.Prelude.{slice_get}
-use Rattle.btree_view.specs.View.{NodeMap, View, leaf, children_in, children_of, parent_of, size_of}
+use Rattle.btree_view.specs.View.{NodeMap, View, leaf, children_in, parent_of, size_of}
 use Rattle.btree_shape.specs.AddressLaws.{IsPlaced}
 use Rattle.btree_shape.specs.Focus.Focus.{IsUnsizedFocus}
 use Rattle.btree_shape.specs.Focus.Path.{Path, frame_id, frame_index, parent_above, top, under}

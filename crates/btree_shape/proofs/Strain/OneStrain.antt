@@ -24,11 +24,11 @@ same-total f (x ∷ ns) ms each =
     let same : x ≡ p.found = found-is x p.found p.some in
     let parts : ms ≡ p.front ++ x ∷ p.back = p.is ∙ ap (λ m. p.front ++ m ∷ p.back) (sym same) in
     let rest = same-total f ns (p.front ++ p.back) (λ n.
-      let e = each n in
-      let a = listed-append n p.front (x ∷ p.back) in
-      let b = listed-append n p.front p.back in
-      let c = ap (times_listed n) parts in
-      omega arith) in
+    let e = each n in
+    let a = listed-append n p.front (x ∷ p.back) in
+    let b = listed-append n p.front p.back in
+    let c = ap (times_listed n) parts in
+    omega arith) in
     let d = total-append f p.front (x ∷ p.back) in
     let e = total-append f p.front p.back in
     let g = ap (total f) parts in
