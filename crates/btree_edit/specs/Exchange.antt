@@ -1,4 +1,4 @@
--- The exchange of the item at an address for another one.
+-- Replacing the item at an address.
 -- Read `KeepsAddresses` first: root, length and number of nodes stay, and so does every address, with its place.
 -- `IsExchanged` adds the new list, with another item at the place of the address. `IsValueExchanged`, where the key
 -- stays, is what `exchange` ensures; `insert` cites it for a key that is there, by `ExchangesValueAt` (`Insert.antt`).
@@ -9,8 +9,8 @@ use Rattle.btree_item.specs.declared.address.Address.{Address}
 use Rattle.btree_shape.specs.TreeState.{TreeState, IsBTree, IsPlaceIn, IsValidIn, item_of, pairs_of}
 
 module _ {K V : Type 0} (old new : TreeState K V) (a : Address) where
-  -- every address stays valid, at the same place, and with the same item or again with none; only at address `a`
-  -- there may be another item
+  -- every address stays valid, at the same place, and with the same item, or still without one; only address `a`
+  -- may have another item
   pub record KeepsAddresses : Type 0 where
     pub root : new.root ≡ old.root
     pub len : new.len ≡ old.len

@@ -66,7 +66,7 @@ module _ {K V : Type 0} (cmp : K → K → Ordering) (k : K) (old new : TreeStat
     pub exchanged : IsValueExchanged old new at cmp was is
 
   -- how many nodes an insertion of a value by key used: for an absent key those that were needed at its gap, at most
-  -- one more than there were levels; for a key that is there none, and every address stays
+  -- one more than there were levels; for a present key none, and every address stays
   pub record InsertsByKey (value : V) : Type 0 where
     pub absent : found cmp k (pairs_of old) ≡ None → (a : Address) × IsGapAt cmp k old a × (map.len new.nodes ≡ map.len old.nodes + nodes_needed old a.id)
     pub few : (levels : ℕ) → HasLevels old levels → map.len new.nodes ≤ map.len old.nodes + (levels + 1)

@@ -1,5 +1,5 @@
--- What a removal leaves of a tree. `IsRemoved` is the main word: the contracts of removals by address and by key cite
--- it. A removal frees nodes and never allocates one.
+-- What a removal leaves of a tree. `IsRemoved` is the main word. Removals are still to come; the law of one from a leaf
+-- is `removed-from-leaf` in `proofs/RemoveLemmas.antt`. A removal frees nodes and never allocates one.
 use Rattle.std.specs.Prelude.{◌≡◌, ℕ, ◌+◌, ◌≤◌, Some, IsSome}
 use Rattle.std.specs.FinMap as map
 use Rattle.std.specs.List.{remove}

@@ -1,4 +1,4 @@
-//! The exchange of a value for another one.
+//! Replacing a value.
 ghost use Rattle.btree_shape.specs.TreeState.{IsBTree, IsOccupiedIn};
 ghost use Rattle.btree_edit.specs.Exchange.{IsValueExchanged};
 

@@ -15,8 +15,7 @@ use btree_node::Node;
 use btree_nodes::NodesMut;
 use btree_raw::RawBTree;
 
-/// A well formed tree, read by its nodes and by addresses in it. An implementor writes `as_raw` alone: the other calls read what it
-/// lends.
+/// A well formed tree, read by its nodes and by addresses in it. Only `as_raw` is required; the other calls have default bodies.
 pub trait BTreeExt<K: Ord, V> {
     /// The store of the nodes.
     type Nodes: NodesMut<K, V>;
@@ -44,7 +43,7 @@ pub trait BTreeExt<K: Ord, V> {
         self.as_raw().has_node(id)
     }
 
-    /// Returns the node with a number that is used, which `has_node` decides.
+    /// Returns the node with this number, which must be in use; see `has_node`.
     fn node(&self, id: usize) -> &Node<K, V>
         requires { IsUsed (state self.now) id }
         ensures { map.get (state self.now).nodes id ≡ Some result.now }

@@ -226,7 +226,7 @@ impl<K, V> InternalNode<K, V> {
         None
     }
 
-    /// Returns the number of the child at an index that has one, which `child_id_opt` decides.
+    /// Returns the number of the child at an index. There must be one; see `child_id_opt`.
     pub fn child_id(&self, index: usize) -> usize
         requires { index ≤ length self.now.branches }
         ensures { slice_get (children_of (view_of self.now)) index ≡ Some result }

@@ -43,7 +43,7 @@ pub const LEAF_SLOTS: usize = MAX_LEAF_ITEMS + 1;
 pub const INTERNAL_SLOTS: usize = MAX_INTERNAL_ITEMS + 1;
 
 /// The most levels of a tree whose items a `usize` of 64 bits can count. A root has at least two children, and any other internal node at
-/// least `MIN_ITEMS + 1`, so a tree of n items and h levels has 2 * 4^(h-1) at most n + 1.
+/// least `MIN_ITEMS + 1`, so a tree of n items and h levels satisfies 2 * 4^(h-1) <= n + 1.
 pub const MAX_LEVELS: usize = 32;
 
 /// The most nodes that an insertion uses: one for each level, and one for a new root.

@@ -57,7 +57,7 @@ impl Offset {
         }
     }
 
-    /// Returns the number of an offset other than -1, which `is_before` decides.
+    /// Returns the number of an offset, which must not be -1; see `is_before`.
     pub fn unwrap(self) -> usize
         requires { IsSome self }
         ensures value { self ≡ Some result }

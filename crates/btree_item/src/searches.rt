@@ -15,8 +15,8 @@ fn key_at<T: Keyed, const N: usize>(slots: &Slots<T, N>, index: usize) -> &T::Ke
     slots.get(index).unwrap().key()
 }
 
-// Returns the first index from `start` to `end` whose key is not below. It compares all of these, so that no branch depends on where that
-// is.
+// Returns the first index from `start` to `end` whose key is not less than `key`. It always compares all of these, so that no branch
+// depends on the result.
 #[tactic(auto, using(crate::proofs::KeyLemmas::search_steps))]
 fn first_not_below<T: Keyed, const N: usize>(
     slots: &Slots<T, N>,

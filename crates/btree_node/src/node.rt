@@ -72,7 +72,7 @@ impl<K, V> Node<K, V> {
         }
     }
 
-    /// Returns the number of the child at an index that has one, which `child_id_opt` decides.
+    /// Returns the number of the child at an index. There must be one; see `child_id_opt`.
     pub fn child_id(&self, index: usize) -> usize
         requires { index < length (children_of (view_of self.now)) }
         ensures { slice_get (children_of (view_of self.now)) index ≡ Some result }

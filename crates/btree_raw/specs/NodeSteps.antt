@@ -1,7 +1,7 @@
 -- What the steps that fix an underflow require of a store's nodes, and what each call leaves.
--- The two siblings are one value, `Siblings` (`btree_moved`). Read from the end: each step between two siblings
+-- The two siblings are one value, `Siblings` (`btree_moved`). Read bottom-up: each step between two siblings
 -- requires `AreSiblings`, as a part of `CanRotateLeft`, `CanRotateRight` or `CanMerge`; the steps leave
--- `RotatesSiblingsLeft`, `RotatesSiblingsRight` and `MergesSiblings`. The words before are for the single calls of
+-- `RotatesSiblingsLeft`, `RotatesSiblingsRight` and `MergesSiblings`. The earlier definitions are for the single calls of
 -- which these steps are made (`src/rotate.rt`), each on one node: what it requires (`CanGiveItem`, `HasRoomFor` and
 -- others), and what it gains or loses (`GainsFirst`, `LosesFirst` and others). `CanShrinkRoot` is the condition for
 -- shrinking the root. All calls that cite these words are private; `src/borrow.rt` cites the steps between siblings.

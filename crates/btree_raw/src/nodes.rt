@@ -38,7 +38,7 @@ pub(crate) fn set_parent<K, V, C: NodesMut<K, V>>(
     tree.node_mut(id).set_parent(Some(parent));
 }
 
-/// Inserts an item into a node at an index, and a child after it if one is given. The node may overflow then; it is not split.
+/// Inserts an item into a node at an index, and a child after it if one is given. The node may then overflow; it is not split.
 pub fn add_item<K: Drop, V: Drop, C: NodesMut<K, V>>(
     tree: &mut RawBTree<K, V, C>,
     id: usize,

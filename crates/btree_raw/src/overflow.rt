@@ -72,8 +72,8 @@ fn take_claim(claims: &mut ClaimedIds) -> usize
     claims.pop().unwrap()
 }
 
-/// Splits an overflowing node into itself and a claimed one, then its parent if that overflows, and so on upward. Returns the new address
-/// of what was at `addr`. It uses all claims: one for each split, and one for a new root if the root is split.
+/// Splits an overflowing node, whose right part goes to a claimed node, then its parent if that overflows, and so on upward. Returns the
+/// new address of what was at `addr`. It uses all claims: one for each split, and one for a new root if the root is split.
 pub fn split_upward<K: Drop, V: Drop, C: NodesMut<K, V>>(
     tree: &mut RawBTree<K, V, C>,
     start: usize,

@@ -14,8 +14,8 @@ use btree_nodes::{Nodes, NodesMut};
 use btree_valid::is_off_by_one;
 use std::marker::{Model, PhantomData};
 
-/// Nodes in a store, the number of a root, and a length. They need not fit together: the tree may be in the middle of a change, or come
-/// from elsewhere. Contracts see it as a `TreeState`.
+/// Nodes in a store, the number of a root, and a length. They need not form a tree: it may be in the middle of a change, or come from
+/// elsewhere. Contracts see it as a `TreeState`.
 #[derive(Drop)]
 pub struct RawBTree<K, V, C: NodesMut<K, V>> {
     store: C,
@@ -76,7 +76,7 @@ impl<K, V, C: NodesMut<K, V>> RawBTree<K, V, C> {
         self.len
     }
 
-    /// Returns the number of the root, which need not be that of a node.
+    /// Returns the number of the root. There may be no node with this number.
     pub fn root_id(&self) -> Option<usize>
         ensures { result ≡ self.now.root }
     {
@@ -98,7 +98,7 @@ impl<K, V, C: NodesMut<K, V>> RawBTree<K, V, C> {
         self.store.get(id).is_some()
     }
 
-    /// Returns the node with a number that is used, which `has_node` decides. The number is below `usize::MAX`.
+    /// Returns the node with this number, which must be in use; see `has_node`. The number is below `usize::MAX`.
     pub fn node(&self, id: usize) -> &Node<K, V>
         requires { IsUsed self.now id }
         ensures value { map.get self.now.nodes id ≡ Some result.now }
@@ -161,7 +161,7 @@ impl<K, V, C: NodesMut<K, V>> RawBTree<K, V, C> {
         }
     }
 
-    /// Removes and returns the node with a number that is used, which `has_node` decides. Nothing else changes.
+    /// Removes and returns the node with this number, which must be in use; see `has_node`. Nothing else changes.
     pub fn release_node(&mut self, id: usize) -> Node<K, V>
         requires { IsUsed self.old id }
         ensures node { map.get self.old.nodes id ≡ Some result }
@@ -206,10 +206,9 @@ impl<K: Ord, V, C: NodesMut<K, V>> RawBTree<K, V, C> {
     ghost use Rattle.btree_shape.specs.TreeState.{IsOffByOneAt};
 
     /// Returns whether the tree has a root and at most 32 levels, and is well formed except for its length and the number of items of node
-    /// `id`, which may have one item too many or too few, and none if it is the root. This is what `rebalance` requires of the tree.
+    /// `id`: it may have one item too many or too few, and the root may also be empty. This is what `rebalance` requires of the tree.
     ///
-    /// It uses no memory but the stack. For each of the 32 heights that such a tree may have, it visits at most one node more than there
-    /// are.
+    /// It uses no memory but the stack. For each of the 32 heights that such a tree may have, it visits at most n + 1 of n nodes.
     pub fn is_off_by_one(&self, id: usize) -> bool
         ensures { IsTrue result ↔ IsOffByOneAt K.cmp self.now id }
     {

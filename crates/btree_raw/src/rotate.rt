@@ -179,7 +179,7 @@ pub(crate) fn merge<K: Drop, V: Drop, C: NodesMut<K, V>>(
     reparent_children(tree, siblings.left);
 }
 
-/// Shrinks the root: removes an internal root without items. Its only child has no parent then.
+/// Shrinks the root: removes an internal root without items. Its only child then has no parent.
 pub(crate) fn shrink_root<K: Drop, V: Drop, C: NodesMut<K, V>>(
     tree: &mut RawBTree<K, V, C>,
     root: usize,

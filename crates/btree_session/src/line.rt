@@ -96,7 +96,7 @@ fn question_named(name: &[u8]) -> Option<Question>
     None
 }
 
-/// Returns the number, if the text is exactly one.
+/// Returns the number, if the text consists of exactly one number.
 fn one_number(text: &[u8]) -> Option<u64>
     ensures { SomeIfAny (λ n. AreNumbers (n ∷ []) (words_of text.now)) result }
 {
@@ -107,7 +107,7 @@ fn one_number(text: &[u8]) -> Option<u64>
     Some(number)
 }
 
-/// Returns the numbers, if the text is exactly two.
+/// Returns the numbers, if the text consists of exactly two numbers.
 fn two_numbers(text: &[u8]) -> Option<(u64, u64)>
     ensures { SomeIfAny (λ pair. AreNumbers (pair.0 ∷ pair.1 ∷ []) (words_of text.now)) result }
 {
@@ -153,7 +153,7 @@ fn first_space(text: &[u8]) -> Option<usize>
     text.iter().position(|byte| *byte == b' ')
 }
 
-/// Returns the number that a word writes in decimal digits, if it does and the number fits in 64 bits.
+/// Parses a word of decimal digits as a number of 64 bits.
 fn number(word: &[u8]) -> Option<u64>
     ensures { SomeIfAny (λ n. IsNumber n word.now) result }
 {

@@ -28,8 +28,8 @@ pub enum Stop {
 
 /// Reads lines of text, runs the commands and answers the questions on them, and writes each reply on a line of its own.
 ///
-/// The replies so far are written and flushed at the end, before a stop, and before each read from the reader if no whole line is left of
-/// the bytes that were read. Commands that were run keep their effect, however it ends.
+/// The replies so far are written and flushed at the end, before a stop, and before each read from the reader, which comes if its buffer
+/// has no complete line. Commands that were run keep their effect, however it ends.
 ///
 /// Except for nodes, it allocates memory for three buffers only: the reader's, one for a line that no single read gave whole, and one for
 /// the replies to the lines that were read at once. A reader's error of the kind `OutOfMemory` counts as refused memory. An input of

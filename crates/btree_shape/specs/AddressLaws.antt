@@ -54,7 +54,7 @@ module _ {A : Type 0} (node_at : NodeMap A) where
       pub each : (place : ℕ) (a : Address) → IsValid node_at root a.id a.offset → IsLeafAddress node_at root a.id a.offset
           → IsBack node_at a.offset → IsPlace node_at root xs a.id a.offset place → slice_get list place ≡ Some a
 
-    -- no address is twice in the list, and the places of its addresses never fall
+    -- no address occurs twice in the list, and the places of its addresses never decrease
     pub record IsInOrder : Type 0 where
       pub once : (i j : ℕ) (a : Address) → slice_get list i ≡ Some a → slice_get list j ≡ Some a → i ≡ j
       pub rising : (i j : ℕ) (a b : Address) (p q : ℕ) → i ≤ j → slice_get list i ≡ Some a → slice_get list j ≡ Some b

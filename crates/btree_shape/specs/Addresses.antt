@@ -1,6 +1,6 @@
 -- The addresses of a tree in lists, each in order: those of the items, the back ones in leaves, all back ones, and all
 -- front ones.
--- Contracts will cite them by the state (`TreeAddresses.antt`); `AddressLaws.antt` says what is in each list.
+-- Contracts cite them by the state (`TreeAddresses.antt`); `AddressLaws.antt` says what is in each list.
 use Rattle.std.specs.Prelude.{ℕ, zero, suc, List, [], ◌∷◌, ◌++◌, Option, Some, None}
 use Rattle.std.specs.List.{flat_map}
 use Rattle.btree_item.specs.declared.address.Address.{Address}

@@ -1,8 +1,8 @@
 -- The walk as a state of the code: how many nodes may still come, and the last key that was passed.
 -- These are the words of `OffByOne.antt` for the values that the code carries. `Walk` is the state, written `seen`
 -- before a call and `after` after it; `Part` is a node with its parent and its height. Read `PassesKey` first, then
--- `PassesItems` (the items of a leaf) and `PassesPart` (a node and all below it). If a word with `Can` holds, the
--- function returns `Some`. Only the private functions of `src/off_by_one.rt` cite them; the public call cites
+-- `PassesItems` (the items of a leaf) and `PassesPart` (a node and all below it). If a definition named `Can..` holds,
+-- the function returns `Some`. Only the private functions of `src/off_by_one.rt` cite them; the public call cites
 -- `IsOffByOneAmong` (`OffByOne.antt`).
 use Rattle.std.specs.Prelude.{◌≡◌, ℕ, Some, option_copied}
 use Rattle.std.specs.declared.cmp.Ordering.{Ordering}

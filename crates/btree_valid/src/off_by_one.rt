@@ -20,7 +20,7 @@ struct Walk<'a, K> {
     last: Option<&'a K>,
 }
 
-// A subtree as it should be: its root, the height of that node above the leaves, and its parent.
+// What is expected of a subtree: its root, the height of that node above the leaves, and its parent.
 #[derive(Clone, Copy)]
 struct Part {
     height: usize,
@@ -130,7 +130,7 @@ fn pass_key<'a, K: Ord>(seen: Walk<'a, K>, key: &'a K) -> Option<Walk<'a, K>>
     })
 }
 
-// Passes a subtree, or returns `None` if it is not as it should be.
+// Passes a subtree, or returns `None` if it is not the expected one.
 fn pass_node<'a, K: Ord + 'a, V: 'a, C: Nodes<K, V>>(
     nodes: &'a C,
     root: usize,
@@ -222,9 +222,9 @@ fn is_off_by_one_at_some_height<K: Ord, V, C: Nodes<K, V>>(
 }
 
 /// Returns whether the nodes form a tree of at most 32 levels under a root, well formed except for its length and the number of items of
-/// node `exempt`. That node is there, and may have one item too many or too few, and none if it is the root.
+/// node `exempt`. That node is there, and may have one item too many or too few; the root may also be empty.
 ///
-/// It uses no memory but the stack. For each of the 32 heights that such a tree may have, it visits at most one node more than there are.
+/// It uses no memory but the stack. For each of the 32 heights that such a tree may have, it visits at most n + 1 of n nodes.
 pub fn is_off_by_one<K: Ord, V, C: Nodes<K, V>>(nodes: &C, root: usize, exempt: usize) -> bool
     requires { FitsInMemory (node_row K.row V.row) }
     ensures { IsTrue result ↔ IsOffByOneAmong K.cmp (C.content nodes.now) root exempt }
