@@ -17,8 +17,8 @@ pub use searches::{binary_search_min, search};
 pub use slots::Slots;
 pub use slots_iter::SlotsIter;
 
-/// The order of the tree. A leaf holds at most `M` items, and an internal node has at most `M` children. The other numbers follow from
-/// it. `M` is fixed.
+/// The order of the tree. A leaf holds at most `M` items, and an internal node has at most `M` children. The other numbers of items follow
+/// from it. `M` is fixed.
 pub const M: usize = 8;
 
 /// The most items of a leaf.
