@@ -29,7 +29,7 @@ use Rattle.btree_shape.proofs.Underflow.Order.{one-height}
 use Rattle.btree_raw.specs.Rebalance.{HasRoom, IsRebalanced}
 use Rattle.btree_edit.specs.Remove.{FreesWithinStrain, IsRemoved}
 
--- at most as many elements as before
+-- one element less than before
 pub remove-shorter : {X : Type 0} (xs : List X) (i : ℕ) (x : X) → slice_get xs i ≡ Some x → length (remove xs i) + 1 ≡ length xs
 remove-shorter xs i x e = length-remove xs i (slice_get_within xs i x e)
 
