@@ -55,7 +55,7 @@ module _ {K V : Type 0} (s : TreeState K V) where
     pub here : (IsOccupiedIn s a → ⊥) → IsItemAt place found
 
   -- the next item where there is one; else the offset after the address if an item is at it, and the address itself
-  -- if none does; none in an empty tree
+  -- if there is none; none in an empty tree
   pub record IsNextOrBack (a : Address) (found : Option Address) : Type 0 where
     pub next : Option Address
     pub is_next : IsNext a next
