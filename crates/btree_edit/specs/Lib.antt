@@ -1,3 +1,4 @@
 pub mod Exchange
 pub mod Insert
+pub mod InsertAt
 pub mod Remove

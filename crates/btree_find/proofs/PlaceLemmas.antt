@@ -49,12 +49,14 @@ module _ {K V : Type 0} (cmp : K → K → Ordering) (laws : IsTotalOrder cmp) (
   -- the occupied address of a place
   pub item-here : (a : Address) (place : ℕ) → IsOccupiedIn s a → IsPlaceIn s a place → IsItemAt s place (Some a)
   item-here a place o i =
+      let listed = addresses.items.each place a o i in
       record {
-        listed = sym (addresses.items.each place a o i);
+        listed = sym listed;
         here = record {
           valid = place-valid node_at s.root pairs a.id a.offset place i;
           occupied = o;
           has = has-place a place i;
+          item = (addresses.items.right place a listed).2.1;
         };
         past = λ e. absurd (cc);
       }

@@ -1,3 +1,4 @@
 pub mod Answers
+pub mod Fits
 pub mod Levels
 pub mod Navigation

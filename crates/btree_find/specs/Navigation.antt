@@ -8,7 +8,7 @@ use Rattle.btree_view.specs.View.{size_of}
 use Rattle.btree_shape.specs.Focus.Positions.{address_at, address_before}
 use Rattle.btree_shape.specs.Place.{IsLeaf}
 use Rattle.btree_shape.specs.TreeAddresses.{item_addresses_of}
-use Rattle.btree_shape.specs.TreeState.{TreeState, IsLeafAddressIn, IsOccupiedIn, IsPlaceIn, IsValidIn, node_map, pairs_of}
+use Rattle.btree_shape.specs.TreeState.{TreeState, IsLeafAddressIn, IsOccupiedIn, IsPlaceIn, IsValidIn, item_of, node_map, pairs_of}
 
 module _ {K V : Type 0} (s : TreeState K V) where
   -- the address has this place, and no other
@@ -16,11 +16,12 @@ module _ {K V : Type 0} (s : TreeState K V) where
     pub at : IsPlaceIn s a place
     pub only : (other : ℕ) → IsPlaceIn s a other → other ≡ place
 
-  -- the address is that of an item, with this place
+  -- the address is that of the item at this place
   pub record IsItemAddress (place : ℕ) (a : Address) : Type 0 where
     pub valid : IsValidIn s a
     pub occupied : IsOccupiedIn s a
     pub has : HasPlace a place
+    pub item : item_of s a ≡ slice_get (pairs_of s) place
 
   -- the address of the item at a place, or none from the end of the list on
   pub record IsItemAt (place : ℕ) (a : Option Address) : Type 0 where

@@ -1,0 +1,30 @@
+-- Where a key fits: at the place of an address (`FitsAt`, which an insertion there asks), and in the place of the item at
+-- an address (`ReplacesAt`, which a replacement of its key asks).
+use Rattle.std.specs.Prelude.{◌≡◌, ℕ, ◌<◌, suc, List, Some, length, slice_get}
+use Rattle.std.specs.declared.cmp.Ordering.{Ordering}
+use Rattle.std.specs.declared.cmp.Ordering.TheVariants.{Less}
+use Rattle.btree_item.specs.Pairs.{KeyFits}
+use Rattle.btree_item.specs.declared.address.Address.{Address}
+use Rattle.btree_shape.specs.TreeState.{TreeState, IsOccupiedIn, pairs_of}
+use Rattle.btree_find.specs.Navigation.{HasPlace}
+
+module _ {K V : Type 0} (cmp : K → K → Ordering) (k : K) where
+  -- a key may replace that of the pair at p: it is above the key before it and below the key after it
+  pub record KeyReplaces (p : ℕ) (xs : List (K × V)) : Type 0 where
+    pub within : p < length xs
+    pub above : (q : ℕ) (x : K × V) → suc q ≡ p → slice_get xs q ≡ Some x → cmp x.0 k ≡ Less
+    pub below : (x : K × V) → slice_get xs (suc p) ≡ Some x → cmp k x.0 ≡ Less
+
+  module _ (s : TreeState K V) (a : Address) where
+    -- the key fits at the place of the address
+    pub record FitsAt : Type 0 where
+      pub place : ℕ
+      pub has : HasPlace s a place
+      pub fits : KeyFits cmp k place (pairs_of s)
+
+    -- an item is at the address, and the key may replace its key
+    pub record ReplacesAt : Type 0 where
+      pub occupied : IsOccupiedIn s a
+      pub place : ℕ
+      pub has : HasPlace s a place
+      pub replaces : KeyReplaces place (pairs_of s)

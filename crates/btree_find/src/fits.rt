@@ -1,0 +1,79 @@
+//! Whether a key fits at the place of an address, or in the place of the item there.
+ghost use Rattle.std.specs.Prelude.{◌≡◌, ◌↔◌, IfSome, IsTrue};
+ghost use Rattle.std.specs.declared.cmp.Ordering.TheVariants.{Less};
+ghost use Rattle.btree_shape.specs.TreeState.{IsBTree, IsValidIn, item_of};
+ghost use Rattle.btree_find.specs.Fits.{FitsAt, ReplacesAt};
+
+use crate::navigation::{next_item_address, normalize, previous_item_address};
+use btree_item::Address;
+use btree_nodes::NodesMut;
+use btree_raw::RawBTree;
+use core::cmp::Ordering;
+
+// Returns whether a key is greater than that of the item at an address; true without an address.
+fn is_above<K: Ord, V, C: NodesMut<K, V>>(
+    tree: &RawBTree<K, V, C>,
+    at: Option<Address>,
+    key: &K,
+) -> bool
+    ensures { IsTrue result ↔ IfSome at (λ a. IfSome (item_of tree.now a) (λ x. K.cmp x.0 key.now ≡ Less)) }
+{
+    let Some(addr) = at else {
+        return true;
+    };
+    match tree.item(addr) {
+        Some(item) => item.key().cmp(key) == Ordering::Less,
+        None => true,
+    }
+}
+
+// Returns whether a key is less than that of the item at an address; true without an address.
+fn is_below<K: Ord, V, C: NodesMut<K, V>>(
+    tree: &RawBTree<K, V, C>,
+    at: Option<Address>,
+    key: &K,
+) -> bool
+    ensures { IsTrue result ↔ IfSome at (λ a. IfSome (item_of tree.now a) (λ x. K.cmp key.now x.0 ≡ Less)) }
+{
+    let Some(addr) = at else {
+        return true;
+    };
+    match tree.item(addr) {
+        Some(item) => key.cmp(item.key()) == Ordering::Less,
+        None => true,
+    }
+}
+
+/// Returns whether a key fits at the place of an address: whether it is greater than the key before the place and less than the key there.
+///
+/// It compares at most two keys, and reads at most one node of each level twice. `RawBTree::is_valid` decides whether an address is valid.
+pub fn fits_at<K: Ord, V, C: NodesMut<K, V>>(
+    tree: &RawBTree<K, V, C>,
+    addr: Address,
+    key: &K,
+) -> bool
+    requires tree { IsBTree K.cmp tree.now }
+    requires valid { IsValidIn tree.now addr }
+    ensures { IsTrue result ↔ FitsAt K.cmp key.now tree.now addr }
+{
+    is_above(tree, previous_item_address(tree, addr), key)
+        && is_below(tree, normalize(tree, addr), key)
+}
+
+/// Returns whether an item is at an address and a key may replace its key: whether the key is greater than the key before it and less than
+/// the key after it.
+///
+/// It compares at most two keys, and reads at most one node of each level twice. `RawBTree::is_valid` decides whether an address is valid.
+pub fn replaces_at<K: Ord, V, C: NodesMut<K, V>>(
+    tree: &RawBTree<K, V, C>,
+    addr: Address,
+    key: &K,
+) -> bool
+    requires tree { IsBTree K.cmp tree.now }
+    requires valid { IsValidIn tree.now addr }
+    ensures { IsTrue result ↔ ReplacesAt K.cmp key.now tree.now addr }
+{
+    tree.item(addr).is_some()
+        && is_above(tree, previous_item_address(tree, addr), key)
+        && is_below(tree, next_item_address(tree, addr), key)
+}
