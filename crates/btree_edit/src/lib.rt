@@ -2,7 +2,9 @@
 #![tactic(auto, using(btree_store::specs::ContentLaws::stores))]
 
 mod insertion;
+mod replacement;
 mod values;
 
 pub use insertion::{insert, insert_at_gap};
+pub use replacement::replace_at;
 pub use values::exchange;

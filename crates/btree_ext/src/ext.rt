@@ -3,12 +3,13 @@ ghost use Rattle.std.specs.Prelude.{◌≡◌, ◌↔◌, ◌*◌, ◌+◌, ◌�
 ghost use Rattle.std.specs.FinMap as map;
 ghost use Rattle.btree_shape.specs.TreeState.{TreeState, HasLevels, IsBTree, IsUsed, IsValidIn, item_of, pairs_of};
 ghost use Rattle.btree_find.specs.Answers.{IsAddressOf};
+ghost use Rattle.btree_find.specs.Fits.{FitsAt, ReplacesAt};
 ghost use Rattle.btree_find.specs.Levels.{IsDense};
 ghost use Rattle.btree_find.specs.Navigation.{IsLeafAddressFor, IsNext, IsNextOrBack, IsNormalized, IsPrevious};
 
 use btree_find::{
-    address_of, height, leaf_address, next_item_address, next_item_or_back_address, normalize,
-    previous_item_address,
+    address_of, fits_at, height, leaf_address, next_item_address, next_item_or_back_address,
+    normalize, previous_item_address, replaces_at,
 };
 use btree_item::{Address, Item, MAX_LEVELS};
 use btree_node::Node;
@@ -132,5 +133,23 @@ pub trait BTreeExt<K: Ord, V> {
         ensures { IsNextOrBack (state self.now) addr result }
     {
         next_item_or_back_address(self.as_raw(), addr)
+    }
+
+    /// Returns whether a key fits at the place of a valid address: whether it is greater than the key before the place and less than the key
+    /// there. It compares at most two keys.
+    fn fits_at(&self, addr: Address, key: &K) -> bool
+        requires { IsValidIn (state self.now) addr }
+        ensures { IsTrue result ↔ FitsAt K.cmp key.now (state self.now) addr }
+    {
+        fits_at(self.as_raw(), addr, key)
+    }
+
+    /// Returns whether an item is at a valid address and a key may replace its key: whether the key is greater than the key before it and
+    /// less than the key after it. It compares at most two keys.
+    fn replaces_at(&self, addr: Address, key: &K) -> bool
+        requires { IsValidIn (state self.now) addr }
+        ensures { IsTrue result ↔ ReplacesAt K.cmp key.now (state self.now) addr }
+    {
+        replaces_at(self.as_raw(), addr, key)
     }
 }

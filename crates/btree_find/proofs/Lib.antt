@@ -6,3 +6,4 @@ pub mod NextLemmas
 pub mod PreviousLemmas
 pub mod LeafLemmas
 pub mod OrBackLemmas
+pub mod FitsLemmas

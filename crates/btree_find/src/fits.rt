@@ -8,36 +8,30 @@ use crate::navigation::{next_item_address, normalize, previous_item_address};
 use btree_item::Address;
 use btree_nodes::NodesMut;
 use btree_raw::RawBTree;
-use core::cmp::Ordering;
+use std::cmp::Ordering;
 
-// Returns whether a key is greater than that of the item at an address; true without an address.
+// Returns whether a key is greater than that of the item at an address; true without an item.
 fn is_above<K: Ord, V, C: NodesMut<K, V>>(
     tree: &RawBTree<K, V, C>,
-    at: Option<Address>,
+    addr: Address,
     key: &K,
 ) -> bool
-    ensures { IsTrue result ↔ IfSome at (λ a. IfSome (item_of tree.now a) (λ x. K.cmp x.0 key.now ≡ Less)) }
+    ensures { IsTrue result ↔ IfSome (item_of tree.now addr) (λ x. K.cmp x.0 key.now ≡ Less) }
 {
-    let Some(addr) = at else {
-        return true;
-    };
     match tree.item(addr) {
         Some(item) => item.key().cmp(key) == Ordering::Less,
         None => true,
     }
 }
 
-// Returns whether a key is less than that of the item at an address; true without an address.
+// Returns whether a key is less than that of the item at an address; true without an item.
 fn is_below<K: Ord, V, C: NodesMut<K, V>>(
     tree: &RawBTree<K, V, C>,
-    at: Option<Address>,
+    addr: Address,
     key: &K,
 ) -> bool
-    ensures { IsTrue result ↔ IfSome at (λ a. IfSome (item_of tree.now a) (λ x. K.cmp key.now x.0 ≡ Less)) }
+    ensures { IsTrue result ↔ IfSome (item_of tree.now addr) (λ x. K.cmp key.now x.0 ≡ Less) }
 {
-    let Some(addr) = at else {
-        return true;
-    };
     match tree.item(addr) {
         Some(item) => key.cmp(item.key()) == Ordering::Less,
         None => true,
@@ -56,8 +50,16 @@ pub fn fits_at<K: Ord, V, C: NodesMut<K, V>>(
     requires valid { IsValidIn tree.now addr }
     ensures { IsTrue result ↔ FitsAt K.cmp key.now tree.now addr }
 {
-    is_above(tree, previous_item_address(tree, addr), key)
-        && is_below(tree, normalize(tree, addr), key)
+    let place = Address::new(addr.id, addr.offset);
+    if let Some(previous) = previous_item_address(tree, place) {
+        if !is_above(tree, previous, key) {
+            return false;
+        }
+    }
+    match normalize(tree, addr) {
+        Some(here) => is_below(tree, here, key),
+        None => true,
+    }
 }
 
 /// Returns whether an item is at an address and a key may replace its key: whether the key is greater than the key before it and less than
@@ -73,7 +75,17 @@ pub fn replaces_at<K: Ord, V, C: NodesMut<K, V>>(
     requires valid { IsValidIn tree.now addr }
     ensures { IsTrue result ↔ ReplacesAt K.cmp key.now tree.now addr }
 {
-    tree.item(addr).is_some()
-        && is_above(tree, previous_item_address(tree, addr), key)
-        && is_below(tree, next_item_address(tree, addr), key)
+    let Some(_item) = tree.item(Address::new(addr.id, addr.offset)) else {
+        return false;
+    };
+    let place = Address::new(addr.id, addr.offset);
+    if let Some(previous) = previous_item_address(tree, place) {
+        if !is_above(tree, previous, key) {
+            return false;
+        }
+    }
+    match next_item_address(tree, addr) {
+        Some(next) => is_below(tree, next, key),
+        None => true,
+    }
 }

@@ -1,9 +1,11 @@
 //! Look-up and navigation in a well formed tree, over any lawful store of nodes.
 #![tactic(auto, using(btree_store::specs::ContentLaws::stores))]
 
+mod fits;
 mod navigation;
 mod search;
 
+pub use fits::{fits_at, replaces_at};
 pub use navigation::{
     leaf_address, next_item_address, next_item_or_back_address, normalize, previous_item_address,
 };

@@ -1,4 +1,4 @@
-//! Navigation by address in a root T over two leaves: the keys 0 to 3 in L, 4 in T, and 5 to 8 in R.
+//! Navigation by address in a root T over two leaves: the keys 1, 3, 5, 7 in L, 9 in T, and 11, 13, 15, 17 in R.
 use btree_ext::{BTreeExt, Tree};
 use btree_item::{Address, Offset};
 use btree_node::Node;
@@ -17,10 +17,10 @@ fn at(id: usize, offset: usize) -> Address {
     Address::new(id, Offset::from(offset))
 }
 
-// Returns the tree of the keys 0 to 8, with the numbers of T, L and R.
+// Returns the tree of the odd keys up to 17, with the numbers of T, L and R.
 fn two_leaves(rt: &impl Abort, alloc: Global) -> (Map, usize, usize, usize) {
     let mut tree: Map = Tree::new(alloc);
-    for key in 0..9u64 {
+    for key in [1u64, 3, 5, 7, 9, 11, 13, 15, 17] {
         assert!(rt; tree.insert(key, key).is_ok());
     }
     let Some(root) = tree.root_id() else {
@@ -111,6 +111,47 @@ fn finds_the_next_item_or_the_end(rt: HostRuntime) -> Result<(), Fail> {
     ] {
         assert!(rt; tree.is_valid(addr), "{addr}");
         assert_eq!(rt; tree.next_item_or_back_address(addr), Some(found), "{addr}");
+    }
+    Ok(())
+}
+
+#[test]
+fn tells_where_a_key_fits(rt: HostRuntime) -> Result<(), Fail> {
+    let (tree, top, left, right) = two_leaves(&rt, rt.alloc());
+    for (addr, key, fits) in [
+        (before(top), 0, true),
+        (before(top), 1, false),
+        (at(left, 4), 8, true),
+        (at(left, 4), 7, false),
+        (at(top, 0), 9, false),
+        (at(top, 0), 10, false),
+        (before(right), 10, true),
+        (at(top, 1), 18, true),
+        (at(top, 1), 17, false),
+    ] {
+        assert!(rt; tree.is_valid(addr), "{addr}");
+        assert_eq!(rt; tree.fits_at(addr, &key), fits, "{addr} {key}");
+    }
+    Ok(())
+}
+
+#[test]
+fn tells_which_key_may_replace_another(rt: HostRuntime) -> Result<(), Fail> {
+    let (tree, top, left, right) = two_leaves(&rt, rt.alloc());
+    for (addr, key, replaces) in [
+        (at(left, 0), 0, true),
+        (at(left, 0), 3, false),
+        (at(top, 0), 8, true),
+        (at(top, 0), 9, true),
+        (at(top, 0), 10, true),
+        (at(top, 0), 7, false),
+        (at(top, 0), 11, false),
+        (at(right, 3), 99, true),
+        (at(left, 4), 8, false),
+        (at(top, 1), 18, false),
+    ] {
+        assert!(rt; tree.is_valid(addr), "{addr}");
+        assert_eq!(rt; tree.replaces_at(addr, &key), replaces, "{addr} {key}");
     }
     Ok(())
 }
