@@ -3,4 +3,5 @@ pub mod MoreLemmas
 pub mod LevelLemmas
 pub mod ExchangeLemmas
 pub mod InsertLemmas
+pub mod InsertAtLemmas
 pub mod RemoveLemmas

@@ -1,8 +1,10 @@
-//! Changes of a well formed tree over any lawful store of nodes: insertion at a gap, and the exchange of a value.
+//! Changes of a well formed tree over any lawful store of nodes: insertion at a gap or at an address, and the exchange of a value.
 #![tactic(auto, using(btree_store::specs::ContentLaws::stores))]
 
 mod insertion;
+mod insertion_at;
 mod values;
 
 pub use insertion::{insert, insert_at_gap};
+pub use insertion_at::{insert_at, insert_exactly_at};
 pub use values::exchange;
