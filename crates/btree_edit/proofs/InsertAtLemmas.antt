@@ -1,5 +1,5 @@
 -- An insertion at an address: the gap at the address in a leaf at its place, and what the insertion there leaves.
-use Rattle.std.proofs.Common.{◌≡◌, ◌+◌, ◌≤◌, ℕ, List, Option, Some, None, IsSome, refl, sym, subst, option_and_then, arith}
+use Rattle.std.proofs.Common.{◌≡◌, ℕ, Option, Some, None, IsSome, refl, sym, subst, option_and_then, arith}
 use Rattle.std.specs.List.{remove}
 use Rattle.std.specs.Cmp.{IsTotalOrder}
 use Rattle.std.specs.declared.cmp.Ordering.{Ordering}
