@@ -3,5 +3,6 @@ pub mod MoreLemmas
 pub mod LevelLemmas
 pub mod ExchangeLemmas
 pub mod InsertLemmas
+pub mod InsertAtLemmas
 pub mod RemoveLemmas
 pub mod ReplaceLemmas

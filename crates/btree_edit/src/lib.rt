@@ -1,10 +1,12 @@
-//! Changes of a well formed tree over any lawful store of nodes: insertion at a gap, and the exchange of a value.
+//! Changes of a well formed tree over any lawful store of nodes: insertion at a gap or at an address, the exchange of a value, and of a pair.
 #![tactic(auto, using(btree_store::specs::ContentLaws::stores))]
 
 mod insertion;
+mod insertion_at;
 mod replacement;
 mod values;
 
 pub use insertion::{insert, insert_at_gap};
+pub use insertion_at::{insert_at, insert_exactly_at};
 pub use replacement::replace_at;
 pub use values::exchange;

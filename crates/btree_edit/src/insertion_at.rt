@@ -1,0 +1,54 @@
+//! Insertion at an address.
+ghost use Rattle.std.specs.Prelude.{◌≡◌, IfOk, IfErr, IsSome};
+ghost use Rattle.btree_shape.specs.TreeState.{IsBTree, IsLeafAddressIn, IsValidIn};
+ghost use Rattle.btree_find.specs.Fits.{FitsAt};
+ghost use Rattle.btree_edit.specs.InsertAt.{InsertsAt, IsRefusedAt};
+
+use crate::insertion::insert_at_gap;
+use btree_find::leaf_address;
+use btree_item::{Address, Item, Refused};
+use btree_nodes::NodesMut;
+use btree_raw::RawBTree;
+
+/// Inserts a pair at the place of an address, which its key fits, before the item there. An address of an internal node stands for the
+/// one in a leaf at its place. Returns the address of the pair. It returns an error, with the pair, and nothing but the count of
+/// refusals changes, if the store refuses a node that is needed, or if there are as many pairs as can be counted.
+///
+/// The address must be valid and not at -1. `RawBTree::is_valid` decides whether an address is valid.
+pub fn insert_at<K: Ord + Drop, V: Drop, C: NodesMut<K, V>>(
+    tree: &mut RawBTree<K, V, C>,
+    addr: Address,
+    item: Item<K, V>,
+) -> Result<Address, Refused<K, V>>
+    requires tree { IsBTree K.cmp tree.old }
+    requires valid { IsValidIn tree.old addr }
+    requires back { IsSome addr.offset }
+    requires fits { FitsAt K.cmp item.0 tree.old addr }
+    ensures inserted { IfOk result (λ b. InsertsAt tree.old tree.new addr K.cmp b item) }
+    ensures returned { IfErr result (λ r. (r.key, r.value) ≡ item) }
+    ensures refused { IfErr result (λ r. IsRefusedAt tree.old tree.new addr C.MayRefuse r.cause) }
+{
+    let leaf = leaf_address(tree, addr);
+    insert_at_gap(tree, leaf, item)
+}
+
+/// Inserts a pair at an address in a leaf, or nowhere in the empty tree, as `insert_at` does; it reads no node to get to a leaf. Returns
+/// the address of the pair, and the same errors as `insert_at`.
+///
+/// The address must be valid and not at -1, and the key must fit at its place.
+pub fn insert_exactly_at<K: Ord + Drop, V: Drop, C: NodesMut<K, V>>(
+    tree: &mut RawBTree<K, V, C>,
+    addr: Address,
+    item: Item<K, V>,
+) -> Result<Address, Refused<K, V>>
+    requires tree { IsBTree K.cmp tree.old }
+    requires valid { IsValidIn tree.old addr }
+    requires back { IsSome addr.offset }
+    requires leaf { IsLeafAddressIn tree.old addr }
+    requires fits { FitsAt K.cmp item.0 tree.old addr }
+    ensures inserted { IfOk result (λ b. InsertsAt tree.old tree.new addr K.cmp b item) }
+    ensures returned { IfErr result (λ r. (r.key, r.value) ≡ item) }
+    ensures refused { IfErr result (λ r. IsRefusedAt tree.old tree.new addr C.MayRefuse r.cause) }
+{
+    insert_at_gap(tree, addr, item)
+}
