@@ -56,7 +56,7 @@ module _ {K V : Type 0} (cmp : K → K → Ordering) (laws : IsTotalOrder cmp) (
           valid = place-valid node_at s.root pairs a.id a.offset place i;
           occupied = o;
           has = has-place a place i;
-          item = (addresses.items.right place a listed).2.1;
+          item = (addresses.items.right place a listed).2;
         };
         past = λ e. absurd (cc);
       }
