@@ -4,3 +4,4 @@ pub mod LevelLemmas
 pub mod ExchangeLemmas
 pub mod InsertLemmas
 pub mod RemoveLemmas
+pub mod InnerLemmas
