@@ -6,3 +6,4 @@ pub mod InsertLemmas
 pub mod InsertAtLemmas
 pub mod RemoveLemmas
 pub mod ReplaceLemmas
+pub mod InnerLemmas

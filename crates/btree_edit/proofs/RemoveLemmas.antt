@@ -1,20 +1,22 @@
--- An item removed from a leaf, and the leaf's underflow fixed: the tree afterwards.
+-- An item removed and the underflow fixed: the tree afterwards. The law for any removal is `removed-by`; for one from a
+-- leaf it is `removed-from-leaf`.
 use Rattle.std.proofs.Common.{◌≡◌, ◌∙◌, ◌+◌, ◌<◌, ◌≤◌, ℕ, suc, inl, inr, List, length, Option, Some, None, IsSome, refl, sym, ap, subst, option_and_then, slice_get, arith, ◌^◌}
 use Rattle.std.proofs.lemmas.List.Edits.{length-remove}
 use Rattle.std.proofs.lemmas.Option.{slice_get_within}
 use Rattle.std.specs.Cmp.{IsTotalOrder}
 use Rattle.std.specs.FinMap as map
-use Rattle.std.specs.List.{remove}
+use Rattle.std.specs.List.{insert, remove}
 use Rattle.std.specs.declared.cmp.Ordering.{Ordering}
 use Rattle.btree_item.specs.declared.address.Address.{Address}
-use Rattle.btree_view.specs.View.{NodeMap, leaf, item_in}
+use Rattle.btree_item.proofs.PairEdits.{insert-remove}
+use Rattle.btree_view.specs.View.{NodeMap, View, leaf, item_in, most_of, size_of}
 use Rattle.btree_shape.specs.Focus.Positions.{address_at}
 use Rattle.btree_shape.specs.Focus.TreePositions.{IsAddressed}
 use Rattle.btree_shape.specs.Lists.{times_listed}
 use Rattle.btree_shape.specs.Place.{IsPlace, IsValid}
 use Rattle.btree_shape.specs.Represents.{Represents, numbers_under}
 use Rattle.btree_shape.specs.Step.{WritesNode}
-use Rattle.btree_shape.specs.Strain.{IsStrain, strain_under}
+use Rattle.btree_shape.specs.Strain.{IsStrain, debt_of, strain_under}
 use Rattle.btree_shape.specs.TreeState.{TreeState, HasLevels, HasLevelsUnder, HasStrain, IsBTree, IsOffByOneAt, IsPlaceIn, IsValidIn, item_of, node_map, pairs_of}
 use Rattle.btree_shape.specs.WellFormed.{IsNearlySized, IsOffByOne, IsSized, IsWellFormed, times_used}
 use Rattle.btree_shape.proofs.Places.OfTree.{positions-addressed, valid-on}
@@ -32,6 +34,105 @@ use Rattle.btree_edit.specs.Remove.{FreesWithinStrain, IsRemoved}
 -- one element less than before
 pub remove-shorter : {X : Type 0} (xs : List X) (i : ℕ) (x : X) → slice_get xs i ≡ Some x → length (remove xs i) + 1 ≡ length xs
 remove-shorter xs i x e = length-remove xs i (slice_get_within xs i x e)
+
+-- a written node is as often in use as before
+pub written-used : {A : Type 0} (node_at new : NodeMap A) (id : ℕ) (v w : View A) → node_at id ≡ Some v → WritesNode node_at new id w
+    → (n : ℕ) → times_used (new n) ≡ times_used (node_at n)
+written-used node_at new id v w here put n = elim (same-or n id) [
+  | inl e ↦ let a = used-one (new id) w put.here in let b = used-one (node_at id) v here in rw e (omega arith)
+  | inr ne ↦ ap times_used (put.others n ne)
+]
+
+module _ {K V : Type 0} (cmp : K → K → Ordering) (old mid : TreeState K V) (root : ℕ)
+    (well : IsWellFormed cmp (node_map old) (Some root) old.len (pairs_of old)) where
+  -- as many nodes, if the same numbers are in use
+  pub as-many-used : ((n : ℕ) → times_used (node_map mid n) ≡ times_used (node_map old n)) → map.len mid.nodes ≡ map.len old.nodes
+  as-many-used used =
+      let ids = numbers_under (node_map old) well.formed.height root in
+      let each : (n : ℕ) → times_listed n ids ≡ times_used (node_map old n) = well.formed.once in
+      len-views mid.nodes ids (λ n. each n ∙ sym (used n)) ∙ sym (len-views old.nodes ids each)
+
+  -- after any removal: the tree is off by one at node `exempt`, the pair x, which was at address a, is gone, and address
+  -- f is at its place; `rebalance` makes f to b
+  module _ (at-root : old.root ≡ Some root) (top : mid.root ≡ old.root) (exempt place : ℕ) (a f : Address) (x : K × V)
+      (took : IsOffByOne cmp (node_map mid) root exempt (remove (pairs_of old) place)) (high : took.rooted.height ≡ well.formed.height)
+      (node : View (K × V)) (here : node_map mid exempt ≡ Some node) (room : size_of node ≤ most_of node)
+      (owes : strain_under (node_map mid) root (numbers_under (node_map mid) took.rooted.height root) + debt_of node
+          ≤ suc (strain_under (node_map old) root (numbers_under (node_map old) well.formed.height root)))
+      (as-many : map.len mid.nodes ≡ map.len old.nodes)
+      (had : item_of old a ≡ Some x) (at : IsPlaceIn old a place) (listed : slice_get (pairs_of old) place ≡ Some x)
+      (f-place : IsPlaceIn mid f place) (f-back : IsSome f.offset)
+      (new : TreeState K V) (b : Address) (len : mid.len + 1 ≡ old.len) (uncounted : mid.refusals ≡ old.refusals)
+      (r : IsRebalanced mid new exempt cmp f b) where
+    root-mid : mid.root ≡ Some root
+    root-mid = top ∙ at-root
+
+    pairs-mid : pairs_of mid ≡ remove (pairs_of old) place
+    pairs-mid = pairs-off cmp mid root exempt (remove (pairs_of old) place) root-mid took
+
+    -- as many levels as before
+    same-levels : (levels : ℕ) → HasLevels old levels → HasLevels mid levels
+    same-levels levels are =
+        let l = subst (λ t. HasLevelsUnder old t levels) at-root are in
+        let e = one-height (node_map old) root (pairs_of old) well.formed.height l.0 well.formed.represents l.1 in
+        let n = l.2 in
+        let there : Represents (node_map mid) took.rooted.height None root (pairs_of mid) =
+        subst (λ z. Represents (node_map mid) took.rooted.height None root z) (sym pairs-mid) took.rooted.represents in
+        subst (λ t. HasLevelsUnder mid t levels) (sym root-mid)
+        (took.rooted.height, there, (let q : levels ≡ suc took.rooted.height = omega arith in q))
+
+    abbrev before : ℕ
+    before = strain_under (node_map old) root (numbers_under (node_map old) well.formed.height root)
+
+    strain-before : HasStrain old before
+    strain-before = subst (λ t. IsStrain (node_map old) t before) (sym at-root) (numbers_under (node_map old) well.formed.height root, well.formed.once, refl)
+
+    abbrev between : ℕ
+    between = strain_under (node_map mid) root (numbers_under (node_map mid) took.rooted.height root)
+
+    strain-between : HasStrain mid between
+    strain-between = subst (λ t. IsStrain (node_map mid) t between) (sym root-mid) (numbers_under (node_map mid) took.rooted.height root, took.rooted.once, refl)
+
+    new-pairs : pairs_of new ≡ remove (pairs_of old) place
+    new-pairs = r.pairs ∙ pairs-mid
+
+    frees : FreesWithinStrain old new
+    frees =
+        let f = r.freed (record { node = node; here = here; room = room }) in
+        let s = one-strain (node_map mid) mid.root r.before between r.strain_before strain-between in
+        let w = f.within_strain in
+        record {
+          freed = f.freed;
+          fewer = sym as-many ∙ f.fewer;
+          few = λ levels are. f.within levels (same-levels levels are);
+          before = before;
+          after = r.after;
+          strain_before = strain-before;
+          strain_after = r.strain_after;
+          within_strain = omega arith;
+        }
+
+    pub removed-by : IsRemoved old new cmp a x b
+    removed-by =
+        let n = remove-shorter (pairs_of old) place x listed in
+        let c = well.counted in
+        let l = r.len in
+        let m = ap length new-pairs in
+        record {
+          tree = record { ascends = r.well.ascends; formed = r.well.formed; counted = omega arith };
+          had = had;
+          place = place;
+          at = at;
+          listed = listed;
+          pairs = new-pairs;
+          restores = ap (λ l. insert l place x) new-pairs ∙ insert-remove (pairs_of old) place x listed;
+          valid = r.valid;
+          there = r.place place f-place;
+          back = r.back f-back;
+          shorter = omega arith;
+          frees = frees;
+          uncounted = r.uncounted ∙ uncounted;
+        }
 
 module _ {K V : Type 0} (cmp : K → K → Ordering) (laws : IsTotalOrder cmp) (old mid : TreeState K V) (tree : IsBTree cmp old) (small : old.len < 2 ^ 64)
     (a : Address) (o : ℕ) (offset : a.offset ≡ Some o) (p : Option ℕ) (ys : List (K × V)) (x : K × V)
@@ -122,79 +223,13 @@ module _ {K V : Type 0} (cmp : K → K → Ordering) (laws : IsTotalOrder cmp) (
   had : item_of old a ≡ Some x
   had = ap (option_and_then (item_in (node_at a.id))) offset ∙ item-here
 
-  -- as many levels as before
-  same-levels : (levels : ℕ) → HasLevels old levels → HasLevels mid levels
-  same-levels levels are =
-      let l = subst (λ t. HasLevelsUnder old t levels) at-root are in
-      let e = one-height node_at root xs well.formed.height l.0 well.formed.represents l.1 in
-      let s = take-height cmp laws node_at root old.len xs well low (node_map mid) a.id p ys o place x here stood place-on.1 put in
-      let n = l.2 in
-      let at : Represents (node_map mid) took.rooted.height None root (pairs_of mid) =
-      subst (λ z. Represents (node_map mid) took.rooted.height None root z) (sym taken-pairs) took.rooted.represents in
-      subst (λ t. HasLevelsUnder mid t levels) (sym mid-root) (took.rooted.height, at, (let q : levels ≡ suc took.rooted.height = omega arith in q))
-
-  used : (n : ℕ) → times_used (node_map mid n) ≡ times_used (node_at n)
-  used n = elim (same-or n a.id) [
-    | inl e ↦ let u = used-one (node_map mid a.id) (leaf p (remove ys o)) put.here in let v = used-one (node_at a.id) (leaf p ys) here in rw e (omega arith)
-    | inr ne ↦ ap times_used (put.others n ne)
-  ]
-
-  as-many : map.len mid.nodes ≡ map.len old.nodes
-  as-many =
-      let ids = numbers_under node_at well.formed.height root in
-      let each : (n : ℕ) → times_listed n ids ≡ times_used (node_at n) = well.formed.once in
-      len-views mid.nodes ids (λ n. each n ∙ sym (used n)) ∙ sym (len-views old.nodes ids each)
-
-  abbrev before : ℕ
-  before = strain_under node_at root (numbers_under node_at well.formed.height root)
-
-  strain-before : HasStrain old before
-  strain-before = subst (λ t. IsStrain node_at t before) (sym at-root) (numbers_under node_at well.formed.height root, well.formed.once, refl)
-
-  abbrev between : ℕ
-  between = strain_under (node_map mid) root (numbers_under (node_map mid) took.rooted.height root)
-
-  strain-between : HasStrain mid between
-  strain-between = subst (λ t. IsStrain (node_map mid) t between) (sym mid-root) (numbers_under (node_map mid) took.rooted.height root, took.rooted.once, refl)
-
   -- after the underflow is fixed
-  module _ (new : TreeState K V) (b : Address) (len : mid.len + 1 ≡ old.len) (uncounted : mid.refusals ≡ old.refusals) (r : IsRebalanced mid new a.id cmp a b) where
-    new-pairs : pairs_of new ≡ remove xs place
-    new-pairs = r.pairs ∙ taken-pairs
-
-    frees : FreesWithinStrain old new
-    frees =
-        let f = r.freed taken-room in
-        let s = one-strain (node_map mid) mid.root r.before between r.strain_before strain-between in
-        let t = take-within cmp laws node_at root old.len xs well low (node_map mid) a.id p ys o place x here stood place-on.1 put in
-        let w = f.within_strain in
-        record {
-          freed = f.freed;
-          fewer = sym as-many ∙ f.fewer;
-          few = λ levels are. f.within levels (same-levels levels are);
-          before = before;
-          after = r.after;
-          strain_before = strain-before;
-          strain_after = r.strain_after;
-          within_strain = omega arith;
-        }
-
-    pub removed-from-leaf : IsRemoved old new cmp a x b
-    removed-from-leaf =
-        let n = remove-shorter xs place x listed in
-        let c = well.counted in
-        let l = r.len in
-        let m = ap length new-pairs in
-        record {
-          tree = record { ascends = r.well.ascends; formed = r.well.formed; counted = omega arith };
-          had = had;
-          place = place;
-          at = at-place;
-          pairs = new-pairs;
-          valid = r.valid;
-          there = r.place place taken-place;
-          back = r.back (subst (λ q. IsSome q) (sym offset) refl);
-          shorter = omega arith;
-          frees = frees;
-          uncounted = r.uncounted ∙ uncounted;
-        }
+  pub removed-from-leaf : (new : TreeState K V) (b : Address) → mid.len + 1 ≡ old.len → mid.refusals ≡ old.refusals
+      → IsRebalanced mid new a.id cmp a b → IsRemoved old new cmp a x b
+  removed-from-leaf new b len uncounted r =
+      removed-by cmp old mid root well at-root top a.id place a a x took
+      (take-height cmp laws node_at root old.len xs well low (node_map mid) a.id p ys o place x here stood place-on.1 put)
+      (leaf p (remove ys o)) put.here taken-room.room
+      (take-within cmp laws node_at root old.len xs well low (node_map mid) a.id p ys o place x here stood place-on.1 put)
+      (as-many-used cmp old mid root well (written-used node_at (node_map mid) a.id (leaf p ys) (leaf p (remove ys o)) here put))
+      had at-place listed taken-place (subst (λ q. IsSome q) (sym offset) refl) new b len uncounted r

@@ -1,11 +1,16 @@
--- What a removal leaves of a tree. `IsRemoved` is the main word. Removals are still to come; the law of one from a leaf
--- is `removed-from-leaf` in `proofs/RemoveLemmas.antt`. A removal frees nodes and never allocates one.
-use Rattle.std.specs.Prelude.{◌≡◌, ℕ, ◌+◌, ◌≤◌, Some, IsSome}
+-- What a removal leaves of a tree. `IsRemoved` is the main word. Removals are still to come; the laws of one from a leaf
+-- and of one from an internal node are `removed-from-leaf` in `proofs/RemoveLemmas.antt` and `removed-from-internal` in
+-- `proofs/InnerLemmas.antt`. A removal frees nodes and never allocates one.
+use Rattle.std.specs.Prelude.{◌≡◌, ℕ, suc, ◌+◌, ◌≤◌, List, length, slice_get, Option, Some, IsSome, IsTrue}
 use Rattle.std.specs.FinMap as map
-use Rattle.std.specs.List.{remove}
+use Rattle.std.specs.List.{insert, remove}
 use Rattle.std.specs.declared.cmp.Ordering.{Ordering}
 use Rattle.btree_item.specs.declared.address.Address.{Address}
-use Rattle.btree_shape.specs.TreeState.{TreeState, HasLevels, HasStrain, IsBTree, IsPlaceIn, IsValidIn, item_of, pairs_of}
+use Rattle.btree_view.specs.Edits.{is_internal}
+use Rattle.btree_view.specs.View.{View, leaf, children_of, items_of}
+use Rattle.btree_shape.specs.Step.{WritesNode}
+use Rattle.btree_shape.specs.TreeState.{TreeState, HasLevels, HasStrain, IsBTree, IsPlaceIn, IsValidIn, KeepsRest, item_of, node_map, pairs_of}
+use Rattle.btree_find.specs.Navigation.{EndsInLeaf, IsItemAt}
 
 module _ {K V : Type 0} (old new : TreeState K V) where
   -- nodes were freed, at most as many as the tree had levels; their number and the strain afterwards are together at
@@ -26,10 +31,40 @@ module _ {K V : Type 0} (old new : TreeState K V) where
     pub had : item_of old a ≡ Some x
     pub place : ℕ
     pub at : IsPlaceIn old a place
+    pub listed : slice_get (pairs_of old) place ≡ Some x
     pub pairs : pairs_of new ≡ remove (pairs_of old) place
+    pub restores : insert (pairs_of new) place x ≡ pairs_of old
     pub valid : IsValidIn new b
     pub there : IsPlaceIn new b place
     pub back : IsSome b.offset
     pub shorter : old.len ≡ new.len + 1
     pub frees : FreesWithinStrain
     pub uncounted : new.refusals ≡ old.refusals
+
+module _ {K V : Type 0} (s : TreeState K V) where
+  -- an item of an internal node is at the address, and `left` is the child before it
+  pub record IsInnerAt (a : Address) (left : ℕ) : Type 0 where
+    pub node : View (K × V)
+    pub here : node_map s a.id ≡ Some node
+    pub kind : IsTrue (is_internal node)
+    pub index : ℕ
+    pub offset : a.offset ≡ Some index
+    pub item : K × V
+    pub stands : slice_get (items_of node) index ≡ Some item
+    pub child : slice_get (children_of node) index ≡ Some left
+
+  -- the item after the place of address a is at address b
+  abbrev pub LeadsBehind : (a b : Address) → Type 0
+  LeadsBehind a b = (place : ℕ) → IsPlaceIn s a place → IsItemAt s (suc place) (Some b)
+
+-- the last item x under node `top`, which is in leaf `id`, was removed there; nothing else has changed
+pub record TakesLast {K V : Type 0} (old new : TreeState K V) (top : ℕ) (x : K × V) (id : ℕ) : Type 0 where
+  pub parent : Option ℕ
+  pub items : List (K × V)
+  pub index : ℕ
+  pub here : node_map old id ≡ Some (leaf parent items)
+  pub count : length items ≡ suc index
+  pub last : slice_get items index ≡ Some x
+  pub ends : EndsInLeaf old top (id, suc index)
+  pub writes : WritesNode (node_map old) (node_map new) id (leaf parent (remove items index))
+  pub rest : KeepsRest old new

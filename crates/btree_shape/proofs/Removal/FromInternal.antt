@@ -22,7 +22,7 @@ use Rattle.btree_shape.proofs.Places.Words.{item-within}
 use Rattle.btree_shape.proofs.Places.Untouched.{if-other}
 use Rattle.btree_shape.proofs.Places.OfTree.{positions-addressed, well-on}
 use Rattle.btree_shape.proofs.Removal.OtherItemInState.{ReplacedOff, replaced-off, replaced-remove}
-use Rattle.btree_shape.proofs.Removal.FromTree.{Ascends-remove, take-item, take-keeps, take-later, take-off, take-within}
+use Rattle.btree_shape.proofs.Removal.FromTree.{Ascends-remove, take-height, take-item, take-keeps, take-later, take-off, take-within}
 
 -- the item at an address is in the list at the address's place
 pub place-item : {A : Type 0} (node_at : NodeMap A) (root : ℕ) (xs : List A) (n k : ℕ) (x : A) (v : View A)
@@ -97,6 +97,7 @@ module _ {K V : Type 0} (cmp : K → K → Ordering) (laws : IsTotalOrder cmp) (
   -- the tree without the item, its strain, and its addresses
   pub record RemovedInner (list : List Pair) : Type 0 where
     pub tree : IsOffByOne cmp new root leaf_id list
+    pub height_is : tree.rooted.height ≡ well.formed.height
     pub within_strain : strain_under new root (numbers_under new tree.rooted.height root) + debt_of (leaf p (remove ys o))
         ≤ suc (strain_under node_at root (numbers_under node_at well.formed.height root))
     -- an address at a smaller place than the leaf's item keeps it, and its item; one at a greater place than the
@@ -115,6 +116,9 @@ module _ {K V : Type 0} (cmp : K → K → Ordering) (laws : IsTotalOrder cmp) (
       subst (λ l. RemovedInner l) taken-list
       (record {
         tree = e.tree;
+        height_is = e.height_is
+            ∙ take-height cmp laws node_at root len xs well low mid leaf_id p ys o before y leaf_here leaf_item leaf_place
+            leaf_put;
         within_strain = omega arith;
         earlier = λ expected b q lt away on. e.stays.keeps expected b q away
             (take-keeps cmp laws node_at root len xs well low mid leaf_id p ys o before y leaf_here leaf_item leaf_place

@@ -43,6 +43,7 @@ module _ {K V : Type 0} (cmp : K → K → Ordering) (laws : IsTotalOrder cmp) (
   module _ (exempt : ℕ) (d : IsOffByOne cmp node_at root exempt xs) where
     pub record ReplacedOff (ys : List (K × V)) : Type 0 where
       pub tree : IsOffByOne cmp new root exempt ys
+      pub height_is : tree.rooted.height ≡ d.rooted.height
       pub strain_is : strain_under new root (numbers_under new tree.rooted.height root)
           ≡ strain_under node_at root (numbers_under node_at d.rooted.height root)
       pub stays : Stays
@@ -67,6 +68,7 @@ module _ {K V : Type 0} (cmp : K → K → Ordering) (laws : IsTotalOrder cmp) (
             low = omega arith;
             used = used;
           };
+          height_is = r.height_is;
           strain_is = r.strain_is;
           stays = record {
             keeps = r.keeps;
