@@ -15,13 +15,16 @@ use Rattle.btree_edit.proofs.ExchangeLemmas.{ExchangesAt, at-place, exchanged, l
 
 module _ {X : Type 0} where
   get-below_removed : (xs : List X) (p q : ℕ) → suc q ≤ p → slice_get (remove xs p) q ≡ slice_get xs q
-  get-below_removed [] p q low = refl
+  get-below_removed [] zero q low = absurd (omega arith)
+  get-below_removed [] (suc p) zero low = refl
+  get-below_removed [] (suc p) (suc q) low = refl
   get-below_removed (x ∷ xs) zero q low = absurd (omega arith)
   get-below_removed (x ∷ xs) (suc p) zero low = refl
   get-below_removed (x ∷ xs) (suc p) (suc q) low = get-below_removed xs p q (omega arith)
 
   get-at_removed : (xs : List X) (p : ℕ) → slice_get (remove xs p) p ≡ slice_get xs (suc p)
-  get-at_removed [] p = refl
+  get-at_removed [] zero = refl
+  get-at_removed [] (suc p) = refl
   get-at_removed (x ∷ xs) zero = refl
   get-at_removed (x ∷ xs) (suc p) = get-at_removed xs p
 
