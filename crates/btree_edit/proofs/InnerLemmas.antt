@@ -9,7 +9,7 @@ use Rattle.std.specs.declared.cmp.Ordering.{Ordering}
 use Rattle.btree_item.specs.declared.address.Address.{Address}
 use Rattle.btree_node.specs.declared.node.Node.{Node}
 use Rattle.btree_node.specs.Node.{view_of}
-use Rattle.btree_view.specs.Edits.{is_internal}
+use Rattle.btree_view.specs.Edits.{is_internal, with_other_item}
 use Rattle.btree_view.specs.View.{NodeMap, View, leaf, item_in, items_of, children_of}
 use Rattle.btree_shape.specs.AddressLaws.{IsPlaced}
 use Rattle.btree_shape.specs.Focus.Positions.{address_at}
@@ -21,11 +21,12 @@ use Rattle.btree_shape.specs.WellFormed.{IsNearlySized, IsOffByOne, IsWellFormed
 use Rattle.btree_shape.proofs.Places.InNode.{leaf-along}
 use Rattle.btree_shape.proofs.Places.OfTree.{positions-addressed, well-on}
 use Rattle.btree_shape.proofs.Places.Words.{item-within}
-use Rattle.btree_shape.proofs.Removal.FromInternal.{RemovedInner, inner-item, inner-removed}
+use Rattle.btree_shape.proofs.Removal.FromInternal.{RemovedInner, inner-item, inner-removed, place-item}
 use Rattle.btree_shape.proofs.Trees.Density.{height-low}
 use Rattle.btree_shape.proofs.Trees.Numbers.{less-or, same-node}
 use Rattle.btree_shape.proofs.Trees.States.{is-off, pairs-off}
 use Rattle.btree_raw.specs.Rebalance.{HasRoom, IsRebalanced}
+use Rattle.btree_raw.proofs.SingleNodeLemmas.{remade-other}
 use Rattle.btree_find.specs.Navigation.{IsItemAddress, IsItemAt, IsItemBefore, LeadsBefore}
 use Rattle.btree_find.proofs.PlaceLemmas.{in-tree, only, place-there, placed, root-there}
 use Rattle.btree_find.proofs.PreviousLemmas.{before-below}
@@ -42,6 +43,13 @@ node-of (Some node) v e = let same : view_of node ≡ v = cc in (node, refl, sam
 back-occupied : {A : Type 0} (node_at : NodeMap A) (id : ℕ) (o : Option ℕ) → IsOccupied node_at id o → IsSome o
 back-occupied node_at id None at = absurd at
 back-occupied node_at id (Some o) at = refl
+
+-- a node with another item in the place of one has these items
+pub other-items : {A : Type 0} (index : ℕ) (x : A) (v : View A)
+    → HasItems v (with_other_item index x v) (set (items_of v) index x)
+other-items index x v =
+    let r = remade-other index x v in
+    record { kind = r.kind; parent = r.parent; children = r.children_are; items_are = r.items_are }
 
 -- in a leaf a later offset has no smaller place
 module _ {A : Type 0} (node_at : NodeMap A) (levels root : ℕ) (xs : List A) (p : IsPlaced node_at levels root xs)
@@ -123,7 +131,8 @@ module _ {K V : Type 0} (cmp : K → K → Ordering) (laws : IsTotalOrder cmp) (
       let p = place-there cmp laws old tree a v in
       by p.0 p.1 (leads p.0 (subst (λ (b : Address). IsPlaceIn old b p.0) a-is p.1))
     where
-      by : (place : ℕ) → IsPlaceIn old a place → IsItemBefore old place (Some (address_at leaf_id takes.index)) → HasPredecessor
+      by : (place : ℕ) → IsPlaceIn old a place → IsItemBefore old place (Some (address_at leaf_id takes.index))
+          → HasPredecessor
       by zero i b = let e : Some (address_at leaf_id takes.index) ≡ None = b in absurd (cc)
       by (suc before) i b =
           let t : IsItemAt old before (Some (address_at leaf_id takes.index)) = b in
@@ -139,6 +148,15 @@ module _ {K V : Type 0} (cmp : K → K → Ordering) (laws : IsTotalOrder cmp) (
   inner-place =
       in-tree cmp laws old tree root root-is.1 a.id (Some inner.index) (suc before)
       (subst (λ (b : Address). IsPlaceIn old b (suc before)) a-is predecessor.at)
+
+  -- so the tree has a pair
+  pub inner-counted : 0 < old.len
+  inner-counted =
+      let at =
+      place-item node_at root xs a.id inner.index inner.item inner.node inner.here inner.stands (suc before) inner-place in
+      let n = slice_get_within xs (suc before) inner.item at in
+      let c = well.counted in
+      omega arith
 
   -- the item after it stays where it is
   module _ (next : Address) (behind : LeadsBehind old a next) where
@@ -169,7 +187,8 @@ module _ {K V : Type 0} (cmp : K → K → Ordering) (laws : IsTotalOrder cmp) (
             let p = placed cmp laws old tree root root-is.1 in
             let at-next = in-tree cmp laws old tree root root-is.1 leaf_id (Some o) (suc (suc before))
             (subst (λ n. IsPlace node_at old.root xs n (Some o) (suc (suc before))) e i) in
-            let l = later-place node_at (map.len old.nodes) root xs p leaf_id takes.parent takes.items takes.here takes.index o
+            let l =
+            later-place node_at (map.len old.nodes) root xs p leaf_id takes.parent takes.items takes.here takes.index o
             (suc (suc before)) (omega arith) (omega arith) at-next in
             let same = p.one leaf_id (Some takes.index) l.0 before l.2 leaf-place in
             let more = l.1 in
@@ -190,22 +209,22 @@ module _ {K V : Type 0} (cmp : K → K → Ordering) (laws : IsTotalOrder cmp) (
       mid-root : mid.root ≡ Some root
       mid-root = top ∙ root-is.1
 
-      abbrev removed-inner : RemovedInner cmp laws node_at root old.len xs well low (node_map taken) (node_map mid) leaf_id takes.parent
-          takes.items takes.index before y takes.here takes.last leaf-place takes.writes a.id inner.index inner.item inner.node w
-          inner.here apart inner.stands inner-place put has (remove xs (suc before))
+      abbrev removed-inner : RemovedInner cmp laws node_at root old.len xs well low (node_map taken) (node_map mid) leaf_id
+          takes.parent takes.items takes.index before y takes.here takes.last leaf-place takes.writes a.id inner.index
+          inner.item inner.node w inner.here apart inner.stands inner-place put has (remove xs (suc before))
       removed-inner =
-          inner-removed cmp laws node_at root old.len xs well low (node_map taken) (node_map mid) leaf_id takes.parent takes.items
-          takes.index before y takes.here takes.last leaf-place takes.writes a.id inner.index inner.item inner.node w inner.here
-          apart inner.stands inner-place put has
+          inner-removed cmp laws node_at root old.len xs well low (node_map taken) (node_map mid) leaf_id takes.parent
+          takes.items takes.index before y takes.here takes.last leaf-place takes.writes a.id inner.index inner.item
+          inner.node w inner.here apart inner.stands inner-place put has
 
       abbrev off : IsOffByOne cmp (node_map mid) root leaf_id (remove xs (suc before))
       off = removed-inner.tree
 
       listed : slice_get xs (suc before) ≡ Some inner.item
       listed =
-          inner-item cmp laws node_at root old.len xs well low (node_map taken) (node_map mid) leaf_id takes.parent takes.items
-          takes.index before y takes.here takes.last leaf-place takes.writes a.id inner.index inner.item inner.node w inner.here
-          apart inner.stands inner-place put has
+          inner-item cmp laws node_at root old.len xs well low (node_map taken) (node_map mid) leaf_id takes.parent
+          takes.items takes.index before y takes.here takes.last leaf-place takes.writes a.id inner.index inner.item
+          inner.node w inner.here apart inner.stands inner-place put has
 
       mid-pairs : pairs_of mid ≡ remove xs (suc before)
       mid-pairs = pairs-off cmp mid root leaf_id (remove xs (suc before)) mid-root off
@@ -245,7 +264,8 @@ module _ {K V : Type 0} (cmp : K → K → Ordering) (laws : IsTotalOrder cmp) (
       as-many : map.len mid.nodes ≡ map.len old.nodes
       as-many =
           as-many-used cmp old mid root well
-          (λ n. written-used (node_map taken) (node_map mid) a.id inner.node w (takes.writes.others a.id apart ∙ inner.here) put n
+          (λ n. written-used (node_map taken) (node_map mid) a.id inner.node w
+          (takes.writes.others a.id apart ∙ inner.here) put n
           ∙ written-used node_at (node_map taken) leaf_id (leaf takes.parent takes.items) shorter takes.here takes.writes n)
 
       -- after the underflow is fixed

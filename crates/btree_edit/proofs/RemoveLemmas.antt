@@ -36,8 +36,8 @@ pub remove-shorter : {X : Type 0} (xs : List X) (i : ℕ) (x : X) → slice_get 
 remove-shorter xs i x e = length-remove xs i (slice_get_within xs i x e)
 
 -- a written node is as often in use as before
-pub written-used : {A : Type 0} (node_at new : NodeMap A) (id : ℕ) (v w : View A) → node_at id ≡ Some v → WritesNode node_at new id w
-    → (n : ℕ) → times_used (new n) ≡ times_used (node_at n)
+pub written-used : {A : Type 0} (node_at new : NodeMap A) (id : ℕ) (v w : View A) → node_at id ≡ Some v
+    → WritesNode node_at new id w → (n : ℕ) → times_used (new n) ≡ times_used (node_at n)
 written-used node_at new id v w here put n = elim (same-or n id) [
   | inl e ↦ let a = used-one (new id) w put.here in let b = used-one (node_at id) v here in rw e (omega arith)
   | inr ne ↦ ap times_used (put.others n ne)
@@ -46,7 +46,8 @@ written-used node_at new id v w here put n = elim (same-or n id) [
 module _ {K V : Type 0} (cmp : K → K → Ordering) (old mid : TreeState K V) (root : ℕ)
     (well : IsWellFormed cmp (node_map old) (Some root) old.len (pairs_of old)) where
   -- as many nodes, if the same numbers are in use
-  pub as-many-used : ((n : ℕ) → times_used (node_map mid n) ≡ times_used (node_map old n)) → map.len mid.nodes ≡ map.len old.nodes
+  pub as-many-used : ((n : ℕ) → times_used (node_map mid n) ≡ times_used (node_map old n))
+      → map.len mid.nodes ≡ map.len old.nodes
   as-many-used used =
       let ids = numbers_under (node_map old) well.formed.height root in
       let each : (n : ℕ) → times_listed n ids ≡ times_used (node_map old n) = well.formed.once in
@@ -55,7 +56,8 @@ module _ {K V : Type 0} (cmp : K → K → Ordering) (old mid : TreeState K V) (
   -- after any removal: the tree is off by one at node `exempt`, the pair x, which was at address a, is gone, and address
   -- f is at its place; `rebalance` makes f to b
   module _ (at-root : old.root ≡ Some root) (top : mid.root ≡ old.root) (exempt place : ℕ) (a f : Address) (x : K × V)
-      (took : IsOffByOne cmp (node_map mid) root exempt (remove (pairs_of old) place)) (high : took.rooted.height ≡ well.formed.height)
+      (took : IsOffByOne cmp (node_map mid) root exempt (remove (pairs_of old) place))
+      (high : took.rooted.height ≡ well.formed.height)
       (node : View (K × V)) (here : node_map mid exempt ≡ Some node) (room : size_of node ≤ most_of node)
       (owes : strain_under (node_map mid) root (numbers_under (node_map mid) took.rooted.height root) + debt_of node
           ≤ suc (strain_under (node_map old) root (numbers_under (node_map old) well.formed.height root)))
@@ -85,13 +87,17 @@ module _ {K V : Type 0} (cmp : K → K → Ordering) (old mid : TreeState K V) (
     before = strain_under (node_map old) root (numbers_under (node_map old) well.formed.height root)
 
     strain-before : HasStrain old before
-    strain-before = subst (λ t. IsStrain (node_map old) t before) (sym at-root) (numbers_under (node_map old) well.formed.height root, well.formed.once, refl)
+    strain-before =
+        subst (λ t. IsStrain (node_map old) t before) (sym at-root)
+        (numbers_under (node_map old) well.formed.height root, well.formed.once, refl)
 
     abbrev between : ℕ
     between = strain_under (node_map mid) root (numbers_under (node_map mid) took.rooted.height root)
 
     strain-between : HasStrain mid between
-    strain-between = subst (λ t. IsStrain (node_map mid) t between) (sym root-mid) (numbers_under (node_map mid) took.rooted.height root, took.rooted.once, refl)
+    strain-between =
+        subst (λ t. IsStrain (node_map mid) t between) (sym root-mid)
+        (numbers_under (node_map mid) took.rooted.height root, took.rooted.once, refl)
 
     new-pairs : pairs_of new ≡ remove (pairs_of old) place
     new-pairs = r.pairs ∙ pairs-mid
@@ -231,5 +237,6 @@ module _ {K V : Type 0} (cmp : K → K → Ordering) (laws : IsTotalOrder cmp) (
       (take-height cmp laws node_at root old.len xs well low (node_map mid) a.id p ys o place x here stood place-on.1 put)
       (leaf p (remove ys o)) put.here taken-room.room
       (take-within cmp laws node_at root old.len xs well low (node_map mid) a.id p ys o place x here stood place-on.1 put)
-      (as-many-used cmp old mid root well (written-used node_at (node_map mid) a.id (leaf p ys) (leaf p (remove ys o)) here put))
+      (as-many-used cmp old mid root well
+      (written-used node_at (node_map mid) a.id (leaf p ys) (leaf p (remove ys o)) here put))
       had at-place listed taken-place (subst (λ q. IsSome q) (sym offset) refl) new b len uncounted r
