@@ -60,7 +60,7 @@ module _ {K V : Type 0} (cmp : K → K → Ordering) (old mid : TreeState K V) (
       (high : took.rooted.height ≡ well.formed.height)
       (node : View (K × V)) (here : node_map mid exempt ≡ Some node) (room : size_of node ≤ most_of node)
       (owes : strain_under (node_map mid) root (numbers_under (node_map mid) took.rooted.height root) + debt_of node
-          ≤ suc (strain_under (node_map old) root (numbers_under (node_map old) well.formed.height root)))
+      ≤ suc (strain_under (node_map old) root (numbers_under (node_map old) well.formed.height root)))
       (as-many : map.len mid.nodes ≡ map.len old.nodes)
       (had : item_of old a ≡ Some x) (at : IsPlaceIn old a place) (listed : slice_get (pairs_of old) place ≡ Some x)
       (f-place : IsPlaceIn mid f place) (f-back : IsSome f.offset)

@@ -11,11 +11,7 @@ use btree_raw::RawBTree;
 use std::cmp::Ordering;
 
 // Returns whether a key is greater than that of the item at an address; true without an item.
-fn is_above<K: Ord, V, C: NodesMut<K, V>>(
-    tree: &RawBTree<K, V, C>,
-    addr: Address,
-    key: &K,
-) -> bool
+fn is_above<K: Ord, V, C: NodesMut<K, V>>(tree: &RawBTree<K, V, C>, addr: Address, key: &K) -> bool
     ensures { IsTrue result ↔ IfSome (item_of tree.now addr) (λ x. K.cmp x.0 key.now ≡ Less) }
 {
     match tree.item(addr) {
@@ -25,11 +21,7 @@ fn is_above<K: Ord, V, C: NodesMut<K, V>>(
 }
 
 // Returns whether a key is less than that of the item at an address; true without an item.
-fn is_below<K: Ord, V, C: NodesMut<K, V>>(
-    tree: &RawBTree<K, V, C>,
-    addr: Address,
-    key: &K,
-) -> bool
+fn is_below<K: Ord, V, C: NodesMut<K, V>>(tree: &RawBTree<K, V, C>, addr: Address, key: &K) -> bool
     ensures { IsTrue result ↔ IfSome (item_of tree.now addr) (λ x. K.cmp key.now x.0 ≡ Less) }
 {
     match tree.item(addr) {

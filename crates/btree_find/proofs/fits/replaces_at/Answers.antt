@@ -25,9 +25,10 @@ returns-in-Some-next_item_address g c =
       | in_default-previous_item_address w ↦ subst (λ o. OfItem s (Greater g.K.Ord.cmp k s a) o) (sym w.in_default-previous_item_address.is) tt
     ] in
     let n = c.in-Some-next_item_address.next in
-    let next : IsNext s a (Some n) = subst (λ o. IsNext s a o) c.in-Some-next_item_address.is c.next_item_address.ensures in
-    (λ t. replaces-by g.K.Ord.cmp k s a p (Some n) previous next occupied low above (c.is_below.ensures.0 t),
-    λ r. c.is_below.ensures.1 (replaces-below g.K.Ord.cmp k s a p (Some n) previous next r))
+    let next : IsNext s a (Some n) = subst (λ o. IsNext s a o) c.in-Some-next_item_address.is c.next_item_address.ensures in (
+      λ t. replaces-by g.K.Ord.cmp k s a p (Some n) previous next occupied low above (c.is_below.ensures.0 t),
+      λ r. c.is_below.ensures.1 (replaces-below g.K.Ord.cmp k s a p (Some n) previous next r),
+    )
 
 pub returns-in-None : goal.returns-in-None
 returns-in-None g c =
