@@ -28,8 +28,8 @@ fn leftmost_leaf<K: Ord, V, C: NodesMut<K, V>>(tree: &RawBTree<K, V, C>, top: us
     }
 }
 
-// Returns the address of the first item under a node.
-fn first_item<K: Ord, V, C: NodesMut<K, V>>(tree: &RawBTree<K, V, C>, id: usize) -> Address
+/// Returns the address of the first item under a node. It reads one node of each level.
+pub fn first_item<K: Ord, V, C: NodesMut<K, V>>(tree: &RawBTree<K, V, C>, id: usize) -> Address
     requires tree { IsBTree K.cmp tree.now }
     requires used { IsUsed tree.now id }
     ensures { LeadsToItem tree.now (address_before id) (Some result) }

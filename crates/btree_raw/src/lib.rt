@@ -16,4 +16,5 @@ pub use count::{need, split_need};
 pub use nodes::{add_item, put};
 pub use overflow::split_upward;
 pub use raw::RawBTree;
+pub use rebalance::rebalance_underflow;
 pub use underflow::fix_underflow_upward;

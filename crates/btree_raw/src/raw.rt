@@ -10,7 +10,7 @@ ghost use Rattle.btree_raw.specs.Raw.{IsWithinNode};
 use crate::nodes::reparent_children;
 use btree_item::{Address, Item};
 use btree_node::Node;
-use btree_nodes::{Nodes, NodesMut};
+use btree_nodes::{ClearNodes, Nodes, NodesMut};
 use btree_valid::is_off_by_one;
 use std::marker::{Model, PhantomData};
 
@@ -217,6 +217,17 @@ impl<K: Ord, V, C: NodesMut<K, V>> RawBTree<K, V, C> {
             Some(root) => is_off_by_one(&self.store, root, id),
             None => false,
         }
+    }
+}
+
+impl<K, V, C: ClearNodes<K, V>> RawBTree<K, V, C> {
+    /// Drops every node. There is no root then, the length is 0, and the count of refusals stays.
+    pub fn clear(&mut self)
+        ensures { self.new ≡ record { nodes = map.empty; root = None; len = 0; refusals = self.old.refusals } }
+    {
+        self.store.clear();
+        self.root = None;
+        self.len = 0;
     }
 }
 

@@ -32,8 +32,9 @@ fn rebalance_overflow<K: Ord + Drop, V: Drop, C: NodesMut<K, V>>(
     Ok(split_upward(tree, id, addr, &mut claims))
 }
 
-// Fixes the underflow of a node that does not overflow, if it has one, and so on upward.
-fn rebalance_underflow<K: Ord + Drop, V: Drop, C: NodesMut<K, V>>(
+/// Makes a tree that is off by one at node `id`, which does not overflow, well formed except for its length, as `RawBTree::rebalance`
+/// does. It needs no node and cannot fail. Returns the new address of what was at `addr`, at the same place and item.
+pub fn rebalance_underflow<K: Ord + Drop, V: Drop, C: NodesMut<K, V>>(
     tree: &mut RawBTree<K, V, C>,
     id: usize,
     addr: Address,
