@@ -1,12 +1,13 @@
 //! The tree, always well formed.
-ghost use Rattle.std.specs.Prelude.{◌≡◌, [], length, None, option_copied, IfOk, OnOk, IfErr, OnErr};
+ghost use Rattle.std.specs.Prelude.{◌≡◌, [], length, None, option_copied, IsSome, IfOk, OnOk, IfErr, OnErr};
 ghost use Rattle.std.specs.FinMap as map;
 ghost use Rattle.btree_node.specs.contracts.node.Node.{the_row as node_row};
 
 use crate::ext::BTreeExt;
-use btree_edit::insert;
+use crate::ext_mut::BTreeExtMut;
+use btree_edit::{exchange, insert, insert_at, insert_exactly_at, replace_at};
 use btree_find::get;
-use btree_item::Refused;
+use btree_item::{Address, Item, Refused};
 use btree_nodes::NodesMut;
 use btree_raw::RawBTree;
 use std::marker::Model;
@@ -104,5 +105,47 @@ impl<K: Ord, V, C: NodesMut<K, V>> BTreeExt<K, V> for Tree<K, V, C> {
 
     fn as_raw(&self) -> &RawBTree<K, V, C> {
         &self.raw
+    }
+}
+
+impl<K: Ord + Drop, V: Drop, C: NodesMut<K, V>> BTreeExtMut<K, V> for Tree<K, V, C> {
+    ghost use Rattle.btree_shape.specs.TreeState.{IsLeafAddressIn, IsValidIn};
+    ghost use Rattle.btree_find.specs.Fits.{FitsAt};
+    ghost use Rattle.btree_edit.specs.InsertAt.{InsertsAt, IsRefusedAt};
+
+    // The clauses are those of the trait, with the store's own name for what it may refuse.
+    fn insert_at(&mut self, addr: Address, item: Item<K, V>) -> Result<Address, Refused<K, V>>
+        requires valid { IsValidIn self.old addr }
+        requires back { IsSome addr.offset }
+        requires fits { FitsAt K.cmp item.0 self.old addr }
+        ensures inserted { IfOk result (λ b. InsertsAt self.old self.new addr K.cmp b item) }
+        ensures returned { IfErr result (λ r. (r.key, r.value) ≡ item) }
+        ensures refused { IfErr result (λ r. IsRefusedAt self.old self.new addr C.MayRefuse r.cause) }
+    {
+        insert_at(&mut self.raw, addr, item)
+    }
+
+    fn insert_exactly_at(
+        &mut self,
+        addr: Address,
+        item: Item<K, V>,
+    ) -> Result<Address, Refused<K, V>>
+        requires valid { IsValidIn self.old addr }
+        requires back { IsSome addr.offset }
+        requires leaf { IsLeafAddressIn self.old addr }
+        requires fits { FitsAt K.cmp item.0 self.old addr }
+        ensures inserted { IfOk result (λ b. InsertsAt self.old self.new addr K.cmp b item) }
+        ensures returned { IfErr result (λ r. (r.key, r.value) ≡ item) }
+        ensures refused { IfErr result (λ r. IsRefusedAt self.old self.new addr C.MayRefuse r.cause) }
+    {
+        insert_exactly_at(&mut self.raw, addr, item)
+    }
+
+    fn replace_at(&mut self, addr: Address, key: K, value: V) -> (K, V) {
+        replace_at(&mut self.raw, addr, key, value)
+    }
+
+    fn replace_value_at(&mut self, addr: Address, value: V) -> V {
+        exchange(&mut self.raw, addr, value)
     }
 }

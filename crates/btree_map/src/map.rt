@@ -1,9 +1,9 @@
 //! The map.
-ghost use Rattle.std.specs.Prelude.{◌≡◌, ◌↔◌, [], length, IsTrue, IfOk, IfErr, OnOk, OnErr, None, option_copied};
+ghost use Rattle.std.specs.Prelude.{◌≡◌, ◌↔◌, [], length, IsTrue, IsSome, IfOk, IfErr, OnOk, OnErr, None, option_copied};
 ghost use Rattle.std.specs.FinMap as map;
 
-use btree_ext::{BTreeExt, Tree};
-use btree_item::Refused;
+use btree_ext::{BTreeExt, BTreeExtMut, Tree};
+use btree_item::{Address, Item, Refused};
 use btree_nodes::NodesMut;
 use btree_raw::RawBTree;
 use btree_walk::Iter;
@@ -107,5 +107,47 @@ impl<K: Ord, V, C: NodesMut<K, V>> BTreeExt<K, V> for BTreeMap<K, V, C> {
 
     fn as_raw(&self) -> &RawBTree<K, V, C> {
         self.tree.as_raw()
+    }
+}
+
+impl<K: Ord + Drop, V: Drop, C: NodesMut<K, V>> BTreeExtMut<K, V> for BTreeMap<K, V, C> {
+    ghost use Rattle.btree_shape.specs.TreeState.{IsLeafAddressIn, IsValidIn};
+    ghost use Rattle.btree_find.specs.Fits.{FitsAt};
+    ghost use Rattle.btree_edit.specs.InsertAt.{InsertsAt, IsRefusedAt};
+
+    // The clauses are those of the trait, with the store's own name for what it may refuse.
+    fn insert_at(&mut self, addr: Address, item: Item<K, V>) -> Result<Address, Refused<K, V>>
+        requires valid { IsValidIn self.old addr }
+        requires back { IsSome addr.offset }
+        requires fits { FitsAt K.cmp item.0 self.old addr }
+        ensures inserted { IfOk result (λ b. InsertsAt self.old self.new addr K.cmp b item) }
+        ensures returned { IfErr result (λ r. (r.key, r.value) ≡ item) }
+        ensures refused { IfErr result (λ r. IsRefusedAt self.old self.new addr C.MayRefuse r.cause) }
+    {
+        self.tree.insert_at(addr, item)
+    }
+
+    fn insert_exactly_at(
+        &mut self,
+        addr: Address,
+        item: Item<K, V>,
+    ) -> Result<Address, Refused<K, V>>
+        requires valid { IsValidIn self.old addr }
+        requires back { IsSome addr.offset }
+        requires leaf { IsLeafAddressIn self.old addr }
+        requires fits { FitsAt K.cmp item.0 self.old addr }
+        ensures inserted { IfOk result (λ b. InsertsAt self.old self.new addr K.cmp b item) }
+        ensures returned { IfErr result (λ r. (r.key, r.value) ≡ item) }
+        ensures refused { IfErr result (λ r. IsRefusedAt self.old self.new addr C.MayRefuse r.cause) }
+    {
+        self.tree.insert_exactly_at(addr, item)
+    }
+
+    fn replace_at(&mut self, addr: Address, key: K, value: V) -> (K, V) {
+        self.tree.replace_at(addr, key, value)
+    }
+
+    fn replace_value_at(&mut self, addr: Address, value: V) -> V {
+        self.tree.replace_value_at(addr, value)
     }
 }

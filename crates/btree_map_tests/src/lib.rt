@@ -2,6 +2,8 @@
 #![tactic(auto)]
 
 #[cfg(test)]
+mod edits;
+#[cfg(test)]
 mod map;
 #[cfg(test)]
 mod owner;
