@@ -7,3 +7,5 @@ mod edits;
 mod map;
 #[cfg(test)]
 mod owner;
+#[cfg(test)]
+mod removal;
