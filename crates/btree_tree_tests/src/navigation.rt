@@ -133,8 +133,8 @@ fn valid(rt: &impl Abort, tree: &Map, ids: Ids, name: usize) -> Address
 }
 
 fn check_addresses(rt: &impl Abort, tree: &Map, ids: Ids) {
-    for (name, item, next, previous, leaf, next_or_back) in ROWS {
-        let addr = valid(rt, tree, ids, name);
+    for (name, item, next, previous, leaf, next_or_back) in &ROWS {
+        let addr = valid(rt, tree, ids, *name);
         assert_eq!(rt;
             (
                 tree.normalize(addr),
@@ -144,11 +144,11 @@ fn check_addresses(rt: &impl Abort, tree: &Map, ids: Ids) {
                 tree.next_item_or_back_address(addr),
             ),
             (
-                named(ids, item),
-                named(ids, next),
-                named(ids, previous),
-                named(ids, leaf),
-                named(ids, next_or_back),
+                named(ids, *item),
+                named(ids, *next),
+                named(ids, *previous),
+                named(ids, *leaf),
+                named(ids, *next_or_back),
             ),
             "{addr}"
         );
@@ -156,11 +156,11 @@ fn check_addresses(rt: &impl Abort, tree: &Map, ids: Ids) {
 }
 
 fn check_keys(rt: &impl Abort, tree: &Map, ids: Ids) {
-    for (name, key, fits, replaces) in KEY_ROWS {
-        let addr = valid(rt, tree, ids, name);
+    for (name, key, fits, replaces) in &KEY_ROWS {
+        let addr = valid(rt, tree, ids, *name);
         assert_eq!(rt;
-            (tree.fits_at(addr, &key), tree.replaces_at(addr, &key)),
-            (fits, replaces),
+            (tree.fits_at(addr, key), tree.replaces_at(addr, key)),
+            (*fits, *replaces),
             "{addr} {key}"
         );
     }
