@@ -10,7 +10,7 @@ use std::process::Abort;
 
 type Map = Tree<u64, u64, SlabStore<Node<u64, u64>>>;
 
-// The addresses of the tree, with the offset -1 as `BEFORE`, and `NONE` for no address.
+// Names of addresses: the tens stand for L, T or R, and the ones are one more than the offset, which is -1 for `BEFORE_L`.
 const NONE: usize = 0;
 
 const BEFORE_L: usize = 10;
@@ -43,7 +43,7 @@ const R3: usize = 34;
 
 const R4: usize = 35;
 
-// An address; that of the item at its place, of the next one and of the one before, an address in a leaf, and the next item or the end.
+// An address; the item at its place, the next one and the one before, an address in a leaf at its place, and the next item or the end.
 type Row = (usize, usize, usize, usize, usize, usize);
 
 const ROWS: [Row; 11] = [
@@ -102,7 +102,8 @@ fn named(ids: Ids, name: usize) -> Option<Address> {
 // Returns the tree of the odd keys up to 17, with the numbers of its nodes.
 fn two_leaves(rt: &impl Abort, alloc: Global) -> (Map, Ids) {
     let mut tree: Map = Tree::new(alloc);
-    for key in [1u64, 3, 5, 7, 9, 11, 13, 15, 17] {
+    for index in 0..9u64 {
+        let key = 2 * index + 1;
         assert!(rt; tree.insert(key, key).is_ok());
     }
     let Some(root) = tree.root_id() else {
