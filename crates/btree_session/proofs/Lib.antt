@@ -1,5 +1,5 @@
 pub mod Runs
-pub mod Refusals
+pub mod Steps
 pub mod Words
 pub mod Numerals
 pub mod Sayings

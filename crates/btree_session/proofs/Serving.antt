@@ -8,15 +8,15 @@ use Rattle.btree_session.specs.declared.line.Line.{Line}
 use Rattle.btree_session.specs.declared.line.Line.TheVariants.{Other}
 use Rattle.btree_session.specs.declared.script.Stop.{Stop}
 use Rattle.btree_session.specs.declared.script.Stop.TheVariants.{NotACommand, Memory, Input, Output}
+use Rattle.btree_session.specs.Held.{Held}
 use Rattle.btree_session.specs.Line.{line_words, MeansLine}
 use Rattle.btree_store.specs.Content.{Content}
 use Rattle.btree_node.specs.declared.node.Node.{Node}
-use Rattle.btree_shape.specs.TreeState.{TreeState}
 use Rattle.btree_session.specs.Script.{is_newline, lines_of, MayStopAnywhere, Does, Drives, EndsAfter, ReadsLine, Serves, StopsAt, UnlessOutput}
 use Rattle.btree_session.proofs.Lines.{lines_of-cons, cut_at_newline}
 
 -- more lines are served
-Serves-append : (May : Content (Node ℕ ℕ) → Type 0) (old mid new : TreeState ℕ ℕ) (lines more : List (List ℕ)) (first second : List ℕ) → Serves May old lines first mid → Serves May mid more second new → Serves May old (lines ++ more) (first ++ second) new
+Serves-append : (May : Content (Node ℕ ℕ) → Type 0) (old mid new : Held ℕ ℕ) (lines more : List (List ℕ)) (first second : List ℕ) → Serves May old lines first mid → Serves May mid more second new → Serves May old (lines ++ more) (first ++ second) new
 Serves-append May old mid new [] more first second served next =
     let none : first ≡ [] = served.0 in let same : mid ≡ old = served.1 in rw (none, ← same) next
 Serves-append May old mid new (line ∷ lines) more first second served next = (
@@ -31,11 +31,11 @@ Serves-append May old mid new (line ∷ lines) more first second served next = (
 )
 
 -- one line is served
-Serves-one : (May : Content (Node ℕ ℕ) → Type 0) (old new : TreeState ℕ ℕ) (line : List ℕ) (said : Line) (printed : List ℕ) → MeansLine (line_words line) said → Does May old said printed new → Serves May old (line ∷ []) printed new
+Serves-one : (May : Content (Node ℕ ℕ) → Type 0) (old new : Held ℕ ℕ) (line : List ℕ) (said : Line) (printed : List ℕ) → MeansLine (line_words line) said → Does May old said printed new → Serves May old (line ∷ []) printed new
 Serves-one May old new line said printed says does = (said, new, printed, [], says, does, (refl, refl), sym (append-nil printed))
 
 -- the progress so far
-pub record Progress (May : Content (Node ℕ ℕ) → Type 0) (old : TreeState ℕ ℕ) (input before rest after : Option (List ℕ)) (new : TreeState ℕ ℕ) (number : ℕ) : Type 0 where
+pub record Progress (May : Content (Node ℕ ℕ) → Type 0) (old : Held ℕ ℕ) (input before rest after : Option (List ℕ)) (new : Held ℕ ℕ) (number : ℕ) : Type 0 where
   pub served : List (List ℕ)
   pub printed : List ℕ
   pub serves : Serves May old served printed new
@@ -48,7 +48,7 @@ Appends-none None = tt
 Appends-none (Some xs) = sym (append-nil xs)
 
 -- at the start
-pub begun : (May : Content (Node ℕ ℕ) → Type 0) (old : TreeState ℕ ℕ) (input before : Option (List ℕ)) → Progress May old input before input before old 1
+pub begun : (May : Content (Node ℕ ℕ) → Type 0) (old : Held ℕ ℕ) (input before : Option (List ℕ)) → Progress May old input before input before old 1
 begun May old input before = record {
   served = [];
   printed = [];
@@ -68,7 +68,7 @@ Appends-keeps (Some xs) (Some ys) None bytes appends keeps = absurd keeps
 Appends-keeps (Some xs) (Some ys) (Some zs) bytes appends keeps = keeps ∙ appends
 
 -- some of the text was written out
-pub written : (May : Content (Node ℕ ℕ) → Type 0) (old new : TreeState ℕ ℕ) (input before rest between after : Option (List ℕ)) (number : ℕ) →
+pub written : (May : Content (Node ℕ ℕ) → Type 0) (old new : Held ℕ ℕ) (input before rest between after : Option (List ℕ)) (number : ℕ) →
     Progress May old input before rest between new number → Keeps between after → Progress May old input before rest after new number
 written May old new input before rest between after number so_far keeps = record {
   served = so_far.served;
@@ -103,7 +103,7 @@ at_end None none = tt
 at_end (Some left) none = ap lines_of none
 
 -- the input has ended
-pub ended : {A : Type 0} (May : Content (Node ℕ ℕ) → Type 0) (old new : TreeState ℕ ℕ) (input before rest after : Option (List ℕ)) (number : ℕ) (x : A) →
+pub ended : {A : Type 0} (May : Content (Node ℕ ℕ) → Type 0) (old new : Held ℕ ℕ) (input before rest after : Option (List ℕ)) (number : ℕ) (x : A) →
     Progress May old input before rest after new number → IsAtEnd rest → Drives May old input before (Ok x) after new
 ended May old new input before rest after number x so_far none =
     let all = these_lines input rest so_far.served [] so_far.known (at_end rest none) in
@@ -132,7 +132,7 @@ anyway P (Err Input) p = p
 anyway P (Err Output) p = tt
 
 -- it stops between two lines
-pub stopped : {A : Type 0} (May : Content (Node ℕ ℕ) → Type 0) (old new : TreeState ℕ ℕ) (input before rest after : Option (List ℕ)) (number : ℕ) (stop : Stop) →
+pub stopped : {A : Type 0} (May : Content (Node ℕ ℕ) → Type 0) (old new : Held ℕ ℕ) (input before rest after : Option (List ℕ)) (number : ℕ) (stop : Stop) →
     Progress May old input before rest after new number → MayStopAnywhere stop → Drives {A = A} May old input before (Err stop) after new
 stopped {A} May old new input before rest after number stop so_far anywhere =
     let all = some_lines input rest so_far.served so_far.known in
@@ -147,7 +147,7 @@ stopped {A} May old new input before rest after number stop so_far anywhere =
     }
 
 -- the writer fails
-pub failed : {A : Type 0} (May : Content (Node ℕ ℕ) → Type 0) (old new : TreeState ℕ ℕ) (input before rest between after : Option (List ℕ)) (number : ℕ) →
+pub failed : {A : Type 0} (May : Content (Node ℕ ℕ) → Type 0) (old new : Held ℕ ℕ) (input before rest between after : Option (List ℕ)) (number : ℕ) →
     Progress May old input before rest between new number → Drives {A = A} May old input before (Err Output) after new
 failed May old new input before rest between after number so_far =
     let all = some_lines input rest so_far.served so_far.known in
@@ -162,7 +162,7 @@ failed May old new input before rest between after number so_far =
     }
 
 -- it stops while it reads the next line
-pub between_lines : {A : Type 0} (May : Content (Node ℕ ℕ) → Type 0) (old new : TreeState ℕ ℕ) (input before rest between after : Option (List ℕ)) (number : ℕ) (stop : Stop) →
+pub between_lines : {A : Type 0} (May : Content (Node ℕ ℕ) → Type 0) (old new : Held ℕ ℕ) (input before rest between after : Option (List ℕ)) (number : ℕ) (stop : Stop) →
     Progress May old input before rest between new number → MayStopAnywhere stop → UnlessOutput {A = A} (Err stop) (Keeps between after) → Drives {A = A} May old input before (Err stop) after new
 between_lines May old new input before rest between after number (NotACommand at) so_far anywhere keeps = absurd anywhere
 between_lines May old new input before rest between after number Memory so_far anywhere keeps =
@@ -179,7 +179,7 @@ first_line rest next said reads = at rest reads.some reads.first where
   at (Some left) some first = (lines_of (drop_through 10 left), lines_of-cons left some ∙ ap (λ line. line ∷ lines_of (drop_through 10 left)) (sym first))
 
 -- the next line is not a command
-pub not_a_command : {A : Type 0} (May : Content (Node ℕ ℕ) → Type 0) (old new : TreeState ℕ ℕ) (input before rest next after : Option (List ℕ)) (number : ℕ) →
+pub not_a_command : {A : Type 0} (May : Content (Node ℕ ℕ) → Type 0) (old new : Held ℕ ℕ) (input before rest next after : Option (List ℕ)) (number : ℕ) →
     Progress May old input before rest after new number → ReadsLine rest next Other → Drives {A = A} May old input before (Err (NotACommand number)) after new
 not_a_command May old new input before rest next after number so_far reads =
     let first = first_line rest next Other reads in
@@ -195,7 +195,7 @@ not_a_command May old new input before rest next after number so_far reads =
     }
 
 -- it stops at the next line
-pub at_line : {A : Type 0} (May : Content (Node ℕ ℕ) → Type 0) (old new : TreeState ℕ ℕ) (input before rest next after : Option (List ℕ)) (number : ℕ) (said : Line) (stop : Stop) →
+pub at_line : {A : Type 0} (May : Content (Node ℕ ℕ) → Type 0) (old new : Held ℕ ℕ) (input before rest next after : Option (List ℕ)) (number : ℕ) (said : Line) (stop : Stop) →
     Progress May old input before rest after new number → ReadsLine rest next said
     → StopsAt said number stop → Drives {A = A} May old input before (Err stop) after new
 at_line May old new input before rest next after number said stop so_far reads cause = elim cause [
@@ -230,7 +230,7 @@ left_behind (Some text) (Some left) next served line known some first dropped =
     )
 
 -- one more line is served
-pub goes_on : (May : Content (Node ℕ ℕ) → Type 0) (old mid new : TreeState ℕ ℕ) (input before rest next between after : Option (List ℕ)) (number : ℕ) (said : Line) (reads : ReadsLine rest next said) (printed : List ℕ) →
+pub goes_on : (May : Content (Node ℕ ℕ) → Type 0) (old mid new : Held ℕ ℕ) (input before rest next between after : Option (List ℕ)) (number : ℕ) (said : Line) (reads : ReadsLine rest next said) (printed : List ℕ) →
     Progress May old input before rest between mid number → Does May mid said printed new → Appends between after printed → Progress May old input before next after new (number + 1)
 goes_on May old mid new input before rest next between after number said reads printed so_far does writes = record {
   served = so_far.served ++ reads.line ∷ [];

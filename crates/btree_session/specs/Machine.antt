@@ -1,22 +1,25 @@
 -- A session as a machine: the replies that it may give to a command, and its state after each.
 -- Only a refusal by the store changes the count of refusals. A refusal with the cause `Count` changes nothing at all.
 -- Read `MachineStep` first (the reply and the state, over a list of pairs), then `Handles` (the nodes). `IsStep` is
--- both, with a well formed tree after it. `IsRun` is a list of commands with a reply to each, and `Runs`, which `run`
--- cites, the same with the replies appended to a vector. The held place of a state is for later commands; there is none
--- yet.
+-- both, between the states that the session stands for (`StandsFor`), with a well formed tree after it. `IsRun` is a
+-- list of commands with a reply to each, and `Runs`, which `run` cites, the same with the replies appended to a vector.
+-- No command holds a place yet.
 use Rattle.std.specs.Prelude.{◌≡◌, ℕ, ◌+◌, ◌-◌, ◌^◌, List, [], ◌∷◌, length, insert, Option, Some, None, Vec}
 use Rattle.std.specs.Ordering.{nat_cmp}
 use Rattle.btree_item.specs.Pairs.{found, found_value, before, with_value}
+use Rattle.btree_item.specs.declared.address.Address.{Address}
 use Rattle.btree_item.specs.declared.refused.Cause.{Cause}
 use Rattle.btree_item.specs.declared.refused.Cause.TheVariants.{Store, Count}
 use Rattle.btree_store.specs.Content.{Content}
 use Rattle.btree_node.specs.declared.node.Node.{Node}
 use Rattle.btree_shape.specs.TreeState.{TreeState, IsBTree, pairs_of}
+use Rattle.btree_find.specs.Navigation.{HasPlace}
 use Rattle.btree_edit.specs.Insert.{IsRefusedAtGap, InsertsByKey}
 use Rattle.btree_session.specs.declared.command.Command.{Command}
 use Rattle.btree_session.specs.declared.command.Command.TheVariants.{Insert, Get}
 use Rattle.btree_session.specs.declared.command.Reply.{Reply}
 use Rattle.btree_session.specs.declared.command.Reply.TheVariants.{Nothing, Value, Refused}
+use Rattle.btree_session.specs.Held.{Held}
 use Rattle.btree_session.specs.Text.{Pushes}
 
 -- the state of a session: its pairs by ascending keys, the place that it holds, if any, and how often its store has
@@ -26,9 +29,9 @@ pub record SessionState : Type 0 where
   pub place : Option ℕ
   pub refusals : ℕ
 
--- the state after an insertion that leaves these pairs: no place is held
-abbrev pub after_insertion : SessionState → List (ℕ × ℕ) → SessionState
-after_insertion old pairs = record { pairs = pairs; place = None; refusals = old.refusals }
+-- the state with these pairs, in which no place is held
+abbrev pub let_go : SessionState → List (ℕ × ℕ) → SessionState
+let_go old pairs = record { pairs = pairs; place = None; refusals = old.refusals }
 
 -- the state after a refusal: unchanged except for the store's count of its own refusals
 abbrev pub after_refusal : SessionState → Cause → SessionState
@@ -40,48 +43,65 @@ abbrev pub IsRefusable : SessionState → Cause → Type 0
 IsRefusable old Store = Unit {0}
 IsRefusable old Count = length old.pairs ≡ 2 ^ 64 - 1
 
+-- the reply with a value, if there is one
+abbrev pub value_reply : Option ℕ → Reply
+value_reply None = Nothing
+value_reply (Some value) = Value value
+
 -- From `old`, the machine may give this reply to the command and go to `new`.
 abbrev pub MachineStep : SessionState → Command → Reply → SessionState → Type 0
 -- a look-up changes nothing
 MachineStep old (Get key) Nothing new = (found nat_cmp key old.pairs ≡ None) × (new ≡ old)
 MachineStep old (Get key) (Value value) new = (found_value nat_cmp key old.pairs ≡ Some value) × (new ≡ old)
--- a key that is there stays, and its value is replaced
-MachineStep old (Insert key value) (Value was) new = (found_value nat_cmp key old.pairs ≡ Some was) × (new ≡ after_insertion old (with_value nat_cmp key value old.pairs))
--- a key that is not there is inserted at its place with its value, or both are refused
-MachineStep old (Insert key value) Nothing new = (found nat_cmp key old.pairs ≡ None) × (new ≡ after_insertion old (insert old.pairs (before nat_cmp key old.pairs) (key, value)))
+-- a key that is there stays, and its value is replaced; the place is let go
+MachineStep old (Insert key value) (Value was) new = (found_value nat_cmp key old.pairs ≡ Some was) × (new ≡ let_go old (with_value nat_cmp key value old.pairs))
+-- a key that is not there is inserted at its place with its value, and the place that was held is let go; or both are
+-- refused, and it stays held
+MachineStep old (Insert key value) Nothing new = (found nat_cmp key old.pairs ≡ None) × (new ≡ let_go old (insert old.pairs (before nat_cmp key old.pairs) (key, value)))
 MachineStep old (Insert key value) (Refused cause) new = (found nat_cmp key old.pairs ≡ None) × IsRefusable old cause × (new ≡ after_refusal old cause)
 -- no other reply is given
 MachineStep old (Get key) (Refused cause) new = ⊥
 
--- the state of a session over this map: no place is held
-abbrev pub state_of : TreeState ℕ ℕ → SessionState
-state_of map = record { pairs = pairs_of map; place = None; refusals = map.refusals }
+-- the place of the address that is held in a map, if one is held
+abbrev pub IsHeldPlace : TreeState ℕ ℕ → Option Address → Option ℕ → Type 0
+IsHeldPlace map None place = place ≡ None
+IsHeldPlace map (Some a) place = (p : ℕ) × (place ≡ Some p) × HasPlace map a p
+
+-- the state of the machine that a session stands for; there is only one, since an address has only one place
+pub record StandsFor (session : Held ℕ ℕ) (state : SessionState) : Type 0 where
+  pub pairs : state.pairs ≡ pairs_of session.map
+  pub place : IsHeldPlace session.map session.held state.place
+  pub refusals : state.refusals ≡ session.map.refusals
 
 -- over stores that may refuse a node in these contents
 module _ (MayRefuse : Content (Node ℕ ℕ) → Type 0) where
-  -- What a command with this reply does to the nodes: a look-up changes nothing; an insertion uses the nodes that it
-  -- needs; a refused one changes nothing, and occurs only if the store may refuse one of the needed nodes, or at the
-  -- greatest count.
-  abbrev pub Handles : (old : TreeState ℕ ℕ) → Command → Reply → (new : TreeState ℕ ℕ) → Type 0
+  -- What a command with this reply does to the nodes and to the address that is held: a look-up changes nothing; an
+  -- insertion uses the nodes that it needs; a refused one changes nothing, and occurs only if the store may refuse one
+  -- of the needed nodes, or at the greatest count.
+  abbrev pub Handles : (old : Held ℕ ℕ) → Command → Reply → (new : Held ℕ ℕ) → Type 0
   Handles old (Get key) reply new = new ≡ old
-  Handles old (Insert key value) Nothing new = InsertsByKey nat_cmp key old new value
-  Handles old (Insert key value) (Value was) new = InsertsByKey nat_cmp key old new value
-  Handles old (Insert key value) (Refused cause) new = IsRefusedAtGap nat_cmp key old new MayRefuse cause
+  Handles old (Insert key value) Nothing new = InsertsByKey nat_cmp key old.map new.map value
+  Handles old (Insert key value) (Value was) new = InsertsByKey nat_cmp key old.map new.map value
+  Handles old (Insert key value) (Refused cause) new = IsRefusedAtGap nat_cmp key old.map new.map MayRefuse cause × (new.held ≡ old.held)
 
-  -- From `old`, the session may give this reply to the command and go to `new`: a step of the machine, to a well formed
-  -- tree.
-  pub record IsStep (old : TreeState ℕ ℕ) (command : Command) (reply : Reply) (new : TreeState ℕ ℕ) : Type 0 where
-    pub step : MachineStep (state_of old) command reply (state_of new)
+  -- From `old`, the session may give this reply to the command and go to `new`: a step of the machine between the
+  -- states that they stand for, to a well formed tree.
+  pub record IsStep (old : Held ℕ ℕ) (command : Command) (reply : Reply) (new : Held ℕ ℕ) : Type 0 where
+    pub before : SessionState
+    pub after : SessionState
+    pub stands_before : StandsFor old before
+    pub stands_after : StandsFor new after
+    pub step : MachineStep before command reply after
     pub nodes : Handles old command reply new
-    pub tree : IsBTree nat_cmp new
+    pub tree : IsBTree nat_cmp new.map
 
   -- The session may give these replies to these commands, one step after another.
-  abbrev pub IsRun : (old : TreeState ℕ ℕ) → List Command → List Reply → (new : TreeState ℕ ℕ) → Type 0
+  abbrev pub IsRun : (old : Held ℕ ℕ) → List Command → List Reply → (new : Held ℕ ℕ) → Type 0
   IsRun old [] [] new = new ≡ old
-  IsRun old (command ∷ commands) (reply ∷ replies) new = (mid : TreeState ℕ ℕ) × IsStep old command reply mid × IsRun mid commands replies new
+  IsRun old (command ∷ commands) (reply ∷ replies) new = (mid : Held ℕ ℕ) × IsStep old command reply mid × IsRun mid commands replies new
   IsRun old [] (reply ∷ replies) new = ⊥
   IsRun old (command ∷ commands) [] new = ⊥
 
   -- The commands were run one after another, and their replies appended to those that were there.
-  abbrev pub Runs : {Z : Type 0} → (old : TreeState ℕ ℕ) → List Command → (new : TreeState ℕ ℕ) → (replies more : Vec Reply Z) → Type 0
+  abbrev pub Runs : {Z : Type 0} → (old : Held ℕ ℕ) → List Command → (new : Held ℕ ℕ) → (replies more : Vec Reply Z) → Type 0
   Runs old commands new replies more = (given : List Reply) × Pushes replies more given × IsRun old commands given new

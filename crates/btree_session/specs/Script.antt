@@ -13,7 +13,6 @@ use Rattle.std.specs.Io.KnownBytes.{Appends, Keeps, append_known}
 use Rattle.std.specs.declared.io.buffered.BufReader.{BufReader}
 use Rattle.btree_store.specs.Content.{Content}
 use Rattle.btree_node.specs.declared.node.Node.{Node}
-use Rattle.btree_shape.specs.TreeState.{TreeState}
 use Rattle.btree_session.specs.declared.command.Command.{Command}
 use Rattle.btree_session.specs.declared.command.Reply.{Reply}
 use Rattle.btree_session.specs.declared.line.Line.{Line}
@@ -22,6 +21,7 @@ use Rattle.btree_session.specs.declared.line.Line.TheVariants as line_kinds
 use Rattle.btree_session.specs.declared.script.Stop.{Stop}
 use Rattle.btree_session.specs.declared.script.Stop.TheVariants.{NotACommand, Memory, Input, Output}
 use Rattle.btree_session.specs.Answer.{IsAnswer}
+use Rattle.btree_session.specs.Held.{Held}
 use Rattle.btree_session.specs.Line.{line_words, MeansLine}
 use Rattle.btree_session.specs.Machine.{IsStep}
 use Rattle.btree_session.specs.Text.{Pushes, as_line, line_of}
@@ -77,25 +77,25 @@ module _ {W Z : Type 0} (contents : W → Option (List ℕ)) where
 module _ (MayRefuse : Content (Node ℕ ℕ) → Type 0) where
   -- What a line means was done, and `printed` was printed: for a command the reply of a step, for a question the
   -- answer, each on a line of its own. A question changes nothing.
-  abbrev pub Does : (old : TreeState ℕ ℕ) → Line → (printed : List ℕ) → (new : TreeState ℕ ℕ) → Type 0
+  abbrev pub Does : (old : Held ℕ ℕ) → Line → (printed : List ℕ) → (new : Held ℕ ℕ) → Type 0
   Does old Empty printed new = (printed ≡ []) × (new ≡ old)
   Does old (line_kinds.Command command) printed new = (reply : Reply) × IsStep MayRefuse old command reply new × (printed ≡ line_of reply)
-  Does old (Question question) printed new = (answer : List ℕ) × IsAnswer old question answer × (printed ≡ as_line answer) × (new ≡ old)
+  Does old (Question question) printed new = (answer : List ℕ) × IsAnswer old.map question answer × (printed ≡ as_line answer) × (new ≡ old)
   Does old Other printed new = ⊥
 
   -- what a line means was done, and what that prints was appended to a text
-  abbrev pub Performs : {Z : Type 0} → (old : TreeState ℕ ℕ) → Line → (new : TreeState ℕ ℕ) → (text more : Vec ℕ Z) → Type 0
+  abbrev pub Performs : {Z : Type 0} → (old : Held ℕ ℕ) → Line → (new : Held ℕ ℕ) → (text more : Vec ℕ Z) → Type 0
   Performs old said new text more = (printed : List ℕ) × Does old said printed new × Pushes text more printed
 
   -- the same for a command
-  abbrev pub RunsCommand : {Z : Type 0} → (old : TreeState ℕ ℕ) → Command → (new : TreeState ℕ ℕ) → (text more : Vec ℕ Z) → Type 0
+  abbrev pub RunsCommand : {Z : Type 0} → (old : Held ℕ ℕ) → Command → (new : Held ℕ ℕ) → (text more : Vec ℕ Z) → Type 0
   RunsCommand old command new text more = Performs old (line_kinds.Command command) new text more
 
   -- what the lines mean was done, one after another, and `printed` was printed
-  abbrev pub Serves : (old : TreeState ℕ ℕ) → (lines : List (List ℕ)) → (printed : List ℕ) → (new : TreeState ℕ ℕ) → Type 0
+  abbrev pub Serves : (old : Held ℕ ℕ) → (lines : List (List ℕ)) → (printed : List ℕ) → (new : Held ℕ ℕ) → Type 0
   Serves old [] printed new = (printed ≡ []) × (new ≡ old)
   Serves old (line ∷ lines) printed new =
-      (said : Line) × (mid : TreeState ℕ ℕ) × (first : List ℕ) × (rest : List ℕ)
+      (said : Line) × (mid : Held ℕ ℕ) × (first : List ℕ) × (rest : List ℕ)
       × MeansLine (line_words line) said × Does old said first mid × Serves mid lines rest new × (printed ≡ first ++ rest)
 
 -- which of all lines were served, by the result: all of them, or those before the first that is neither a command nor a
@@ -128,7 +128,7 @@ StopsAt said number stop = (stop ≡ Memory) ⊎ ((stop ≡ NotACommand number) 
 
 -- Lines of the input were served, and what they print was written. If the bytes of the input are known, the lines are
 -- theirs.
-pub record Drives {A : Type 0} (MayRefuse : Content (Node ℕ ℕ) → Type 0) (old : TreeState ℕ ℕ) (input before : Option (List ℕ)) (result : Result A Stop) (after : Option (List ℕ)) (new : TreeState ℕ ℕ) : Type 0 where
+pub record Drives {A : Type 0} (MayRefuse : Content (Node ℕ ℕ) → Type 0) (old : Held ℕ ℕ) (input before : Option (List ℕ)) (result : Result A Stop) (after : Option (List ℕ)) (new : Held ℕ ℕ) : Type 0 where
   pub lines : List (List ℕ)
   pub known : IfSome input (λ text. lines ≡ lines_of text)
   pub served : List (List ℕ)

@@ -181,7 +181,7 @@ fn answer<C: NodesMut<u64, u64>>(
     question: Question,
     text: &mut Vec<u8>,
 ) -> Result<(), AllocError>
-    ensures answered { OnOk result (Answers session.now question text.old text.new) }
+    ensures answered { OnOk result (Answers session.now.map question text.old text.new) }
     ensures text_kept { OnErr result (text.new.items ≡ text.old.items) }
 {
     let len = text.len();

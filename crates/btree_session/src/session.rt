@@ -2,50 +2,57 @@
 ghost use Rattle.std.specs.Prelude.{◌≡◌, [], None, length, IsOk, OnOk, OnErr};
 ghost use Rattle.std.specs.FinMap as map;
 ghost use Rattle.btree_shape.specs.TreeState.{pairs_of};
-ghost use Rattle.btree_session.specs.Machine.{IsStep, Runs};
+ghost use Rattle.btree_session.specs.Machine.{IsStep, Runs, value_reply};
 ghost use Rattle.btree_session.specs.Text.{HasCapacityFor};
 
 use crate::{Command, Reply};
 use btree_ext::BTreeExt;
+use btree_item::Address;
 use btree_map::BTreeMap;
 use btree_nodes::NodesMut;
 use std::alloc::{AllocError, Allocator};
 use std::marker::Model;
 
-/// A map from `K` to `V` that commands are run on. The commands are for a [`Session`], where both are `u64`.
+/// A map from `K` to `V` that commands are run on. It holds at most one address of the map. The commands are for a [`Session`], where
+/// both are `u64`.
 #[derive(Drop)]
 pub struct SessionOver<K: Ord, V, C: NodesMut<K, V>> {
     map: BTreeMap<K, V, C>,
+    held: Option<Address>,
 }
 
 impl<K: Ord, V, C: NodesMut<K, V>> Model for SessionOver<K, V, C> {
     ghost use Rattle.std.specs.Coded.{codes};
-    ghost use Rattle.btree_shape.specs.TreeState.{TreeState, tree_code};
+    ghost use Rattle.btree_session.specs.Held.{Held, held_code, HoldsBack};
 
-    ghost Value = { TreeState K V };
+    ghost Value = { Held K V };
 
-    ghost coded = { tree_code (Prim.hlevel codes) };
+    ghost coded = { held_code (Prim.hlevel codes) };
 
-    ghost view = { λ session. session.map };
+    ghost view = { λ s. record { map = s.map; held = s.held } };
+
+    ghost invariant = { λ s. HoldsBack s.map s.held };
 }
 
 /// A map from `u64` to `u64` that commands are run on.
 pub type Session<C> = SessionOver<u64, u64, C>;
 
 impl<C: NodesMut<u64, u64>> Session<C> {
-    /// Returns a session over an empty map, with a store made from `origin`. It allocates no memory.
+    /// Returns a session over an empty map, with a store made from `origin`. It holds no address, and allocates no memory.
     pub fn new(origin: C::Origin) -> Self
-        ensures empty { pairs_of result ≡ [] }
-        ensures state { result ≡ record { nodes = map.empty; root = None; len = 0; refusals = 0 } }
+        ensures empty { pairs_of result.map ≡ [] }
+        ensures state { result.map ≡ record { nodes = map.empty; root = None; len = 0; refusals = 0 } }
+        ensures held { result.held ≡ None }
     {
         SessionOver {
             map: BTreeMap::new(origin),
+            held: None,
         }
     }
 
     /// Returns the map after the commands so far.
     pub fn map(&self) -> &BTreeMap<u64, u64, C>
-        ensures { result.now ≡ self.now }
+        ensures { result.now ≡ self.now.map }
     {
         &self.map
     }
@@ -55,33 +62,42 @@ impl<C: NodesMut<u64, u64>> Session<C> {
         ensures { IsStep C.MayRefuse self.old command result self.new }
     {
         match command {
-            Command::Insert(key, value) => insert(&mut self.map, key, value),
-            Command::Get(key) => get(&self.map, key),
+            Command::Insert(key, value) => self.insert(key, value),
+            Command::Get(key) => self.get(key),
         }
+    }
+
+    fn insert(&mut self, key: u64, value: u64) -> Reply
+        ensures { IsStep C.MayRefuse self.old (Command.Insert key value) result self.new }
+    {
+        let _root = self.map.root_id(); // for the prover alone: its contract says that the map is a well formed tree
+        let outcome = self.map.insert(key, value);
+        let _root = self.map.root_id();
+        match outcome {
+            Ok(was) => {
+                self.held = None;
+                reply_of(was)
+            }
+            Err(refused) => {
+                let cause = refused.cause;
+                Reply::Refused(cause)
+            }
+        }
+    }
+
+    fn get(&self, key: u64) -> Reply
+        ensures { IsStep C.MayRefuse self.now (Command.Get key) result self.now }
+    {
+        let _root = self.map.root_id(); // for the prover alone: its contract says that the map is a well formed tree
+        reply_of(self.map.get(&key).copied())
     }
 }
 
-fn insert<C: NodesMut<u64, u64>>(map: &mut BTreeMap<u64, u64, C>, key: u64, value: u64) -> Reply
-    ensures { IsStep C.MayRefuse map.old (Command.Insert key value) result map.new }
+fn reply_of(value: Option<u64>) -> Reply
+    ensures { result ≡ value_reply value }
 {
-    let outcome = map.insert(key, value);
-    let _root = map.root_id(); // for the prover alone: its contract says that the map is a well formed tree
-    match outcome {
-        Ok(Some(was)) => Reply::Value(was),
-        Ok(None) => Reply::Nothing,
-        Err(refused) => {
-            let cause = refused.cause;
-            Reply::Refused(cause)
-        }
-    }
-}
-
-fn get<C: NodesMut<u64, u64>>(map: &BTreeMap<u64, u64, C>, key: u64) -> Reply
-    ensures { IsStep C.MayRefuse map.now (Command.Get key) result map.now }
-{
-    let _root = map.root_id(); // for the prover alone: its contract says that the map is a well formed tree
-    match map.get(&key) {
-        Some(value) => Reply::Value(*value),
+    match value {
+        Some(value) => Reply::Value(value),
         None => Reply::Nothing,
     }
 }
