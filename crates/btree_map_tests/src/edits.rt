@@ -61,7 +61,7 @@ fn insert_in_gap<C: NodesMut<u64, u64>>(
     let Err(gap) = map.address_of(&key) else {
         panic!(rt; "{key} is there");
     };
-    assert!(rt; map.fits_at(gap, &key));
+    assert!(rt; map.fits_at(Address::new(gap.id, gap.offset), &key));
     map.insert_exactly_at(gap, Item::new(key, key))
 }
 
@@ -90,7 +90,7 @@ fn inserts_at_an_address(rt: HostRuntime) -> Result<(), Fail> {
         assert_eq!(rt; pairs_text(&map, rt.alloc())?.as_str(), text);
         assert_eq!(rt;
             (map.len() as u64, map.node_count()),
-            (keys + 1, nodes),
+            (keys.wrapping_add(1), nodes),
             "{key}"
         );
     }
