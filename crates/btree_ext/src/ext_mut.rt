@@ -1,9 +1,10 @@
 //! Changes of a tree by addresses.
-ghost use Rattle.std.specs.Prelude.{◌≡◌, Some, IsSome, IfOk, IfErr};
+ghost use Rattle.std.specs.Prelude.{◌≡◌, Some, None, IsSome, IfOk, IfErr, IfSome, IfNone};
 ghost use Rattle.btree_shape.specs.TreeState.{IsLeafAddressIn, IsOccupiedIn, IsValidIn, item_of};
 ghost use Rattle.btree_find.specs.Fits.{FitsAt, ReplacesAt};
 ghost use Rattle.btree_edit.specs.Exchange.{IsExchanged, IsValueExchanged};
 ghost use Rattle.btree_edit.specs.InsertAt.{InsertsAt, IsRefusedAt};
+ghost use Rattle.btree_edit.specs.Remove.{IsRemoved};
 
 use crate::ext::BTreeExt;
 use btree_item::{Address, Item, Refused};
@@ -61,4 +62,15 @@ pub trait BTreeExtMut<K: Ord + Drop, V: Drop>: BTreeExt<K, V> {
         requires { IsOccupiedIn (Self.state self.old) addr }
         ensures { IsValueExchanged (Self.state self.old) (Self.state self.new)
             addr K.cmp result value };
+
+    /// Removes the item at an address. Returns it, with a back address at the place where it was, at which it would fit again. Returns
+    /// `None`, and nothing changes, if there is no item at the address. It frees at most one node of each level and needs no new one.
+    ///
+    /// The address must be valid: `is_valid` decides that.
+    fn remove_at(&mut self, addr: Address) -> Option<(Item<K, V>, Address)>
+        requires { IsValidIn (Self.state self.old) addr }
+        ensures removed { IfSome result (λ r. IsRemoved (Self.state self.old) (Self.state self.new)
+            K.cmp addr r.0 r.1) }
+        ensures vacant { IfNone result (item_of (Self.state self.old) addr ≡ None) }
+        ensures unchanged { IfNone result (Self.state self.new ≡ Self.state self.old) };
 }

@@ -1,14 +1,16 @@
 //! The tree, always well formed.
-ghost use Rattle.std.specs.Prelude.{◌≡◌, [], length, None, option_copied, IsSome, IfOk, OnOk, IfErr, OnErr};
+ghost use Rattle.std.specs.Prelude.{◌≡◌, [], length, None, option_copied, IsSome, IfSome, IfNone, IfOk, OnOk, IfErr, OnErr};
 ghost use Rattle.std.specs.FinMap as map;
 ghost use Rattle.btree_node.specs.contracts.node.Node.{the_row as node_row};
 
 use crate::ext::BTreeExt;
 use crate::ext_mut::BTreeExtMut;
-use btree_edit::{exchange, insert, insert_at, insert_exactly_at, replace_at};
+use btree_edit::{
+    exchange, insert, insert_at, insert_exactly_at, remove_at, remove_entry, replace_at,
+};
 use btree_find::get;
 use btree_item::{Address, Item, Refused};
-use btree_nodes::NodesMut;
+use btree_nodes::{ClearNodes, NodesMut};
 use btree_raw::RawBTree;
 use std::marker::Model;
 
@@ -77,6 +79,7 @@ impl<K: Ord + Drop, V: Drop, C: NodesMut<K, V>> Tree<K, V, C> {
     ghost use Rattle.btree_item.specs.Pairs.{found, found_value, inserted};
     ghost use Rattle.btree_shape.specs.TreeState.{pairs_of};
     ghost use Rattle.btree_edit.specs.Insert.{IsRefusedAtGap, InsertsByKey};
+    ghost use Rattle.btree_edit.specs.Remove.{RemovesByKey};
 
     /// Inserts a pair, or replaces the value if the key is there: the stored key stays, and the given one is dropped.
     ///
@@ -95,6 +98,28 @@ impl<K: Ord + Drop, V: Drop, C: NodesMut<K, V>> Tree<K, V, C> {
             IsRefusedAtGap K.cmp key self.old self.new C.MayRefuse r.cause) }
     {
         insert(&mut self.raw, key, value)
+    }
+
+    /// Removes the pair whose key is equal to the given one, and returns it. Returns `None`, and nothing changes, if there is none. It
+    /// makes at most six comparisons at each level. It frees at most one node of each level and needs no new one.
+    pub fn remove_entry(&mut self, key: &K) -> Option<Item<K, V>>
+        ensures entry { result ≡ found K.cmp key.now (pairs_of self.old) }
+        ensures removed { IfSome result (λ x. RemovesByKey self.old self.new K.cmp key.now x) }
+        ensures unchanged { IfNone result (self.new ≡ self.old) }
+    {
+        remove_entry(&mut self.raw, key)
+    }
+}
+
+impl<K: Ord, V, C: ClearNodes<K, V>> Tree<K, V, C> {
+    ghost use Rattle.btree_shape.specs.TreeState.{pairs_of};
+
+    /// Drops every pair and every node. The count of refusals stays.
+    pub fn clear(&mut self)
+        ensures empty { pairs_of self.new ≡ [] }
+        ensures state { self.new ≡ record { nodes = map.empty; root = None; len = 0; refusals = self.old.refusals } }
+    {
+        self.raw.clear();
     }
 }
 
@@ -147,5 +172,9 @@ impl<K: Ord + Drop, V: Drop, C: NodesMut<K, V>> BTreeExtMut<K, V> for Tree<K, V,
 
     fn replace_value_at(&mut self, addr: Address, value: V) -> V {
         exchange(&mut self.raw, addr, value)
+    }
+
+    fn remove_at(&mut self, addr: Address) -> Option<(Item<K, V>, Address)> {
+        remove_at(&mut self.raw, addr)
     }
 }

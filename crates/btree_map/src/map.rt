@@ -1,10 +1,11 @@
 //! The map.
-ghost use Rattle.std.specs.Prelude.{◌≡◌, ◌↔◌, [], length, IsTrue, IsSome, IfOk, IfErr, OnOk, OnErr, None, option_copied};
+ghost use Rattle.std.specs.Prelude.{◌≡◌, ◌↔◌, [], length, IsTrue, None, option_copied, IsSome, IfSome, IfNone};
+ghost use Rattle.std.specs.Prelude.{IfOk, IfErr, OnOk, OnErr};
 ghost use Rattle.std.specs.FinMap as map;
 
 use btree_ext::{BTreeExt, BTreeExtMut, Tree};
 use btree_item::{Address, Item, Refused};
-use btree_nodes::NodesMut;
+use btree_nodes::{ClearNodes, NodesMut};
 use btree_raw::RawBTree;
 use btree_walk::Iter;
 use std::marker::Model;
@@ -79,6 +80,7 @@ impl<K: Ord + Drop, V: Drop, C: NodesMut<K, V>> BTreeMap<K, V, C> {
     ghost use Rattle.btree_item.specs.Pairs.{found, found_value, inserted};
     ghost use Rattle.btree_shape.specs.TreeState.{pairs_of};
     ghost use Rattle.btree_edit.specs.Insert.{IsRefusedAtGap, InsertsByKey};
+    ghost use Rattle.btree_edit.specs.Remove.{RemovesByKey};
 
     /// Inserts a pair, or replaces the value if the key is there: the stored key stays, and the given one is dropped.
     ///
@@ -97,6 +99,53 @@ impl<K: Ord + Drop, V: Drop, C: NodesMut<K, V>> BTreeMap<K, V, C> {
             IsRefusedAtGap K.cmp key self.old self.new C.MayRefuse r.cause) }
     {
         self.tree.insert(key, value)
+    }
+
+    /// Removes the pair whose key is equal to the given one, and returns its value. Returns `None`, and nothing changes, if there is none.
+    /// It makes at most six comparisons at each level. It frees at most one node of each level and needs no new one.
+    pub fn remove(&mut self, key: &K) -> Option<V>
+        ensures value { result ≡ found_value K.cmp key.now (pairs_of self.old) }
+        ensures removed { IfSome result (λ v. (k : K) × RemovesByKey self.old self.new K.cmp key.now (k, v)) }
+        ensures unchanged { IfNone result (self.new ≡ self.old) }
+    {
+        match self.tree.remove_entry(key) {
+            Some(item) => Some(item.into_pair().1),
+            None => None,
+        }
+    }
+
+    /// Removes the pair whose key is equal to the given one, and returns key and value, as [`remove`](BTreeMap::remove) does.
+    pub fn remove_entry(&mut self, key: &K) -> Option<(K, V)>
+        ensures entry { result ≡ found K.cmp key.now (pairs_of self.old) }
+        ensures removed { IfSome result (λ x. RemovesByKey self.old self.new K.cmp key.now x) }
+        ensures unchanged { IfNone result (self.new ≡ self.old) }
+    {
+        match self.tree.remove_entry(key) {
+            Some(item) => Some(item.into_pair()),
+            None => None,
+        }
+    }
+
+    /// Removes the pair whose key is equal to the given one, and returns key and value: the same as
+    /// [`remove_entry`](BTreeMap::remove_entry).
+    pub fn take(&mut self, key: &K) -> Option<(K, V)>
+        ensures entry { result ≡ found K.cmp key.now (pairs_of self.old) }
+        ensures removed { IfSome result (λ x. RemovesByKey self.old self.new K.cmp key.now x) }
+        ensures unchanged { IfNone result (self.new ≡ self.old) }
+    {
+        self.remove_entry(key)
+    }
+}
+
+impl<K: Ord, V, C: ClearNodes<K, V>> BTreeMap<K, V, C> {
+    ghost use Rattle.btree_shape.specs.TreeState.{pairs_of};
+
+    /// Drops every pair and every node. The count of refusals stays.
+    pub fn clear(&mut self)
+        ensures empty { pairs_of self.new ≡ [] }
+        ensures state { self.new ≡ record { nodes = map.empty; root = None; len = 0; refusals = self.old.refusals } }
+    {
+        self.tree.clear();
     }
 }
 
@@ -149,5 +198,9 @@ impl<K: Ord + Drop, V: Drop, C: NodesMut<K, V>> BTreeExtMut<K, V> for BTreeMap<K
 
     fn replace_value_at(&mut self, addr: Address, value: V) -> V {
         self.tree.replace_value_at(addr, value)
+    }
+
+    fn remove_at(&mut self, addr: Address) -> Option<(Item<K, V>, Address)> {
+        self.tree.remove_at(addr)
     }
 }

@@ -1,4 +1,4 @@
-//! Changes of a map by addresses. The odd keys up to 17 are in a root, which has 9, over two leaves.
+//! Changes of a map by addresses, removal by key, and `clear`. The odd keys up to 17 are in a root, which has 9, over two leaves.
 use btree_ext::{BTreeExt, BTreeExtMut};
 use btree_item::{Address, Cause, Item, Refused};
 use btree_map::BTreeMap;
@@ -38,6 +38,18 @@ fn pairs_text<C: NodesMut<u64, u64>>(
     Ok(text)
 }
 
+// Returns the key of the item at the place of an address, if there is one.
+fn key_from<C: NodesMut<u64, u64>>(
+    rt: &impl Abort,
+    map: &BTreeMap<u64, u64, C>,
+    addr: Address,
+) -> Option<u64> {
+    let at = Address::new(addr.id, addr.offset);
+    assert!(rt; map.is_valid(at));
+    let found = map.normalize(at)?;
+    map.item(found).map(|item| *item.key())
+}
+
 // Inserts a key with itself as its value at an address, if it fits there.
 fn insert_fitting<C: NodesMut<u64, u64>>(
     rt: &impl Abort,
@@ -61,7 +73,6 @@ fn insert_in_gap<C: NodesMut<u64, u64>>(
     let Err(gap) = map.address_of(&key) else {
         panic!(rt; "{key} is there");
     };
-    assert!(rt; map.fits_at(Address::new(gap.id, gap.offset), &key));
     map.insert_exactly_at(gap, Item::new(key, key))
 }
 
@@ -156,6 +167,102 @@ fn replaces_a_value(rt: HostRuntime) -> Result<(), Fail> {
         };
         assert_eq!(rt; map.replace_value_at(addr, 70), key);
         assert_eq!(rt; pairs_text(&map, rt.alloc())?.as_str(), text);
+    }
+    Ok(())
+}
+
+// In each row: the key that is removed, the key after it, and those that are left. It is inserted again where it was.
+#[test]
+fn removes_at_an_address(rt: HostRuntime) -> Result<(), Fail> {
+    for (key, next, text) in [
+        (1, Some(3), "3 5 7 9 11 13 15 17 "),
+        (7, Some(9), "1 3 5 9 11 13 15 17 "),
+        (9, Some(11), "1 3 5 7 11 13 15 17 "),
+        (11, Some(13), "1 3 5 7 9 13 15 17 "),
+        (17, None, "1 3 5 7 9 11 13 15 "),
+    ] {
+        let mut map = odd_keys(&rt, rt.alloc(), 9);
+        let Ok(addr) = map.address_of(&key) else {
+            return Err(Fail::from("absent"));
+        };
+        let Some((item, after)) = map.remove_at(addr) else {
+            return Err(Fail::from("vacant"));
+        };
+        assert_eq!(rt; pairs_text(&map, rt.alloc())?.as_str(), text);
+        let at = Address::new(after.id, after.offset);
+        assert_eq!(rt; key_from(&rt, &map, at), next, "{key}");
+        assert!(rt; map.insert_at(at, item).is_ok());
+        assert_eq!(rt; pairs_text(&map, rt.alloc())?.as_str(), "1 3 5 7 9 11 13 15 17 ");
+    }
+    Ok(())
+}
+
+#[test]
+fn removes_nothing_at_a_gap(rt: HostRuntime) -> Result<(), Fail> {
+    let mut map = odd_keys(&rt, rt.alloc(), 9);
+    for key in [0, 8, 10, 18] {
+        let Err(gap) = map.address_of(&key) else {
+            return Err(Fail::from("present"));
+        };
+        assert!(rt; map.remove_at(gap).is_none(), "{key}");
+    }
+    assert_eq!(rt; pairs_text(&map, rt.alloc())?.as_str(), "1 3 5 7 9 11 13 15 17 ");
+    Ok(())
+}
+
+// In each row: a key, the value that is removed, the nodes afterwards, and the pairs. The left leaf takes an item from the right one when 5
+// is removed; both are merged when 17 is.
+#[test]
+fn removes_by_key(rt: HostRuntime) -> Result<(), Fail> {
+    let mut map = odd_keys(&rt, rt.alloc(), 9);
+    assert_eq!(rt; map.insert(9, 70).ok(), Some(Some(9)));
+    for (key, value, nodes, text) in [
+        (0, None, 3, "1 3 5 7 9=70 11 13 15 17 "),
+        (9, Some(70), 3, "1 3 5 7 11 13 15 17 "),
+        (9, None, 3, "1 3 5 7 11 13 15 17 "),
+        (5, Some(5), 3, "1 3 7 11 13 15 17 "),
+        (17, Some(17), 1, "1 3 7 11 13 15 "),
+        (3, Some(3), 1, "1 7 11 13 15 "),
+        (1, Some(1), 1, "7 11 13 15 "),
+        (15, Some(15), 1, "7 11 13 "),
+        (7, Some(7), 1, "11 13 "),
+        (11, Some(11), 1, "13 "),
+        (13, Some(13), 0, ""),
+        (13, None, 0, ""),
+    ] {
+        assert_eq!(rt; map.remove(&key), value, "{key}");
+        assert_eq!(rt; map.node_count(), nodes, "{key}");
+        assert_eq!(rt; pairs_text(&map, rt.alloc())?.as_str(), text);
+    }
+    Ok(())
+}
+
+#[test]
+fn takes_a_pair(rt: HostRuntime) -> Result<(), Fail> {
+    let mut map = odd_keys(&rt, rt.alloc(), 9);
+    for (key, pair) in [(9, Some((9, 9))), (9, None), (2, None), (17, Some((17, 17)))] {
+        assert_eq!(rt; map.take(&key), pair, "{key}");
+    }
+    for (key, pair) in [(1, Some((1, 1))), (1, None)] {
+        assert_eq!(rt; map.remove_entry(&key), pair, "{key}");
+    }
+    assert_eq!(rt; pairs_text(&map, rt.alloc())?.as_str(), "3 5 7 11 13 15 ");
+    Ok(())
+}
+
+#[test]
+fn clears_and_begins_again(rt: HostRuntime) -> Result<(), Fail> {
+    for keys in [0, 1, 9] {
+        let mut map = odd_keys(&rt, rt.alloc(), keys);
+        map.clear();
+        assert_eq!(rt;
+            (map.len(), map.root_id(), map.node_count()),
+            (0, None, 0),
+            "{keys}"
+        );
+        assert_eq!(rt; map.get(&1), None);
+        assert_eq!(rt; map.insert(3, 30).ok(), Some(None));
+        assert_eq!(rt; pairs_text(&map, rt.alloc())?.as_str(), "3=30 ");
     }
     Ok(())
 }
