@@ -1,4 +1,4 @@
-//! Changes of a map by addresses. The odd keys up to 17 are in a root, which has 9, over two leaves.
+//! Changes of a map by addresses, removal by key, and `clear`. The odd keys up to 17 are in a root, which has 9, over two leaves.
 use btree_ext::{BTreeExt, BTreeExtMut};
 use btree_item::{Address, Cause, Item, Refused};
 use btree_map::BTreeMap;
@@ -61,7 +61,6 @@ fn insert_in_gap<C: NodesMut<u64, u64>>(
     let Err(gap) = map.address_of(&key) else {
         panic!(rt; "{key} is there");
     };
-    assert!(rt; map.fits_at(gap, &key));
     map.insert_exactly_at(gap, Item::new(key, key))
 }
 
@@ -90,7 +89,7 @@ fn inserts_at_an_address(rt: HostRuntime) -> Result<(), Fail> {
         assert_eq!(rt; pairs_text(&map, rt.alloc())?.as_str(), text);
         assert_eq!(rt;
             (map.len() as u64, map.node_count()),
-            (keys + 1, nodes),
+            (keys.wrapping_add(1), nodes),
             "{key}"
         );
     }
@@ -156,6 +155,63 @@ fn replaces_a_value(rt: HostRuntime) -> Result<(), Fail> {
         };
         assert_eq!(rt; map.replace_value_at(addr, 70), key);
         assert_eq!(rt; pairs_text(&map, rt.alloc())?.as_str(), text);
+    }
+    Ok(())
+}
+
+// In each row: a key, the value that is removed, the nodes afterwards, and the pairs. The left leaf takes an item from the right one when 5
+// is removed; both are merged when 17 is.
+#[test]
+fn removes_by_key(rt: HostRuntime) -> Result<(), Fail> {
+    let mut map = odd_keys(&rt, rt.alloc(), 9);
+    assert_eq!(rt; map.insert(9, 70).ok(), Some(Some(9)));
+    for (key, value, nodes, text) in [
+        (0, None, 3, "1 3 5 7 9=70 11 13 15 17 "),
+        (9, Some(70), 3, "1 3 5 7 11 13 15 17 "),
+        (9, None, 3, "1 3 5 7 11 13 15 17 "),
+        (5, Some(5), 3, "1 3 7 11 13 15 17 "),
+        (17, Some(17), 1, "1 3 7 11 13 15 "),
+        (3, Some(3), 1, "1 7 11 13 15 "),
+        (1, Some(1), 1, "7 11 13 15 "),
+        (15, Some(15), 1, "7 11 13 "),
+        (7, Some(7), 1, "11 13 "),
+        (11, Some(11), 1, "13 "),
+        (13, Some(13), 0, ""),
+        (13, None, 0, ""),
+    ] {
+        assert_eq!(rt; map.remove(&key), value, "{key}");
+        assert_eq!(rt; map.node_count(), nodes, "{key}");
+        assert_eq!(rt; pairs_text(&map, rt.alloc())?.as_str(), text);
+    }
+    Ok(())
+}
+
+#[test]
+fn takes_a_pair(rt: HostRuntime) -> Result<(), Fail> {
+    let mut map = odd_keys(&rt, rt.alloc(), 9);
+    for (key, pair) in [(9, Some((9, 9))), (9, None), (2, None), (17, Some((17, 17)))] {
+        assert_eq!(rt; map.take(&key), pair, "{key}");
+    }
+    for (key, pair) in [(1, Some((1, 1))), (1, None)] {
+        assert_eq!(rt; map.remove_entry(&key), pair, "{key}");
+    }
+    assert_eq!(rt; pairs_text(&map, rt.alloc())?.as_str(), "3 5 7 11 13 15 ");
+    Ok(())
+}
+
+#[test]
+fn clears_and_begins_again(rt: HostRuntime) -> Result<(), Fail> {
+    for keys in [0, 1, 9] {
+        let mut map = odd_keys(&rt, rt.alloc(), keys);
+        map.clear();
+        assert_eq!(rt;
+            (map.len(), map.root_id(), map.node_count()),
+            (0, None, 0),
+            "{keys}"
+        );
+        assert_eq!(rt; map.get(&1), None);
+        assert_eq!(rt; map.insert(3, 30).ok(), Some(None));
+        assert_eq!(rt; pairs_text(&map, rt.alloc())?.as_str(), "3=30 ");
     }
     Ok(())
 }
