@@ -77,11 +77,10 @@ fn check_list(rt: &impl Abort, map: &Map, list: &KitMap) {
 
 // Inserts a pair at an address where its key fits.
 fn put(rt: &impl Abort, map: &mut Map, addr: Address, key: u64, value: u64) -> Address {
-    let back = Address::new(addr.id, addr.offset);
-    assert!(rt; !back.offset.is_before());
-    assert!(rt; map.is_valid(back));
-    assert!(rt; map.fits_at(back, &key));
-    match map.insert_at(back, Item::new(key, value)) {
+    assert!(rt; addr.offset.value().is_some());
+    assert!(rt; map.is_valid(addr));
+    assert!(rt; map.fits_at(addr, &key));
+    match map.insert_at(addr, Item::new(key, value)) {
         Ok(at) => at,
         Err(_) => panic!(rt; "refused"),
     }
@@ -201,7 +200,7 @@ fn puts_back_the_item_of_an_internal_node(rt: HostRuntime) -> Result<(), Fail> {
     assert!(rt; map.has_node(top));
     let right = map.node(top).child_id_opt(1);
     let addr = Address::new(top, Offset::from(0));
-    assert!(rt; map.is_valid(addr));
+    assert!(rt; map.is_valid(Address::new(addr.id, addr.offset)));
     let Some((item, back)) = map.remove_at(addr) else {
         return Err(Fail::from("nothing there"));
     };
@@ -209,7 +208,7 @@ fn puts_back_the_item_of_an_internal_node(rt: HostRuntime) -> Result<(), Fail> {
         (*item.key(), Some(back.id), back.offset.value()),
         (4, right, Some(0))
     );
-    put(&rt, &mut map, back, 4, 4);
+    put(&rt, &mut map, Address::new(back.id, back.offset), 4, 4);
     let leaves = leaves_of(&rt, &map, rt.alloc())?;
     assert_eq!(rt; leaves.as_str(), "(3) 3 (5)");
     Ok(())
