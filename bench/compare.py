@@ -12,7 +12,7 @@ import subprocess
 import sys
 import tempfile
 
-PHASES = ["insert", "get_present", "get_absent", "iterate"]
+PHASES = ["insert", "get_present", "get_absent", "iterate", "remove"]
 
 
 def lines_of(command):

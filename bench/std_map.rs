@@ -57,4 +57,10 @@ fn main() {
         let sum = |sum: u64, (key, value): (&u64, &u64)| sum.wrapping_add(*key).wrapping_add(*value);
         map.iter().fold(0, sum)
     });
+    phase("remove", || {
+        present
+            .iter()
+            .filter_map(|key| map.remove(key))
+            .fold(0, |sum, value| sum.wrapping_add(value))
+    });
 }

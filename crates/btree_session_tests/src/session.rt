@@ -37,7 +37,7 @@ fn written_for<C: NodesMut<u64, u64>>(
     }
 }
 
-const LINES: [(&[u8], &[u8], Result<(), Stop>); 12] = [
+const LINES: [(&[u8], &[u8], Result<(), Stop>); 15] = [
     (
         b"insert 3 30\nget 3\ninsert 3 31\nget 4\n",
         b"none\nsome 30\nsome 30\nnone\n",
@@ -74,6 +74,21 @@ const LINES: [(&[u8], &[u8], Result<(), Stop>); 12] = [
     (b"get 1\r\r\n", b"", Err(Stop::NotACommand(1))),
     (b"get 1 2\n", b"", Err(Stop::NotACommand(1))),
     (b"insert 1\n", b"", Err(Stop::NotACommand(1))),
+    (
+        b"insert 1 10\ninsert 3 30\nseek 2\nput 2 20\nnext\nprev\ntake\nput 2 21\nlist\ninsert 3 31\nnext\nshape\njump\n",
+        b"none\nnone\ngap\nok\npair 3 30\npair 2 20\npair 2 20\nok\n1=10 2=21 3=30\nsome 30\nno place\n(1 2 3)\n",
+        Err(Stop::NotACommand(13)),
+    ),
+    (
+        b"insert 5 50\nseek 4\nnext\nseek 5\nput 5 51\nput 4 40\nnext\ntake\ntake\nprev\nprev\n",
+        b"none\ngap\nnone\nfound 50\nunfit\nok\npair 5 50\npair 5 50\nnone\npair 4 40\nnone\n",
+        Ok(()),
+    ),
+    (
+        b"put 7 70\nnext\nprev\ntake\nseek 7\nput 7 70\nremove 9\nnext\nseek 7\nremove 7\ntake\nclear\nprev\nlen\n",
+        b"no place\nno place\nno place\nno place\ngap\nok\nnone\nno place\nfound 70\nsome 70\nno place\nok\nno place\n0\n",
+        Ok(()),
+    ),
 ];
 
 #[test]
@@ -122,7 +137,7 @@ fn questions_are_answered(rt: HostRuntime) -> Result<(), Fail> {
 
 #[test]
 fn other_words_are_no_commands(rt: HostRuntime) -> Result<(), Fail> {
-    let lines: [&[u8]; 13] = [
+    let lines: [&[u8]; 19] = [
         b"get",
         b"got 1",
         b"Get 1",
@@ -136,6 +151,12 @@ fn other_words_are_no_commands(rt: HostRuntime) -> Result<(), Fail> {
         b"lens",
         b"nodes nodes",
         b"shape 0",
+        b"remove",
+        b"clear 1",
+        b"seek 1 2",
+        b"next 1",
+        b"put 1",
+        b"takes",
     ];
     for line in lines {
         let mut session: Session<Store> = Session::new(rt.alloc());
@@ -392,6 +413,39 @@ fn refused_room_for_replies_changes_nothing(rt: HostRuntime) -> Result<(), Fail>
     Ok(())
 }
 
+#[test]
+fn commands_edit_at_the_held_place(rt: HostRuntime) -> Result<(), Fail> {
+    let commands = [
+        Command::Insert(1, 10),
+        Command::Insert(3, 30),
+        Command::Seek(2),
+        Command::Put(2, 20),
+        Command::Next,
+        Command::Prev,
+        Command::Take,
+        Command::Put(2, 21),
+        Command::Insert(3, 31),
+        Command::Next,
+    ];
+    let mut session: Session<Store> = Session::new(rt.alloc());
+    let mut replies = Vec::new(rt.alloc());
+    run(&mut session, &commands, &mut replies)?;
+    let expected = [
+        Reply::Nothing,
+        Reply::Nothing,
+        Reply::Gap,
+        Reply::Done,
+        Reply::Pair(3, 30),
+        Reply::Pair(2, 20),
+        Reply::Pair(2, 20),
+        Reply::Done,
+        Reply::Value(30),
+        Reply::NoPlace,
+    ];
+    assert_eq!(rt; replies.as_slice(), expected.as_slice());
+    Ok(())
+}
+
 // Checks a run in which the store refuses the first node.
 fn check_first_refused<C: NodesMut<u64, u64> + Drop>(
     rt: &impl Abort,
@@ -432,24 +486,32 @@ fn a_refused_node_is_a_reply(rt: HostRuntime) -> Result<(), Fail> {
     Ok(())
 }
 
-// Drives a line that inserts a key, and returns whether it was refused. A refused line changes nothing, and is accepted the next time.
+// Drives a line that inserts a key, and returns whether it was refused. A refused line changes nothing, and is accepted the next time. An
+// odd key is put at the place that is held for it, which a refusal keeps.
 fn is_refused<C: NodesMut<u64, u64>>(
     rt: &impl Abort,
     session: &mut Session<C>,
     key: u64,
     alloc: Global,
 ) -> Result<bool, Fail> {
-    let line = format!(in alloc; "insert {key} {key}\n")?;
+    let (line, accepted) = if key % 2 == 0 {
+        (format!(in alloc; "insert {key} {key}\n")?, b"none\n".as_slice())
+    } else {
+        let seek = format!(in alloc; "seek {key}\n")?;
+        let reply = written_for(session, seek.as_bytes(), alloc)?;
+        assert_eq!(rt; reply.as_slice(), b"gap\n".as_slice());
+        (format!(in alloc; "put {key} {key}\n")?, b"ok\n".as_slice())
+    };
     let before = content_of(session.map().as_raw(), alloc)?;
     let reply = written_for(session, line.as_bytes(), alloc)?;
-    if reply.as_slice() == b"none\n".as_slice() {
+    if reply.as_slice() == accepted {
         return Ok(false);
     }
     assert_eq!(rt; reply.as_slice(), b"refused store\n".as_slice(), "at {key}");
     let after = content_of(session.map().as_raw(), alloc)?;
     assert_eq!(rt; after.as_str(), before.as_str(), "at {key}");
     let again = written_for(session, line.as_bytes(), alloc)?;
-    assert_eq!(rt; again.as_slice(), b"none\n".as_slice(), "at {key}");
+    assert_eq!(rt; again.as_slice(), accepted, "at {key}");
     Ok(true)
 }
 
