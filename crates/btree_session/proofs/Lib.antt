@@ -1,5 +1,6 @@
 pub mod Runs
 pub mod Steps
+pub mod Moves
 pub mod Words
 pub mod Numerals
 pub mod Sayings

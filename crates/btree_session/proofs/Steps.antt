@@ -60,7 +60,7 @@ module _ (may_refuse : Content (Node ℕ ℕ) → Type 0) (leaf : ℕ) (old new 
 
 module _ (may_refuse : Content (Node ℕ ℕ) → Type 0) (old new : Held ℕ ℕ) where
   -- a step between states whose addresses have these places
-  a_step : (command : Command) (reply : Reply) (p q : Option ℕ) → IsHeldPlace old.map old.held p → IsHeldPlace new.map new.held q
+  pub a_step : (command : Command) (reply : Reply) (p q : Option ℕ) → IsHeldPlace old.map old.held p → IsHeldPlace new.map new.held q
       → MachineStep (state_at old p) command reply (state_at new q) → Handles may_refuse old command reply new → IsBTree nat_cmp new.map
       → IsStep may_refuse old command reply new
   a_step command reply p q at there step nodes tree = record {

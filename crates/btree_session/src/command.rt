@@ -12,6 +12,12 @@ pub enum Command {
     Insert(u64, u64),
     /// Look up a key.
     Get(u64),
+    /// Hold the address of a key, or of the gap where it would be.
+    Seek(u64),
+    /// Go to the next pair.
+    Next,
+    /// Go to the previous pair.
+    Prev,
 }
 
 /// A reply of a session to a command.
@@ -21,6 +27,14 @@ pub enum Reply {
     Nothing,
     /// The value that was there.
     Value(u64),
+    /// The pair at the held address.
+    Pair(u64, u64),
+    /// The key is there, with this value, and its address is held.
+    Found(u64),
+    /// The key is not there, and the gap where it would be is held.
+    Gap,
+    /// No address is held.
+    NoPlace,
     /// The insertion was refused.
     Refused(Cause),
 }
@@ -32,6 +46,10 @@ impl fmt::Display for Reply {
         match self {
             Reply::Nothing => write!(f, "none"),
             Reply::Value(value) => write!(f, "some {value}"),
+            Reply::Pair(key, value) => write!(f, "pair {key} {value}"),
+            Reply::Found(value) => write!(f, "found {value}"),
+            Reply::Gap => write!(f, "gap"),
+            Reply::NoPlace => write!(f, "no place"),
             Reply::Refused(Cause::Store) => write!(f, "refused store"),
             Reply::Refused(Cause::Count) => write!(f, "refused count"),
         }

@@ -1,7 +1,7 @@
 //! A session: a map, and commands that are run on it.
-ghost use Rattle.std.specs.Prelude.{◌≡◌, [], None, length, IsOk, OnOk, OnErr};
+ghost use Rattle.std.specs.Prelude.{◌≡◌, [], Some, None, length, IsOk, OnOk, OnErr};
 ghost use Rattle.std.specs.FinMap as map;
-ghost use Rattle.btree_shape.specs.TreeState.{pairs_of};
+ghost use Rattle.btree_shape.specs.TreeState.{IsOccupiedIn, item_of, pairs_of};
 ghost use Rattle.btree_session.specs.Machine.{IsStep, Runs, value_reply};
 ghost use Rattle.btree_session.specs.Text.{HasCapacityFor};
 
@@ -64,6 +64,9 @@ impl<C: NodesMut<u64, u64>> Session<C> {
         match command {
             Command::Insert(key, value) => self.insert(key, value),
             Command::Get(key) => self.get(key),
+            Command::Seek(key) => self.seek(key),
+            Command::Next => self.next(),
+            Command::Prev => self.prev(),
         }
     }
 
@@ -91,6 +94,67 @@ impl<C: NodesMut<u64, u64>> Session<C> {
         let _root = self.map.root_id(); // for the prover alone: its contract says that the map is a well formed tree
         reply_of(self.map.get(&key).copied())
     }
+
+    fn seek(&mut self, key: u64) -> Reply
+        ensures { IsStep C.MayRefuse self.old (Command.Seek key) result self.new }
+    {
+        let _root = self.map.root_id(); // for the prover alone: its contract says that the map is a well formed tree
+        match self.map.address_of(&key) {
+            Ok(addr) => {
+                let (_, value) = pair_at(&self.map, &addr);
+                self.held = Some(addr);
+                Reply::Found(value)
+            }
+            Err(gap) => {
+                self.held = Some(gap);
+                Reply::Gap
+            }
+        }
+    }
+
+    fn next(&mut self) -> Reply
+        ensures { IsStep C.MayRefuse self.old Command.Next result self.new }
+    {
+        let _root = self.map.root_id(); // for the prover alone: its contract says that the map is a well formed tree
+        let Some(held) = self.held else {
+            return Reply::NoPlace;
+        };
+        let Some(addr) = self.map.normalize(held) else {
+            return Reply::Nothing;
+        };
+        let Some(next) = self.map.next_item_address(addr) else {
+            return Reply::Nothing;
+        };
+        let (key, value) = pair_at(&self.map, &next);
+        self.held = Some(next);
+        Reply::Pair(key, value)
+    }
+
+    fn prev(&mut self) -> Reply
+        ensures { IsStep C.MayRefuse self.old Command.Prev result self.new }
+    {
+        let _root = self.map.root_id(); // for the prover alone: its contract says that the map is a well formed tree
+        let Some(held) = self.held else {
+            return Reply::NoPlace;
+        };
+        let Some(previous) = self.map.previous_item_address(held) else {
+            return Reply::Nothing;
+        };
+        let (key, value) = pair_at(&self.map, &previous);
+        self.held = Some(previous);
+        Reply::Pair(key, value)
+    }
+}
+
+/// Returns the pair at an address with an item.
+fn pair_at<C: NodesMut<u64, u64>>(map: &BTreeMap<u64, u64, C>, addr: &Address) -> (u64, u64)
+    requires { IsOccupiedIn map.now addr.now }
+    ensures { Some result ≡ item_of map.now addr.now }
+{
+    let Some(item) = map.item(*addr) else {
+        unreachable!()
+    };
+    (*item.key(), *item.value())
 }
 
 fn reply_of(value: Option<u64>) -> Reply
