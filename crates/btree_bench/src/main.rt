@@ -1,4 +1,4 @@
-//! Times insertion, look-up and a walk in the kit's map and in this repository's map.
+//! Times insertion, look-up, a walk and removal in the kit's map and in this repository's map.
 //!
 //! Without an argument it runs over 1000 keys and prints the sum of each phase. With a number of keys as its argument it prints, for each
 //! phase, its name, the nanoseconds that it took, and its sum.
@@ -60,6 +60,17 @@ fn sum_at(table: &impl Table, keys: &[u64]) -> u64 {
     sum
 }
 
+// Removes each key, and returns the sum of the values.
+fn take_all(table: &mut impl Table, keys: &[u64]) -> u64 {
+    let mut sum = 0u64;
+    for key in keys {
+        if let Some(value) = table.take(*key) {
+            sum = sum.wrapping_add(value);
+        }
+    }
+    sum
+}
+
 fn report(
     rt: &(impl Print + Clock),
     is_timed: bool,
@@ -93,7 +104,10 @@ fn measure(
     report(rt, is_timed, (map, "get_absent"), since, sum)?;
     let since = Instant::now(rt)?;
     let sum = table.sum();
-    report(rt, is_timed, (map, "iterate"), since, sum)
+    report(rt, is_timed, (map, "iterate"), since, sum)?;
+    let since = Instant::now(rt)?;
+    let sum = take_all(table, keys.present.as_slice());
+    report(rt, is_timed, (map, "remove"), since, sum)
 }
 
 fn measure_both(

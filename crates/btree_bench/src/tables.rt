@@ -21,6 +21,9 @@ pub trait Table {
 
     /// Returns the sum of all keys and values, by a walk.
     fn sum(&self) -> u64;
+
+    /// Removes a key, and returns its value, or `None`.
+    fn take(&mut self, key: u64) -> Option<u64>;
 }
 
 impl Table for KitMap {
@@ -38,6 +41,10 @@ impl Table for KitMap {
             sum = sum.wrapping_add(*key).wrapping_add(*value);
         }
         sum
+    }
+
+    fn take(&mut self, key: u64) -> Option<u64> {
+        self.remove(&key)
     }
 }
 
@@ -59,5 +66,9 @@ impl Table for SlabMap {
             sum = sum.wrapping_add(*key).wrapping_add(*value);
         }
         sum
+    }
+
+    fn take(&mut self, key: u64) -> Option<u64> {
+        self.remove(&key)
     }
 }

@@ -34,7 +34,7 @@ use Rattle.btree_edit.specs.Remove.{IsInnerAt, IsRemoved, LeadsBehind, TakesLast
 use Rattle.btree_edit.proofs.RemoveLemmas.{as-many-used, remove-shorter, removed-by, written-used}
 
 -- the node of a view
-node-of : {K V : Type 0} (o : Option (Node K V)) (v : View (K × V)) → option_map view_of o ≡ Some v
+pub node-of : {K V : Type 0} (o : Option (Node K V)) (v : View (K × V)) → option_map view_of o ≡ Some v
     → (node : Node K V) × (o ≡ Some node) × (view_of node ≡ v)
 node-of None v e = absurd (cc)
 node-of (Some node) v e = let same : view_of node ≡ v = cc in (node, refl, same)
@@ -272,6 +272,6 @@ module _ {K V : Type 0} (cmp : K → K → Ordering) (laws : IsTotalOrder cmp) (
       pub removed-from-internal : (new : TreeState K V) (b : Address) → mid.len + 1 ≡ old.len → mid.refusals ≡ old.refusals
           → IsRebalanced mid new leaf_id cmp next b → IsRemoved old new cmp a inner.item b
       removed-from-internal new b len uncounted r =
-          removed-by cmp old mid root well root-is.1 top leaf_id (suc before) a next inner.item off removed-inner.height_is
+          removed-by cmp old mid root well laws root-is.1 top leaf_id (suc before) a next inner.item off removed-inner.height_is
           shorter inner-room.here inner-room.room removed-inner.within_strain as-many had predecessor.at listed next-place
           next-back new b len uncounted r

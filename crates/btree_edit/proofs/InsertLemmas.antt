@@ -70,6 +70,14 @@ module _ {K V : Type 0} (cmp : K → K → Ordering) (laws : IsTotalOrder cmp) (
         let set_is = set-from_Ok cmp laws k w xs f.place (x.key, was) tree.ascends f.is listed in
         x.exchanged.pairs ∙ (rw same set_is ∙ sym (if-some (found cmp k xs) _ _ is-some))
 
+    pub exchanged-by_key : InsertsByKey cmp k old new w
+    exchanged-by_key = record {
+      absent = λ none. absurd (not-both (found cmp k xs) is-some none);
+      few = λ levels are. let e = x.exchanged.keeps.nodes in omega arith;
+      within_strain = λ none. absurd (not-both (found cmp k xs) is-some none);
+      present = λ some. (was, record { at = a; found_at = f; exchanged = x });
+    }
+
   module _ (a : Address) (gap : IsGapAt cmp k old a) where
     nothing : (found cmp k xs ≡ None) × (before cmp k xs ≡ gap.place)
     nothing = err-none (before cmp k xs) (before cmp k xs) gap.place (found cmp k xs) gap.is

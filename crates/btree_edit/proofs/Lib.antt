@@ -7,3 +7,6 @@ pub mod InsertAtLemmas
 pub mod RemoveLemmas
 pub mod ReplaceLemmas
 pub mod InnerLemmas
+pub mod RemoveAtLemmas
+pub mod RemoveInnerLemmas
+pub mod RemoveByKeyLemmas

@@ -8,6 +8,7 @@ use Rattle.std.specs.FinMap as map
 use Rattle.std.specs.List.{insert, remove}
 use Rattle.std.specs.declared.cmp.Ordering.{Ordering}
 use Rattle.btree_item.specs.declared.address.Address.{Address}
+use Rattle.btree_item.specs.Pairs.{KeyFits}
 use Rattle.btree_item.proofs.PairEdits.{insert-remove}
 use Rattle.btree_view.specs.View.{NodeMap, View, leaf, item_in, most_of, size_of}
 use Rattle.btree_shape.specs.Focus.Positions.{address_at}
@@ -29,7 +30,10 @@ use Rattle.btree_shape.proofs.Trees.States.{is-off, pairs-off}
 use Rattle.btree_shape.proofs.Trees.Stores.{len-views}
 use Rattle.btree_shape.proofs.Underflow.Order.{one-height}
 use Rattle.btree_raw.specs.Rebalance.{HasRoom, IsRebalanced}
+use Rattle.btree_find.specs.Fits.{FitsAt}
+use Rattle.btree_find.proofs.PlaceLemmas.{has-place}
 use Rattle.btree_edit.specs.Remove.{FreesWithinStrain, IsRemoved}
+use Rattle.btree_edit.proofs.ReplaceLemmas.{fits-removed}
 
 -- one element less than before
 pub remove-shorter : {X : Type 0} (xs : List X) (i : ℕ) (x : X) → slice_get xs i ≡ Some x → length (remove xs i) + 1 ≡ length xs
@@ -55,7 +59,7 @@ module _ {K V : Type 0} (cmp : K → K → Ordering) (old mid : TreeState K V) (
 
   -- after any removal: the tree is off by one at node `exempt`, the pair x, which was at address a, is gone, and address
   -- f is at its place; `rebalance` makes f to b
-  module _ (at-root : old.root ≡ Some root) (top : mid.root ≡ old.root) (exempt place : ℕ) (a f : Address) (x : K × V)
+  module _ (laws : IsTotalOrder cmp) (at-root : old.root ≡ Some root) (top : mid.root ≡ old.root) (exempt place : ℕ) (a f : Address) (x : K × V)
       (took : IsOffByOne cmp (node_map mid) root exempt (remove (pairs_of old) place))
       (high : took.rooted.height ≡ well.formed.height)
       (node : View (K × V)) (here : node_map mid exempt ≡ Some node) (room : size_of node ≤ most_of node)
@@ -118,14 +122,28 @@ module _ {K V : Type 0} (cmp : K → K → Ordering) (old mid : TreeState K V) (
           within_strain = omega arith;
         }
 
-    pub removed-by : IsRemoved old new cmp a x b
-    removed-by =
+    new-tree : IsBTree cmp new
+    new-tree =
         let n = remove-shorter (pairs_of old) place x listed in
         let c = well.counted in
         let l = r.len in
         let m = ap length new-pairs in
+        record { ascends = r.well.ascends; formed = r.well.formed; counted = omega arith }
+
+    fits : FitsAt cmp x.0 new b
+    fits = record {
+      place = place;
+      has = has-place cmp laws new new-tree b place (r.place place f-place);
+      fits =
+          subst (λ l. KeyFits cmp x.0 place l) (sym new-pairs)
+          (fits-removed cmp laws (pairs_of old) place x well.ascends listed);
+    }
+
+    pub removed-by : IsRemoved old new cmp a x b
+    removed-by =
+        let l = r.len in
         record {
-          tree = record { ascends = r.well.ascends; formed = r.well.formed; counted = omega arith };
+          tree = new-tree;
           had = had;
           place = place;
           at = at;
@@ -135,6 +153,7 @@ module _ {K V : Type 0} (cmp : K → K → Ordering) (old mid : TreeState K V) (
           valid = r.valid;
           there = r.place place f-place;
           back = r.back f-back;
+          fits = fits;
           shorter = omega arith;
           frees = frees;
           uncounted = r.uncounted ∙ uncounted;
@@ -193,6 +212,13 @@ module _ {K V : Type 0} (cmp : K → K → Ordering) (laws : IsTotalOrder cmp) (
   listed : slice_get xs place ≡ Some x
   listed = take-item cmp laws node_at root old.len xs well low (node_map mid) a.id p ys o place x here stood place-on.1 put
 
+  -- so the tree has a pair
+  pub taken-counted : 1 ≤ old.len
+  taken-counted =
+      let n = slice_get_within xs place x listed in
+      let c = well.counted in
+      omega arith
+
   there : IsAddressed (K × V) (node_map mid) root (remove xs place) None a place
   there =
       subst (λ (b : Address). IsAddressed (K × V) (node_map mid) root (remove xs place) None b place) (sym a-is)
@@ -233,7 +259,7 @@ module _ {K V : Type 0} (cmp : K → K → Ordering) (laws : IsTotalOrder cmp) (
   pub removed-from-leaf : (new : TreeState K V) (b : Address) → mid.len + 1 ≡ old.len → mid.refusals ≡ old.refusals
       → IsRebalanced mid new a.id cmp a b → IsRemoved old new cmp a x b
   removed-from-leaf new b len uncounted r =
-      removed-by cmp old mid root well at-root top a.id place a a x took
+      removed-by cmp old mid root well laws at-root top a.id place a a x took
       (take-height cmp laws node_at root old.len xs well low (node_map mid) a.id p ys o place x here stood place-on.1 put)
       (leaf p (remove ys o)) put.here taken-room.room
       (take-within cmp laws node_at root old.len xs well low (node_map mid) a.id p ys o place x here stood place-on.1 put)

@@ -1,13 +1,16 @@
 -- A pair of an ascending list replaced by one whose key lies between its neighbours.
 use Rattle.std.proofs.Common.{◌≡◌, ◌<◌, ◌≤◌, ◌∙◌, ℕ, zero, suc, List, [], ◌∷◌, length, set, Some, slice_get, refl, sym, ap, subst, arith}
 use Rattle.std.proofs.lemmas.List.Edits.{length-remove}
+use Rattle.std.proofs.lemmas.Option.{slice_get_within}
 use Rattle.std.specs.Cmp.{IsTotalOrder}
 use Rattle.std.specs.List.{insert, remove}
 use Rattle.std.specs.declared.cmp.Ordering.{Ordering}
+use Rattle.std.specs.declared.cmp.Ordering.TheVariants.{Less}
 use Rattle.btree_item.specs.Pairs.{Ascends, KeyFits}
 use Rattle.btree_item.specs.declared.address.Address.{Address}
 use Rattle.btree_item.proofs.PairEdits.{Ascends-insert}
 use Rattle.btree_shape.specs.TreeState.{TreeState, Changes, IsBTree, pairs_of}
+use Rattle.btree_shape.proofs.LookUp.KeyInList.{Rises, rises}
 use Rattle.btree_shape.proofs.Removal.FromTree.{Ascends-remove}
 use Rattle.btree_find.specs.Fits.{KeyReplaces, ReplacesAt}
 use Rattle.btree_edit.specs.Exchange.{IsExchanged}
@@ -35,7 +38,7 @@ module _ {X : Type 0} where
 
 module _ {K V : Type 0} (cmp : K → K → Ordering) (laws : IsTotalOrder cmp) where
   -- the key fits where the pair was
-  replaces-fits : (k : K) (p : ℕ) (xs : List (K × V)) → KeyReplaces cmp k p xs → KeyFits cmp k p (remove xs p)
+  pub replaces-fits : (k : K) (p : ℕ) (xs : List (K × V)) → KeyReplaces cmp k p xs → KeyFits cmp k p (remove xs p)
   replaces-fits k p xs r =
       let w = r.within in
       let n = length-remove xs p r.within in
@@ -44,6 +47,27 @@ module _ {K V : Type 0} (cmp : K → K → Ordering) (laws : IsTotalOrder cmp) w
         above = λ q x next at. r.above q x next (sym (get-below_removed xs p q (omega arith)) ∙ at);
         below = λ x at. r.below x (sym (get-at_removed xs p) ∙ at);
       }
+
+  -- a key of an ascending list is above the one before it
+  rises-next : (xs : List (K × V)) (q : ℕ) (x y : K × V) → Rises cmp xs → slice_get xs q ≡ Some x → slice_get xs (suc q) ≡ Some y
+      → cmp x.0 y.0 ≡ Less
+  rises-next [] q x y up at next = absurd (cc)
+  rises-next (z ∷ []) zero x y up at next = absurd (cc)
+  rises-next (z ∷ w ∷ xs) zero x y up at next =
+      let a : z ≡ x = cc in
+      let b : w ≡ y = cc in
+      subst (λ t. cmp x.0 t.0 ≡ Less) b (subst (λ t. cmp t.0 w.0 ≡ Less) a up.0.0)
+  rises-next (z ∷ xs) (suc q) x y up at next = rises-next xs q x y up.1 at next
+
+  -- so the key of a removed pair fits where it was
+  pub fits-removed : (xs : List (K × V)) (p : ℕ) (x : K × V) → Ascends cmp xs → slice_get xs p ≡ Some x → KeyFits cmp x.0 p (remove xs p)
+  fits-removed xs p x up at =
+      let r = rises cmp xs up in
+      replaces-fits x.0 p xs (record {
+        within = slice_get_within xs p x at;
+        above = λ q y next there. rises-next xs q y x r there (ap (slice_get xs) next ∙ at);
+        below = λ y there. rises-next xs p x y r at there;
+      })
 
   pub Ascends-set : (k : K) (w : V) (p : ℕ) (xs : List (K × V)) (x : K × V) → slice_get xs p ≡ Some x → Ascends cmp xs → KeyReplaces cmp k p xs
       → Ascends cmp (set xs p (k, w))

@@ -1,15 +1,18 @@
--- What a removal leaves of a tree. `IsRemoved` is the main word. Removals are still to come; the laws of one from a leaf
--- and of one from an internal node are `removed-from-leaf` in `proofs/RemoveLemmas.antt` and `removed-from-internal` in
--- `proofs/InnerLemmas.antt`. A removal frees nodes and never allocates one.
+-- What a removal leaves of a tree. `IsRemoved` is the main word: with `valid`, `back` and `fits` it has all that
+-- `insert_at` requires to put the pair back, and `restores` says that this gives the old list. A removal frees nodes and
+-- never allocates one. `RemovesByKey` is a removal at the address of a key.
 use Rattle.std.specs.Prelude.{◌≡◌, ℕ, suc, ◌+◌, ◌≤◌, List, length, slice_get, Option, Some, IsSome, IsTrue}
 use Rattle.std.specs.FinMap as map
 use Rattle.std.specs.List.{insert, remove}
 use Rattle.std.specs.declared.cmp.Ordering.{Ordering}
+use Rattle.btree_item.specs.Pairs.{before}
 use Rattle.btree_item.specs.declared.address.Address.{Address}
 use Rattle.btree_view.specs.Edits.{is_internal}
 use Rattle.btree_view.specs.View.{View, leaf, children_of, items_of}
 use Rattle.btree_shape.specs.Step.{WritesNode}
 use Rattle.btree_shape.specs.TreeState.{TreeState, HasLevels, HasStrain, IsBTree, IsPlaceIn, IsValidIn, KeepsRest, item_of, node_map, pairs_of}
+use Rattle.btree_find.specs.Answers.{IsFoundAt}
+use Rattle.btree_find.specs.Fits.{FitsAt}
 use Rattle.btree_find.specs.Navigation.{EndsInLeaf, IsItemAt}
 
 module _ {K V : Type 0} (old new : TreeState K V) where
@@ -25,7 +28,7 @@ module _ {K V : Type 0} (old new : TreeState K V) where
     pub strain_after : HasStrain new after
     pub within_strain : freed + after ≤ before + 1
 
-  -- the pair x at address a was removed; address b is a back address at the place where it was
+  -- the pair x at address a was removed; address b is a back address at the place where it was, which its key fits
   pub record IsRemoved (cmp : K → K → Ordering) (a : Address) (x : K × V) (b : Address) : Type 0 where
     pub tree : IsBTree cmp new
     pub had : item_of old a ≡ Some x
@@ -37,9 +40,18 @@ module _ {K V : Type 0} (old new : TreeState K V) where
     pub valid : IsValidIn new b
     pub there : IsPlaceIn new b place
     pub back : IsSome b.offset
+    pub fits : FitsAt cmp x.0 new b
     pub shorter : old.len ≡ new.len + 1
     pub frees : FreesWithinStrain
     pub uncounted : new.refusals ≡ old.refusals
+
+  -- the pair x, which is the one with the key, was removed
+  pub record RemovesByKey (cmp : K → K → Ordering) (k : K) (x : K × V) : Type 0 where
+    pub at : Address
+    pub found_at : IsFoundAt cmp k old at
+    pub after : Address
+    pub removed : IsRemoved cmp at x after
+    pub pairs : pairs_of new ≡ remove (pairs_of old) (before cmp k (pairs_of old))
 
 module _ {K V : Type 0} (s : TreeState K V) where
   -- an item of an internal node is at the address, and `left` is the child before it

@@ -1,12 +1,15 @@
-//! Changes of a well formed tree over any lawful store of nodes: insertion at a gap or at an address, the exchange of a value, and of a pair.
+//! Changes of a well formed tree over any lawful store of nodes: insertion at a gap or at an address, removal at an
+//! address or by key, the exchange of a value, and of a pair.
 #![tactic(auto, using(btree_store::specs::ContentLaws::stores))]
 
 mod insertion;
 mod insertion_at;
+mod removal;
 mod replacement;
 mod values;
 
 pub use insertion::{insert, insert_at_gap};
 pub use insertion_at::{insert_at, insert_exactly_at};
+pub use removal::{remove_at, remove_entry};
 pub use replacement::replace_at;
 pub use values::exchange;

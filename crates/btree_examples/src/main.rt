@@ -4,10 +4,11 @@
 ghost use Rattle.std.specs.Prelude.{◌≡◌, ◌+◌, OnOk, OnErr, unwrap_or};
 ghost use Rattle.std.specs.Ordering.{nat_cmp};
 ghost use Rattle.btree_item.specs.Pairs.{found_value, inserted};
-ghost use Rattle.btree_shape.specs.TreeState.{pairs_of};
+ghost use Rattle.btree_shape.specs.TreeState.{IsValidIn, pairs_of};
 
 use btree_slab::BTreeMap;
-use btree_slab::generic::map::Refused;
+use btree_slab::generic::map::{BTreeExt, BTreeExtMut, Refused};
+use btree_slab::generic::node::Address;
 use std::alloc::AllocError;
 use std::io;
 
@@ -29,6 +30,22 @@ fn in_stock(stock: &BTreeMap<u32, u64>, part: u32) -> u64
     stock.get(&part).copied().unwrap_or(0)
 }
 
+/// Takes the part at an address out and puts it back, as for a count by hand. Returns its count, or `None` if no part is at the address.
+///
+/// Both steps may move parts to other nodes. The removal returns the address that its place has afterwards, and the map's contracts say
+/// that an insertion there gives the same stock again.
+fn take_and_put_back(stock: &mut BTreeMap<u32, u64>, part: Address) -> Result<Option<u64>, Refused<u32, u64>>
+    requires { IsValidIn stock.old part }
+    ensures same { OnOk result (pairs_of stock.new ≡ pairs_of stock.old) }
+{
+    let Some((item, place)) = stock.remove_at(part) else {
+        return Ok(None);
+    };
+    let count = *item.value();
+    stock.insert_at(place, item)?;
+    Ok(Some(count))
+}
+
 fn main(rt: HostRuntime) -> io::Result<()> {
     let mut stock: BTreeMap<u32, u64> = BTreeMap::new(rt.alloc());
     for (part, count) in [(408, 20), (17, 350), (1203, 4), (17, 349)] {
@@ -39,6 +56,13 @@ fn main(rt: HostRuntime) -> io::Result<()> {
     rt.println(format_args!("parts: {}", stock.len()))?;
     rt.println(format_args!("part 408: {}", in_stock(&stock, 408)))?;
     rt.println(format_args!("part 409: {}", in_stock(&stock, 409)))?;
+    let Ok(part) = stock.address_of(&408) else {
+        return Ok(());
+    };
+    let Ok(counted) = take_and_put_back(&mut stock, part) else {
+        return Err(AllocError.into());
+    };
+    rt.println(format_args!("counted: {}", counted.unwrap_or(0)))?;
     for (part, count) in stock.iter() {
         rt.println(format_args!("{part} {count}"))?;
     }

@@ -1,13 +1,16 @@
 //! The tree, always well formed.
-ghost use Rattle.std.specs.Prelude.{◌≡◌, [], length, None, option_copied, IfOk, OnOk, IfErr, OnErr};
+ghost use Rattle.std.specs.Prelude.{◌≡◌, [], length, None, option_copied, IsSome, IfSome, IfNone, IfOk, OnOk, IfErr, OnErr};
 ghost use Rattle.std.specs.FinMap as map;
 ghost use Rattle.btree_node.specs.contracts.node.Node.{the_row as node_row};
 
 use crate::ext::BTreeExt;
-use btree_edit::insert;
+use crate::ext_mut::BTreeExtMut;
+use btree_edit::{
+    exchange, insert, insert_at, insert_exactly_at, remove_at, remove_entry, replace_at,
+};
 use btree_find::get;
-use btree_item::Refused;
-use btree_nodes::NodesMut;
+use btree_item::{Address, Item, Refused};
+use btree_nodes::{ClearNodes, NodesMut};
 use btree_raw::RawBTree;
 use std::marker::Model;
 
@@ -76,6 +79,7 @@ impl<K: Ord + Drop, V: Drop, C: NodesMut<K, V>> Tree<K, V, C> {
     ghost use Rattle.btree_item.specs.Pairs.{found, found_value, inserted};
     ghost use Rattle.btree_shape.specs.TreeState.{pairs_of};
     ghost use Rattle.btree_edit.specs.Insert.{IsRefusedAtGap, InsertsByKey};
+    ghost use Rattle.btree_edit.specs.Remove.{RemovesByKey};
 
     /// Inserts a pair, or replaces the value if the key is there: the stored key stays, and the given one is dropped.
     ///
@@ -95,6 +99,32 @@ impl<K: Ord + Drop, V: Drop, C: NodesMut<K, V>> Tree<K, V, C> {
     {
         insert(&mut self.raw, key, value)
     }
+
+    /// Removes the pair whose key is equal to the given one, and returns it. Returns `None`, and nothing changes, if there is none.
+    ///
+    /// It searches once: it makes at most six comparisons at each level. It frees at most one node of each level and cannot fail.
+    pub fn remove_entry(&mut self, key: &K) -> Option<(K, V)>
+        ensures entry { result ≡ found K.cmp key.now (pairs_of self.old) }
+        ensures removed { IfSome result (λ x. RemovesByKey self.old self.new K.cmp key.now x) }
+        ensures unchanged { IfNone result (self.new ≡ self.old) }
+    {
+        match remove_entry(&mut self.raw, key) {
+            Some(item) => Some(item.into_pair()),
+            None => None,
+        }
+    }
+}
+
+impl<K: Ord, V, C: ClearNodes<K, V>> Tree<K, V, C> {
+    ghost use Rattle.btree_shape.specs.TreeState.{pairs_of};
+
+    /// Removes all pairs. The store has no node then, and the count of refusals stays.
+    pub fn clear(&mut self)
+        ensures empty { pairs_of self.new ≡ [] }
+        ensures state { self.new ≡ record { nodes = map.empty; root = None; len = 0; refusals = self.old.refusals } }
+    {
+        self.raw.clear();
+    }
 }
 
 impl<K: Ord, V, C: NodesMut<K, V>> BTreeExt<K, V> for Tree<K, V, C> {
@@ -104,5 +134,51 @@ impl<K: Ord, V, C: NodesMut<K, V>> BTreeExt<K, V> for Tree<K, V, C> {
 
     fn as_raw(&self) -> &RawBTree<K, V, C> {
         &self.raw
+    }
+}
+
+impl<K: Ord + Drop, V: Drop, C: NodesMut<K, V>> BTreeExtMut<K, V> for Tree<K, V, C> {
+    ghost use Rattle.btree_shape.specs.TreeState.{IsLeafAddressIn, IsValidIn};
+    ghost use Rattle.btree_find.specs.Fits.{FitsAt};
+    ghost use Rattle.btree_edit.specs.InsertAt.{InsertsAt, IsRefusedAt};
+
+    // The clauses are those of the trait, with the store's own name for what it may refuse.
+    fn insert_at(&mut self, addr: Address, item: Item<K, V>) -> Result<Address, Refused<K, V>>
+        requires valid { IsValidIn self.old addr }
+        requires back { IsSome addr.offset }
+        requires fits { FitsAt K.cmp item.0 self.old addr }
+        ensures inserted { IfOk result (λ b. InsertsAt self.old self.new addr K.cmp b item) }
+        ensures returned { IfErr result (λ r. (r.key, r.value) ≡ item) }
+        ensures refused { IfErr result (λ r. IsRefusedAt self.old self.new addr C.MayRefuse r.cause) }
+    {
+        insert_at(&mut self.raw, addr, item)
+    }
+
+    fn insert_exactly_at(
+        &mut self,
+        addr: Address,
+        item: Item<K, V>,
+    ) -> Result<Address, Refused<K, V>>
+        requires valid { IsValidIn self.old addr }
+        requires back { IsSome addr.offset }
+        requires leaf { IsLeafAddressIn self.old addr }
+        requires fits { FitsAt K.cmp item.0 self.old addr }
+        ensures inserted { IfOk result (λ b. InsertsAt self.old self.new addr K.cmp b item) }
+        ensures returned { IfErr result (λ r. (r.key, r.value) ≡ item) }
+        ensures refused { IfErr result (λ r. IsRefusedAt self.old self.new addr C.MayRefuse r.cause) }
+    {
+        insert_exactly_at(&mut self.raw, addr, item)
+    }
+
+    fn replace_at(&mut self, addr: Address, key: K, value: V) -> (K, V) {
+        replace_at(&mut self.raw, addr, key, value)
+    }
+
+    fn replace_value_at(&mut self, addr: Address, value: V) -> V {
+        exchange(&mut self.raw, addr, value)
+    }
+
+    fn remove_at(&mut self, addr: Address) -> Option<(Item<K, V>, Address)> {
+        remove_at(&mut self.raw, addr)
     }
 }

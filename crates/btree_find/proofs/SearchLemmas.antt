@@ -4,7 +4,9 @@ use Rattle.std.proofs.lemmas.List.{length-map}
 use Rattle.std.specs.Cmp.{IsTotalOrder}
 use Rattle.std.specs.FinMap as nodes_map
 use Rattle.std.specs.declared.cmp.Ordering.{Ordering}
-use Rattle.btree_item.specs.Pairs.{Ascends, before, found, found_value, place_of}
+use Rattle.btree_item.specs.Pairs.{Ascends, KeyFits, before, found, found_value, place_of}
+use Rattle.btree_item.proofs.PairEdits.{KeyFits-before}
+use Rattle.btree_item.proofs.PairLemmas.{before-from_Err, found-from_Err}
 use Rattle.btree_item.specs.Offset.{index_offset}
 use Rattle.btree_item.specs.declared.address.Address.{Address}
 use Rattle.btree_node.specs.declared.node.Node.{Node}
@@ -13,13 +15,14 @@ use Rattle.btree_node.specs.Node.{view_of}
 use Rattle.btree_view.specs.View.{View, NodeMap, leaf, internal, items_of, children_of, item_in, size_of}
 use Rattle.btree_shape.specs.Place.{IsOccupied, IsPlace, NOWHERE}
 use Rattle.btree_shape.specs.Focus.Search.{IsSearching}
-use Rattle.btree_shape.specs.TreeState.{TreeState, IsBTree, node_map, pairs_of}
+use Rattle.btree_shape.specs.TreeState.{TreeState, IsBTree, IsLeafAddressIn, IsPlaceIn, IsValidIn, node_map, pairs_of}
 use Rattle.btree_shape.specs.WellFormed.{IsWellFormed}
 use Rattle.btree_shape.proofs.LookUp.Descent.{Down, get-after, search-start, search-ascends, search-down}
 use Rattle.btree_shape.proofs.LookUp.Ends.{search-hit, search-miss}
 use Rattle.btree_shape.proofs.Paths.Used.{focus-used}
 use Rattle.btree_shape.proofs.LookUp.KeyInList.{Rises, rises, searched}
 use Rattle.btree_find.specs.Answers.{IsFoundAt, IsGapAt}
+use Rattle.btree_find.proofs.PlaceLemmas.{has-place}
 use Rattle.btree_shape.proofs.Trees.ValidPlaces.{place-valid}
 use Rattle.btree_shape.proofs.Trees.Stores.{used-view, most-few}
 
@@ -59,10 +62,32 @@ module _ {K V : Type 0} (cmp : K → K → Ordering) (k : K) (laws : IsTotalOrde
   abbrev pairs : List (K × V)
   pairs = pairs_of s
 
+  -- a gap in a leaf
+  gap-at : (a : Address) (place : ℕ) → IsValidIn s a → place_of cmp k pairs ≡ Err place → IsPlaceIn s a place → IsLeafAddressIn s a
+      → IsSome a.offset → IsGapAt cmp k s a
+  gap-at a place valid is at in_leaf back =
+      record {
+        valid = valid;
+        place = place;
+        is = is;
+        at = at;
+        in_leaf = in_leaf;
+        back = back;
+        fits = record {
+          place = place;
+          has = has-place cmp laws s tree a place at;
+          fits =
+              subst (λ p. KeyFits cmp k p pairs) (before-from_Err cmp k pairs place is)
+              (KeyFits-before cmp laws k pairs tree.ascends (found-from_Err cmp k pairs place is));
+        };
+      }
+
   -- the empty tree
   pub no-root : s.root ≡ None → (a : Address) → a ≡ record { id = NOWHERE; offset = Some 0 } → IsGapAt cmp k s a
   no-root none a is =
-      rw (is, none) (record { valid = inr (refl, refl, refl); place = 0; is = refl; at = ((refl, refl, refl), refl); in_leaf = inr (refl, refl, refl); back = refl })
+      rw is
+      (gap-at (record { id = NOWHERE; offset = Some 0 }) 0 (rw none (inr (refl, refl, refl))) (rw none refl)
+      (rw none ((refl, refl, refl), refl)) (rw none (inr (refl, refl, refl))) refl)
 
   module _ (root : ℕ) (is : s.root ≡ Some root) where
     well : IsWellFormed cmp node_at (Some root) s.len pairs
@@ -113,7 +138,7 @@ module _ {K V : Type 0} (cmp : K → K → Ordering) (k : K) (laws : IsTotalOrde
             by (leaf p ys) h asc place none =
                 let m = search-miss cmp k laws node_at root pairs up id q p ys h index place in
                 let at : IsPlace node_at s.root pairs id (Some index) m.place = subst (λ t. IsPlace node_at t pairs id (Some index) m.place) (sym is) m.at in
-                record { valid = place-valid node_at s.root pairs id (Some index) m.place at; place = m.place; is = m.is; at = at; in_leaf = inl (rw h tt); back = refl }
+                gap-at (record { id = id; offset = Some index }) m.place (place-valid node_at s.root pairs id (Some index) m.place at) m.is at (inl (rw h tt)) refl
             by (internal p first bs) h asc place none =
                 let r = searched cmp k laws (map {B = K × V} (λ (b : (K × V) × ℕ). b.0) bs) (Err index) (rises cmp (map {B = K × V} (λ (b : (K × V) × ℕ). b.0) bs) asc) place in
                 let n = length-map bs (λ (b : (K × V) × ℕ). b.0) in

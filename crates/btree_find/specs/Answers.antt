@@ -5,6 +5,7 @@ use Rattle.std.specs.declared.cmp.Ordering.{Ordering}
 use Rattle.btree_item.specs.Pairs.{place_of}
 use Rattle.btree_item.specs.declared.address.Address.{Address}
 use Rattle.btree_shape.specs.TreeState.{TreeState, IsLeafAddressIn, IsOccupiedIn, IsPlaceIn, IsValidIn, pairs_of}
+use Rattle.btree_find.specs.Fits.{FitsAt}
 
 module _ {K V : Type 0} (cmp : K → K → Ordering) (k : K) (s : TreeState K V) where
   -- an address at which the item with the key is
@@ -15,7 +16,8 @@ module _ {K V : Type 0} (cmp : K → K → Ordering) (k : K) (s : TreeState K V)
     pub at : IsPlaceIn s a place
     pub occupied : IsOccupiedIn s a
 
-  -- a back address in a leaf whose place is the number of smaller keys, if no key is equal
+  -- a back address in a leaf whose place is the number of smaller keys, if no key is equal; so the key fits there, and
+  -- the record has all that an insertion there requires
   pub record IsGapAt (a : Address) : Type 0 where
     pub valid : IsValidIn s a
     pub place : ℕ
@@ -23,6 +25,7 @@ module _ {K V : Type 0} (cmp : K → K → Ordering) (k : K) (s : TreeState K V)
     pub at : IsPlaceIn s a place
     pub in_leaf : IsLeafAddressIn s a
     pub back : IsSome a.offset
+    pub fits : FitsAt cmp k s a
 
   -- the address of a key that is there, or of the gap in which it would be inserted
   abbrev pub IsAddressOf : Result Address Address → Type 0

@@ -1,10 +1,10 @@
 //! The map.
-ghost use Rattle.std.specs.Prelude.{◌≡◌, ◌↔◌, [], length, IsTrue, IfOk, IfErr, OnOk, OnErr, None, option_copied};
+ghost use Rattle.std.specs.Prelude.{◌≡◌, ◌↔◌, [], length, IsTrue, IsSome, IfSome, IfNone, IfOk, IfErr, OnOk, OnErr, None, option_copied};
 ghost use Rattle.std.specs.FinMap as map;
 
-use btree_ext::{BTreeExt, Tree};
-use btree_item::Refused;
-use btree_nodes::NodesMut;
+use btree_ext::{BTreeExt, BTreeExtMut, Tree};
+use btree_item::{Address, Item, Refused};
+use btree_nodes::{ClearNodes, NodesMut};
 use btree_raw::RawBTree;
 use btree_walk::Iter;
 use std::marker::Model;
@@ -79,6 +79,7 @@ impl<K: Ord + Drop, V: Drop, C: NodesMut<K, V>> BTreeMap<K, V, C> {
     ghost use Rattle.btree_item.specs.Pairs.{found, found_value, inserted};
     ghost use Rattle.btree_shape.specs.TreeState.{pairs_of};
     ghost use Rattle.btree_edit.specs.Insert.{IsRefusedAtGap, InsertsByKey};
+    ghost use Rattle.btree_edit.specs.Remove.{RemovesByKey};
 
     /// Inserts a pair, or replaces the value if the key is there: the stored key stays, and the given one is dropped.
     ///
@@ -98,6 +99,51 @@ impl<K: Ord + Drop, V: Drop, C: NodesMut<K, V>> BTreeMap<K, V, C> {
     {
         self.tree.insert(key, value)
     }
+
+    /// Removes a key equal to the given one, and returns its value. Returns `None`, and nothing changes, if there is none.
+    ///
+    /// It searches once: it makes at most six comparisons at each level. It frees at most one node of each level and cannot fail.
+    pub fn remove(&mut self, key: &K) -> Option<V>
+        ensures value { result ≡ found_value K.cmp key.now (pairs_of self.old) }
+        ensures removed { IfSome result (λ value.
+            (stored : K) × RemovesByKey self.old self.new K.cmp key.now (stored, value)) }
+        ensures unchanged { IfNone result (self.new ≡ self.old) }
+    {
+        match self.tree.remove_entry(key) {
+            Some((_stored, value)) => Some(value),
+            None => None,
+        }
+    }
+
+    /// Removes a key equal to the given one, and returns the stored key with its value. Otherwise it does the same as `remove`.
+    pub fn remove_entry(&mut self, key: &K) -> Option<(K, V)>
+        ensures entry { result ≡ found K.cmp key.now (pairs_of self.old) }
+        ensures removed { IfSome result (λ x. RemovesByKey self.old self.new K.cmp key.now x) }
+        ensures unchanged { IfNone result (self.new ≡ self.old) }
+    {
+        self.tree.remove_entry(key)
+    }
+
+    /// Does the same as `remove_entry`.
+    pub fn take(&mut self, key: &K) -> Option<(K, V)>
+        ensures entry { result ≡ found K.cmp key.now (pairs_of self.old) }
+        ensures removed { IfSome result (λ x. RemovesByKey self.old self.new K.cmp key.now x) }
+        ensures unchanged { IfNone result (self.new ≡ self.old) }
+    {
+        self.tree.remove_entry(key)
+    }
+}
+
+impl<K: Ord, V, C: ClearNodes<K, V>> BTreeMap<K, V, C> {
+    ghost use Rattle.btree_shape.specs.TreeState.{pairs_of};
+
+    /// Removes all pairs. The store has no node then, and the count of refusals stays.
+    pub fn clear(&mut self)
+        ensures empty { pairs_of self.new ≡ [] }
+        ensures state { self.new ≡ record { nodes = map.empty; root = None; len = 0; refusals = self.old.refusals } }
+    {
+        self.tree.clear();
+    }
 }
 
 impl<K: Ord, V, C: NodesMut<K, V>> BTreeExt<K, V> for BTreeMap<K, V, C> {
@@ -107,5 +153,51 @@ impl<K: Ord, V, C: NodesMut<K, V>> BTreeExt<K, V> for BTreeMap<K, V, C> {
 
     fn as_raw(&self) -> &RawBTree<K, V, C> {
         self.tree.as_raw()
+    }
+}
+
+impl<K: Ord + Drop, V: Drop, C: NodesMut<K, V>> BTreeExtMut<K, V> for BTreeMap<K, V, C> {
+    ghost use Rattle.btree_shape.specs.TreeState.{IsLeafAddressIn, IsValidIn};
+    ghost use Rattle.btree_find.specs.Fits.{FitsAt};
+    ghost use Rattle.btree_edit.specs.InsertAt.{InsertsAt, IsRefusedAt};
+
+    // The clauses are those of the trait, with the store's own name for what it may refuse.
+    fn insert_at(&mut self, addr: Address, item: Item<K, V>) -> Result<Address, Refused<K, V>>
+        requires valid { IsValidIn self.old addr }
+        requires back { IsSome addr.offset }
+        requires fits { FitsAt K.cmp item.0 self.old addr }
+        ensures inserted { IfOk result (λ b. InsertsAt self.old self.new addr K.cmp b item) }
+        ensures returned { IfErr result (λ r. (r.key, r.value) ≡ item) }
+        ensures refused { IfErr result (λ r. IsRefusedAt self.old self.new addr C.MayRefuse r.cause) }
+    {
+        self.tree.insert_at(addr, item)
+    }
+
+    fn insert_exactly_at(
+        &mut self,
+        addr: Address,
+        item: Item<K, V>,
+    ) -> Result<Address, Refused<K, V>>
+        requires valid { IsValidIn self.old addr }
+        requires back { IsSome addr.offset }
+        requires leaf { IsLeafAddressIn self.old addr }
+        requires fits { FitsAt K.cmp item.0 self.old addr }
+        ensures inserted { IfOk result (λ b. InsertsAt self.old self.new addr K.cmp b item) }
+        ensures returned { IfErr result (λ r. (r.key, r.value) ≡ item) }
+        ensures refused { IfErr result (λ r. IsRefusedAt self.old self.new addr C.MayRefuse r.cause) }
+    {
+        self.tree.insert_exactly_at(addr, item)
+    }
+
+    fn replace_at(&mut self, addr: Address, key: K, value: V) -> (K, V) {
+        self.tree.replace_at(addr, key, value)
+    }
+
+    fn replace_value_at(&mut self, addr: Address, value: V) -> V {
+        self.tree.replace_value_at(addr, value)
+    }
+
+    fn remove_at(&mut self, addr: Address) -> Option<(Item<K, V>, Address)> {
+        self.tree.remove_at(addr)
     }
 }

@@ -2,6 +2,10 @@
 #![tactic(auto)]
 
 #[cfg(test)]
+mod edits;
+#[cfg(test)]
 mod map;
 #[cfg(test)]
 mod owner;
+#[cfg(test)]
+mod removal;

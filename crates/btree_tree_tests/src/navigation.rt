@@ -1,26 +1,109 @@
 //! Navigation by address in a root T over two leaves: the keys 1, 3, 5, 7 in L, 9 in T, and 11, 13, 15, 17 in R.
+ghost use Rattle.btree_shape.specs.TreeState.{IsValidIn};
+
 use btree_ext::{BTreeExt, Tree};
 use btree_item::{Address, Offset};
 use btree_node::Node;
 use btree_store::SlabStore;
 use std::alloc::Global;
 use std::process::Abort;
-use std::test::Fail;
 
 type Map = Tree<u64, u64, SlabStore<Node<u64, u64>>>;
 
-fn before(id: usize) -> Address {
-    Address::new(id, Offset::before())
+// Names of addresses: the tens stand for L, T or R, and the ones are one more than the offset, which is -1 for `BEFORE_L`.
+const NONE: usize = 0;
+
+const BEFORE_L: usize = 10;
+
+const L0: usize = 11;
+
+const L1: usize = 12;
+
+const L2: usize = 13;
+
+const L3: usize = 14;
+
+const L4: usize = 15;
+
+const BEFORE_T: usize = 20;
+
+const T0: usize = 21;
+
+const T1: usize = 22;
+
+const BEFORE_R: usize = 30;
+
+const R0: usize = 31;
+
+const R1: usize = 32;
+
+const R2: usize = 33;
+
+const R3: usize = 34;
+
+const R4: usize = 35;
+
+// An address; the item at its place, the next one and the one before, an address in a leaf at its place, and the next item or the end.
+type Row = (usize, usize, usize, usize, usize, usize);
+
+const ROWS: [Row; 11] = [
+    (BEFORE_L, L0, L0, NONE, BEFORE_L, L0),
+    (L2, L2, L3, L1, L2, L3),
+    (L3, L3, T0, L2, L3, T0),
+    (L4, T0, T0, L3, L4, T0),
+    (BEFORE_T, L0, L0, NONE, BEFORE_L, L0),
+    (T0, T0, R0, L3, L4, R0),
+    (T1, NONE, NONE, R3, R4, T1),
+    (BEFORE_R, R0, R0, T0, BEFORE_R, R0),
+    (R2, R2, R3, R1, R2, R3),
+    (R3, R3, NONE, R2, R3, R4),
+    (R4, NONE, NONE, R3, R4, R4),
+];
+
+// An address and a key: whether it fits there, and whether it may replace the key there.
+type KeyRow = (usize, u64, bool, bool);
+
+const KEY_ROWS: [KeyRow; 15] = [
+    (L0, 0, true, true),
+    (L0, 3, false, false),
+    (L4, 7, false, false),
+    (L4, 8, true, false),
+    (BEFORE_T, 0, true, false),
+    (BEFORE_T, 1, false, false),
+    (T0, 7, false, false),
+    (T0, 8, true, true),
+    (T0, 9, false, true),
+    (T0, 10, false, true),
+    (T0, 11, false, false),
+    (T1, 17, false, false),
+    (T1, 18, true, false),
+    (BEFORE_R, 10, true, false),
+    (R3, 99, false, true),
+];
+
+// The numbers of L, T and R.
+type Ids = (usize, usize, usize);
+
+// Returns the address that has a name above.
+fn named(ids: Ids, name: usize) -> Option<Address> {
+    let id = match name / 10 {
+        1 => ids.0,
+        2 => ids.1,
+        3 => ids.2,
+        _ => return None,
+    };
+    let above = name % 10;
+    if above == 0 {
+        return Some(Address::new(id, Offset::before()));
+    }
+    Some(Address::new(id, Offset::from(above - 1)))
 }
 
-fn at(id: usize, offset: usize) -> Address {
-    Address::new(id, Offset::from(offset))
-}
-
-// Returns the tree of the odd keys up to 17, with the numbers of T, L and R.
-fn two_leaves(rt: &impl Abort, alloc: Global) -> (Map, usize, usize, usize) {
+// Returns the tree of the odd keys up to 17, with the numbers of its nodes.
+fn two_leaves(rt: &impl Abort, alloc: Global) -> (Map, Ids) {
     let mut tree: Map = Tree::new(alloc);
-    for key in [1u64, 3, 5, 7, 9, 11, 13, 15, 17] {
+    for index in 0..9u64 {
+        let key = 2 * index + 1;
         assert!(rt; tree.insert(key, key).is_ok());
     }
     let Some(root) = tree.root_id() else {
@@ -32,126 +115,61 @@ fn two_leaves(rt: &impl Abort, alloc: Global) -> (Map, usize, usize, usize) {
         tree.node(root).child_id_opt(1),
     );
     match (left, right) {
-        (Some(left), Some(right)) => (tree, root, left, right),
+        (Some(left), Some(right)) => (tree, (left, root, right)),
         _ => panic!(rt; "no leaves"),
     }
 }
 
-#[test]
-fn normalizes_an_address(rt: HostRuntime) -> Result<(), Fail> {
-    let (tree, top, left, right) = two_leaves(&rt, rt.alloc());
-    for (addr, found) in [
-        (before(right), Some(at(right, 0))),
-        (before(top), Some(at(left, 0))),
-        (at(left, 4), Some(at(top, 0))),
-        (at(top, 0), Some(at(top, 0))),
-        (at(top, 1), None),
-    ] {
-        assert!(rt; tree.is_valid(addr), "{addr}");
-        assert_eq!(rt; tree.normalize(addr), found, "{addr}");
+// Returns the address that has a name above, which is one of the tree.
+fn valid(rt: &impl Abort, tree: &Map, ids: Ids, name: usize) -> Address
+    ensures { IsValidIn tree.now result }
+{
+    match named(ids, name) {
+        Some(addr) => {
+            assert!(rt; tree.is_valid(addr), "{addr}");
+            addr
+        }
+        None => panic!(rt; "no address"),
     }
-    Ok(())
+}
+
+fn check_addresses(rt: &impl Abort, tree: &Map, ids: Ids) {
+    for (name, item, next, previous, leaf, next_or_back) in &ROWS {
+        let addr = valid(rt, tree, ids, *name);
+        assert_eq!(rt;
+            (
+                tree.normalize(addr),
+                tree.next_item_address(addr),
+                tree.previous_item_address(addr),
+                Some(tree.leaf_address(addr)),
+                tree.next_item_or_back_address(addr),
+            ),
+            (
+                named(ids, *item),
+                named(ids, *next),
+                named(ids, *previous),
+                named(ids, *leaf),
+                named(ids, *next_or_back),
+            ),
+            "{addr}"
+        );
+    }
+}
+
+fn check_keys(rt: &impl Abort, tree: &Map, ids: Ids) {
+    for (name, key, fits, replaces) in &KEY_ROWS {
+        let addr = valid(rt, tree, ids, *name);
+        assert_eq!(rt;
+            (tree.fits_at(addr, key), tree.replaces_at(addr, key)),
+            (*fits, *replaces),
+            "{addr} {key}"
+        );
+    }
 }
 
 #[test]
-fn finds_the_next_item(rt: HostRuntime) -> Result<(), Fail> {
-    let (tree, top, left, right) = two_leaves(&rt, rt.alloc());
-    for (addr, found) in [
-        (at(top, 1), None),
-        (before(left), Some(at(left, 0))),
-        (at(left, 3), Some(at(top, 0))),
-        (at(top, 0), Some(at(right, 0))),
-        (at(right, 3), None),
-    ] {
-        assert!(rt; tree.is_valid(addr), "{addr}");
-        assert_eq!(rt; tree.next_item_address(addr), found, "{addr}");
-    }
-    Ok(())
-}
-
-#[test]
-fn finds_the_previous_item(rt: HostRuntime) -> Result<(), Fail> {
-    let (tree, top, left, right) = two_leaves(&rt, rt.alloc());
-    for (addr, found) in [
-        (before(right), Some(at(top, 0))),
-        (before(top), None),
-        (at(left, 2), Some(at(left, 1))),
-        (at(top, 0), Some(at(left, 3))),
-        (at(top, 1), Some(at(right, 3))),
-    ] {
-        assert!(rt; tree.is_valid(addr), "{addr}");
-        assert_eq!(rt; tree.previous_item_address(addr), found, "{addr}");
-    }
-    Ok(())
-}
-
-#[test]
-fn goes_to_a_leaf(rt: HostRuntime) -> Result<(), Fail> {
-    let (tree, top, left, right) = two_leaves(&rt, rt.alloc());
-    for (addr, found) in [
-        (at(top, 0), at(left, 4)),
-        (at(top, 1), at(right, 4)),
-        (before(top), before(left)),
-        (at(right, 2), at(right, 2)),
-    ] {
-        assert!(rt; tree.is_valid(addr), "{addr}");
-        assert_eq!(rt; tree.leaf_address(addr), found, "{addr}");
-    }
-    Ok(())
-}
-
-#[test]
-fn finds_the_next_item_or_the_end(rt: HostRuntime) -> Result<(), Fail> {
-    let (tree, top, left, right) = two_leaves(&rt, rt.alloc());
-    for (addr, found) in [
-        (at(right, 3), at(right, 4)),
-        (at(right, 4), at(right, 4)),
-        (at(top, 1), at(top, 1)),
-        (at(left, 3), at(top, 0)),
-    ] {
-        assert!(rt; tree.is_valid(addr), "{addr}");
-        assert_eq!(rt; tree.next_item_or_back_address(addr), Some(found), "{addr}");
-    }
-    Ok(())
-}
-
-#[test]
-fn tells_where_a_key_fits(rt: HostRuntime) -> Result<(), Fail> {
-    let (tree, top, left, right) = two_leaves(&rt, rt.alloc());
-    for (addr, key, fits) in [
-        (before(top), 0, true),
-        (before(top), 1, false),
-        (at(left, 4), 8, true),
-        (at(left, 4), 7, false),
-        (at(top, 0), 9, false),
-        (at(top, 0), 10, false),
-        (before(right), 10, true),
-        (at(top, 1), 18, true),
-        (at(top, 1), 17, false),
-    ] {
-        assert!(rt; tree.is_valid(addr), "{addr}");
-        assert_eq!(rt; tree.fits_at(addr, &key), fits, "{addr} {key}");
-    }
-    Ok(())
-}
-
-#[test]
-fn tells_which_key_may_replace_another(rt: HostRuntime) -> Result<(), Fail> {
-    let (tree, top, left, right) = two_leaves(&rt, rt.alloc());
-    for (addr, key, replaces) in [
-        (at(left, 0), 0, true),
-        (at(left, 0), 3, false),
-        (at(top, 0), 8, true),
-        (at(top, 0), 9, true),
-        (at(top, 0), 10, true),
-        (at(top, 0), 7, false),
-        (at(top, 0), 11, false),
-        (at(right, 3), 99, true),
-        (at(left, 4), 8, false),
-        (at(top, 1), 18, false),
-    ] {
-        assert!(rt; tree.is_valid(addr), "{addr}");
-        assert_eq!(rt; tree.replaces_at(addr, &key), replaces, "{addr} {key}");
-    }
-    Ok(())
+fn answers_at_each_address(rt: HostRuntime) {
+    let (tree, ids) = two_leaves(&rt, rt.alloc());
+    check_addresses(&rt, &tree, ids);
+    check_keys(&rt, &tree, ids);
 }

@@ -1,4 +1,4 @@
-use Rattle.btree_edit.proofs.InsertLemmas.{exchanged-pairs, gap-for, old-value, put-inserted_by_key}
+use Rattle.btree_edit.proofs.InsertLemmas.{exchanged-by_key, exchanged-pairs, gap-for, old-value, put-inserted_by_key}
 use Rattle.btree_edit.proofs.insertion.insert.Goals as goal
 use Rattle.std.proofs.lemmas.Grind.{common_steps}
 use Rattle.std.proofs.Common.{arith, rules}
@@ -42,7 +42,9 @@ pub returns-in-Ok-clause-tree : goal.returns-in-Ok-clause-tree
 returns-in-Ok-clause-tree g c = search rules steps 200000
 
 pub returns-in-Ok-clause-inserted_by_key : goal.returns-in-Ok-clause-inserted_by_key
-returns-in-Ok-clause-inserted_by_key g c = grind (arith, common_steps) steps 300000
+returns-in-Ok-clause-inserted_by_key g c =
+    exchanged-by_key g.K.Ord.cmp g.met.K.Ord.total c.args.tree.now c.args.key c.args.value c.requires.tree c.exchange.new.tree
+    c.in-Ok.addr c.in-Ok.ensures c.exchange.result c.exchange.ensures
 
 pub returns-in-Ok-clause-uncounted : goal.returns-in-Ok-clause-uncounted
 returns-in-Ok-clause-uncounted g c = search rules steps 200000

@@ -1,0 +1,238 @@
+-- The steps of a removal at an address: what a node returned, and the tree in between.
+use Rattle.std.proofs.Common.{◌≡◌, ◌∙◌, ◌+◌, ◌-◌, ◌<◌, ◌≤◌, ◌^◌, ℕ, suc, List, length, Option, Some, None, Ok, Err, OnOk, OnErr, Result, IsTrue, refl, sym, ap, subst, option_map, option_and_then, slice_get, arith}
+use Rattle.std.proofs.lemmas.List.{length-map}
+use Rattle.std.proofs.lemmas.Option.{slice_get_within}
+use Rattle.std.specs.Cmp.{IsTotalOrder}
+use Rattle.std.specs.FinMap as finite
+use Rattle.std.specs.List.{remove}
+use Rattle.std.specs.declared.cmp.Ordering.{Ordering}
+use Rattle.btree_item.specs.declared.address.Address.{Address}
+use Rattle.btree_node.specs.declared.node.Node.{Node}
+use Rattle.btree_node.specs.Node.{view_of}
+use Rattle.btree_store.specs.ContentLaws.{insert-same}
+use Rattle.btree_view.specs.Edits.{is_internal, without_at, without_last}
+use Rattle.btree_view.specs.Removal.{removal_in}
+use Rattle.btree_view.specs.View.{View, leaf, internal, children_of, item_in, items_of, last_child_of, last_item_of, size_of}
+use Rattle.btree_view.proofs.RemovalLemmas.{child-from_removal, item-from_removal, leaf-from_no_child, no_item-from_removal}
+use Rattle.btree_shape.specs.Focus.Positions.{address_at, address_before}
+use Rattle.btree_shape.specs.Focus.Search.{levels_below}
+use Rattle.btree_shape.specs.Step.{WritesNode}
+use Rattle.btree_shape.specs.TreeState.{TreeState, IsBTree, IsOffByOneAt, IsPlaceIn, IsUsed, IsValidIn, item_of, node_map, pairs_of}
+use Rattle.btree_shape.specs.WellFormed.{IsWellFormed}
+use Rattle.btree_shape.proofs.Trees.Stores.{item-some, writes_node}
+use Rattle.btree_raw.specs.Raw.{with_node}
+use Rattle.btree_raw.specs.Rebalance.{HasRoom, IsRebalanced}
+use Rattle.btree_find.specs.Navigation.{EndsInLeaf, LeadsToItem}
+use Rattle.btree_find.proofs.NextLemmas.{child-used, next-below}
+use Rattle.btree_find.proofs.PlaceLemmas.{root-there, some-items}
+use Rattle.btree_find.proofs.PreviousLemmas.{DescendsRight, below-used, right-end, right-next, right-smaller}
+use Rattle.btree_find.proofs.WalkLemmas.{occupied-below, used-of}
+use Rattle.btree_edit.specs.Remove.{IsInnerAt, IsRemoved, LeadsBehind, TakesLast}
+use Rattle.btree_edit.proofs.InnerLemmas.{node-of}
+use Rattle.btree_edit.proofs.RemoveLemmas.{removed-from-leaf, taken-counted, taken-off, taken-room, taken-valid}
+
+-- an internal node has one child more than items
+pub children-more : {A : Type 0} (v : View A) → IsTrue (is_internal v) → length (children_of v) ≡ suc (size_of v)
+children-more (leaf parent items) kind = absurd (cc)
+children-more {A} (internal parent first branches) kind =
+    let a = length-map {A = A × ℕ} {B = A} branches (λ b. b.0) in
+    let b = length-map {A = A × ℕ} {B = ℕ} branches (λ b. b.1) in
+    omega arith
+
+no-item : {A : Type 0} (o : Option ℕ) → option_and_then (item_in {A = A} None) o ≡ None
+no-item None = refl
+no-item (Some n) = refl
+
+-- what is so of a result that is Ok, or Err
+pub on-ok : {A B C : Type 0} (r : Result A B) (x : A) → r ≡ Ok x → OnOk r C → C
+on-ok {A} {B} {C} r x e = subst (λ z. OnOk z C) e
+
+pub on-err : {A B C : Type 0} (r : Result A B) (x : B) → r ≡ Err x → OnErr r C → C
+on-err {A} {B} {C} r x e = subst (λ z. OnErr z C) e
+
+-- a node written as it was changes nothing
+pub same-state : {K V : Type 0} (s : TreeState K V) (id : ℕ) (node kept : Node K V) → Some node ≡ finite.get s.nodes id → kept ≡ node
+    → with_node s id kept ≡ s
+same-state s id node kept at same =
+    let e : finite.insert s.nodes id kept ≡ s.nodes = insert-same s.nodes id kept (sym at ∙ ap Some (sym same)) in
+    λ i. record s { nodes = e i }
+
+module _ {K V : Type 0} (old : TreeState K V) (a : Address) where
+  -- the empty tree has no item
+  pub vacant-empty : (cmp : K → K → Ordering) → IsBTree cmp old → old.root ≡ None → item_of old a ≡ None
+  vacant-empty cmp tree e =
+      let w = subst (λ t. IsWellFormed cmp (node_map old) t old.len (pairs_of old)) e tree in
+      ap (λ v. option_and_then (item_in v) a.offset) (w.formed.0 a.id) ∙ no-item a.offset
+
+  module _ (node : Node K V) (at : Some node ≡ finite.get old.nodes a.id) where
+    pub here : node_map old a.id ≡ Some (view_of node)
+    here = ap (option_map view_of) (sym at)
+
+    pub vacant-by : None ≡ removal_in a.offset (view_of node) → item_of old a ≡ None
+    vacant-by none =
+        sym (item-some old.nodes a node (sym at) None (sym (no_item-from_removal (view_of node) a.offset none)))
+
+    -- at an item of an internal node
+    pub inner-by : (left : ℕ) → Some (Err left) ≡ removal_in a.offset (view_of node) → IsInnerAt old a left
+    inner-by left is =
+        let c = child-from_removal (view_of node) a.offset left is in
+        record {
+          node = view_of node;
+          here = here;
+          kind = c.3;
+          index = c.0;
+          offset = c.2;
+          item = c.1;
+          stands = c.4;
+          child = c.5;
+        }
+
+    -- at an item of a leaf
+    module _ (cmp : K → K → Ordering) (laws : IsTotalOrder cmp) (tree : IsBTree cmp old) (small : old.len < 2 ^ 64)
+        (x : K × V) (is : Some (Ok x) ≡ removal_in a.offset (view_of node)) (kept : Node K V)
+        (taken : view_of kept ≡ without_at a.offset (view_of node)) (len : ℕ) where
+      abbrev mid : TreeState K V
+      mid = record (with_node old a.id kept) { len = len }
+
+      pub leaf-is : (parent : Option ℕ) × (xs : List (K × V)) × (i : ℕ) × (view_of node ≡ leaf parent xs) × (a.offset ≡ Some i) × (slice_get xs i ≡ Some x)
+      leaf-is = item-from_removal (view_of node) a.offset x is
+
+      abbrev parent : Option ℕ
+      parent = leaf-is.0
+
+      abbrev xs : List (K × V)
+      xs = leaf-is.1
+
+      abbrev index : ℕ
+      index = leaf-is.2
+
+      pub leaf-here : node_map old a.id ≡ Some (leaf parent xs)
+      leaf-here = here ∙ ap Some leaf-is.3
+
+      pub shorter-is : view_of kept ≡ leaf parent (remove xs index)
+      shorter-is = taken ∙ ap (λ o. without_at o (view_of node)) leaf-is.4 ∙ ap (λ v. without_at (Some index) v) leaf-is.3
+
+      pub put : WritesNode (node_map old) (node_map mid) a.id (leaf parent (remove xs index))
+      put =
+          subst (λ v. WritesNode (node_map old) (node_map mid) a.id v) shorter-is
+          (writes_node old.nodes (finite.insert old.nodes a.id kept) a.id kept refl)
+
+      pub leaf-off : IsOffByOneAt cmp mid a.id
+      leaf-off = taken-off cmp laws old mid tree small a index leaf-is.4 parent xs x leaf-here leaf-is.5 put refl
+
+      pub leaf-valid : IsValidIn mid a
+      leaf-valid = taken-valid cmp laws old mid tree small a index leaf-is.4 parent xs x leaf-here leaf-is.5 put refl
+
+      abbrev pub leaf-room : HasRoom (node_map mid) a.id
+      leaf-room = taken-room cmp laws old mid tree small a index leaf-is.4 parent xs x leaf-here leaf-is.5 put refl
+
+      pub leaf-counted : 1 ≤ old.len
+      leaf-counted = taken-counted cmp laws old mid tree small a index leaf-is.4 parent xs x leaf-here leaf-is.5 put refl
+
+      pub leaf-removed : (new : TreeState K V) (b : Address) → len + 1 ≡ old.len → IsRebalanced mid new a.id cmp a b
+          → IsRemoved old new cmp a x b
+      leaf-removed new b shorter r =
+          removed-from-leaf cmp laws old mid tree small a index leaf-is.4 parent xs x leaf-here leaf-is.5 put refl new b
+          shorter refl r
+
+module _ {K V : Type 0} (cmp : K → K → Ordering) (laws : IsTotalOrder cmp) (s : TreeState K V) (tree : IsBTree cmp s) where
+  -- the item behind one of an internal node
+  module _ (a : Address) (left : ℕ) (inner : IsInnerAt s a left) where
+    pub inner-used : IsUsed s a.id
+    inner-used = used-of cmp laws s tree a.id inner.node inner.here
+
+    pub left-used : IsUsed s left
+    left-used =
+        let n = node-of (finite.get s.nodes a.id) inner.node inner.here in
+        below-used cmp laws s tree a.id inner.index n.0 n.1 left
+        (sym (ap (λ v. slice_get (children_of v) inner.index) n.2 ∙ inner.child))
+
+    module _ (node : Node K V) (at : finite.get s.nodes a.id ≡ Some node) where
+      view-is : view_of node ≡ inner.node
+      view-is =
+          let e : node_map s a.id ≡ Some (view_of node) = ap (option_map view_of) at in
+          let f = inner.here in
+          cc
+
+      low : inner.index < size_of (view_of node)
+      low =
+          subst (λ v. inner.index < size_of v) (sym view-is) (slice_get_within (items_of inner.node) inner.index inner.item inner.stands)
+
+      pub behind-within : (index : ℕ) → a.offset ≡ Some index → index + 1 < length (children_of (view_of node))
+      behind-within index e =
+          let f = inner.offset in
+          let same : index ≡ inner.index = cc in
+          let more = children-more (view_of node) (subst (λ v. IsTrue (is_internal v)) (sym view-is) inner.kind) in
+          let l = low in
+          omega arith
+
+      module _ (index : ℕ) (offset : a.offset ≡ Some index) (child : ℕ)
+          (below : slice_get (children_of (view_of node)) (index + 1) ≡ Some child) where
+        index-low : index < size_of (view_of node)
+        index-low =
+            let f = inner.offset in
+            let same : inner.index ≡ index = cc in
+            subst (λ n. n < size_of (view_of node)) same low
+
+        pub behind-used : IsUsed s child
+        behind-used = child-used cmp laws s tree a.id index node at index-low child (sym below)
+
+        pub leads-behind : (b : Address) → LeadsToItem s (address_before child) (Some b) → LeadsBehind s a b
+        leads-behind b leads place i =
+            let a-is : a ≡ address_at a.id index = λ j. record { id = a.id; offset = offset j } in
+            let to = next-below cmp laws s tree a.id index node at index-low child (sym below) (Some b) leads in
+            (to place (subst (λ (c : Address). IsPlaceIn s c place) a-is i)).0
+            (occupied-below (node_map s) a.id index (view_of node) (ap (option_map view_of) at) index-low)
+
+  -- the last item under a node, in a tree t that is still the same
+  module _ (t : TreeState K V) (same : t ≡ s) (top id : ℕ) (d : DescendsRight s top id) where
+    pub still-used : IsUsed t id
+    still-used = subst (λ (u : TreeState K V). IsUsed u id) (sym same) d.used
+
+    module _ (node : Node K V) (at : Some node ≡ finite.get t.nodes id) where
+      at-old : finite.get s.nodes id ≡ Some node
+      at-old = sym (subst (λ (u : TreeState K V). Some node ≡ finite.get u.nodes id) same at)
+
+      seen : node_map s id ≡ Some (view_of node)
+      seen = ap (option_map view_of) at-old
+
+      pub some-item : 0 < size_of (view_of node)
+      some-item =
+          let r = root-there cmp laws s tree id (view_of node) seen in
+          some-items cmp laws s tree r.0 r.1 id (view_of node) seen
+
+      module _ (kept : Node K V) where
+        pub takes-last : None ≡ last_child_of (view_of node) → (x : K × V) → Some x ≡ last_item_of (view_of node)
+            → view_of kept ≡ without_last (view_of node) → TakesLast s (with_node t id kept) top x id
+        takes-last none x is taken =
+            let l = leaf-from_no_child (view_of node) none in
+            let some = some-item in
+            let size : size_of (view_of node) ≡ length l.1 = ap size_of l.2 in
+            let more : size_of (view_of node) ≡ suc (length l.1 - 1) = omega arith in
+            subst (λ (u : TreeState K V). TakesLast s (with_node u id kept) top x id) (sym same)
+            (record {
+              parent = l.0;
+              items = l.1;
+              index = length l.1 - 1;
+              here = seen ∙ ap Some l.2;
+              count = omega arith;
+              last = sym (is ∙ ap last_item_of l.2);
+              ends =
+                  subst (λ n. EndsInLeaf s top (id, n)) more
+                  (right-end cmp laws s tree top id d node at-old (size_of (view_of node)) refl none);
+              writes =
+                  subst (λ v. WritesNode (node_map s) (node_map (with_node s id kept)) id v) (taken ∙ ap without_last l.2)
+                  (writes_node s.nodes (finite.insert s.nodes id kept) id kept refl);
+              rest = record { rest = refl };
+            })
+
+        module _ (child : ℕ) (below : Some child ≡ last_child_of (view_of node)) where
+          pub goes-right : kept ≡ node → (with_node t id kept ≡ s) × DescendsRight s top child
+          goes-right unchanged = (
+            same-state t id node kept at unchanged ∙ same,
+            right-next cmp laws s tree top id d node at-old (size_of (view_of node)) refl child below,
+          )
+
+      pub goes-lower : (child : ℕ) → Some child ≡ last_child_of (view_of node)
+          → levels_below (node_map s) (finite.len s.nodes) child < levels_below (node_map s) (finite.len s.nodes) id
+      goes-lower child below = right-smaller cmp laws s tree top id d node at-old (size_of (view_of node)) refl child below

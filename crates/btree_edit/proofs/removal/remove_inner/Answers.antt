@@ -1,0 +1,95 @@
+use Rattle.std.proofs.Common.{◌-◌, ℕ, sym, subst, arith}
+use Rattle.btree_item.specs.declared.address.Address.{Address}
+use Rattle.btree_shape.specs.TreeState.{TreeState, IsOffByOneAt, IsValidIn, node_map}
+use Rattle.btree_raw.specs.Rebalance.{HasRoom, IsRebalanced}
+use Rattle.btree_edit.specs.Remove.{IsInnerAt, LeadsBehind}
+use Rattle.btree_edit.proofs.RemoveAtLemmas.{left-used}
+use Rattle.btree_edit.proofs.RemoveInnerLemmas.{has-item, inner-still, is-inner, len-above, removed-inner, replaced-off, replaced-room, replaced-valid, small-len}
+use Rattle.btree_edit.proofs.removal.remove_inner.Goals as goal
+
+pub item_behind-next-requires-clause-inner : goal.item_behind-next-requires-clause-inner
+item_behind-next-requires-clause-inner g c =
+    subst (λ (a : Address). (x : ℕ) × IsInnerAt c.args.tree.now a x) (sym c.new.ensures) (c.args.left, c.requires.inner)
+
+pub remove_last_under-last-requires-clause-used : goal.remove_last_under-last-requires-clause-used
+remove_last_under-last-requires-clause-used g c =
+    left-used g.K.Ord.cmp g.met.K.Ord.total c.args.tree.now c.requires.tree c.args.addr c.args.left c.requires.inner
+
+pub node_mut-requires : goal.node_mut-requires
+node_mut-requires g c = (
+  c.tell_fits.ensures,
+  inner-still g.K.Ord.cmp g.met.K.Ord.total c.args.tree.now c.requires.tree
+      (small-len c.args.tree.now c.len-len.result c.len-len.ensures c.len-len.type_inv) c.args.addr c.args.left c.requires.inner c.remove_last_under-last.new.tree
+      c.remove_last_under-last.result.0 c.remove_last_under-last.result.1 c.remove_last_under-last.ensures,
+)
+
+pub replace-item-requires : goal.replace-item-requires
+replace-item-requires g c = (
+  c.tell_fits.ensures,
+  (
+    is-inner g.K.Ord.cmp g.met.K.Ord.total c.args.tree.now c.requires.tree
+        (small-len c.args.tree.now c.len-len.result c.len-len.ensures c.len-len.type_inv) c.args.addr c.args.left c.requires.inner c.remove_last_under-last.new.tree
+        c.remove_last_under-last.result.0 c.remove_last_under-last.result.1 c.remove_last_under-last.ensures
+        c.node_mut.result.now c.node_mut.ensures.value,
+    has-item g.K.Ord.cmp g.met.K.Ord.total c.args.tree.now c.requires.tree
+        (small-len c.args.tree.now c.len-len.result c.len-len.ensures c.len-len.type_inv) c.args.addr c.args.left c.requires.inner c.remove_last_under-last.new.tree
+        c.remove_last_under-last.result.0 c.remove_last_under-last.result.1 c.remove_last_under-last.ensures
+        c.node_mut.result.now c.node_mut.ensures.value,
+  ),
+)
+
+pub overflow_sub-len : goal.overflow_sub-len
+overflow_sub-len g c =
+    let e = c.len-len.ensures in
+    let n = len-above g.K.Ord.cmp g.met.K.Ord.total c.args.tree.now c.requires.tree
+    (small-len c.args.tree.now c.len-len.result c.len-len.ensures c.len-len.type_inv) c.args.addr c.args.left c.requires.inner c.remove_last_under-last.new.tree
+    c.remove_last_under-last.result.0 c.remove_last_under-last.result.1 c.remove_last_under-last.ensures in
+    omega arith
+
+pub rebalance_underflow-at-requires-clause-off_by_one :
+    goal.rebalance_underflow-at-requires-clause-off_by_one
+rebalance_underflow-at-requires-clause-off_by_one g c =
+    let behind = subst (λ (a : Address). LeadsBehind c.args.tree.now a c.item_behind-next.result) c.new.ensures c.item_behind-next.ensures in
+    subst (λ (t : TreeState _ _). IsOffByOneAt g.K.Ord.cmp t c.remove_last_under-last.result.1) (sym c.set_len.ensures)
+    (replaced-off g.K.Ord.cmp g.met.K.Ord.total c.args.tree.now c.requires.tree
+    (small-len c.args.tree.now c.len-len.result c.len-len.ensures c.len-len.type_inv) c.args.addr c.args.left c.requires.inner c.remove_last_under-last.new.tree
+    c.remove_last_under-last.result.0 c.remove_last_under-last.result.1 c.remove_last_under-last.ensures
+    c.node_mut.result.now c.node_mut.ensures.value c.replace-item.result c.replace-item.ensures.answer c.replace-item.new.self
+    c.replace-item.ensures.after (c.len-len.result - 1) c.item_behind-next.result behind)
+
+pub rebalance_underflow-at-requires-clause-valid :
+    goal.rebalance_underflow-at-requires-clause-valid
+rebalance_underflow-at-requires-clause-valid g c =
+    let behind = subst (λ (a : Address). LeadsBehind c.args.tree.now a c.item_behind-next.result) c.new.ensures c.item_behind-next.ensures in
+    subst (λ (t : TreeState _ _). IsValidIn t c.item_behind-next.result) (sym c.set_len.ensures)
+    (replaced-valid g.K.Ord.cmp g.met.K.Ord.total c.args.tree.now c.requires.tree
+    (small-len c.args.tree.now c.len-len.result c.len-len.ensures c.len-len.type_inv) c.args.addr c.args.left c.requires.inner c.remove_last_under-last.new.tree
+    c.remove_last_under-last.result.0 c.remove_last_under-last.result.1 c.remove_last_under-last.ensures
+    c.node_mut.result.now c.node_mut.ensures.value c.replace-item.result c.replace-item.ensures.answer c.replace-item.new.self
+    c.replace-item.ensures.after (c.len-len.result - 1) c.item_behind-next.result behind)
+
+pub rebalance_underflow-at-requires-clause-room : goal.rebalance_underflow-at-requires-clause-room
+rebalance_underflow-at-requires-clause-room g c =
+    let behind = subst (λ (a : Address). LeadsBehind c.args.tree.now a c.item_behind-next.result) c.new.ensures c.item_behind-next.ensures in
+    subst (λ (t : TreeState _ _). HasRoom (node_map t) c.remove_last_under-last.result.1) (sym c.set_len.ensures)
+    (replaced-room g.K.Ord.cmp g.met.K.Ord.total c.args.tree.now c.requires.tree
+    (small-len c.args.tree.now c.len-len.result c.len-len.ensures c.len-len.type_inv) c.args.addr c.args.left c.requires.inner c.remove_last_under-last.new.tree
+    c.remove_last_under-last.result.0 c.remove_last_under-last.result.1 c.remove_last_under-last.ensures
+    c.node_mut.result.now c.node_mut.ensures.value c.replace-item.result c.replace-item.ensures.answer c.replace-item.new.self
+    c.replace-item.ensures.after (c.len-len.result - 1) c.item_behind-next.result behind)
+
+pub returns : goal.returns
+returns g c =
+    let behind = subst (λ (a : Address). LeadsBehind c.args.tree.now a c.item_behind-next.result) c.new.ensures c.item_behind-next.ensures in
+    let e = c.len-len.ensures in
+    let n = len-above g.K.Ord.cmp g.met.K.Ord.total c.args.tree.now c.requires.tree
+    (small-len c.args.tree.now c.len-len.result c.len-len.ensures c.len-len.type_inv) c.args.addr c.args.left c.requires.inner c.remove_last_under-last.new.tree
+    c.remove_last_under-last.result.0 c.remove_last_under-last.result.1 c.remove_last_under-last.ensures in
+    removed-inner g.K.Ord.cmp g.met.K.Ord.total c.args.tree.now c.requires.tree
+    (small-len c.args.tree.now c.len-len.result c.len-len.ensures c.len-len.type_inv) c.args.addr c.args.left c.requires.inner c.remove_last_under-last.new.tree
+    c.remove_last_under-last.result.0 c.remove_last_under-last.result.1 c.remove_last_under-last.ensures
+    c.node_mut.result.now c.node_mut.ensures.value c.replace-item.result c.replace-item.ensures.answer c.replace-item.new.self
+    c.replace-item.ensures.after (c.len-len.result - 1) c.item_behind-next.result behind
+    c.rebalance_underflow-at.new.tree c.rebalance_underflow-at.result (omega arith)
+    (subst (λ (t : TreeState _ _). IsRebalanced t c.rebalance_underflow-at.new.tree c.remove_last_under-last.result.1 g.K.Ord.cmp
+    c.item_behind-next.result c.rebalance_underflow-at.result) c.set_len.ensures c.rebalance_underflow-at.ensures)

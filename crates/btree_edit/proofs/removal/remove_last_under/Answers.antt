@@ -1,0 +1,39 @@
+use Rattle.std.proofs.Common.{refl}
+use Rattle.btree_find.proofs.PreviousLemmas.{right-start}
+use Rattle.btree_edit.proofs.RemoveAtLemmas.{goes-lower, goes-right, some-item, still-used, takes-last}
+use Rattle.btree_edit.proofs.removal.remove_last_under.Goals as goal
+
+pub loop-item-init : goal.loop-item-init
+loop-item-init g c = (refl, right-start c.args.tree.now c.args.top c.requires.used)
+
+pub node_mut-requires : goal.node_mut-requires
+node_mut-requires g c = (
+  c.tell_fits.ensures,
+  still-used g.K.Ord.cmp g.met.K.Ord.total c.args.tree.now c.requires.tree c.loop-item.tree c.loop-item.invariant.0
+      c.args.top c.loop-item.id c.loop-item.invariant.1,
+)
+
+pub remove_rightmost_leaf-requires : goal.remove_rightmost_leaf-requires
+remove_rightmost_leaf-requires g c = (
+  c.tell_fits.ensures,
+  λ is_leaf. some-item g.K.Ord.cmp g.met.K.Ord.total c.args.tree.now c.requires.tree c.loop-item.tree c.loop-item.invariant.0
+      c.args.top c.loop-item.id c.loop-item.invariant.1 c.node_mut.result.now c.node_mut.ensures.value,
+)
+
+pub returns-in-Ok : goal.returns-in-Ok
+returns-in-Ok g c =
+    takes-last g.K.Ord.cmp g.met.K.Ord.total c.args.tree.now c.requires.tree c.loop-item.tree c.loop-item.invariant.0
+    c.args.top c.loop-item.id c.loop-item.invariant.1 c.node_mut.result.now c.node_mut.ensures.value
+    c.remove_rightmost_leaf.new.self c.in-Ok.ensures.child c.in-Ok.item c.in-Ok.ensures.item c.in-Ok.ensures.taken
+
+pub loop-item-smaller : goal.loop-item-smaller
+loop-item-smaller g c =
+    goes-lower g.K.Ord.cmp g.met.K.Ord.total c.args.tree.now c.requires.tree c.loop-item.tree c.loop-item.invariant.0
+    c.args.top c.loop-item.id c.loop-item.invariant.1 c.node_mut.result.now c.node_mut.ensures.value c.in-Err.child
+    c.in-Err.ensures.child
+
+pub loop-item-preserved : goal.loop-item-preserved
+loop-item-preserved g c =
+    goes-right g.K.Ord.cmp g.met.K.Ord.total c.args.tree.now c.requires.tree c.loop-item.tree c.loop-item.invariant.0
+    c.args.top c.loop-item.id c.loop-item.invariant.1 c.node_mut.result.now c.node_mut.ensures.value
+    c.remove_rightmost_leaf.new.self c.in-Err.child c.in-Err.ensures.child c.in-Err.ensures.inner

@@ -1,0 +1,12 @@
+use Rattle.std.specs.Prelude.{◌≡◌}
+use Rattle.std.specs.FinMap as map
+use Rattle.btree_shape.specs.Focus.Search.{levels_below}
+use Rattle.btree_shape.specs.TreeState.{node_map}
+use Rattle.btree_find.proofs.PreviousLemmas.{DescendsRight}
+use Rattle.btree_edit.proofs.removal.remove_last_under.Given as goal
+
+abbrev pub invariant-loop-item : goal.invariant-loop-item
+invariant-loop-item g l = (l.tree ≡ l.fn.tree) × DescendsRight l.fn.tree l.top l.id
+
+abbrev pub decreases-loop-item : goal.decreases-loop-item
+decreases-loop-item g l = levels_below (node_map l.fn.tree) (map.len l.fn.tree.nodes) l.id

@@ -1,0 +1,110 @@
+//! Removal at an address, and by key.
+ghost use Rattle.std.specs.Prelude.{◌≡◌, ℕ, IfSome, IfNone, None};
+ghost use Rattle.btree_item.specs.Pairs.{found};
+ghost use Rattle.btree_shape.specs.TreeState.{IsBTree, IsUsed, IsValidIn, item_of, pairs_of};
+ghost use Rattle.btree_edit.specs.Remove.{IsInnerAt, IsRemoved, LeadsBehind, RemovesByKey, TakesLast};
+
+use btree_find::{address_of, first_item};
+use btree_item::{Address, Item};
+use btree_nodes::NodesMut;
+use btree_raw::{RawBTree, rebalance_underflow};
+
+/// Removes the item at an address. Returns it, with a back address at the place where it was. Returns `None`, and nothing changes, if there
+/// is no item at the address. It frees at most one node of each level and needs no new one.
+///
+/// An item of an internal node is replaced with the last one under the child before it. `RawBTree::is_valid` decides whether an address is
+/// valid.
+pub fn remove_at<K: Ord + Drop, V: Drop, C: NodesMut<K, V>>(
+    tree: &mut RawBTree<K, V, C>,
+    addr: Address,
+) -> Option<(Item<K, V>, Address)>
+    requires tree { IsBTree K.cmp tree.old }
+    requires valid { IsValidIn tree.old addr }
+    ensures removed { IfSome result (λ r. IsRemoved tree.old tree.new K.cmp addr r.0 r.1) }
+    ensures vacant { IfNone result (item_of tree.old addr ≡ None) }
+    ensures unchanged { IfNone result (tree.new ≡ tree.old) }
+{
+    let Some(_root) = tree.root_id() else {
+        return None;
+    };
+    tree.tell_fits();
+    match tree.node_mut(addr.id).leaf_remove(addr.offset) {
+        None => None,
+        Some(Ok(item)) => {
+            tree.set_len(tree.len() - 1);
+            let at = rebalance_underflow(tree, addr.id, addr);
+            Some((item, at))
+        }
+        Some(Err(left)) => Some(remove_inner(tree, addr, left)),
+    }
+}
+
+/// Removes the pair whose key is equal to the given one, and returns it. Returns `None`, and nothing changes, if there is none. It searches
+/// once: it makes at most six comparisons at each level. It frees at most one node of each level and needs no new one.
+pub fn remove_entry<K: Ord + Drop, V: Drop, C: NodesMut<K, V>>(
+    tree: &mut RawBTree<K, V, C>,
+    key: &K,
+) -> Option<Item<K, V>>
+    requires { IsBTree K.cmp tree.old }
+    ensures entry { result ≡ found K.cmp key.now (pairs_of tree.old) }
+    ensures removed { IfSome result (λ x. RemovesByKey tree.old tree.new K.cmp key.now x) }
+    ensures unchanged { IfNone result (tree.new ≡ tree.old) }
+{
+    match address_of(tree, key) {
+        Ok(addr) => match remove_at(tree, addr) {
+            Some((item, _)) => Some(item),
+            None => unreachable!(),
+        },
+        Err(_) => None,
+    }
+}
+
+// Removes the item at an address of an internal node. `left` is the child before it: the last item under that takes its place.
+fn remove_inner<K: Ord + Drop, V: Drop, C: NodesMut<K, V>>(
+    tree: &mut RawBTree<K, V, C>,
+    addr: Address,
+    left: usize,
+) -> (Item<K, V>, Address)
+    requires tree { IsBTree K.cmp tree.old }
+    requires inner { IsInnerAt tree.old addr left }
+    ensures { IsRemoved tree.old tree.new K.cmp addr result.0 result.1 }
+{
+    tree.tell_fits();
+    let len = tree.len();
+    let next = item_behind(tree, Address::new(addr.id, addr.offset));
+    let (last, leaf) = remove_last_under(tree, left);
+    let item = tree.node_mut(addr.id).replace(addr.offset, last);
+    tree.set_len(len - 1);
+    let at = rebalance_underflow(tree, leaf, next);
+    (item, at)
+}
+
+// Returns the address of the item after one of an internal node: the first item under the child after it.
+fn item_behind<K: Ord, V, C: NodesMut<K, V>>(tree: &RawBTree<K, V, C>, addr: Address) -> Address
+    requires tree { IsBTree K.cmp tree.now }
+    requires inner { (left : ℕ) × IsInnerAt tree.now addr left }
+    ensures { LeadsBehind tree.now addr result }
+{
+    tree.tell_fits();
+    let child = tree.node(addr.id).child_id(addr.offset.unwrap() + 1);
+    first_item(tree, child)
+}
+
+// Removes the last item under a node. Returns it, and the number of the leaf that it was in.
+fn remove_last_under<K: Ord + Drop, V: Drop, C: NodesMut<K, V>>(
+    tree: &mut RawBTree<K, V, C>,
+    top: usize,
+) -> (Item<K, V>, usize)
+    requires tree { IsBTree K.cmp tree.old }
+    requires used { IsUsed tree.old top }
+    ensures { TakesLast tree.old tree.new top result.0 result.1 }
+{
+    tree.tell_fits();
+    let mut id = top;
+    loop {
+        match tree.node_mut(id).remove_rightmost_leaf() {
+            Ok(item) => return (item, id),
+            Err(child) => id = child,
+        }
+    }
+}

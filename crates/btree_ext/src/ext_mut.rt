@@ -1,0 +1,77 @@
+//! Changes of a tree by addresses.
+ghost use Rattle.std.specs.Prelude.{◌≡◌, Some, None, IsSome, IfSome, IfNone, IfOk, IfErr};
+ghost use Rattle.btree_shape.specs.TreeState.{IsLeafAddressIn, IsOccupiedIn, IsValidIn, item_of};
+ghost use Rattle.btree_find.specs.Fits.{FitsAt, ReplacesAt};
+ghost use Rattle.btree_edit.specs.Exchange.{IsExchanged, IsValueExchanged};
+ghost use Rattle.btree_edit.specs.InsertAt.{InsertsAt, IsRefusedAt};
+ghost use Rattle.btree_edit.specs.Remove.{IsRemoved};
+
+use crate::ext::BTreeExt;
+use btree_item::{Address, Item, Refused};
+
+/// A well formed tree, changed by addresses in it. Each change leaves a well formed tree.
+pub trait BTreeExtMut<K: Ord + Drop, V: Drop>: BTreeExt<K, V> {
+    /// Inserts a pair at the place of an address, before the item there, and returns the address of the pair. An address of an internal
+    /// node stands for the one in a leaf at its place.
+    ///
+    /// The address must be valid and not at -1, and the key must fit at its place: `is_valid` and `fits_at` decide that. It returns an
+    /// error, with the pair, if the store refuses a node that is needed, or if there are `usize::MAX` pairs. Then nothing but the count
+    /// of refusals has changed.
+    fn insert_at(&mut self, addr: Address, item: Item<K, V>) -> Result<Address, Refused<K, V>>
+        requires valid { IsValidIn (Self.state self.old) addr }
+        requires back { IsSome addr.offset }
+        requires fits { FitsAt K.cmp item.0 (Self.state self.old) addr }
+        ensures inserted { IfOk result (λ b.
+            InsertsAt (Self.state self.old) (Self.state self.new) addr K.cmp b item) }
+        ensures returned { IfErr result (λ r. (r.key, r.value) ≡ item) }
+        ensures refused { IfErr result (λ r. IsRefusedAt (Self.state self.old) (Self.state self.new)
+            addr Self.Nodes.MayRefuse r.cause) };
+
+    /// Inserts a pair at an address in a leaf, or nowhere in the empty tree, as `insert_at` does, and returns the address of the pair. It
+    /// reads no node to get to a leaf.
+    ///
+    /// The address must be valid and not at -1, and the key must fit at its place. It returns the same errors as `insert_at`.
+    fn insert_exactly_at(
+        &mut self,
+        addr: Address,
+        item: Item<K, V>,
+    ) -> Result<Address, Refused<K, V>>
+        requires valid { IsValidIn (Self.state self.old) addr }
+        requires back { IsSome addr.offset }
+        requires leaf { IsLeafAddressIn (Self.state self.old) addr }
+        requires fits { FitsAt K.cmp item.0 (Self.state self.old) addr }
+        ensures inserted { IfOk result (λ b.
+            InsertsAt (Self.state self.old) (Self.state self.new) addr K.cmp b item) }
+        ensures returned { IfErr result (λ r. (r.key, r.value) ≡ item) }
+        ensures refused { IfErr result (λ r. IsRefusedAt (Self.state self.old) (Self.state self.new)
+            addr Self.Nodes.MayRefuse r.cause) };
+
+    /// Replaces key and value of the item at an address, and returns the old pair. It changes one node, needs no new one and cannot fail.
+    ///
+    /// An item must be at the address, and the new key must lie between its neighbours: `replaces_at` decides that.
+    fn replace_at(&mut self, addr: Address, key: K, value: V) -> (K, V)
+        requires { ReplacesAt K.cmp key (Self.state self.old) addr }
+        ensures old { item_of (Self.state self.old) addr ≡ Some result }
+        ensures exchanged { IsExchanged (Self.state self.old) (Self.state self.new)
+            addr K.cmp (key, value) };
+
+    /// Replaces the value of the item at an address, and returns the old value. It changes one node, needs no new one and cannot fail.
+    ///
+    /// An item must be at the address; `item` decides that.
+    fn replace_value_at(&mut self, addr: Address, value: V) -> V
+        requires { IsOccupiedIn (Self.state self.old) addr }
+        ensures { IsValueExchanged (Self.state self.old) (Self.state self.new)
+            addr K.cmp result value };
+
+    /// Removes the item at an address. Returns it, with a back address at the place where it was; its key fits there, so `insert_at` can put
+    /// it back. Returns `None`, and nothing changes, if there is no item: at -1, past the last item of a node, or nowhere.
+    ///
+    /// The address must be valid: `is_valid` decides that. It frees at most one node of each level, needs no new one and cannot fail. An
+    /// item of an internal node is replaced with the last one under the child before it.
+    fn remove_at(&mut self, addr: Address) -> Option<(Item<K, V>, Address)>
+        requires { IsValidIn (Self.state self.old) addr }
+        ensures removed { IfSome result (λ r.
+            IsRemoved (Self.state self.old) (Self.state self.new) K.cmp addr r.0 r.1) }
+        ensures vacant { IfNone result (item_of (Self.state self.old) addr ≡ None) }
+        ensures unchanged { IfNone result (Self.state self.new ≡ Self.state self.old) };
+}

@@ -1,0 +1,296 @@
+//! Changes of a map by addresses, removal by key, and `clear`. The odd keys up to 17 are in a root, which has 9, over two leaves.
+use btree_ext::{BTreeExt, BTreeExtMut};
+use btree_item::{Address, Cause, Item, Refused};
+use btree_map::BTreeMap;
+use btree_node::Node;
+use btree_nodes::NodesMut;
+use btree_refusing::Refusing;
+use btree_store::SlabStore;
+use std::alloc::Global;
+use std::process::Abort;
+use std::test::Fail;
+
+type Map = BTreeMap<u64, u64, SlabStore<Node<u64, u64>>>;
+
+// Returns the map of so many odd keys, each to itself.
+fn odd_keys(rt: &impl Abort, alloc: Global, keys: u64) -> Map {
+    let mut map: Map = BTreeMap::new(alloc);
+    for index in 0..keys {
+        let key = index.wrapping_mul(2).wrapping_add(1);
+        assert!(rt; map.insert(key, key).is_ok());
+    }
+    map
+}
+
+// Returns the pairs in order: a key alone stands for a pair of two equal numbers.
+fn pairs_text<C: NodesMut<u64, u64>>(
+    map: &BTreeMap<u64, u64, C>,
+    alloc: Global,
+) -> Result<String, Fail> {
+    let mut text = String::new(alloc);
+    for (key, value) in map.iter() {
+        if key == value {
+            text.push_str(format!(in alloc; "{key} ")?.as_str())?;
+        } else {
+            text.push_str(format!(in alloc; "{key}={value} ")?.as_str())?;
+        }
+    }
+    Ok(text)
+}
+
+// Inserts a key with itself as its value at an address, if it fits there.
+fn insert_fitting<C: NodesMut<u64, u64>>(
+    rt: &impl Abort,
+    map: &mut BTreeMap<u64, u64, C>,
+    addr: Address,
+    key: u64,
+) -> Result<Address, Refused<u64, u64>> {
+    let at = Address::new(addr.id, addr.offset);
+    assert!(rt; map.is_valid(at));
+    assert!(rt; !at.offset.is_before());
+    assert!(rt; map.fits_at(at, &key));
+    map.insert_at(at, Item::new(key, key))
+}
+
+// Inserts an absent key with itself as its value at its gap.
+fn insert_in_gap<C: NodesMut<u64, u64>>(
+    rt: &impl Abort,
+    map: &mut BTreeMap<u64, u64, C>,
+    key: u64,
+) -> Result<Address, Refused<u64, u64>> {
+    let Err(gap) = map.address_of(&key) else {
+        panic!(rt; "{key} is there");
+    };
+    map.insert_exactly_at(gap, Item::new(key, key))
+}
+
+// In each row: how many odd keys, the key at whose address or gap, the key that is inserted, the nodes afterwards, and all keys.
+#[test]
+fn inserts_at_an_address(rt: HostRuntime) -> Result<(), Fail> {
+    for (keys, near, key, nodes, text) in [
+        (0, 5, 5, 1, "5 "),
+        (8, 0, 0, 3, "0 1 3 5 7 9 11 13 15 "),
+        (8, 8, 8, 3, "1 3 5 7 8 9 11 13 15 "),
+        (8, 16, 16, 3, "1 3 5 7 9 11 13 15 16 "),
+        (9, 0, 0, 3, "0 1 3 5 7 9 11 13 15 17 "),
+        (9, 4, 4, 3, "1 3 4 5 7 9 11 13 15 17 "),
+        (9, 3, 2, 3, "1 2 3 5 7 9 11 13 15 17 "),
+        (9, 8, 8, 3, "1 3 5 7 8 9 11 13 15 17 "),
+        (9, 9, 8, 3, "1 3 5 7 8 9 11 13 15 17 "),
+        (9, 10, 10, 3, "1 3 5 7 9 10 11 13 15 17 "),
+        (9, 18, 18, 3, "1 3 5 7 9 11 13 15 17 18 "),
+    ] {
+        let mut map = odd_keys(&rt, rt.alloc(), keys);
+        let (Ok(addr) | Err(addr)) = map.address_of(&near);
+        let Ok(at) = insert_fitting(&rt, &mut map, addr, key) else {
+            return Err(Fail::from("refused"));
+        };
+        assert_eq!(rt; map.item(at).map(|item| *item.key()), Some(key), "{key}");
+        assert_eq!(rt; pairs_text(&map, rt.alloc())?.as_str(), text);
+        assert_eq!(rt;
+            (map.len() as u64, map.node_count()),
+            (keys.wrapping_add(1), nodes),
+            "{key}"
+        );
+    }
+    Ok(())
+}
+
+// The even keys are inserted one by one, each at its gap. The fifth key in either leaf splits it.
+#[test]
+fn inserts_at_each_gap(rt: HostRuntime) -> Result<(), Fail> {
+    let mut map = odd_keys(&rt, rt.alloc(), 9);
+    for (key, nodes) in [
+        (8, 3),
+        (0, 3),
+        (18, 3),
+        (10, 3),
+        (2, 3),
+        (12, 3),
+        (4, 3),
+        (6, 4),
+        (14, 4),
+        (16, 5),
+    ] {
+        assert!(rt; insert_in_gap(&rt, &mut map, key).is_ok());
+        assert_eq!(rt; map.node_count(), nodes, "{key}");
+    }
+    assert_eq!(rt;
+        pairs_text(&map, rt.alloc())?.as_str(),
+        "0 1 2 3 4 5 6 7 8 9 10 11 12 13 14 15 16 17 18 "
+    );
+    Ok(())
+}
+
+#[test]
+fn replaces_a_pair(rt: HostRuntime) -> Result<(), Fail> {
+    for (old, key, text) in [
+        (1, 0, "0=70 3 5 7 9 11 13 15 17 "),
+        (9, 8, "1 3 5 7 8=70 11 13 15 17 "),
+        (9, 9, "1 3 5 7 9=70 11 13 15 17 "),
+        (9, 10, "1 3 5 7 10=70 11 13 15 17 "),
+        (17, 99, "1 3 5 7 9 11 13 15 99=70 "),
+    ] {
+        let mut map = odd_keys(&rt, rt.alloc(), 9);
+        let (Ok(addr) | Err(addr)) = map.address_of(&old);
+        assert!(rt; map.is_valid(addr));
+        assert!(rt; map.replaces_at(addr, &key));
+        assert_eq!(rt; map.replace_at(addr, key, 70), (old, old));
+        assert_eq!(rt; pairs_text(&map, rt.alloc())?.as_str(), text);
+        assert_eq!(rt; (map.len(), map.node_count()), (9, 3), "{key}");
+    }
+    Ok(())
+}
+
+#[test]
+fn replaces_a_value(rt: HostRuntime) -> Result<(), Fail> {
+    for (key, text) in [
+        (1, "1=70 3 5 7 9 11 13 15 17 "),
+        (9, "1 3 5 7 9=70 11 13 15 17 "),
+        (17, "1 3 5 7 9 11 13 15 17=70 "),
+    ] {
+        let mut map = odd_keys(&rt, rt.alloc(), 9);
+        let Ok(addr) = map.address_of(&key) else {
+            return Err(Fail::from("absent"));
+        };
+        assert_eq!(rt; map.replace_value_at(addr, 70), key);
+        assert_eq!(rt; pairs_text(&map, rt.alloc())?.as_str(), text);
+    }
+    Ok(())
+}
+
+// In each row: a key, the value that is removed, the nodes afterwards, and the pairs. The left leaf takes an item from the right one when 5
+// is removed; both are merged when 17 is.
+#[test]
+fn removes_by_key(rt: HostRuntime) -> Result<(), Fail> {
+    let mut map = odd_keys(&rt, rt.alloc(), 9);
+    assert_eq!(rt; map.insert(9, 70).ok(), Some(Some(9)));
+    for (key, value, nodes, text) in [
+        (0, None, 3, "1 3 5 7 9=70 11 13 15 17 "),
+        (9, Some(70), 3, "1 3 5 7 11 13 15 17 "),
+        (9, None, 3, "1 3 5 7 11 13 15 17 "),
+        (5, Some(5), 3, "1 3 7 11 13 15 17 "),
+        (17, Some(17), 1, "1 3 7 11 13 15 "),
+        (3, Some(3), 1, "1 7 11 13 15 "),
+        (1, Some(1), 1, "7 11 13 15 "),
+        (15, Some(15), 1, "7 11 13 "),
+        (7, Some(7), 1, "11 13 "),
+        (11, Some(11), 1, "13 "),
+        (13, Some(13), 0, ""),
+        (13, None, 0, ""),
+    ] {
+        assert_eq!(rt; map.remove(&key), value, "{key}");
+        assert_eq!(rt; map.node_count(), nodes, "{key}");
+        assert_eq!(rt; pairs_text(&map, rt.alloc())?.as_str(), text);
+    }
+    Ok(())
+}
+
+#[test]
+fn takes_a_pair(rt: HostRuntime) -> Result<(), Fail> {
+    let mut map = odd_keys(&rt, rt.alloc(), 9);
+    for (key, pair) in [(9, Some((9, 9))), (9, None), (2, None), (17, Some((17, 17)))] {
+        assert_eq!(rt; map.take(&key), pair, "{key}");
+    }
+    for (key, pair) in [(1, Some((1, 1))), (1, None)] {
+        assert_eq!(rt; map.remove_entry(&key), pair, "{key}");
+    }
+    assert_eq!(rt; pairs_text(&map, rt.alloc())?.as_str(), "3 5 7 11 13 15 ");
+    Ok(())
+}
+
+#[test]
+fn clears_and_begins_again(rt: HostRuntime) -> Result<(), Fail> {
+    for keys in [0, 1, 9] {
+        let mut map = odd_keys(&rt, rt.alloc(), keys);
+        map.clear();
+        assert_eq!(rt;
+            (map.len(), map.root_id(), map.node_count()),
+            (0, None, 0),
+            "{keys}"
+        );
+        assert_eq!(rt; map.get(&1), None);
+        assert_eq!(rt; map.insert(3, 30).ok(), Some(None));
+        assert_eq!(rt; pairs_text(&map, rt.alloc())?.as_str(), "3=30 ");
+    }
+    Ok(())
+}
+
+// Writes the pairs of one node, its number and those of its parent and children.
+fn write_node(
+    text: &mut String,
+    node: &Node<u64, u64>,
+    id: usize,
+    alloc: Global,
+) -> Result<(), Fail> {
+    text.push_str(format!(in alloc; "{id} under {:?}:", node.parent())?.as_str())?;
+    for index in 0..node.item_count() {
+        if let Some(item) = node.item(index.into()) {
+            text.push_str(format!(in alloc; " {}={}", item.key(), item.value())?.as_str())?;
+        }
+    }
+    for index in 0..node.child_count() {
+        text.push_str(format!(in alloc; " {:?}", node.child_id_opt(index))?.as_str())?;
+    }
+    text.push('\n')?;
+    Ok(())
+}
+
+// Returns the root's number, the length and every node as text.
+fn content_of<C: NodesMut<u64, u64>>(
+    map: &BTreeMap<u64, u64, C>,
+    alloc: Global,
+) -> Result<String, Fail> {
+    let mut text = format!(in alloc; "{:?} {} {}\n", map.root_id(), map.len(), map.node_count())?;
+    for id in 0..64 {
+        if map.has_node(id) {
+            write_node(&mut text, map.node(id), id, alloc)?;
+        }
+    }
+    Ok(text)
+}
+
+// Inserts the keys below the last one, and then the last one while the next allocation is refused: with an error nothing has changed, and
+// the error does not occur again.
+fn check_refused<C: NodesMut<u64, u64> + Drop>(
+    rt: &impl Abort,
+    origin: C::Origin,
+    memory: &Refusing<Global>,
+    last: u64,
+    alloc: Global,
+) -> Result<(), Fail> {
+    let mut map: BTreeMap<u64, u64, C> = BTreeMap::new(origin);
+    for key in 0..last {
+        assert!(rt; insert_in_gap(rt, &mut map, key).is_ok());
+    }
+    let old = content_of(&map, alloc)?;
+    memory.refuse(1);
+    let Err(refused) = insert_in_gap(rt, &mut map, last) else {
+        return Err(Fail::from("not refused"));
+    };
+    assert_eq!(rt;
+        (refused.cause, refused.key, refused.value),
+        (Cause::Store, last, last)
+    );
+    assert_eq!(rt; content_of(&map, alloc)?.as_str(), old.as_str());
+    assert!(rt; insert_in_gap(rt, &mut map, last).is_ok());
+    assert_eq!(rt; map.len() as u64, last.wrapping_add(1));
+    Ok(())
+}
+
+// The first node takes 16 slots. The 64th key uses two nodes, and there are 15.
+#[test]
+fn a_refused_node_changes_nothing(rt: HostRuntime) -> Result<(), Fail> {
+    for last in [0, 63] {
+        let memory = Refusing::over(rt.alloc(), 0);
+        check_refused::<SlabStore<Node<u64, u64>, &Refusing<Global>>>(
+            &rt,
+            &memory,
+            &memory,
+            last,
+            rt.alloc(),
+        )?;
+        assert_eq!(rt; memory.refuses(), 0, "{last}");
+    }
+    Ok(())
+}

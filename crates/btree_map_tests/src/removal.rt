@@ -1,0 +1,225 @@
+//! Pairs removed by key and by address, in several orders, and put back. The list is compared with std's map.
+use btree_ext::{BTreeExt, BTreeExtMut};
+use btree_item::{Address, Item, Offset};
+use btree_map::BTreeMap;
+use btree_node::Node;
+use btree_store::SlabStore;
+use std::alloc::Global;
+use std::collections;
+use std::process::Abort;
+use std::test::Fail;
+
+type Map = BTreeMap<u64, u64, SlabStore<Node<u64, u64>>>;
+type KitMap = collections::BTreeMap<u64, u64>;
+
+// A hundred pairs: a key and its value in turn, each followed by a space.
+const ITEMS: &str = "4223 5948 8175 4629 1411 7458 9208 4040 1246 2287 6568 7583 5426 491 7850 8789 2034 9388 1408 7331 7346 5820 \
+    9712 4253 5430 7253 1662 5278 9322 777 9256 8116 7971 8071 648 3082 7510 2207 8394 7839 57 8834 7770 5437 \
+    6388 6755 9177 9904 6487 5143 2231 688 7389 4472 577 1930 9130 3222 2230 8268 1211 2354 9237 3643 2912 8471 \
+    8783 4977 4325 9566 9355 528 9814 9342 1641 6027 3009 8304 4199 2688 7011 9579 8391 8562 1097 5448 1224 5844 \
+    5309 2846 7493 8845 3682 48 9165 2755 9959 7420 8158 2616 3210 7795 4418 7790 5592 4184 4111 885 742 952 \
+    2486 6088 6797 271 8829 3005 6444 5818 6566 8783 913 2886 2325 1260 4382 3045 5451 1473 9376 8133 9036 4924 \
+    5202 7364 9190 5619 8190 2892 9493 500 3043 8315 9220 6396 6400 5692 2709 8547 1218 7403 581 117 2577 9373 \
+    9349 3186 9021 4874 4207 1781 5201 5305 7889 1996 6327 6377 8120 2338 8213 9072 865 6524 5858 5331 1904 3594 \
+    9950 8859 518 6551 2674 7081 9848 618 5120 5595 259 9662 3077 863 4519 7217 3931 6743 2575 6810 1553 5964 \
+    4493 3677 ";
+
+// Returns the pairs of `ITEMS`.
+fn items(alloc: Global) -> Result<Vec<(u64, u64)>, Fail> {
+    let mut pairs: Vec<(u64, u64)> = Vec::new(alloc);
+    let mut first: Option<u64> = None;
+    let mut number = 0u64;
+    for letter in ITEMS.as_bytes() {
+        if *letter != b' ' {
+            let digit = letter.wrapping_sub(b'0') as u64;
+            number = number.wrapping_mul(10).wrapping_add(digit);
+            continue;
+        }
+        match first {
+            None => first = Some(number),
+            Some(key) => {
+                pairs.push((key, number))?;
+                first = None;
+            }
+        }
+        number = 0;
+    }
+    Ok(pairs)
+}
+
+// Returns the map, and std's map, of the first `count` pairs.
+fn maps_of(
+    rt: &impl Abort,
+    pairs: &[(u64, u64)],
+    count: usize,
+    alloc: Global,
+) -> Result<(Map, KitMap), Fail> {
+    let mut map: Map = BTreeMap::new(alloc);
+    let mut list: KitMap = collections::BTreeMap::new(alloc);
+    for (key, value) in pairs.iter().take(count) {
+        assert!(rt; map.insert(*key, *value).is_ok());
+        list.insert(*key, *value)?;
+    }
+    Ok((map, list))
+}
+
+// Checks that a map has the pairs of std's map, in the same order.
+fn check_list(rt: &impl Abort, map: &Map, list: &KitMap) {
+    assert_eq!(rt; map.len(), list.len());
+    let mut walk = map.iter();
+    for (key, value) in list.iter() {
+        assert_eq!(rt; walk.next(), Some((key, value)));
+    }
+    assert_eq!(rt; walk.next(), None);
+}
+
+// Inserts a pair at an address where its key fits.
+fn put(rt: &impl Abort, map: &mut Map, addr: Address, key: u64, value: u64) -> Address {
+    assert!(rt; addr.offset.value().is_some());
+    assert!(rt; map.is_valid(addr));
+    assert!(rt; map.fits_at(addr, &key));
+    match map.insert_at(addr, Item::new(key, value)) {
+        Ok(at) => at,
+        Err(_) => panic!(rt; "refused"),
+    }
+}
+
+// Returns the item counts of the leaves of a tree of two levels, with the keys between them.
+fn leaves_of(rt: &impl Abort, map: &Map, alloc: Global) -> Result<String, Fail> {
+    let mut text = String::new(alloc);
+    let Some(root) = map.root_id() else {
+        return Ok(text);
+    };
+    assert!(rt; map.has_node(root));
+    let node = map.node(root);
+    for index in 0..node.child_count() {
+        let Some(child) = node.child_id_opt(index) else {
+            return Err(Fail::from("no child"));
+        };
+        assert!(rt; map.has_node(child));
+        write!(text, "({})", map.node(child).item_count())?;
+        if let Some(item) = node.item(Offset::from(index)) {
+            write!(text, " {} ", item.key())?;
+        }
+    }
+    Ok(text)
+}
+
+#[test]
+fn removes_all_pairs_in_two_orders(rt: HostRuntime) -> Result<(), Fail> {
+    let pairs = items(rt.alloc())?;
+    for (start, step) in [(0usize, 7usize), (99, 99)] {
+        let (mut map, mut list) = maps_of(&rt, &pairs, 100, rt.alloc())?;
+        assert_eq!(rt; map.len(), 100);
+        let mut index = start;
+        for _ in 0..100 {
+            let Some((key, value)) = pairs.get(index) else {
+                return Err(Fail::from("no pair"));
+            };
+            list.remove(key);
+            assert_eq!(rt; map.remove(key), Some(*value));
+            assert_eq!(rt; map.remove(key), None);
+            check_list(&rt, &map, &list);
+            index = index.wrapping_add(step) % 100;
+        }
+        assert_eq!(rt; (map.root_id(), map.node_count()), (None, 0));
+    }
+    Ok(())
+}
+
+#[test]
+fn puts_back_each_pair_that_it_takes(rt: HostRuntime) -> Result<(), Fail> {
+    let pairs = items(rt.alloc())?;
+    for count in 1..100usize {
+        let (mut map, list) = maps_of(&rt, &pairs, count, rt.alloc())?;
+        for (key, value) in pairs.iter().take(count) {
+            let Ok(addr) = map.address_of(key) else {
+                return Err(Fail::from("absent"));
+            };
+            let Some((item, back)) = map.remove_at(addr) else {
+                return Err(Fail::from("nothing there"));
+            };
+            assert_eq!(rt; (*item.key(), *item.value()), (*key, *value));
+            assert_eq!(rt; map.len(), count.wrapping_sub(1));
+            put(&rt, &mut map, back, *key, *value);
+            check_list(&rt, &map, &list);
+        }
+    }
+    Ok(())
+}
+
+#[test]
+fn inserts_each_pair_at_the_address_of_its_gap(rt: HostRuntime) -> Result<(), Fail> {
+    let pairs = items(rt.alloc())?;
+    let mut map: Map = BTreeMap::new(rt.alloc());
+    for (key, value) in pairs.iter() {
+        let Err(gap) = map.address_of(key) else {
+            return Err(Fail::from("there"));
+        };
+        let Ok(at) = map.insert_exactly_at(gap, Item::new(*key, *value)) else {
+            return Err(Fail::from("refused"));
+        };
+        assert_eq!(rt; map.item(at).map(|item| *item.value()), Some(*value));
+    }
+    assert_eq!(rt; map.len(), 100);
+    Ok(())
+}
+
+#[test]
+fn removal_merges_up_to_the_root(rt: HostRuntime) -> Result<(), Fail> {
+    let mut map: Map = BTreeMap::new(rt.alloc());
+    for key in 0..44u64 {
+        assert!(rt; map.insert(key, key).is_ok());
+    }
+    assert_eq!(rt; (map.node_count(), map.height()), (12, 3));
+    for key in 0..7u64 {
+        assert_eq!(rt; map.remove(&key), Some(key));
+    }
+    assert_eq!(rt; map.node_count(), 11);
+    assert_eq!(rt; map.remove(&7), Some(7));
+    assert_eq!(rt; (map.node_count(), map.height()), (8, 2));
+    let leaves = leaves_of(&rt, &map, rt.alloc())?;
+    assert_eq!(rt; leaves.as_str(), "(6) 14 (4) 19 (4) 24 (4) 29 (4) 34 (4) 39 (4)");
+    Ok(())
+}
+
+#[test]
+fn puts_back_the_item_of_an_internal_node(rt: HostRuntime) -> Result<(), Fail> {
+    let mut map: Map = BTreeMap::new(rt.alloc());
+    for key in 0..9u64 {
+        assert!(rt; map.insert(key, key).is_ok());
+    }
+    let Some(top) = map.root_id() else {
+        return Err(Fail::from("no root"));
+    };
+    assert!(rt; map.has_node(top));
+    let right = map.node(top).child_id_opt(1);
+    let addr = Address::new(top, Offset::from(0));
+    assert!(rt; map.is_valid(addr));
+    let Some((item, back)) = map.remove_at(addr) else {
+        return Err(Fail::from("nothing there"));
+    };
+    assert_eq!(rt; (*item.key(), Some(back.id), back.offset.value()), (4, right, Some(0)));
+    put(&rt, &mut map, back, 4, 4);
+    let leaves = leaves_of(&rt, &map, rt.alloc())?;
+    assert_eq!(rt; leaves.as_str(), "(3) 3 (5)");
+    Ok(())
+}
+
+#[test]
+fn removes_nothing_where_no_item_is(rt: HostRuntime) -> Result<(), Fail> {
+    let mut map: Map = BTreeMap::new(rt.alloc());
+    assert!(rt; map.is_valid(Address::nowhere()));
+    assert!(rt; map.remove_at(Address::nowhere()).is_none());
+    assert!(rt; map.insert(3, 30).is_ok() && map.insert(5, 50).is_ok());
+    let Some(root) = map.root_id() else {
+        return Err(Fail::from("no root"));
+    };
+    for offset in [Offset::from(2), Offset::before()] {
+        let addr = Address::new(root, offset);
+        assert!(rt; map.is_valid(addr));
+        assert!(rt; map.remove_at(addr).is_none());
+        assert_eq!(rt; (map.len(), map.get(&3), map.get(&5)), (2, Some(&30), Some(&50)));
+    }
+    Ok(())
+}
