@@ -1,7 +1,7 @@
 -- What a name says with numbers after it.
 use Rattle.std.proofs.Common.{◌≡◌, ◌≢◌, ℕ, List, [], ◌∷◌, codes, refl, sym, ap, ◌∙◌, subst}
 use Rattle.btree_session.specs.declared.command.Command.{Command}
-use Rattle.btree_session.specs.declared.command.Command.TheVariants.{Insert, Get, Seek, Next, Prev}
+use Rattle.btree_session.specs.declared.command.Command.TheVariants.{Insert, Get, Remove, Clear, Seek, Next, Prev, Put, Take}
 use Rattle.btree_session.specs.declared.line.Line.{Line}
 use Rattle.btree_session.specs.declared.line.Line.TheVariants as lines
 use Rattle.btree_session.specs.declared.line.Numbers.{Numbers}
@@ -47,9 +47,13 @@ means name ns words lines.Other are says = (
 as_numbers : (said : Command) → (ns : Numbers) × (number_list ns ≡ command_numbers said)
 as_numbers (Insert key value) = (Two key value, refl)
 as_numbers (Get key) = (One key, refl)
+as_numbers (Remove key) = (One key, refl)
+as_numbers Clear = (Zero, refl)
 as_numbers (Seek key) = (One key, refl)
 as_numbers Next = (Zero, refl)
 as_numbers Prev = (Zero, refl)
+as_numbers (Put key value) = (Two key value, refl)
+as_numbers Take = (Zero, refl)
 
 -- the words after a name are not at most two numbers
 pub means_nothing : (name : List ℕ) (words : List (List ℕ)) → ((ns : Numbers) → AreNumbers (number_list ns) words → ⊥) → MeansLine (name ∷ words) lines.Other
@@ -60,34 +64,46 @@ means_nothing name words none = (
 )
 
 -- another name alone
-pub other_alone : (name : List ℕ) → name ≢ codes "next" → name ≢ codes "prev" → ((asked : Question) → name ≢ name_of asked) → Says name [] lines.Other
-other_alone name not_next not_prev not_asked = (by, λ asked is empty. not_asked asked is) where
+pub other_alone : (name : List ℕ) → name ≢ codes "clear" → name ≢ codes "next" → name ≢ codes "prev" → name ≢ codes "take" → ((asked : Question) → name ≢ name_of asked) → Says name [] lines.Other
+other_alone name not_clear not_next not_prev not_take not_asked = (by, λ asked is empty. not_asked asked is) where
   by : (said : Command) → name ≡ command_name said → [] ≡ command_numbers said → ⊥
   by (Insert key value) is numbers = cc
   by (Get key) is numbers = cc
+  by (Remove key) is numbers = cc
+  by Clear is numbers = not_clear is
   by (Seek key) is numbers = cc
   by Next is numbers = not_next is
   by Prev is numbers = not_prev is
+  by (Put key value) is numbers = cc
+  by Take is numbers = not_take is
 
 -- another name with a key
-pub other_with_key : (name : List ℕ) (key : ℕ) → name ≢ codes "get" → name ≢ codes "seek" → Says name (key ∷ []) lines.Other
-other_with_key name key not_get not_seek = (by, λ asked is empty. cc) where
+pub other_with_key : (name : List ℕ) (key : ℕ) → name ≢ codes "get" → name ≢ codes "remove" → name ≢ codes "seek" → Says name (key ∷ []) lines.Other
+other_with_key name key not_get not_remove not_seek = (by, λ asked is empty. cc) where
   by : (said : Command) → name ≡ command_name said → key ∷ [] ≡ command_numbers said → ⊥
   by (Insert k v) is numbers = cc
   by (Get k) is numbers = not_get is
+  by (Remove k) is numbers = not_remove is
+  by Clear is numbers = cc
   by (Seek k) is numbers = not_seek is
   by Next is numbers = cc
   by Prev is numbers = cc
+  by (Put k v) is numbers = cc
+  by Take is numbers = cc
 
 -- another name with a key and a value
-pub other_with_pair : (name : List ℕ) (key value : ℕ) → name ≢ codes "insert" → Says name (key ∷ value ∷ []) lines.Other
-other_with_pair name key value not_insert = (by, λ asked is empty. cc) where
+pub other_with_pair : (name : List ℕ) (key value : ℕ) → name ≢ codes "insert" → name ≢ codes "put" → Says name (key ∷ value ∷ []) lines.Other
+other_with_pair name key value not_insert not_put = (by, λ asked is empty. cc) where
   by : (said : Command) → name ≡ command_name said → key ∷ value ∷ [] ≡ command_numbers said → ⊥
   by (Insert k v) is numbers = not_insert is
   by (Get k) is numbers = cc
+  by (Remove k) is numbers = cc
+  by Clear is numbers = cc
   by (Seek k) is numbers = cc
   by Next is numbers = cc
   by Prev is numbers = cc
+  by (Put k v) is numbers = not_put is
+  by Take is numbers = cc
 
 -- a name that is not that of a question
 pub no_name : (name : List ℕ) → name ≢ codes "list" → name ≢ codes "len" → name ≢ codes "nodes" → name ≢ codes "shape" → (asked : Question) → name ≢ name_of asked

@@ -9,7 +9,7 @@ use Rattle.std.specs.List.{slice_split}
 use Rattle.std.specs.Io.BufRead.{strip_last}
 use Rattle.std.specs.Str.Parse.{IsNumeral, digits_value}
 use Rattle.btree_session.specs.declared.command.Command.{Command}
-use Rattle.btree_session.specs.declared.command.Command.TheVariants.{Insert, Get, Seek, Next, Prev}
+use Rattle.btree_session.specs.declared.command.Command.TheVariants.{Insert, Get, Remove, Clear, Seek, Next, Prev, Put, Take}
 use Rattle.btree_session.specs.declared.line.Line.{Line}
 use Rattle.btree_session.specs.declared.line.Numbers.{Numbers}
 use Rattle.btree_session.specs.declared.line.Numbers.TheVariants.{Zero, One, Two}
@@ -56,17 +56,25 @@ IsCall name numbers (word ∷ words) = (word ≡ name) × AreNumbers numbers wor
 abbrev pub command_name : Command → List ℕ
 command_name (Insert key value) = codes "insert"
 command_name (Get key) = codes "get"
+command_name (Remove key) = codes "remove"
+command_name Clear = codes "clear"
 command_name (Seek key) = codes "seek"
 command_name Next = codes "next"
 command_name Prev = codes "prev"
+command_name (Put key value) = codes "put"
+command_name Take = codes "take"
 
 -- the numbers after the name of a command
 abbrev pub command_numbers : Command → List ℕ
 command_numbers (Insert key value) = key ∷ value ∷ []
 command_numbers (Get key) = key ∷ []
+command_numbers (Remove key) = key ∷ []
+command_numbers Clear = []
 command_numbers (Seek key) = key ∷ []
 command_numbers Next = []
 command_numbers Prev = []
+command_numbers (Put key value) = key ∷ value ∷ []
+command_numbers Take = []
 
 -- the words mean the command
 abbrev pub MeansCommand : List (List ℕ) → Command → Type 0

@@ -56,11 +56,17 @@ pub(crate) fn without_last(line: &[u8], byte: u8) -> &[u8]
 fn named(name: &[u8]) -> Line
     ensures { Says name.now [] result }
 {
+    if name == b"clear".as_slice() {
+        return Line::Command(Command::Clear);
+    }
     if name == b"next".as_slice() {
         return Line::Command(Command::Next);
     }
     if name == b"prev".as_slice() {
         return Line::Command(Command::Prev);
+    }
+    if name == b"take".as_slice() {
+        return Line::Command(Command::Take);
     }
     match question_named(name) {
         Some(asked) => Line::Question(asked),
@@ -75,6 +81,9 @@ fn named_with_key(name: &[u8], key: u64) -> Line
     if name == b"get".as_slice() {
         return Line::Command(Command::Get(key));
     }
+    if name == b"remove".as_slice() {
+        return Line::Command(Command::Remove(key));
+    }
     if name == b"seek".as_slice() {
         return Line::Command(Command::Seek(key));
     }
@@ -87,6 +96,9 @@ fn named_with_pair(name: &[u8], key: u64, value: u64) -> Line
 {
     if name == b"insert".as_slice() {
         return Line::Command(Command::Insert(key, value));
+    }
+    if name == b"put".as_slice() {
+        return Line::Command(Command::Put(key, value));
     }
     Line::Other
 }

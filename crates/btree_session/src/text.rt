@@ -33,6 +33,7 @@ pub(crate) fn push_line(text: &mut Vec<u8>, reply: Reply)
             push_decimal(text, value);
             push_all(text, b"\n");
         }
+        Reply::Done => push_all(text, b"ok\n"),
         Reply::Found(value) => {
             push_all(text, b"found ");
             push_decimal(text, value);
@@ -40,6 +41,7 @@ pub(crate) fn push_line(text: &mut Vec<u8>, reply: Reply)
         }
         Reply::Gap => push_all(text, b"gap\n"),
         Reply::NoPlace => push_all(text, b"no place\n"),
+        Reply::Unfit => push_all(text, b"unfit\n"),
         Reply::Refused(cause) => {
             push_all(text, b"refused ");
             push_all(text, word_of(cause));
