@@ -189,7 +189,12 @@ fn removes_by_key(rt: HostRuntime) -> Result<(), Fail> {
 #[test]
 fn takes_a_pair(rt: HostRuntime) -> Result<(), Fail> {
     let mut map = odd_keys(&rt, rt.alloc(), 9);
-    for (key, pair) in [(9, Some((9, 9))), (9, None), (2, None), (17, Some((17, 17)))] {
+    for (key, pair) in [
+        (9, Some((9, 9))),
+        (9, None),
+        (2, None),
+        (17, Some((17, 17))),
+    ] {
         assert_eq!(rt; map.take(&key), pair, "{key}");
     }
     for (key, pair) in [(1, Some((1, 1))), (1, None)] {

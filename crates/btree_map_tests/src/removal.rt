@@ -10,10 +10,12 @@ use std::process::Abort;
 use std::test::Fail;
 
 type Map = BTreeMap<u64, u64, SlabStore<Node<u64, u64>>>;
+
 type KitMap = collections::BTreeMap<u64, u64>;
 
 // A hundred pairs: a key and its value in turn, each followed by a space.
-const ITEMS: &str = "4223 5948 8175 4629 1411 7458 9208 4040 1246 2287 6568 7583 5426 491 7850 8789 2034 9388 1408 7331 7346 5820 \
+const ITEMS: &str =
+    "4223 5948 8175 4629 1411 7458 9208 4040 1246 2287 6568 7583 5426 491 7850 8789 2034 9388 1408 7331 7346 5820 \
     9712 4253 5430 7253 1662 5278 9322 777 9256 8116 7971 8071 648 3082 7510 2207 8394 7839 57 8834 7770 5437 \
     6388 6755 9177 9904 6487 5143 2231 688 7389 4472 577 1930 9130 3222 2230 8268 1211 2354 9237 3643 2912 8471 \
     8783 4977 4325 9566 9355 528 9814 9342 1641 6027 3009 8304 4199 2688 7011 9579 8391 8562 1097 5448 1224 5844 \
@@ -179,7 +181,10 @@ fn removal_merges_up_to_the_root(rt: HostRuntime) -> Result<(), Fail> {
     assert_eq!(rt; map.remove(&7), Some(7));
     assert_eq!(rt; (map.node_count(), map.height()), (8, 2));
     let leaves = leaves_of(&rt, &map, rt.alloc())?;
-    assert_eq!(rt; leaves.as_str(), "(6) 14 (4) 19 (4) 24 (4) 29 (4) 34 (4) 39 (4)");
+    assert_eq!(rt;
+        leaves.as_str(),
+        "(6) 14 (4) 19 (4) 24 (4) 29 (4) 34 (4) 39 (4)"
+    );
     Ok(())
 }
 
@@ -195,12 +200,15 @@ fn puts_back_the_item_of_an_internal_node(rt: HostRuntime) -> Result<(), Fail> {
     assert!(rt; map.has_node(top));
     let right = map.node(top).child_id_opt(1);
     let addr = Address::new(top, Offset::from(0));
-    assert!(rt; map.is_valid(addr));
+    assert!(rt; map.is_valid(Address::new(addr.id, addr.offset)));
     let Some((item, back)) = map.remove_at(addr) else {
         return Err(Fail::from("nothing there"));
     };
-    assert_eq!(rt; (*item.key(), Some(back.id), back.offset.value()), (4, right, Some(0)));
-    put(&rt, &mut map, back, 4, 4);
+    assert_eq!(rt;
+        (*item.key(), Some(back.id), back.offset.value()),
+        (4, right, Some(0))
+    );
+    put(&rt, &mut map, Address::new(back.id, back.offset), 4, 4);
     let leaves = leaves_of(&rt, &map, rt.alloc())?;
     assert_eq!(rt; leaves.as_str(), "(3) 3 (5)");
     Ok(())
@@ -219,7 +227,10 @@ fn removes_nothing_where_no_item_is(rt: HostRuntime) -> Result<(), Fail> {
         let addr = Address::new(root, offset);
         assert!(rt; map.is_valid(addr));
         assert!(rt; map.remove_at(addr).is_none());
-        assert_eq!(rt; (map.len(), map.get(&3), map.get(&5)), (2, Some(&30), Some(&50)));
+        assert_eq!(rt;
+            (map.len(), map.get(&3), map.get(&5)),
+            (2, Some(&30), Some(&50))
+        );
     }
     Ok(())
 }
