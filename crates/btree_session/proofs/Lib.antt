@@ -1,5 +1,7 @@
 pub mod Runs
 pub mod Steps
+pub mod Moves
+pub mod Edits
 pub mod Words
 pub mod Numerals
 pub mod Sayings

@@ -31,7 +31,7 @@ held_place map (Some a) tree holds =
     let there = place-there nat_cmp nat_cmp_total map tree a holds.valid in
     (Some there.0, (there.0, refl, has-place nat_cmp nat_cmp_total map tree a there.0 there.1))
 
-here : (s : Held ℕ ℕ) → IsBTree nat_cmp s.map → HoldsBack s.map s.held → (place : Option ℕ) × IsHeldPlace s.map s.held place
+pub here : (s : Held ℕ ℕ) → IsBTree nat_cmp s.map → HoldsBack s.map s.held → (place : Option ℕ) × IsHeldPlace s.map s.held place
 here s tree holds = held_place s.map s.held tree holds
 
 -- ---- the held address where only the count of refusals changes
@@ -44,23 +44,23 @@ held_place-kept map refusals (Some a) place is = (is.0, is.1, has_place-kept map
 
 module _ (may_refuse : Content (Node ℕ ℕ) → Type 0) (leaf : ℕ) (old new : TreeState ℕ ℕ) (held : Option Address) where
   -- after a refusal the address that is held has its place still
-  held_place-refused : (cause : Cause) (place : Option ℕ) → IsRefused may_refuse leaf old new cause → IsHeldPlace old held place → IsHeldPlace new held place
+  pub held_place-refused : (cause : Cause) (place : Option ℕ) → IsRefused may_refuse leaf old new cause → IsHeldPlace old held place → IsHeldPlace new held place
   held_place-refused Store place refused is = subst (λ m. IsHeldPlace m held place) (sym refused.0) (held_place-kept old (old.refusals + 1) held place is)
   held_place-refused Count place refused is = subst (λ m. IsHeldPlace m held place) (sym refused.0) is
 
-  state-refused : (cause : Cause) (place : Option ℕ) → IsRefused may_refuse leaf old new cause
+  pub state-refused : (cause : Cause) (place : Option ℕ) → IsRefused may_refuse leaf old new cause
       → state_at (record { map = new; held = held }) place ≡ after_refusal (state_at (record { map = old; held = held }) place) cause
   state-refused Store place refused = ap (λ m. state_at (record { map = m; held = held }) place) refused.0
   state-refused Count place refused = ap (λ m. state_at (record { map = m; held = held }) place) refused.0
 
-  refusable : (cause : Cause) (place : Option ℕ) → IsBTree nat_cmp old → IsRefused may_refuse leaf old new cause
+  pub refusable : (cause : Cause) (place : Option ℕ) → IsBTree nat_cmp old → IsRefused may_refuse leaf old new cause
       → IsRefusable (state_at (record { map = old; held = held }) place) cause
   refusable Store place tree refused = tt
   refusable Count place tree refused = sym tree.counted ∙ refused.1
 
 module _ (may_refuse : Content (Node ℕ ℕ) → Type 0) (old new : Held ℕ ℕ) where
   -- a step between states whose addresses have these places
-  a_step : (command : Command) (reply : Reply) (p q : Option ℕ) → IsHeldPlace old.map old.held p → IsHeldPlace new.map new.held q
+  pub a_step : (command : Command) (reply : Reply) (p q : Option ℕ) → IsHeldPlace old.map old.held p → IsHeldPlace new.map new.held q
       → MachineStep (state_at old p) command reply (state_at new q) → Handles may_refuse old command reply new → IsBTree nat_cmp new.map
       → IsStep may_refuse old command reply new
   a_step command reply p q at there step nodes tree = record {

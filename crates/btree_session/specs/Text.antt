@@ -8,7 +8,7 @@ use Rattle.std.specs.Fmt.{decimal}
 use Rattle.btree_item.specs.declared.refused.Cause.{Cause}
 use Rattle.btree_item.specs.declared.refused.Cause.TheVariants.{Store, Count}
 use Rattle.btree_session.specs.declared.command.Reply.{Reply}
-use Rattle.btree_session.specs.declared.command.Reply.TheVariants.{Nothing, Value, Refused}
+use Rattle.btree_session.specs.declared.command.Reply.TheVariants.{Nothing, Value, Pair, Done, Found, Gap, NoPlace, Unfit, Refused}
 
 -- the text of a cause
 abbrev pub cause_text : Cause → List ℕ
@@ -19,6 +19,12 @@ cause_text Count = codes "count"
 abbrev pub reply_text : Reply → List ℕ
 reply_text Nothing = codes "none"
 reply_text (Value value) = codes "some " ++ decimal value
+reply_text (Pair key value) = codes "pair " ++ decimal key ++ codes " " ++ decimal value
+reply_text Done = codes "ok"
+reply_text (Found value) = codes "found " ++ decimal value
+reply_text Gap = codes "gap"
+reply_text NoPlace = codes "no place"
+reply_text Unfit = codes "unfit"
 reply_text (Refused cause) = codes "refused " ++ cause_text cause
 
 -- a vector with these values appended

@@ -1,7 +1,7 @@
 //! Lines of text, and the commands that they express.
-ghost use Rattle.std.specs.Prelude.{◌≡◌, ◌≢◌, ℕ, List, [], ◌∷◌, IfSome, IfNone, not, position, codes};
+ghost use Rattle.std.specs.Prelude.{◌≡◌, [], ◌∷◌, IfSome, IfNone, not, position};
 ghost use Rattle.std.specs.Io.BufRead.{strip_last};
-ghost use Rattle.btree_session.specs.Line.{is_space, words_of, line_words, AreNumbers, BeginsWith, SomeIfAny, IsNumber, MeansLine, name_of};
+ghost use Rattle.btree_session.specs.Line.{is_space, words_of, line_words, AreNumbers, SomeIfAny, IsNumber, MeansLine, Says, name_of, number_list};
 
 use crate::Command;
 use crate::question::Question;
@@ -19,6 +19,14 @@ pub(crate) enum Line {
     Other,
 }
 
+/// The numbers after a name.
+#[derive(Clone, Copy, Debug, PartialEq, Eq)]
+enum Numbers {
+    Zero,
+    One(u64),
+    Two(u64, u64),
+}
+
 /// Returns the meaning of a line, which is given without its newline.
 pub(crate) fn parse(line: &[u8]) -> Line
     ensures { MeansLine (line_words line.now) result }
@@ -26,13 +34,12 @@ pub(crate) fn parse(line: &[u8]) -> Line
     let Some((name, rest)) = next_word(without_last(line, b'\r')) else {
         return Line::Empty;
     };
-    if name == b"insert".as_slice() {
-        return parse_insert(rest);
+    match read_numbers(rest) {
+        Some(Numbers::Zero) => named(name),
+        Some(Numbers::One(key)) => named_with_key(name, key),
+        Some(Numbers::Two(key, value)) => named_with_pair(name, key, value),
+        None => Line::Other,
     }
-    if name == b"get".as_slice() {
-        return parse_get(rest);
-    }
-    parse_question(name, rest)
 }
 
 /// Returns the line without its last byte, if that is `byte`.
@@ -45,36 +52,55 @@ pub(crate) fn without_last(line: &[u8], byte: u8) -> &[u8]
     }
 }
 
-/// Returns the meaning of a line that begins with `insert`.
-fn parse_insert(rest: &[u8]) -> Line
-    ensures { MeansLine (codes "insert" ∷ words_of rest.now) result }
+/// Returns the meaning of a name alone.
+fn named(name: &[u8]) -> Line
+    ensures { Says name.now [] result }
 {
-    match two_numbers(rest) {
-        Some((key, value)) => Line::Command(Command::Insert(key, value)),
-        None => Line::Other,
+    if name == b"clear".as_slice() {
+        return Line::Command(Command::Clear);
     }
-}
-
-/// Returns the meaning of a line that begins with `get`.
-fn parse_get(rest: &[u8]) -> Line
-    ensures { MeansLine (codes "get" ∷ words_of rest.now) result }
-{
-    match one_number(rest) {
-        Some(key) => Line::Command(Command::Get(key)),
-        None => Line::Other,
+    if name == b"next".as_slice() {
+        return Line::Command(Command::Next);
     }
-}
-
-/// Returns the meaning of a line that begins with another word.
-fn parse_question(name: &[u8], rest: &[u8]) -> Line
-    requires not_insert { name.now ≢ codes "insert" }
-    requires not_get { name.now ≢ codes "get" }
-    ensures { MeansLine (name.now ∷ words_of rest.now) result }
-{
+    if name == b"prev".as_slice() {
+        return Line::Command(Command::Prev);
+    }
+    if name == b"take".as_slice() {
+        return Line::Command(Command::Take);
+    }
     match question_named(name) {
-        Some(asked) if next_word(rest).is_none() => Line::Question(asked),
-        _ => Line::Other,
+        Some(asked) => Line::Question(asked),
+        None => Line::Other,
     }
+}
+
+/// Returns the meaning of a name with a key.
+fn named_with_key(name: &[u8], key: u64) -> Line
+    ensures { Says name.now (key ∷ []) result }
+{
+    if name == b"get".as_slice() {
+        return Line::Command(Command::Get(key));
+    }
+    if name == b"remove".as_slice() {
+        return Line::Command(Command::Remove(key));
+    }
+    if name == b"seek".as_slice() {
+        return Line::Command(Command::Seek(key));
+    }
+    Line::Other
+}
+
+/// Returns the meaning of a name with a key and a value.
+fn named_with_pair(name: &[u8], key: u64, value: u64) -> Line
+    ensures { Says name.now (key ∷ value ∷ []) result }
+{
+    if name == b"insert".as_slice() {
+        return Line::Command(Command::Insert(key, value));
+    }
+    if name == b"put".as_slice() {
+        return Line::Command(Command::Put(key, value));
+    }
+    Line::Other
 }
 
 /// Returns the question with a name.
@@ -96,34 +122,22 @@ fn question_named(name: &[u8]) -> Option<Question>
     None
 }
 
-/// Returns the number, if the text consists of exactly one number.
-fn one_number(text: &[u8]) -> Option<u64>
-    ensures { SomeIfAny (λ n. AreNumbers (n ∷ []) (words_of text.now)) result }
+/// Returns the numbers, if the text consists of at most two numbers.
+fn read_numbers(text: &[u8]) -> Option<Numbers>
+    ensures { SomeIfAny (λ ns. AreNumbers (number_list ns) (words_of text.now)) result }
 {
-    let (number, rest) = next_number(text)?;
+    let Some((word, rest)) = next_word(text) else {
+        return Some(Numbers::Zero);
+    };
+    let first = number(word)?;
+    let Some((word, rest)) = next_word(rest) else {
+        return Some(Numbers::One(first));
+    };
+    let second = number(word)?;
     if next_word(rest).is_some() {
         return None;
     }
-    Some(number)
-}
-
-/// Returns the numbers, if the text consists of exactly two numbers.
-fn two_numbers(text: &[u8]) -> Option<(u64, u64)>
-    ensures { SomeIfAny (λ pair. AreNumbers (pair.0 ∷ pair.1 ∷ []) (words_of text.now)) result }
-{
-    let (first, rest) = next_number(text)?;
-    let second = one_number(rest)?;
-    Some((first, second))
-}
-
-/// Returns the number that the text begins with and the text after it, if it begins with one.
-fn next_number(text: &[u8]) -> Option<(u64, &[u8])>
-    ensures none { IfNone result ((n : ℕ) (ns : List ℕ)
-        → AreNumbers (n ∷ ns) (words_of text.now) → ⊥) }
-    ensures some { IfSome result (λ split. BeginsWith text.now split.0 split.1.now) }
-{
-    let (word, rest) = next_word(text)?;
-    Some((number(word)?, rest))
+    Some(Numbers::Two(first, second))
 }
 
 /// Returns the first word and the text after it, if there is a word.

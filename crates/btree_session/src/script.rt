@@ -9,7 +9,7 @@ use crate::line::{Line, parse, without_last};
 use crate::question::{Question, push_answer_line};
 use crate::text::{LONGEST_LINE, push_line};
 use crate::{Command, Session};
-use btree_nodes::NodesMut;
+use btree_nodes::{ClearNodes, NodesMut};
 use std::alloc::{AllocError, Global};
 use std::io::{BufRead, BufReader, ErrorKind, Read, Write};
 
@@ -34,7 +34,7 @@ pub enum Stop {
 /// Except for nodes, it allocates memory for three buffers only: the reader's, one for a line that no single read gave whole, and one for
 /// the replies to the lines that were read at once. A reader's error of the kind `OutOfMemory` counts as refused memory. An input of
 /// `u64::MAX` lines or more ends like one that fails.
-pub fn drive<C: NodesMut<u64, u64>, R: Read, W: Write>(
+pub fn drive<C: ClearNodes<u64, u64>, R: Read, W: Write>(
     alloc: Global,
     session: &mut Session<C>,
     input: &mut R,
@@ -53,7 +53,7 @@ pub fn drive<C: NodesMut<u64, u64>, R: Read, W: Write>(
 }
 
 /// Serves lines until the input ends. What is left in `text` is still to be written.
-fn serve<C: NodesMut<u64, u64>, R: Read, W: Write>(
+fn serve<C: ClearNodes<u64, u64>, R: Read, W: Write>(
     alloc: Global,
     session: &mut Session<C>,
     reader: &mut BufReader<R>,
@@ -132,7 +132,7 @@ fn read_line<R: Read>(reader: &mut BufReader<R>, line: &mut Vec<u8>) -> Result<O
 }
 
 /// Runs what a line means and appends the reply to the text. An `Err` changes nothing.
-fn serve_line<C: NodesMut<u64, u64>>(
+fn serve_line<C: ClearNodes<u64, u64>>(
     session: &mut Session<C>,
     said: Line,
     number: u64,
@@ -159,7 +159,7 @@ fn serve_line<C: NodesMut<u64, u64>>(
 }
 
 /// Runs a command and appends the reply to the text. Room for the reply is made first; if that is refused, the command is not run.
-fn obey<C: NodesMut<u64, u64>>(
+fn obey<C: ClearNodes<u64, u64>>(
     session: &mut Session<C>,
     command: Command,
     text: &mut Vec<u8>,

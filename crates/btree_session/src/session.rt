@@ -1,15 +1,15 @@
 //! A session: a map, and commands that are run on it.
-ghost use Rattle.std.specs.Prelude.{◌≡◌, [], None, length, IsOk, OnOk, OnErr};
+ghost use Rattle.std.specs.Prelude.{◌≡◌, [], Some, None, length, IsOk, OnOk, OnErr};
 ghost use Rattle.std.specs.FinMap as map;
-ghost use Rattle.btree_shape.specs.TreeState.{pairs_of};
+ghost use Rattle.btree_shape.specs.TreeState.{IsOccupiedIn, item_of, pairs_of};
 ghost use Rattle.btree_session.specs.Machine.{IsStep, Runs, value_reply};
 ghost use Rattle.btree_session.specs.Text.{HasCapacityFor};
 
 use crate::{Command, Reply};
-use btree_ext::BTreeExt;
-use btree_item::Address;
+use btree_ext::{BTreeExt, BTreeExtMut};
+use btree_item::{Address, Item};
 use btree_map::BTreeMap;
-use btree_nodes::NodesMut;
+use btree_nodes::{ClearNodes, NodesMut};
 use std::alloc::{AllocError, Allocator};
 use std::marker::Model;
 
@@ -57,16 +57,6 @@ impl<C: NodesMut<u64, u64>> Session<C> {
         &self.map
     }
 
-    /// Runs one command. It allocates no memory except for nodes.
-    pub(crate) fn execute(&mut self, command: Command) -> Reply
-        ensures { IsStep C.MayRefuse self.old command result self.new }
-    {
-        match command {
-            Command::Insert(key, value) => self.insert(key, value),
-            Command::Get(key) => self.get(key),
-        }
-    }
-
     fn insert(&mut self, key: u64, value: u64) -> Reply
         ensures { IsStep C.MayRefuse self.old (Command.Insert key value) result self.new }
     {
@@ -91,6 +81,147 @@ impl<C: NodesMut<u64, u64>> Session<C> {
         let _root = self.map.root_id(); // for the prover alone: its contract says that the map is a well formed tree
         reply_of(self.map.get(&key).copied())
     }
+
+    fn seek(&mut self, key: u64) -> Reply
+        ensures { IsStep C.MayRefuse self.old (Command.Seek key) result self.new }
+    {
+        let _root = self.map.root_id(); // for the prover alone: its contract says that the map is a well formed tree
+        match self.map.address_of(&key) {
+            Ok(addr) => {
+                let (_, value) = pair_at(&self.map, &addr);
+                self.held = Some(addr);
+                Reply::Found(value)
+            }
+            Err(gap) => {
+                self.held = Some(gap);
+                Reply::Gap
+            }
+        }
+    }
+
+    fn next(&mut self) -> Reply
+        ensures { IsStep C.MayRefuse self.old Command.Next result self.new }
+    {
+        let _root = self.map.root_id(); // for the prover alone: its contract says that the map is a well formed tree
+        let Some(held) = self.held else {
+            return Reply::NoPlace;
+        };
+        let Some(addr) = self.map.normalize(held) else {
+            return Reply::Nothing;
+        };
+        let Some(next) = self.map.next_item_address(addr) else {
+            return Reply::Nothing;
+        };
+        let (key, value) = pair_at(&self.map, &next);
+        self.held = Some(next);
+        Reply::Pair(key, value)
+    }
+
+    fn prev(&mut self) -> Reply
+        ensures { IsStep C.MayRefuse self.old Command.Prev result self.new }
+    {
+        let _root = self.map.root_id(); // for the prover alone: its contract says that the map is a well formed tree
+        let Some(held) = self.held else {
+            return Reply::NoPlace;
+        };
+        let Some(previous) = self.map.previous_item_address(held) else {
+            return Reply::Nothing;
+        };
+        let (key, value) = pair_at(&self.map, &previous);
+        self.held = Some(previous);
+        Reply::Pair(key, value)
+    }
+
+    fn remove(&mut self, key: u64) -> Reply
+        ensures { IsStep C.MayRefuse self.old (Command.Remove key) result self.new }
+    {
+        let _root = self.map.root_id(); // for the prover alone: its contract says that the map is a well formed tree
+        let value = self.map.remove(&key);
+        let _root = self.map.root_id();
+        self.held = None;
+        reply_of(value)
+    }
+
+    fn put(&mut self, key: u64, value: u64) -> Reply
+        ensures { IsStep C.MayRefuse self.old (Command.Put key value) result self.new }
+    {
+        let _root = self.map.root_id(); // for the prover alone: its contract says that the map is a well formed tree
+        let Some(held) = self.held else {
+            return Reply::NoPlace;
+        };
+        if !self.map.fits_at(Address::new(held.id, held.offset), &key) {
+            return Reply::Unfit;
+        }
+        let outcome = self.map.insert_at(held, Item::new(key, value));
+        let _root = self.map.root_id();
+        match outcome {
+            Ok(addr) => {
+                self.held = Some(addr);
+                Reply::Done
+            }
+            Err(returned) => {
+                let cause = returned.cause;
+                Reply::Refused(cause)
+            }
+        }
+    }
+
+    fn take(&mut self) -> Reply
+        ensures { IsStep C.MayRefuse self.old Command.Take result self.new }
+    {
+        let _root = self.map.root_id(); // for the prover alone: its contract says that the map is a well formed tree
+        let Some(held) = self.held else {
+            return Reply::NoPlace;
+        };
+        let Some(addr) = self.map.normalize(held) else {
+            return Reply::Nothing;
+        };
+        let Some((item, after)) = self.map.remove_at(addr) else {
+            unreachable!()
+        };
+        self.held = Some(after);
+        Reply::Pair(*item.key(), *item.value())
+    }
+}
+
+impl<C: ClearNodes<u64, u64>> Session<C> {
+    /// Runs one command. It allocates no memory except for nodes.
+    pub(crate) fn execute(&mut self, command: Command) -> Reply
+        ensures { IsStep C.MayRefuse self.old command result self.new }
+    {
+        match command {
+            Command::Insert(key, value) => self.insert(key, value),
+            Command::Get(key) => self.get(key),
+            Command::Remove(key) => self.remove(key),
+            Command::Clear => self.clear(),
+            Command::Seek(key) => self.seek(key),
+            Command::Next => self.next(),
+            Command::Prev => self.prev(),
+            Command::Put(key, value) => self.put(key, value),
+            Command::Take => self.take(),
+        }
+    }
+
+    fn clear(&mut self) -> Reply
+        ensures { IsStep C.MayRefuse self.old Command.Clear result self.new }
+    {
+        let _root = self.map.root_id(); // for the prover alone: its contract says that the map is a well formed tree
+        self.map.clear();
+        let _root = self.map.root_id();
+        self.held = None;
+        Reply::Done
+    }
+}
+
+/// Returns the pair at an address with an item.
+fn pair_at<C: NodesMut<u64, u64>>(map: &BTreeMap<u64, u64, C>, addr: &Address) -> (u64, u64)
+    requires { IsOccupiedIn map.now addr.now }
+    ensures { Some result ≡ item_of map.now addr.now }
+{
+    let Some(item) = map.item(*addr) else {
+        unreachable!()
+    };
+    (*item.key(), *item.value())
 }
 
 fn reply_of(value: Option<u64>) -> Reply
@@ -105,7 +236,7 @@ fn reply_of(value: Option<u64>) -> Reply
 /// Runs the commands in order, and appends a reply to each to `replies`.
 ///
 /// Room for the replies is made first, and is all the memory that it allocates except for nodes. If that is refused, no command is run.
-pub fn run<C: NodesMut<u64, u64>, B: Allocator>(
+pub fn run<C: ClearNodes<u64, u64>, B: Allocator>(
     session: &mut Session<C>,
     commands: &[Command],
     replies: &mut Vec<Reply, B>,

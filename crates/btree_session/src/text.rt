@@ -8,7 +8,7 @@ use btree_item::Cause;
 use std::alloc::AllocError;
 
 /// The most bytes of a reply's line.
-pub(crate) const LONGEST_LINE: usize = 26;
+pub(crate) const LONGEST_LINE: usize = 47;
 
 /// The most digits of a number.
 const LONGEST_NUMBER: usize = 20;
@@ -26,6 +26,22 @@ pub(crate) fn push_line(text: &mut Vec<u8>, reply: Reply)
             push_decimal(text, value);
             push_all(text, b"\n");
         }
+        Reply::Pair(key, value) => {
+            push_all(text, b"pair ");
+            push_decimal(text, key);
+            push_all(text, b" ");
+            push_decimal(text, value);
+            push_all(text, b"\n");
+        }
+        Reply::Done => push_all(text, b"ok\n"),
+        Reply::Found(value) => {
+            push_all(text, b"found ");
+            push_decimal(text, value);
+            push_all(text, b"\n");
+        }
+        Reply::Gap => push_all(text, b"gap\n"),
+        Reply::NoPlace => push_all(text, b"no place\n"),
+        Reply::Unfit => push_all(text, b"unfit\n"),
         Reply::Refused(cause) => {
             push_all(text, b"refused ");
             push_all(text, word_of(cause));
