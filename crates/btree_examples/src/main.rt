@@ -34,7 +34,10 @@ fn in_stock(stock: &BTreeMap<u32, u64>, part: u32) -> u64
 ///
 /// Both steps may move parts to other nodes. The removal returns the address that its place has afterwards, and the map's contracts say
 /// that an insertion there gives the same stock again.
-fn take_and_put_back(stock: &mut BTreeMap<u32, u64>, part: Address) -> Result<Option<u64>, Refused<u32, u64>>
+fn take_and_put_back(
+    stock: &mut BTreeMap<u32, u64>,
+    part: Address,
+) -> Result<Option<u64>, Refused<u32, u64>>
     requires { IsValidIn stock.old part }
     ensures same { OnOk result (pairs_of stock.new ≡ pairs_of stock.old) }
 {

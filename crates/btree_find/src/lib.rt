@@ -7,6 +7,7 @@ mod search;
 
 pub use fits::{fits_at, replaces_at};
 pub use navigation::{
-    first_item, leaf_address, next_item_address, next_item_or_back_address, normalize, previous_item_address,
+    first_item, leaf_address, next_item_address, next_item_or_back_address, normalize,
+    previous_item_address,
 };
 pub use search::{address_of, get, height};

@@ -3,7 +3,7 @@ use crate::content::content_of;
 use btree_ext::BTreeExt;
 use btree_item::Cause;
 use btree_node::Node;
-use btree_nodes::NodesMut;
+use btree_nodes::ClearNodes;
 use btree_refusing::Refusing;
 use btree_session::{Command, Reply, Session, Stop, drive, run};
 use btree_store::SlabStore;
@@ -25,7 +25,7 @@ const FOURTEEN: &[u8] =
 insert 7 7\ninsert 8 8\ninsert 9 9\ninsert 10 10\ninsert 11 11\ninsert 12 12\ninsert 13 13\nshape\nnodes\nlen\n";
 
 // Returns what is written for lines that are all served.
-fn written_for<C: NodesMut<u64, u64>>(
+fn written_for<C: ClearNodes<u64, u64>>(
     session: &mut Session<C>,
     lines: &[u8],
     alloc: Global,
@@ -447,7 +447,7 @@ fn commands_edit_at_the_held_place(rt: HostRuntime) -> Result<(), Fail> {
 }
 
 // Checks a run in which the store refuses the first node.
-fn check_first_refused<C: NodesMut<u64, u64> + Drop>(
+fn check_first_refused<C: ClearNodes<u64, u64> + Drop>(
     rt: &impl Abort,
     alloc: Global,
     origin: C::Origin,
@@ -488,14 +488,17 @@ fn a_refused_node_is_a_reply(rt: HostRuntime) -> Result<(), Fail> {
 
 // Drives a line that inserts a key, and returns whether it was refused. A refused line changes nothing, and is accepted the next time. An
 // odd key is put at the place that is held for it, which a refusal keeps.
-fn is_refused<C: NodesMut<u64, u64>>(
+fn is_refused<C: ClearNodes<u64, u64>>(
     rt: &impl Abort,
     session: &mut Session<C>,
     key: u64,
     alloc: Global,
 ) -> Result<bool, Fail> {
     let (line, accepted) = if key % 2 == 0 {
-        (format!(in alloc; "insert {key} {key}\n")?, b"none\n".as_slice())
+        (
+            format!(in alloc; "insert {key} {key}\n")?,
+            b"none\n".as_slice(),
+        )
     } else {
         let seek = format!(in alloc; "seek {key}\n")?;
         let reply = written_for(session, seek.as_bytes(), alloc)?;
@@ -516,7 +519,7 @@ fn is_refused<C: NodesMut<u64, u64>>(
 }
 
 // Drives 44 insertions, and returns how many were refused.
-fn refusals_of_44<C: NodesMut<u64, u64> + Drop>(
+fn refusals_of_44<C: ClearNodes<u64, u64> + Drop>(
     rt: &impl Abort,
     origin: C::Origin,
     alloc: Global,
