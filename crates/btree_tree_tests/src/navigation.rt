@@ -15,70 +15,70 @@ const NONE: usize = 0;
 
 const BEFORE_L: usize = 10;
 
-const L0: usize = 11;
+const LEFT_0: usize = 11;
 
-const L1: usize = 12;
+const LEFT_1: usize = 12;
 
-const L2: usize = 13;
+const LEFT_2: usize = 13;
 
-const L3: usize = 14;
+const LEFT_3: usize = 14;
 
-const L4: usize = 15;
+const LEFT_4: usize = 15;
 
 const BEFORE_T: usize = 20;
 
-const T0: usize = 21;
+const TOP_0: usize = 21;
 
-const T1: usize = 22;
+const TOP_1: usize = 22;
 
 const BEFORE_R: usize = 30;
 
-const R0: usize = 31;
+const RIGHT_0: usize = 31;
 
-const R1: usize = 32;
+const RIGHT_1: usize = 32;
 
-const R2: usize = 33;
+const RIGHT_2: usize = 33;
 
-const R3: usize = 34;
+const RIGHT_3: usize = 34;
 
-const R4: usize = 35;
+const RIGHT_4: usize = 35;
 
 // An address; the item at its place, the next one and the one before, an address in a leaf at its place, and the next item or the end.
 type Row = (usize, usize, usize, usize, usize, usize);
 
 const ROWS: [Row; 11] = [
-    (BEFORE_L, L0, L0, NONE, BEFORE_L, L0),
-    (L2, L2, L3, L1, L2, L3),
-    (L3, L3, T0, L2, L3, T0),
-    (L4, T0, T0, L3, L4, T0),
-    (BEFORE_T, L0, L0, NONE, BEFORE_L, L0),
-    (T0, T0, R0, L3, L4, R0),
-    (T1, NONE, NONE, R3, R4, T1),
-    (BEFORE_R, R0, R0, T0, BEFORE_R, R0),
-    (R2, R2, R3, R1, R2, R3),
-    (R3, R3, NONE, R2, R3, R4),
-    (R4, NONE, NONE, R3, R4, R4),
+    (BEFORE_L, LEFT_0, LEFT_0, NONE, BEFORE_L, LEFT_0),
+    (LEFT_2, LEFT_2, LEFT_3, LEFT_1, LEFT_2, LEFT_3),
+    (LEFT_3, LEFT_3, TOP_0, LEFT_2, LEFT_3, TOP_0),
+    (LEFT_4, TOP_0, TOP_0, LEFT_3, LEFT_4, TOP_0),
+    (BEFORE_T, LEFT_0, LEFT_0, NONE, BEFORE_L, LEFT_0),
+    (TOP_0, TOP_0, RIGHT_0, LEFT_3, LEFT_4, RIGHT_0),
+    (TOP_1, NONE, NONE, RIGHT_3, RIGHT_4, TOP_1),
+    (BEFORE_R, RIGHT_0, RIGHT_0, TOP_0, BEFORE_R, RIGHT_0),
+    (RIGHT_2, RIGHT_2, RIGHT_3, RIGHT_1, RIGHT_2, RIGHT_3),
+    (RIGHT_3, RIGHT_3, NONE, RIGHT_2, RIGHT_3, RIGHT_4),
+    (RIGHT_4, NONE, NONE, RIGHT_3, RIGHT_4, RIGHT_4),
 ];
 
 // An address and a key: whether it fits there, and whether it may replace the key there.
 type KeyRow = (usize, u64, bool, bool);
 
 const KEY_ROWS: [KeyRow; 15] = [
-    (L0, 0, true, true),
-    (L0, 3, false, false),
-    (L4, 7, false, false),
-    (L4, 8, true, false),
+    (LEFT_0, 0, true, true),
+    (LEFT_0, 3, false, false),
+    (LEFT_4, 7, false, false),
+    (LEFT_4, 8, true, false),
     (BEFORE_T, 0, true, false),
     (BEFORE_T, 1, false, false),
-    (T0, 7, false, false),
-    (T0, 8, true, true),
-    (T0, 9, false, true),
-    (T0, 10, false, true),
-    (T0, 11, false, false),
-    (T1, 17, false, false),
-    (T1, 18, true, false),
+    (TOP_0, 7, false, false),
+    (TOP_0, 8, true, true),
+    (TOP_0, 9, false, true),
+    (TOP_0, 10, false, true),
+    (TOP_0, 11, false, false),
+    (TOP_1, 17, false, false),
+    (TOP_1, 18, true, false),
     (BEFORE_R, 10, true, false),
-    (R3, 99, false, true),
+    (RIGHT_3, 99, false, true),
 ];
 
 // The numbers of L, T and R.
