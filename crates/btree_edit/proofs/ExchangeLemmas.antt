@@ -29,8 +29,10 @@ use Rattle.btree_shape.proofs.Trees.ValidPlaces.{place-valid}
 use Rattle.btree_shape.proofs.Removal.OtherItemInState.{ReplacedWell, replaced-well}
 use Rattle.btree_shape.proofs.Trees.Stores.{len-views, writes_node, used-view, within-used}
 use Rattle.btree_shape.proofs.Trees.States.{is-tree, pairs-tree}
+use Rattle.btree_raw.specs.Raw.{with_node}
 use Rattle.btree_raw.proofs.StateLemmas.{same-len, same-refusals, same-root}
 use Rattle.btree_edit.specs.Exchange.{IsExchanged, IsValueExchanged}
+use Rattle.btree_edit.specs.ValueWritten.{item_written, node_written, value_written}
 
 -- another item is at the address, in a node that is otherwise unchanged; no other node has changed
 pub record ExchangesAt {A : Type 0} (node_at new : NodeMap A) (a : Address) (was is : A) : Type 0 where
@@ -299,3 +301,21 @@ module _ {K V : Type 0} (cmp : K → K → Ordering) (laws : IsTotalOrder cmp) (
         had = stood-at cmp laws old new a (k, v) (k, w) tree x;
         exchanged = exchanged cmp laws old new a (k, v) (k, w) tree x (subst (λ l. IsStrictlySortedBy cmp l) (sym keys) tree.ascends);
       }
+
+-- a value written at an item: the tree afterwards
+module _ {K V : Type 0} (cmp : K → K → Ordering) (laws : IsTotalOrder cmp) (s : TreeState K V) (a : Address) (tree : IsBTree cmp s) (node : Node K V)
+    (at : Some node ≡ map.get s.nodes a.id) (x : K × V) (here : Some x ≡ option_and_then (slice_get (items_of (view_of node))) a.offset) where
+  pub written : (w : V) → with_node s a.id (node_with_item_at a.offset node (x.0, w)) ≡ value_written s a w
+  written w = sym (ap (node_written s a w) (sym at) ∙ ap (λ o. with_node s a.id (item_written node a.offset w o)) (sym here))
+
+  abbrev writes : (w : V) → Changes (λ p q. ExchangesAt p q a x (x.0, w)) s (with_node s a.id (node_with_item_at a.offset node (x.0, w)))
+  writes w = exchanges-at s a node at x (x.0, w) (x.0, w) refl here
+
+  pub item-here_of : item_of s a ≡ Some x
+  item-here_of = stood-at cmp laws s (with_node s a.id (node_with_item_at a.offset node (x.0, x.1))) a x (x.0, x.1) tree (writes x.1)
+
+  pub written-exchanged : (v : V) → v ≡ x.1 → (w : V) → IsValueExchanged s (value_written s a w) a cmp v w
+  written-exchanged v is w =
+      subst (λ n. IsValueExchanged s n a cmp v w) (written w)
+      (subst (λ u. IsValueExchanged s (with_node s a.id (node_with_item_at a.offset node (x.0, w))) a cmp u w) (sym is)
+      (value-exchanged cmp laws s (with_node s a.id (node_with_item_at a.offset node (x.0, w))) a x.0 x.1 w tree (writes w)))

@@ -103,6 +103,11 @@ module _ {K V : Type 0} (cmp : K → K → Ordering) (laws : IsTotalOrder cmp) (
   pub index-is : (n : ℕ) → Some n ≡ a.offset → the-leaf.index ≡ n
   index-is n e = let o = the-leaf.offset in let both : Some n ≡ Some the-leaf.index = e ∙ o in cc
 
+  -- the leaf has room for an item in passing
+  pub can-add-first : (index : ℕ) → Some index ≡ a.offset → CanAddItem node_at a.id index None
+  can-add-first index at = subst (λ n. CanAddItem node_at a.id n None) (index-is index at)
+      (record { node = leaf the-leaf.parent the-leaf.items; here = the-leaf.here; room = the-leaf.few; within = the-leaf.within; kind = refl })
+
   -- after the claims, and with the pair in the leaf
   module _ (ids : List ℕ) (mid : TreeState K V) (claimed : AreClaimed old mid ids) (count : length ids ≡ nodes_needed old a.id) where
     claims : Claims node_at (node_map mid) ids

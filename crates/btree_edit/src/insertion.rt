@@ -10,7 +10,9 @@ use btree_find::address_of;
 use btree_item::{Address, Cause, Item, MAX_CLAIMS, Offset, Refused};
 use btree_node::Node;
 use btree_nodes::NodesMut;
-use btree_raw::{ClaimedIds, RawBTree, add_item, claim, claim_one, need, put, split_upward};
+use btree_raw::{
+    ClaimedIds, RawBTree, add_item, add_item_in_room, claim, claim_one, need, put, split_upward,
+};
 
 fn refused<K, V>(cause: Cause, item: Item<K, V>) -> Refused<K, V>
     ensures { result ≡ record { cause = cause; key = item.0; value = item.1 } }
@@ -41,26 +43,6 @@ fn insert_first<K: Ord + Drop, V: Drop, C: NodesMut<K, V>>(
         }
         None => Err(refused(Cause::Store, item)),
     }
-}
-
-// Inserts a pair, whose key fits, into a leaf that has room for it. The pair is then at the address.
-fn insert_in_room<K: Ord + Drop, V: Drop, C: NodesMut<K, V>>(
-    tree: &mut RawBTree<K, V, C>,
-    addr: Address,
-    item: Item<K, V>,
-) -> Address
-    requires tree { IsBTree K.cmp tree.old }
-    requires some { tree.old.root ≢ None }
-    requires gap { IsGapFor K.cmp item.0 tree.old addr }
-    requires room { tree.old.len < usize.MAX }
-    requires enough { nodes_needed tree.old addr.id ≡ 0 }
-    ensures { IsInserted K.cmp tree.old tree.new addr result item }
-{
-    tree.tell_fits();
-    let index = addr.offset.unwrap();
-    add_item(tree, addr.id, index, item, None);
-    tree.set_len(tree.len() + 1);
-    addr
 }
 
 // Inserts a pair, whose key fits, into a full leaf, which is split. Not inlined, so that the usual insertion keeps its values in
@@ -108,11 +90,15 @@ fn insert_more<K: Ord + Drop, V: Drop, C: NodesMut<K, V>>(
     ensures refused { IfErr result (λ r. IsRefused C.MayRefuse addr.id tree.old tree.new r.cause) }
 {
     tree.tell_fits();
-    let count = need(tree, addr.id);
-    if count == 0 {
-        Ok(insert_in_room(tree, addr, item))
-    } else {
-        insert_and_split(tree, addr, item, count)
+    match add_item_in_room(tree, addr.id, addr.offset.unwrap(), item) {
+        Ok(()) => {
+            tree.set_len(tree.len() + 1);
+            Ok(addr)
+        }
+        Err(item) => {
+            let count = need(tree, addr.id);
+            insert_and_split(tree, addr, item, count)
+        }
     }
 }
 

@@ -1,7 +1,7 @@
 //! Reads of a tree by its nodes and addresses.
-ghost use Rattle.std.specs.Prelude.{◌≡◌, ◌↔◌, ◌*◌, ◌+◌, ◌≤◌, length, IsTrue, Some, option_copied};
+ghost use Rattle.std.specs.Prelude.{◌≡◌, ◌↔◌, ◌*◌, ◌+◌, ◌≤◌, length, IsSome, IsTrue, Some, option_copied};
 ghost use Rattle.std.specs.FinMap as map;
-ghost use Rattle.btree_shape.specs.TreeState.{TreeState, HasLevels, IsBTree, IsUsed, IsValidIn, item_of, pairs_of};
+ghost use Rattle.btree_shape.specs.TreeState.{TreeState, HasLevels, IsBTree, IsOccupiedIn, IsUsed, IsValidIn, item_of, pairs_of};
 ghost use Rattle.btree_find.specs.Answers.{IsAddressOf};
 ghost use Rattle.btree_find.specs.Fits.{FitsAt, ReplacesAt};
 ghost use Rattle.btree_find.specs.Levels.{IsDense};
@@ -54,7 +54,8 @@ pub trait BTreeExt<K: Ord, V> {
 
     /// Returns the item at an address, or `None` if there is none: at -1, past the last item, nowhere, or at a number without a node.
     fn item(&self, addr: Address) -> Option<&Item<K, V>>
-        ensures { option_copied result ≡ item_of (state self.now) addr }
+        ensures value { option_copied result ≡ item_of (state self.now) addr }
+        ensures occupied { IsSome result ↔ IsOccupiedIn (state self.now) addr }
     {
         self.as_raw().item(addr)
     }

@@ -1,5 +1,7 @@
 //! Changes of a tree by addresses.
 ghost use Rattle.std.specs.Prelude.{◌≡◌, Some, None, IsSome, IfSome, IfNone, IfOk, IfErr};
+ghost use Rattle.std.specs.Borrow.{Lends, sem};
+ghost use Rattle.btree_item.specs.declared.address.Address.{Address};
 ghost use Rattle.btree_shape.specs.TreeState.{IsLeafAddressIn, IsOccupiedIn, IsValidIn, item_of};
 ghost use Rattle.btree_find.specs.Fits.{FitsAt, ReplacesAt};
 ghost use Rattle.btree_edit.specs.Exchange.{IsExchanged, IsValueExchanged};
@@ -11,6 +13,38 @@ use btree_item::{Address, Item, Refused};
 
 /// A well formed tree, changed by addresses in it. Each change leaves a well formed tree.
 pub trait BTreeExtMut<K: Ord + Drop, V: Drop>: BTreeExt<K, V> {
+    /// What the tree is after a value was written at an address, as contracts see it.
+    ghost with_value: { Self → Address → V → Self };
+
+    /// Returns the key of the item at an address, and its value for writing, or `None` if there is no item: at -1, past the last item of a
+    /// node, or nowhere. It changes no address, needs no new node and cannot fail.
+    ///
+    /// The address must be valid: `is_valid` decides that. The contract does not say what the tree is after the value was written; that of
+    /// `pair_mut` does.
+    fn item_mut(&mut self, addr: Address) -> Option<(&K, &mut V)>
+        requires { IsValidIn (Self.state self.old) addr }
+        ensures item { IfSome result (λ p.
+            item_of (Self.state self.old) addr ≡ Some (p.0.now, p.1.now)) }
+        ensures vacant { IfNone result (item_of (Self.state self.old) addr ≡ None) }
+    {
+        if self.item(Address::new(addr.id, addr.offset)).is_none() {
+            return None;
+        }
+        Some(self.pair_mut(addr))
+    }
+
+    /// Returns the key of the item at an address, and its value for writing. What is written replaces the value, and nothing else changes:
+    /// the key stays, and so does every address. It needs no new node and cannot fail.
+    ///
+    /// An item must be at the address; `item` decides that.
+    fn pair_mut(&mut self, addr: Address) -> (&K, &mut V)
+        requires { IsOccupiedIn (Self.state self.old) addr }
+        ensures* writes_back { sem 𝓛
+            (Lends Self.row V.row self.entry result.1 (with_value self.old addr)) }
+        ensures pair { item_of (Self.state self.old) addr ≡ Some (result.0.now, result.1.now) }
+        ensures exchanged { (w : V) → IsValueExchanged (Self.state self.old)
+            (Self.state (with_value self.old addr w)) addr K.cmp result.1.now w };
+
     /// Inserts a pair at the place of an address, before the item there, and returns the address of the pair. An address of an internal
     /// node stands for the one in a leaf at its place.
     ///

@@ -6,7 +6,7 @@ ghost use Rattle.btree_node.specs.contracts.node.Node.{the_row as node_row};
 use crate::ext::BTreeExt;
 use crate::ext_mut::BTreeExtMut;
 use btree_edit::{
-    exchange, insert, insert_at, insert_exactly_at, remove_at, remove_entry, replace_at,
+    exchange, insert, insert_at, insert_exactly_at, pair_mut, remove_at, remove_entry, replace_at,
 };
 use btree_find::get;
 use btree_item::{Address, Item, Refused};
@@ -141,6 +141,13 @@ impl<K: Ord + Drop, V: Drop, C: NodesMut<K, V>> BTreeExtMut<K, V> for Tree<K, V,
     ghost use Rattle.btree_shape.specs.TreeState.{IsLeafAddressIn, IsValidIn};
     ghost use Rattle.btree_find.specs.Fits.{FitsAt};
     ghost use Rattle.btree_edit.specs.InsertAt.{InsertsAt, IsRefusedAt};
+    ghost use Rattle.btree_edit.specs.ValueWritten.{value_written};
+
+    ghost with_value = { value_written };
+
+    fn pair_mut(&mut self, addr: Address) -> (&K, &mut V) {
+        pair_mut(&mut self.raw, addr)
+    }
 
     // The clauses are those of the trait, with the store's own name for what it may refuse.
     fn insert_at(&mut self, addr: Address, item: Item<K, V>) -> Result<Address, Refused<K, V>>

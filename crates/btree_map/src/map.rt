@@ -160,6 +160,13 @@ impl<K: Ord + Drop, V: Drop, C: NodesMut<K, V>> BTreeExtMut<K, V> for BTreeMap<K
     ghost use Rattle.btree_shape.specs.TreeState.{IsLeafAddressIn, IsValidIn};
     ghost use Rattle.btree_find.specs.Fits.{FitsAt};
     ghost use Rattle.btree_edit.specs.InsertAt.{InsertsAt, IsRefusedAt};
+    ghost use Rattle.btree_edit.specs.ValueWritten.{value_written};
+
+    ghost with_value = { value_written };
+
+    fn pair_mut(&mut self, addr: Address) -> (&K, &mut V) {
+        self.tree.pair_mut(addr)
+    }
 
     // The clauses are those of the trait, with the store's own name for what it may refuse.
     fn insert_at(&mut self, addr: Address, item: Item<K, V>) -> Result<Address, Refused<K, V>>

@@ -17,7 +17,6 @@ use Rattle.btree_shape.specs.Lists.{times_listed}
 use Rattle.btree_shape.specs.Focus.Underflow.{MayUnderflowAt}
 use Rattle.btree_shape.specs.Step.{RemovesNode}
 use Rattle.btree_shape.specs.WellFormed.{times_used}
-use Rattle.btree_shape.proofs.Places.Backs.{release-back}
 use Rattle.btree_shape.proofs.Paths.Frames.{one-other, one-self}
 use Rattle.btree_shape.proofs.Underflow.Order.{underflow-apart, underflow-root}
 use Rattle.btree_shape.proofs.Trees.Numbers.{listed-append, same-or, used-mapped, used-one, used-there}
@@ -26,7 +25,6 @@ use Rattle.btree_shape.proofs.Trees.Sizes.{least-low, least-root}
 use Rattle.btree_raw.specs.NodeSteps.{CanShrinkRoot}
 use Rattle.btree_raw.specs.Underflow.{AreFixed, IsFollowed, IsFixing, PassesUnderflowUp, EndsUnderflow, IsRepairedOrEmpty}
 use Rattle.btree_raw.specs.Steps.{HasCount}
-use Rattle.btree_raw.proofs.UpwardLemmas.{back-some, some-back}
 use Rattle.btree_raw.proofs.BorrowLemmas.{followed-node, followed-under}
 use Rattle.btree_raw.proofs.OffsetLemmas.{underflow-low}
 use Rattle.btree_raw.proofs.StepLemmas.{size-at}

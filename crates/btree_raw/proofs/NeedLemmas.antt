@@ -1,13 +1,13 @@
 -- The count of the nodes that an insertion needs, step by step.
-use Rattle.std.proofs.Common.{◌≡◌, ◌↔◌, IsTrue, true, false, ℕ, zero, suc, ◌+◌, ◌<◌, ◌≤◌, ◌^◌, inl, inr, List, [], ◌∷◌, Option, Some, None, length, length-append, refl, sym, ap, subst, arith}
+use Rattle.std.proofs.Common.{◌≡◌, ◌↔◌, IsTrue, true, false, ℕ, zero, suc, ◌+◌, ◌<◌, ◌≤◌, ◌^◌, inl, inr, List, [], ◌∷◌, Option, Some, None, length, length-append, refl, sym, ap, subst, ◌∙◌, option_map, arith}
 use Rattle.std.proofs.Math.Nat.{pow-le-pow_right}
 use Rattle.std.specs.FinMap as map
 use Rattle.std.specs.declared.cmp.Ordering.{Ordering}
 use Rattle.btree_node.specs.declared.node.Node.{Node}
 use Rattle.btree_node.specs.Node.{view_of}
-use Rattle.btree_view.specs.View.{NodeMap, most_of, size_of}
+use Rattle.btree_view.specs.View.{NodeMap, most_of, parent_of, size_of}
 use Rattle.btree_shape.specs.Focus.Need.{IsCountingUpward, path_need_from, path_need}
-use Rattle.btree_shape.specs.Need.{split_need, need}
+use Rattle.btree_shape.specs.Need.{need, need_of_split, split_need, split_need_in}
 use Rattle.btree_shape.specs.Focus.Node.{IsNode}
 use Rattle.btree_shape.specs.Focus.Subtree.{IsFilled, IsFilledBelow, Subtree, count_at, items_under, later_items, most_at}
 use Rattle.btree_shape.specs.TreeState.{TreeState, IsBTree, IsUsed, node_map, nodes_for_splits, nodes_needed, pairs_of}
@@ -36,6 +36,20 @@ not-full node e = elim (less-or (size_of (view_of node)) (most_of (view_of node)
   | inl low ↦ low
   | inr other ↦ let full : most_of (view_of node) ≤ size_of (view_of node) = elim other [ inl same ↦ omega arith | inr more ↦ omega arith ] in let q : false ≡ true = e.1 full in absurd (cc)
 ]
+
+-- no split begins at a node that is not full
+pub room-no_split : {K V : Type 0} (s : TreeState K V) (id : ℕ) (node : Node K V) → Some node ≡ map.get s.nodes id
+    → size_of (view_of node) < most_of (view_of node) → nodes_for_splits s id ≡ 0
+room-no_split {K} {V} s id node at low = by (map.len s.nodes)
+  where
+    here : node_map s id ≡ Some (view_of node)
+    here = ap (option_map view_of) (sym at)
+
+    by : (most : ℕ) → split_need (node_map s) most id ≡ 0
+    by zero = refl
+    by (suc most) =
+        ap (split_need_in (split_need (node_map s) most)) here
+        ∙ less-yes (size_of (view_of node)) (most_of (view_of node)) 0 (need_of_split (split_need (node_map s) most) (parent_of (view_of node))) low
 
 module _ (A : Type 0) where
   -- a tree whose length fits in a `usize` has at most 32 levels

@@ -1,5 +1,5 @@
 -- Claims in a loop: one more, one freed, all freed.
-use Rattle.std.proofs.Common.{◌≡◌, ℕ, ◌+◌, ◌<◌, ◌^◌, ◌-◌, List, [], ◌∷◌, ◌++◌, IsSome, None, ap, sym, subst, ◌∙◌}
+use Rattle.std.proofs.Common.{◌≡◌, ℕ, ◌+◌, ◌<◌, ◌^◌, ◌-◌, List, [], ◌∷◌, ◌++◌, IsSome, None, ap, sym, subst}
 use Rattle.std.specs.FinMap as map
 use Rattle.btree_shape.specs.TreeState.{TreeState}
 use Rattle.btree_raw.specs.Claimed.{AreClaimed, EMPTY, IsClaimed}

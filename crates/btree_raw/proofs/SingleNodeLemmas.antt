@@ -10,7 +10,7 @@ use Rattle.btree_store.specs.ContentLaws.{get-remove_other, get-remove_same}
 use Rattle.btree_item.specs.Offset.{index_offset}
 use Rattle.btree_node.specs.declared.node.Node.{Node}
 use Rattle.btree_node.specs.Node.{view_of}
-use Rattle.btree_view.specs.Edits.{HasChildFor, HasSpare, HaveRoom, is_internal, joined, pushed_left, pushed_right, with_other_item, with_other_item_at, with_parent, without}
+use Rattle.btree_view.specs.Edits.{HasChildFor, HaveRoom, is_internal, joined, pushed_left, pushed_right, with_other_item, with_other_item_at, with_parent, without}
 use Rattle.btree_view.specs.View.{NodeMap, View, leaf, internal, children_of, items_of, most_of, size_of}
 use Rattle.btree_shape.specs.Lists.{as_list, one}
 use Rattle.btree_shape.specs.SiblingSteps.{IsRemade, ShrinksRoot}
@@ -19,7 +19,7 @@ use Rattle.btree_shape.specs.WellFormed.{times_used}
 use Rattle.btree_shape.proofs.Paths.Frames.{one-other, one-self}
 use Rattle.btree_shape.proofs.Trees.Numbers.{same-or}
 use Rattle.btree_shape.specs.TreeState.{views}
-use Rattle.btree_raw.specs.NodeSteps.{CanGiveItem, CanShrinkRoot, ChangesSeparator, ClearsParent, GainsAll, GainsFirst, GainsLast, HasSeparator, HasRoomFor, HasRoomForAll, LosesSeparator, LosesFirst, LosesLast}
+use Rattle.btree_raw.specs.NodeSteps.{CanShrinkRoot, ChangesSeparator, ClearsParent, GainsAll, GainsFirst, GainsLast, HasSeparator, HasRoomFor, HasRoomForAll, LosesSeparator, LosesFirst, LosesLast}
 use Rattle.btree_raw.specs.Steps.{SetsParent}
 use Rattle.btree_shape.proofs.Places.Untouched.{other-test}
 use Rattle.btree_shape.proofs.Trees.Stores.{most-few, writes_node, view-at}

@@ -1,18 +1,15 @@
 -- Changes of a tree's nodes, one after another, and single nodes written.
-use Rattle.std.proofs.Common.{◌≡◌, ℕ, ◌<◌, ◌^◌, ◌-◌, Option, Some, IfSome, IsSome, refl, sym, ap, subst, ◌∙◌, option_map, arith}
+use Rattle.std.proofs.Common.{◌≡◌, ◌↔◌, ℕ, Bor, Option, Some, None, IsSome, refl, sym, ap, ◌∙◌, option_and_then, option_copied, option_map, arith}
 use Rattle.std.specs.FinMap as map
 use Rattle.btree_store.specs.Content.{Content}
-use Rattle.btree_item.specs.Offset.{index_offset}
 use Rattle.btree_node.specs.declared.node.Node.{Node}
 use Rattle.btree_node.specs.Node.{view_of}
-use Rattle.btree_view.specs.Edits.{with_parent, with_item}
-use Rattle.btree_view.specs.Kept.{kept_parent}
-use Rattle.btree_view.specs.View.{View}
-use Rattle.btree_shape.specs.TreeState.{TreeState, KeepsRest, views}
-use Rattle.btree_shape.proofs.Places.Untouched.{other-test}
+use Rattle.btree_item.specs.declared.address.Address.{Address}
+use Rattle.btree_view.specs.View.{View, item_in}
+use Rattle.btree_shape.specs.Place.{IsOccupied}
+use Rattle.btree_shape.specs.TreeState.{TreeState, IsOccupiedIn, KeepsRest, item_of, node_map, views}
 use Rattle.btree_shape.proofs.Trees.Numbers.{used-one}
-use Rattle.btree_shape.proofs.Trees.Stores.{most-few, writes_node, used-view}
-use Rattle.btree_raw.specs.Steps.{AddsItem, CanAddItem, SetsParent}
+use Rattle.btree_shape.proofs.Trees.Stores.{used-view}
 
 module _ {K V : Type 0} where
   -- a state with other nodes
@@ -46,6 +43,13 @@ module _ {K V : Type 0} where
   pub used-here : (nodes : Content (Node K V)) (id : ℕ) (v : View (K × V)) → views nodes id ≡ Some v → IsSome (map.get nodes id)
   used-here nodes id v at = used-view nodes id (let u = used-one (views nodes id) v at in omega arith)
 
-  module _ (nodes : Content (Node K V)) (id : ℕ) (node : Node K V) (at : Some node ≡ map.get nodes id) (after : Node K V) where
-    focus : views nodes id ≡ Some (view_of node)
-    focus = ap (option_map view_of) (sym at)
+  -- an address is occupied if an item is found at it
+  pub found-occupied : (s : TreeState K V) (a : Address) (o : Option (Bor (K × V))) → option_copied o ≡ item_of s a → IsSome o ↔ IsOccupiedIn s a
+  found-occupied s a o is = by a.offset o is
+    where
+      by : (offset : Option ℕ) (o : Option (Bor (K × V))) → option_copied o ≡ option_and_then (item_in (node_map s a.id)) offset
+          → IsSome o ↔ IsOccupied (node_map s) a.id offset
+      by None None is = ((λ some. absurd (cc)), (λ there. absurd there))
+      by None (Some x) is = absurd (cc)
+      by (Some n) None is = ((λ some. absurd (cc)), (λ there. absurd (let e = there.1 in cc)))
+      by (Some n) (Some x) is = ((λ some. (x.now, sym is)), (λ there. refl))

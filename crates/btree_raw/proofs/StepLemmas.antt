@@ -1,20 +1,23 @@
 -- Single nodes of a store, changed, as a map of nodes sees them.
-use Rattle.std.proofs.Common.{◌≡◌, ℕ, ◌<◌, ◌≤◌, ◌^◌, ◌-◌, Option, Some, IsSomeAnd, arith, sym, ap, ◌∙◌, option_map}
+use Rattle.std.proofs.Common.{◌≡◌, ℕ, ◌<◌, ◌≤◌, ◌^◌, ◌-◌, Option, Some, IsSomeAnd, arith, refl, sym, ap, ◌∙◌, option_map}
 use Rattle.std.specs.FinMap as map
 use Rattle.btree_store.specs.Content.{Content}
 use Rattle.btree_item.specs.Offset.{index_offset}
 use Rattle.btree_node.specs.declared.node.Node.{Node}
-use Rattle.btree_view.specs.Edits.{HasChildFor, IsOverflowing, IsSplit}
+use Rattle.btree_view.specs.Edits.{HasChildFor, IsOverflowing, IsSplit, with_item, with_item_at}
 use Rattle.btree_node.specs.Node.{view_of}
 use Rattle.btree_view.specs.View.{size_of, most_of, View, NodeMap}
 use Rattle.btree_shape.specs.TreeState.{views}
-use Rattle.btree_raw.specs.Steps.{CanAddItem, Overflows, CutsAtMedian, HasCount}
+use Rattle.btree_raw.specs.Steps.{AddsItem, CanAddItem, Overflows, CutsAtMedian, HasCount}
 use Rattle.btree_shape.proofs.Places.Untouched.{other-test}
 use Rattle.btree_shape.proofs.Trees.Stores.{most-few, writes_node, view-at}
 
 -- an index that is not too large is an offset
 index-small : (n index : ℕ) (o : Option ℕ) → index < 2 ^ 64 - 1 → index ≤ n → o ≡ index_offset index → IsSomeAnd o (λ i. i ≤ n)
 index-small n index o low within e = rw (e, other-test index (2 ^ 64 - 1) (omega arith)) within
+
+index-at : (index : ℕ) (o : Option ℕ) → index < 2 ^ 64 - 1 → o ≡ index_offset index → o ≡ Some index
+index-at index o low e = rw (e, other-test index (2 ^ 64 - 1) (omega arith)) refl
 
 -- how many items a node has
 pub size-at : {A : Type 0} (node_at : NodeMap A) (id count : ℕ) (v : View A) → node_at id ≡ Some v → HasCount node_at id count → size_of v ≡ count
@@ -28,6 +31,16 @@ module _ {K V : Type 0} where
     take-room index child o e can =
         let is = view-at nodes id node can.node at can.here in
         rw is (can.room, (index-small (size_of can.node) index o (omega (arith, can.room, can.within, most-few can.node)) can.within e, can.kind))
+
+    -- an item was added
+    pub adds : (new : Node K V) (index : ℕ) (x : K × V) (child o : Option ℕ) → o ≡ index_offset index → CanAddItem (views nodes) id index child
+        → view_of new ≡ with_item_at o x child (view_of node) → AddsItem (views nodes) (views (map.insert nodes id new)) id index x child
+    adds new index x child o e can is =
+        let w = writes_node nodes (map.insert nodes id new) id new refl in
+        let here : views nodes id ≡ Some (view_of node) = ap (option_map view_of) (sym at) in
+        let index-is : o ≡ Some index = index-at index o (omega (arith, can.room, can.within, most-few can.node)) e in
+        let added : view_of new ≡ with_item index x child (view_of node) = is ∙ ap (λ p. with_item_at p x child (view_of node)) index-is in
+        record { here = w.here ∙ (ap Some added ∙ sym (ap (option_map (with_item index x child)) here)); others = w.others }
 
     pub split-over : Overflows (views nodes) id → IsOverflowing (view_of node)
     split-over can = rw (view-at nodes id node can.node at can.here) can.over

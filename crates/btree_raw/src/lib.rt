@@ -13,7 +13,7 @@ mod underflow;
 
 pub use claims::{ClaimedIds, claim, claim_one};
 pub use count::{need, split_need};
-pub use nodes::{add_item, put};
+pub use nodes::{add_item, add_item_in_room, put};
 pub use overflow::split_upward;
 pub use raw::RawBTree;
 pub use rebalance::rebalance_underflow;

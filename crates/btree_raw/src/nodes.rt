@@ -1,9 +1,9 @@
 //! Changes of single nodes.
-ghost use Rattle.std.specs.Prelude.{◌<◌};
+ghost use Rattle.std.specs.Prelude.{◌≡◌, ◌<◌, None, OnOk, IfErr, OnErr};
 ghost use Rattle.btree_node.specs.Node.{view_of};
 ghost use Rattle.btree_view.specs.View.{children_in};
 ghost use Rattle.btree_shape.specs.Step.{Reparents, WritesNode};
-ghost use Rattle.btree_shape.specs.TreeState.{Changes, IsUsed, node_map};
+ghost use Rattle.btree_shape.specs.TreeState.{Changes, IsUsed, node_map, nodes_for_splits};
 ghost use Rattle.btree_raw.specs.Steps.{CanReparent, CanAddItem, Overflows, SetsParent, AddsItem, CutsAtMedian};
 
 use crate::raw::RawBTree;
@@ -51,6 +51,29 @@ pub fn add_item<K: Drop, V: Drop, C: NodesMut<K, V>>(
 {
     tree.tell_fits();
     tree.node_mut(id).insert(Offset::from(index), item, child);
+}
+
+/// Inserts an item into a leaf at an index, if the leaf is not full. Returns the item, and nothing changes, if it is. It fetches the leaf
+/// once.
+pub fn add_item_in_room<K: Drop, V: Drop, C: NodesMut<K, V>>(
+    tree: &mut RawBTree<K, V, C>,
+    id: usize,
+    index: usize,
+    item: Item<K, V>,
+) -> Result<(), Item<K, V>>
+    requires { CanAddItem (node_map tree.old) id index None }
+    ensures added { OnOk result (Changes (λ a b. AddsItem a b id index item None) tree.old tree.new) }
+    ensures enough { OnOk result (nodes_for_splits tree.old id ≡ 0) }
+    ensures returned { IfErr result (λ back. back ≡ item) }
+    ensures unchanged { OnErr result (tree.new ≡ tree.old) }
+{
+    tree.tell_fits();
+    let leaf = tree.node_mut(id);
+    if leaf.is_full() {
+        return Err(item);
+    }
+    leaf.insert(Offset::from(index), item, None);
+    Ok(())
 }
 
 // Splits an overflowing node, which keeps its left part. Returns how many items it keeps, the median and the right part.

@@ -1,5 +1,5 @@
 //! A raw tree: a tree of any content.
-ghost use Rattle.std.specs.Prelude.{◌≡◌, ◌↔◌, ◌+◌, ◌<◌, None, IsTrue, Some, option_copied, IfOk, OnOk, IfErr, OnErr};
+ghost use Rattle.std.specs.Prelude.{◌≡◌, ◌↔◌, ◌+◌, ◌<◌, None, IsTrue, IsSome, Some, option_copied, IfOk, OnOk, IfErr, OnErr};
 ghost use Rattle.std.specs.FinMap as map;
 ghost use Rattle.std.specs.Borrow.{Lends, sem};
 ghost use Rattle.std.specs.Mem.{FitsInMemory};
@@ -39,7 +39,7 @@ impl<K, V, C: NodesMut<K, V>> Model for RawBTree<K, V, C> {
 
 impl<K, V, C: NodesMut<K, V>> RawBTree<K, V, C> {
     ghost use Rattle.btree_view.specs.View.{children_of};
-    ghost use Rattle.btree_shape.specs.TreeState.{IsUsed, IsValidIn, item_of};
+    ghost use Rattle.btree_shape.specs.TreeState.{IsOccupiedIn, IsUsed, IsValidIn, item_of};
     ghost use Rattle.btree_raw.specs.Raw.{AreUsed, GainsNode, Refuses, with_node};
     ghost use Rattle.btree_raw.specs.contracts.raw.RawBTree.{the_row};
 
@@ -112,7 +112,8 @@ impl<K, V, C: NodesMut<K, V>> RawBTree<K, V, C> {
 
     /// Returns the item at an address, or `None` if there is none: at -1, past the last item, nowhere, or at a number without a node.
     pub fn item(&self, addr: Address) -> Option<&Item<K, V>>
-        ensures { option_copied result ≡ item_of self.now addr }
+        ensures value { option_copied result ≡ item_of self.now addr }
+        ensures occupied { IsSome result ↔ IsOccupiedIn self.now addr }
     {
         self.tell_fits();
         match self.store.get(addr.id) {

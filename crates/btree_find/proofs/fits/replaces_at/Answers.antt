@@ -14,7 +14,7 @@ returns-in-Some-next_item_address g c =
     let k = c.args.key.now in
     let p = c.previous_item_address.result in
     let some : item_of s a ≡ Some c.in-Some._item.now =
-    ap (λ b. item_of s b) (sym c.new.ensures) ∙ (sym c.item.ensures ∙ ap option_copied c.in-Some.is) in
+    ap (λ b. item_of s b) (sym c.new.ensures) ∙ (sym c.item.ensures.value ∙ ap option_copied c.in-Some.is) in
     let occupied = item-occupied s a (subst (λ o. IsSome o) (sym some) refl) in
     let previous : IsPrevious s a p = subst (λ b. IsPrevious s b p) c.new-place.ensures c.previous_item_address.ensures in
     let low = occupied-low g.K.Ord.cmp g.met.K.Ord.total s c.requires.tree a previous.place previous.has.at occupied in
@@ -37,7 +37,7 @@ returns-in-None g c =
     let k = c.args.key.now in
     let p = c.previous_item_address.result in
     let some : item_of s a ≡ Some c.in-Some._item.now =
-    ap (λ b. item_of s b) (sym c.new.ensures) ∙ (sym c.item.ensures ∙ ap option_copied c.in-Some.is) in
+    ap (λ b. item_of s b) (sym c.new.ensures) ∙ (sym c.item.ensures.value ∙ ap option_copied c.in-Some.is) in
     let occupied = item-occupied s a (subst (λ o. IsSome o) (sym some) refl) in
     let previous : IsPrevious s a p = subst (λ b. IsPrevious s b p) c.new-place.ensures c.previous_item_address.ensures in
     let low = occupied-low g.K.Ord.cmp g.met.K.Ord.total s c.requires.tree a previous.place previous.has.at occupied in

@@ -1,4 +1,4 @@
-use Rattle.std.proofs.Common.{◌∙◌, Some, ap, refl, arith, rules, true, false}
+use Rattle.std.proofs.Common.{◌∙◌, Some, ap, refl, arith, rules}
 use Rattle.btree_shape.specs.TreeState.{node_map}
 use Rattle.btree_shape.proofs.Trees.Stores.{used-view}
 use Rattle.btree_raw.proofs.SingleNodeLemmas.{loses}

@@ -1,4 +1,4 @@
-use Rattle.std.proofs.Common.{◌∙◌, Some, None, refl, sym, ap, subst, option_map, arith, rules, true, false}
+use Rattle.std.proofs.Common.{◌∙◌, Some, None, refl, sym, ap, subst, option_map, arith, rules}
 use Rattle.btree_node.specs.Node.{view_of}
 use Rattle.btree_view.specs.View.{size_of}
 use Rattle.btree_shape.specs.TreeState.{node_map}

@@ -1,4 +1,4 @@
-use Rattle.std.proofs.Common.{arith, rules, true, false}
+use Rattle.std.proofs.Common.{arith, rules}
 use Rattle.btree_raw.proofs.UnderflowLemmas.{child-parent, index-there, index-at, siblings-first, siblings-next}
 use Rattle.btree_raw.proofs.underflow.siblings.Goals as goal
 use Rattle.btree_shape.proofs.Trees.Stores.{used-view}
