@@ -1,6 +1,10 @@
 //! Changes of a map by addresses, removal by key, and `clear`. The odd keys up to 17 are in a root, which has 9, over two leaves.
+ghost use Rattle.std.specs.Prelude.{◌+◌, ◌%◌, ◌^◌};
+ghost use Rattle.btree_shape.specs.TreeState.{IsOccupiedIn};
+ghost use Rattle.btree_edit.specs.Exchange.{IsValueExchanged};
+
 use btree_ext::{BTreeExt, BTreeExtMut};
-use btree_item::{Address, Cause, Item, Refused};
+use btree_item::{Address, Cause, Item, Offset, Refused};
 use btree_map::BTreeMap;
 use btree_node::Node;
 use btree_nodes::NodesMut;
@@ -156,6 +160,61 @@ fn replaces_a_value(rt: HostRuntime) -> Result<(), Fail> {
         assert_eq!(rt; map.replace_value_at(addr, 70), key);
         assert_eq!(rt; pairs_text(&map, rt.alloc())?.as_str(), text);
     }
+    Ok(())
+}
+
+// Adds to the value at an address, for any keys and any store, and returns the old value.
+fn add_at<K: Ord + Drop, C: NodesMut<K, u64>>(
+    map: &mut BTreeMap<K, u64, C>,
+    addr: Address,
+    more: u64,
+) -> u64
+    requires { IsOccupiedIn map.old addr }
+    ensures { IsValueExchanged map.old map.new addr K.cmp result ((result + more) % 2 ^ 64) }
+{
+    let (_key, value) = map.pair_mut(addr);
+    let old = *value;
+    *value = old.wrapping_add(more);
+    old
+}
+
+#[test]
+fn writes_to_a_value(rt: HostRuntime) -> Result<(), Fail> {
+    for (key, by_item, by_pair) in [
+        (1, "1=70 3 5 7 9 11 13 15 17 ", "1=72 3 5 7 9 11 13 15 17 "),
+        (9, "1 3 5 7 9=70 11 13 15 17 ", "1 3 5 7 9=72 11 13 15 17 "),
+        (17, "1 3 5 7 9 11 13 15 17=70 ", "1 3 5 7 9 11 13 15 17=72 "),
+    ] {
+        let mut map = odd_keys(&rt, rt.alloc(), 9);
+        let Ok(addr) = map.address_of(&key) else {
+            return Err(Fail::from("absent"));
+        };
+        let Some((stored, value)) = map.item_mut(Address::new(addr.id, addr.offset)) else {
+            return Err(Fail::from("no item"));
+        };
+        assert_eq!(rt; (*stored, *value), (key, key));
+        *value = 70;
+        assert_eq!(rt; pairs_text(&map, rt.alloc())?.as_str(), by_item);
+        assert!(rt; map.item(addr).is_some());
+        assert_eq!(rt; add_at(&mut map, addr, 2), 70);
+        assert_eq!(rt; pairs_text(&map, rt.alloc())?.as_str(), by_pair);
+    }
+    Ok(())
+}
+
+#[test]
+fn lends_nothing_without_an_item(rt: HostRuntime) -> Result<(), Fail> {
+    let mut map = odd_keys(&rt, rt.alloc(), 9);
+    let Some(root) = map.root_id() else {
+        return Err(Fail::from("no root"));
+    };
+    assert!(rt; map.is_valid(Address::new(root, Offset::before())));
+    assert!(rt; map.item_mut(Address::new(root, Offset::before())).is_none());
+    assert!(rt; map.is_valid(Address::new(root, Offset::from(1))));
+    assert!(rt; map.item_mut(Address::new(root, Offset::from(1))).is_none());
+    let mut empty = odd_keys(&rt, rt.alloc(), 0);
+    assert!(rt; empty.is_valid(Address::nowhere()));
+    assert!(rt; empty.item_mut(Address::nowhere()).is_none());
     Ok(())
 }
 
