@@ -28,7 +28,8 @@ pub fn exchange<K: Ord, V, C: NodesMut<K, V>>(
 
 // Returns the key of an item, and its value for writing.
 fn key_and_value<'a, K, V>(item: &'a mut Item<K, V>) -> (&'a K, &'a mut V)
-    ensures* writes_back { sem 𝓛 (Lends (item_row K.row V.row) V.row item.entry result.1 (λ w. (item.old.0, w))) }
+    ensures* writes_back { sem 𝓛
+        (Lends (item_row K.row V.row) V.row item.entry result.1 (λ w. (item.old.0, w))) }
     ensures pair { (result.0.now, result.1.now) ≡ item.old }
 {
     let pair = item.pair_mut();
