@@ -342,7 +342,7 @@ fn check_refused<C: NodesMut<u64, u64> + Drop>(
     Ok(())
 }
 
-// The first node takes 16 slots. The 64th key uses two nodes, and there are 15.
+// The store grows for the 1st node and for the 17th. The 64th key uses two nodes, and there are 15.
 #[test]
 fn a_refused_node_changes_nothing(rt: HostRuntime) -> Result<(), Fail> {
     for last in [0, 63] {

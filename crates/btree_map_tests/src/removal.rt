@@ -214,6 +214,31 @@ fn puts_back_the_item_of_an_internal_node(rt: HostRuntime) -> Result<(), Fail> {
     Ok(())
 }
 
+// The left leaf has three items and the right one four. The left one borrows, so that the next item, 5, goes to the root.
+#[test]
+fn answers_the_address_that_the_next_item_moves_to(rt: HostRuntime) -> Result<(), Fail> {
+    let mut map: Map = BTreeMap::new(rt.alloc());
+    for key in 0..9u64 {
+        assert!(rt; map.insert(key, key).is_ok());
+    }
+    assert_eq!(rt; map.remove(&3), Some(3));
+    let Some(top) = map.root_id() else {
+        return Err(Fail::from("no root"));
+    };
+    let addr = Address::new(top, Offset::from(0));
+    assert!(rt; map.is_valid(Address::new(addr.id, addr.offset)));
+    let Some((item, back)) = map.remove_at(addr) else {
+        return Err(Fail::from("nothing there"));
+    };
+    assert_eq!(rt;
+        (*item.key(), back.id, back.offset.value()),
+        (4, top, Some(0))
+    );
+    let leaves = leaves_of(&rt, &map, rt.alloc())?;
+    assert_eq!(rt; leaves.as_str(), "(3) 5 (3)");
+    Ok(())
+}
+
 #[test]
 fn removes_nothing_where_no_item_is(rt: HostRuntime) -> Result<(), Fail> {
     let mut map: Map = BTreeMap::new(rt.alloc());

@@ -64,13 +64,13 @@ module _ (may_refuse : Content (Node ℕ ℕ) → Type 0) (map : TreeState ℕ �
         let finds = sym (slice_get-from_Ok nat_cmp nat_cmp_total key pairs there.place tree.ascends there.is) ∙ sym here.here.item ∙ sym item in
         a_step may_refuse (holding_at held) (holding_at (Some a)) (Seek key) (Found x.1) p.0 (Some (before nat_cmp key pairs)) p.1
         (at_before there.place there.at (before-from_Ok nat_cmp key pairs there.place there.is))
-        (ap (option_map (λ x. x.1)) finds, refl) refl tree
+        (ap (option_map (λ x. x.1)) finds, refl) (a, there, refl, refl) tree
 
     pub seek-gap : IsGapAt nat_cmp key map a → IsStep may_refuse (holding_at held) (Seek key) Gap (holding_at (Some a))
     seek-gap there =
         a_step may_refuse (holding_at held) (holding_at (Some a)) (Seek key) Gap p.0 (Some (before nat_cmp key pairs)) p.1
         (at_before there.place there.at (before-from_Err nat_cmp key pairs there.place there.is))
-        (found-from_Err nat_cmp key pairs there.place there.is, refl) refl tree
+        (found-from_Err nat_cmp key pairs there.place there.is, refl) (a, there, refl, refl) tree
 
   -- an item is at the address
   module _ (place : ℕ) (a : Address) (there : IsItemAddress map place a) where
@@ -110,7 +110,7 @@ module _ (may_refuse : Content (Node ℕ ℕ) → Type 0) (map : TreeState ℕ �
       next-some b x next item =
           let there = (after (Some b) next).here in
           a_step may_refuse (holding_at (Some held)) (holding_at (Some b)) Next (Pair x.0 x.1) (Some is.place) (Some (suc is.place)) at_place
-          (held_item (suc is.place) b there) (is.place, refl, (listed (suc is.place) b there x item, refl)) refl tree
+          (held_item (suc is.place) b there) (is.place, refl, (listed (suc is.place) b there x item, refl)) (b, refl, there.occupied, refl) tree
 
       pub next-back : (b : Address) → IsNext map at (Some b) → IsBackIn map b
       next-back b next = item-back map (suc is.place) b (after (Some b) next).here
@@ -139,7 +139,7 @@ module _ (may_refuse : Content (Node ℕ ℕ) → Type 0) (map : TreeState ℕ �
     prev-some b x is item =
         let there = prev-some-by is.place b is.item in
         a_step may_refuse (holding_at (Some held)) (holding_at (Some b)) Prev (Pair x.0 x.1) (Some is.place) (Some there.0) (is.place, refl, is.has)
-        (held_item there.0 b there.2) (there.0, ap (λ n. Some n) there.1, (listed there.0 b there.2 x item, refl)) refl tree
+        (held_item there.0 b there.2) (there.0, ap (λ n. Some n) there.1, (listed there.0 b there.2 x item, refl)) (b, refl, there.2.occupied, refl) tree
 
     pub prev-back : (b : Address) → IsPrevious map held (Some b) → IsBackIn map b
     prev-back b is = let there = prev-some-by is.place b is.item in item-back map there.0 b there.2

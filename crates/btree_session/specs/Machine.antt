@@ -12,7 +12,8 @@ use Rattle.btree_item.specs.declared.refused.Cause.{Cause}
 use Rattle.btree_item.specs.declared.refused.Cause.TheVariants.{Store, Count}
 use Rattle.btree_store.specs.Content.{Content}
 use Rattle.btree_node.specs.declared.node.Node.{Node}
-use Rattle.btree_shape.specs.TreeState.{TreeState, IsBTree, pairs_of}
+use Rattle.btree_shape.specs.TreeState.{TreeState, IsBTree, IsOccupiedIn, pairs_of}
+use Rattle.btree_find.specs.Answers.{IsFoundAt, IsGapAt}
 use Rattle.btree_find.specs.Navigation.{HasPlace, IsNormalized}
 use Rattle.btree_edit.specs.Insert.{IsRefusedAtGap, InsertsByKey}
 use Rattle.btree_edit.specs.InsertAt.{InsertsAt, IsRefusedAt}
@@ -108,12 +109,16 @@ pub record StandsFor (session : Held ℕ ℕ) (state : SessionState) : Type 0 wh
   pub place : IsHeldPlace session.map session.held state.place
   pub refusals : state.refusals ≡ session.map.refusals
 
+-- the address of an item is held, in an unchanged map
+abbrev pub HoldsItem : (old new : Held ℕ ℕ) → Type 0
+HoldsItem old new = (a : Address) × (new.held ≡ Some a) × IsOccupiedIn old.map a × (new.map ≡ old.map)
+
 -- over stores that may refuse a node in these contents
 module _ (MayRefuse : Content (Node ℕ ℕ) → Type 0) where
   -- What a command with this reply does to the nodes and to the address that is held: a look-up changes nothing; an
   -- insertion uses the nodes that it needs; a refused one changes nothing, and occurs only if the store may refuse one
-  -- of the needed nodes, or at the greatest count; a removal frees nodes. An edit at the held address is one of the map
-  -- at that address. Where neither pairs nor place change, nothing changes.
+  -- of the needed nodes, or at the greatest count; a removal frees nodes. `seek` holds the address that `address_of`
+  -- returns, `next` and `prev` that of an item. An edit at the held address is one of the map at that address. Where neither pairs nor place change, nothing changes.
   abbrev pub Handles : (old : Held ℕ ℕ) → Command → Reply → (new : Held ℕ ℕ) → Type 0
   Handles old (Get key) reply new = new ≡ old
   Handles old (Insert key value) Nothing new = InsertsByKey nat_cmp key old.map new.map value
@@ -122,6 +127,10 @@ module _ (MayRefuse : Content (Node ℕ ℕ) → Type 0) where
   Handles old (Remove key) (Value value) new = (stored : ℕ) × RemovesByKey old.map new.map nat_cmp key (stored, value)
   Handles old (Remove key) Nothing new = new.map ≡ old.map
   Handles old Clear Done new = new.map ≡ record { nodes = finite.empty; root = None; len = 0; refusals = old.map.refusals }
+  Handles old (Seek key) (Found value) new = (a : Address) × IsFoundAt nat_cmp key old.map a × (new.held ≡ Some a) × (new.map ≡ old.map)
+  Handles old (Seek key) Gap new = (a : Address) × IsGapAt nat_cmp key old.map a × (new.held ≡ Some a) × (new.map ≡ old.map)
+  Handles old Next (Pair key value) new = HoldsItem old new
+  Handles old Prev (Pair key value) new = HoldsItem old new
   Handles old (Put key value) Done new =
       (a : Address) × (b : Address) × (old.held ≡ Some a) × (new.held ≡ Some b) × InsertsAt old.map new.map a nat_cmp b (key, value)
   Handles old (Put key value) (Refused cause) new = (a : Address) × (old.held ≡ Some a) × IsRefusedAt old.map new.map a MayRefuse cause × (new.held ≡ old.held)

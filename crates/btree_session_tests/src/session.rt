@@ -37,7 +37,7 @@ fn written_for<C: ClearNodes<u64, u64>>(
     }
 }
 
-const LINES: [(&[u8], &[u8], Result<(), Stop>); 15] = [
+const LINES: [(&[u8], &[u8], Result<(), Stop>); 17] = [
     (
         b"insert 3 30\nget 3\ninsert 3 31\nget 4\n",
         b"none\nsome 30\nsome 30\nnone\n",
@@ -87,6 +87,16 @@ const LINES: [(&[u8], &[u8], Result<(), Stop>); 15] = [
     (
         b"put 7 70\nnext\nprev\ntake\nseek 7\nput 7 70\nremove 9\nnext\nseek 7\nremove 7\ntake\nclear\nprev\nlen\n",
         b"no place\nno place\nno place\nno place\ngap\nok\nnone\nno place\nfound 70\nsome 70\nno place\nok\nno place\n0\n",
+        Ok(()),
+    ),
+    (
+        b"insert 1 10\nseek 1\nclear\nnext\nseek 1\nput 1 11\nlist\n",
+        b"none\nfound 10\nok\nno place\ngap\nok\n1=11\n",
+        Ok(()),
+    ),
+    (
+        b"insert 18446744073709551615 18446744073709551614\nseek 18446744073709551615\ntake\n",
+        b"none\nfound 18446744073709551614\npair 18446744073709551615 18446744073709551614\n",
         Ok(()),
     ),
 ];
@@ -486,71 +496,194 @@ fn a_refused_node_is_a_reply(rt: HostRuntime) -> Result<(), Fail> {
     Ok(())
 }
 
-// Drives a line that inserts a key, and returns whether it was refused. A refused line changes nothing, and is accepted the next time. An
-// odd key is put at the place that is held for it, which a refusal keeps.
+// Drives a line, and returns whether it was refused. A refused line changes nothing, and is accepted the next time.
 fn is_refused<C: ClearNodes<u64, u64>>(
+    rt: &impl Abort,
+    session: &mut Session<C>,
+    line: &[u8],
+    accepted: &[u8],
+    alloc: Global,
+) -> Result<bool, Fail> {
+    let before = content_of(session.map().as_raw(), alloc)?;
+    let reply = written_for(session, line, alloc)?;
+    if reply.as_slice() == accepted {
+        return Ok(false);
+    }
+    assert_eq!(rt;
+        reply.as_slice(),
+        b"refused store\n".as_slice(),
+        "at {line:?}"
+    );
+    let after = content_of(session.map().as_raw(), alloc)?;
+    assert_eq!(rt; after.as_str(), before.as_str(), "at {line:?}");
+    let again = written_for(session, line, alloc)?;
+    assert_eq!(rt; again.as_slice(), accepted, "at {line:?}");
+    Ok(true)
+}
+
+// Drives a line that inserts a key, and returns whether it was refused. An odd key is put at the place that is held for it, which a refusal
+// keeps.
+fn is_key_refused<C: ClearNodes<u64, u64>>(
     rt: &impl Abort,
     session: &mut Session<C>,
     key: u64,
     alloc: Global,
 ) -> Result<bool, Fail> {
-    let (line, accepted) = if key % 2 == 0 {
-        (
-            format!(in alloc; "insert {key} {key}\n")?,
-            b"none\n".as_slice(),
-        )
-    } else {
-        let seek = format!(in alloc; "seek {key}\n")?;
-        let reply = written_for(session, seek.as_bytes(), alloc)?;
-        assert_eq!(rt; reply.as_slice(), b"gap\n".as_slice());
-        (format!(in alloc; "put {key} {key}\n")?, b"ok\n".as_slice())
-    };
-    let before = content_of(session.map().as_raw(), alloc)?;
-    let reply = written_for(session, line.as_bytes(), alloc)?;
-    if reply.as_slice() == accepted {
-        return Ok(false);
+    if key % 2 == 0 {
+        let line = format!(in alloc; "insert {key} {key}\n")?;
+        return is_refused(rt, session, line.as_bytes(), b"none\n", alloc);
     }
-    assert_eq!(rt; reply.as_slice(), b"refused store\n".as_slice(), "at {key}");
-    let after = content_of(session.map().as_raw(), alloc)?;
-    assert_eq!(rt; after.as_str(), before.as_str(), "at {key}");
-    let again = written_for(session, line.as_bytes(), alloc)?;
-    assert_eq!(rt; again.as_slice(), accepted, "at {key}");
-    Ok(true)
+    let seek = format!(in alloc; "seek {key}\n")?;
+    let reply = written_for(session, seek.as_bytes(), alloc)?;
+    assert_eq!(rt; reply.as_slice(), b"gap\n".as_slice());
+    let line = format!(in alloc; "put {key} {key}\n")?;
+    is_refused(rt, session, line.as_bytes(), b"ok\n", alloc)
 }
 
-// Drives 44 insertions, and returns how many were refused.
-fn refusals_of_44<C: ClearNodes<u64, u64> + Drop>(
+// Drives 64 insertions, and returns how many were refused. The last one, a `put`, uses two nodes, and the store grows for the second.
+fn refusals_of_64<C: ClearNodes<u64, u64> + Drop>(
     rt: &impl Abort,
     origin: C::Origin,
     alloc: Global,
 ) -> Result<usize, Fail> {
     let mut session: Session<C> = Session::new(origin);
     let mut refusals = 0usize;
-    for key in 0..44u64 {
-        if is_refused(rt, &mut session, key, alloc)? {
+    for key in 0..64u64 {
+        if is_key_refused(rt, &mut session, key, alloc)? {
             refusals = refusals.wrapping_add(1);
         }
     }
     let counts = written_for(&mut session, b"len\nnodes\n", alloc)?;
-    assert_eq!(rt; counts.as_slice(), b"44\n12\n".as_slice());
+    assert_eq!(rt; counts.as_slice(), b"64\n17\n".as_slice());
     Ok(refusals)
 }
 
-// Each allocation of the store in a run of 44 insertions is refused in turn, until a run has none that is refused.
+// Each allocation of the store in a run of 64 insertions is refused in turn, until a run has none that is refused. The store grows for the
+// 1st, 5th, 9th and 17th node: for the keys 0, 18 and 38, which are inserted by key, and for 63, which is put.
 #[test]
 fn a_refused_line_changes_nothing(rt: HostRuntime) -> Result<(), Fail> {
-    for nth in 1..44u64 {
+    for nth in 1..64u64 {
         let memory = Refusing::over(rt.alloc(), nth);
-        let refusals = refusals_of_44::<SlabStore<Node<u64, u64>, &Refusing<Global>>>(
+        let refusals = refusals_of_64::<SlabStore<Node<u64, u64>, &Refusing<Global>>>(
             &rt,
             &memory,
             rt.alloc(),
         )?;
         if refusals == 0 {
-            assert!(rt; nth > 1 && memory.refuses() > 0);
+            assert_eq!(rt; nth, 5);
+            assert!(rt; memory.refuses() > 0);
             return Ok(());
         }
         assert_eq!(rt; (refusals, memory.refuses()), (1, 0), "at {nth}");
     }
     Err(Fail::from("each run met a refusal"))
+}
+
+// Lines that edit at a held place, with the reply to each.
+const EDITS: [(&[u8], &[u8]); 12] = [
+    (b"insert 1 10\n", b"none\n"),
+    (b"insert 3 30\n", b"none\n"),
+    (b"seek 2\n", b"gap\n"),
+    (b"put 2 20\n", b"ok\n"),
+    (b"next\n", b"pair 3 30\n"),
+    (b"prev\n", b"pair 2 20\n"),
+    (b"take\n", b"pair 2 20\n"),
+    (b"put 2 21\n", b"ok\n"),
+    (b"list\n", b"1=10 2=21 3=30\n"),
+    (b"insert 3 31\n", b"some 30\n"),
+    (b"next\n", b"no place\n"),
+    (b"shape\n", b"(1 2 3)\n"),
+];
+
+// Drives the lines of `EDITS`, and returns how many were refused.
+fn refusals_of_edits<C: ClearNodes<u64, u64> + Drop>(
+    rt: &impl Abort,
+    origin: C::Origin,
+    alloc: Global,
+) -> Result<usize, Fail> {
+    let mut session: Session<C> = Session::new(origin);
+    let mut refusals = 0usize;
+    for (line, accepted) in EDITS {
+        if is_refused(rt, &mut session, line, accepted, alloc)? {
+            refusals = refusals.wrapping_add(1);
+        }
+    }
+    Ok(refusals)
+}
+
+// The store allocates once, for the first pair. After a refusal each of the other lines has the same reply.
+#[test]
+fn a_refused_line_of_edits_changes_nothing(rt: HostRuntime) -> Result<(), Fail> {
+    for (nth, refused, left) in [(1, 1, 0), (2, 0, 1)] {
+        let memory = Refusing::over(rt.alloc(), nth);
+        let refusals = refusals_of_edits::<SlabStore<Node<u64, u64>, &Refusing<Global>>>(
+            &rt,
+            &memory,
+            rt.alloc(),
+        )?;
+        assert_eq!(rt; (refusals, memory.refuses()), (refused, left), "at {nth}");
+    }
+    Ok(())
+}
+
+// The store refuses the first insertion, and the place that is held stays. The second insertion succeeds and lets it go.
+fn check_held_when_refused<C: ClearNodes<u64, u64> + Drop>(
+    rt: &impl Abort,
+    origin: C::Origin,
+    alloc: Global,
+) -> Result<(), Fail> {
+    let mut session: Session<C> = Session::new(origin);
+    let written = written_for(
+        &mut session,
+        b"seek 2\ninsert 1 10\nnext\nput 2 20\ntake\nnext\ninsert 1 10\nnext\n",
+        alloc,
+    )?;
+    assert_eq!(rt;
+        written.as_slice(),
+        b"gap\nrefused store\nnone\nok\npair 2 20\nnone\nnone\nno place\n".as_slice()
+    );
+    Ok(())
+}
+
+#[test]
+fn a_refused_insertion_keeps_the_held_place(rt: HostRuntime) -> Result<(), Fail> {
+    let memory = Refusing::over(rt.alloc(), 1);
+    check_held_when_refused::<SlabStore<Node<u64, u64>, &Refusing<Global>>>(
+        &rt,
+        &memory,
+        rt.alloc(),
+    )?;
+    assert_eq!(rt; memory.refuses(), 0);
+    Ok(())
+}
+
+// In each row: how many keys, from 0 on, are inserted before the lines are driven.
+#[test]
+fn removals_are_shown_by_the_shape(rt: HostRuntime) -> Result<(), Fail> {
+    let runs: [(u64, &[u8], &[u8]); 2] = [
+        (
+            9,
+            b"seek 4\ntake\nput 4 4\nshape\n",
+            b"found 4\npair 4 4\nok\n((0 1 2) 3 (4 5 6 7 8))\n",
+        ),
+        (
+            44,
+            b"remove 0\nremove 1\nremove 2\nremove 3\nremove 4\nremove 5\nremove 6\nnodes\nremove 7\nnodes\nshape\n",
+            b"some 0\nsome 1\nsome 2\nsome 3\nsome 4\nsome 5\nsome 6\n11\nsome 7\n8\n\
+((8 9 10 11 12 13) 14 (15 16 17 18) 19 (20 21 22 23) 24 (25 26 27 28) 29 (30 31 32 33) 34 (35 36 37 38) 39 (40 41 42 43))\n",
+        ),
+    ];
+    for (keys, text, written) in runs {
+        let mut session: Session<Store> = Session::new(rt.alloc());
+        for key in 0..keys {
+            let line = format!(in rt.alloc(); "insert {key} {key}\n")?;
+            written_for(&mut session, line.as_bytes(), rt.alloc())?;
+        }
+        assert_eq!(rt;
+            written_for(&mut session, text, rt.alloc())?.as_slice(),
+            written,
+            "at {text:?}"
+        );
+    }
+    Ok(())
 }

@@ -1,6 +1,7 @@
-//! Look-up and insertion through whole trees, by keys that count how often they are compared.
+//! Look-up, insertion and removal in whole trees, and the tests of a key at an address, by keys that count how often they are compared.
 use btree_counted::Counted;
-use btree_ext::{BTreeExt, Tree};
+use btree_ext::{BTreeExt, BTreeExtMut, Tree};
+use btree_item::Address;
 use btree_node::Node;
 use btree_store::SlabStore;
 use std::alloc::Global;
@@ -59,5 +60,70 @@ fn compares_at_most_six_keys_a_level(rt: HostRuntime) {
         compared.set(0);
         assert_eq!(rt; value_at(&tree, &key), value);
         check_count(&rt, &tree, &compared, number);
+    }
+}
+
+// Each of the keys and each number between is removed.
+#[test]
+fn compares_at_most_six_keys_a_level_to_remove(rt: HostRuntime) {
+    let compared = Cell::new(0);
+    let mut tree = odd_keys(&rt, &compared, rt.alloc());
+    for number in 0..89u32 {
+        let key = Counted {
+            number,
+            compared: &compared,
+        };
+        let levels = tree.height();
+        compared.set(0);
+        let removed = tree.remove_entry(&key).map(|pair| pair.1);
+        assert!(rt; compared.get() as usize <= 6 * levels, "at {number}");
+        let value = if number % 2 == 1 {
+            Some(number / 2)
+        } else {
+            None
+        };
+        assert_eq!(rt; removed, value);
+    }
+    assert_eq!(rt; (tree.len(), tree.node_count()), (0, 0));
+}
+
+// Each of the keys is removed at its address, which compares no keys.
+#[test]
+fn compares_no_keys_to_remove_at_an_address(rt: HostRuntime) {
+    let compared = Cell::new(0);
+    let mut tree = odd_keys(&rt, &compared, rt.alloc());
+    for value in 0..44u32 {
+        let key = Counted {
+            number: 2 * value + 1,
+            compared: &compared,
+        };
+        let (Ok(addr) | Err(addr)) = tree.address_of(&key);
+        assert!(rt; tree.is_valid(Address::new(addr.id, addr.offset)));
+        compared.set(0);
+        let removed = tree.remove_at(addr).map(|pair| *pair.0.value());
+        assert_eq!(rt; (removed, compared.get()), (Some(value), 0));
+    }
+}
+
+// Each of the keys and each number between is tried at its own address or gap.
+#[test]
+fn compares_at_most_two_keys_at_an_address(rt: HostRuntime) {
+    let compared = Cell::new(0);
+    let tree = odd_keys(&rt, &compared, rt.alloc());
+    for number in 0..89u32 {
+        let key = Counted {
+            number,
+            compared: &compared,
+        };
+        let (Ok(addr) | Err(addr)) = tree.address_of(&key);
+        assert!(rt; tree.is_valid(Address::new(addr.id, addr.offset)));
+        compared.set(0);
+        let fits = tree.fits_at(Address::new(addr.id, addr.offset), &key);
+        assert_eq!(rt; fits, number % 2 == 0, "at {number}");
+        assert!(rt; compared.get() <= 2, "at {number}");
+        compared.set(0);
+        let replaces = tree.replaces_at(addr, &key);
+        assert!(rt; replaces || number % 2 == 0, "at {number}");
+        assert!(rt; compared.get() <= 2, "at {number}");
     }
 }

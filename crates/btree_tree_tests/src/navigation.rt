@@ -173,3 +173,36 @@ fn answers_at_each_address(rt: HostRuntime) {
     check_addresses(&rt, &tree, ids);
     check_keys(&rt, &tree, ids);
 }
+
+// The offsets of a node go up to its number of items, and nowhere is no address of a tree with nodes.
+#[test]
+fn decides_which_addresses_are_valid(rt: HostRuntime) {
+    let (tree, ids) = two_leaves(&rt, rt.alloc());
+    let unused = ids
+        .0
+        .wrapping_add(ids.1)
+        .wrapping_add(ids.2)
+        .wrapping_add(1);
+    for (id, offset, valid) in [
+        (ids.0, 4, true),
+        (ids.0, 5, false),
+        (ids.1, 1, true),
+        (ids.1, 2, false),
+        (ids.2, 4, true),
+        (ids.2, 9, false),
+        (unused, 0, false),
+        (usize::MAX, 0, false),
+    ] {
+        let addr = Address::new(id, Offset::from(offset));
+        assert_eq!(rt; tree.is_valid(addr), valid, "{addr}");
+    }
+    for (id, valid) in [
+        (ids.0, true),
+        (ids.1, true),
+        (unused, false),
+        (usize::MAX, false),
+    ] {
+        let addr = Address::new(id, Offset::before());
+        assert_eq!(rt; tree.is_valid(addr), valid, "{addr}");
+    }
+}
