@@ -118,7 +118,8 @@ module _ (MayRefuse : Content (Node ℕ ℕ) → Type 0) where
   -- What a command with this reply does to the nodes and to the address that is held: a look-up changes nothing; an
   -- insertion uses the nodes that it needs; a refused one changes nothing, and occurs only if the store may refuse one
   -- of the needed nodes, or at the greatest count; a removal frees nodes. `seek` holds the address that `address_of`
-  -- returns, `next` and `prev` that of an item. An edit at the held address is one of the map at that address. Where neither pairs nor place change, nothing changes.
+  -- returns, `next` and `prev` that of an item. An edit at the held address is one of the map at that address. Where
+  -- neither pairs nor place change, nothing changes.
   abbrev pub Handles : (old : Held ℕ ℕ) → Command → Reply → (new : Held ℕ ℕ) → Type 0
   Handles old (Get key) reply new = new ≡ old
   Handles old (Insert key value) Nothing new = InsertsByKey nat_cmp key old.map new.map value
