@@ -4,3 +4,5 @@ pub mod Edits
 pub mod Kept
 pub mod LookUp
 pub mod Removal
+pub mod Separators
+pub mod Insertion
