@@ -14,10 +14,10 @@ ghost use Rattle.btree_view.specs.Separators.{separator_after, separator_before}
 ghost use Rattle.btree_view.specs.View.{items_of, children_of, internal, item_at_offset, size_of, value_at_offset};
 
 use btree_item::{
-    INTERNAL_MEDIAN, INTERNAL_SLOTS, Item, Keyed, MAX_INTERNAL_ITEMS, MIN_ITEMS, Offset, Slots,
-    search,
+    Fault, INTERNAL_MEDIAN, INTERNAL_SLOTS, Item, Keyed, MAX_INTERNAL_ITEMS, MIN_ITEMS, Offset,
+    Slots, search,
 };
-use btree_view::{Balance, WouldUnderflow, offset_at};
+use btree_view::{Balance, WouldUnderflow, check_node, offset_at};
 use std::cmp::Ordering;
 use std::marker::Model;
 use std::mem;
@@ -429,6 +429,30 @@ impl<K: Ord, V> InternalNode<K, V> {
             Ok(index) => Ok(offset_at(index)),
             Err(index) => Err((index, self.child_id(index))),
         }
+    }
+}
+
+impl<K: Ord, V> InternalNode<K, V> {
+    ghost use Rattle.btree_view.specs.Checks.{IsNodeVerdict};
+
+    /// Checks the parent, the number of items, and the keys, also against the nearest separators on both sides, and returns the fault of
+    /// the first check that fails. A node with neither separator is judged as the root.
+    pub fn validate(
+        &self,
+        parent: Option<usize>,
+        min: Option<&K>,
+        max: Option<&K>,
+    ) -> Result<(), Fault>
+        ensures { IsNodeVerdict K.cmp parent (option_copied min.entry) (option_copied max.entry) (view_of self.now) result }
+    {
+        check_node(
+            &self.branches,
+            MAX_INTERNAL_ITEMS,
+            self.parent(),
+            parent,
+            min,
+            max,
+        )
     }
 }
 

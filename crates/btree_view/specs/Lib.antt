@@ -6,3 +6,4 @@ pub mod LookUp
 pub mod Removal
 pub mod Separators
 pub mod Insertion
+pub mod Checks
