@@ -1,7 +1,7 @@
 -- Keys that ascend, by neighbours, and checks by what they return.
-use Rattle.std.proofs.Common.{◌≡◌, ℕ, nat_eq, not, ◌+◌, ◌-◌, ◌<◌, ◌≤◌, inl, inr, Bool, true, false, List, [], ◌∷◌, Option, Some, None, length, map, zero, suc, refl, sym, ◌∙◌, ap, arith, subst, Ordering}
+use Rattle.std.proofs.Common.{◌≡◌, ℕ, nat_eq, not, ◌+◌, ◌-◌, ◌<◌, ◌≤◌, inl, inr, Bool, true, false, List, [], ◌∷◌, Option, Some, None, length, map, zero, suc, refl, sym, ◌∙◌, ap, arith, Ordering}
 use Rattle.std.specs.declared.cmp.Ordering.TheVariants.{Less}
-use Rattle.std.specs.Prelude.{slice_get, IsTrue}
+use Rattle.std.specs.Prelude.{slice_get}
 use Rattle.std.specs.Cmp.{IsTotalOrder}
 use Rattle.std.specs.List.{AllByRecursion}
 use Rattle.std.specs.List.Sorted.{IsStrictlySortedBy}

@@ -1,7 +1,7 @@
-use Rattle.std.proofs.Common.{◌≡◌, ◌+◌, ◌-◌, ◌<◌, ◌≤◌, true, map, length, suc, refl, sym, ◌∙◌, ap, arith, Some, subst}
+use Rattle.std.proofs.Common.{◌-◌, map, refl, ◌∙◌, arith}
 use Rattle.std.proofs.lemmas.List.{length-map}
 use Rattle.btree_item.proofs.KeyLemmas.{is_lt-from_partial, Less-from_is_lt}
-use Rattle.btree_view.proofs.CheckLemmas.{AscendUpTo, AscendUpTo-one, AscendUpTo-next, ascend-from_neighbours, ascend-from_end, key-from_slot, not-ascending}
+use Rattle.btree_view.proofs.CheckLemmas.{AscendUpTo-one, AscendUpTo-next, ascend-from_end, key-from_slot, not-ascending}
 use Rattle.btree_view.proofs.checks.keys_ascend.Goals as goal
 
 pub loop-index-init : goal.loop-index-init

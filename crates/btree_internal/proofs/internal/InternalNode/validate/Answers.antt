@@ -14,4 +14,4 @@ returns g c =
     let min = option_copied c.args.min in
     let max = option_copied c.args.max in
     subst (λ own. IsKeysVerdict cmp c.args.parent min max own 7 (keys_of (items_of (internal_view c.args.self.now))) c.check_node.result) c.parent.ensures.value
-      (subst (λ ks. IsKeysVerdict cmp c.args.parent min max c.parent.result 7 ks c.check_node.result) keys c.check_node.ensures)
+    (subst (λ ks. IsKeysVerdict cmp c.args.parent min max c.parent.result 7 ks c.check_node.result) keys c.check_node.ensures)
