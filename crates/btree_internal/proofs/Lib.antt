@@ -1,3 +1,5 @@
 pub mod BranchLemmas
 pub mod LookUpLemmas
 pub mod InternalSplit
+pub mod SeparatorLemmas
+pub mod InsertionLemmas

@@ -1,2 +1,5 @@
 pub mod Internal
 pub mod InternalLends
+pub mod Insertion
+pub mod Children
+pub mod ChildrenLeft

@@ -4,19 +4,20 @@ ghost use Rattle.std.proofs.Common.{rules};
 ghost use Rattle.std.specs.Cmp.Rules.{comparing};
 ghost use Rattle.std.specs.Ordering.{on};
 ghost use Rattle.std.specs.List.Sorted.{IsSearchInRange};
-ghost use Rattle.std.specs.Option.{option_copied};
+ghost use Rattle.std.specs.Option.{option_copied, option_map};
 ghost use Rattle.btree_item.specs.Pairs.{Ascends, found, place_of};
 ghost use Rattle.btree_view.specs.Edits.{balance_of, IsOverflowing, IsUnderflowing};
 ghost use Rattle.btree_view.specs.Kept.{kept_parent};
 ghost use Rattle.btree_view.specs.LookUp.{IsIndexOfKey, look_up, offset_in, PointsInto, result_map, result_map_err};
 ghost use Rattle.btree_internal.specs.Internal.{branch_pair, gap_with_child, internal_view as view_of, InternalPopsLeft, InternalPopsRight};
+ghost use Rattle.btree_view.specs.Separators.{separator_after, separator_before};
 ghost use Rattle.btree_view.specs.View.{items_of, children_of, internal, item_at_offset, size_of, value_at_offset};
 
 use btree_item::{
-    INTERNAL_MEDIAN, INTERNAL_SLOTS, Item, Keyed, MAX_INTERNAL_ITEMS, MIN_ITEMS, Offset, Slots,
-    search,
+    Fault, INTERNAL_MEDIAN, INTERNAL_SLOTS, Item, Keyed, MAX_INTERNAL_ITEMS, MIN_ITEMS, Offset,
+    Slots, search,
 };
-use btree_view::{Balance, WouldUnderflow, offset_at};
+use btree_view::{Balance, WouldUnderflow, check_node, offset_at};
 use std::cmp::Ordering;
 use std::marker::Model;
 use std::mem;
@@ -102,6 +103,15 @@ impl<K: Ord, V> Ord for Branch<K, V> {
     fn cmp(&self, other: &Self) -> Ordering {
         self.item.cmp(&other.item)
     }
+}
+
+/// A key that an internal node does not hold, with its value, and the index and the number of the child that may hold it.
+#[derive(Drop)]
+pub struct InsertionError<K, V> {
+    pub key: K,
+    pub value: V,
+    pub child_offset: usize,
+    pub child_id: usize,
 }
 
 /// An internal node: the number of its parent, the number of its first child, and up to eight items, each with the child after it. In a
@@ -247,6 +257,21 @@ impl<K, V> InternalNode<K, V> {
         }
     }
 
+    /// Returns the keys before and after the child at an index: `None` before the first child, and after the last. There must be a child;
+    /// see `child_id_opt`.
+    pub fn separators(&self, index: usize) -> (Option<&K>, Option<&K>)
+        requires { index ≤ length self.now.branches }
+        ensures before { option_copied result.0 ≡ separator_before (view_of self.now) index }
+        ensures after { option_copied result.1 ≡ separator_after (view_of self.now) index }
+    {
+        let before = if index == 0 {
+            None
+        } else {
+            key_in(&self.branches, index - 1)
+        };
+        (before, key_in(&self.branches, index))
+    }
+
     /// Returns the item at an offset, or `None` at -1 and past the end.
     pub fn item(&self, offset: Offset) -> Option<&Item<K, V>>
         ensures { option_copied result ≡ item_at_offset (view_of self.now) offset }
@@ -309,6 +334,16 @@ fn branch_at<K, V>(branches: &Slots<Branch<K, V>, INTERNAL_SLOTS>, index: usize)
     ensures { slice_get branches.now index ≡ Some result.now }
 {
     branches.get(index).unwrap()
+}
+
+// Returns the key of the branch at an index, if there is one.
+fn key_in<K, V>(branches: &Slots<Branch<K, V>, INTERNAL_SLOTS>, index: usize) -> Option<&K>
+    ensures { option_copied result ≡ option_map (λ b. b.item.0) (slice_get branches.now index) }
+{
+    match branches.get(index) {
+        Some(branch) => Some(branch.item.key()),
+        None => None,
+    }
 }
 
 // Returns the number of the child at an index; `first` is the child before all branches.
@@ -393,6 +428,61 @@ impl<K: Ord, V> InternalNode<K, V> {
         match self.find(key) {
             Ok(index) => Ok(offset_at(index)),
             Err(index) => Err((index, self.child_id(index))),
+        }
+    }
+}
+
+impl<K: Ord, V> InternalNode<K, V> {
+    ghost use Rattle.btree_view.specs.Checks.{IsNodeVerdict};
+
+    /// Checks the parent, the number of items, and the keys, also against the nearest separators on both sides, and returns the fault of
+    /// the first check that fails. A node with neither separator is judged as the root.
+    pub fn validate(
+        &self,
+        parent: Option<usize>,
+        min: Option<&K>,
+        max: Option<&K>,
+    ) -> Result<(), Fault>
+        ensures { IsNodeVerdict K.cmp parent (option_copied min.entry) (option_copied max.entry) (view_of self.now) result }
+    {
+        check_node(
+            &self.branches,
+            MAX_INTERNAL_ITEMS,
+            self.parent(),
+            parent,
+            min,
+            max,
+        )
+    }
+}
+
+impl<K: Ord + Drop, V: Drop> InternalNode<K, V> {
+    ghost use Rattle.std.specs.Prelude.{IfErr, OnOk};
+    ghost use Rattle.btree_item.specs.Pairs.{before, found_value};
+    ghost use Rattle.btree_internal.specs.Insertion.{NamesChildFor};
+    ghost use Rattle.btree_view.specs.Insertion.{with_inserted};
+
+    /// Replaces the value at a key, with at most six comparisons: the key that is there stays, and the given key is dropped. Returns the
+    /// offset and the old value. If the key is not there, nothing changes.
+    pub fn insert_by_key(&mut self, key: K, value: V) -> Result<(Offset, V), InsertionError<K, V>>
+        requires { Ascends K.cmp (items_of (view_of self.old)) }
+        ensures offset { IfOk result (λ put. put.0 ≡ Some (before K.cmp key (items_of (view_of self.old)))) }
+        ensures answer { IfOk result (λ put. Some put.1 ≡ found_value K.cmp key (items_of (view_of self.old))) }
+        ensures after { OnOk result (view_of self.new ≡ with_inserted K.cmp key value (view_of self.old)) }
+        ensures absent { IfErr result (NamesChildFor K.cmp key value (view_of self.old)) }
+        ensures kept { OnErr result (self.new ≡ self.old) }
+    {
+        match self.find(&key) {
+            Ok(index) => match self.value_at(index) {
+                Some(here) => Ok((offset_at(index), mem::replace(here, value))),
+                None => unreachable!(),
+            },
+            Err(index) => Err(InsertionError {
+                key,
+                value,
+                child_offset: index,
+                child_id: self.child_id(index),
+            }),
         }
     }
 }

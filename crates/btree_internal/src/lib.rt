@@ -1,6 +1,8 @@
 //! The internal nodes of the tree.
 #![tactic(auto)]
 
+mod children;
 mod internal;
 
-pub use internal::{Branch, Internal, InternalNode};
+pub use children::{Children, ChildrenWithSeparators};
+pub use internal::{Branch, InsertionError, Internal, InternalNode};

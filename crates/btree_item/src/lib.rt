@@ -2,6 +2,7 @@
 #![tactic(auto)]
 
 mod address;
+mod fault;
 mod item;
 mod offset;
 mod refused;
@@ -10,6 +11,7 @@ mod slots;
 mod slots_iter;
 
 pub use address::Address;
+pub use fault::Fault;
 pub use item::{Item, Keyed};
 pub use offset::Offset;
 pub use refused::{Cause, Refused};

@@ -9,9 +9,10 @@ ghost use Rattle.btree_view.specs.Kept.{insert_at, kept_parent};
 ghost use Rattle.btree_view.specs.LookUp.{IsIndexOfKey};
 
 use btree_item::{
-    Item, LEAF_MEDIAN, LEAF_SLOTS, MAX_LEAF_ITEMS, MIN_ITEMS, Offset, Slots, SlotsIter, search,
+    Fault, Item, LEAF_MEDIAN, LEAF_SLOTS, MAX_LEAF_ITEMS, MIN_ITEMS, Offset, Slots, SlotsIter,
+    search,
 };
-use btree_view::{Balance, WouldUnderflow, offset_at};
+use btree_view::{Balance, WouldUnderflow, check_node, offset_at};
 use std::marker::Model;
 
 /// A leaf: the number of its parent, and up to nine items. In a well formed tree it has at most eight.
@@ -212,6 +213,23 @@ impl<K: Ord, V> LeafNode<K, V> {
         ensures fits { length self.now.items ≤ LEAF_SLOTS }
     {
         place(self.items(), key)
+    }
+}
+
+impl<K: Ord, V> LeafNode<K, V> {
+    ghost use Rattle.btree_view.specs.Checks.{IsNodeVerdict};
+
+    /// Checks the parent, the number of items, and the keys, also against the nearest separators on both sides, and returns the fault of
+    /// the first check that fails. A leaf with neither separator is judged as the root.
+    pub fn validate(
+        &self,
+        parent: Option<usize>,
+        min: Option<&K>,
+        max: Option<&K>,
+    ) -> Result<(), Fault>
+        ensures { IsNodeVerdict K.cmp parent (option_copied min.entry) (option_copied max.entry) (view_of self.now) result }
+    {
+        check_node(&self.items, MAX_LEAF_ITEMS, self.parent(), parent, min, max)
     }
 }
 

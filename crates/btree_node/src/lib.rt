@@ -3,12 +3,12 @@
 
 mod node;
 
-pub use btree_internal::{Branch, InternalNode};
+pub use btree_internal::{Branch, Children, ChildrenWithSeparators, InternalNode};
 pub use btree_leaf::LeafNode;
 pub use btree_view::{Balance, WouldUnderflow};
 pub use node::{Node, PoppedItem};
 
 /// Internal nodes, under their path in Rust's crate.
 pub mod internal {
-    pub use btree_internal::{Branch, Internal, InternalNode};
+    pub use btree_internal::{Branch, InsertionError, Internal, InternalNode};
 }

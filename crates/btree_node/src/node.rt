@@ -2,14 +2,16 @@
 ghost use Rattle.std.specs.Prelude.{◌≡◌, ◌<◌, ◌≤◌, ◌↔◌, ◌==◌, Some, None, IsTrue, IsSomeAnd, IfSome, OnSome, length, slice_get, position};
 ghost use Rattle.std.specs.Option.{option_copied};
 ghost use Rattle.btree_item.specs.Pairs.{Ascends};
-ghost use Rattle.btree_view.specs.Edits.{balance_of, HasChildFor, IsOverflowing, IsSplit, IsUnderflowing, with_parent};
+ghost use Rattle.btree_view.specs.Edits.{balance_of, HasChildFor, is_internal, IsOverflowing, IsSplit, IsUnderflowing, with_parent};
 ghost use Rattle.btree_view.specs.Kept.{kept_parent};
 ghost use Rattle.btree_view.specs.LookUp.{look_up, offset_in, PointsInto, result_map};
 ghost use Rattle.btree_node.specs.Node.{branch_copied, view_of};
+ghost use Rattle.btree_internal.specs.ChildrenLeft.{between_left, children_left};
+ghost use Rattle.btree_view.specs.Separators.{children_between_items, separator_after, separator_before};
 ghost use Rattle.btree_view.specs.View.{BeginsAt, parent_of, items_of, children_of, item_at_offset, size_of, most_of};
 
-use btree_internal::InternalNode;
-use btree_item::{Item, LEAF_SLOTS, MAX_INTERNAL_ITEMS, MAX_LEAF_ITEMS, MIN_ITEMS, Offset};
+use btree_internal::{Children, ChildrenWithSeparators, InsertionError, InternalNode};
+use btree_item::{Fault, Item, LEAF_SLOTS, MAX_INTERNAL_ITEMS, MAX_LEAF_ITEMS, MIN_ITEMS, Offset};
 use btree_leaf::LeafNode;
 use btree_view::{Balance, WouldUnderflow, offset_at};
 
@@ -87,6 +89,39 @@ impl<K, V> Node<K, V> {
         match self {
             Node::Internal(node) => node.child_id_opt(index),
             Node::Leaf(_) => None,
+        }
+    }
+
+    /// Returns the keys before and after the child at an index: `None` before the first child, and after the last. An internal node must
+    /// have that child; see `child_id_opt`. A leaf has no children, and no separators at any index.
+    pub fn separators(&self, index: usize) -> (Option<&K>, Option<&K>)
+        requires { IsTrue (is_internal (view_of self.now)) → index ≤ size_of (view_of self.now) }
+        ensures before { option_copied result.0 ≡ separator_before (view_of self.now) index }
+        ensures after { option_copied result.1 ≡ separator_after (view_of self.now) index }
+    {
+        match self {
+            Node::Internal(node) => node.separators(index),
+            Node::Leaf(_) => (None, None),
+        }
+    }
+
+    /// Returns an iterator over the numbers of the children. A leaf has none.
+    pub fn children(&self) -> Children<'_, K, V>
+        ensures { children_left result ≡ children_of (view_of self.now) }
+    {
+        match self {
+            Node::Internal(node) => node.children(),
+            Node::Leaf(_) => Children::Leaf,
+        }
+    }
+
+    /// Returns an iterator over the children, each with the item before it and the item after it. A leaf has none.
+    pub fn children_with_separators(&self) -> ChildrenWithSeparators<'_, K, V>
+        ensures { between_left result ≡ children_between_items (view_of self.now) }
+    {
+        match self {
+            Node::Internal(node) => node.children_with_separators(),
+            Node::Leaf(_) => ChildrenWithSeparators::Leaf,
         }
     }
 
@@ -199,7 +234,7 @@ impl<K: Drop, V: Drop> Node<K, V> {
     ghost use Rattle.std.specs.Result.{result_err};
     ghost use Rattle.btree_view.specs.Removal.{removal_in};
     ghost use Rattle.btree_view.specs.View.{leaf, internal, last_child_of, last_item_of};
-    ghost use Rattle.btree_view.specs.Edits.{HasSpare, HaveRoom, is_internal, joined, PopsLeft, PopsRight, pushed_left, pushed_right, with_item_at, with_other_item_at, without, without_at, without_last};
+    ghost use Rattle.btree_view.specs.Edits.{HasSpare, HaveRoom, joined, PopsLeft, PopsRight, pushed_left, pushed_right, with_item_at, with_other_item_at, without, without_at, without_last};
 
     /// Returns a leaf with one item. `Some(usize::MAX)` as the parent is read as `None`.
     pub fn leaf(parent: Option<usize>, item: Item<K, V>) -> Self
@@ -490,6 +525,59 @@ impl<K: Ord, V> Node<K, V> {
                 Ok(index) => Ok(offset_at(index)),
                 Err(index) => Err((index, None)),
             },
+        }
+    }
+}
+
+impl<K: Ord, V> Node<K, V> {
+    ghost use Rattle.btree_view.specs.Checks.{IsNodeVerdict};
+
+    /// Checks the parent, the number of items, and the keys, also against the nearest separators on both sides, and returns the fault of
+    /// the first check that fails. A node with neither separator is judged as the root.
+    pub fn validate(
+        &self,
+        parent: Option<usize>,
+        min: Option<&K>,
+        max: Option<&K>,
+    ) -> Result<(), Fault>
+        ensures { IsNodeVerdict K.cmp parent (option_copied min.entry) (option_copied max.entry) (view_of self.now) result }
+    {
+        match self {
+            Node::Internal(node) => node.validate(parent, min, max),
+            Node::Leaf(leaf) => leaf.validate(parent, min, max),
+        }
+    }
+}
+
+impl<K: Ord + Drop, V: Drop> Node<K, V> {
+    ghost use Rattle.std.specs.Prelude.{IfErr, IfOk, IsFalse, OnErr, OnOk};
+    ghost use Rattle.btree_item.specs.Pairs.{before, found_value};
+    ghost use Rattle.btree_internal.specs.Insertion.{NamesChildFor};
+    ghost use Rattle.btree_view.specs.Insertion.{with_inserted};
+
+    /// Inserts a value by its key, with at most six comparisons: a key that is there stays and gets the new value, and the given key is
+    /// dropped. Returns the offset, and the old value if there was one. An internal node that does not hold the key stays as it is, and
+    /// the error names the child that may hold it. A leaf needs room.
+    pub fn insert_by_key(
+        &mut self,
+        key: K,
+        value: V,
+    ) -> Result<(Offset, Option<V>), InsertionError<K, V>>
+        requires room { IsFalse (is_internal (view_of self.old)) → size_of (view_of self.old) ≤ most_of (view_of self.old) }
+        requires ascends { Ascends K.cmp (items_of (view_of self.old)) }
+        ensures offset { IfOk result (λ put. put.0 ≡ Some (before K.cmp key (items_of (view_of self.old)))) }
+        ensures answer { IfOk result (λ put. put.1 ≡ found_value K.cmp key (items_of (view_of self.old))) }
+        ensures after { OnOk result (view_of self.new ≡ with_inserted K.cmp key value (view_of self.old)) }
+        ensures inner { OnErr result (IsTrue (is_internal (view_of self.old))) }
+        ensures absent { IfErr result (NamesChildFor K.cmp key value (view_of self.old)) }
+        ensures kept { OnErr result (self.new ≡ self.old) }
+    {
+        match self {
+            Node::Internal(node) => match node.insert_by_key(key, value) {
+                Ok((offset, old)) => Ok((offset, Some(old))),
+                Err(error) => Err(error),
+            },
+            Node::Leaf(leaf) => Ok(leaf.insert_by_key(key, value)),
         }
     }
 }

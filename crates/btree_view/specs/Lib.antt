@@ -4,3 +4,6 @@ pub mod Edits
 pub mod Kept
 pub mod LookUp
 pub mod Removal
+pub mod Separators
+pub mod Insertion
+pub mod Checks

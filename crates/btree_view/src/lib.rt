@@ -2,7 +2,9 @@
 #![tactic(auto)]
 
 mod balance;
+mod checks;
 mod offset;
 
 pub use balance::{Balance, WouldUnderflow};
+pub use checks::check_node;
 pub use offset::offset_at;
