@@ -3,13 +3,17 @@ ghost use Rattle.std.specs.Prelude.{◌≡◌, ◌↔◌, ◌*◌, ◌+◌, ◌�
 ghost use Rattle.std.specs.FinMap as map;
 ghost use Rattle.btree_shape.specs.TreeState.{TreeState, HasLevels, IsBTree, IsOccupiedIn, IsUsed, IsValidIn, item_of, pairs_of};
 ghost use Rattle.btree_find.specs.Answers.{IsAddressOf};
+ghost use Rattle.btree_find.specs.Ends.{IsFirstBack, IsFirstItem, IsLastItem, IsLastValid};
 ghost use Rattle.btree_find.specs.Fits.{FitsAt, ReplacesAt};
 ghost use Rattle.btree_find.specs.Levels.{IsDense};
 ghost use Rattle.btree_find.specs.Navigation.{IsLeafAddressFor, IsNext, IsNextOrBack, IsNormalized, IsPrevious};
+ghost use Rattle.btree_find.specs.Visits.{IsNextBack, IsPreviousFront};
 
 use btree_find::{
-    address_of, fits_at, height, leaf_address, next_item_address, next_item_or_back_address,
-    normalize, previous_item_address, replaces_at,
+    address_of, first_back_address, first_item_address, fits_at, height, last_item_address,
+    last_valid_address, leaf_address, next_back_address, next_item_address,
+    next_item_or_back_address, normalize, previous_front_address, previous_item_address,
+    replaces_at,
 };
 use btree_item::{Address, Item, MAX_LEVELS};
 use btree_node::Node;
@@ -134,6 +138,54 @@ pub trait BTreeExt<K: Ord, V> {
         ensures { IsNextOrBack (state self.now) addr result }
     {
         next_item_or_back_address(self.as_raw(), addr)
+    }
+
+    /// Returns the address of the first item, or `None` if there are no pairs. It reads one node of each level.
+    fn first_item_address(&self) -> Option<Address>
+        ensures { IsFirstItem (state self.now) result }
+    {
+        first_item_address(self.as_raw())
+    }
+
+    /// Returns the address of the last item, or `None` if there are no pairs. It reads one node of each level.
+    fn last_item_address(&self) -> Option<Address>
+        ensures { IsLastItem (state self.now) result }
+    {
+        last_item_address(self.as_raw())
+    }
+
+    /// Returns offset 0 of the leftmost leaf, where a visit of the back addresses begins, or nowhere if there are no pairs. It reads one
+    /// node of each level.
+    fn first_back_address(&self) -> Address
+        ensures { IsFirstBack (state self.now) result }
+    {
+        first_back_address(self.as_raw())
+    }
+
+    /// Returns the address past the end of the rightmost leaf, or nowhere if there are no pairs. It reads one node of each level.
+    fn last_valid_address(&self) -> Address
+        ensures { IsLastValid (state self.now) result }
+    {
+        last_valid_address(self.as_raw())
+    }
+
+    /// Returns the back address after a valid back address, or `None` after the last one. After -1 of a node comes the first back address
+    /// under the node. From `first_back_address` it visits each back address once. It reads at most one node of each level.
+    fn next_back_address(&self, addr: Address) -> Option<Address>
+        requires { IsValidIn (state self.now) addr }
+        ensures { IsNextBack (state self.now) addr result }
+    {
+        next_back_address(self.as_raw(), addr)
+    }
+
+    /// Returns the front address before a valid front address, or `None` before the first one. Before the address past the end of a node
+    /// comes the last front address under the node. From `last_item_address` it visits each front address once. It reads at most one node
+    /// of each level.
+    fn previous_front_address(&self, addr: Address) -> Option<Address>
+        requires { IsValidIn (state self.now) addr }
+        ensures { IsPreviousFront (state self.now) addr result }
+    {
+        previous_front_address(self.as_raw(), addr)
     }
 
     /// Returns whether a key fits at the place of a valid address: whether it is greater than the key before the place and less than the key

@@ -7,3 +7,5 @@ pub mod PreviousLemmas
 pub mod LeafLemmas
 pub mod OrBackLemmas
 pub mod FitsLemmas
+pub mod EndsLemmas
+pub mod VisitsLemmas

@@ -10,12 +10,14 @@ use Rattle.btree_item.specs.declared.address.Address.{Address}
 use Rattle.btree_node.specs.declared.node.Node.{Node}
 use Rattle.btree_node.specs.Node.{view_of}
 use Rattle.btree_view.specs.View.{NodeMap, View, leaf, internal, children_in, children_of, items_of, item_in, parent_of, size_of}
+use Rattle.btree_shape.specs.Addresses.{first_leaf}
 use Rattle.btree_shape.specs.Focus.Positions.{address_at, address_before}
 use Rattle.btree_shape.specs.Focus.Search.{levels_below}
 use Rattle.btree_shape.specs.Need.{levels_above}
 use Rattle.btree_shape.specs.Place.{IsLeaf, IsOccupied}
 use Rattle.btree_shape.specs.TreeState.{TreeState, IsBTree, IsPlaceIn, IsUsed, node_map, pairs_of}
 use Rattle.btree_shape.specs.WellFormed.{times_used}
+use Rattle.btree_shape.proofs.AddressLists.LeafEnds.{first-leaf-down, first-leaf-self}
 use Rattle.btree_shape.proofs.Paths.Parents.{get-times}
 use Rattle.btree_shape.proofs.Places.ChildPlaces.{child-places, up-from-end, down-to-first}
 use Rattle.btree_shape.proofs.Places.HasPlace.{low_or_end}
@@ -30,6 +32,14 @@ use Rattle.btree_find.proofs.PlaceLemmas.{in-state, in-tree, item-here, no-item,
 leaf-by-none : {A : Type 0} (v : View A) → slice_get (children_of v) 0 ≡ None → (parent : Option ℕ) × (items : List A) × (v ≡ leaf parent items)
 leaf-by-none (leaf parent items) e = (parent, items, refl)
 leaf-by-none (internal parent first branches) e = absurd (cc)
+
+-- the first child of an internal node
+internal-first : {A : Type 0} (v : View A) (child : ℕ) → Some child ≡ slice_get (children_of v) 0
+    → (parent : Option ℕ) × (branches : List (A × ℕ)) × (v ≡ internal parent child branches)
+internal-first (leaf parent items) child e = absurd (cc)
+internal-first (internal parent first branches) child e =
+    let same : first ≡ child = cc in
+    (parent, branches, ap (λ n. internal parent n branches) same)
 
 pub leaf-focus : {A : Type 0} (node_at : NodeMap A) (v : Option (View A)) → IsLeaf node_at v → (parent : Option ℕ) × (items : List A) × (v ≡ Some (leaf parent items))
 leaf-focus node_at None l = absurd l
@@ -71,6 +81,7 @@ module _ {K V : Type 0} (s : TreeState K V) where
     pub used : IsUsed s id
     pub leads : (place : ℕ) → IsPlaceIn s (address_before start) place → IsPlaceIn s (address_before id) place
     pub same : IsLeaf (node_map s) (node_map s start) → id ≡ start
+    pub first : first_leaf (node_map s) (finite.len s.nodes) start ≡ first_leaf (node_map s) (finite.len s.nodes) id
 
   -- from an offset of a node up to an item
   pub record Climbs (start start_offset id offset : ℕ) (node : Node K V) : Type 0 where
@@ -106,6 +117,9 @@ module _ {K V : Type 0} (cmp : K → K → Ordering) (laws : IsTotalOrder cmp) (
                 (in-tree cmp laws s tree r.0 r.1 id None place (d.leads place i)));
             same = λ l. absurd (not-leaf (node_map s) (node_map s start) 0 child
                 (subst (λ n. slice_get (children_in (node_map s n)) 0 ≡ Some child) (d.same l) first-child) l);
+            first =
+                let n = internal-first (view_of node) child first in
+                d.first ∙ first-leaf-down (node_map s) levels r.0 (pairs_of s) p id n.0 child n.1 (here ∙ ap Some n.2);
           }
 
       pub descend-smaller : levels_below (node_map s) levels child < levels_below (node_map s) levels id
@@ -117,7 +131,14 @@ module _ {K V : Type 0} (cmp : K → K → Ordering) (laws : IsTotalOrder cmp) (
     pub descend-end : None ≡ slice_get (children_of (view_of node)) 0 → BeginsInLeaf s start id
     descend-end none =
         let l = leaf-by-none (view_of node) (sym none) in
-        record { is_leaf = rw (here, l.2) tt; begins = d.leads; same = d.same }
+        let r = root-there cmp laws s tree id (view_of node) here in
+        let p = placed cmp laws s tree r.0 r.1 in
+        record {
+          first = sym (d.first ∙ first-leaf-self (node_map s) levels r.0 (pairs_of s) p id l.0 l.1 (here ∙ ap Some l.2));
+          is_leaf = rw (here, l.2) tt;
+          begins = d.leads;
+          same = d.same;
+        }
 
   -- the first item of the leftmost leaf
   pub begins-item : (id first : ℕ) → BeginsInLeaf s id first → (a : Address) → a ≡ address_at first 0 → LeadsToItem s (address_before id) (Some a)

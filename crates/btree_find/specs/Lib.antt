@@ -1,4 +1,6 @@
 pub mod Answers
+pub mod Ends
 pub mod Fits
 pub mod Levels
 pub mod Navigation
+pub mod Visits

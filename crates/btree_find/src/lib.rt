@@ -1,13 +1,17 @@
 //! Look-up and navigation in a well formed tree, over any lawful store of nodes.
 #![tactic(auto, using(btree_store::specs::ContentLaws::stores))]
 
+mod ends;
 mod fits;
 mod navigation;
 mod search;
+mod visits;
 
+pub use ends::{first_back_address, first_item_address, last_item_address, last_valid_address};
 pub use fits::{fits_at, replaces_at};
 pub use navigation::{
     first_item, leaf_address, next_item_address, next_item_or_back_address, normalize,
     previous_item_address,
 };
 pub use search::{address_of, get, height};
+pub use visits::{next_back_address, previous_front_address};

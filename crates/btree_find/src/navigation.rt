@@ -13,7 +13,7 @@ use btree_nodes::NodesMut;
 use btree_raw::RawBTree;
 
 // Returns the leftmost leaf under a node.
-fn leftmost_leaf<K: Ord, V, C: NodesMut<K, V>>(tree: &RawBTree<K, V, C>, top: usize) -> usize
+pub fn leftmost_leaf<K: Ord, V, C: NodesMut<K, V>>(tree: &RawBTree<K, V, C>, top: usize) -> usize
     requires tree { IsBTree K.cmp tree.now }
     requires used { IsUsed tree.now top }
     ensures { BeginsInLeaf tree.now top result }
@@ -133,7 +133,7 @@ pub fn next_item_address<K: Ord, V, C: NodesMut<K, V>>(
 }
 
 // Returns the rightmost leaf under a node, and how many items it has.
-fn rightmost_leaf<K: Ord, V, C: NodesMut<K, V>>(
+pub fn rightmost_leaf<K: Ord, V, C: NodesMut<K, V>>(
     tree: &RawBTree<K, V, C>,
     top: usize,
 ) -> (usize, usize)

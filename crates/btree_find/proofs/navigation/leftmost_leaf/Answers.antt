@@ -3,7 +3,7 @@ use Rattle.btree_find.proofs.WalkLemmas.{descend-end, descend-next, descend-smal
 use Rattle.btree_find.proofs.navigation.leftmost_leaf.Goals as goal
 
 pub loop-child-init : goal.loop-child-init
-loop-child-init g c = record { used = c.requires.used; leads = λ place i. i; same = λ l. refl }
+loop-child-init g c = record { used = c.requires.used; leads = λ place i. i; same = λ l. refl; first = refl }
 
 pub node-requires : goal.node-requires
 node-requires g c = (c.tell_fits.ensures, c.loop-child.invariant.used)
