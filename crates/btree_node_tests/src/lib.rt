@@ -2,6 +2,8 @@
 #![tactic(auto)]
 
 #[cfg(test)]
+mod children;
+#[cfg(test)]
 mod item_mut;
 #[cfg(test)]
 mod leaves;
@@ -9,3 +11,5 @@ mod leaves;
 mod node_ends;
 #[cfg(test)]
 mod nodes;
+#[cfg(test)]
+mod validate;

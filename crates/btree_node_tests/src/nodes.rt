@@ -334,6 +334,37 @@ fn writes_one_value_of_an_internal_node(rt: HostRuntime) {
 }
 
 #[test]
+fn inserts_by_key(rt: HostRuntime) {
+    let mut present = node_of_two();
+    assert!(rt; !present.is_full());
+    match present.insert_by_key(30, 'x') {
+        Ok(put) => assert_eq!(rt; put, (Offset::from(1), Some('c'))),
+        Err(_) => assert!(rt; false),
+    }
+    assert!(rt; is_so(&present, 6, ('b', 'x'), CHILDREN));
+    let mut absent = node_of_two();
+    assert!(rt; !absent.is_full());
+    match absent.insert_by_key(25, 'x') {
+        Ok(_) => assert!(rt; false),
+        Err(error) => {
+            assert_eq!(rt; (error.key, error.value), (25, 'x'));
+            assert_eq!(rt; (error.child_offset, error.child_id), (1, 2));
+        }
+    }
+    assert!(rt; is_so(&absent, 6, ('b', 'c'), CHILDREN));
+    let mut leaf = leaf_of_two();
+    assert!(rt; !leaf.is_full());
+    match leaf.insert_by_key(25, 'x') {
+        Ok(put) => assert_eq!(rt; put, (Offset::from(1), None)),
+        Err(_) => assert!(rt; false),
+    }
+    assert_eq!(rt;
+        (pair_at(&leaf, 1), leaf.item_count()),
+        (Some((25, 'x')), 3)
+    );
+}
+
+#[test]
 fn compares_branches_by_key(rt: HostRuntime) {
     let node: internal::Internal<u32, char> = InternalNode::binary(None, 1, Item::new(20, 'b'), 2);
     let other = Branch {
