@@ -4,7 +4,8 @@
 usage: bench/compare.py COUNT.. [--rounds N]
 
 Run it at the top of the repository, with `rt`, `rustc` and Python 3. A time is in nanoseconds for each key, the least of the
-rounds; behind it stands its ratio to the kit's std map in the same rounds. It fails where two maps give different sums.
+rounds; behind it stands its ratio to the kit's std map in the same rounds: that of `descend_at`, which is a phase of one map alone, is to
+`descend`. It fails where two maps give different sums.
 """
 import argparse
 import os
@@ -12,7 +13,10 @@ import subprocess
 import sys
 import tempfile
 
-PHASES = ["insert", "get_present", "get_absent", "iterate", "remove"]
+PHASES = ["insert", "get_present", "get_absent", "iterate", "remove", "descend", "descend_at"]
+
+# The phase of the kit's std map to which a phase is compared that it does not have.
+COMPARED = {"descend_at": "descend"}
 
 
 def lines_of(command):
@@ -41,8 +45,9 @@ def print_table(count, least):
     for table in dict.fromkeys(table for table, _ in least):
         cells = []
         for phase in PHASES:
-            nanos = least[table, phase]
-            cells.append(f"{nanos / count:.1f} ({nanos / least['std', phase]:.2f})")
+            nanos = least.get((table, phase))
+            kit = least["std", COMPARED.get(phase, phase)]
+            cells.append("" if nanos is None else f"{nanos / count:.1f} ({nanos / kit:.2f})")
         print(f"| {table} | {' | '.join(cells)} |")
 
 

@@ -63,4 +63,10 @@ fn main() {
             .filter_map(|key| map.remove(key))
             .fold(0, |sum, value| sum.wrapping_add(value))
     });
+
+    let mut descending = BTreeMap::new();
+    phase("descend", || {
+        let is_absent = |key: &u64| descending.insert(*key, *key).is_none();
+        (1..=count as u64).rev().filter(is_absent).count() as u64
+    });
 }

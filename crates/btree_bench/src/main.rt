@@ -1,12 +1,15 @@
-//! Times insertion, look-up, a walk and removal in the kit's map and in this repository's map.
+//! Times insertion, look-up, a walk and removal in the kit's map and in this repository's map, and insertion in descending order, in
+//! this repository's map also at the address of the item before.
 //!
 //! Without an argument it runs over 1000 keys and prints the sum of each phase. With a number of keys as its argument it prints, for each
 //! phase, its name, the nanoseconds that it took, and its sum.
 #![tactic(auto)]
 
+mod descent;
 mod random;
 mod tables;
 
+use crate::descent::{descend, descend_at};
 use crate::random::{Numbers, drawn, shuffle};
 use crate::tables::{KitMap, SlabMap, Table};
 use std::alloc::{AllocError, Global};
@@ -110,6 +113,48 @@ fn measure(
     report(rt, is_timed, (map, "remove"), since, sum)
 }
 
+fn measure_descent(
+    rt: &(impl Print + Clock),
+    is_timed: bool,
+    map: &str,
+    table: &mut impl Table,
+    count: u64,
+) -> io::Result<()> {
+    let since = Instant::now(rt)?;
+    let absent = descend(table, count)?;
+    report(rt, is_timed, (map, "descend"), since, absent)
+}
+
+fn measure_descent_at(
+    rt: &(impl Print + Clock + AllocGlobal),
+    is_timed: bool,
+    count: u64,
+) -> io::Result<()> {
+    let mut ours = SlabMap::new(rt.alloc());
+    let since = Instant::now(rt)?;
+    let len = descend_at(&mut ours, count)?;
+    report(
+        rt,
+        is_timed,
+        ("btree_slab", "descend_at"),
+        since,
+        len as u64,
+    )
+}
+
+// Each phase with a new map, so that all of them touch fresh memory.
+fn measure_descents(
+    rt: &(impl Print + Clock + AllocGlobal),
+    is_timed: bool,
+    count: u64,
+) -> io::Result<()> {
+    let mut kit = KitMap::new(rt.alloc());
+    measure_descent(rt, is_timed, "std", &mut kit, count)?;
+    let mut ours = SlabMap::new(rt.alloc());
+    measure_descent(rt, is_timed, "btree_slab", &mut ours, count)?;
+    measure_descent_at(rt, is_timed, count)
+}
+
 fn measure_both(
     rt: &(impl Print + Clock + AllocGlobal),
     count: usize,
@@ -119,7 +164,8 @@ fn measure_both(
     let mut kit = KitMap::new(rt.alloc());
     measure(rt, is_timed, "std", &mut kit, &keys)?;
     let mut ours = SlabMap::new(rt.alloc());
-    measure(rt, is_timed, "btree_slab", &mut ours, &keys)
+    measure(rt, is_timed, "btree_slab", &mut ours, &keys)?;
+    measure_descents(rt, is_timed, count as u64)
 }
 
 // Returns the number of keys that the arguments give, and whether times are printed; `None` if they are something else.

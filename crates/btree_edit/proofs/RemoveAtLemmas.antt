@@ -1,5 +1,5 @@
 -- The steps of a removal at an address: what a node returned, and the tree in between.
-use Rattle.std.proofs.Common.{◌≡◌, ◌∙◌, ◌+◌, ◌-◌, ◌<◌, ◌≤◌, ◌^◌, ℕ, suc, List, length, Option, Some, None, Ok, Err, OnOk, OnErr, Result, IsTrue, refl, sym, ap, subst, option_map, option_and_then, slice_get, arith}
+use Rattle.std.proofs.Common.{◌≡◌, ◌↔◌, ◌∙◌, ◌+◌, ◌-◌, ◌<◌, ◌≤◌, ◌^◌, ℕ, suc, inl, inr, Bool, true, false, List, length, Option, Some, None, Ok, Err, OnOk, OnErr, Result, IsTrue, refl, sym, ap, subst, option_map, option_and_then, slice_get, arith}
 use Rattle.std.proofs.lemmas.List.{length-map}
 use Rattle.std.proofs.lemmas.Option.{slice_get_within}
 use Rattle.std.specs.Cmp.{IsTotalOrder}
@@ -10,7 +10,7 @@ use Rattle.btree_item.specs.declared.address.Address.{Address}
 use Rattle.btree_node.specs.declared.node.Node.{Node}
 use Rattle.btree_node.specs.Node.{view_of}
 use Rattle.btree_store.specs.ContentLaws.{insert-same}
-use Rattle.btree_view.specs.Edits.{is_internal, without_at, without_last}
+use Rattle.btree_view.specs.Edits.{IsUnderflowing, is_internal, without_at, without_last}
 use Rattle.btree_view.specs.Removal.{removal_in}
 use Rattle.btree_view.specs.View.{View, leaf, internal, children_of, item_in, items_of, last_child_of, last_item_of, size_of}
 use Rattle.btree_view.proofs.RemovalLemmas.{child-from_removal, item-from_removal, leaf-from_no_child, no_item-from_removal}
@@ -19,9 +19,11 @@ use Rattle.btree_shape.specs.Focus.Search.{levels_below}
 use Rattle.btree_shape.specs.Step.{WritesNode}
 use Rattle.btree_shape.specs.TreeState.{TreeState, IsBTree, IsOffByOneAt, IsPlaceIn, IsUsed, IsValidIn, item_of, node_map, pairs_of}
 use Rattle.btree_shape.specs.WellFormed.{IsWellFormed}
+use Rattle.btree_shape.proofs.Trees.Numbers.{less-or}
 use Rattle.btree_shape.proofs.Trees.Stores.{item-some, writes_node}
 use Rattle.btree_raw.specs.Raw.{with_node}
 use Rattle.btree_raw.specs.Rebalance.{HasRoom, IsRebalanced}
+use Rattle.btree_raw.proofs.RebalanceLemmas.{enough-rebalanced}
 use Rattle.btree_find.specs.Navigation.{EndsInLeaf, LeadsToItem}
 use Rattle.btree_find.proofs.NextLemmas.{child-used, next-below}
 use Rattle.btree_find.proofs.PlaceLemmas.{root-there, some-items}
@@ -49,6 +51,13 @@ on-ok {A} {B} {C} r x e = subst (λ z. OnOk z C) e
 
 pub on-err : {A B C : Type 0} (r : Result A B) (x : B) → r ≡ Err x → OnErr r C → C
 on-err {A} {B} {C} r x e = subst (λ z. OnErr z C) e
+
+-- a node that does not underflow
+pub enough-left : {A : Type 0} (v : View A) (is_short : Bool) → (IsTrue is_short ↔ IsUnderflowing v) → is_short ≡ false → 2 < size_of v
+enough-left v is_short e is = elim (less-or (size_of v) 3) [
+  | inl low ↦ let q : is_short ≡ true = e.1 low in absurd (cc)
+  | inr other ↦ elim other [ inl same ↦ omega arith | inr more ↦ omega arith ]
+]
 
 -- a node written as it was changes nothing
 pub same-state : {K V : Type 0} (s : TreeState K V) (id : ℕ) (node kept : Node K V) → Some node ≡ finite.get s.nodes id → kept ≡ node
@@ -134,6 +143,12 @@ module _ {K V : Type 0} (old : TreeState K V) (a : Address) where
       leaf-removed new b shorter r =
           removed-from-leaf cmp laws old mid tree small a index leaf-is.4 parent xs x leaf-here leaf-is.5 put refl new b
           shorter refl r
+
+      -- with enough items left nothing is to be fixed
+      pub leaf-enough : len + 1 ≡ old.len → 2 < size_of (view_of kept) → IsRemoved old mid cmp a x a
+      leaf-enough shorter enough =
+          leaf-removed mid a shorter
+          (enough-rebalanced cmp laws mid a.id leaf-off a leaf-valid leaf-room (subst (λ v. 2 < size_of v) shorter-is enough))
 
 module _ {K V : Type 0} (cmp : K → K → Ordering) (laws : IsTotalOrder cmp) (s : TreeState K V) (tree : IsBTree cmp s) where
   -- the item behind one of an internal node

@@ -10,7 +10,8 @@ use btree_nodes::NodesMut;
 use btree_raw::{RawBTree, rebalance_underflow};
 
 /// Removes the item at an address. Returns it, with a back address at the place where it was. Returns `None`, and nothing changes, if there
-/// is no item at the address. It frees at most one node of each level and needs no new one.
+/// is no item at the address. It frees at most one node of each level and needs no new one. A leaf that keeps three items or more is
+/// fetched once.
 ///
 /// An item of an internal node is replaced with the last one under the child before it. `RawBTree::is_valid` decides whether an address is
 /// valid.
@@ -28,10 +29,15 @@ pub fn remove_at<K: Ord + Drop, V: Drop, C: NodesMut<K, V>>(
         return None;
     };
     tree.tell_fits();
-    match tree.node_mut(addr.id).leaf_remove(addr.offset) {
+    let node = tree.node_mut(addr.id);
+    match node.leaf_remove(addr.offset) {
         None => None,
         Some(Ok(item)) => {
+            let is_short = node.is_underflowing();
             tree.set_len(tree.len() - 1);
+            if !is_short {
+                return Some((item, addr));
+            }
             let at = rebalance_underflow(tree, addr.id, addr);
             Some((item, at))
         }

@@ -2,23 +2,25 @@
 ghost use Rattle.std.specs.Prelude.{◌≡◌, ◌↔◌, ◌*◌, ◌+◌, ◌≤◌, length, IsSome, IsTrue, Some, option_copied};
 ghost use Rattle.std.specs.FinMap as map;
 ghost use Rattle.btree_shape.specs.TreeState.{TreeState, HasLevels, IsBTree, IsOccupiedIn, IsUsed, IsValidIn, item_of, pairs_of};
-ghost use Rattle.btree_find.specs.Answers.{IsAddressOf};
+ghost use Rattle.btree_item.specs.Pairs.{found_value};
+ghost use Rattle.btree_find.specs.Answers.{IsAddressIn, IsAddressOf};
 ghost use Rattle.btree_find.specs.Ends.{IsFirstBack, IsFirstItem, IsLastItem, IsLastValid};
-ghost use Rattle.btree_find.specs.Fits.{FitsAt, ReplacesAt};
-ghost use Rattle.btree_find.specs.Levels.{IsDense};
+ghost use Rattle.btree_find.specs.Fits.{FitsAt, FitsIn, ReplacesAt, pairs_below};
+ghost use Rattle.btree_find.specs.Levels.{IsDense, TicksAtMost};
 ghost use Rattle.btree_find.specs.Navigation.{IsLeafAddressFor, IsNext, IsNextOrBack, IsNormalized, IsPrevious};
 ghost use Rattle.btree_find.specs.Visits.{IsNextBack, IsPreviousFront};
 
 use btree_find::{
-    address_of, first_back_address, first_item_address, fits_at, height, last_item_address,
-    last_valid_address, leaf_address, next_back_address, next_item_address,
-    next_item_or_back_address, normalize, previous_front_address, previous_item_address,
-    replaces_at,
+    address_in, address_of, address_of_counted, first_back_address, first_item_address, fits_at,
+    get_in, height, key_fits_in, last_item_address, last_valid_address, leaf_address,
+    next_back_address, next_item_address, next_item_or_back_address, normalize,
+    previous_front_address, previous_item_address, replaces_at,
 };
 use btree_item::{Address, Item, MAX_LEVELS};
 use btree_node::Node;
 use btree_nodes::NodesMut;
 use btree_raw::RawBTree;
+use btree_steps::Steps;
 
 /// A well formed tree, read by its nodes and by addresses in it. Only `as_raw` is required; the other calls have default bodies.
 pub trait BTreeExt<K: Ord, V> {
@@ -87,6 +89,46 @@ pub trait BTreeExt<K: Ord, V> {
         ensures { IsAddressOf K.cmp key.now (state self.now) result }
     {
         address_of(self.as_raw(), key)
+    }
+
+    /// Does the same as `address_of`, and ticks once for each comparison of keys: at most six times for each level. `Steps` takes no time
+    /// and no bytes.
+    fn address_of_counted(&self, key: &K, steps: &mut Steps) -> Result<Address, Address>
+        ensures found { IsAddressOf K.cmp key.now (state self.now) result }
+        ensures ticks { TicksAtMost (state self.now) steps.old.count steps.new.count }
+    {
+        address_of_counted(self.as_raw(), key, steps)
+    }
+
+    /// Returns `Ok` with the address of a key under a node, or `Err` with the back address in a leaf under the node that has as many
+    /// smaller keys under the node before it. The node must be in use; see `has_node`. It makes at most six comparisons at each level from
+    /// the node down.
+    fn address_in(&self, id: usize, key: &K) -> Result<Address, Address>
+        requires { IsUsed (state self.now) id }
+        ensures { IsAddressIn K.cmp key.now (state self.now) id result }
+    {
+        address_in(self.as_raw(), id, key)
+    }
+
+    /// Returns the value at a key under a node, or `None` if the key is not there. The node must be in use; see `has_node`. It makes at most
+    /// six comparisons at each level from the node down, copies nothing and allocates no memory.
+    fn get_in<'a>(&'a self, key: &K, id: usize) -> Option<&'a V>
+    where
+        K: 'a,
+        V: 'a,
+        requires { IsUsed (state self.now) id }
+        ensures { option_copied result ≡ found_value K.cmp key.now (pairs_below (state self.now) id) }
+    {
+        get_in(self.as_raw(), key, id)
+    }
+
+    /// Returns whether a key is between the separators of a node: whether it is greater than the key before those under the node and less
+    /// than the key after them. The node must be in use; see `has_node`. It compares at most two keys.
+    fn key_fits_in(&self, id: usize, key: &K) -> bool
+        requires { IsUsed (state self.now) id }
+        ensures { IsTrue result ↔ FitsIn K.cmp key.now (state self.now) id }
+    {
+        key_fits_in(self.as_raw(), id, key)
     }
 
     /// Returns whether an address is one of the tree: in a node, from -1 to the number of its items, or nowhere if there are no pairs.

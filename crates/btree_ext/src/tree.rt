@@ -36,7 +36,7 @@ impl<K: Ord, V, C: NodesMut<K, V>> Model for Tree<K, V, C> {
 impl<K: Ord, V, C: NodesMut<K, V>> Tree<K, V, C> {
     ghost use Rattle.std.specs.Mem.{FitsInMemory};
     ghost use Rattle.btree_item.specs.Pairs.{found_value};
-    ghost use Rattle.btree_shape.specs.TreeState.{pairs_of};
+    ghost use Rattle.btree_shape.specs.TreeState.{IsBTree, pairs_of};
 
     /// Returns a tree without pairs, over an empty store made from `origin`. It allocates no memory.
     ///
@@ -72,6 +72,15 @@ impl<K: Ord, V, C: NodesMut<K, V>> Tree<K, V, C> {
         ensures { option_copied result ≡ found_value K.cmp key.now (pairs_of self.now) }
     {
         get(&self.raw, key)
+    }
+
+    /// Returns the nodes in their store, the number of the root and the length, as a tree of any content.
+    pub fn into_raw(self) -> RawBTree<K, V, C>
+        ensures value { result ≡ self }
+        ensures well_formed { IsBTree K.cmp result }
+    {
+        let Tree { raw } = self;
+        raw
     }
 }
 

@@ -32,7 +32,7 @@ module _ {K V : Type 0} (cmp : K → K → Ordering) (laws : IsTotalOrder cmp) (
   back-by None is = absurd (cc)
   back-by (Some n) is = tt
 
-  leaf-back-at : (a : Address) (place : ℕ) → IsPlaceIn s a place → IsLeafAddressIn s a → IsSome a.offset → IsLeafBackAt s place a
+  pub leaf-back-at : (a : Address) (place : ℕ) → IsPlaceIn s a place → IsLeafAddressIn s a → IsSome a.offset → IsLeafBackAt s place a
   leaf-back-at a place at in_leaf back =
       let valid : IsValidIn s a = place-valid (node_map s) s.root (pairs_of s) a.id a.offset place at in
       record {
@@ -63,7 +63,7 @@ module _ {K V : Type 0} (cmp : K → K → Ordering) (laws : IsTotalOrder cmp) (
           counted = refl;
         }
 
-    start-place : IsPlaceIn s (address_before root) 0
+    pub start-place : IsPlaceIn s (address_before root) 0
     start-place = in-state cmp laws s tree root is root None 0 (pairs_of s, whole)
 
     root-size : (size : ℕ) × (option_map size_of (node_map s root) ≡ Some size)
@@ -88,6 +88,7 @@ module _ {K V : Type 0} (cmp : K → K → Ordering) (laws : IsTotalOrder cmp) (
       first-back-is =
           let i = first-item-is.item.here in
           record {
+            addresses = addresses;
             at = leaf-back-at a 0 i.has.at (inl (rw same b.is_leaf)) (rw same refl);
             leftmost = ap (λ o. unwrap_or o (address_at NOWHERE 0)) first-is;
           }
@@ -97,6 +98,7 @@ module _ {K V : Type 0} (cmp : K → K → Ordering) (laws : IsTotalOrder cmp) (
       last-item-is o more same =
           let z = root-size in
           record {
+            addresses = addresses;
             item = ends-before cmp laws s tree root last e z.0 z.1 a o more same (length (pairs_of s)) end-place;
             rightmost =
                 ap Some (same ∙ (last-by last.0 last.1 o (node_map s last.0) e.count more ∙ ap (λ n. last_item_in n (node_map s n)) e.final))
@@ -137,6 +139,7 @@ module _ {K V : Type 0} (cmp : K → K → Ordering) (laws : IsTotalOrder cmp) (
     pub last-item-none : IsLastItem s None
     last-item-none =
         record {
+          addresses = addresses;
           item = subst (λ n. IsItemBefore s n None) (sym no-pairs) refl;
           rightmost = sym (ap (last_front_under (node_map s) (finite.len s.nodes)) e);
         }
@@ -144,6 +147,7 @@ module _ {K V : Type 0} (cmp : K → K → Ordering) (laws : IsTotalOrder cmp) (
     pub first-back-none : (a : Address) → a ≡ address_at NOWHERE 0 → IsFirstBack s a
     first-back-none a same =
         record {
+          addresses = addresses;
           at = subst (λ n. IsLeafBackAt s 0 n) (sym same) nowhere-at;
           leftmost = same ∙ sym (ap (λ t. unwrap_or (first_back_under (node_map s) (finite.len s.nodes) t) (address_at NOWHERE 0)) e);
         }

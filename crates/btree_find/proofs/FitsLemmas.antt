@@ -8,9 +8,10 @@ use Rattle.btree_item.specs.declared.address.Address.{Address}
 use Rattle.btree_view.specs.View.{NodeMap, item_in}
 use Rattle.btree_shape.specs.Place.{IsOccupied, IsPlace, IsPlaceOf, IsSubtreeAt}
 use Rattle.btree_shape.specs.TreeState.{TreeState, IsBTree, IsOccupiedIn, IsPlaceIn, item_of, node_map, pairs_of}
-use Rattle.btree_find.specs.Fits.{FitsAt, ReplacesAt}
+use Rattle.btree_shape.specs.Focus.Positions.{address_at, address_before}
+use Rattle.btree_find.specs.Fits.{FitsAt, FitsIn, ReplacesAt, pairs_below}
 use Rattle.btree_find.proofs.PlaceLemmas.{item-here}
-use Rattle.btree_find.specs.Navigation.{IsItemAt, IsItemBefore, IsNext, IsNormalized, IsPrevious}
+use Rattle.btree_find.specs.Navigation.{HasPlace, IsItemAt, IsItemBefore, IsNext, IsNormalized, IsPrevious}
 
 -- a place is at most the length of the list
 module _ {A : Type 0} (node_at : NodeMap A) (xs : List A) where
@@ -164,3 +165,32 @@ module _ {K V : Type 0} (cmp : K → K → Ordering) (k : K) (s : TreeState K V)
           let e = next.has.only r.place r.has.at in
           on-item s Smaller (suc next.place) n (next.after r.occupied)
           (λ x at. r.replaces.below x (subst (λ q. slice_get (pairs_of s) (suc q) ≡ Some x) (sym e) at))
+
+-- whether a key fits under a node, from the items before and after those under it
+module _ {K V : Type 0} (cmp : K → K → Ordering) (k : K) (s : TreeState K V) (id size start : ℕ) (begins : HasPlace s (address_before id) start)
+    (ends : HasPlace s (address_at id size) (start + length (pairs_below s id))) (p : Option Address)
+    (previous : IsPrevious s (address_before id) p) where
+  pub fits-in-above : FitsIn cmp k s id → OfItem s (Greater cmp k s (address_before id)) p
+  fits-in-above f =
+      let e = previous.has.only f.start f.begins.at in
+      on-before s (Greater cmp k s (address_before id)) previous.place p previous.item (λ q x is at. f.above q x (is ∙ sym e) at)
+
+  module _ (n : Option Address) (here : IsNormalized s (address_at id size) n) where
+    pub fits-in-by : OfItem s (Greater cmp k s (address_before id)) p → OfItem s (Smaller cmp k s (address_before id)) n → FitsIn cmp k s id
+    fits-in-by above below = record {
+      start = start;
+      begins = begins;
+      above = λ q x is e.
+          at-before s (Greater cmp k s (address_before id)) previous.place p previous.item above q x (is ∙ previous.has.only start begins.at) e;
+      below = λ x e.
+          at-item s (Smaller cmp k s (address_before id)) here.place n here.item below x
+          (subst (λ q. slice_get (pairs_of s) q ≡ Some x) (here.has.only (start + length (pairs_below s id)) ends.at) e);
+    }
+
+    pub fits-in-below : FitsIn cmp k s id → OfItem s (Smaller cmp k s (address_before id)) n
+    fits-in-below f =
+        let e = here.has.only (start + length (pairs_below s id)) ends.at in
+        let z = f.begins.only start begins.at in
+        let same : here.place ≡ f.start + length (pairs_below s id) = omega arith in
+        on-item s (Smaller cmp k s (address_before id)) here.place n here.item
+        (λ x at. f.below x (subst (λ q. slice_get (pairs_of s) q ≡ Some x) same at))

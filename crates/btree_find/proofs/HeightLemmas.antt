@@ -1,5 +1,5 @@
 -- The number of levels, counted down the first children.
-use Rattle.std.proofs.Common.{◌≡◌, ℕ, zero, suc, ◌+◌, ◌-◌, ◌*◌, ◌<◌, ◌≤◌, ◌^◌, List, Option, Some, None, IsSome, sym, ap, subst, length, option_map, slice_get, arith}
+use Rattle.std.proofs.Common.{◌≡◌, refl, ℕ, zero, suc, ◌+◌, ◌-◌, ◌*◌, ◌<◌, ◌≤◌, ◌^◌, List, Option, Some, None, IsSome, sym, ap, subst, length, option_map, slice_get, arith}
 use Rattle.std.specs.Prelude.{map as list_map}
 use Rattle.std.specs.FinMap as map
 use Rattle.btree_store.specs.Content.{Content}
@@ -7,13 +7,18 @@ use Rattle.btree_node.specs.declared.node.Node.{Node}
 use Rattle.btree_node.specs.Node.{view_of}
 use Rattle.btree_view.specs.View.{NodeMap, leaf, internal, children_of}
 use Rattle.btree_shape.specs.Represents.{Represents}
-use Rattle.btree_shape.specs.TreeState.{TreeState, IsBTree, node_map, pairs_of, views}
+use Rattle.btree_shape.specs.Focus.Search.{levels_below}
+use Rattle.btree_shape.specs.TreeState.{TreeState, HasLevelsUnder, IsBTree, node_map, pairs_of, views}
 use Rattle.btree_shape.specs.WellFormed.{IsWellFormed}
 use Rattle.btree_shape.proofs.Trees.Density.{height-dense, height-low}
+use Rattle.btree_shape.proofs.Trees.Represented.{height_below}
 use Rattle.std.specs.declared.cmp.Ordering.{Ordering}
 use Rattle.btree_shape.proofs.Trees.Numbers.{used-one}
 use Rattle.btree_shape.proofs.Trees.Stores.{used-view}
 use Rattle.btree_shape.proofs.Trees.ValidPlaces.{represents-node}
+use Rattle.btree_find.specs.Levels.{TicksAtMost, levels_from}
+use Rattle.btree_find.proofs.PlaceLemmas.{some-items}
+use Rattle.std.specs.Cmp.{IsTotalOrder}
 
 -- `levels` levels are counted from the root down to node `id`
 pub record IsDescending {A : Type 0} (node_at : NodeMap A) (root : ℕ) (xs : List A) (id levels : ℕ) : Type 0 where
@@ -85,3 +90,22 @@ levels-start {K} {V} cmp s root is low tree =
     let w : IsWellFormed cmp (node_map s) (Some root) s.len (pairs_of s) = subst (λ t. IsWellFormed cmp (node_map s) t s.len (pairs_of s)) is tree in
     let c = w.counted in
     descending-start s.nodes root (pairs_of s) w.formed.height (height-low (K × V) (node_map s) root (pairs_of s) w.formed (omega arith)) w.formed.represents (height-dense (K × V) (node_map s) root (pairs_of s) w.formed)
+
+-- the levels counted down the first children are those of the tree
+levels-of : {A : Type 0} (node_at : NodeMap A) (most height : ℕ) (parent : Option ℕ) (id : ℕ) (ys : List A) → height ≤ most
+    → Represents node_at height parent id ys → levels_below node_at most id ≡ height
+levels-of node_at zero zero parent id ys low r = refl
+levels-of node_at zero (suc height) parent id ys low r = absurd (omega arith)
+levels-of node_at (suc most) zero parent id ys low r = rw r refl
+levels-of node_at (suc most) (suc height) parent id ys low r =
+    rw r.3 (ap suc (levels-of node_at most height (Some id) r.0 r.1 (omega arith) r.4))
+
+-- a search from the root makes at most six comparisons for each level
+pub ticks-at-root : {K V : Type 0} (cmp : K → K → Ordering) (laws : IsTotalOrder cmp) (s : TreeState K V) (tree : IsBTree cmp s) (root : ℕ)
+    → s.root ≡ Some root → (old new : ℕ) → new ≤ old + 6 * levels_from s root → TicksAtMost s old new
+ticks-at-root cmp laws s tree root is old new low levels has =
+    let h : HasLevelsUnder s (Some root) levels = subst (λ t. HasLevelsUnder s t levels) is has in
+    let b = height_below (node_map s) h.0 None root (pairs_of s) (some-items cmp laws s tree root is) h.1 in
+    let l = levels-of (node_map s) (length (pairs_of s)) h.0 None root (pairs_of s) (omega arith) h.1 in
+    let e = h.2 in
+    omega arith

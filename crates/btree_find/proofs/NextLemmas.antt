@@ -16,8 +16,7 @@ use Rattle.btree_shape.specs.TreeState.{TreeState, IsBTree, IsOccupiedIn, IsPlac
 use Rattle.btree_shape.proofs.Places.ChildPlaces.{child-places, down-from-item}
 use Rattle.btree_shape.proofs.Places.InNode.{leaf-along}
 use Rattle.btree_find.specs.Navigation.{IsItemAt, IsNext, IsPrevious, LeadsToItem, LeadsToNext}
-use Rattle.btree_find.proofs.PlaceLemmas.{empty-leads, not-empty, has-place, in-state, in-tree, item-here, place-there, placed, root-there}
-use Rattle.btree_find.proofs.SearchLemmas.{has-child}
+use Rattle.btree_find.proofs.PlaceLemmas.{has-child, empty-leads, not-empty, has-place, in-state, in-tree, item-here, place-there, placed, root-there}
 use Rattle.btree_find.proofs.WalkLemmas.{occupied-below, used-of}
 
 -- only a leaf lacks a child at an index up to its number of items

@@ -1,5 +1,5 @@
 -- The place of an address in a well formed tree, in the words of a state: one for each valid address, and the item there.
-use Rattle.std.proofs.Common.{◌≡◌, ◌<◌, ◌≤◌, ◌∙◌, ℕ, inl, inr, List, length, Option, Some, None, refl, sym, ap, subst, arith, option_map}
+use Rattle.std.proofs.Common.{◌≡◌, ◌<◌, ◌≤◌, ◌∙◌, ℕ, zero, suc, inl, inr, List, [], ◌∷◌, length, map, slice_get, Option, Some, None, refl, sym, ap, subst, arith, option_map}
 use Rattle.std.proofs.lemmas.Option.{slice_get_past}
 use Rattle.std.specs.Cmp.{IsTotalOrder}
 use Rattle.std.specs.FinMap as finite
@@ -29,6 +29,12 @@ at-least-one root id = elim (same-or id root) [
   | inl e ↦ let l = least-root root id e in omega arith
   | inr e ↦ let l = least-other root id e in omega arith
 ]
+
+-- an internal node has a child at each index up to its number of items
+pub has-child : {A : Type 0} (first : ℕ) (bs : List (A × ℕ)) (index : ℕ) → index ≤ length bs → slice_get (first ∷ map {B = ℕ} (λ b. b.1) bs) index ≡ None → ⊥
+has-child first bs zero few e = absurd (cc)
+has-child first [] (suc index) few e = absurd (omega arith)
+has-child first (b ∷ bs) (suc index) few e = has-child b.1 bs index (omega arith) e
 
 module _ {K V : Type 0} (cmp : K → K → Ordering) (laws : IsTotalOrder cmp) (s : TreeState K V) (tree : IsBTree cmp s) where
   abbrev pub node_at : NodeMap (K × V)

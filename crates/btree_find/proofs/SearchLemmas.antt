@@ -1,10 +1,10 @@
 -- A search by key in a well formed tree, step by step.
-use Rattle.std.proofs.Common.{◌≡◌, ◌≢◌, ℕ, ◌≤◌, ◌^◌, ◌-◌, inl, List, Option, Some, None, zero, suc, inr, [], ◌∷◌, map, length-append, Ok, Err, IsSome, Result, refl, sym, ap, subst, ◌∙◌, length, is_some, option_map, option_and_then, slice_get, if◌then◌else◌, arith}
+use Rattle.std.proofs.Common.{◌≡◌, ◌≢◌, ◌+◌, ℕ, ◌<◌, ◌≤◌, ◌^◌, ◌-◌, inl, List, Option, Some, None, inr, map, length-append, Ok, Err, IsSome, Result, refl, sym, ap, subst, ◌∙◌, length, is_some, option_map, option_and_then, slice_get, if◌then◌else◌, arith}
 use Rattle.std.proofs.lemmas.List.{length-map}
 use Rattle.std.specs.Cmp.{IsTotalOrder}
 use Rattle.std.specs.FinMap as nodes_map
 use Rattle.std.specs.declared.cmp.Ordering.{Ordering}
-use Rattle.btree_item.specs.Pairs.{Ascends, KeyFits, before, found, found_value, place_of}
+use Rattle.btree_item.specs.Pairs.{Ascends, KeyFits, found, found_value, place_of}
 use Rattle.btree_item.proofs.PairEdits.{KeyFits-before}
 use Rattle.btree_item.proofs.PairLemmas.{before-from_Err, found-from_Err}
 use Rattle.btree_item.specs.Offset.{index_offset}
@@ -13,17 +13,22 @@ use Rattle.btree_node.specs.declared.node.Node.{Node}
 use Rattle.btree_view.specs.LookUp.{placed, offset_in}
 use Rattle.btree_node.specs.Node.{view_of}
 use Rattle.btree_view.specs.View.{View, NodeMap, leaf, internal, items_of, children_of, item_in, size_of}
-use Rattle.btree_shape.specs.Place.{IsOccupied, IsPlace, NOWHERE}
-use Rattle.btree_shape.specs.Focus.Search.{IsSearching}
-use Rattle.btree_shape.specs.TreeState.{TreeState, IsBTree, IsLeafAddressIn, IsPlaceIn, IsValidIn, node_map, pairs_of}
+use Rattle.btree_shape.specs.Place.{IsOccupied, NOWHERE}
+use Rattle.btree_shape.specs.Focus.Positions.{address_before}
+use Rattle.btree_shape.specs.Focus.Search.{IsSearching, levels_below}
+use Rattle.btree_shape.specs.TreeState.{TreeState, IsBTree, IsLeafAddressIn, IsPlaceIn, IsUsed, IsValidIn, node_map, pairs_of, pairs_under}
 use Rattle.btree_shape.specs.WellFormed.{IsWellFormed}
-use Rattle.btree_shape.proofs.LookUp.Descent.{Down, get-after, search-start, search-ascends, search-down}
+use Rattle.btree_shape.proofs.LookUp.Descent.{get-after, search-ascends, search-down}
 use Rattle.btree_shape.proofs.LookUp.Ends.{search-hit, search-miss}
 use Rattle.btree_shape.proofs.Paths.Used.{focus-used}
 use Rattle.btree_shape.proofs.LookUp.KeyInList.{Rises, rises, searched}
-use Rattle.btree_find.specs.Answers.{IsFoundAt, IsGapAt}
-use Rattle.btree_find.proofs.PlaceLemmas.{has-place}
-use Rattle.btree_shape.proofs.Trees.ValidPlaces.{place-valid}
+use Rattle.btree_find.specs.Answers.{IsAddressIn, IsAddressOf, IsFoundAt, IsFoundIn, IsGapAt, IsGapIn}
+use Rattle.btree_find.specs.Ends.{IsLeafBackAt}
+use Rattle.btree_find.specs.Fits.{pairs_below}
+use Rattle.btree_find.specs.Navigation.{HasPlace}
+use Rattle.btree_find.proofs.EndsLemmas.{leaf-back-at, start-place}
+use Rattle.btree_find.proofs.PlaceLemmas.{has-child, has-place, in-state, item-here}
+use Rattle.btree_find.proofs.UnderLemmas.{begins-here}
 use Rattle.btree_shape.proofs.Trees.Stores.{used-view, most-few}
 
 -- what `placed` gives for a place among items
@@ -49,11 +54,13 @@ absent-at : {X Y : Type 0} (f : X → Y) (n m p : ℕ) (o : Option X) → (if is
 absent-at f n m p None e = refl
 absent-at f n m p (Some x) e = absurd (cc)
 
--- an internal node has a child at each index up to its number of items
-pub has-child : {A : Type 0} (first : ℕ) (bs : List (A × ℕ)) (index : ℕ) → index ≤ length bs → slice_get (first ∷ map {B = ℕ} (λ b. b.1) bs) index ≡ None → ⊥
-has-child first bs zero few e = absurd (cc)
-has-child first [] (suc index) few e = absurd (omega arith)
-has-child first (b ∷ bs) (suc index) few e = has-child b.1 bs index (omega arith) e
+-- a search among the pairs under node `top` has reached node `id`
+pub record Searches {K V : Type 0} (cmp : K → K → Ordering) (k : K) (s : TreeState K V) (top id : ℕ) : Type 0 where
+  pub root : ℕ
+  pub is : s.root ≡ Some root
+  pub start : ℕ
+  pub begins : HasPlace s (address_before top) start
+  pub searching : IsSearching cmp k (node_map s) root (pairs_of s) (pairs_below s top) start id
 
 module _ {K V : Type 0} (cmp : K → K → Ordering) (k : K) (laws : IsTotalOrder cmp) (s : TreeState K V) (tree : IsBTree cmp s) where
   abbrev node_at : NodeMap (K × V)
@@ -89,73 +96,129 @@ module _ {K V : Type 0} (cmp : K → K → Ordering) (k : K) (laws : IsTotalOrde
       (gap-at (record { id = NOWHERE; offset = Some 0 }) 0 (rw none (inr (refl, refl, refl))) (rw none refl)
       (rw none ((refl, refl, refl), refl)) (rw none (inr (refl, refl, refl))) refl)
 
+  up : Rises cmp pairs
+  up = rises cmp pairs tree.ascends
+
+  pub search-begins : (top : ℕ) → IsUsed s top → Searches cmp k s top top
+  search-begins top used =
+      let b = begins-here cmp laws s tree top used k in
+      record { root = b.root; is = b.is; start = b.start; begins = b.begins; searching = b.searching }
+
+  module _ (top id : ℕ) (q : Searches cmp k s top id) where
+    abbrev within : List (K × V)
+    within = pairs_below s top
+
+    well : IsWellFormed cmp node_at (Some q.root) s.len pairs
+    well = subst (λ t. IsWellFormed cmp node_at t s.len pairs) q.is tree
+
+    pub node-used : IsSome (nodes_map.get s.nodes id)
+    node-used = used-view s.nodes id (focus-used (K × V) node_at q.root pairs id q.searching.node)
+
+    module _ (node : Node K V) (at : nodes_map.get s.nodes id ≡ Some node) where
+      here : node_at id ≡ Some (view_of node)
+      here = ap (option_map view_of) at
+
+      pub node-ascends : Ascends cmp (items_of (view_of node))
+      node-ascends = search-ascends cmp k laws node_at q.root pairs up within q.start id q.searching (view_of node) here
+
+      item-at : (o : ℕ) → place_of cmp k (items_of (view_of node)) ≡ Ok o → IsOccupied node_at id (Some o)
+      item-at o place =
+          let r = searched cmp k laws (items_of (view_of node)) (Ok o) (rises cmp (items_of (view_of node)) node-ascends) place in
+          (r.1, ap (λ n. item_in n o) here ∙ (ap (λ l. slice_get l o) r.3 ∙ get-after r.0 r.1 r.2 o (sym r.4)))
+
+      found-in-node : (o : ℕ) → place_of cmp k (items_of (view_of node)) ≡ Ok o → IsFoundIn cmp k s top (record { id = id; offset = Some o })
+      found-in-node o place =
+          let h = search-hit cmp k laws node_at q.root pairs up within q.start id q.searching (view_of node) here o place in
+          let a : Address = record { id = id; offset = Some o } in
+          let at : IsPlaceIn s a (q.start + h.place) = in-state cmp laws s tree q.root q.is id (Some o) (q.start + h.place) h.at in
+          record {
+            start = q.start;
+            begins = q.begins;
+            index = h.place;
+            is = h.is;
+            item = (item-here cmp laws s tree a (q.start + h.place) (item-at o place) at).here;
+          }
+
+      pub hit : (offset : Option ℕ) → Ok offset ≡ offset_in cmp k (view_of node) → (a : Address) → a ≡ record { id = id; offset = offset }
+          → IsFoundIn cmp k s top a
+      hit offset e a same =
+          let r = placed-ok (place_of cmp k (items_of (view_of node))) (children_of (view_of node)) offset e in
+          rw (same, r.2) (found-in-node r.0 r.1)
+
+      pub down : (index child : ℕ) → Err (index, Some child) ≡ offset_in cmp k (view_of node)
+          → Searches cmp k s top child × (levels_below node_at (length pairs) child < levels_below node_at (length pairs) id)
+      down index child e =
+          let r = placed-err (place_of cmp k (items_of (view_of node))) (children_of (view_of node)) index (Some child) e in
+          let d = search-down cmp k laws node_at q.root pairs up within q.start id q.searching (view_of node) here index r.0 child r.1 in
+          (record { root = q.root; is = q.is; start = q.start; begins = q.begins; searching = d.next }, d.smaller)
+
+      gap-in-leaf : (index : ℕ) (v : View (K × V)) → node_at id ≡ Some v → Ascends cmp (items_of v)
+          → place_of cmp k (items_of v) ≡ Err index → slice_get (children_of v) index ≡ None
+          → (place : ℕ) × (place_of cmp k within ≡ Err place) × (found cmp k within ≡ None) × IsLeafBackAt s (q.start + place) (record { id = id; offset = Some index })
+      gap-in-leaf index (leaf p ys) h asc place none =
+          let m = search-miss cmp k laws node_at q.root pairs up within q.start id q.searching p ys h index place in
+          let a : Address = record { id = id; offset = Some index } in
+          let at : IsPlaceIn s a (q.start + m.place) = in-state cmp laws s tree q.root q.is id (Some index) (q.start + m.place) m.at in
+          (m.place, m.is, m.absent, leaf-back-at cmp laws s tree a (q.start + m.place) at (inl (rw h tt)) refl)
+      gap-in-leaf index (internal p first bs) h asc place none =
+          let r = searched cmp k laws (map {B = K × V} (λ (b : (K × V) × ℕ). b.0) bs) (Err index) (rises cmp (map {B = K × V} (λ (b : (K × V) × ℕ). b.0) bs) asc) place in
+          let n = length-map bs (λ (b : (K × V) × ℕ). b.0) in
+          let a1 = ap length r.2 in
+          let a2 = length-append r.0 r.1 in
+          let a3 = r.3 in
+          absurd (has-child first bs index (omega arith) none)
+
+      pub miss : (index : ℕ) → Err (index, None) ≡ offset_in cmp k (view_of node) → (o : Option ℕ) → o ≡ index_offset index
+          → index ≤ size_of (view_of node) → (a : Address) → a ≡ record { id = id; offset = o } → IsGapIn cmp k s top a
+      miss index e o oe few a same =
+          let r = placed-err (place_of cmp k (items_of (view_of node))) (children_of (view_of node)) index None e in
+          let some : o ≡ Some index = oe ∙ small index (omega (arith, few, (well.formed.sized id (view_of node) here).1, most-few (view_of node))) in
+          let g = gap-in-leaf index (view_of node) here node-ascends r.0 r.1 in
+          rw (same, some) (record { start = q.start; begins = q.begins; index = g.0; is = g.1; gap = g.3 })
+
+      -- the item at a place that was found has the value of the key
+      pub hit-value : (offset : Option ℕ) → Ok offset ≡ offset_in cmp k (view_of node)
+          → option_map (λ x. x.1) (option_and_then (slice_get (items_of (view_of node))) offset) ≡ found_value cmp k within
+      hit-value offset e =
+          let r = placed-ok (place_of cmp k (items_of (view_of node))) (children_of (view_of node)) offset e in
+          let h = search-hit cmp k laws node_at q.root pairs up within q.start id q.searching (view_of node) here r.0 r.1 in
+          let a : found cmp k within ≡ slice_get (items_of (view_of node)) r.0 = h.item ∙ ap (λ n. item_in n r.0) here in
+          ap (option_map (λ x. x.1)) (ap (option_and_then (slice_get (items_of (view_of node)))) r.2 ∙ sym a)
+
+      pub miss-value : (index : ℕ) → Err (index, None) ≡ offset_in cmp k (view_of node) → None ≡ found_value cmp k within
+      miss-value index e =
+          let r = placed-err (place_of cmp k (items_of (view_of node))) (children_of (view_of node)) index None e in
+          let g = gap-in-leaf index (view_of node) here node-ascends r.0 r.1 in
+          sym (ap (option_map (λ p. p.1)) g.2)
+
+  -- a search under the root is one of the whole tree
   module _ (root : ℕ) (is : s.root ≡ Some root) where
-    well : IsWellFormed cmp node_at (Some root) s.len pairs
-    well = subst (λ t. IsWellFormed cmp node_at t s.len pairs) is tree
+    pub whole-pairs : pairs ≡ pairs_below s root
+    whole-pairs = ap (λ t. pairs_under node_at t (nodes_map.len s.nodes)) is
 
-    pub up : Rises cmp pairs
-    up = rises cmp pairs well.ascends
+    from-first : (start : ℕ) → HasPlace s (address_before root) start → start ≡ 0
+    from-first start begins = sym (begins.only 0 (start-place cmp laws s tree root is))
 
-    pub start : IsSearching cmp k node_at root pairs root
-    start = search-start cmp k laws node_at root pairs up well.formed
+    place-whole : (start index : ℕ) → HasPlace s (address_before root) start → start + index ≡ index
+    place-whole start index begins = let z = from-first start begins in omega arith
 
-    module _ (id : ℕ) (q : IsSearching cmp k node_at root pairs id) where
-      pub node-used : IsSome (nodes_map.get s.nodes id)
-      node-used = used-view s.nodes id (focus-used (K × V) node_at root pairs id q.node)
+    pub found-whole : (a : Address) → IsFoundIn cmp k s root a → IsFoundAt cmp k s a
+    found-whole a f =
+        let e = place-whole f.start f.index f.begins in
+        record {
+          valid = f.item.valid;
+          place = f.index;
+          is = ap (place_of cmp k) whole-pairs ∙ f.is;
+          at = subst (λ p. IsPlaceIn s a p) e f.item.has.at;
+          occupied = f.item.occupied;
+        }
 
-      module _ (node : Node K V) (at : nodes_map.get s.nodes id ≡ Some node) where
-        here : node_at id ≡ Some (view_of node)
-        here = ap (option_map view_of) at
+    pub gap-whole : (a : Address) → IsGapIn cmp k s root a → IsGapAt cmp k s a
+    gap-whole a g =
+        let e = place-whole g.start g.index g.begins in
+        gap-at a g.index g.gap.valid (ap (place_of cmp k) whole-pairs ∙ g.is) (subst (λ p. IsPlaceIn s a p) e g.gap.has.at)
+        g.gap.in_leaf g.gap.back
 
-        pub node-ascends : Ascends cmp (items_of (view_of node))
-        node-ascends = search-ascends cmp k laws node_at root pairs up id q (view_of node) here
-
-        item-at : (o : ℕ) → place_of cmp k (items_of (view_of node)) ≡ Ok o → IsOccupied node_at id (Some o)
-        item-at o place =
-            let r = searched cmp k laws (items_of (view_of node)) (Ok o) (rises cmp (items_of (view_of node)) node-ascends) place in
-            (r.1, ap (λ n. item_in n o) here ∙ (ap (λ l. slice_get l o) r.3 ∙ get-after r.0 r.1 r.2 o (sym r.4)))
-
-        pub hit : (offset : Option ℕ) → Ok offset ≡ offset_in cmp k (view_of node) → (a : Address) → a ≡ record { id = id; offset = offset } → IsFoundAt cmp k s a
-        hit offset e a same =
-            let r = placed-ok (place_of cmp k (items_of (view_of node))) (children_of (view_of node)) offset e in
-            let h = search-hit cmp k laws node_at root pairs up id q (view_of node) here r.0 r.1 in
-            let at : IsPlace node_at s.root pairs id (Some r.0) h.place = subst (λ t. IsPlace node_at t pairs id (Some r.0) h.place) (sym is) h.at in
-            rw (same, r.2) (record { valid = place-valid node_at s.root pairs id (Some r.0) h.place at; place = h.place; is = h.is; at = at; occupied = item-at r.0 r.1 })
-
-        pub down : (index child : ℕ) → Err (index, Some child) ≡ offset_in cmp k (view_of node) → Down cmp k laws node_at root pairs up id child
-        down index child e =
-            let r = placed-err (place_of cmp k (items_of (view_of node))) (children_of (view_of node)) index (Some child) e in
-            search-down cmp k laws node_at root pairs up id q (view_of node) here index r.0 child r.1
-
-        pub miss : (index : ℕ) → Err (index, None) ≡ offset_in cmp k (view_of node) → (o : Option ℕ) → o ≡ index_offset index → index ≤ size_of (view_of node) → (a : Address) → a ≡ record { id = id; offset = o } → IsGapAt cmp k s a
-        miss index e o oe few a same =
-            let r = placed-err (place_of cmp k (items_of (view_of node))) (children_of (view_of node)) index None e in
-            let some : o ≡ Some index = oe ∙ small index (omega (arith, few, (well.formed.sized id (view_of node) here).1, most-few (view_of node))) in
-            rw (same, some) (by (view_of node) here node-ascends r.0 r.1)
-          where
-            by : (v : View (K × V)) → node_at id ≡ Some v → Ascends cmp (items_of v) → place_of cmp k (items_of v) ≡ Err index → slice_get (children_of v) index ≡ None
-                → IsGapAt cmp k s (record { id = id; offset = Some index })
-            by (leaf p ys) h asc place none =
-                let m = search-miss cmp k laws node_at root pairs up id q p ys h index place in
-                let at : IsPlace node_at s.root pairs id (Some index) m.place = subst (λ t. IsPlace node_at t pairs id (Some index) m.place) (sym is) m.at in
-                gap-at (record { id = id; offset = Some index }) m.place (place-valid node_at s.root pairs id (Some index) m.place at) m.is at (inl (rw h tt)) refl
-            by (internal p first bs) h asc place none =
-                let r = searched cmp k laws (map {B = K × V} (λ (b : (K × V) × ℕ). b.0) bs) (Err index) (rises cmp (map {B = K × V} (λ (b : (K × V) × ℕ). b.0) bs) asc) place in
-                let n = length-map bs (λ (b : (K × V) × ℕ). b.0) in
-                let a1 = ap length r.2 in
-                let a2 = length-append r.0 r.1 in
-                let a3 = r.3 in
-                absurd (has-child first bs index (omega arith) none)
-
-        -- the item at a place that was found has the value of the key
-        pub hit-value : (offset : Option ℕ) → Ok offset ≡ offset_in cmp k (view_of node) → option_map (λ x. x.1) (option_and_then (slice_get (items_of (view_of node))) offset) ≡ found_value cmp k pairs
-        hit-value offset e =
-            let r = placed-ok (place_of cmp k (items_of (view_of node))) (children_of (view_of node)) offset e in
-            let h = search-hit cmp k laws node_at root pairs up id q (view_of node) here r.0 r.1 in
-            let a : found cmp k pairs ≡ slice_get (items_of (view_of node)) r.0 = h.item ∙ ap (λ n. item_in n r.0) here in
-            ap (option_map (λ x. x.1)) (ap (option_and_then (slice_get (items_of (view_of node)))) r.2 ∙ sym a)
-
-        pub miss-value : (index : ℕ) → Err (index, None) ≡ offset_in cmp k (view_of node) → index ≤ size_of (view_of node) → None ≡ found_value cmp k pairs
-        miss-value index e few =
-            let m = miss index e (index_offset index) refl few (record { id = id; offset = index_offset index }) refl in
-            absent-at (λ p. p.1) (before cmp k pairs) (before cmp k pairs) m.place (found cmp k pairs) m.is
+    pub address-whole : (r : Result Address Address) → IsAddressIn cmp k s root r → IsAddressOf cmp k s r
+    address-whole (Ok a) f = found-whole a f
+    address-whole (Err a) g = gap-whole a g

@@ -1,11 +1,16 @@
 -- What a search by key returns: the occupied address of a key that is there, else the gap where it would be.
--- `address_of` cites `IsAddressOf`. Insertion cites its two cases, `IsFoundAt` and `IsGapAt`.
-use Rattle.std.specs.Prelude.{◌≡◌, ℕ, IsSome, Result, Ok, Err}
+-- `address_of` cites `IsAddressOf`. Insertion cites its two cases, `IsFoundAt` and `IsGapAt`. `address_in` cites
+-- `IsAddressIn`, the same for the pairs under a node: places in the whole list, counted from that of offset -1 of the
+-- node.
+use Rattle.std.specs.Prelude.{◌≡◌, ◌+◌, ℕ, IsSome, Result, Ok, Err}
 use Rattle.std.specs.declared.cmp.Ordering.{Ordering}
 use Rattle.btree_item.specs.Pairs.{place_of}
 use Rattle.btree_item.specs.declared.address.Address.{Address}
+use Rattle.btree_shape.specs.Focus.Positions.{address_before}
 use Rattle.btree_shape.specs.TreeState.{TreeState, IsLeafAddressIn, IsOccupiedIn, IsPlaceIn, IsValidIn, pairs_of}
-use Rattle.btree_find.specs.Fits.{FitsAt}
+use Rattle.btree_find.specs.Ends.{IsLeafBackAt}
+use Rattle.btree_find.specs.Fits.{FitsAt, pairs_below}
+use Rattle.btree_find.specs.Navigation.{HasPlace, IsItemAddress}
 
 module _ {K V : Type 0} (cmp : K → K → Ordering) (k : K) (s : TreeState K V) where
   -- an address at which the item with the key is
@@ -31,3 +36,24 @@ module _ {K V : Type 0} (cmp : K → K → Ordering) (k : K) (s : TreeState K V)
   abbrev pub IsAddressOf : Result Address Address → Type 0
   IsAddressOf (Ok a) = IsFoundAt a
   IsAddressOf (Err a) = IsGapAt a
+
+  -- a key at this index among the pairs under a node: the address of its item
+  pub record IsFoundIn (id : ℕ) (a : Address) : Type 0 where
+    pub start : ℕ
+    pub begins : HasPlace s (address_before id) start
+    pub index : ℕ
+    pub is : place_of cmp k (pairs_below s id) ≡ Ok index
+    pub item : IsItemAddress s (start + index) a
+
+  -- no key under a node is equal: the back address in a leaf that has as many smaller keys of the node before it
+  pub record IsGapIn (id : ℕ) (a : Address) : Type 0 where
+    pub start : ℕ
+    pub begins : HasPlace s (address_before id) start
+    pub index : ℕ
+    pub is : place_of cmp k (pairs_below s id) ≡ Err index
+    pub gap : IsLeafBackAt s (start + index) a
+
+  -- the address of a key that is under a node, or of the gap in which it would be there
+  abbrev pub IsAddressIn : (id : ℕ) → Result Address Address → Type 0
+  IsAddressIn id (Ok a) = IsFoundIn id a
+  IsAddressIn id (Err a) = IsGapIn id a

@@ -6,7 +6,7 @@ use Rattle.btree_view.specs.View.{size_of}
 use Rattle.btree_shape.specs.Addresses.{last_leaf}
 use Rattle.btree_shape.specs.Focus.Positions.{address_at}
 use Rattle.btree_shape.specs.Place.{NOWHERE}
-use Rattle.btree_shape.specs.TreeAddresses.{first_back, last_front, leaf_backs_of}
+use Rattle.btree_shape.specs.TreeAddresses.{HasAddresses, first_back, last_front, leaf_backs_of}
 use Rattle.btree_shape.specs.TreeState.{TreeState, IsLeafAddressIn, IsValidIn, node_map, pairs_of}
 use Rattle.btree_find.specs.Navigation.{HasPlace, IsItemAt, IsItemBefore}
 
@@ -33,13 +33,16 @@ module _ {K V : Type 0} (s : TreeState K V) where
     pub item : IsItemAt s 0 found
     pub leftmost : found ≡ first_back s
 
-  -- the address of the last item, in the rightmost leaf
+  -- the address of the last item, in the rightmost leaf; a visit of the front addresses begins there (VisitLaws.antt)
   pub record IsLastItem (found : Option Address) : Type 0 where
+    pub addresses : HasAddresses s
     pub item : IsItemBefore s (length (pairs_of s)) found
     pub rightmost : found ≡ last_front s
 
-  -- the back address of place 0 in a leaf: offset 0 of the leftmost leaf, or nowhere
+  -- the back address of place 0 in a leaf: offset 0 of the leftmost leaf, or nowhere; a visit of the back addresses
+  -- begins there (VisitLaws.antt)
   pub record IsFirstBack (found : Address) : Type 0 where
+    pub addresses : HasAddresses s
     pub at : IsLeafBackAt 0 found
     pub leftmost : found ≡ unwrap_or (first_back s) (address_at NOWHERE 0)
 

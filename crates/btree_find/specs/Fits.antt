@@ -1,12 +1,19 @@
--- Where a key fits: at the place of an address (`FitsAt`, which an insertion there asks), and in the place of the item at
--- an address (`ReplacesAt`, which a replacement of its key asks).
-use Rattle.std.specs.Prelude.{◌≡◌, ℕ, ◌<◌, suc, List, Some, length, slice_get}
+-- Where a key fits: at the place of an address (`FitsAt`, which an insertion there asks), in the place of the item at an
+-- address (`ReplacesAt`, which a replacement of its key asks), and under a node (`FitsIn`).
+use Rattle.std.specs.Prelude.{◌≡◌, ◌+◌, ℕ, ◌<◌, suc, List, Some, length, slice_get}
+use Rattle.std.specs.FinMap as map
 use Rattle.std.specs.declared.cmp.Ordering.{Ordering}
 use Rattle.std.specs.declared.cmp.Ordering.TheVariants.{Less}
 use Rattle.btree_item.specs.Pairs.{KeyFits}
 use Rattle.btree_item.specs.declared.address.Address.{Address}
-use Rattle.btree_shape.specs.TreeState.{TreeState, IsOccupiedIn, pairs_of}
+use Rattle.btree_shape.specs.Focus.Positions.{address_before}
+use Rattle.btree_shape.specs.Represents.{represented}
+use Rattle.btree_shape.specs.TreeState.{TreeState, IsOccupiedIn, node_map, pairs_of}
 use Rattle.btree_find.specs.Navigation.{HasPlace}
+
+-- the pairs under a node: those of its subtree
+abbrev pub pairs_below : {K V : Type 0} → TreeState K V → (id : ℕ) → List (K × V)
+pairs_below s id = represented (node_map s) (map.len s.nodes) id
 
 module _ {K V : Type 0} (cmp : K → K → Ordering) (k : K) where
   -- a key may replace that of the pair at p: it is above the key before it and below the key after it
@@ -28,3 +35,10 @@ module _ {K V : Type 0} (cmp : K → K → Ordering) (k : K) where
       pub place : ℕ
       pub has : HasPlace s a place
       pub replaces : KeyReplaces place (pairs_of s)
+
+  -- the key is between the separators of a node: above the pair before those under it, and below the pair after them
+  pub record FitsIn (s : TreeState K V) (id : ℕ) : Type 0 where
+    pub start : ℕ
+    pub begins : HasPlace s (address_before id) start
+    pub above : (q : ℕ) (x : K × V) → suc q ≡ start → slice_get (pairs_of s) q ≡ Some x → cmp x.0 k ≡ Less
+    pub below : (x : K × V) → slice_get (pairs_of s) (start + length (pairs_below s id)) ≡ Some x → cmp k x.0 ≡ Less

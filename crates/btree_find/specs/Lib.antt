@@ -4,3 +4,4 @@ pub mod Fits
 pub mod Levels
 pub mod Navigation
 pub mod Visits
+pub mod VisitLaws

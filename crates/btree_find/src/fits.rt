@@ -1,11 +1,11 @@
 //! Whether a key fits at the place of an address, or in the place of the item there.
 ghost use Rattle.std.specs.Prelude.{◌≡◌, ◌↔◌, IfSome, IsTrue};
 ghost use Rattle.std.specs.declared.cmp.Ordering.TheVariants.{Less};
-ghost use Rattle.btree_shape.specs.TreeState.{IsBTree, IsValidIn, item_of};
-ghost use Rattle.btree_find.specs.Fits.{FitsAt, ReplacesAt};
+ghost use Rattle.btree_shape.specs.TreeState.{IsBTree, IsUsed, IsValidIn, item_of};
+ghost use Rattle.btree_find.specs.Fits.{FitsAt, FitsIn, ReplacesAt};
 
 use crate::navigation::{next_item_address, normalize, previous_item_address};
-use btree_item::Address;
+use btree_item::{Address, Offset};
 use btree_nodes::NodesMut;
 use btree_raw::RawBTree;
 use std::cmp::Ordering;
@@ -78,6 +78,33 @@ pub fn replaces_at<K: Ord, V, C: NodesMut<K, V>>(
     }
     match next_item_address(tree, addr) {
         Some(next) => is_below(tree, next, key),
+        None => true,
+    }
+}
+
+/// Returns whether a key is between the separators of a node, which must be in use: whether it is greater than the key before those under
+/// the node and less than the key after them.
+///
+/// It compares at most two keys, and reads at most one node of each level twice.
+pub fn key_fits_in<K: Ord, V, C: NodesMut<K, V>>(
+    tree: &RawBTree<K, V, C>,
+    id: usize,
+    key: &K,
+) -> bool
+    requires tree { IsBTree K.cmp tree.now }
+    requires used { IsUsed tree.now id }
+    ensures { IsTrue result ↔ FitsIn K.cmp key.now tree.now id }
+{
+    tree.tell_fits();
+    let count = tree.node(id).item_count();
+    let before = Address::new(id, Offset::before());
+    if let Some(previous) = previous_item_address(tree, before) {
+        if !is_above(tree, previous, key) {
+            return false;
+        }
+    }
+    match normalize(tree, Address::new(id, Offset::from(count))) {
+        Some(after) => is_below(tree, after, key),
         None => true,
     }
 }

@@ -1,16 +1,18 @@
 //! Look-up by key, and the number of levels.
-ghost use Rattle.std.specs.Prelude.{◌≡◌, ◌≤◌, option_copied};
+ghost use Rattle.std.specs.Prelude.{◌≡◌, ◌+◌, ◌*◌, ◌≤◌, option_copied};
 ghost use Rattle.btree_item.specs.Pairs.{found_value};
 ghost use Rattle.btree_node.specs.Node.{view_of};
 ghost use Rattle.btree_view.specs.View.{value_at_offset};
-ghost use Rattle.btree_shape.specs.TreeState.{HasLevels, IsBTree, pairs_of};
-ghost use Rattle.btree_find.specs.Answers.{IsAddressOf};
-ghost use Rattle.btree_find.specs.Levels.{IsDense};
+ghost use Rattle.btree_shape.specs.TreeState.{HasLevels, IsBTree, IsUsed, pairs_of};
+ghost use Rattle.btree_find.specs.Answers.{IsAddressIn, IsAddressOf};
+ghost use Rattle.btree_find.specs.Fits.{pairs_below};
+ghost use Rattle.btree_find.specs.Levels.{IsDense, TicksAtMost, levels_from};
 
-use btree_item::{Address, MAX_LEVELS, Offset};
+use btree_item::{Address, MAX_COMPARISONS, MAX_LEVELS, Offset};
 use btree_node::Node;
 use btree_nodes::NodesMut;
 use btree_raw::RawBTree;
+use btree_steps::Steps;
 
 /// Returns `Ok` with the address of a key that is there, or `Err` with the address in a leaf where it would be inserted. It makes at most
 /// six comparisons at each level.
@@ -21,13 +23,59 @@ pub fn address_of<K: Ord, V, C: NodesMut<K, V>>(
     requires { IsBTree K.cmp tree.now }
     ensures { IsAddressOf K.cmp key.now tree.now result }
 {
-    let Some(root) = tree.root_id() else {
-        return Err(Address::nowhere());
-    };
+    let mut steps = Steps::new();
+    address_of_counted(tree, key, &mut steps)
+}
+
+/// Does the same as `address_of`, and ticks once for each comparison of keys. `Steps` takes no time and no bytes.
+pub fn address_of_counted<K: Ord, V, C: NodesMut<K, V>>(
+    tree: &RawBTree<K, V, C>,
+    key: &K,
+    steps: &mut Steps,
+) -> Result<Address, Address>
+    requires { IsBTree K.cmp tree.now }
+    ensures found { IsAddressOf K.cmp key.now tree.now result }
+    ensures ticks { TicksAtMost tree.now steps.old.count steps.new.count }
+{
+    match tree.root_id() {
+        Some(root) => search_from(tree, root, key, steps),
+        None => Err(Address::nowhere()),
+    }
+}
+
+/// Searches among the items under a node, which must be in use. Returns `Ok` with the address of a key that is there, or `Err` with the
+/// back address in a leaf under the node that has as many smaller keys under the node before it. It makes at most six comparisons at each
+/// level from the node down.
+pub fn address_in<K: Ord, V, C: NodesMut<K, V>>(
+    tree: &RawBTree<K, V, C>,
+    top: usize,
+    key: &K,
+) -> Result<Address, Address>
+    requires tree { IsBTree K.cmp tree.now }
+    requires used { IsUsed tree.now top }
+    ensures { IsAddressIn K.cmp key.now tree.now top result }
+{
+    let mut steps = Steps::new();
+    search_from(tree, top, key, &mut steps)
+}
+
+// Searches for a key from a node down.
+#[inline(always)]
+fn search_from<K: Ord, V, C: NodesMut<K, V>>(
+    tree: &RawBTree<K, V, C>,
+    top: usize,
+    key: &K,
+    steps: &mut Steps,
+) -> Result<Address, Address>
+    requires tree { IsBTree K.cmp tree.now }
+    requires used { IsUsed tree.now top }
+    ensures found { IsAddressIn K.cmp key.now tree.now top result }
+    ensures ticks { steps.new.count ≤ steps.old.count + MAX_COMPARISONS * levels_from tree.now top }
+{
     tree.tell_fits();
-    let mut id = root;
+    let mut id = top;
     loop {
-        match tree.node(id).offset_of(key) {
+        match tree.node(id).offset_of_counted(key, steps) {
             Ok(offset) => return Ok(Address::new(id, offset)),
             Err((_, Some(child))) => id = child,
             Err((index, None)) => return Err(Address::new(id, Offset::from(index))),
@@ -53,11 +101,25 @@ pub fn get<'a, K: Ord + 'a, V: 'a, C: NodesMut<K, V>>(
     requires { IsBTree K.cmp tree.now }
     ensures { option_copied result ≡ found_value K.cmp key.now (pairs_of tree.now) }
 {
-    let Some(root) = tree.root_id() else {
-        return None;
-    };
+    match tree.root_id() {
+        Some(root) => get_in(tree, key, root),
+        None => None,
+    }
+}
+
+/// Returns the value at a key under a node, which must be in use, or `None` if the key is not there. It makes at most six comparisons at
+/// each level from the node down, copies nothing and allocates no memory.
+pub fn get_in<'a, K: Ord + 'a, V: 'a, C: NodesMut<K, V>>(
+    tree: &'a RawBTree<K, V, C>,
+    key: &K,
+    top: usize,
+) -> Option<&'a V>
+    requires tree { IsBTree K.cmp tree.now }
+    requires used { IsUsed tree.now top }
+    ensures { option_copied result ≡ found_value K.cmp key.now (pairs_below tree.now top) }
+{
     tree.tell_fits();
-    let mut id = root;
+    let mut id = top;
     loop {
         let node = tree.node(id);
         match node.offset_of(key) {

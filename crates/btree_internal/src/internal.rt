@@ -14,9 +14,10 @@ ghost use Rattle.btree_view.specs.Separators.{separator_after, separator_before}
 ghost use Rattle.btree_view.specs.View.{items_of, children_of, internal, item_at_offset, size_of, value_at_offset};
 
 use btree_item::{
-    Fault, INTERNAL_MEDIAN, INTERNAL_SLOTS, Item, Keyed, MAX_INTERNAL_ITEMS, MIN_ITEMS, Offset,
-    Slots, search,
+    Fault, INTERNAL_MEDIAN, INTERNAL_SLOTS, Item, Keyed, MAX_COMPARISONS, MAX_INTERNAL_ITEMS,
+    MIN_ITEMS, Offset, Slots, search_counted,
 };
+use btree_steps::Steps;
 use btree_view::{Balance, WouldUnderflow, check_node, offset_at};
 use std::cmp::Ordering;
 use std::marker::Model;
@@ -362,16 +363,21 @@ fn child_id_among<K, V>(
     }
 }
 
-// Returns the place of a key among the items.
-fn place<K: Ord, V>(branches: &Slots<Branch<K, V>, INTERNAL_SLOTS>, key: &K) -> Result<usize, usize>
+// Returns the place of a key among the items, and ticks once for each comparison of keys.
+fn place<K: Ord, V>(
+    branches: &Slots<Branch<K, V>, INTERNAL_SLOTS>,
+    key: &K,
+    steps: &mut Steps,
+) -> Result<usize, usize>
     requires { Ascends K.cmp (map (λ b. b.item) branches.now) }
     ensures place { result ≡ place_of K.cmp key.now (map (λ b. b.item) branches.now) }
     ensures within { IsSearchInRange result (length branches.now) }
     ensures fits { length branches.now ≤ INTERNAL_SLOTS }
     ensures here { IfOk result (IsIndexOfKey K.cmp key.now (map (λ b. b.item) branches.now)) }
     ensures absent { OnErr result (found K.cmp key.now (map (λ b. b.item) branches.now) ≡ None) }
+    ensures ticks { steps.new.count ≤ steps.old.count + MAX_COMPARISONS }
 {
-    search(branches, key)
+    search_counted(branches, key, steps)
 }
 
 impl<K: Ord, V> InternalNode<K, V> {
@@ -389,7 +395,21 @@ impl<K: Ord, V> InternalNode<K, V> {
         }
     }
 
-    // Returns the place of a key among the items.
+    // Returns the place of a key among the items, and ticks once for each comparison of keys.
+    fn find_counted(&self, key: &K, steps: &mut Steps) -> Result<usize, usize>
+        requires { Ascends K.cmp (items_of (view_of self.now)) }
+        ensures place { result ≡ place_of K.cmp key.now (items_of (view_of self.now)) }
+        ensures within { IsSearchInRange result (length self.now.branches) }
+        ensures sized { size_of (view_of self.now) ≡ length self.now.branches }
+        ensures here { IfOk result (IsIndexOfKey K.cmp key.now (items_of (view_of self.now))) }
+        ensures fits { length self.now.branches ≤ INTERNAL_SLOTS }
+        ensures absent { OnErr result (found K.cmp key.now (items_of (view_of self.now)) ≡ None) }
+        ensures ticks { steps.new.count ≤ steps.old.count + MAX_COMPARISONS }
+    {
+        place(&self.branches, key, steps)
+    }
+
+    // Does the same without a counter.
     fn find(&self, key: &K) -> Result<usize, usize>
         requires { Ascends K.cmp (items_of (view_of self.now)) }
         ensures place { result ≡ place_of K.cmp key.now (items_of (view_of self.now)) }
@@ -399,7 +419,8 @@ impl<K: Ord, V> InternalNode<K, V> {
         ensures fits { length self.now.branches ≤ INTERNAL_SLOTS }
         ensures absent { OnErr result (found K.cmp key.now (items_of (view_of self.now)) ≡ None) }
     {
-        place(&self.branches, key)
+        let mut steps = Steps::new();
+        self.find_counted(key, &mut steps)
     }
 
     /// Returns `Ok` with the value at a key for writing, or `Err` with the number of the child that may hold it. It makes at most six
@@ -425,7 +446,18 @@ impl<K: Ord, V> InternalNode<K, V> {
         ensures value { result_map_err gap_with_child result ≡ offset_in K.cmp key.now (view_of self.now) }
         ensures within { PointsInto (view_of self.now) result }
     {
-        match self.find(key) {
+        let mut steps = Steps::new();
+        self.offset_of_counted(key, &mut steps)
+    }
+
+    /// Does the same as `offset_of`, and ticks once for each comparison of keys, at most six times.
+    pub fn offset_of_counted(&self, key: &K, steps: &mut Steps) -> Result<Offset, (usize, usize)>
+        requires { Ascends K.cmp (items_of (view_of self.now)) }
+        ensures value { result_map_err gap_with_child result ≡ offset_in K.cmp key.now (view_of self.now) }
+        ensures within { PointsInto (view_of self.now) result }
+        ensures ticks { steps.new.count ≤ steps.old.count + MAX_COMPARISONS }
+    {
+        match self.find_counted(key, steps) {
             Ok(index) => Ok(offset_at(index)),
             Err(index) => Err((index, self.child_id(index))),
         }

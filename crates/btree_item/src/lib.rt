@@ -15,7 +15,7 @@ pub use fault::Fault;
 pub use item::{Item, Keyed};
 pub use offset::Offset;
 pub use refused::{Cause, Refused};
-pub use searches::{binary_search_min, search};
+pub use searches::{binary_search_min, search, search_counted};
 pub use slots::Slots;
 pub use slots_iter::SlotsIter;
 
@@ -43,6 +43,9 @@ pub const LEAF_SLOTS: usize = MAX_LEAF_ITEMS + 1;
 
 /// The slots of an internal node: room for one item too many, until it is split.
 pub const INTERNAL_SLOTS: usize = MAX_INTERNAL_ITEMS + 1;
+
+/// The most comparisons of keys that the search in a node makes.
+pub const MAX_COMPARISONS: usize = 6;
 
 /// The most levels of a tree whose items a `usize` of 64 bits can count. A root has at least two children, and any other internal node at
 /// least `MIN_ITEMS + 1`, so a tree of n items and h levels satisfies 2 * 4^(h-1) <= n + 1.

@@ -1,9 +1,10 @@
 //! Searches in slots in the order of their keys.
-ghost use Rattle.std.specs.Prelude.{◌≡◌, ◌<◌, ◌≤◌, Some, IfNone, IfSome, length, map, slice_get};
+ghost use Rattle.std.specs.Prelude.{◌≡◌, ◌+◌, ◌<◌, ◌≤◌, Some, IfNone, IfSome, length, map, slice_get};
 ghost use Rattle.std.specs.List.Sorted.{IsSearchInRange, IsSorted, IsStrictlySortedBy};
 ghost use Rattle.btree_item.specs.Keys.{key_place, AllAbove, AllBelow, IsFirstNotBelow, IsLastAtMost, IsNotBelowAt};
 
-use crate::{Keyed, LEAF_SLOTS, Slots};
+use crate::{Keyed, LEAF_SLOTS, MAX_COMPARISONS, Slots};
+use btree_steps::Steps;
 
 // The index at which a search divides the slots: the middle of a full leaf with one item too many.
 const MIDDLE: usize = LEAF_SLOTS / 2;
@@ -16,13 +17,14 @@ fn key_at<T: Keyed, const N: usize>(slots: &Slots<T, N>, index: usize) -> &T::Ke
 }
 
 // Returns the first index from `start` to `end` whose key is not less than `key`. It always compares all of these, so that no branch
-// depends on the result.
+// depends on the result, and ticks for each.
 #[tactic(auto, using(crate::proofs::KeyLemmas::search_steps))]
 fn first_not_below<T: Keyed, const N: usize>(
     slots: &Slots<T, N>,
     key: &T::Key,
     start: usize,
     end: usize,
+    steps: &mut Steps,
 ) -> usize
 where
     T::Key: Ord,
@@ -31,10 +33,12 @@ where
     requires ascends { IsStrictlySortedBy T.Key.cmp (map T.key_of slots.now) }
     requires before { AllBelow T.Key.cmp key.now start (map T.key_of slots.now) }
     requires here { IsNotBelowAt T.Key.cmp key.now end (map T.key_of slots.now) }
-    ensures { IsFirstNotBelow T.Key.cmp key.now result (map T.key_of slots.now) }
+    ensures place { IsFirstNotBelow T.Key.cmp key.now result (map T.key_of slots.now) }
+    ensures ticks { steps.new.count + start ≡ steps.old.count + end }
 {
     let mut place = start;
     for i in start..end {
+        steps.tick();
         if key_at(slots, i) < key {
             place = i + 1;
         }
@@ -42,26 +46,61 @@ where
     place
 }
 
-// Does the same over all slots. The key in the middle decides which half to search.
+// Does the same over all slots. The key in the middle decides which half to search. Of the comparisons that a node may take, one is left.
 #[tactic(auto, using(crate::proofs::KeyLemmas::search_halves))]
-fn lower_bound<T: Keyed, const N: usize>(slots: &Slots<T, N>, key: &T::Key) -> usize
+fn lower_bound<T: Keyed, const N: usize>(
+    slots: &Slots<T, N>,
+    key: &T::Key,
+    steps: &mut Steps,
+) -> usize
 where
     T::Key: Ord,
     requires { IsStrictlySortedBy T.Key.cmp (map T.key_of slots.now) }
-    ensures { IsFirstNotBelow T.Key.cmp key.now result (map T.key_of slots.now) }
+    ensures place { IsFirstNotBelow T.Key.cmp key.now result (map T.key_of slots.now) }
+    ensures ticks { length slots.now ≤ LEAF_SLOTS →
+        steps.new.count < steps.old.count + MAX_COMPARISONS }
 {
     let len = slots.len();
     if len <= MIDDLE {
-        first_not_below(slots, key, 0, len)
-    } else if key_at(slots, MIDDLE) < key {
-        first_not_below(slots, key, MIDDLE + 1, len)
+        return first_not_below(slots, key, 0, len, steps);
+    }
+    steps.tick();
+    if key_at(slots, MIDDLE) < key {
+        first_not_below(slots, key, MIDDLE + 1, len, steps)
     } else {
-        first_not_below(slots, key, 0, MIDDLE)
+        first_not_below(slots, key, 0, MIDDLE, steps)
     }
 }
 
-/// Returns the place of a key in slots whose keys ascend strictly: `Ok` if it is there, or `Err` with the number of smaller keys. In up
-/// to nine slots it makes at most six comparisons: five by `<`, and then one by `==`.
+/// Returns the place of a key in slots whose keys ascend strictly: `Ok` if it is there, or `Err` with the number of smaller keys. It
+/// ticks once for each comparison of keys. In up to nine slots these are at most six: five by `<`, and then one by `==`.
+pub fn search_counted<T: Keyed, const N: usize>(
+    slots: &Slots<T, N>,
+    key: &T::Key,
+    steps: &mut Steps,
+) -> Result<usize, usize>
+where
+    T::Key: Ord,
+    requires { IsStrictlySortedBy T.Key.cmp (map T.key_of slots.now) }
+    ensures place { result ≡ key_place T.Key.cmp key.now (map T.key_of slots.now) }
+    ensures within { IsSearchInRange result (length slots.now) }
+    ensures fits { length slots.now ≤ N }
+    ensures ticks { length slots.now ≤ LEAF_SLOTS →
+        steps.new.count ≤ steps.old.count + MAX_COMPARISONS }
+{
+    let place = lower_bound(slots, key, steps);
+    if place >= slots.len() {
+        return Err(place);
+    }
+    steps.tick();
+    if key_at(slots, place) == key {
+        Ok(place)
+    } else {
+        Err(place)
+    }
+}
+
+/// Does the same without a counter.
 pub fn search<T: Keyed, const N: usize>(slots: &Slots<T, N>, key: &T::Key) -> Result<usize, usize>
 where
     T::Key: Ord,
@@ -70,12 +109,8 @@ where
     ensures within { IsSearchInRange result (length slots.now) }
     ensures fits { length slots.now ≤ N }
 {
-    let place = lower_bound(slots, key);
-    if place < slots.len() && key_at(slots, place) == key {
-        Ok(place)
-    } else {
-        Err(place)
-    }
+    let mut steps = Steps::new();
+    search_counted(slots, key, &mut steps)
 }
 
 /// Returns the last index whose key is at most the given one, in slots whose keys do not descend; equal keys may be adjacent. It halves

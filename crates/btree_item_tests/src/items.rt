@@ -3,10 +3,15 @@ ghost use Rattle.std.specs.Ordering.{nat_cmp, on};
 ghost use Rattle.btree_item.specs.Pairs.{Ascends};
 
 use btree_counted::Counted;
-use btree_item::{Address, Cause, Item, Offset, Refused, Slots, binary_search_min, search};
+use btree_item::{
+    Address, Cause, Item, MAX_COMPARISONS, Offset, Refused, Slots, binary_search_min, search,
+    search_counted,
+};
+use btree_steps::Steps;
 use std::alloc::AllocError;
 use std::cell::Cell;
 use std::cmp::Ordering;
+use std::process::Abort;
 use std::test::Fail;
 
 #[test]
@@ -132,6 +137,25 @@ fn add<'a>(slots: &mut Slots<Item<Counted<'a>, u32>, 9>, key: Counted<'a>)
     }
 }
 
+// Searches without a counter and with one, which answers the same after as many comparisons.
+fn searched<'a>(
+    rt: &impl Abort,
+    slots: &Slots<Item<Counted<'a>, u32>, 9>,
+    key: Counted<'a>,
+) -> Result<usize, usize>
+    requires { Ascends (on (λ key. key.number) nat_cmp) slots.now }
+{
+    key.compared.set(0);
+    let place = search(slots, &key);
+    let compared = key.compared.get();
+    assert!(rt; (compared as usize) <= MAX_COMPARISONS, "{}", key.number);
+    key.compared.set(0);
+    let mut steps = Steps::new();
+    let counted = search_counted(slots, &key, &mut steps);
+    assert_eq!(rt; (counted, key.compared.get()), (place, compared));
+    place
+}
+
 // The keys are 1, 3, 5, up to nine of them; each of these and each number between is searched for.
 #[test]
 fn compares_at_most_six_times(rt: HostRuntime) {
@@ -143,9 +167,7 @@ fn compares_at_most_six_times(rt: HostRuntime) {
     let mut slots: Slots<Item<Counted, u32>, 9> = Slots::new();
     for held in 0..10u32 {
         for number in 0..2 * held + 2 {
-            compared.set(0);
-            let place = search(&slots, &key(number));
-            assert!(rt; compared.get() <= 6, "{number} among {held}");
+            let place = searched(&rt, &slots, key(number));
             let smaller = (number / 2) as usize;
             let is_held = number % 2 == 1 && number < 2 * held;
             assert_eq!(rt; place, if is_held { Ok(smaller) } else { Err(smaller) });

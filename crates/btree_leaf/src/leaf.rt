@@ -9,9 +9,10 @@ ghost use Rattle.btree_view.specs.Kept.{insert_at, kept_parent};
 ghost use Rattle.btree_view.specs.LookUp.{IsIndexOfKey};
 
 use btree_item::{
-    Fault, Item, LEAF_MEDIAN, LEAF_SLOTS, MAX_LEAF_ITEMS, MIN_ITEMS, Offset, Slots, SlotsIter,
-    search,
+    Fault, Item, LEAF_MEDIAN, LEAF_SLOTS, MAX_COMPARISONS, MAX_LEAF_ITEMS, MIN_ITEMS, Offset,
+    Slots, SlotsIter, search_counted,
 };
+use btree_steps::Steps;
 use btree_view::{Balance, WouldUnderflow, check_node, offset_at};
 use std::marker::Model;
 
@@ -150,7 +151,24 @@ impl<K, V> LeafNode<K, V> {
     }
 }
 
-// Returns the place of a key among items.
+// Returns the place of a key among items, and ticks once for each comparison of keys.
+fn place_counted<K: Ord, V>(
+    items: &Slots<Item<K, V>, LEAF_SLOTS>,
+    key: &K,
+    steps: &mut Steps,
+) -> Result<usize, usize>
+    requires { Ascends K.cmp items.now }
+    ensures place { result ≡ place_of K.cmp key.now items.now }
+    ensures within { IsSearchInRange result (length items.now) }
+    ensures fits { length items.now ≤ LEAF_SLOTS }
+    ensures here { IfOk result (IsIndexOfKey K.cmp key.now items.now) }
+    ensures absent { OnErr result (found K.cmp key.now items.now ≡ None) }
+    ensures ticks { steps.new.count ≤ steps.old.count + MAX_COMPARISONS }
+{
+    search_counted(items, key, steps)
+}
+
+// Does the same without a counter.
 fn place<K: Ord, V>(items: &Slots<Item<K, V>, LEAF_SLOTS>, key: &K) -> Result<usize, usize>
     requires { Ascends K.cmp items.now }
     ensures place { result ≡ place_of K.cmp key.now items.now }
@@ -159,7 +177,8 @@ fn place<K: Ord, V>(items: &Slots<Item<K, V>, LEAF_SLOTS>, key: &K) -> Result<us
     ensures here { IfOk result (IsIndexOfKey K.cmp key.now items.now) }
     ensures absent { OnErr result (found K.cmp key.now items.now ≡ None) }
 {
-    search(items, key)
+    let mut steps = Steps::new();
+    place_counted(items, key, &mut steps)
 }
 
 impl<K: Ord, V> LeafNode<K, V> {
@@ -213,6 +232,17 @@ impl<K: Ord, V> LeafNode<K, V> {
         ensures fits { length self.now.items ≤ LEAF_SLOTS }
     {
         place(self.items(), key)
+    }
+
+    /// Does the same as `find`, and ticks once for each comparison of keys, at most six times.
+    pub fn find_counted(&self, key: &K, steps: &mut Steps) -> Result<usize, usize>
+        requires { Ascends K.cmp self.now.items }
+        ensures place { result ≡ place_of K.cmp key.now self.now.items }
+        ensures within { IsSearchInRange result (length self.now.items) }
+        ensures fits { length self.now.items ≤ LEAF_SLOTS }
+        ensures ticks { steps.new.count ≤ steps.old.count + MAX_COMPARISONS }
+    {
+        place_counted(self.items(), key, steps)
     }
 }
 

@@ -30,7 +30,7 @@ impl<K: Ord, V, C: NodesMut<K, V>> BTreeMap<K, V, C> {
     ghost use Rattle.std.specs.Mem.{FitsInMemory};
     ghost use Rattle.btree_node.specs.contracts.node.Node.{the_row as node_row};
     ghost use Rattle.btree_item.specs.Pairs.{found_value};
-    ghost use Rattle.btree_shape.specs.TreeState.{pairs_of};
+    ghost use Rattle.btree_shape.specs.TreeState.{IsBTree, pairs_of};
 
     /// Returns a map without pairs, over an empty store made from `origin`. It allocates no memory.
     ///
@@ -65,6 +65,15 @@ impl<K: Ord, V, C: NodesMut<K, V>> BTreeMap<K, V, C> {
         ensures { option_copied result ≡ found_value K.cmp key.now (pairs_of self.now) }
     {
         self.tree.get(key)
+    }
+
+    /// Returns the nodes in their store, the number of the root and the length, as a tree of any content.
+    pub fn into_raw(self) -> RawBTree<K, V, C>
+        ensures value { result ≡ self }
+        ensures well_formed { IsBTree K.cmp result }
+    {
+        let BTreeMap { tree } = self;
+        tree.into_raw()
     }
 
     /// Returns an iterator over the pairs in the order of the keys. A whole walk fetches each node once, and allocates no memory.

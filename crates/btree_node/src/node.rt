@@ -1,5 +1,5 @@
 //! A node of the tree.
-ghost use Rattle.std.specs.Prelude.{◌≡◌, ◌<◌, ◌≤◌, ◌↔◌, ◌==◌, Some, None, IsTrue, IsSomeAnd, IfSome, OnSome, length, slice_get, position};
+ghost use Rattle.std.specs.Prelude.{◌≡◌, ◌+◌, ◌<◌, ◌≤◌, ◌↔◌, ◌==◌, Some, None, IsTrue, IsSomeAnd, IfSome, OnSome, length, slice_get, position};
 ghost use Rattle.std.specs.Option.{option_copied};
 ghost use Rattle.btree_item.specs.Pairs.{Ascends};
 ghost use Rattle.btree_view.specs.Edits.{balance_of, HasChildFor, is_internal, IsOverflowing, IsSplit, IsUnderflowing, with_parent};
@@ -11,8 +11,11 @@ ghost use Rattle.btree_view.specs.Separators.{children_between_items, separator_
 ghost use Rattle.btree_view.specs.View.{BeginsAt, parent_of, items_of, children_of, item_at_offset, size_of, most_of};
 
 use btree_internal::{Children, ChildrenWithSeparators, InsertionError, InternalNode};
-use btree_item::{Fault, Item, LEAF_SLOTS, MAX_INTERNAL_ITEMS, MAX_LEAF_ITEMS, MIN_ITEMS, Offset};
+use btree_item::{
+    Fault, Item, LEAF_SLOTS, MAX_COMPARISONS, MAX_INTERNAL_ITEMS, MAX_LEAF_ITEMS, MIN_ITEMS, Offset,
+};
 use btree_leaf::LeafNode;
+use btree_steps::Steps;
 use btree_view::{Balance, WouldUnderflow, offset_at};
 
 /// What `Node::pop_right` removes: the offset that the item had, the item, and the child after it, which is there exactly in an internal
@@ -516,12 +519,28 @@ impl<K: Ord, V> Node<K, V> {
         ensures value { result ≡ offset_in K.cmp key.now (view_of self.now) }
         ensures within { PointsInto (view_of self.now) result }
     {
+        let mut steps = Steps::new();
+        self.offset_of_counted(key, &mut steps)
+    }
+
+    /// Does the same as `offset_of`, and ticks once for each comparison of keys, at most six times.
+    #[inline(always)]
+    pub fn offset_of_counted(
+        &self,
+        key: &K,
+        steps: &mut Steps,
+    ) -> Result<Offset, (usize, Option<usize>)>
+        requires { Ascends K.cmp (items_of (view_of self.now)) }
+        ensures value { result ≡ offset_in K.cmp key.now (view_of self.now) }
+        ensures within { PointsInto (view_of self.now) result }
+        ensures ticks { steps.new.count ≤ steps.old.count + MAX_COMPARISONS }
+    {
         match self {
-            Node::Internal(node) => match node.offset_of(key) {
+            Node::Internal(node) => match node.offset_of_counted(key, steps) {
                 Ok(offset) => Ok(offset),
                 Err((index, id)) => Err((index, Some(id))),
             },
-            Node::Leaf(leaf) => match leaf.find(key) {
+            Node::Leaf(leaf) => match leaf.find_counted(key, steps) {
                 Ok(index) => Ok(offset_at(index)),
                 Err(index) => Err((index, None)),
             },

@@ -384,7 +384,7 @@ fn compares_branches_by_key(rt: HostRuntime) {
 }
 
 // Inserts an item with a new key at its place.
-fn put<K: Ord + Drop, V: Drop>(
+pub fn put<K: Ord + Drop, V: Drop>(
     node: &mut InternalNode<K, V>,
     key: K,
     value: V,

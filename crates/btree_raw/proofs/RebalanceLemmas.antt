@@ -37,6 +37,7 @@ use Rattle.btree_raw.specs.Rebalance.{FreesNodes, HasRoom, AllocatesForSplits, I
 use Rattle.btree_raw.specs.Underflow.{AreFixed, IsFixingOf, FixesUnderflowUpward, IsRepairedOrEmpty}
 use Rattle.btree_raw.specs.Steps.{IsSplitting, Overflows, SplitsUpward}
 use Rattle.btree_raw.proofs.LevelLemmas.{split_need-few}
+use Rattle.btree_raw.proofs.FixedLemmas.{fix-done, fix-start}
 use Rattle.btree_shape.proofs.Trees.States.{height_held, is-tree-but-length, pairs-tree}
 use Rattle.btree_shape.proofs.Trees.Stores.{used-view, len-views}
 use Rattle.btree_raw.proofs.ClaimLemmas.{claims-focus}
@@ -263,6 +264,17 @@ module _ {K V : Type 0} (cmp : K → K → Ordering) (laws : IsTotalOrder cmp) (
             subst (λ n. FreesNodes old new id n strain ends.after) (same-node fits.node room.node fits.here room.here)
             (record { freed = length m.removed; fewer = fewer; within = within; within_strain = (let p = ends.within_strain in omega arith) }))
             (λ room t same. m.steps t same)
+
+      -- with enough items nothing changes
+      pub enough-rebalanced : 2 < size_of fits.node → IsRebalanced old old id cmp a a
+      enough-rebalanced enough =
+          fixed old a
+          (record {
+            fixed = fix-done node_at node_at old.root id id a a fixing.fixing (fix-start (K × V) node_at old.root id a) fits.node fits.here enough;
+            len = refl;
+            uncounted = refl;
+          })
+          (λ is. is)
 
     -- an item too many
     module _ (over : Overflows node_at id) where

@@ -19,7 +19,7 @@ pub mod generic {
     /// The map and the tree in it, their calls by address, and how an insertion is refused.
     pub mod map {
         pub use btree_ext::{BTreeExt, BTreeExtMut, Tree};
-        pub use btree_item::{Cause, M, Refused};
+        pub use btree_item::{Cause, Fault, M, Refused};
         pub use btree_map::BTreeMap;
         pub use btree_raw::RawBTree;
         pub use btree_walk::Iter;
@@ -28,11 +28,14 @@ pub mod generic {
     /// Nodes, their items, and addresses.
     pub mod node {
         pub use btree_item::{Address, Item, Keyed, Offset};
-        pub use btree_node::{Balance, InternalNode, LeafNode, Node, PoppedItem, WouldUnderflow};
+        pub use btree_node::{
+            Balance, Children, ChildrenWithSeparators, InternalNode, LeafNode, Node, PoppedItem,
+            WouldUnderflow,
+        };
 
         /// Nodes with children.
         pub mod internal {
-            pub use btree_node::internal::{Branch, Internal};
+            pub use btree_node::internal::{Branch, InsertionError, Internal};
         }
     }
 }
@@ -48,7 +51,8 @@ pub mod script {
     pub use btree_session::{Command, Reply, Session, Stop, drive, run};
 }
 
-/// Lists of a fixed capacity, and a search in one.
+/// Lists of a fixed capacity, a search in one, and a counter of no bytes.
 pub mod utils {
     pub use btree_item::{Slots, binary_search_min};
+    pub use btree_steps::Steps;
 }

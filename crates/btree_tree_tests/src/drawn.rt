@@ -235,6 +235,15 @@ pub(crate) fn walk<C: NodesMut<u64, u64>>(
     Err(Fail::from("a walk without an end"))
 }
 
+/// Checks that each item's key is its place.
+pub(crate) fn check_keys(rt: &impl Abort, walked: &Walked) {
+    for stop in &walked.stops {
+        if let Some(key) = stop.key {
+            assert_eq!(rt; key, stop.place);
+        }
+    }
+}
+
 /// Returns the keys of a node, each followed by a blank, or `-` if there is no node.
 pub(crate) fn keys_of<C: NodesMut<u64, u64>>(
     raw: &RawBTree<u64, u64, C>,

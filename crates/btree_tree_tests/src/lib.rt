@@ -17,3 +17,5 @@ mod rebalance;
 mod refused;
 #[cfg(test)]
 mod trees;
+#[cfg(test)]
+mod under;

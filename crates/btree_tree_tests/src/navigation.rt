@@ -206,3 +206,130 @@ fn decides_which_addresses_are_valid(rt: HostRuntime) {
         assert_eq!(rt; tree.is_valid(addr), valid, "{addr}");
     }
 }
+
+// The back addresses in the order of a visit, and the front addresses backwards.
+const BACKS: [usize; 12] = [
+    LEFT_0, LEFT_1, LEFT_2, LEFT_3, LEFT_4, TOP_0, RIGHT_0, RIGHT_1, RIGHT_2, RIGHT_3, RIGHT_4,
+    TOP_1,
+];
+
+const FRONTS: [usize; 12] = [
+    RIGHT_3, RIGHT_2, RIGHT_1, RIGHT_0, BEFORE_R, TOP_0, LEFT_3, LEFT_2, LEFT_1, LEFT_0, BEFORE_L,
+    BEFORE_T,
+];
+
+fn check_backs(rt: &impl Abort, tree: &Map, ids: Ids) {
+    let mut addr = Some(tree.first_back_address());
+    for name in &BACKS {
+        assert_eq!(rt; addr, named(ids, *name));
+        addr = tree.next_back_address(valid(rt, tree, ids, *name));
+    }
+    assert_eq!(rt; addr, None);
+}
+
+fn check_fronts(rt: &impl Abort, tree: &Map, ids: Ids) {
+    let mut addr = tree.last_item_address();
+    for name in &FRONTS {
+        assert_eq!(rt; addr, named(ids, *name));
+        addr = tree.previous_front_address(valid(rt, tree, ids, *name));
+    }
+    assert_eq!(rt; addr, None);
+}
+
+// An address at -1 and the next back address.
+const AFTER_BEFORE: [(usize, usize); 3] = [
+    (BEFORE_L, LEFT_0),
+    (BEFORE_T, LEFT_0),
+    (BEFORE_R, RIGHT_0),
+];
+
+// An address past the end of a node and the previous front address.
+const BEFORE_END: [(usize, usize); 3] = [(LEFT_4, LEFT_3), (TOP_1, RIGHT_3), (RIGHT_4, RIGHT_3)];
+
+fn check_outside(rt: &impl Abort, tree: &Map, ids: Ids) {
+    for (name, next) in &AFTER_BEFORE {
+        let addr = valid(rt, tree, ids, *name);
+        assert_eq!(rt; tree.next_back_address(addr), named(ids, *next));
+    }
+    for (name, previous) in &BEFORE_END {
+        let addr = valid(rt, tree, ids, *name);
+        assert_eq!(rt; tree.previous_front_address(addr), named(ids, *previous));
+    }
+}
+
+#[test]
+fn visits_each_address_once(rt: HostRuntime) {
+    let (tree, ids) = two_leaves(&rt, rt.alloc());
+    check_backs(&rt, &tree, ids);
+    check_fronts(&rt, &tree, ids);
+    check_outside(&rt, &tree, ids);
+}
+
+#[test]
+fn finds_the_ends(rt: HostRuntime) {
+    let (tree, ids) = two_leaves(&rt, rt.alloc());
+    assert_eq!(rt; tree.first_item_address(), named(ids, LEFT_0));
+    assert_eq!(rt; tree.last_item_address(), named(ids, RIGHT_3));
+    assert_eq!(rt; Some(tree.first_back_address()), named(ids, LEFT_0));
+    assert_eq!(rt; Some(tree.last_valid_address()), named(ids, RIGHT_4));
+}
+
+#[test]
+fn visits_no_address_of_an_empty_tree(rt: HostRuntime) {
+    let tree: Map = Tree::new(rt.alloc());
+    assert_eq!(rt;
+        (tree.first_item_address(), tree.last_item_address()),
+        (None, None)
+    );
+    assert!(rt; tree.first_back_address().is_nowhere());
+    assert!(rt; tree.last_valid_address().is_nowhere());
+    assert!(rt; tree.is_valid(Address::nowhere()));
+    assert_eq!(rt; tree.next_back_address(Address::nowhere()), None);
+    assert_eq!(rt; tree.previous_front_address(Address::nowhere()), None);
+}
+
+// Three levels: 44 keys in 12 nodes, so 56 back addresses.
+fn check_all_backs(rt: &impl Abort, tree: &Map) {
+    let mut addr = Some(tree.first_back_address());
+    let mut keys = 0u64;
+    for _step in 0..56 {
+        let Some(here) = addr else {
+            panic!(rt; "stops early");
+        };
+        assert!(rt; tree.is_valid(Address::new(here.id, here.offset)));
+        if let Some(item) = tree.item(Address::new(here.id, here.offset)) {
+            assert_eq!(rt; *item.key(), keys);
+            keys = keys.wrapping_add(1);
+        }
+        addr = tree.next_back_address(here);
+    }
+    assert_eq!(rt; (addr, keys), (None, 44));
+}
+
+// The same backwards.
+fn check_all_fronts(rt: &impl Abort, tree: &Map) {
+    let mut addr = tree.last_item_address();
+    let mut keys = 44u64;
+    for _step in 0..56 {
+        let Some(here) = addr else {
+            panic!(rt; "stops early");
+        };
+        assert!(rt; tree.is_valid(Address::new(here.id, here.offset)));
+        if let Some(item) = tree.item(Address::new(here.id, here.offset)) {
+            keys = keys.wrapping_sub(1);
+            assert_eq!(rt; *item.key(), keys);
+        }
+        addr = tree.previous_front_address(here);
+    }
+    assert_eq!(rt; (addr, keys), (None, 0));
+}
+
+#[test]
+fn visits_three_levels(rt: HostRuntime) {
+    let mut tree: Map = Tree::new(rt.alloc());
+    for key in 0..44u64 {
+        assert!(rt; tree.insert(key, key).is_ok());
+    }
+    check_all_backs(&rt, &tree);
+    check_all_fronts(&rt, &tree);
+}

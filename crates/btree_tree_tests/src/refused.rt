@@ -55,6 +55,20 @@ fn is_refused<C: NodesMut<u64, u64> + Drop>(
     Ok(true)
 }
 
+// Returns whether a split is refused, and whether the refusal was met.
+fn split_is_refused(
+    rt: &impl Abort,
+    text: &str,
+    spare: usize,
+    alloc: Global,
+) -> Result<(bool, bool), Fail> {
+    let memory = Refusing::over(alloc, 0);
+    let is = is_refused::<SlabStore<Node<u64, u64>, &Refusing<Global>>>(
+        rt, &memory, &memory, text, spare, alloc,
+    )?;
+    Ok((is, memory.refuses() == 0))
+}
+
 // In 16 slots there is room for one node more than 15, and for none more than 16; two that were removed leave room for two.
 #[test]
 fn a_refused_node_of_a_split_changes_nothing(rt: HostRuntime) -> Result<(), Fail> {
@@ -64,16 +78,8 @@ fn a_refused_node_of_a_split_changes_nothing(rt: HostRuntime) -> Result<(), Fail
         ("((93333333)(3333))", 2, false),
         ("((93333333)(33333))", 2, false),
     ] {
-        let memory = Refusing::over(rt.alloc(), 0);
-        let is = is_refused::<SlabStore<Node<u64, u64>, &Refusing<Global>>>(
-            &rt,
-            &memory,
-            &memory,
-            text,
-            spare,
-            rt.alloc(),
-        )?;
-        assert_eq!(rt; (is, memory.refuses() == 0), (refused, refused), "{text}");
+        let met = split_is_refused(&rt, text, spare, rt.alloc())?;
+        assert_eq!(rt; met, (refused, refused), "{text}");
     }
     Ok(())
 }

@@ -1,62 +1,15 @@
 //! Trees that grow by insertions of keys in their order.
-use crate::drawn::content_of;
+use crate::drawn::{check_keys, content_of, walk};
 use btree_ext::{BTreeExt, Tree};
-use btree_item::{Cause, Offset};
+use btree_item::Cause;
 use btree_node::Node;
 use btree_nodes::NodesMut;
 use btree_refusing::Refusing;
 use btree_store::SlabStore;
 use btree_walk::Iter;
-use std::alloc::{AllocError, Global};
+use std::alloc::Global;
 use std::process::Abort;
 use std::test::Fail;
-
-// Returns the keys of each node, level by level from the root, `|` after each node and `/` after each level.
-fn levels_of<C: NodesMut<u64, u64>>(
-    tree: &Tree<u64, u64, C>,
-    alloc: Global,
-) -> Result<String, AllocError> {
-    let mut text = String::new(alloc);
-    let mut level = Vec::new(alloc);
-    if let Some(root) = tree.root_id() {
-        level.push(root)?;
-    }
-    for _ in 0..tree.height() {
-        let mut next = Vec::new(alloc);
-        for id in &level {
-            write_node(tree, *id, alloc, &mut text, &mut next)?;
-        }
-        text.push('/')?;
-        level = next;
-    }
-    Ok(text)
-}
-
-// Writes the keys of one node, and adds its children to the next level.
-fn write_node<C: NodesMut<u64, u64>>(
-    tree: &Tree<u64, u64, C>,
-    id: usize,
-    alloc: Global,
-    text: &mut String,
-    next: &mut Vec<usize>,
-) -> Result<(), AllocError> {
-    if !tree.has_node(id) {
-        return text.push_str("unused");
-    }
-    let node = tree.node(id);
-    for index in 0..node.item_count() {
-        if let Some(item) = node.item(Offset::from(index)) {
-            text.push_str(format!(in alloc; "{} ", item.key())?.as_str())?;
-        }
-    }
-    text.push('|')?;
-    for index in 0..node.child_count() {
-        if let Some(child) = node.child_id_opt(index) {
-            next.push(child)?;
-        }
-    }
-    Ok(())
-}
 
 // Inserts the keys from 0 on into a new tree. A refused pair is returned with the tree as before, and is accepted the next time. Returns
 // the tree, and how many pairs were refused.
@@ -87,38 +40,42 @@ fn grow<C: NodesMut<u64, u64> + Drop>(
     Ok((tree, refusals))
 }
 
+// Checks the tree of the keys from 0 on. Its text and the keys, which are the places, say which keys each node has.
+fn check_grown(
+    rt: &impl Abort,
+    keys: u64,
+    nodes: usize,
+    height: usize,
+    text: &str,
+    alloc: Global,
+) -> Result<(), Fail> {
+    let (tree, refusals) = grow::<SlabStore<Node<u64, u64>>>(rt, alloc, keys, alloc)?;
+    assert_eq!(rt;
+        (
+            refusals,
+            tree.node_count(),
+            tree.height(),
+            tree.len() as u64
+        ),
+        (0, nodes, height, keys)
+    );
+    let walked = walk(tree.as_raw(), alloc)?;
+    assert_eq!(rt; (walked.text.as_str(), walked.items), (text, keys));
+    check_keys(rt, &walked);
+    Ok(())
+}
+
 #[test]
 fn splits_a_leaf_and_a_root(rt: HostRuntime) -> Result<(), Fail> {
-    for (keys, nodes, height, levels) in [
+    for (keys, nodes, height, text) in [
         (0, 0, 0, ""),
-        (8, 1, 1, "0 1 2 3 4 5 6 7 |/"),
-        (9, 3, 2, "4 |/0 1 2 3 |5 6 7 8 |/"),
-        (14, 4, 2, "4 9 |/0 1 2 3 |5 6 7 8 |10 11 12 13 |/"),
-        (
-            43,
-            9,
-            2,
-            "4 9 14 19 24 29 34 |/0 1 2 3 |5 6 7 8 |10 11 12 13 |15 16 17 18 |20 21 22 23 |25 26 27 28 |30 31 32 33 |35 36 37 38 39 40 41 42 |/",
-        ),
-        (
-            44,
-            12,
-            3,
-            "19 |/4 9 14 |24 29 34 39 |/0 1 2 3 |5 6 7 8 |10 11 12 13 |15 16 17 18 |20 21 22 23 |25 26 27 28 |30 31 32 33 |35 36 37 38 |40 41 42 43 |/",
-        ),
+        (8, 1, 1, "8"),
+        (9, 3, 2, "(44)"),
+        (14, 4, 2, "(444)"),
+        (43, 9, 2, "(44444448)"),
+        (44, 12, 3, "((4444)(44444))"),
     ] {
-        let (tree, refusals) = grow::<SlabStore<Node<u64, u64>>>(
-            &rt,
-            rt.alloc(),
-            keys,
-            rt.alloc(),
-        )?;
-        assert_eq!(rt; refusals, 0);
-        assert_eq!(rt;
-            (tree.node_count(), tree.height(), tree.len() as u64),
-            (nodes, height, keys)
-        );
-        assert_eq!(rt; levels_of(&tree, rt.alloc())?.as_str(), levels);
+        check_grown(&rt, keys, nodes, height, text, rt.alloc())?;
     }
     Ok(())
 }
@@ -155,18 +112,30 @@ fn walks_from_the_front(rt: HostRuntime) -> Result<(), Fail> {
     Ok(())
 }
 
+// Refuses one allocation of a run of insertions. Returns how many pairs were refused, and how many allocations were still to come.
+fn refused_at(
+    rt: &impl Abort,
+    nth: u64,
+    keys: u64,
+    nodes: usize,
+    alloc: Global,
+) -> Result<(usize, u64), Fail> {
+    let memory = Refusing::over(alloc, nth);
+    let refusals = refusals_of::<SlabStore<Node<u64, u64>, &Refusing<Global>>>(
+        rt, &memory, keys, nodes, alloc,
+    )?;
+    Ok((refusals, memory.refuses()))
+}
+
 // Each allocation of a run of insertions is refused in turn, until a run has none that is refused.
 fn check_each_refused(rt: &impl Abort, keys: u64, nodes: usize, alloc: Global) -> Result<(), Fail> {
     for nth in 1..64u64 {
-        let memory = Refusing::over(alloc, nth);
-        let refusals = refusals_of::<SlabStore<Node<u64, u64>, &Refusing<Global>>>(
-            rt, &memory, keys, nodes, alloc,
-        )?;
+        let (refusals, left) = refused_at(rt, nth, keys, nodes, alloc)?;
         if refusals == 0 {
-            assert!(rt; nth > 1 && memory.refuses() > 0);
+            assert!(rt; nth > 1 && left > 0);
             return Ok(());
         }
-        assert_eq!(rt; (refusals, memory.refuses()), (1, 0), "at {nth} of {keys}");
+        assert_eq!(rt; (refusals, left), (1, 0), "at {nth} of {keys}");
     }
     Err(Fail::from("each run met a refusal"))
 }

@@ -9,7 +9,7 @@ use Rattle.std.specs.declared.cmp.Ordering.{Ordering}
 use Rattle.std.specs.declared.cmp.Ordering.TheVariants.{Less}
 use Rattle.btree_item.specs.Pairs.{Ascends, place_of}
 use Rattle.btree_view.specs.View.{NodeMap, View, children_of, items_of, leaf}
-use Rattle.btree_shape.specs.Focus.Search.{IsSearching, levels_below}
+use Rattle.btree_shape.specs.Focus.Search.{IsPart, IsSearching, levels_below}
 use Rattle.btree_shape.specs.Focus.Subtree.{IsFilled, Subtree, count_at, id_of, items_under, later_items, view_at}
 use Rattle.btree_shape.specs.Focus.Path.{Path, Frame, after_in, at_branch, at_first, before_in, fill, frame_id, items_after, items_before, least_at, parent_above, top, under}
 use Rattle.btree_shape.specs.WellFormed.{IsRooted, IsSized}
@@ -98,13 +98,20 @@ module _ {K : Type 0} (V : Type 0) (cmp : K → K → Ordering) where
 
 module _ {K V : Type 0} (cmp : K → K → Ordering) where
   module _ (k : K) (laws : IsTotalOrder cmp) (node_at : NodeMap (K × V)) (root : ℕ) (xs : List (K × V))
-      (up : Rises cmp xs) where
+      (up : Rises cmp xs) (within : List (K × V)) (start : ℕ) where
     pub record Down (id child : ℕ) : Type 0 where
-      pub next : IsSearching cmp k node_at root xs child
+      pub next : IsSearching cmp k node_at root xs within start child
       pub smaller : levels_below node_at (length xs) child < levels_below node_at (length xs) id
 
     abbrev A : Type 0
     A = K × V
+
+    -- the items among which the search is ascend
+    pub part-rises : (h : ℕ) (c : Path A h) (t : Subtree A h) → IsFocus A node_at [] root xs h c t
+        → IsPart c (items_under A h t) within start → Rises cmp within
+    part-rises h c t w p =
+        let e : xs ≡ p.front ++ (within ++ p.back) = w.list ∙ rw (p.before, p.after, p.is) (simp append_assoc) in
+        rises-left cmp within p.back (rises-right cmp p.front (within ++ p.back) (subst (λ l. Rises cmp l) e up))
 
     pub hole-rises : (h : ℕ) (c : Path A h) (t : Subtree A h) → IsFocus A node_at [] root xs h c t
         → Rises cmp (items_under A h t)
@@ -112,7 +119,7 @@ module _ {K V : Type 0} (cmp : K → K → Ordering) where
         rises-left cmp (items_under A h t) (items_after c)
         (rises-right cmp (items_before c) (items_under A h t ++ items_after c) (subst (λ l. Rises cmp l) w.list up))
 
-    pub search-ascends : (id : ℕ) → IsSearching cmp k node_at root xs id → (v : View A) → node_at id ≡ Some v
+    pub search-ascends : (id : ℕ) → IsSearching cmp k node_at root xs within start id → (v : View A) → node_at id ≡ Some v
         → Ascends cmp (items_of v)
     search-ascends id s v e = at s.node.focus.height s.node.focus.path s.node.focus.subtree s.node.focus.here s.node.focus.whole
       where
@@ -127,17 +134,29 @@ module _ {K V : Type 0} (cmp : K → K → Ordering) where
 
     go-down : (h : ℕ) (f : Frame A h) (c : Path A (suc h)) (t : Subtree A h)
         → IsFocus A node_at [] root xs (suc h) c (fill f t)
-        → IsFilled (least_at c) (suc h) (count_at A (suc h) (fill f t)) → AreBelow cmp k (items_before c ++ before_in f)
-        → AreAbove cmp k (after_in f ++ items_after c)
+        → IsFilled (least_at c) (suc h) (count_at A (suc h) (fill f t))
+        → (p : IsPart c (items_under A (suc h) (fill f t)) within start) → AreBelow cmp k (p.lower ++ before_in f)
+        → AreAbove cmp k (after_in f ++ p.higher)
         → Down (frame_id f) (id_of A h t)
-    go-down h f c t w z low high =
+    go-down h f c t w z p low high =
         let d = descend A node_at [] root xs h f c t w z in
         let e = height-fits A c (fill f t) w z in
         let focus : HasFocus A node_at [] root xs (id_of A h t) =
         record { height = h; path = under f c; subtree = t; here = refl; whole = d.0 } in
         let node : IsNode A node_at root xs (id_of A h t) = record { focus = focus; sized = d.1 } in
+        let part : IsPart (under f c) (items_under A h t) within start =
         record {
-          next = record { node = node; low = low; high = high };
+          front = p.front;
+          lower = p.lower ++ before_in f;
+          higher = after_in f ++ p.higher;
+          back = p.back;
+          before = ap (λ l. l ++ before_in f) p.before ∙ append_assoc p.front p.lower (before_in f);
+          after = ap (λ l. after_in f ++ l) p.after ∙ sym (append_assoc (after_in f) p.higher p.back);
+          is = p.is ∙ (ap (λ l. p.lower ++ (l ++ p.higher)) (fill-items A h f t) ∙ simp append_assoc);
+          counted = p.counted;
+        } in
+        record {
+          next = record { node = node; part = part; low = low; high = high };
           smaller =
               let u = levels-is A node_at h (length xs) (Some (frame_id f)) t (omega arith) d.0.inner in
               let v = levels-is A node_at (suc h) (length xs) (parent_above c) (fill f t) (omega arith) w.inner in
@@ -147,16 +166,16 @@ module _ {K V : Type 0} (cmp : K → K → Ordering) where
 
     low-of : (h : ℕ) (c : Path A (suc h)) (n : ℕ) (first : Subtree A h) (front : List (A × Subtree A h)) (x : A)
         (u : Subtree A h) (back : List (A × Subtree A h))
-        → IsFocus A node_at [] root xs (suc h) c (n, first, front ++ (x, u) ∷ back) → side cmp k x ≡ Less
-        → AreBelow cmp k (items_before c ++ ((items_under A h first ++ later_items A h front) ++ x ∷ []))
-    low-of h c n first front x u back w l =
-        let ps : List A = items_before c ++ (items_under A h first ++ later_items A h front) in
-        let qs : List A = (items_under A h u ++ later_items A h back) ++ items_after c in
-        let e : xs ≡ ps ++ x ∷ qs = w.list ∙ simp (flat_map-append, append_assoc) in
-        subst (λ ys. AreBelow cmp k ys) (append_assoc (items_before c) (items_under A h first ++ later_items A h front)
-        (x ∷ []))
+        → Rises cmp within → (p : IsPart c (items_under A (suc h) (n, first, front ++ (x, u) ∷ back)) within start)
+        → side cmp k x ≡ Less
+        → AreBelow cmp k (p.lower ++ ((items_under A h first ++ later_items A h front) ++ x ∷ []))
+    low-of h c n first front x u back rise p l =
+        let ps : List A = p.lower ++ (items_under A h first ++ later_items A h front) in
+        let qs : List A = (items_under A h u ++ later_items A h back) ++ p.higher in
+        let e : within ≡ ps ++ x ∷ qs = p.is ∙ simp (flat_map-append, append_assoc) in
+        subst (λ ys. AreBelow cmp k ys) (append_assoc p.lower (items_under A h first ++ later_items A h front) (x ∷ []))
         (AllByRecursion-append (λ y. side cmp k y ≡ Less) ps (x ∷ [])
-        (below-pivot cmp k laws ps x qs (subst (λ ys. Rises cmp ys) e up) l) (l, tt))
+        (below-pivot cmp k laws ps x qs (subst (λ ys. Rises cmp ys) e rise) l) (l, tt))
 
     later-above : (h : ℕ) (ps : List A) (bs : List (A × Subtree A h)) (qs : List A)
         → Rises cmp (ps ++ (later_items A h bs ++ qs))
@@ -169,31 +188,32 @@ module _ {K V : Type 0} (cmp : K → K → Ordering) where
 
     high-of : (h : ℕ) (f : Frame A h) (c : Path A (suc h)) (t : Subtree A h) (back : List (A × Subtree A h))
         → after_in f ≡ later_items A h back
-        → IsFocus A node_at [] root xs (suc h) c (fill f t) → AreAbove cmp k
-        (map {B = A} (λ (b : A × Subtree A h). b.0) back)
-        → AreAbove cmp k (items_after c) → AreAbove cmp k (after_in f ++ items_after c)
-    high-of h f c t back is w g high =
-        let ps : List A = items_before c ++ (before_in f ++ items_under A h t) in
-        let e : xs ≡ ps ++ (later_items A h back ++ items_after c) =
-        w.list ∙ (ap (λ ys. items_before c ++ (ys ++ items_after c)) (fill-items A h f t) ∙ rw is (simp append_assoc))
+        → Rises cmp within → (p : IsPart c (items_under A (suc h) (fill f t)) within start)
+        → AreAbove cmp k (map {B = A} (λ (b : A × Subtree A h). b.0) back)
+        → AreAbove cmp k p.higher → AreAbove cmp k (after_in f ++ p.higher)
+    high-of h f c t back is rise p g high =
+        let ps : List A = p.lower ++ (before_in f ++ items_under A h t) in
+        let e : within ≡ ps ++ (later_items A h back ++ p.higher) =
+        p.is ∙ (ap (λ ys. p.lower ++ (ys ++ p.higher)) (fill-items A h f t) ∙ rw is (simp append_assoc))
         in
-        rw is (later-above h ps back (items_after c) (subst (λ ys. Rises cmp ys) e up) g high)
+        rw is (later-above h ps back p.higher (subst (λ ys. Rises cmp ys) e rise) g high)
 
     -- down to the child at an index; `left` are the branches before it
     at-child : (h : ℕ) (c : Path A (suc h)) (t : Subtree A (suc h)) → IsFocus A node_at [] root xs (suc h) c t
         → IsFilled (least_at c) (suc h) (count_at A (suc h) t)
-        → AreBelow cmp k (items_before c) → AreAbove cmp k (items_after c)
+        → (p : IsPart c (items_under A (suc h) t) within start) → AreBelow cmp k p.lower → AreAbove cmp k p.higher
         → (child : ℕ) (left right : List (A × Subtree A h)) → t.2 ≡ left ++ right
         → slice_get (id_of A h t.1 ∷ map {B = ℕ} (λ (b : A × Subtree A h). id_of A h b.1) (left ++ right))
         (length left) ≡ Some child
         → AreBelow cmp k (map {B = A} (λ (b : A × Subtree A h). b.0) left) → AreAbove cmp k
         (map {B = A} (λ (b : A × Subtree A h). b.0) right) → Down t.0 child
-    at-child h c t w z low high child [] right is get l g =
+    at-child h c t w z p low high child [] right is get l g =
         let f : Frame A h = at_first t.0 t.2 in
         let e : id_of A h t.1 ≡ child = cc in
         let g' : AreAbove cmp k (map {B = A} (λ (b : A × Subtree A h). b.0) t.2) = rw is g in
-        rw (← e) (go-down h f c t.1 w z (rw (append-nil (items_before c)) low) (high-of h f c t.1 t.2 refl w g' high))
-    at-child h c t w z low high child (y ∷ left) right is get l g =
+        let rise = part-rises (suc h) c t w p in
+        rw (← e) (go-down h f c t.1 w z p (rw (append-nil p.lower) low) (high-of h f c t.1 t.2 refl rise p g' high))
+    at-child h c t w z p low high child (y ∷ left) right is get l g =
         let r = snoc y left in
         let x : A = r.1.0 in
         let u : Subtree A h = r.1.1 in
@@ -209,7 +229,21 @@ module _ {K V : Type 0} (cmp : K → K → Ordering) where
         let lx =
         (AllByRecursion-right (λ y. side cmp k y ≡ Less) (map {B = A} (λ (b : A × Subtree A h). b.0) r.0) (x ∷ [])
         (subst (λ ys. AreBelow cmp k ys) e4 l)).0 in
-        let d = go-down h f c u w' z' (low-of h c t.0 t.1 r.0 x u right w' lx) (high-of h f c u right refl w' g high) in
+        let p' : IsPart c (items_under A (suc h) (fill f u)) within start =
+        record {
+          front = p.front;
+          lower = p.lower;
+          higher = p.higher;
+          back = p.back;
+          before = p.before;
+          after = p.after;
+          is = p.is ∙ ap (λ bs. p.lower ++ (items_under A (suc h) (t.0, t.1, bs) ++ p.higher)) e3;
+          counted = p.counted;
+        } in
+        let rise = part-rises (suc h) c t w p in
+        let d =
+        go-down h f c u w' z' p' (low-of h c t.0 t.1 r.0 x u right rise p' lx) (high-of h f c u right refl rise p' g high)
+        in
         let e5 : map {B = ℕ} (λ (b : A × Subtree A h). id_of A h b.1) ((y ∷ left) ++ right) ≡ map {B = ℕ}
         (λ (b : A × Subtree A h). id_of A h b.1) r.0 ++ id_of A h u ∷ map {B = ℕ}
         (λ (b : A × Subtree A h). id_of A h b.1) right =
@@ -228,23 +262,24 @@ module _ {K V : Type 0} (cmp : K → K → Ordering) where
         subst (λ z. Down t.0 z) e7 d
 
     -- the key is not in the node: the search goes on at the child at that index
-    pub search-down : (id : ℕ) → IsSearching cmp k node_at root xs id → (v : View A) → node_at id ≡ Some v → (o : ℕ)
+    pub search-down : (id : ℕ) → IsSearching cmp k node_at root xs within start id → (v : View A) → node_at id ≡ Some v → (o : ℕ)
         → place_of cmp k (items_of v) ≡ Err o
         → (child : ℕ) → slice_get (children_of v) o ≡ Some child → Down id child
     search-down id s v e o place child get = at s.node.focus.height s.node.focus.path s.node.focus.subtree s.node.focus.here
-        s.node.focus.whole s.node.sized s.low s.high
+        s.node.focus.whole s.node.sized s.part s.low s.high
       where
         at : (h : ℕ) (c : Path A h) (t : Subtree A h) → id_of A h t ≡ id → IsFocus A node_at [] root xs h c t
             → IsFilled (least_at c) h (count_at A h t)
-            → AreBelow cmp k (items_before c) → AreAbove cmp k (items_after c) → Down id child
-        at zero c t here w z low high =
+            → (p : IsPart c (items_under A h t) within start) → AreBelow cmp k p.lower → AreAbove cmp k p.higher
+            → Down id child
+        at zero c t here w z p low high =
             let e2 : node_at t.0 ≡ Some v = rw here e in
             let d = w.inner in
             let is : leaf (parent_above c) t.1 ≡ v = cc in
             let g : slice_get (children_of (leaf (parent_above c) t.1)) o ≡ Some child =
             subst (λ u. slice_get (children_of u) o ≡ Some child) (sym is) get in
             absurd (cc)
-        at (suc h) c t here w z low high =
+        at (suc h) c t here w z p low high =
             let d = w.inner.0 in
             let e2 : node_at t.0 ≡ Some v = rw here e in
             let is : view_at A (suc h) (parent_above c) t ≡ v = cc in
@@ -265,27 +300,27 @@ module _ {K V : Type 0} (cmp : K → K → Ordering) where
             (id_of A h t.1 ∷ map {B = ℕ} (λ (b : A × Subtree A h). id_of A h b.1) bs) o) (sym q.is)
             ∙ (ap (λ l. slice_get (id_of A h t.1 ∷ l) o) (sym (child-numbers A h t.2)) ∙ get2)) in
             subst (λ n. Down n child) here
-            (at-child h c t w z low high child q.left q.right q.is get3
+            (at-child h c t w z p low high child q.left q.right q.is get3
             (subst (λ ys. AreBelow cmp k ys) (sym q.first) r.4)
             (subst (λ ys. AreAbove cmp k ys) (sym q.second) r.5))
 
-    -- a search begins at the root
-    pub search-start : IsRooted (IsSized root) node_at root xs → IsSearching cmp k node_at root xs root
-    search-start r =
-        let s = unsized-rooted A node_at (IsSized root) root xs r in
-        let n = rooted-tree A node_at root xs r in
-        record {
-          node = record {
-            focus = record {
-              height = n.height;
-              path = top;
-              subtree = n.subtree;
-              here = n.at_root;
-              whole =
-                  from-tree A node_at root xs n;
-            };
-            sized = n.sized;
-          };
-          low = tt;
-          high = tt;
-        }
+  -- a search among the items under a node begins at it
+  pub search-start : (k : K) (node_at : NodeMap (K × V)) (root : ℕ) (xs : List (K × V)) (id : ℕ) (n : IsNode (K × V) node_at root xs id)
+      → IsSearching cmp k node_at root xs (items_under (K × V) n.focus.height n.focus.subtree) (length (items_before n.focus.path)) id
+  search-start k node_at root xs id n =
+      let under : List (K × V) = items_under (K × V) n.focus.height n.focus.subtree in
+      record {
+        node = n;
+        part = record {
+          front = items_before n.focus.path;
+          lower = [];
+          higher = [];
+          back = items_after n.focus.path;
+          before = sym (append-nil (items_before n.focus.path));
+          after = refl;
+          is = sym (append-nil under);
+          counted = refl;
+        };
+        low = tt;
+        high = tt;
+      }

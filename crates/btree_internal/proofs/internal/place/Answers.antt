@@ -4,17 +4,22 @@ use Rattle.btree_item.proofs.PairLemmas.{key_place-keys_of, slice_get-from_place
 use Rattle.btree_internal.proofs.BranchLemmas.{keys-branches}
 use Rattle.btree_internal.proofs.internal.place.Goals as goal
 
-pub search-requires : goal.search-requires
-search-requires g c = (omega arith, rw (keys-branches c.args.branches.now) c.requires)
+pub search_counted-requires : goal.search_counted-requires
+search_counted-requires g c = (omega arith, rw (keys-branches c.args.branches.now) c.requires)
 
 pub returns-clause-place : goal.returns-clause-place
 returns-clause-place g c =
-    c.search.ensures.place
+    c.search_counted.ensures.place
     ∙ ap (key_place g.K.Ord.cmp c.args.key.now) (keys-branches c.args.branches.now)
     ∙ key_place-keys_of g.K.Ord.cmp _ _
 
 pub returns-clause-here : goal.returns-clause-here
-returns-clause-here g c = slice_get-from_place g.K.Ord.cmp g.met.K.Ord.total c.args.key.now _ c.search.result c.requires (returns-clause-place g c)
+returns-clause-here g c = slice_get-from_place g.K.Ord.cmp g.met.K.Ord.total c.args.key.now _ c.search_counted.result c.requires (returns-clause-place g c)
 
 pub returns-clause-absent : goal.returns-clause-absent
-returns-clause-absent g c = found-from_place g.K.Ord.cmp c.args.key.now _ c.search.result (returns-clause-place g c)
+returns-clause-absent g c = found-from_place g.K.Ord.cmp c.args.key.now _ c.search_counted.result (returns-clause-place g c)
+
+pub returns-clause-ticks : goal.returns-clause-ticks
+returns-clause-ticks g c =
+    let fits = c.search_counted.ensures.fits in
+    c.search_counted.ensures.ticks (omega arith)

@@ -10,6 +10,7 @@ loop-i-preserved g c = elim c.if-lt.branch [
       let is_below = is_lt-from_partial g.met.T.Key.Ord.matches_partial_cmp _ _ _ c.lt.ensures ∙ w.if-lt.true in
       let moved = w.place-is in
       record {
+        ticks = omega arith;
         reached = omega arith;
         before = rw moved (AllBelow-from_key g.met.T.Key.Ord.total _ _ _ _ c.requires.ascends c.key_at.ensures is_below);
         here = λ earlier. absurd (omega arith);
@@ -19,6 +20,7 @@ loop-i-preserved g c = elim c.if-lt.branch [
       let stays = w.place-is in
       let reached = c.loop-i.invariant.reached in
       record {
+        ticks = omega arith;
         reached = omega arith;
         before = rw stays c.loop-i.invariant.before;
         here = rw stays (IsNotBelowAt-next _ _ _ _ _ c.loop-i.invariant.here reached c.key_at.ensures not_below);
@@ -27,6 +29,9 @@ loop-i-preserved g c = elim c.if-lt.branch [
 
 pub loop-i-init : goal.loop-i-init
 loop-i-init g c = search rules steps 200000
+
+pub tick-requires : goal.tick-requires
+tick-requires g c = search rules steps 200000
 
 pub key_at-requires : goal.key_at-requires
 key_at-requires g c = search rules steps 200000
@@ -40,5 +45,8 @@ overflow_add-place g c = search rules steps 200000
 pub loop-i-smaller : goal.loop-i-smaller
 loop-i-smaller g c = search rules steps 200000
 
-pub returns : goal.returns
-returns g c = grind (arith, common_steps) steps 2000000
+pub returns-clause-place : goal.returns-clause-place
+returns-clause-place g c = grind (arith, common_steps) steps 2000000
+
+pub returns-clause-ticks : goal.returns-clause-ticks
+returns-clause-ticks g c = omega arith

@@ -1,9 +1,10 @@
-use Rattle.std.proofs.Common.{◌≤◌, ◌<◌, map}
+use Rattle.std.proofs.Common.{◌≡◌, ◌+◌, ◌≤◌, ◌<◌, map}
 use Rattle.btree_item.specs.Keys.{AllBelow, IsNotBelowAt}
 use Rattle.btree_item.proofs.searches.first_not_below.Given as goal
 
 abbrev pub invariant-loop-i : goal.invariant-loop-i
 invariant-loop-i g l = record {
+  ticks : l.steps.count + l.start ≡ l.initial.steps.count + l.i;
   reached : l.place ≤ l.i;
   before : AllBelow g.T.Key.Ord.cmp l.key l.place (map g.T.Keyed.key_of l.slots);
   here : l.place < l.i → IsNotBelowAt g.T.Key.Ord.cmp l.key l.place (map g.T.Keyed.key_of l.slots);

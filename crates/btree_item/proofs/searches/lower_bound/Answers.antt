@@ -22,6 +22,9 @@ first_not_below-requires-then-lt g c =
 pub len-len-requires : goal.len-len-requires
 len-len-requires g c = search rules steps 200000
 
+pub tick-requires : goal.tick-requires
+tick-requires g c = search rules steps 200000
+
 pub key_at-requires : goal.key_at-requires
 key_at-requires g c = search rules steps 200000
 
@@ -34,11 +37,20 @@ overflow_add-first_not_below g c = search rules steps 200000
 pub first_not_below-requires-else-lt : goal.first_not_below-requires-else-lt
 first_not_below-requires-else-lt g c = grind (arith, common_steps) steps 2000000
 
-pub returns-then-len-le-MIDDLE : goal.returns-then-len-le-MIDDLE
-returns-then-len-le-MIDDLE g c = search rules steps 200000
+pub returns-then-len-le-MIDDLE-clause-ticks : goal.returns-then-len-le-MIDDLE-clause-ticks
+returns-then-len-le-MIDDLE-clause-ticks g c = λ few. omega arith
 
-pub returns-then-lt : goal.returns-then-lt
-returns-then-lt g c = search rules steps 200000
+pub returns-then-len-le-MIDDLE-clause-place : goal.returns-then-len-le-MIDDLE-clause-place
+returns-then-len-le-MIDDLE-clause-place g c = search rules steps 200000
 
-pub returns-else-lt : goal.returns-else-lt
-returns-else-lt g c = search rules steps 200000
+pub returns-then-lt-clause-ticks : goal.returns-then-lt-clause-ticks
+returns-then-lt-clause-ticks g c = λ few. omega arith
+
+pub returns-then-lt-clause-place : goal.returns-then-lt-clause-place
+returns-then-lt-clause-place g c = search rules steps 200000
+
+pub returns-else-lt-clause-ticks : goal.returns-else-lt-clause-ticks
+returns-else-lt-clause-ticks g c = λ few. omega arith
+
+pub returns-else-lt-clause-place : goal.returns-else-lt-clause-place
+returns-else-lt-clause-place g c = search rules steps 200000

@@ -6,7 +6,7 @@ use Rattle.btree_item_tests.proofs.items.compares_at_most_six_times.Given as goa
 abbrev pub invariant-loop-held : goal.invariant-loop-held
 invariant-loop-held g l = record {
   ascends : Ascends (on (λ key. key.number) nat_cmp) l.slots;
-  counted : length l.slots ≤ l.held-counter;
+  counted : length l.slots ≤ l.held;
 }
 
 abbrev pub invariant-loop-number : goal.invariant-loop-number

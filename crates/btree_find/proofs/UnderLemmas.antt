@@ -1,0 +1,154 @@
+-- The pairs under a node of a well formed tree: where they begin and end in the list.
+use Rattle.std.proofs.Common.{[], append_assoc, ◌∙◌, ◌≡◌, ◌+◌, ◌<◌, ℕ, inr, List, length, Option, Some, None, IsSome, refl, sym, ap, subst, arith, option_map}
+use Rattle.std.specs.Cmp.{IsTotalOrder}
+use Rattle.std.specs.FinMap as finite
+use Rattle.std.specs.declared.cmp.Ordering.{Ordering}
+use Rattle.btree_node.specs.declared.node.Node.{Node}
+use Rattle.btree_node.specs.Node.{view_of}
+use Rattle.btree_view.specs.View.{View, size_of}
+use Rattle.btree_shape.specs.Focus.Node.{IsNode}
+use Rattle.btree_shape.specs.Focus.Path.{items_after, items_before, parent_above}
+use Rattle.btree_shape.specs.Focus.Positions.{address_at, address_before}
+use Rattle.btree_shape.specs.Focus.Search.{IsSearching}
+use Rattle.btree_shape.specs.Focus.Subtree.{items_under}
+use Rattle.btree_shape.specs.Place.{IsEnd, IsSubtreeAt}
+use Rattle.btree_shape.specs.Represents.{Represents}
+use Rattle.btree_shape.specs.TreeState.{TreeState, IsBTree, IsPlaceIn, IsUsed, IsValidIn, node_map, pairs_of}
+use Rattle.btree_shape.specs.WellFormed.{IsWellFormed}
+use Rattle.btree_shape.proofs.LookUp.Descent.{search-start}
+use Rattle.btree_shape.proofs.Paths.FromRoot.{node-at}
+use Rattle.btree_shape.proofs.Paths.Levels.{levels-rooted}
+use Rattle.btree_shape.proofs.Paths.UnsizedFocus.{focus-unsized}
+use Rattle.btree_shape.proofs.Trees.Numbers.{used-one}
+use Rattle.btree_shape.proofs.Trees.Represented.{represented-is}
+use Rattle.btree_shape.proofs.Trees.States.{height_held}
+use Rattle.btree_shape.proofs.Trees.Subtrees.{represents-of}
+use Rattle.btree_shape.proofs.Trees.ValidPlaces.{place-valid}
+use Rattle.btree_find.specs.Fits.{pairs_below}
+use Rattle.btree_find.specs.Navigation.{HasPlace}
+use Rattle.btree_find.proofs.PlaceLemmas.{has-place, in-state, root-there}
+
+some-of : {X : Type 0} (o : Option X) → IsSome o → (x : X) × (o ≡ Some x)
+some-of None is = absurd (cc)
+some-of (Some x) is = (x, refl)
+
+module _ {K V : Type 0} (cmp : K → K → Ordering) (laws : IsTotalOrder cmp) (s : TreeState K V) (tree : IsBTree cmp s)
+    (id : ℕ) (used : IsUsed s id) where
+  -- the node at the end of its path
+  record Under : Type 0 where
+    root : ℕ
+    is : s.root ≡ Some root
+    view : View (K × V)
+    here : node_map s id ≡ Some view
+    node : IsNode (K × V) (node_map s) root (pairs_of s) id
+
+  under : Under
+  under =
+      let n = some-of (finite.get s.nodes id) used in
+      let here : node_map s id ≡ Some (view_of n.0) = ap (option_map view_of) n.1 in
+      let r = root-there cmp laws s tree id (view_of n.0) here in
+      let w : IsWellFormed cmp (node_map s) (Some r.0) s.len (pairs_of s) =
+      subst (λ t. IsWellFormed cmp (node_map s) t s.len (pairs_of s)) r.1 tree in
+      let u = used-one (node_map s id) (view_of n.0) here in
+      record {
+        root = r.0;
+        is = r.1;
+        view = view_of n.0;
+        here = here;
+        node = node-at (K × V) (node_map s) r.0 (pairs_of s) w.formed id (omega arith);
+      }
+
+  -- its subtree in the list
+  record Part : Type 0 where
+    root : ℕ
+    is : s.root ≡ Some root
+    view : View (K × V)
+    here : node_map s id ≡ Some view
+    start : ℕ
+    at : IsSubtreeAt (node_map s) (pairs_of s) id (pairs_below s id) start
+    searching : (k : K) → IsSearching cmp k (node_map s) root (pairs_of s) (pairs_below s id) start id
+
+  part : Part
+  part =
+      let u = under in
+      let f = u.node.focus in
+      let list : List (K × V) = items_under (K × V) f.height f.subtree in
+      let represents : Represents (node_map s) f.height (parent_above f.path) id list =
+      subst (λ n. Represents (node_map s) f.height (parent_above f.path) n list) f.here
+      (represents-of (K × V) (node_map s) f.height (parent_above f.path) f.subtree f.whole.inner) in
+      let w : IsWellFormed cmp (node_map s) (Some u.root) s.len (pairs_of s) =
+      subst (λ t. IsWellFormed cmp (node_map s) t s.len (pairs_of s)) u.is tree in
+      let l = levels-rooted (K × V) (node_map s) u.root (pairs_of s) _ w.formed f.height f.path f.subtree
+      (focus-unsized (K × V) (node_map s) [] u.root (pairs_of s) f.height f.path f.subtree f.whole) in
+      let m = height_held s _ u.root (pairs_of s) w.formed in
+      let low : f.height < finite.len s.nodes = omega arith in
+      let same : pairs_below s id ≡ list =
+      represented-is (node_map s) f.height (finite.len s.nodes) (parent_above f.path) id list low represents in
+      record {
+        root = u.root;
+        is = u.is;
+        view = u.view;
+        here = u.here;
+        start = length (items_before f.path);
+        at =
+            subst (λ ys. IsSubtreeAt (node_map s) (pairs_of s) id ys (length (items_before f.path))) (sym same)
+            (record {
+              front = items_before f.path;
+              back = items_after f.path;
+              subtree = record { height = f.height; parent = parent_above f.path; represents = represents };
+              split = f.whole.list ∙ sym (append_assoc (items_before f.path) list (items_after f.path));
+              counted = refl;
+            });
+        searching = λ k.
+            subst
+            (λ ys. IsSearching cmp k (node_map s) u.root (pairs_of s) ys (length (items_before f.path)) id)
+            (sym same) (search-start cmp k (node_map s) u.root (pairs_of s) id u.node);
+      }
+
+  -- a search among the pairs under the node begins at the node
+  pub record Begins (k : K) : Type 0 where
+    pub root : ℕ
+    pub is : s.root ≡ Some root
+    pub start : ℕ
+    pub begins : HasPlace s (address_before id) start
+    pub searching : IsSearching cmp k (node_map s) root (pairs_of s) (pairs_below s id) start id
+
+  before-place : (p : Part) → IsPlaceIn s (address_before id) p.start
+  before-place p = in-state cmp laws s tree p.root p.is id None p.start (pairs_below s id, p.at)
+
+  pub begins-here : (k : K) → Begins k
+  begins-here k =
+      let p = part in
+      record {
+        root = p.root;
+        is = p.is;
+        start = p.start;
+        begins = has-place cmp laws s tree (address_before id) p.start (before-place p);
+        searching = p.searching k;
+      }
+
+  -- where the pairs under the node begin and end: the places of its first offset and of its last one
+  pub record Spans (size : ℕ) : Type 0 where
+    pub start : ℕ
+    pub begins : HasPlace s (address_before id) start
+    pub ends : HasPlace s (address_at id size) (start + length (pairs_below s id))
+    pub first : IsValidIn s (address_before id)
+    pub last : IsValidIn s (address_at id size)
+
+  pub spans : (node : Node K V) → finite.get s.nodes id ≡ Some node → Spans (size_of (view_of node))
+  spans node at =
+      let p = part in
+      let size : ℕ = size_of (view_of node) in
+      let here : node_map s id ≡ Some (view_of node) = ap (option_map view_of) at in
+      let first = before-place p in
+      let end : IsEnd (node_map s) (node_map s id) size = subst (λ v. IsEnd (node_map s) v size) (sym here) refl in
+      let last : IsPlaceIn s (address_at id size) (p.start + length (pairs_below s id)) =
+      in-state cmp laws s tree p.root p.is id (Some size) (p.start + length (pairs_below s id))
+      (inr (end, (pairs_below s id, p.start, p.at, refl))) in
+      record {
+        start = p.start;
+        begins = has-place cmp laws s tree (address_before id) p.start first;
+        ends = has-place cmp laws s tree (address_at id size) (p.start + length (pairs_below s id)) last;
+        first = place-valid (node_map s) s.root (pairs_of s) id None p.start first;
+        last = place-valid (node_map s) s.root (pairs_of s) id (Some size) (p.start + length (pairs_below s id)) last;
+      }

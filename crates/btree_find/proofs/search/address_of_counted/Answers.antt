@@ -1,0 +1,19 @@
+use Rattle.std.proofs.Common.{sym, ◌∙◌}
+use Rattle.btree_find.proofs.HeightLemmas.{ticks-at-root}
+use Rattle.btree_find.proofs.SearchLemmas.{address-whole, no-root}
+use Rattle.btree_find.proofs.search.address_of_counted.Goals as goal
+
+pub returns-in-Some-clause-found : goal.returns-in-Some-clause-found
+returns-in-Some-clause-found g c =
+    address-whole g.K.Ord.cmp c.args.key.now g.met.K.Ord.total c.args.tree.now c.requires c.in-Some.root
+    (sym c.root_id.ensures ∙ c.in-Some.is) c.search_from.result c.search_from.ensures.found
+
+pub returns-in-Some-clause-ticks : goal.returns-in-Some-clause-ticks
+returns-in-Some-clause-ticks g c =
+    ticks-at-root g.K.Ord.cmp g.met.K.Ord.total c.args.tree.now c.requires c.in-Some.root
+    (sym c.root_id.ensures ∙ c.in-Some.is) _ _ c.search_from.ensures.ticks
+
+pub returns-in-None-clause-found : goal.returns-in-None-clause-found
+returns-in-None-clause-found g c =
+    no-root g.K.Ord.cmp c.args.key.now g.met.K.Ord.total c.args.tree.now c.requires (sym c.root_id.ensures ∙ c.in-None.is)
+    c.nowhere.result c.nowhere.ensures

@@ -1,0 +1,35 @@
+use Rattle.std.proofs.Common.{length, ap, ◌∙◌, arith}
+use Rattle.std.proofs.lemmas.List.{length-map}
+use Rattle.btree_item.specs.Pairs.{place_of}
+use Rattle.btree_item.proofs.PairLemmas.{slice_get-from_place, found-from_place}
+use Rattle.btree_internal.specs.Internal.{branch_pair}
+use Rattle.btree_internal.proofs.BranchLemmas.{branches_are, items_are}
+use Rattle.btree_internal.proofs.internal.InternalNode.find_counted.Goals as goal
+use Rattle.std.proofs.lemmas.Grind.{common_steps}
+
+pub place-requires : goal.place-requires
+place-requires g c = (let fits = c.well_formed in omega arith, rw (items_are c.args.self.now _ c.self.inside.first c.self.inside.branches c.self.view_is) c.requires)
+
+pub returns-clause-place : goal.returns-clause-place
+returns-clause-place g c = c.place.ensures.place ∙ ap (place_of g.K.Ord.cmp c.args.key.now) (items_are c.args.self.now _ c.self.inside.first c.self.inside.branches c.self.view_is)
+
+pub returns-clause-fits : goal.returns-clause-fits
+returns-clause-fits g c =
+    let long = length-map c.self.inside.branches branch_pair in
+    let same = ap length (branches_are c.args.self.now _ c.self.inside.first c.self.inside.branches c.self.view_is) in
+    omega (arith, long, same, c.place.ensures.fits)
+
+pub returns-clause-here : goal.returns-clause-here
+returns-clause-here g c = slice_get-from_place g.K.Ord.cmp g.met.K.Ord.total c.args.key.now _ c.place.result c.requires (returns-clause-place g c)
+
+pub returns-clause-absent : goal.returns-clause-absent
+returns-clause-absent g c = found-from_place g.K.Ord.cmp c.args.key.now _ c.place.result (returns-clause-place g c)
+
+pub returns-clause-sized : goal.returns-clause-sized
+returns-clause-sized g c = length-map c.args.self.now.branches (λ b. b.0)
+
+pub returns-clause-within : goal.returns-clause-within
+returns-clause-within g c = grind (arith, common_steps) steps 2000000
+
+pub returns-clause-ticks : goal.returns-clause-ticks
+returns-clause-ticks g c = omega (arith, c.place.ensures.ticks)

@@ -1,0 +1,19 @@
+use Rattle.std.proofs.Common.{◌∙◌}
+use Rattle.btree_item.proofs.PairLemmas.{key_place-keys_of, slice_get-from_place, found-from_place}
+use Rattle.btree_leaf.proofs.leaf.place_counted.Goals as goal
+
+pub returns-clause-place : goal.returns-clause-place
+returns-clause-place g c = c.search_counted.ensures.place ∙ key_place-keys_of g.K.Ord.cmp _ _
+
+pub returns-clause-here : goal.returns-clause-here
+returns-clause-here g c =
+    let place = c.search_counted.ensures.place ∙ key_place-keys_of g.K.Ord.cmp c.args.key.now c.args.items.now in
+    slice_get-from_place g.K.Ord.cmp g.met.K.Ord.total c.args.key.now c.args.items.now c.search_counted.result c.requires place
+
+pub returns-clause-absent : goal.returns-clause-absent
+returns-clause-absent g c =
+    let place = c.search_counted.ensures.place ∙ key_place-keys_of g.K.Ord.cmp c.args.key.now c.args.items.now in
+    found-from_place g.K.Ord.cmp c.args.key.now c.args.items.now c.search_counted.result place
+
+pub returns-clause-ticks : goal.returns-clause-ticks
+returns-clause-ticks g c = c.search_counted.ensures.ticks c.search_counted.ensures.fits

@@ -1,0 +1,114 @@
+//! Look-up with a counter, in nodes of either kind.
+ghost use Rattle.std.specs.Prelude.{◌≤◌};
+ghost use Rattle.std.specs.Ordering.{nat_cmp, on};
+ghost use Rattle.btree_item.specs.Pairs.{Ascends};
+ghost use Rattle.btree_internal.specs.Internal.{internal_view};
+ghost use Rattle.btree_node.specs.Node.{view_of};
+ghost use Rattle.btree_view.specs.View.{items_of};
+
+use crate::nodes::put;
+use btree_counted::Counted;
+use btree_item::{Item, MAX_COMPARISONS, Offset};
+use btree_node::{InternalNode, LeafNode, Node};
+use btree_steps::Steps;
+use std::cell::Cell;
+use std::process::Abort;
+
+// What a look-up in a node answers.
+type Place = Result<Offset, (usize, Option<usize>)>;
+
+// Looks up without a counter and with one, which takes as many comparisons, and returns both answers.
+fn looked_up<'a>(rt: &impl Abort, node: &Node<Counted<'a>, u32>, key: Counted<'a>) -> (Place, Place)
+    requires { Ascends (on (λ key. key.number) nat_cmp) (items_of (view_of node.now)) }
+{
+    key.compared.set(0);
+    let place = node.offset_of(&key);
+    let compared = key.compared.get();
+    assert!(rt; (compared as usize) <= MAX_COMPARISONS, "{}", key.number);
+    key.compared.set(0);
+    let mut steps = Steps::new();
+    let counted = node.offset_of_counted(&key, &mut steps);
+    assert_eq!(rt; key.compared.get(), compared);
+    (place, counted)
+}
+
+// Returns a leaf with this many keys, which are 1, 3, 5 and so on.
+#[tactic(auto, using(btree_item::proofs::PairEdits::order_kept))]
+fn leaf_of<'a>(rt: &impl Abort, compared: &'a Cell<u32>, count: u32) -> Node<Counted<'a>, u32>
+    requires { count ≤ 9 }
+    ensures { Ascends (on (λ key. key.number) nat_cmp) (items_of (view_of result)) }
+{
+    let mut leaf = LeafNode::empty(None);
+    for index in 0..count {
+        let key = Counted {
+            number: 2 * index + 1,
+            compared,
+        };
+        assert!(rt; leaf.item_count() < 9);
+        let (_, old) = leaf.insert_by_key(key, 0);
+        assert!(rt; old.is_none());
+    }
+    Node::Leaf(leaf)
+}
+
+// Returns an internal node with this many keys, which are 1, 3, 5 and so on.
+#[tactic(auto, using(btree_item::proofs::PairEdits::order_kept))]
+fn internal_of<'a>(rt: &impl Abort, compared: &'a Cell<u32>, count: u32) -> Node<Counted<'a>, u32>
+    requires { count ≤ 8 }
+    ensures { Ascends (on (λ key. key.number) nat_cmp) (items_of (view_of result)) }
+{
+    let first = Counted {
+        number: 1,
+        compared,
+    };
+    let mut node = InternalNode::binary(None, 100, Item::new(first, 0), 101);
+    for index in 1..count {
+        let key = Counted {
+            number: 2 * index + 1,
+            compared,
+        };
+        assert!(rt; put(&mut node, key, 0, (index as usize) + 101));
+    }
+    Node::Internal(node)
+}
+
+// Looks up each of the keys and each number between, in a node that holds this many.
+fn looks_up_each<'a>(
+    rt: &impl Abort,
+    node: &Node<Counted<'a>, u32>,
+    compared: &'a Cell<u32>,
+    held: u32,
+)
+    requires few { held ≤ 9 }
+    requires ascends { Ascends (on (λ key. key.number) nat_cmp) (items_of (view_of node.now)) }
+{
+    for number in 0..2 * held + 2 {
+        let smaller = (number / 2) as usize;
+        let (place, counted) = looked_up(rt, node, Counted { number, compared });
+        let expected = if number % 2 == 1 && number < 2 * held {
+            Ok(Offset::from(smaller))
+        } else {
+            Err((smaller, node.child_id_opt(smaller)))
+        };
+        assert_eq!(rt; place, expected, "{number} among {held}");
+        assert_eq!(rt; counted, expected, "{number} among {held}");
+    }
+}
+
+#[test]
+fn compares_at_most_six_times_in_a_leaf(rt: HostRuntime) {
+    let compared = Cell::new(0);
+    for held in 1..10u32 {
+        let leaf = leaf_of(&rt, &compared, held);
+        looks_up_each(&rt, &leaf, &compared, held);
+    }
+}
+
+#[test]
+fn compares_at_most_six_times_in_an_internal_node(rt: HostRuntime) {
+    let compared = Cell::new(0);
+    for held in 1..9u32 {
+        let node = internal_of(&rt, &compared, held);
+        looks_up_each(&rt, &node, &compared, held);
+    }
+}
