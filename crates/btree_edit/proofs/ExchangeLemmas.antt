@@ -8,6 +8,7 @@ use Rattle.std.specs.declared.cmp.Ordering.{Ordering}
 use Rattle.std.specs.List.Sorted.{IsStrictlySortedBy}
 use Rattle.btree_item.specs.Pairs.{Ascends}
 use Rattle.btree_item.specs.declared.address.Address.{Address}
+use Rattle.btree_store.specs.ContentLaws.{insert-same}
 use Rattle.btree_node.specs.declared.node.Node.{Node}
 use Rattle.btree_node.specs.Node.{view_of}
 use Rattle.btree_node.specs.NodeLends.{node_with_item_at}
@@ -319,3 +320,19 @@ module _ {K V : Type 0} (cmp : K → K → Ordering) (laws : IsTotalOrder cmp) (
       subst (λ n. IsValueExchanged s n a cmp v w) (written w)
       (subst (λ u. IsValueExchanged s (with_node s a.id (node_with_item_at a.offset node (x.0, w))) a cmp u w) (sym is)
       (value-exchanged cmp laws s (with_node s a.id (node_with_item_at a.offset node (x.0, w))) a x.0 x.1 w tree (writes w)))
+
+-- a value written at any address leaves a well formed tree
+pub written-tree : {K V : Type 0} (cmp : K → K → Ordering) (laws : IsTotalOrder cmp) (s : TreeState K V) (a : Address) (w : V)
+    → IsBTree cmp s → IsBTree cmp (value_written s a w)
+written-tree {K} {V} cmp laws s a w tree = by (map.get s.nodes a.id) refl
+  where
+    inner : (node : Node K V) → map.get s.nodes a.id ≡ Some node → (o : Option (K × V))
+        → option_and_then (slice_get (items_of (view_of node))) a.offset ≡ o → IsBTree cmp (value_written s a w)
+    inner node at None none =
+        let same : with_node s a.id node ≡ s = λ i. record s { nodes = insert-same s.nodes a.id node at i } in
+        subst (IsBTree cmp) (sym (ap (node_written s a w) at ∙ (ap (λ o. with_node s a.id (item_written node a.offset w o)) none ∙ same))) tree
+    inner node at (Some x) some = (written-exchanged cmp laws s a tree node (sym at) x (sym some) x.1 refl w).exchanged.tree
+
+    by : (o : Option (Node K V)) → map.get s.nodes a.id ≡ o → IsBTree cmp (value_written s a w)
+    by None none = subst (IsBTree cmp) (sym (ap (node_written s a w) none)) tree
+    by (Some node) at = inner node at (option_and_then (slice_get (items_of (view_of node))) a.offset) refl

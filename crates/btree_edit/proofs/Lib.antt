@@ -3,6 +3,7 @@ pub mod MoreLemmas
 pub mod LevelLemmas
 pub mod ExchangeLemmas
 pub mod InsertLemmas
+pub mod KeyWrittenLemmas
 pub mod InsertAtLemmas
 pub mod RemoveLemmas
 pub mod ReplaceLemmas

@@ -1,5 +1,6 @@
 pub mod Exchange
 pub mod Insert
 pub mod InsertAt
+pub mod KeyWritten
 pub mod Remove
 pub mod ValueWritten

@@ -1,12 +1,17 @@
 //! Replacing a value, and writing to it.
-ghost use Rattle.std.specs.Prelude.{◌≡◌, Some};
-ghost use Rattle.std.specs.Borrow.{Lends, sem};
+ghost use Rattle.std.specs.Prelude.{◌≡◌, IfSome, Some};
+ghost use Rattle.std.specs.Option.{option_copied_mut};
+ghost use Rattle.std.specs.Borrow.{Lends, LendsIf, sem};
+ghost use Rattle.btree_item.specs.Pairs.{found_value};
 ghost use Rattle.btree_item.specs.contracts.item.Item.{the_row as item_row};
 ghost use Rattle.btree_raw.specs.contracts.raw.RawBTree.{the_row as raw_row};
-ghost use Rattle.btree_shape.specs.TreeState.{IsBTree, IsOccupiedIn, item_of};
+ghost use Rattle.btree_shape.specs.TreeState.{IsBTree, IsOccupiedIn, IsUsed, item_of, pairs_of};
+ghost use Rattle.btree_find.specs.Fits.{pairs_below};
 ghost use Rattle.btree_edit.specs.Exchange.{IsValueExchanged};
+ghost use Rattle.btree_edit.specs.KeyWritten.{ExchangesValue, key_written};
 ghost use Rattle.btree_edit.specs.ValueWritten.{value_written};
 
+use btree_find::address_in;
 use btree_item::{Address, Item};
 use btree_nodes::NodesMut;
 use btree_raw::RawBTree;
@@ -58,5 +63,73 @@ pub fn pair_mut<'a, K: Ord + 'a, V: 'a, C: NodesMut<K, V>>(
     match tree.node_mut(addr.id).item_mut(addr.offset) {
         Some(item) => key_and_value(item),
         None => unreachable!(),
+    }
+}
+
+// Returns the value of the item at an address for writing.
+fn value_mut<'a, K: Ord + 'a, V: 'a, C: NodesMut<K, V>>(
+    tree: &'a mut RawBTree<K, V, C>,
+    addr: Address,
+) -> &'a mut V
+    requires tree { IsBTree K.cmp tree.old }
+    requires occupied { IsOccupiedIn tree.old addr }
+    ensures* writes_back { sem 𝓛 (Lends
+        (raw_row K.row V.row C.row C.Origin.row
+        (record { MayRefuse = C.MayRefuse; Fits = C.Fits; written = C.written })
+        (record { content = C.content; refusals = C.refusals; CanHold = C.CanHold }))
+        V.row tree.entry result (value_written tree.old addr)) }
+    ensures exchanged { (w : V) →
+        IsValueExchanged tree.old (value_written tree.old addr w) addr K.cmp result.now w }
+{
+    let (_key, value) = pair_mut(tree, addr);
+    value
+}
+
+/// Returns the value at a key under a node, which must be in use, for writing, or `None` if the key is not there.
+///
+/// What is written is the new value at the key, and nothing else changes: the stored key stays, and so does every address. It makes at most
+/// six comparisons at each level from the node down, and needs no new node.
+pub fn get_mut_in<'a, K: Ord + 'a, V: 'a, C: NodesMut<K, V>>(
+    tree: &'a mut RawBTree<K, V, C>,
+    key: &K,
+    top: usize,
+) -> Option<&'a mut V>
+    requires tree { IsBTree K.cmp tree.old }
+    requires used { IsUsed tree.old top }
+    ensures* writes_back { sem 𝓛 (LendsIf
+        (raw_row K.row V.row C.row C.Origin.row
+        (record { MayRefuse = C.MayRefuse; Fits = C.Fits; written = C.written })
+        (record { content = C.content; refusals = C.refusals; CanHold = C.CanHold }))
+        V.row tree.entry result (key_written K.cmp key.now tree.old) tree.old) }
+    ensures value { option_copied_mut result ≡ found_value K.cmp key.now (pairs_below tree.old top) }
+    ensures tree { (w : V) → IsBTree K.cmp (key_written K.cmp key.now tree.old w) }
+    ensures exchanged { IfSome result (λ v. (w : V) →
+        ExchangesValue K.cmp key.now tree.old (key_written K.cmp key.now tree.old w) v.now w) }
+{
+    match address_in(tree, top, key) {
+        Ok(addr) => Some(value_mut(tree, addr)),
+        Err(_) => None,
+    }
+}
+
+/// Returns the value at a key for writing, or `None` if the key is not there, as `get_mut_in` does under the root.
+pub fn get_mut<'a, K: Ord + 'a, V: 'a, C: NodesMut<K, V>>(
+    tree: &'a mut RawBTree<K, V, C>,
+    key: &K,
+) -> Option<&'a mut V>
+    requires { IsBTree K.cmp tree.old }
+    ensures* writes_back { sem 𝓛 (LendsIf
+        (raw_row K.row V.row C.row C.Origin.row
+        (record { MayRefuse = C.MayRefuse; Fits = C.Fits; written = C.written })
+        (record { content = C.content; refusals = C.refusals; CanHold = C.CanHold }))
+        V.row tree.entry result (key_written K.cmp key.now tree.old) tree.old) }
+    ensures value { option_copied_mut result ≡ found_value K.cmp key.now (pairs_of tree.old) }
+    ensures tree { (w : V) → IsBTree K.cmp (key_written K.cmp key.now tree.old w) }
+    ensures exchanged { IfSome result (λ v. (w : V) →
+        ExchangesValue K.cmp key.now tree.old (key_written K.cmp key.now tree.old w) v.now w) }
+{
+    match tree.root_id() {
+        Some(root) => get_mut_in(tree, key, root),
+        None => None,
     }
 }

@@ -1,11 +1,14 @@
 //! Changes of a tree by addresses.
 ghost use Rattle.std.specs.Prelude.{◌≡◌, Some, None, IsSome, IfSome, IfNone, IfOk, IfErr};
-ghost use Rattle.std.specs.Borrow.{Lends, sem};
+ghost use Rattle.std.specs.Borrow.{Lends, LendsIf, sem};
+ghost use Rattle.std.specs.Option.{option_copied_mut};
+ghost use Rattle.btree_item.specs.Pairs.{found_value};
 ghost use Rattle.btree_item.specs.declared.address.Address.{Address};
-ghost use Rattle.btree_shape.specs.TreeState.{IsLeafAddressIn, IsOccupiedIn, IsValidIn, item_of};
-ghost use Rattle.btree_find.specs.Fits.{FitsAt, ReplacesAt};
+ghost use Rattle.btree_shape.specs.TreeState.{IsLeafAddressIn, IsOccupiedIn, IsUsed, IsValidIn, item_of};
+ghost use Rattle.btree_find.specs.Fits.{FitsAt, ReplacesAt, pairs_below};
 ghost use Rattle.btree_edit.specs.Exchange.{IsExchanged, IsValueExchanged};
 ghost use Rattle.btree_edit.specs.InsertAt.{InsertsAt, IsRefusedAt};
+ghost use Rattle.btree_edit.specs.KeyWritten.{ExchangesValue, address_at_key};
 ghost use Rattle.btree_edit.specs.Remove.{IsRemoved};
 
 use crate::ext::BTreeExt;
@@ -44,6 +47,22 @@ pub trait BTreeExtMut<K: Ord + Drop, V: Drop>: BTreeExt<K, V> {
         ensures pair { item_of (Self.state self.old) addr ≡ Some (result.0.now, result.1.now) }
         ensures exchanged { (w : V) → IsValueExchanged (Self.state self.old)
             (Self.state (with_value self.old addr w)) addr K.cmp result.1.now w };
+
+    /// Returns the value at a key under a node for writing, or `None` if the key is not there. What is written replaces the value, and
+    /// nothing else changes: the stored key stays, and so does every address.
+    ///
+    /// The node must be in use; see `has_node`. It makes at most six comparisons at each level from the node down, needs no new node and
+    /// cannot fail.
+    fn get_mut_in(&mut self, key: &K, id: usize) -> Option<&mut V>
+        requires { IsUsed (Self.state self.old) id }
+        ensures* writes_back { sem 𝓛 (LendsIf Self.row V.row self.entry result
+            (with_value self.old (address_at_key K.cmp key.now (Self.state self.old))) self.old) }
+        ensures value { option_copied_mut result ≡
+            found_value K.cmp key.now (pairs_below (Self.state self.old) id) }
+        ensures exchanged { IfSome result (λ v. (w : V) →
+            let at = address_at_key K.cmp key.now (Self.state self.old) in
+            ExchangesValue K.cmp key.now (Self.state self.old)
+            (Self.state (with_value self.old at w)) v.now w) };
 
     /// Inserts a pair at the place of an address, before the item there, and returns the address of the pair. An address of an internal
     /// node stands for the one in a leaf at its place.

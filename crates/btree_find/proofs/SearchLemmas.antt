@@ -1,12 +1,12 @@
 -- A search by key in a well formed tree, step by step.
-use Rattle.std.proofs.Common.{◌≡◌, ◌≢◌, ◌+◌, ℕ, ◌<◌, ◌≤◌, ◌^◌, ◌-◌, inl, List, Option, Some, None, inr, map, length-append, Ok, Err, IsSome, Result, refl, sym, ap, subst, ◌∙◌, length, is_some, option_map, option_and_then, slice_get, if◌then◌else◌, arith}
+use Rattle.std.proofs.Common.{◌≡◌, ◌≢◌, ◌+◌, ◌++◌, append_assoc, ℕ, ◌<◌, ◌≤◌, ◌^◌, ◌-◌, inl, List, Option, Some, None, inr, map, length-append, Ok, Err, IsSome, Result, refl, sym, ap, subst, ◌∙◌, length, is_some, option_map, option_and_then, slice_get, if◌then◌else◌, arith}
 use Rattle.std.proofs.lemmas.List.{length-map}
 use Rattle.std.specs.Cmp.{IsTotalOrder}
 use Rattle.std.specs.FinMap as nodes_map
 use Rattle.std.specs.declared.cmp.Ordering.{Ordering}
 use Rattle.btree_item.specs.Pairs.{Ascends, KeyFits, found, found_value, place_of}
 use Rattle.btree_item.proofs.PairEdits.{KeyFits-before}
-use Rattle.btree_item.proofs.PairLemmas.{before-from_Err, found-from_Err}
+use Rattle.btree_item.proofs.PairLemmas.{before-from_Err, found-from_Err, slice_get-from_Ok}
 use Rattle.btree_item.specs.Offset.{index_offset}
 use Rattle.btree_item.specs.declared.address.Address.{Address}
 use Rattle.btree_node.specs.declared.node.Node.{Node}
@@ -14,8 +14,10 @@ use Rattle.btree_view.specs.LookUp.{placed, offset_in}
 use Rattle.btree_node.specs.Node.{view_of}
 use Rattle.btree_view.specs.View.{View, NodeMap, leaf, internal, items_of, children_of, item_in, size_of}
 use Rattle.btree_shape.specs.Place.{IsOccupied, NOWHERE}
+use Rattle.btree_shape.specs.Focus.Path.{items_after}
 use Rattle.btree_shape.specs.Focus.Positions.{address_before}
 use Rattle.btree_shape.specs.Focus.Search.{IsSearching, levels_below}
+use Rattle.btree_shape.specs.Focus.Subtree.{items_under}
 use Rattle.btree_shape.specs.TreeState.{TreeState, IsBTree, IsLeafAddressIn, IsPlaceIn, IsUsed, IsValidIn, node_map, pairs_of, pairs_under}
 use Rattle.btree_shape.specs.WellFormed.{IsWellFormed}
 use Rattle.btree_shape.proofs.LookUp.Descent.{get-after, search-ascends, search-down}
@@ -25,10 +27,10 @@ use Rattle.btree_shape.proofs.LookUp.KeyInList.{Rises, rises, searched}
 use Rattle.btree_find.specs.Answers.{IsAddressIn, IsAddressOf, IsFoundAt, IsFoundIn, IsGapAt, IsGapIn}
 use Rattle.btree_find.specs.Ends.{IsLeafBackAt}
 use Rattle.btree_find.specs.Fits.{pairs_below}
-use Rattle.btree_find.specs.Navigation.{HasPlace}
+use Rattle.btree_find.specs.Navigation.{HasPlace, IsItemAddress}
 use Rattle.btree_find.proofs.EndsLemmas.{leaf-back-at, start-place}
 use Rattle.btree_find.proofs.PlaceLemmas.{has-child, has-place, in-state, item-here}
-use Rattle.btree_find.proofs.UnderLemmas.{begins-here}
+use Rattle.btree_find.proofs.UnderLemmas.{begins-here, place-in_whole}
 use Rattle.btree_shape.proofs.Trees.Stores.{used-view, most-few}
 
 -- what `placed` gives for a place among items
@@ -46,6 +48,9 @@ placed-err (Err i) children index child e =
     let a : index ≡ i = ap (λ (p : P). p.0) pair in
     let b : child ≡ slice_get children i = ap (λ (p : P). p.1) pair in
     (ap Err (sym a), ap (slice_get children) a ∙ sym b)
+
+regroup : {X : Type 0} (xs ys zs ws : List X) → xs ++ (ys ++ (zs ++ ws)) ≡ (xs ++ (ys ++ zs)) ++ ws
+regroup xs ys zs ws = simp append_assoc
 
 small : (index : ℕ) → index ≤ 9 → index_offset index ≡ Some index
 small index few = let ne : index ≢ 2 ^ 64 - 1 = λ e. omega arith in grind arith
@@ -126,17 +131,44 @@ module _ {K V : Type 0} (cmp : K → K → Ordering) (k : K) (laws : IsTotalOrde
           let r = searched cmp k laws (items_of (view_of node)) (Ok o) (rises cmp (items_of (view_of node)) node-ascends) place in
           (r.1, ap (λ n. item_in n o) here ∙ (ap (λ l. slice_get l o) r.3 ∙ get-after r.0 r.1 r.2 o (sym r.4)))
 
+      -- the place of a key among the pairs of the search is that among all pairs, after those before them
+      whole-place : (index : ℕ) → place_of cmp k within ≡ Ok index → place_of cmp k pairs ≡ Ok (q.start + index)
+      whole-place index is =
+          let f = q.searching.node.focus in
+          let p = q.searching.part in
+          let under : List (K × V) = items_under (K × V) f.height f.subtree in
+          let split : pairs ≡ p.front ++ (within ++ p.back) =
+          f.whole.list
+          ∙ (ap (λ l. l ++ (under ++ items_after f.path)) p.before
+          ∙ (ap (λ l. (p.front ++ p.lower) ++ (under ++ l)) p.after
+          ∙ (append_assoc p.front p.lower (under ++ (p.higher ++ p.back))
+          ∙ ap (λ l. p.front ++ l) (regroup p.lower under p.higher p.back ∙ ap (λ l. l ++ p.back) (sym p.is))))) in
+          place-in_whole cmp laws k pairs p.front within p.back index tree.ascends split is ∙ ap (λ n. Ok (n + index)) (sym p.counted)
+
       found-in-node : (o : ℕ) → place_of cmp k (items_of (view_of node)) ≡ Ok o → IsFoundIn cmp k s top (record { id = id; offset = Some o })
       found-in-node o place =
           let h = search-hit cmp k laws node_at q.root pairs up within q.start id q.searching (view_of node) here o place in
           let a : Address = record { id = id; offset = Some o } in
           let at : IsPlaceIn s a (q.start + h.place) = in-state cmp laws s tree q.root q.is id (Some o) (q.start + h.place) h.at in
+          let here = item-here cmp laws s tree a (q.start + h.place) (item-at o place) at in
+          let item : IsItemAddress s (q.start + h.place) a = here.here in
+          let whole = whole-place h.place h.is in
           record {
             start = q.start;
             begins = q.begins;
             index = h.place;
             is = h.is;
-            item = (item-here cmp laws s tree a (q.start + h.place) (item-at o place) at).here;
+            pair = h.item;
+            item = item;
+            found = record {
+              valid = item.valid;
+              place = q.start + h.place;
+              is = whole;
+              at = at;
+              occupied = item-at o place;
+              item = item.item ∙ slice_get-from_Ok cmp laws k pairs (q.start + h.place) tree.ascends whole;
+              listed = sym here.listed;
+            };
           }
 
       pub hit : (offset : Option ℕ) → Ok offset ≡ offset_in cmp k (view_of node) → (a : Address) → a ≡ record { id = id; offset = offset }
@@ -203,15 +235,7 @@ module _ {K V : Type 0} (cmp : K → K → Ordering) (k : K) (laws : IsTotalOrde
     place-whole start index begins = let z = from-first start begins in omega arith
 
     pub found-whole : (a : Address) → IsFoundIn cmp k s root a → IsFoundAt cmp k s a
-    found-whole a f =
-        let e = place-whole f.start f.index f.begins in
-        record {
-          valid = f.item.valid;
-          place = f.index;
-          is = ap (place_of cmp k) whole-pairs ∙ f.is;
-          at = subst (λ p. IsPlaceIn s a p) e f.item.has.at;
-          occupied = f.item.occupied;
-        }
+    found-whole a f = f.found
 
     pub gap-whole : (a : Address) → IsGapIn cmp k s root a → IsGapAt cmp k s a
     gap-whole a g =

@@ -1,8 +1,9 @@
 -- The pairs under a node of a well formed tree: where they begin and end in the list.
-use Rattle.std.proofs.Common.{[], append_assoc, ◌∙◌, ◌≡◌, ◌+◌, ◌<◌, ℕ, inr, List, length, Option, Some, None, IsSome, refl, sym, ap, subst, arith, option_map}
+use Rattle.std.proofs.Common.{[], ◌∷◌, ◌++◌, append_assoc, ◌∙◌, ◌≡◌, ◌+◌, ◌<◌, ℕ, inr, List, length, length-append, Option, Some, None, Ok, IsSome, refl, sym, ap, subst, arith, option_map}
 use Rattle.std.specs.Cmp.{IsTotalOrder}
 use Rattle.std.specs.FinMap as finite
 use Rattle.std.specs.declared.cmp.Ordering.{Ordering}
+use Rattle.btree_item.specs.Pairs.{Ascends, place_of}
 use Rattle.btree_node.specs.declared.node.Node.{Node}
 use Rattle.btree_node.specs.Node.{view_of}
 use Rattle.btree_view.specs.View.{View, size_of}
@@ -16,6 +17,7 @@ use Rattle.btree_shape.specs.Represents.{Represents}
 use Rattle.btree_shape.specs.TreeState.{TreeState, IsBTree, IsPlaceIn, IsUsed, IsValidIn, node_map, pairs_of}
 use Rattle.btree_shape.specs.WellFormed.{IsWellFormed}
 use Rattle.btree_shape.proofs.LookUp.Descent.{search-start}
+use Rattle.btree_shape.proofs.LookUp.KeyInList.{Rises, equal-back, equal-front, place-hit, rises, rises-left, rises-right, searched}
 use Rattle.btree_shape.proofs.Paths.FromRoot.{node-at}
 use Rattle.btree_shape.proofs.Paths.Levels.{levels-rooted}
 use Rattle.btree_shape.proofs.Paths.UnsizedFocus.{focus-unsized}
@@ -27,6 +29,29 @@ use Rattle.btree_shape.proofs.Trees.ValidPlaces.{place-valid}
 use Rattle.btree_find.specs.Fits.{pairs_below}
 use Rattle.btree_find.specs.Navigation.{HasPlace}
 use Rattle.btree_find.proofs.PlaceLemmas.{has-place, in-state, root-there}
+
+-- a key among some pairs of an ascending list has its place in the whole list
+pub place-in_whole : {K V : Type 0} (cmp : K → K → Ordering) (laws : IsTotalOrder cmp) (k : K) (xs front ys back : List (K × V)) (index : ℕ)
+    → Ascends cmp xs → xs ≡ front ++ (ys ++ back) → place_of cmp k ys ≡ Ok index → place_of cmp k xs ≡ Ok (length front + index)
+place-in_whole {K} {V} cmp laws k xs front ys back index up split place =
+    let r : Rises cmp (front ++ (ys ++ back)) = subst (Rises cmp) split (rises cmp xs up) in
+    let s = searched cmp k laws ys (Ok index) (rises-left cmp ys back (rises-right cmp front (ys ++ back) r)) place in
+    let joined : xs ≡ (front ++ s.0) ++ s.1 ∷ (s.2 ++ back) =
+    split
+    ∙ (ap (λ l. front ++ (l ++ back)) s.3
+    ∙ (ap (λ l. front ++ l) (append_assoc s.0 (s.1 ∷ s.2) back) ∙ sym (append_assoc front s.0 (s.1 ∷ (s.2 ++ back))))) in
+    let whole : Rises cmp ((front ++ s.0) ++ s.1 ∷ (s.2 ++ back)) = subst (Rises cmp) joined (rises cmp xs up) in
+    let count : length (front ++ s.0) ≡ length front + index = length-append front s.0 ∙ ap (λ n. length front + n) s.4 in
+    (place-hit cmp k xs (length front + index) (
+      front ++ s.0,
+      s.1,
+      s.2 ++ back,
+      joined,
+      count,
+      equal-front cmp k laws (front ++ s.0) s.1 (s.2 ++ back) whole s.6,
+      s.6,
+      equal-back cmp k laws s.1 (s.2 ++ back) (rises-right cmp (front ++ s.0) (s.1 ∷ (s.2 ++ back)) whole).0 s.6,
+    )).0
 
 some-of : {X : Type 0} (o : Option X) → IsSome o → (x : X) × (o ≡ Some x)
 some-of None is = absurd (cc)

@@ -2,12 +2,13 @@
 -- `address_of` cites `IsAddressOf`. Insertion cites its two cases, `IsFoundAt` and `IsGapAt`. `address_in` cites
 -- `IsAddressIn`, the same for the pairs under a node: places in the whole list, counted from that of offset -1 of the
 -- node.
-use Rattle.std.specs.Prelude.{◌≡◌, ◌+◌, ℕ, IsSome, Result, Ok, Err}
+use Rattle.std.specs.Prelude.{◌≡◌, ◌+◌, ℕ, slice_get, IsSome, Some, Result, Ok, Err}
 use Rattle.std.specs.declared.cmp.Ordering.{Ordering}
-use Rattle.btree_item.specs.Pairs.{place_of}
+use Rattle.btree_item.specs.Pairs.{found, place_of}
 use Rattle.btree_item.specs.declared.address.Address.{Address}
 use Rattle.btree_shape.specs.Focus.Positions.{address_before}
-use Rattle.btree_shape.specs.TreeState.{TreeState, IsLeafAddressIn, IsOccupiedIn, IsPlaceIn, IsValidIn, pairs_of}
+use Rattle.btree_shape.specs.TreeAddresses.{item_addresses_of}
+use Rattle.btree_shape.specs.TreeState.{TreeState, IsLeafAddressIn, IsOccupiedIn, IsPlaceIn, IsValidIn, item_of, pairs_of}
 use Rattle.btree_find.specs.Ends.{IsLeafBackAt}
 use Rattle.btree_find.specs.Fits.{FitsAt, pairs_below}
 use Rattle.btree_find.specs.Navigation.{HasPlace, IsItemAddress}
@@ -20,6 +21,8 @@ module _ {K V : Type 0} (cmp : K → K → Ordering) (k : K) (s : TreeState K V)
     pub is : place_of cmp k (pairs_of s) ≡ Ok place
     pub at : IsPlaceIn s a place
     pub occupied : IsOccupiedIn s a
+    pub item : item_of s a ≡ found cmp k (pairs_of s)
+    pub listed : slice_get (item_addresses_of s) place ≡ Some a
 
   -- a back address in a leaf whose place is the number of smaller keys, if no key is equal; so the key fits there, and
   -- the record has all that an insertion there requires
@@ -37,13 +40,15 @@ module _ {K V : Type 0} (cmp : K → K → Ordering) (k : K) (s : TreeState K V)
   IsAddressOf (Ok a) = IsFoundAt a
   IsAddressOf (Err a) = IsGapAt a
 
-  -- a key at this index among the pairs under a node: the address of its item
+  -- a key at this index among the pairs under a node: the address of its item, which is that of the key in the tree
   pub record IsFoundIn (id : ℕ) (a : Address) : Type 0 where
     pub start : ℕ
     pub begins : HasPlace s (address_before id) start
     pub index : ℕ
     pub is : place_of cmp k (pairs_below s id) ≡ Ok index
+    pub pair : found cmp k (pairs_below s id) ≡ item_of s a
     pub item : IsItemAddress s (start + index) a
+    pub found : IsFoundAt a
 
   -- no key under a node is equal: the back address in a leaf that has as many smaller keys of the node before it
   pub record IsGapIn (id : ℕ) (a : Address) : Type 0 where

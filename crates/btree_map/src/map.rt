@@ -12,7 +12,7 @@ use std::marker::Model;
 /// A map from keys to values in the order of the keys: a B-tree with its nodes in a store.
 #[derive(Drop)]
 pub struct BTreeMap<K: Ord, V, C: NodesMut<K, V>> {
-    tree: Tree<K, V, C>,
+    pub(crate) tree: Tree<K, V, C>,
 }
 
 impl<K: Ord, V, C: NodesMut<K, V>> Model for BTreeMap<K, V, C> {
@@ -27,10 +27,14 @@ impl<K: Ord, V, C: NodesMut<K, V>> Model for BTreeMap<K, V, C> {
 }
 
 impl<K: Ord, V, C: NodesMut<K, V>> BTreeMap<K, V, C> {
+    ghost use Rattle.std.specs.Borrow.{LendsIf, sem};
     ghost use Rattle.std.specs.Mem.{FitsInMemory};
+    ghost use Rattle.std.specs.Option.{option_copied_mut};
     ghost use Rattle.btree_node.specs.contracts.node.Node.{the_row as node_row};
     ghost use Rattle.btree_item.specs.Pairs.{found_value};
     ghost use Rattle.btree_shape.specs.TreeState.{IsBTree, pairs_of};
+    ghost use Rattle.btree_edit.specs.KeyWritten.{ExchangesValue, key_written};
+    ghost use Rattle.btree_map.specs.contracts.map.BTreeMap.{the_row};
 
     /// Returns a map without pairs, over an empty store made from `origin`. It allocates no memory.
     ///
@@ -65,6 +69,22 @@ impl<K: Ord, V, C: NodesMut<K, V>> BTreeMap<K, V, C> {
         ensures { option_copied result ≡ found_value K.cmp key.now (pairs_of self.now) }
     {
         self.tree.get(key)
+    }
+
+    /// Returns the value at a key equal to the given one for writing, or `None`. What is written replaces the value, and nothing else
+    /// changes: the stored key stays, and so does every address. It makes at most six comparisons at each level.
+    pub fn get_mut(&mut self, key: &K) -> Option<&mut V>
+        ensures* writes_back { sem 𝓛 (LendsIf
+            (the_row K.row V.row C.row C.Origin.row
+            (record { cmp = K.cmp }) (record { eq = K.eq }) (record { partial_cmp = K.partial_cmp })
+            (record { MayRefuse = C.MayRefuse; Fits = C.Fits; written = C.written })
+            (record { content = C.content; refusals = C.refusals; CanHold = C.CanHold }))
+            V.row self.entry result (key_written K.cmp key.now self.old) self.old) }
+        ensures value { option_copied_mut result ≡ found_value K.cmp key.now (pairs_of self.old) }
+        ensures exchanged { IfSome result (λ v. (w : V) →
+            ExchangesValue K.cmp key.now self.old (key_written K.cmp key.now self.old w) v.now w) }
+    {
+        self.tree.get_mut(key)
     }
 
     /// Returns the nodes in their store, the number of the root and the length, as a tree of any content.
@@ -175,6 +195,10 @@ impl<K: Ord + Drop, V: Drop, C: NodesMut<K, V>> BTreeExtMut<K, V> for BTreeMap<K
 
     fn pair_mut(&mut self, addr: Address) -> (&K, &mut V) {
         self.tree.pair_mut(addr)
+    }
+
+    fn get_mut_in(&mut self, key: &K, id: usize) -> Option<&mut V> {
+        self.tree.get_mut_in(key, id)
     }
 
     // The clauses are those of the trait, with the store's own name for what it may refuse.

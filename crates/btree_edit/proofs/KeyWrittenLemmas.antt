@@ -1,0 +1,47 @@
+-- A value written at a key: at its address, and in the list.
+use Rattle.std.proofs.Common.{◌≡◌, ◌∙◌, ℕ, List, Ok, Some, sym, ap, slice_get, subst, unwrap_or}
+use Rattle.std.specs.Cmp.{IsTotalOrder}
+use Rattle.std.specs.declared.cmp.Ordering.{Ordering}
+use Rattle.btree_item.specs.Pairs.{before, with_value}
+use Rattle.btree_item.specs.declared.address.Address.{Address}
+use Rattle.btree_item.proofs.PairLemmas.{before-from_Ok, set-from_Ok, slice_get-from_Ok}
+use Rattle.btree_shape.specs.Focus.Positions.{address_at}
+use Rattle.btree_shape.specs.Place.{NOWHERE}
+use Rattle.btree_shape.specs.TreeAddresses.{item_addresses_of}
+use Rattle.btree_shape.specs.TreeState.{TreeState, IsBTree, node_map, pairs_of}
+use Rattle.btree_shape.proofs.Places.OnePlace.{one_place-well}
+use Rattle.btree_find.specs.Answers.{IsFoundAt}
+use Rattle.btree_edit.specs.Exchange.{IsValueExchanged}
+use Rattle.btree_edit.specs.KeyWritten.{ExchangesValue, address_at_key, key_written}
+use Rattle.btree_edit.specs.ValueWritten.{value_written}
+use Rattle.btree_edit.proofs.ExchangeLemmas.{written-tree}
+use Rattle.btree_edit.proofs.InsertLemmas.{placed-item}
+
+-- a value written at a key, or at none, leaves a well formed tree
+pub key_written-tree : {K V : Type 0} (cmp : K → K → Ordering) (laws : IsTotalOrder cmp) (k : K) (s : TreeState K V) → IsBTree cmp s → (w : V)
+    → IsBTree cmp (key_written cmp k s w)
+key_written-tree cmp laws k s tree w = written-tree cmp laws s (address_at_key cmp k s) w tree
+
+module _ {K V : Type 0} (cmp : K → K → Ordering) (laws : IsTotalOrder cmp) (k : K) (s : TreeState K V) (tree : IsBTree cmp s)
+    (a : Address) (f : IsFoundAt cmp k s a) where
+  -- the address that was found is the one that the key's place has
+  pub at-key : address_at_key cmp k s ≡ a
+  at-key =
+      ap (λ n. unwrap_or (slice_get (item_addresses_of s) n) (address_at NOWHERE 0)) (before-from_Ok cmp k (pairs_of s) f.place f.is)
+      ∙ ap (λ o. unwrap_or o (address_at NOWHERE 0)) f.listed
+
+  pub written-at_key : (w : V) → value_written s a w ≡ key_written cmp k s w
+  written-at_key w = sym (ap (λ b. value_written s b w) at-key)
+
+  pub exchanges-at_key : (was w : V) → IsValueExchanged s (value_written s a w) a cmp was w → ExchangesValue cmp k s (key_written cmp k s w) was w
+  exchanges-at_key was w x =
+      let y : IsValueExchanged s (key_written cmp k s w) a cmp was w = subst (λ n. IsValueExchanged s n a cmp was w) (written-at_key w) x in
+      let same : y.exchanged.place ≡ f.place =
+      one_place-well cmp laws (node_map s) (pairs_of s) s.len s.root tree a.id a.offset y.exchanged.place f.place y.exchanged.at f.at in
+      let listed : slice_get (pairs_of s) f.place ≡ Some (y.key, was) = placed-item cmp s (y.key, was) a tree f.place f.at y.had in
+      record {
+        pairs =
+            y.exchanged.pairs
+            ∙ rw same (set-from_Ok cmp laws k w (pairs_of s) f.place (y.key, was) tree.ascends f.is listed);
+        exchanges = record { at = a; found_at = f; exchanged = y };
+      }

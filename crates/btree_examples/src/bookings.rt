@@ -1,0 +1,50 @@
+//! Bookings of a room, by the time at which each begins. Those that overlap a given time are found by navigation from one address.
+ghost use Rattle.std.specs.Prelude.{◌≡◌, Some};
+ghost use Rattle.std.specs.List.{count_by};
+ghost use Rattle.btree_shape.specs.TreeState.{pairs_of};
+ghost use Rattle.btree_examples.specs.Bookings.{AreApart, IsFirstCandidate, overlaps};
+
+use btree_slab::BTreeMap;
+use btree_slab::generic::map::BTreeExt;
+use btree_slab::generic::node::Address;
+
+// Returns the address of the last booking that begins before a time or at it, or of the first one if there is none.
+fn first_candidate(bookings: &BTreeMap<u32, u32>, start: u32) -> Option<Address>
+    requires { AreApart (pairs_of bookings.now) }
+    ensures { IsFirstCandidate bookings.now start result }
+{
+    match bookings.address_of(&start) {
+        Ok(addr) => Some(addr),
+        Err(gap) => match bookings.previous_item_address(Address::new(gap.id, gap.offset)) {
+            Some(previous) => Some(previous),
+            None => bookings.normalize(gap),
+        },
+    }
+}
+
+/// Returns how many of the bookings overlap the time from `start` to `end`. The bookings may not overlap one another.
+///
+/// It searches for one address, and goes from there to the next bookings until one begins at `end` or later.
+pub fn count_overlaps(bookings: &BTreeMap<u32, u32>, start: u32, end: u32) -> usize
+    requires { AreApart (pairs_of bookings.now) }
+    ensures { result ≡ count_by (overlaps start end) (pairs_of bookings.now) }
+{
+    let mut count = 0;
+    let mut next = first_candidate(bookings, start);
+    for _step in 0..bookings.len() {
+        let Some(addr) = next else {
+            return count;
+        };
+        let Some(booking) = bookings.item(Address::new(addr.id, addr.offset)) else {
+            unreachable!()
+        };
+        if *booking.key() >= end {
+            return count;
+        }
+        if *booking.value() > start {
+            count += 1;
+        }
+        next = bookings.next_item_address(addr);
+    }
+    count
+}

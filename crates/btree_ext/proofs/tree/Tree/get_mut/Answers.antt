@@ -1,0 +1,10 @@
+use Rattle.std.proofs.Common.{refl}
+use Rattle.btree_ext.proofs.tree.Tree.get_mut.Goals as goal
+
+pub invariant_of-self-lent : goal.invariant_of-self-lent
+invariant_of-self-lent g c = λ _. (c.get_mut.ensures.tree, c.self.invariant)
+
+pub returns : goal.returns
+returns g c =
+    rw (← c.self.view_is)
+    (refl, record { writes_back = tt; value = c.get_mut.ensures.value; exchanged = c.get_mut.ensures.exchanged })

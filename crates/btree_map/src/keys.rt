@@ -1,0 +1,59 @@
+//! Look-up by key and at both ends.
+ghost use Rattle.std.specs.Prelude.{◌≡◌, ◌↔◌, ◌-◌, IsSome, IsTrue, length, option_map, slice_get};
+ghost use Rattle.btree_item.specs.Pairs.{found};
+ghost use Rattle.btree_shape.specs.TreeState.{item_of, pairs_of};
+
+use crate::BTreeMap;
+use btree_ext::{BTreeExt, Tree};
+use btree_item::Address;
+use btree_nodes::NodesMut;
+
+// Returns the pair at an address, or `None` if no item is there.
+fn pair_at<K: Ord, V, C: NodesMut<K, V>>(tree: &Tree<K, V, C>, addr: Address) -> Option<(&K, &V)>
+    ensures { option_map (λ p. (p.0.now, p.1.now)) result ≡ item_of tree.now addr }
+{
+    match tree.item(addr) {
+        Some(item) => Some((item.key(), item.value())),
+        None => None,
+    }
+}
+
+impl<K: Ord, V, C: NodesMut<K, V>> BTreeMap<K, V, C> {
+    /// Returns the stored key that is equal to the given one, and its value, or `None`. It makes at most six comparisons at each level.
+    pub fn get_key_value(&self, key: &K) -> Option<(&K, &V)>
+        ensures { option_map (λ p. (p.0.now, p.1.now)) result ≡ found K.cmp key.now (pairs_of self.now) }
+    {
+        match self.tree.address_of(key) {
+            Ok(addr) => pair_at(&self.tree, addr),
+            Err(_) => None,
+        }
+    }
+
+    /// Returns whether a key is equal to the given one. It makes at most six comparisons at each level.
+    pub fn contains_key(&self, key: &K) -> bool
+        ensures { IsTrue result ↔ IsSome (found K.cmp key.now (pairs_of self.now)) }
+    {
+        self.tree.get(key).is_some()
+    }
+
+    /// Returns the first pair, or `None` if there are no pairs. It reads one node of each level, and compares no keys.
+    pub fn first_key_value(&self) -> Option<(&K, &V)>
+        ensures { option_map (λ p. (p.0.now, p.1.now)) result ≡ slice_get (pairs_of self.now) 0 }
+    {
+        match self.tree.first_item_address() {
+            Some(addr) => pair_at(&self.tree, addr),
+            None => None,
+        }
+    }
+
+    /// Returns the last pair, or `None` if there are no pairs. It reads one node of each level, and compares no keys.
+    pub fn last_key_value(&self) -> Option<(&K, &V)>
+        ensures { option_map (λ p. (p.0.now, p.1.now)) result ≡
+            slice_get (pairs_of self.now) (length (pairs_of self.now) - 1) }
+    {
+        match self.tree.last_item_address() {
+            Some(addr) => pair_at(&self.tree, addr),
+            None => None,
+        }
+    }
+}
