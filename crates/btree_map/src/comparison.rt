@@ -45,13 +45,7 @@ fn partial_compare_pairs<K: PartialOrd, V: PartialOrd>(
 }
 
 /// Returns whether two iterators yield equal pairs, and equally many.
-pub(crate) fn is_same<
-    'a,
-    K: Ord + 'a,
-    V: PartialEq + 'a,
-    C: NodesMut<K, V>,
-    D: NodesMut<K, V>,
->(
+pub(crate) fn is_same<'a, K: Ord + 'a, V: PartialEq + 'a, C: NodesMut<K, V>, D: NodesMut<K, V>>(
     left: Iter<'a, K, V, C>,
     right: Iter<'a, K, V, D>,
 ) -> bool
@@ -102,10 +96,7 @@ pub(crate) fn lexicographic_partial_cmp<
     V: PartialOrd + 'a,
     C: NodesMut<K, V>,
     D: NodesMut<K, V>,
->(
-    left: Iter<'a, K, V, C>,
-    right: Iter<'a, K, V, D>,
-) -> Option<Ordering>
+>(left: Iter<'a, K, V, C>, right: Iter<'a, K, V, D>) -> Option<Ordering>
     ensures { result ≡ slice_partial_cmp (pair_partial_cmp K.partial_cmp V.partial_cmp)
         left.entry right.entry }
 {

@@ -7,8 +7,7 @@ use Rattle.btree_edit.proofs.values.get_mut.Goals as goal
 
 pub returns-in-None : goal.returns-in-None
 returns-in-None g c =
-    let s = c.args.tree.now in
-    (
+    let s = c.args.tree.now in (
       refl,
       record {
         writes_back = tt;

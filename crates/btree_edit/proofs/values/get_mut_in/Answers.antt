@@ -8,8 +8,7 @@ pub returns-in-Ok : goal.returns-in-Ok
 returns-in-Ok g c =
     let f = c.in-Ok.ensures in
     let was = c.value_mut.result.now in
-    let at = exchanges-at_key g.K.Ord.cmp g.met.K.Ord.total c.args.key.now c.args.tree.now c.requires.tree c.in-Ok.addr f.found in
-    (
+    let at = exchanges-at_key g.K.Ord.cmp g.met.K.Ord.total c.args.key.now c.args.tree.now c.requires.tree c.in-Ok.addr f.found in (
       λ i. inl (
         c.value_mut.result.ghost_name,
         λ w. written-at_key g.K.Ord.cmp g.met.K.Ord.total c.args.key.now c.args.tree.now c.requires.tree c.in-Ok.addr f.found w i,
@@ -24,8 +23,7 @@ returns-in-Ok g c =
 
 pub returns-in-Err : goal.returns-in-Err
 returns-in-Err g c =
-    let gap = c.in-Err.ensures in
-    (
+    let gap = c.in-Err.ensures in (
       refl,
       record {
         writes_back = tt;
