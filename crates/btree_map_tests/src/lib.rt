@@ -4,6 +4,8 @@
 #[cfg(test)]
 mod edits;
 #[cfg(test)]
+mod keys;
+#[cfg(test)]
 mod map;
 #[cfg(test)]
 mod owner;

@@ -2,7 +2,7 @@
 //! key.
 ghost use Rattle.btree_shape.specs.TreeState.{IsUsed};
 
-use btree_ext::{BTreeExt, Tree};
+use btree_ext::{BTreeExt, BTreeExtMut, Tree};
 use btree_item::{Address, Offset};
 use btree_node::Node;
 use btree_store::SlabStore;
@@ -83,5 +83,21 @@ fn looks_up_under_each_node(rt: HostRuntime) {
             (value, tree.key_fits_in(id, key)),
             (if *found { Some(10 * *key) } else { None }, *fits)
         );
+    }
+}
+
+// A key that is not under the node is not found there, also if it is in the tree.
+#[test]
+fn writes_under_each_node(rt: HostRuntime) {
+    let (mut tree, ids) = nine_keys(&rt, rt.alloc());
+    for (name, key, found, _, _, _) in &ROWS {
+        let id = number_of(ids, *name);
+        assert!(rt; tree.has_node(id));
+        if let Some(value) = tree.get_mut_in(key, id) {
+            *value = 11 * *key;
+        }
+        assert!(rt; tree.has_node(id));
+        let value = tree.get_in(key, id).copied();
+        assert_eq!(rt; value, if *found { Some(11 * *key) } else { None }, "{key}");
     }
 }
