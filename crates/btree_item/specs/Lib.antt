@@ -4,5 +4,6 @@ pub mod Address
 pub mod Item
 pub mod Somes
 pub mod Slots
+pub mod Comparisons
 pub mod Keys
 pub mod Pairs

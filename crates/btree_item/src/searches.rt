@@ -1,7 +1,8 @@
 //! Searches in slots in the order of their keys.
 ghost use Rattle.std.specs.Prelude.{◌≡◌, ◌+◌, ◌<◌, ◌≤◌, Some, IfNone, IfSome, length, map, slice_get};
 ghost use Rattle.std.specs.List.Sorted.{IsSearchInRange, IsSorted, IsStrictlySortedBy};
-ghost use Rattle.btree_item.specs.Keys.{key_place, AllAbove, AllBelow, IsFirstNotBelow, IsLastAtMost, IsNotBelowAt};
+ghost use Rattle.btree_item.specs.Comparisons.{comparisons, comparisons_for_place};
+ghost use Rattle.btree_item.specs.Keys.{count_below, key_place, AllAbove, AllBelow, IsFirstNotBelow, IsLastAtMost, IsNotBelowAt};
 
 use crate::{Keyed, LEAF_SLOTS, MAX_COMPARISONS, Slots};
 use btree_steps::Steps;
@@ -34,6 +35,8 @@ where
     requires before { AllBelow T.Key.cmp key.now start (map T.key_of slots.now) }
     requires here { IsNotBelowAt T.Key.cmp key.now end (map T.key_of slots.now) }
     ensures place { IsFirstNotBelow T.Key.cmp key.now result (map T.key_of slots.now) }
+    ensures from { start ≤ result }
+    ensures to { result ≤ end }
     ensures ticks { steps.new.count + start ≡ steps.old.count + end }
 {
     let mut place = start;
@@ -57,6 +60,8 @@ where
     T::Key: Ord,
     requires { IsStrictlySortedBy T.Key.cmp (map T.key_of slots.now) }
     ensures place { IsFirstNotBelow T.Key.cmp key.now result (map T.key_of slots.now) }
+    ensures counted { steps.new.count ≡
+        steps.old.count + comparisons_for_place (length slots.now) result }
     ensures ticks { length slots.now ≤ LEAF_SLOTS →
         steps.new.count < steps.old.count + MAX_COMPARISONS }
 {
@@ -85,6 +90,8 @@ where
     ensures place { result ≡ key_place T.Key.cmp key.now (map T.key_of slots.now) }
     ensures within { IsSearchInRange result (length slots.now) }
     ensures fits { length slots.now ≤ N }
+    ensures counted { let smaller = count_below T.Key.cmp key.now (map T.key_of slots.now) in
+        steps.new.count ≡ steps.old.count + comparisons (length slots.now) smaller }
     ensures ticks { length slots.now ≤ LEAF_SLOTS →
         steps.new.count ≤ steps.old.count + MAX_COMPARISONS }
 {

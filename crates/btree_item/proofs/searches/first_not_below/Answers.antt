@@ -12,6 +12,7 @@ loop-i-preserved g c = elim c.if-lt.branch [
       record {
         ticks = omega arith;
         reached = omega arith;
+        from = omega arith;
         before = rw moved (AllBelow-from_key g.met.T.Key.Ord.total _ _ _ _ c.requires.ascends c.key_at.ensures is_below);
         here = λ earlier. absurd (omega arith);
       }
@@ -22,6 +23,7 @@ loop-i-preserved g c = elim c.if-lt.branch [
       record {
         ticks = omega arith;
         reached = omega arith;
+        from = omega arith;
         before = rw stays c.loop-i.invariant.before;
         here = rw stays (IsNotBelowAt-next _ _ _ _ _ c.loop-i.invariant.here reached c.key_at.ensures not_below);
       }

@@ -6,6 +6,7 @@ abbrev pub invariant-loop-i : goal.invariant-loop-i
 invariant-loop-i g l = record {
   ticks : l.steps.count + l.start ≡ l.initial.steps.count + l.i;
   reached : l.place ≤ l.i;
+  from : l.start ≤ l.place;
   before : AllBelow g.T.Key.Ord.cmp l.key l.place (map g.T.Keyed.key_of l.slots);
   here : l.place < l.i → IsNotBelowAt g.T.Key.Ord.cmp l.key l.place (map g.T.Keyed.key_of l.slots);
 }

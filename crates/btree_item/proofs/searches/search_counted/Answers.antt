@@ -1,8 +1,16 @@
-use Rattle.std.proofs.Common.{sym, ◌∙◌, arith, rules}
-use Rattle.btree_item.proofs.KeyLemmas.{key_place-here, key_place-between, key_place-end}
+use Rattle.std.proofs.Common.{◌≡◌, ◌+◌, ◌<◌, ◌≤◌, ℕ, nat_lt, if◌then◌else◌, sym, ◌∙◌, arith, rules}
+use Rattle.std.proofs.lemmas.Bool.{le-ltb, lt-ltb}
+use Rattle.btree_item.proofs.KeyLemmas.{count_below-first, key_place-here, key_place-between, key_place-end}
 use Rattle.std.proofs.lemmas.List.{length-map}
 use Rattle.btree_item.proofs.searches.search_counted.Goals as goal
 use Rattle.std.proofs.lemmas.Grind.{common_steps}
+
+-- past the last key there is no comparison for equality, and else there is one
+past : (old new n len place : ℕ) → new ≡ old + n → len ≤ place → new ≡ old + (n + (if nat_lt place len then 1 else 0))
+past old new n len place e end = rw (le-ltb place len end) (omega arith)
+
+within : (old mid new n len place : ℕ) → mid ≡ old + n → new ≡ mid + 1 → place < len → new ≡ old + (n + (if nat_lt place len then 1 else 0))
+within old mid new n len place e tick low = rw (lt-ltb place len low) (omega arith)
 
 pub lower_bound-place-requires : goal.lower_bound-place-requires
 lower_bound-place-requires g c = search rules steps 200000
@@ -60,3 +68,21 @@ returns-else-eq-clause-fits g c = search rules steps 200000
 
 pub returns-else-eq-clause-ticks : goal.returns-else-eq-clause-ticks
 returns-else-eq-clause-ticks g c = λ few. let left = c.lower_bound-place.ensures.ticks few in omega arith
+
+pub returns-then-place-len-clause-counted : goal.returns-then-place-len-clause-counted
+returns-then-place-len-clause-counted g c =
+    let first = c.lower_bound-place.ensures.place in
+    let smaller = count_below-first g.met.T.Key.Ord.total _ _ _ c.requires first in
+    rw smaller (past _ _ _ _ _ c.lower_bound-place.ensures.counted (omega arith))
+
+pub returns-then-eq-clause-counted : goal.returns-then-eq-clause-counted
+returns-then-eq-clause-counted g c =
+    let first = c.lower_bound-place.ensures.place in
+    let smaller = count_below-first g.met.T.Key.Ord.total _ _ _ c.requires first in
+    rw smaller (within _ _ _ _ _ _ c.lower_bound-place.ensures.counted c.tick.ensures (omega arith))
+
+pub returns-else-eq-clause-counted : goal.returns-else-eq-clause-counted
+returns-else-eq-clause-counted g c =
+    let first = c.lower_bound-place.ensures.place in
+    let smaller = count_below-first g.met.T.Key.Ord.total _ _ _ c.requires first in
+    rw smaller (within _ _ _ _ _ _ c.lower_bound-place.ensures.counted c.tick.ensures (omega arith))
