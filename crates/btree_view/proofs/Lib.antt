@@ -1,4 +1,3 @@
 pub mod Cuts
 pub mod RemovalLemmas
 pub mod CheckLemmas
-pub mod EndLemmas
