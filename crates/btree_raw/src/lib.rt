@@ -4,6 +4,7 @@
 mod borrow;
 mod claims;
 mod count;
+mod insertion;
 mod nodes;
 mod overflow;
 mod raw;
