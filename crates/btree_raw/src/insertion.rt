@@ -14,8 +14,8 @@ use btree_item::{Address, Cause, Item, Offset, Refused};
 use btree_node::Node;
 use btree_nodes::NodesMut;
 
-// A refused insertion of an item.
-fn refused<K, V>(cause: Cause, item: Item<K, V>) -> Refused<K, V>
+/// Returns the error of a refused insertion: the cause, and the key and value of the item.
+pub fn refused<K, V>(cause: Cause, item: Item<K, V>) -> Refused<K, V>
     ensures { result ≡ record { cause = cause; key = item.0; value = item.1 } }
 {
     let (key, value) = item.into_pair();
