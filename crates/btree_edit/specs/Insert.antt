@@ -1,10 +1,10 @@
 -- What an insertion leaves of a tree, and what a refused one leaves.
 -- Read `IsInserted` first, with its condition `IsGapFor`: an insertion of a pair at a gap, cited by `insert_at_gap`.
 -- The number of new nodes is exactly `nodes_needed`, and they are within the strain (`IsWithinStrain`). `IsRefused`
--- (`btree_raw`) is the other outcome. Then `InsertsByKey`, cited by `insert` of tree and map: for an absent key, exactly the needed
--- nodes were allocated, at most one more than the tree had levels; for a key that is there, `ExchangesValueAt` (its
--- value is replaced, and every address stays). `IsRefusedAtGap` is its refusal: only at the greatest length, or if the
--- store may refuse one of the needed nodes.
+-- (`btree_raw`) is the other outcome. Then `InsertsByKey`, cited by `insert` of tree and map: for an absent key, exactly
+-- the needed nodes were allocated, at most one more than the tree had levels; for a key that is there,
+-- `ExchangesValueAt` (its value is replaced, and every address stays). `IsRefusedAtGap` is its refusal: only at the
+-- greatest length, or if the store may refuse one of the needed nodes.
 use Rattle.std.specs.Prelude.{◌≡◌, ℕ, ◌+◌, ◌≤◌, Some, None, IsSome}
 use Rattle.std.specs.FinMap as map
 use Rattle.std.specs.List.{insert}
