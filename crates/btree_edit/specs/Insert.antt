@@ -1,11 +1,11 @@
 -- What an insertion leaves of a tree, and what a refused one leaves.
 -- Read `IsInserted` first, with its condition `IsGapFor`: an insertion of a pair at a gap, cited by `insert_at_gap`.
--- The number of new nodes is exactly `nodes_needed`, and they are within the strain (`IsWithinStrain`). `IsRefused` is
--- the other outcome. Then `InsertsByKey`, cited by `insert` of tree and map: for an absent key, exactly the needed
--- nodes were allocated, at most one more than the tree had levels; for a key that is there, `ExchangesValueAt` (its
--- value is replaced, and every address stays). `IsRefusedAtGap` is its refusal: only at the greatest length, or if the
--- store may refuse one of the needed nodes.
-use Rattle.std.specs.Prelude.{◌≡◌, ℕ, ◌+◌, ◌-◌, ◌^◌, ◌<◌, ◌≤◌, Some, None, IsSome}
+-- The number of new nodes is exactly `nodes_needed`, and they are within the strain (`IsWithinStrain`). `IsRefused`
+-- (`btree_raw`) is the other outcome. Then `InsertsByKey`, cited by `insert` of tree and map: for an absent key, exactly
+-- the needed nodes were allocated, at most one more than the tree had levels; for a key that is there,
+-- `ExchangesValueAt` (its value is replaced, and every address stays). `IsRefusedAtGap` is its refusal: only at the
+-- greatest length, or if the store may refuse one of the needed nodes.
+use Rattle.std.specs.Prelude.{◌≡◌, ℕ, ◌+◌, ◌≤◌, Some, None, IsSome}
 use Rattle.std.specs.FinMap as map
 use Rattle.std.specs.List.{insert}
 use Rattle.std.specs.declared.cmp.Ordering.{Ordering}
@@ -13,11 +13,9 @@ use Rattle.btree_store.specs.Content.{Content}
 use Rattle.btree_item.specs.Pairs.{KeyFits, found}
 use Rattle.btree_item.specs.declared.address.Address.{Address}
 use Rattle.btree_item.specs.declared.refused.Cause.{Cause}
-use Rattle.btree_item.specs.declared.refused.Cause.TheVariants.{Store, Count}
 use Rattle.btree_node.specs.declared.node.Node.{Node}
 use Rattle.btree_shape.specs.TreeState.{TreeState, HasLevels, HasStrain, IsBTree, IsLeafAddressIn, IsPlaceIn, item_of, nodes_needed, pairs_of}
-use Rattle.btree_raw.specs.Claimed.{EMPTY, MayRefuseOneOf}
-use Rattle.btree_raw.specs.Raw.{Refuses}
+use Rattle.btree_raw.specs.Insertion.{IsRefused}
 use Rattle.btree_find.specs.Answers.{IsFoundAt, IsGapAt}
 use Rattle.btree_edit.specs.Exchange.{IsValueExchanged}
 
@@ -48,14 +46,6 @@ module _ {K V : Type 0} (cmp : K → K → Ordering) where
     pub nodes : map.len new.nodes ≡ map.len old.nodes + nodes_needed old a.id
     pub strain : IsWithinStrain old new
     pub uncounted : new.refusals ≡ old.refusals
-
--- an insertion at a leaf was refused, and nothing else has changed. With the cause `Store`: the store refused a node
--- and counted the refusal; it may refuse one of the needed nodes, and one more pair can be counted. With the cause
--- `Count`: there are as many pairs as can be counted
-abbrev pub IsRefused : {K V : Type 0} → (Content (Node K V) → Type 0) → (leaf : ℕ) → (old new : TreeState K V) → Cause → Type 0
-IsRefused MayRefuse leaf old new Store =
-    Refuses old new × MayRefuseOneOf EMPTY MayRefuse old.nodes (nodes_needed old leaf) × (old.len < 2 ^ 64 - 1)
-IsRefused MayRefuse leaf old new Count = (new ≡ old) × (old.len ≡ 2 ^ 64 - 1)
 
 module _ {K V : Type 0} (cmp : K → K → Ordering) (k : K) (old new : TreeState K V) where
   -- the item with the key has another value, and nothing else has changed: the stored key stays, and so does every

@@ -10,7 +10,8 @@ use Rattle.btree_item.specs.declared.refused.Cause.{Cause}
 use Rattle.btree_node.specs.declared.node.Node.{Node}
 use Rattle.btree_shape.specs.TreeState.{TreeState, HasLevels, IsValidIn, pairs_of}
 use Rattle.btree_find.specs.Navigation.{HasPlace, IsLeafAddressFor}
-use Rattle.btree_edit.specs.Insert.{IsInserted, IsRefused}
+use Rattle.btree_raw.specs.Insertion.{IsRefused}
+use Rattle.btree_edit.specs.Insert.{IsInserted}
 
 module _ {K V : Type 0} (old new : TreeState K V) (a : Address) where
   -- the pair was inserted at the place of address a, by way of the leaf address there, and is at address b; to remove

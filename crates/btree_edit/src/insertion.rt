@@ -3,7 +3,8 @@ ghost use Rattle.std.specs.Prelude.{◌≡◌, ◌≢◌, ◌<◌, ◌≤◌, No
 ghost use Rattle.std.specs.Prelude.{OnOk, OnErr};
 ghost use Rattle.btree_item.specs.Pairs.{found, found_value, inserted};
 ghost use Rattle.btree_shape.specs.TreeState.{IsBTree, nodes_needed, pairs_of};
-ghost use Rattle.btree_edit.specs.Insert.{IsGapFor, IsInserted, IsRefused, IsRefusedAtGap, InsertsByKey};
+ghost use Rattle.btree_raw.specs.Insertion.{IsRefused};
+ghost use Rattle.btree_edit.specs.Insert.{IsGapFor, IsInserted, IsRefusedAtGap, InsertsByKey};
 
 use crate::values::exchange;
 use btree_find::address_of;
@@ -11,15 +12,8 @@ use btree_item::{Address, Cause, Item, MAX_CLAIMS, Offset, Refused};
 use btree_node::Node;
 use btree_nodes::NodesMut;
 use btree_raw::{
-    ClaimedIds, RawBTree, add_item, add_item_in_room, claim, claim_one, need, put, split_upward,
+    ClaimedIds, RawBTree, add_item, add_item_in_room, claim, claim_one, need, put, refused, split_upward,
 };
-
-fn refused<K, V>(cause: Cause, item: Item<K, V>) -> Refused<K, V>
-    ensures { result ≡ record { cause = cause; key = item.0; value = item.1 } }
-{
-    let (key, value) = item.into_pair();
-    Refused { cause, key, value }
-}
 
 // Inserts the first pair into an empty tree.
 fn insert_first<K: Ord + Drop, V: Drop, C: NodesMut<K, V>>(

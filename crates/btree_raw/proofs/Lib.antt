@@ -1,6 +1,7 @@
 pub mod ParentLemmas
 pub mod ClaimLemmas
 pub mod UpwardLemmas
+pub mod AlikeLemmas
 pub mod CountLemmas
 pub mod OverflowLemmas
 pub mod BorrowLemmas
@@ -17,3 +18,5 @@ pub mod RefuseLemmas
 pub mod LevelLemmas
 pub mod RawLemmas
 pub mod RebalanceLemmas
+pub mod PutLemmas
+pub mod OnlyLemmas

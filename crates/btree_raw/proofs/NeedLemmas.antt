@@ -138,6 +138,8 @@ module _ {K V : Type 0} (cmp : K → K → Ordering) (s : TreeState K V) (start 
       let d = levels-above-few (K × V) sight r.0 listed n.focus.height n.focus.path n.focus.subtree n.focus.whole n.sized (omega arith) in
       let c = upward-start (K × V) sight r.0 listed (map.len s.nodes) n.focus.height n.focus.path n.focus.subtree w (omega arith) in
       record {
+        tree = sight;
+        alike = λ n. refl;
         root = r.0;
         xs = listed;
         upward = subst (λ i. IsCountingUpward (K × V) sight r.0 listed (map.len s.nodes) i 0 (split_need sight (map.len s.nodes) i)) n.focus.here c;

@@ -20,7 +20,7 @@ use Rattle.btree_shape.specs.Represents.{Represents, numbers_under}
 use Rattle.btree_shape.specs.Step.{Claims}
 use Rattle.btree_shape.specs.Strain.{IsStrain, strain_under}
 use Rattle.btree_shape.specs.Focus.Positions.{IsExpected}
-use Rattle.btree_shape.specs.TreeState.{TreeState, HasLevels, HasLevelsUnder, IsOffByOneAt, IsUsed, IsValidIn, node_map, nodes_for_splits, pairs_of, views}
+use Rattle.btree_shape.specs.TreeState.{TreeState, HasLevels, HasLevelsUnder, KeepsRest, IsOffByOneAt, IsUsed, IsValidIn, node_map, nodes_for_splits, pairs_of, views}
 use Rattle.btree_shape.specs.WellFormed.{IsNearlySized, IsWellFormed, times_used}
 use Rattle.btree_shape.proofs.Underflow.Order.{underflow-levels}
 use Rattle.btree_shape.proofs.Trees.Numbers.{listed-append}
@@ -287,7 +287,7 @@ module _ {K V : Type 0} (cmp : K → K → Ordering) (laws : IsTotalOrder cmp) (
       pub counting : IsCountingSplits node_at most id id 0
       counting =
           let s = off-need cmp laws node_at o.root id xs o.off over.node over.here most high in
-          record { root = o.root; xs = xs; upward = s; few = split_need-few cmp node_at o.root id most id (split_need node_at most id) xs o.off s }
+          record { tree = node_at; alike = λ n. refl; root = o.root; xs = xs; upward = s; few = split_need-few cmp node_at o.root id most id (split_need node_at most id) xs o.off s }
 
       pub refusal : (MayRefuse : Content (Node K V) → Type 0) (new : TreeState K V) (count : ℕ) → count ≡ nodes_for_splits old id → Refuses old new
           → MayRefuseOneOf EMPTY MayRefuse old.nodes count → IsRefusal old new id MayRefuse Store
@@ -298,15 +298,18 @@ module _ {K V : Type 0} (cmp : K → K → Ordering) (laws : IsTotalOrder cmp) (
         may = subst (λ n. MayRefuseOneOf EMPTY MayRefuse old.nodes n) count_is may;
       }
 
-      module _ (ids : List ℕ) (mid : TreeState K V) (claimed : AreClaimed old mid ids) (count : length ids ≡ nodes_for_splits old id) where
-        claims : Claims node_at (node_map mid) ids
-        claims = subst (λ n. Claims node_at (views n) ids) (sym claimed.claimed.after) (claims-focus old.nodes ids claimed.claimed.claims)
+      -- what claims in the tree leave
+      pub are-claims : (ids : List ℕ) (mid : TreeState K V) → AreClaimed old mid ids → Claims node_at (node_map mid) ids
+      are-claims ids mid claimed =
+          subst (λ n. Claims node_at (views n) ids) (sym claimed.claimed.after) (claims-focus old.nodes ids claimed.claimed.claims)
 
+      module _ (ids : List ℕ) (mid : TreeState K V) (claims : Claims node_at (node_map mid) ids) (rest : KeepsRest old mid)
+          (count : length ids ≡ nodes_for_splits old id) where
         grows : (expected : Option (K × V)) (place : ℕ) → IsAddressed (K × V) node_at o.root xs expected a place → MayOverflowAt (K × V) (node_map mid) o.root xs id ids expected a place 0 strain
         grows expected place d = off-overflow cmp laws node_at o.root id xs o.off over.node over.here over.over most high (node_map mid) ids claims count expected a place d
 
         same-top : mid.root ≡ Some o.root
-        same-top = same-root claimed.rest ∙ o.at_root
+        same-top = same-root rest ∙ o.at_root
 
         pub splitting : IsSplitting (node_map mid) mid.root id ids a
         splitting = record {
@@ -341,7 +344,7 @@ module _ {K V : Type 0} (cmp : K → K → Ordering) (laws : IsTotalOrder cmp) (
 
           pub is-split : (IsSome a.offset → IsSome b.offset) → IsRebalanced old new id cmp a b
           is-split back =
-              rebalanced new b (s.len ∙ same-len claimed.rest) (s.uncounted ∙ same-refusals claimed.rest) back (0 + length ids) strain split-ends
+              rebalanced new b (s.len ∙ same-len rest) (s.uncounted ∙ same-refusals rest) back (0 + length ids) strain split-ends
               (λ full. record { more = (let m = more in omega arith); within_strain = (let p = split-ends.within_strain in omega arith) })
               (λ room. let t = same-node over.node room.node over.here room.here in let z = ap size_of t in let y = ap most_of t in let f = room.room in let g = over.over in absurd (omega arith))
               (λ room t same. let q = same-node over.node room.node over.here room.here in let z = ap size_of q in let y = ap most_of q in let f = room.room in let g = over.over in absurd (omega arith))

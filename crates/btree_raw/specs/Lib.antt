@@ -4,3 +4,4 @@ pub mod NodeSteps
 pub mod Underflow
 pub mod Raw
 pub mod Rebalance
+pub mod Insertion

@@ -6,10 +6,10 @@
 -- `split_upward` requires `IsSplitting` and ensures `SplitsUpward`, so what held of the tree and of the followed
 -- address at the start (`MayOverflowAt`) holds at the end (`IsRepaired`). `IsCountingSplits` is what `split_need`
 -- requires, and the state of its loop. The words of `Rebalance.antt` cite `Overflows` too.
-use Rattle.std.specs.Prelude.{◌≡◌, ◌≢◌, ℕ, ◌+◌, ◌<◌, ◌≤◌, List, length, slice_get, Option, Some, option_map, IsTrue}
+use Rattle.std.specs.Prelude.{◌≡◌, ◌≢◌, ℕ, ◌+◌, ◌<◌, ◌≤◌, List, length, slice_get, Option, Some, option_map, IsTrue, Bool, nat_lt}
 use Rattle.btree_item.specs.declared.TheConstants.{MAX_CLAIMS}
 use Rattle.btree_item.specs.declared.address.Address.{Address}
-use Rattle.btree_view.specs.View.{View, NodeMap, size_of, most_of, children_in, children_of}
+use Rattle.btree_view.specs.View.{View, NodeMap, size_of, most_of, children_in, children_of, parent_of}
 use Rattle.btree_view.specs.Edits.{with_parent, with_item, is_internal, HasChildFor, IsOverflowing, IsSplit}
 use Rattle.btree_shape.specs.Focus.Overflow.{MayOverflowAt, IsRepaired}
 use Rattle.btree_shape.specs.Focus.Need.{IsCountingUpward}
@@ -119,11 +119,22 @@ pub record SplitsUpward {K V : Type 0} (old new : TreeState K V) (id : ℕ) (spa
   pub len : new.len ≡ old.len
   pub uncounted : new.refusals ≡ old.refusals
 
+module _ {A : Type 0} where
+  -- what decides how far splits go upward from a node: its parent, and whether it has room for an item
+  abbrev pub split_key : View A → Option ℕ × Bool
+  split_key node = (parent_of node, nat_lt (size_of node) (most_of node))
+
+  -- the same numbers are used, and splits go equally far upward from each node
+  abbrev pub AreSplitAlike : (node_at other : NodeMap A) → Type 0
+  AreSplitAlike node_at other = (n : ℕ) → option_map split_key (other n) ≡ option_map split_key (node_at n)
+
 module _ {A : Type 0} (node_at : NodeMap A) where
   -- the count of the nodes that splits from `start` need has reached node `id`; it comes to at most 33, on at most
-  -- `most` levels
+  -- `most` levels. The nodes need not form a tree themselves: it is enough that those of `tree` are split alike
   pub record IsCountingSplits (most start id counted : ℕ) : Type 0 where
+    pub tree : NodeMap A
+    pub alike : AreSplitAlike node_at tree
     pub root : ℕ
     pub xs : List A
-    pub upward : IsCountingUpward A node_at root xs most id counted (split_need node_at most start)
-    pub few : split_need node_at most start ≤ MAX_CLAIMS
+    pub upward : IsCountingUpward A tree root xs most id counted (split_need tree most start)
+    pub few : split_need tree most start ≤ MAX_CLAIMS

@@ -4,6 +4,7 @@
 mod borrow;
 mod claims;
 mod count;
+mod insertion;
 mod nodes;
 mod overflow;
 mod raw;
@@ -13,6 +14,7 @@ mod underflow;
 
 pub use claims::{ClaimedIds, claim, claim_one};
 pub use count::{need, split_need};
+pub use insertion::refused;
 pub use nodes::{add_item, add_item_in_room, put};
 pub use overflow::split_upward;
 pub use raw::RawBTree;
