@@ -19,3 +19,5 @@ mod refused;
 mod trees;
 #[cfg(test)]
 mod under;
+#[cfg(test)]
+mod validate;

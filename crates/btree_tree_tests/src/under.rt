@@ -79,6 +79,9 @@ fn looks_up_under_each_node(rt: HostRuntime) {
         let expected = if *found { Ok(addr) } else { Err(addr) };
         assert!(rt; tree.address_in(id, key) == expected, "{key}");
         let value = tree.get_in(key, id).copied();
-        assert_eq!(rt; (value, tree.key_fits_in(id, key)), (if *found { Some(10 * *key) } else { None }, *fits));
+        assert_eq!(rt;
+            (value, tree.key_fits_in(id, key)),
+            (if *found { Some(10 * *key) } else { None }, *fits)
+        );
     }
 }
