@@ -1,5 +1,6 @@
 //! A raw tree: a tree of any content.
-ghost use Rattle.std.specs.Prelude.{◌≡◌, ◌↔◌, ◌+◌, ◌<◌, None, IsTrue, IsSome, Some, option_copied, IfOk, OnOk, IfErr, OnErr};
+ghost use Rattle.std.specs.Prelude.{◌≡◌, ◌↔◌, ◌+◌, ◌<◌, Err, None, IsTrue, IsSome, Some, option_copied, IfOk, OnOk, IfErr, OnErr};
+ghost use Rattle.btree_item.specs.declared.fault.Fault.TheVariants.{NoNode};
 ghost use Rattle.std.specs.FinMap as map;
 ghost use Rattle.std.specs.Borrow.{Lends, sem};
 ghost use Rattle.std.specs.Mem.{FitsInMemory};
@@ -239,7 +240,9 @@ impl<K: Ord, V, C: NodesMut<K, V>> RawBTree<K, V, C> {
         parent: Option<usize>,
         min: Option<&K>,
         max: Option<&K>,
-    ) -> Result<usize, Fault> {
+    ) -> Result<usize, Fault>
+        ensures unused { map.get self.now.nodes id ≡ None → result ≡ Err NoNode }
+    {
         self.tell_fits();
         validate_node(&self.store, id, parent, min, max)
     }

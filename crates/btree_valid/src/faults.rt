@@ -1,5 +1,8 @@
 //! Checks the nodes of a store of any content, and finds the first fault.
+ghost use Rattle.std.specs.Prelude.{◌≡◌, None, Err};
+ghost use Rattle.std.specs.FinMap as map;
 ghost use Rattle.std.specs.Mem.{FitsInMemory};
+ghost use Rattle.btree_item.specs.declared.fault.Fault.TheVariants.{NoNode};
 ghost use Rattle.btree_node.specs.contracts.node.Node.{the_row as node_row};
 
 use btree_item::{Fault, MAX_LEVELS};
@@ -71,6 +74,7 @@ fn check_under<'a, K: Ord + 'a, V: 'a, C: Nodes<K, V>>(
     met: Met,
 ) -> Result<Met, Fault>
     requires { FitsInMemory (node_row K.row V.row) }
+    ensures unused { map.get (C.content nodes.now) spot.entry.id ≡ None → result ≡ Err NoNode }
 {
     let Spot {
         level,
@@ -166,6 +170,7 @@ pub fn validate_node<K: Ord, V, C: Nodes<K, V>>(
     max: Option<&K>,
 ) -> Result<usize, Fault>
     requires { FitsInMemory (node_row K.row V.row) }
+    ensures unused { map.get (C.content nodes.now) id ≡ None → result ≡ Err NoNode }
 {
     let start = Met {
         leaf_level: None,
