@@ -9,7 +9,8 @@ use btree_item::{Fault, MAX_LEVELS};
 use btree_node::Node;
 use btree_nodes::Nodes;
 
-// A node to check: its number, how many levels below the start of the walk it is, the number of the node above it, and the nearest separators on both sides.
+// A node to check: its number, how many levels it is below the start of the walk, the number of the node above it, and the nearest
+// separators on both sides.
 struct Spot<'a, K> {
     level: usize,
     parent: Option<usize>,
@@ -135,7 +136,8 @@ fn check_root<K: Ord, V, C: Nodes<K, V>>(
 
 /// Checks that the nodes are exactly one well formed tree under the root, with this length, and returns the first fault in preorder.
 ///
-/// The root is on level 1, and a node on level 33 is `TooDeep`; nothing below it is read. It copies nothing and uses no memory but the stack.
+/// The root is on level 1, and a node on level 33 is `TooDeep`; nothing below it is read. It copies nothing and uses no memory but the
+/// stack.
 pub fn validate<K: Ord, V, C: Nodes<K, V>>(
     nodes: &C,
     root: Option<usize>,
