@@ -181,7 +181,7 @@ fn put_over(rt: &impl Abort, raw: &mut Raw, first: usize, leaf: usize, key: u64)
 
 #[test]
 fn a_tree_has_at_most_32_levels(rt: HostRuntime) {
-    for (levels, fault) in [(40u64, Fault::TooDeep)] {
+    for (levels, fault) in [(32u64, Fault::WrongParent), (33, Fault::TooDeep), (40, Fault::TooDeep)] {
         let mut raw = Raw::new(rt.alloc());
         let leaf = put(&rt, &mut raw, leaf_of(&rt, &[1, 0, 2]));
         let mut top = leaf;
