@@ -1,5 +1,6 @@
 //! A raw tree: a tree of any content.
-ghost use Rattle.std.specs.Prelude.{◌≡◌, ◌↔◌, ◌+◌, ◌<◌, None, IsTrue, IsSome, Some, option_copied, IfOk, OnOk, IfErr, OnErr};
+ghost use Rattle.std.specs.Prelude.{◌≡◌, ◌↔◌, ◌+◌, ◌<◌, Err, None, IsTrue, IsSome, Some, option_copied, IfOk, OnOk, IfErr, OnErr};
+ghost use Rattle.btree_item.specs.declared.fault.Fault.TheVariants.{NoNode};
 ghost use Rattle.std.specs.FinMap as map;
 ghost use Rattle.std.specs.Borrow.{Lends, sem};
 ghost use Rattle.std.specs.Mem.{FitsInMemory};
@@ -8,10 +9,10 @@ ghost use Rattle.btree_node.specs.contracts.node.Node.{the_row as node_row};
 ghost use Rattle.btree_raw.specs.Raw.{IsWithinNode};
 
 use crate::nodes::reparent_children;
-use btree_item::{Address, Item};
+use btree_item::{Address, Fault, Item};
 use btree_node::Node;
 use btree_nodes::{ClearNodes, Nodes, NodesMut};
-use btree_valid::is_off_by_one;
+use btree_valid::{is_off_by_one, validate, validate_node};
 use std::marker::{Model, PhantomData};
 
 /// Nodes in a store, the number of a root, and a length. They need not form a tree: it may be in the middle of a change, or come from
@@ -218,6 +219,32 @@ impl<K: Ord, V, C: NodesMut<K, V>> RawBTree<K, V, C> {
             Some(root) => is_off_by_one(&self.store, root, id),
             None => false,
         }
+    }
+
+    /// Checks that the nodes are exactly one well formed tree under the root, with this length, and returns the first fault in preorder.
+    ///
+    /// The root is on level 1, and a node on level 33 is `TooDeep`; nothing below it is read. It copies nothing and uses no memory but the
+    /// stack.
+    pub fn validate(&self) -> Result<(), Fault> {
+        self.tell_fits();
+        validate(&self.store, self.root, self.len)
+    }
+
+    /// Checks a node and all below it against a parent and the nearest separators on both sides, and returns how many levels are below the
+    /// node, or the first fault in preorder. A node with neither separator is judged as the root, and a number that is not used is `NoNode`.
+    ///
+    /// The node is on level 1, and one on level 33 is `TooDeep`. It copies nothing and uses no memory but the stack.
+    pub fn validate_node(
+        &self,
+        id: usize,
+        parent: Option<usize>,
+        min: Option<&K>,
+        max: Option<&K>,
+    ) -> Result<usize, Fault>
+        ensures unused { map.get self.now.nodes id ≡ None → result ≡ Err NoNode }
+    {
+        self.tell_fits();
+        validate_node(&self.store, id, parent, min, max)
     }
 }
 

@@ -2,5 +2,6 @@ pub mod OrderLemmas
 pub mod PassLemmas
 pub mod EnterLemmas
 pub mod NodeLemmas
+pub mod ChildLemmas
 pub mod OnceLemmas
 pub mod OffByOneLemmas

@@ -1,6 +1,8 @@
 //! Decides whether nodes of any content form a tree, by walks that allocate no memory.
 #![tactic(auto, using(btree_store::specs::ContentLaws::stores))]
 
+mod faults;
 mod off_by_one;
 
+pub use faults::{validate, validate_node};
 pub use off_by_one::is_off_by_one;
