@@ -12,7 +12,8 @@ use btree_item::{Address, Cause, Item, MAX_CLAIMS, Offset, Refused};
 use btree_node::Node;
 use btree_nodes::NodesMut;
 use btree_raw::{
-    ClaimedIds, RawBTree, add_item, add_item_in_room, claim, claim_one, need, put, refused, split_upward,
+    ClaimedIds, RawBTree, add_item, add_item_in_room, claim, claim_one, need, put, refused,
+    split_upward,
 };
 
 // Inserts the first pair into an empty tree.
