@@ -1,20 +1,32 @@
 //! Bookings of a room, by the time at which each begins. Those that overlap a given time are found by navigation from one address.
-ghost use Rattle.std.specs.Prelude.{◌≡◌, Some};
+ghost use Rattle.std.specs.Prelude.{◌≡◌, IfOk};
 ghost use Rattle.std.specs.List.{count_by};
 ghost use Rattle.btree_shape.specs.TreeState.{pairs_of};
 ghost use Rattle.btree_examples.specs.Bookings.{AreApart, IsFirstCandidate, overlaps};
 
 use btree_slab::BTreeMap;
-use btree_slab::generic::map::BTreeExt;
+use btree_slab::generic::map::{BTreeExt, Refused};
 use btree_slab::generic::node::Address;
+use std::alloc::Global;
 
-// Returns the address of the last booking that begins before a time or at it, or of the first one if there is none.
+/// Returns three bookings, which do not overlap one another: from 9 to 11, from 11 to 12, and from 14 to 15.
+pub fn three_bookings(alloc: Global) -> Result<BTreeMap<u32, u32>, Refused<u32, u32>>
+    ensures { IfOk result (λ bookings. AreApart (pairs_of bookings)) }
+{
+    let mut bookings: BTreeMap<u32, u32> = BTreeMap::new(alloc);
+    bookings.insert(14, 15)?;
+    bookings.insert(9, 11)?;
+    bookings.insert(11, 12)?;
+    Ok(bookings)
+}
+
+// Returns the address of the last booking that begins at a time or before it, or of the first one if there is none.
 fn first_candidate(bookings: &BTreeMap<u32, u32>, start: u32) -> Option<Address>
     requires { AreApart (pairs_of bookings.now) }
     ensures { IsFirstCandidate bookings.now start result }
 {
     match bookings.address_of(&start) {
-        Ok(addr) => Some(addr),
+        Ok(addr) => bookings.normalize(addr),
         Err(gap) => match bookings.previous_item_address(Address::new(gap.id, gap.offset)) {
             Some(previous) => Some(previous),
             None => bookings.normalize(gap),

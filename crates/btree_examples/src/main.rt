@@ -1,4 +1,4 @@
-//! A map in use: a stock of parts, by part number.
+//! Maps in use: a stock of parts, by part number, and bookings of a room (`bookings.rt`).
 #![tactic(auto)]
 
 ghost use Rattle.std.specs.Prelude.{◌≡◌, ◌+◌, OnOk, OnErr, unwrap_or};
@@ -6,6 +6,9 @@ ghost use Rattle.std.specs.Ordering.{nat_cmp};
 ghost use Rattle.btree_item.specs.Pairs.{found_value, inserted};
 ghost use Rattle.btree_shape.specs.TreeState.{IsValidIn, pairs_of};
 
+mod bookings;
+
+use crate::bookings::{count_overlaps, three_bookings};
 use btree_slab::BTreeMap;
 use btree_slab::generic::map::{BTreeExt, BTreeExtMut, Refused};
 use btree_slab::generic::node::Address;
@@ -68,6 +71,13 @@ fn main(rt: HostRuntime) -> io::Result<()> {
     rt.println(format_args!("counted: {}", counted.unwrap_or(0)))?;
     for (part, count) in stock.iter() {
         rt.println(format_args!("{part} {count}"))?;
+    }
+    let Ok(bookings) = three_bookings(rt.alloc()) else {
+        return Err(AllocError.into());
+    };
+    for (start, end) in [(10, 14), (12, 14)] {
+        let count = count_overlaps(&bookings, start, end);
+        rt.println(format_args!("bookings from {start} to {end}: {count}"))?;
     }
     Ok(())
 }

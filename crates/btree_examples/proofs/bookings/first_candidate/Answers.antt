@@ -1,0 +1,12 @@
+use Rattle.std.proofs.Common.{Some, subst}
+use Rattle.btree_find.specs.Navigation.{IsPrevious}
+use Rattle.btree_examples.proofs.BookingLemmas.{candidate-before, candidate-first, candidate-found}
+use Rattle.btree_examples.proofs.bookings.first_candidate.Goals as goal
+
+pub returns-in-Ok : goal.returns-in-Ok
+returns-in-Ok c = candidate-found c.args.bookings.now c.args.start c.requires c.in-Ok.addr c.normalize.result c.in-Ok.ensures c.normalize.ensures
+
+pub returns-in-Some : goal.returns-in-Some
+returns-in-Some c =
+    candidate-before c.args.bookings.now c.args.start c.requires c.in-Err.gap c.in-Some.previous c.in-Err.ensures
+    (subst (λ a. IsPrevious c.args.bookings.now a (Some c.in-Some.previous)) c.new.ensures c.in-Some.ensures)
