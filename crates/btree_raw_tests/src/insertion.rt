@@ -15,6 +15,7 @@ fn check_first<C: NodesMut<u64, u64> + Drop>(
     origin: C::Origin,
 ) -> Result<(), Fail> {
     let mut raw: RawBTree<u64, u64, C> = RawBTree::new(origin);
+    assert!(rt; raw.is_valid(Address::nowhere()) && raw.node_count() == 0);
     let Err(refused) = raw.insert_exactly_at(Address::nowhere(), Item::new(3, 5), None) else {
         return Err(Fail::from("not refused"));
     };
@@ -37,6 +38,7 @@ fn a_refused_first_item_comes_back(rt: HostRuntime) -> Result<(), Fail> {
 #[test]
 fn the_first_item_takes_one_node(rt: HostRuntime) -> Result<(), Fail> {
     let mut raw: RawBTree<u64, u64, SlabStore<Node<u64, u64>>> = RawBTree::new(rt.alloc());
+    assert!(rt; raw.is_valid(Address::nowhere()) && raw.node_count() == 0);
     let Ok(at) = raw.insert_exactly_at(Address::nowhere(), Item::new(3, 5), None) else {
         return Err(Fail::from("refused"));
     };
