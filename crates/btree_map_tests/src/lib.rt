@@ -4,8 +4,6 @@
 #[cfg(test)]
 mod edits;
 #[cfg(test)]
-mod keys;
-#[cfg(test)]
 mod map;
 #[cfg(test)]
 mod owner;
