@@ -25,12 +25,13 @@ use Rattle.btree_shape.proofs.Removal.FromInternal.{RemovedInner, inner-item, in
 use Rattle.btree_shape.proofs.Trees.Density.{height-low}
 use Rattle.btree_shape.proofs.Trees.Numbers.{less-or, same-node}
 use Rattle.btree_shape.proofs.Trees.States.{is-off, pairs-off}
+use Rattle.btree_raw.specs.LastItem.{TakesLast}
 use Rattle.btree_raw.specs.Rebalance.{HasRoom, IsRebalanced}
 use Rattle.btree_raw.proofs.SingleNodeLemmas.{remade-other}
 use Rattle.btree_find.specs.Navigation.{IsItemAddress, IsItemAt, IsItemBefore, LeadsBefore}
 use Rattle.btree_find.proofs.PlaceLemmas.{in-tree, only, place-there, placed, root-there}
 use Rattle.btree_find.proofs.PreviousLemmas.{before-below}
-use Rattle.btree_edit.specs.Remove.{IsInnerAt, IsRemoved, LeadsBehind, TakesLast}
+use Rattle.btree_edit.specs.Remove.{IsInnerAt, IsRemoved, LeadsBehind}
 use Rattle.btree_edit.proofs.RemoveLemmas.{as-many-used, remove-shorter, removed-by, written-used}
 
 -- the node of a view

@@ -11,3 +11,4 @@ pub mod InnerLemmas
 pub mod RemoveAtLemmas
 pub mod RemoveInnerLemmas
 pub mod RemoveByKeyLemmas
+pub mod ReplaceByKeyLemmas

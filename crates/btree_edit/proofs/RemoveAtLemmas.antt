@@ -9,13 +9,11 @@ use Rattle.std.specs.declared.cmp.Ordering.{Ordering}
 use Rattle.btree_item.specs.declared.address.Address.{Address}
 use Rattle.btree_node.specs.declared.node.Node.{Node}
 use Rattle.btree_node.specs.Node.{view_of}
-use Rattle.btree_store.specs.ContentLaws.{insert-same}
-use Rattle.btree_view.specs.Edits.{IsUnderflowing, is_internal, without_at, without_last}
+use Rattle.btree_view.specs.Edits.{IsUnderflowing, is_internal, without_at}
 use Rattle.btree_view.specs.Removal.{removal_in}
-use Rattle.btree_view.specs.View.{View, leaf, internal, children_of, item_in, items_of, last_child_of, last_item_of, size_of}
-use Rattle.btree_view.proofs.RemovalLemmas.{child-from_removal, item-from_removal, leaf-from_no_child, no_item-from_removal}
+use Rattle.btree_view.specs.View.{View, leaf, internal, children_of, item_in, items_of, size_of}
+use Rattle.btree_view.proofs.RemovalLemmas.{child-from_removal, item-from_removal, no_item-from_removal}
 use Rattle.btree_shape.specs.Focus.Positions.{address_at, address_before}
-use Rattle.btree_shape.specs.Focus.Search.{levels_below}
 use Rattle.btree_shape.specs.Step.{WritesNode}
 use Rattle.btree_shape.specs.TreeState.{TreeState, IsBTree, IsOffByOneAt, IsPlaceIn, IsUsed, IsValidIn, item_of, node_map, pairs_of}
 use Rattle.btree_shape.specs.WellFormed.{IsWellFormed}
@@ -24,12 +22,11 @@ use Rattle.btree_shape.proofs.Trees.Stores.{item-some, writes_node}
 use Rattle.btree_raw.specs.Raw.{with_node}
 use Rattle.btree_raw.specs.Rebalance.{HasRoom, IsRebalanced}
 use Rattle.btree_raw.proofs.RebalanceLemmas.{enough-rebalanced}
-use Rattle.btree_find.specs.Navigation.{EndsInLeaf, LeadsToItem}
+use Rattle.btree_find.specs.Navigation.{LeadsToItem}
 use Rattle.btree_find.proofs.NextLemmas.{child-used, next-below}
-use Rattle.btree_find.proofs.PlaceLemmas.{root-there, some-items}
-use Rattle.btree_find.proofs.PreviousLemmas.{DescendsRight, below-used, right-end, right-next, right-smaller}
+use Rattle.btree_find.proofs.PreviousLemmas.{below-used}
 use Rattle.btree_find.proofs.WalkLemmas.{occupied-below, used-of}
-use Rattle.btree_edit.specs.Remove.{IsInnerAt, IsRemoved, LeadsBehind, TakesLast}
+use Rattle.btree_edit.specs.Remove.{IsInnerAt, IsRemoved, LeadsBehind}
 use Rattle.btree_edit.proofs.InnerLemmas.{node-of}
 use Rattle.btree_edit.proofs.RemoveLemmas.{removed-from-leaf, taken-counted, taken-off, taken-room, taken-valid}
 
@@ -58,13 +55,6 @@ enough-left v is_short e is = elim (less-or (size_of v) 3) [
   | inl low ↦ let q : is_short ≡ true = e.1 low in absurd (cc)
   | inr other ↦ elim other [ inl same ↦ omega arith | inr more ↦ omega arith ]
 ]
-
--- a node written as it was changes nothing
-pub same-state : {K V : Type 0} (s : TreeState K V) (id : ℕ) (node kept : Node K V) → Some node ≡ finite.get s.nodes id → kept ≡ node
-    → with_node s id kept ≡ s
-same-state s id node kept at same =
-    let e : finite.insert s.nodes id kept ≡ s.nodes = insert-same s.nodes id kept (sym at ∙ ap Some (sym same)) in
-    λ i. record s { nodes = e i }
 
 module _ {K V : Type 0} (old : TreeState K V) (a : Address) where
   -- the empty tree has no item
@@ -198,56 +188,3 @@ module _ {K V : Type 0} (cmp : K → K → Ordering) (laws : IsTotalOrder cmp) (
             let to = next-below cmp laws s tree a.id index node at index-low child (sym below) (Some b) leads in
             (to place (subst (λ (c : Address). IsPlaceIn s c place) a-is i)).0
             (occupied-below (node_map s) a.id index (view_of node) (ap (option_map view_of) at) index-low)
-
-  -- the last item under a node, in a tree t that is still the same
-  module _ (t : TreeState K V) (same : t ≡ s) (top id : ℕ) (d : DescendsRight s top id) where
-    pub still-used : IsUsed t id
-    still-used = subst (λ (u : TreeState K V). IsUsed u id) (sym same) d.used
-
-    module _ (node : Node K V) (at : Some node ≡ finite.get t.nodes id) where
-      at-old : finite.get s.nodes id ≡ Some node
-      at-old = sym (subst (λ (u : TreeState K V). Some node ≡ finite.get u.nodes id) same at)
-
-      seen : node_map s id ≡ Some (view_of node)
-      seen = ap (option_map view_of) at-old
-
-      pub some-item : 0 < size_of (view_of node)
-      some-item =
-          let r = root-there cmp laws s tree id (view_of node) seen in
-          some-items cmp laws s tree r.0 r.1 id (view_of node) seen
-
-      module _ (kept : Node K V) where
-        pub takes-last : None ≡ last_child_of (view_of node) → (x : K × V) → Some x ≡ last_item_of (view_of node)
-            → view_of kept ≡ without_last (view_of node) → TakesLast s (with_node t id kept) top x id
-        takes-last none x is taken =
-            let l = leaf-from_no_child (view_of node) none in
-            let some = some-item in
-            let size : size_of (view_of node) ≡ length l.1 = ap size_of l.2 in
-            let more : size_of (view_of node) ≡ suc (length l.1 - 1) = omega arith in
-            subst (λ (u : TreeState K V). TakesLast s (with_node u id kept) top x id) (sym same)
-            (record {
-              parent = l.0;
-              items = l.1;
-              index = length l.1 - 1;
-              here = seen ∙ ap Some l.2;
-              count = omega arith;
-              last = sym (is ∙ ap last_item_of l.2);
-              ends =
-                  subst (λ n. EndsInLeaf s top (id, n)) more
-                  (right-end cmp laws s tree top id d node at-old (size_of (view_of node)) refl none);
-              writes =
-                  subst (λ v. WritesNode (node_map s) (node_map (with_node s id kept)) id v) (taken ∙ ap without_last l.2)
-                  (writes_node s.nodes (finite.insert s.nodes id kept) id kept refl);
-              rest = record { rest = refl };
-            })
-
-        module _ (child : ℕ) (below : Some child ≡ last_child_of (view_of node)) where
-          pub goes-right : kept ≡ node → (with_node t id kept ≡ s) × DescendsRight s top child
-          goes-right unchanged = (
-            same-state t id node kept at unchanged ∙ same,
-            right-next cmp laws s tree top id d node at-old (size_of (view_of node)) refl child below,
-          )
-
-      pub goes-lower : (child : ℕ) → Some child ≡ last_child_of (view_of node)
-          → levels_below (node_map s) (finite.len s.nodes) child < levels_below (node_map s) (finite.len s.nodes) id
-      goes-lower child below = right-smaller cmp laws s tree top id d node at-old (size_of (view_of node)) refl child below

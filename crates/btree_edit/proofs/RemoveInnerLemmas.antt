@@ -13,9 +13,10 @@ use Rattle.btree_view.specs.View.{item_at_offset, items_of, size_of}
 use Rattle.btree_shape.specs.Step.{HasItems, WritesNode}
 use Rattle.btree_shape.specs.TreeState.{TreeState, IsBTree, IsOffByOneAt, IsUsed, IsValidIn, node_map}
 use Rattle.btree_shape.proofs.Trees.Stores.{view-at, writes_node}
+use Rattle.btree_raw.specs.LastItem.{TakesLast}
 use Rattle.btree_raw.specs.Raw.{with_node}
 use Rattle.btree_raw.specs.Rebalance.{HasRoom, IsRebalanced}
-use Rattle.btree_edit.specs.Remove.{IsInnerAt, IsRemoved, LeadsBehind, TakesLast}
+use Rattle.btree_edit.specs.Remove.{IsInnerAt, IsRemoved, LeadsBehind}
 use Rattle.btree_edit.proofs.InnerLemmas.{apart, inner-counted, inner-off, inner-room, inner-valid, node-of, other-items, removed-from-internal}
 
 -- a length that was read

@@ -1,19 +1,18 @@
 -- What a removal leaves of a tree. `IsRemoved` is the main word: with `valid`, `back` and `fits` it has all that
 -- `insert_at` requires to put the pair back, and `restores` says that this gives the old list. A removal frees nodes and
 -- never allocates one. `RemovesByKey` is a removal at the address of a key.
-use Rattle.std.specs.Prelude.{◌≡◌, ℕ, suc, ◌+◌, ◌≤◌, List, length, slice_get, Option, Some, IsSome, IsTrue}
+use Rattle.std.specs.Prelude.{◌≡◌, ℕ, suc, ◌+◌, ◌≤◌, slice_get, Some, IsSome, IsTrue}
 use Rattle.std.specs.FinMap as map
 use Rattle.std.specs.List.{insert, remove}
 use Rattle.std.specs.declared.cmp.Ordering.{Ordering}
 use Rattle.btree_item.specs.Pairs.{before}
 use Rattle.btree_item.specs.declared.address.Address.{Address}
 use Rattle.btree_view.specs.Edits.{is_internal}
-use Rattle.btree_view.specs.View.{View, leaf, children_of, items_of}
-use Rattle.btree_shape.specs.Step.{WritesNode}
-use Rattle.btree_shape.specs.TreeState.{TreeState, HasLevels, HasStrain, IsBTree, IsPlaceIn, IsValidIn, KeepsRest, item_of, node_map, pairs_of}
+use Rattle.btree_view.specs.View.{View, children_of, items_of}
+use Rattle.btree_shape.specs.TreeState.{TreeState, HasLevels, HasStrain, IsBTree, IsPlaceIn, IsValidIn, item_of, node_map, pairs_of}
 use Rattle.btree_find.specs.Answers.{IsFoundAt}
 use Rattle.btree_find.specs.Fits.{FitsAt}
-use Rattle.btree_find.specs.Navigation.{EndsInLeaf, IsItemAt}
+use Rattle.btree_find.specs.Navigation.{IsItemAt}
 
 module _ {K V : Type 0} (old new : TreeState K V) where
   -- nodes were freed, at most as many as the tree had levels; their number and the strain afterwards are together at
@@ -68,15 +67,3 @@ module _ {K V : Type 0} (s : TreeState K V) where
   -- the item after the place of address a is at address b
   abbrev pub LeadsBehind : (a b : Address) → Type 0
   LeadsBehind a b = (place : ℕ) → IsPlaceIn s a place → IsItemAt s (suc place) (Some b)
-
--- the last item x under node `top`, which is in leaf `id`, was removed there; nothing else has changed
-pub record TakesLast {K V : Type 0} (old new : TreeState K V) (top : ℕ) (x : K × V) (id : ℕ) : Type 0 where
-  pub parent : Option ℕ
-  pub items : List (K × V)
-  pub index : ℕ
-  pub here : node_map old id ≡ Some (leaf parent items)
-  pub count : length items ≡ suc index
-  pub last : slice_get items index ≡ Some x
-  pub ends : EndsInLeaf old top (id, suc index)
-  pub writes : WritesNode (node_map old) (node_map new) id (leaf parent (remove items index))
-  pub rest : KeepsRest old new

@@ -11,5 +11,5 @@ mod values;
 pub use insertion::{insert, insert_at_gap};
 pub use insertion_at::{insert_at, insert_exactly_at};
 pub use removal::{remove_at, remove_entry};
-pub use replacement::replace_at;
+pub use replacement::{replace, replace_at};
 pub use values::{exchange, get_mut, get_mut_in, pair_mut};

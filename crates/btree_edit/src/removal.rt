@@ -1,8 +1,8 @@
 //! Removal at an address, and by key.
 ghost use Rattle.std.specs.Prelude.{◌≡◌, ℕ, IfSome, IfNone, None};
 ghost use Rattle.btree_item.specs.Pairs.{found};
-ghost use Rattle.btree_shape.specs.TreeState.{IsBTree, IsUsed, IsValidIn, item_of, pairs_of};
-ghost use Rattle.btree_edit.specs.Remove.{IsInnerAt, IsRemoved, LeadsBehind, RemovesByKey, TakesLast};
+ghost use Rattle.btree_shape.specs.TreeState.{IsBTree, IsValidIn, item_of, pairs_of};
+ghost use Rattle.btree_edit.specs.Remove.{IsInnerAt, IsRemoved, LeadsBehind, RemovesByKey};
 
 use btree_find::{address_of, first_item};
 use btree_item::{Address, Item};
@@ -78,7 +78,7 @@ fn remove_inner<K: Ord + Drop, V: Drop, C: NodesMut<K, V>>(
     tree.tell_fits();
     let len = tree.len();
     let next = item_behind(tree, Address::new(addr.id, addr.offset));
-    let (last, leaf) = remove_last_under(tree, left);
+    let (last, leaf) = tree.remove_rightmost_leaf_of(left);
     let item = tree.node_mut(addr.id).replace(addr.offset, last);
     tree.set_len(len - 1);
     let at = rebalance_underflow(tree, leaf, next);
@@ -94,23 +94,4 @@ fn item_behind<K: Ord, V, C: NodesMut<K, V>>(tree: &RawBTree<K, V, C>, addr: Add
     tree.tell_fits();
     let child = tree.node(addr.id).child_id(addr.offset.unwrap() + 1);
     first_item(tree, child)
-}
-
-// Removes the last item under a node. Returns it, and the number of the leaf that it was in.
-fn remove_last_under<K: Ord + Drop, V: Drop, C: NodesMut<K, V>>(
-    tree: &mut RawBTree<K, V, C>,
-    top: usize,
-) -> (Item<K, V>, usize)
-    requires tree { IsBTree K.cmp tree.old }
-    requires used { IsUsed tree.old top }
-    ensures { TakesLast tree.old tree.new top result.0 result.1 }
-{
-    tree.tell_fits();
-    let mut id = top;
-    loop {
-        match tree.node_mut(id).remove_rightmost_leaf() {
-            Ok(item) => return (item, id),
-            Err(child) => id = child,
-        }
-    }
 }

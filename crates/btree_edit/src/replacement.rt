@@ -1,10 +1,15 @@
 //! Replacing key and value.
-ghost use Rattle.std.specs.Prelude.{◌≡◌, Some};
-ghost use Rattle.btree_shape.specs.TreeState.{IsBTree, item_of};
+ghost use Rattle.std.specs.Prelude.{◌≡◌, IfErr, IfOk, None, OnErr, OnOk, Some};
+ghost use Rattle.btree_item.specs.Pairs.{found};
+ghost use Rattle.btree_shape.specs.TreeState.{IsBTree, item_of, pairs_of};
 ghost use Rattle.btree_find.specs.Fits.{ReplacesAt};
 ghost use Rattle.btree_edit.specs.Exchange.{IsExchanged};
+ghost use Rattle.btree_edit.specs.Insert.{IsRefusedAtGap};
+ghost use Rattle.btree_edit.specs.Replace.{ReplacesByKey, replaced};
 
-use btree_item::Address;
+use crate::insertion::insert_at_gap;
+use btree_find::address_of;
+use btree_item::{Address, Item, Refused};
 use btree_nodes::NodesMut;
 use btree_raw::RawBTree;
 
@@ -26,5 +31,33 @@ pub fn replace_at<K: Ord, V, C: NodesMut<K, V>>(
     match tree.node_mut(addr.id).item_mut(addr.offset) {
         Some(item) => item.set(key, value),
         None => unreachable!(),
+    }
+}
+
+/// Inserts a pair by its key, or replaces key and value if an equal key is there. Returns the pair that was replaced. A refusal returns the
+/// pair, and nothing but the count of refusals changes. It searches once.
+pub fn replace<K: Ord + Drop, V: Drop, C: NodesMut<K, V>>(
+    tree: &mut RawBTree<K, V, C>,
+    key: K,
+    value: V,
+) -> Result<Option<(K, V)>, Refused<K, V>>
+    requires { IsBTree K.cmp tree.old }
+    ensures tree { IsBTree K.cmp tree.new }
+    ensures old { IfOk result (λ old. old ≡ found K.cmp key (pairs_of tree.old)) }
+    ensures replaced { OnOk result (pairs_of tree.new ≡ replaced K.cmp key value (pairs_of tree.old)) }
+    ensures replaced_by_key { OnOk result (ReplacesByKey K.cmp key tree.old tree.new value) }
+    ensures uncounted { OnOk result (tree.new.refusals ≡ tree.old.refusals) }
+
+    ensures returned { IfErr result (λ r. (r.key ≡ key) × (r.value ≡ value)) }
+    ensures absent { OnErr result (found K.cmp key (pairs_of tree.old) ≡ None) }
+    ensures cause { IfErr result (λ r.
+        IsRefusedAtGap K.cmp key tree.old tree.new C.MayRefuse r.cause) }
+{
+    match address_of(tree, &key) {
+        Ok(addr) => Ok(Some(replace_at(tree, addr, key, value))),
+        Err(addr) => match insert_at_gap(tree, addr, Item::new(key, value)) {
+            Ok(_) => Ok(None),
+            Err(refused) => Err(refused),
+        },
     }
 }

@@ -8,7 +8,7 @@ ghost use Rattle.btree_shape.specs.TreeState.{IsValidIn, pairs_of};
 
 mod bookings;
 
-use crate::bookings::{count_overlaps, three_bookings};
+use crate::bookings::{book_and_cancel, count_overlaps, three_bookings};
 use btree_slab::BTreeMap;
 use btree_slab::generic::map::{BTreeExt, BTreeExtMut, Refused};
 use btree_slab::generic::node::Address;
@@ -72,9 +72,13 @@ fn main(rt: HostRuntime) -> io::Result<()> {
     for (part, count) in stock.iter() {
         rt.println(format_args!("{part} {count}"))?;
     }
-    let Ok(bookings) = three_bookings(rt.alloc()) else {
+    let Ok(mut bookings) = three_bookings(rt.alloc()) else {
         return Err(AllocError.into());
     };
+    let Ok(free) = book_and_cancel(&mut bookings, 12, 14) else {
+        return Err(AllocError.into());
+    };
+    rt.println(format_args!("12 is free: {free}"))?;
     for (start, end) in [(10, 14), (12, 14)] {
         let count = count_overlaps(&bookings, start, end);
         rt.println(format_args!("bookings from {start} to {end}: {count}"))?;

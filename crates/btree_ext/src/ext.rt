@@ -1,14 +1,15 @@
 //! Reads of a tree by its nodes and addresses.
-ghost use Rattle.std.specs.Prelude.{◌≡◌, ◌↔◌, ◌*◌, ◌+◌, ◌≤◌, length, IsSome, IsTrue, Some, option_copied};
+ghost use Rattle.std.specs.Prelude.{◌≡◌, ◌↔◌, ◌*◌, ◌+◌, ◌≤◌, length, IsSome, IsTrue, Ok, Some, option_copied};
 ghost use Rattle.std.specs.FinMap as map;
 ghost use Rattle.btree_shape.specs.TreeState.{TreeState, HasLevels, IsBTree, IsOccupiedIn, IsUsed, IsValidIn, item_of, pairs_of};
 ghost use Rattle.btree_item.specs.Pairs.{found_value};
 ghost use Rattle.btree_find.specs.Answers.{IsAddressIn, IsAddressOf};
 ghost use Rattle.btree_find.specs.Ends.{IsFirstBack, IsFirstItem, IsLastItem, IsLastValid};
 ghost use Rattle.btree_find.specs.Fits.{FitsAt, FitsIn, ReplacesAt, pairs_below};
-ghost use Rattle.btree_find.specs.Levels.{IsDense, TicksAtMost};
+ghost use Rattle.btree_find.specs.Levels.{IsDense, TicksAtMost, TicksExactly};
 ghost use Rattle.btree_find.specs.Navigation.{IsLeafAddressFor, IsNext, IsNextOrBack, IsNormalized, IsPrevious};
 ghost use Rattle.btree_find.specs.Visits.{IsNextBack, IsPreviousFront};
+ghost use Rattle.btree_valid.specs.Faults.{AcceptsNode, SuitsIfOk};
 
 use btree_find::{
     address_in, address_of, address_of_counted, first_back_address, first_item_address, fits_at,
@@ -16,7 +17,7 @@ use btree_find::{
     next_back_address, next_item_address, next_item_or_back_address, normalize,
     previous_front_address, previous_item_address, replaces_at,
 };
-use btree_item::{Address, Item, MAX_LEVELS};
+use btree_item::{Address, Fault, Item, MAX_LEVELS};
 use btree_node::Node;
 use btree_nodes::NodesMut;
 use btree_raw::RawBTree;
@@ -95,6 +96,7 @@ pub trait BTreeExt<K: Ord, V> {
     /// and no bytes.
     fn address_of_counted(&self, key: &K, steps: &mut Steps) -> Result<Address, Address>
         ensures found { IsAddressOf K.cmp key.now (state self.now) result }
+        ensures counted { TicksExactly K.cmp key.now (state self.now) steps.old.count steps.new.count }
         ensures ticks { TicksAtMost (state self.now) steps.old.count steps.new.count }
     {
         address_of_counted(self.as_raw(), key, steps)
@@ -246,5 +248,30 @@ pub trait BTreeExt<K: Ord, V> {
         ensures { IsTrue result ↔ ReplacesAt K.cmp key.now (state self.now) addr }
     {
         replaces_at(self.as_raw(), addr, key)
+    }
+
+    /// Checks that the nodes are exactly one well formed tree, and returns `Ok`, since they are. It reads each node once, copies nothing and
+    /// uses no memory but the stack.
+    fn validate(&self) -> Result<(), Fault>
+        ensures { result ≡ Ok tt }
+    {
+        self.as_raw().validate()
+    }
+
+    /// Checks a node and all below it against a parent and the nearest separators on both sides. Returns `Ok` with how many levels are below
+    /// the node, 0 for a leaf, exactly if they suit it, and else the first fault. The node must be in use; see `has_node`. One with neither
+    /// separator is judged as the root. It reads each node under this one at most once, copies nothing and uses no memory but the stack.
+    fn validate_node(
+        &self,
+        id: usize,
+        parent: Option<usize>,
+        min: Option<&K>,
+        max: Option<&K>,
+    ) -> Result<usize, Fault>
+        requires { IsUsed (state self.now) id }
+        ensures accepts { AcceptsNode K.cmp (state self.now) id parent (option_copied min.entry) (option_copied max.entry) result }
+        ensures only { SuitsIfOk K.cmp (state self.now) id parent (option_copied min.entry) (option_copied max.entry) result }
+    {
+        self.as_raw().validate_node(id, parent, min, max)
     }
 }

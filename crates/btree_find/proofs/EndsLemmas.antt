@@ -13,8 +13,9 @@ use Rattle.btree_shape.specs.TreeState.{TreeState, IsBTree, IsLeafAddressIn, IsP
 use Rattle.btree_shape.specs.WellFormed.{IsWellFormed}
 use Rattle.btree_shape.proofs.AddressLists.Whole.{addresses-tree}
 use Rattle.btree_shape.proofs.Trees.ValidPlaces.{place-valid, represents-node}
+use Rattle.btree_raw.specs.LastItem.{EndsInLeaf}
 use Rattle.btree_find.specs.Ends.{IsFirstBack, IsFirstItem, IsLastItem, IsLastValid, IsLeafBackAt, end_of, last_end_under}
-use Rattle.btree_find.specs.Navigation.{BeginsInLeaf, EndsInLeaf, IsItemBefore}
+use Rattle.btree_find.specs.Navigation.{BeginsInLeaf, IsItemBefore}
 use Rattle.btree_find.proofs.PlaceLemmas.{has-place, in-state, no-item, placed}
 use Rattle.btree_find.proofs.PreviousLemmas.{ends-before}
 use Rattle.btree_find.proofs.WalkLemmas.{begins-item, used-of}

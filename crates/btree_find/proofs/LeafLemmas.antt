@@ -11,8 +11,9 @@ use Rattle.btree_shape.specs.Focus.Positions.{address_at, address_before}
 use Rattle.btree_shape.specs.Place.{IsPlace, IsValid}
 use Rattle.btree_shape.specs.TreeState.{TreeState, IsBTree, IsLeafAddressIn, IsValidIn, node_map, pairs_of}
 use Rattle.btree_shape.proofs.Trees.ValidPlaces.{place-valid}
-use Rattle.btree_find.specs.Navigation.{BeginsInLeaf, EndsInLeaf, IsLeafAddressFor}
-use Rattle.btree_find.proofs.NextLemmas.{leaf-without}
+use Rattle.btree_raw.specs.LastItem.{EndsInLeaf}
+use Rattle.btree_raw.proofs.PlacedLemmas.{leaf-without}
+use Rattle.btree_find.specs.Navigation.{BeginsInLeaf, IsLeafAddressFor}
 use Rattle.btree_find.proofs.PlaceLemmas.{empty-by, has-place, place-there}
 use Rattle.btree_find.proofs.PreviousLemmas.{child-end}
 use Rattle.btree_find.proofs.WalkLemmas.{not-leaf}

@@ -1,3 +1,4 @@
+pub mod ReplacesLemmas
 pub mod SearchLemmas
 pub mod HeightLemmas
 pub mod PlaceLemmas
@@ -10,3 +11,4 @@ pub mod OrBackLemmas
 pub mod FitsLemmas
 pub mod EndsLemmas
 pub mod VisitsLemmas
+pub mod CountLemmas

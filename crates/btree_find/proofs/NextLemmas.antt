@@ -1,6 +1,5 @@
 -- From an address to the next item, which has the address before it.
-use Rattle.std.proofs.Common.{◌≡◌, ◌<◌, ◌≤◌, ◌∙◌, ◌+◌, ℕ, suc, List, length, Option, Some, None, refl, sym, ap, subst, arith, option_map, slice_get}
-use Rattle.std.proofs.lemmas.List.{length-map}
+use Rattle.std.proofs.Common.{◌≡◌, ◌<◌, ◌≤◌, ◌∙◌, ◌+◌, ℕ, suc, length, Option, Some, None, refl, sym, ap, subst, arith, option_map, slice_get}
 use Rattle.std.proofs.lemmas.Option.{slice_get_past}
 use Rattle.std.specs.Cmp.{IsTotalOrder}
 use Rattle.std.specs.FinMap as finite
@@ -9,22 +8,16 @@ use Rattle.std.specs.declared.cmp.Ordering.{Ordering}
 use Rattle.btree_item.specs.declared.address.Address.{Address}
 use Rattle.btree_node.specs.declared.node.Node.{Node}
 use Rattle.btree_node.specs.Node.{view_of}
-use Rattle.btree_view.specs.View.{NodeMap, View, leaf, internal, children_in, children_of, items_of, item_in, size_of}
+use Rattle.btree_view.specs.View.{NodeMap, View, leaf, children_in, children_of, items_of, item_in, size_of}
 use Rattle.btree_shape.specs.Focus.Positions.{address_at, address_before}
 use Rattle.btree_shape.specs.Place.{IsOccupied}
 use Rattle.btree_shape.specs.TreeState.{TreeState, IsBTree, IsOccupiedIn, IsPlaceIn, IsUsed, IsValidIn, node_map, pairs_of}
 use Rattle.btree_shape.proofs.Places.ChildPlaces.{child-places, down-from-item}
 use Rattle.btree_shape.proofs.Places.InNode.{leaf-along}
+use Rattle.btree_raw.proofs.PlacedLemmas.{leaf-without}
 use Rattle.btree_find.specs.Navigation.{IsItemAt, IsNext, IsPrevious, LeadsToItem, LeadsToNext}
-use Rattle.btree_find.proofs.PlaceLemmas.{has-child, empty-leads, not-empty, has-place, in-state, in-tree, item-here, place-there, placed, root-there}
+use Rattle.btree_find.proofs.PlaceLemmas.{empty-leads, not-empty, has-place, in-state, in-tree, item-here, place-there, placed, root-there}
 use Rattle.btree_find.proofs.WalkLemmas.{occupied-below, used-of}
-
--- only a leaf lacks a child at an index up to its number of items
-pub leaf-without : {A : Type 0} (v : View A) (index : ℕ) → index ≤ size_of v → slice_get (children_of v) index ≡ None
-    → (parent : Option ℕ) × (items : List A) × (v ≡ leaf parent items)
-leaf-without (leaf parent items) index low e = (parent, items, refl)
-leaf-without {A} (internal parent first bs) index low e =
-    let n = length-map {A = A × ℕ} {B = A} bs (λ b. b.0) in absurd (has-child first bs index (omega arith) e)
 
 -- no item stands past the last one
 pub not-past : {A : Type 0} (node_at : NodeMap A) (id offset : ℕ) (v : View A) → node_at id ≡ Some v → size_of v ≤ offset

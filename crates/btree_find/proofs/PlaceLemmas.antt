@@ -1,5 +1,5 @@
 -- The place of an address in a well formed tree, in the words of a state: one for each valid address, and the item there.
-use Rattle.std.proofs.Common.{◌≡◌, ◌<◌, ◌≤◌, ◌∙◌, ℕ, zero, suc, inl, inr, List, [], ◌∷◌, length, map, slice_get, Option, Some, None, refl, sym, ap, subst, arith, option_map}
+use Rattle.std.proofs.Common.{◌≡◌, ◌<◌, ◌≤◌, ◌∙◌, ℕ, inl, inr, List, length, Option, Some, None, refl, sym, ap, subst, arith, option_map}
 use Rattle.std.proofs.lemmas.Option.{slice_get_past}
 use Rattle.std.specs.Cmp.{IsTotalOrder}
 use Rattle.std.specs.FinMap as finite
@@ -11,30 +11,16 @@ use Rattle.btree_view.specs.View.{NodeMap, View, item_in, size_of}
 use Rattle.btree_shape.specs.AddressLaws.{IsPlaced}
 use Rattle.btree_shape.specs.Place.{IsNowhere, IsOccupied, IsPlace, IsValid, IsWithin}
 use Rattle.btree_shape.specs.TreeAddresses.{HasAddresses, item_addresses_of}
-use Rattle.btree_shape.specs.TreeState.{TreeState, IsBTree, IsOccupiedIn, IsPlaceIn, IsUsed, IsValidIn, node_map, pairs_of}
-use Rattle.btree_shape.specs.WellFormed.{IsWellFormed, least_of}
-use Rattle.btree_shape.proofs.AddressLists.OnePlaceEach.{placed-formed}
+use Rattle.btree_shape.specs.TreeState.{TreeState, IsBTree, IsBTreeButLength, IsOccupiedIn, IsPlaceIn, IsUsed, IsValidIn, node_map, pairs_of}
+use Rattle.btree_shape.specs.WellFormed.{IsWellFormed}
 use Rattle.btree_shape.proofs.AddressLists.Whole.{addresses-tree}
 use Rattle.btree_shape.proofs.Places.HasPlace.{has_place}
 use Rattle.btree_shape.proofs.Places.OnePlace.{one_place-well}
-use Rattle.btree_shape.proofs.Trees.Numbers.{same-or, used-one}
-use Rattle.btree_shape.proofs.Trees.Sizes.{least-other, least-root}
-use Rattle.btree_shape.proofs.Trees.States.{height_held}
+use Rattle.btree_shape.proofs.Trees.Numbers.{used-one}
 use Rattle.btree_shape.proofs.Trees.Stores.{most-few, used-view}
 use Rattle.btree_shape.proofs.Trees.ValidPlaces.{place-valid}
+use Rattle.btree_raw.proofs.PlacedLemmas as raw
 use Rattle.btree_find.specs.Navigation.{HasPlace, IsItemAt, IsNormalized, LeadsToItem}
-
-at-least-one : (root id : ℕ) → 1 ≤ least_of root id
-at-least-one root id = elim (same-or id root) [
-  | inl e ↦ let l = least-root root id e in omega arith
-  | inr e ↦ let l = least-other root id e in omega arith
-]
-
--- an internal node has a child at each index up to its number of items
-pub has-child : {A : Type 0} (first : ℕ) (bs : List (A × ℕ)) (index : ℕ) → index ≤ length bs → slice_get (first ∷ map {B = ℕ} (λ b. b.1) bs) index ≡ None → ⊥
-has-child first bs zero few e = absurd (cc)
-has-child first [] (suc index) few e = absurd (omega arith)
-has-child first (b ∷ bs) (suc index) few e = has-child b.1 bs index (omega arith) e
 
 module _ {K V : Type 0} (cmp : K → K → Ordering) (laws : IsTotalOrder cmp) (s : TreeState K V) (tree : IsBTree cmp s) where
   abbrev pub node_at : NodeMap (K × V)
@@ -42,6 +28,9 @@ module _ {K V : Type 0} (cmp : K → K → Ordering) (laws : IsTotalOrder cmp) (
 
   abbrev pub pairs : List (K × V)
   pairs = pairs_of s
+
+  pub but-length : IsBTreeButLength cmp s
+  but-length = raw.but-length cmp s tree
 
   addresses : HasAddresses s
   addresses = addresses-tree cmp laws s tree
@@ -75,22 +64,15 @@ module _ {K V : Type 0} (cmp : K → K → Ordering) (laws : IsTotalOrder cmp) (
 
   -- a node is used only if there is a root
   module _ (id : ℕ) (v : View (K × V)) (at : node_at id ≡ Some v) where
-    root-by : (t : Option ℕ) → s.root ≡ t → (root : ℕ) × (s.root ≡ Some root)
-    root-by None e =
-        let w : IsWellFormed cmp node_at None s.len pairs = subst (λ t. IsWellFormed cmp node_at t s.len pairs) e tree in
-        let none = w.formed.0 id in
-        absurd (cc)
-    root-by (Some root) e = (root, e)
-
     pub root-there : (root : ℕ) × (s.root ≡ Some root)
-    root-there = root-by s.root refl
+    root-there = raw.root-there cmp laws s but-length id v at
 
   module _ (root : ℕ) (is : s.root ≡ Some root) where
     well : IsWellFormed cmp node_at (Some root) s.len pairs
     well = subst (λ t. IsWellFormed cmp node_at t s.len pairs) is tree
 
     pub placed : IsPlaced node_at (finite.len s.nodes) root pairs
-    placed = placed-formed cmp laws node_at (finite.len s.nodes) pairs root s.len well (height_held s _ root pairs well.formed)
+    placed = raw.placed cmp laws s but-length root is
 
     pub in-tree : (id : ℕ) (o : Option ℕ) (place : ℕ) → IsPlace node_at s.root pairs id o place → IsPlace node_at (Some root) pairs id o place
     in-tree id o place i = subst (λ t. IsPlace node_at t pairs id o place) is i
@@ -99,7 +81,7 @@ module _ {K V : Type 0} (cmp : K → K → Ordering) (laws : IsTotalOrder cmp) (
     in-state id o place i = subst (λ t. IsPlace node_at t pairs id o place) (sym is) i
 
     pub some-items : (id : ℕ) (v : View (K × V)) → node_at id ≡ Some v → 0 < size_of v
-    some-items id v e = omega (arith, (well.formed.sized id v e).0, at-least-one root id)
+    some-items = raw.some-items cmp laws s but-length root is
 
     pub few-items : (id : ℕ) (v : View (K × V)) → node_at id ≡ Some v → size_of v ≤ 8
     few-items id v e = omega (arith, (well.formed.sized id v e).1, most-few v)

@@ -1,6 +1,5 @@
 -- From an address to the item before its place: down to the rightmost leaf, or up past the first children.
 use Rattle.std.proofs.Common.{◌≡◌, ◌==◌, ◌<◌, ◌≤◌, ◌∙◌, ℕ, suc, List, length, Option, Some, None, IsSome, refl, sym, ap, subst, arith, option_map, slice_get}
-use Rattle.std.proofs.lemmas.List.{length-map}
 use Rattle.std.specs.Cmp.{IsTotalOrder}
 use Rattle.std.specs.FinMap as finite
 use Rattle.std.specs.List.{position}
@@ -8,112 +7,33 @@ use Rattle.std.specs.declared.cmp.Ordering.{Ordering}
 use Rattle.btree_item.specs.declared.address.Address.{Address}
 use Rattle.btree_node.specs.declared.node.Node.{Node}
 use Rattle.btree_node.specs.Node.{view_of}
-use Rattle.btree_view.specs.View.{View, leaf, internal, children_in, children_of, parent_of, size_of}
-use Rattle.btree_shape.specs.Addresses.{last_child, last_leaf}
+use Rattle.btree_view.specs.View.{View, leaf, children_in, children_of, parent_of, size_of}
 use Rattle.btree_shape.specs.Focus.Positions.{address_at, address_before}
-use Rattle.btree_shape.specs.Focus.Search.{levels_below}
 use Rattle.btree_shape.specs.Need.{levels_above}
 use Rattle.btree_shape.specs.Place.{IsPlace}
 use Rattle.btree_shape.specs.TreeState.{TreeState, IsBTree, IsPlaceIn, IsUsed, IsValidIn, node_map, pairs_of}
 use Rattle.btree_shape.specs.WellFormed.{times_used}
-use Rattle.btree_shape.proofs.AddressLists.LeafEnds.{last-child-at, last-leaf-down, last-leaf-self}
 use Rattle.btree_shape.proofs.Paths.Parents.{get-times}
 use Rattle.btree_shape.proofs.Places.ChildPlaces.{child-places, down-to-end, up-from-first, up-to-item}
 use Rattle.btree_shape.proofs.Places.InNode.{index-in-parent, leaf-back, leaf-start, root-start}
 use Rattle.btree_shape.proofs.Trees.Stores.{used-view}
 use Rattle.btree_raw.proofs.SeparatorLemmas.{has-index, index-is}
-use Rattle.btree_find.specs.Navigation.{EndsInLeaf, IsItemBefore, IsPrevious, LeadsBefore}
-use Rattle.btree_find.proofs.NextLemmas.{leaf-without}
+use Rattle.btree_raw.specs.LastItem.{EndsInLeaf}
+use Rattle.btree_raw.proofs.LastLemmas.{size_at}
+use Rattle.btree_raw.proofs.PlacedLemmas.{leaf-without}
+use Rattle.btree_find.specs.Navigation.{IsItemBefore, IsPrevious, LeadsBefore}
 use Rattle.btree_find.proofs.PlaceLemmas.{empty-place, few-items, has-place, in-state, in-tree, item-here, place-there, placed, root-there, some-items}
 use Rattle.btree_find.proofs.WalkLemmas.{leaf-focus, occupied-below, used-of}
 
--- the last child of an internal node
-pub internal-last : {A : Type 0} (v : View A) (count child : ℕ) → count ≡ size_of v → Some child ≡ slice_get (children_of v) count
-    → (parent : Option ℕ) × (first : ℕ) × (branches : List (A × ℕ)) × (v ≡ internal parent first branches) × (last_child first branches ≡ child)
-internal-last (leaf parent items) count child is e = absurd (cc)
-internal-last {A} (internal parent first branches) count child is e =
-    let n = length-map {A = A × ℕ} {B = A} branches (λ b. b.0) in
-    let same : length branches ≡ count = omega arith in
-    let at = last-child-at first branches in
-    let to = subst (λ k. Some child ≡ slice_get (children_of (internal parent first branches)) k) (sym same) e in
-    (parent, first, branches, refl, cc)
-
 module _ {K V : Type 0} (s : TreeState K V) where
-  abbrev size_at : ℕ → Option ℕ
-  size_at id = option_map size_of (node_map s id)
-
-  -- from past the end of a node down to past the end of the rightmost leaf
-  pub record DescendsRight (start id : ℕ) : Type 0 where
-    pub used : IsUsed s id
-    pub final : last_leaf (node_map s) (finite.len s.nodes) start ≡ last_leaf (node_map s) (finite.len s.nodes) id
-    pub ends : (place size last : ℕ) → size_at start ≡ Some size → size_at id ≡ Some last
-        → IsPlaceIn s (address_at start size) place → IsPlaceIn s (address_at id last) place
-
   -- from before a node up past the first children
   pub record ClimbsBefore (start id : ℕ) (node : Node K V) : Type 0 where
     pub here : finite.get s.nodes id ≡ Some node
     pub leads : (place : ℕ) → IsPlaceIn s (address_before start) place → IsPlaceIn s (address_before id) place
 
-  pub right-start : (id : ℕ) → IsUsed s id → DescendsRight id id
-  right-start id used =
-      record {
-        used = used;
-        final = refl;
-        ends = λ place size last e f i. let same : size ≡ last = cc in subst (λ n. IsPlaceIn s (address_at id n) place) same i;
-      }
-
 module _ {K V : Type 0} (cmp : K → K → Ordering) (laws : IsTotalOrder cmp) (s : TreeState K V) (tree : IsBTree cmp s) where
   abbrev levels : ℕ
   levels = finite.len s.nodes
-
-  module _ (start id : ℕ) (d : DescendsRight s start id) (node : Node K V) (at : finite.get s.nodes id ≡ Some node)
-      (count : ℕ) (is : count ≡ size_of (view_of node)) where
-    here : node_map s id ≡ Some (view_of node)
-    here = ap (option_map view_of) at
-
-    sized : size_at s id ≡ Some count
-    sized = ap (option_map size_of) here ∙ ap Some (sym is)
-
-    module _ (child : ℕ) (after : Some child ≡ slice_get (children_of (view_of node)) count) where
-      last-child : slice_get (children_in (node_map s id)) count ≡ Some child
-      last-child = ap (λ v. slice_get (children_in v) count) here ∙ sym after
-
-      pub right-next : DescendsRight s start child
-      right-next =
-          let r = root-there cmp laws s tree id (view_of node) here in
-          let p = placed cmp laws s tree r.0 r.1 in
-          let c = child-places (node_map s) levels r.0 (pairs_of s) p id count child last-child in
-          record {
-            used = used-of cmp laws s tree child c.node c.here;
-            final =
-                let n = internal-last (view_of node) count child is after in
-                d.final ∙ (last-leaf-down (node_map s) levels r.0 (pairs_of s) p id n.0 n.1 n.2 (here ∙ ap Some n.3) ∙ ap (last_leaf (node_map s) levels) n.4);
-            ends = λ place size last e f i.
-                let g : size_at s child ≡ Some (size_of c.node) = ap (option_map size_of) c.here in
-                let same : size_of c.node ≡ last = cc in
-                subst (λ n. IsPlaceIn s (address_at child n) place) same
-                (in-state cmp laws s tree r.0 r.1 child (Some (size_of c.node)) place
-                (down-to-end (node_map s) levels r.0 (pairs_of s) p id count child last-child c.node c.here place
-                (in-tree cmp laws s tree r.0 r.1 id (Some count) place (d.ends place size count e sized i))));
-          }
-
-      pub right-smaller : levels_below (node_map s) levels child < levels_below (node_map s) levels id
-      right-smaller =
-          let r = root-there cmp laws s tree id (view_of node) here in
-          let p = placed cmp laws s tree r.0 r.1 in
-          (child-places (node_map s) levels r.0 (pairs_of s) p id count child last-child).lower
-
-    pub right-end : None ≡ slice_get (children_of (view_of node)) count → EndsInLeaf s start (id, count)
-    right-end none =
-        let l = leaf-without (view_of node) count (omega arith) (sym none) in
-        let r = root-there cmp laws s tree id (view_of node) here in
-        let p = placed cmp laws s tree r.0 r.1 in
-        record {
-          final = sym (d.final ∙ last-leaf-self (node_map s) levels r.0 (pairs_of s) p id l.0 l.1 (here ∙ ap Some l.2));
-          is_leaf = rw (here, l.2) tt;
-          count = sized;
-          ends = λ place size e i. d.ends place size count e sized i;
-        }
 
   -- the last item of the rightmost leaf
   module _ (id : ℕ) (last : ℕ × ℕ) (e : EndsInLeaf s id last) where

@@ -24,21 +24,23 @@ use Rattle.btree_shape.proofs.LookUp.Descent.{get-after, search-ascends, search-
 use Rattle.btree_shape.proofs.LookUp.Ends.{search-hit, search-miss}
 use Rattle.btree_shape.proofs.Paths.Used.{focus-used}
 use Rattle.btree_shape.proofs.LookUp.KeyInList.{Rises, rises, searched}
+use Rattle.btree_raw.proofs.PlacedLemmas.{has-child}
 use Rattle.btree_find.specs.Answers.{IsAddressIn, IsAddressOf, IsFoundAt, IsFoundIn, IsGapAt, IsGapIn}
 use Rattle.btree_find.specs.Ends.{IsLeafBackAt}
-use Rattle.btree_find.specs.Fits.{pairs_below}
+use Rattle.btree_find.specs.Fits.{FitsIn, pairs_below}
 use Rattle.btree_find.specs.Navigation.{HasPlace, IsItemAddress}
 use Rattle.btree_find.proofs.EndsLemmas.{leaf-back-at, start-place}
-use Rattle.btree_find.proofs.PlaceLemmas.{has-child, has-place, in-state, item-here}
-use Rattle.btree_find.proofs.UnderLemmas.{begins-here, place-in_whole}
+use Rattle.btree_find.proofs.PlaceLemmas.{has-place, in-state, item-here}
+use Rattle.btree_find.proofs.ReplacesLemmas.{key-replaces}
+use Rattle.btree_find.proofs.UnderLemmas.{begins-here, fits-in_whole, place-in_whole}
 use Rattle.btree_shape.proofs.Trees.Stores.{used-view, most-few}
 
 -- what `placed` gives for a place among items
-placed-ok : (r : Result ℕ ℕ) (children : List ℕ) (offset : Option ℕ) → Ok offset ≡ placed r children → (o : ℕ) × (r ≡ Ok o) × (offset ≡ Some o)
+pub placed-ok : (r : Result ℕ ℕ) (children : List ℕ) (offset : Option ℕ) → Ok offset ≡ placed r children → (o : ℕ) × (r ≡ Ok o) × (offset ≡ Some o)
 placed-ok (Ok i) children offset e = (i, refl, cc)
 placed-ok (Err i) children offset e = absurd (cc)
 
-placed-err : (r : Result ℕ ℕ) (children : List ℕ) (index : ℕ) (child : Option ℕ) → Err (index, child) ≡ placed r children → (r ≡ Err index) × (slice_get children index ≡ child)
+pub placed-err : (r : Result ℕ ℕ) (children : List ℕ) (index : ℕ) (child : Option ℕ) → Err (index, child) ≡ placed r children → (r ≡ Err index) × (slice_get children index ≡ child)
 placed-err (Ok i) children index child e = absurd (cc)
 placed-err (Err i) children index child e =
     let P : Type 0 = ℕ × Option ℕ in
@@ -85,6 +87,7 @@ module _ {K V : Type 0} (cmp : K → K → Ordering) (k : K) (laws : IsTotalOrde
         at = at;
         in_leaf = in_leaf;
         back = back;
+        listed = (leaf-back-at cmp laws s tree a place at in_leaf back).listed;
         fits = record {
           place = place;
           has = has-place cmp laws s tree a place at;
@@ -131,19 +134,33 @@ module _ {K V : Type 0} (cmp : K → K → Ordering) (k : K) (laws : IsTotalOrde
           let r = searched cmp k laws (items_of (view_of node)) (Ok o) (rises cmp (items_of (view_of node)) node-ascends) place in
           (r.1, ap (λ n. item_in n o) here ∙ (ap (λ l. slice_get l o) r.3 ∙ get-after r.0 r.1 r.2 o (sym r.4)))
 
-      -- the place of a key among the pairs of the search is that among all pairs, after those before them
-      whole-place : (index : ℕ) → place_of cmp k within ≡ Ok index → place_of cmp k pairs ≡ Ok (q.start + index)
-      whole-place index is =
+      -- all pairs are those of the search, between those before and after them
+      whole-split : pairs ≡ q.searching.part.front ++ (within ++ q.searching.part.back)
+      whole-split =
           let f = q.searching.node.focus in
           let p = q.searching.part in
           let under : List (K × V) = items_under (K × V) f.height f.subtree in
-          let split : pairs ≡ p.front ++ (within ++ p.back) =
           f.whole.list
           ∙ (ap (λ l. l ++ (under ++ items_after f.path)) p.before
           ∙ (ap (λ l. (p.front ++ p.lower) ++ (under ++ l)) p.after
           ∙ (append_assoc p.front p.lower (under ++ (p.higher ++ p.back))
-          ∙ ap (λ l. p.front ++ l) (regroup p.lower under p.higher p.back ∙ ap (λ l. l ++ p.back) (sym p.is))))) in
-          place-in_whole cmp laws k pairs p.front within p.back index tree.ascends split is ∙ ap (λ n. Ok (n + index)) (sym p.counted)
+          ∙ ap (λ l. p.front ++ l) (regroup p.lower under p.higher p.back ∙ ap (λ l. l ++ p.back) (sym p.is)))))
+
+      -- a key that is not among the pairs of the search, and fits under its node, fits at its place among all pairs
+      whole-fits : (index : ℕ) → place_of cmp k within ≡ Err index → FitsIn cmp k s top → KeyFits cmp k (q.start + index) pairs
+      whole-fits index is f =
+          let p = q.searching.part in
+          let start : f.start ≡ length p.front = q.begins.only f.start f.begins.at ∙ p.counted in
+          subst (λ n. KeyFits cmp k (n + index) pairs) (sym p.counted)
+          (fits-in_whole cmp laws k pairs p.front within p.back index tree.ascends whole-split is
+          (λ n x e at. f.above n x (e ∙ sym start) at)
+          (λ x at. f.below x (subst (λ n. slice_get pairs (n + length within) ≡ Some x) (sym start) at)))
+
+      -- the place of a key among the pairs of the search is that among all pairs, after those before them
+      whole-place : (index : ℕ) → place_of cmp k within ≡ Ok index → place_of cmp k pairs ≡ Ok (q.start + index)
+      whole-place index is =
+          let p = q.searching.part in
+          place-in_whole cmp laws k pairs p.front within p.back index tree.ascends whole-split is ∙ ap (λ n. Ok (n + index)) (sym p.counted)
 
       found-in-node : (o : ℕ) → place_of cmp k (items_of (view_of node)) ≡ Ok o → IsFoundIn cmp k s top (record { id = id; offset = Some o })
       found-in-node o place =
@@ -168,6 +185,12 @@ module _ {K V : Type 0} (cmp : K → K → Ordering) (k : K) (laws : IsTotalOrde
               occupied = item-at o place;
               item = item.item ∙ slice_get-from_Ok cmp laws k pairs (q.start + h.place) tree.ascends whole;
               listed = sym here.listed;
+              replaces = record {
+                occupied = item-at o place;
+                place = q.start + h.place;
+                has = item.has;
+                replaces = key-replaces cmp k laws pairs (q.start + h.place) tree.ascends whole;
+              };
             };
           }
 
@@ -206,7 +229,14 @@ module _ {K V : Type 0} (cmp : K → K → Ordering) (k : K) (laws : IsTotalOrde
           let r = placed-err (place_of cmp k (items_of (view_of node))) (children_of (view_of node)) index None e in
           let some : o ≡ Some index = oe ∙ small index (omega (arith, few, (well.formed.sized id (view_of node) here).1, most-few (view_of node))) in
           let g = gap-in-leaf index (view_of node) here node-ascends r.0 r.1 in
-          rw (same, some) (record { start = q.start; begins = q.begins; index = g.0; is = g.1; gap = g.3 })
+          rw (same, some) (record {
+            start = q.start;
+            begins = q.begins;
+            index = g.0;
+            is = g.1;
+            gap = g.3;
+            fits = λ f. record { place = q.start + g.0; has = g.3.has; fits = whole-fits g.0 g.1 f };
+          })
 
       -- the item at a place that was found has the value of the key
       pub hit-value : (offset : Option ℕ) → Ok offset ≡ offset_in cmp k (view_of node)

@@ -1,9 +1,13 @@
 -- The pairs under a node of a well formed tree: where they begin and end in the list.
-use Rattle.std.proofs.Common.{[], ◌∷◌, ◌++◌, append_assoc, ◌∙◌, ◌≡◌, ◌+◌, ◌<◌, ℕ, inr, List, length, length-append, Option, Some, None, Ok, IsSome, refl, sym, ap, subst, arith, option_map}
+use Rattle.std.proofs.Common.{[], ◌∷◌, ◌++◌, append_assoc, ◌∙◌, ◌≡◌, ◌+◌, ◌<◌, ℕ, zero, suc, inl, inr, List, length, slice_get, length-append, Option, Some, None, Ok, Err, IsSome, refl, sym, ap, subst, arith, option_map}
+use Rattle.std.proofs.lemmas.Bool.Decides.{leb_tells}
 use Rattle.std.specs.Cmp.{IsTotalOrder}
 use Rattle.std.specs.FinMap as finite
 use Rattle.std.specs.declared.cmp.Ordering.{Ordering}
-use Rattle.btree_item.specs.Pairs.{Ascends, place_of}
+use Rattle.std.specs.declared.cmp.Ordering.TheVariants.{Less}
+use Rattle.btree_item.specs.Pairs.{Ascends, KeyFits, place_of}
+use Rattle.btree_item.proofs.PairEdits.{KeyFits-before}
+use Rattle.btree_item.proofs.PairLemmas.{before-from_Err, found-from_Err}
 use Rattle.btree_node.specs.declared.node.Node.{Node}
 use Rattle.btree_node.specs.Node.{view_of}
 use Rattle.btree_view.specs.View.{View, size_of}
@@ -17,7 +21,7 @@ use Rattle.btree_shape.specs.Represents.{Represents}
 use Rattle.btree_shape.specs.TreeState.{TreeState, IsBTree, IsPlaceIn, IsUsed, IsValidIn, node_map, pairs_of}
 use Rattle.btree_shape.specs.WellFormed.{IsWellFormed}
 use Rattle.btree_shape.proofs.LookUp.Descent.{search-start}
-use Rattle.btree_shape.proofs.LookUp.KeyInList.{Rises, equal-back, equal-front, place-hit, rises, rises-left, rises-right, searched}
+use Rattle.btree_shape.proofs.LookUp.KeyInList.{Rises, ascends, equal-back, equal-front, place-hit, rises, rises-left, rises-right, searched}
 use Rattle.btree_shape.proofs.Paths.FromRoot.{node-at}
 use Rattle.btree_shape.proofs.Paths.Levels.{levels-rooted}
 use Rattle.btree_shape.proofs.Paths.UnsizedFocus.{focus-unsized}
@@ -52,6 +56,59 @@ place-in_whole {K} {V} cmp laws k xs front ys back index up split place =
       s.6,
       equal-back cmp k laws s.1 (s.2 ++ back) (rises-right cmp (front ++ s.0) (s.1 ∷ (s.2 ++ back)) whole).0 s.6,
     )).0
+
+-- what is at an index after a front, and in the first of two parts
+get-skip : {X : Type 0} (front rest : List X) (i : ℕ) → slice_get (front ++ rest) (length front + i) ≡ slice_get rest i
+get-skip [] rest i = let e : 0 + i ≡ i = omega arith in ap (slice_get rest) e
+get-skip (x ∷ front) rest i =
+    let e : suc (length front) + i ≡ suc (length front + i) = omega arith in
+    ap (slice_get (x ∷ (front ++ rest))) e ∙ get-skip front rest i
+
+get-left : {X : Type 0} (ys back : List X) (i : ℕ) → i < length ys → slice_get (ys ++ back) i ≡ slice_get ys i
+get-left [] back i low = absurd (omega arith)
+get-left (y ∷ ys) back zero low = refl
+get-left (y ∷ ys) back (suc i) low = get-left ys back i (omega arith)
+
+-- a key that is not among some pairs of an ascending list fits at its place in the whole list if it is above the pair
+-- before them and below the one after them
+module _ {K V : Type 0} (cmp : K → K → Ordering) (laws : IsTotalOrder cmp) (k : K) (xs front ys back : List (K × V)) (index : ℕ)
+    (up : Ascends cmp xs) (split : xs ≡ front ++ (ys ++ back)) (place : place_of cmp k ys ≡ Err index) where
+  inside : KeyFits cmp k index ys
+  inside =
+      let r : Rises cmp (front ++ (ys ++ back)) = subst (Rises cmp) split (rises cmp xs up) in
+      let asc : Ascends cmp ys = ascends cmp ys (rises-left cmp ys back (rises-right cmp front (ys ++ back) r)) in
+      subst (λ p. KeyFits cmp k p ys) (before-from_Err cmp k ys index place)
+      (KeyFits-before cmp laws k ys asc (found-from_Err cmp k ys index place))
+
+  there : (i : ℕ) → i < length ys → slice_get xs (length front + i) ≡ slice_get ys i
+  there i low = ap (λ l. slice_get l (length front + i)) split ∙ (get-skip front (ys ++ back) i ∙ get-left ys back i low)
+
+  pub fits-in_whole : ((q : ℕ) (x : K × V) → suc q ≡ length front → slice_get xs q ≡ Some x → cmp x.0 k ≡ Less)
+      → ((x : K × V) → slice_get xs (length front + length ys) ≡ Some x → cmp k x.0 ≡ Less)
+      → KeyFits cmp k (length front + index) xs
+  fits-in_whole first last =
+      let all = ap length split in
+      let parts = length-append front (ys ++ back) in
+      let rest = length-append ys back in
+      let w = inside.within in
+      record { within = omega arith; above = λ q x e at. above-by index refl q x e at; below = λ x at. below-by x at }
+    where
+      above-by : (i : ℕ) → i ≡ index → (q : ℕ) (x : K × V) → suc q ≡ length front + index → slice_get xs q ≡ Some x → cmp x.0 k ≡ Less
+      above-by zero is q x e at = first q x (omega arith) at
+      above-by (suc i) is q x e at =
+          let w = inside.within in
+          let same : q ≡ length front + i = omega arith in
+          inside.above i x is (sym (there i (omega arith)) ∙ (ap (slice_get xs) (sym same) ∙ at))
+
+      below-by : (x : K × V) → slice_get xs (length front + index) ≡ Some x → cmp k x.0 ≡ Less
+      below-by x at = elim (leb_tells (length ys) index) [
+        | inl past ↦
+            let w = inside.within in
+            let low = past.1 in
+            let same : index ≡ length ys = omega arith in
+            last x (subst (λ n. slice_get xs (length front + n) ≡ Some x) same at)
+        | inr low ↦ inside.below x (sym (there index low.1) ∙ at)
+      ]
 
 some-of : {X : Type 0} (o : Option X) → IsSome o → (x : X) × (o ≡ Some x)
 some-of None is = absurd (cc)

@@ -20,11 +20,12 @@ use Rattle.btree_shape.proofs.AddressLists.BackVisits.{backs-visited}
 use Rattle.btree_shape.proofs.AddressLists.FrontVisits.{fronts-visited}
 use Rattle.btree_shape.proofs.AddressLists.LeafEnds.{last-leaf-down, last-leaf-self}
 use Rattle.btree_shape.proofs.AddressLists.Whole.{addresses-tree}
-use Rattle.btree_find.specs.Navigation.{BeginsInLeaf, EndsInLeaf}
+use Rattle.btree_raw.specs.LastItem.{EndsInLeaf}
+use Rattle.btree_raw.proofs.LastLemmas.{internal-last}
+use Rattle.btree_raw.proofs.PlacedLemmas.{leaf-without}
+use Rattle.btree_find.specs.Navigation.{BeginsInLeaf}
 use Rattle.btree_find.specs.Visits.{IsNextBack, IsPreviousFront}
-use Rattle.btree_find.proofs.NextLemmas.{leaf-without}
 use Rattle.btree_find.proofs.PlaceLemmas.{empty-by, few-items, placed, root-there}
-use Rattle.btree_find.proofs.PreviousLemmas.{internal-last}
 use Rattle.btree_find.proofs.WalkLemmas.{leaf-focus}
 
 -- the address before the end of a node that is there

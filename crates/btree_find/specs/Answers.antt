@@ -7,14 +7,14 @@ use Rattle.std.specs.declared.cmp.Ordering.{Ordering}
 use Rattle.btree_item.specs.Pairs.{found, place_of}
 use Rattle.btree_item.specs.declared.address.Address.{Address}
 use Rattle.btree_shape.specs.Focus.Positions.{address_before}
-use Rattle.btree_shape.specs.TreeAddresses.{item_addresses_of}
+use Rattle.btree_shape.specs.TreeAddresses.{item_addresses_of, leaf_backs_of}
 use Rattle.btree_shape.specs.TreeState.{TreeState, IsLeafAddressIn, IsOccupiedIn, IsPlaceIn, IsValidIn, item_of, pairs_of}
 use Rattle.btree_find.specs.Ends.{IsLeafBackAt}
-use Rattle.btree_find.specs.Fits.{FitsAt, pairs_below}
+use Rattle.btree_find.specs.Fits.{FitsAt, FitsIn, ReplacesAt, pairs_below}
 use Rattle.btree_find.specs.Navigation.{HasPlace, IsItemAddress}
 
 module _ {K V : Type 0} (cmp : K → K → Ordering) (k : K) (s : TreeState K V) where
-  -- an address at which the item with the key is
+  -- an address at which the item with the key is; the key may replace the stored one there
   pub record IsFoundAt (a : Address) : Type 0 where
     pub valid : IsValidIn s a
     pub place : ℕ
@@ -23,6 +23,7 @@ module _ {K V : Type 0} (cmp : K → K → Ordering) (k : K) (s : TreeState K V)
     pub occupied : IsOccupiedIn s a
     pub item : item_of s a ≡ found cmp k (pairs_of s)
     pub listed : slice_get (item_addresses_of s) place ≡ Some a
+    pub replaces : ReplacesAt cmp k s a
 
   -- a back address in a leaf whose place is the number of smaller keys, if no key is equal; so the key fits there, and
   -- the record has all that an insertion there requires
@@ -33,6 +34,7 @@ module _ {K V : Type 0} (cmp : K → K → Ordering) (k : K) (s : TreeState K V)
     pub at : IsPlaceIn s a place
     pub in_leaf : IsLeafAddressIn s a
     pub back : IsSome a.offset
+    pub listed : slice_get (leaf_backs_of s) place ≡ Some a
     pub fits : FitsAt cmp k s a
 
   -- the address of a key that is there, or of the gap in which it would be inserted
@@ -50,13 +52,15 @@ module _ {K V : Type 0} (cmp : K → K → Ordering) (k : K) (s : TreeState K V)
     pub item : IsItemAddress s (start + index) a
     pub found : IsFoundAt a
 
-  -- no key under a node is equal: the back address in a leaf that has as many smaller keys of the node before it
+  -- no key under a node is equal: the back address in a leaf that has as many smaller keys of the node before it; if
+  -- the key fits under the node, it fits there
   pub record IsGapIn (id : ℕ) (a : Address) : Type 0 where
     pub start : ℕ
     pub begins : HasPlace s (address_before id) start
     pub index : ℕ
     pub is : place_of cmp k (pairs_below s id) ≡ Err index
     pub gap : IsLeafBackAt s (start + index) a
+    pub fits : FitsIn cmp k s id → FitsAt cmp k s a
 
   -- the address of a key that is under a node, or of the gap in which it would be there
   abbrev pub IsAddressIn : (id : ℕ) → Result Address Address → Type 0

@@ -2,11 +2,9 @@
 -- `IsItemAt` names the one occupied address of a place, so the address that is returned is determined by the place of
 -- the given one.
 use Rattle.std.specs.Prelude.{◌≡◌, ◌≢◌, ◌+◌, ℕ, zero, suc, ◌≤◌, length, slice_get, Option, Some, None, IfSome, IsSome, ◌↔◌}
-use Rattle.std.specs.Option.{option_map}
 use Rattle.std.specs.FinMap as map
 use Rattle.btree_item.specs.declared.address.Address.{Address}
-use Rattle.btree_view.specs.View.{size_of}
-use Rattle.btree_shape.specs.Addresses.{first_leaf, last_leaf}
+use Rattle.btree_shape.specs.Addresses.{first_leaf}
 use Rattle.btree_shape.specs.Focus.Positions.{address_at, address_before}
 use Rattle.btree_shape.specs.Place.{IsLeaf}
 use Rattle.btree_shape.specs.TreeAddresses.{item_addresses_of}
@@ -98,11 +96,3 @@ module _ {K V : Type 0} (s : TreeState K V) where
     pub is_leaf : IsLeaf (node_map s) (node_map s leaf)
     pub begins : (place : ℕ) → IsPlaceIn s (address_before id) place → IsPlaceIn s (address_before leaf) place
     pub same : IsLeaf (node_map s) (node_map s id) → leaf ≡ id
-
-  -- the last leaf under a node, with its number of items, ends where the node does
-  pub record EndsInLeaf (id : ℕ) (last : ℕ × ℕ) : Type 0 where
-    pub final : last.0 ≡ last_leaf (node_map s) (map.len s.nodes) id
-    pub is_leaf : IsLeaf (node_map s) (node_map s last.0)
-    pub count : option_map size_of (node_map s last.0) ≡ Some last.1
-    pub ends : (place size : ℕ) → option_map size_of (node_map s id) ≡ Some size
-        → IsPlaceIn s (address_at id size) place → IsPlaceIn s (address_at last.0 last.1) place

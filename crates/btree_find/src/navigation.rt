@@ -5,7 +5,8 @@ ghost use Rattle.btree_node.specs.Node.{view_of};
 ghost use Rattle.btree_view.specs.View.{size_of};
 ghost use Rattle.btree_shape.specs.Focus.Positions.{address_at, address_before};
 ghost use Rattle.btree_shape.specs.TreeState.{IsBTree, IsUsed, IsValidIn};
-ghost use Rattle.btree_find.specs.Navigation.{BeginsInLeaf, EndsInLeaf, IsLeafAddressFor, IsNext, IsNextOrBack, IsNormalized, IsPrevious, LeadsBefore, LeadsToItem, LeadsToNext};
+ghost use Rattle.btree_raw.specs.LastItem.{EndsInLeaf};
+ghost use Rattle.btree_find.specs.Navigation.{BeginsInLeaf, IsLeafAddressFor, IsNext, IsNextOrBack, IsNormalized, IsPrevious, LeadsBefore, LeadsToItem, LeadsToNext};
 
 use btree_item::{Address, Offset};
 use btree_node::Node;

@@ -6,7 +6,7 @@ ghost use Rattle.btree_view.specs.View.{value_at_offset};
 ghost use Rattle.btree_shape.specs.TreeState.{HasLevels, IsBTree, IsUsed, pairs_of};
 ghost use Rattle.btree_find.specs.Answers.{IsAddressIn, IsAddressOf};
 ghost use Rattle.btree_find.specs.Fits.{pairs_below};
-ghost use Rattle.btree_find.specs.Levels.{IsDense, TicksAtMost, levels_from};
+ghost use Rattle.btree_find.specs.Levels.{IsDense, TicksAtMost, TicksExactly, comparisons_from, levels_from};
 
 use btree_item::{Address, MAX_COMPARISONS, MAX_LEVELS, Offset};
 use btree_node::Node;
@@ -35,6 +35,7 @@ pub fn address_of_counted<K: Ord, V, C: NodesMut<K, V>>(
 ) -> Result<Address, Address>
     requires { IsBTree K.cmp tree.now }
     ensures found { IsAddressOf K.cmp key.now tree.now result }
+    ensures counted { TicksExactly K.cmp key.now tree.now steps.old.count steps.new.count }
     ensures ticks { TicksAtMost tree.now steps.old.count steps.new.count }
 {
     match tree.root_id() {
@@ -70,6 +71,8 @@ fn search_from<K: Ord, V, C: NodesMut<K, V>>(
     requires tree { IsBTree K.cmp tree.now }
     requires used { IsUsed tree.now top }
     ensures found { IsAddressIn K.cmp key.now tree.now top result }
+    ensures counted { steps.new.count ≡
+        steps.old.count + comparisons_from K.cmp key.now tree.now top }
     ensures ticks { steps.new.count ≤ steps.old.count + MAX_COMPARISONS * levels_from tree.now top }
 {
     tree.tell_fits();

@@ -3,3 +3,4 @@ pub mod LookUpLemmas
 pub mod InternalSplit
 pub mod SeparatorLemmas
 pub mod InsertionLemmas
+pub mod ChangeLemmas

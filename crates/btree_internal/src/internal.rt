@@ -5,10 +5,11 @@ ghost use Rattle.std.specs.Cmp.Rules.{comparing};
 ghost use Rattle.std.specs.Ordering.{on};
 ghost use Rattle.std.specs.List.Sorted.{IsSearchInRange};
 ghost use Rattle.std.specs.Option.{option_copied, option_map};
-ghost use Rattle.btree_item.specs.Pairs.{Ascends, found, place_of};
+ghost use Rattle.btree_item.specs.Comparisons.{comparisons};
+ghost use Rattle.btree_item.specs.Pairs.{Ascends, before, found, place_of};
 ghost use Rattle.btree_view.specs.Edits.{balance_of, IsOverflowing, IsUnderflowing};
 ghost use Rattle.btree_view.specs.Kept.{kept_parent};
-ghost use Rattle.btree_view.specs.LookUp.{IsIndexOfKey, look_up, offset_in, PointsInto, result_map, result_map_err};
+ghost use Rattle.btree_view.specs.LookUp.{comparisons_in, IsIndexOfKey, look_up, offset_in, PointsInto, result_map, result_map_err};
 ghost use Rattle.btree_internal.specs.Internal.{branch_pair, gap_with_child, internal_view as view_of, InternalPopsLeft, InternalPopsRight};
 ghost use Rattle.btree_view.specs.Separators.{separator_after, separator_before};
 ghost use Rattle.btree_view.specs.View.{items_of, children_of, internal, item_at_offset, size_of, value_at_offset};
@@ -117,7 +118,7 @@ pub struct InsertionError<K, V> {
 
 /// An internal node: the number of its parent, the number of its first child, and up to eight items, each with the child after it. In a
 /// well formed tree it has at most seven items.
-#[derive(Drop)]
+#[derive(Clone, Drop)]
 pub struct InternalNode<K, V> {
     // `usize::MAX` if there is no parent.
     parent: usize,
@@ -375,6 +376,8 @@ fn place<K: Ord, V>(
     ensures fits { length branches.now ≤ INTERNAL_SLOTS }
     ensures here { IfOk result (IsIndexOfKey K.cmp key.now (map (λ b. b.item) branches.now)) }
     ensures absent { OnErr result (found K.cmp key.now (map (λ b. b.item) branches.now) ≡ None) }
+    ensures counted { let smaller = before K.cmp key.now (map (λ b. b.item) branches.now) in
+        steps.new.count ≡ steps.old.count + comparisons (length branches.now) smaller }
     ensures ticks { steps.new.count ≤ steps.old.count + MAX_COMPARISONS }
 {
     search_counted(branches, key, steps)
@@ -404,6 +407,8 @@ impl<K: Ord, V> InternalNode<K, V> {
         ensures here { IfOk result (IsIndexOfKey K.cmp key.now (items_of (view_of self.now))) }
         ensures fits { length self.now.branches ≤ INTERNAL_SLOTS }
         ensures absent { OnErr result (found K.cmp key.now (items_of (view_of self.now)) ≡ None) }
+        ensures counted { steps.new.count ≡
+            steps.old.count + comparisons_in K.cmp key.now (view_of self.now) }
         ensures ticks { steps.new.count ≤ steps.old.count + MAX_COMPARISONS }
     {
         place(&self.branches, key, steps)
@@ -455,6 +460,8 @@ impl<K: Ord, V> InternalNode<K, V> {
         requires { Ascends K.cmp (items_of (view_of self.now)) }
         ensures value { result_map_err gap_with_child result ≡ offset_in K.cmp key.now (view_of self.now) }
         ensures within { PointsInto (view_of self.now) result }
+        ensures counted { steps.new.count ≡
+            steps.old.count + comparisons_in K.cmp key.now (view_of self.now) }
         ensures ticks { steps.new.count ≤ steps.old.count + MAX_COMPARISONS }
     {
         match self.find_counted(key, steps) {
@@ -490,7 +497,7 @@ impl<K: Ord, V> InternalNode<K, V> {
 
 impl<K: Ord + Drop, V: Drop> InternalNode<K, V> {
     ghost use Rattle.std.specs.Prelude.{IfErr, OnOk};
-    ghost use Rattle.btree_item.specs.Pairs.{before, found_value};
+    ghost use Rattle.btree_item.specs.Pairs.{found_value};
     ghost use Rattle.btree_internal.specs.Insertion.{NamesChildFor};
     ghost use Rattle.btree_view.specs.Insertion.{with_inserted};
 

@@ -8,6 +8,7 @@ mod offset;
 mod refused;
 mod searches;
 mod slots;
+mod slots_clone;
 mod slots_iter;
 
 pub use address::Address;

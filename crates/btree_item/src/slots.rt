@@ -11,18 +11,21 @@ use std::marker::Model;
 /// A list of at most `N` values. They are stored inline, so that it never allocates, and as options, so that a value needs no default.
 #[derive(Drop)]
 pub struct Slots<T, const N: usize> {
+    // The number of values. A list keeps its own after its last slot: this one lies before the first, so that a look-up need not read
+    // that far.
+    len: usize,
     slots: ArrayVec<Option<T>, N>,
 }
 
 impl<T, const N: usize> Model for Slots<T, N> {
-    ghost use Rattle.std.specs.Prelude.{List};
+    ghost use Rattle.std.specs.Prelude.{◌≡◌, List, length};
     ghost use Rattle.btree_item.specs.Somes.{somes, AreSome};
 
     ghost Value = { List T };
 
     ghost view = { λ s. somes s.slots.items };
 
-    ghost invariant = { λ s. AreSome s.slots.items };
+    ghost invariant = { λ s. (s.len ≡ length s.slots.items) × AreSome s.slots.items };
 }
 
 #[tactic(auto, using(crate::proofs::SomesLemmas::slot_edits))]
@@ -33,16 +36,19 @@ impl<T, const N: usize> Slots<T, N> {
         ensures value { result ≡ length self.now }
         ensures fits { result ≤ N }
     {
-        self.slots.len()
+        // For the prover: there are at most `N`.
+        let _fits = self.slots.len();
+        self.len
     }
 
     /// Returns the value at an index, or `None` past the end.
     pub fn get(&self, index: usize) -> Option<&T>
         ensures { option_copied result ≡ slice_get self.now index }
     {
-        match self.slots.as_slice().get(index) {
-            Some(slot) => slot.as_ref(),
-            None => None,
+        if index < self.len {
+            self.slots.as_slice()[index].as_ref()
+        } else {
+            None
         }
     }
 
@@ -62,7 +68,7 @@ impl<T, const N: usize> Slots<T, N> {
         ensures { result ≡ self.now }
     {
         SlotsIter {
-            slots: self.slots.as_slice().iter(),
+            slots: self.slots.as_slice()[..self.len].iter(),
         }
     }
 }
@@ -73,6 +79,7 @@ impl<T: Drop, const N: usize> Slots<T, N> {
         ensures { result ≡ [] }
     {
         Slots {
+            len: 0,
             slots: ArrayVec::new(),
         }
     }
@@ -83,6 +90,7 @@ impl<T: Drop, const N: usize> Slots<T, N> {
         ensures { self.new ≡ self.old ++ value ∷ [] }
     {
         self.slots.push(Some(value));
+        self.len = self.slots.len();
     }
 
     /// Inserts a value at an index, and moves those from there on right by one. There must be room for it.
@@ -92,6 +100,7 @@ impl<T: Drop, const N: usize> Slots<T, N> {
         ensures { self.new ≡ insert self.old index value }
     {
         self.slots.insert(index, Some(value));
+        self.len = self.slots.len();
     }
 
     /// Removes and returns the value at an index, and moves those after it left by one.
@@ -100,7 +109,9 @@ impl<T: Drop, const N: usize> Slots<T, N> {
         ensures answer { slice_get self.old index ≡ Some result }
         ensures after { self.new ≡ remove self.old index }
     {
-        self.slots.remove(index).unwrap()
+        let slot = self.slots.remove(index);
+        self.len = self.slots.len();
+        slot.unwrap()
     }
 
     /// Removes and returns the last value, if there is one.
@@ -108,7 +119,9 @@ impl<T: Drop, const N: usize> Slots<T, N> {
         ensures answer { result ≡ slice_get self.old (length self.old - 1) }
         ensures after { self.new ≡ take (length self.old - 1) self.old }
     {
-        match self.slots.pop() {
+        let last = self.slots.pop();
+        self.len = self.slots.len();
+        match last {
             Some(slot) => slot,
             None => None,
         }
@@ -120,6 +133,7 @@ impl<T: Drop, const N: usize> Slots<T, N> {
         ensures { self.new ≡ self.old ++ other }
     {
         append_to(&mut self.slots, other.slots);
+        self.len = self.slots.len();
     }
 
     /// Removes the values from an index on, and returns them as a list of their own. Each moves once.
@@ -128,8 +142,11 @@ impl<T: Drop, const N: usize> Slots<T, N> {
         ensures answer { result ≡ drop at self.old }
         ensures after { self.new ≡ take at self.old }
     {
+        let tail = tail_from(&mut self.slots, at);
+        self.len = self.slots.len();
         Slots {
-            slots: tail_from(&mut self.slots, at),
+            len: tail.len(),
+            slots: tail,
         }
     }
 }

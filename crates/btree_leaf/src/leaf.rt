@@ -3,10 +3,11 @@ ghost use Rattle.std.specs.Prelude.{◌≡◌, ◌+◌, ◌<◌, ◌≤◌, ◌�
 ghost use Rattle.std.specs.Borrow.{sem};
 ghost use Rattle.std.specs.List.Sorted.{IsSearchInRange};
 ghost use Rattle.std.specs.Option.{option_and_then, option_copied, option_copied_mut};
+ghost use Rattle.btree_item.specs.Comparisons.{comparisons};
 ghost use Rattle.btree_item.specs.Pairs.{Ascends, before, found, found_value, inserted, place_of};
 ghost use Rattle.btree_leaf.specs.Leaf.{as_offset, leaf_view as view_of, LeafPopsRight};
 ghost use Rattle.btree_view.specs.Kept.{insert_at, kept_parent};
-ghost use Rattle.btree_view.specs.LookUp.{IsIndexOfKey};
+ghost use Rattle.btree_view.specs.LookUp.{comparisons_in, IsIndexOfKey};
 
 use btree_item::{
     Fault, Item, LEAF_MEDIAN, LEAF_SLOTS, MAX_COMPARISONS, MAX_LEAF_ITEMS, MIN_ITEMS, Offset,
@@ -17,7 +18,7 @@ use btree_view::{Balance, WouldUnderflow, check_node, offset_at};
 use std::marker::Model;
 
 /// A leaf: the number of its parent, and up to nine items. In a well formed tree it has at most eight.
-#[derive(Drop)]
+#[derive(Clone, Drop)]
 pub struct LeafNode<K, V> {
     // `usize::MAX` if there is no parent.
     parent: usize,
@@ -163,6 +164,8 @@ fn place_counted<K: Ord, V>(
     ensures fits { length items.now ≤ LEAF_SLOTS }
     ensures here { IfOk result (IsIndexOfKey K.cmp key.now items.now) }
     ensures absent { OnErr result (found K.cmp key.now items.now ≡ None) }
+    ensures counted { steps.new.count ≡
+        steps.old.count + comparisons (length items.now) (before K.cmp key.now items.now) }
     ensures ticks { steps.new.count ≤ steps.old.count + MAX_COMPARISONS }
 {
     search_counted(items, key, steps)
@@ -240,6 +243,8 @@ impl<K: Ord, V> LeafNode<K, V> {
         ensures place { result ≡ place_of K.cmp key.now self.now.items }
         ensures within { IsSearchInRange result (length self.now.items) }
         ensures fits { length self.now.items ≤ LEAF_SLOTS }
+        ensures counted { steps.new.count ≡
+            steps.old.count + comparisons_in K.cmp key.now (view_of self.now) }
         ensures ticks { steps.new.count ≤ steps.old.count + MAX_COMPARISONS }
     {
         place_counted(self.items(), key, steps)

@@ -1,1 +1,2 @@
 pub mod Comparison
+pub mod Removal

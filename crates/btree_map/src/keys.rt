@@ -1,12 +1,13 @@
 //! Look-up by key and at both ends.
-ghost use Rattle.std.specs.Prelude.{◌≡◌, ◌↔◌, ◌-◌, IsSome, IsTrue, length, option_map, slice_get};
-ghost use Rattle.btree_item.specs.Pairs.{found};
+ghost use Rattle.std.specs.Prelude.{◌≡◌, ◌↔◌, ◌-◌, IsSome, IsTrue, Some, length, option_map, slice_get};
+ghost use Rattle.btree_item.specs.Pairs.{found, found_value};
 ghost use Rattle.btree_shape.specs.TreeState.{item_of, pairs_of};
 
 use crate::BTreeMap;
 use btree_ext::{BTreeExt, Tree};
 use btree_item::Address;
 use btree_nodes::NodesMut;
+use std::ops::Index;
 
 // Returns the pair at an address, or `None` if no item is there.
 fn pair_at<K: Ord, V, C: NodesMut<K, V>>(tree: &Tree<K, V, C>, addr: Address) -> Option<(&K, &V)>
@@ -55,5 +56,18 @@ impl<K: Ord, V, C: NodesMut<K, V>> BTreeMap<K, V, C> {
             Some(addr) => pair_at(&self.tree, addr),
             None => None,
         }
+    }
+}
+
+impl<'q, K: Ord, V, C: NodesMut<K, V>> Index<&'q K> for BTreeMap<K, V, C> {
+    type Output = V;
+
+    ghost can_index = { λ m key. IsSome (found K.cmp key.now (pairs_of m)) };
+
+    ghost index_gives = { λ m key value. found_value K.cmp key.now (pairs_of m) ≡ Some value };
+
+    /// Returns the value at a key equal to the given one. The key must be there: `contains_key` decides that.
+    fn index(&self, key: &'q K) -> &V {
+        self.get(key).unwrap()
     }
 }

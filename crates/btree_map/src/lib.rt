@@ -4,6 +4,7 @@
 mod comparison;
 mod keys;
 mod map;
+mod removal;
 mod traits;
 
 pub use map::BTreeMap;

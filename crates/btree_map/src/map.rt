@@ -109,6 +109,7 @@ impl<K: Ord + Drop, V: Drop, C: NodesMut<K, V>> BTreeMap<K, V, C> {
     ghost use Rattle.btree_shape.specs.TreeState.{pairs_of};
     ghost use Rattle.btree_edit.specs.Insert.{IsRefusedAtGap, InsertsByKey};
     ghost use Rattle.btree_edit.specs.Remove.{RemovesByKey};
+    ghost use Rattle.btree_edit.specs.Replace.{ReplacesByKey, replaced};
 
     /// Inserts a pair, or replaces the value if the key is there: the stored key stays, and the given one is dropped.
     ///
@@ -127,6 +128,24 @@ impl<K: Ord + Drop, V: Drop, C: NodesMut<K, V>> BTreeMap<K, V, C> {
             IsRefusedAtGap K.cmp key self.old self.new C.MayRefuse r.cause) }
     {
         self.tree.insert(key, value)
+    }
+
+    /// Inserts a pair, or replaces key and value if an equal key is there. Returns the pair that was replaced.
+    ///
+    /// It searches once. For an absent key it does the same as `insert`, and returns the same errors; for a key that is there it changes one
+    /// node and cannot fail.
+    pub fn replace(&mut self, key: K, value: V) -> Result<Option<(K, V)>, Refused<K, V>>
+        ensures old { IfOk result (λ old. old ≡ found K.cmp key (pairs_of self.old)) }
+        ensures replaced { OnOk result (pairs_of self.new ≡ replaced K.cmp key value (pairs_of self.old)) }
+        ensures replaced_by_key { OnOk result (ReplacesByKey K.cmp key self.old self.new value) }
+        ensures uncounted { OnOk result (self.new.refusals ≡ self.old.refusals) }
+
+        ensures returned { IfErr result (λ r. (r.key ≡ key) × (r.value ≡ value)) }
+        ensures absent { OnErr result (found K.cmp key (pairs_of self.old) ≡ None) }
+        ensures cause { IfErr result (λ r.
+            IsRefusedAtGap K.cmp key self.old self.new C.MayRefuse r.cause) }
+    {
+        self.tree.replace(key, value)
     }
 
     /// Removes a key equal to the given one, and returns its value. Returns `None`, and nothing changes, if there is none.

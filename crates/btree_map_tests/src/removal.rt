@@ -167,6 +167,57 @@ fn inserts_each_pair_at_the_address_of_its_gap(rt: HostRuntime) -> Result<(), Fa
     Ok(())
 }
 
+// Checks that the neighbours of an item lead back to it. Returns how many neighbours it has.
+fn check_neighbours(rt: &impl Abort, map: &Map, key: &u64) -> Result<usize, Fail> {
+    let Ok(addr) = map.address_of(key) else {
+        return Err(Fail::from("absent"));
+    };
+    let mut neighbours = 0usize;
+    if let Some(next) = map.next_item_address(Address::new(addr.id, addr.offset)) {
+        assert!(rt; next != addr, "{key}");
+        assert!(rt;
+            map.previous_item_address(next) == Some(Address::new(addr.id, addr.offset)),
+            "{key}"
+        );
+        neighbours = neighbours.wrapping_add(1);
+    }
+    if let Some(previous) = map.previous_item_address(Address::new(addr.id, addr.offset)) {
+        assert!(rt; previous != addr, "{key}");
+        assert!(rt; map.next_item_address(previous) == Some(addr), "{key}");
+        neighbours = neighbours.wrapping_add(1);
+    }
+    Ok(neighbours)
+}
+
+#[test]
+fn neighbours_lead_back(rt: HostRuntime) -> Result<(), Fail> {
+    let pairs = items(rt.alloc())?;
+    let (map, _list) = maps_of(&rt, &pairs, 100, rt.alloc())?;
+    let mut neighbours = 0usize;
+    for (key, _value) in pairs.iter() {
+        neighbours = neighbours.wrapping_add(check_neighbours(&rt, &map, key)?);
+    }
+    assert_eq!(rt; neighbours, 198);
+    Ok(())
+}
+
+// The nodes of nine keys: the root has 4, and is over two leaves.
+#[test]
+fn hands_out_its_nodes(rt: HostRuntime) -> Result<(), Fail> {
+    let mut map: Map = BTreeMap::new(rt.alloc());
+    for key in 0..9u64 {
+        assert!(rt; map.insert(key, key).is_ok());
+    }
+    let raw = map.into_raw();
+    assert_eq!(rt; (raw.len(), raw.node_count()), (9, 3));
+    let Some(top) = raw.root_id() else {
+        return Err(Fail::from("no root"));
+    };
+    let item = raw.item(Address::new(top, Offset::from(0)));
+    assert_eq!(rt; item.map(|item| *item.key()), Some(4));
+    Ok(())
+}
+
 #[test]
 fn removal_merges_up_to_the_root(rt: HostRuntime) -> Result<(), Fail> {
     let mut map: Map = BTreeMap::new(rt.alloc());

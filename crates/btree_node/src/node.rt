@@ -4,7 +4,7 @@ ghost use Rattle.std.specs.Option.{option_copied};
 ghost use Rattle.btree_item.specs.Pairs.{Ascends};
 ghost use Rattle.btree_view.specs.Edits.{balance_of, HasChildFor, is_internal, IsOverflowing, IsSplit, IsUnderflowing, with_parent};
 ghost use Rattle.btree_view.specs.Kept.{kept_parent};
-ghost use Rattle.btree_view.specs.LookUp.{look_up, offset_in, PointsInto, result_map};
+ghost use Rattle.btree_view.specs.LookUp.{comparisons_in, look_up, offset_in, PointsInto, result_map};
 ghost use Rattle.btree_node.specs.Node.{branch_copied, view_of};
 ghost use Rattle.btree_internal.specs.ChildrenLeft.{between_left, children_left};
 ghost use Rattle.btree_view.specs.Separators.{children_between_items, separator_after, separator_before};
@@ -23,7 +23,7 @@ use btree_view::{Balance, WouldUnderflow, offset_at};
 pub type PoppedItem<K, V> = (Offset, Item<K, V>, Option<usize>);
 
 /// A node: an internal node or a leaf. Contracts see either as its view.
-#[derive(Drop)]
+#[derive(Clone, Drop)]
 pub enum Node<K, V> {
     Internal(InternalNode<K, V>),
     Leaf(LeafNode<K, V>),
@@ -533,6 +533,8 @@ impl<K: Ord, V> Node<K, V> {
         requires { Ascends K.cmp (items_of (view_of self.now)) }
         ensures value { result ≡ offset_in K.cmp key.now (view_of self.now) }
         ensures within { PointsInto (view_of self.now) result }
+        ensures counted { steps.new.count ≡
+            steps.old.count + comparisons_in K.cmp key.now (view_of self.now) }
         ensures ticks { steps.new.count ≤ steps.old.count + MAX_COMPARISONS }
     {
         match self {

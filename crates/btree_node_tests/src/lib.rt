@@ -4,6 +4,8 @@
 #[cfg(test)]
 mod children;
 #[cfg(test)]
+mod clones;
+#[cfg(test)]
 mod counted;
 #[cfg(test)]
 mod item_mut;

@@ -20,3 +20,7 @@ pub mod RawLemmas
 pub mod RebalanceLemmas
 pub mod PutLemmas
 pub mod OnlyLemmas
+pub mod WithinLemmas
+pub mod PlacedLemmas
+pub mod LastLemmas
+pub mod PutBackLemmas

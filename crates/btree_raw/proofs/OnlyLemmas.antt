@@ -1,5 +1,5 @@
 -- The only item of a tree without nodes.
-use Rattle.std.proofs.Common.{◌≡◌, ◌≢◌, ◌+◌, ℕ, inl, inr, [], ◌∷◌, length, Option, Some, None, refl, sym, ap, subst, ◌∙◌, ◌<◌, ◌-◌, ◌^◌, option_map, arith}
+use Rattle.std.proofs.Common.{◌≡◌, ◌≢◌, ◌+◌, ℕ, inl, inr, [], ◌∷◌, Option, Some, None, refl, sym, ap, subst, ◌∙◌, ◌<◌, ◌-◌, ◌^◌, option_map, arith}
 use Rattle.std.specs.FinMap as map
 use Rattle.std.specs.Ordering.{nat_cmp}
 use Rattle.btree_item.specs.declared.refused.Cause.TheVariants.{Store}
@@ -21,9 +21,9 @@ use Rattle.btree_shape.proofs.Splits.Insertion.{first-well}
 use Rattle.btree_shape.proofs.Trees.Stores.{len-views}
 use Rattle.btree_shape.specs.Need.{need}
 use Rattle.btree_shape.proofs.Trees.States.{is-tree-but-length, pairs-tree}
-use Rattle.btree_raw.specs.Claimed.{EMPTY, MayRefuseOneOf}
+use Rattle.btree_raw.specs.Claimed.{EMPTY}
 use Rattle.btree_raw.proofs.StateLemmas.{nodes-of, same-len, same-refusals}
-use Rattle.btree_raw.specs.Insertion.{InsertsExactly, IsRefused}
+use Rattle.btree_raw.specs.Insertion.{InsertsExactly, IsRefused, UsesNeeded}
 use Rattle.btree_raw.specs.Raw.{Refuses}
 
 pub len-of : {K V : Type 0} {a b : TreeState K V} → a ≡ b → a.len ≡ b.len
@@ -67,6 +67,16 @@ module _ {K V : Type 0} (cmp : K → K → Ordering) (old mid put : TreeState K 
   place-new : IsPlace (node_map new) (Some root) (x ∷ []) root (Some 0) 0
   place-new = inl (subst (λ o. IsPlaceOf (node_map new) (x ∷ []) o 0) (sym (ap (λ v. item_in v 0) here)) refl)
 
+  used-one-node : UsesNeeded old new a.id
+  used-one-node =
+      let one : need (node_map old) old.root (map.len old.nodes) a.id ≡ 1 = ap (λ t. need (node_map old) t (map.len old.nodes) a.id) rootless in
+      let count : map.len new.nodes ≡ 1 = len-views new.nodes (root ∷ []) used-new in
+      record {
+        full = λ full. let f = full.here in let none = no-nodes a.id in absurd (cc);
+        first = λ none. omega arith;
+        room = λ some not_full. absurd (some rootless);
+      }
+
   pub only-inserted : InsertsExactly cmp old new a b x child
   only-inserted =
       let mid_len : mid.len ≡ old.len = ap (λ (s : TreeState K V). s.len) claimed in
@@ -76,6 +86,7 @@ module _ {K V : Type 0} (cmp : K → K → Ordering) (old mid put : TreeState K 
         item = rw b_is (ap (λ v. item_in v 0) here);
         longer = ap (λ n. n + 1) (same-len changes.rest ∙ mid_len);
         uncounted = same-refusals changes.rest ∙ ap (λ (s : TreeState K V). s.refusals) claimed;
+        nodes = used-one-node;
         put = λ some. absurd (some rootless);
         first = λ none. record {
           pairs = pairs-new;

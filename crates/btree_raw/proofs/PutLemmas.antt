@@ -1,6 +1,6 @@
 -- An item put at exactly an address: the nodes with it, and what the steps of the insertion require and leave.
 use Rattle.std.proofs.Common.{◌≡◌, ◌≢◌, ◌∙◌, ◌+◌, ◌-◌, ◌<◌, ◌≤◌, ◌^◌, ℕ, zero, suc, inl, inr, List, [], ◌∷◌, length, Bool, true, false, Option, Some, None, IsSome, refl, sym, ap, subst, arith, slice_get, option_map, option_and_then, if◌then◌else◌}
-use Rattle.std.specs.Prelude.{nat_lt, map, is_some}
+use Rattle.std.specs.Prelude.{nat_lt, map}
 use Rattle.std.specs.List.{insert}
 use Rattle.std.specs.Cmp.{IsTotalOrder}
 use Rattle.std.specs.FinMap as finite
@@ -14,7 +14,7 @@ use Rattle.btree_item.specs.declared.refused.Cause.TheVariants.{Store}
 use Rattle.btree_node.specs.declared.node.Node.{Node}
 use Rattle.btree_node.specs.Node.{view_of}
 use Rattle.btree_view.specs.Edits.{with_item, HasChildFor}
-use Rattle.btree_view.specs.View.{View, NodeMap, leaf, internal, item_in, items_of, most_of, parent_of, size_of}
+use Rattle.btree_view.specs.View.{View, leaf, internal, item_in, items_of, most_of, parent_of, size_of}
 use Rattle.btree_shape.specs.Lists.{times_listed}
 use Rattle.btree_shape.specs.Need.{need, split_need}
 use Rattle.btree_shape.specs.Place.{IsWithin}
@@ -23,11 +23,11 @@ use Rattle.btree_shape.specs.Step.{Claims}
 use Rattle.btree_shape.specs.TreeState.{TreeState, Changes, IsOffByOneAt, IsUsed, IsValidIn, KeepsRest, item_of, node_map, nodes_for_splits, nodes_needed, pairs_of, views}
 use Rattle.btree_shape.specs.WellFormed.{IsOffByOne, times_used}
 use Rattle.btree_shape.proofs.Paths.Used.{less-no}
-use Rattle.btree_shape.proofs.Trees.Numbers.{same-node, same-or, used-low, used-one}
+use Rattle.btree_shape.proofs.Trees.Numbers.{less-or, same-node, same-or, used-low, used-one}
 use Rattle.btree_shape.proofs.Trees.States.{is-off}
 use Rattle.btree_shape.proofs.Trees.Stores.{len-views}
 use Rattle.btree_raw.specs.Claimed.{AreClaimed, EMPTY, MayRefuseOneOf}
-use Rattle.btree_raw.specs.Insertion.{InsertsExactly, IsFull, IsOffByOneWith, IsRefused, PutsItem}
+use Rattle.btree_raw.specs.Insertion.{InsertsExactly, IsFull, IsOffByOneWith, IsRefused, PutsItem, UsesNeeded}
 use Rattle.btree_raw.specs.Raw.{Refuses}
 use Rattle.btree_raw.specs.Rebalance.{HasRoom, IsRebalanced}
 use Rattle.btree_raw.specs.Steps.{AddsItem, AreSplitAlike, CanAddItem, IsCountingSplits, IsSplitting, Overflows, SplitsUpward, split_key}
@@ -114,11 +114,63 @@ module _ {K V : Type 0} (cmp : K → K → Ordering) (laws : IsTotalOrder cmp) (
         ap (option_and_then (item_in (node_map put a.id))) puts.offset
         ∙ (ap (λ v. item_in v puts.index) put-here ∙ put-there was puts.index x child puts.can.within puts.can.kind)
 
+    put-used : (n : ℕ) → times_used (node_map put n) ≡ times_used (node_map old n)
+    put-used n = elim (same-or n a.id) [
+      | inl same ↦
+          let p = used-one (node_map put a.id) is put-here in
+          let q = used-one (node_map old a.id) was puts.can.here in
+          rw same (omega arith)
+      | inr differs ↦ ap times_used (puts.adds.nodes.others n differs)
+    ]
+
+    pub put-as-many : IsOffByOneAt cmp put a.id → finite.len put.nodes ≡ finite.len old.nodes
+    put-as-many off =
+        let ids : List ℕ = numbers_under (node_map put) off.off.rooted.height off.root in
+        let each : (n : ℕ) → times_listed n ids ≡ times_used (node_map put n) = off.off.rooted.once in
+        len-views put.nodes ids each ∙ sym (len-views old.nodes ids (λ n. each n ∙ put-used n))
+
+    -- a full node overflows with the item, and any other has room for it
+    pub full-over : IsFull (node_map old) a.id → Overflows (node_map put) a.id
+    full-over full =
+        let e = same-node (node_map old) a.id full.node was full.here puts.can.here in
+        let s = ap size_of e in
+        let t = ap most_of e in
+        let f = full.full in
+        let l = larger in
+        let m = put-most was puts.index x child in
+        record { node = is; here = put-here; over = omega arith }
+
+    else-room : (IsFull (node_map old) a.id → ⊥) → HasRoom (node_map put) a.id
+    else-room not_full =
+        let l = larger in
+        let m = put-most was puts.index x child in
+        elim (less-or (size_of was) (most_of was)) [
+          | inl low ↦ record { node = is; here = put-here; room = omega arith }
+          | inr other ↦
+              let full : most_of was ≤ size_of was = elim other [ inl same ↦ omega arith | inr more ↦ omega arith ] in
+              absurd (not_full (record { node = was; here = puts.can.here; full = full }))
+        ]
+
+    put-nodes : (new : TreeState K V) (b : Address) → old.root ≢ None → IsOffByOneAt cmp put a.id → IsRebalanced put new a.id cmp a b
+        → (Overflows (node_map put) a.id → nodes_for_splits put a.id ≡ nodes_needed old a.id)
+        → UsesNeeded old (record new { len = new.len + 1 }) a.id
+    put-nodes new b rooted off r needed =
+        let many = put-as-many off in
+        record {
+          full = λ f.
+              let over = full-over f in
+              let more = (r.allocated over).more in
+              let n = needed over in
+              omega arith;
+          first = λ none. absurd (rooted none);
+          room = λ some not_full. let fewer = (r.freed (else-room not_full)).fewer in omega arith;
+        }
+
     -- the rebalanced content with the item, and the length raised
-    pub put-inserted : (new : TreeState K V) (b : Address) → old.root ≢ None → IsRebalanced put new a.id cmp a b
+    pub put-inserted : (new : TreeState K V) (b : Address) → old.root ≢ None → IsOffByOneAt cmp put a.id → IsRebalanced put new a.id cmp a b
         → (Overflows (node_map put) a.id → nodes_for_splits put a.id ≡ nodes_needed old a.id)
         → InsertsExactly cmp old (record new { len = new.len + 1 }) a b x child
-    put-inserted new b rooted r needed =
+    put-inserted new b rooted off r needed =
         let same : new.len ≡ old.len = r.len ∙ same-len puts.adds.rest in
         record {
           tree = r.well;
@@ -126,6 +178,7 @@ module _ {K V : Type 0} (cmp : K → K → Ordering) (laws : IsTotalOrder cmp) (
           item = r.item x put-item;
           longer = ap (λ n. n + 1) same;
           uncounted = r.uncounted ∙ same-refusals puts.adds.rest;
+          nodes = put-nodes new b rooted off r needed;
           put = λ some. record {
             put = put;
             puts = puts;
@@ -211,11 +264,7 @@ module _ {K V : Type 0} (cmp : K → K → Ordering) (laws : IsTotalOrder cmp) (
       more-here = put-here w.put w.puts
 
       over : Overflows (node_map w.put) a.id
-      over =
-          let l = larger w.put w.puts in
-          let m = put-most node w.puts.index x child in
-          let f = is-full in
-          record { node = more; here = more-here; over = omega arith }
+      over = full-over w.put w.puts full
 
       alike : AreSplitAlike (node_map old) (node_map w.put)
       alike n = elim (same-or n a.id) [
@@ -227,20 +276,8 @@ module _ {K V : Type 0} (cmp : K → K → Ordering) (laws : IsTotalOrder cmp) (
         | inr differs ↦ ap (option_map split_key) (w.puts.adds.nodes.others n differs)
       ]
 
-      same-used : (n : ℕ) → times_used (node_map w.put n) ≡ times_used (node_map old n)
-      same-used n = elim (same-or n a.id) [
-        | inl same ↦
-            let p = used-one (node_map w.put a.id) more more-here in
-            let q = used-one (node_map old a.id) node w.puts.can.here in
-            rw same (omega arith)
-        | inr differs ↦ ap times_used (w.puts.adds.nodes.others n differs)
-      ]
-
       as-many : finite.len w.put.nodes ≡ finite.len old.nodes
-      as-many =
-          let ids : List ℕ = numbers_under (node_map w.put) w.off.off.rooted.height w.off.root in
-          let each : (n : ℕ) → times_listed n ids ≡ times_used (node_map w.put n) = w.off.off.rooted.once in
-          len-views w.put.nodes ids each ∙ sym (len-views old.nodes ids (λ n. each n ∙ same-used n))
+      as-many = put-as-many w.put w.puts w.off
 
       pub old-counting : IsCountingSplits (node_map old) (finite.len old.nodes) a.id a.id 0
       old-counting =
@@ -317,6 +354,6 @@ module _ {K V : Type 0} (cmp : K → K → Ordering) (laws : IsTotalOrder cmp) (
           pub split-inserted : (new : TreeState K V) (b : Address) → old.root ≢ None → SplitsUpward last new a.id ids a b → (IsSome a.offset → IsSome b.offset)
               → InsertsExactly cmp old (record new { len = new.len + 1 }) a b x child
           split-inserted new b rooted s back =
-              put-inserted w.put w.puts new b rooted
+              put-inserted w.put w.puts new b rooted w.off
               (is-split cmp laws w.put a.id w.off a (put-valid w.put w.puts) over ids last put-claims rest (count ∙ sym same-need) new b s back)
               (λ full. same-need ∙ needed-is)

@@ -1,9 +1,9 @@
 -- What an insertion into a raw tree at exactly an address requires and leaves.
 -- Read `PutsItem` first: the item is in the node, with the child after it. `insert_exactly_at` requires that the nodes
 -- are off by one then (`IsOffByOneWith`), or, without a root, that there is no node. `InsertsExactly` is what it leaves:
--- with a root the rebalanced content with the item (`IsPutAndRebalanced`), else one node (`IsOnlyItem`). `IsRefused` is
--- the other outcome.
-use Rattle.std.specs.Prelude.{◌≡◌, ◌≢◌, ℕ, ◌+◌, ◌-◌, ◌^◌, ◌<◌, ◌≤◌, [], ◌∷◌, Option, Some, None, IsSome}
+-- with a root the rebalanced content with the item (`IsPutAndRebalanced`), else one node (`IsOnlyItem`); `UsesNeeded`
+-- says how many nodes that took. `IsRefused` is the other outcome.
+use Rattle.std.specs.Prelude.{◌≡◌, ◌≢◌, ℕ, ◌+◌, ◌-◌, ◌^◌, ◌<◌, ◌≤◌, [], ◌∷◌, Option, Some, None}
 use Rattle.std.specs.FinMap as map
 use Rattle.std.specs.declared.cmp.Ordering.{Ordering}
 use Rattle.btree_store.specs.Content.{Content}
@@ -45,6 +45,13 @@ module _ {K V : Type 0} where
     pub place : IsPlaceIn s b 0
     pub nodes : map.len s.nodes ≡ 1
 
+  -- an insertion at node `id` used exactly the nodes that it needed if the node was full, or if there was no root; at
+  -- another node it used none, and may have freed some
+  pub record UsesNeeded (old new : TreeState K V) (id : ℕ) : Type 0 where
+    pub full : IsFull (node_map old) id → map.len new.nodes ≡ map.len old.nodes + nodes_needed old id
+    pub first : old.root ≡ None → map.len new.nodes ≡ map.len old.nodes + nodes_needed old id
+    pub room : old.root ≢ None → (IsFull (node_map old) id → ⊥) → map.len new.nodes ≤ map.len old.nodes
+
   module _ (cmp : K → K → Ordering) where
     -- with the item put at address a the nodes are off by one at its node
     pub record IsOffByOneWith (s : TreeState K V) (a : Address) (x : K × V) (child : Option ℕ) : Type 0 where
@@ -60,13 +67,14 @@ module _ {K V : Type 0} where
       pub rebalanced : IsRebalanced put (record new { len = old.len }) a.id cmp a b
       pub needed : Overflows (node_map put) a.id → nodes_for_splits put a.id ≡ nodes_needed old a.id
 
-    -- the item x was inserted at address a and is at address b
+    -- the item x was inserted at address a and is at address b, with the nodes that this needed and no others
     pub record InsertsExactly (old new : TreeState K V) (a b : Address) (x : K × V) (child : Option ℕ) : Type 0 where
       pub tree : IsBTreeButLength cmp new
       pub valid : IsValidIn new b
       pub item : item_of new b ≡ Some x
       pub longer : new.len ≡ old.len + 1
       pub uncounted : new.refusals ≡ old.refusals
+      pub nodes : UsesNeeded old new a.id
       pub put : old.root ≢ None → IsPutAndRebalanced old new a b x child
       pub first : old.root ≡ None → IsOnlyItem new b x
 

@@ -5,3 +5,4 @@ pub mod Underflow
 pub mod Raw
 pub mod Rebalance
 pub mod Insertion
+pub mod LastItem

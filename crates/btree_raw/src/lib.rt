@@ -9,6 +9,7 @@ mod nodes;
 mod overflow;
 mod raw;
 mod rebalance;
+mod removal;
 mod rotate;
 mod underflow;
 

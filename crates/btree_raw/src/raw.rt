@@ -1,5 +1,5 @@
 //! A raw tree: a tree of any content.
-ghost use Rattle.std.specs.Prelude.{◌≡◌, ◌↔◌, ◌+◌, ◌<◌, Err, None, IsTrue, IsSome, Some, option_copied, IfOk, OnOk, IfErr, OnErr};
+ghost use Rattle.std.specs.Prelude.{◌≡◌, ◌↔◌, ◌+◌, ◌<◌, Err, None, IsTrue, IsSome, Ok, Some, option_copied, IfOk, OnOk, IfErr, OnErr};
 ghost use Rattle.btree_item.specs.declared.fault.Fault.TheVariants.{NoNode};
 ghost use Rattle.std.specs.FinMap as map;
 ghost use Rattle.std.specs.Borrow.{Lends, sem};
@@ -205,7 +205,8 @@ impl<K, V, C: NodesMut<K, V>> RawBTree<K, V, C> {
 }
 
 impl<K: Ord, V, C: NodesMut<K, V>> RawBTree<K, V, C> {
-    ghost use Rattle.btree_shape.specs.TreeState.{IsOffByOneAt};
+    ghost use Rattle.btree_shape.specs.TreeState.{IsBTree, IsOffByOneAt};
+    ghost use Rattle.btree_valid.specs.Faults.{AcceptsRawNode, SuitsRawNode};
 
     /// Returns whether the tree has a root and at most 32 levels, and is well formed except for its length and the number of items of node
     /// `id`: it may have one item too many or too few, and the root may also be empty. This is what `rebalance` requires of the tree.
@@ -223,9 +224,11 @@ impl<K: Ord, V, C: NodesMut<K, V>> RawBTree<K, V, C> {
 
     /// Checks that the nodes are exactly one well formed tree under the root, with this length, and returns the first fault in preorder.
     ///
-    /// The root is on level 1, and a node on level 33 is `TooDeep`; nothing below it is read. It copies nothing and uses no memory but the
-    /// stack.
-    pub fn validate(&self) -> Result<(), Fault> {
+    /// The root is on level 1, and a node on level 33 is `TooDeep`; nothing below it is read. It reads each node of a well formed tree
+    /// once, copies nothing and uses no memory but the stack.
+    pub fn validate(&self) -> Result<(), Fault>
+        ensures { result ≡ Ok tt ↔ IsBTree K.cmp self.now }
+    {
         self.tell_fits();
         validate(&self.store, self.root, self.len)
     }
@@ -242,8 +245,12 @@ impl<K: Ord, V, C: NodesMut<K, V>> RawBTree<K, V, C> {
         max: Option<&K>,
     ) -> Result<usize, Fault>
         ensures unused { map.get self.now.nodes id ≡ None → result ≡ Err NoNode }
+        ensures accepts { AcceptsRawNode K.cmp self.now id parent (option_copied min.entry) (option_copied max.entry) result }
+        ensures only { SuitsRawNode K.cmp self.now id parent (option_copied min.entry) (option_copied max.entry) result }
     {
         self.tell_fits();
+        // For the prover alone: the length is a `usize`, so there are at most 32 levels.
+        let _len = self.len();
         validate_node(&self.store, id, parent, min, max)
     }
 }

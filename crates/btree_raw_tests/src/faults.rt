@@ -1,4 +1,4 @@
-//! `validate` and `validate_node` on a root T over two leaves, L and R, changed each time.
+//! `validate` and `validate_node` on a root T over two leaves, L and R, changed each time, and on higher trees.
 ghost use Rattle.std.specs.Prelude.{◌≡◌, []};
 ghost use Rattle.btree_node.specs.Node.{view_of};
 ghost use Rattle.btree_view.specs.View.{children_of};
@@ -10,7 +10,7 @@ use btree_store::SlabStore;
 use std::alloc::Global;
 use std::process::Abort;
 
-type Raw = RawBTree<u64, u64, SlabStore<Node<u64, u64>>>;
+pub(crate) type Raw = RawBTree<u64, u64, SlabStore<Node<u64, u64>>>;
 
 fn leaf_of(rt: &impl Abort, keys: &[u64]) -> Node<u64, u64>
     ensures { children_of (view_of result) ≡ [] }
@@ -24,7 +24,7 @@ fn leaf_of(rt: &impl Abort, keys: &[u64]) -> Node<u64, u64>
 }
 
 // Allocates a leaf of these keys.
-fn put_leaf(rt: &impl Abort, raw: &mut Raw, keys: &[u64]) -> usize {
+pub(crate) fn put_leaf(rt: &impl Abort, raw: &mut Raw, keys: &[u64]) -> usize {
     match raw.allocate_node(leaf_of(rt, keys)) {
         Ok(id) => id,
         Err(_) => panic!(rt; "refused"),
@@ -136,4 +136,131 @@ fn each_node_is_met(rt: HostRuntime) {
     assert_eq!(rt; raw.validate(), Err(Fault::Unreachable));
     raw.set_len(10);
     assert_eq!(rt; raw.validate(), Err(Fault::WrongLength));
+}
+
+// Allocates an internal node with the same number as key and value of each item, over children that are there.
+fn put_inner(
+    rt: &impl Abort,
+    raw: &mut Raw,
+    first: usize,
+    (key, second): (u64, usize),
+    more: &[(u64, usize)],
+) -> usize {
+    assert!(rt; raw.has_node(first));
+    assert!(rt; raw.has_node(second));
+    let id = match raw.allocate_node(Node::binary(None, first, Item::new(key, key), second)) {
+        Ok(id) => id,
+        Err(_) => panic!(rt; "refused"),
+    };
+    for (key, child) in more {
+        assert!(rt; raw.has_node(*child));
+        raw.node_mut(*child).set_parent(Some(id));
+        assert!(rt; raw.has_node(id));
+        if let Node::Internal(node) = raw.node_mut(id) {
+            assert!(rt; node.item_count() < 8);
+            node.push_right(Item::new(*key, *key), *child);
+        }
+    }
+    id
+}
+
+// Allocates a leaf of a key and the two after it.
+fn put_three(rt: &impl Abort, raw: &mut Raw, key: u64) -> usize {
+    put_leaf(rt, raw, &[key, key.wrapping_add(1), key.wrapping_add(2)])
+}
+
+// Allocates an internal node over four leaves of three keys, which has 15 keys from this one on under it.
+fn put_four(rt: &impl Abort, raw: &mut Raw, key: u64) -> usize {
+    let a = put_three(rt, raw, key);
+    let b = put_three(rt, raw, key.wrapping_add(4));
+    let c = put_three(rt, raw, key.wrapping_add(8));
+    let d = put_three(rt, raw, key.wrapping_add(12));
+    let more = [(key.wrapping_add(7), c), (key.wrapping_add(11), d)];
+    put_inner(rt, raw, a, (key.wrapping_add(3), b), &more)
+}
+
+#[test]
+fn compares_all_keys_below_a_node(rt: HostRuntime) {
+    let mut raw = Raw::new(rt.alloc());
+    let low = put_four(&rt, &mut raw, 0);
+    let high = put_four(&rt, &mut raw, 16);
+    let top = put_inner(&rt, &mut raw, low, (15, high), &[]);
+    raw.set_root_id(Some(top));
+    raw.set_len(31);
+    assert_eq!(rt; raw.validate(), Ok(()));
+    for (id, parent, min, max, answer) in [
+        (top, None, None, None, Ok(2)),
+        (low, Some(top), None, Some(15), Ok(1)),
+        (low, Some(top), None, Some(14), Err(Fault::AboveSeparator)),
+        (high, Some(top), Some(15), None, Ok(1)),
+        (high, Some(top), Some(16), None, Err(Fault::BelowSeparator)),
+        (high, Some(top), None, None, Ok(1)),
+        (high, None, Some(15), None, Err(Fault::WrongParent)),
+    ] {
+        let (least, most): (Option<u64>, Option<u64>) = (min, max);
+        assert_eq!(rt;
+            raw.validate_node(id, parent, least.as_ref(), most.as_ref()),
+            answer,
+            "{id}"
+        );
+    }
+}
+
+#[test]
+fn leaves_are_on_one_level(rt: HostRuntime) {
+    let mut raw = Raw::new(rt.alloc());
+    let leaf = put_three(&rt, &mut raw, 0);
+    let four = put_four(&rt, &mut raw, 4);
+    let top = put_inner(&rt, &mut raw, leaf, (3, four), &[]);
+    raw.set_root_id(Some(top));
+    assert_eq!(rt; raw.validate(), Err(Fault::NotBalanced));
+    let mut raw = Raw::new(rt.alloc());
+    let four = put_four(&rt, &mut raw, 0);
+    let leaf = put_three(&rt, &mut raw, 16);
+    let top = put_inner(&rt, &mut raw, four, (15, leaf), &[]);
+    raw.set_root_id(Some(top));
+    assert_eq!(rt; raw.validate(), Err(Fault::NotBalanced));
+}
+
+#[test]
+fn a_node_is_not_its_own_child(rt: HostRuntime) {
+    let mut raw = Raw::new(rt.alloc());
+    let leaf = put_three(&rt, &mut raw, 0);
+    let a = put_three(&rt, &mut raw, 6);
+    let b = put_three(&rt, &mut raw, 10);
+    let inner = put_inner(&rt, &mut raw, a, (9, b), &[]);
+    let top = put_inner(&rt, &mut raw, leaf, (3, inner), &[]);
+    raw.set_root_id(Some(top));
+    assert_eq!(rt; raw.validate(), Err(Fault::Underflowing));
+    for key in [5, 4] {
+        assert!(rt; raw.has_node(inner));
+        if let Node::Internal(node) = raw.node_mut(inner) {
+            assert!(rt; node.item_count() < 8);
+            node.push_left(Item::new(key, key), inner);
+        }
+    }
+    assert_eq!(rt; raw.validate(), Err(Fault::WrongParent));
+}
+
+// Each node has three items, and its first child is the node before it; its others, and the first child of the lowest, are one leaf,
+// which names the root as its parent.
+#[test]
+fn a_tree_has_at_most_32_levels(rt: HostRuntime) {
+    for (inner, fault) in [
+        (32, Fault::WrongParent),
+        (33, Fault::TooDeep),
+        (40, Fault::TooDeep),
+    ] {
+        let mut raw = Raw::new(rt.alloc());
+        let leaf = put_leaf(&rt, &mut raw, &[1, 0, 2]);
+        let mut top = leaf;
+        let mut key = 1000u64;
+        for _ in 0..inner {
+            let more = [(key.wrapping_add(1), leaf), (key.wrapping_add(2), leaf)];
+            top = put_inner(&rt, &mut raw, top, (key, leaf), &more);
+            key = key.wrapping_add(3);
+        }
+        raw.set_root_id(Some(top));
+        assert_eq!(rt; raw.validate(), Err(fault), "{inner}");
+    }
 }

@@ -1,10 +1,13 @@
-//! Look-up under a node, in a root T over two leaves: the keys 0 to 3 in L, 4 in T, and 5 to 8 in R. The value of a key is ten times the
-//! key.
+//! Look-up under a node, and checks of it, in a root T over two leaves: the keys 0 to 3 in L, 4 in T, and 5 to 8 in R. The value of a key
+//! is ten times the key.
+ghost use Rattle.std.specs.Prelude.{IsTrue};
 ghost use Rattle.btree_shape.specs.TreeState.{IsUsed};
+ghost use Rattle.btree_find.specs.Fits.{FitsIn};
 
 use btree_ext::{BTreeExt, BTreeExtMut, Tree};
-use btree_item::{Address, Offset};
+use btree_item::{Address, Fault, Offset};
 use btree_node::Node;
+use btree_nodes::NodesMut;
 use btree_store::SlabStore;
 use std::alloc::Global;
 use std::process::Abort;
@@ -99,5 +102,53 @@ fn writes_under_each_node(rt: HostRuntime) {
         assert!(rt; tree.has_node(id));
         let value = tree.get_in(key, id).copied();
         assert_eq!(rt; value, if *found { Some(11 * *key) } else { None }, "{key}");
+    }
+}
+
+// A key between the separators of a node that is not under it fits where the look-up says that it would be.
+fn fits_at_its_gap<K: Ord, V, C: NodesMut<K, V>>(tree: &Tree<K, V, C>, id: usize, key: &K) -> bool
+    requires used { IsUsed tree.now id }
+    requires fits { FitsIn K.cmp key.now tree.now id }
+    ensures { IsTrue result }
+{
+    match tree.address_in(id, key) {
+        Ok(_) => true,
+        Err(addr) => tree.fits_at(addr, key),
+    }
+}
+
+#[test]
+fn fits_where_it_is_missing(rt: HostRuntime) {
+    let (tree, ids) = nine_keys(&rt, rt.alloc());
+    for (name, key, found, _, _, fits) in &ROWS {
+        let id = number_of(ids, *name);
+        assert!(rt; tree.has_node(id));
+        if *fits && !*found {
+            assert!(rt; tree.key_fits_in(id, key), "{key}");
+            assert!(rt; fits_at_its_gap(&tree, id, key), "{key}");
+        }
+    }
+}
+
+#[test]
+fn compares_each_node_with_what_is_expected(rt: HostRuntime) {
+    let (tree, (l, t, r)) = nine_keys(&rt, rt.alloc());
+    assert_eq!(rt; tree.validate(), Ok(()));
+    for (id, parent, min, max, answer) in [
+        (t, None, None, None, Ok(1)),
+        (t, None, None, Some(9), Err(Fault::Underflowing)),
+        (l, Some(t), None, Some(4), Ok(0)),
+        (l, Some(t), None, Some(3), Err(Fault::AboveSeparator)),
+        (l, None, None, Some(4), Err(Fault::WrongParent)),
+        (r, Some(t), Some(4), None, Ok(0)),
+        (r, Some(t), Some(5), None, Err(Fault::BelowSeparator)),
+    ] {
+        let (low, high): (Option<u64>, Option<u64>) = (min, max);
+        assert!(rt; tree.has_node(id));
+        assert_eq!(rt;
+            tree.validate_node(id, parent, low.as_ref(), high.as_ref()),
+            answer,
+            "{id}"
+        );
     }
 }

@@ -3,5 +3,12 @@ pub mod PassLemmas
 pub mod EnterLemmas
 pub mod NodeLemmas
 pub mod ChildLemmas
+pub mod VerdictLemmas
+pub mod SuitsLemmas
+pub mod FaultLemmas
+pub mod WholeLemmas
+pub mod FoundLemmas
+pub mod ExactLemmas
+pub mod TreeLemmas
 pub mod OnceLemmas
 pub mod OffByOneLemmas

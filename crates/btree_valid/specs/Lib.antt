@@ -1,2 +1,4 @@
 pub mod OffByOne
 pub mod Parts
+pub mod Faults
+pub mod Spots

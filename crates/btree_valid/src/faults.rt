@@ -1,9 +1,15 @@
 //! Checks the nodes of a store of any content, and finds the first fault.
-ghost use Rattle.std.specs.Prelude.{◌≡◌, None, Err};
+ghost use Rattle.std.specs.Prelude.{◌≡◌, ◌+◌, ◌<◌, None, IfOk, Some, Ok, Err, option_copied, slice_get};
 ghost use Rattle.std.specs.FinMap as map;
 ghost use Rattle.std.specs.Mem.{FitsInMemory};
 ghost use Rattle.btree_item.specs.declared.fault.Fault.TheVariants.{NoNode};
+ghost use Rattle.btree_item.specs.declared.TheConstants.{MAX_LEVELS};
+ghost use Rattle.btree_node.specs.Node.{view_of};
 ghost use Rattle.btree_node.specs.contracts.node.Node.{the_row as node_row};
+ghost use Rattle.btree_view.specs.Separators.{separator_after, separator_before};
+ghost use Rattle.btree_view.specs.View.{children_of};
+ghost use Rattle.btree_valid.specs.Faults.{AcceptsAmong, AreBTree, SuitsAmong};
+ghost use Rattle.btree_valid.specs.Spots.{CanMeet, FindsAt, FindsTree, IsFewer, MeetsAt, MeetsLeaf, MeetsTree, WasMore, nearest_of};
 
 use btree_item::{Fault, MAX_LEVELS};
 use btree_node::Node;
@@ -11,6 +17,7 @@ use btree_nodes::Nodes;
 
 // A node to check: its number, how many levels it is below the start of the walk, the number of the node above it, and the nearest
 // separators on both sides.
+#[derive(Drop)]
 struct Spot<'a, K> {
     level: usize,
     parent: Option<usize>,
@@ -28,7 +35,10 @@ struct Met {
 }
 
 // Subtracts a number, or returns `None` if there are fewer.
-fn fewer(left: Option<usize>, count: usize) -> Option<usize> {
+fn fewer(left: Option<usize>, count: usize) -> Option<usize>
+    ensures fewer { IsFewer left count result }
+    ensures more { WasMore result count left }
+{
     match left {
         Some(left) => left.checked_sub(count),
         None => None,
@@ -36,7 +46,9 @@ fn fewer(left: Option<usize>, count: usize) -> Option<usize> {
 }
 
 // Returns the nearer separator, if there is one, and else the farther.
-fn nearest<'a, K>(near: Option<&'a K>, far: Option<&'a K>) -> Option<&'a K> {
+fn nearest<'a, K>(near: Option<&'a K>, far: Option<&'a K>) -> Option<&'a K>
+    ensures { option_copied result ≡ nearest_of (option_copied near.entry) (option_copied far.entry) }
+{
     match near {
         Some(key) => Some(key),
         None => far,
@@ -44,7 +56,13 @@ fn nearest<'a, K>(near: Option<&'a K>, far: Option<&'a K>) -> Option<&'a K> {
 }
 
 // Counts a node and its items.
-fn count_node(met: Met, items: usize) -> Met {
+fn count_node(met: Met, items: usize) -> Met
+    ensures leaves { result.leaf_level ≡ met.leaf_level }
+    ensures items { IsFewer met.items items result.items }
+    ensures nodes { IsFewer met.nodes 1 result.nodes }
+    ensures had_items { WasMore result.items items met.items }
+    ensures had_nodes { WasMore result.nodes 1 met.nodes }
+{
     Met {
         leaf_level: met.leaf_level,
         items: fewer(met.items, items),
@@ -53,7 +71,10 @@ fn count_node(met: Met, items: usize) -> Met {
 }
 
 // Meets a leaf on a level, which must be that of the first leaf.
-fn meet_leaf(met: Met, level: usize) -> Result<Met, Fault> {
+fn meet_leaf(met: Met, level: usize) -> Result<Met, Fault>
+    ensures always { CanMeet level met → result ≡ Ok (record met { leaf_level = Some level }) }
+    ensures only { IfOk result (MeetsLeaf level met) }
+{
     match met.leaf_level {
         Some(first) => if first == level {
             Ok(met)
@@ -68,6 +89,32 @@ fn meet_leaf(met: Met, level: usize) -> Result<Met, Fault> {
     }
 }
 
+// Returns the spot of a child: one level lower, under this node, and between the nearest separators.
+fn below<'a, K, V>(
+    node: &'a Node<K, V>,
+    spot: &Spot<'a, K>,
+    index: usize,
+    child: usize,
+) -> Spot<'a, K>
+    requires size { FitsInMemory (node_row K.row V.row) }
+    requires low { spot.now.level < MAX_LEVELS }
+    requires within { Some child ≡ slice_get (children_of (view_of node.now)) index }
+    ensures level { result.level ≡ spot.now.level + 1 }
+    ensures parent { result.parent ≡ Some spot.now.id }
+    ensures id { result.id ≡ child }
+    ensures min { option_copied result.min ≡ nearest_of (separator_before (view_of node.now) index) (option_copied spot.now.min) }
+    ensures max { option_copied result.max ≡ nearest_of (separator_after (view_of node.now) index) (option_copied spot.now.max) }
+{
+    let (before, after) = node.separators(index);
+    Spot {
+        level: spot.level + 1,
+        parent: Some(spot.id),
+        id: child,
+        min: nearest(before, spot.min),
+        max: nearest(after, spot.max),
+    }
+}
+
 // Checks a node and all below it, and returns what the walk has met, or the first fault.
 fn check_under<'a, K: Ord + 'a, V: 'a, C: Nodes<K, V>>(
     nodes: &'a C,
@@ -76,53 +123,47 @@ fn check_under<'a, K: Ord + 'a, V: 'a, C: Nodes<K, V>>(
 ) -> Result<Met, Fault>
     requires { FitsInMemory (node_row K.row V.row) }
     ensures unused { map.get (C.content nodes.now) spot.entry.id ≡ None → result ≡ Err NoNode }
+    ensures only { FindsAt (C.content nodes.now) K.cmp spot.entry met result }
+    ensures always { MeetsAt (C.content nodes.now) K.cmp spot.entry met result }
 {
-    let Spot {
-        level,
-        parent,
-        id,
-        min,
-        max,
-    } = spot;
-    let Some(node) = nodes.get(id) else {
+    let Some(node) = nodes.get(spot.id) else {
         return Err(Fault::NoNode);
     };
-    node.validate(parent, min, max)?;
-    if level >= MAX_LEVELS {
+    node.validate(spot.parent, spot.min, spot.max)?;
+    if spot.level >= MAX_LEVELS {
         return Err(Fault::TooDeep);
     }
     let counted = count_node(met, node.item_count());
     if node.child_id_opt(0).is_none() {
-        return meet_leaf(counted, level);
+        return meet_leaf(counted, spot.level);
     }
     let mut passed = counted;
     for index in 0..node.child_count() {
         let Some(child) = node.child_id_opt(index) else {
             return Ok(passed);
         };
-        let (before, after) = node.separators(index);
-        let below = Spot {
-            level: level + 1,
-            parent: Some(id),
-            id: child,
-            min: nearest(before, min),
-            max: nearest(after, max),
-        };
-        passed = check_under(nodes, below, passed)?;
+        passed = check_under(nodes, below(node, &spot, index, child), passed)?;
     }
     Ok(passed)
 }
 
-// Checks all nodes under a root; without one there is nothing to meet.
+// Checks all nodes under a root, and returns what may still come of this length and of the nodes; without a root there is nothing to meet.
 fn check_root<K: Ord, V, C: Nodes<K, V>>(
     nodes: &C,
     root: Option<usize>,
-    met: Met,
+    len: usize,
 ) -> Result<Met, Fault>
     requires { FitsInMemory (node_row K.row V.row) }
+    ensures always { MeetsTree (C.content nodes.now) K.cmp root len result }
+    ensures only { FindsTree (C.content nodes.now) K.cmp root len result }
 {
+    let start = Met {
+        leaf_level: None,
+        items: Some(len),
+        nodes: Some(nodes.len()),
+    };
     let Some(id) = root else {
-        return Ok(met);
+        return Ok(start);
     };
     let spot = Spot {
         level: 0,
@@ -131,7 +172,7 @@ fn check_root<K: Ord, V, C: Nodes<K, V>>(
         min: None,
         max: None,
     };
-    check_under(nodes, spot, met)
+    check_under(nodes, spot, start)
 }
 
 /// Checks that the nodes are exactly one well formed tree under the root, with this length, and returns the first fault in preorder.
@@ -144,13 +185,10 @@ pub fn validate<K: Ord, V, C: Nodes<K, V>>(
     len: usize,
 ) -> Result<(), Fault>
     requires { FitsInMemory (node_row K.row V.row) }
+    ensures accepts { AreBTree K.cmp (C.content nodes.now) root len → result ≡ Ok tt }
+    ensures only { result ≡ Ok tt → AreBTree K.cmp (C.content nodes.now) root len }
 {
-    let start = Met {
-        leaf_level: None,
-        items: Some(len),
-        nodes: Some(nodes.len()),
-    };
-    let after = check_root(nodes, root, start)?;
+    let after = check_root(nodes, root, len)?;
     if after.items != Some(0) {
         return Err(Fault::WrongLength);
     }
@@ -173,6 +211,8 @@ pub fn validate_node<K: Ord, V, C: Nodes<K, V>>(
 ) -> Result<usize, Fault>
     requires { FitsInMemory (node_row K.row V.row) }
     ensures unused { map.get (C.content nodes.now) id ≡ None → result ≡ Err NoNode }
+    ensures accepts { AcceptsAmong K.cmp (C.content nodes.now) id parent (option_copied min.entry) (option_copied max.entry) result }
+    ensures only { SuitsAmong K.cmp (C.content nodes.now) id parent (option_copied min.entry) (option_copied max.entry) result }
 {
     let start = Met {
         leaf_level: None,

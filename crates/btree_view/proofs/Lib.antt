@@ -1,3 +1,4 @@
 pub mod Cuts
 pub mod RemovalLemmas
 pub mod CheckLemmas
+pub mod EndLemmas

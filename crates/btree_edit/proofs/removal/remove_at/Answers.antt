@@ -3,8 +3,9 @@ use Rattle.btree_shape.specs.TreeState.{TreeState, IsBTree, IsOffByOneAt, IsVali
 use Rattle.btree_node.specs.Node.{view_of}
 use Rattle.btree_raw.specs.Rebalance.{HasRoom, IsRebalanced}
 use Rattle.btree_find.proofs.PlaceLemmas.{node-used}
+use Rattle.btree_raw.proofs.LastLemmas.{same-state}
 use Rattle.btree_edit.specs.Remove.{IsInnerAt, IsRemoved}
-use Rattle.btree_edit.proofs.RemoveAtLemmas.{enough-left, inner-by, leaf-counted, leaf-enough, leaf-off, leaf-removed, leaf-room, leaf-valid, on-err, on-ok, same-state, vacant-by, vacant-empty}
+use Rattle.btree_edit.proofs.RemoveAtLemmas.{enough-left, inner-by, leaf-counted, leaf-enough, leaf-off, leaf-removed, leaf-room, leaf-valid, on-err, on-ok, vacant-by, vacant-empty}
 use Rattle.btree_edit.proofs.RemoveInnerLemmas.{small-len}
 use Rattle.btree_edit.proofs.removal.remove_at.Goals as goal
 

@@ -1,7 +1,7 @@
 use Rattle.std.specs.FinMap as map
 use Rattle.btree_shape.specs.Focus.Search.{levels_below}
 use Rattle.btree_shape.specs.TreeState.{node_map}
-use Rattle.btree_find.proofs.PreviousLemmas.{DescendsRight}
+use Rattle.btree_raw.proofs.LastLemmas.{DescendsRight}
 use Rattle.btree_find.proofs.navigation.rightmost_leaf.Given as goal
 
 abbrev pub invariant-loop-child : goal.invariant-loop-child

@@ -1,6 +1,7 @@
-use Rattle.std.proofs.Common.{arith, ap, ◌∙◌}
-use Rattle.btree_item.specs.Keys.{key_place}
-use Rattle.btree_item.proofs.PairLemmas.{key_place-keys_of, slice_get-from_place, found-from_place}
+use Rattle.std.proofs.Common.{◌+◌, arith, ap, ◌∙◌, length, map}
+use Rattle.btree_item.specs.Comparisons.{comparisons}
+use Rattle.btree_item.specs.Keys.{count_below, key_place}
+use Rattle.btree_item.proofs.PairLemmas.{count_below-keys_of, key_place-keys_of, slice_get-from_place, found-from_place}
 use Rattle.btree_internal.proofs.BranchLemmas.{keys-branches}
 use Rattle.btree_internal.proofs.internal.place.Goals as goal
 
@@ -23,3 +24,11 @@ pub returns-clause-ticks : goal.returns-clause-ticks
 returns-clause-ticks g c =
     let fits = c.search_counted.ensures.fits in
     c.search_counted.ensures.ticks (omega arith)
+
+pub returns-clause-counted : goal.returns-clause-counted
+returns-clause-counted g c =
+    let bs = c.args.branches.now in
+    let k = c.args.key.now in
+    let smaller =
+    ap (count_below g.K.Ord.cmp k) (keys-branches bs) ∙ count_below-keys_of g.K.Ord.cmp k (map (λ b. b.item) bs) in
+    c.search_counted.ensures.counted ∙ ap (λ n. c.args.steps.now.count + comparisons (length bs) n) smaller

@@ -1,6 +1,6 @@
 use Rattle.std.proofs.Common.{◌∙◌, arith, rules}
 use Rattle.btree_item.proofs.KeyLemmas.{Less-from_is_lt, is_lt-from_partial}
-use Rattle.btree_item.proofs.MinLemmas.{AllAbove-from_key}
+use Rattle.btree_item.proofs.MinLemmas.{AllAbove-from_key, IsAtMostBefore-from_key}
 use Rattle.btree_item.proofs.searches.binary_search_min.Goals as goal
 use Rattle.std.proofs.lemmas.Grind.{common_steps}
 
@@ -39,7 +39,14 @@ pub loop-low-smaller : goal.loop-low-smaller
 loop-low-smaller g c = search rules steps 200000
 
 pub loop-low-preserved : goal.loop-low-preserved
-loop-low-preserved g c = search rules steps 2000000
+loop-low-preserved g c =
+    let not_above = is_lt-from_partial g.met.T.Key.Ord.matches_partial_cmp _ _ _ c.lt.ensures ∙ c.if-lt.false in
+    record {
+      ordered = omega arith;
+      within = omega arith;
+      at_most = IsAtMostBefore-from_key g.met.T.Key.Ord.total _ _ _ _ c.key_at.ensures not_above;
+      above = c.loop-low.invariant.above;
+    }
 
 pub overflow_sub-result : goal.overflow_sub-result
 overflow_sub-result g c = search rules steps 200000

@@ -1,5 +1,6 @@
-use Rattle.std.proofs.Common.{◌∙◌}
-use Rattle.btree_item.proofs.PairLemmas.{key_place-keys_of, slice_get-from_place, found-from_place}
+use Rattle.std.proofs.Common.{◌+◌, ◌∙◌, ap, length}
+use Rattle.btree_item.specs.Comparisons.{comparisons}
+use Rattle.btree_item.proofs.PairLemmas.{count_below-keys_of, key_place-keys_of, slice_get-from_place, found-from_place}
 use Rattle.btree_leaf.proofs.leaf.place_counted.Goals as goal
 
 pub returns-clause-place : goal.returns-clause-place
@@ -17,3 +18,10 @@ returns-clause-absent g c =
 
 pub returns-clause-ticks : goal.returns-clause-ticks
 returns-clause-ticks g c = c.search_counted.ensures.ticks c.search_counted.ensures.fits
+
+pub returns-clause-counted : goal.returns-clause-counted
+returns-clause-counted g c =
+    let xs = c.args.items.now in
+    let k = c.args.key.now in
+    c.search_counted.ensures.counted
+    ∙ ap (λ n. c.args.steps.now.count + comparisons (length xs) n) (count_below-keys_of g.K.Ord.cmp k xs)

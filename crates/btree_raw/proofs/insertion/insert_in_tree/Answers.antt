@@ -92,7 +92,9 @@ returns-clause-inserted g c =
     rw (c.set_len.ensures, c.len.ensures)
     (put-inserted g.K.Ord.cmp g.met.K.Ord.total c.args.tree.now c.args.addr c.args.item c.args.child c.add_item.new.tree
     (these g.K.Ord.cmp g.met.K.Ord.total c.args.tree.now c.args.addr c.args.item c.args.child c.requires.off_by_one c.add_item.new.tree c.unwrap.result (sym c.unwrap.ensures.value) c.add_item.ensures)
-    c.rebalance_underflow-at.new.tree c.rebalance_underflow-at.result c.requires.rooted c.rebalance_underflow-at.ensures
+    c.rebalance_underflow-at.new.tree c.rebalance_underflow-at.result c.requires.rooted
+    (put-off g.K.Ord.cmp g.met.K.Ord.total c.args.tree.now c.args.addr c.args.item c.args.child c.requires.off_by_one c.add_item.new.tree c.unwrap.result (sym c.unwrap.ensures.value) c.add_item.ensures)
+    c.rebalance_underflow-at.ensures
     (no-overflow g.K.Ord.cmp g.met.K.Ord.total c.args.tree.now c.args.addr c.args.item c.args.child c.add_item.new.tree
     (these g.K.Ord.cmp g.met.K.Ord.total c.args.tree.now c.args.addr c.args.item c.args.child c.requires.off_by_one c.add_item.new.tree c.unwrap.result (sym c.unwrap.ensures.value) c.add_item.ensures)
     (room-at g.K.Ord.cmp g.met.K.Ord.total c.args.tree.now c.args.addr c.args.item c.args.child c.requires.off_by_one c.add_item.new.tree c.unwrap.result (sym c.unwrap.ensures.value) c.add_item.ensures c.node.result.now c.node.ensures.value (not-full c.node.result.now c.if-is_full.ensures))))

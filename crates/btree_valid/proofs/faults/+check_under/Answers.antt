@@ -1,7 +1,56 @@
-use Rattle.std.proofs.Common.{◌∙◌, sym}
+use Rattle.std.proofs.Common.{◌∙◌, arith, inl, is_some, option_map, refl, sym, ap}
 use Rattle.btree_node.specs.Node.{view_of}
-use Rattle.btree_valid.proofs.ChildLemmas.{child-within}
+use Rattle.btree_view.specs.View.{children_of}
+use Rattle.btree_valid.proofs.FaultLemmas.{child-next, child-ok, inner-end, inner-start, leaf-met, nothing-begins, past-end, verdict-ok}
+use Rattle.btree_valid.proofs.ExactLemmas.{done-all, done-next, leaf-found}
 use Rattle.btree_valid.proofs.faults.+check_under.Goals as goal
 
-pub separators-requires : goal.separators-requires
-separators-requires g t c = (c.requires, child-within (view_of c.in-Some.node.now) c.loop-index.index c.in-Some-child_id_opt.child (sym c.in-Some-child_id_opt.is ∙ c.child_id_opt-in-loop-index.ensures))
+pub returns-in_default-clause-always : goal.returns-in_default-clause-always
+returns-in_default-clause-always g t c = λ height part begins can. absurd (nothing-begins (g.C.Nodes.content c.args.nodes.now) g.K.Ord.cmp c.args.spot c.args.met (ap (option_map view_of) (sym c.in_default.ensures.value)) height part begins)
+
+pub returns-in_err-validate-clause-always : goal.returns-in_err-validate-clause-always
+returns-in_err-validate-clause-always g t c = λ height part begins can.
+    let ok = verdict-ok (g.C.Nodes.content c.args.nodes.now) g.K.Ord.cmp c.args.spot c.args.met (view_of c.in-Some.node.now) (ap (option_map view_of) (sym c.in-Some.ensures.value)) height part begins c.validate.result c.validate.ensures in
+    let err = c.in_err-validate.was in
+    absurd (cc)
+
+pub returns-then-is_none-clause-always : goal.returns-then-is_none-clause-always
+returns-then-is_none-clause-always g t c = leaf-met (g.C.Nodes.content c.args.nodes.now) g.K.Ord.cmp c.args.spot c.args.met (view_of c.in-Some.node.now) (ap (option_map view_of) (sym c.in-Some.ensures.value)) c.count_node-counted.result c.count_node-counted.ensures.leaves (rw (← c.item_count.ensures.value) c.count_node-counted.ensures.items) c.count_node-counted.ensures.nodes (ap is_some (sym c.child_id_opt.ensures) ∙ c.if-is_none.ensures) c.meet_leaf.result c.meet_leaf.ensures.always
+
+pub loop-index-init : goal.loop-index-init
+loop-index-init g t c = (
+  inl (
+    refl,
+    record {
+      leaves = c.count_node-counted.ensures.leaves;
+      items = rw (← c.item_count.ensures.value) c.count_node-counted.ensures.had_items;
+      nodes = c.count_node-counted.ensures.had_nodes;
+    },
+  ),
+  inner-start (g.C.Nodes.content c.args.nodes.now) g.K.Ord.cmp c.args.spot c.args.met (view_of c.in-Some.node.now) (ap (option_map view_of) (sym c.in-Some.ensures.value)) c.count_node-counted.result c.count_node-counted.ensures.leaves (rw (← c.item_count.ensures.value) c.count_node-counted.ensures.items) c.count_node-counted.ensures.nodes,
+)
+
+pub returns-in_default-child_id_opt-clause-always : goal.returns-in_default-child_id_opt-clause-always
+returns-in_default-child_id_opt-clause-always g t c = λ height part begins can. absurd (past-end (children_of (view_of c.in-Some.node.now)) c.loop-index.index (omega (arith, c.loop-index-test.true, c.child_count-index-end.ensures.value)) c.in_default-child_id_opt.ensures)
+
+pub returns-in_err-passed-clause-always : goal.returns-in_err-passed-clause-always
+returns-in_err-passed-clause-always g t c = λ height part begins can. absurd (child-ok (g.C.Nodes.content c.args.nodes.now) g.K.Ord.cmp c.args.spot c.args.met (view_of c.in-Some.node.now) (ap (option_map view_of) (sym c.in-Some.ensures.value)) (ap is_some (sym c.child_id_opt.ensures) ∙ c.if-is_none.ensures) c.loop-index.index c.loop-index.passed c.loop-index.invariant.1 c.in-Some-child_id_opt.child c.in-Some-child_id_opt.ensures c.below.result c.below.ensures.level c.below.ensures.parent c.below.ensures.id c.below.ensures.min c.below.ensures.max c.check_under.result c.check_under.ensures.always c.in_err-passed.field-0.0 c.in_err-passed.was height part begins can)
+
+pub loop-index-preserved : goal.loop-index-preserved
+loop-index-preserved g t c = (done-next (g.C.Nodes.content c.args.nodes.now) g.K.Ord.cmp g.met.K.Ord.total c.args.spot c.args.met (view_of c.in-Some.node.now) c.loop-index.index c.loop-index.passed c.in-Some-child_id_opt.child c.in-Some-child_id_opt.ensures c.below.result c.below.ensures.level c.below.ensures.parent c.below.ensures.id c.below.ensures.min c.below.ensures.max c.loop-index.invariant.0 c.check_under.result c.check_under.ensures.only c.in_ok-passed.passed c.in_ok-passed.was, child-next (g.C.Nodes.content c.args.nodes.now) g.K.Ord.cmp c.args.spot c.args.met (view_of c.in-Some.node.now) (ap (option_map view_of) (sym c.in-Some.ensures.value)) (ap is_some (sym c.child_id_opt.ensures) ∙ c.if-is_none.ensures) c.loop-index.index c.loop-index.passed c.loop-index.invariant.1 c.in-Some-child_id_opt.child c.in-Some-child_id_opt.ensures c.below.result c.below.ensures.level c.below.ensures.parent c.below.ensures.id c.below.ensures.min c.below.ensures.max c.check_under.result c.check_under.ensures.always c.in_ok-passed.passed c.in_ok-passed.was)
+
+pub returns-clause-always : goal.returns-clause-always
+returns-clause-always g t c = inner-end (g.C.Nodes.content c.args.nodes.now) g.K.Ord.cmp c.args.spot c.args.met (view_of c.in-Some.node.now) (ap (option_map view_of) (sym c.in-Some.ensures.value)) (ap is_some (sym c.child_id_opt.ensures) ∙ c.if-is_none.ensures) c.loop-index.index c.loop-index.passed c.loop-index.invariant.1 (omega (arith, c.loop-index-test.false, c.child_count-index-end.ensures.value)) _ refl
+
+pub returns-then-is_none-clause-only : goal.returns-then-is_none-clause-only
+returns-then-is_none-clause-only g t c = leaf-found (g.C.Nodes.content c.args.nodes.now) g.K.Ord.cmp g.met.K.Ord.total c.args.spot c.args.met (view_of c.in-Some.node.now) (ap (option_map view_of) (sym c.in-Some.ensures.value)) c.validate.result c.in_ok-validate.was c.validate.ensures (ap is_some (sym c.child_id_opt.ensures) ∙ c.if-is_none.ensures) (omega (arith, c.if-spot-ge-MAX_LEVELS.false)) c.count_node-counted.result (record {
+  leaves = c.count_node-counted.ensures.leaves;
+  items = rw (← c.item_count.ensures.value) c.count_node-counted.ensures.had_items;
+  nodes = c.count_node-counted.ensures.had_nodes;
+}) c.meet_leaf.result c.meet_leaf.ensures.only
+
+pub returns-in_default-child_id_opt-clause-only : goal.returns-in_default-child_id_opt-clause-only
+returns-in_default-child_id_opt-clause-only g t c = absurd (past-end (children_of (view_of c.in-Some.node.now)) c.loop-index.index (omega (arith, c.loop-index-test.true, c.child_count-index-end.ensures.value)) c.in_default-child_id_opt.ensures)
+
+pub returns-clause-only : goal.returns-clause-only
+returns-clause-only g t c = done-all (g.C.Nodes.content c.args.nodes.now) g.K.Ord.cmp g.met.K.Ord.total c.args.spot c.args.met (view_of c.in-Some.node.now) (ap (option_map view_of) (sym c.in-Some.ensures.value)) c.validate.result c.in_ok-validate.was c.validate.ensures (ap is_some (sym c.child_id_opt.ensures) ∙ c.if-is_none.ensures) c.loop-index.index c.loop-index.passed (omega (arith, c.loop-index-test.false, c.child_count-index-end.ensures.value)) c.loop-index.invariant.0

@@ -1,5 +1,7 @@
 use Rattle.std.proofs.lemmas.Grind.{common_steps}
-use Rattle.std.proofs.Common.{arith, rules}
+use Rattle.std.proofs.Common.{◌∙◌, ◌++◌, ◌∷◌, [], ap, arith, rules}
+use Rattle.btree_view.specs.View.{internal}
+use Rattle.btree_internal.proofs.ChangeLemmas.{kept, pairs}
 use Rattle.btree_internal.proofs.internal.InternalNode.binary.Goals as goal
 
 pub new-branches-requires : goal.new-branches-requires
@@ -12,4 +14,6 @@ pub unwrap_or-requires : goal.unwrap_or-requires
 unwrap_or-requires g c κs = search rules steps 200000
 
 pub returns : goal.returns
-returns g c = grind (arith, common_steps) steps 2000000
+returns g c =
+    let branches = c.push.ensures ∙ ap (λ l. l ++ record { item = c.args.median; child = c.args.right_id } ∷ []) c.new-branches.ensures in
+    λ j. internal (kept c.args.parent c.unwrap_or.result c.unwrap_or.ensures j) c.args.left_id (pairs (branches j))

@@ -1,9 +1,11 @@
-use Rattle.std.proofs.Common.{length, ap, ◌∙◌, arith}
+use Rattle.std.proofs.Common.{◌≡◌, ◌+◌, length, map, sym, ap, ◌∙◌, arith}
 use Rattle.std.proofs.lemmas.List.{length-map}
-use Rattle.btree_item.specs.Pairs.{place_of}
+use Rattle.btree_item.specs.Comparisons.{comparisons}
+use Rattle.btree_item.specs.Pairs.{before, place_of}
 use Rattle.btree_item.proofs.PairLemmas.{slice_get-from_place, found-from_place}
-use Rattle.btree_internal.specs.Internal.{branch_pair}
+use Rattle.btree_internal.specs.Internal.{branch_pair, internal_view}
 use Rattle.btree_internal.proofs.BranchLemmas.{branches_are, items_are}
+use Rattle.btree_view.specs.View.{size_of}
 use Rattle.btree_internal.proofs.internal.InternalNode.find_counted.Goals as goal
 use Rattle.std.proofs.lemmas.Grind.{common_steps}
 
@@ -33,3 +35,13 @@ returns-clause-within g c = grind (arith, common_steps) steps 2000000
 
 pub returns-clause-ticks : goal.returns-clause-ticks
 returns-clause-ticks g c = omega (arith, c.place.ensures.ticks)
+
+pub returns-clause-counted : goal.returns-clause-counted
+returns-clause-counted g c =
+    let bs = c.self.inside.branches in
+    let k = c.args.key.now in
+    let items = items_are c.args.self.now _ c.self.inside.first bs c.self.view_is in
+    let sized : length bs ≡ size_of (internal_view c.args.self.now) = sym (length-map bs (λ b. b.item)) ∙ ap length items in
+    c.place.ensures.counted
+    ∙ ap (λ n. c.args.steps.now.count + comparisons n (before g.K.Ord.cmp k (map (λ b. b.item) bs))) sized
+    ∙ ap (λ l. c.args.steps.now.count + comparisons (size_of (internal_view c.args.self.now)) (before g.K.Ord.cmp k l)) items

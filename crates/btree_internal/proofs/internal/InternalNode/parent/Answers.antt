@@ -9,7 +9,7 @@ pub returns-then-self-clause-bound : goal.returns-then-self-clause-bound
 returns-then-self-clause-bound g c = search rules steps 200000
 
 pub returns-else-self-clause-value : goal.returns-else-self-clause-value
-returns-else-self-clause-value g c = grind (arith, common_steps) steps 300000
+returns-else-self-clause-value g c = grind (arith, common_steps) steps 3000000
 
 pub returns-else-self-clause-bound : goal.returns-else-self-clause-bound
 returns-else-self-clause-bound g c = search rules steps 200000

@@ -2,8 +2,8 @@ use Rattle.std.proofs.Common.{rules, arith}
 use Rattle.btree_item.proofs.slots.Slots.pop.Goals as goal
 use Rattle.btree_item.proofs.SomesLemmas.{slot_edits}
 
-pub pop-requires : goal.pop-requires
-pop-requires g c = search rules steps 200000
+pub pop-last-requires : goal.pop-last-requires
+pop-last-requires g c = search rules steps 200000
 
 pub invariant_of-self : goal.invariant_of-self
 invariant_of-self g c = grind (arith, slot_edits) steps 300000

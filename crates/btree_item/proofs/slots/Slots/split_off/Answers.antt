@@ -3,8 +3,8 @@ use Rattle.std.proofs.Common.{arith}
 use Rattle.btree_item.proofs.slots.Slots.split_off.Goals as goal
 use Rattle.btree_item.proofs.SomesLemmas.{slot_edits}
 
-pub tail_from-requires : goal.tail_from-requires
-tail_from-requires g c = grind (arith, common_steps) steps 300000
+pub tail_from-tail-requires : goal.tail_from-tail-requires
+tail_from-tail-requires g c = grind (arith, common_steps) steps 300000
 
 pub invariant_of-self : goal.invariant_of-self
 invariant_of-self g c = grind (arith, slot_edits) steps 300000

@@ -47,3 +47,15 @@ returns-in-Ok-find_counted-clause-ticks g c = omega arith
 
 pub returns-in-Err-find_counted-clause-ticks : goal.returns-in-Err-find_counted-clause-ticks
 returns-in-Err-find_counted-clause-ticks g c = omega arith
+
+pub returns-in-Ok-clause-counted : goal.returns-in-Ok-clause-counted
+returns-in-Ok-clause-counted g c = rw c.in-Internal.is c.in-Ok.ensures.counted
+
+pub returns-in-Err-clause-counted : goal.returns-in-Err-clause-counted
+returns-in-Err-clause-counted g c = rw c.in-Internal.is c.in-Err.ensures.counted
+
+pub returns-in-Ok-find_counted-clause-counted : goal.returns-in-Ok-find_counted-clause-counted
+returns-in-Ok-find_counted-clause-counted g c = rw c.in-Leaf.is c.in-Ok-find_counted.ensures.counted
+
+pub returns-in-Err-find_counted-clause-counted : goal.returns-in-Err-find_counted-clause-counted
+returns-in-Err-find_counted-clause-counted g c = rw c.in-Leaf.is c.in-Err-find_counted.ensures.counted

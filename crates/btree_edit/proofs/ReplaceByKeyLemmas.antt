@@ -1,0 +1,69 @@
+-- A replacement by key: at a key that is there, and at the gap of one that is not.
+use Rattle.std.proofs.Common.{◌≡◌, ◌∙◌, ℕ, List, Option, Some, None, IsSome, refl, sym, ap, subst, is_some, set, if◌then◌else◌}
+use Rattle.std.specs.Cmp.{IsTotalOrder}
+use Rattle.std.specs.List.{insert}
+use Rattle.std.specs.declared.cmp.Ordering.{Ordering}
+use Rattle.btree_item.proofs.PairLemmas.{before-from_Err, before-from_Ok}
+use Rattle.btree_item.specs.Pairs.{before, found}
+use Rattle.btree_item.specs.declared.address.Address.{Address}
+use Rattle.btree_shape.specs.TreeState.{TreeState, IsBTree, IsPlaceIn, item_of, pairs_of}
+use Rattle.btree_find.specs.Answers.{IsFoundAt, IsGapAt}
+use Rattle.btree_find.proofs.PlaceLemmas.{only}
+use Rattle.btree_edit.specs.Exchange.{IsExchanged}
+use Rattle.btree_edit.specs.Insert.{IsInserted}
+use Rattle.btree_edit.specs.Replace.{ReplacesByKey, replaced}
+use Rattle.btree_edit.proofs.InsertLemmas.{absent, put-inserted_by_key}
+
+chosen : {X Y : Type 0} (o : Option X) (x : X) (a b : Y) → o ≡ Some x → (if is_some o then a else b) ≡ a
+chosen None x a b is = absurd (cc)
+chosen (Some y) x a b is = refl
+
+other : {X Y : Type 0} (o : Option X) (a b : Y) → o ≡ None → (if is_some o then a else b) ≡ b
+other None a b is = refl
+other (Some y) a b is = absurd (cc)
+
+not-both : {X : Type 0} (o : Option X) (x : X) → o ≡ Some x → o ≡ None → ⊥
+not-both None x some none = absurd (cc)
+not-both (Some y) x some none = absurd (cc)
+
+is-some-not : {X : Type 0} (o : Option X) → IsSome o → o ≡ None → ⊥
+is-some-not None some none = absurd (cc)
+is-some-not (Some y) some none = absurd (cc)
+
+module _ {K V : Type 0} (cmp : K → K → Ordering) (laws : IsTotalOrder cmp) (old : TreeState K V) (tree : IsBTree cmp old) (k : K) (w : V)
+    (new : TreeState K V) where
+  abbrev xs : List (K × V)
+  xs = pairs_of old
+
+  module _ (a : Address) (f : IsFoundAt cmp k old a) (was : K × V) (had : item_of old a ≡ Some was) (e : IsExchanged old new a cmp (k, w)) where
+    pub old-pair : Some was ≡ found cmp k xs
+    old-pair = sym had ∙ f.item
+
+    pub exchanged-pairs : pairs_of new ≡ replaced cmp k w xs
+    exchanged-pairs =
+        let same : e.place ≡ before cmp k xs = only cmp laws old tree a f.place e.place f.at e.at ∙ sym (before-from_Ok cmp k xs f.place f.is) in
+        e.pairs ∙ (ap (λ n. set xs n (k, w)) same ∙ sym (chosen (found cmp k xs) was _ _ (sym old-pair)))
+
+    pub exchanged-by_key : ReplacesByKey cmp k old new w
+    exchanged-by_key = record {
+      absent = λ none. absurd (not-both (found cmp k xs) was (sym old-pair) none);
+      present = λ some. (a, f, e);
+    }
+
+  module _ (a : Address) (gap : IsGapAt cmp k old a) (b : Address) (is : IsInserted cmp old new a b (k, w)) where
+    none : found cmp k xs ≡ None
+    none = absent cmp laws old k w tree a gap
+
+    pub nothing-old : None ≡ found cmp k xs
+    nothing-old = sym none
+
+    pub put-pairs : pairs_of new ≡ replaced cmp k w xs
+    put-pairs =
+        (is.pairs gap.place gap.at).0
+        ∙ (ap (λ n. insert xs n (k, w)) (sym (before-from_Err cmp k xs gap.place gap.is)) ∙ sym (other (found cmp k xs) (set xs (before cmp k xs) (k, w)) (insert xs (before cmp k xs) (k, w)) none))
+
+    pub put-by_key : ReplacesByKey cmp k old new w
+    put-by_key = record {
+      absent = λ n. put-inserted_by_key cmp laws old k w tree a gap new b is;
+      present = λ some. absurd (is-some-not (found cmp k xs) some none);
+    }

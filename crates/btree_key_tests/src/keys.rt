@@ -1,0 +1,206 @@
+//! Pairs found by key and at both ends, values written by key, and comparison and hash.
+ghost use Rattle.std.specs.Prelude.{◌≡◌, IsTrue, false};
+ghost use Rattle.btree_item.specs.Pairs.{with_value};
+ghost use Rattle.btree_shape.specs.TreeState.{pairs_of};
+
+use btree_ext::{BTreeExt, BTreeExtMut};
+use btree_item::{Address, Item, Offset};
+use btree_map::BTreeMap;
+use btree_node::Node;
+use btree_nodes::NodesMut;
+use btree_refusing::Refusing;
+use btree_store::SlabStore;
+use std::alloc::Global;
+use std::cmp::Ordering;
+use std::hash::{DefaultHasher, Hash, Hasher};
+use std::process::Abort;
+use std::test::Fail;
+
+type Letters = BTreeMap<u64, char, SlabStore<Node<u64, char>>>;
+
+type Map = BTreeMap<u64, u64, SlabStore<Node<u64, u64>>>;
+
+#[test]
+fn finds_pairs_and_both_ends(rt: HostRuntime) {
+    let mut map: Letters = BTreeMap::new(rt.alloc());
+    assert_eq!(rt; (map.first_key_value(), map.last_key_value()), (None, None));
+    assert!(rt; map.insert(2, 'a').is_ok() && map.insert(1, 'b').is_ok());
+    assert_eq!(rt; map.first_key_value(), Some((&1, &'b')));
+    assert_eq!(rt; map.last_key_value(), Some((&2, &'a')));
+    assert_eq!(rt; map.get_key_value(&2), Some((&2, &'a')));
+    assert_eq!(rt; map.get_key_value(&3), None);
+    assert!(rt; map.contains_key(&1) && !map.contains_key(&3));
+}
+
+// Replaces the value at a key, for any keys and any store. Returns whether the key is there.
+fn set_value<K: Ord, C: NodesMut<K, u64>>(
+    map: &mut BTreeMap<K, u64, C>,
+    key: &K,
+    value: u64,
+) -> bool
+    ensures written { IsTrue result →
+        pairs_of map.new ≡ with_value K.cmp key.now value (pairs_of map.old) }
+    ensures absent { result ≡ false → map.new ≡ map.old }
+{
+    match map.get_mut(key) {
+        Some(old) => {
+            *old = value;
+            true
+        }
+        None => false,
+    }
+}
+
+// Returns the map of the keys from 0 on, with the values 10 times the keys.
+fn first_keys(rt: &impl Abort, alloc: Global, count: u64) -> Map {
+    let mut map: Map = BTreeMap::new(alloc);
+    for key in 0..count {
+        assert!(rt; map.insert(key, key.wrapping_mul(10)).is_ok());
+    }
+    map
+}
+
+// Three levels: 44 keys in 12 nodes.
+#[test]
+fn writes_to_the_value_of_each_key(rt: HostRuntime) {
+    let mut map = first_keys(&rt, rt.alloc(), 44);
+    for key in 0..44u64 {
+        assert!(rt; set_value(&mut map, &key, key.wrapping_add(1)), "{key}");
+        assert_eq!(rt; map.get(&key).copied(), Some(key.wrapping_add(1)));
+    }
+    assert!(rt; !set_value(&mut map, &44, 0));
+    assert_eq!(rt; (map.len(), map.node_count(), map.height()), (44, 12, 3));
+    let mut sum = 0u64;
+    for (key, value) in map.iter() {
+        sum = sum.wrapping_add(value.wrapping_sub(*key));
+    }
+    assert_eq!(rt; sum, 44);
+}
+
+// Feeds two maps, which may have different stores, to two hashers, and returns whether their pairs are equal: equal maps have equal hashes,
+// whatever their trees.
+fn hash_both<K: Ord + Hash, V: Eq + Hash, C: NodesMut<K, V>, D: NodesMut<K, V>, H: Hasher>(
+    left: &BTreeMap<K, V, C>,
+    right: &BTreeMap<K, V, D>,
+    first: &mut H,
+    second: &mut H,
+) -> bool
+    ensures { IsTrue result → first.old ≡ second.old → first.new ≡ second.new }
+{
+    left.hash(first);
+    right.hash(second);
+    left.same_items(right)
+}
+
+// Removes the item of the root, which has one, and puts it back: the tree then has another shape.
+fn reshape(rt: &impl Abort, map: &mut Map) -> Result<(), Fail> {
+    let Some(top) = map.root_id() else {
+        return Err(Fail::from("no root"));
+    };
+    assert!(rt; map.is_valid(Address::new(top, Offset::from(0))));
+    let Some((item, back)) = map.remove_at(Address::new(top, Offset::from(0))) else {
+        return Err(Fail::from("nothing there"));
+    };
+    let (key, value) = item.into_pair();
+    assert!(rt; map.is_valid(Address::new(back.id, back.offset)));
+    assert!(rt; back.offset.value().is_some());
+    assert!(rt; map.fits_at(Address::new(back.id, back.offset), &key));
+    assert!(rt; map.insert_at(back, Item::new(key, value)).is_ok());
+    Ok(())
+}
+
+// Returns the keys of the root.
+fn root_keys(rt: &impl Abort, map: &Map) -> Option<u64> {
+    let top = map.root_id()?;
+    assert!(rt; map.has_node(top));
+    map.node(top).item(Offset::from(0)).map(|item| *item.key())
+}
+
+#[test]
+fn maps_of_other_shapes_are_equal(rt: HostRuntime) -> Result<(), Fail> {
+    let base = first_keys(&rt, rt.alloc(), 9);
+    let mut other = first_keys(&rt, rt.alloc(), 9);
+    reshape(&rt, &mut other)?;
+    assert_eq!(rt;
+        (root_keys(&rt, &base), root_keys(&rt, &other)),
+        (Some(4), Some(3))
+    );
+    assert!(rt; base == other);
+    assert_eq!(rt;
+        (base.cmp(&other), base.partial_cmp(&other)),
+        (Ordering::Equal, Some(Ordering::Equal))
+    );
+    let (mut first, mut second) = (DefaultHasher::new(), DefaultHasher::new());
+    assert!(rt; hash_both(&base, &other, &mut first, &mut second));
+    assert_eq!(rt; first.finish(), second.finish());
+    Ok(())
+}
+
+// Returns whether the map and another with the keys from 0 to 8, in which `key` gets `value`, are equal, and how they compare. The other has
+// a store of another type.
+fn compare_with(
+    rt: &impl Abort,
+    base: &Map,
+    alloc: Global,
+    key: u64,
+    value: u64,
+) -> (bool, Ordering) {
+    let memory = Refusing::over(alloc, 0);
+    let mut other: BTreeMap<u64, u64, SlabStore<Node<u64, u64>, &Refusing<Global>>> = BTreeMap::new(
+        &memory,
+    );
+    for number in 0..9u64 {
+        assert!(rt; other.insert(number, number.wrapping_mul(10)).is_ok());
+    }
+    assert!(rt; other.insert(key, value).is_ok());
+    (base.same_items(&other), base.compare_items(&other))
+}
+
+// Each row: a key and the value that it gets in the second map, and the order of the first map, in which the value of 3 is 30.
+#[test]
+fn maps_are_ordered_by_their_pairs(rt: HostRuntime) {
+    let base = first_keys(&rt, rt.alloc(), 9);
+    for (key, value, order) in [
+        (3, 30, Ordering::Equal),
+        (3, 31, Ordering::Less),
+        (3, 29, Ordering::Greater),
+        (9, 90, Ordering::Less),
+    ] {
+        let (same, found) = compare_with(&rt, &base, rt.alloc(), key, value);
+        assert_eq!(rt; found, order);
+        assert_eq!(rt; same, order == Ordering::Equal);
+    }
+}
+
+// A table of calls: a key and a value to replace with, what is returned, and the pairs afterwards.
+#[test]
+fn replaces_pairs(rt: HostRuntime) {
+    let mut map: Letters = BTreeMap::new(rt.alloc());
+    for (key, value, old, len) in [
+        (1, 'a', None, 1),
+        (2, 'b', None, 2),
+        (1, 'c', Some((1, 'a')), 2),
+        (2, 'd', Some((2, 'b')), 2),
+    ] {
+        match map.replace(key, value) {
+            Ok(found) => assert_eq!(rt; found, old),
+            Err(_) => panic!(rt; "refused"),
+        }
+        assert_eq!(rt; map.len(), len);
+        assert!(rt; map.contains_key(&key));
+        assert_eq!(rt; map[&key], value);
+    }
+}
+
+// The pairs of 44 keys, from each end in turn.
+#[test]
+fn pops_from_both_ends(rt: HostRuntime) {
+    let mut map = first_keys(&rt, rt.alloc(), 44);
+    for key in 0..22u64 {
+        assert_eq!(rt; map.pop_first(), Some((key, key.wrapping_mul(10))));
+        let last = 43u64.wrapping_sub(key);
+        assert_eq!(rt; map.pop_last(), Some((last, last.wrapping_mul(10))));
+    }
+    assert_eq!(rt; (map.pop_first(), map.pop_last()), (None, None));
+    assert_eq!(rt; (map.len(), map.node_count()), (0, 0));
+}

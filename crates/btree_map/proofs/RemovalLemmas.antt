@@ -1,0 +1,53 @@
+-- Removals at both ends of the list.
+use Rattle.std.proofs.Common.{◌≡◌, ◌∙◌, ◌-◌, ℕ, zero, suc, length, slice_get, Option, Some, None, refl, sym, ap, subst, arith}
+use Rattle.std.proofs.lemmas.Option.{slice_get_past}
+use Rattle.std.specs.List.{remove}
+use Rattle.std.specs.declared.cmp.Ordering.{Ordering}
+use Rattle.btree_item.specs.declared.address.Address.{Address}
+use Rattle.btree_shape.specs.TreeState.{TreeState, pairs_of}
+use Rattle.btree_find.specs.Ends.{IsFirstItem, IsLastItem}
+use Rattle.btree_find.specs.Navigation.{IsItemAddress, IsItemBefore}
+use Rattle.btree_edit.specs.Remove.{IsRemoved}
+use Rattle.btree_map.specs.Removal.{RemovesPlace}
+
+module _ {K V : Type 0} (old : TreeState K V) where
+  pub first-none : IsFirstItem old None → None ≡ slice_get (pairs_of old) 0
+  first-none is = sym (slice_get_past (pairs_of old) 0 (is.item.past refl))
+
+  before-none : (n : ℕ) → length (pairs_of old) ≡ n → IsItemBefore old n None → None ≡ slice_get (pairs_of old) (n - 1)
+  before-none zero long is =
+      let first : 0 ≡ zero - 1 = omega arith in
+      subst (λ (p : ℕ). None ≡ slice_get (pairs_of old) p) first (sym (slice_get_past (pairs_of old) 0 (omega arith)))
+  before-none (suc n) long is =
+      let last : n ≡ suc n - 1 = omega arith in
+      subst (λ (p : ℕ). None ≡ slice_get (pairs_of old) p) last (sym (slice_get_past (pairs_of old) n (is.past refl)))
+
+  pub last-none : IsLastItem old None → None ≡ slice_get (pairs_of old) (length (pairs_of old) - 1)
+  last-none is = before-none (length (pairs_of old)) refl is.item
+
+  before-some : (n : ℕ) (a : Address) → IsItemBefore old n (Some a) → IsItemAddress old (n - 1) a
+  before-some zero a is = absurd (cc)
+  before-some (suc n) a is =
+      let last : n ≡ suc n - 1 = omega arith in
+      subst (λ (p : ℕ). IsItemAddress old p a) last is.here
+
+  pub last-some : (a : Address) → IsLastItem old (Some a) → IsItemAddress old (length (pairs_of old) - 1) a
+  last-some a is = before-some (length (pairs_of old)) a is.item
+
+  -- the pair at an address of this place was removed
+  module _ (new : TreeState K V) (cmp : K → K → Ordering) (place : ℕ) (a b : Address) (x : K × V) (here : IsItemAddress old place a)
+      (removed : IsRemoved old new cmp a x b) where
+    same : removed.place ≡ place
+    same = here.has.only removed.place removed.at
+
+    pub removed-pair : Some x ≡ slice_get (pairs_of old) place
+    removed-pair = sym (subst (λ p. slice_get (pairs_of old) p ≡ Some x) same removed.listed)
+
+    pub removes-place : RemovesPlace old new cmp place x
+    removes-place = record {
+      at = a;
+      here = here;
+      after = b;
+      removed = removed;
+      pairs = removed.pairs ∙ ap (remove (pairs_of old)) same;
+    }

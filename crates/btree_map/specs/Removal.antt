@@ -1,0 +1,16 @@
+-- A removal of the pair at a place of the list.
+use Rattle.std.specs.Prelude.{◌≡◌, ℕ}
+use Rattle.std.specs.List.{remove}
+use Rattle.std.specs.declared.cmp.Ordering.{Ordering}
+use Rattle.btree_item.specs.declared.address.Address.{Address}
+use Rattle.btree_shape.specs.TreeState.{TreeState, pairs_of}
+use Rattle.btree_find.specs.Navigation.{IsItemAddress}
+use Rattle.btree_edit.specs.Remove.{IsRemoved}
+
+-- the pair x at a place of the list was removed, at its address
+pub record RemovesPlace {K V : Type 0} (old new : TreeState K V) (cmp : K → K → Ordering) (place : ℕ) (x : K × V) : Type 0 where
+  pub at : Address
+  pub here : IsItemAddress old place at
+  pub after : Address
+  pub removed : IsRemoved old new cmp at x after
+  pub pairs : pairs_of new ≡ remove (pairs_of old) place

@@ -1,0 +1,8 @@
+use Rattle.std.proofs.Common.{ap, arith, refl}
+use Rattle.btree_raw.proofs.raw.RawBTree.validate_node.Goals as goal
+
+pub returns-clause-accepts : goal.returns-clause-accepts
+returns-clause-accepts g c = rw (← c.self.view_is) (λ tree suits. c.validate_node.ensures.accepts _ refl (omega (arith, ap (λ s. s.len) c.self.view_is, c.len-len.ensures, c.len-len.type_inv)) tree suits)
+
+pub returns-clause-only : goal.returns-clause-only
+returns-clause-only g c = rw (← c.self.view_is) (λ tree. c.validate_node.ensures.only _ refl tree)

@@ -1,0 +1,161 @@
+-- The children that the walk of the validator has passed make a part that suits.
+use Rattle.std.proofs.Common.{◌≡◌, ◌≤◌, ◌<◌, ◌∷◌, ◌++◌, [], ◌-◌, ℕ, suc, inl, inr, List, length, map, Option, Some, None, Result, Ok, refl, sym, subst, arith, append-nil}
+use Rattle.std.proofs.lemmas.Map.Entries.{length-keys_of}
+use Rattle.std.specs.Cmp.{IsTotalOrder}
+use Rattle.std.specs.List.{AllByRecursion}
+use Rattle.std.specs.Map.{keys_of}
+use Rattle.std.specs.Prelude.{⊤, IfSome, IsFalse, IsTrue, slice_get}
+use Rattle.std.specs.declared.cmp.Ordering.{Ordering}
+use Rattle.std.specs.declared.cmp.Ordering.TheVariants.{Less}
+use Rattle.btree_item.specs.declared.fault.Fault.{Fault}
+use Rattle.btree_view.specs.Checks.{BeginsAbove, EndsBelow, FirstFailed, IsNodeVerdict, PassesCheck, is_judged_as_root, node_faults}
+use Rattle.btree_view.specs.View.{NodeMap, View, items_of, most_of, parent_of, size_of}
+use Rattle.btree_shape.specs.Focus.Subtree.{Holds, IsFilled, IsFilledBelow, Subtree, count_at, items_under, later_items}
+use Rattle.btree_shape.proofs.LookUp.KeyInList.{Rises, rises}
+use Rattle.btree_shape.proofs.Paths.Frames.{AllByRecursion-append}
+use Rattle.btree_valid.specs.Faults.{AreBetween}
+use Rattle.btree_valid.specs.Spots.{Suits, least_between}
+
+-- if the answer is Ok, each check passed
+all-passed : (Passes : Fault → Type 0) (faults : List Fault) (answer : Result ⊤ Fault) → answer ≡ Ok tt → FirstFailed Passes faults answer → AllByRecursion Passes faults
+all-passed Passes [] answer ok is = tt
+all-passed Passes (fault ∷ later) answer ok (inl failed) = let err = failed.1 in absurd (cc)
+all-passed Passes (fault ∷ later) answer ok (inr passed) = (passed.0, all-passed Passes later answer ok passed.1)
+
+module _ {K : Type 0} where
+  least-filled : (min max : Option K) (n : ℕ) → (IsFalse (is_judged_as_root min max) → 3 ≤ n) → (IsTrue (is_judged_as_root min max) → 0 < n) → least_between min max ≤ n
+  least-filled None None n f g = g refl
+  least-filled None (Some k) n f g = f refl
+  least-filled (Some k) max n f g = f refl
+
+module _ {K V : Type 0} (cmp : K → K → Ordering) (node_at : NodeMap (K × V)) (h : ℕ) (parent : Option ℕ) where
+  -- each child suits between the keys around it
+  abbrev pub RowSuits : (min max : Option K) (first : Subtree (K × V) h) (row : List ((K × V) × Subtree (K × V) h)) → Type 0
+  RowSuits min max first [] = Suits cmp min max node_at parent h first
+  RowSuits min max first (b ∷ row) = Suits cmp min (Some b.0.0) node_at parent h first × RowSuits (Some b.0.0) max b.1 row
+
+module _ {K V : Type 0} (cmp : K → K → Ordering) (laws : IsTotalOrder cmp) where
+  above-all : (m : K) (x : K × V) (xs : List (K × V)) → cmp m x.0 ≡ Less → AllByRecursion (λ y. cmp x.0 y.0 ≡ Less) xs → AllByRecursion (λ y. cmp m y.0 ≡ Less) xs
+  above-all m x [] less all = tt
+  above-all m x (y ∷ xs) less all = (laws.trans m x.0 y.0 less all.0, above-all m x xs less all.1)
+
+  below-all : (m : K) (x : K × V) (xs : List (K × V)) → cmp x.0 m ≡ Less → AllByRecursion (λ y. cmp y.0 x.0 ≡ Less) xs → AllByRecursion (λ y. cmp y.0 m ≡ Less) xs
+  below-all m x [] less all = tt
+  below-all m x (y ∷ xs) less all = (laws.trans y.0 x.0 m all.0 less, below-all m x xs less all.1)
+
+  -- rising pairs, a pair above them, and pairs above that one
+  rises-join : (xs : List (K × V)) (x : K × V) (ys : List (K × V)) → Rises cmp xs → AllByRecursion (λ y. cmp y.0 x.0 ≡ Less) xs → Rises cmp (x ∷ ys) → Rises cmp (xs ++ x ∷ ys)
+  rises-join [] x ys up below later = later
+  rises-join (y ∷ xs) x ys up below later = (
+    AllByRecursion-append (λ z. cmp y.0 z.0 ≡ Less) xs (x ∷ ys) up.0 (below.0, above-all y.0 x ys below.0 later.0),
+    rises-join xs x ys up.1 below.1 later,
+  )
+
+  -- the first key decides for a lower bound, the last for an upper one
+  begins-all : (min : Option K) (xs : List (K × V)) → Rises cmp xs → BeginsAbove cmp min (keys_of xs) → IfSome min (λ m. AllByRecursion (λ x. cmp m x.0 ≡ Less) xs)
+  begins-all None xs up is = tt
+  begins-all (Some m) [] up is = tt
+  begins-all (Some m) (x ∷ xs) up is = (is, above-all m x xs is up.0)
+
+  last-all : (m : K) (xs : List (K × V)) → Rises cmp xs → IfSome (slice_get (keys_of xs) (length (keys_of xs) - 1)) (λ k. cmp k m ≡ Less) → AllByRecursion (λ x. cmp x.0 m ≡ Less) xs
+  last-all m [] up is = tt
+  last-all m (x ∷ []) up is =
+      let at : length (keys_of (x ∷ [])) - 1 ≡ 0 = omega arith in
+      (subst (λ i. IfSome (slice_get (x.0 ∷ []) i) (λ k. cmp k m ≡ Less)) at is, tt)
+  last-all m (x ∷ y ∷ xs) up is =
+      let n : ℕ = length (keys_of xs) in
+      let at : suc (suc n) - 1 ≡ suc (suc n - 1) = omega arith in
+      let rest = last-all m (y ∷ xs) up.1 (subst (λ i. IfSome (slice_get (x.0 ∷ y.0 ∷ keys_of xs) i) (λ k. cmp k m ≡ Less)) at is) in
+      (laws.trans x.0 y.0 m up.0.0 rest.0, rest)
+
+  ends-all : (max : Option K) (xs : List (K × V)) → Rises cmp xs → EndsBelow cmp max (keys_of xs) → IfSome max (λ m. AllByRecursion (λ x. cmp x.0 m ≡ Less) xs)
+  ends-all None xs up is = tt
+  ends-all (Some m) xs up is = last-all m xs up is
+
+  -- what the checks of a node say
+  pub record IsChecked (parent : Option ℕ) (min max : Option K) (v : View (K × V)) : Type 0 where
+    pub parent_is : parent_of v ≡ parent
+    pub filled : (least_between min max ≤ size_of v) × (size_of v ≤ most_of v)
+    pub rise : Rises cmp (items_of v)
+    pub between : AreBetween cmp min max (items_of v)
+
+  pub checked : (parent : Option ℕ) (min max : Option K) (v : View (K × V)) (answer : Result ⊤ Fault) → answer ≡ Ok tt → IsNodeVerdict cmp parent min max v answer → IsChecked parent min max v
+  checked parent min max v answer ok verdict =
+      let p = all-passed (PassesCheck cmp parent min max (parent_of v) (most_of v) (keys_of (items_of v))) node_faults answer ok verdict in
+      let count = length-keys_of (items_of v) in
+      let up = rises cmp (items_of v) p.1.1.1.1.0 in
+      record {
+        parent_is = p.0;
+        filled = (
+          least-filled min max (size_of v) (λ no. let three = p.1.1.0 no in omega arith) (λ yes. let some = p.1.1.1.0 yes in omega arith),
+          let most = p.1.0 in omega arith,
+        );
+        rise = up;
+        between = record { above = begins-all min (items_of v) up p.1.1.1.1.1.0; below = ends-all max (items_of v) up p.1.1.1.1.1.1.0 };
+      }
+
+  module _ (node_at : NodeMap (K × V)) (h : ℕ) (parent : Option ℕ) where
+    abbrev keys_in : List ((K × V) × Subtree (K × V) h) → List (K × V)
+    keys_in row = map {B = K × V} (λ b. b.0) row
+
+    -- so all of them are in order, and between the separators of the node
+    pub record AreJoined (min max : Option K) (first : Subtree (K × V) h) (row : List ((K × V) × Subtree (K × V) h)) : Type 0 where
+      pub rise : Rises cmp (items_under (K × V) h first ++ later_items (K × V) h row)
+      pub between : AreBetween cmp min max (items_under (K × V) h first ++ later_items (K × V) h row)
+      pub holds : Holds (K × V) node_at h parent first × AllByRecursion (λ b. Holds (K × V) node_at h parent b.1) row
+
+    both-append : (P : K → K × V → Type 0) (m : Option K) (xs ys : List (K × V)) → IfSome m (λ k. AllByRecursion (P k) xs) → IfSome m (λ k. AllByRecursion (P k) ys) → IfSome m (λ k. AllByRecursion (P k) (xs ++ ys))
+    both-append P None xs ys f g = tt
+    both-append P (Some k) xs ys f g = AllByRecursion-append (P k) xs ys f g
+
+    above-later : (min : Option K) (x : K × V) (xs more : List (K × V)) → IfSome min (λ m. AllByRecursion (λ y. cmp m y.0 ≡ Less) (x ∷ more)) → AllByRecursion (λ y. cmp x.0 y.0 ≡ Less) xs → IfSome min (λ m. AllByRecursion (λ y. cmp m y.0 ≡ Less) (x ∷ xs))
+    above-later None x xs more f all = tt
+    above-later (Some m) x xs more f all = (f.0, above-all m x xs f.0 all)
+
+    below-earlier : (max : Option K) (x : K × V) (xs more : List (K × V)) → IfSome max (λ m. AllByRecursion (λ y. cmp y.0 m ≡ Less) (x ∷ more)) → AllByRecursion (λ y. cmp y.0 x.0 ≡ Less) xs → IfSome max (λ m. AllByRecursion (λ y. cmp y.0 m ≡ Less) xs)
+    below-earlier None x xs more f all = tt
+    below-earlier (Some m) x xs more f all = below-all m x xs f.0 all
+
+    head-below : (max : Option K) (x : K × V) (more ys : List (K × V)) → IfSome max (λ m. AllByRecursion (λ y. cmp y.0 m ≡ Less) (x ∷ more)) → IfSome max (λ m. AllByRecursion (λ y. cmp y.0 m ≡ Less) ys) → IfSome max (λ m. AllByRecursion (λ y. cmp y.0 m ≡ Less) (x ∷ ys))
+    head-below None x more ys f g = tt
+    head-below (Some m) x more ys f g = (f.0, g)
+
+    tail-below : (max : Option K) (x : K × V) (more : List (K × V)) → IfSome max (λ m. AllByRecursion (λ y. cmp y.0 m ≡ Less) (x ∷ more)) → IfSome max (λ m. AllByRecursion (λ y. cmp y.0 m ≡ Less) more)
+    tail-below None x more f = tt
+    tail-below (Some m) x more f = f.1
+
+    pub join : (min max : Option K) (first : Subtree (K × V) h) (row : List ((K × V) × Subtree (K × V) h)) → Rises cmp (keys_in row) → AreBetween cmp min max (keys_in row) → RowSuits cmp node_at h parent min max first row → AreJoined min max first row
+    join min max first [] up between s =
+        let same : items_under (K × V) h first ≡ items_under (K × V) h first ++ [] = sym (append-nil (items_under (K × V) h first)) in
+        record {
+          rise = subst (Rises cmp) same (rises cmp (items_under (K × V) h first) s.ascends);
+          between = subst (AreBetween cmp min max) same s.between;
+          holds = (s.holds, tt);
+        }
+    join min max first (b ∷ row) up between s =
+        let rest = join (Some b.0.0) max b.1 row up.1 (record { above = up.0; below = tail-below max b.0 (keys_in row) between.below }) s.1 in
+        let later : List (K × V) = items_under (K × V) h b.1 ++ later_items (K × V) h row in
+        record {
+          rise = rises-join (items_under (K × V) h first) b.0 later (rises cmp (items_under (K × V) h first) s.0.ascends) s.0.between.below (rest.between.above, rest.rise);
+          between = record {
+            above = both-append (λ m x. cmp m x.0 ≡ Less) min (items_under (K × V) h first) (b.0 ∷ later) s.0.between.above (above-later min b.0 later (keys_in row) between.above rest.between.above);
+            below = both-append (λ m x. cmp x.0 m ≡ Less) max (items_under (K × V) h first) (b.0 ∷ later) (below-earlier max b.0 (items_under (K × V) h first) (keys_in row) between.below s.0.between.below)
+                (head-below max b.0 (keys_in row) later between.below rest.between.below);
+          };
+          holds = (s.0.holds, rest.holds);
+        }
+
+    -- each child has three items or more, if there is a key
+    filled-first : (min : Option K) (key : K) (first : Subtree (K × V) h) → Suits cmp min (Some key) node_at parent h first → IsFilled 3 h (count_at (K × V) h first) × IsFilledBelow (K × V) h first
+    filled-first None key first s = (s.filled, s.filled_below)
+    filled-first (Some m) key first s = (s.filled, s.filled_below)
+
+    pub row-filled : (key : K) (max : Option K) (first : Subtree (K × V) h) (row : List ((K × V) × Subtree (K × V) h)) → RowSuits cmp node_at h parent (Some key) max first row
+        → IsFilled 3 h (count_at (K × V) h first) × IsFilledBelow (K × V) h first × AllByRecursion (λ b. IsFilled 3 h (count_at (K × V) h b.1) × IsFilledBelow (K × V) h b.1) row
+    row-filled key max first [] s = (s.filled, s.filled_below, tt)
+    row-filled key max first (b ∷ row) s = let r = row-filled b.0.0 max b.1 row s.1 in (s.0.filled, s.0.filled_below, ((r.0, r.1), r.2))
+
+    pub all-filled : (min max : Option K) (first : Subtree (K × V) h) (row : List ((K × V) × Subtree (K × V) h)) → 0 < length row → RowSuits cmp node_at h parent min max first row
+        → IsFilled 3 h (count_at (K × V) h first) × IsFilledBelow (K × V) h first × AllByRecursion (λ b. IsFilled 3 h (count_at (K × V) h b.1) × IsFilledBelow (K × V) h b.1) row
+    all-filled min max first [] some s = absurd (omega arith)
+    all-filled min max first (b ∷ row) some s = let f = filled-first min b.0.0 first s.0 in let r = row-filled b.0.0 max b.1 row s.1 in (f.0, f.1, ((r.0, r.1), r.2))

@@ -1,0 +1,105 @@
+-- A node of a well formed tree passes each check.
+use Rattle.std.proofs.Common.{◌≡◌, ◌≤◌, ◌∷◌, [], ◌∙◌, ℕ, zero, suc, inl, inr, List, length, map, Option, Some, None, refl, subst, arith}
+use Rattle.std.proofs.lemmas.Map.Entries.{length-keys_of}
+use Rattle.std.specs.List.{AllByRecursion}
+use Rattle.std.specs.Map.{keys_of}
+use Rattle.std.specs.Prelude.{⊤, IfSome, IsFalse, Result, Ok, slice_get}
+use Rattle.std.specs.declared.cmp.Ordering.{Ordering}
+use Rattle.std.specs.declared.cmp.Ordering.TheVariants.{Less}
+use Rattle.btree_item.specs.declared.fault.Fault.{Fault}
+use Rattle.btree_item.specs.declared.fault.Fault.TheVariants.{NoNode, WrongParent, Overflowing, Underflowing, EmptyRoot, Unsorted, BelowSeparator, AboveSeparator, TooDeep, NotBalanced, WrongLength, Unreachable}
+use Rattle.btree_view.specs.Checks.{BeginsAbove, EndsBelow, FirstFailed, IsNodeVerdict, PassesCheck, is_judged_as_root, node_faults}
+use Rattle.btree_view.specs.View.{NodeMap, View, items_of, most_of, parent_of}
+use Rattle.btree_shape.specs.Focus.Subtree.{Subtree, count_at, id_of, items_under, later_items, view_at}
+use Rattle.btree_shape.proofs.LookUp.KeyInList.{Rises, ascends, rises, rises-right}
+use Rattle.btree_shape.proofs.Paths.Frames.{AllByRecursion-right}
+use Rattle.btree_shape.proofs.Trees.Sizes.{view-most, view-size}
+use Rattle.btree_valid.specs.Spots.{Suits, least_between}
+
+-- if each check passes, the answer is Ok
+pub all-pass : (Passes : Fault → Type 0) → ((fault : Fault) → Passes fault) → (faults : List Fault) (answer : Result ⊤ Fault) → FirstFailed Passes faults answer → answer ≡ Ok tt
+all-pass Passes pass [] answer is = is
+all-pass Passes pass (fault ∷ later) answer (inl failed) = absurd (failed.0 (pass fault))
+all-pass Passes pass (fault ∷ later) answer (inr passed) = all-pass Passes pass later answer passed.1
+
+module _ {K : Type 0} where
+  least-three : (min max : Option K) → IsFalse (is_judged_as_root min max) → least_between min max ≡ 3
+  least-three None None f = absurd (cc)
+  least-three None (Some k) f = refl
+  least-three (Some k) max f = refl
+
+  pub least-one : (min max : Option K) → 1 ≤ least_between min max
+  least-one None None = omega arith
+  least-one None (Some k) = omega arith
+  least-one (Some k) max = omega arith
+
+  pub least-most : (min max : Option K) → least_between min max ≤ 3
+  least-most None None = omega arith
+  least-most None (Some k) = omega arith
+  least-most (Some k) max = omega arith
+
+module _ {K : Type 0} (V : Type 0) (cmp : K → K → Ordering) where
+  branch-all : (P : K × V → Type 0) (h : ℕ) (bs : List ((K × V) × Subtree (K × V) h)) → AllByRecursion P (later_items (K × V) h bs)
+      → AllByRecursion P (map {B = K × V} (λ b. b.0) (map {B = (K × V) × ℕ} (λ (b : (K × V) × Subtree (K × V) h). (b.0, id_of (K × V) h b.1)) bs))
+  branch-all P h [] all = tt
+  branch-all P h (b ∷ bs) all = (all.0, branch-all P h bs (AllByRecursion-right P (items_under (K × V) h b.1) (later_items (K × V) h bs) all.1))
+
+  branch-rise : (h : ℕ) (bs : List ((K × V) × Subtree (K × V) h)) → Rises cmp (later_items (K × V) h bs)
+      → Rises cmp (map {B = K × V} (λ b. b.0) (map {B = (K × V) × ℕ} (λ (b : (K × V) × Subtree (K × V) h). (b.0, id_of (K × V) h b.1)) bs))
+  branch-rise h [] up = tt
+  branch-rise h (b ∷ bs) up = (
+    branch-all (λ y. cmp b.0.0 y.0 ≡ Less) h bs (AllByRecursion-right (λ y. cmp b.0.0 y.0 ≡ Less) (items_under (K × V) h b.1) (later_items (K × V) h bs) up.0),
+    branch-rise h bs (rises-right cmp (items_under (K × V) h b.1) (later_items (K × V) h bs) up.1),
+  )
+
+  -- what holds of all items of a part holds of those of its root
+  own-all : (P : K × V → Type 0) (h : ℕ) (parent : Option ℕ) (t : Subtree (K × V) h) → AllByRecursion P (items_under (K × V) h t) → AllByRecursion P (items_of (view_at (K × V) h parent t))
+  own-all P zero parent t all = all
+  own-all P (suc h) parent t all = branch-all P h t.2 (AllByRecursion-right P (items_under (K × V) h t.1) (later_items (K × V) h t.2) all)
+
+  own-rise : (h : ℕ) (parent : Option ℕ) (t : Subtree (K × V) h) → Rises cmp (items_under (K × V) h t) → Rises cmp (items_of (view_at (K × V) h parent t))
+  own-rise zero parent t up = up
+  own-rise (suc h) parent t up = branch-rise h t.2 (rises-right cmp (items_under (K × V) h t.1) (later_items (K × V) h t.2) up)
+
+  pub own-parent : (h : ℕ) (parent : Option ℕ) (t : Subtree (K × V) h) → parent_of (view_at (K × V) h parent t) ≡ parent
+  own-parent zero parent t = refl
+  own-parent (suc h) parent t = refl
+
+  key-at : (P : K → Type 0) (xs : List (K × V)) (i : ℕ) → AllByRecursion (λ x. P x.0) xs → IfSome (slice_get (keys_of xs) i) P
+  key-at P [] i all = tt
+  key-at P (x ∷ xs) zero all = all.0
+  key-at P (x ∷ xs) (suc i) all = key-at P xs i all.1
+
+module _ {K V : Type 0} (cmp : K → K → Ordering) where
+  module _ (min max : Option K) (node_at : NodeMap (K × V)) (parent : Option ℕ) (h : ℕ) (t : Subtree (K × V) h) (s : Suits cmp min max node_at parent h t) where
+    abbrev own : View (K × V)
+    own = view_at (K × V) h parent t
+
+    count : length (keys_of (items_of own)) ≡ count_at (K × V) h t
+    count = length-keys_of (items_of own) ∙ view-size (K × V) h parent t
+
+    begins : (m : Option K) → IfSome m (λ k. AllByRecursion (λ x. cmp k x.0 ≡ Less) (items_under (K × V) h t)) → BeginsAbove cmp m (keys_of (items_of own))
+    begins None f = tt
+    begins (Some k) f = key-at V cmp (λ y. cmp k y ≡ Less) (items_of own) 0 (own-all V cmp (λ x. cmp k x.0 ≡ Less) h parent t f)
+
+    ends : (m : Option K) → IfSome m (λ k. AllByRecursion (λ x. cmp x.0 k ≡ Less) (items_under (K × V) h t)) → EndsBelow cmp m (keys_of (items_of own))
+    ends None f = tt
+    ends (Some k) f = key-at V cmp (λ y. cmp y k ≡ Less) (items_of own) _ (own-all V cmp (λ x. cmp x.0 k ≡ Less) h parent t f)
+
+    passes : (fault : Fault) → PassesCheck cmp parent min max (parent_of own) (most_of own) (keys_of (items_of own)) fault
+    passes WrongParent = own-parent V cmp h parent t
+    passes Overflowing = let c = count in let m = view-most (K × V) h parent t in let f = s.filled.1 in omega arith
+    passes Underflowing = λ no. let c = count in let l = least-three min max no in let f = s.filled.0 in omega arith
+    passes EmptyRoot = λ yes. let c = count in let l = least-one min max in let f = s.filled.0 in omega arith
+    passes Unsorted = ascends cmp (items_of own) (own-rise V cmp h parent t (rises cmp (items_under (K × V) h t) s.ascends))
+    passes BelowSeparator = begins min s.between.above
+    passes AboveSeparator = ends max s.between.below
+    passes NoNode = tt
+    passes TooDeep = tt
+    passes NotBalanced = tt
+    passes WrongLength = tt
+    passes Unreachable = tt
+
+    -- so the answer for the root of a part that suits is Ok
+    pub own-passes : (v : View (K × V)) → v ≡ own → (answer : Result ⊤ Fault) → IsNodeVerdict cmp parent min max v answer → answer ≡ Ok tt
+    own-passes v is answer verdict = all-pass (PassesCheck cmp parent min max (parent_of own) (most_of own) (keys_of (items_of own))) passes node_faults answer (subst (λ u. IsNodeVerdict cmp parent min max u answer) is verdict)

@@ -1,0 +1,63 @@
+-- What `validate` and `validate_node` answer on a well formed tree.
+-- `validate` answers Ok on every tree that `AreBTree` holds of. `validate_node` compares a node with a parent and two
+-- separators that the caller gives, so it answers Ok if they suit the node (`SuitsNode`), with the node's depth.
+use Rattle.std.specs.Prelude.{◌≡◌, ℕ, ◌^◌, ◌<◌, ◌≤◌, IsFalse, List, IfOk, IfSome, Option, Some, Result, Ok}
+use Rattle.std.specs.FinMap as map
+use Rattle.std.specs.List.{AllByRecursion}
+use Rattle.std.specs.declared.cmp.Ordering.{Ordering}
+use Rattle.std.specs.declared.cmp.Ordering.TheVariants.{Less}
+use Rattle.btree_item.specs.declared.TheConstants.{MIN_ITEMS}
+use Rattle.btree_item.specs.declared.fault.Fault.{Fault}
+use Rattle.btree_node.specs.declared.node.Node.{Node}
+use Rattle.btree_store.specs.Content.{Content}
+use Rattle.btree_view.specs.Checks.{is_judged_as_root}
+use Rattle.btree_view.specs.View.{View, parent_of, size_of}
+use Rattle.btree_shape.specs.Focus.Search.{levels_below}
+use Rattle.btree_shape.specs.Represents.{represented}
+use Rattle.btree_shape.specs.TreeState.{TreeState, IsBTree, node_map}
+
+-- the keys are between the separators, where these are given
+pub record AreBetween {K V : Type 0} (cmp : K → K → Ordering) (min max : Option K) (xs : List (K × V)) : Type 0 where
+  pub above : IfSome min (λ m. AllByRecursion (λ x. cmp m x.0 ≡ Less) xs)
+  pub below : IfSome max (λ m. AllByRecursion (λ x. cmp x.0 m ≡ Less) xs)
+
+-- the nodes are exactly one well formed tree with this root and this length
+abbrev pub AreBTree : {K V : Type 0} → (cmp : K → K → Ordering) → Content (Node K V) → (root : Option ℕ) → (len : ℕ) → Type 0
+AreBTree cmp nodes root len = IsBTree cmp (record { nodes = nodes; root = root; len = len; refusals = 0 })
+
+-- how many levels are below a node
+abbrev pub depth_below : {K V : Type 0} → TreeState K V → ℕ → ℕ
+depth_below s id = levels_below (node_map s) (map.len s.nodes) id
+
+module _ {K V : Type 0} (cmp : K → K → Ordering) where
+  -- a node has this parent, at least three items unless it is judged as the root, and only keys between the separators
+  -- under it
+  pub record SuitsNode (s : TreeState K V) (id : ℕ) (parent : Option ℕ) (min max : Option K) : Type 0 where
+    pub node : View (K × V)
+    pub at : node_map s id ≡ Some node
+    pub parent_is : parent_of node ≡ parent
+    pub filled : IsFalse (is_judged_as_root min max) → MIN_ITEMS ≤ size_of node
+    pub between : AreBetween cmp min max (represented (node_map s) (map.len s.nodes) id)
+
+  -- the answer is Ok with the depth of the node if the arguments suit it
+  abbrev pub AcceptsNode : (s : TreeState K V) (id : ℕ) (parent : Option ℕ) (min max : Option K) → Result ℕ Fault → Type 0
+  AcceptsNode s id parent min max answer = SuitsNode s id parent min max → answer ≡ Ok (depth_below s id)
+
+  -- so it is in a well formed tree
+  abbrev pub AcceptsRawNode : (s : TreeState K V) (id : ℕ) (parent : Option ℕ) (min max : Option K) → Result ℕ Fault → Type 0
+  AcceptsRawNode s id parent min max answer = IsBTree cmp s → AcceptsNode s id parent min max answer
+
+  -- and in every well formed tree of these nodes
+  abbrev pub AcceptsAmong : Content (Node K V) → (id : ℕ) (parent : Option ℕ) (min max : Option K) → Result ℕ Fault → Type 0
+  AcceptsAmong nodes id parent min max answer = (s : TreeState K V) → s.nodes ≡ nodes → s.len < 2 ^ 64 → AcceptsRawNode s id parent min max answer
+
+  -- the answer is Ok only for arguments that suit the node
+  abbrev pub SuitsIfOk : (s : TreeState K V) (id : ℕ) (parent : Option ℕ) (min max : Option K) → Result ℕ Fault → Type 0
+  SuitsIfOk s id parent min max answer = IfOk answer (λ depth. SuitsNode s id parent min max)
+
+  -- so it is in a well formed tree, and in every one of these nodes
+  abbrev pub SuitsRawNode : (s : TreeState K V) (id : ℕ) (parent : Option ℕ) (min max : Option K) → Result ℕ Fault → Type 0
+  SuitsRawNode s id parent min max answer = IsBTree cmp s → SuitsIfOk s id parent min max answer
+
+  abbrev pub SuitsAmong : Content (Node K V) → (id : ℕ) (parent : Option ℕ) (min max : Option K) → Result ℕ Fault → Type 0
+  SuitsAmong nodes id parent min max answer = (s : TreeState K V) → s.nodes ≡ nodes → SuitsRawNode s id parent min max answer

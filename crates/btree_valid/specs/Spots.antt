@@ -1,0 +1,98 @@
+-- The walk of the validator: where it begins, and what it has met.
+-- `Spot` is the node where a walk begins, and `Met` its state, written `met` before a call and `after` after it. A part
+-- of a tree is as it should be at a spot if `BeginsAt` holds, for which `Suits` compares it with the separators there;
+-- `Meets` says what the walk has met after the part. Only the private functions of `src/faults.rt` cite these words;
+-- the public calls cite `Faults.antt`.
+use Rattle.std.specs.Prelude.{◌≡◌, ℕ, ◌+◌, ◌<◌, if◌then◌else◌, length, IfOk, IfSome, Option, Some, None, Result, Ok, option_copied}
+use Rattle.std.specs.declared.cmp.Ordering.{Ordering}
+use Rattle.btree_item.specs.declared.TheConstants.{MAX_LEVELS, MIN_ITEMS}
+use Rattle.btree_item.specs.declared.fault.Fault.{Fault}
+use Rattle.btree_item.specs.Pairs.{Ascends}
+use Rattle.btree_node.specs.declared.node.Node.{Node}
+use Rattle.btree_store.specs.Content.{Content}
+use Rattle.btree_view.specs.Checks.{is_judged_as_root}
+use Rattle.btree_view.specs.View.{NodeMap}
+use Rattle.btree_shape.specs.Focus.Subtree.{Holds, IsFilled, IsFilledBelow, Subtree, count_at, id_of, items_under}
+use Rattle.btree_shape.specs.Represents.{numbers_under}
+use Rattle.btree_shape.specs.TreeState.{views}
+use Rattle.btree_valid.specs.Faults.{AreBTree, AreBetween}
+use Rattle.btree_valid.specs.declared.faults.Met.{Met}
+use Rattle.btree_valid.specs.declared.faults.Spot.{Spot}
+
+-- after so many have come, `after` is how many may still come
+abbrev pub IsFewer : (left : Option ℕ) → (count : ℕ) → (after : Option ℕ) → Type 0
+IsFewer left count after = (n : ℕ) → left ≡ Some (count + n) → after ≡ Some n
+
+-- and before they came, so many more could come
+abbrev pub WasMore : (after : Option ℕ) → (count : ℕ) → (left : Option ℕ) → Type 0
+WasMore after count left = (n : ℕ) → after ≡ Some n → left ≡ Some (count + n)
+
+-- the nearer separator, if there is one, and else the farther
+abbrev pub nearest_of : {K : Type 0} → (near far : Option K) → Option K
+nearest_of None far = far
+nearest_of (Some key) far = Some key
+
+-- the fewest items of a node between two separators, which is judged as the root without them
+abbrev pub least_between : {K : Type 0} → (min max : Option K) → ℕ
+least_between min max = if is_judged_as_root min max then 1 else MIN_ITEMS
+
+-- the part is one of a well formed tree, under this parent and between these separators
+pub record Suits {K V : Type 0} (cmp : K → K → Ordering) (min max : Option K) (node_at : NodeMap (K × V)) (parent : Option ℕ) (height : ℕ) (part : Subtree (K × V) height) : Type 0 where
+  pub holds : Holds (K × V) node_at height parent part
+  pub filled : IsFilled (least_between min max) height (count_at (K × V) height part)
+  pub filled_below : IsFilledBelow (K × V) height part
+  pub ascends : Ascends cmp (items_under (K × V) height part)
+  pub between : AreBetween cmp min max (items_under (K × V) height part)
+
+-- the walk has met no leaf on another level
+abbrev pub CanMeet : (deepest : ℕ) → Met → Type 0
+CanMeet deepest met = IfSome met.leaf_level (λ first. first ≡ deepest)
+
+-- the walk has met a leaf on this level
+pub record MeetsLeaf (level : ℕ) (met after : Met) : Type 0 where
+  pub can : CanMeet level met
+  pub after_is : after ≡ record met { leaf_level = Some level }
+
+module _ {K V : Type 0} (content : Content (Node K V)) where
+  -- the walk has met the part, whose leaves are on level `deepest`
+  pub record Meets (deepest height : ℕ) (part : Subtree (K × V) height) (met after : Met) : Type 0 where
+    pub leaves : after.leaf_level ≡ Some deepest
+    pub items : IsFewer met.items (length (items_under (K × V) height part)) after.items
+    pub nodes : IsFewer met.nodes (length (numbers_under (views content) height (id_of (K × V) height part))) after.nodes
+
+  -- the answer of a walk that met the part and found no fault
+  abbrev pub HasMet : (deepest height : ℕ) (part : Subtree (K × V) height) → (met : Met) → Result Met Fault → Type 0
+  HasMet deepest height part met answer = (after : Met) × (answer ≡ Ok after) × Meets deepest height part met after
+
+  module _ (cmp : K → K → Ordering) where
+    -- the part begins at the spot, and is as it should be there
+    pub record BeginsAt (spot : Spot K) (height : ℕ) (part : Subtree (K × V) height) : Type 0 where
+      pub here : id_of (K × V) height part ≡ spot.id
+      pub low : spot.level + height < MAX_LEVELS
+      pub suits : Suits cmp (option_copied spot.min) (option_copied spot.max) (views content) spot.parent height part
+
+    -- the walk meets each part that is as it should be at the spot
+    abbrev pub MeetsAt : Spot K → (met : Met) → Result Met Fault → Type 0
+    MeetsAt spot met answer = (height : ℕ) (part : Subtree (K × V) height) → BeginsAt spot height part → CanMeet (spot.level + height) met
+        → HasMet (spot.level + height) height part met answer
+
+    -- the walk has met a part of this height that is as it should be at the spot, and nothing else
+    pub record HasFoundPart (spot : Spot K) (met after : Met) (height : ℕ) : Type 0 where
+      pub part : Subtree (K × V) height
+      pub begins : BeginsAt spot height part
+      pub can : CanMeet (spot.level + height) met
+      pub leaves : after.leaf_level ≡ Some (spot.level + height)
+      pub items : WasMore after.items (length (items_under (K × V) height part)) met.items
+      pub nodes : WasMore after.nodes (length (numbers_under (views content) height (id_of (K × V) height part))) met.nodes
+
+    -- an answer without a fault
+    abbrev pub FindsAt : Spot K → (met : Met) → Result Met Fault → Type 0
+    FindsAt spot met answer = IfOk answer (λ after. (height : ℕ) × HasFoundPart spot met after height)
+
+    -- the walk of a well formed tree finds no fault, and nothing may still come then
+    abbrev pub MeetsTree : (root : Option ℕ) → (len : ℕ) → Result Met Fault → Type 0
+    MeetsTree root len answer = AreBTree cmp content root len → (after : Met) × (answer ≡ Ok after) × (after.items ≡ Some 0) × (after.nodes ≡ Some 0)
+
+    -- without a fault and with nothing that may still come, the tree is well formed
+    abbrev pub FindsTree : (root : Option ℕ) → (len : ℕ) → Result Met Fault → Type 0
+    FindsTree root len answer = IfOk answer (λ after. after.items ≡ Some 0 → after.nodes ≡ Some 0 → AreBTree cmp content root len)
