@@ -10,7 +10,7 @@ use btree_nodes::NodesMut;
 use btree_raw::{RawBTree, rebalance_underflow};
 
 /// Removes the item at an address. Returns it, with a back address at the place where it was. Returns `None`, and nothing changes, if there
-/// is no item at the address. It frees at most one node of each level and needs no new one. A leaf that keeps three items or more is
+/// is no item at the address. It frees at most as many nodes as the tree has levels and needs no new one. A leaf that keeps three items or more is
 /// fetched once.
 ///
 /// An item of an internal node is replaced with the last one under the child before it. `RawBTree::is_valid` decides whether an address is
@@ -46,7 +46,7 @@ pub fn remove_at<K: Ord + Drop, V: Drop, C: NodesMut<K, V>>(
 }
 
 /// Removes the pair whose key is equal to the given one, and returns it. Returns `None`, and nothing changes, if there is none. It searches
-/// once: it makes at most six comparisons at each level. It frees at most one node of each level and needs no new one.
+/// once: it makes at most six comparisons at each level. It frees at most as many nodes as the tree has levels and needs no new one.
 pub fn remove_entry<K: Ord + Drop, V: Drop, C: NodesMut<K, V>>(
     tree: &mut RawBTree<K, V, C>,
     key: &K,

@@ -119,7 +119,7 @@ pub trait BTreeExtMut<K: Ord + Drop, V: Drop>: BTreeExt<K, V> {
     /// Removes the item at an address. Returns it, with a back address at the place where it was; its key fits there, so `insert_at` can
     /// put it back. Returns `None`, and nothing changes, if there is no item: at -1, past the last item of a node, or nowhere.
     ///
-    /// The address must be valid: `is_valid` decides that. It frees at most one node of each level, needs no new one and cannot fail. An
+    /// The address must be valid: `is_valid` decides that. It frees at most as many nodes as the tree has levels, needs no new one and cannot fail. An
     /// item of an internal node is replaced with the last one under the child before it.
     fn remove_at(&mut self, addr: Address) -> Option<(Item<K, V>, Address)>
         requires { IsValidIn (Self.state self.old) addr }

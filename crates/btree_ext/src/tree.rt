@@ -151,7 +151,7 @@ impl<K: Ord + Drop, V: Drop, C: NodesMut<K, V>> Tree<K, V, C> {
 
     /// Removes the pair whose key is equal to the given one, and returns it. Returns `None`, and nothing changes, if there is none.
     ///
-    /// It searches once: it makes at most six comparisons at each level. It frees at most one node of each level and cannot fail.
+    /// It searches once: it makes at most six comparisons at each level. It frees at most as many nodes as the tree has levels and cannot fail.
     pub fn remove_entry(&mut self, key: &K) -> Option<(K, V)>
         ensures entry { result ≡ found K.cmp key.now (pairs_of self.old) }
         ensures removed { IfSome result (λ x. RemovesByKey self.old self.new K.cmp key.now x) }

@@ -150,7 +150,7 @@ impl<K: Ord + Drop, V: Drop, C: NodesMut<K, V>> BTreeMap<K, V, C> {
 
     /// Removes a key equal to the given one, and returns its value. Returns `None`, and nothing changes, if there is none.
     ///
-    /// It searches once: it makes at most six comparisons at each level. It frees at most one node of each level and cannot fail.
+    /// It searches once: it makes at most six comparisons at each level. It frees at most as many nodes as the tree has levels and cannot fail.
     pub fn remove(&mut self, key: &K) -> Option<V>
         ensures value { result ≡ found_value K.cmp key.now (pairs_of self.old) }
         ensures removed { IfSome result (λ value.

@@ -10,7 +10,7 @@ use btree_nodes::NodesMut;
 impl<K: Ord + Drop, V: Drop, C: NodesMut<K, V>> BTreeMap<K, V, C> {
     /// Removes the first pair, and returns it. Returns `None`, and nothing changes, if there are no pairs.
     ///
-    /// It compares no keys. It frees at most one node of each level and cannot fail.
+    /// It compares no keys. It frees at most as many nodes as the tree has levels and cannot fail.
     pub fn pop_first(&mut self) -> Option<(K, V)>
         ensures pair { result ≡ slice_get (pairs_of self.old) 0 }
         ensures removed { IfSome result (λ x. RemovesPlace self.old self.new K.cmp 0 x) }
@@ -27,7 +27,7 @@ impl<K: Ord + Drop, V: Drop, C: NodesMut<K, V>> BTreeMap<K, V, C> {
 
     /// Removes the last pair, and returns it. Returns `None`, and nothing changes, if there are no pairs.
     ///
-    /// It compares no keys. It frees at most one node of each level and cannot fail.
+    /// It compares no keys. It frees at most as many nodes as the tree has levels and cannot fail.
     pub fn pop_last(&mut self) -> Option<(K, V)>
         ensures pair { result ≡ slice_get (pairs_of self.old) (length (pairs_of self.old) - 1) }
         ensures removed { IfSome result (λ x.

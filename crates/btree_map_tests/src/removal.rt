@@ -60,13 +60,15 @@ fn maps_of(
     let mut list: KitMap = collections::BTreeMap::new(alloc);
     for (key, value) in pairs.iter().take(count) {
         assert!(rt; map.insert(*key, *value).is_ok());
+        assert_eq!(rt; map.validate(), Ok(()));
         list.insert(*key, *value)?;
     }
     Ok((map, list))
 }
 
-// Checks that a map has the pairs of std's map, in the same order.
+// Checks that a map is well formed, and has the pairs of std's map, in the same order.
 fn check_list(rt: &impl Abort, map: &Map, list: &KitMap) {
+    assert_eq!(rt; map.validate(), Ok(()));
     assert_eq!(rt; map.len(), list.len());
     let mut walk = map.iter();
     for (key, value) in list.iter() {
@@ -142,7 +144,10 @@ fn puts_back_each_pair_that_it_takes(rt: HostRuntime) -> Result<(), Fail> {
                 return Err(Fail::from("nothing there"));
             };
             assert_eq!(rt; (*item.key(), *item.value()), (*key, *value));
-            assert_eq!(rt; map.len(), count.wrapping_sub(1));
+            assert_eq!(rt;
+                (map.len(), map.validate()),
+                (count.wrapping_sub(1), Ok(()))
+            );
             put(&rt, &mut map, back, *key, *value);
             check_list(&rt, &map, &list);
         }

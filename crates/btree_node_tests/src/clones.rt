@@ -1,6 +1,5 @@
 //! Clones of nodes.
 ghost use Rattle.std.specs.Prelude.{◌≡◌, IfOk};
-ghost use Rattle.btree_node.specs.Node.{view_of};
 
 use btree_item::{Item, Offset};
 use btree_node::{InternalNode, LeafNode, Node};
@@ -18,14 +17,6 @@ fn clone_of_leaf<K: Clone, V: Clone>(leaf: &LeafNode<K, V>) -> Result<LeafNode<K
 fn clone_of_internal<K: Clone, V: Clone>(
     node: &InternalNode<K, V>,
 ) -> Result<InternalNode<K, V>, AllocError>
-    requires key { (x y : K) → K.is_clone x y → y ≡ x }
-    requires value { (x y : V) → V.is_clone x y → y ≡ x }
-    ensures { IfOk result (λ copy. copy ≡ node.now) }
-{
-    node.clone()
-}
-
-fn clone_of<K: Clone, V: Clone>(node: &Node<K, V>) -> Result<Node<K, V>, AllocError>
     requires key { (x y : K) → K.is_clone x y → y ≡ x }
     requires value { (x y : V) → V.is_clone x y → y ≡ x }
     ensures { IfOk result (λ copy. copy ≡ node.now) }
@@ -73,12 +64,12 @@ fn clones_an_internal_node(rt: HostRuntime) -> Result<(), Fail> {
 
 #[test]
 fn clones_nodes(rt: HostRuntime) -> Result<(), Fail> {
-    let leaf = clone_of(&Node::leaf(Some(3), Item::new(10u32, 'a')))?;
+    let leaf = Node::leaf(Some(3), Item::new(10u32, 'a')).clone()?;
     assert_eq!(rt;
         (leaf.parent(), leaf.item_count(), leaf.child_count()),
         (Some(3), 1, 0)
     );
-    let node = clone_of(&Node::binary(None, 7, Item::new(10u32, 'a'), 8))?;
+    let node = Node::binary(None, 7, Item::new(10u32, 'a'), 8).clone()?;
     assert_eq!(rt;
         (node.parent(), node.item_count(), node.child_count()),
         (None, 1, 2)
