@@ -8,7 +8,6 @@ use btree_item::{Address, Item, Offset};
 use btree_map::BTreeMap;
 use btree_node::Node;
 use btree_nodes::NodesMut;
-use btree_refusing::Refusing;
 use btree_store::SlabStore;
 use std::alloc::Global;
 use std::cmp::Ordering;
@@ -136,8 +135,7 @@ fn maps_of_other_shapes_are_equal(rt: HostRuntime) -> Result<(), Fail> {
     Ok(())
 }
 
-// Returns whether the map and another with the keys from 0 to 8, in which `key` gets `value`, are equal, and how they compare. The other has
-// a store of another type.
+// Returns whether the map and another with the keys from 0 to 8, in which `key` gets `value`, are equal, and how they compare.
 fn compare_with(
     rt: &impl Abort,
     base: &Map,
@@ -145,13 +143,7 @@ fn compare_with(
     key: u64,
     value: u64,
 ) -> (bool, Ordering) {
-    let memory = Refusing::over(alloc, 0);
-    let mut other: BTreeMap<u64, u64, SlabStore<Node<u64, u64>, &Refusing<Global>>> = BTreeMap::new(
-        &memory,
-    );
-    for number in 0..9u64 {
-        assert!(rt; other.insert(number, number.wrapping_mul(10)).is_ok());
-    }
+    let mut other = first_keys(rt, alloc, 9);
     assert!(rt; other.insert(key, value).is_ok());
     (base.same_items(&other), base.compare_items(&other))
 }
