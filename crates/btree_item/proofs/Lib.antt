@@ -1,4 +1,5 @@
 pub mod SomesLemmas
+pub mod CarryLemmas
 pub mod IterLemmas
 pub mod KeyLemmas
 pub mod PairLemmas

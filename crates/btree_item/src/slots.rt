@@ -7,6 +7,7 @@ ghost use Rattle.std.specs.Option.{option_copied, option_copied_mut};
 use crate::SlotsIter;
 use arrayvec::ArrayVec;
 use std::marker::Model;
+use std::mem;
 
 /// A list of at most `N` values. They are stored inline, so that it never allocates, and as options, so that a value needs no default.
 #[derive(Drop)]
@@ -99,7 +100,7 @@ impl<T: Drop, const N: usize> Slots<T, N> {
         requires room { length self.old < N }
         ensures { self.new ≡ insert self.old index value }
     {
-        self.slots.insert(index, Some(value));
+        insert_slot(&mut self.slots, index, Some(value));
         self.len = self.slots.len();
     }
 
@@ -109,7 +110,7 @@ impl<T: Drop, const N: usize> Slots<T, N> {
         ensures answer { slice_get self.old index ≡ Some result }
         ensures after { self.new ≡ remove self.old index }
     {
-        let slot = self.slots.remove(index);
+        let slot = remove_slot(&mut self.slots, index);
         self.len = self.slots.len();
         slot.unwrap()
     }
@@ -149,6 +150,42 @@ impl<T: Drop, const N: usize> Slots<T, N> {
             slots: tail,
         }
     }
+}
+
+// Inserts a slot. Each slot from the index on moves once.
+fn insert_slot<T: Drop, const N: usize>(
+    slots: &mut ArrayVec<Option<T>, N>,
+    index: usize,
+    slot: Option<T>,
+)
+    requires within { index ≤ length slots.old.items }
+    requires room { length slots.old.items < N }
+    ensures { slots.new.items ≡ insert slots.old.items index slot }
+{
+    let len = slots.len();
+    let mut carried = slot;
+    for i in index..len {
+        carried = mem::replace(&mut slots.as_mut_slice()[i], carried);
+    }
+    slots.push(carried);
+}
+
+// Removes a slot. Each slot after it moves once, from the last one on.
+fn remove_slot<T: Drop, const N: usize>(
+    slots: &mut ArrayVec<Option<T>, N>,
+    index: usize,
+) -> Option<T>
+    requires { index < length slots.old.items }
+    ensures answer { slice_get slots.old.items index ≡ Some result }
+    ensures after { slots.new.items ≡ remove slots.old.items index }
+{
+    let mut carried = slots.pop().unwrap();
+    let mut i = slots.len();
+    while i > index {
+        i -= 1;
+        carried = mem::replace(&mut slots.as_mut_slice()[i], carried);
+    }
+    carried
 }
 
 // Moves the other values to the end of these.

@@ -3,8 +3,8 @@ use Rattle.std.proofs.Common.{arith}
 use Rattle.btree_item.proofs.slots.Slots.remove.Goals as goal
 use Rattle.btree_item.proofs.SomesLemmas.{slot_edits}
 
-pub remove-slot-requires : goal.remove-slot-requires
-remove-slot-requires g c = grind (arith, common_steps) steps 300000
+pub remove_slot-slot-requires : goal.remove_slot-slot-requires
+remove_slot-slot-requires g c = grind (arith, common_steps) steps 300000
 
 pub unwrap-requires : goal.unwrap-requires
 unwrap-requires g c = grind (arith, slot_edits) steps 300000
