@@ -56,6 +56,23 @@ enough-left v is_short e is = elim (less-or (size_of v) 3) [
   | inr other ↦ elim other [ inl same ↦ omega arith | inr more ↦ omega arith ]
 ]
 
+module _ {K V : Type 0} (s : TreeState K V) (a : Address) where
+  -- only one child is before the item at an address
+  pub one-left : (left other : ℕ) → IsInnerAt s a left → IsInnerAt s a other → left ≡ other
+  one-left left other p q =
+      let node : p.node ≡ q.node = (let e = p.here in let f = q.here in cc) in
+      let index : p.index ≡ q.index = (let e = p.offset in let f = q.offset in cc) in
+      let e : Some left ≡ Some other =
+      sym p.child ∙ ap (λ v. slice_get (children_of v) p.index) node ∙ ap (λ n. slice_get (children_of q.node) n) index ∙ q.child in
+      cc
+
+  -- an item of a leaf is not one of an internal node
+  pub no-inner : (parent : Option ℕ) (xs : List (K × V)) → node_map s a.id ≡ Some (leaf parent xs) → (left : ℕ) → IsInnerAt s a left → ⊥
+  no-inner parent xs here left p =
+      let node : p.node ≡ leaf parent xs = (let e = p.here in cc) in
+      let kind : IsTrue (is_internal (leaf parent xs)) = subst (λ v. IsTrue (is_internal v)) node p.kind in
+      absurd (cc)
+
 module _ {K V : Type 0} (old : TreeState K V) (a : Address) where
   -- the empty tree has no item
   pub vacant-empty : (cmp : K → K → Ordering) → IsBTree cmp old → old.root ≡ None → item_of old a ≡ None

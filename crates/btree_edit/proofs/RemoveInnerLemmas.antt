@@ -1,6 +1,6 @@
 -- The steps of a removal from an internal node, in the order of the code: the last item under the left child is taken,
 -- it replaces the removed one, the length is set, and the leaf's underflow is fixed.
-use Rattle.std.proofs.Common.{◌≡◌, ◌∙◌, ◌+◌, ◌<◌, ◌≤◌, ◌^◌, ℕ, set, Option, Some, IsSome, IsTrue, IsSomeAnd, refl, sym, ap, subst, slice_get, arith}
+use Rattle.std.proofs.Common.{◌≡◌, ◌∙◌, ◌+◌, ◌<◌, ◌≤◌, ◌^◌, ◌↔◌, ℕ, Bool, false, set, Option, Some, IsSome, IsTrue, IsSomeAnd, refl, sym, ap, subst, slice_get, arith}
 use Rattle.std.proofs.lemmas.Option.{slice_get_within}
 use Rattle.std.specs.Cmp.{IsTotalOrder}
 use Rattle.std.specs.FinMap as finite
@@ -8,15 +8,17 @@ use Rattle.std.specs.declared.cmp.Ordering.{Ordering}
 use Rattle.btree_item.specs.declared.address.Address.{Address}
 use Rattle.btree_node.specs.declared.node.Node.{Node}
 use Rattle.btree_node.specs.Node.{view_of}
-use Rattle.btree_view.specs.Edits.{is_internal, with_other_item, with_other_item_at}
-use Rattle.btree_view.specs.View.{item_at_offset, items_of, size_of}
+use Rattle.btree_view.specs.Edits.{IsUnderflowing, is_internal, with_other_item, with_other_item_at}
+use Rattle.btree_view.specs.View.{View, item_at_offset, items_of, size_of}
 use Rattle.btree_shape.specs.Step.{HasItems, WritesNode}
 use Rattle.btree_shape.specs.TreeState.{TreeState, IsBTree, IsOffByOneAt, IsUsed, IsValidIn, node_map}
 use Rattle.btree_shape.proofs.Trees.Stores.{view-at, writes_node}
 use Rattle.btree_raw.specs.LastItem.{TakesLast}
 use Rattle.btree_raw.specs.Raw.{with_node}
 use Rattle.btree_raw.specs.Rebalance.{HasRoom, IsRebalanced}
-use Rattle.btree_edit.specs.Remove.{IsInnerAt, IsRemoved, LeadsBehind}
+use Rattle.btree_raw.proofs.RebalanceLemmas.{enough-rebalanced}
+use Rattle.btree_edit.specs.Remove.{IsInnerAt, IsRemoved, LeadsBehind, ReplacesInner}
+use Rattle.btree_edit.proofs.RemoveAtLemmas.{enough-left}
 use Rattle.btree_edit.proofs.InnerLemmas.{apart, inner-counted, inner-off, inner-room, inner-valid, node-of, other-items, removed-from-internal}
 
 -- a length that was read
@@ -100,3 +102,32 @@ module _ {K V : Type 0} (cmp : K → K → Ordering) (laws : IsTotalOrder cmp) (
             subst (λ z. IsRemoved old new cmp a z b) removed-is
             (removed-from-internal cmp laws old tree small a left inner taken y leaf_id takes next behind mid (view_of kept)
             put has top new b shorter (ap (λ (s : TreeState K V). s.refusals) takes.rest.rest) r)
+
+        same-node : (other : View (K × V)) → node_map old a.id ≡ Some other → inner.node ≡ other
+        same-node other is = let e = inner.here in cc
+
+        pub replaces-inner : (new : TreeState K V) (b : Address) → IsRebalanced mid new leaf_id cmp next b → ReplacesInner old new cmp a left b
+        replaces-inner new b r = record {
+          last = y;
+          leaf = leaf_id;
+          taken = taken;
+          takes = takes;
+          replaced = mid;
+          writes = λ other is. subst (λ v. WritesNode (node_map taken) (node_map mid) a.id v)
+              (after ∙ ap (λ v. with_other_item_at a.offset y v) (node-is ∙ same-node other is)) put;
+          next = next;
+          behind = behind;
+          rebalanced = r;
+        }
+
+        -- with enough items left in the leaf nothing is to be fixed
+        module _ (is_short : Bool) (short : (leaf : View (K × V)) → node_map taken leaf_id ≡ Some leaf → (IsTrue is_short ↔ IsUnderflowing leaf))
+            (enough : is_short ≡ false) where
+          leaf-kept : node_map taken leaf_id ≡ Some replaced-room.node
+          leaf-kept =
+              sym (put.others leaf_id (λ e. apart cmp laws old tree small a left inner taken y leaf_id takes (sym e))) ∙ replaced-room.here
+
+          pub still-balanced : IsRebalanced mid mid leaf_id cmp next next
+          still-balanced =
+              enough-rebalanced cmp laws mid leaf_id replaced-off next replaced-valid replaced-room
+              (enough-left replaced-room.node is_short (short replaced-room.node leaf-kept) enough)

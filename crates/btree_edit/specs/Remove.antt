@@ -1,18 +1,38 @@
 -- What a removal leaves of a tree. `IsRemoved` is the main word: with `valid`, `back` and `fits` it has all that
 -- `insert_at` requires to put the pair back, and `restores` says that this gives the old list. A removal frees nodes and
--- never allocates one. `RemovesByKey` is a removal at the address of a key.
+-- never allocates one. `ReplacesInner` says which item takes the place of one of an internal node. `RemovesByKey` is a
+-- removal at the address of a key.
 use Rattle.std.specs.Prelude.{◌≡◌, ℕ, suc, ◌+◌, ◌≤◌, slice_get, Some, IsSome, IsTrue}
 use Rattle.std.specs.FinMap as map
 use Rattle.std.specs.List.{insert, remove}
 use Rattle.std.specs.declared.cmp.Ordering.{Ordering}
 use Rattle.btree_item.specs.Pairs.{before}
 use Rattle.btree_item.specs.declared.address.Address.{Address}
-use Rattle.btree_view.specs.Edits.{is_internal}
+use Rattle.btree_view.specs.Edits.{is_internal, with_other_item_at}
 use Rattle.btree_view.specs.View.{View, children_of, items_of}
+use Rattle.btree_shape.specs.Step.{WritesNode}
 use Rattle.btree_shape.specs.TreeState.{TreeState, HasLevels, HasStrain, IsBTree, IsPlaceIn, IsValidIn, item_of, node_map, pairs_of}
+use Rattle.btree_raw.specs.LastItem.{TakesLast}
+use Rattle.btree_raw.specs.Rebalance.{IsRebalanced}
 use Rattle.btree_find.specs.Answers.{IsFoundAt}
 use Rattle.btree_find.specs.Fits.{FitsAt}
 use Rattle.btree_find.specs.Navigation.{IsItemAt}
+
+module _ {K V : Type 0} (s : TreeState K V) where
+  -- an item of an internal node is at the address, and `left` is the child before it
+  pub record IsInnerAt (a : Address) (left : ℕ) : Type 0 where
+    pub node : View (K × V)
+    pub here : node_map s a.id ≡ Some node
+    pub kind : IsTrue (is_internal node)
+    pub index : ℕ
+    pub offset : a.offset ≡ Some index
+    pub item : K × V
+    pub stands : slice_get (items_of node) index ≡ Some item
+    pub child : slice_get (children_of node) index ≡ Some left
+
+  -- the item after the place of address a is at address b
+  abbrev pub LeadsBehind : (a b : Address) → Type 0
+  LeadsBehind a b = (place : ℕ) → IsPlaceIn s a place → IsItemAt s (suc place) (Some b)
 
 module _ {K V : Type 0} (old new : TreeState K V) where
   -- nodes were freed, at most as many as the tree had levels; their number and the strain afterwards are together at
@@ -44,6 +64,20 @@ module _ {K V : Type 0} (old new : TreeState K V) where
     pub frees : FreesWithinStrain
     pub uncounted : new.refusals ≡ old.refusals
 
+  -- in an internal node, the last item under the child before address a took the place of the one there; then the leaf
+  -- that it came from was rebalanced, while the address of the next item was followed, which is address b now
+  pub record ReplacesInner (cmp : K → K → Ordering) (a : Address) (left : ℕ) (b : Address) : Type 0 where
+    pub last : K × V
+    pub leaf : ℕ
+    pub taken : TreeState K V
+    pub takes : TakesLast old taken left last leaf
+    pub replaced : TreeState K V
+    pub writes : (node : View (K × V)) → node_map old a.id ≡ Some node
+        → WritesNode (node_map taken) (node_map replaced) a.id (with_other_item_at a.offset last node)
+    pub next : Address
+    pub behind : LeadsBehind old a next
+    pub rebalanced : IsRebalanced replaced new leaf cmp next b
+
   -- the pair x, which is the one with the key, was removed
   pub record RemovesByKey (cmp : K → K → Ordering) (k : K) (x : K × V) : Type 0 where
     pub at : Address
@@ -51,19 +85,3 @@ module _ {K V : Type 0} (old new : TreeState K V) where
     pub after : Address
     pub removed : IsRemoved cmp at x after
     pub pairs : pairs_of new ≡ remove (pairs_of old) (before cmp k (pairs_of old))
-
-module _ {K V : Type 0} (s : TreeState K V) where
-  -- an item of an internal node is at the address, and `left` is the child before it
-  pub record IsInnerAt (a : Address) (left : ℕ) : Type 0 where
-    pub node : View (K × V)
-    pub here : node_map s a.id ≡ Some node
-    pub kind : IsTrue (is_internal node)
-    pub index : ℕ
-    pub offset : a.offset ≡ Some index
-    pub item : K × V
-    pub stands : slice_get (items_of node) index ≡ Some item
-    pub child : slice_get (children_of node) index ≡ Some left
-
-  -- the item after the place of address a is at address b
-  abbrev pub LeadsBehind : (a b : Address) → Type 0
-  LeadsBehind a b = (place : ℕ) → IsPlaceIn s a place → IsItemAt s (suc place) (Some b)

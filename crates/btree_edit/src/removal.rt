@@ -2,12 +2,12 @@
 ghost use Rattle.std.specs.Prelude.{◌≡◌, ℕ, IfSome, IfNone, None};
 ghost use Rattle.btree_item.specs.Pairs.{found};
 ghost use Rattle.btree_shape.specs.TreeState.{IsBTree, IsValidIn, item_of, pairs_of};
-ghost use Rattle.btree_edit.specs.Remove.{IsInnerAt, IsRemoved, LeadsBehind, RemovesByKey};
+ghost use Rattle.btree_edit.specs.Remove.{IsInnerAt, IsRemoved, LeadsBehind, RemovesByKey, ReplacesInner};
 
 use btree_find::{address_of, first_item};
 use btree_item::{Address, Item};
 use btree_nodes::NodesMut;
-use btree_raw::{RawBTree, rebalance_underflow};
+use btree_raw::{RawBTree, rebalance_underflow, take_last_below};
 
 /// Removes the item at an address. Returns it, with a back address at the place where it was. Returns `None`, and nothing changes, if there
 /// is no item at the address. It frees at most as many nodes as the tree has levels and needs no new one. A leaf that keeps three items or more is
@@ -22,6 +22,8 @@ pub fn remove_at<K: Ord + Drop, V: Drop, C: NodesMut<K, V>>(
     requires tree { IsBTree K.cmp tree.old }
     requires valid { IsValidIn tree.old addr }
     ensures removed { IfSome result (λ r. IsRemoved tree.old tree.new K.cmp addr r.0 r.1) }
+    ensures inner { IfSome result (λ r. (left : ℕ) → IsInnerAt tree.old addr left →
+        ReplacesInner tree.old tree.new K.cmp addr left r.1) }
     ensures vacant { IfNone result (item_of tree.old addr ≡ None) }
     ensures unchanged { IfNone result (tree.new ≡ tree.old) }
 {
@@ -73,14 +75,18 @@ fn remove_inner<K: Ord + Drop, V: Drop, C: NodesMut<K, V>>(
 ) -> (Item<K, V>, Address)
     requires tree { IsBTree K.cmp tree.old }
     requires inner { IsInnerAt tree.old addr left }
-    ensures { IsRemoved tree.old tree.new K.cmp addr result.0 result.1 }
+    ensures removed { IsRemoved tree.old tree.new K.cmp addr result.0 result.1 }
+    ensures replaced { ReplacesInner tree.old tree.new K.cmp addr left result.1 }
 {
     tree.tell_fits();
     let len = tree.len();
     let next = item_behind(tree, Address::new(addr.id, addr.offset));
-    let (last, leaf) = tree.remove_rightmost_leaf_of(left);
+    let (last, leaf, is_short) = take_last_below(tree, left);
     let item = tree.node_mut(addr.id).replace(addr.offset, last);
     tree.set_len(len - 1);
+    if !is_short {
+        return (item, next);
+    }
     let at = rebalance_underflow(tree, leaf, next);
     (item, at)
 }

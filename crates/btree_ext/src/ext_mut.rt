@@ -1,5 +1,5 @@
 //! Changes of a tree by addresses.
-ghost use Rattle.std.specs.Prelude.{◌≡◌, Some, None, IsSome, IfSome, IfNone, IfOk, IfErr};
+ghost use Rattle.std.specs.Prelude.{◌≡◌, ℕ, Some, None, IsSome, IfSome, IfNone, IfOk, IfErr};
 ghost use Rattle.std.specs.Borrow.{Lends, LendsIf, sem};
 ghost use Rattle.std.specs.Option.{option_copied_mut};
 ghost use Rattle.btree_item.specs.Pairs.{found_value};
@@ -9,7 +9,7 @@ ghost use Rattle.btree_find.specs.Fits.{FitsAt, ReplacesAt, pairs_below};
 ghost use Rattle.btree_edit.specs.Exchange.{IsExchanged, IsValueExchanged};
 ghost use Rattle.btree_edit.specs.InsertAt.{InsertsAt, IsRefusedAt};
 ghost use Rattle.btree_edit.specs.KeyWritten.{ExchangesValue, address_at_key};
-ghost use Rattle.btree_edit.specs.Remove.{IsRemoved};
+ghost use Rattle.btree_edit.specs.Remove.{IsInnerAt, IsRemoved, ReplacesInner};
 
 use crate::ext::BTreeExt;
 use btree_item::{Address, Item, Refused};
@@ -125,6 +125,8 @@ pub trait BTreeExtMut<K: Ord + Drop, V: Drop>: BTreeExt<K, V> {
         requires { IsValidIn (Self.state self.old) addr }
         ensures removed { IfSome result (λ r.
             IsRemoved (Self.state self.old) (Self.state self.new) K.cmp addr r.0 r.1) }
+        ensures inner { IfSome result (λ r. (left : ℕ) → IsInnerAt (Self.state self.old) addr left →
+            ReplacesInner (Self.state self.old) (Self.state self.new) K.cmp addr left r.1) }
         ensures vacant { IfNone result (item_of (Self.state self.old) addr ≡ None) }
         ensures unchanged { IfNone result (Self.state self.new ≡ Self.state self.old) };
 }

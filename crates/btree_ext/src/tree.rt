@@ -11,8 +11,9 @@ use btree_edit::{
 };
 use btree_find::get;
 use btree_item::{Address, Item, Refused};
-use btree_nodes::{ClearNodes, NodesMut};
+use btree_nodes::{ClearNodes, CloneNodes, NodesMut};
 use btree_raw::RawBTree;
+use std::alloc::AllocError;
 use std::marker::Model;
 
 /// A well formed tree of nodes in a store. Its pairs are always a list in the order of the keys.
@@ -173,6 +174,25 @@ impl<K: Ord, V, C: ClearNodes<K, V>> Tree<K, V, C> {
         ensures state { self.new ≡ record { nodes = map.empty; root = None; len = 0; refusals = self.old.refusals } }
     {
         self.raw.clear();
+    }
+}
+
+impl<K: Ord + Clone, V: Clone, C: CloneNodes<K, V>> Tree<K, V, C> {
+    ghost use Rattle.btree_shape.specs.TreeState.{pairs_of};
+
+    /// Returns a tree with clones of the keys and values, on the same numbers of nodes. Its store has refused no node yet. It fails only if
+    /// the clone of the store fails.
+    ///
+    /// The contract requires that a clone of a key or a value is equal to it.
+    pub fn clone(&self) -> Result<Self, AllocError>
+        requires keys { (x copy : K) → K.is_clone x copy → copy ≡ x }
+        requires values { (x copy : V) → V.is_clone x copy → copy ≡ x }
+        ensures pairs { IfOk result (λ copy. pairs_of copy ≡ pairs_of self.now) }
+        ensures state { IfOk result (λ copy. copy ≡ record self.now { refusals = 0 }) }
+    {
+        Ok(Tree {
+            raw: self.raw.clone()?,
+        })
     }
 }
 

@@ -1,6 +1,7 @@
 //! The ordered map.
 #![tactic(auto)]
 
+mod clone;
 mod comparison;
 mod keys;
 mod map;

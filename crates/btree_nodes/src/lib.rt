@@ -15,7 +15,8 @@ ghost use Rattle.btree_node.specs.declared.node.Node.{Node};
 ghost use Rattle.btree_node.specs.contracts.node.Node.{the_row as node_row};
 
 use btree_node::Node;
-use btree_store::{Clear, Slab, SlabMut};
+use btree_store::{Clear, Slab, SlabClone, SlabMut};
+use std::alloc::AllocError;
 
 /// A store of nodes, for reading, with the contracts of [`Slab`].
 pub trait Nodes<K, V> {
@@ -111,6 +112,18 @@ pub trait ClearNodes<K, V>: NodesMut<K, V> {
         ensures uncounted { Self.refusals self.new ≡ Self.refusals self.old };
 }
 
+/// A store of nodes that can be cloned, with the contracts of [`SlabClone`].
+pub trait CloneNodes<K: Clone, V: Clone>: NodesMut<K, V> {
+    /// Returns a store with a clone of each node under the same number, which has refused no node yet.
+    ///
+    /// The contract requires that a clone of a key or a value is equal to it.
+    fn try_clone(&self) -> Result<Self, AllocError>
+        requires keys { (x copy : K) → K.is_clone x copy → copy ≡ x }
+        requires values { (x copy : V) → V.is_clone x copy → copy ≡ x }
+        ensures content { IfOk result (λ copy. Self.content copy ≡ Self.content self.now) }
+        ensures refusals { IfOk result (λ copy. Self.refusals copy ≡ 0) };
+}
+
 impl<K, V, C: Slab<Node<K, V>>> Nodes<K, V> for C {
     ghost content = { λ store. C.content store };
 
@@ -180,5 +193,11 @@ impl<K, V, C: SlabMut<Node<K, V>>> NodesMut<K, V> for C {
 impl<K, V, C: Clear<Node<K, V>>> ClearNodes<K, V> for C {
     fn clear(&mut self) {
         Clear::clear(self);
+    }
+}
+
+impl<K: Clone, V: Clone, C: SlabClone<Node<K, V>>> CloneNodes<K, V> for C {
+    fn try_clone(&self) -> Result<C, AllocError> {
+        SlabClone::try_clone(self)
     }
 }

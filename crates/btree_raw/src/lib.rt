@@ -20,4 +20,5 @@ pub use nodes::{add_item, add_item_in_room, put};
 pub use overflow::split_upward;
 pub use raw::RawBTree;
 pub use rebalance::rebalance_underflow;
+pub use removal::take_last_below;
 pub use underflow::fix_underflow_upward;

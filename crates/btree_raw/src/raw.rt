@@ -11,8 +11,9 @@ ghost use Rattle.btree_raw.specs.Raw.{IsWithinNode};
 use crate::nodes::reparent_children;
 use btree_item::{Address, Fault, Item};
 use btree_node::Node;
-use btree_nodes::{ClearNodes, Nodes, NodesMut};
+use btree_nodes::{ClearNodes, CloneNodes, Nodes, NodesMut};
 use btree_valid::{is_off_by_one, validate, validate_node};
+use std::alloc::AllocError;
 use std::marker::{Model, PhantomData};
 
 /// Nodes in a store, the number of a root, and a length. They need not form a tree: it may be in the middle of a change, or come from
@@ -263,6 +264,25 @@ impl<K, V, C: ClearNodes<K, V>> RawBTree<K, V, C> {
         self.store.clear();
         self.root = None;
         self.len = 0;
+    }
+}
+
+impl<K: Clone, V: Clone, C: CloneNodes<K, V>> RawBTree<K, V, C> {
+    /// Returns a tree with clones of the keys and values, on the same numbers of nodes. Its store has refused no node yet. It fails only if
+    /// the clone of the store fails.
+    ///
+    /// The contract requires that a clone of a key or a value is equal to it.
+    pub fn clone(&self) -> Result<Self, AllocError>
+        requires keys { (x copy : K) → K.is_clone x copy → copy ≡ x }
+        requires values { (x copy : V) → V.is_clone x copy → copy ≡ x }
+        ensures { IfOk result (λ copy. copy ≡ record self.now { refusals = 0 }) }
+    {
+        Ok(RawBTree {
+            store: self.store.try_clone()?,
+            root: self.root,
+            len: self.len,
+            pairs: PhantomData,
+        })
     }
 }
 

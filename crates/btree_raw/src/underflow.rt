@@ -49,23 +49,6 @@ fn siblings_of(
     }
 }
 
-// Returns the children at an index and at the next one, if both are there.
-fn siblings_at<K, V, C: NodesMut<K, V>>(
-    tree: &RawBTree<K, V, C>,
-    parent: usize,
-    index: usize,
-) -> Option<Siblings>
-    requires used { IsUsed tree.now parent }
-    requires number { index < usize.MAX }
-    ensures { result ≡ specs.siblings_at (node_map tree.now) parent index }
-{
-    tree.tell_fits();
-    let node = tree.node(parent);
-    let left = node.child_id_opt(index);
-    let right = node.child_id_opt(index + 1);
-    siblings_of(parent, index, left, right)
-}
-
 // Returns a child with the child before it, and with the child after it, if there are such.
 fn siblings<K, V, C: NodesMut<K, V>>(
     tree: &RawBTree<K, V, C>,
@@ -80,11 +63,13 @@ fn siblings<K, V, C: NodesMut<K, V>>(
     // For the prover alone: a node has few children, so an index has a next one.
     let _few = node.child_count();
     let index = node.child_index(id).unwrap();
-    let after = siblings_at(tree, parent, index);
+    let right = node.child_id_opt(index + 1);
+    let after = siblings_of(parent, index, Some(id), right);
     if index == 0 {
         return (None, after);
     }
-    (siblings_at(tree, parent, index - 1), after)
+    let left = node.child_id_opt(index - 1);
+    (siblings_of(parent, index - 1, left, Some(id)), after)
 }
 
 // Fixes an underflow with the left sibling. Returns the new address of what was at `addr`, and whether the two were merged.

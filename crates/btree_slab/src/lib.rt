@@ -42,8 +42,8 @@ pub mod generic {
 
 /// The contracts of a store, for any values and for nodes, and one store.
 pub mod store {
-    pub use btree_nodes::{ClearNodes, Nodes, NodesMut};
-    pub use btree_store::{Clear, Slab, SlabMut, SlabStore};
+    pub use btree_nodes::{ClearNodes, CloneNodes, Nodes, NodesMut};
+    pub use btree_store::{Clear, Slab, SlabClone, SlabMut, SlabStore};
 }
 
 /// Sessions of commands over a map.

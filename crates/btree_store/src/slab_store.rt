@@ -13,8 +13,8 @@ use std::alloc::{Allocator, Global};
 /// It refuses a value only if it has to make room and cannot: the allocator has no memory, or no number is left.
 #[derive(Drop)]
 pub struct SlabStore<T, A: Allocator = Global> {
-    slab: slab::Slab<T, A>,
-    refused: Steps,
+    pub(crate) slab: slab::Slab<T, A>,
+    pub(crate) refused: Steps,
 }
 
 impl<T, A: Allocator> Slab<T> for SlabStore<T, A> {

@@ -4,8 +4,8 @@ use Rattle.btree_node.specs.Node.{view_of}
 use Rattle.btree_raw.specs.Rebalance.{HasRoom, IsRebalanced}
 use Rattle.btree_find.proofs.PlaceLemmas.{node-used}
 use Rattle.btree_raw.proofs.LastLemmas.{same-state}
-use Rattle.btree_edit.specs.Remove.{IsInnerAt, IsRemoved}
-use Rattle.btree_edit.proofs.RemoveAtLemmas.{enough-left, inner-by, leaf-counted, leaf-enough, leaf-off, leaf-removed, leaf-room, leaf-valid, on-err, on-ok, vacant-by, vacant-empty}
+use Rattle.btree_edit.specs.Remove.{IsInnerAt, IsRemoved, ReplacesInner}
+use Rattle.btree_edit.proofs.RemoveAtLemmas.{enough-left, inner-by, leaf-counted, leaf-enough, leaf-here, leaf-off, leaf-removed, leaf-room, leaf-valid, no-inner, on-err, on-ok, one-left, vacant-by, vacant-empty}
 use Rattle.btree_edit.proofs.RemoveInnerLemmas.{small-len}
 use Rattle.btree_edit.proofs.removal.remove_at.Goals as goal
 
@@ -105,4 +105,26 @@ pub returns-in-Some-Err-clause-removed : goal.returns-in-Some-Err-clause-removed
 returns-in-Some-Err-clause-removed g c =
     subst (λ (t : TreeState _ _). IsRemoved t c.remove_inner.new.tree g.K.Ord.cmp c.args.addr c.remove_inner.result.0
     c.remove_inner.result.1) (same-state c.args.tree.now c.args.addr.id c.node_mut-node.result.now c.leaf_remove.new.self c.node_mut-node.ensures.value
-    (on-err c.in-Some-Err.field-0 c.in-Some-Err.left c.in-Some-Err.field-0-is c.in-Some-Err.ensures.inner)) c.remove_inner.ensures
+    (on-err c.in-Some-Err.field-0 c.in-Some-Err.left c.in-Some-Err.field-0-is c.in-Some-Err.ensures.inner)) c.remove_inner.ensures.removed
+
+pub returns-then-not-is_short-clause-inner : goal.returns-then-not-is_short-clause-inner
+returns-then-not-is_short-clause-inner g c = λ left inner. absurd (no-inner c.args.tree.now c.args.addr _ _
+    (leaf-here c.args.tree.now c.args.addr c.node_mut-node.result.now c.node_mut-node.ensures.value g.K.Ord.cmp g.met.K.Ord.total
+    c.requires.tree (small-len c.args.tree.now c.len.result c.len.ensures c.len.type_inv) c.in-Some-Ok.item
+    (ap Some (sym c.in-Some-Ok.field-0-is) ∙ c.in-Some-Ok.ensures.answer) c.leaf_remove.new.self (on-ok c.in-Some-Ok.field-0 c.in-Some-Ok.item c.in-Some-Ok.field-0-is c.in-Some-Ok.ensures.taken) (c.len.result - 1)) left inner)
+
+pub returns-else-not-is_short-clause-inner : goal.returns-else-not-is_short-clause-inner
+returns-else-not-is_short-clause-inner g c = λ left inner. absurd (no-inner c.args.tree.now c.args.addr _ _
+    (leaf-here c.args.tree.now c.args.addr c.node_mut-node.result.now c.node_mut-node.ensures.value g.K.Ord.cmp g.met.K.Ord.total
+    c.requires.tree (small-len c.args.tree.now c.len.result c.len.ensures c.len.type_inv) c.in-Some-Ok.item
+    (ap Some (sym c.in-Some-Ok.field-0-is) ∙ c.in-Some-Ok.ensures.answer) c.leaf_remove.new.self (on-ok c.in-Some-Ok.field-0 c.in-Some-Ok.item c.in-Some-Ok.field-0-is c.in-Some-Ok.ensures.taken) (c.len.result - 1)) left inner)
+
+pub returns-in-Some-Err-clause-inner : goal.returns-in-Some-Err-clause-inner
+returns-in-Some-Err-clause-inner g c = λ left inner.
+    let is = one-left c.args.tree.now c.args.addr c.in-Some-Err.left left
+    (inner-by c.args.tree.now c.args.addr c.node_mut-node.result.now c.node_mut-node.ensures.value c.in-Some-Err.left
+    (ap Some (sym c.in-Some-Err.field-0-is) ∙ c.in-Some-Err.ensures.answer)) inner in
+    subst (λ n. ReplacesInner c.args.tree.now c.remove_inner.new.tree g.K.Ord.cmp c.args.addr n c.remove_inner.result.1) is
+    (subst (λ (t : TreeState _ _). ReplacesInner t c.remove_inner.new.tree g.K.Ord.cmp c.args.addr c.in-Some-Err.left
+    c.remove_inner.result.1) (same-state c.args.tree.now c.args.addr.id c.node_mut-node.result.now c.leaf_remove.new.self c.node_mut-node.ensures.value
+    (on-err c.in-Some-Err.field-0 c.in-Some-Err.left c.in-Some-Err.field-0-is c.in-Some-Err.ensures.inner)) c.remove_inner.ensures.replaced)

@@ -1,30 +1,30 @@
-use Rattle.std.proofs.Common.{◌-◌, ℕ, sym, subst, arith}
+use Rattle.std.proofs.Common.{◌≡◌, ◌-◌, ℕ, false, sym, subst, arith}
 use Rattle.btree_item.specs.declared.address.Address.{Address}
 use Rattle.btree_shape.specs.TreeState.{TreeState, IsOffByOneAt, IsValidIn, node_map}
 use Rattle.btree_raw.specs.Rebalance.{HasRoom, IsRebalanced}
 use Rattle.btree_raw.proofs.PlacedLemmas.{but-length}
-use Rattle.btree_edit.specs.Remove.{IsInnerAt, LeadsBehind}
+use Rattle.btree_edit.specs.Remove.{IsInnerAt, IsRemoved, LeadsBehind, ReplacesInner}
 use Rattle.btree_edit.proofs.RemoveAtLemmas.{left-used}
-use Rattle.btree_edit.proofs.RemoveInnerLemmas.{has-item, inner-still, is-inner, len-above, removed-inner, replaced-off, replaced-room, replaced-valid, small-len}
+use Rattle.btree_edit.proofs.RemoveInnerLemmas.{has-item, inner-still, is-inner, len-above, removed-inner, replaced-off, replaced-room, replaced-valid, replaces-inner, small-len, still-balanced}
 use Rattle.btree_edit.proofs.removal.remove_inner.Goals as goal
 
 pub item_behind-next-requires-clause-inner : goal.item_behind-next-requires-clause-inner
 item_behind-next-requires-clause-inner g c =
     subst (λ (a : Address). (x : ℕ) × IsInnerAt c.args.tree.now a x) (sym c.new.ensures) (c.args.left, c.requires.inner)
 
-pub remove_rightmost_leaf_of-last-requires-clause-tree : goal.remove_rightmost_leaf_of-last-requires-clause-tree
-remove_rightmost_leaf_of-last-requires-clause-tree g c = but-length g.K.Ord.cmp c.args.tree.now c.requires.tree
+pub take_last_below-last-requires-clause-tree : goal.take_last_below-last-requires-clause-tree
+take_last_below-last-requires-clause-tree g c = but-length g.K.Ord.cmp c.args.tree.now c.requires.tree
 
-pub remove_rightmost_leaf_of-last-requires-clause-used : goal.remove_rightmost_leaf_of-last-requires-clause-used
-remove_rightmost_leaf_of-last-requires-clause-used g c =
+pub take_last_below-last-requires-clause-used : goal.take_last_below-last-requires-clause-used
+take_last_below-last-requires-clause-used g c =
     left-used g.K.Ord.cmp g.met.K.Ord.total c.args.tree.now c.requires.tree c.args.addr c.args.left c.requires.inner
 
 pub node_mut-requires : goal.node_mut-requires
 node_mut-requires g c = (
   c.tell_fits.ensures,
   inner-still g.K.Ord.cmp g.met.K.Ord.total c.args.tree.now c.requires.tree
-      (small-len c.args.tree.now c.len-len.result c.len-len.ensures c.len-len.type_inv) c.args.addr c.args.left c.requires.inner c.remove_rightmost_leaf_of-last.new.self
-      c.remove_rightmost_leaf_of-last.result.0 c.remove_rightmost_leaf_of-last.result.1 c.remove_rightmost_leaf_of-last.ensures.taken,
+      (small-len c.args.tree.now c.len-len.result c.len-len.ensures c.len-len.type_inv) c.args.addr c.args.left c.requires.inner c.take_last_below-last.new.tree
+      c.take_last_below-last.result.0 c.take_last_below-last.result.1 c.take_last_below-last.ensures.taken,
 )
 
 pub replace-item-requires : goal.replace-item-requires
@@ -32,12 +32,12 @@ replace-item-requires g c = (
   c.tell_fits.ensures,
   (
     is-inner g.K.Ord.cmp g.met.K.Ord.total c.args.tree.now c.requires.tree
-        (small-len c.args.tree.now c.len-len.result c.len-len.ensures c.len-len.type_inv) c.args.addr c.args.left c.requires.inner c.remove_rightmost_leaf_of-last.new.self
-        c.remove_rightmost_leaf_of-last.result.0 c.remove_rightmost_leaf_of-last.result.1 c.remove_rightmost_leaf_of-last.ensures.taken
+        (small-len c.args.tree.now c.len-len.result c.len-len.ensures c.len-len.type_inv) c.args.addr c.args.left c.requires.inner c.take_last_below-last.new.tree
+        c.take_last_below-last.result.0 c.take_last_below-last.result.1 c.take_last_below-last.ensures.taken
         c.node_mut.result.now c.node_mut.ensures.value,
     has-item g.K.Ord.cmp g.met.K.Ord.total c.args.tree.now c.requires.tree
-        (small-len c.args.tree.now c.len-len.result c.len-len.ensures c.len-len.type_inv) c.args.addr c.args.left c.requires.inner c.remove_rightmost_leaf_of-last.new.self
-        c.remove_rightmost_leaf_of-last.result.0 c.remove_rightmost_leaf_of-last.result.1 c.remove_rightmost_leaf_of-last.ensures.taken
+        (small-len c.args.tree.now c.len-len.result c.len-len.ensures c.len-len.type_inv) c.args.addr c.args.left c.requires.inner c.take_last_below-last.new.tree
+        c.take_last_below-last.result.0 c.take_last_below-last.result.1 c.take_last_below-last.ensures.taken
         c.node_mut.result.now c.node_mut.ensures.value,
   ),
 )
@@ -46,18 +46,18 @@ pub overflow_sub-len : goal.overflow_sub-len
 overflow_sub-len g c =
     let e = c.len-len.ensures in
     let n = len-above g.K.Ord.cmp g.met.K.Ord.total c.args.tree.now c.requires.tree
-    (small-len c.args.tree.now c.len-len.result c.len-len.ensures c.len-len.type_inv) c.args.addr c.args.left c.requires.inner c.remove_rightmost_leaf_of-last.new.self
-    c.remove_rightmost_leaf_of-last.result.0 c.remove_rightmost_leaf_of-last.result.1 c.remove_rightmost_leaf_of-last.ensures.taken in
+    (small-len c.args.tree.now c.len-len.result c.len-len.ensures c.len-len.type_inv) c.args.addr c.args.left c.requires.inner c.take_last_below-last.new.tree
+    c.take_last_below-last.result.0 c.take_last_below-last.result.1 c.take_last_below-last.ensures.taken in
     omega arith
 
 pub rebalance_underflow-at-requires-clause-off_by_one :
     goal.rebalance_underflow-at-requires-clause-off_by_one
 rebalance_underflow-at-requires-clause-off_by_one g c =
     let behind = subst (λ (a : Address). LeadsBehind c.args.tree.now a c.item_behind-next.result) c.new.ensures c.item_behind-next.ensures in
-    subst (λ (t : TreeState _ _). IsOffByOneAt g.K.Ord.cmp t c.remove_rightmost_leaf_of-last.result.1) (sym c.set_len.ensures)
+    subst (λ (t : TreeState _ _). IsOffByOneAt g.K.Ord.cmp t c.take_last_below-last.result.1) (sym c.set_len.ensures)
     (replaced-off g.K.Ord.cmp g.met.K.Ord.total c.args.tree.now c.requires.tree
-    (small-len c.args.tree.now c.len-len.result c.len-len.ensures c.len-len.type_inv) c.args.addr c.args.left c.requires.inner c.remove_rightmost_leaf_of-last.new.self
-    c.remove_rightmost_leaf_of-last.result.0 c.remove_rightmost_leaf_of-last.result.1 c.remove_rightmost_leaf_of-last.ensures.taken
+    (small-len c.args.tree.now c.len-len.result c.len-len.ensures c.len-len.type_inv) c.args.addr c.args.left c.requires.inner c.take_last_below-last.new.tree
+    c.take_last_below-last.result.0 c.take_last_below-last.result.1 c.take_last_below-last.ensures.taken
     c.node_mut.result.now c.node_mut.ensures.value c.replace-item.result c.replace-item.ensures.answer c.replace-item.new.self
     c.replace-item.ensures.after (c.len-len.result - 1) c.item_behind-next.result behind)
 
@@ -67,33 +67,85 @@ rebalance_underflow-at-requires-clause-valid g c =
     let behind = subst (λ (a : Address). LeadsBehind c.args.tree.now a c.item_behind-next.result) c.new.ensures c.item_behind-next.ensures in
     subst (λ (t : TreeState _ _). IsValidIn t c.item_behind-next.result) (sym c.set_len.ensures)
     (replaced-valid g.K.Ord.cmp g.met.K.Ord.total c.args.tree.now c.requires.tree
-    (small-len c.args.tree.now c.len-len.result c.len-len.ensures c.len-len.type_inv) c.args.addr c.args.left c.requires.inner c.remove_rightmost_leaf_of-last.new.self
-    c.remove_rightmost_leaf_of-last.result.0 c.remove_rightmost_leaf_of-last.result.1 c.remove_rightmost_leaf_of-last.ensures.taken
+    (small-len c.args.tree.now c.len-len.result c.len-len.ensures c.len-len.type_inv) c.args.addr c.args.left c.requires.inner c.take_last_below-last.new.tree
+    c.take_last_below-last.result.0 c.take_last_below-last.result.1 c.take_last_below-last.ensures.taken
     c.node_mut.result.now c.node_mut.ensures.value c.replace-item.result c.replace-item.ensures.answer c.replace-item.new.self
     c.replace-item.ensures.after (c.len-len.result - 1) c.item_behind-next.result behind)
 
 pub rebalance_underflow-at-requires-clause-room : goal.rebalance_underflow-at-requires-clause-room
 rebalance_underflow-at-requires-clause-room g c =
     let behind = subst (λ (a : Address). LeadsBehind c.args.tree.now a c.item_behind-next.result) c.new.ensures c.item_behind-next.ensures in
-    subst (λ (t : TreeState _ _). HasRoom (node_map t) c.remove_rightmost_leaf_of-last.result.1) (sym c.set_len.ensures)
+    subst (λ (t : TreeState _ _). HasRoom (node_map t) c.take_last_below-last.result.1) (sym c.set_len.ensures)
     (replaced-room g.K.Ord.cmp g.met.K.Ord.total c.args.tree.now c.requires.tree
-    (small-len c.args.tree.now c.len-len.result c.len-len.ensures c.len-len.type_inv) c.args.addr c.args.left c.requires.inner c.remove_rightmost_leaf_of-last.new.self
-    c.remove_rightmost_leaf_of-last.result.0 c.remove_rightmost_leaf_of-last.result.1 c.remove_rightmost_leaf_of-last.ensures.taken
+    (small-len c.args.tree.now c.len-len.result c.len-len.ensures c.len-len.type_inv) c.args.addr c.args.left c.requires.inner c.take_last_below-last.new.tree
+    c.take_last_below-last.result.0 c.take_last_below-last.result.1 c.take_last_below-last.ensures.taken
     c.node_mut.result.now c.node_mut.ensures.value c.replace-item.result c.replace-item.ensures.answer c.replace-item.new.self
     c.replace-item.ensures.after (c.len-len.result - 1) c.item_behind-next.result behind)
 
-pub returns : goal.returns
-returns g c =
+pub returns-clause-removed : goal.returns-clause-removed
+returns-clause-removed g c =
     let behind = subst (λ (a : Address). LeadsBehind c.args.tree.now a c.item_behind-next.result) c.new.ensures c.item_behind-next.ensures in
     let e = c.len-len.ensures in
     let n = len-above g.K.Ord.cmp g.met.K.Ord.total c.args.tree.now c.requires.tree
-    (small-len c.args.tree.now c.len-len.result c.len-len.ensures c.len-len.type_inv) c.args.addr c.args.left c.requires.inner c.remove_rightmost_leaf_of-last.new.self
-    c.remove_rightmost_leaf_of-last.result.0 c.remove_rightmost_leaf_of-last.result.1 c.remove_rightmost_leaf_of-last.ensures.taken in
+    (small-len c.args.tree.now c.len-len.result c.len-len.ensures c.len-len.type_inv) c.args.addr c.args.left c.requires.inner c.take_last_below-last.new.tree
+    c.take_last_below-last.result.0 c.take_last_below-last.result.1 c.take_last_below-last.ensures.taken in
     removed-inner g.K.Ord.cmp g.met.K.Ord.total c.args.tree.now c.requires.tree
-    (small-len c.args.tree.now c.len-len.result c.len-len.ensures c.len-len.type_inv) c.args.addr c.args.left c.requires.inner c.remove_rightmost_leaf_of-last.new.self
-    c.remove_rightmost_leaf_of-last.result.0 c.remove_rightmost_leaf_of-last.result.1 c.remove_rightmost_leaf_of-last.ensures.taken
+    (small-len c.args.tree.now c.len-len.result c.len-len.ensures c.len-len.type_inv) c.args.addr c.args.left c.requires.inner c.take_last_below-last.new.tree
+    c.take_last_below-last.result.0 c.take_last_below-last.result.1 c.take_last_below-last.ensures.taken
     c.node_mut.result.now c.node_mut.ensures.value c.replace-item.result c.replace-item.ensures.answer c.replace-item.new.self
     c.replace-item.ensures.after (c.len-len.result - 1) c.item_behind-next.result behind
     c.rebalance_underflow-at.new.tree c.rebalance_underflow-at.result (omega arith)
-    (subst (λ (t : TreeState _ _). IsRebalanced t c.rebalance_underflow-at.new.tree c.remove_rightmost_leaf_of-last.result.1 g.K.Ord.cmp
+    (subst (λ (t : TreeState _ _). IsRebalanced t c.rebalance_underflow-at.new.tree c.take_last_below-last.result.1 g.K.Ord.cmp
     c.item_behind-next.result c.rebalance_underflow-at.result) c.set_len.ensures c.rebalance_underflow-at.ensures)
+
+pub returns-clause-replaced : goal.returns-clause-replaced
+returns-clause-replaced g c =
+    let behind = subst (λ (a : Address). LeadsBehind c.args.tree.now a c.item_behind-next.result) c.new.ensures c.item_behind-next.ensures in
+    replaces-inner g.K.Ord.cmp g.met.K.Ord.total c.args.tree.now c.requires.tree
+    (small-len c.args.tree.now c.len-len.result c.len-len.ensures c.len-len.type_inv) c.args.addr c.args.left c.requires.inner c.take_last_below-last.new.tree
+    c.take_last_below-last.result.0 c.take_last_below-last.result.1 c.take_last_below-last.ensures.taken
+    c.node_mut.result.now c.node_mut.ensures.value c.replace-item.result c.replace-item.ensures.answer c.replace-item.new.self
+    c.replace-item.ensures.after (c.len-len.result - 1) c.item_behind-next.result behind
+    c.rebalance_underflow-at.new.tree c.rebalance_underflow-at.result
+    (subst (λ (t : TreeState _ _). IsRebalanced t c.rebalance_underflow-at.new.tree c.take_last_below-last.result.1 g.K.Ord.cmp
+    c.item_behind-next.result c.rebalance_underflow-at.result) c.set_len.ensures c.rebalance_underflow-at.ensures)
+
+pub returns-then-not-is_short-clause-removed : goal.returns-then-not-is_short-clause-removed
+returns-then-not-is_short-clause-removed g c =
+    let behind = subst (λ (a : Address). LeadsBehind c.args.tree.now a c.item_behind-next.result) c.new.ensures c.item_behind-next.ensures in
+    let e = c.len-len.ensures in
+    let n = len-above g.K.Ord.cmp g.met.K.Ord.total c.args.tree.now c.requires.tree
+    (small-len c.args.tree.now c.len-len.result c.len-len.ensures c.len-len.type_inv) c.args.addr c.args.left c.requires.inner c.take_last_below-last.new.tree
+    c.take_last_below-last.result.0 c.take_last_below-last.result.1 c.take_last_below-last.ensures.taken in
+    let enough : c.take_last_below-last.result.2 ≡ false = (let e = c.if-not-is_short.true in cc) in
+    let same = still-balanced g.K.Ord.cmp g.met.K.Ord.total c.args.tree.now c.requires.tree
+    (small-len c.args.tree.now c.len-len.result c.len-len.ensures c.len-len.type_inv) c.args.addr c.args.left c.requires.inner c.take_last_below-last.new.tree
+    c.take_last_below-last.result.0 c.take_last_below-last.result.1 c.take_last_below-last.ensures.taken
+    c.node_mut.result.now c.node_mut.ensures.value c.replace-item.result c.replace-item.ensures.answer c.replace-item.new.self
+    c.replace-item.ensures.after (c.len-len.result - 1) c.item_behind-next.result behind
+    c.take_last_below-last.result.2 c.take_last_below-last.ensures.short enough in
+    subst (λ (t : TreeState _ _). IsRemoved c.args.tree.now t g.K.Ord.cmp c.args.addr c.replace-item.result c.item_behind-next.result) (sym c.set_len.ensures)
+    (removed-inner g.K.Ord.cmp g.met.K.Ord.total c.args.tree.now c.requires.tree
+    (small-len c.args.tree.now c.len-len.result c.len-len.ensures c.len-len.type_inv) c.args.addr c.args.left c.requires.inner c.take_last_below-last.new.tree
+    c.take_last_below-last.result.0 c.take_last_below-last.result.1 c.take_last_below-last.ensures.taken
+    c.node_mut.result.now c.node_mut.ensures.value c.replace-item.result c.replace-item.ensures.answer c.replace-item.new.self
+    c.replace-item.ensures.after (c.len-len.result - 1) c.item_behind-next.result behind
+    _ c.item_behind-next.result (omega arith) same)
+
+pub returns-then-not-is_short-clause-replaced : goal.returns-then-not-is_short-clause-replaced
+returns-then-not-is_short-clause-replaced g c =
+    let behind = subst (λ (a : Address). LeadsBehind c.args.tree.now a c.item_behind-next.result) c.new.ensures c.item_behind-next.ensures in
+    let enough : c.take_last_below-last.result.2 ≡ false = (let e = c.if-not-is_short.true in cc) in
+    let same = still-balanced g.K.Ord.cmp g.met.K.Ord.total c.args.tree.now c.requires.tree
+    (small-len c.args.tree.now c.len-len.result c.len-len.ensures c.len-len.type_inv) c.args.addr c.args.left c.requires.inner c.take_last_below-last.new.tree
+    c.take_last_below-last.result.0 c.take_last_below-last.result.1 c.take_last_below-last.ensures.taken
+    c.node_mut.result.now c.node_mut.ensures.value c.replace-item.result c.replace-item.ensures.answer c.replace-item.new.self
+    c.replace-item.ensures.after (c.len-len.result - 1) c.item_behind-next.result behind
+    c.take_last_below-last.result.2 c.take_last_below-last.ensures.short enough in
+    subst (λ (t : TreeState _ _). ReplacesInner c.args.tree.now t g.K.Ord.cmp c.args.addr c.args.left c.item_behind-next.result) (sym c.set_len.ensures)
+    (replaces-inner g.K.Ord.cmp g.met.K.Ord.total c.args.tree.now c.requires.tree
+    (small-len c.args.tree.now c.len-len.result c.len-len.ensures c.len-len.type_inv) c.args.addr c.args.left c.requires.inner c.take_last_below-last.new.tree
+    c.take_last_below-last.result.0 c.take_last_below-last.result.1 c.take_last_below-last.ensures.taken
+    c.node_mut.result.now c.node_mut.ensures.value c.replace-item.result c.replace-item.ensures.answer c.replace-item.new.self
+    c.replace-item.ensures.after (c.len-len.result - 1) c.item_behind-next.result behind
+    _ c.item_behind-next.result same)

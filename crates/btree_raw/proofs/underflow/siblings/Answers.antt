@@ -1,8 +1,10 @@
-use Rattle.std.proofs.Common.{arith, rules}
-use Rattle.btree_raw.proofs.UnderflowLemmas.{child-parent, index-there, index-at, siblings-first, siblings-next}
+use Rattle.std.proofs.Common.{◌≡◌, ℕ, ◌+◌, ◌-◌, Some, slice_get, arith, rules, subst, sym}
+use Rattle.std.proofs.lemmas.Grind.{common_steps}
+use Rattle.btree_node.specs.Node.{view_of}
+use Rattle.btree_view.specs.View.{children_of}
+use Rattle.btree_raw.proofs.UnderflowLemmas.{child-parent, index-there, index-at, siblings-first, siblings-focus, siblings-next}
 use Rattle.btree_raw.proofs.underflow.siblings.Goals as goal
 use Rattle.btree_shape.proofs.Trees.Stores.{used-view}
-use Rattle.std.proofs.lemmas.Grind.{common_steps}
 
 pub node-node-requires : goal.node-node-requires
 node-node-requires g c = (c.tell_fits.ensures, used-view c.args.tree.now.nodes c.args.parent (child-parent c.args.tree.now.nodes c.args.parent c.args.id c.requires))
@@ -10,23 +12,32 @@ node-node-requires g c = (c.tell_fits.ensures, used-view c.args.tree.now.nodes c
 pub unwrap-index-requires : goal.unwrap-index-requires
 unwrap-index-requires g c = index-there c.args.tree.now.nodes c.args.parent c.args.id c.requires c.node-node.result.now c.node-node.ensures.value c.child_index.result c.child_index.ensures.value
 
-pub siblings_at-after-requires-clause-used : goal.siblings_at-after-requires-clause-used
-siblings_at-after-requires-clause-used g c = used-view c.args.tree.now.nodes c.args.parent (child-parent c.args.tree.now.nodes c.args.parent c.args.id c.requires)
-
-pub siblings_at-after-requires-clause-number : goal.siblings_at-after-requires-clause-number
-siblings_at-after-requires-clause-number g c = let l = (index-at c.args.tree.now.nodes c.args.parent c.args.id c.requires c.node-node.result.now c.node-node.ensures.value c.child_index.result c.child_index.ensures.value c.unwrap-index.result c.unwrap-index.ensures).0 in let v = c.child_count-few.ensures.value in let f = c.child_count-few.ensures.fits in omega arith
-
-pub siblings_at-requires-clause-used : goal.siblings_at-requires-clause-used
-siblings_at-requires-clause-used g c = used-view c.args.tree.now.nodes c.args.parent (child-parent c.args.tree.now.nodes c.args.parent c.args.id c.requires)
-
-pub siblings_at-requires-clause-number : goal.siblings_at-requires-clause-number
-siblings_at-requires-clause-number g c = let l = (index-at c.args.tree.now.nodes c.args.parent c.args.id c.requires c.node-node.result.now c.node-node.ensures.value c.child_index.result c.child_index.ensures.value c.unwrap-index.result c.unwrap-index.ensures).0 in let v = c.child_count-few.ensures.value in let f = c.child_count-few.ensures.fits in omega arith
+pub overflow_add-index : goal.overflow_add-index
+overflow_add-index g c =
+    let l = (index-at c.args.tree.now.nodes c.args.parent c.args.id c.requires c.node-node.result.now c.node-node.ensures.value c.child_index.result c.child_index.ensures.value c.unwrap-index.result c.unwrap-index.ensures).0 in
+    let v = c.child_count-few.ensures.value in let f = c.child_count-few.ensures.fits in omega arith
 
 pub returns-then-index-eq0 : goal.returns-then-index-eq0
-returns-then-index-eq0 g c = siblings-first c.args.tree.now.nodes c.args.parent c.args.id c.requires c.node-node.result.now c.node-node.ensures.value c.child_index.result c.child_index.ensures.value c.unwrap-index.result c.unwrap-index.ensures c.siblings_at-after.result c.siblings_at-after.ensures c.if-index-eq0.true
+returns-then-index-eq0 g c =
+    let nodes = c.args.tree.now.nodes in
+    let at = index-at nodes c.args.parent c.args.id c.requires c.node-node.result.now c.node-node.ensures.value c.child_index.result c.child_index.ensures.value c.unwrap-index.result c.unwrap-index.ensures in
+    siblings-first nodes c.args.parent c.args.id c.requires c.node-node.result.now c.node-node.ensures.value c.child_index.result c.child_index.ensures.value c.unwrap-index.result c.unwrap-index.ensures
+    c.siblings_of-after.result
+    (siblings-focus nodes c.args.parent c.node-node.result.now c.node-node.ensures.value c.unwrap-index.result (Some c.args.id) c.child_id_opt-right.result (sym at.1) c.child_id_opt-right.ensures c.siblings_of-after.result c.siblings_of-after.ensures)
+    c.if-index-eq0.true
 
 pub returns : goal.returns
-returns g c = siblings-next c.args.tree.now.nodes c.args.parent c.args.id c.requires c.node-node.result.now c.node-node.ensures.value c.child_index.result c.child_index.ensures.value c.unwrap-index.result c.unwrap-index.ensures c.siblings_at-after.result c.siblings_at-after.ensures c.siblings_at.result c.siblings_at.ensures c.if-index-eq0.false
+returns g c =
+    let nodes = c.args.tree.now.nodes in
+    let index = c.unwrap-index.result in
+    let children = children_of (view_of c.node-node.result.now) in
+    let at = index-at nodes c.args.parent c.args.id c.requires c.node-node.result.now c.node-node.ensures.value c.child_index.result c.child_index.ensures.value c.unwrap-index.result c.unwrap-index.ensures in
+    let after = siblings-focus nodes c.args.parent c.node-node.result.now c.node-node.ensures.value c.unwrap-index.result (Some c.args.id) c.child_id_opt-right.result (sym at.1) c.child_id_opt-right.ensures c.siblings_of-after.result c.siblings_of-after.ensures in
+    let same : index ≡ index - 1 + 1 = (let some = c.if-index-eq0.false in omega (arith, some)) in
+    let here : Some c.args.id ≡ slice_get children (index - 1 + 1) = subst (λ n. Some c.args.id ≡ slice_get children n) same (sym at.1) in
+    let before = siblings-focus nodes c.args.parent c.node-node.result.now c.node-node.ensures.value (c.unwrap-index.result - 1) c.child_id_opt-left.result (Some c.args.id) c.child_id_opt-left.ensures here c.siblings_of.result c.siblings_of.ensures in
+    siblings-next nodes c.args.parent c.args.id c.requires c.node-node.result.now c.node-node.ensures.value c.child_index.result c.child_index.ensures.value c.unwrap-index.result c.unwrap-index.ensures
+    c.siblings_of-after.result after c.siblings_of.result before c.if-index-eq0.false
 
 pub tell_fits-requires : goal.tell_fits-requires
 tell_fits-requires g c κs = search rules steps 200000

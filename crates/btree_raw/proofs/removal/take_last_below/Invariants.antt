@@ -3,10 +3,10 @@ use Rattle.std.specs.FinMap as map
 use Rattle.btree_shape.specs.Focus.Search.{levels_below}
 use Rattle.btree_shape.specs.TreeState.{node_map}
 use Rattle.btree_raw.proofs.LastLemmas.{DescendsRight}
-use Rattle.btree_raw.proofs.raw.RawBTree.remove_rightmost_leaf_of.Given as goal
+use Rattle.btree_raw.proofs.removal.take_last_below.Given as goal
 
 abbrev pub invariant-loop-item : goal.invariant-loop-item
-invariant-loop-item g l = (l.self ≡ l.fn.self) × DescendsRight l.fn.self l.id l.lower
+invariant-loop-item g l = (l.tree ≡ l.fn.tree) × DescendsRight l.fn.tree l.id l.lower
 
 abbrev pub decreases-loop-item : goal.decreases-loop-item
-decreases-loop-item g l = levels_below (node_map l.fn.self) (map.len l.fn.self.nodes) l.lower
+decreases-loop-item g l = levels_below (node_map l.fn.tree) (map.len l.fn.tree.nodes) l.lower

@@ -1,0 +1,24 @@
+//! Clones of maps.
+ghost use Rattle.std.specs.Prelude.{◌≡◌, IfOk};
+ghost use Rattle.btree_shape.specs.TreeState.{pairs_of};
+
+use crate::BTreeMap;
+use btree_nodes::CloneNodes;
+use std::alloc::AllocError;
+
+impl<K: Ord + Clone, V: Clone, C: CloneNodes<K, V>> BTreeMap<K, V, C> {
+    /// Returns a map with clones of the keys and values, on the same numbers of nodes. Its store has refused no node yet. It fails only if
+    /// the clone of the store fails.
+    ///
+    /// The contract requires that a clone of a key or a value is equal to it.
+    pub fn clone(&self) -> Result<Self, AllocError>
+        requires keys { (x copy : K) → K.is_clone x copy → copy ≡ x }
+        requires values { (x copy : V) → V.is_clone x copy → copy ≡ x }
+        ensures pairs { IfOk result (λ copy. pairs_of copy ≡ pairs_of self.now) }
+        ensures state { IfOk result (λ copy. copy ≡ record self.now { refusals = 0 }) }
+    {
+        Ok(BTreeMap {
+            tree: self.tree.clone()?,
+        })
+    }
+}
