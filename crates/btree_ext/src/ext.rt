@@ -9,7 +9,7 @@ ghost use Rattle.btree_find.specs.Fits.{FitsAt, FitsIn, ReplacesAt, pairs_below}
 ghost use Rattle.btree_find.specs.Levels.{IsDense, TicksAtMost, TicksExactly};
 ghost use Rattle.btree_find.specs.Navigation.{IsLeafAddressFor, IsNext, IsNextOrBack, IsNormalized, IsPrevious};
 ghost use Rattle.btree_find.specs.Visits.{IsNextBack, IsPreviousFront};
-ghost use Rattle.btree_valid.specs.Faults.{AcceptsNode, SuitsIfOk};
+ghost use Rattle.btree_valid.specs.Faults.{AcceptsNode, BlamesIfErr, SuitsIfOk};
 
 use btree_find::{
     address_in, address_of, address_of_counted, first_back_address, first_item_address, fits_at,
@@ -259,8 +259,9 @@ pub trait BTreeExt<K: Ord, V> {
     }
 
     /// Checks a node and all below it against a parent and the nearest separators on both sides. Returns `Ok` with how many levels are below
-    /// the node, 0 for a leaf, exactly if they suit it, and else the first fault. The node must be in use; see `has_node`. One with neither
-    /// separator is judged as the root. It reads each node under this one at most once, copies nothing and uses no memory but the stack.
+    /// the node, 0 for a leaf, exactly if they suit it, and else a fault of the arguments: the first one in preorder. The node must be in use;
+    /// see `has_node`. One with neither separator is judged as the root. It reads each node under this one at most once, copies nothing and
+    /// uses no memory but the stack.
     fn validate_node(
         &self,
         id: usize,
@@ -271,6 +272,8 @@ pub trait BTreeExt<K: Ord, V> {
         requires { IsUsed (state self.now) id }
         ensures accepts { AcceptsNode K.cmp (state self.now) id parent (option_copied min.entry) (option_copied max.entry) result }
         ensures only { SuitsIfOk K.cmp (state self.now) id parent (option_copied min.entry) (option_copied max.entry) result }
+        ensures blames { BlamesIfErr K.cmp (state self.now) id parent
+            (option_copied min.entry) (option_copied max.entry) result }
     {
         self.as_raw().validate_node(id, parent, min, max)
     }

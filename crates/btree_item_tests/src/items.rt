@@ -2,7 +2,7 @@ ghost use Rattle.std.specs.Prelude.{◌≡◌, ◌+◌, ◌<◌, ◌≤◌, leng
 ghost use Rattle.std.specs.Ordering.{nat_cmp, on};
 ghost use Rattle.btree_item.specs.Pairs.{Ascends};
 
-use btree_counted::Counted;
+use btree_counted::{COMPARISONS, Counted, promised_comparisons};
 use btree_item::{
     Address, Cause, Item, MAX_COMPARISONS, Offset, Refused, Slots, binary_search_min, search,
     search_counted,
@@ -137,28 +137,44 @@ fn add<'a>(slots: &mut Slots<Item<Counted<'a>, u32>, 9>, key: Counted<'a>)
     }
 }
 
-// Searches without a counter and with one, which answers the same after as many comparisons.
+// Searches with a counter, and returns also how often it ticks.
+fn searched_counted<'a>(
+    slots: &Slots<Item<Counted<'a>, u32>, 9>,
+    key: &Counted<'a>,
+    steps: &mut Steps,
+) -> (Result<usize, usize>, usize)
+    requires { Ascends (on (λ key. key.number) nat_cmp) slots.now }
+    ensures { steps.new.count ≡ steps.old.count + result.1 }
+{
+    match search_counted(slots, key, steps) {
+        Ok(smaller) => (Ok(smaller), promised_comparisons(slots.len(), smaller)),
+        Err(smaller) => (Err(smaller), promised_comparisons(slots.len(), smaller)),
+    }
+}
+
+// Searches without a counter and with one, which answers the same after as many comparisons, and ticks for each. Returns how many.
 fn searched<'a>(
     rt: &impl Abort,
     slots: &Slots<Item<Counted<'a>, u32>, 9>,
     key: Counted<'a>,
-) -> Result<usize, usize>
+) -> (Result<usize, usize>, usize)
     requires { Ascends (on (λ key. key.number) nat_cmp) slots.now }
 {
     key.compared.set(0);
     let place = search(slots, &key);
     let compared = key.compared.get();
-    assert!(rt; (compared as usize) <= MAX_COMPARISONS, "{}", key.number);
     key.compared.set(0);
     let mut steps = Steps::new();
-    let counted = search_counted(slots, &key, &mut steps);
+    let (counted, ticks) = searched_counted(slots, &key, &mut steps);
     assert_eq!(rt; (counted, key.compared.get()), (place, compared));
-    place
+    assert_eq!(rt; ticks, compared as usize, "{}", key.number);
+    assert!(rt; ticks <= MAX_COMPARISONS, "{}", key.number);
+    (place, ticks)
 }
 
 // The keys are 1, 3, 5, up to nine of them; each of these and each number between is searched for.
 #[test]
-fn compares_at_most_six_times(rt: HostRuntime) {
+fn compares_as_many_keys_as_promised(rt: HostRuntime) {
     let compared = Cell::new(0);
     let key = |number: u32| Counted {
         number,
@@ -167,10 +183,13 @@ fn compares_at_most_six_times(rt: HostRuntime) {
     let mut slots: Slots<Item<Counted, u32>, 9> = Slots::new();
     for held in 0..10u32 {
         for number in 0..2 * held + 2 {
-            let place = searched(&rt, &slots, key(number));
-            let smaller = (number / 2) as usize;
+            let smaller = (number / 2).min(held) as usize;
             let is_held = number % 2 == 1 && number < 2 * held;
-            assert_eq!(rt; place, if is_held { Ok(smaller) } else { Err(smaller) });
+            let place = if is_held { Ok(smaller) } else { Err(smaller) };
+            assert_eq!(rt;
+                searched(&rt, &slots, key(number)),
+                (place, COMPARISONS[held as usize][smaller])
+            );
         }
         if held < 9 {
             add(&mut slots, key(2 * held + 1));

@@ -1,5 +1,5 @@
 //! Look-up with a counter, in nodes of either kind.
-ghost use Rattle.std.specs.Prelude.{◌≤◌};
+ghost use Rattle.std.specs.Prelude.{◌≡◌, ◌+◌, ◌≤◌};
 ghost use Rattle.std.specs.Ordering.{nat_cmp, on};
 ghost use Rattle.btree_item.specs.Pairs.{Ascends};
 ghost use Rattle.btree_internal.specs.Internal.{internal_view};
@@ -7,7 +7,7 @@ ghost use Rattle.btree_node.specs.Node.{view_of};
 ghost use Rattle.btree_view.specs.View.{items_of};
 
 use crate::nodes::put;
-use btree_counted::Counted;
+use btree_counted::{COMPARISONS, Counted, promised_comparisons};
 use btree_item::{Item, MAX_COMPARISONS, Offset};
 use btree_node::{InternalNode, LeafNode, Node};
 use btree_steps::Steps;
@@ -17,19 +17,43 @@ use std::process::Abort;
 // What a look-up in a node answers.
 type Place = Result<Offset, (usize, Option<usize>)>;
 
-// Looks up without a counter and with one, which takes as many comparisons, and returns both answers.
-fn looked_up<'a>(rt: &impl Abort, node: &Node<Counted<'a>, u32>, key: Counted<'a>) -> (Place, Place)
+// Looks up with a counter, and returns also how often it ticks.
+fn counted_of<'a>(
+    node: &Node<Counted<'a>, u32>,
+    key: &Counted<'a>,
+    steps: &mut Steps,
+) -> (Place, usize)
+    requires { Ascends (on (λ key. key.number) nat_cmp) (items_of (view_of node.now)) }
+    ensures { steps.new.count ≡ steps.old.count + result.1 }
+{
+    let len = node.item_count();
+    match node.offset_of_counted(key, steps) {
+        Ok(offset) => {
+            let smaller = offset.value().unwrap_or(0);
+            (Ok(offset), promised_comparisons(len, smaller))
+        }
+        Err((smaller, child)) => (Err((smaller, child)), promised_comparisons(len, smaller)),
+    }
+}
+
+// Looks up without a counter and with one, which takes as many comparisons, and ticks for each. Returns both answers, and how many.
+fn looked_up<'a>(
+    rt: &impl Abort,
+    node: &Node<Counted<'a>, u32>,
+    key: Counted<'a>,
+) -> (Place, Place, usize)
     requires { Ascends (on (λ key. key.number) nat_cmp) (items_of (view_of node.now)) }
 {
     key.compared.set(0);
     let place = node.offset_of(&key);
     let compared = key.compared.get();
-    assert!(rt; (compared as usize) <= MAX_COMPARISONS, "{}", key.number);
     key.compared.set(0);
     let mut steps = Steps::new();
-    let counted = node.offset_of_counted(&key, &mut steps);
-    assert_eq!(rt; key.compared.get(), compared);
-    (place, counted)
+    let (counted, ticks) = counted_of(node, &key, &mut steps);
+    assert_eq!(rt; key.compared.get(), compared, "{}", key.number);
+    assert_eq!(rt; ticks, compared as usize, "{}", key.number);
+    assert!(rt; ticks <= MAX_COMPARISONS, "{}", key.number);
+    (place, counted, ticks)
 }
 
 // Returns a leaf with this many keys, which are 1, 3, 5 and so on.
@@ -83,8 +107,8 @@ fn looks_up_each<'a>(
     requires ascends { Ascends (on (λ key. key.number) nat_cmp) (items_of (view_of node.now)) }
 {
     for number in 0..2 * held + 2 {
-        let smaller = (number / 2) as usize;
-        let (place, counted) = looked_up(rt, node, Counted { number, compared });
+        let smaller = (number / 2).min(held) as usize;
+        let (place, counted, ticks) = looked_up(rt, node, Counted { number, compared });
         let expected = if number % 2 == 1 && number < 2 * held {
             Ok(Offset::from(smaller))
         } else {
@@ -92,11 +116,16 @@ fn looks_up_each<'a>(
         };
         assert_eq!(rt; place, expected, "{number} among {held}");
         assert_eq!(rt; counted, expected, "{number} among {held}");
+        assert_eq!(rt;
+            ticks,
+            COMPARISONS[held as usize][smaller],
+            "{number} among {held}"
+        );
     }
 }
 
 #[test]
-fn compares_at_most_six_times_in_a_leaf(rt: HostRuntime) {
+fn compares_as_many_keys_as_promised_in_a_leaf(rt: HostRuntime) {
     let compared = Cell::new(0);
     for held in 1..10u32 {
         let leaf = leaf_of(&rt, &compared, held);
@@ -105,7 +134,7 @@ fn compares_at_most_six_times_in_a_leaf(rt: HostRuntime) {
 }
 
 #[test]
-fn compares_at_most_six_times_in_an_internal_node(rt: HostRuntime) {
+fn compares_as_many_keys_as_promised_in_an_internal_node(rt: HostRuntime) {
     let compared = Cell::new(0);
     for held in 1..9u32 {
         let node = internal_of(&rt, &compared, held);

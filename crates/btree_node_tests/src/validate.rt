@@ -25,6 +25,13 @@ fn internal_of(rt: &impl Abort, first: u32, keys: &[u32]) -> Node<u32, char> {
     Node::Internal(node)
 }
 
+// Returns an internal node under node 5 with child 100 alone, as a merge of its only two children leaves it.
+fn only_child() -> Node<u32, char> {
+    let mut node = InternalNode::binary(Some(5), 100, Item::new(10, 'v'), 101);
+    node.merge(0, 1);
+    Node::Internal(node)
+}
+
 // Returns the answer for a node under node 5 between two separators.
 fn between(node: &Node<u32, char>, min: u32, max: u32) -> Result<(), Fault> {
     node.validate(Some(5), Some(&min), Some(&max))
@@ -82,4 +89,9 @@ fn finds_each_fault_of_an_internal_node(rt: HostRuntime) {
     assert_eq!(rt; one.validate(Some(5), None, None), Ok(()));
     let turned = internal_of(&rt, 10, &[30, 20]);
     assert_eq!(rt; between(&turned, 9, 31), Err(Fault::Unsorted));
+    let empty = only_child();
+    assert_eq!(rt; (empty.item_count(), empty.child_count()), (0, 1));
+    assert_eq!(rt; empty.validate(Some(5), None, None), Err(Fault::EmptyRoot));
+    assert_eq!(rt; empty.validate(None, None, None), Err(Fault::WrongParent));
+    assert_eq!(rt; between(&empty, 9, 31), Err(Fault::Underflowing));
 }

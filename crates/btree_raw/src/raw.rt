@@ -207,7 +207,7 @@ impl<K, V, C: NodesMut<K, V>> RawBTree<K, V, C> {
 
 impl<K: Ord, V, C: NodesMut<K, V>> RawBTree<K, V, C> {
     ghost use Rattle.btree_shape.specs.TreeState.{IsBTree, IsOffByOneAt};
-    ghost use Rattle.btree_valid.specs.Faults.{AcceptsRawNode, SuitsRawNode};
+    ghost use Rattle.btree_valid.specs.Faults.{AcceptsRawNode, BlamesRawNode, SuitsRawNode};
 
     /// Returns whether the tree has a root and at most 32 levels, and is well formed except for its length and the number of items of node
     /// `id`: it may have one item too many or too few, and the root may also be empty. This is what `rebalance` requires of the tree.
@@ -236,6 +236,7 @@ impl<K: Ord, V, C: NodesMut<K, V>> RawBTree<K, V, C> {
 
     /// Checks a node and all below it against a parent and the nearest separators on both sides, and returns how many levels are below the
     /// node, or the first fault in preorder. A node with neither separator is judged as the root, and a number that is not used is `NoNode`.
+    /// At a node of a well formed tree it is a fault of the arguments.
     ///
     /// The node is on level 1, and one on level 33 is `TooDeep`. It copies nothing and uses no memory but the stack.
     pub fn validate_node(
@@ -248,6 +249,8 @@ impl<K: Ord, V, C: NodesMut<K, V>> RawBTree<K, V, C> {
         ensures unused { map.get self.now.nodes id ≡ None → result ≡ Err NoNode }
         ensures accepts { AcceptsRawNode K.cmp self.now id parent (option_copied min.entry) (option_copied max.entry) result }
         ensures only { SuitsRawNode K.cmp self.now id parent (option_copied min.entry) (option_copied max.entry) result }
+        ensures blames { BlamesRawNode K.cmp self.now id parent
+            (option_copied min.entry) (option_copied max.entry) result }
     {
         self.tell_fits();
         // For the prover alone: the length is a `usize`, so there are at most 32 levels.

@@ -42,7 +42,7 @@ module _ {K V : Type 0} (content : Content (Node K V)) (cmp : K → K → Orderi
 
   -- the node at the spot
   module _ (v : View (K × V)) (at : views content spot.id ≡ Some v) where
-    own-is : (h : ℕ) (t : Subtree (K × V) h) → BeginsAt content cmp spot h t → v ≡ view_at (K × V) h spot.parent t
+    pub own-is : (h : ℕ) (t : Subtree (K × V) h) → BeginsAt content cmp spot h t → v ≡ view_at (K × V) h spot.parent t
     own-is h t b =
         let top = top-view (K × V) (views content) h spot.parent t b.suits.holds in
         let here : views content spot.id ≡ Some (view_at (K × V) h spot.parent t) = subst (λ i. views content i ≡ Some (view_at (K × V) h spot.parent t)) b.here top in
@@ -100,7 +100,7 @@ module _ {K V : Type 0} (content : Content (Node K V)) (cmp : K → K → Orderi
 
     module _ (inner : is_some (slice_get (children_of v) 0) ≡ true) where
       -- no part at an internal node is a leaf
-      not-leaf : (t : Subtree (K × V) 0) → BeginsAt content cmp spot 0 t → ⊥
+      pub not-leaf : (t : Subtree (K × V) 0) → BeginsAt content cmp spot 0 t → ⊥
       not-leaf t b =
           let own = own-is zero t b in
           let none : is_some (slice_get (children_of (view_at (K × V) 0 spot.parent t)) 0) ≡ true = subst (λ u. is_some (slice_get (children_of u) 0) ≡ true) own inner in

@@ -6,6 +6,7 @@ pub mod ChildLemmas
 pub mod VerdictLemmas
 pub mod SuitsLemmas
 pub mod FaultLemmas
+pub mod BlameLemmas
 pub mod WholeLemmas
 pub mod FoundLemmas
 pub mod ExactLemmas

@@ -1,5 +1,5 @@
 -- The children of a part that suits, one after another.
-use Rattle.std.proofs.Common.{◌≡◌, ◌∷◌, ◌++◌, [], ◌+◌, ℕ, zero, suc, List, length, length-append, map, drop, Option, Some, None, refl, sym, ap, subst, arith}
+use Rattle.std.proofs.Common.{◌≡◌, ◌≤◌, ◌∷◌, ◌++◌, [], ◌+◌, ℕ, zero, suc, List, length, length-append, map, drop, Option, Some, None, refl, sym, ap, subst, arith}
 use Rattle.std.specs.List.{AllByRecursion, flat_map}
 use Rattle.std.specs.Option.{option_map}
 use Rattle.std.specs.Prelude.{IfSome, slice_get}
@@ -81,6 +81,7 @@ module _ {K V : Type 0} (cmp : K → K → Ordering) where
     pub record ChildAt (min max : Option K) (above parent : Option ℕ) (first : Subtree (K × V) h) (row : Row) (index child : ℕ) : Type 0 where
       pub part : Subtree (K × V) h
       pub here : id_of (K × V) h part ≡ child
+      pub full : 3 ≤ count_at (K × V) h part
       pub suits : Suits cmp (nearest_of (separator_before (internal above (id_of (K × V) h first) (named row)) index) min)
           (nearest_of (separator_after (internal above (id_of (K × V) h first) (named row)) index) max) node_at parent h part
       pub next : (f : Subtree (K × V) h → ℕ) → total f (drop index (first ∷ map (λ b. b.1) row)) ≡ f part + total f (drop (suc index) (first ∷ map (λ b. b.1) row))
@@ -137,19 +138,21 @@ module _ {K V : Type 0} (cmp : K → K → Ordering) where
       child-at min max above first row s zero child e = record {
         part = first;
         here = (let is : child ≡ id_of (K × V) h first = cc in sym is);
+        full = s.filled.0.0;
         suits = first-suits min max first row above s;
         next = λ f. refl;
       }
       child-at min max above first [] s (suc index) child e = absurd (cc)
       child-at min max above first (b ∷ row) s (suc zero) child e =
           let c = child-at (Some b.0.0) max above b.1 row (later-suit min max first b row s) zero child e in
-          record { part = c.part; here = c.here; suits = c.suits; next = c.next }
+          record { part = c.part; here = c.here; full = c.full; suits = c.suits; next = c.next }
       child-at min max above first (b ∷ row) s (suc (suc k)) child e =
           let c = child-at (Some b.0.0) max above b.1 row (later-suit min max first b row s) (suc k) child e in
           let after : Option K = separator_after (internal above (id_of (K × V) h b.1) (named row)) (suc k) in
           record {
             part = c.part;
             here = c.here;
+            full = c.full;
             suits = subst (λ near. Suits cmp near (nearest_of after max) node_at parent h c.part) (near-same row k child e (Some b.0.0) min) c.suits;
             next = c.next;
           }

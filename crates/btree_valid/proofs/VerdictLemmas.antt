@@ -1,9 +1,9 @@
--- A node of a well formed tree passes each check.
+-- A node of a well formed tree passes each check that the arguments allow.
 use Rattle.std.proofs.Common.{◌≡◌, ◌≤◌, ◌∷◌, [], ◌∙◌, ℕ, zero, suc, inl, inr, List, length, map, Option, Some, None, refl, subst, arith}
 use Rattle.std.proofs.lemmas.Map.Entries.{length-keys_of}
 use Rattle.std.specs.List.{AllByRecursion}
 use Rattle.std.specs.Map.{keys_of}
-use Rattle.std.specs.Prelude.{⊤, IfSome, IsFalse, Result, Ok, slice_get}
+use Rattle.std.specs.Prelude.{⊤, IfSome, IsFalse, Result, Ok, Err, slice_get}
 use Rattle.std.specs.declared.cmp.Ordering.{Ordering}
 use Rattle.std.specs.declared.cmp.Ordering.TheVariants.{Less}
 use Rattle.btree_item.specs.declared.fault.Fault.{Fault}
@@ -14,6 +14,7 @@ use Rattle.btree_shape.specs.Focus.Subtree.{Subtree, count_at, id_of, items_unde
 use Rattle.btree_shape.proofs.LookUp.KeyInList.{Rises, ascends, rises, rises-right}
 use Rattle.btree_shape.proofs.Paths.Frames.{AllByRecursion-right}
 use Rattle.btree_shape.proofs.Trees.Sizes.{view-most, view-size}
+use Rattle.btree_valid.specs.Faults.{Allows}
 use Rattle.btree_valid.specs.Spots.{Suits, least_between}
 
 -- if each check passes, the answer is Ok
@@ -21,6 +22,15 @@ pub all-pass : (Passes : Fault → Type 0) → ((fault : Fault) → Passes fault
 all-pass Passes pass [] answer is = is
 all-pass Passes pass (fault ∷ later) answer (inl failed) = absurd (failed.0 (pass fault))
 all-pass Passes pass (fault ∷ later) answer (inr passed) = all-pass Passes pass later answer passed.1
+
+-- the check of an answered fault does not pass
+not-passed : (Passes : Fault → Type 0) (faults : List Fault) (fault : Fault) (answer : Result ⊤ Fault) → answer ≡ Err fault → FirstFailed Passes faults answer → Passes fault → ⊥
+not-passed Passes [] fault answer err is p = cc
+not-passed Passes (one ∷ later) fault answer err (inl failed) p =
+    let first = failed.1 in
+    let same : fault ≡ one = cc in
+    failed.0 (subst Passes same p)
+not-passed Passes (one ∷ later) fault answer err (inr passed) p = not-passed Passes later fault answer err passed.1 p
 
 module _ {K : Type 0} where
   least-three : (min max : Option K) → IsFalse (is_judged_as_root min max) → least_between min max ≡ 3
@@ -103,3 +113,24 @@ module _ {K V : Type 0} (cmp : K → K → Ordering) where
     -- so the answer for the root of a part that suits is Ok
     pub own-passes : (v : View (K × V)) → v ≡ own → (answer : Result ⊤ Fault) → IsNodeVerdict cmp parent min max v answer → answer ≡ Ok tt
     own-passes v is answer verdict = all-pass (PassesCheck cmp parent min max (parent_of own) (most_of own) (keys_of (items_of own))) passes node_faults answer (subst (λ u. IsNodeVerdict cmp parent min max u answer) is verdict)
+
+    module _ (asked : Option ℕ) (low high : Option K) where
+      allowed : (fault : Fault) → Allows cmp parent (count_at (K × V) h t) (items_under (K × V) h t) asked low high fault → PassesCheck cmp asked low high (parent_of own) (most_of own) (keys_of (items_of own)) fault
+      allowed WrongParent a = own-parent V cmp h parent t ∙ a
+      allowed Underflowing a = λ no. let c = count in let l = a no in omega arith
+      allowed BelowSeparator a = begins low a.above
+      allowed AboveSeparator a = ends high a.below
+      allowed Overflowing a = passes Overflowing
+      allowed EmptyRoot a = λ yes. let c = count in let l = least-one min max in let f = s.filled.0 in omega arith
+      allowed Unsorted a = passes Unsorted
+      allowed NoNode a = tt
+      allowed TooDeep a = tt
+      allowed NotBalanced a = tt
+      allowed WrongLength a = tt
+      allowed Unreachable a = tt
+
+      -- so a fault of the root of a part is one of other arguments
+      pub own-blamed : (v : View (K × V)) → v ≡ own → (answer : Result ⊤ Fault) → IsNodeVerdict cmp asked low high v answer → (fault : Fault) → answer ≡ Err fault
+          → Allows cmp parent (count_at (K × V) h t) (items_under (K × V) h t) asked low high fault → ⊥
+      own-blamed v is answer verdict fault err a =
+          not-passed (PassesCheck cmp asked low high (parent_of own) (most_of own) (keys_of (items_of own))) node_faults fault answer err (subst (λ u. IsNodeVerdict cmp asked low high u answer) is verdict) (allowed fault a)

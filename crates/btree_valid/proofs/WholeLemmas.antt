@@ -1,5 +1,5 @@
 -- A well formed tree and its nodes at the spot where the walk begins.
-use Rattle.std.proofs.Common.{◌≡◌, ◌≤◌, ◌<◌, ◌^◌, ◌++◌, [], ◌∙◌, ◌+◌, ℕ, List, length, Option, Some, None, Result, Ok, option_copied, refl, sym, ap, subst, arith}
+use Rattle.std.proofs.Common.{◌≡◌, ◌≤◌, ◌<◌, ◌^◌, ◌++◌, [], ◌∙◌, ◌+◌, ℕ, List, length, Option, Some, None, Result, Ok, Err, option_copied, refl, sym, ap, subst, arith}
 use Rattle.std.specs.FinMap as finite
 use Rattle.std.specs.Prelude.{IsFalse}
 use Rattle.std.specs.declared.cmp.Ordering.{Ordering}
@@ -8,7 +8,7 @@ use Rattle.btree_item.specs.Pairs.{Ascends}
 use Rattle.btree_node.specs.declared.node.Node.{Node}
 use Rattle.btree_store.specs.Content.{Content}
 use Rattle.btree_view.specs.Checks.{is_judged_as_root}
-use Rattle.btree_view.specs.View.{parent_of, size_of}
+use Rattle.btree_view.specs.View.{View, parent_of, size_of}
 use Rattle.btree_shape.specs.Focus.Focus.{IsFocus}
 use Rattle.btree_shape.specs.Focus.Path.{Path, items_after, items_before, least_at, parent_above}
 use Rattle.btree_shape.specs.Focus.Search.{levels_below}
@@ -29,8 +29,8 @@ use Rattle.btree_shape.proofs.Trees.Sizes.{view-size}
 use Rattle.btree_shape.proofs.Trees.States.{few-nodes, height_held}
 use Rattle.btree_shape.proofs.Trees.Stores.{len-views}
 use Rattle.btree_shape.proofs.Trees.Subtrees.{represents-of}
-use Rattle.btree_valid.specs.Faults.{AreBetween, SuitsNode, depth_below}
-use Rattle.btree_valid.specs.Spots.{BeginsAt, CanMeet, MeetsAt, MeetsTree, Suits, least_between}
+use Rattle.btree_valid.specs.Faults.{Allows, AreBetween, SuitsNode, depth_below}
+use Rattle.btree_valid.specs.Spots.{BeginsAt, BlamesAt, CanMeet, MeetsAt, MeetsTree, Suits, least_between}
 use Rattle.btree_valid.specs.declared.faults.Met.{Met}
 use Rattle.btree_valid.specs.declared.faults.Spot.{Spot}
 use Rattle.btree_valid.proofs.VerdictLemmas.{own-parent}
@@ -82,6 +82,7 @@ record IsPartAt {K V : Type 0} (content : Content (Node K V)) (cmp : K → K →
   here : id_of (K × V) height part ≡ id
   low : height < 32
   depth : levels_below (views content) (finite.len content) id ≡ height
+  list : represented (views content) (finite.len content) id ≡ items_under (K × V) height part
   suits : Suits cmp min max (views content) parent height part
 
 module _ {K V : Type 0} (cmp : K → K → Ordering) (tree : TreeState K V) (id : ℕ) (parent : Option ℕ) (min max : Option K) where
@@ -122,6 +123,7 @@ module _ {K V : Type 0} (cmp : K → K → Ordering) (tree : TreeState K V) (id 
             here = here;
             low = omega arith;
             depth = subst (λ i. levels_below (node_map tree) (finite.len tree.nodes) i ≡ h) here depth;
+            list = list;
             suits = record {
               holds = subst (λ p. Holds (K × V) (node_map tree) h p t) up whole.inner;
               filled = (least-counted (count_at (K × V) h t) (least_at c) (low-enough (K × V) h c) sized.0 (λ no. let f = s.filled no in omega arith), sized.1);
@@ -142,3 +144,18 @@ module _ {K V : Type 0} (cmp : K → K → Ordering) (tree : TreeState K V) (id 
         let m = found p.height p.part (record { here = p.here ∙ sym is; low = let l = p.low in omega arith; suits = rw (up, near, far) p.suits }) (rw leaves tt) in
         let deep : spot.level + p.height ≡ depth_below tree id = (let d = p.depth in omega arith) in
         (m.0, m.1, m.2.leaves ∙ ap Some deep)
+
+module _ {K V : Type 0} (cmp : K → K → Ordering) (tree : TreeState K V) (id : ℕ) (parent : Option ℕ) (min max : Option K)
+    (content : Content (Node K V)) (same : tree.nodes ≡ content) (low : tree.len < 2 ^ 64) (w : IsBTree cmp tree)
+    (met : Met) (leaves : met.leaf_level ≡ None) (spot : Spot K) (level : spot.level ≡ 0) (is : spot.id ≡ id) (up : spot.parent ≡ parent) (near : option_copied spot.min ≡ min) (far : option_copied spot.max ≡ max) where
+  -- a fault under a node is one of the arguments
+  pub node-blamed : (fault : Fault) → BlamesAt content cmp spot met (Err fault) → (node : View (K × V)) → node_map tree id ≡ Some node
+      → Allows cmp (parent_of node) (size_of node) (represented (node_map tree) (finite.len tree.nodes) id) parent min max fault → ⊥
+  node-blamed fault blames node at a =
+      let p = part-at cmp tree id (parent_of node) None None tree.root low w (record { node = node; at = at; parent_is = refl; filled = λ no. absurd (cc); between = record { above = tt; below = tt } }) in
+      let found = subst (λ nodes. BlamesAt nodes cmp spot met (Err fault)) (sym same) blames in
+      let no = found (parent_of node) p.height p.part (record { here = p.here ∙ sym is; low = let l = p.low in omega arith; suits = p.suits }) (rw leaves tt) in
+      let top : node_map tree id ≡ Some (view_at (K × V) p.height (parent_of node) p.part) = subst (λ i. node_map tree i ≡ Some (view_at (K × V) p.height (parent_of node) p.part)) p.here (top-view (K × V) (node_map tree) p.height (parent_of node) p.part p.suits.holds) in
+      let own : node ≡ view_at (K × V) p.height (parent_of node) p.part = (let e : Some node ≡ Some (view_at (K × V) p.height (parent_of node) p.part) = sym at ∙ top in cc) in
+      let size : size_of node ≡ count_at (K × V) p.height p.part = ap size_of own ∙ view-size (K × V) p.height (parent_of node) p.part in
+      no (rw (← size, ← p.list, up, near, far) a)

@@ -1,13 +1,15 @@
 -- What `validate` and `validate_node` answer on a well formed tree.
 -- `validate` answers Ok on every tree that `AreBTree` holds of. `validate_node` compares a node with a parent and two
--- separators that the caller gives, so it answers Ok if they suit the node (`SuitsNode`), with the node's depth.
-use Rattle.std.specs.Prelude.{◌≡◌, ℕ, ◌^◌, ◌<◌, ◌≤◌, IsFalse, List, IfOk, IfSome, Option, Some, Result, Ok}
+-- separators that the caller gives, so it answers Ok if they suit the node (`SuitsNode`), with the node's depth, and else
+-- a fault of these arguments (`BlamesIfErr`).
+use Rattle.std.specs.Prelude.{◌≡◌, ⊤, ℕ, ◌^◌, ◌<◌, ◌≤◌, IsFalse, List, IfOk, IfErr, IfSome, Option, Some, None, Result, Ok}
 use Rattle.std.specs.FinMap as map
 use Rattle.std.specs.List.{AllByRecursion}
 use Rattle.std.specs.declared.cmp.Ordering.{Ordering}
 use Rattle.std.specs.declared.cmp.Ordering.TheVariants.{Less}
 use Rattle.btree_item.specs.declared.TheConstants.{MIN_ITEMS}
 use Rattle.btree_item.specs.declared.fault.Fault.{Fault}
+use Rattle.btree_item.specs.declared.fault.Fault.TheVariants.{NoNode, WrongParent, Overflowing, Underflowing, EmptyRoot, Unsorted, BelowSeparator, AboveSeparator, TooDeep, NotBalanced, WrongLength, Unreachable}
 use Rattle.btree_node.specs.declared.node.Node.{Node}
 use Rattle.btree_store.specs.Content.{Content}
 use Rattle.btree_view.specs.Checks.{is_judged_as_root}
@@ -61,3 +63,30 @@ module _ {K V : Type 0} (cmp : K → K → Ordering) where
 
   abbrev pub SuitsAmong : Content (Node K V) → (id : ℕ) (parent : Option ℕ) (min max : Option K) → Result ℕ Fault → Type 0
   SuitsAmong nodes id parent min max answer = (s : TreeState K V) → s.nodes ≡ nodes → SuitsRawNode s id parent min max answer
+
+  -- what the check of a fault asks of the arguments, for a node with this parent and so many items, and the pairs under it
+  abbrev pub Allows : (own : Option ℕ) (count : ℕ) (xs : List (K × V)) (parent : Option ℕ) (min max : Option K) → Fault → Type 0
+  Allows own count xs parent min max WrongParent = own ≡ parent
+  Allows own count xs parent min max Underflowing = IsFalse (is_judged_as_root min max) → MIN_ITEMS ≤ count
+  Allows own count xs parent min max BelowSeparator = AreBetween cmp min None xs
+  Allows own count xs parent min max AboveSeparator = AreBetween cmp None max xs
+  Allows own count xs parent min max NoNode = ⊤
+  Allows own count xs parent min max Overflowing = ⊤
+  Allows own count xs parent min max EmptyRoot = ⊤
+  Allows own count xs parent min max Unsorted = ⊤
+  Allows own count xs parent min max TooDeep = ⊤
+  Allows own count xs parent min max NotBalanced = ⊤
+  Allows own count xs parent min max WrongLength = ⊤
+  Allows own count xs parent min max Unreachable = ⊤
+
+  -- an answered fault is one whose check the arguments do not pass: none but the first four above
+  abbrev pub BlamesIfErr : (s : TreeState K V) (id : ℕ) (parent : Option ℕ) (min max : Option K) → Result ℕ Fault → Type 0
+  BlamesIfErr s id parent min max answer = IfErr answer (λ fault. (node : View (K × V)) → node_map s id ≡ Some node
+      → Allows (parent_of node) (size_of node) (represented (node_map s) (map.len s.nodes) id) parent min max fault → ⊥)
+
+  -- so it is in a well formed tree, and in every one of these nodes
+  abbrev pub BlamesRawNode : (s : TreeState K V) (id : ℕ) (parent : Option ℕ) (min max : Option K) → Result ℕ Fault → Type 0
+  BlamesRawNode s id parent min max answer = IsBTree cmp s → BlamesIfErr s id parent min max answer
+
+  abbrev pub BlamesAmong : Content (Node K V) → (id : ℕ) (parent : Option ℕ) (min max : Option K) → Result ℕ Fault → Type 0
+  BlamesAmong nodes id parent min max answer = (s : TreeState K V) → s.nodes ≡ nodes → s.len < 2 ^ 64 → BlamesRawNode s id parent min max answer

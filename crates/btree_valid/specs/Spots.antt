@@ -3,7 +3,7 @@
 -- of a tree is as it should be at a spot if `BeginsAt` holds, for which `Suits` compares it with the separators there;
 -- `Meets` says what the walk has met after the part. Only the private functions of `src/faults.rt` cite these words;
 -- the public calls cite `Faults.antt`.
-use Rattle.std.specs.Prelude.{◌≡◌, ℕ, ◌+◌, ◌<◌, if◌then◌else◌, length, IfOk, IfSome, Option, Some, None, Result, Ok, option_copied}
+use Rattle.std.specs.Prelude.{◌≡◌, ℕ, ◌+◌, ◌<◌, if◌then◌else◌, length, IfOk, IfSome, Option, Some, None, Result, Ok, Err, option_copied}
 use Rattle.std.specs.declared.cmp.Ordering.{Ordering}
 use Rattle.btree_item.specs.declared.TheConstants.{MAX_LEVELS, MIN_ITEMS}
 use Rattle.btree_item.specs.declared.fault.Fault.{Fault}
@@ -15,7 +15,7 @@ use Rattle.btree_view.specs.View.{NodeMap}
 use Rattle.btree_shape.specs.Focus.Subtree.{Holds, IsFilled, IsFilledBelow, Subtree, count_at, id_of, items_under}
 use Rattle.btree_shape.specs.Represents.{numbers_under}
 use Rattle.btree_shape.specs.TreeState.{views}
-use Rattle.btree_valid.specs.Faults.{AreBTree, AreBetween}
+use Rattle.btree_valid.specs.Faults.{Allows, AreBTree, AreBetween}
 use Rattle.btree_valid.specs.declared.faults.Met.{Met}
 use Rattle.btree_valid.specs.declared.faults.Spot.{Spot}
 
@@ -75,6 +75,22 @@ module _ {K V : Type 0} (content : Content (Node K V)) where
     abbrev pub MeetsAt : Spot K → (met : Met) → Result Met Fault → Type 0
     MeetsAt spot met answer = (height : ℕ) (part : Subtree (K × V) height) → BeginsAt spot height part → CanMeet (spot.level + height) met
         → HasMet (spot.level + height) height part met answer
+
+    -- the spot with a part's own parent, and without separators
+    abbrev pub freed : Spot K → (own : Option ℕ) → Spot K
+    freed spot own = record spot { parent = own; min = None; max = None }
+
+    -- the answer for a part there: the level of its leaves, or a fault whose check the parent and the separators of the
+    -- spot do not pass
+    abbrev pub IsAnswerFor : Spot K → (own : Option ℕ) (height : ℕ) (part : Subtree (K × V) height) → Result Met Fault → Type 0
+    IsAnswerFor spot own height part (Ok after) = after.leaf_level ≡ Some (spot.level + height)
+    IsAnswerFor spot own height part (Err fault) =
+        Allows cmp own (count_at (K × V) height part) (items_under (K × V) height part) spot.parent (option_copied spot.min) (option_copied spot.max) fault → ⊥
+
+    -- the walk answers so for each part of a well formed tree
+    abbrev pub BlamesAt : Spot K → (met : Met) → Result Met Fault → Type 0
+    BlamesAt spot met answer = (own : Option ℕ) (height : ℕ) (part : Subtree (K × V) height) → BeginsAt (freed spot own) height part
+        → CanMeet (spot.level + height) met → IsAnswerFor spot own height part answer
 
     -- the walk has met a part of this height that is as it should be at the spot, and nothing else
     pub record HasFoundPart (spot : Spot K) (met after : Met) (height : ℕ) : Type 0 where

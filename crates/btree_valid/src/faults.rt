@@ -8,8 +8,8 @@ ghost use Rattle.btree_node.specs.Node.{view_of};
 ghost use Rattle.btree_node.specs.contracts.node.Node.{the_row as node_row};
 ghost use Rattle.btree_view.specs.Separators.{separator_after, separator_before};
 ghost use Rattle.btree_view.specs.View.{children_of};
-ghost use Rattle.btree_valid.specs.Faults.{AcceptsAmong, AreBTree, SuitsAmong};
-ghost use Rattle.btree_valid.specs.Spots.{CanMeet, FindsAt, FindsTree, IsFewer, MeetsAt, MeetsLeaf, MeetsTree, WasMore, nearest_of};
+ghost use Rattle.btree_valid.specs.Faults.{AcceptsAmong, AreBTree, BlamesAmong, SuitsAmong};
+ghost use Rattle.btree_valid.specs.Spots.{BlamesAt, CanMeet, FindsAt, FindsTree, IsFewer, MeetsAt, MeetsLeaf, MeetsTree, WasMore, nearest_of};
 
 use btree_item::{Fault, MAX_LEVELS};
 use btree_node::Node;
@@ -125,6 +125,7 @@ fn check_under<'a, K: Ord + 'a, V: 'a, C: Nodes<K, V>>(
     ensures unused { map.get (C.content nodes.now) spot.entry.id ≡ None → result ≡ Err NoNode }
     ensures only { FindsAt (C.content nodes.now) K.cmp spot.entry met result }
     ensures always { MeetsAt (C.content nodes.now) K.cmp spot.entry met result }
+    ensures blames { BlamesAt (C.content nodes.now) K.cmp spot.entry met result }
 {
     let Some(node) = nodes.get(spot.id) else {
         return Err(Fault::NoNode);
@@ -199,7 +200,8 @@ pub fn validate<K: Ord, V, C: Nodes<K, V>>(
 }
 
 /// Checks a node and all below it against a parent and the nearest separators on both sides, and returns how many levels are below the
-/// node, or the first fault in preorder. A node with neither separator is judged as the root.
+/// node, or the first fault in preorder. A node with neither separator is judged as the root. In a well formed tree it is a fault of the
+/// arguments.
 ///
 /// The node is on level 1, and one on level 33 is `TooDeep`. It copies nothing and uses no memory but the stack.
 pub fn validate_node<K: Ord, V, C: Nodes<K, V>>(
@@ -213,6 +215,8 @@ pub fn validate_node<K: Ord, V, C: Nodes<K, V>>(
     ensures unused { map.get (C.content nodes.now) id ≡ None → result ≡ Err NoNode }
     ensures accepts { AcceptsAmong K.cmp (C.content nodes.now) id parent (option_copied min.entry) (option_copied max.entry) result }
     ensures only { SuitsAmong K.cmp (C.content nodes.now) id parent (option_copied min.entry) (option_copied max.entry) result }
+    ensures blames { BlamesAmong K.cmp (C.content nodes.now) id parent
+        (option_copied min.entry) (option_copied max.entry) result }
 {
     let start = Met {
         leaf_level: None,

@@ -1,6 +1,9 @@
 use Rattle.std.proofs.Common.{◌∙◌, arith, inl, is_some, option_map, refl, sym, ap}
+use Rattle.std.proofs.lemmas.Result.{err_from_is_err_and}
 use Rattle.btree_node.specs.Node.{view_of}
 use Rattle.btree_view.specs.View.{children_of}
+use Rattle.btree_valid.specs.Spots.{freed}
+use Rattle.btree_valid.proofs.BlameLemmas.{child-blamed, end-blamed, leaf-blamed, next-met, start-met, too-deep, verdict-blamed}
 use Rattle.btree_valid.proofs.FaultLemmas.{child-next, child-ok, inner-end, inner-start, leaf-met, nothing-begins, past-end, verdict-ok}
 use Rattle.btree_valid.proofs.ExactLemmas.{done-all, done-next, leaf-found}
 use Rattle.btree_valid.proofs.faults.+check_under.Goals as goal
@@ -28,6 +31,7 @@ loop-index-init g t c = (
     },
   ),
   inner-start (g.C.Nodes.content c.args.nodes.now) g.K.Ord.cmp c.args.spot c.args.met (view_of c.in-Some.node.now) (ap (option_map view_of) (sym c.in-Some.ensures.value)) c.count_node-counted.result c.count_node-counted.ensures.leaves (rw (← c.item_count.ensures.value) c.count_node-counted.ensures.items) c.count_node-counted.ensures.nodes,
+  start-met (g.C.Nodes.content c.args.nodes.now) g.K.Ord.cmp c.args.spot c.args.met c.count_node-counted.result c.count_node-counted.ensures.leaves,
 )
 
 pub returns-in_default-child_id_opt-clause-always : goal.returns-in_default-child_id_opt-clause-always
@@ -37,7 +41,7 @@ pub returns-in_err-passed-clause-always : goal.returns-in_err-passed-clause-alwa
 returns-in_err-passed-clause-always g t c = λ height part begins can. absurd (child-ok (g.C.Nodes.content c.args.nodes.now) g.K.Ord.cmp c.args.spot c.args.met (view_of c.in-Some.node.now) (ap (option_map view_of) (sym c.in-Some.ensures.value)) (ap is_some (sym c.child_id_opt.ensures) ∙ c.if-is_none.ensures) c.loop-index.index c.loop-index.passed c.loop-index.invariant.1 c.in-Some-child_id_opt.child c.in-Some-child_id_opt.ensures c.below.result c.below.ensures.level c.below.ensures.parent c.below.ensures.id c.below.ensures.min c.below.ensures.max c.check_under.result c.check_under.ensures.always c.in_err-passed.field-0.0 c.in_err-passed.was height part begins can)
 
 pub loop-index-preserved : goal.loop-index-preserved
-loop-index-preserved g t c = (done-next (g.C.Nodes.content c.args.nodes.now) g.K.Ord.cmp g.met.K.Ord.total c.args.spot c.args.met (view_of c.in-Some.node.now) c.loop-index.index c.loop-index.passed c.in-Some-child_id_opt.child c.in-Some-child_id_opt.ensures c.below.result c.below.ensures.level c.below.ensures.parent c.below.ensures.id c.below.ensures.min c.below.ensures.max c.loop-index.invariant.0 c.check_under.result c.check_under.ensures.only c.in_ok-passed.passed c.in_ok-passed.was, child-next (g.C.Nodes.content c.args.nodes.now) g.K.Ord.cmp c.args.spot c.args.met (view_of c.in-Some.node.now) (ap (option_map view_of) (sym c.in-Some.ensures.value)) (ap is_some (sym c.child_id_opt.ensures) ∙ c.if-is_none.ensures) c.loop-index.index c.loop-index.passed c.loop-index.invariant.1 c.in-Some-child_id_opt.child c.in-Some-child_id_opt.ensures c.below.result c.below.ensures.level c.below.ensures.parent c.below.ensures.id c.below.ensures.min c.below.ensures.max c.check_under.result c.check_under.ensures.always c.in_ok-passed.passed c.in_ok-passed.was)
+loop-index-preserved g t c = (done-next (g.C.Nodes.content c.args.nodes.now) g.K.Ord.cmp g.met.K.Ord.total c.args.spot c.args.met (view_of c.in-Some.node.now) c.loop-index.index c.loop-index.passed c.in-Some-child_id_opt.child c.in-Some-child_id_opt.ensures c.below.result c.below.ensures.level c.below.ensures.parent c.below.ensures.id c.below.ensures.min c.below.ensures.max c.loop-index.invariant.0 c.check_under.result c.check_under.ensures.only c.in_ok-passed.passed c.in_ok-passed.was, child-next (g.C.Nodes.content c.args.nodes.now) g.K.Ord.cmp c.args.spot c.args.met (view_of c.in-Some.node.now) (ap (option_map view_of) (sym c.in-Some.ensures.value)) (ap is_some (sym c.child_id_opt.ensures) ∙ c.if-is_none.ensures) c.loop-index.index c.loop-index.passed c.loop-index.invariant.1 c.in-Some-child_id_opt.child c.in-Some-child_id_opt.ensures c.below.result c.below.ensures.level c.below.ensures.parent c.below.ensures.id c.below.ensures.min c.below.ensures.max c.check_under.result c.check_under.ensures.always c.in_ok-passed.passed c.in_ok-passed.was, next-met (g.C.Nodes.content c.args.nodes.now) g.K.Ord.cmp c.args.spot c.args.met (view_of c.in-Some.node.now) (ap (option_map view_of) (sym c.in-Some.ensures.value)) (ap is_some (sym c.child_id_opt.ensures) ∙ c.if-is_none.ensures) c.loop-index.index c.loop-index.passed c.loop-index.invariant.2 c.in-Some-child_id_opt.child c.in-Some-child_id_opt.ensures c.below.result c.below.ensures.level c.below.ensures.parent c.below.ensures.id c.below.ensures.min c.below.ensures.max c.check_under.result c.check_under.ensures.blames c.in_ok-passed.passed c.in_ok-passed.was)
 
 pub returns-clause-always : goal.returns-clause-always
 returns-clause-always g t c = inner-end (g.C.Nodes.content c.args.nodes.now) g.K.Ord.cmp c.args.spot c.args.met (view_of c.in-Some.node.now) (ap (option_map view_of) (sym c.in-Some.ensures.value)) (ap is_some (sym c.child_id_opt.ensures) ∙ c.if-is_none.ensures) c.loop-index.index c.loop-index.passed c.loop-index.invariant.1 (omega (arith, c.loop-index-test.false, c.child_count-index-end.ensures.value)) _ refl
@@ -54,3 +58,28 @@ returns-in_default-child_id_opt-clause-only g t c = absurd (past-end (children_o
 
 pub returns-clause-only : goal.returns-clause-only
 returns-clause-only g t c = done-all (g.C.Nodes.content c.args.nodes.now) g.K.Ord.cmp g.met.K.Ord.total c.args.spot c.args.met (view_of c.in-Some.node.now) (ap (option_map view_of) (sym c.in-Some.ensures.value)) c.validate.result c.in_ok-validate.was c.validate.ensures (ap is_some (sym c.child_id_opt.ensures) ∙ c.if-is_none.ensures) c.loop-index.index c.loop-index.passed (omega (arith, c.loop-index-test.false, c.child_count-index-end.ensures.value)) c.loop-index.invariant.0
+
+pub returns-in_default-clause-blames : goal.returns-in_default-clause-blames
+returns-in_default-clause-blames g t c = λ own height part begins can. absurd (nothing-begins (g.C.Nodes.content c.args.nodes.now) g.K.Ord.cmp (freed (g.C.Nodes.content c.args.nodes.now) g.K.Ord.cmp c.args.spot own) c.args.met (ap (option_map view_of) (sym c.in_default.ensures.value)) height part begins)
+
+pub returns-in_err-validate-clause-blames : goal.returns-in_err-validate-clause-blames
+returns-in_err-validate-clause-blames g t c =
+    let e = err_from_is_err_and c.from_residual.result c.from_residual.ensures.1 in
+    rw (e.1, e.2) (verdict-blamed (g.C.Nodes.content c.args.nodes.now) g.K.Ord.cmp c.args.spot c.args.met (view_of c.in-Some.node.now) (ap (option_map view_of) (sym c.in-Some.ensures.value)) c.validate.result c.validate.ensures c.in_err-validate.field-0.0 c.in_err-validate.was)
+
+pub returns-then-spot-ge-MAX_LEVELS-clause-blames : goal.returns-then-spot-ge-MAX_LEVELS-clause-blames
+returns-then-spot-ge-MAX_LEVELS-clause-blames g t c = λ own height part begins can. absurd (too-deep (g.C.Nodes.content c.args.nodes.now) g.K.Ord.cmp c.args.spot c.args.met (omega (arith, c.if-spot-ge-MAX_LEVELS.true)) own height part begins)
+
+pub returns-then-is_none-clause-blames : goal.returns-then-is_none-clause-blames
+returns-then-is_none-clause-blames g t c = leaf-blamed (g.C.Nodes.content c.args.nodes.now) g.K.Ord.cmp c.args.spot c.args.met (view_of c.in-Some.node.now) (ap (option_map view_of) (sym c.in-Some.ensures.value)) (ap is_some (sym c.child_id_opt.ensures) ∙ c.if-is_none.ensures) c.count_node-counted.result c.count_node-counted.ensures.leaves c.meet_leaf.result c.meet_leaf.ensures.always
+
+pub returns-in_default-child_id_opt-clause-blames : goal.returns-in_default-child_id_opt-clause-blames
+returns-in_default-child_id_opt-clause-blames g t c = absurd (past-end (children_of (view_of c.in-Some.node.now)) c.loop-index.index (omega (arith, c.loop-index-test.true, c.child_count-index-end.ensures.value)) c.in_default-child_id_opt.ensures)
+
+pub returns-in_err-passed-clause-blames : goal.returns-in_err-passed-clause-blames
+returns-in_err-passed-clause-blames g t c =
+    let e = err_from_is_err_and c.from_residual-in_err-passed.result c.from_residual-in_err-passed.ensures.1 in
+    rw (e.1, e.2) (child-blamed (g.C.Nodes.content c.args.nodes.now) g.K.Ord.cmp c.args.spot c.args.met (view_of c.in-Some.node.now) (ap (option_map view_of) (sym c.in-Some.ensures.value)) (ap is_some (sym c.child_id_opt.ensures) ∙ c.if-is_none.ensures) c.loop-index.index c.loop-index.passed c.loop-index.invariant.2 c.in-Some-child_id_opt.child c.in-Some-child_id_opt.ensures c.below.result c.below.ensures.level c.below.ensures.parent c.below.ensures.id c.below.ensures.min c.below.ensures.max c.check_under.result c.check_under.ensures.blames c.in_err-passed.field-0.0 c.in_err-passed.was)
+
+pub returns-clause-blames : goal.returns-clause-blames
+returns-clause-blames g t c = end-blamed (g.C.Nodes.content c.args.nodes.now) g.K.Ord.cmp c.args.spot c.args.met (view_of c.in-Some.node.now) (ap (option_map view_of) (sym c.in-Some.ensures.value)) (ap is_some (sym c.child_id_opt.ensures) ∙ c.if-is_none.ensures) c.loop-index.index c.loop-index.passed c.loop-index.invariant.2 (omega (arith, c.loop-index-test.false, c.child_count-index-end.ensures.value))

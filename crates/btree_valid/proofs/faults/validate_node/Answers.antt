@@ -1,7 +1,10 @@
-use Rattle.std.proofs.Common.{◌≡◌, ◌∙◌, Ok, ap, refl, sym}
+use Rattle.std.proofs.Common.{◌≡◌, ◌∙◌, None, Ok, ap, refl, subst, sym}
+use Rattle.std.proofs.lemmas.Result.{err_from_is_err_and}
 use Rattle.std.specs.Option.{unwrap_or}
+use Rattle.btree_valid.specs.Spots.{BlamesAt}
+use Rattle.btree_valid.specs.declared.faults.Met.{Met}
 use Rattle.btree_valid.proofs.TreeLemmas.{node-suits}
-use Rattle.btree_valid.proofs.WholeLemmas.{node-met}
+use Rattle.btree_valid.proofs.WholeLemmas.{node-blamed, node-met}
 use Rattle.btree_valid.proofs.faults.validate_node.Goals as goal
 
 pub returns-in_err-after-clause-accepts : goal.returns-in_err-after-clause-accepts
@@ -22,3 +25,9 @@ returns-clause-accepts g c = λ tree same low formed suits.
 
 pub returns-clause-only : goal.returns-clause-only
 returns-clause-only g c = λ tree same formed. node-suits g.K.Ord.cmp tree c.args.id c.args.parent _ _ (g.C.Nodes.content c.args.nodes.now) same formed _ _ refl refl refl refl c.in_ok-after.after c.in_ok-after.ensures.only
+
+pub returns-in_err-after-clause-blames : goal.returns-in_err-after-clause-blames
+returns-in_err-after-clause-blames g c =
+    let e = err_from_is_err_and c.from_residual.result c.from_residual.ensures.1 in
+    let start : Met = record { leaf_level = None; items = None; nodes = None } in
+    rw (e.1, e.2) (λ tree same low formed. node-blamed g.K.Ord.cmp tree c.args.id c.args.parent _ _ (g.C.Nodes.content c.args.nodes.now) same low formed start refl _ refl refl refl refl refl c.in_err-after.field-0.0 (subst (BlamesAt (g.C.Nodes.content c.args.nodes.now) g.K.Ord.cmp _ start) c.in_err-after.was c.check_under.ensures.blames))

@@ -1,4 +1,4 @@
-use Rattle.std.proofs.Common.{ap, arith, refl}
+use Rattle.std.proofs.Common.{ap, arith, refl, sym}
 use Rattle.btree_raw.proofs.raw.RawBTree.validate_node.Goals as goal
 
 pub returns-clause-accepts : goal.returns-clause-accepts
@@ -6,3 +6,6 @@ returns-clause-accepts g c = rw (← c.self.view_is) (λ tree suits. c.validate_
 
 pub returns-clause-only : goal.returns-clause-only
 returns-clause-only g c = rw (← c.self.view_is) (λ tree. c.validate_node.ensures.only _ refl tree)
+
+pub returns-clause-blames : goal.returns-clause-blames
+returns-clause-blames g c = c.validate_node.ensures.blames c.args.self.now (ap (λ s. s.nodes) (sym c.self.view_is)) (omega (arith, ap (λ s. s.len) c.self.view_is, c.len-len.ensures, c.len-len.type_inv))
