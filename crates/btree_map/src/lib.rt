@@ -1,7 +1,9 @@
 //! The ordered map.
 #![tactic(auto)]
 
+mod append;
 mod comparison;
+mod extension;
 mod keys;
 mod map;
 mod removal;
