@@ -1,1 +1,2 @@
 pub mod RemovalLemmas
+pub mod ExtensionLemmas

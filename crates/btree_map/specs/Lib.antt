@@ -1,2 +1,3 @@
 pub mod Comparison
 pub mod Removal
+pub mod Extension

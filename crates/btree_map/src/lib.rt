@@ -1,8 +1,10 @@
 //! The ordered map.
 #![tactic(auto)]
 
+mod append;
 mod clone;
 mod comparison;
+mod extension;
 mod keys;
 mod map;
 mod removal;

@@ -1,0 +1,59 @@
+use Rattle.std.proofs.Common.{◌≡◌, ◌∙◌, ◌∷◌, List, [], ap, sym, rules, arith}
+use Rattle.btree_item.specs.Pairs.{inserted}
+use Rattle.btree_shape.specs.TreeState.{pairs_of}
+use Rattle.btree_map.specs.Extension.{inserted_all}
+use Rattle.btree_map.proofs.ExtensionLemmas.{all-into-none, first-and-rest, none-of, refused-pairs}
+use Rattle.btree_map.proofs.map.BTreeMap.append.Goals as goal
+
+pub returns-then-is_empty-2-clause-appended : goal.returns-then-is_empty-2-clause-appended
+returns-then-is_empty-2-clause-appended g c =
+    let empty : pairs_of c.args.self.now ≡ [] = search rules in
+    let all = all-into-none g.K.Ord.cmp (pairs_of c.args.other.now) c.root_id-root.ensures.well_formed.ascends in
+    ap pairs_of c.swap.ensures.x_after ∙ sym all ∙ sym (ap (λ l. inserted_all g.K.Ord.cmp l (pairs_of c.args.other.now)) empty)
+
+pub loop-key-preserved : goal.loop-key-preserved
+loop-key-preserved g c =
+    let all = inserted_all g.K.Ord.cmp in
+    let x : g.row.K.Denot × g.row.V.Denot = (c.in-Some.key, c.in-Some.value) in
+    let rest = pairs_of c.pop_first.new.self in
+    let is : pairs_of c.insert.new.self ≡ inserted g.K.Ord.cmp c.in-Some.key c.in-Some.value (pairs_of c.loop-key.self) = c.in-Ok.ensures.inserted in
+    let listed = first-and-rest (pairs_of c.loop-key.other) rest x c.in-Some.ensures.pair c.in-Some.ensures.removed.pairs in (
+      c.in-Ok.ensures.uncounted ∙ c.loop-key.invariant.0,
+      c.in-Some.ensures.removed.removed.uncounted ∙ c.loop-key.invariant.1,
+      ap (λ l. all l rest) is ∙ sym (ap (all (pairs_of c.loop-key.self)) listed) ∙ c.loop-key.invariant.2,
+      λ y n t h. c.loop-key.invariant.3 y n t (record {
+        given = x ∷ h.given;
+        split = listed ∙ ap (λ l. x ∷ l) h.split;
+        pairs = h.pairs ∙ ap (λ l. all l h.given) is;
+      }),
+    )
+
+pub returns-in-Err-clause-stopped : goal.returns-in-Err-clause-stopped
+returns-in-Err-clause-stopped g c =
+    let cause = c.in-Err.ensures.cause in
+    let x : g.row.K.Denot × g.row.V.Denot = (c.in-Some.key, c.in-Some.value) in
+    let rest = pairs_of c.pop_first.new.self in
+    rw (c.in-Err.ensures.returned.0, c.in-Err.ensures.returned.1)
+    (c.loop-key.invariant.3 x (pairs_of c.insert.new.self) rest (record {
+      given = [];
+      split = first-and-rest (pairs_of c.loop-key.other) rest x c.in-Some.ensures.pair c.in-Some.ensures.removed.pairs;
+      pairs = refused-pairs g.C.NodesMut.MayRefuse cause.gap.id c.loop-key.self c.insert.new.self c.in-Err.refused.cause cause.refused;
+    }))
+
+pub returns-in-Err-clause-cause : goal.returns-in-Err-clause-cause
+returns-in-Err-clause-cause g c =
+    record {
+      before = c.loop-key.self;
+      uncounted = c.loop-key.invariant.0;
+      absent = rw (c.in-Err.ensures.returned.0) c.in-Err.ensures.absent;
+      refused = rw (c.in-Err.ensures.returned.0) c.in-Err.ensures.cause;
+    }
+
+pub returns-clause-appended : goal.returns-clause-appended
+returns-clause-appended g c =
+    let none = none-of (pairs_of c.loop-key.other) c.in_default.ensures.pair in
+    sym (ap (inserted_all g.K.Ord.cmp (pairs_of c.loop-key.self)) none) ∙ c.loop-key.invariant.2
+
+pub returns-clause-emptied : goal.returns-clause-emptied
+returns-clause-emptied g c =
+    ap pairs_of c.in_default.ensures.unchanged ∙ none-of (pairs_of c.loop-key.other) c.in_default.ensures.pair

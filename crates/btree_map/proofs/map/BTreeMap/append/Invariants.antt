@@ -1,0 +1,15 @@
+use Rattle.std.proofs.Common.{◌≡◌, length}
+use Rattle.btree_shape.specs.TreeState.{pairs_of}
+use Rattle.btree_map.specs.Extension.{Moves, inserted_all}
+use Rattle.btree_map.proofs.map.BTreeMap.append.Given as goal
+
+abbrev pub invariant-loop-key : goal.invariant-loop-key
+invariant-loop-key g l =
+    (l.self.refusals ≡ l.fn.self.refusals)
+    × (l.other.refusals ≡ l.fn.other.refusals)
+    × (inserted_all g.K.Ord.cmp (pairs_of l.self) (pairs_of l.other) ≡ inserted_all g.K.Ord.cmp (pairs_of l.fn.self) (pairs_of l.fn.other))
+    × ((x : _) (new : _) (rest : _) → Moves g.K.Ord.cmp (pairs_of l.self) (pairs_of l.other) x new rest
+    → Moves g.K.Ord.cmp (pairs_of l.fn.self) (pairs_of l.fn.other) x new rest)
+
+abbrev pub decreases-loop-key : goal.decreases-loop-key
+decreases-loop-key g l = length (pairs_of l.other)

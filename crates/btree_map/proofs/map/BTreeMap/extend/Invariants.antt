@@ -1,0 +1,15 @@
+use Rattle.std.proofs.Common.{◌≡◌}
+use Rattle.std.specs.Iterator.{IsFinite, size}
+use Rattle.btree_shape.specs.TreeState.{pairs_of}
+use Rattle.btree_map.specs.Extension.{Extends}
+use Rattle.btree_map.proofs.map.BTreeMap.extend.Given as goal
+
+abbrev pub invariant-loop-key : goal.invariant-loop-key
+invariant-loop-key g l =
+    (g.I.Iterator.can_next l.source × IsFinite (g.I.Iterator.remaining l.source))
+    × (l.self.refusals ≡ l.fn.self.refusals)
+    × ((r : _) (n : _) (t : _) → Extends g.K.Ord.cmp g.I.Iterator.next_gives (pairs_of l.self) l.source r n t
+    → Extends g.K.Ord.cmp g.I.Iterator.next_gives (pairs_of l.fn.self) l.fn.source r n t)
+
+abbrev pub decreases-loop-key : goal.decreases-loop-key
+decreases-loop-key g l = size (g.I.Iterator.remaining l.source)

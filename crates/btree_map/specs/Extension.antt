@@ -1,0 +1,43 @@
+-- What insertions of many pairs, one after another, leave of a list.
+-- Read `inserted_all` first: `extend`, `from_iter` and `append` cite it. `Extends` says how far an iterator was stepped,
+-- and `Moves` the same of the list that `append` takes pairs from. `IsRefusedInTurn` is the refusal of one of the pairs.
+use Rattle.std.specs.Prelude.{◌≡◌, ℕ, List, [], ◌∷◌, ◌++◌, Option, None, option_map}
+use Rattle.std.specs.Borrow.{Bor}
+use Rattle.std.specs.Iterator.{YieldsThen}
+use Rattle.std.specs.declared.cmp.Ordering.{Ordering}
+use Rattle.btree_store.specs.Content.{Content}
+use Rattle.btree_item.specs.Pairs.{found, inserted}
+use Rattle.btree_item.specs.declared.refused.Cause.{Cause}
+use Rattle.btree_node.specs.declared.node.Node.{Node}
+use Rattle.btree_shape.specs.TreeState.{TreeState, pairs_of}
+use Rattle.btree_edit.specs.Insert.{IsRefusedAtGap}
+
+module _ {K V : Type 0} (cmp : K → K → Ordering) where
+  -- the list after the insertion of each pair of the second list, in order
+  abbrev pub inserted_all : List (K × V) → List (K × V) → List (K × V)
+  inserted_all xs [] = xs
+  inserted_all xs (p ∷ ps) = inserted_all (inserted cmp p.0 p.1 xs) ps
+
+  -- an iterator gave pairs, which were inserted, and then the outcome: `None`, or a pair that was not inserted. It still
+  -- has what comes after
+  pub record Extends {S : Type 0} (steps : S → Option (K × V) → S → Type 0) (old : List (K × V)) (source : S) (outcome : Option (K × V)) (new : List (K × V)) (rest : S) : Type 0 where
+    pub given : List (K × V)
+    pub yields : YieldsThen steps source given outcome rest
+    pub pairs : new ≡ inserted_all old given
+
+  -- the first pairs of `other` were inserted; then comes a pair that was not inserted, and `rest` is what comes after
+  pub record Moves (old other : List (K × V)) (x : K × V) (new rest : List (K × V)) : Type 0 where
+    pub given : List (K × V)
+    pub split : other ≡ given ++ x ∷ rest
+    pub pairs : new ≡ inserted_all old given
+
+  -- the insertion of an absent key was refused, when the store had counted `count` refusals; nothing has changed since
+  pub record IsRefusedInTurn (MayRefuse : Content (Node K V) → Type 0) (k : K) (count : ℕ) (new : TreeState K V) (cause : Cause) : Type 0 where
+    pub before : TreeState K V
+    pub uncounted : before.refusals ≡ count
+    pub absent : found cmp k (pairs_of before) ≡ None
+    pub refused : IsRefusedAtGap cmp k before new MayRefuse cause
+
+-- the steps of an iterator that lends keys and values, as steps that give copies
+abbrev pub copied_steps : {S K V : Type 0} → (S → Option (Bor K × Bor V) → S → Type 0) → S → Option (K × V) → S → Type 0
+copied_steps {K = K} {V = V} steps s r t = (lent : Option (Bor K × Bor V)) × steps s lent t × (r ≡ option_map (λ p. (p.0.now, p.1.now)) lent)

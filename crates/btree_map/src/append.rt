@@ -1,0 +1,52 @@
+//! Moving the pairs of one map into another.
+ghost use Rattle.std.specs.Prelude.{◌≡◌, ◌≢◌, [], IfErr, OnErr, OnOk};
+ghost use Rattle.btree_shape.specs.TreeState.{pairs_of};
+ghost use Rattle.btree_map.specs.Extension.{IsRefusedInTurn, Moves, inserted_all};
+
+use crate::BTreeMap;
+use btree_ext::BTreeExt;
+use btree_item::Refused;
+use btree_nodes::NodesMut;
+use std::mem;
+
+impl<K: Ord + Drop, V: Drop, C: NodesMut<K, V>> BTreeMap<K, V, C> {
+    /// Moves the pairs of `other` into this map. Where both have a key, this map keeps its own and gets the value of `other`.
+    ///
+    /// If this map is empty, the two are swapped, with their stores. Otherwise the pairs come from the front of `other`, one at a time, as
+    /// `insert` inserts them. The first one that is refused is returned: those before it are in this map, and those after it are still in
+    /// `other`.
+    pub fn append(&mut self, other: &mut Self) -> Result<(), Refused<K, V>>
+        ensures appended { OnOk result (pairs_of self.new ≡
+            inserted_all K.cmp (pairs_of self.old) (pairs_of other.old)) }
+        ensures emptied { OnOk result (pairs_of other.new ≡ []) }
+        ensures unchanged { pairs_of other.old ≡ [] → (self.new ≡ self.old) × (other.new ≡ other.old) }
+        ensures swapped { pairs_of self.old ≡ [] → pairs_of other.old ≢ [] →
+            (self.new ≡ other.old) × (other.new ≡ self.old) }
+        ensures uncounted { OnOk result (pairs_of self.old ≢ [] →
+            self.new.refusals ≡ self.old.refusals) }
+        ensures other_uncounted { pairs_of self.old ≢ [] → other.new.refusals ≡ other.old.refusals }
+
+        ensures stopped { IfErr result (λ r. Moves K.cmp (pairs_of self.old)
+            (pairs_of other.old) (r.key, r.value) (pairs_of self.new) (pairs_of other.new)) }
+        ensures had_pairs { OnErr result (pairs_of self.old ≢ []) }
+        ensures cause { IfErr result (λ r.
+            IsRefusedInTurn K.cmp C.MayRefuse r.key self.old.refusals self.new r.cause) }
+    {
+        if other.is_empty() {
+            return Ok(());
+        }
+        if self.is_empty() {
+            // For the prover: the tree is well formed, so its keys ascend.
+            let _root = other.root_id();
+            mem::swap(self, other);
+            return Ok(());
+        }
+        while let Some((key, value)) = other.pop_first() {
+            match self.insert(key, value) {
+                Ok(replaced) => drop(replaced),
+                Err(refused) => return Err(refused),
+            }
+        }
+        Ok(())
+    }
+}
