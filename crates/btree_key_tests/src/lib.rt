@@ -1,5 +1,7 @@
-//! Tests of look-up by key, and of comparison and hash of maps.
+//! Tests of look-up by key, of clones, and of comparison and hash of maps.
 #![tactic(auto)]
 
+#[cfg(test)]
+mod clones;
 #[cfg(test)]
 mod keys;

@@ -1,0 +1,77 @@
+//! Clones of maps: the same pairs on the same nodes.
+use btree_ext::BTreeExt;
+use btree_map::BTreeMap;
+use btree_node::Node;
+use btree_nodes::NodesMut;
+use btree_refusing::Refusing;
+use btree_store::SlabStore;
+use std::alloc::Global;
+use std::process::Abort;
+use std::test::Fail;
+
+type Map = BTreeMap<u64, u64, SlabStore<Node<u64, u64>>>;
+
+// Inserts the keys from 0 on, with the values 10 times the keys.
+fn put_first_keys<C: NodesMut<u64, u64>>(
+    rt: &impl Abort,
+    map: &mut BTreeMap<u64, u64, C>,
+    count: u64,
+) {
+    for key in 0..count {
+        assert!(rt; map.insert(key, key.wrapping_mul(10)).is_ok());
+    }
+}
+
+// Both have the same root, and each key at the same address.
+fn check_same_nodes<C: NodesMut<u64, u64>>(
+    rt: &impl Abort,
+    map: &BTreeMap<u64, u64, C>,
+    copy: &BTreeMap<u64, u64, C>,
+    count: u64,
+) {
+    assert_eq!(rt; copy.root_id(), map.root_id());
+    assert_eq!(rt; copy.node_count(), map.node_count());
+    assert_eq!(rt; copy.len(), map.len());
+    for key in 0..count {
+        assert_eq!(rt; copy.get(&key), Some(&key.wrapping_mul(10)));
+        assert!(rt; copy.address_of(&key) == map.address_of(&key), "{key}");
+    }
+}
+
+// Nine keys are in two leaves under a root. What is done to the clone leaves the original as it was.
+#[test]
+fn clones_a_tree_of_two_levels(rt: HostRuntime) -> Result<(), Fail> {
+    let mut map: Map = BTreeMap::new(rt.alloc());
+    put_first_keys(&rt, &mut map, 9);
+    let mut copy = map.clone()?;
+    assert_eq!(rt; (copy.len(), copy.height(), copy.node_count()), (9, 2, 3));
+    assert!(rt; copy == map && copy.validate().is_ok());
+    check_same_nodes(&rt, &map, &copy, 9);
+    assert_eq!(rt; copy.remove(&4), Some(40));
+    assert_eq!(rt; (copy.get(&4), map.get(&4)), (None, Some(&40)));
+    assert_eq!(rt; (copy.len(), map.len()), (8, 9));
+    Ok(())
+}
+
+#[test]
+fn clones_an_empty_map(rt: HostRuntime) -> Result<(), Fail> {
+    let map: Map = BTreeMap::new(rt.alloc());
+    let copy = map.clone()?;
+    assert_eq!(rt; (copy.len(), copy.root_id(), copy.node_count()), (0, None, 0));
+    Ok(())
+}
+
+// While the memory of the clone is refused there is none, and the map stays as it is; afterwards there is one.
+#[test]
+fn a_refused_clone_changes_nothing(rt: HostRuntime) -> Result<(), Fail> {
+    let memory = Refusing::over(rt.alloc(), 0);
+    let mut map: BTreeMap<u64, u64, SlabStore<Node<u64, u64>, &Refusing<Global>>> =
+        BTreeMap::new(&memory);
+    put_first_keys(&rt, &mut map, 9);
+    memory.refuse(1);
+    assert!(rt; map.clone().is_err());
+    assert_eq!(rt; memory.refuses(), 0);
+    let copy = map.clone()?;
+    check_same_nodes(&rt, &map, &copy, 9);
+    Ok(())
+}
