@@ -1,8 +1,18 @@
 //! Look-up, insertion and removal in whole trees, and the tests of a key at an address, by keys that count how often they are compared.
-use btree_counted::Counted;
+ghost use Rattle.std.specs.Prelude.{◌≡◌, ◌+◌};
+ghost use Rattle.std.specs.Ordering.{nat_cmp, on};
+ghost use Rattle.btree_item.specs.Pairs.{Ascends};
+ghost use Rattle.btree_node.specs.Node.{view_of};
+ghost use Rattle.btree_view.specs.LookUp.{comparisons_in};
+ghost use Rattle.btree_view.specs.View.{items_of};
+ghost use Rattle.btree_shape.specs.TreeState.{IsUsed};
+ghost use Rattle.btree_find.specs.Levels.{comparisons_from};
+
+use btree_counted::{COMPARISONS, Counted, promised_comparisons};
 use btree_ext::{BTreeExt, BTreeExtMut, Tree};
-use btree_item::Address;
+use btree_item::{Address, Offset};
 use btree_node::Node;
+use btree_steps::Steps;
 use btree_store::SlabStore;
 use std::alloc::Global;
 use std::cell::Cell;
@@ -28,6 +38,170 @@ fn odd_keys<'a>(rt: &impl Abort, compared: &'a Cell<u32>, alloc: Global) -> Coun
         check_count(rt, &tree, compared, number);
     }
     tree
+}
+
+// Returns how many keys in a node are smaller than a number, and whether the number is one of them.
+fn place_in(node: &Node<Counted<'_>, u32>, number: u32) -> (usize, bool) {
+    let mut smaller = 0usize;
+    for index in 0..node.item_count() {
+        let Some(item) = node.item(Offset::from(index)) else {
+            return (smaller, false);
+        };
+        let held = item.key().number;
+        if held >= number {
+            return (smaller, held == number);
+        }
+        smaller = smaller.wrapping_add(1);
+    }
+    (smaller, false)
+}
+
+// Returns how many keys a search from a node down is to compare: the sum of what the table has for the nodes on its path.
+fn expected_from(rt: &impl Abort, tree: &CountedTree<'_>, top: usize, number: u32) -> usize {
+    let mut id = top;
+    let mut total = 0usize;
+    for _ in 0..tree.height() {
+        assert!(rt; tree.has_node(id));
+        let node = tree.node(id);
+        let len = node.item_count();
+        let (smaller, is_there) = place_in(node, number);
+        assert!(rt; len < 10 && smaller < 10);
+        total = total.wrapping_add(COMPARISONS[len][smaller]);
+        match node.child_id_opt(smaller) {
+            Some(child) if !is_there => id = child,
+            _ => return total,
+        }
+    }
+    panic!(rt; "{number} is sought below the leaves")
+}
+
+fn sum(rt: &impl Abort, left: usize, right: usize) -> usize
+    ensures { result ≡ left + right }
+{
+    match left.checked_add(right) {
+        Some(sum) => sum,
+        None => panic!(rt; "too many"),
+    }
+}
+
+// Returns how many keys a look-up in a node promises to compare.
+fn promised_in<'a>(node: &Node<Counted<'a>, u32>, key: &Counted<'a>) -> usize
+    requires { Ascends (on (λ key. key.number) nat_cmp) (items_of (view_of node.now)) }
+    ensures { result ≡ comparisons_in (on (λ key. key.number) nat_cmp) key.now (view_of node.now) }
+{
+    let len = node.item_count();
+    match node.offset_of(key) {
+        Ok(offset) => promised_comparisons(len, offset.value().unwrap_or(0)),
+        Err((smaller, _)) => promised_comparisons(len, smaller),
+    }
+}
+
+// Returns how many keys a search from a node down promises to compare.
+fn promised_from<'a>(
+    rt: &impl Abort,
+    tree: &CountedTree<'a>,
+    top: usize,
+    key: &Counted<'a>,
+) -> usize
+    requires { IsUsed tree.now top }
+    ensures { result ≡ comparisons_from (on (λ key. key.number) nat_cmp) key.now tree.now top }
+{
+    // For the prover: the tree is well formed.
+    let _root = tree.root_id();
+    let mut id = top;
+    let mut total = 0usize;
+    loop {
+        let node = tree.node(id);
+        total = sum(rt, total, promised_in(node, key));
+        match node.offset_of(key) {
+            Ok(_offset) => return total,
+            Err((_, Some(child))) => id = child,
+            Err((_, None)) => return total,
+        }
+    }
+}
+
+// Searches with a counter, and returns also how many comparisons the key counted. It ticks as often.
+fn address_counted<'a>(
+    rt: &impl Abort,
+    tree: &CountedTree<'a>,
+    key: &Counted<'a>,
+    steps: &mut Steps,
+) -> (Result<Address, Address>, usize)
+    ensures { steps.new.count ≡ steps.old.count + result.1 }
+{
+    key.compared.set(0);
+    let found = tree.address_of_counted(key, steps);
+    let compared = key.compared.get() as usize;
+    let Some(root) = tree.root_id() else {
+        panic!(rt; "no root");
+    };
+    assert!(rt; tree.has_node(root));
+    assert_eq!(rt; promised_from(rt, tree, root, key), compared);
+    (found, compared)
+}
+
+// Each of the keys and each number between is searched for, with a counter and without one.
+#[test]
+fn compares_as_many_keys_as_promised(rt: HostRuntime) {
+    let compared = Cell::new(0);
+    let tree = odd_keys(&rt, &compared, rt.alloc());
+    let Some(root) = tree.root_id() else {
+        panic!(rt; "no root");
+    };
+    for number in 0..89u32 {
+        let key = Counted {
+            number,
+            compared: &compared,
+        };
+        let expected = expected_from(&rt, &tree, root, number);
+        assert!(rt; expected <= 6 * tree.height(), "at {number}");
+        let mut steps = Steps::new();
+        let (found, ticks) = address_counted(&rt, &tree, &key, &mut steps);
+        assert_eq!(rt; ticks, expected, "at {number}");
+        compared.set(0);
+        assert!(rt; tree.address_of(&key) == found, "at {number}");
+        assert_eq!(rt; compared.get() as usize, expected, "at {number}");
+    }
+}
+
+// Checks the calls under a node, which is in the tree, with one number.
+fn check_under<'a>(
+    rt: &impl Abort,
+    tree: &mut CountedTree<'a>,
+    compared: &'a Cell<u32>,
+    id: usize,
+    number: u32,
+) {
+    let promised = expected_from(rt, tree, id, number);
+    let key = Counted { number, compared };
+    compared.set(0);
+    assert!(rt; tree.has_node(id));
+    let is_there = tree.address_in(id, &key).is_ok();
+    assert_eq!(rt; compared.get() as usize, promised, "{number} in {id}");
+    compared.set(0);
+    assert_eq!(rt; tree.get_in(&key, id).is_some(), is_there);
+    assert!(rt; compared.get() as usize <= promised, "{number} in {id}");
+    compared.set(0);
+    assert!(rt; !is_there || tree.key_fits_in(id, &key), "{number} in {id}");
+    assert!(rt; compared.get() <= 2, "{number} in {id}");
+    compared.set(0);
+    assert_eq!(rt; tree.get_mut_in(&key, id).is_some(), is_there);
+    assert!(rt; compared.get() as usize <= promised, "{number} in {id}");
+}
+
+// Each of the keys and each number between is searched for under each of the twelve nodes.
+#[test]
+fn compares_no_more_keys_under_a_node_than_promised(rt: HostRuntime) {
+    let compared = Cell::new(0);
+    let mut tree = odd_keys(&rt, &compared, rt.alloc());
+    assert_eq!(rt; tree.node_count(), 12);
+    for id in 0..12usize {
+        assert!(rt; tree.has_node(id));
+        for number in 0..89u32 {
+            check_under(&rt, &mut tree, &compared, id, number);
+        }
+    }
 }
 
 // Returns the value at the address of a key that is there.
