@@ -1,0 +1,4 @@
+pub mod EntryLemmas
+pub mod ListLemmas
+pub mod SameEntry
+pub mod WrittenLemmas

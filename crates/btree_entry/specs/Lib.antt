@@ -1,0 +1,3 @@
+pub mod Entry
+pub mod Lent
+pub mod Written
