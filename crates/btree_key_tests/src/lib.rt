@@ -1,5 +1,9 @@
-//! Tests of look-up by key, and of comparison and hash of maps.
+//! Tests of look-up by key, of entries, and of comparison and hash of maps.
 #![tactic(auto)]
 
 #[cfg(test)]
+mod entries;
+#[cfg(test)]
 mod keys;
+#[cfg(test)]
+mod refused;

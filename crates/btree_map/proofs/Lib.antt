@@ -1,1 +1,5 @@
+pub mod EntryLemmas
+pub mod ListLemmas
 pub mod RemovalLemmas
+pub mod SameEntry
+pub mod WrittenLemmas

@@ -1,2 +1,5 @@
 pub mod Comparison
+pub mod Entry
+pub mod Lent
 pub mod Removal
+pub mod Written

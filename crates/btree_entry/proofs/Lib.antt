@@ -1,4 +1,0 @@
-pub mod EntryLemmas
-pub mod ListLemmas
-pub mod SameEntry
-pub mod WrittenLemmas

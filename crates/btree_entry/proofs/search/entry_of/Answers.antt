@@ -1,6 +1,0 @@
-use Rattle.btree_entry.proofs.EntryLemmas.{found-writes}
-use Rattle.btree_entry.proofs.search.entry_of.Goals as goal
-
-pub returns-in-Ok-clause-writes : goal.returns-in-Ok-clause-writes
-returns-in-Ok-clause-writes g c w =
-    found-writes g.K.Ord.cmp g.met.K.Ord.total c.args.tree.now c.args.key c.in-Ok.at c.in-Ok.ensures w

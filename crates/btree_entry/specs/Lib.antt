@@ -1,3 +1,0 @@
-pub mod Entry
-pub mod Lent
-pub mod Written
