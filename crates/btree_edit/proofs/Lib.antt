@@ -12,3 +12,4 @@ pub mod RemoveAtLemmas
 pub mod RemoveInnerLemmas
 pub mod RemoveByKeyLemmas
 pub mod ReplaceByKeyLemmas
+pub mod AbsentLemmas

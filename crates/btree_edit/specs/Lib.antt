@@ -1,7 +1,9 @@
 pub mod Exchange
 pub mod Insert
+pub mod InsertAbsent
 pub mod InsertAt
 pub mod KeyWritten
 pub mod Remove
 pub mod Replace
 pub mod ValueWritten
+pub mod WrittenLaws

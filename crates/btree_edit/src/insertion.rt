@@ -5,6 +5,7 @@ ghost use Rattle.btree_item.specs.Pairs.{found, found_value, inserted};
 ghost use Rattle.btree_shape.specs.TreeState.{IsBTree, nodes_needed, pairs_of};
 ghost use Rattle.btree_raw.specs.Insertion.{IsRefused};
 ghost use Rattle.btree_edit.specs.Insert.{IsGapFor, IsInserted, IsRefusedAtGap, InsertsByKey};
+ghost use Rattle.btree_edit.specs.InsertAbsent.{InsertsAbsent, IsGapOf};
 
 use crate::values::exchange;
 use btree_find::address_of;
@@ -119,6 +120,25 @@ pub fn insert_at_gap<K: Ord + Drop, V: Drop, C: NodesMut<K, V>>(
         None => insert_first(tree, addr, item),
         Some(_) => insert_more(tree, addr, item),
     }
+}
+
+/// Inserts a pair whose key is not there at the address of its gap, which `address_of` returns. Returns the address of the pair. A refusal
+/// returns the pair, and nothing but the count of refusals changes. It compares no keys.
+pub fn insert_absent<K: Ord + Drop, V: Drop, C: NodesMut<K, V>>(
+    tree: &mut RawBTree<K, V, C>,
+    gap: Address,
+    key: K,
+    value: V,
+) -> Result<Address, Refused<K, V>>
+    requires tree { IsBTree K.cmp tree.old }
+    requires absent { found K.cmp key (pairs_of tree.old) ≡ None }
+    requires gap { IsGapOf K.cmp key tree.old gap }
+    ensures inserted { IfOk result (λ b. InsertsAbsent K.cmp key tree.old tree.new value b) }
+    ensures returned { IfErr result (λ r. (r.key ≡ key) × (r.value ≡ value)) }
+    ensures cause { IfErr result (λ r.
+        IsRefusedAtGap K.cmp key tree.old tree.new C.MayRefuse r.cause) }
+{
+    insert_at_gap(tree, gap, Item::new(key, value))
 }
 
 /// Inserts a pair by its key, or replaces the value if the key is there: the stored key stays, and the given one is dropped. Returns the

@@ -8,7 +8,7 @@ mod removal;
 mod replacement;
 mod values;
 
-pub use insertion::{insert, insert_at_gap};
+pub use insertion::{insert, insert_absent, insert_at_gap};
 pub use insertion_at::{insert_at, insert_exactly_at};
 pub use removal::{remove_at, remove_entry};
 pub use replacement::{replace, replace_at};

@@ -4,7 +4,7 @@ ghost use Rattle.std.specs.Borrow.{Lends, LendsIf, sem};
 ghost use Rattle.std.specs.Option.{option_copied_mut};
 ghost use Rattle.btree_item.specs.Pairs.{found_value};
 ghost use Rattle.btree_item.specs.declared.address.Address.{Address};
-ghost use Rattle.btree_shape.specs.TreeState.{IsLeafAddressIn, IsOccupiedIn, IsUsed, IsValidIn, item_of};
+ghost use Rattle.btree_shape.specs.TreeState.{IsBTree, IsLeafAddressIn, IsOccupiedIn, IsUsed, IsValidIn, item_of};
 ghost use Rattle.btree_find.specs.Fits.{FitsAt, ReplacesAt, pairs_below};
 ghost use Rattle.btree_edit.specs.Exchange.{IsExchanged, IsValueExchanged};
 ghost use Rattle.btree_edit.specs.InsertAt.{InsertsAt, IsRefusedAt};
@@ -46,7 +46,8 @@ pub trait BTreeExtMut<K: Ord + Drop, V: Drop>: BTreeExt<K, V> {
             (Lends Self.row V.row self.entry result.1 (with_value self.old addr)) }
         ensures pair { item_of (Self.state self.old) addr ≡ Some (result.0.now, result.1.now) }
         ensures exchanged { (w : V) → IsValueExchanged (Self.state self.old)
-            (Self.state (with_value self.old addr w)) addr K.cmp result.1.now w };
+            (Self.state (with_value self.old addr w)) addr K.cmp result.1.now w }
+        ensures well_formed { IsBTree K.cmp (Self.state self.old) };
 
     /// Returns the value at a key under a node for writing, or `None` if the key is not there. What is written replaces the value, and
     /// nothing else changes: the stored key stays, and so does every address.

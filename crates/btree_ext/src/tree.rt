@@ -6,8 +6,8 @@ ghost use Rattle.btree_node.specs.contracts.node.Node.{the_row as node_row};
 use crate::ext::BTreeExt;
 use crate::ext_mut::BTreeExtMut;
 use btree_edit::{
-    exchange, get_mut, get_mut_in, insert, insert_at, insert_exactly_at, pair_mut, remove_at,
-    remove_entry, replace, replace_at,
+    exchange, get_mut, get_mut_in, insert, insert_absent, insert_at, insert_exactly_at, pair_mut,
+    remove_at, remove_entry, replace, replace_at,
 };
 use btree_find::get;
 use btree_item::{Address, Item, Refused};
@@ -110,6 +110,7 @@ impl<K: Ord + Drop, V: Drop, C: NodesMut<K, V>> Tree<K, V, C> {
     ghost use Rattle.btree_item.specs.Pairs.{found, found_value, inserted};
     ghost use Rattle.btree_shape.specs.TreeState.{pairs_of};
     ghost use Rattle.btree_edit.specs.Insert.{IsRefusedAtGap, InsertsByKey};
+    ghost use Rattle.btree_edit.specs.InsertAbsent.{InsertsAbsent, IsGapOf};
     ghost use Rattle.btree_edit.specs.Remove.{RemovesByKey};
     ghost use Rattle.btree_edit.specs.Replace.{ReplacesByKey, replaced};
 
@@ -130,6 +131,26 @@ impl<K: Ord + Drop, V: Drop, C: NodesMut<K, V>> Tree<K, V, C> {
             IsRefusedAtGap K.cmp key self.old self.new C.MayRefuse r.cause) }
     {
         insert(&mut self.raw, key, value)
+    }
+
+    /// Inserts a pair whose key is not there at the address of its gap, which `address_of` returns. Returns the address of the pair. It
+    /// compares no keys.
+    ///
+    /// It uses the same nodes as `insert`, and returns the same errors.
+    pub fn insert_absent(
+        &mut self,
+        gap: Address,
+        key: K,
+        value: V,
+    ) -> Result<Address, Refused<K, V>>
+        requires absent { found K.cmp key (pairs_of self.old) ≡ None }
+        requires gap { IsGapOf K.cmp key self.old gap }
+        ensures inserted { IfOk result (λ b. InsertsAbsent K.cmp key self.old self.new value b) }
+        ensures returned { IfErr result (λ r. (r.key ≡ key) × (r.value ≡ value)) }
+        ensures cause { IfErr result (λ r.
+            IsRefusedAtGap K.cmp key self.old self.new C.MayRefuse r.cause) }
+    {
+        insert_absent(&mut self.raw, gap, key, value)
     }
 
     /// Inserts a pair, or replaces key and value if an equal key is there. Returns the pair that was replaced.

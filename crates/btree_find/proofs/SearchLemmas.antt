@@ -77,7 +77,7 @@ module _ {K V : Type 0} (cmp : K → K → Ordering) (k : K) (laws : IsTotalOrde
   pairs = pairs_of s
 
   -- a gap in a leaf
-  gap-at : (a : Address) (place : ℕ) → IsValidIn s a → place_of cmp k pairs ≡ Err place → IsPlaceIn s a place → IsLeafAddressIn s a
+  pub gap-at : (a : Address) (place : ℕ) → IsValidIn s a → place_of cmp k pairs ≡ Err place → IsPlaceIn s a place → IsLeafAddressIn s a
       → IsSome a.offset → IsGapAt cmp k s a
   gap-at a place valid is at in_leaf back =
       record {

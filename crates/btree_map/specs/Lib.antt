@@ -1,3 +1,6 @@
 pub mod Comparison
+pub mod Entry
+pub mod Lent
 pub mod Removal
 pub mod Extension
+pub mod Written

@@ -108,6 +108,7 @@ impl<K: Ord + Drop, V: Drop, C: NodesMut<K, V>> BTreeMap<K, V, C> {
     ghost use Rattle.btree_item.specs.Pairs.{found, found_value, inserted};
     ghost use Rattle.btree_shape.specs.TreeState.{pairs_of};
     ghost use Rattle.btree_edit.specs.Insert.{IsRefusedAtGap, InsertsByKey};
+    ghost use Rattle.btree_edit.specs.InsertAbsent.{InsertsAbsent, IsGapOf};
     ghost use Rattle.btree_edit.specs.Remove.{RemovesByKey};
     ghost use Rattle.btree_edit.specs.Replace.{ReplacesByKey, replaced};
 
@@ -128,6 +129,23 @@ impl<K: Ord + Drop, V: Drop, C: NodesMut<K, V>> BTreeMap<K, V, C> {
             IsRefusedAtGap K.cmp key self.old self.new C.MayRefuse r.cause) }
     {
         self.tree.insert(key, value)
+    }
+
+    // Inserts a pair whose key is not there at the address of its gap, as `Tree::insert_absent` does.
+    pub(crate) fn insert_absent(
+        &mut self,
+        gap: Address,
+        key: K,
+        value: V,
+    ) -> Result<Address, Refused<K, V>>
+        requires absent { found K.cmp key (pairs_of self.old) ≡ None }
+        requires gap { IsGapOf K.cmp key self.old gap }
+        ensures inserted { IfOk result (λ b. InsertsAbsent K.cmp key self.old self.new value b) }
+        ensures returned { IfErr result (λ r. (r.key ≡ key) × (r.value ≡ value)) }
+        ensures cause { IfErr result (λ r.
+            IsRefusedAtGap K.cmp key self.old self.new C.MayRefuse r.cause) }
+    {
+        self.tree.insert_absent(gap, key, value)
     }
 
     /// Inserts a pair, or replaces key and value if an equal key is there. Returns the pair that was replaced.

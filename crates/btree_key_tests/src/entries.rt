@@ -1,0 +1,219 @@
+//! Entries of a map: values inserted, changed and removed after one search.
+ghost use Rattle.std.specs.Prelude.{◌≡◌, OnOk};
+ghost use Rattle.btree_item.specs.Pairs.{inserted};
+ghost use Rattle.btree_shape.specs.TreeState.{pairs_of};
+
+use btree_ext::BTreeExt;
+use btree_item::Refused;
+use btree_map::{BTreeMap, Entry};
+use btree_node::Node;
+use btree_nodes::NodesMut;
+use btree_store::SlabStore;
+use std::alloc::Global;
+use std::process::Abort;
+use std::test::Fail;
+
+type Counts = BTreeMap<&'static str, u64, SlabStore<Node<&'static str, u64>>>;
+
+type Map = BTreeMap<u64, u64, SlabStore<Node<u64, u64>>>;
+
+// Sets the value at a key, for any keys and any store, whether the key is there or not.
+fn put<K: Ord + Drop, C: NodesMut<K, u64>>(
+    map: &mut BTreeMap<K, u64, C>,
+    key: K,
+    value: u64,
+) -> Result<(), Refused<K, u64>>
+    ensures { OnOk result (pairs_of map.new ≡ inserted K.cmp key value (pairs_of map.old)) }
+{
+    let lent = map.entry(key).or_insert(0)?;
+    *lent = value;
+    Ok(())
+}
+
+#[test]
+fn counts_calls_of_a_name(rt: HostRuntime) {
+    let mut map: Counts = BTreeMap::new(rt.alloc());
+    for count in [42, 43] {
+        match map
+            .entry("poneyland")
+            .and_modify(|n| *n = n.wrapping_add(1))
+            .or_insert(42)
+        {
+            Ok(value) => assert_eq!(rt; *value, count),
+            Err(_) => panic!(rt; "refused"),
+        }
+        assert_eq!(rt;
+            (map.len(), map.get(&"poneyland").copied()),
+            (1, Some(count))
+        );
+    }
+}
+
+// How often a letter was met: 2 s, 3 t, 1 u in the text, and no y.
+#[test]
+fn counts_letters(rt: HostRuntime) {
+    let mut map: BTreeMap<char, u64, SlabStore<Node<char, u64>>> = BTreeMap::new(rt.alloc());
+    for letter in "a short treatise on fungi".chars() {
+        match map.entry(letter).or_insert(0) {
+            Ok(count) => *count = count.wrapping_add(1),
+            Err(_) => panic!(rt; "refused"),
+        }
+    }
+    for (letter, count) in [('s', Some(2)), ('t', Some(3)), ('u', Some(1)), ('y', None)] {
+        assert_eq!(rt; map.get(&letter).copied(), count, "{letter}");
+    }
+}
+
+// Raises what is lent, and returns it; 0 if the insertion was refused.
+fn raised<K: Drop>(lent: Result<&mut u64, Refused<K, u64>>, by: u64) -> u64 {
+    match lent {
+        Ok(value) => {
+            *value = value.wrapping_add(by);
+            *value
+        }
+        Err(_) => 0,
+    }
+}
+
+#[test]
+fn inserts_what_a_closure_returns(rt: HostRuntime) {
+    let mut map: Counts = BTreeMap::new(rt.alloc());
+    assert_eq!(rt; raised(map.entry("health").or_insert(100), 0), 100);
+    assert_eq!(rt; raised(map.entry("defence").or_insert_with(|| 42), 0), 42);
+    assert_eq!(rt; raised(map.entry("attack").or_insert(100), 42), 142);
+    assert_eq!(rt; raised(map.entry("attack").or_insert_with(|| 7), 0), 142);
+    let length = map
+        .entry("poneyland")
+        .or_insert_with_key(|key| key.len() as u64);
+    assert_eq!(rt; raised(length, 0), 9);
+    assert_eq!(rt;
+        (
+            map.len(),
+            map.get(&"attack").copied(),
+            map.get(&"health").copied()
+        ),
+        (4, Some(142), Some(100))
+    );
+}
+
+#[test]
+fn inserts_the_default_value(rt: HostRuntime) {
+    let mut map: BTreeMap<u64, Option<usize>, SlabStore<Node<u64, Option<usize>>>> = BTreeMap::new(
+        rt.alloc(),
+    );
+    match map.entry(3).or_default() {
+        Ok(value) => {
+            assert_eq!(rt; *value, None);
+            *value = Some(8);
+        }
+        Err(_) => panic!(rt; "refused"),
+    }
+    match map.entry(3).or_default() {
+        Ok(value) => assert_eq!(rt; *value, Some(8)),
+        Err(_) => panic!(rt; "refused"),
+    }
+}
+
+#[test]
+fn shows_entries(rt: HostRuntime) -> Result<(), Fail> {
+    let mut map: Map = BTreeMap::new(rt.alloc());
+    let vacant = format!(in rt.alloc(); "{:?}", map.entry(1))?;
+    assert_eq!(rt; vacant.as_str(), "VacantEntry(1)");
+    assert_eq!(rt; map.insert(1, 2).ok(), Some(None));
+    let occupied = format!(in rt.alloc(); "{:?}", map.entry(1))?;
+    assert_eq!(rt; occupied.as_str(), "OccupiedEntry { key: 1, value: 2 }");
+    Ok(())
+}
+
+// Returns the map of the keys from 0 on, with the values 10 times the keys.
+fn first_keys(rt: &impl Abort, alloc: Global, count: u64) -> Map {
+    let mut map: Map = BTreeMap::new(alloc);
+    for key in 0..count {
+        assert!(rt; put(&mut map, key, key.wrapping_mul(10)).is_ok());
+    }
+    map
+}
+
+#[test]
+fn reads_and_writes_an_occupied_entry(rt: HostRuntime) -> Result<(), Fail> {
+    let mut map = first_keys(&rt, rt.alloc(), 9);
+    let found = map.address_of(&4).ok();
+    assert_eq!(rt; *map.entry(4).key(), 4);
+    assert_eq!(rt; Some(map.entry(4).address()), found);
+    match map.entry(4) {
+        Entry::Occupied(mut entry) => {
+            assert_eq!(rt;
+                (Some(entry.address()), *entry.key(), *entry.get()),
+                (found, 4, 40)
+            );
+            assert_eq!(rt; entry.insert(41), 40);
+            *entry.get_mut() = 42;
+            assert_eq!(rt; *entry.get(), 42);
+            *entry.into_mut() = 43;
+        }
+        Entry::Vacant(_) => return Err(Fail::from("4 is not there")),
+    }
+    assert_eq!(rt; (map.len(), map.get(&4).copied()), (9, Some(43)));
+    Ok(())
+}
+
+#[test]
+fn inserts_into_a_vacant_entry(rt: HostRuntime) -> Result<(), Fail> {
+    let mut map = first_keys(&rt, rt.alloc(), 9);
+    let gap = map.address_of(&9).err();
+    assert_eq!(rt;
+        (Some(map.entry(9).address()), *map.entry(9).key()),
+        (gap, 9)
+    );
+    match map.entry(9) {
+        Entry::Vacant(entry) => {
+            assert_eq!(rt; (Some(entry.address()), *entry.key()), (gap, 9));
+            assert_eq!(rt; entry.into_key(), 9);
+        }
+        Entry::Occupied(_) => return Err(Fail::from("9 is there")),
+    }
+    assert_eq!(rt; (map.len(), map.get(&9).copied()), (9, None));
+    match map.entry(9) {
+        Entry::Vacant(entry) => assert_eq!(rt; raised(entry.insert(90), 1), 91),
+        Entry::Occupied(_) => return Err(Fail::from("9 is there")),
+    }
+    assert_eq!(rt; (map.len(), map.get(&9).copied()), (10, Some(91)));
+    Ok(())
+}
+
+#[test]
+fn removes_by_entries(rt: HostRuntime) -> Result<(), Fail> {
+    let mut map = first_keys(&rt, rt.alloc(), 44);
+    match map.entry(20) {
+        Entry::Occupied(entry) => assert_eq!(rt; entry.remove(), 200),
+        Entry::Vacant(_) => return Err(Fail::from("20 is not there")),
+    }
+    match map.entry(21) {
+        Entry::Occupied(entry) => assert_eq!(rt; entry.remove_entry(), (21, 210)),
+        Entry::Vacant(_) => return Err(Fail::from("21 is not there")),
+    }
+    assert_eq!(rt; (map.len(), map.get(&20), map.get(&21)), (42, None, None));
+    assert!(rt; map.validate().is_ok());
+    Ok(())
+}
+
+// Removes the pairs at both ends in turn, until there are none.
+#[test]
+fn takes_the_first_and_the_last_entry(rt: HostRuntime) {
+    let mut map = first_keys(&rt, rt.alloc(), 20);
+    for key in 0..10u64 {
+        let first = map.first_entry().map(|entry| entry.remove_entry());
+        assert_eq!(rt; first, Some((key, key.wrapping_mul(10))));
+        let last = 19u64.wrapping_sub(key);
+        let back = map.last_entry().map(|entry| entry.remove_entry());
+        assert_eq!(rt; back, Some((last, last.wrapping_mul(10))));
+    }
+    assert_eq!(rt;
+        (
+            map.len(),
+            map.first_entry().is_none(),
+            map.last_entry().is_none()
+        ),
+        (0, true, true)
+    );
+}

@@ -1,0 +1,146 @@
+//! Insertions by entries while the store has no memory.
+use btree_ext::BTreeExt;
+use btree_item::{Cause, Refused};
+use btree_map::{BTreeMap, Entry};
+use btree_node::Node;
+use btree_nodes::NodesMut;
+use btree_refusing::Refusing;
+use btree_store::SlabStore;
+use std::alloc::Global;
+use std::process::Abort;
+use std::test::Fail;
+
+// Writes the pairs of one node, its number and those of its parent and children.
+fn write_node(
+    text: &mut String,
+    node: &Node<u64, u64>,
+    id: usize,
+    alloc: Global,
+) -> Result<(), Fail> {
+    text.push_str(format!(in alloc; "{id} under {:?}:", node.parent())?.as_str())?;
+    for index in 0..node.item_count() {
+        if let Some(item) = node.item(index.into()) {
+            text.push_str(format!(in alloc; " {}={}", item.key(), item.value())?.as_str())?;
+        }
+    }
+    for index in 0..node.child_count() {
+        text.push_str(format!(in alloc; " {:?}", node.child_id_opt(index))?.as_str())?;
+    }
+    text.push('\n')?;
+    Ok(())
+}
+
+// Returns the root's number, the length and every node as text.
+fn content_of<C: NodesMut<u64, u64>>(
+    map: &BTreeMap<u64, u64, C>,
+    alloc: Global,
+) -> Result<String, Fail> {
+    let mut text = format!(in alloc; "{:?} {} {}\n", map.root_id(), map.len(), map.node_count())?;
+    for id in 0..64 {
+        if map.has_node(id) {
+            write_node(&mut text, map.node(id), id, alloc)?;
+        }
+    }
+    Ok(text)
+}
+
+// The calls of an entry that insert.
+#[derive(Clone, Copy, Debug, PartialEq)]
+enum Way {
+    OrInsert,
+    OrInsertWith,
+    OrInsertWithKey,
+    OrDefault,
+    Insert,
+}
+
+// Inserts a key with the value 0 in one of the ways.
+fn put_by<C: NodesMut<u64, u64>>(
+    map: &mut BTreeMap<u64, u64, C>,
+    way: Way,
+    key: u64,
+) -> Result<u64, Refused<u64, u64>> {
+    let entry = map.entry(key);
+    let lent = match way {
+        Way::OrInsert => entry.or_insert(0)?,
+        Way::OrInsertWith => entry.or_insert_with(|| 0)?,
+        Way::OrInsertWithKey => entry.or_insert_with_key(|_| 0)?,
+        Way::OrDefault => entry.or_default()?,
+        Way::Insert => match entry {
+            Entry::Vacant(vacant) => vacant.insert(0)?,
+            Entry::Occupied(occupied) => occupied.into_mut(),
+        },
+    };
+    Ok(*lent)
+}
+
+// Inserts a key while the next allocation is refused: with an error nothing has changed, and the error does not occur again. Returns
+// whether it occurred.
+fn is_refused<C: NodesMut<u64, u64> + Drop>(
+    rt: &impl Abort,
+    map: &mut BTreeMap<u64, u64, C>,
+    memory: &Refusing<Global>,
+    way: Way,
+    key: u64,
+    alloc: Global,
+) -> Result<bool, Fail> {
+    let old = content_of(map, alloc)?;
+    memory.refuse(1);
+    let result = put_by(map, way, key);
+    let met = memory.refuses() == 0;
+    memory.refuse(0);
+    match result {
+        Ok(value) => assert_eq!(rt; (value, met), (0, false), "{way:?} {key}"),
+        Err(refused) => {
+            assert_eq!(rt;
+                (refused.cause, refused.key, refused.value, met),
+                (Cause::Store, key, 0, true)
+            );
+            assert_eq!(rt; content_of(map, alloc)?.as_str(), old.as_str());
+            assert_eq!(rt; put_by(map, way, key).ok(), Some(0));
+        }
+    }
+    assert_eq!(rt; map.len() as u64, key.wrapping_add(1));
+    Ok(met)
+}
+
+// Inserts the keys from 0 to 63, each first without memory. Returns how many were refused.
+fn count_refused<C: NodesMut<u64, u64> + Drop>(
+    rt: &impl Abort,
+    origin: C::Origin,
+    memory: &Refusing<Global>,
+    way: Way,
+    alloc: Global,
+) -> Result<u64, Fail> {
+    let mut map: BTreeMap<u64, u64, C> = BTreeMap::new(origin);
+    let mut count = 0u64;
+    for key in 0..64 {
+        if is_refused(rt, &mut map, memory, way, key, alloc)? {
+            count = count.wrapping_add(1);
+        }
+    }
+    Ok(count)
+}
+
+// The store grows for the 1st node and for the 17th. The 64th key uses two nodes, and there are 15.
+#[test]
+fn a_refused_insertion_changes_nothing(rt: HostRuntime) -> Result<(), Fail> {
+    for way in [
+        Way::OrInsert,
+        Way::OrInsertWith,
+        Way::OrInsertWithKey,
+        Way::OrDefault,
+        Way::Insert,
+    ] {
+        let memory = Refusing::over(rt.alloc(), 0);
+        let count = count_refused::<SlabStore<Node<u64, u64>, &Refusing<Global>>>(
+            &rt,
+            &memory,
+            &memory,
+            way,
+            rt.alloc(),
+        )?;
+        assert_eq!(rt; count, 2, "{way:?}");
+    }
+    Ok(())
+}

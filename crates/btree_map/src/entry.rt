@@ -1,0 +1,42 @@
+//! The types of entries.
+ghost use Rattle.std.specs.Prelude.{◌≡◌, None, IsSome};
+ghost use Rattle.btree_item.specs.Pairs.{found};
+ghost use Rattle.btree_shape.specs.TreeState.{item_of, pairs_of};
+ghost use Rattle.btree_edit.specs.InsertAbsent.{IsGapOf};
+
+mod calls;
+mod modify;
+mod occupied;
+mod shown;
+mod vacant;
+
+use crate::BTreeMap;
+use btree_item::Address;
+use btree_nodes::NodesMut;
+
+/// The entry of a key in a map, from one search.
+#[derive(Drop)]
+pub enum Entry<'a, K: Ord, V, C: NodesMut<K, V>> {
+    /// The key is not there.
+    Vacant(VacantEntry<'a, K, V, C>),
+    /// The key is there.
+    Occupied(OccupiedEntry<'a, K, V, C>),
+}
+
+/// The entry of a key that is not there, with the place where it would be.
+#[derive(Drop)]
+pub struct VacantEntry<'a, K: Ord, V, C: NodesMut<K, V>> {
+    pub(crate) map: &'a mut BTreeMap<K, V, C>,
+    pub(crate) key: K,
+    pub(crate) gap: Address,
+    ghost absent: { found K.cmp key (pairs_of map.now) ≡ None },
+    ghost stands: { IsGapOf K.cmp key map.now gap },
+}
+
+/// The entry of a key that is there.
+#[derive(Drop)]
+pub struct OccupiedEntry<'a, K: Ord, V, C: NodesMut<K, V>> {
+    pub(crate) map: &'a mut BTreeMap<K, V, C>,
+    pub(crate) at: Address,
+    ghost occupied: { IsSome (item_of map.now at) },
+}

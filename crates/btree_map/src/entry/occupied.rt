@@ -1,0 +1,124 @@
+//! An entry whose key is there.
+ghost use mir.Syntax.{named};
+ghost use Rattle.std.specs.Prelude.{◌≡◌, [], IsSome, Some, option_map};
+ghost use Rattle.std.specs.Borrow.{Lends, sem};
+ghost use Rattle.btree_shape.specs.TreeState.{item_of};
+ghost use Rattle.btree_edit.specs.ValueWritten.{value_written};
+ghost use Rattle.btree_map.specs.Entry.{with_entry_value};
+ghost use Rattle.btree_map.specs.Written.{RemovesAt, WritesValueAt};
+ghost use Rattle.btree_map.specs.contracts.entry.OccupiedEntry.{the_row as occupied_row};
+ghost use Rattle.btree_map.specs.contracts.map.BTreeMap.{the_row};
+
+use super::OccupiedEntry;
+use crate::BTreeMap;
+use btree_ext::{BTreeExt, BTreeExtMut};
+use btree_item::Address;
+use btree_nodes::NodesMut;
+use std::mem;
+
+// Removes the item at an address.
+fn take_at<K: Ord + Drop, V: Drop, C: NodesMut<K, V>>(
+    map: &mut BTreeMap<K, V, C>,
+    addr: Address,
+) -> (K, V)
+    requires { IsSome (item_of map.old addr) }
+    ensures { RemovesAt K.cmp map.old map.new addr result }
+{
+    match map.remove_at(addr) {
+        Some((item, _)) => item.into_pair(),
+        None => unreachable!(),
+    }
+}
+
+impl<'a, K: Ord, V, C: NodesMut<K, V>> OccupiedEntry<'a, K, V, C> {
+    /// Returns the address of the pair.
+    pub fn address(&self) -> Address
+        ensures { result ≡ self.now.at }
+    {
+        self.at
+    }
+
+    /// Returns the stored key.
+    pub fn key(&self) -> &K
+        ensures { option_map (λ x. x.0) (item_of self.now.map.now self.now.at) ≡ Some result.now }
+    {
+        match self.map.item(self.at) {
+            Some(item) => item.key(),
+            None => unreachable!(),
+        }
+    }
+
+    /// Returns the value.
+    pub fn get(&self) -> &V
+        ensures { option_map (λ x. x.1) (item_of self.now.map.now self.now.at) ≡ Some result.now }
+    {
+        match self.map.item(self.at) {
+            Some(item) => item.value(),
+            None => unreachable!(),
+        }
+    }
+}
+
+impl<'a, K: Ord + Drop, V: Drop, C: NodesMut<K, V>> OccupiedEntry<'a, K, V, C> {
+    /// Returns the value for writing. What is written replaces the value, and nothing else changes: the stored key stays, and so does every
+    /// address. See `into_mut` for a value that outlives the entry.
+    pub fn get_mut(&mut self) -> &mut V
+        ensures* writes_back { sem 𝓛 (Lends
+            (occupied_row (record { mir = named 1; lft = [] }) K.row V.row C.row C.Origin.row
+            (record { cmp = K.cmp }) (record { eq = K.eq }) (record { partial_cmp = K.partial_cmp })
+            (record { MayRefuse = C.MayRefuse; Fits = C.Fits; written = C.written })
+            (record { content = C.content; refusals = C.refusals; CanHold = C.CanHold }))
+            V.row self.entry result (with_entry_value self.old)) }
+        ensures value { option_map (λ x. x.1) (item_of self.old.map.now self.old.at) ≡ Some result.now }
+        ensures writes { (w : V) → WritesValueAt K.cmp self.old.map.now
+            (value_written self.old.map.now self.old.at w) self.old.at result.now w }
+    {
+        let at = self.at;
+        let (_key, value) = self.map.pair_mut(at);
+        value
+    }
+
+    /// Replaces the value, and returns the old one. The stored key stays, and so does every address.
+    pub fn insert(&mut self, value: V) -> V
+        ensures written { self.new ≡ with_entry_value self.old value }
+        ensures writes { WritesValueAt K.cmp self.old.map.now
+            self.new.map.now self.old.at result value }
+    {
+        mem::replace(self.get_mut(), value)
+    }
+
+    /// Returns the value for writing, for as long as the map is lent. What is written replaces the value, and nothing else changes: the
+    /// stored key stays, and so does every address.
+    pub fn into_mut(self) -> &'a mut V
+        ensures* writes_back { sem 𝓛 (Lends
+            (the_row K.row V.row C.row C.Origin.row
+            (record { cmp = K.cmp }) (record { eq = K.eq }) (record { partial_cmp = K.partial_cmp })
+            (record { MayRefuse = C.MayRefuse; Fits = C.Fits; written = C.written })
+            (record { content = C.content; refusals = C.refusals; CanHold = C.CanHold }))
+            V.row self.entry.map result (value_written self.entry.map.now self.entry.at)) }
+        ensures value { option_map (λ x. x.1) (item_of self.entry.map.now self.entry.at) ≡ Some result.now }
+        ensures writes { (w : V) → WritesValueAt K.cmp self.entry.map.now
+            (value_written self.entry.map.now self.entry.at w) self.entry.at result.now w }
+    {
+        let OccupiedEntry { map, at } = self;
+        let (_key, value) = map.pair_mut(at);
+        value
+    }
+
+    /// Removes the pair, and returns its value. The stored key is dropped. It frees at most as many nodes as the map has levels.
+    pub fn remove(self) -> V
+        ensures { (key : K) × RemovesAt K.cmp self.entry.map.now self.exit.0.now
+            self.entry.at (key, result) }
+    {
+        let (_key, value) = self.remove_entry();
+        value
+    }
+
+    /// Removes the pair, and returns it. It compares no keys, frees at most as many nodes as the map has levels and cannot fail.
+    pub fn remove_entry(self) -> (K, V)
+        ensures { RemovesAt K.cmp self.entry.map.now self.exit.0.now self.entry.at result }
+    {
+        let at = self.at;
+        take_at(self.map, at)
+    }
+}

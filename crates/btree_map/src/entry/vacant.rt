@@ -1,0 +1,68 @@
+//! An entry whose key is not there.
+ghost use Rattle.std.specs.Prelude.{◌≡◌, IfErr, IfOk};
+ghost use Rattle.std.specs.Borrow.{LendsSoOk, sem};
+ghost use Rattle.btree_edit.specs.Insert.{IsRefusedAtGap};
+ghost use Rattle.btree_map.specs.Written.{IsInsertedWith};
+ghost use Rattle.btree_map.specs.contracts.map.BTreeMap.{the_row};
+
+use super::VacantEntry;
+use btree_ext::BTreeExtMut;
+use btree_item::{Address, Refused};
+use btree_nodes::NodesMut;
+
+impl<'a, K: Ord, V, C: NodesMut<K, V>> VacantEntry<'a, K, V, C> {
+    /// Returns the back address in a leaf at which the key would be inserted, or nowhere if there are no pairs.
+    pub fn address(&self) -> Address
+        ensures { result ≡ self.now.gap }
+    {
+        self.gap
+    }
+
+    /// Returns the key that was asked for.
+    pub fn key(&self) -> &K
+        ensures { result.now ≡ self.now.key }
+    {
+        &self.key
+    }
+
+    /// Gives back the key that was asked for. The map is unchanged.
+    pub fn into_key(self) -> K
+        ensures key { result ≡ self.entry.key }
+        ensures unchanged { self.exit.0.now ≡ self.entry.map.now }
+    {
+        let VacantEntry {
+            map: _,
+            key,
+            gap: _,
+        } = self;
+        key
+    }
+}
+
+impl<'a, K: Ord + Drop, V: Drop, C: NodesMut<K, V>> VacantEntry<'a, K, V, C> {
+    /// Inserts the key with a value, and lends the value for writing. It compares no keys.
+    ///
+    /// It uses the same nodes as an insertion by key, and returns the same errors, with key and value.
+    pub fn insert(self, value: V) -> Result<&'a mut V, Refused<K, V>>
+        ensures* writes_back { sem 𝓛 (LendsSoOk
+            (the_row K.row V.row C.row C.Origin.row
+            (record { cmp = K.cmp }) (record { eq = K.eq }) (record { partial_cmp = K.partial_cmp })
+            (record { MayRefuse = C.MayRefuse; Fits = C.Fits; written = C.written })
+            (record { content = C.content; refusals = C.refusals; CanHold = C.CanHold }))
+            V.row self.entry.map result
+            (λ new w. IsInsertedWith K.cmp self.entry.key self.entry.map.now new value w)
+            (λ new. IfErr result (λ r.
+            IsRefusedAtGap K.cmp self.entry.key self.entry.map.now new C.MayRefuse r.cause))) }
+        ensures value { IfOk result (λ v. v.now ≡ value) }
+        ensures returned { IfErr result (λ r. (r.key ≡ self.entry.key) × (r.value ≡ value)) }
+    {
+        let VacantEntry { map, key, gap } = self;
+        match map.insert_absent(gap, key, value) {
+            Ok(addr) => {
+                let (_key, lent) = map.pair_mut(addr);
+                Ok(lent)
+            }
+            Err(refused) => Err(refused),
+        }
+    }
+}
