@@ -57,7 +57,10 @@ fn clones_a_tree_of_two_levels(rt: HostRuntime) -> Result<(), Fail> {
 fn clones_an_empty_map(rt: HostRuntime) -> Result<(), Fail> {
     let map: Map = BTreeMap::new(rt.alloc());
     let copy = map.clone()?;
-    assert_eq!(rt; (copy.len(), copy.root_id(), copy.node_count()), (0, None, 0));
+    assert_eq!(rt;
+        (copy.len(), copy.root_id(), copy.node_count()),
+        (0, None, 0)
+    );
     Ok(())
 }
 
@@ -65,8 +68,9 @@ fn clones_an_empty_map(rt: HostRuntime) -> Result<(), Fail> {
 #[test]
 fn a_refused_clone_changes_nothing(rt: HostRuntime) -> Result<(), Fail> {
     let memory = Refusing::over(rt.alloc(), 0);
-    let mut map: BTreeMap<u64, u64, SlabStore<Node<u64, u64>, &Refusing<Global>>> =
-        BTreeMap::new(&memory);
+    let mut map: BTreeMap<u64, u64, SlabStore<Node<u64, u64>, &Refusing<Global>>> = BTreeMap::new(
+        &memory,
+    );
     put_first_keys(&rt, &mut map, 9);
     memory.refuse(1);
     assert!(rt; map.clone().is_err());
