@@ -109,6 +109,26 @@ fn leaves_of(rt: &impl Abort, map: &Map, alloc: Global) -> Result<String, Fail> 
     Ok(text)
 }
 
+// The pairs are inserted in their order.
+#[test]
+fn a_hundred_pairs_use_twenty_nodes(rt: HostRuntime) -> Result<(), Fail> {
+    let pairs = items(rt.alloc())?;
+    let (map, list) = maps_of(&rt, &pairs, 100, rt.alloc())?;
+    check_list(&rt, &map, &list);
+    assert_eq!(rt; (map.len(), map.node_count(), map.height()), (100, 20, 3));
+    let Some(root) = map.root_id() else {
+        return Err(Fail::from("no root"));
+    };
+    assert!(rt; map.has_node(root));
+    let node = map.node(root);
+    assert_eq!(rt; node.item_count(), 2);
+    for (index, key) in [(0usize, 4199), (1, 7850)] {
+        let item = node.item(Offset::from(index));
+        assert_eq!(rt; item.map(|item| *item.key()), Some(key));
+    }
+    Ok(())
+}
+
 #[test]
 fn removes_all_pairs_in_two_orders(rt: HostRuntime) -> Result<(), Fail> {
     let pairs = items(rt.alloc())?;
@@ -244,6 +264,20 @@ fn removal_merges_up_to_the_root(rt: HostRuntime) -> Result<(), Fail> {
     Ok(())
 }
 
+// Returns the numbers of the two leaves under a root.
+fn two_leaves(rt: &impl Abort, map: &Map) -> Result<(usize, usize), Fail> {
+    let Some(root) = map.root_id() else {
+        return Err(Fail::from("no root"));
+    };
+    assert!(rt; map.has_node(root));
+    let node = map.node(root);
+    assert_eq!(rt; node.child_count(), 2);
+    match (node.child_id_opt(0), node.child_id_opt(1)) {
+        (Some(left), Some(right)) => Ok((left, right)),
+        _ => Err(Fail::from("no leaves")),
+    }
+}
+
 #[test]
 fn puts_back_the_item_of_an_internal_node(rt: HostRuntime) -> Result<(), Fail> {
     let mut map: Map = BTreeMap::new(rt.alloc());
@@ -264,9 +298,13 @@ fn puts_back_the_item_of_an_internal_node(rt: HostRuntime) -> Result<(), Fail> {
         (*item.key(), Some(back.id), back.offset.value()),
         (4, right, Some(0))
     );
-    put(&rt, &mut map, Address::new(back.id, back.offset), 4, 4);
+    let leaves = leaves_of(&rt, &map, rt.alloc())?;
+    assert_eq!(rt; (leaves.as_str(), map.len()), ("(3) 3 (4)", 8));
+    let at = put(&rt, &mut map, back, 4, 4);
+    assert_eq!(rt; (Some(at.id), at.offset.value()), (right, Some(0)));
     let leaves = leaves_of(&rt, &map, rt.alloc())?;
     assert_eq!(rt; leaves.as_str(), "(3) 3 (5)");
+    assert_eq!(rt; (map.len(), map.node_count()), (9, 3));
     Ok(())
 }
 
@@ -295,11 +333,42 @@ fn answers_the_address_that_the_next_item_moves_to(rt: HostRuntime) -> Result<()
     Ok(())
 }
 
+// Both leaves have three items, so that they are merged into the left one. The address past the end of the right one goes with its item's place.
+#[test]
+fn answers_the_end_of_the_merged_leaf(rt: HostRuntime) -> Result<(), Fail> {
+    let mut map: Map = BTreeMap::new(rt.alloc());
+    for key in 0..9u64 {
+        assert!(rt; map.insert(key, key).is_ok());
+    }
+    assert_eq!(rt; (map.remove(&8), map.remove(&3)), (Some(8), Some(3)));
+    let (left, right) = two_leaves(&rt, &map)?;
+    let addr = Address::new(right, Offset::from(2));
+    assert!(rt; map.is_valid(Address::new(addr.id, addr.offset)));
+    let Some((item, back)) = map.remove_at(addr) else {
+        return Err(Fail::from("nothing there"));
+    };
+    assert_eq!(rt;
+        (*item.key(), back.id, back.offset.value()),
+        (7, left, Some(6))
+    );
+    assert_eq!(rt;
+        (map.root_id(), map.node_count(), map.height(), map.len()),
+        (Some(left), 1, 1, 6)
+    );
+    let mut keys = map.iter();
+    for key in [0, 1, 2, 4, 5, 6] {
+        assert_eq!(rt; keys.next(), Some((&key, &key)));
+    }
+    assert_eq!(rt; keys.next(), None);
+    Ok(())
+}
+
 #[test]
 fn removes_nothing_where_no_item_is(rt: HostRuntime) -> Result<(), Fail> {
     let mut map: Map = BTreeMap::new(rt.alloc());
     assert!(rt; map.is_valid(Address::nowhere()));
     assert!(rt; map.remove_at(Address::nowhere()).is_none());
+    assert_eq!(rt; (map.len(), map.root_id()), (0, None));
     assert!(rt; map.insert(3, 30).is_ok() && map.insert(5, 50).is_ok());
     let Some(root) = map.root_id() else {
         return Err(Fail::from("no root"));
