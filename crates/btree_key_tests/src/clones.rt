@@ -2,7 +2,7 @@
 use btree_ext::BTreeExt;
 use btree_map::BTreeMap;
 use btree_node::Node;
-use btree_nodes::NodesMut;
+use btree_nodes::{CloneNodes, NodesMut};
 use btree_refusing::Refusing;
 use btree_store::SlabStore;
 use std::alloc::Global;
@@ -65,17 +65,23 @@ fn clones_an_empty_map(rt: HostRuntime) -> Result<(), Fail> {
 }
 
 // While the memory of the clone is refused there is none, and the map stays as it is; afterwards there is one.
-#[test]
-fn a_refused_clone_changes_nothing(rt: HostRuntime) -> Result<(), Fail> {
-    let memory = Refusing::over(rt.alloc(), 0);
-    let mut map: BTreeMap<u64, u64, SlabStore<Node<u64, u64>, &Refusing<Global>>> = BTreeMap::new(
-        &memory,
-    );
-    put_first_keys(&rt, &mut map, 9);
+fn check_refused<C: CloneNodes<u64, u64> + Drop>(
+    rt: &impl Abort,
+    origin: C::Origin,
+    memory: &Refusing<Global>,
+) -> Result<(), Fail> {
+    let mut map: BTreeMap<u64, u64, C> = BTreeMap::new(origin);
+    put_first_keys(rt, &mut map, 9);
     memory.refuse(1);
     assert!(rt; map.clone().is_err());
     assert_eq!(rt; memory.refuses(), 0);
     let copy = map.clone()?;
-    check_same_nodes(&rt, &map, &copy, 9);
+    check_same_nodes(rt, &map, &copy, 9);
     Ok(())
+}
+
+#[test]
+fn a_refused_clone_changes_nothing(rt: HostRuntime) -> Result<(), Fail> {
+    let memory = Refusing::over(rt.alloc(), 0);
+    check_refused::<SlabStore<Node<u64, u64>, &Refusing<Global>>>(&rt, &memory, &memory)
 }
