@@ -1,5 +1,9 @@
-//! Tests of look-up by key, and of comparison and hash of maps.
+//! Tests of look-up by key, of comparison and hash of maps, and of insertions of many pairs.
 #![tactic(auto)]
 
 #[cfg(test)]
+mod extension;
+#[cfg(test)]
 mod keys;
+#[cfg(test)]
+mod named;
