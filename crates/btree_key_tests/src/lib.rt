@@ -1,4 +1,4 @@
-//! Tests of look-up by key, of clones, of entries, and of comparison and hash of maps.
+//! Tests of look-up by key, of clones, of entries, of insertions of many pairs, and of comparison and hash of maps.
 #![tactic(auto)]
 
 #[cfg(test)]
@@ -6,6 +6,10 @@ mod clones;
 #[cfg(test)]
 mod entries;
 #[cfg(test)]
+mod extension;
+#[cfg(test)]
 mod keys;
+#[cfg(test)]
+mod named;
 #[cfg(test)]
 mod refused;
