@@ -64,36 +64,45 @@ fn counts_letters(rt: HostRuntime) {
     }
 }
 
-// Raises what is lent, and returns it; 0 if the insertion was refused.
-fn raised<K: Drop>(lent: Result<&mut u64, Refused<K, u64>>, by: u64) -> u64 {
-    match lent {
-        Ok(value) => {
-            *value = value.wrapping_add(by);
-            *value
-        }
-        Err(_) => 0,
+#[test]
+fn inserts_what_is_given(rt: HostRuntime) {
+    let mut map: Counts = BTreeMap::new(rt.alloc());
+    match map.entry("health").or_insert(100) {
+        Ok(value) => assert_eq!(rt; *value, 100),
+        Err(_) => panic!(rt; "refused"),
     }
+    match map.entry("attack").or_insert(100) {
+        Ok(value) => *value = value.wrapping_add(42),
+        Err(_) => panic!(rt; "refused"),
+    }
+    assert_eq!(rt;
+        (
+            map.len(),
+            map.get(&"health").copied(),
+            map.get(&"attack").copied()
+        ),
+        (2, Some(100), Some(142))
+    );
 }
 
 #[test]
 fn inserts_what_a_closure_returns(rt: HostRuntime) {
     let mut map: Counts = BTreeMap::new(rt.alloc());
-    assert_eq!(rt; raised(map.entry("health").or_insert(100), 0), 100);
-    assert_eq!(rt; raised(map.entry("defence").or_insert_with(|| 42), 0), 42);
-    assert_eq!(rt; raised(map.entry("attack").or_insert(100), 42), 142);
-    assert_eq!(rt; raised(map.entry("attack").or_insert_with(|| 7), 0), 142);
-    let length = map
+    match map.entry("defence").or_insert_with(|| 42) {
+        Ok(value) => assert_eq!(rt; *value, 42),
+        Err(_) => panic!(rt; "refused"),
+    }
+    match map.entry("defence").or_insert_with(|| 7) {
+        Ok(value) => assert_eq!(rt; *value, 42),
+        Err(_) => panic!(rt; "refused"),
+    }
+    match map
         .entry("poneyland")
-        .or_insert_with_key(|key| key.len() as u64);
-    assert_eq!(rt; raised(length, 0), 9);
-    assert_eq!(rt;
-        (
-            map.len(),
-            map.get(&"attack").copied(),
-            map.get(&"health").copied()
-        ),
-        (4, Some(142), Some(100))
-    );
+        .or_insert_with_key(|key| key.len() as u64)
+    {
+        Ok(value) => assert_eq!(rt; *value, 9),
+        Err(_) => panic!(rt; "refused"),
+    }
 }
 
 #[test]
@@ -158,13 +167,11 @@ fn reads_and_writes_an_occupied_entry(rt: HostRuntime) -> Result<(), Fail> {
 }
 
 #[test]
-fn inserts_into_a_vacant_entry(rt: HostRuntime) -> Result<(), Fail> {
+fn reads_a_vacant_entry(rt: HostRuntime) -> Result<(), Fail> {
     let mut map = first_keys(&rt, rt.alloc(), 9);
     let gap = map.address_of(&9).err();
-    assert_eq!(rt;
-        (Some(map.entry(9).address()), *map.entry(9).key()),
-        (gap, 9)
-    );
+    assert_eq!(rt; *map.entry(9).key(), 9);
+    assert_eq!(rt; Some(map.entry(9).address()), gap);
     match map.entry(9) {
         Entry::Vacant(entry) => {
             assert_eq!(rt; (Some(entry.address()), *entry.key()), (gap, 9));
@@ -173,8 +180,17 @@ fn inserts_into_a_vacant_entry(rt: HostRuntime) -> Result<(), Fail> {
         Entry::Occupied(_) => return Err(Fail::from("9 is there")),
     }
     assert_eq!(rt; (map.len(), map.get(&9).copied()), (9, None));
+    Ok(())
+}
+
+#[test]
+fn inserts_into_a_vacant_entry(rt: HostRuntime) -> Result<(), Fail> {
+    let mut map = first_keys(&rt, rt.alloc(), 9);
     match map.entry(9) {
-        Entry::Vacant(entry) => assert_eq!(rt; raised(entry.insert(90), 1), 91),
+        Entry::Vacant(entry) => match entry.insert(90) {
+            Ok(value) => *value = value.wrapping_add(1),
+            Err(_) => panic!(rt; "refused"),
+        },
         Entry::Occupied(_) => return Err(Fail::from("9 is there")),
     }
     assert_eq!(rt; (map.len(), map.get(&9).copied()), (10, Some(91)));

@@ -122,7 +122,21 @@ fn count_refused<C: NodesMut<u64, u64> + Drop>(
     Ok(count)
 }
 
-// The store grows for the 1st node and for the 17th. The 64th key uses two nodes, and there are 15.
+// Returns how many times memory is allocated while the keys from 0 to 63 are inserted by `BTreeMap::insert`.
+fn count_allocated<C: NodesMut<u64, u64> + Drop>(
+    rt: &impl Abort,
+    origin: C::Origin,
+    memory: &Refusing<Global>,
+) -> u64 {
+    let mut map: BTreeMap<u64, u64, C> = BTreeMap::new(origin);
+    memory.refuse(1000);
+    for key in 0..64 {
+        assert!(rt; map.insert(key, 0).is_ok());
+    }
+    1000u64.wrapping_sub(memory.refuses())
+}
+
+// Each allocation of the store is refused once.
 #[test]
 fn a_refused_insertion_changes_nothing(rt: HostRuntime) -> Result<(), Fail> {
     for way in [
@@ -133,6 +147,10 @@ fn a_refused_insertion_changes_nothing(rt: HostRuntime) -> Result<(), Fail> {
         Way::Insert,
     ] {
         let memory = Refusing::over(rt.alloc(), 0);
+        let all = count_allocated::<SlabStore<Node<u64, u64>, &Refusing<Global>>>(
+            &rt, &memory, &memory,
+        );
+        assert!(rt; all > 0);
         let count = count_refused::<SlabStore<Node<u64, u64>, &Refusing<Global>>>(
             &rt,
             &memory,
@@ -140,7 +158,7 @@ fn a_refused_insertion_changes_nothing(rt: HostRuntime) -> Result<(), Fail> {
             way,
             rt.alloc(),
         )?;
-        assert_eq!(rt; count, 2, "{way:?}");
+        assert_eq!(rt; count, all, "{way:?}");
     }
     Ok(())
 }

@@ -1,5 +1,5 @@
 -- Two occupied entries with the same map and address are equal.
-use Rattle.std.proofs.Common.{◌≡◌, IsSome, is_some}
+use Rattle.std.proofs.Common.{◌≡◌, IsSome}
 use Rattle.std.proofs.Math.Bool.{Bool-set}
 use Rattle.std.specs.Borrow.{MutBor}
 use Rattle.std.specs.declared.cmp.Ord as ord
