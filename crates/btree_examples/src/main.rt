@@ -1,4 +1,4 @@
-//! Maps in use: a stock of parts, by part number, and bookings of a room (`bookings.rt`).
+//! Maps in use: a stock of parts, by part number, bookings of a room (`bookings.rt`), and a count of words (`words.rt`).
 #![tactic(auto)]
 
 ghost use Rattle.std.specs.Prelude.{◌≡◌, ◌+◌, OnOk, OnErr, unwrap_or};
@@ -7,12 +7,14 @@ ghost use Rattle.btree_item.specs.Pairs.{found_value, inserted};
 ghost use Rattle.btree_shape.specs.TreeState.{IsValidIn, pairs_of};
 
 mod bookings;
+mod words;
 
 use crate::bookings::{book_and_cancel, count_overlaps, three_bookings};
+use crate::words::count_word;
 use btree_slab::BTreeMap;
 use btree_slab::generic::map::{BTreeExt, BTreeExtMut, Refused};
 use btree_slab::generic::node::Address;
-use std::alloc::AllocError;
+use std::alloc::{AllocError, Global};
 use std::io;
 
 /// Sets how many of a part are in stock.
@@ -52,6 +54,20 @@ fn take_and_put_back(
     Ok(Some(count))
 }
 
+/// Prints how often each of a few words occurs.
+fn print_counts(rt: &impl Print, alloc: Global) -> io::Result<()> {
+    let mut counts: BTreeMap<&'static str, u64> = BTreeMap::new(alloc);
+    for word in ["to", "be", "or", "not", "to", "be"] {
+        let Ok(_) = count_word(&mut counts, word) else {
+            return Err(AllocError.into());
+        };
+    }
+    for (word, count) in counts.iter() {
+        rt.println(format_args!("{word}: {count}"))?;
+    }
+    Ok(())
+}
+
 fn main(rt: HostRuntime) -> io::Result<()> {
     let mut stock: BTreeMap<u32, u64> = BTreeMap::new(rt.alloc());
     for (part, count) in [(408, 20), (17, 350), (1203, 4), (17, 349)] {
@@ -83,5 +99,5 @@ fn main(rt: HostRuntime) -> io::Result<()> {
         let count = count_overlaps(&bookings, start, end);
         rt.println(format_args!("bookings from {start} to {end}: {count}"))?;
     }
-    Ok(())
+    print_counts(&rt, rt.alloc())
 }
