@@ -1,11 +1,14 @@
 -- An insertion at an address: the gap at the address in a leaf at its place, and what the insertion there leaves.
-use Rattle.std.proofs.Common.{◌≡◌, ℕ, Option, Some, None, IsSome, refl, sym, subst, option_and_then, arith}
+use Rattle.std.proofs.Common.{◌≡◌, ◌≢◌, ℕ, false, Option, Some, None, IsSome, refl, sym, subst, option_and_then, arith}
 use Rattle.std.specs.List.{remove}
 use Rattle.std.specs.Cmp.{IsTotalOrder}
 use Rattle.std.specs.declared.cmp.Ordering.{Ordering}
 use Rattle.btree_item.proofs.PairEdits.{remove-insert}
 use Rattle.btree_item.specs.declared.address.Address.{Address}
-use Rattle.btree_view.specs.View.{item_in}
+use Rattle.btree_view.specs.Edits.{is_internal}
+use Rattle.btree_view.specs.View.{View, NodeMap, leaf, internal, item_in}
+use Rattle.btree_shape.specs.Place.{IsLeaf}
+use Rattle.btree_raw.specs.Steps.{CanAddItem}
 use Rattle.btree_shape.specs.TreeState.{TreeState, IsBTree, IsPlaceIn, node_map, pairs_of}
 use Rattle.btree_shape.proofs.Trees.ValidPlaces.{place-valid}
 use Rattle.btree_find.specs.Fits.{FitsAt}
@@ -19,6 +22,17 @@ use Rattle.btree_edit.proofs.LevelLemmas.{need-levels}
 offset-there : {X : Type 0} (at : ℕ → Option X) (x : X) (offset : Option ℕ) → option_and_then at offset ≡ Some x → IsSome offset
 offset-there at x None e = absurd (cc)
 offset-there at x (Some n) e = refl
+
+-- a node that takes an item without a child is a leaf
+kind-leaf : {A : Type 0} (node_at : NodeMap A) (v : View A) → false ≡ is_internal v → IsLeaf node_at (Some v)
+kind-leaf node_at (leaf p xs) kind = tt
+kind-leaf node_at (internal p u bs) kind = absurd (cc)
+
+pub can-leaf : {K V : Type 0} (s : TreeState K V) (id index : ℕ) → CanAddItem (node_map s) id index None → IsLeaf (node_map s) (node_map s id)
+can-leaf s id index can = subst (λ v. IsLeaf (node_map s) v) (sym can.here) (kind-leaf (node_map s) can.node can.kind)
+
+pub rooted : {K V : Type 0} (s : TreeState K V) (root : ℕ) → s.root ≡ Some root → s.root ≢ None
+rooted s root e none = absurd (cc)
 
 module _ {K V : Type 0} (cmp : K → K → Ordering) (laws : IsTotalOrder cmp) (old : TreeState K V) (tree : IsBTree cmp old) (x : K × V)
     (a : Address) (fits : FitsAt cmp x.0 old a) (found : Address) (to : IsLeafAddressFor old a found) where

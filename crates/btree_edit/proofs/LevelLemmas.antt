@@ -17,7 +17,7 @@ use Rattle.btree_shape.proofs.Paths.UnsizedFocus.{focus-unsized}
 use Rattle.btree_shape.proofs.Trees.States.{height_held}
 use Rattle.btree_raw.proofs.NeedLemmas.{path_need_from-few}
 
-leaf-used : {A : Type 0} (node_at : NodeMap A) (o : Option (View A)) → IsLeaf node_at o → 0 < times_used o
+pub leaf-used : {A : Type 0} (node_at : NodeMap A) (o : Option (View A)) → IsLeaf node_at o → 0 < times_used o
 leaf-used node_at None is = absurd is
 leaf-used node_at (Some (leaf p ys)) is = omega arith
 leaf-used node_at (Some (internal p first bs)) is = absurd is

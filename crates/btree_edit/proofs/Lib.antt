@@ -11,5 +11,8 @@ pub mod InnerLemmas
 pub mod RemoveAtLemmas
 pub mod RemoveInnerLemmas
 pub mod RemoveByKeyLemmas
+pub mod UpdateLeafLemmas
+pub mod UpdateInnerLemmas
+pub mod UpdateKeyLemmas
 pub mod ReplaceByKeyLemmas
 pub mod AbsentLemmas

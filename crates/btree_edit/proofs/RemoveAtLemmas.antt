@@ -1,5 +1,5 @@
 -- The steps of a removal at an address: what a node returned, and the tree in between.
-use Rattle.std.proofs.Common.{◌≡◌, ◌↔◌, ◌∙◌, ◌+◌, ◌-◌, ◌<◌, ◌≤◌, ◌^◌, ℕ, suc, inl, inr, Bool, true, false, List, length, Option, Some, None, Ok, Err, OnOk, OnErr, Result, IsTrue, refl, sym, ap, subst, option_map, option_and_then, slice_get, arith}
+use Rattle.std.proofs.Common.{◌≡◌, ◌∙◌, ◌+◌, ◌-◌, ◌<◌, ◌≤◌, ◌^◌, ℕ, suc, List, length, Option, Some, None, Ok, Err, OnOk, OnErr, Result, IsTrue, refl, sym, ap, subst, option_map, option_and_then, slice_get, arith}
 use Rattle.std.proofs.lemmas.List.{length-map}
 use Rattle.std.proofs.lemmas.Option.{slice_get_within}
 use Rattle.std.specs.Cmp.{IsTotalOrder}
@@ -9,15 +9,14 @@ use Rattle.std.specs.declared.cmp.Ordering.{Ordering}
 use Rattle.btree_item.specs.declared.address.Address.{Address}
 use Rattle.btree_node.specs.declared.node.Node.{Node}
 use Rattle.btree_node.specs.Node.{view_of}
-use Rattle.btree_view.specs.Edits.{IsUnderflowing, is_internal, without_at}
+use Rattle.btree_view.specs.Edits.{is_internal, without_at}
 use Rattle.btree_view.specs.Removal.{removal_in}
-use Rattle.btree_view.specs.View.{View, leaf, internal, children_of, item_in, items_of, size_of}
+use Rattle.btree_view.specs.View.{View, leaf, internal, children_in, children_of, item_in, items_of, size_of}
 use Rattle.btree_view.proofs.RemovalLemmas.{child-from_removal, item-from_removal, no_item-from_removal}
 use Rattle.btree_shape.specs.Focus.Positions.{address_at, address_before}
 use Rattle.btree_shape.specs.Step.{WritesNode}
 use Rattle.btree_shape.specs.TreeState.{TreeState, IsBTree, IsOffByOneAt, IsPlaceIn, IsUsed, IsValidIn, item_of, node_map, pairs_of}
 use Rattle.btree_shape.specs.WellFormed.{IsWellFormed}
-use Rattle.btree_shape.proofs.Trees.Numbers.{less-or}
 use Rattle.btree_shape.proofs.Trees.Stores.{item-some, writes_node}
 use Rattle.btree_raw.specs.Raw.{with_node}
 use Rattle.btree_raw.specs.Rebalance.{HasRoom, IsRebalanced}
@@ -25,8 +24,8 @@ use Rattle.btree_raw.proofs.RebalanceLemmas.{enough-rebalanced}
 use Rattle.btree_find.specs.Navigation.{LeadsToItem}
 use Rattle.btree_find.proofs.NextLemmas.{child-used, next-below}
 use Rattle.btree_find.proofs.PreviousLemmas.{below-used}
-use Rattle.btree_find.proofs.WalkLemmas.{occupied-below, used-of}
-use Rattle.btree_edit.specs.Remove.{IsInnerAt, IsRemoved, LeadsBehind}
+use Rattle.btree_find.proofs.WalkLemmas.{occupied-below}
+use Rattle.btree_edit.specs.Remove.{HasChildBehind, IsInnerAt, IsRemoved, LeadsBehind}
 use Rattle.btree_edit.proofs.InnerLemmas.{node-of}
 use Rattle.btree_edit.proofs.RemoveLemmas.{removed-from-leaf, taken-counted, taken-off, taken-room, taken-valid}
 
@@ -38,6 +37,9 @@ children-more {A} (internal parent first branches) kind =
     let b = length-map {A = A × ℕ} {B = ℕ} branches (λ b. b.1) in
     omega arith
 
+some-same : (m n : ℕ) → Some m ≡ Some n → m ≡ n
+some-same m n e = cc
+
 no-item : {A : Type 0} (o : Option ℕ) → option_and_then (item_in {A = A} None) o ≡ None
 no-item None = refl
 no-item (Some n) = refl
@@ -48,13 +50,6 @@ on-ok {A} {B} {C} r x e = subst (λ z. OnOk z C) e
 
 pub on-err : {A B C : Type 0} (r : Result A B) (x : B) → r ≡ Err x → OnErr r C → C
 on-err {A} {B} {C} r x e = subst (λ z. OnErr z C) e
-
--- a node that does not underflow
-pub enough-left : {A : Type 0} (v : View A) (is_short : Bool) → (IsTrue is_short ↔ IsUnderflowing v) → is_short ≡ false → 2 < size_of v
-enough-left v is_short e is = elim (less-or (size_of v) 3) [
-  | inl low ↦ let q : is_short ≡ true = e.1 low in absurd (cc)
-  | inr other ↦ elim other [ inl same ↦ omega arith | inr more ↦ omega arith ]
-]
 
 module _ {K V : Type 0} (s : TreeState K V) (a : Address) where
   -- only one child is before the item at an address
@@ -160,9 +155,6 @@ module _ {K V : Type 0} (old : TreeState K V) (a : Address) where
 module _ {K V : Type 0} (cmp : K → K → Ordering) (laws : IsTotalOrder cmp) (s : TreeState K V) (tree : IsBTree cmp s) where
   -- the item behind one of an internal node
   module _ (a : Address) (left : ℕ) (inner : IsInnerAt s a left) where
-    pub inner-used : IsUsed s a.id
-    inner-used = used-of cmp laws s tree a.id inner.node inner.here
-
     pub left-used : IsUsed s left
     left-used =
         let n = node-of (finite.get s.nodes a.id) inner.node inner.here in
@@ -205,3 +197,28 @@ module _ {K V : Type 0} (cmp : K → K → Ordering) (laws : IsTotalOrder cmp) (
             let to = next-below cmp laws s tree a.id index node at index-low child (sym below) (Some b) leads in
             (to place (subst (λ (c : Address). IsPlaceIn s c place) a-is i)).0
             (occupied-below (node_map s) a.id index (view_of node) (ap (option_map view_of) at) index-low)
+
+      pub has-behind : (index : ℕ) → a.offset ≡ Some index → (child : ℕ) → slice_get (children_of (view_of node)) (index + 1) ≡ Some child
+          → HasChildBehind s a child
+      has-behind index e child is other o =
+          let same : suc other ≡ index + 1 = (let q : Some other ≡ Some index = sym o ∙ e in omega (arith, some-same other index q)) in
+          ap (λ v. slice_get (children_in v) (suc other)) (ap (option_map view_of) at)
+          ∙ ap (λ n. slice_get (children_of (view_of node)) n) same ∙ is
+
+    -- the first item under the child after it is the one behind it
+    module _ (right : ℕ) (behind : HasChildBehind s a right) where
+      abbrev at-inner : (node : Node K V) × (finite.get s.nodes a.id ≡ Some node) × (view_of node ≡ inner.node)
+      at-inner = node-of (finite.get s.nodes a.id) inner.node inner.here
+
+      below-inner : slice_get (children_of (view_of at-inner.0)) (inner.index + 1) ≡ Some right
+      below-inner =
+          let n : inner.index + 1 ≡ suc inner.index = omega arith in
+          ap (λ k. slice_get (children_of (view_of at-inner.0)) k) n
+          ∙ sym (ap (λ v. slice_get (children_in v) (suc inner.index)) (ap (option_map view_of) at-inner.1))
+          ∙ behind inner.index inner.offset
+
+      pub right-used : IsUsed s right
+      right-used = behind-used at-inner.0 at-inner.1 inner.index inner.offset right below-inner
+
+      pub right-leads : (b : Address) → LeadsToItem s (address_before right) (Some b) → LeadsBehind s a b
+      right-leads b leads = leads-behind at-inner.0 at-inner.1 inner.index inner.offset right below-inner b leads

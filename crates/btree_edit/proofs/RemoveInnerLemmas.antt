@@ -1,6 +1,6 @@
 -- The steps of a removal from an internal node, in the order of the code: the last item under the left child is taken,
 -- it replaces the removed one, the length is set, and the leaf's underflow is fixed.
-use Rattle.std.proofs.Common.{◌≡◌, ◌∙◌, ◌+◌, ◌<◌, ◌≤◌, ◌^◌, ◌↔◌, ℕ, Bool, false, set, Option, Some, IsSome, IsTrue, IsSomeAnd, refl, sym, ap, subst, slice_get, arith}
+use Rattle.std.proofs.Common.{◌≡◌, ◌∙◌, ◌+◌, ◌<◌, ◌≤◌, ◌^◌, ℕ, set, Option, Some, IsSome, IsTrue, IsSomeAnd, refl, sym, ap, subst, option_map, slice_get, arith}
 use Rattle.std.proofs.lemmas.Option.{slice_get_within}
 use Rattle.std.specs.Cmp.{IsTotalOrder}
 use Rattle.std.specs.FinMap as finite
@@ -8,17 +8,18 @@ use Rattle.std.specs.declared.cmp.Ordering.{Ordering}
 use Rattle.btree_item.specs.declared.address.Address.{Address}
 use Rattle.btree_node.specs.declared.node.Node.{Node}
 use Rattle.btree_node.specs.Node.{view_of}
-use Rattle.btree_view.specs.Edits.{IsUnderflowing, is_internal, with_other_item, with_other_item_at}
-use Rattle.btree_view.specs.View.{View, item_at_offset, items_of, size_of}
+use Rattle.btree_view.specs.Edits.{is_internal, with_other_item, with_other_item_at}
+use Rattle.btree_view.specs.View.{View, item_at_offset, items_of, parent_of, size_of}
 use Rattle.btree_shape.specs.Step.{HasItems, WritesNode}
 use Rattle.btree_shape.specs.TreeState.{TreeState, IsBTree, IsOffByOneAt, IsUsed, IsValidIn, node_map}
 use Rattle.btree_shape.proofs.Trees.Stores.{view-at, writes_node}
 use Rattle.btree_raw.specs.LastItem.{TakesLast}
 use Rattle.btree_raw.specs.Raw.{with_node}
 use Rattle.btree_raw.specs.Rebalance.{HasRoom, IsRebalanced}
+use Rattle.btree_raw.specs.Steps.{HasCount, HasParent}
 use Rattle.btree_raw.proofs.RebalanceLemmas.{enough-rebalanced}
+use Rattle.btree_raw.proofs.StepLemmas.{size-at}
 use Rattle.btree_edit.specs.Remove.{IsInnerAt, IsRemoved, LeadsBehind, ReplacesInner}
-use Rattle.btree_edit.proofs.RemoveAtLemmas.{enough-left}
 use Rattle.btree_edit.proofs.InnerLemmas.{apart, inner-counted, inner-off, inner-room, inner-valid, node-of, other-items, removed-from-internal}
 
 -- a length that was read
@@ -60,14 +61,14 @@ module _ {K V : Type 0} (cmp : K → K → Ordering) (laws : IsTotalOrder cmp) (
       abbrev mid : TreeState K V
       mid = record (with_node taken a.id kept) { len = len }
 
-      removed-is : inner.item ≡ x
+      pub removed-is : inner.item ≡ x
       removed-is =
           let e : Some x ≡ Some inner.item =
           answer ∙ ap (λ o. item_at_offset (view_of node) o) inner.offset
           ∙ ap (λ v. slice_get (items_of v) inner.index) node-is ∙ inner.stands in
           cc
 
-      kept-is : view_of kept ≡ with_other_item inner.index y inner.node
+      pub kept-is : view_of kept ≡ with_other_item inner.index y inner.node
       kept-is =
           after ∙ ap (λ o. with_other_item_at o y (view_of node)) inner.offset
           ∙ ap (λ v. with_other_item inner.index y v) node-is
@@ -120,14 +121,18 @@ module _ {K V : Type 0} (cmp : K → K → Ordering) (laws : IsTotalOrder cmp) (
           rebalanced = r;
         }
 
-        -- with enough items left in the leaf nothing is to be fixed
-        module _ (is_short : Bool) (short : (leaf : View (K × V)) → node_map taken leaf_id ≡ Some leaf → (IsTrue is_short ↔ IsUnderflowing leaf))
-            (enough : is_short ≡ false) where
-          leaf-kept : node_map taken leaf_id ≡ Some replaced-room.node
-          leaf-kept =
-              sym (put.others leaf_id (λ e. apart cmp laws old tree small a left inner taken y leaf_id takes (sym e))) ∙ replaced-room.here
+        -- the leaf is still as it was left
+        leaf-same : node_map mid leaf_id ≡ node_map taken leaf_id
+        leaf-same = put.others leaf_id (λ e. apart cmp laws old tree small a left inner taken y leaf_id takes (sym e))
 
-          pub still-balanced : IsRebalanced mid mid leaf_id cmp next next
-          still-balanced =
-              enough-rebalanced cmp laws mid leaf_id replaced-off next replaced-valid replaced-room
-              (enough-left replaced-room.node is_short (short replaced-room.node leaf-kept) enough)
+        pub count-kept : (count : ℕ) → HasCount (node_map taken) leaf_id count → HasCount (node_map mid) leaf_id count
+        count-kept count counted = ap (option_map size_of) leaf-same ∙ counted
+
+        pub parent-kept : (parent : Option ℕ) → HasParent (node_map taken) leaf_id parent → HasParent (node_map mid) leaf_id parent
+        parent-kept parent names = ap (option_map parent_of) leaf-same ∙ names
+
+        -- with enough items left in the leaf nothing is to be fixed
+        pub still-balanced : (count : ℕ) → HasCount (node_map taken) leaf_id count → 2 < count → IsRebalanced mid mid leaf_id cmp next next
+        still-balanced count counted enough =
+            let size = size-at (node_map taken) leaf_id count replaced-room.node (sym leaf-same ∙ replaced-room.here) counted in
+            enough-rebalanced cmp laws mid leaf_id replaced-off next replaced-valid replaced-room (omega arith)

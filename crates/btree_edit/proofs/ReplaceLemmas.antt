@@ -31,7 +31,7 @@ module _ {X : Type 0} where
   get-at_removed (x ∷ xs) zero = refl
   get-at_removed (x ∷ xs) (suc p) = get-at_removed xs p
 
-  set-as_insert : (xs : List X) (p : ℕ) (y : X) → p < length xs → insert (remove xs p) p y ≡ set xs p y
+  pub set-as_insert : (xs : List X) (p : ℕ) (y : X) → p < length xs → insert (remove xs p) p y ≡ set xs p y
   set-as_insert [] p y low = absurd (omega arith)
   set-as_insert (x ∷ xs) zero y low = refl
   set-as_insert (x ∷ xs) (suc p) y low = ap (λ l. x ∷ l) (set-as_insert xs p y (omega arith))

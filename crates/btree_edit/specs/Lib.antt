@@ -5,5 +5,6 @@ pub mod InsertAt
 pub mod KeyWritten
 pub mod Remove
 pub mod Replace
+pub mod Update
 pub mod ValueWritten
 pub mod WrittenLaws

@@ -9,7 +9,7 @@ use Rattle.std.specs.declared.cmp.Ordering.{Ordering}
 use Rattle.btree_item.specs.Pairs.{before}
 use Rattle.btree_item.specs.declared.address.Address.{Address}
 use Rattle.btree_view.specs.Edits.{is_internal, with_other_item_at}
-use Rattle.btree_view.specs.View.{View, children_of, items_of}
+use Rattle.btree_view.specs.View.{View, children_in, children_of, items_of}
 use Rattle.btree_shape.specs.Step.{WritesNode}
 use Rattle.btree_shape.specs.TreeState.{TreeState, HasLevels, HasStrain, IsBTree, IsPlaceIn, IsValidIn, item_of, node_map, pairs_of}
 use Rattle.btree_raw.specs.LastItem.{TakesLast}
@@ -29,6 +29,10 @@ module _ {K V : Type 0} (s : TreeState K V) where
     pub item : K × V
     pub stands : slice_get (items_of node) index ≡ Some item
     pub child : slice_get (children_of node) index ≡ Some left
+
+  -- `right` is the child after the item at the address
+  abbrev pub HasChildBehind : (a : Address) (right : ℕ) → Type 0
+  HasChildBehind a right = (index : ℕ) → a.offset ≡ Some index → slice_get (children_in (node_map s a.id)) (suc index) ≡ Some right
 
   -- the item after the place of address a is at address b
   abbrev pub LeadsBehind : (a b : Address) → Type 0

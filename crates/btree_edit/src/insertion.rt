@@ -2,10 +2,11 @@
 ghost use Rattle.std.specs.Prelude.{◌≡◌, ◌≢◌, ◌<◌, ◌≤◌, None, IfOk, IfErr};
 ghost use Rattle.std.specs.Prelude.{OnOk, OnErr};
 ghost use Rattle.btree_item.specs.Pairs.{found, found_value, inserted};
-ghost use Rattle.btree_shape.specs.TreeState.{IsBTree, nodes_needed, pairs_of};
+ghost use Rattle.btree_shape.specs.TreeState.{TreeState, IsBTree, nodes_needed, pairs_of};
 ghost use Rattle.btree_raw.specs.Insertion.{IsRefused};
 ghost use Rattle.btree_edit.specs.Insert.{IsGapFor, IsInserted, IsRefusedAtGap, InsertsByKey};
 ghost use Rattle.btree_edit.specs.InsertAbsent.{InsertsAbsent, IsGapOf};
+ghost use Rattle.btree_edit.specs.Update.{ClaimsNeeded};
 
 use crate::values::exchange;
 use btree_find::address_of;
@@ -13,8 +14,8 @@ use btree_item::{Address, Cause, Item, MAX_CLAIMS, Offset, Refused};
 use btree_node::Node;
 use btree_nodes::NodesMut;
 use btree_raw::{
-    ClaimedIds, RawBTree, add_item, add_item_in_room, claim, claim_one, need, put, refused,
-    split_upward,
+    ClaimedIds, RawBTree, add_and_split, add_item_in_room, claim, claim_one, need_above, put,
+    refused,
 };
 
 // Inserts the first pair into an empty tree.
@@ -41,6 +42,25 @@ fn insert_first<K: Ord + Drop, V: Drop, C: NodesMut<K, V>>(
     }
 }
 
+// Inserts a pair, whose key fits, with the nodes that were claimed for it.
+pub(crate) fn insert_claimed<K: Ord + Drop, V: Drop, C: NodesMut<K, V>>(
+    tree: &mut RawBTree<K, V, C>,
+    addr: Address,
+    item: Item<K, V>,
+    claims: &mut ClaimedIds,
+) -> Address
+    requires { (base : TreeState K V) ×
+        ClaimsNeeded K.cmp item.0 base tree.old addr claims.old.items }
+    ensures { (base : TreeState K V) → ClaimsNeeded K.cmp item.0 base tree.old addr claims.old.items →
+        IsInserted K.cmp base tree.new addr result item }
+{
+    tree.tell_fits();
+    let index = addr.offset.unwrap();
+    let at = add_and_split(tree, addr.id, index, item, None, addr, claims);
+    tree.set_len(tree.len() + 1);
+    at
+}
+
 // Inserts a pair, whose key fits, into a full leaf, which is split. Not inlined, so that the usual insertion keeps its values in
 // registers.
 #[inline(never)]
@@ -60,15 +80,11 @@ fn insert_and_split<K: Ord + Drop, V: Drop, C: NodesMut<K, V>>(
     ensures returned { IfErr result (λ r. (r.key, r.value) ≡ item) }
     ensures refused { IfErr result (λ r. IsRefused C.MayRefuse addr.id tree.old tree.new r.cause) }
 {
-    tree.tell_fits();
     let mut claims = ClaimedIds::new();
     if !claim(tree, count, &mut claims) {
         return Err(refused(Cause::Store, item));
     }
-    add_item(tree, addr.id, addr.offset.unwrap(), item, None);
-    let at = split_upward(tree, addr.id, addr, &mut claims);
-    tree.set_len(tree.len() + 1);
-    Ok(at)
+    Ok(insert_claimed(tree, addr, item, &mut claims))
 }
 
 // Inserts a pair, whose key fits, into a leaf of a tree that is not empty.
@@ -91,8 +107,8 @@ fn insert_more<K: Ord + Drop, V: Drop, C: NodesMut<K, V>>(
             tree.set_len(tree.len() + 1);
             Ok(addr)
         }
-        Err(item) => {
-            let count = need(tree, addr.id);
+        Err((item, parent)) => {
+            let count = need_above(tree, addr.id, parent);
             insert_and_split(tree, addr, item, count)
         }
     }

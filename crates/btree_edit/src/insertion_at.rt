@@ -8,14 +8,44 @@ use crate::insertion::insert_at_gap;
 use btree_find::leaf_address;
 use btree_item::{Address, Item, Refused};
 use btree_nodes::NodesMut;
-use btree_raw::RawBTree;
+use btree_raw::{RawBTree, add_item_at_leaf};
 
 /// Inserts a pair at the place of an address, which its key fits, before the item there. An address of an internal node stands for the
 /// one in a leaf at its place. Returns the address of the pair. It returns an error, with the pair, and nothing but the count of
-/// refusals changes, if the store refuses a node that is needed, or if there are as many pairs as can be counted.
+/// refusals changes, if the store refuses a node that is needed, or if there are as many pairs as can be counted. At an address in a leaf
+/// that is not full it fetches the leaf once.
 ///
 /// The address must be valid and not at -1. `RawBTree::is_valid` decides whether an address is valid.
 pub fn insert_at<K: Ord + Drop, V: Drop, C: NodesMut<K, V>>(
+    tree: &mut RawBTree<K, V, C>,
+    addr: Address,
+    item: Item<K, V>,
+) -> Result<Address, Refused<K, V>>
+    requires tree { IsBTree K.cmp tree.old }
+    requires valid { IsValidIn tree.old addr }
+    requires back { IsSome addr.offset }
+    requires fits { FitsAt K.cmp item.0 tree.old addr }
+    ensures inserted { IfOk result (λ b. InsertsAt tree.old tree.new addr K.cmp b item) }
+    ensures returned { IfErr result (λ r. (r.key, r.value) ≡ item) }
+    ensures refused { IfErr result (λ r. IsRefusedAt tree.old tree.new addr C.MayRefuse r.cause) }
+{
+    let Some(_root) = tree.root_id() else {
+        return insert_by_leaf(tree, addr, item);
+    };
+    if tree.len() == usize::MAX {
+        return insert_by_leaf(tree, addr, item);
+    }
+    match add_item_at_leaf(tree, addr.id, addr.offset.unwrap(), item) {
+        Ok(()) => {
+            tree.set_len(tree.len() + 1);
+            Ok(addr)
+        }
+        Err(item) => insert_by_leaf(tree, addr, item),
+    }
+}
+
+// Does the same by way of the address in a leaf.
+fn insert_by_leaf<K: Ord + Drop, V: Drop, C: NodesMut<K, V>>(
     tree: &mut RawBTree<K, V, C>,
     addr: Address,
     item: Item<K, V>,

@@ -2,16 +2,16 @@
 ghost use Rattle.std.specs.Prelude.{◌≡◌, ℕ, IfSome, IfNone, None};
 ghost use Rattle.btree_item.specs.Pairs.{found};
 ghost use Rattle.btree_shape.specs.TreeState.{IsBTree, IsValidIn, item_of, pairs_of};
-ghost use Rattle.btree_edit.specs.Remove.{IsInnerAt, IsRemoved, LeadsBehind, RemovesByKey, ReplacesInner};
+ghost use Rattle.btree_edit.specs.Remove.{HasChildBehind, IsInnerAt, IsRemoved, RemovesByKey, ReplacesInner};
 
 use btree_find::{address_of, first_item};
-use btree_item::{Address, Item};
+use btree_item::{Address, Item, MIN_ITEMS};
 use btree_nodes::NodesMut;
-use btree_raw::{RawBTree, rebalance_underflow, take_last_below};
+use btree_raw::{RawBTree, rebalance_fetched, take_last_below};
 
 /// Removes the item at an address. Returns it, with a back address at the place where it was. Returns `None`, and nothing changes, if there
-/// is no item at the address. It frees at most as many nodes as the tree has levels and needs no new one. A leaf that keeps three items or more is
-/// fetched once.
+/// is no item at the address. It frees at most as many nodes as the tree has levels and needs no new one. A leaf is
+/// fetched once, unless another node is written before it is fixed.
 ///
 /// An item of an internal node is replaced with the last one under the child before it. `RawBTree::is_valid` decides whether an address is
 /// valid.
@@ -35,15 +35,19 @@ pub fn remove_at<K: Ord + Drop, V: Drop, C: NodesMut<K, V>>(
     match node.leaf_remove(addr.offset) {
         None => None,
         Some(Ok(item)) => {
-            let is_short = node.is_underflowing();
+            let count = node.item_count();
+            let parent = node.parent();
             tree.set_len(tree.len() - 1);
-            if !is_short {
+            if count >= MIN_ITEMS {
                 return Some((item, addr));
             }
-            let at = rebalance_underflow(tree, addr.id, addr);
+            let at = rebalance_fetched(tree, addr.id, count, parent, addr);
             Some((item, at))
         }
-        Some(Err(left)) => Some(remove_inner(tree, addr, left)),
+        Some(Err(left)) => {
+            let right = node.child_id(addr.offset.unwrap() + 1);
+            Some(remove_inner(tree, addr, left, right))
+        }
     }
 }
 
@@ -67,37 +71,29 @@ pub fn remove_entry<K: Ord + Drop, V: Drop, C: NodesMut<K, V>>(
     }
 }
 
-// Removes the item at an address of an internal node. `left` is the child before it: the last item under that takes its place.
+// Removes the item at an address of an internal node. `left` is the child before it: the last item under that takes its place. `right` is
+// the child after it.
 fn remove_inner<K: Ord + Drop, V: Drop, C: NodesMut<K, V>>(
     tree: &mut RawBTree<K, V, C>,
     addr: Address,
     left: usize,
+    right: usize,
 ) -> (Item<K, V>, Address)
     requires tree { IsBTree K.cmp tree.old }
     requires inner { IsInnerAt tree.old addr left }
+    requires behind { HasChildBehind tree.old addr right }
     ensures removed { IsRemoved tree.old tree.new K.cmp addr result.0 result.1 }
     ensures replaced { ReplacesInner tree.old tree.new K.cmp addr left result.1 }
 {
     tree.tell_fits();
     let len = tree.len();
-    let next = item_behind(tree, Address::new(addr.id, addr.offset));
-    let (last, leaf, is_short) = take_last_below(tree, left);
+    let next = first_item(tree, right);
+    let (last, leaf, count, parent) = take_last_below(tree, left);
     let item = tree.node_mut(addr.id).replace(addr.offset, last);
     tree.set_len(len - 1);
-    if !is_short {
+    if count >= MIN_ITEMS {
         return (item, next);
     }
-    let at = rebalance_underflow(tree, leaf, next);
+    let at = rebalance_fetched(tree, leaf, count, parent, next);
     (item, at)
-}
-
-// Returns the address of the item after one of an internal node: the first item under the child after it.
-fn item_behind<K: Ord, V, C: NodesMut<K, V>>(tree: &RawBTree<K, V, C>, addr: Address) -> Address
-    requires tree { IsBTree K.cmp tree.now }
-    requires inner { (left : ℕ) × IsInnerAt tree.now addr left }
-    ensures { LeadsBehind tree.now addr result }
-{
-    tree.tell_fits();
-    let child = tree.node(addr.id).child_id(addr.offset.unwrap() + 1);
-    first_item(tree, child)
 }

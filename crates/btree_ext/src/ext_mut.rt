@@ -1,18 +1,20 @@
 //! Changes of a tree by addresses.
-ghost use Rattle.std.specs.Prelude.{◌≡◌, ℕ, Some, None, IsSome, IfSome, IfNone, IfOk, IfErr};
+ghost use Rattle.std.specs.Prelude.{◌≡◌, ℕ, Some, None, IsSome, IfSome, IfNone, IfOk, IfErr, OnErr, OnOk};
 ghost use Rattle.std.specs.Borrow.{Lends, LendsIf, sem};
 ghost use Rattle.std.specs.Option.{option_copied_mut};
-ghost use Rattle.btree_item.specs.Pairs.{found_value};
+ghost use Rattle.btree_item.specs.Pairs.{found, found_value};
 ghost use Rattle.btree_item.specs.declared.address.Address.{Address};
-ghost use Rattle.btree_shape.specs.TreeState.{IsBTree, IsLeafAddressIn, IsOccupiedIn, IsUsed, IsValidIn, item_of};
-ghost use Rattle.btree_find.specs.Fits.{FitsAt, ReplacesAt, pairs_below};
+ghost use Rattle.btree_shape.specs.TreeState.{IsBTree, IsLeafAddressIn, IsOccupiedIn, IsUsed, IsValidIn, item_of, pairs_of};
+ghost use Rattle.btree_find.specs.Fits.{FitsAt, FitsIn, ReplacesAt, pairs_below};
 ghost use Rattle.btree_edit.specs.Exchange.{IsExchanged, IsValueExchanged};
+ghost use Rattle.btree_edit.specs.Insert.{IsRefusedAtGap};
 ghost use Rattle.btree_edit.specs.InsertAt.{InsertsAt, IsRefusedAt};
 ghost use Rattle.btree_edit.specs.KeyWritten.{ExchangesValue, address_at_key};
 ghost use Rattle.btree_edit.specs.Remove.{IsInnerAt, IsRemoved, ReplacesInner};
+ghost use Rattle.btree_edit.specs.Update.{RunsAt, RunsByKey};
 
 use crate::ext::BTreeExt;
-use btree_item::{Address, Item, Refused};
+use btree_item::{Address, Item, Refused, UpdateRefused};
 
 /// A well formed tree, changed by addresses in it. Each change leaves a well formed tree.
 pub trait BTreeExtMut<K: Ord + Drop, V: Drop>: BTreeExt<K, V> {
@@ -130,4 +132,40 @@ pub trait BTreeExtMut<K: Ord + Drop, V: Drop>: BTreeExt<K, V> {
             ReplacesInner (Self.state self.old) (Self.state self.new) K.cmp addr left r.1) }
         ensures vacant { IfNone result (item_of (Self.state self.old) addr ≡ None) }
         ensures unchanged { IfNone result (Self.state self.new ≡ Self.state self.old) };
+
+    /// Calls `action` with the value at an address. The value that it gives takes the place of the old one, and the key stays; if it gives
+    /// none, the pair is removed, as `remove_at` does. Returns the action's answer. It needs no new node and cannot fail.
+    ///
+    /// An item must be at the address; `item` decides that.
+    fn update_at<T, F: FnOnce(V) -> (Option<V>, T)>(&mut self, addr: Address, action: F) -> T
+        requires occupied { IsOccupiedIn (Self.state self.old) addr }
+        requires callable { IfSome (item_of (Self.state self.old) addr) (λ x. F.pre action x.1) }
+        ensures { RunsAt K.cmp (Self.state self.old) (Self.state self.new)
+            (F.post action) addr result };
+
+    /// Calls `action` with the value at a key, or with `None` if the key is not there. The value that it gives is stored at the key: an
+    /// equal key stays, and the given one is dropped. If it gives none, the pair is removed, or none is added. Returns the action's answer.
+    ///
+    /// The node must be in use, and the key must lie strictly between its separators: `has_node` and `key_fits_in` decide that. It
+    /// searches from that node down. For an absent key the nodes that an insertion needs are claimed before the call, and freed again if
+    /// the action gives no value. It returns an error, with the key and the action, which was not called, if the store refuses one of
+    /// these nodes, or if there are `usize::MAX` pairs. Then nothing but the count of refusals has changed.
+    fn update_in<T, F: FnOnce(Option<V>) -> (Option<V>, T)>(
+        &mut self,
+        id: usize,
+        key: K,
+        action: F,
+    ) -> Result<T, UpdateRefused<K, F>>
+        requires used { IsUsed (Self.state self.old) id }
+        requires fits { FitsIn K.cmp key (Self.state self.old) id }
+        requires callable { F.pre action (found_value K.cmp key (pairs_of (Self.state self.old))) }
+        ensures updated { IfOk result (λ t.
+            RunsByKey K.cmp (Self.state self.old) (Self.state self.new) (F.post action) key t) }
+        ensures uncounted { OnOk result
+            ((Self.state self.new).refusals ≡ (Self.state self.old).refusals) }
+
+        ensures returned { IfErr result (λ r. (r.key ≡ key) × (r.action ≡ action)) }
+        ensures absent { OnErr result (found K.cmp key (pairs_of (Self.state self.old)) ≡ None) }
+        ensures cause { IfErr result (λ r. IsRefusedAtGap K.cmp key
+            (Self.state self.old) (Self.state self.new) Self.Nodes.MayRefuse r.cause) };
 }

@@ -7,10 +7,10 @@ use crate::ext::BTreeExt;
 use crate::ext_mut::BTreeExtMut;
 use btree_edit::{
     exchange, get_mut, get_mut_in, insert, insert_absent, insert_at, insert_exactly_at, pair_mut,
-    remove_at, remove_entry, replace, replace_at,
+    remove_at, remove_entry, replace, replace_at, update, update_at, update_in,
 };
 use btree_find::get;
-use btree_item::{Address, Item, Refused};
+use btree_item::{Address, Item, Refused, UpdateRefused};
 use btree_nodes::{ClearNodes, CloneNodes, NodesMut};
 use btree_raw::RawBTree;
 use std::alloc::AllocError;
@@ -113,6 +113,7 @@ impl<K: Ord + Drop, V: Drop, C: NodesMut<K, V>> Tree<K, V, C> {
     ghost use Rattle.btree_edit.specs.InsertAbsent.{InsertsAbsent, IsGapOf};
     ghost use Rattle.btree_edit.specs.Remove.{RemovesByKey};
     ghost use Rattle.btree_edit.specs.Replace.{ReplacesByKey, replaced};
+    ghost use Rattle.btree_edit.specs.Update.{RunsByKey};
 
     /// Inserts a pair, or replaces the value if the key is there: the stored key stays, and the given one is dropped.
     ///
@@ -184,6 +185,29 @@ impl<K: Ord + Drop, V: Drop, C: NodesMut<K, V>> Tree<K, V, C> {
             None => None,
         }
     }
+
+    /// Calls `action` with the value at a key, or with `None` if the key is not there. The value that it gives is stored at the key: an
+    /// equal key stays, and the given one is dropped. If it gives none, the pair is removed, or none is added. Returns the action's answer.
+    ///
+    /// It searches once. For an absent key the nodes that `insert` would use are claimed before the call, and freed again if the action gives
+    /// no value. It returns an error, with the key and the action, which was not called, if the store refuses one of these nodes, or if
+    /// there are `usize::MAX` pairs. Then nothing but the count of refusals has changed.
+    pub fn update<T, F: FnOnce(Option<V>) -> (Option<V>, T)>(
+        &mut self,
+        key: K,
+        action: F,
+    ) -> Result<T, UpdateRefused<K, F>>
+        requires callable { F.pre action (found_value K.cmp key (pairs_of self.old)) }
+        ensures updated { IfOk result (λ t. RunsByKey K.cmp self.old self.new (F.post action) key t) }
+        ensures uncounted { OnOk result (self.new.refusals ≡ self.old.refusals) }
+
+        ensures returned { IfErr result (λ r. (r.key ≡ key) × (r.action ≡ action)) }
+        ensures absent { OnErr result (found K.cmp key (pairs_of self.old) ≡ None) }
+        ensures cause { IfErr result (λ r.
+            IsRefusedAtGap K.cmp key self.old self.new C.MayRefuse r.cause) }
+    {
+        update(&mut self.raw, key, action)
+    }
 }
 
 impl<K: Ord, V, C: ClearNodes<K, V>> Tree<K, V, C> {
@@ -228,9 +252,12 @@ impl<K: Ord, V, C: NodesMut<K, V>> BTreeExt<K, V> for Tree<K, V, C> {
 }
 
 impl<K: Ord + Drop, V: Drop, C: NodesMut<K, V>> BTreeExtMut<K, V> for Tree<K, V, C> {
-    ghost use Rattle.btree_shape.specs.TreeState.{IsLeafAddressIn, IsValidIn};
-    ghost use Rattle.btree_find.specs.Fits.{FitsAt};
+    ghost use Rattle.btree_item.specs.Pairs.{found, found_value};
+    ghost use Rattle.btree_shape.specs.TreeState.{IsLeafAddressIn, IsUsed, IsValidIn, pairs_of};
+    ghost use Rattle.btree_find.specs.Fits.{FitsAt, FitsIn};
+    ghost use Rattle.btree_edit.specs.Insert.{IsRefusedAtGap};
     ghost use Rattle.btree_edit.specs.InsertAt.{InsertsAt, IsRefusedAt};
+    ghost use Rattle.btree_edit.specs.Update.{RunsByKey};
     ghost use Rattle.btree_edit.specs.ValueWritten.{value_written};
 
     ghost with_value = { value_written };
@@ -281,5 +308,30 @@ impl<K: Ord + Drop, V: Drop, C: NodesMut<K, V>> BTreeExtMut<K, V> for Tree<K, V,
 
     fn remove_at(&mut self, addr: Address) -> Option<(Item<K, V>, Address)> {
         remove_at(&mut self.raw, addr)
+    }
+
+    fn update_at<T, F: FnOnce(V) -> (Option<V>, T)>(&mut self, addr: Address, action: F) -> T {
+        update_at(&mut self.raw, addr, action)
+    }
+
+    // The clauses are those of the trait, with the store's own name for what it may refuse.
+    fn update_in<T, F: FnOnce(Option<V>) -> (Option<V>, T)>(
+        &mut self,
+        id: usize,
+        key: K,
+        action: F,
+    ) -> Result<T, UpdateRefused<K, F>>
+        requires used { IsUsed self.old id }
+        requires fits { FitsIn K.cmp key self.old id }
+        requires callable { F.pre action (found_value K.cmp key (pairs_of self.old)) }
+        ensures updated { IfOk result (λ t. RunsByKey K.cmp self.old self.new (F.post action) key t) }
+        ensures uncounted { OnOk result (self.new.refusals ≡ self.old.refusals) }
+
+        ensures returned { IfErr result (λ r. (r.key ≡ key) × (r.action ≡ action)) }
+        ensures absent { OnErr result (found K.cmp key (pairs_of self.old) ≡ None) }
+        ensures cause { IfErr result (λ r.
+            IsRefusedAtGap K.cmp key self.old self.new C.MayRefuse r.cause) }
+    {
+        update_in(&mut self.raw, id, key, action)
     }
 }

@@ -15,7 +15,7 @@ pub use address::Address;
 pub use fault::Fault;
 pub use item::{Item, Keyed};
 pub use offset::Offset;
-pub use refused::{Cause, Refused};
+pub use refused::{Cause, Refused, UpdateRefused};
 pub use searches::{binary_search_min, search, search_counted};
 pub use slots::Slots;
 pub use slots_iter::SlotsIter;

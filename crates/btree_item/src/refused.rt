@@ -1,4 +1,4 @@
-//! Refusals of an insertion.
+//! Refusals of an insertion and of an update.
 
 /// Why an insertion was refused.
 #[derive(Clone, Copy, Debug, PartialEq, Eq)]
@@ -15,4 +15,12 @@ pub struct Refused<K, V> {
     pub cause: Cause,
     pub key: K,
     pub value: V,
+}
+
+/// A refused update: the cause, and the key and the action, which the caller gets back. The action was not called.
+#[derive(Drop)]
+pub struct UpdateRefused<K, F> {
+    pub cause: Cause,
+    pub key: K,
+    pub action: F,
 }

@@ -1,4 +1,4 @@
-//! Tests of look-up by key, of clones, of entries, of insertions of many pairs, and of comparison and hash of maps.
+//! Tests of look-up by key, of clones, of entries, of updates, of insertions of many pairs, and of comparison and hash of maps.
 #![tactic(auto)]
 
 #[cfg(test)]
@@ -13,3 +13,5 @@ mod keys;
 mod named;
 #[cfg(test)]
 mod refused;
+#[cfg(test)]
+mod update;

@@ -1,6 +1,6 @@
-//! Insertions by entries while the store has no memory.
+//! Insertions by entries, and by an update, while the store has no memory.
 use btree_ext::BTreeExt;
-use btree_item::{Cause, Refused};
+use btree_item::{Cause, Refused, UpdateRefused};
 use btree_map::{BTreeMap, Entry};
 use btree_node::Node;
 use btree_nodes::NodesMut;
@@ -44,7 +44,7 @@ fn content_of<C: NodesMut<u64, u64>>(
     Ok(text)
 }
 
-// The calls of an entry that insert.
+// The calls of an entry that insert, and an update whose action gives a value.
 #[derive(Clone, Copy, Debug, PartialEq)]
 enum Way {
     OrInsert,
@@ -52,6 +52,23 @@ enum Way {
     OrInsertWithKey,
     OrDefault,
     Insert,
+    Update,
+}
+
+// Inserts a key with the value 0 by an update. The action of a refused one has not been called: it gives the value afterwards.
+fn put_by_update<C: NodesMut<u64, u64>>(
+    map: &mut BTreeMap<u64, u64, C>,
+    key: u64,
+) -> Result<u64, Refused<u64, u64>> {
+    match map.update(key, |_| (Some(0u64), 0u64)) {
+        Ok(answer) => Ok(answer),
+        Err(refused) => {
+            let UpdateRefused { cause, key, action } = refused;
+            let (given, _) = action(None);
+            let value = given.unwrap_or(1);
+            Err(Refused { cause, key, value })
+        }
+    }
 }
 
 // Inserts a key with the value 0 in one of the ways.
@@ -60,13 +77,16 @@ fn put_by<C: NodesMut<u64, u64>>(
     way: Way,
     key: u64,
 ) -> Result<u64, Refused<u64, u64>> {
+    if way == Way::Update {
+        return put_by_update(map, key);
+    }
     let entry = map.entry(key);
     let lent = match way {
         Way::OrInsert => entry.or_insert(0)?,
         Way::OrInsertWith => entry.or_insert_with(|| 0)?,
         Way::OrInsertWithKey => entry.or_insert_with_key(|_| 0)?,
         Way::OrDefault => entry.or_default()?,
-        Way::Insert => match entry {
+        Way::Insert | Way::Update => match entry {
             Entry::Vacant(vacant) => vacant.insert(0)?,
             Entry::Occupied(occupied) => occupied.into_mut(),
         },
@@ -145,6 +165,7 @@ fn a_refused_insertion_changes_nothing(rt: HostRuntime) -> Result<(), Fail> {
         Way::OrInsertWithKey,
         Way::OrDefault,
         Way::Insert,
+        Way::Update,
     ] {
         let memory = Refusing::over(rt.alloc(), 0);
         let all = count_allocated::<SlabStore<Node<u64, u64>, &Refusing<Global>>>(

@@ -4,3 +4,7 @@ pub mod RemovalLemmas
 pub mod ExtensionLemmas
 pub mod SameEntry
 pub mod WrittenLemmas
+pub mod CursorLemmas
+pub mod SameCursor
+pub mod SpanLemmas
+pub mod CursorSteps

@@ -1,5 +1,5 @@
 -- Removals at both ends of the list.
-use Rattle.std.proofs.Common.{◌≡◌, ◌∙◌, ◌-◌, ℕ, zero, suc, length, slice_get, Some, None, refl, sym, ap, subst, arith}
+use Rattle.std.proofs.Common.{◌≡◌, ◌∙◌, ◌-◌, ◌∷◌, ◌++◌, [], List, ℕ, zero, suc, length, slice_get, Some, None, refl, sym, ap, subst, arith}
 use Rattle.std.proofs.lemmas.Option.{slice_get_past}
 use Rattle.std.specs.List.{remove}
 use Rattle.std.specs.declared.cmp.Ordering.{Ordering}
@@ -10,7 +10,36 @@ use Rattle.btree_find.specs.Navigation.{IsItemAddress, IsItemBefore}
 use Rattle.btree_edit.specs.Remove.{IsRemoved}
 use Rattle.btree_map.specs.Removal.{RemovesPlace}
 
+first-rest : {X : Type 0} (xs : List X) (x : X) → Some x ≡ slice_get xs 0 → xs ≡ x ∷ remove xs 0
+first-rest [] x e = absurd (cc)
+first-rest (y ∷ ys) x e = let same : x ≡ y = cc in rw same refl
+
+last-rest : {X : Type 0} (xs : List X) (x : X) → Some x ≡ slice_get xs (length xs - 1) → xs ≡ remove xs (length xs - 1) ++ x ∷ []
+last-rest [] x e = absurd (cc)
+last-rest (y ∷ []) x e = let same : x ≡ y = cc in rw same refl
+last-rest (y ∷ z ∷ zs) x e =
+    let less : length (y ∷ z ∷ zs) - 1 ≡ suc (length (z ∷ zs) - 1) = omega arith in
+    let at : Some x ≡ slice_get (y ∷ z ∷ zs) (suc (length (z ∷ zs) - 1)) = subst (λ n. Some x ≡ slice_get (y ∷ z ∷ zs) n) less e in
+    rw less (ap (λ l. y ∷ l) (last-rest (z ∷ zs) x at))
+
+first-empty : {X : Type 0} (xs : List X) → None ≡ slice_get xs 0 → xs ≡ []
+first-empty [] e = refl
+first-empty (y ∷ ys) e = absurd (cc)
+
+last-empty : {X : Type 0} (xs : List X) → None ≡ slice_get xs (length xs - 1) → xs ≡ []
+last-empty [] e = refl
+last-empty (y ∷ []) e = absurd (cc)
+last-empty (y ∷ z ∷ zs) e =
+    let less : length (y ∷ z ∷ zs) - 1 ≡ suc (length (z ∷ zs) - 1) = omega arith in
+    let at : None ≡ slice_get (y ∷ z ∷ zs) (suc (length (z ∷ zs) - 1)) = subst (λ n. None ≡ slice_get (y ∷ z ∷ zs) n) less e in
+    let none : z ∷ zs ≡ [] = last-empty (z ∷ zs) at in
+    absurd (cc)
+
 module _ {K V : Type 0} (old : TreeState K V) where
+  -- without a first pair, or a last one, there are no pairs
+  pub no-first : IsFirstItem old None → pairs_of old ≡ []
+  no-first is = first-empty (pairs_of old) (sym (slice_get_past (pairs_of old) 0 (is.item.past refl)))
+
   pub first-none : IsFirstItem old None → None ≡ slice_get (pairs_of old) 0
   first-none is = sym (slice_get_past (pairs_of old) 0 (is.item.past refl))
 
@@ -30,6 +59,9 @@ module _ {K V : Type 0} (old : TreeState K V) where
   before-some (suc n) a is =
       let last : n ≡ suc n - 1 = omega arith in
       subst (λ (p : ℕ). IsItemAddress old p a) last is.here
+
+  pub no-last : IsLastItem old None → pairs_of old ≡ []
+  no-last is = last-empty (pairs_of old) (last-none is)
 
   pub last-some : (a : Address) → IsLastItem old (Some a) → IsItemAddress old (length (pairs_of old) - 1) a
   last-some a is = before-some (length (pairs_of old)) a is.item
@@ -51,3 +83,15 @@ module _ {K V : Type 0} (old : TreeState K V) where
       removed = removed;
       pairs = removed.pairs ∙ ap (remove (pairs_of old)) same;
     }
+
+    -- it was the first one
+    pub first-removed : place ≡ 0 → pairs_of old ≡ x ∷ pairs_of new
+    first-removed first =
+        let at : Some x ≡ slice_get (pairs_of old) 0 = subst (λ n. Some x ≡ slice_get (pairs_of old) n) first removed-pair in
+        first-rest (pairs_of old) x at ∙ ap (λ l. x ∷ l) (sym (removes-place.pairs ∙ ap (remove (pairs_of old)) first))
+
+    -- it was the last one
+    pub last-removed : place ≡ length (pairs_of old) - 1 → pairs_of old ≡ pairs_of new ++ x ∷ []
+    last-removed last =
+        let at : Some x ≡ slice_get (pairs_of old) (length (pairs_of old) - 1) = subst (λ n. Some x ≡ slice_get (pairs_of old) n) last removed-pair in
+        last-rest (pairs_of old) x at ∙ ap (λ l. l ++ x ∷ []) (sym (removes-place.pairs ∙ ap (remove (pairs_of old)) last))

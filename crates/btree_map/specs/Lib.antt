@@ -4,3 +4,5 @@ pub mod Lent
 pub mod Removal
 pub mod Extension
 pub mod Written
+pub mod WrittenAddresses
+pub mod Cursor

@@ -4,13 +4,18 @@
 mod append;
 mod clone;
 mod comparison;
+mod cursor;
 mod entries;
 mod entry;
 mod extension;
+mod iterators;
 mod keys;
 mod map;
+mod owned;
 mod removal;
 mod traits;
 
+pub use cursor::{IterMut, ValuesMut};
 pub use entry::{Entry, OccupiedEntry, VacantEntry};
 pub use map::BTreeMap;
+pub use owned::{IntoIter, IntoKeys, IntoValues};

@@ -3,10 +3,9 @@ ghost use Rattle.std.specs.Prelude.{◌≡◌, ◌↔◌, [], length, IsTrue, Is
 ghost use Rattle.std.specs.FinMap as map;
 
 use btree_ext::{BTreeExt, BTreeExtMut, Tree};
-use btree_item::{Address, Item, Refused};
+use btree_item::{Address, Item, Refused, UpdateRefused};
 use btree_nodes::{ClearNodes, NodesMut};
 use btree_raw::RawBTree;
-use btree_walk::Iter;
 use std::marker::Model;
 
 /// A map from keys to values in the order of the keys: a B-tree with its nodes in a store.
@@ -95,13 +94,6 @@ impl<K: Ord, V, C: NodesMut<K, V>> BTreeMap<K, V, C> {
         let BTreeMap { tree } = self;
         tree.into_raw()
     }
-
-    /// Returns an iterator over the pairs in the order of the keys. A whole walk fetches each node once, and allocates no memory.
-    pub fn iter(&self) -> Iter<'_, K, V, C>
-        ensures { result ≡ pairs_of self.now }
-    {
-        Iter::new(&self.tree)
-    }
 }
 
 impl<K: Ord + Drop, V: Drop, C: NodesMut<K, V>> BTreeMap<K, V, C> {
@@ -111,6 +103,7 @@ impl<K: Ord + Drop, V: Drop, C: NodesMut<K, V>> BTreeMap<K, V, C> {
     ghost use Rattle.btree_edit.specs.InsertAbsent.{InsertsAbsent, IsGapOf};
     ghost use Rattle.btree_edit.specs.Remove.{RemovesByKey};
     ghost use Rattle.btree_edit.specs.Replace.{ReplacesByKey, replaced};
+    ghost use Rattle.btree_edit.specs.Update.{RunsByKey};
 
     /// Inserts a pair, or replaces the value if the key is there: the stored key stays, and the given one is dropped.
     ///
@@ -198,6 +191,29 @@ impl<K: Ord + Drop, V: Drop, C: NodesMut<K, V>> BTreeMap<K, V, C> {
     {
         self.tree.remove_entry(key)
     }
+
+    /// Calls `action` with the value at a key, or with `None` if the key is not there. The value that it gives is stored at the key: an
+    /// equal key stays, and the given one is dropped. If it gives none, the pair is removed, or none is added. Returns the action's answer.
+    ///
+    /// It searches once. For an absent key the nodes that `insert` would use are claimed before the call, and freed again if the action gives
+    /// no value. It returns an error, with the key and the action, which was not called, if the store refuses one of these nodes, or if
+    /// there are `usize::MAX` pairs. Then nothing but the count of refusals has changed.
+    pub fn update<T, F: FnOnce(Option<V>) -> (Option<V>, T)>(
+        &mut self,
+        key: K,
+        action: F,
+    ) -> Result<T, UpdateRefused<K, F>>
+        requires callable { F.pre action (found_value K.cmp key (pairs_of self.old)) }
+        ensures updated { IfOk result (λ t. RunsByKey K.cmp self.old self.new (F.post action) key t) }
+        ensures uncounted { OnOk result (self.new.refusals ≡ self.old.refusals) }
+
+        ensures returned { IfErr result (λ r. (r.key ≡ key) × (r.action ≡ action)) }
+        ensures absent { OnErr result (found K.cmp key (pairs_of self.old) ≡ None) }
+        ensures cause { IfErr result (λ r.
+            IsRefusedAtGap K.cmp key self.old self.new C.MayRefuse r.cause) }
+    {
+        self.tree.update(key, action)
+    }
 }
 
 impl<K: Ord, V, C: ClearNodes<K, V>> BTreeMap<K, V, C> {
@@ -223,9 +239,12 @@ impl<K: Ord, V, C: NodesMut<K, V>> BTreeExt<K, V> for BTreeMap<K, V, C> {
 }
 
 impl<K: Ord + Drop, V: Drop, C: NodesMut<K, V>> BTreeExtMut<K, V> for BTreeMap<K, V, C> {
-    ghost use Rattle.btree_shape.specs.TreeState.{IsLeafAddressIn, IsValidIn};
-    ghost use Rattle.btree_find.specs.Fits.{FitsAt};
+    ghost use Rattle.btree_item.specs.Pairs.{found, found_value};
+    ghost use Rattle.btree_shape.specs.TreeState.{IsLeafAddressIn, IsUsed, IsValidIn, pairs_of};
+    ghost use Rattle.btree_find.specs.Fits.{FitsAt, FitsIn};
+    ghost use Rattle.btree_edit.specs.Insert.{IsRefusedAtGap};
     ghost use Rattle.btree_edit.specs.InsertAt.{InsertsAt, IsRefusedAt};
+    ghost use Rattle.btree_edit.specs.Update.{RunsByKey};
     ghost use Rattle.btree_edit.specs.ValueWritten.{value_written};
 
     ghost with_value = { value_written };
@@ -276,5 +295,30 @@ impl<K: Ord + Drop, V: Drop, C: NodesMut<K, V>> BTreeExtMut<K, V> for BTreeMap<K
 
     fn remove_at(&mut self, addr: Address) -> Option<(Item<K, V>, Address)> {
         self.tree.remove_at(addr)
+    }
+
+    fn update_at<T, F: FnOnce(V) -> (Option<V>, T)>(&mut self, addr: Address, action: F) -> T {
+        self.tree.update_at(addr, action)
+    }
+
+    // The clauses are those of the trait, with the store's own name for what it may refuse.
+    fn update_in<T, F: FnOnce(Option<V>) -> (Option<V>, T)>(
+        &mut self,
+        id: usize,
+        key: K,
+        action: F,
+    ) -> Result<T, UpdateRefused<K, F>>
+        requires used { IsUsed self.old id }
+        requires fits { FitsIn K.cmp key self.old id }
+        requires callable { F.pre action (found_value K.cmp key (pairs_of self.old)) }
+        ensures updated { IfOk result (λ t. RunsByKey K.cmp self.old self.new (F.post action) key t) }
+        ensures uncounted { OnOk result (self.new.refusals ≡ self.old.refusals) }
+
+        ensures returned { IfErr result (λ r. (r.key ≡ key) × (r.action ≡ action)) }
+        ensures absent { OnErr result (found K.cmp key (pairs_of self.old) ≡ None) }
+        ensures cause { IfErr result (λ r.
+            IsRefusedAtGap K.cmp key self.old self.new C.MayRefuse r.cause) }
+    {
+        self.tree.update_in(id, key, action)
     }
 }

@@ -1,5 +1,6 @@
 //! Removal at both ends.
 ghost use Rattle.std.specs.Prelude.{◌≡◌, ◌-◌, IfNone, IfSome, length, slice_get};
+ghost use Rattle.std.specs.Iterator.{YieldsFirst, YieldsLast};
 ghost use Rattle.btree_shape.specs.TreeState.{pairs_of};
 ghost use Rattle.btree_map.specs.Removal.{RemovesPlace};
 
@@ -13,6 +14,7 @@ impl<K: Ord + Drop, V: Drop, C: NodesMut<K, V>> BTreeMap<K, V, C> {
     /// It compares no keys. It frees at most as many nodes as the tree has levels and cannot fail.
     pub fn pop_first(&mut self) -> Option<(K, V)>
         ensures pair { result ≡ slice_get (pairs_of self.old) 0 }
+        ensures rest { YieldsFirst pairs_of self.old result self.new }
         ensures removed { IfSome result (λ x. RemovesPlace self.old self.new K.cmp 0 x) }
         ensures unchanged { IfNone result (self.new ≡ self.old) }
     {
@@ -30,6 +32,7 @@ impl<K: Ord + Drop, V: Drop, C: NodesMut<K, V>> BTreeMap<K, V, C> {
     /// It compares no keys. It frees at most as many nodes as the tree has levels and cannot fail.
     pub fn pop_last(&mut self) -> Option<(K, V)>
         ensures pair { result ≡ slice_get (pairs_of self.old) (length (pairs_of self.old) - 1) }
+        ensures rest { YieldsLast pairs_of self.old result self.new }
         ensures removed { IfSome result (λ x.
             RemovesPlace self.old self.new K.cmp (length (pairs_of self.old) - 1) x) }
         ensures unchanged { IfNone result (self.new ≡ self.old) }

@@ -1,12 +1,8 @@
 -- Two siblings, one of which underflows: what the steps between them require, and what holds afterwards.
-use Rattle.std.proofs.Common.{◌≡◌, ◌≢◌, ℕ, suc, ◌+◌, ◌<◌, ◌≤◌, ◌^◌, ◌-◌, inl, inr, Option, Some, None, IfSome, IsSome, List, refl, sym, ap, subst, ◌∙◌, option_map, slice_get, arith, length}
-use Rattle.std.specs.FinMap as nodes_map
-use Rattle.btree_store.specs.Content.{Content}
+use Rattle.std.proofs.Common.{◌≡◌, ◌≢◌, ℕ, suc, ◌+◌, ◌<◌, ◌≤◌, ◌^◌, ◌-◌, inl, inr, Option, Some, None, IfSome, IsSome, List, sym, ap, subst, ◌∙◌, option_map, slice_get, arith, length}
 use Rattle.btree_moved.specs.Siblings.{between}
 use Rattle.btree_moved.specs.declared.siblings.Siblings.{Siblings}
 use Rattle.btree_item.specs.declared.address.Address.{Address}
-use Rattle.btree_node.specs.declared.node.Node.{Node}
-use Rattle.btree_node.specs.Node.{view_of}
 use Rattle.btree_view.specs.Edits.{with_parent}
 use Rattle.btree_view.specs.View.{NodeMap, View, leaf, internal, children_in, children_of, most_of, size_of, parent_of}
 use Rattle.btree_shape.specs.Focus.Overflow.{IsRepaired}
@@ -14,12 +10,12 @@ use Rattle.btree_shape.specs.Focus.Underflow.{MayUnderflowAt}
 use Rattle.btree_shape.specs.Lists.{as_list, one, times_listed}
 use Rattle.btree_shape.specs.SiblingSteps.{Merges, Writes}
 use Rattle.btree_shape.specs.Moved.{first_in, moved_by_merge, moved_by_rotate_left, moved_by_rotate_right}
-use Rattle.btree_shape.specs.TreeState.{views}
+use Rattle.btree_shape.specs.UnderflowFix.{size_in}
 use Rattle.btree_shape.specs.WellFormed.{times_used}
 use Rattle.btree_shape.proofs.Places.Backs.{merge-back, rotate-left-back, rotate-right-back}
 use Rattle.btree_shape.proofs.Paths.Frames.{one-other, one-self}
 use Rattle.btree_shape.proofs.Trees.Numbers.{same-node, same-or, used-mapped, used-one, zero-or}
-use Rattle.btree_raw.specs.NodeSteps.{AreSiblings, MergesSiblings, CanGiveItem, CanMerge, CanRotateLeft, CanRotateRight, RotatesSiblingsLeft, RotatesSiblingsRight}
+use Rattle.btree_raw.specs.NodeSteps.{AreSiblings, MergesSiblings, CanMerge, CanRotateLeft, CanRotateRight, RotatesSiblingsLeft, RotatesSiblingsRight}
 use Rattle.btree_raw.specs.Underflow.{AreAdjacent, FitTogether, Underflows, PassesUnderflowUp, EndsUnderflow, IsFollowed}
 use Rattle.btree_raw.specs.Steps.{HasCount}
 use Rattle.btree_raw.proofs.UpwardLemmas.{back-some, some-back}
@@ -27,14 +23,6 @@ use Rattle.btree_raw.proofs.StepLemmas.{size-at}
 use Rattle.btree_shape.proofs.Underflow.Adjacent.{AdjacentSteps}
 use Rattle.btree_shape.proofs.Underflow.Upward.{underflow-node, to-over}
 use Rattle.btree_shape.specs.Need.{levels_above}
-
-pub first-at : {K V : Type 0} (nodes : Content (Node K V)) (id : ℕ) (node : Node K V) (o : Option ℕ) → nodes_map.get nodes id ≡ Some node
-    → o ≡ slice_get (children_of (view_of node)) 0 → option_map first_in (views nodes id) ≡ Some o
-first-at {K} {V} nodes id node o at is = ap (λ n. option_map first_in (option_map view_of n)) at ∙ ap Some (first (view_of node) ∙ sym is)
-  where
-    first : (v : View (K × V)) → first_in v ≡ slice_get (children_of v) 0
-    first (leaf p xs) = refl
-    first (internal p u bs) = refl
 
 -- the node at which an underflow fix that follows an address is
 module _ {A : Type 0} (node_at : NodeMap A) (id : ℕ) (a : Address) (s : IsFollowed node_at id a) where
@@ -126,9 +114,6 @@ module _ {A : Type 0} (node_at : NodeMap A) (siblings : Siblings) (id : ℕ) (a 
     children = pair.children_used;
   }
 
-  pub right-there : 0 < times_used (node_at siblings.right)
-  right-there = rw pair.at_right (omega arith)
-
   pub index-few : siblings.index < 2 ^ 64 - 1
   index-few = omega (arith, pair.between, pair.node_most)
 
@@ -146,25 +131,25 @@ module _ {A : Type 0} (node_at : NodeMap A) (siblings : Siblings) (id : ℕ) (a 
       so g low high l h P p = subst (λ n. P (g n child)) (size-at node_at siblings.left count low l counted)
           (subst (λ k. P (g (size_of low) k)) (first-is node_at siblings.right child high h first) p)
 
-      module _ (short : Underflows node_at siblings.left) (giver : CanGiveItem node_at siblings.right) (new : NodeMap A) (rot : RotatesSiblingsLeft node_at new siblings) where
+      module _ (short : Underflows node_at siblings.left) (spare : 3 < size_in (node_at siblings.right)) (new : NodeMap A) (rot : RotatesSiblingsLeft node_at new siblings) where
         pub borrowed-left : EndsUnderflow node_at new id a (between moved_by_rotate_left siblings count child a)
         borrowed-left = record {
           repaired = λ root xs expected place freed bound g.
               let b = adjacent root xs expected place freed bound g in
               so (λ n k. between moved_by_rotate_left siblings n k a) b.low b.high b.at_left b.at_right (λ v. IsRepaired A new root xs expected v place freed bound)
               (b.rotate_left new rot (subst (λ v. size_of v ≤ 2) (same-node node_at siblings.left short.node b.low short.here b.at_left) short.few)
-              (subst (λ v. 3 < size_of v) (same-node node_at siblings.right giver.node b.high giver.here b.at_right) giver.spare));
+              (subst (λ o. 3 < size_in o) b.at_right spare));
           used = writes-used node_at new siblings.parent siblings.left siblings.right rot.top rot.low rot.high rot.new_top rot.new_low rot.new_high (as_list rot.child) siblings.left rot.writes;
         }
 
-      module _ (short : Underflows node_at siblings.right) (giver : CanGiveItem node_at siblings.left) (new : NodeMap A) (rot : RotatesSiblingsRight node_at new siblings) where
+      module _ (short : Underflows node_at siblings.right) (spare : 3 < size_in (node_at siblings.left)) (new : NodeMap A) (rot : RotatesSiblingsRight node_at new siblings) where
         pub borrowed-right : EndsUnderflow node_at new id a (between moved_by_rotate_right siblings count child a)
         borrowed-right = record {
           repaired = λ root xs expected place freed bound g.
               let b = adjacent root xs expected place freed bound g in
               so (λ n k. between moved_by_rotate_right siblings n k a) b.low b.high b.at_left b.at_right (λ v. IsRepaired A new root xs expected v place freed bound)
               (b.rotate_right new rot (subst (λ v. size_of v ≤ 2) (same-node node_at siblings.right short.node b.high short.here b.at_right) short.few)
-              (subst (λ v. 3 < size_of v) (same-node node_at siblings.left giver.node b.low giver.here b.at_left) giver.spare));
+              (subst (λ o. 3 < size_in o) b.at_left spare));
           used = writes-used node_at new siblings.parent siblings.left siblings.right rot.top rot.low rot.high rot.new_top rot.new_low rot.new_high (as_list rot.child) siblings.right rot.writes;
         }
 
@@ -191,19 +176,11 @@ module _ {A : Type 0} (node_at : NodeMap A) (siblings : Siblings) (id : ℕ) (a 
           used = merge-used node_at new siblings.parent siblings.index siblings.left siblings.right pair.apart mg;
         }
 
-  pub can-left : Underflows node_at siblings.left → CanGiveItem node_at siblings.right → CanRotateLeft node_at siblings
-  can-left short giver = record {
-    pair = are-siblings;
-    room = pair.low_most;
-    spare = subst (λ v. 3 < size_of v) (same-node node_at siblings.right giver.node pair.high giver.here pair.at_right) giver.spare;
-  }
+  pub can-left : CanRotateLeft node_at siblings
+  can-left = record { pair = are-siblings; room = pair.low_most }
 
-  pub can-right : Underflows node_at siblings.right → CanGiveItem node_at siblings.left → CanRotateRight node_at siblings
-  can-right short giver = record {
-    pair = are-siblings;
-    room = pair.high_most;
-    spare = subst (λ v. 3 < size_of v) (same-node node_at siblings.left giver.node pair.low giver.here pair.at_left) giver.spare;
-  }
+  pub can-right : CanRotateRight node_at siblings
+  can-right = record { pair = are-siblings; room = pair.high_most }
 
   pub can-merge : FitTogether node_at siblings → CanMerge node_at siblings
   can-merge few = record {
@@ -212,7 +189,6 @@ module _ {A : Type 0} (node_at : NodeMap A) (siblings : Siblings) (id : ℕ) (a 
         let a1 = ap size_of (same-node node_at siblings.left few.low pair.low few.at_left pair.at_left) in
         let a2 = ap size_of (same-node node_at siblings.right few.high pair.high few.at_right pair.at_right) in
         let f = few.few in let m = most-some pair.low in omega arith;
-    own = pair.low_children;
   }
 
 -- an offset other than -1 stays one

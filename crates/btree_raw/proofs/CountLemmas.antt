@@ -1,11 +1,10 @@
 -- The count of the nodes that splits need, step by step.
-use Rattle.std.proofs.Common.{◌≡◌, ◌+◌, ◌<◌, ◌≤◌, ◌∙◌, ℕ, Option, Bool, Some, None, IsSome, refl, sym, ap, arith, option_map}
+use Rattle.std.proofs.Common.{◌≡◌, ◌+◌, ◌<◌, ◌≤◌, ◌∙◌, ℕ, Option, Bool, Some, None, IsSome, sym, ap, arith, option_map}
 use Rattle.std.specs.Prelude.{nat_lt}
 use Rattle.std.specs.FinMap as map
 use Rattle.btree_store.specs.Content.{Content}
 use Rattle.btree_node.specs.declared.node.Node.{Node}
-use Rattle.btree_node.specs.Node.{view_of}
-use Rattle.btree_view.specs.View.{NodeMap, most_of, parent_of, size_of}
+use Rattle.btree_view.specs.View.{View, most_of, parent_of, size_of}
 use Rattle.btree_shape.specs.Focus.Need.{IsCountingUpward}
 use Rattle.btree_shape.specs.Need.{split_need, levels_above}
 use Rattle.btree_shape.specs.TreeState.{views}
@@ -27,35 +26,35 @@ module _ {K V : Type 0} (nodes : Content (Node K V)) (most start id counted : �
       let e = used-alike (views nodes) s.tree s.alike id in
       used-view nodes id (omega arith)
 
-  module _ (node : Node K V) (at : map.get nodes id ≡ Some node) where
+  module _ (v : View (K × V)) (at : views nodes id ≡ Some v) where
     -- the node of the tree
-    abbrev key : KeyAt (s.tree id) (split_key (view_of node))
-    key = key-at (s.tree id) (split_key (view_of node)) (s.alike id ∙ ap (option_map split_key) (ap (option_map view_of) at))
+    abbrev key : KeyAt (s.tree id) (split_key v)
+    key = key-at (s.tree id) (split_key v) (s.alike id ∙ ap (option_map split_key) at)
 
-    same-room : nat_lt (size_of key.node) (most_of key.node) ≡ nat_lt (size_of (view_of node)) (most_of (view_of node))
+    same-room : nat_lt (size_of key.node) (most_of key.node) ≡ nat_lt (size_of v) (most_of v)
     same-room = ap (λ (k : Option ℕ × Bool). k.1) key.key
 
-    same-up : parent_of key.node ≡ parent_of (view_of node)
+    same-up : parent_of key.node ≡ parent_of v
     same-up = ap (λ (k : Option ℕ × Bool). k.0) key.key
 
-    pub count-all : size_of (view_of node) < most_of (view_of node) → (counted ≡ split_need (views nodes) most start) × (counted ≤ 33)
+    pub count-all : size_of v < most_of v → (counted ≡ split_need (views nodes) most start) × (counted ≤ 33)
     count-all less =
-        let low = low-alike (size_of key.node) (most_of key.node) (size_of (view_of node)) (most_of (view_of node)) same-room less in
+        let low = low-alike (size_of key.node) (most_of key.node) (size_of v) (most_of v) same-room less in
         let e = upward-done (K × V) s.tree s.root s.xs most id counted all s.upward key.node key.here low in
         let f = s.few in
         (e ∙ same-all, omega arith)
 
-    module _ (full : most_of (view_of node) ≤ size_of (view_of node)) where
+    module _ (full : most_of v ≤ size_of v) where
       tree-full : most_of key.node ≤ size_of key.node
-      tree-full = full-alike (size_of key.node) (most_of key.node) (size_of (view_of node)) (most_of (view_of node)) same-room full
+      tree-full = full-alike (size_of key.node) (most_of key.node) (size_of v) (most_of v) same-room full
 
-      pub count-top : parent_of (view_of node) ≡ None → (counted + 2 ≡ split_need (views nodes) most start) × (counted + 2 ≤ 33)
+      pub count-top : parent_of v ≡ None → (counted + 2 ≡ split_need (views nodes) most start) × (counted + 2 ≤ 33)
       count-top up =
           let e = upward-root (K × V) s.tree s.root s.xs most id counted all s.upward key.node key.here tree-full (same-up ∙ up) in
           let f = s.few in
           (e ∙ same-all, omega arith)
 
-      module _ (p : ℕ) (up : parent_of (view_of node) ≡ Some p) where
+      module _ (p : ℕ) (up : parent_of v ≡ Some p) where
         next : IsCountingUpward (K × V) s.tree s.root s.xs most p (counted + 1) all × (levels_above s.tree most p < levels_above s.tree most id)
         next = upward-up (K × V) s.tree s.root s.xs most id counted all s.upward key.node key.here p tree-full (same-up ∙ up)
 

@@ -1,10 +1,5 @@
 -- An underflow fix upward: its state at a node, and its end at the root.
 use Rattle.std.proofs.Common.{◌≡◌, ◌≢◌, ℕ, suc, ◌+◌, ◌<◌, ◌≤◌, inl, inr, List, [], ◌∷◌, ◌++◌, length, Option, Some, None, IfSome, IsSome, IsTrue, false, refl, sym, ap, subst, ◌∙◌, option_map, arith, length-append}
-use Rattle.std.specs.FinMap as nodes_map
-use Rattle.btree_store.specs.Content.{Content}
-use Rattle.btree_node.specs.declared.node.Node.{Node}
-use Rattle.btree_node.specs.Node.{view_of}
-use Rattle.btree_shape.specs.TreeState.{views}
 use Rattle.btree_item.specs.declared.address.Address.{Address}
 use Rattle.btree_view.specs.Edits.{is_internal, with_parent}
 use Rattle.btree_view.specs.View.{NodeMap, View, leaf, internal, children_of, parent_of, size_of}
@@ -252,6 +247,12 @@ module _ {A : Type 0} (old now : NodeMap A) (root : Option ℕ) (start id : ℕ)
         c.order top is now root (rests now id (omega arith) (λ n. refl) is);
   }
 
+  pub fix-enough : (count : ℕ) → HasCount now id count → 2 < count → AreFixed old now root root start a b
+  fix-enough count counted enough =
+      let n = followed-node now id b still-followed in
+      let size = size-at now id count n.0 n.1 counted in
+      fix-done n.0 n.1 (omega arith)
+
   -- the last step
   pub fix-here : (new : NodeMap A) (d : Address) → EndsUnderflow now new id b d → (p count : ℕ) → option_map parent_of (now id) ≡ Some (Some p)
       → HasCount now id count → count ≤ 2 → Borrows now new p id → AreFixed old new root root start a d
@@ -311,8 +312,3 @@ module _ {A : Type 0} (old now : NodeMap A) (root : Option ℕ) (start id : ℕ)
 
     pub fix-lower-of : (most : ℕ) → length s.followed.xs ≡ most → levels_above new most p < levels_above now most id
     fix-lower-of most is = subst (λ n. levels_above new n p < levels_above now n id) is fix-lower
-
--- the parent that a node names
-pub at-parent : {K V : Type 0} (nodes : Content (Node K V)) (id : ℕ) (node : Node K V) → nodes_map.get nodes id ≡ Some node
-    → (parent : Option ℕ) → parent ≡ parent_of (view_of node) → (is : Option ℕ) → parent ≡ is → option_map parent_of (views nodes id) ≡ Some is
-at-parent nodes id node at parent e is same = ap (λ n. option_map parent_of (option_map view_of n)) at ∙ ap Some (sym e ∙ same)

@@ -24,3 +24,6 @@ pub mod WithinLemmas
 pub mod PlacedLemmas
 pub mod LastLemmas
 pub mod PutBackLemmas
+pub mod ResultLemmas
+pub mod FetchedLemmas
+pub mod CutLemmas

@@ -1,13 +1,13 @@
 -- A node split into two, and a new root over two nodes.
-use Rattle.std.proofs.Common.{◌≡◌, ℕ, ◌<◌, ◌≤◌, inl, inr, [], ◌∷◌, Some, None, sym, ap, subst, ◌∙◌, option_map, arith}
+use Rattle.std.proofs.Common.{◌≡◌, ℕ, ◌<◌, ◌≤◌, [], ◌∷◌, Some, None, sym, ap, ◌∙◌, option_map, arith}
 use Rattle.btree_view.specs.Edits.{IsSplit, with_parent}
-use Rattle.btree_view.specs.View.{View, NodeMap, internal, children_of, children_in}
+use Rattle.btree_view.specs.View.{View, NodeMap, internal, children_of, children_in, size_of}
 use Rattle.btree_shape.specs.Lists.{times_listed}
 use Rattle.btree_shape.specs.Step.{Reparents, WritesNode, GrowsRoot, Splits}
 use Rattle.btree_shape.specs.WellFormed.{times_used}
-use Rattle.btree_shape.proofs.Splits.Upward.{right-children, splits-made}
-use Rattle.btree_shape.proofs.Trees.Numbers.{same-or, used-same, used-there}
-use Rattle.btree_raw.specs.Steps.{CanReparent, CanGrowRoot, CanSplitInto, CutsAtMedian, HasCount, SetsParent}
+use Rattle.btree_shape.proofs.Splits.Upward.{right-children}
+use Rattle.btree_shape.proofs.Trees.Numbers.{used-same}
+use Rattle.btree_raw.specs.Steps.{AreThere, CanGrowRoot, CanSplitInto, CutsAtMedian, HasCount, SetsParent}
 
 module _ {A : Type 0} (node_at mid : NodeMap A) (id right count : ℕ) (median : A) (part : View A) (can : CanSplitInto node_at id right) (half : CutsAtMedian node_at mid id count median part) where
   parts : IsSplit can.can.node median half.left part
@@ -27,35 +27,38 @@ module _ {A : Type 0} (node_at mid : NodeMap A) (id right count : ℕ) (median :
   apart-right : times_listed right (children_of part) ≡ 0
   apart-right = let z = can.children_apart.1 in let f = fewer right in omega arith
 
-  module _ (two : NodeMap A) (writes_node : WritesNode mid two right part) where
-    children-are : children_in (two right) ≡ children_of part
-    children-are = ap children_in writes_node.here
+  pub adopts-part : AreThere mid (children_of part)
+  adopts-part n some =
+      let f = fewer n in
+      used-same node_at mid n (half.writes_node.others n (λ e. apart-of n e some)) (can.children n (omega arith))
+    where
+      apart-of : (n : ℕ) → n ≡ id → 0 < times_listed n (children_of part) → ⊥
+      apart-of n e some = let z = apart-left in let q = ap (λ k. times_listed k (children_of part)) e in absurd (omega arith)
 
-    pub can-reparent_children : CanReparent two right
-    can-reparent_children = record {
-      used = used-there two right part writes_node.here;
-      children = λ n some. let e = ap (times_listed n) children-are in let f = fewer n in there n (can.children n (omega arith));
-      apart = ap (times_listed right) children-are ∙ apart-right;
-    }
-      where
-        there : (n : ℕ) → 0 < times_used (node_at n) → 0 < times_used (two n)
-        there n used = elim (same-or n right) [
-          | inl e ↦ rw e (used-there two right part writes_node.here)
-          | inr other ↦ elim (same-or n id) [
-            | inl e ↦ used-same mid two n (writes_node.others n other) (rw e (used-there mid id half.left half.writes_node.here))
-            | inr differs ↦ used-same mid two n (writes_node.others n other) (used-same node_at mid n (half.writes_node.others n differs) used)
-          ]
-        ]
+  module _ (one_look : NodeMap A) (reparents : Reparents mid one_look right (children_of part)) where
+    pub right-used : 0 < times_used (one_look right)
+    right-used = used-same mid one_look right (reparents.kept right apart-right) right-there
 
-    module _ (new : NodeMap A) (reparents : Reparents two new right (children_in (two right))) where
+    module _ (new : NodeMap A) (writes_node : WritesNode one_look new right part) where
+      left-kept : new id ≡ Some half.left
+      left-kept = writes_node.others id (λ e. can.apart (sym e)) ∙ (reparents.kept id apart-left ∙ half.writes_node.here)
+
       pub splits : Splits node_at new id right median
-      splits = splits-made A node_at mid two new id right median can.can.node half.left part can.can.here parts can.apart apart-left apart-right half.writes_node writes_node
-          (subst (λ ids. Reparents two new right ids) children-are reparents)
+      splits = record {
+        node = can.can.node;
+        left = half.left;
+        right = part;
+        here = can.can.here;
+        parts = parts;
+        at_left = left-kept;
+        at_right = writes_node.here;
+        moved = λ n ni nj m.
+            writes_node.others n nj ∙ (reparents.moved n m ∙ ap (option_map (with_parent (Some right))) (half.writes_node.others n ni));
+        kept = λ n ni nj z. writes_node.others n nj ∙ (reparents.kept n z ∙ half.writes_node.others n ni);
+      }
 
       pub leaves : HasCount new id count
-      leaves =
-          let kept : new id ≡ two id = reparents.kept id (ap (times_listed id) children-are ∙ apart-left) in
-          rw (kept, writes_node.others id (λ e. can.apart (sym e)), half.writes_node.here) (ap Some (sym half.counted))
+      leaves = ap (option_map size_of) left-kept ∙ ap Some (sym half.counted)
 
 module _ {A : Type 0} (node_at : NodeMap A) (left right root : ℕ) (median : A) (can : CanGrowRoot node_at left right root) where
   module _ (one : NodeMap A) (writes_node : WritesNode node_at one root (internal None left ((median, right) ∷ []))) where

@@ -1,9 +1,10 @@
 -- Rotations and merges of two siblings, call by call.
-use Rattle.std.proofs.Common.{◌≡◌, ◌≢◌, ℕ, ◌+◌, ◌<◌, ◌≤◌, inl, inr, List, [], ◌∷◌, ◌++◌, Option, Some, None, IfSome, refl, sym, ap, subst, ◌∙◌, slice_get, arith}
+use Rattle.std.proofs.Common.{◌≡◌, ◌≢◌, ℕ, ◌+◌, ◌<◌, ◌≤◌, inl, inr, [], ◌∷◌, ◌++◌, Option, Some, None, IfSome, refl, sym, ap, subst, ◌∙◌, option_map, slice_get, arith}
 use Rattle.btree_moved.specs.declared.siblings.Siblings.{Siblings}
 use Rattle.btree_view.specs.Edits.{HasChildFor, is_internal, joined, pushed_left, pushed_right, with_other_item, without}
-use Rattle.btree_view.specs.View.{NodeMap, View, children_in, children_of, items_of}
+use Rattle.btree_view.specs.View.{NodeMap, View, children_of, items_of}
 use Rattle.btree_shape.specs.Lists.{as_list, times_listed}
+use Rattle.btree_shape.specs.Moved.{first_in}
 use Rattle.btree_shape.specs.SiblingSteps.{IsRemade}
 use Rattle.btree_shape.specs.Step.{Reparents, Becomes, WritesNode}
 use Rattle.btree_shape.specs.WellFormed.{times_used}
@@ -11,8 +12,8 @@ use Rattle.btree_shape.proofs.Paths.Frames.{one-self}
 use Rattle.btree_shape.proofs.Trees.Numbers.{listed-append, same-node, used-same, used-there, zero-or}
 use Rattle.btree_shape.proofs.Underflow.Calls.{left-written, merge-written, right-written}
 use Rattle.btree_raw.specs.NodeSteps.{AreSiblings, MergesSiblings, CanMerge, CanRotateLeft, CanRotateRight, ChangesSeparator, GainsAll, GainsFirst, GainsLast, HasSeparator, HasRoomFor, HasRoomForAll, RotatesSiblingsLeft, RotatesSiblingsRight, LosesSeparator, LosesFirst, LosesLast}
-use Rattle.btree_raw.specs.Steps.{CanReparent}
-use Rattle.btree_raw.proofs.SingleNodeLemmas.{kind-left, kind-right, remade-joined, remade-left, remade-other, remade-right, remade-without}
+use Rattle.btree_raw.specs.Steps.{AreThere}
+use Rattle.btree_raw.proofs.SingleNodeLemmas.{first-pushed, kind-left, kind-right, remade-joined, remade-left, remade-other, remade-right, remade-without}
 
 one-child : (child : Option ℕ) (P : ℕ → Type 0) → ((n : ℕ) → 0 < times_listed n (as_list child) → P n) → IfSome child P
 one-child None P all = tt
@@ -38,9 +39,19 @@ module _ {A : Type 0} (node_at : NodeMap A) (siblings : Siblings) (pair : AreSib
 
 -- a rotation to the left
 module _ {A : Type 0} (node_at : NodeMap A) (siblings : Siblings) (can : CanRotateLeft node_at siblings) where
+  pub left-giver : 0 < times_used (node_at siblings.right)
+  left-giver = used-there node_at siblings.right can.pair.high can.pair.at_right
+
+  pub left-taker : 0 < times_used (node_at siblings.left)
+  left-taker = used-there node_at siblings.left can.pair.low can.pair.at_left
+
   module _ (one_look : NodeMap A) (up : A) (child : Option ℕ) (a : LosesFirst node_at one_look siblings.right up child) where
     high-left : can.pair.high ≡ pushed_left up child a.rest
     high-left = same-node node_at siblings.right can.pair.high (pushed_left up child a.rest) can.pair.at_right a.was
+
+    -- the child that moves is the first one
+    pub left-first : option_map first_in (node_at siblings.right) ≡ Some child
+    left-first = ap (option_map first_in) a.was ∙ ap Some (first-pushed up child a.rest a.kind)
 
     kind-high : HasChildFor child can.pair.high
     kind-high = a.kind ∙ sym (ap is_internal high-left ∙ kind-left up child a.rest)
@@ -99,6 +110,12 @@ module _ {A : Type 0} (node_at : NodeMap A) (siblings : Siblings) (can : CanRota
 
 -- a rotation to the right
 module _ {A : Type 0} (node_at : NodeMap A) (siblings : Siblings) (can : CanRotateRight node_at siblings) where
+  pub right-giver : 0 < times_used (node_at siblings.left)
+  right-giver = used-there node_at siblings.left can.pair.low can.pair.at_left
+
+  pub right-taker : 0 < times_used (node_at siblings.right)
+  right-taker = used-there node_at siblings.right can.pair.high can.pair.at_right
+
   module _ (one_look : NodeMap A) (up : A) (child : Option ℕ) (a : LosesLast node_at one_look siblings.left up child) where
     low-right : can.pair.low ≡ pushed_right up child a.rest
     low-right = same-node node_at siblings.left can.pair.low (pushed_right up child a.rest) can.pair.at_left a.was
@@ -122,6 +139,9 @@ module _ {A : Type 0} (node_at : NodeMap A) (siblings : Siblings) (can : CanRota
       top-right : b.node ≡ can.pair.top
       unfolding right-between between-other
       top-right = same-node one_look siblings.parent b.node can.pair.top b.here right-between.here
+
+      pub right-same : two siblings.right ≡ node_at siblings.right
+      right-same = at-right ∙ sym can.pair.at_right
 
       pub right-room : HasRoomFor two siblings.right child
       right-room = record { node = can.pair.high; here = at-right; room = can.room; kind = kind-low ∙ can.pair.one_kind }
@@ -160,18 +180,22 @@ module _ {A : Type 0} (node_at : NodeMap A) (siblings : Siblings) (can : CanRota
 
 -- a merge
 module _ {A : Type 0} (node_at : NodeMap A) (siblings : Siblings) (can : CanMerge node_at siblings) where
-  abbrev both : List ℕ
-  both = children_of can.pair.low ++ children_of can.pair.high
+  pub merge-taker : 0 < times_used (node_at siblings.left)
+  merge-taker = used-there node_at siblings.left can.pair.low can.pair.at_left
 
-  apart-both : (n : ℕ) → 0 < times_listed n both → (0 < times_used (node_at n)) × (n ≢ siblings.parent) × (n ≢ siblings.left) × (n ≢ siblings.right)
-  apart-both n m = can.pair.children n (let s = listed-append n (children_of can.pair.low) (children_of can.pair.high) in omega arith)
+  apart-high : (n : ℕ) → 0 < times_listed n (children_of can.pair.high)
+      → (0 < times_used (node_at n)) × (n ≢ siblings.parent) × (n ≢ siblings.left) × (n ≢ siblings.right)
+  apart-high n m = can.pair.children n (omega arith)
 
   module _ (one_look : NodeMap A) (down : A) (a : LosesSeparator node_at one_look siblings.parent siblings.index down) where
     top-both : a.node ≡ can.pair.top
     top-both = same-node node_at siblings.parent a.node can.pair.top a.here can.pair.at_parent
 
+    pub other-same : one_look siblings.right ≡ node_at siblings.right
+    other-same = a.writes_node.others siblings.right can.pair.apart.2
+
     pub at-other : one_look siblings.right ≡ Some can.pair.high
-    at-other = a.writes_node.others siblings.right can.pair.apart.2 ∙ can.pair.at_right
+    at-other = other-same ∙ can.pair.at_right
 
     pub other-there : 0 < times_used (one_look siblings.right)
     other-there = used-there one_look siblings.right can.pair.high at-other
@@ -181,43 +205,38 @@ module _ {A : Type 0} (node_at : NodeMap A) (siblings : Siblings) (can : CanMerg
       same-other : other ≡ can.pair.high
       same-other = same-node one_look siblings.right other can.pair.high is at-other
 
-      at-low : two siblings.left ≡ Some can.pair.low
-      at-low = b.others siblings.left can.pair.apart.0 ∙ (a.writes_node.others siblings.left can.pair.apart.1 ∙ can.pair.at_left)
+      pub adopts-both : AreThere two (children_of other)
+      adopts-both n m =
+          let s = apart-high n (subst (λ v. 0 < times_listed n (children_of v)) same-other m) in
+          used-same node_at two n (b.others n s.3 ∙ a.writes_node.others n s.1) s.0
 
-      pub room-both : HasRoomForAll two siblings.left other
-      room-both = rw same-other (record { node = can.pair.low; here = at-low; kind = sym can.pair.one_kind; room = can.room })
+      module _ (three : NodeMap A) (d : Reparents two three siblings.left (children_of other)) where
+        moves : Reparents two three siblings.left (children_of can.pair.high)
+        moves = subst (λ v. Reparents two three siblings.left (children_of v)) same-other d
 
-      module _ (three : NodeMap A) (c : GainsAll two three siblings.left down other) where
-        low-both : c.node ≡ can.pair.low
-        low-both = same-node two siblings.left c.node can.pair.low c.here at-low
+        pub low-same : three siblings.left ≡ node_at siblings.left
+        low-same =
+            moves.kept siblings.left (elim (zero-or (times_listed siblings.left (children_of can.pair.high))) [
+              | inl z ↦ z
+              | inr m ↦ absurd ((apart-high siblings.left m).2 refl)
+            ])
+            ∙ (b.others siblings.left can.pair.apart.0 ∙ a.writes_node.others siblings.left can.pair.apart.1)
 
-        writes_node-both : WritesNode two three siblings.left (joined can.pair.low down can.pair.high)
-        writes_node-both = subst (λ v. WritesNode two three siblings.left (joined v down can.pair.high)) low-both
-            (subst (λ w. WritesNode two three siblings.left (joined c.node down w)) same-other c.writes_node)
+        at-low : three siblings.left ≡ Some can.pair.low
+        at-low = low-same ∙ can.pair.at_left
 
-        remade-both : IsRemade can.pair.low (joined can.pair.low down can.pair.high) (items_of can.pair.low ++ down ∷ items_of can.pair.high) both
-        remade-both = remade-joined down can.pair.low can.pair.high can.pair.one_kind
+        pub room-both : HasRoomForAll three siblings.left other
+        room-both = rw same-other (record { node = can.pair.low; here = at-low; kind = sym can.pair.one_kind; room = can.room })
 
-        children-both : children_in (three siblings.left) ≡ both
-        children-both = ap children_in writes_node-both.here ∙ remade-both.children_are
-
-        pub reparents-both : CanReparent three siblings.left
-        reparents-both = record {
-          used = used-there three siblings.left (joined can.pair.low down can.pair.high) writes_node-both.here;
-          children = λ n m.
-              let e = ap (times_listed n) children-both in
-              let s = apart-both n (omega arith) in
-              used-same node_at three n (c.writes_node.others n s.2 ∙ (b.others n s.3 ∙ a.writes_node.others n s.1)) s.0;
-          apart = elim (zero-or (times_listed siblings.left (children_in (three siblings.left)))) [
-            | inl z ↦ z
-            | inr m ↦ absurd (let e = ap (times_listed siblings.left) children-both in (apart-both siblings.left (omega arith)).2 refl)
-          ];
-        }
-
-        pub merges : under ≡ None → (new : NodeMap A) → Reparents three new siblings.left (children_in (three siblings.left)) → MergesSiblings node_at new siblings
-        merges none new d =
+        pub merges : under ≡ None → (new : NodeMap A) → GainsAll three new siblings.left down other → MergesSiblings node_at new siblings
+        merges none new c =
+            let low-both : c.node ≡ can.pair.low = same-node three siblings.left c.node can.pair.low c.here at-low in
+            let written : WritesNode three new siblings.left (joined can.pair.low down can.pair.high) =
+            subst (λ v. WritesNode three new siblings.left (joined v down can.pair.high)) low-both
+            (subst (λ w. WritesNode three new siblings.left (joined c.node down w)) same-other c.writes_node) in
             merge-written node_at one_look two three new siblings.parent siblings.left siblings.right can.pair.apart siblings.index can.pair.top can.pair.low can.pair.high
-            (without siblings.index can.pair.top) (joined can.pair.low down can.pair.high) down (λ n m. let k = can.pair.children n m in (k.1, k.2, k.3)) can.own
+            (without siblings.index can.pair.top) (joined can.pair.low down can.pair.high) down (λ n m. let k = apart-high n m in (k.1, k.2, k.3))
             can.pair.at_parent can.pair.at_left can.pair.at_right (subst (λ v. slice_get (items_of v) siblings.index ≡ Some down) top-both a.was)
-            (remade-without siblings.index can.pair.top can.pair.inner) remade-both (subst (λ v. WritesNode node_at one_look siblings.parent (without siblings.index v)) top-both a.writes_node) (subst (λ o. Becomes one_look two siblings.right o) none b) writes_node-both
-            (subst (λ l. Reparents three new siblings.left l) children-both d)
+            (remade-without siblings.index can.pair.top can.pair.inner) (remade-joined down can.pair.low can.pair.high can.pair.one_kind)
+            (subst (λ v. WritesNode node_at one_look siblings.parent (without siblings.index v)) top-both a.writes_node) (subst (λ o. Becomes one_look two siblings.right o) none b)
+            moves written

@@ -1,5 +1,5 @@
 -- Single nodes of a store in the steps that fix an underflow, as a map of nodes sees them.
-use Rattle.std.proofs.Common.{◌≡◌, ℕ, suc, inl, inr, ◌+◌, ◌<◌, ◌≤◌, ◌^◌, ◌-◌, List, [], ◌∷◌, ◌++◌, length, map, set, Option, Some, None, IsSomeAnd, IsTrue, refl, sym, ap, subst, ◌∙◌, option_map, slice_get, arith}
+use Rattle.std.proofs.Common.{◌≡◌, ℕ, suc, inl, inr, ◌+◌, ◌<◌, ◌≤◌, ◌^◌, ◌-◌, List, [], ◌∷◌, ◌++◌, length, map, set, Option, Some, None, IsSomeAnd, IsTrue, refl, sym, ap, subst, ◌∙◌, option_map, slice_get, arith, length-append}
 use Rattle.std.proofs.lemmas.List.{length-map, length-set, map-append}
 use Rattle.std.proofs.lemmas.Slice.Zip.{firsts-zip, seconds-zip}
 use Rattle.std.specs.FinMap as nodes_map
@@ -13,6 +13,7 @@ use Rattle.btree_node.specs.Node.{view_of}
 use Rattle.btree_view.specs.Edits.{HasChildFor, HaveRoom, is_internal, joined, pushed_left, pushed_right, with_other_item, with_other_item_at, with_parent, without}
 use Rattle.btree_view.specs.View.{NodeMap, View, leaf, internal, children_of, items_of, most_of, size_of}
 use Rattle.btree_shape.specs.Lists.{as_list, one}
+use Rattle.btree_shape.specs.Moved.{first_in}
 use Rattle.btree_shape.specs.SiblingSteps.{IsRemade, ShrinksRoot}
 use Rattle.btree_shape.specs.Step.{Reparents, RemovesNode}
 use Rattle.btree_shape.specs.WellFormed.{times_used}
@@ -20,7 +21,7 @@ use Rattle.btree_shape.proofs.Paths.Frames.{one-other, one-self}
 use Rattle.btree_shape.proofs.Trees.Numbers.{same-or}
 use Rattle.btree_shape.specs.TreeState.{views}
 use Rattle.btree_raw.specs.NodeSteps.{CanShrinkRoot, ChangesSeparator, ClearsParent, GainsAll, GainsFirst, GainsLast, HasSeparator, HasRoomFor, HasRoomForAll, LosesSeparator, LosesFirst, LosesLast}
-use Rattle.btree_raw.specs.Steps.{SetsParent}
+use Rattle.btree_raw.specs.Steps.{HasCount, SetsParent}
 use Rattle.btree_shape.proofs.Places.Untouched.{other-test}
 use Rattle.btree_shape.proofs.Trees.Stores.{most-few, writes_node, view-at}
 use Rattle.btree_raw.proofs.SeparatorLemmas.{one-more}
@@ -38,6 +39,13 @@ module _ {A : Type 0} where
   kind-right x None (internal p u bs) = refl
   kind-right x (Some n) (internal p u bs) = refl
 
+  -- the first child after a child was added before the others
+  pub first-pushed : (x : A) (child : Option ℕ) (v : View A) → HasChildFor child v → first_in (pushed_left x child v) ≡ child
+  first-pushed x None (leaf p xs) k = refl
+  first-pushed x (Some n) (leaf p xs) k = absurd (cc)
+  first-pushed x None (internal p u bs) k = absurd (cc)
+  first-pushed x (Some n) (internal p u bs) k = refl
+
   pub remade-left : (x : A) (child : Option ℕ) (v : View A) → HasChildFor child v → IsRemade v (pushed_left x child v) (x ∷ items_of v) (as_list child ++ children_of v)
   remade-left x None (leaf p xs) k = record { kind = refl; parent = refl; items_are = refl; children_are = refl }
   remade-left x (Some n) (leaf p xs) k = absurd (cc)
@@ -54,6 +62,10 @@ module _ {A : Type 0} where
     items_are = map-append (λ b. b.0) bs ((x, n) ∷ []);
     children_are = ap (λ l. u ∷ l) (map-append (λ b. b.1) bs ((x, n) ∷ []));
   }
+
+  pub size-right : (x : A) (child : Option ℕ) (v : View A) → HasChildFor child v → size_of (pushed_right x child v) ≡ size_of v + 1
+  size-right x child v kind =
+      ap length (remade-right x child v kind).items_are ∙ (let l = length-append (items_of v) (x ∷ []) in omega arith)
 
   as-many : (bs : List (A × ℕ)) (i : ℕ) (x : A) → length (map {B = ℕ} (λ b. b.1) bs) ≡ length (set (map {B = A} (λ b. b.0) bs) i x)
   as-many bs i x = length-map bs (λ b. b.1) ∙ sym (length-set (map (λ b. b.0) bs) i x ∙ length-map bs (λ b. b.0))
@@ -87,12 +99,20 @@ module _ {A : Type 0} where
     children_are = ap (λ l. u ∷ l) (map-append (λ b. b.1) bs ((x, w) ∷ cs));
   }
 
+pub first-at : {K V : Type 0} (nodes : Content (Node K V)) (id : ℕ) (node : Node K V) (o : Option ℕ) → nodes_map.get nodes id ≡ Some node
+    → o ≡ slice_get (children_of (view_of node)) 0 → option_map first_in (views nodes id) ≡ Some o
+first-at {K} {V} nodes id node o at is = ap (λ n. option_map first_in (option_map view_of n)) at ∙ ap Some (first (view_of node) ∙ sym is)
+  where
+    first : (v : View (K × V)) → first_in v ≡ slice_get (children_of v) 0
+    first (leaf p xs) = refl
+    first (internal p u bs) = refl
+
 -- a small index is an offset
 pub index-is : (index : ℕ) (o : Option ℕ) → index < 2 ^ 64 - 1 → o ≡ index_offset index → o ≡ Some index
 index-is index o low e = e ∙ rw (other-test index (2 ^ 64 - 1) (omega arith)) refl
 
 module _ {K V : Type 0} (nodes : Content (Node K V)) (id : ℕ) (node : Node K V) (at : Some node ≡ nodes_map.get nodes id) where
-  here-at : views nodes id ≡ Some (view_of node)
+  pub here-at : views nodes id ≡ Some (view_of node)
   here-at = ap (option_map view_of) (sym at)
 
   pub room-for : (child : Option ℕ) → HasRoomFor (views nodes) id child → (size_of (view_of node) ≤ most_of (view_of node)) × HasChildFor child (view_of node)
@@ -150,6 +170,14 @@ module _ {K V : Type 0} (nodes : Content (Node K V)) (id : ℕ) (node : Node K V
       writes_node = writes_node nodes new id after made;
     }
 
+    pub popped-count : (x : K × V) (child : Option ℕ) → HasChildFor child (view_of node) → view_of node ≡ pushed_right x child (view_of after)
+        → (o : Option ℕ) → o ≡ Some (size_of (view_of after)) → (n : ℕ) → o ≡ Some n → HasCount (views nodes) id (n + 1)
+    unfolding loses-last
+    popped-count x child kind is o e n f =
+        let l = loses-last x child kind is in
+        let left : size_of (view_of after) ≡ n = cc in
+        ap (option_map size_of) l.was ∙ ap Some (size-right x child (view_of after) l.kind ∙ ap (λ k. k + 1) left)
+
     pub gains-first : (x : K × V) (child : Option ℕ) → view_of after ≡ pushed_left x child (view_of node) → GainsFirst (views nodes) (views new) id x child
     gains-first x child is = let p = writes_node nodes new id after made in
         record { node = view_of node; here = here-at; writes_node = record { here = p.here ∙ ap Some is; others = p.others } }
@@ -189,8 +217,11 @@ reparents-no node_at parent child e = rw e (record { moved = λ n m. absurd (ome
 
 -- shrinking the root
 module _ {A : Type 0} (node_at one_look : NodeMap A) (root child : ℕ) (can : CanShrinkRoot node_at root child) (a : RemovesNode node_at one_look root) where
+  pub child-same : one_look child ≡ node_at child
+  child-same = a.others child can.apart
+
   pub child-used : 0 < times_used (one_look child)
-  child-used = rw (a.others child can.apart) can.used
+  child-used = rw child-same can.used
 
   pub shrinks_root : (new : NodeMap A) → ClearsParent one_look new child → ShrinksRoot node_at new root child
   shrinks_root new b = record {

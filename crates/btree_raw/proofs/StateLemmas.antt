@@ -1,9 +1,8 @@
 -- Changes of a tree's nodes, one after another, and single nodes written.
-use Rattle.std.proofs.Common.{◌≡◌, ◌↔◌, ℕ, Bor, Option, Some, None, IsSome, refl, sym, ap, ◌∙◌, option_and_then, option_copied, option_map, arith}
+use Rattle.std.proofs.Common.{◌≡◌, ◌↔◌, ℕ, Bor, Option, Some, None, IsSome, refl, sym, ap, ◌∙◌, option_and_then, option_copied, arith}
 use Rattle.std.specs.FinMap as map
 use Rattle.btree_store.specs.Content.{Content}
 use Rattle.btree_node.specs.declared.node.Node.{Node}
-use Rattle.btree_node.specs.Node.{view_of}
 use Rattle.btree_item.specs.declared.address.Address.{Address}
 use Rattle.btree_view.specs.View.{View, item_in}
 use Rattle.btree_shape.specs.Place.{IsOccupied}

@@ -1,12 +1,12 @@
 -- Single nodes of a store, changed, as a map of nodes sees them.
-use Rattle.std.proofs.Common.{◌≡◌, ℕ, ◌<◌, ◌≤◌, ◌^◌, ◌-◌, Option, Some, IsSomeAnd, arith, refl, sym, ap, ◌∙◌, option_map}
+use Rattle.std.proofs.Common.{◌≡◌, ℕ, ◌<◌, ◌≤◌, ◌^◌, ◌-◌, Option, Some, None, IsSomeAnd, false, length, arith, refl, sym, ap, ◌∙◌, option_map}
 use Rattle.std.specs.FinMap as map
 use Rattle.btree_store.specs.Content.{Content}
 use Rattle.btree_item.specs.Offset.{index_offset}
 use Rattle.btree_node.specs.declared.node.Node.{Node}
-use Rattle.btree_view.specs.Edits.{HasChildFor, IsOverflowing, IsSplit, with_item, with_item_at}
+use Rattle.btree_view.specs.Edits.{HasChildFor, is_internal, IsOverflowing, IsSplit, with_item, with_item_at}
 use Rattle.btree_node.specs.Node.{view_of}
-use Rattle.btree_view.specs.View.{size_of, most_of, View, NodeMap}
+use Rattle.btree_view.specs.View.{View, NodeMap, leaf, internal, children_of, most_of, size_of}
 use Rattle.btree_shape.specs.TreeState.{views}
 use Rattle.btree_raw.specs.Steps.{AddsItem, CanAddItem, Overflows, CutsAtMedian, HasCount}
 use Rattle.btree_shape.proofs.Places.Untouched.{other-test}
@@ -23,6 +23,11 @@ index-at index o low e = rw (e, other-test index (2 ^ 64 - 1) (omega arith)) ref
 pub size-at : {A : Type 0} (node_at : NodeMap A) (id count : ℕ) (v : View A) → node_at id ≡ Some v → HasCount node_at id count → size_of v ≡ count
 size-at node_at id count v e l = let q : Some (size_of v) ≡ Some count = sym (ap (option_map size_of) e) ∙ l in cc
 
+-- a node without children is a leaf
+pub childless : {A : Type 0} (v : View A) → length (children_of v) ≤ 0 → false ≡ is_internal v
+childless (leaf p xs) none = refl
+childless (internal p u bs) none = absurd (omega arith)
+
 module _ {K V : Type 0} where
   module _ (nodes : Content (Node K V)) (id : ℕ) (node : Node K V) (at : Some node ≡ map.get nodes id) where
     -- what `insert` of a node requires
@@ -31,6 +36,17 @@ module _ {K V : Type 0} where
     take-room index child o e can =
         let is = view-at nodes id node can.node at can.here in
         rw is (can.room, (index-small (size_of can.node) index o (omega (arith, can.room, can.within, most-few can.node)) can.within e, can.kind))
+
+    -- an item may be added to a leaf that is not full
+    pub leaf-can : (index : ℕ) → index ≤ size_of (view_of node) → (count : ℕ) → count ≡ length (children_of (view_of node)) → count ≤ 0
+        → size_of (view_of node) < most_of (view_of node) → CanAddItem (views nodes) id index None
+    leaf-can index within count is none room = record {
+      node = view_of node;
+      here = ap (option_map view_of) (sym at);
+      room = omega arith;
+      within = within;
+      kind = childless (view_of node) (omega arith);
+    }
 
     -- an item was added
     pub adds : (new : Node K V) (index : ℕ) (x : K × V) (child o : Option ℕ) → o ≡ index_offset index → CanAddItem (views nodes) id index child

@@ -17,7 +17,7 @@ use Rattle.btree_shape.specs.TreeState.{views}
 use Rattle.btree_shape.specs.WellFormed.{times_used}
 use Rattle.btree_shape.proofs.Paths.Parents.{get-times}
 use Rattle.btree_shape.proofs.Underflow.Upward.{to-over}
-use Rattle.btree_raw.specs.NodeSteps.{MergesSiblings, CanGiveItem, RotatesSiblingsLeft, RotatesSiblingsRight}
+use Rattle.btree_raw.specs.NodeSteps.{MergesSiblings, RotatesSiblingsLeft, RotatesSiblingsRight}
 use Rattle.btree_raw.specs.Underflow.{AreAdjacent, HasSiblings, FitTogether, IsChild, IsFollowed, Underflows, siblings_at, siblings_of}
 use Rattle.btree_raw.specs.Steps.{HasCount}
 use Rattle.btree_raw.proofs.SeparatorLemmas.{has-index, index-is}
@@ -45,13 +45,6 @@ none-some None e is = absurd (cc)
 none-some (Some n) e is = absurd (cc)
 
 module _ {A : Type 0} (node_at : NodeMap A) where
-  counted-in : (id count : ℕ) → HasCount node_at id count → size_in (node_at id) ≡ count
-  counted-in id count counted = at (node_at id) counted
-    where
-      at : (o : Option (View A)) → option_map size_of o ≡ Some count → size_in o ≡ count
-      at None e = absurd (cc)
-      at (Some v) e = cc
-
   child-here : (parent index : ℕ) (node : View A) (o : Option ℕ) → node_at parent ≡ Some node → slice_get (children_of node) index ≡ o
       → child_at node_at parent index ≡ o
   child-here parent index node o here is = ap (λ v. slice_get (children_in v) index) here ∙ is
@@ -60,11 +53,8 @@ module _ {A : Type 0} (node_at : NodeMap A) where
   none-at : (parent index : ℕ) → child_at node_at parent index ≡ None → NoneSpares node_at parent index
   none-at parent index is = subst (λ o. IfSome o (λ i. size_in (node_at i) ≤ 3)) (sym is) tt
 
-  low-at : (parent index sibling held : ℕ) → child_at node_at parent index ≡ Some sibling → HasCount node_at sibling held → held ≤ 3 → NoneSpares node_at parent index
-  low-at parent index sibling held is counted low =
-      let e = counted-in sibling held counted in
-      let l : size_in (node_at sibling) ≤ 3 = omega arith in
-      subst (λ o. IfSome o (λ i. size_in (node_at i) ≤ 3)) (sym is) l
+  low-at : (parent index sibling : ℕ) → child_at node_at parent index ≡ Some sibling → size_in (node_at sibling) ≤ 3 → NoneSpares node_at parent index
+  low-at parent index sibling is low = subst (λ o. IfSome o (λ i. size_in (node_at i) ≤ 3)) (sym is) low
 
 -- the index of a child and its siblings, computed from the parent
 module _ {K V : Type 0} (nodes : Content (Node K V)) (parent : ℕ) where
@@ -122,30 +112,22 @@ module _ {A : Type 0} (node_at : NodeMap A) (siblings : Siblings) (a : Address) 
       siblings.parent siblings.index siblings.left siblings.right
   two = pair node_at siblings siblings.right a s
 
-  pub left-there : 0 < times_used (node_at siblings.left)
-  left-there = used-there node_at siblings.left two.low two.at_left
-
-  module _ (held : ℕ) (counted : HasCount node_at siblings.left held) where
-    pub left-spares : 3 < held → CanGiveItem node_at siblings.left
-    left-spares many = record { node = two.low; here = two.at_left; spare = let e = size-at node_at siblings.left held two.low two.at_left counted in omega arith }
-
-    pub left-few : held ≤ 3 → Underflows node_at siblings.right → FitTogether node_at siblings
-    left-few few short = record {
-      low = two.low;
-      high = short.node;
-      at_left = two.at_left;
-      at_right = short.here;
-      few = let e = size-at node_at siblings.left held two.low two.at_left counted in let f = short.few in omega arith;
-    }
+  pub left-few : size_in (node_at siblings.left) ≤ 3 → Underflows node_at siblings.right → FitTogether node_at siblings
+  left-few low short = record {
+    low = two.low;
+    high = short.node;
+    at_left = two.at_left;
+    at_right = short.here;
+    few = let e = subst (λ o. size_in o ≤ 3) two.at_left low in let f = short.few in omega arith;
+  }
 
   -- which step it is
-  module _ (held : ℕ) (counted : HasCount node_at siblings.left held) (none : NoneSpares node_at siblings.parent (suc (suc siblings.index))) (new : NodeMap A) where
-    pub left-borrows : 3 < held → RotatesSiblingsRight node_at new siblings → Borrows node_at new siblings.parent siblings.right
-    left-borrows many step = let e = counted-in node_at siblings.left held counted in
-        from_left siblings.index siblings.left s.at_right none (s.at_left, omega arith) step
+  module _ (none : NoneSpares node_at siblings.parent (suc (suc siblings.index))) (new : NodeMap A) where
+    pub left-borrows : 3 < size_in (node_at siblings.left) → RotatesSiblingsRight node_at new siblings → Borrows node_at new siblings.parent siblings.right
+    left-borrows many step = from_left siblings.index siblings.left s.at_right none (s.at_left, many) step
 
-    pub left-merges : held ≤ 3 → MergesSiblings node_at new siblings → MergesNode node_at new siblings.parent siblings.right
-    left-merges low step = with_left siblings.index siblings.left s.at_right none s.at_left (low-at node_at siblings.parent siblings.index siblings.left held s.at_left counted low) step
+    pub left-merges : size_in (node_at siblings.left) ≤ 3 → MergesSiblings node_at new siblings → MergesNode node_at new siblings.parent siblings.right
+    left-merges low step = with_left siblings.index siblings.left s.at_right none s.at_left (low-at node_at siblings.parent siblings.index siblings.left s.at_left low) step
 
 -- two children that are there, as siblings
 module _ (p k : ℕ) where
@@ -252,21 +234,14 @@ module _ {A : Type 0} (node_at : NodeMap A) (id p : ℕ) (a : Address) (s : IsFo
       abbrev with-after : AdjacentSteps A node_at s.root s.xs s.expected a s.place s.freed s.bound j.parent j.index j.left j.right
       with-after = pair node_at j id a are-after
 
-      pub after-there : 0 < times_used (node_at j.right)
-      after-there = let b = with-after in used-there node_at j.right b.high b.at_right
-
-      pub after-spares : (held : ℕ) → HasCount node_at j.right held → 3 < held → CanGiveItem node_at j.right
-      after-spares held counted many = let b = with-after in
-          record { node = b.high; here = b.at_right; spare = let e = size-at node_at j.right held b.high b.at_right counted in omega arith }
-
-      pub after-few : (held count : ℕ) → HasCount node_at j.right held → held ≤ 3 → HasCount node_at id count → count ≤ 2 → FitTogether node_at j
-      after-few held count counted few here short = let b = with-after in
+      pub after-few : (count : ℕ) → size_in (node_at j.right) ≤ 3 → HasCount node_at id count → count ≤ 2 → FitTogether node_at j
+      after-few count low here short = let b = with-after in
           record {
             low = b.low;
             high = b.high;
             at_left = b.at_left;
             at_right = b.at_right;
-            few = let e = size-at node_at j.right held b.high b.at_right counted in
+            few = let e = subst (λ o. size_in o ≤ 3) b.at_right low in
                 let f = size-at node_at j.left count b.low b.at_left (subst (λ n. HasCount node_at n count) (sym after-left) here) in omega arith;
           }
 
@@ -310,8 +285,8 @@ module _ {A : Type 0} (node_at : NodeMap A) (id p : ℕ) (a : Address) (s : IsFo
       none-after none = two-after (none-at node_at p (suc sib.index)
           (none-of p sib.index (child_at node_at p sib.index) (child_at node_at p (suc sib.index)) id sib.child (sym sib.after_is ∙ none)))
 
-      pub low-after : (j : Siblings) (held : ℕ) → after ≡ Some j → HasCount node_at j.right held → held ≤ 3 → NoneSpares node_at i.parent (suc (suc i.index))
-      low-after j held there counted low = two-after (low-at node_at p (suc sib.index) j.right held (after-of j there).right counted low)
+      pub low-after : (j : Siblings) → after ≡ Some j → size_in (node_at j.right) ≤ 3 → NoneSpares node_at i.parent (suc (suc i.index))
+      low-after j there low = two-after (low-at node_at p (suc sib.index) j.right (after-of j there).right low)
 
     first-from : before ≡ None → (n : ℕ) → sib.index ≡ n → n ≡ 0
     first-from none zero e = refl
@@ -322,16 +297,16 @@ module _ {A : Type 0} (node_at : NodeMap A) (id p : ℕ) (a : Address) (s : IsFo
     first-child none = first-from none sib.index refl
 
     -- which step it is with the right sibling
-    module _ (j : Siblings) (held : ℕ) (there : after ≡ Some j) (counted : HasCount node_at j.right held) (new : NodeMap A) where
-      pub right-borrows : 3 < held → RotatesSiblingsLeft node_at new j → Borrows node_at new p id
-      right-borrows many step = let e = counted-in node_at j.right held counted in
-          as-after j there (Borrows node_at new) (from_right j.index j.right (self-at j there) (after-at j there, omega arith) step)
+    module _ (j : Siblings) (there : after ≡ Some j) (new : NodeMap A) where
+      pub right-borrows : 3 < size_in (node_at j.right) → RotatesSiblingsLeft node_at new j → Borrows node_at new p id
+      right-borrows many step =
+          as-after j there (Borrows node_at new) (from_right j.index j.right (self-at j there) (after-at j there, many) step)
 
-      pub right-merges : held ≤ 3 → before ≡ None → MergesSiblings node_at new j → MergesNode node_at new p id
+      pub right-merges : size_in (node_at j.right) ≤ 3 → before ≡ None → MergesSiblings node_at new j → MergesNode node_at new p id
       right-merges low first step =
           let z : j.index ≡ 0 = (after-of j there).index ∙ first-child first in
           let right : child_at node_at j.parent 1 ≡ Some j.right = subst (λ k. child_at node_at j.parent (suc k) ≡ Some j.right) z (after-at j there) in
           as-after j there (MergesNode node_at new)
           (with_right j.right (subst (λ k. child_at node_at j.parent k ≡ Some j.left) z (self-at j there)) right
-          (low-at node_at j.parent 1 j.right held right counted low)
+          (low-at node_at j.parent 1 j.right right low)
           (subst (λ k. Merges node_at new j.parent k j.left j.right) z step))

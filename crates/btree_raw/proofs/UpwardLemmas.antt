@@ -2,10 +2,6 @@
 use Rattle.std.proofs.Common.{◌≡◌, ◌≢◌, ◌↔◌, ◌⊎◌, true, false, IsTrue, ℕ, suc, ◌+◌, ◌<◌, ◌≤◌, ◌^◌, ◌-◌, inl, inr, List, [], ◌∷◌, ◌++◌, All, Option, Some, None, IfSome, IsSome, length, option_map, slice_get, refl, sym, ap, subst, ◌∙◌, arith}
 use Rattle.std.proofs.lemmas.List.{nil_from_length}
 use Rattle.btree_item.specs.declared.address.Address.{Address}
-use Rattle.std.specs.FinMap as map
-use Rattle.btree_store.specs.Content.{Content}
-use Rattle.btree_node.specs.declared.node.Node.{Node}
-use Rattle.btree_node.specs.Node.{view_of}
 use Rattle.btree_view.specs.Edits.{IsOverflowing, with_item, with_parent}
 use Rattle.btree_view.specs.View.{View, NodeMap, children_in, children_of, internal, most_of, parent_of, size_of}
 use Rattle.btree_shape.specs.Focus.Overflow.{MayOverflowAt, IsRepaired}
@@ -23,7 +19,7 @@ use Rattle.btree_shape.proofs.Paths.Frames.{one-self}
 use Rattle.btree_shape.proofs.Splits.Upward.{UpTo, child-apart, child-used, overflow-done, overflow-node, overflow-spare, overflow-used, new-root, root-spare, spare-apart, spare-used, to-parent}
 use Rattle.btree_shape.proofs.Trees.Numbers.{less-or, none-listed, same-or, times-has, used-low, used-mapped, used-one, zero-or}
 use Rattle.btree_shape.proofs.Trees.Sizes.{view-most, view-size}
-use Rattle.btree_raw.specs.Steps.{AreSplit, CanAddSeparator, CanGrowRoot, CanSplitInto, IsSplitting, HasCount, AddsSeparator}
+use Rattle.btree_raw.specs.Steps.{AreSplit, CanAddSeparator, CanGrowRoot, CanSplitInto, Cut, CutsNode, IsSplitting, HasCount, AddsSeparator, MayCut}
 use Rattle.btree_raw.proofs.SeparatorLemmas.{one-more}
 use Rattle.btree_raw.proofs.OffsetLemmas.{overflow-low}
 
@@ -148,6 +144,9 @@ module _ (A : Type 0) (old now : NodeMap A) (root : Option ℕ) (start id : ℕ)
 
         j-apart : j ≢ id
         j-apart = spare-apart A now s.top s.xs id rest s.expected b s.place (s.allocated + c.taken) s.bound here v e lt more j ps.0 ps.1
+
+        pub upward-number-right : j < 2 ^ 64 - 1
+        upward-number-right = c.low j (let q = ps.0 j in let o = one-self j in omega arith)
 
         pub upward-split : CanSplitInto now id j
         upward-split =
@@ -275,8 +274,17 @@ not-over v e = elim (nat-or (size_of v) (most_of v)) [ inl low ↦ low | inr ove
     nat-or : (m n : ℕ) → (m ≤ n) ⊎ (n < m)
     nat-or m n = elim (less-or m n) [ inl low ↦ inl (omega arith) | inr other ↦ elim other [ inl same ↦ inl (omega arith) | inr more ↦ inr more ] ]
 
-module _ {K V : Type 0} where
-  -- the same node, read again
-  pub same-parent : (nodes : Content (Node K V)) (id : ℕ) (first second : Node K V) → map.get nodes id ≡ Some first → map.get nodes id ≡ Some second
-      → (parent : Option ℕ) → parent ≡ parent_of (view_of second) → (is : Option ℕ) → parent ≡ is → parent_of (view_of first) ≡ is
-  same-parent nodes id first second a b parent e is same = let q : first ≡ second = cc in ap (λ n. parent_of (view_of n)) q ∙ (sym e ∙ same)
+-- the state of the splits at a node that was cut, if it had an item too many
+module _ {K V : Type 0} (old tree : NodeMap (K × V)) (root : Option ℕ) (start id : ℕ) (spare rest : List ℕ) (a b : Address) (cut : Cut K V) where
+  -- the splits have reached a node, which then was cut
+  pub record ReachesCut : Type 0 where
+    pub whole : NodeMap (K × V)
+    pub up_to : SplitUpTo (K × V) old whole root start id spare rest a b
+    pub cuts : MayCut whole tree id cut
+
+module _ {K V : Type 0} (node_at new : NodeMap (K × V)) (id : ℕ) where
+  -- the parent of the node that was cut
+  pub parent-cut : (parent : Option ℕ) (count : ℕ) (median : K × V) (right : View (K × V)) (cut : CutsNode node_at new id parent count median right)
+      → parent_of cut.over.node ≡ parent
+  parent-cut parent count median right cut =
+      let q : Some (parent_of cut.over.node) ≡ Some parent = sym (ap (option_map parent_of) cut.over.here) ∙ cut.named in cc

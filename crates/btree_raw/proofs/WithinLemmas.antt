@@ -1,5 +1,5 @@
 -- An address in a node.
-use Rattle.std.proofs.Common.{◌≡◌, ℕ, Option, Some, None, IsSome, option_map, refl}
+use Rattle.std.proofs.Common.{Option, Some, None, IsSome, option_map, refl}
 use Rattle.std.specs.FinMap as map
 use Rattle.btree_item.specs.declared.address.Address.{Address}
 use Rattle.btree_node.specs.Node.{view_of}

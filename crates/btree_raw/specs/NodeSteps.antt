@@ -2,25 +2,20 @@
 -- The two siblings are one value, `Siblings` (`btree_moved`). Read bottom-up: each step between two siblings
 -- requires `AreSiblings`, as a part of `CanRotateLeft`, `CanRotateRight` or `CanMerge`; the steps leave
 -- `RotatesSiblingsLeft`, `RotatesSiblingsRight` and `MergesSiblings`. The earlier definitions are for the single calls of
--- which these steps are made (`src/rotate.rt`), each on one node: what it requires (`CanGiveItem`, `HasRoomFor` and
--- others), and what it gains or loses (`GainsFirst`, `LosesFirst` and others). `CanShrinkRoot` is the condition for
--- shrinking the root. All calls that cite these words are private; `src/borrow.rt` cites the steps between siblings.
+-- which these steps are made (`src/rotate.rt`), each on one node: what it requires (`HasRoomFor` and others), and what
+-- it gains or loses (`GainsFirst`, `LosesFirst` and others). `CanShrinkRoot` is the condition for shrinking the root. All
+-- calls that cite these words are private; `src/borrow.rt` cites the steps between siblings.
 use Rattle.std.specs.Prelude.{◌≡◌, ◌≢◌, ℕ, ◌+◌, ◌<◌, ◌≤◌, [], ◌∷◌, slice_get, Option, Some, None, IfSome, option_map, IsTrue}
 use Rattle.btree_view.specs.View.{View, NodeMap, size_of, most_of, items_of, children_of}
-use Rattle.btree_view.specs.Edits.{with_parent, with_other_item, without, joined, pushed_left, pushed_right, is_internal, HasChildFor, HaveRoom, HasSpare}
+use Rattle.btree_view.specs.Edits.{with_parent, with_other_item, without, joined, pushed_left, pushed_right, is_internal, HasChildFor, HaveRoom}
 use Rattle.btree_moved.specs.declared.siblings.Siblings.{Siblings}
 use Rattle.btree_shape.specs.Lists.{times_listed}
+use Rattle.btree_shape.specs.Moved.{first_in}
 use Rattle.btree_shape.specs.SiblingSteps.{Merges, RotatesLeft, RotatesRight}
 use Rattle.btree_shape.specs.Step.{Becomes, WritesNode}
 use Rattle.btree_shape.specs.WellFormed.{times_used}
 
 module _ {A : Type 0} (node_at : NodeMap A) where
-  -- node `id` has an item to spare
-  pub record CanGiveItem (id : ℕ) : Type 0 where
-    pub node : View A
-    pub here : node_at id ≡ Some node
-    pub spare : HasSpare node
-
   -- node `id` is an internal node that does not overflow, and has an item at the index
   pub record HasSeparator (id index : ℕ) : Type 0 where
     pub node : View A
@@ -123,23 +118,20 @@ module _ {A : Type 0} (node_at : NodeMap A) where
     pub children : (n : ℕ) → 0 < times_listed n (children_of low) + times_listed n (children_of high)
         → (0 < times_used (node_at n)) × (n ≢ siblings.parent) × (n ≢ siblings.left) × (n ≢ siblings.right)
 
-  -- the right sibling has an item to spare, and the left one has room for one
+  -- the left sibling has room for an item
   pub record CanRotateLeft (siblings : Siblings) : Type 0 where
     pub pair : AreSiblings siblings
     pub room : size_of pair.low ≤ most_of pair.low
-    pub spare : HasSpare pair.high
 
-  -- the left sibling has an item to spare, and the right one has room for one
+  -- the right sibling has room for an item
   pub record CanRotateRight (siblings : Siblings) : Type 0 where
     pub pair : AreSiblings siblings
     pub room : size_of pair.high ≤ most_of pair.high
-    pub spare : HasSpare pair.low
 
-  -- the two and the item between them fit into one node, and the children of the left one name it as their parent
+  -- the two and the item between them fit into one node
   pub record CanMerge (siblings : Siblings) : Type 0 where
     pub pair : AreSiblings siblings
     pub room : HaveRoom pair.low pair.high
-    pub own : (n : ℕ) → 0 < times_listed n (children_of pair.low) → option_map (with_parent (Some siblings.left)) (node_at n) ≡ node_at n
 
   -- the node is there, if a number is given
   abbrev pub IsThere : Option ℕ → Type 0
@@ -152,3 +144,7 @@ module _ {A : Type 0} (node_at : NodeMap A) where
     pub only : children_of node ≡ child ∷ []
     pub used : 0 < times_used (node_at child)
     pub apart : child ≢ root
+
+  -- if node `root` has a first child, that is its only one, and another node
+  abbrev pub CanShrinkToFirst : (root : ℕ) → Type 0
+  CanShrinkToFirst root = (child : ℕ) → option_map first_in (node_at root) ≡ Some (Some child) → CanShrinkRoot root child

@@ -6,9 +6,11 @@
 -- `split_upward` requires `IsSplitting` and ensures `SplitsUpward`, so what held of the tree and of the followed
 -- address at the start (`MayOverflowAt`) holds at the end (`IsRepaired`). `IsCountingSplits` is what `split_need`
 -- requires, and the state of its loop. The words of `Rebalance.antt` cite `Overflows` too.
-use Rattle.std.specs.Prelude.{◌≡◌, ◌≢◌, ℕ, ◌+◌, ◌<◌, ◌≤◌, List, length, slice_get, Option, Some, option_map, IsTrue, Bool, nat_lt}
+use Rattle.std.specs.Prelude.{◌≡◌, ◌≢◌, ℕ, ◌+◌, ◌<◌, ◌≤◌, List, length, slice_get, Option, Some, None, option_map, IsTrue, Bool, nat_lt}
 use Rattle.btree_item.specs.declared.TheConstants.{MAX_CLAIMS}
 use Rattle.btree_item.specs.declared.address.Address.{Address}
+use Rattle.btree_node.specs.declared.node.Node.{Node}
+use Rattle.btree_node.specs.Node.{view_of}
 use Rattle.btree_view.specs.View.{View, NodeMap, size_of, most_of, children_in, children_of, parent_of}
 use Rattle.btree_view.specs.Edits.{with_parent, with_item, is_internal, HasChildFor, IsOverflowing, IsSplit}
 use Rattle.btree_shape.specs.Focus.Overflow.{MayOverflowAt, IsRepaired}
@@ -16,7 +18,7 @@ use Rattle.btree_shape.specs.Focus.Need.{IsCountingUpward}
 use Rattle.btree_shape.specs.Need.{split_need}
 use Rattle.btree_shape.specs.Lists.{times_listed}
 use Rattle.btree_shape.specs.Step.{Becomes, WritesNode}
-use Rattle.btree_shape.specs.TreeState.{TreeState, node_map}
+use Rattle.btree_shape.specs.TreeState.{TreeState, Changes, node_map}
 use Rattle.btree_shape.specs.WellFormed.{times_used}
 
 module _ {A : Type 0} (node_at : NodeMap A) where
@@ -33,6 +35,10 @@ module _ {A : Type 0} (node_at : NodeMap A) where
     pub node : View A
     pub here : node_at id ≡ Some node
     pub over : IsOverflowing node
+
+  -- each of these numbers is that of a node
+  abbrev pub AreThere : List ℕ → Type 0
+  AreThere ids = (n : ℕ) → 0 < times_listed n ids → 0 < times_used (node_at n)
 
   -- node `id` is there, and so are its children, none of which is the node itself
   pub record CanReparent (id : ℕ) : Type 0 where
@@ -56,6 +62,13 @@ module _ {A : Type 0} (node_at : NodeMap A) where
       pub parts : (node : View A) → node_at id ≡ Some node → IsSplit node median left right
       pub writes_node : WritesNode node_at new id left
 
+  -- node `id` has no item too many; nothing has changed
+  pub record StaysWhole (new : NodeMap A) (id : ℕ) : Type 0 where
+    pub node : View A
+    pub here : node_at id ≡ Some node
+    pub room : size_of node ≤ most_of node
+    pub same : new ≡ node_at
+
   -- node `id` overflows, and another node is there for its right part; the children of `id` are there, and none of them
   -- is one of these two
   pub record CanSplitInto (id right : ℕ) : Type 0 where
@@ -75,6 +88,10 @@ module _ {A : Type 0} (node_at : NodeMap A) where
   -- node `id` has `count` items
   abbrev pub HasCount : (id count : ℕ) → Type 0
   HasCount id count = option_map size_of (node_at id) ≡ Some count
+
+  -- node `id` names this parent
+  abbrev pub HasParent : (id : ℕ) (parent : Option ℕ) → Type 0
+  HasParent id parent = option_map parent_of (node_at id) ≡ Some parent
 
   -- node `above` is an internal node with room for an item, and node `id` is one of its children
   pub record CanAddSeparator (above id : ℕ) : Type 0 where
@@ -118,6 +135,54 @@ pub record SplitsUpward {K V : Type 0} (old new : TreeState K V) (id : ℕ) (spa
   pub used : (n : ℕ) → times_used (node_map new n) ≡ times_used (node_map old n)
   pub len : new.len ≡ old.len
   pub uncounted : new.refusals ≡ old.refusals
+
+-- what a node was cut into, if it was, besides its left part: its parent, how many items are left, the median, and the
+-- right part
+abbrev pub Cut : (K V : Type 0) → Type 0
+Cut K V = Option (Option ℕ × ℕ × (K × V) × Node K V)
+
+module _ {K V : Type 0} where
+  module _ (node_at new : NodeMap (K × V)) (id : ℕ) where
+    -- node `id` had an item too many and named this parent, and was cut at the median
+    pub record CutsNode (parent : Option ℕ) (left_count : ℕ) (median : K × V) (right : View (K × V)) : Type 0 where
+      pub over : Overflows node_at id
+      pub named : HasParent node_at id parent
+      pub cuts : CutsAtMedian node_at new id left_count median right
+
+    -- node `id` was cut if it had an item too many
+    abbrev pub MayCut : Cut K V → Type 0
+    MayCut (Some cut) = CutsNode cut.0 cut.1 cut.2 (view_of cut.3)
+    MayCut None = StaysWhole node_at new id
+
+  module _ (old new : TreeState K V) (id index : ℕ) (x : K × V) (child : Option ℕ) where
+    -- an item was added to node `id`, which gave `added`, and the node was cut if it then had an item too many
+    pub record AddsAndCuts (cut : Cut K V) : Type 0 where
+      pub added : TreeState K V
+      pub adds : Changes (λ a b. AddsItem a b id index x child) old added
+      pub cuts : Changes (λ a b. MayCut a b id cut) added new
+
+    -- an item was added to node `id`, which gave `added`, and splits went upward from there
+    pub record AddsAndSplits (spare : List ℕ) (a b : Address) : Type 0 where
+      pub added : TreeState K V
+      pub adds : Changes (λ a b. AddsItem a b id index x child) old added
+      pub splits : SplitsUpward added new id spare a b
+
+  -- node `above` has the item at the index of its child `id`, and node `right` as the child after it, which gave
+  -- `added`, and was cut if it then had an item too many
+  pub record AddsSeparatorAndCuts (old new : TreeState K V) (above id right index : ℕ) (x : K × V) (cut : Cut K V) : Type 0 where
+    pub added : TreeState K V
+    pub adds : Changes (λ a b. AddsSeparator a b above id right index x) old added
+    pub cuts : Changes (λ a b. MayCut a b above cut) added new
+
+  -- splits may go upward once the item is added
+  abbrev pub MaySplitWith : (old : TreeState K V) (id index : ℕ) (x : K × V) (child : Option ℕ) (spare : List ℕ) (a : Address) → Type 0
+  MaySplitWith old id index x child spare a = (added : TreeState K V) → Changes (λ a b. AddsItem a b id index x child) old added
+      → IsSplitting (node_map added) added.root id spare a
+
+  -- splits may go upward from node `id` of `whole`, which then was cut if it had an item too many
+  pub record IsCutFrom (whole now : TreeState K V) (id : ℕ) (cut : Cut K V) (spare : List ℕ) (a : Address) : Type 0 where
+    pub splitting : IsSplitting (node_map whole) whole.root id spare a
+    pub cuts : Changes (λ a b. MayCut a b id cut) whole now
 
 module _ {A : Type 0} where
   -- what decides how far splits go upward from a node: its parent, and whether it has room for an item

@@ -14,8 +14,8 @@ use btree_nodes::NodesMut;
 /// The numbers of claimed nodes. An insertion claims at most one for each of at most 32 levels, and one for a new root.
 pub type ClaimedIds = ArrayVec<usize, MAX_CLAIMS>;
 
-// Removes the claimed nodes from the store, so that the tree is as it was before they were claimed.
-pub(crate) fn release<K: Drop, V: Drop, C: NodesMut<K, V>>(
+/// Removes the claimed nodes from the store, so that the tree is as it was before they were claimed.
+pub fn release<K: Drop, V: Drop, C: NodesMut<K, V>>(
     tree: &mut RawBTree<K, V, C>,
     claims: &mut ClaimedIds,
 )

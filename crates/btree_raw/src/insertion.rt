@@ -2,14 +2,15 @@
 ghost use Rattle.std.specs.Prelude.{◌≡◌, ◌≢◌, ◌<◌, ◌≤◌, None, IfOk, IfErr};
 ghost use Rattle.std.specs.FinMap as map;
 ghost use Rattle.btree_shape.specs.TreeState.{node_map};
+ghost use Rattle.btree_raw.specs.Steps.{HasParent};
 ghost use Rattle.btree_raw.specs.Insertion.{InsertsExactly, IsFull, IsOffByOneWith, IsRefused, IsVacant};
 
 use crate::claims::{ClaimedIds, claim, claim_one};
-use crate::count::split_need;
-use crate::nodes::{add_item, put};
-use crate::overflow::split_upward;
+use crate::count::split_need_above;
+use crate::nodes::put;
+use crate::overflow::add_and_split;
 use crate::raw::RawBTree;
-use crate::rebalance::rebalance_underflow;
+use crate::rebalance::rebalance_fetched;
 use btree_item::{Address, Cause, Item, Offset, Refused};
 use btree_node::Node;
 use btree_nodes::NodesMut;
@@ -48,16 +49,18 @@ fn insert_only<K: Ord + Drop, V: Drop, C: NodesMut<K, V>>(
     }
 }
 
-// Inserts an item into a full node, which is split.
+// Inserts an item into a full node, which has this parent and is split.
 #[inline(never)]
 fn insert_and_split<K: Ord + Drop, V: Drop, C: NodesMut<K, V>>(
     tree: &mut RawBTree<K, V, C>,
     addr: Address,
     item: Item<K, V>,
     child: Option<usize>,
+    parent: Option<usize>,
 ) -> Result<Address, Refused<K, V>>
     requires off_by_one { IsOffByOneWith K.cmp tree.old addr item child }
     requires full { IsFull (node_map tree.old) addr.id }
+    requires parent { HasParent (node_map tree.old) addr.id parent }
     requires rooted { tree.old.root ≢ None }
     requires room { tree.old.len < usize.MAX }
     ensures inserted { IfOk result (λ b. InsertsExactly K.cmp tree.old tree.new addr b item child) }
@@ -65,13 +68,13 @@ fn insert_and_split<K: Ord + Drop, V: Drop, C: NodesMut<K, V>>(
     ensures refused { IfErr result (λ r. IsRefused C.MayRefuse addr.id tree.old tree.new r.cause) }
 {
     tree.tell_fits();
-    let count = split_need(tree, addr.id);
+    let count = split_need_above(tree, addr.id, parent);
     let mut claims = ClaimedIds::new();
     if !claim(tree, count, &mut claims) {
         return Err(refused(Cause::Store, item));
     }
-    add_item(tree, addr.id, addr.offset.unwrap(), item, child);
-    let at = split_upward(tree, addr.id, addr, &mut claims);
+    let index = addr.offset.unwrap();
+    let at = add_and_split(tree, addr.id, index, item, child, addr, &mut claims);
     tree.set_len(tree.len() + 1);
     Ok(at)
 }
@@ -91,11 +94,16 @@ fn insert_in_tree<K: Ord + Drop, V: Drop, C: NodesMut<K, V>>(
     ensures refused { IfErr result (λ r. IsRefused C.MayRefuse addr.id tree.old tree.new r.cause) }
 {
     tree.tell_fits();
-    if tree.node(addr.id).is_full() {
-        return insert_and_split(tree, addr, item, child);
+    let index = addr.offset.unwrap();
+    let node = tree.node_mut(addr.id);
+    if node.is_full() {
+        let parent = node.parent();
+        return insert_and_split(tree, addr, item, child, parent);
     }
-    add_item(tree, addr.id, addr.offset.unwrap(), item, child);
-    let at = rebalance_underflow(tree, addr.id, addr);
+    node.insert(Offset::from(index), item, child);
+    let count = node.item_count();
+    let parent = node.parent();
+    let at = rebalance_fetched(tree, addr.id, count, parent, addr);
     tree.set_len(tree.len() + 1);
     Ok(at)
 }

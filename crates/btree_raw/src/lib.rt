@@ -13,12 +13,12 @@ mod removal;
 mod rotate;
 mod underflow;
 
-pub use claims::{ClaimedIds, claim, claim_one};
-pub use count::{need, split_need};
+pub use claims::{ClaimedIds, claim, claim_one, release};
+pub use count::{need, need_above, split_need};
 pub use insertion::refused;
-pub use nodes::{add_item, add_item_in_room, put};
-pub use overflow::split_upward;
+pub use nodes::{add_item_at_leaf, add_item_in_room, put};
+pub use overflow::{add_and_split, split_upward};
 pub use raw::RawBTree;
-pub use rebalance::rebalance_underflow;
+pub use rebalance::{rebalance_fetched, rebalance_underflow};
 pub use removal::take_last_below;
 pub use underflow::fix_underflow_upward;

@@ -1,5 +1,5 @@
 //! A raw tree: a tree of any content.
-ghost use Rattle.std.specs.Prelude.{◌≡◌, ◌↔◌, ◌+◌, ◌<◌, Err, None, IsTrue, IsSome, Ok, Some, option_copied, IfOk, OnOk, IfErr, OnErr};
+ghost use Rattle.std.specs.Prelude.{◌≡◌, ◌↔◌, ℕ, ◌+◌, ◌<◌, Err, None, IsTrue, IsSome, Ok, Some, option_copied, IfOk, OnOk, IfErr, OnErr};
 ghost use Rattle.btree_item.specs.declared.fault.Fault.TheVariants.{NoNode};
 ghost use Rattle.std.specs.FinMap as map;
 ghost use Rattle.std.specs.Borrow.{Lends, sem};
@@ -69,6 +69,13 @@ impl<K, V, C: NodesMut<K, V>> RawBTree<K, V, C> {
         // For the prover: this opens the invariant, which has the fact.
         let _ = &self.store;
         C::tell_fits();
+    }
+
+    // Gives the prover the fact that the numbers in use are below `usize::MAX`. It does nothing at run time.
+    pub(crate) fn tell_numbers(&self)
+        ensures { (id : ℕ) → IsUsed self.now id → id < usize.MAX }
+    {
+        let _count = self.store.len();
     }
 
     /// Returns the length: the one that was last set.

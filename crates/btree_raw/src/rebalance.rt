@@ -1,7 +1,7 @@
 //! Rebalancing a tree that is off by one at a node.
 ghost use Rattle.std.specs.Prelude.{IfOk, IfErr};
 ghost use Rattle.btree_shape.specs.TreeState.{IsOffByOneAt, IsValidIn, node_map};
-ghost use Rattle.btree_raw.specs.Steps.{Overflows};
+ghost use Rattle.btree_raw.specs.Steps.{HasCount, HasParent, Overflows};
 ghost use Rattle.btree_raw.specs.Rebalance.{HasRoom, IsRebalanced, IsRefusal};
 
 use crate::claims::{ClaimedIds, claim};
@@ -44,7 +44,30 @@ pub fn rebalance_underflow<K: Ord + Drop, V: Drop, C: NodesMut<K, V>>(
     requires room { HasRoom (node_map tree.old) id }
     ensures { IsRebalanced tree.old tree.new id K.cmp addr result }
 {
-    fix_underflow_upward(tree, id, addr)
+    tree.tell_fits();
+    let node = tree.node(id);
+    let count = node.item_count();
+    let parent = node.parent();
+    rebalance_fetched(tree, id, count, parent, addr)
+}
+
+/// Does what `rebalance_underflow` does, at a node that the caller has just fetched: it has `count` items and this parent. It does not
+/// fetch the node again to ask that.
+pub fn rebalance_fetched<K: Ord + Drop, V: Drop, C: NodesMut<K, V>>(
+    tree: &mut RawBTree<K, V, C>,
+    id: usize,
+    count: usize,
+    parent: Option<usize>,
+    addr: Address,
+) -> Address
+    requires off_by_one { IsOffByOneAt K.cmp tree.old id }
+    requires valid { IsValidIn tree.old addr }
+    requires room { HasRoom (node_map tree.old) id }
+    requires count { HasCount (node_map tree.old) id count }
+    requires parent { HasParent (node_map tree.old) id parent }
+    ensures { IsRebalanced tree.old tree.new id K.cmp addr result }
+{
+    fix_underflow_upward(tree, id, count, parent, addr)
 }
 
 impl<K: Ord + Drop, V: Drop, C: NodesMut<K, V>> RawBTree<K, V, C> {

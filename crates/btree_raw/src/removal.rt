@@ -1,9 +1,8 @@
 //! Removal of the last item under a node.
-ghost use Rattle.std.specs.Prelude.{◌≡◌, ◌↔◌, ◌<◌, ◌^◌, IsTrue, Some, length};
-ghost use Rattle.btree_view.specs.Edits.{IsUnderflowing};
-ghost use Rattle.btree_view.specs.View.{View};
+ghost use Rattle.std.specs.Prelude.{◌<◌, ◌^◌, length};
 ghost use Rattle.btree_shape.specs.TreeState.{IsBTreeButLength, IsUsed, node_map, pairs_of};
 ghost use Rattle.btree_raw.specs.LastItem.{LosesItem, TakesLast};
+ghost use Rattle.btree_raw.specs.Steps.{HasCount, HasParent};
 
 use crate::raw::RawBTree;
 use btree_item::Item;
@@ -23,24 +22,24 @@ impl<K: Ord + Drop, V: Drop, C: NodesMut<K, V>> RawBTree<K, V, C> {
         ensures tree { length (pairs_of self.old) < 2 ^ 64
             → LosesItem K.cmp self.old self.new result.0 result.1 }
     {
-        let (item, leaf, _is_short) = take_last_below(self, id);
+        let (item, leaf, _count, _parent) = take_last_below(self, id);
         (item, leaf)
     }
 }
 
-/// Takes the last item out of the rightmost leaf under a node, as `remove_rightmost_leaf_of` does. Returns also whether the leaf has an item
-/// too few now.
+/// Takes the last item out of the rightmost leaf under a node, as `remove_rightmost_leaf_of` does. Returns the item and the number of the
+/// leaf, with what the leaf has then: how many items, and which parent.
 pub fn take_last_below<K: Ord + Drop, V: Drop, C: NodesMut<K, V>>(
     tree: &mut RawBTree<K, V, C>,
     id: usize,
-) -> (Item<K, V>, usize, bool)
+) -> (Item<K, V>, usize, usize, Option<usize>)
     requires tree { IsBTreeButLength K.cmp tree.old }
     requires used { IsUsed tree.old id }
     ensures taken { TakesLast tree.old tree.new id result.0 result.1 }
     ensures tree { length (pairs_of tree.old) < 2 ^ 64
         → LosesItem K.cmp tree.old tree.new result.0 result.1 }
-    ensures short { (node : View (K × V)) → node_map tree.new result.1 ≡ Some node →
-        (IsTrue result.2 ↔ IsUnderflowing node) }
+    ensures count { HasCount (node_map tree.new) result.1 result.2 }
+    ensures parent { HasParent (node_map tree.new) result.1 result.3 }
 {
     tree.tell_fits();
     let mut lower = id;
@@ -48,8 +47,9 @@ pub fn take_last_below<K: Ord + Drop, V: Drop, C: NodesMut<K, V>>(
         let node = tree.node_mut(lower);
         match node.remove_rightmost_leaf() {
             Ok(item) => {
-                let is_short = node.is_underflowing();
-                return (item, lower, is_short);
+                let count = node.item_count();
+                let parent = node.parent();
+                return (item, lower, count, parent);
             }
             Err(child) => lower = child,
         }

@@ -1,42 +1,56 @@
 //! The steps that fix an underflow.
-ghost use Rattle.std.specs.Prelude.{◌<◌};
+ghost use Rattle.std.specs.Prelude.{◌≡◌, ◌<◌, ◌≤◌, IfNone, IfOk, IfSome, None, OnErr, OnOk, Some, option_map};
 ghost use Rattle.btree_node.specs.Node.{view_of};
 ghost use Rattle.btree_shape.specs.Lists.{as_list};
+ghost use Rattle.btree_shape.specs.Moved.{first_in};
 ghost use Rattle.btree_shape.specs.SiblingSteps.{ShrinksRoot};
-ghost use Rattle.btree_shape.specs.Step.{Reparents};
+ghost use Rattle.btree_shape.specs.Step.{RemovesNode, Reparents};
 ghost use Rattle.btree_shape.specs.TreeState.{Changes, IsUsed, node_map};
-ghost use Rattle.btree_raw.specs.NodeSteps.{MergesSiblings, CanGiveItem, RotatesSiblingsLeft, RotatesSiblingsRight, HasRoomFor, HasRoomForAll, HasSeparator, LosesFirst, LosesLast, ChangesSeparator, GainsFirst, GainsLast, GainsAll, LosesSeparator, ClearsParent, CanRotateLeft, CanRotateRight, CanMerge, CanShrinkRoot, IsThere};
+ghost use Rattle.btree_shape.specs.UnderflowFix.{size_in};
+ghost use Rattle.btree_raw.specs.NodeSteps.{MergesSiblings, RotatesSiblingsLeft, RotatesSiblingsRight, HasRoomFor, HasRoomForAll, HasSeparator, LosesFirst, LosesLast, ChangesSeparator, GainsFirst, GainsLast, GainsAll, LosesSeparator, ClearsParent, CanRotateLeft, CanRotateRight, CanMerge, CanShrinkToFirst, IsThere};
+ghost use Rattle.btree_raw.specs.Steps.{HasCount};
 
-use crate::nodes::{reparent_children, set_parent};
+use crate::nodes::{adopt, set_parent};
 use crate::raw::RawBTree;
-use btree_item::{Item, Offset};
+use btree_item::{Item, LEAF_SLOTS, MIN_ITEMS, Offset};
 use btree_moved::Siblings;
 use btree_node::Node;
 use btree_nodes::NodesMut;
+use btree_view::WouldUnderflow;
 
-// Removes and returns the first item of a node that has one to spare, with the first child of an internal node.
+// Removes and returns the first item of a node, with the first child of an internal node, if it has one to spare.
 fn take_first<K: Drop, V: Drop, C: NodesMut<K, V>>(
     tree: &mut RawBTree<K, V, C>,
     id: usize,
-) -> (Item<K, V>, Option<usize>)
-    requires { CanGiveItem (node_map tree.old) id }
-    ensures { Changes (λ a b. LosesFirst a b id result.0 result.1) tree.old tree.new }
+) -> Result<(Item<K, V>, Option<usize>), WouldUnderflow>
+    requires { IsUsed tree.old id }
+    ensures taken { IfOk result (λ r. Changes (λ a b. LosesFirst a b id r.0 r.1) tree.old tree.new) }
+    ensures spare { OnOk result (MIN_ITEMS < size_in (node_map tree.old id)) }
+    ensures short { OnErr result (size_in (node_map tree.old id) ≤ MIN_ITEMS) }
+    ensures unchanged { OnErr result (tree.new ≡ tree.old) }
 {
     tree.tell_fits();
-    tree.node_mut(id).pop_left().unwrap()
+    tree.node_mut(id).pop_left()
 }
 
-// Removes and returns the last item of a node that has one to spare, with the last child of an internal node.
+// Removes and returns the last item of a node, with the last child of an internal node, if it has one to spare. Returns first how many
+// items the node had.
 fn take_last<K: Drop, V: Drop, C: NodesMut<K, V>>(
     tree: &mut RawBTree<K, V, C>,
     id: usize,
-) -> (Item<K, V>, Option<usize>)
-    requires { CanGiveItem (node_map tree.old) id }
-    ensures { Changes (λ a b. LosesLast a b id result.0 result.1) tree.old tree.new }
+) -> Result<(usize, Item<K, V>, Option<usize>), WouldUnderflow>
+    requires { IsUsed tree.old id }
+    ensures taken { IfOk result (λ r. Changes (λ a b. LosesLast a b id r.1 r.2) tree.old tree.new) }
+    ensures count { IfOk result (λ r. HasCount (node_map tree.old) id r.0) }
+    ensures spare { OnOk result (MIN_ITEMS < size_in (node_map tree.old id)) }
+    ensures short { OnErr result (size_in (node_map tree.old id) ≤ MIN_ITEMS) }
+    ensures unchanged { OnErr result (tree.new ≡ tree.old) }
 {
     tree.tell_fits();
-    let (_offset, item, child) = tree.node_mut(id).pop_right().unwrap();
-    (item, child)
+    match tree.node_mut(id).pop_right() {
+        Ok(popped) => Ok((popped.0.unwrap() + 1, popped.1, popped.2)),
+        Err(short) => Err(short),
+    }
 }
 
 // Replaces the item at an index of an internal node, and returns the old one.
@@ -53,18 +67,22 @@ fn change_separator<K: Drop, V: Drop, C: NodesMut<K, V>>(
     tree.node_mut(id).replace(Offset::from(index), item)
 }
 
-// Inserts an item before the others of a node, and in an internal node a child before the others.
+// Inserts an item before the others of a node, and in an internal node a child before the others. Returns the child that was the first.
 fn put_first<K: Drop, V: Drop, C: NodesMut<K, V>>(
     tree: &mut RawBTree<K, V, C>,
     id: usize,
     item: Item<K, V>,
     child: Option<usize>,
-)
+) -> Option<usize>
     requires { HasRoomFor (node_map tree.old) id child }
-    ensures { Changes (λ a b. GainsFirst a b id item child) tree.old tree.new }
+    ensures gains { Changes (λ a b. GainsFirst a b id item child) tree.old tree.new }
+    ensures first { option_map first_in (node_map tree.old id) ≡ Some result }
 {
     tree.tell_fits();
-    tree.node_mut(id).push_left(item, child);
+    let node = tree.node_mut(id);
+    let first = node.child_id_opt(0);
+    node.push_left(item, child);
+    first
 }
 
 // Inserts an item after the others of a node, and in an internal node a child after the others.
@@ -95,18 +113,19 @@ fn take_separator<K: Drop, V: Drop, C: NodesMut<K, V>>(
     item
 }
 
-// Appends a separator, and then what another node holds, to a node.
+// Appends a separator, and then what another node holds, to a node. Returns how many items the node had.
 fn put_all<K: Drop, V: Drop, C: NodesMut<K, V>>(
     tree: &mut RawBTree<K, V, C>,
     id: usize,
     separator: Item<K, V>,
     other: Node<K, V>,
-)
+) -> usize
     requires { HasRoomForAll (node_map tree.old) id (view_of other) }
-    ensures { Changes (λ a b. GainsAll a b id separator (view_of other)) tree.old tree.new }
+    ensures gains { Changes (λ a b. GainsAll a b id separator (view_of other)) tree.old tree.new }
+    ensures count { HasCount (node_map tree.old) id result }
 {
     tree.tell_fits();
-    let _offset = tree.node_mut(id).append(separator, other);
+    tree.node_mut(id).append(separator, other).unwrap()
 }
 
 // Sets the parent of a child that has moved, if there is one.
@@ -125,70 +144,114 @@ fn move_child<K, V, C: NodesMut<K, V>>(
     }
 }
 
-// Clears the parent of a node.
-fn clear_parent<K, V, C: NodesMut<K, V>>(tree: &mut RawBTree<K, V, C>, id: usize)
+// Clears the parent of a node. Returns how many items it has.
+fn clear_parent<K, V, C: NodesMut<K, V>>(tree: &mut RawBTree<K, V, C>, id: usize) -> usize
     requires { IsUsed tree.old id }
-    ensures { Changes (λ a b. ClearsParent a b id) tree.old tree.new }
+    ensures clears { Changes (λ a b. ClearsParent a b id) tree.old tree.new }
+    ensures count { HasCount (node_map tree.old) id result }
+    ensures few { result ≤ LEAF_SLOTS }
 {
     tree.tell_fits();
-    tree.node_mut(id).set_parent(None);
+    let node = tree.node_mut(id);
+    let count = node.item_count();
+    node.set_parent(None);
+    count
 }
 
-/// Rotates left: the first item of the right sibling moves up to the parent, and the parent's item down to the end of the left sibling.
+/// Rotates left, if the right sibling has an item to spare: its first item moves up to the parent, and the parent's item down to the end of
+/// the left sibling. Returns the child that moves with the items, which is the first one of the right sibling.
 pub(crate) fn rotate_left<K: Drop, V: Drop, C: NodesMut<K, V>>(
     tree: &mut RawBTree<K, V, C>,
     siblings: Siblings,
-)
-    requires can { CanRotateLeft (node_map tree.old) siblings }
-    requires number { siblings.left < usize.MAX }
-    ensures { Changes (λ a b. RotatesSiblingsLeft a b siblings) tree.old tree.new }
+) -> Result<Option<usize>, WouldUnderflow>
+    requires { CanRotateLeft (node_map tree.old) siblings }
+    ensures rotates { OnOk result (Changes (λ a b. RotatesSiblingsLeft a b siblings) tree.old tree.new) }
+    ensures first { IfOk result (λ child.
+        option_map first_in (node_map tree.old siblings.right) ≡ Some child) }
+    ensures spare { OnOk result (MIN_ITEMS < size_in (node_map tree.old siblings.right)) }
+    ensures short { OnErr result (size_in (node_map tree.old siblings.right) ≤ MIN_ITEMS) }
+    ensures unchanged { OnErr result (tree.new ≡ tree.old) }
 {
-    let (up, child) = take_first(tree, siblings.right);
+    tree.tell_numbers();
+    let (up, child) = match take_first(tree, siblings.right) {
+        Ok((up, child)) => (up, child),
+        Err(short) => return Err(short),
+    };
     let down = change_separator(tree, siblings.parent, siblings.index, up);
     put_last(tree, siblings.left, down, child);
     move_child(tree, child, siblings.left);
+    Ok(child)
 }
 
-/// Rotates right: the last item of the left sibling moves up to the parent, and the parent's item down to the front of the right sibling.
+/// Rotates right, if the left sibling has an item to spare: its last item moves up to the parent, and the parent's item down to the front of
+/// the right sibling. Returns how many items the left sibling had, and which child was the first of the right one.
 pub(crate) fn rotate_right<K: Drop, V: Drop, C: NodesMut<K, V>>(
     tree: &mut RawBTree<K, V, C>,
     siblings: Siblings,
-)
-    requires can { CanRotateRight (node_map tree.old) siblings }
-    requires number { siblings.right < usize.MAX }
-    ensures { Changes (λ a b. RotatesSiblingsRight a b siblings) tree.old tree.new }
+) -> Result<(usize, Option<usize>), WouldUnderflow>
+    requires { CanRotateRight (node_map tree.old) siblings }
+    ensures rotates { OnOk result (Changes (λ a b. RotatesSiblingsRight a b siblings) tree.old tree.new) }
+    ensures count { IfOk result (λ r. HasCount (node_map tree.old) siblings.left r.0) }
+    ensures first { IfOk result (λ r.
+        option_map first_in (node_map tree.old siblings.right) ≡ Some r.1) }
+    ensures spare { OnOk result (MIN_ITEMS < size_in (node_map tree.old siblings.left)) }
+    ensures short { OnErr result (size_in (node_map tree.old siblings.left) ≤ MIN_ITEMS) }
+    ensures unchanged { OnErr result (tree.new ≡ tree.old) }
 {
-    let (up, child) = take_last(tree, siblings.left);
+    tree.tell_numbers();
+    let (held, up, child) = match take_last(tree, siblings.left) {
+        Ok((held, up, child)) => (held, up, child),
+        Err(short) => return Err(short),
+    };
     let down = change_separator(tree, siblings.parent, siblings.index, up);
-    put_first(tree, siblings.right, down, child);
+    let first = put_first(tree, siblings.right, down, child);
     move_child(tree, child, siblings.right);
+    Ok((held, first))
 }
 
 /// Merges two siblings: the parent's item and what the right sibling holds are appended to the left one, and the right one is removed.
+/// Returns how many items the left one had, and the first child of the right one.
 pub(crate) fn merge<K: Drop, V: Drop, C: NodesMut<K, V>>(
     tree: &mut RawBTree<K, V, C>,
     siblings: Siblings,
-)
+) -> (usize, Option<usize>)
     requires { CanMerge (node_map tree.old) siblings }
-    ensures { Changes (λ a b. MergesSiblings a b siblings) tree.old tree.new }
+    ensures merges { Changes (λ a b. MergesSiblings a b siblings) tree.old tree.new }
+    ensures count { HasCount (node_map tree.old) siblings.left result.0 }
+    ensures first { option_map first_in (node_map tree.old siblings.right) ≡ Some result.1 }
 {
     tree.tell_fits();
+    tree.tell_numbers();
     let down = take_separator(tree, siblings.parent, siblings.index);
     let other = tree.release_node(siblings.right);
-    put_all(tree, siblings.left, down, other);
-    reparent_children(tree, siblings.left);
+    let first = other.child_id_opt(0);
+    adopt(tree, &other, siblings.left);
+    let held = put_all(tree, siblings.left, down, other);
+    (held, first)
 }
 
-/// Shrinks the root: removes an internal root without items. Its only child then has no parent.
+/// Removes a root without items. Returns its only child, which has no parent then, with the number of the child's items, or `None` if it
+/// was a leaf.
 pub(crate) fn shrink_root<K: Drop, V: Drop, C: NodesMut<K, V>>(
     tree: &mut RawBTree<K, V, C>,
     root: usize,
-    child: usize,
-)
-    requires { CanShrinkRoot (node_map tree.old) root child }
-    ensures { Changes (λ a b. ShrinksRoot a b root child) tree.old tree.new }
+) -> Option<(usize, usize)>
+    requires used { IsUsed tree.old root }
+    requires can { CanShrinkToFirst (node_map tree.old) root }
+    ensures shrinks { IfSome result (λ r. Changes (λ a b. ShrinksRoot a b root r.0) tree.old tree.new) }
+    ensures first { IfSome result (λ r. option_map first_in (node_map tree.old root) ≡ Some (Some r.0)) }
+    ensures count { IfSome result (λ r. HasCount (node_map tree.old) r.0 r.1) }
+    ensures few { IfSome result (λ r. r.1 ≤ LEAF_SLOTS) }
+    ensures leaf { IfNone result (option_map first_in (node_map tree.old root) ≡ Some None) }
+    ensures removes { IfNone result (Changes (λ a b. RemovesNode a b root) tree.old tree.new) }
 {
     tree.tell_fits();
-    drop(tree.release_node(root));
-    clear_parent(tree, child);
+    let node = tree.release_node(root);
+    let first = node.child_id_opt(0);
+    drop(node);
+    let Some(child) = first else {
+        return None;
+    };
+    let held = clear_parent(tree, child);
+    Some((child, held))
 }

@@ -1,30 +1,18 @@
 //! Fixes of underflows, from a node upward.
-ghost use Rattle.std.specs.Prelude.{◌≡◌, ◌-◌, ℕ, ◌<◌, ◌≤◌, IfSome, IsSome, Some, None, option_map, true, false};
+ghost use Rattle.std.specs.Prelude.{◌≡◌, ◌-◌, ℕ, ◌≤◌, IfSome, IsSome, Some, None, option_map, true, false};
 ghost use Rattle.btree_view.specs.View.{parent_of};
 ghost use Rattle.btree_shape.specs.UnderflowFix.{Borrows, MergesNode};
-ghost use Rattle.btree_shape.specs.TreeState.{IsUsed, KeepsRest, node_map};
-ghost use Rattle.btree_shape.specs.WellFormed.{times_used};
+ghost use Rattle.btree_shape.specs.TreeState.{KeepsRest, node_map};
 ghost use Rattle.btree_raw.specs.Underflow.{AreAdjacent, BorrowsFromLeft, EndsHere, GoesUp, HasSiblings, IsChild, IsFollowed, IsFixing, IsFixingOf, Underflows, MergesWithLeft, FixesUnderflowUpward};
 ghost use Rattle.btree_raw.specs.Underflow as specs;
-ghost use Rattle.btree_raw.specs.Steps.{HasCount};
+ghost use Rattle.btree_raw.specs.Steps.{HasCount, HasParent};
 
-use crate::borrow::{borrow_from_left, borrow_from_right, first_child, merge_siblings};
+use crate::borrow::{borrow_from_left, borrow_from_right, merge_siblings};
 use crate::raw::RawBTree;
 use crate::rotate::shrink_root;
 use btree_item::{Address, LEAF_SLOTS, MIN_ITEMS};
 use btree_moved::{Siblings, moved_by_shrink_root};
 use btree_nodes::NodesMut;
-
-// Returns how many items a node has.
-fn count_of<K, V, C: NodesMut<K, V>>(tree: &RawBTree<K, V, C>, id: usize) -> usize
-    requires { 0 < times_used (node_map tree.now id) }
-    ensures count { HasCount (node_map tree.now) id result }
-    ensures few { result ≤ LEAF_SLOTS }
-    ensures number { id < usize.MAX }
-{
-    tree.tell_fits();
-    tree.node(id).item_count()
-}
 
 // Returns two adjacent children, if both are there.
 fn siblings_of(
@@ -81,7 +69,6 @@ fn fix_underflow_with_left<K: Drop, V: Drop, C: NodesMut<K, V>>(
     requires adjacent { AreAdjacent (node_map tree.old) siblings siblings.right addr }
     requires short { Underflows (node_map tree.old) siblings.right }
     requires low { IfSome addr.offset (λ n. n ≤ LEAF_SLOTS) }
-    requires number { siblings.right < usize.MAX }
     ensures borrows { result.1 ≡ false → BorrowsFromLeft tree.old tree.new siblings }
     ensures merges { result.1 ≡ true → MergesWithLeft tree.old tree.new siblings }
     ensures here { EndsHere tree.old tree.new siblings.right addr result }
@@ -89,12 +76,10 @@ fn fix_underflow_with_left<K: Drop, V: Drop, C: NodesMut<K, V>>(
     ensures rest { KeepsRest tree.old tree.new }
     ensures back { IsSome addr.offset → IsSome result.0.offset }
 {
-    tree.tell_fits();
-    let held = count_of(tree, siblings.left);
-    if held > MIN_ITEMS {
-        return (borrow_from_left(tree, siblings, held, addr), false);
+    match borrow_from_left(tree, siblings, Address::new(addr.id, addr.offset)) {
+        Some(at) => (at, false),
+        None => (merge_siblings(tree, siblings, addr), true),
     }
-    (merge_siblings(tree, siblings, held, addr), true)
 }
 
 // Takes one step at a node that underflows, has `count` items and has a parent. Returns the new address of what was at `addr`, and
@@ -111,7 +96,6 @@ fn fix_underflow_at<K: Drop, V: Drop, C: NodesMut<K, V>>(
     requires count { HasCount (node_map tree.old) id count }
     requires short { count ≤ MIN_ITEMS - 1 }
     requires low { IfSome addr.offset (λ n. n ≤ LEAF_SLOTS) }
-    requires number { id < usize.MAX }
     ensures borrows { result.1 ≡ false → Borrows (node_map tree.old) (node_map tree.new) parent id }
     ensures merges { result.1 ≡ true → MergesNode (node_map tree.old) (node_map tree.new) parent id }
     ensures here { EndsHere tree.old tree.new id addr result }
@@ -119,18 +103,16 @@ fn fix_underflow_at<K: Drop, V: Drop, C: NodesMut<K, V>>(
     ensures rest { KeepsRest tree.old tree.new }
     ensures back { IsSome addr.offset → IsSome result.0.offset }
 {
-    tree.tell_fits();
     let (before, after) = siblings(tree, parent, id);
     let Some(after) = after else {
         return fix_underflow_with_left(tree, before.unwrap(), addr);
     };
-    let held = count_of(tree, after.right);
-    if held > MIN_ITEMS {
-        return (borrow_from_right(tree, after, count, addr), false);
+    if let Some(at) = borrow_from_right(tree, after, count, Address::new(addr.id, addr.offset)) {
+        return (at, false);
     }
     match before {
         Some(before) => fix_underflow_with_left(tree, before, addr),
-        None => (merge_siblings(tree, after, count, addr), true),
+        None => (merge_siblings(tree, after, addr), true),
     }
 }
 
@@ -148,50 +130,57 @@ fn fix_root<K: Drop, V: Drop, C: NodesMut<K, V>>(
     ensures fixed { FixesUnderflowUpward tree.old tree.new id addr result }
     ensures back { IsSome addr.offset → IsSome result.offset }
 {
-    tree.tell_fits();
     if count > 0 {
         return addr;
     }
-    let Some(child) = first_child(tree, id) else {
-        drop(tree.release_node(id));
-        tree.set_root_id(None);
-        return Address::nowhere();
-    };
-    let held = count_of(tree, child);
-    shrink_root(tree, id, child);
-    tree.set_root_id(Some(child));
-    moved_by_shrink_root(addr, id, child, held)
+    match shrink_root(tree, id) {
+        Some((child, held)) => {
+            tree.set_root_id(Some(child));
+            moved_by_shrink_root(addr, id, child, held)
+        }
+        None => {
+            tree.set_root_id(None);
+            Address::nowhere()
+        }
+    }
 }
 
-/// Fixes the underflow of a node, if it has one, then of its parent, and so on upward, up to the root. Returns the new address of what
-/// was at `addr`. It needs no new node, so it cannot fail.
+/// Fixes the underflow of a node, which has `count` items and this parent, if it has too few; then of its parent, and so on upward, up to
+/// the root. Returns the new address of what was at `addr`. It needs no new node, so it cannot fail.
+///
+/// The caller has just fetched the node, so it is not fetched again for its count and its parent.
 pub fn fix_underflow_upward<K: Drop, V: Drop, C: NodesMut<K, V>>(
     tree: &mut RawBTree<K, V, C>,
     start: usize,
+    count: usize,
+    parent: Option<usize>,
     addr: Address,
 ) -> Address
     ghost items: { ℕ }
     requires fixing { IsFixingOf (node_map tree.old) tree.old.root start addr items }
+    requires count { HasCount (node_map tree.old) start count }
+    requires parent { HasParent (node_map tree.old) start parent }
     ensures fixed { FixesUnderflowUpward tree.old tree.new start addr result }
     ensures back { IsSome addr.offset → IsSome result.offset }
 {
     tree.tell_fits();
     let mut id = start;
+    let mut held = count;
+    let mut above = parent;
     let mut at = addr;
-    loop {
-        let node = tree.node(id);
-        let count = node.item_count();
-        if count >= MIN_ITEMS {
-            return at;
-        }
-        let Some(parent) = node.parent() else {
-            return fix_root(tree, id, count, at);
+    while held < MIN_ITEMS {
+        let Some(parent) = above else {
+            return fix_root(tree, id, held, at);
         };
-        let (moved, up) = fix_underflow_at(tree, parent, id, count, at);
+        let (moved, up) = fix_underflow_at(tree, parent, id, held, at);
         if !up {
             return moved;
         }
+        let node = tree.node(parent);
         at = moved;
         id = parent;
+        held = node.item_count();
+        above = node.parent();
     }
+    at
 }

@@ -16,13 +16,16 @@ pub mod generic {
     pub use btree_map::BTreeMap;
     pub use btree_node::Node;
 
-    /// The map and the tree in it, their entries, their calls by address, and how an insertion is refused.
+    /// The map and the tree in it, their entries and iterators, their calls by address, and how an insertion is refused.
     pub mod map {
         pub use btree_ext::{BTreeExt, BTreeExtMut, Tree};
-        pub use btree_item::{Cause, Fault, M, Refused};
-        pub use btree_map::{BTreeMap, Entry, OccupiedEntry, VacantEntry};
+        pub use btree_item::{Cause, Fault, M, Refused, UpdateRefused};
+        pub use btree_map::{
+            BTreeMap, Entry, IntoIter, IntoKeys, IntoValues, IterMut, OccupiedEntry, VacantEntry,
+            ValuesMut,
+        };
         pub use btree_raw::RawBTree;
-        pub use btree_walk::Iter;
+        pub use btree_walk::{Iter, Keys, Values};
     }
 
     /// Nodes, their items, and addresses.

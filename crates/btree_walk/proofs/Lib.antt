@@ -1,2 +1,5 @@
+mod BackLemmas
+mod EndLemmas
 mod IterLemmas
+mod RowLemmas
 mod WalkLemmas

@@ -6,13 +6,14 @@ use Rattle.std.specs.FinMap as map
 use Rattle.btree_store.specs.Content.{Content}
 use Rattle.btree_node.specs.declared.node.Node.{Node}
 use Rattle.btree_node.specs.Node.{view_of}
-use Rattle.btree_view.specs.View.{View, leaf, internal, branches_of, items_of, children_of}
+use Rattle.btree_view.specs.View.{View, leaf, internal, branches_of}
 use Rattle.btree_shape.specs.Represents.{Represents, represented}
 use Rattle.btree_shape.specs.TreeState.{views}
 use Rattle.btree_shape.specs.Remaining.{remaining_above, remaining_in, IsUnder, AreRows}
 use Rattle.btree_shape.proofs.LookUp.Walk.{remaining-push, rows-push, rows-pop, under-leaf, under-internal}
 use Rattle.btree_walk.specs.declared.ancestors.Ancestor.{Ancestor}
 use Rattle.btree_walk.specs.Rows.{rows_of}
+use Rattle.btree_walk.proofs.RowLemmas.{none-last, split-last}
 
 module _ {K V : Type 0} where
   abbrev row_of : Ancestor K V → List ((K × V) × ℕ)
@@ -56,36 +57,26 @@ module _ {K V : Type 0} (nodes : Content (Node K V)) (len : ℕ) where
       focus : views nodes id ≡ Some (view_of node)
       focus = ap (option_map view_of) here
 
-      pub down-leaf : None ≡ slice_get (children_of (view_of node)) 0 → start ≡ items_of (view_of node) ++ left_over ancestors
-      down-leaf none = at (view_of node) focus none
-        where
-          at : (v : View (K × V)) → views nodes id ≡ Some v → None ≡ slice_get (children_of v) 0 → start ≡ items_of v ++ left_over ancestors
-          at (leaf p ys) e n = d.list ∙ ap (λ zs. zs ++ left_over ancestors) (under-leaf (views nodes) len (length (rows_of ancestors)) id p ys d.under e)
-          at (internal p first row) e n = absurd (cc)
+      pub down-leaf : (p : Option ℕ) (ys : List (K × V)) → view_of node ≡ leaf p ys → start ≡ ys ++ left_over ancestors
+      down-leaf p ys e = d.list ∙ ap (λ zs. zs ++ left_over ancestors) (under-leaf (views nodes) len (length (rows_of ancestors)) id p ys d.under (focus ∙ ap Some e))
 
-      pub down-internal : (child : ℕ) → Some child ≡ slice_get (children_of (view_of node)) 0 → (f : Ancestor K V) → row_of f ≡ branches_of (view_of node)
-          → (new : List (Ancestor K V)) → new ≡ ancestors ++ f ∷ [] → IsDown start new child
-      down-internal child is f row new made =
-          let more : rows_of new ≡ rows_of ancestors ++ branches_of (view_of node) ∷ [] = ap rows_of made ∙ rows-of-push ancestors f ∙ ap (λ r. rows_of ancestors ++ r ∷ []) row in
-          at (view_of node) focus is more
-        where
-          at : (v : View (K × V)) → views nodes id ≡ Some v → Some child ≡ slice_get (children_of v) 0 → rows_of new ≡ rows_of ancestors ++ branches_of v ∷ [] → IsDown start new child
-          at (leaf p ys) e c more = absurd (cc)
-          at (internal p first bs) e c more =
-              let same : first ≡ child = cc in
-              let i = under-internal (views nodes) len (length (rows_of ancestors)) id p first bs d.under e in
-              let long : length (rows_of ancestors ++ bs ∷ []) ≡ suc (length (rows_of ancestors)) = let q = length_push (rows_of ancestors) bs in omega arith in
-              let none_more : 0 + length (rows_of ancestors) ≡ length (rows_of ancestors) = omega arith in
-              rw (← same) record {
-                rows = subst (λ rows. AreRows (views nodes) len 0 rows) (sym more) (rows-push (views nodes) len 0 (rows_of ancestors) bs d.rows (rw none_more i.row_under));
-                under = subst (λ depth. IsUnder (views nodes) len depth first) (sym (ap length more ∙ long)) i.first_under;
-                list =
-                    d.list
-                    ∙ ap (λ ys. ys ++ left_over ancestors) i.list
-                    ∙ append_assoc (represented (views nodes) len first) (remaining_in (views nodes) len bs) (left_over ancestors)
-                    ∙ ap (λ ys. represented (views nodes) len first ++ ys) (sym (remaining-push (views nodes) len (rows_of ancestors) bs))
-                    ∙ ap (λ rows. represented (views nodes) len first ++ remaining_above (views nodes) len rows) (sym more);
-              }
+      pub down-internal : (p : Option ℕ) (first : ℕ) (bs : List ((K × V) × ℕ)) → view_of node ≡ internal p first bs → (f : Ancestor K V) → row_of f ≡ bs
+          → (new : List (Ancestor K V)) → new ≡ ancestors ++ f ∷ [] → IsDown start new first
+      down-internal p first bs e f row new made =
+          let more : rows_of new ≡ rows_of ancestors ++ bs ∷ [] = ap rows_of made ∙ rows-of-push ancestors f ∙ ap (λ r. rows_of ancestors ++ r ∷ []) row in
+          let i = under-internal (views nodes) len (length (rows_of ancestors)) id p first bs d.under (focus ∙ ap Some e) in
+          let long : length (rows_of ancestors ++ bs ∷ []) ≡ suc (length (rows_of ancestors)) = let q = length_push (rows_of ancestors) bs in omega arith in
+          let none_more : 0 + length (rows_of ancestors) ≡ length (rows_of ancestors) = omega arith in
+          record {
+            rows = subst (λ rows. AreRows (views nodes) len 0 rows) (sym more) (rows-push (views nodes) len 0 (rows_of ancestors) bs d.rows (rw none_more i.row_under));
+            under = subst (λ depth. IsUnder (views nodes) len depth first) (sym (ap length more ∙ long)) i.first_under;
+            list =
+                d.list
+                ∙ ap (λ ys. ys ++ left_over ancestors) i.list
+                ∙ append_assoc (represented (views nodes) len first) (remaining_in (views nodes) len bs) (left_over ancestors)
+                ∙ ap (λ ys. represented (views nodes) len first ++ ys) (sym (remaining-push (views nodes) len (rows_of ancestors) bs))
+                ∙ ap (λ rows. represented (views nodes) len first ++ remaining_above (views nodes) len rows) (sym more);
+          }
 
   -- going up: the ancestors that are passed had nothing left
   pub record IsUp (start ancestors : List (Ancestor K V)) : Type 0 where
@@ -98,14 +89,6 @@ module _ {K V : Type 0} (nodes : Content (Node K V)) (len : ℕ) where
     pub rows : AreOpen rest
     pub under : AllByRecursion (λ (b : (K × V) × ℕ). IsUnder (views nodes) len (suc (length (rows_of rest))) b.1) (row_of f)
     pub list : left_over ancestors ≡ remaining_in (views nodes) len (row_of f) ++ left_over rest
-
-  split-last : (ancestors : List (Ancestor K V)) (f : Ancestor K V) → Some f ≡ slice_get ancestors (length ancestors - 1) → ancestors ≡ take (length ancestors - 1) ancestors ++ f ∷ []
-  split-last [] f e = absurd (cc)
-  split-last (g ∷ []) f e = let same : f ≡ g = cc in rw same refl
-  split-last (g ∷ h ∷ gs) f e =
-      let less : length (g ∷ h ∷ gs) - 1 ≡ suc (length (h ∷ gs) - 1) = omega arith in
-      let at : Some f ≡ slice_get (g ∷ h ∷ gs) (suc (length (h ∷ gs) - 1)) = subst (λ n. Some f ≡ slice_get (g ∷ h ∷ gs) n) less e in
-      rw less (ap (λ l. g ∷ l) (split-last (h ∷ gs) f at))
 
   pub taken-off : (ancestors rest : List (Ancestor K V)) (f : Ancestor K V) → AreOpen ancestors → Some f ≡ slice_get ancestors (length ancestors - 1) → rest ≡ take (length ancestors - 1) ancestors → IsTakenOff ancestors rest f
   taken-off ancestors rest f was answer after =
@@ -157,15 +140,6 @@ module _ {K V : Type 0} (nodes : Content (Node K V)) (len : ℕ) where
   pub record IsOver (start rest : List (Ancestor K V)) : Type 0 where
     pub rest_none : rest ≡ []
     pub list : left_over start ≡ []
-
-  none-last : (ancestors : List (Ancestor K V)) → None ≡ slice_get ancestors (length ancestors - 1) → ancestors ≡ []
-  none-last [] e = refl
-  none-last (g ∷ []) e = absurd (cc)
-  none-last (g ∷ h ∷ gs) e =
-      let less : length (g ∷ h ∷ gs) - 1 ≡ suc (length (h ∷ gs) - 1) = omega arith in
-      let at : None ≡ slice_get (g ∷ h ∷ gs) (suc (length (h ∷ gs) - 1)) = subst (λ n. None ≡ slice_get (g ∷ h ∷ gs) n) less e in
-      let none : h ∷ gs ≡ [] = none-last (h ∷ gs) at in
-      absurd (cc)
 
   pub up-over : (start ancestors : List (Ancestor K V)) → IsUp start ancestors → None ≡ slice_get ancestors (length ancestors - 1) → (rest : List (Ancestor K V)) → rest ≡ take (length ancestors - 1) ancestors → IsOver start rest
   up-over start ancestors up answer rest after =

@@ -5,9 +5,9 @@
 use Rattle.std.specs.Prelude.{◌≡◌, ℕ, ◌+◌, List, [], ◌∷◌, ◌++◌, length, map, drop, Option, Some, None}
 use Rattle.std.specs.Borrow.{Bor}
 use Rattle.std.specs.FinMap as finite
-use Rattle.btree_node.specs.declared.node.Node.{Node}
+use Rattle.btree_leaf.specs.Leaf.{Leaf}
 use Rattle.btree_node.specs.Node.{view_of}
-use Rattle.btree_view.specs.View.{branches_of, items_of}
+use Rattle.btree_view.specs.View.{branches_of}
 use Rattle.btree_shape.specs.Remaining.{remaining_above, AreRows, IsUnder}
 use Rattle.btree_shape.specs.Represents.{represented}
 use Rattle.btree_shape.specs.TreeState.{TreeState, node_map}
@@ -19,12 +19,12 @@ module _ {K V : Type 0} where
   rows_of ancestors = map (λ f. drop f.passed (branches_of (view_of f.node.now))) ancestors
 
   -- the items of a leaf that are not passed
-  abbrev pub remaining_in_leaf : Option (Bor (Node K V)) → (passed : ℕ) → List (K × V)
+  abbrev pub remaining_in_leaf : Option (Bor (Leaf K V)) → (passed : ℕ) → List (K × V)
   remaining_in_leaf None passed = []
-  remaining_in_leaf (Some leaf) passed = drop passed (items_of (view_of leaf.now))
+  remaining_in_leaf (Some leaf) passed = drop passed leaf.now.items
 
   -- the first of these items, or none if all are passed
-  abbrev pub IsNextIn : Option (Bor (Node K V)) → (passed : ℕ) → Option (Bor K × Bor V) → Type 0
+  abbrev pub IsNextIn : Option (Bor (Leaf K V)) → (passed : ℕ) → Option (Bor K × Bor V) → Type 0
   IsNextIn leaf passed None = remaining_in_leaf leaf passed ≡ []
   IsNextIn leaf passed (Some pair) = remaining_in_leaf leaf passed ≡ (pair.0.now, pair.1.now) ∷ remaining_in_leaf leaf (passed + 1)
 
@@ -46,10 +46,10 @@ module _ {K V : Type 0} (tree : TreeState K V) where
   remaining_at id ancestors = represented (node_map tree) (finite.len tree.nodes) id ++ remaining_in_ancestors ancestors
 
   -- what is left of a walk that is in a leaf
-  abbrev pub remaining_of : Option (Bor (Node K V)) → (passed : ℕ) → List (Ancestor K V) → List (K × V)
+  abbrev pub remaining_of : Option (Bor (Leaf K V)) → (passed : ℕ) → List (Ancestor K V) → List (K × V)
   remaining_of leaf passed ancestors = remaining_in_leaf leaf passed ++ remaining_in_ancestors ancestors
 
   -- the first item that is left in the ancestors, with the first leaf after it, or none if nothing is left
-  abbrev pub IsNextAbove : (old new : List (Ancestor K V)) → Option ((Bor K × Bor V) × Bor (Node K V)) → Type 0
+  abbrev pub IsNextAbove : (old new : List (Ancestor K V)) → Option ((Bor K × Bor V) × Bor (Leaf K V)) → Type 0
   IsNextAbove old new None = (remaining_in_ancestors old ≡ []) × (rows_of new ≡ [])
   IsNextAbove old new (Some next) = remaining_in_ancestors old ≡ (next.0.0.now, next.0.1.now) ∷ remaining_of (Some next.1) 0 new

@@ -5,7 +5,7 @@ ghost use Rattle.btree_walk.specs.Rows.{AreAncestors, IsBelow, IsNextAbove, IsNe
 
 use btree_ext::{BTreeExt, Tree};
 use btree_item::{LEAF_SLOTS, MAX_LEVELS, Slots};
-use btree_node::Node;
+use btree_node::{LeafNode, Node};
 use btree_nodes::NodesMut;
 
 /// An internal node above the leaf, and how many of its items are passed.
@@ -19,18 +19,23 @@ pub(crate) struct Ancestor<'a, K, V> {
 pub(crate) type Ancestors<'a, K, V> = Slots<Ancestor<'a, K, V>, MAX_LEVELS>;
 
 // Returns the first item of a leaf after those that are passed.
+#[inline]
 pub(crate) fn next_in_leaf<'a, K, V>(
-    leaf: Option<&'a Node<K, V>>,
+    leaf: Option<&'a LeafNode<K, V>>,
     passed: usize,
 ) -> Option<(&'a K, &'a V)>
     ensures fits { OnSome result (passed < LEAF_SLOTS) }
     ensures first { IsNextIn leaf.entry passed result }
 {
     match leaf {
-        Some(leaf) => match leaf.item_at_index(passed) {
-            Some(item) => Some((item.key(), item.value())),
-            None => None,
-        },
+        Some(leaf) => {
+            // For the prover: a leaf has few items.
+            let _few = leaf.item_count();
+            match leaf.items().get(passed) {
+                Some(item) => Some((item.key(), item.value())),
+                None => None,
+            }
+        }
         None => None,
     }
 }
@@ -40,7 +45,7 @@ fn descend<'a, K: Ord + 'a, V: 'a, C: NodesMut<K, V> + 'a>(
     tree: &'a Tree<K, V, C>,
     top: usize,
     ancestors: &mut Ancestors<'a, K, V>,
-) -> &'a Node<K, V>
+) -> &'a LeafNode<K, V>
     requires above { AreAncestors tree.now ancestors.old }
     requires below { IsBelow tree.now ancestors.old top }
     ensures above { AreAncestors tree.now ancestors.new }
@@ -50,12 +55,12 @@ fn descend<'a, K: Ord + 'a, V: 'a, C: NodesMut<K, V> + 'a>(
     let mut id = top;
     loop {
         let node = tree.node(id);
-        match node.child_id_opt(0) {
-            Some(child) => {
+        match node {
+            Node::Leaf(leaf) => return leaf,
+            Node::Internal(inner) => {
                 ancestors.push(Ancestor { node, passed: 0 });
-                id = child;
+                id = inner.first_child_id();
             }
-            None => return node,
         }
     }
 }
@@ -64,7 +69,7 @@ fn descend<'a, K: Ord + 'a, V: 'a, C: NodesMut<K, V> + 'a>(
 pub(crate) fn start<'a, K: Ord + 'a, V: 'a, C: NodesMut<K, V> + 'a>(
     tree: &'a Tree<K, V, C>,
     ancestors: &mut Ancestors<'a, K, V>,
-) -> Option<&'a Node<K, V>>
+) -> Option<&'a LeafNode<K, V>>
     requires none { ancestors.old ≡ [] }
     ensures above { AreAncestors tree.now ancestors.new }
     ensures left { remaining_of tree.now result 0 ancestors.new ≡ pairs_of tree.now }
@@ -82,7 +87,7 @@ pub(crate) fn start<'a, K: Ord + 'a, V: 'a, C: NodesMut<K, V> + 'a>(
 pub(crate) fn next_above<'a, K: Ord + 'a, V: 'a, C: NodesMut<K, V> + 'a>(
     tree: &'a Tree<K, V, C>,
     ancestors: &mut Ancestors<'a, K, V>,
-) -> Option<((&'a K, &'a V), &'a Node<K, V>)>
+) -> Option<((&'a K, &'a V), &'a LeafNode<K, V>)>
     requires above { AreAncestors tree.now ancestors.old }
     ensures above { AreAncestors tree.now ancestors.new }
     ensures left { IsNextAbove tree.now ancestors.old ancestors.new result }

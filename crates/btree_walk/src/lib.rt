@@ -2,6 +2,9 @@
 #![tactic(auto)]
 
 mod ancestors;
+mod backward;
 mod iter;
+mod keys;
 
 pub use iter::Iter;
+pub use keys::{Keys, Values};

@@ -1,14 +1,13 @@
 -- What code does for a rotation or a merge, call by call: three nodes are written one after another, or two are written
--- and one is removed, and then children get their new parent.
-use Rattle.std.proofs.Common.{◌≡◌, ◌≢◌, ◌<◌, ◌++◌, ◌∷◌, ◌∙◌, ◌+◌, ℕ, suc, inl, inr, List, Some, refl, sym, ap, arith}
+-- and one is removed, and children get their new parent.
+use Rattle.std.proofs.Common.{◌≡◌, ◌≢◌, ◌<◌, ◌++◌, ◌∷◌, ◌∙◌, ℕ, suc, inl, inr, List, Some, refl, sym, ap}
 use Rattle.std.specs.Prelude.{option_map, slice_get}
 use Rattle.std.specs.List.{remove}
 use Rattle.btree_view.specs.Edits.{with_parent}
 use Rattle.btree_view.specs.View.{NodeMap, View, children_of, items_of}
 use Rattle.btree_shape.specs.SiblingSteps.{IsRemade, Merges, Writes}
-use Rattle.btree_shape.specs.Lists.{one, times_listed}
+use Rattle.btree_shape.specs.Lists.{times_listed}
 use Rattle.btree_shape.specs.Step.{Reparents, RemovesNode, WritesNode}
-use Rattle.btree_shape.proofs.Paths.Frames.{total-append}
 use Rattle.btree_shape.proofs.Trees.Numbers.{zero-or}
 
 -- a list of children that does not have a number
@@ -65,31 +64,19 @@ module _ {A : Type 0} (node_at one_look two three new : NodeMap A) (parent left 
           kept = λ n np nl nr z. reparents.kept n z ∙ still n np nl nr;
         }
 
-  -- a merge: the parent first, then the right node is removed, then the left one is written and made the parent of all
-  -- its children, which changes nothing in its own ones
+  -- a merge: the parent first, then the right node is removed, then its children get the left one as their parent, and
+  -- then the left one is written
   module _ (index : ℕ) (top low high new_top new_low : View A) (down : A)
-      (away : (n : ℕ) → 0 < times_listed n (children_of low) + times_listed n (children_of high)
-      → (n ≢ parent) × (n ≢ left) × (n ≢ right))
-      (own : (n : ℕ) → 0 < times_listed n (children_of low) → option_map (with_parent (Some left)) (node_at n) ≡ node_at n)
+      (away : (n : ℕ) → 0 < times_listed n (children_of high) → (n ≢ parent) × (n ≢ left) × (n ≢ right))
       (at_parent : node_at parent ≡ Some top) (at_left : node_at left ≡ Some low) (at_right : node_at right ≡ Some high)
       (down_is : slice_get (items_of top) index ≡ Some down)
       (top_is : IsRemade top new_top (remove (items_of top) index)
       (remove (children_of top) (suc index)))
       (low_is : IsRemade low new_low (items_of low ++ down ∷ items_of high) (children_of low ++ children_of high)) where
-    abbrev pub children_of_both : List ℕ
-    children_of_both = children_of low ++ children_of high
-
-    both-parts : (n : ℕ) → times_listed n children_of_both ≡ times_listed n (children_of low) + times_listed n (children_of high)
-    both-parts n = total-append (λ i. one n i) (children_of low) (children_of high)
-
-    other : (n : ℕ) → 0 < times_listed n children_of_both → (n ≢ parent) × (n ≢ left) × (n ≢ right)
-    other n m = away n (let b = both-parts n in omega arith)
-
-    pub merge-written : WritesNode node_at one_look parent new_top → RemovesNode one_look two right → WritesNode two three left new_low
-        → Reparents three new left children_of_both → Merges node_at new parent index left right
-    merge-written a b c reparents =
-        let still : (n : ℕ) → n ≢ parent → n ≢ left → n ≢ right → three n ≡ node_at n =
-        λ n np nl nr. c.others n nl ∙ (b.others n nr ∙ a.others n np) in
+    pub merge-written : WritesNode node_at one_look parent new_top → RemovesNode one_look two right
+        → Reparents two three left (children_of high) → WritesNode three new left new_low → Merges node_at new parent index left right
+    merge-written a b reparents c =
+        let still : (n : ℕ) → n ≢ parent → n ≢ right → two n ≡ node_at n = λ n np nr. b.others n nr ∙ a.others n np in
         record {
           top = top;
           low = low;
@@ -103,18 +90,13 @@ module _ {A : Type 0} (node_at one_look two three new : NodeMap A) (parent left 
           down_is = down_is;
           top_is = top_is;
           low_is = low_is;
-          new_parent = reparents.kept parent (none-of children_of_both parent (λ n m. (other n m).0))
-              ∙ (c.others parent (λ e. apart.1 (sym e)) ∙ (b.others parent (λ e. apart.2 (sym e)) ∙ a.here));
-          new_left = reparents.kept left (none-of children_of_both left (λ n m. (other n m).1)) ∙ c.here;
-          removed = reparents.kept right (none-of children_of_both right (λ n m. (other n m).2))
-              ∙ (c.others right (λ e. apart.0 (sym e)) ∙ b.here);
+          new_parent = c.others parent (λ e. apart.1 (sym e))
+              ∙ (reparents.kept parent (none-of (children_of high) parent (λ n m. (away n m).0))
+              ∙ (b.others parent (λ e. apart.2 (sym e)) ∙ a.here));
+          new_left = c.here;
+          removed = c.others right (λ e. apart.0 (sym e))
+              ∙ (reparents.kept right (none-of (children_of high) right (λ n m. (away n m).2)) ∙ b.here);
           moved = λ n np nl nr m.
-              reparents.moved n (let b = both-parts n in omega arith)
-              ∙ ap (option_map (with_parent (Some left))) (still n np nl nr);
-          kept = λ n np nl nr z.
-              elim (zero-or (times_listed n (children_of low))) [
-                | inl z2 ↦ reparents.kept n (let b = both-parts n in omega arith) ∙ still n np nl nr
-                | inr m ↦ reparents.moved n (let b = both-parts n in omega arith)
-                    ∙ (ap (option_map (with_parent (Some left))) (still n np nl nr) ∙ own n m)
-              ];
+              c.others n nl ∙ (reparents.moved n m ∙ ap (option_map (with_parent (Some left))) (still n np nr));
+          kept = λ n np nl nr z. c.others n nl ∙ (reparents.kept n z ∙ still n np nr);
         }

@@ -1,74 +1,36 @@
-use Rattle.std.proofs.Common.{◌∙◌, arith, refl, sym, rules}
-use Rattle.btree_raw.proofs.ClaimLemmas.{claims-low}
-use Rattle.btree_raw.proofs.StateLemmas.{same-len}
-use Rattle.btree_edit.proofs.MoreLemmas.{can-add, more-inserted, splitting, the-leaf}
-use Rattle.btree_edit.proofs.insertion.insert_and_split.Goals as goal
+use Rattle.std.proofs.Common.{◌∙◌, arith}
 use Rattle.std.proofs.lemmas.Grind.{common_steps}
+use Rattle.btree_edit.proofs.insertion.insert_and_split.Goals as goal
 
-pub unwrap-requires : goal.unwrap-requires
-unwrap-requires g c =
-    let l = the-leaf g.K.Ord.cmp g.met.K.Ord.total c.args.tree.now c.requires.some c.requires.tree c.args.item.0 c.args.item.1 c.args.addr c.requires.gap in rw l.offset refl
-
-pub add_item-requires : goal.add_item-requires
-add_item-requires g c =
-    can-add g.K.Ord.cmp g.met.K.Ord.total c.args.tree.now c.requires.some c.requires.tree c.args.item.0 c.args.item.1 c.args.addr c.requires.gap
-    c.claim.new.claims.items c.claim.new.tree (c.claim.ensures.claimed c.if-not-claim.false) (c.claim.ensures.count c.if-not-claim.false ∙ c.requires.enough) c.unwrap.result (sym c.unwrap.ensures.value)
-
-pub split_upward-at-requires-clause-splitting : goal.split_upward-at-requires-clause-splitting
-split_upward-at-requires-clause-splitting g c =
-    splitting g.K.Ord.cmp g.met.K.Ord.total c.args.tree.now c.requires.some c.requires.tree c.args.item.0 c.args.item.1 c.args.addr c.requires.gap
-    c.claim.new.claims.items c.claim.new.tree (c.claim.ensures.claimed c.if-not-claim.false) (c.claim.ensures.count c.if-not-claim.false ∙ c.requires.enough) c.add_item.new.tree c.unwrap.result (sym c.unwrap.ensures.value) c.add_item.ensures
-
-pub split_upward-at-requires-clause-numbers : goal.split_upward-at-requires-clause-numbers
-split_upward-at-requires-clause-numbers g c = claims-low c.args.tree.now.nodes c.claim.new.claims.items (c.claim.ensures.claimed c.if-not-claim.false).claimed.claims
+pub insert_claimed-requires : goal.insert_claimed-requires
+insert_claimed-requires g c = (
+  c.args.tree.now,
+  record {
+    tree = c.requires.tree;
+    some = c.requires.some;
+    gap = c.requires.gap;
+    room = c.requires.room;
+    claimed = c.claim.ensures.claimed c.if-not-claim.false;
+    enough = c.claim.ensures.count c.if-not-claim.false ∙ c.requires.enough;
+  },
+)
 
 pub returns-clause-inserted : goal.returns-clause-inserted
 returns-clause-inserted g c =
-    rw (c.set_len.ensures, c.len.ensures)
-    (more-inserted g.K.Ord.cmp g.met.K.Ord.total c.args.tree.now c.requires.some c.requires.tree c.args.item.0 c.args.item.1 c.args.addr c.requires.gap
-    c.claim.new.claims.items c.claim.new.tree (c.claim.ensures.claimed c.if-not-claim.false) (c.claim.ensures.count c.if-not-claim.false ∙ c.requires.enough) c.add_item.new.tree c.unwrap.result (sym c.unwrap.ensures.value) c.add_item.ensures
-    c.split_upward-at.new.tree c.split_upward-at.result c.split_upward-at.ensures.split)
-
-pub overflow_add-len : goal.overflow_add-len
-overflow_add-len g c =
-    let claimed = same-len (c.claim.ensures.claimed c.if-not-claim.false).rest in
-    let added = same-len c.add_item.ensures.rest in
-    let split = c.split_upward-at.ensures.split.len in
-    let room = c.requires.room in
-    rw c.len.ensures (omega arith)
-
-pub tell_fits-requires : goal.tell_fits-requires
-tell_fits-requires g c κs = search rules steps 200000
-
-pub new-claims-requires : goal.new-claims-requires
-new-claims-requires g c = search rules steps 200000
+    c.insert_claimed.ensures c.args.tree.now (record {
+      tree = c.requires.tree;
+      some = c.requires.some;
+      gap = c.requires.gap;
+      room = c.requires.room;
+      claimed = c.claim.ensures.claimed c.if-not-claim.false;
+      enough = c.claim.ensures.count c.if-not-claim.false ∙ c.requires.enough;
+    })
 
 pub claim-requires-clause-few : goal.claim-requires-clause-few
 claim-requires-clause-few g c = grind (arith, common_steps) steps 1500000
-
-pub claim-requires-clause-none : goal.claim-requires-clause-none
-claim-requires-clause-none g c = search rules steps 200000
-
-pub refused-requires : goal.refused-requires
-refused-requires g c κs = search rules steps 200000
-
-pub returns-then-not-claim-clause-inserted : goal.returns-then-not-claim-clause-inserted
-returns-then-not-claim-clause-inserted g c = search rules steps 200000
 
 pub returns-then-not-claim-clause-returned : goal.returns-then-not-claim-clause-returned
 returns-then-not-claim-clause-returned g c = grind (arith, common_steps) steps 300000
 
 pub returns-then-not-claim-clause-refused : goal.returns-then-not-claim-clause-refused
 returns-then-not-claim-clause-refused g c = grind (arith, common_steps) steps 300000
-
-pub len-requires : goal.len-requires
-len-requires g c κs = search rules steps 200000
-
-pub set_len-requires : goal.set_len-requires
-set_len-requires g c κs = search rules steps 200000
-
-pub returns-clause-returned : goal.returns-clause-returned
-returns-clause-returned g c = search rules steps 200000
-
-pub returns-clause-refused : goal.returns-clause-refused
-returns-clause-refused g c = search rules steps 200000

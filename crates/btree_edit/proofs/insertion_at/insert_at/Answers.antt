@@ -1,21 +1,28 @@
-use Rattle.std.proofs.lemmas.Result.{IfErr-weaker, IfOk-weaker}
-use Rattle.btree_edit.proofs.InsertAtLemmas.{gap-at-leaf, inserts-at}
+use Rattle.std.proofs.Common.{[], inl, refl, sym, ◌∙◌}
+use Rattle.btree_raw.proofs.NeedLemmas.{need-split_need}
+use Rattle.btree_find.proofs.LeafLemmas.{leaf-same}
+use Rattle.btree_find.proofs.PlaceLemmas.{node-used, within-node}
+use Rattle.btree_edit.proofs.InsertAtLemmas.{can-leaf, gap-at-leaf, inserts-at, rooted}
+use Rattle.btree_edit.proofs.MoreLemmas.{leaf-used, more-inserted, none-claimed, unsplit}
 use Rattle.btree_edit.proofs.insertion_at.insert_at.Goals as goal
 
-pub insert_at_gap-requires-clause-gap : goal.insert_at_gap-requires-clause-gap
-insert_at_gap-requires-clause-gap g c =
-    gap-at-leaf g.K.Ord.cmp g.met.K.Ord.total c.args.tree.now c.requires.tree c.args.item c.args.addr c.requires.fits
-    c.leaf_address-leaf.result c.leaf_address-leaf.ensures c.requires.back
+pub add_item_at_leaf-requires-clause-used : goal.add_item_at_leaf-requires-clause-used
+add_item_at_leaf-requires-clause-used g c =
+    node-used g.K.Ord.cmp g.met.K.Ord.total c.args.tree.now c.requires.tree c.in-Some._root (sym c.root_id.ensures ∙ c.in-Some.is) c.args.addr c.requires.valid
 
-pub returns-clause-inserted : goal.returns-clause-inserted
-returns-clause-inserted g c =
-    IfOk-weaker c.insert_at_gap.result _ _
-    (inserts-at g.K.Ord.cmp g.met.K.Ord.total c.args.tree.now c.requires.tree c.args.item c.args.addr c.requires.fits
-    c.leaf_address-leaf.result c.leaf_address-leaf.ensures c.insert_at_gap.new.tree)
-    c.insert_at_gap.ensures.inserted
+pub add_item_at_leaf-requires-clause-within : goal.add_item_at_leaf-requires-clause-within
+add_item_at_leaf-requires-clause-within g c = λ node at.
+    within-node g.K.Ord.cmp g.met.K.Ord.total c.args.tree.now c.requires.tree c.in-Some._root (sym c.root_id.ensures ∙ c.in-Some.is) c.args.addr c.requires.valid node at
+    c.unwrap.result c.unwrap.ensures.value
 
-pub returns-clause-refused : goal.returns-clause-refused
-returns-clause-refused g c =
-    IfErr-weaker c.insert_at_gap.result _ _
-    (λ r refused. record { leaf = c.leaf_address-leaf.result; leaf_for = c.leaf_address-leaf.ensures; refused = refused })
-    c.insert_at_gap.ensures.refused
+pub returns-in-Ok-clause-inserted : goal.returns-in-Ok-clause-inserted
+returns-in-Ok-clause-inserted g c =
+    let used = leaf-used g.K.Ord.cmp g.met.K.Ord.total c.args.tree.now (rooted c.args.tree.now c.in-Some._root (sym c.root_id.ensures ∙ c.in-Some.is)) c.requires.tree c.args.item.0 c.args.item.1 c.args.addr (gap-at-leaf g.K.Ord.cmp g.met.K.Ord.total c.args.tree.now c.requires.tree c.args.item c.args.addr c.requires.fits c.args.addr (leaf-same g.K.Ord.cmp g.met.K.Ord.total c.args.tree.now c.requires.tree c.args.addr c.requires.valid (inl (can-leaf c.args.tree.now c.args.addr.id c.unwrap.result c.in-Ok.ensures.can))) c.requires.back) in
+    let enough = sym c.in-Ok.ensures.enough ∙ need-split_need g.K.Ord.cmp c.args.tree.now c.args.addr.id c.requires.tree used in
+    rw (c.set_len.ensures, c.len-in-Ok.ensures)
+    (inserts-at g.K.Ord.cmp g.met.K.Ord.total c.args.tree.now c.requires.tree c.args.item c.args.addr c.requires.fits c.args.addr (leaf-same g.K.Ord.cmp g.met.K.Ord.total c.args.tree.now c.requires.tree c.args.addr c.requires.valid (inl (can-leaf c.args.tree.now c.args.addr.id c.unwrap.result c.in-Ok.ensures.can))) _ c.args.addr
+    (more-inserted g.K.Ord.cmp g.met.K.Ord.total c.args.tree.now (rooted c.args.tree.now c.in-Some._root (sym c.root_id.ensures ∙ c.in-Some.is)) c.requires.tree c.args.item.0 c.args.item.1 c.args.addr (gap-at-leaf g.K.Ord.cmp g.met.K.Ord.total c.args.tree.now c.requires.tree c.args.item c.args.addr c.requires.fits c.args.addr (leaf-same g.K.Ord.cmp g.met.K.Ord.total c.args.tree.now c.requires.tree c.args.addr c.requires.valid (inl (can-leaf c.args.tree.now c.args.addr.id c.unwrap.result c.in-Ok.ensures.can))) c.requires.back)
+    [] c.args.tree.now (none-claimed c.args.tree.now) enough c.add_item_at_leaf.new.tree c.unwrap.result (sym c.unwrap.ensures.value) c.in-Ok.ensures.added
+    c.add_item_at_leaf.new.tree c.args.addr
+    (unsplit g.K.Ord.cmp g.met.K.Ord.total c.args.tree.now (rooted c.args.tree.now c.in-Some._root (sym c.root_id.ensures ∙ c.in-Some.is)) c.requires.tree c.args.item.0 c.args.item.1 c.args.addr (gap-at-leaf g.K.Ord.cmp g.met.K.Ord.total c.args.tree.now c.requires.tree c.args.item c.args.addr c.requires.fits c.args.addr (leaf-same g.K.Ord.cmp g.met.K.Ord.total c.args.tree.now c.requires.tree c.args.addr c.requires.valid (inl (can-leaf c.args.tree.now c.args.addr.id c.unwrap.result c.in-Ok.ensures.can))) c.requires.back)
+    [] c.args.tree.now (none-claimed c.args.tree.now) enough c.add_item_at_leaf.new.tree c.unwrap.result (sym c.unwrap.ensures.value) c.in-Ok.ensures.added refl)))

@@ -1,11 +1,15 @@
-use Rattle.std.proofs.Common.{◌≡◌, ◌∙◌, ◌-◌, Some, false, sym, ap, subst, arith}
+use Rattle.std.proofs.Common.{◌≡◌, ◌∙◌, ◌+◌, ◌-◌, ◌<◌, IsSome, Some, length, slice_get, refl, sym, ap, subst, arith}
 use Rattle.btree_shape.specs.TreeState.{TreeState, IsBTree, IsOffByOneAt, IsValidIn, node_map}
+use Rattle.btree_node.specs.declared.node.Node.{Node}
 use Rattle.btree_node.specs.Node.{view_of}
+use Rattle.btree_view.specs.View.{children_of}
 use Rattle.btree_raw.specs.Rebalance.{HasRoom, IsRebalanced}
+use Rattle.btree_raw.specs.Steps.{HasCount, HasParent}
+use Rattle.btree_raw.proofs.FetchedLemmas.{count-written, parent-written}
 use Rattle.btree_find.proofs.PlaceLemmas.{node-used}
 use Rattle.btree_raw.proofs.LastLemmas.{same-state}
-use Rattle.btree_edit.specs.Remove.{IsInnerAt, IsRemoved, ReplacesInner}
-use Rattle.btree_edit.proofs.RemoveAtLemmas.{enough-left, inner-by, leaf-counted, leaf-enough, leaf-here, leaf-off, leaf-removed, leaf-room, leaf-valid, no-inner, on-err, on-ok, one-left, vacant-by, vacant-empty}
+use Rattle.btree_edit.specs.Remove.{HasChildBehind, IsInnerAt, IsRemoved, ReplacesInner}
+use Rattle.btree_edit.proofs.RemoveAtLemmas.{behind-within, has-behind, inner-by, leaf-counted, leaf-enough, leaf-here, leaf-off, leaf-removed, leaf-room, leaf-valid, no-inner, on-err, on-ok, one-left, vacant-by, vacant-empty}
 use Rattle.btree_edit.proofs.RemoveInnerLemmas.{small-len}
 use Rattle.btree_edit.proofs.removal.remove_at.Goals as goal
 
@@ -28,28 +32,56 @@ overflow_sub-len g c =
     (ap Some (sym c.in-Some-Ok.field-0-is) ∙ c.in-Some-Ok.ensures.answer) c.leaf_remove.new.self (on-ok c.in-Some-Ok.field-0 c.in-Some-Ok.item c.in-Some-Ok.field-0-is c.in-Some-Ok.ensures.taken) (c.len.result - 1) in
     omega arith
 
-pub rebalance_underflow-at-requires-clause-off_by_one :
-    goal.rebalance_underflow-at-requires-clause-off_by_one
-rebalance_underflow-at-requires-clause-off_by_one g c =
+pub rebalance_fetched-at-requires-clause-off_by_one :
+    goal.rebalance_fetched-at-requires-clause-off_by_one
+rebalance_fetched-at-requires-clause-off_by_one g c =
     subst (λ (t : TreeState _ _). IsOffByOneAt g.K.Ord.cmp t c.args.addr.id) (sym c.set_len.ensures)
     (leaf-off c.args.tree.now c.args.addr c.node_mut-node.result.now c.node_mut-node.ensures.value g.K.Ord.cmp g.met.K.Ord.total
     c.requires.tree (small-len c.args.tree.now c.len.result c.len.ensures c.len.type_inv) c.in-Some-Ok.item
     (ap Some (sym c.in-Some-Ok.field-0-is) ∙ c.in-Some-Ok.ensures.answer) c.leaf_remove.new.self (on-ok c.in-Some-Ok.field-0 c.in-Some-Ok.item c.in-Some-Ok.field-0-is c.in-Some-Ok.ensures.taken) (c.len.result - 1))
 
-pub rebalance_underflow-at-requires-clause-valid :
-    goal.rebalance_underflow-at-requires-clause-valid
-rebalance_underflow-at-requires-clause-valid g c =
+pub rebalance_fetched-at-requires-clause-valid :
+    goal.rebalance_fetched-at-requires-clause-valid
+rebalance_fetched-at-requires-clause-valid g c =
     subst (λ (t : TreeState _ _). IsValidIn t c.args.addr) (sym c.set_len.ensures)
     (leaf-valid c.args.tree.now c.args.addr c.node_mut-node.result.now c.node_mut-node.ensures.value g.K.Ord.cmp g.met.K.Ord.total
     c.requires.tree (small-len c.args.tree.now c.len.result c.len.ensures c.len.type_inv) c.in-Some-Ok.item
     (ap Some (sym c.in-Some-Ok.field-0-is) ∙ c.in-Some-Ok.ensures.answer) c.leaf_remove.new.self (on-ok c.in-Some-Ok.field-0 c.in-Some-Ok.item c.in-Some-Ok.field-0-is c.in-Some-Ok.ensures.taken) (c.len.result - 1))
 
-pub rebalance_underflow-at-requires-clause-room : goal.rebalance_underflow-at-requires-clause-room
-rebalance_underflow-at-requires-clause-room g c =
+pub rebalance_fetched-at-requires-clause-room : goal.rebalance_fetched-at-requires-clause-room
+rebalance_fetched-at-requires-clause-room g c =
     subst (λ (t : TreeState _ _). HasRoom (node_map t) c.args.addr.id) (sym c.set_len.ensures)
     (leaf-room c.args.tree.now c.args.addr c.node_mut-node.result.now c.node_mut-node.ensures.value g.K.Ord.cmp g.met.K.Ord.total
     c.requires.tree (small-len c.args.tree.now c.len.result c.len.ensures c.len.type_inv) c.in-Some-Ok.item
     (ap Some (sym c.in-Some-Ok.field-0-is) ∙ c.in-Some-Ok.ensures.answer) c.leaf_remove.new.self (on-ok c.in-Some-Ok.field-0 c.in-Some-Ok.item c.in-Some-Ok.field-0-is c.in-Some-Ok.ensures.taken) (c.len.result - 1))
+
+pub rebalance_fetched-at-requires-clause-count : goal.rebalance_fetched-at-requires-clause-count
+rebalance_fetched-at-requires-clause-count g c =
+    subst (λ (t : TreeState _ _). HasCount (node_map t) c.args.addr.id c.item_count-count.result) (sym c.set_len.ensures)
+    (count-written c.args.tree.now.nodes c.args.addr.id c.leaf_remove.new.self c.item_count-count.result c.item_count-count.ensures.value)
+
+pub rebalance_fetched-at-requires-clause-parent : goal.rebalance_fetched-at-requires-clause-parent
+rebalance_fetched-at-requires-clause-parent g c =
+    subst (λ (t : TreeState _ _). HasParent (node_map t) c.args.addr.id c.parent-parent.result) (sym c.set_len.ensures)
+    (parent-written c.args.tree.now.nodes c.args.addr.id c.leaf_remove.new.self c.parent-parent.result c.parent-parent.ensures.value)
+
+pub unwrap-requires : goal.unwrap-requires
+unwrap-requires g c =
+    let inner = (inner-by c.args.tree.now c.args.addr c.node_mut-node.result.now c.node_mut-node.ensures.value c.in-Some-Err.left (ap Some (sym c.in-Some-Err.field-0-is) ∙ c.in-Some-Err.ensures.answer)) in
+    subst (λ o. IsSome o) (sym inner.offset) refl
+
+pub child_id-right-requires : goal.child_id-right-requires
+child_id-right-requires g c = (
+  c.tell_fits.ensures,
+  subst (λ (n : Node _ _). c.unwrap.result + 1 < length (children_of (view_of n))) (sym (on-err c.in-Some-Err.field-0 c.in-Some-Err.left c.in-Some-Err.field-0-is c.in-Some-Err.ensures.inner))
+      (behind-within g.K.Ord.cmp g.met.K.Ord.total c.args.tree.now c.requires.tree c.args.addr c.in-Some-Err.left (inner-by c.args.tree.now c.args.addr c.node_mut-node.result.now c.node_mut-node.ensures.value c.in-Some-Err.left (ap Some (sym c.in-Some-Err.field-0-is) ∙ c.in-Some-Err.ensures.answer)) c.node_mut-node.result.now (sym c.node_mut-node.ensures.value) c.unwrap.result c.unwrap.ensures.value),
+)
+
+pub remove_inner-requires-clause-behind : goal.remove_inner-requires-clause-behind
+remove_inner-requires-clause-behind g c =
+    subst (λ (t : TreeState _ _). HasChildBehind t c.args.addr c.child_id-right.result) (sym (same-state c.args.tree.now c.args.addr.id c.node_mut-node.result.now c.leaf_remove.new.self c.node_mut-node.ensures.value (on-err c.in-Some-Err.field-0 c.in-Some-Err.left c.in-Some-Err.field-0-is c.in-Some-Err.ensures.inner)))
+    (has-behind g.K.Ord.cmp g.met.K.Ord.total c.args.tree.now c.requires.tree c.args.addr c.in-Some-Err.left (inner-by c.args.tree.now c.args.addr c.node_mut-node.result.now c.node_mut-node.ensures.value c.in-Some-Err.left (ap Some (sym c.in-Some-Err.field-0-is) ∙ c.in-Some-Err.ensures.answer)) c.node_mut-node.result.now (sym c.node_mut-node.ensures.value) c.unwrap.result c.unwrap.ensures.value c.child_id-right.result
+    (subst (λ (n : Node _ _). slice_get (children_of (view_of n)) (c.unwrap.result + 1) ≡ Some c.child_id-right.result) (on-err c.in-Some-Err.field-0 c.in-Some-Err.left c.in-Some-Err.field-0-is c.in-Some-Err.ensures.inner) c.child_id-right.ensures))
 
 pub remove_inner-requires-clause-tree : goal.remove_inner-requires-clause-tree
 remove_inner-requires-clause-tree g c =
@@ -74,8 +106,8 @@ returns-in-None-clause-unchanged g c =
     same-state c.args.tree.now c.args.addr.id c.node_mut-node.result.now c.leaf_remove.new.self c.node_mut-node.ensures.value
     c.in-None.ensures.none
 
-pub returns-then-not-is_short-clause-removed : goal.returns-then-not-is_short-clause-removed
-returns-then-not-is_short-clause-removed g c =
+pub returns-then-count-ge-MIN_ITEMS-clause-removed : goal.returns-then-count-ge-MIN_ITEMS-clause-removed
+returns-then-count-ge-MIN_ITEMS-clause-removed g c =
     let e = c.len.ensures in
     let n = leaf-counted c.args.tree.now c.args.addr c.node_mut-node.result.now c.node_mut-node.ensures.value g.K.Ord.cmp g.met.K.Ord.total
     c.requires.tree (small-len c.args.tree.now c.len.result c.len.ensures c.len.type_inv) c.in-Some-Ok.item
@@ -84,12 +116,10 @@ returns-then-not-is_short-clause-removed g c =
     (leaf-enough c.args.tree.now c.args.addr c.node_mut-node.result.now c.node_mut-node.ensures.value g.K.Ord.cmp g.met.K.Ord.total
     c.requires.tree (small-len c.args.tree.now c.len.result c.len.ensures c.len.type_inv) c.in-Some-Ok.item
     (ap Some (sym c.in-Some-Ok.field-0-is) ∙ c.in-Some-Ok.ensures.answer) c.leaf_remove.new.self (on-ok c.in-Some-Ok.field-0 c.in-Some-Ok.item c.in-Some-Ok.field-0-is c.in-Some-Ok.ensures.taken) (c.len.result - 1)
-    (omega arith) (let e = c.if-not-is_short.true in
-    let is : c.is_underflowing-is_short.result ≡ false = cc in
-    enough-left (view_of c.leaf_remove.new.self) c.is_underflowing-is_short.result c.is_underflowing-is_short.ensures is))
+    (omega arith) (let e = c.item_count-count.ensures.value in let t = c.if-count-ge-MIN_ITEMS.true in omega arith))
 
-pub returns-else-not-is_short-clause-removed : goal.returns-else-not-is_short-clause-removed
-returns-else-not-is_short-clause-removed g c =
+pub returns-else-count-ge-MIN_ITEMS-clause-removed : goal.returns-else-count-ge-MIN_ITEMS-clause-removed
+returns-else-count-ge-MIN_ITEMS-clause-removed g c =
     let e = c.len.ensures in
     let n = leaf-counted c.args.tree.now c.args.addr c.node_mut-node.result.now c.node_mut-node.ensures.value g.K.Ord.cmp g.met.K.Ord.total
     c.requires.tree (small-len c.args.tree.now c.len.result c.len.ensures c.len.type_inv) c.in-Some-Ok.item
@@ -97,9 +127,9 @@ returns-else-not-is_short-clause-removed g c =
     leaf-removed c.args.tree.now c.args.addr c.node_mut-node.result.now c.node_mut-node.ensures.value g.K.Ord.cmp g.met.K.Ord.total
     c.requires.tree (small-len c.args.tree.now c.len.result c.len.ensures c.len.type_inv) c.in-Some-Ok.item
     (ap Some (sym c.in-Some-Ok.field-0-is) ∙ c.in-Some-Ok.ensures.answer) c.leaf_remove.new.self (on-ok c.in-Some-Ok.field-0 c.in-Some-Ok.item c.in-Some-Ok.field-0-is c.in-Some-Ok.ensures.taken) (c.len.result - 1)
-    c.rebalance_underflow-at.new.tree c.rebalance_underflow-at.result (omega arith)
-    (subst (λ (t : TreeState _ _). IsRebalanced t c.rebalance_underflow-at.new.tree c.args.addr.id g.K.Ord.cmp c.args.addr
-    c.rebalance_underflow-at.result) c.set_len.ensures c.rebalance_underflow-at.ensures)
+    c.rebalance_fetched-at.new.tree c.rebalance_fetched-at.result (omega arith)
+    (subst (λ (t : TreeState _ _). IsRebalanced t c.rebalance_fetched-at.new.tree c.args.addr.id g.K.Ord.cmp c.args.addr
+    c.rebalance_fetched-at.result) c.set_len.ensures c.rebalance_fetched-at.ensures)
 
 pub returns-in-Some-Err-clause-removed : goal.returns-in-Some-Err-clause-removed
 returns-in-Some-Err-clause-removed g c =
@@ -107,14 +137,14 @@ returns-in-Some-Err-clause-removed g c =
     c.remove_inner.result.1) (same-state c.args.tree.now c.args.addr.id c.node_mut-node.result.now c.leaf_remove.new.self c.node_mut-node.ensures.value
     (on-err c.in-Some-Err.field-0 c.in-Some-Err.left c.in-Some-Err.field-0-is c.in-Some-Err.ensures.inner)) c.remove_inner.ensures.removed
 
-pub returns-then-not-is_short-clause-inner : goal.returns-then-not-is_short-clause-inner
-returns-then-not-is_short-clause-inner g c = λ left inner. absurd (no-inner c.args.tree.now c.args.addr _ _
+pub returns-then-count-ge-MIN_ITEMS-clause-inner : goal.returns-then-count-ge-MIN_ITEMS-clause-inner
+returns-then-count-ge-MIN_ITEMS-clause-inner g c = λ left inner. absurd (no-inner c.args.tree.now c.args.addr _ _
     (leaf-here c.args.tree.now c.args.addr c.node_mut-node.result.now c.node_mut-node.ensures.value g.K.Ord.cmp g.met.K.Ord.total
     c.requires.tree (small-len c.args.tree.now c.len.result c.len.ensures c.len.type_inv) c.in-Some-Ok.item
     (ap Some (sym c.in-Some-Ok.field-0-is) ∙ c.in-Some-Ok.ensures.answer) c.leaf_remove.new.self (on-ok c.in-Some-Ok.field-0 c.in-Some-Ok.item c.in-Some-Ok.field-0-is c.in-Some-Ok.ensures.taken) (c.len.result - 1)) left inner)
 
-pub returns-else-not-is_short-clause-inner : goal.returns-else-not-is_short-clause-inner
-returns-else-not-is_short-clause-inner g c = λ left inner. absurd (no-inner c.args.tree.now c.args.addr _ _
+pub returns-else-count-ge-MIN_ITEMS-clause-inner : goal.returns-else-count-ge-MIN_ITEMS-clause-inner
+returns-else-count-ge-MIN_ITEMS-clause-inner g c = λ left inner. absurd (no-inner c.args.tree.now c.args.addr _ _
     (leaf-here c.args.tree.now c.args.addr c.node_mut-node.result.now c.node_mut-node.ensures.value g.K.Ord.cmp g.met.K.Ord.total
     c.requires.tree (small-len c.args.tree.now c.len.result c.len.ensures c.len.type_inv) c.in-Some-Ok.item
     (ap Some (sym c.in-Some-Ok.field-0-is) ∙ c.in-Some-Ok.ensures.answer) c.leaf_remove.new.self (on-ok c.in-Some-Ok.field-0 c.in-Some-Ok.item c.in-Some-Ok.field-0-is c.in-Some-Ok.ensures.taken) (c.len.result - 1)) left inner)

@@ -1,16 +1,15 @@
-use Rattle.std.proofs.Common.{◌≡◌, ◌-◌, ℕ, false, sym, subst, arith}
-use Rattle.btree_item.specs.declared.address.Address.{Address}
+use Rattle.std.proofs.Common.{◌-◌, sym, subst, arith}
 use Rattle.btree_shape.specs.TreeState.{TreeState, IsOffByOneAt, IsValidIn, node_map}
 use Rattle.btree_raw.specs.Rebalance.{HasRoom, IsRebalanced}
+use Rattle.btree_raw.specs.Steps.{HasCount, HasParent}
 use Rattle.btree_raw.proofs.PlacedLemmas.{but-length}
-use Rattle.btree_edit.specs.Remove.{IsInnerAt, IsRemoved, LeadsBehind, ReplacesInner}
-use Rattle.btree_edit.proofs.RemoveAtLemmas.{left-used}
-use Rattle.btree_edit.proofs.RemoveInnerLemmas.{has-item, inner-still, is-inner, len-above, removed-inner, replaced-off, replaced-room, replaced-valid, replaces-inner, small-len, still-balanced}
+use Rattle.btree_edit.specs.Remove.{IsRemoved, ReplacesInner}
+use Rattle.btree_edit.proofs.RemoveAtLemmas.{left-used, right-leads, right-used}
+use Rattle.btree_edit.proofs.RemoveInnerLemmas.{count-kept, has-item, inner-still, is-inner, len-above, parent-kept, removed-inner, replaced-off, replaced-room, replaced-valid, replaces-inner, small-len, still-balanced}
 use Rattle.btree_edit.proofs.removal.remove_inner.Goals as goal
 
-pub item_behind-next-requires-clause-inner : goal.item_behind-next-requires-clause-inner
-item_behind-next-requires-clause-inner g c =
-    subst (λ (a : Address). (x : ℕ) × IsInnerAt c.args.tree.now a x) (sym c.new.ensures) (c.args.left, c.requires.inner)
+pub first_item-next-requires-clause-used : goal.first_item-next-requires-clause-used
+first_item-next-requires-clause-used g c = right-used g.K.Ord.cmp g.met.K.Ord.total c.args.tree.now c.requires.tree c.args.addr c.args.left c.requires.inner c.args.right c.requires.behind
 
 pub take_last_below-last-requires-clause-tree : goal.take_last_below-last-requires-clause-tree
 take_last_below-last-requires-clause-tree g c = but-length g.K.Ord.cmp c.args.tree.now c.requires.tree
@@ -50,41 +49,63 @@ overflow_sub-len g c =
     c.take_last_below-last.result.0 c.take_last_below-last.result.1 c.take_last_below-last.ensures.taken in
     omega arith
 
-pub rebalance_underflow-at-requires-clause-off_by_one :
-    goal.rebalance_underflow-at-requires-clause-off_by_one
-rebalance_underflow-at-requires-clause-off_by_one g c =
-    let behind = subst (λ (a : Address). LeadsBehind c.args.tree.now a c.item_behind-next.result) c.new.ensures c.item_behind-next.ensures in
+pub rebalance_fetched-at-requires-clause-off_by_one :
+    goal.rebalance_fetched-at-requires-clause-off_by_one
+rebalance_fetched-at-requires-clause-off_by_one g c =
+    let behind = right-leads g.K.Ord.cmp g.met.K.Ord.total c.args.tree.now c.requires.tree c.args.addr c.args.left c.requires.inner c.args.right c.requires.behind c.first_item-next.result c.first_item-next.ensures in
     subst (λ (t : TreeState _ _). IsOffByOneAt g.K.Ord.cmp t c.take_last_below-last.result.1) (sym c.set_len.ensures)
     (replaced-off g.K.Ord.cmp g.met.K.Ord.total c.args.tree.now c.requires.tree
     (small-len c.args.tree.now c.len-len.result c.len-len.ensures c.len-len.type_inv) c.args.addr c.args.left c.requires.inner c.take_last_below-last.new.tree
     c.take_last_below-last.result.0 c.take_last_below-last.result.1 c.take_last_below-last.ensures.taken
     c.node_mut.result.now c.node_mut.ensures.value c.replace-item.result c.replace-item.ensures.answer c.replace-item.new.self
-    c.replace-item.ensures.after (c.len-len.result - 1) c.item_behind-next.result behind)
+    c.replace-item.ensures.after (c.len-len.result - 1) c.first_item-next.result behind)
 
-pub rebalance_underflow-at-requires-clause-valid :
-    goal.rebalance_underflow-at-requires-clause-valid
-rebalance_underflow-at-requires-clause-valid g c =
-    let behind = subst (λ (a : Address). LeadsBehind c.args.tree.now a c.item_behind-next.result) c.new.ensures c.item_behind-next.ensures in
-    subst (λ (t : TreeState _ _). IsValidIn t c.item_behind-next.result) (sym c.set_len.ensures)
+pub rebalance_fetched-at-requires-clause-valid :
+    goal.rebalance_fetched-at-requires-clause-valid
+rebalance_fetched-at-requires-clause-valid g c =
+    let behind = right-leads g.K.Ord.cmp g.met.K.Ord.total c.args.tree.now c.requires.tree c.args.addr c.args.left c.requires.inner c.args.right c.requires.behind c.first_item-next.result c.first_item-next.ensures in
+    subst (λ (t : TreeState _ _). IsValidIn t c.first_item-next.result) (sym c.set_len.ensures)
     (replaced-valid g.K.Ord.cmp g.met.K.Ord.total c.args.tree.now c.requires.tree
     (small-len c.args.tree.now c.len-len.result c.len-len.ensures c.len-len.type_inv) c.args.addr c.args.left c.requires.inner c.take_last_below-last.new.tree
     c.take_last_below-last.result.0 c.take_last_below-last.result.1 c.take_last_below-last.ensures.taken
     c.node_mut.result.now c.node_mut.ensures.value c.replace-item.result c.replace-item.ensures.answer c.replace-item.new.self
-    c.replace-item.ensures.after (c.len-len.result - 1) c.item_behind-next.result behind)
+    c.replace-item.ensures.after (c.len-len.result - 1) c.first_item-next.result behind)
 
-pub rebalance_underflow-at-requires-clause-room : goal.rebalance_underflow-at-requires-clause-room
-rebalance_underflow-at-requires-clause-room g c =
-    let behind = subst (λ (a : Address). LeadsBehind c.args.tree.now a c.item_behind-next.result) c.new.ensures c.item_behind-next.ensures in
+pub rebalance_fetched-at-requires-clause-room : goal.rebalance_fetched-at-requires-clause-room
+rebalance_fetched-at-requires-clause-room g c =
+    let behind = right-leads g.K.Ord.cmp g.met.K.Ord.total c.args.tree.now c.requires.tree c.args.addr c.args.left c.requires.inner c.args.right c.requires.behind c.first_item-next.result c.first_item-next.ensures in
     subst (λ (t : TreeState _ _). HasRoom (node_map t) c.take_last_below-last.result.1) (sym c.set_len.ensures)
     (replaced-room g.K.Ord.cmp g.met.K.Ord.total c.args.tree.now c.requires.tree
     (small-len c.args.tree.now c.len-len.result c.len-len.ensures c.len-len.type_inv) c.args.addr c.args.left c.requires.inner c.take_last_below-last.new.tree
     c.take_last_below-last.result.0 c.take_last_below-last.result.1 c.take_last_below-last.ensures.taken
     c.node_mut.result.now c.node_mut.ensures.value c.replace-item.result c.replace-item.ensures.answer c.replace-item.new.self
-    c.replace-item.ensures.after (c.len-len.result - 1) c.item_behind-next.result behind)
+    c.replace-item.ensures.after (c.len-len.result - 1) c.first_item-next.result behind)
+
+pub rebalance_fetched-at-requires-clause-count : goal.rebalance_fetched-at-requires-clause-count
+rebalance_fetched-at-requires-clause-count g c =
+    let behind = right-leads g.K.Ord.cmp g.met.K.Ord.total c.args.tree.now c.requires.tree c.args.addr c.args.left c.requires.inner c.args.right c.requires.behind c.first_item-next.result c.first_item-next.ensures in
+    subst (λ (t : TreeState _ _). HasCount (node_map t) c.take_last_below-last.result.1 c.take_last_below-last.result.2) (sym c.set_len.ensures)
+    (count-kept g.K.Ord.cmp g.met.K.Ord.total c.args.tree.now c.requires.tree
+    (small-len c.args.tree.now c.len-len.result c.len-len.ensures c.len-len.type_inv) c.args.addr c.args.left c.requires.inner c.take_last_below-last.new.tree
+    c.take_last_below-last.result.0 c.take_last_below-last.result.1 c.take_last_below-last.ensures.taken
+    c.node_mut.result.now c.node_mut.ensures.value c.replace-item.result c.replace-item.ensures.answer c.replace-item.new.self
+    c.replace-item.ensures.after (c.len-len.result - 1) c.first_item-next.result behind
+    c.take_last_below-last.result.2 c.take_last_below-last.ensures.count)
+
+pub rebalance_fetched-at-requires-clause-parent : goal.rebalance_fetched-at-requires-clause-parent
+rebalance_fetched-at-requires-clause-parent g c =
+    let behind = right-leads g.K.Ord.cmp g.met.K.Ord.total c.args.tree.now c.requires.tree c.args.addr c.args.left c.requires.inner c.args.right c.requires.behind c.first_item-next.result c.first_item-next.ensures in
+    subst (λ (t : TreeState _ _). HasParent (node_map t) c.take_last_below-last.result.1 c.take_last_below-last.result.3) (sym c.set_len.ensures)
+    (parent-kept g.K.Ord.cmp g.met.K.Ord.total c.args.tree.now c.requires.tree
+    (small-len c.args.tree.now c.len-len.result c.len-len.ensures c.len-len.type_inv) c.args.addr c.args.left c.requires.inner c.take_last_below-last.new.tree
+    c.take_last_below-last.result.0 c.take_last_below-last.result.1 c.take_last_below-last.ensures.taken
+    c.node_mut.result.now c.node_mut.ensures.value c.replace-item.result c.replace-item.ensures.answer c.replace-item.new.self
+    c.replace-item.ensures.after (c.len-len.result - 1) c.first_item-next.result behind
+    c.take_last_below-last.result.3 c.take_last_below-last.ensures.parent)
 
 pub returns-clause-removed : goal.returns-clause-removed
 returns-clause-removed g c =
-    let behind = subst (λ (a : Address). LeadsBehind c.args.tree.now a c.item_behind-next.result) c.new.ensures c.item_behind-next.ensures in
+    let behind = right-leads g.K.Ord.cmp g.met.K.Ord.total c.args.tree.now c.requires.tree c.args.addr c.args.left c.requires.inner c.args.right c.requires.behind c.first_item-next.result c.first_item-next.ensures in
     let e = c.len-len.ensures in
     let n = len-above g.K.Ord.cmp g.met.K.Ord.total c.args.tree.now c.requires.tree
     (small-len c.args.tree.now c.len-len.result c.len-len.ensures c.len-len.type_inv) c.args.addr c.args.left c.requires.inner c.take_last_below-last.new.tree
@@ -93,59 +114,57 @@ returns-clause-removed g c =
     (small-len c.args.tree.now c.len-len.result c.len-len.ensures c.len-len.type_inv) c.args.addr c.args.left c.requires.inner c.take_last_below-last.new.tree
     c.take_last_below-last.result.0 c.take_last_below-last.result.1 c.take_last_below-last.ensures.taken
     c.node_mut.result.now c.node_mut.ensures.value c.replace-item.result c.replace-item.ensures.answer c.replace-item.new.self
-    c.replace-item.ensures.after (c.len-len.result - 1) c.item_behind-next.result behind
-    c.rebalance_underflow-at.new.tree c.rebalance_underflow-at.result (omega arith)
-    (subst (λ (t : TreeState _ _). IsRebalanced t c.rebalance_underflow-at.new.tree c.take_last_below-last.result.1 g.K.Ord.cmp
-    c.item_behind-next.result c.rebalance_underflow-at.result) c.set_len.ensures c.rebalance_underflow-at.ensures)
+    c.replace-item.ensures.after (c.len-len.result - 1) c.first_item-next.result behind
+    c.rebalance_fetched-at.new.tree c.rebalance_fetched-at.result (omega arith)
+    (subst (λ (t : TreeState _ _). IsRebalanced t c.rebalance_fetched-at.new.tree c.take_last_below-last.result.1 g.K.Ord.cmp
+    c.first_item-next.result c.rebalance_fetched-at.result) c.set_len.ensures c.rebalance_fetched-at.ensures)
 
 pub returns-clause-replaced : goal.returns-clause-replaced
 returns-clause-replaced g c =
-    let behind = subst (λ (a : Address). LeadsBehind c.args.tree.now a c.item_behind-next.result) c.new.ensures c.item_behind-next.ensures in
+    let behind = right-leads g.K.Ord.cmp g.met.K.Ord.total c.args.tree.now c.requires.tree c.args.addr c.args.left c.requires.inner c.args.right c.requires.behind c.first_item-next.result c.first_item-next.ensures in
     replaces-inner g.K.Ord.cmp g.met.K.Ord.total c.args.tree.now c.requires.tree
     (small-len c.args.tree.now c.len-len.result c.len-len.ensures c.len-len.type_inv) c.args.addr c.args.left c.requires.inner c.take_last_below-last.new.tree
     c.take_last_below-last.result.0 c.take_last_below-last.result.1 c.take_last_below-last.ensures.taken
     c.node_mut.result.now c.node_mut.ensures.value c.replace-item.result c.replace-item.ensures.answer c.replace-item.new.self
-    c.replace-item.ensures.after (c.len-len.result - 1) c.item_behind-next.result behind
-    c.rebalance_underflow-at.new.tree c.rebalance_underflow-at.result
-    (subst (λ (t : TreeState _ _). IsRebalanced t c.rebalance_underflow-at.new.tree c.take_last_below-last.result.1 g.K.Ord.cmp
-    c.item_behind-next.result c.rebalance_underflow-at.result) c.set_len.ensures c.rebalance_underflow-at.ensures)
+    c.replace-item.ensures.after (c.len-len.result - 1) c.first_item-next.result behind
+    c.rebalance_fetched-at.new.tree c.rebalance_fetched-at.result
+    (subst (λ (t : TreeState _ _). IsRebalanced t c.rebalance_fetched-at.new.tree c.take_last_below-last.result.1 g.K.Ord.cmp
+    c.first_item-next.result c.rebalance_fetched-at.result) c.set_len.ensures c.rebalance_fetched-at.ensures)
 
-pub returns-then-not-is_short-clause-removed : goal.returns-then-not-is_short-clause-removed
-returns-then-not-is_short-clause-removed g c =
-    let behind = subst (λ (a : Address). LeadsBehind c.args.tree.now a c.item_behind-next.result) c.new.ensures c.item_behind-next.ensures in
+pub returns-then-count-ge-MIN_ITEMS-clause-removed : goal.returns-then-count-ge-MIN_ITEMS-clause-removed
+returns-then-count-ge-MIN_ITEMS-clause-removed g c =
+    let behind = right-leads g.K.Ord.cmp g.met.K.Ord.total c.args.tree.now c.requires.tree c.args.addr c.args.left c.requires.inner c.args.right c.requires.behind c.first_item-next.result c.first_item-next.ensures in
     let e = c.len-len.ensures in
     let n = len-above g.K.Ord.cmp g.met.K.Ord.total c.args.tree.now c.requires.tree
     (small-len c.args.tree.now c.len-len.result c.len-len.ensures c.len-len.type_inv) c.args.addr c.args.left c.requires.inner c.take_last_below-last.new.tree
     c.take_last_below-last.result.0 c.take_last_below-last.result.1 c.take_last_below-last.ensures.taken in
-    let enough : c.take_last_below-last.result.2 ≡ false = (let e = c.if-not-is_short.true in cc) in
     let same = still-balanced g.K.Ord.cmp g.met.K.Ord.total c.args.tree.now c.requires.tree
     (small-len c.args.tree.now c.len-len.result c.len-len.ensures c.len-len.type_inv) c.args.addr c.args.left c.requires.inner c.take_last_below-last.new.tree
     c.take_last_below-last.result.0 c.take_last_below-last.result.1 c.take_last_below-last.ensures.taken
     c.node_mut.result.now c.node_mut.ensures.value c.replace-item.result c.replace-item.ensures.answer c.replace-item.new.self
-    c.replace-item.ensures.after (c.len-len.result - 1) c.item_behind-next.result behind
-    c.take_last_below-last.result.2 c.take_last_below-last.ensures.short enough in
-    subst (λ (t : TreeState _ _). IsRemoved c.args.tree.now t g.K.Ord.cmp c.args.addr c.replace-item.result c.item_behind-next.result) (sym c.set_len.ensures)
+    c.replace-item.ensures.after (c.len-len.result - 1) c.first_item-next.result behind
+    c.take_last_below-last.result.2 c.take_last_below-last.ensures.count (omega arith) in
+    subst (λ (t : TreeState _ _). IsRemoved c.args.tree.now t g.K.Ord.cmp c.args.addr c.replace-item.result c.first_item-next.result) (sym c.set_len.ensures)
     (removed-inner g.K.Ord.cmp g.met.K.Ord.total c.args.tree.now c.requires.tree
     (small-len c.args.tree.now c.len-len.result c.len-len.ensures c.len-len.type_inv) c.args.addr c.args.left c.requires.inner c.take_last_below-last.new.tree
     c.take_last_below-last.result.0 c.take_last_below-last.result.1 c.take_last_below-last.ensures.taken
     c.node_mut.result.now c.node_mut.ensures.value c.replace-item.result c.replace-item.ensures.answer c.replace-item.new.self
-    c.replace-item.ensures.after (c.len-len.result - 1) c.item_behind-next.result behind
-    _ c.item_behind-next.result (omega arith) same)
+    c.replace-item.ensures.after (c.len-len.result - 1) c.first_item-next.result behind
+    _ c.first_item-next.result (omega arith) same)
 
-pub returns-then-not-is_short-clause-replaced : goal.returns-then-not-is_short-clause-replaced
-returns-then-not-is_short-clause-replaced g c =
-    let behind = subst (λ (a : Address). LeadsBehind c.args.tree.now a c.item_behind-next.result) c.new.ensures c.item_behind-next.ensures in
-    let enough : c.take_last_below-last.result.2 ≡ false = (let e = c.if-not-is_short.true in cc) in
+pub returns-then-count-ge-MIN_ITEMS-clause-replaced : goal.returns-then-count-ge-MIN_ITEMS-clause-replaced
+returns-then-count-ge-MIN_ITEMS-clause-replaced g c =
+    let behind = right-leads g.K.Ord.cmp g.met.K.Ord.total c.args.tree.now c.requires.tree c.args.addr c.args.left c.requires.inner c.args.right c.requires.behind c.first_item-next.result c.first_item-next.ensures in
     let same = still-balanced g.K.Ord.cmp g.met.K.Ord.total c.args.tree.now c.requires.tree
     (small-len c.args.tree.now c.len-len.result c.len-len.ensures c.len-len.type_inv) c.args.addr c.args.left c.requires.inner c.take_last_below-last.new.tree
     c.take_last_below-last.result.0 c.take_last_below-last.result.1 c.take_last_below-last.ensures.taken
     c.node_mut.result.now c.node_mut.ensures.value c.replace-item.result c.replace-item.ensures.answer c.replace-item.new.self
-    c.replace-item.ensures.after (c.len-len.result - 1) c.item_behind-next.result behind
-    c.take_last_below-last.result.2 c.take_last_below-last.ensures.short enough in
-    subst (λ (t : TreeState _ _). ReplacesInner c.args.tree.now t g.K.Ord.cmp c.args.addr c.args.left c.item_behind-next.result) (sym c.set_len.ensures)
+    c.replace-item.ensures.after (c.len-len.result - 1) c.first_item-next.result behind
+    c.take_last_below-last.result.2 c.take_last_below-last.ensures.count (omega arith) in
+    subst (λ (t : TreeState _ _). ReplacesInner c.args.tree.now t g.K.Ord.cmp c.args.addr c.args.left c.first_item-next.result) (sym c.set_len.ensures)
     (replaces-inner g.K.Ord.cmp g.met.K.Ord.total c.args.tree.now c.requires.tree
     (small-len c.args.tree.now c.len-len.result c.len-len.ensures c.len-len.type_inv) c.args.addr c.args.left c.requires.inner c.take_last_below-last.new.tree
     c.take_last_below-last.result.0 c.take_last_below-last.result.1 c.take_last_below-last.ensures.taken
     c.node_mut.result.now c.node_mut.ensures.value c.replace-item.result c.replace-item.ensures.answer c.replace-item.new.self
-    c.replace-item.ensures.after (c.len-len.result - 1) c.item_behind-next.result behind
-    _ c.item_behind-next.result same)
+    c.replace-item.ensures.after (c.len-len.result - 1) c.first_item-next.result behind
+    _ c.first_item-next.result same)

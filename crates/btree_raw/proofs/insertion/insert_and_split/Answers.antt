@@ -9,8 +9,8 @@ pub tell_fits-requires : goal.tell_fits-requires
 tell_fits-requires g c κs =
     search rules steps 200000
 
-pub split_need-count-requires : goal.split_need-count-requires
-split_need-count-requires g c =
+pub split_need_above-count-requires-clause-counting : goal.split_need_above-count-requires-clause-counting
+split_need_above-count-requires-clause-counting g c =
     old-counting g.K.Ord.cmp g.met.K.Ord.total c.args.tree.now c.args.addr c.args.item c.args.child c.requires.off_by_one c.requires.full
 
 pub new-claims-requires : goal.new-claims-requires
@@ -39,23 +39,23 @@ returns-then-not-claim-clause-returned g c =
 
 pub returns-then-not-claim-clause-refused : goal.returns-then-not-claim-clause-refused
 returns-then-not-claim-clause-refused g c =
-    rw c.refused.ensures (put-refused g.K.Ord.cmp g.met.K.Ord.total c.args.tree.now c.args.addr c.args.item c.args.child c.requires.off_by_one c.requires.full g.C.NodesMut.MayRefuse c.claim.new.tree c.split_need-count.result c.split_need-count.ensures.value (c.claim.ensures.refused c.if-not-claim.true) (c.claim.ensures.may_refuse c.if-not-claim.true) c.requires.room)
+    rw c.refused.ensures (put-refused g.K.Ord.cmp g.met.K.Ord.total c.args.tree.now c.args.addr c.args.item c.args.child c.requires.off_by_one c.requires.full g.C.NodesMut.MayRefuse c.claim.new.tree c.split_need_above-count.result c.split_need_above-count.ensures.value (c.claim.ensures.refused c.if-not-claim.true) (c.claim.ensures.may_refuse c.if-not-claim.true) c.requires.room)
 
-pub unwrap-requires : goal.unwrap-requires
-unwrap-requires g c =
+pub unwrap-index-requires : goal.unwrap-index-requires
+unwrap-index-requires g c =
     let o = c.requires.off_by_one.puts.offset in rw o refl
 
-pub add_item-requires : goal.add_item-requires
-add_item-requires g c =
-    can-add-claimed g.K.Ord.cmp g.met.K.Ord.total c.args.tree.now c.args.addr c.args.item c.args.child c.requires.off_by_one c.requires.full c.claim.new.claims.items c.claim.new.tree (c.claim.ensures.claimed c.if-not-claim.false) (c.claim.ensures.count c.if-not-claim.false ∙ c.split_need-count.ensures.value) c.unwrap.result (sym c.unwrap.ensures.value)
+pub add_and_split-at-requires-clause-can : goal.add_and_split-at-requires-clause-can
+add_and_split-at-requires-clause-can g c =
+    can-add-claimed g.K.Ord.cmp g.met.K.Ord.total c.args.tree.now c.args.addr c.args.item c.args.child c.requires.off_by_one c.requires.full c.claim.new.claims.items c.claim.new.tree (c.claim.ensures.claimed c.if-not-claim.false) (c.claim.ensures.count c.if-not-claim.false ∙ c.split_need_above-count.ensures.value) c.unwrap-index.result (sym c.unwrap-index.ensures.value)
 
-pub split_upward-at-requires-clause-splitting : goal.split_upward-at-requires-clause-splitting
-split_upward-at-requires-clause-splitting g c =
-    put-splitting g.K.Ord.cmp g.met.K.Ord.total c.args.tree.now c.args.addr c.args.item c.args.child c.requires.off_by_one c.requires.full c.claim.new.claims.items c.claim.new.tree (c.claim.ensures.claimed c.if-not-claim.false) (c.claim.ensures.count c.if-not-claim.false ∙ c.split_need-count.ensures.value)
-    c.add_item.new.tree c.unwrap.result (sym c.unwrap.ensures.value) c.add_item.ensures
+pub add_and_split-at-requires-clause-splitting : goal.add_and_split-at-requires-clause-splitting
+add_and_split-at-requires-clause-splitting g c =
+    λ added adds. put-splitting g.K.Ord.cmp g.met.K.Ord.total c.args.tree.now c.args.addr c.args.item c.args.child c.requires.off_by_one c.requires.full c.claim.new.claims.items c.claim.new.tree (c.claim.ensures.claimed c.if-not-claim.false) (c.claim.ensures.count c.if-not-claim.false ∙ c.split_need_above-count.ensures.value)
+    added c.unwrap-index.result (sym c.unwrap-index.ensures.value) adds
 
-pub split_upward-at-requires-clause-numbers : goal.split_upward-at-requires-clause-numbers
-split_upward-at-requires-clause-numbers g c =
+pub add_and_split-at-requires-clause-numbers : goal.add_and_split-at-requires-clause-numbers
+add_and_split-at-requires-clause-numbers g c =
     claims-low c.args.tree.now.nodes c.claim.new.claims.items (c.claim.ensures.claimed c.if-not-claim.false).claimed.claims
 
 pub len-requires : goal.len-requires
@@ -65,8 +65,8 @@ len-requires g c κs =
 pub overflow_add-len : goal.overflow_add-len
 overflow_add-len g c =
     let claimed = same-len (c.claim.ensures.claimed c.if-not-claim.false).rest in
-    let added = same-len c.add_item.ensures.rest in
-    let split = c.split_upward-at.ensures.split.len in
+    let added = same-len c.add_and_split-at.ensures.split.adds.rest in
+    let split = c.add_and_split-at.ensures.split.splits.len in
     let room = c.requires.room in
     rw c.len.ensures (omega arith)
 
@@ -77,8 +77,8 @@ set_len-requires g c κs =
 pub returns-clause-inserted : goal.returns-clause-inserted
 returns-clause-inserted g c =
     rw (c.set_len.ensures, c.len.ensures)
-    (split-inserted g.K.Ord.cmp g.met.K.Ord.total c.args.tree.now c.args.addr c.args.item c.args.child c.requires.off_by_one c.requires.full c.claim.new.claims.items c.claim.new.tree (c.claim.ensures.claimed c.if-not-claim.false) (c.claim.ensures.count c.if-not-claim.false ∙ c.split_need-count.ensures.value)
-    c.add_item.new.tree c.unwrap.result (sym c.unwrap.ensures.value) c.add_item.ensures c.split_upward-at.new.tree c.split_upward-at.result c.requires.rooted c.split_upward-at.ensures.split c.split_upward-at.ensures.back)
+    (split-inserted g.K.Ord.cmp g.met.K.Ord.total c.args.tree.now c.args.addr c.args.item c.args.child c.requires.off_by_one c.requires.full c.claim.new.claims.items c.claim.new.tree (c.claim.ensures.claimed c.if-not-claim.false) (c.claim.ensures.count c.if-not-claim.false ∙ c.split_need_above-count.ensures.value)
+    c.add_and_split-at.ensures.split.added c.unwrap-index.result (sym c.unwrap-index.ensures.value) c.add_and_split-at.ensures.split.adds c.add_and_split-at.new.tree c.add_and_split-at.result c.requires.rooted c.add_and_split-at.ensures.split.splits c.add_and_split-at.ensures.back)
 
 pub returns-clause-returned : goal.returns-clause-returned
 returns-clause-returned g c =

@@ -1,20 +1,23 @@
-use Rattle.std.proofs.Common.{◌∙◌, arith, ap, option_map, refl, sym, subst, ◌<◌, rules}
+use Rattle.std.proofs.Common.{arith, ap, option_map, refl, sym, subst, rules}
+use Rattle.std.specs.Prelude.{IfErr, IfOk}
 use Rattle.btree_node.specs.Node.{view_of}
-use Rattle.btree_view.specs.View.{most_of, size_of}
-use Rattle.btree_shape.specs.TreeState.{node_map}
-use Rattle.btree_shape.proofs.Trees.Numbers.{same-node}
+use Rattle.btree_shape.specs.TreeState.{TreeState, node_map}
 use Rattle.btree_raw.proofs.NeedLemmas.{is-full, not-full}
-use Rattle.btree_raw.proofs.PutLemmas.{add-used, can-add, no-overflow, put-inserted, put-item, put-off, put-room, put-valid, room-at, these}
-use Rattle.btree_raw.proofs.StateLemmas.{same-len}
+use Rattle.btree_raw.proofs.PutLemmas.{add-used, can-add, no-overflow, put-inserted, put-off, put-room, put-valid, room-at, these}
+use Rattle.btree_raw.specs.Insertion.{InsertsExactly, IsFull, IsOffByOneWith, IsRefused}
+use Rattle.btree_raw.specs.Raw.{with_node}
+use Rattle.btree_raw.specs.Steps.{HasParent}
+use Rattle.btree_raw.proofs.FetchedLemmas.{count-written, parent-there, parent-written}
+use Rattle.btree_raw.proofs.LastLemmas.{same-state}
+use Rattle.btree_raw.proofs.StepLemmas.{adds, take-room}
 use Rattle.btree_raw.proofs.insertion.insert_in_tree.Goals as goal
-use Rattle.std.proofs.lemmas.Grind.{common_steps}
 
 pub tell_fits-requires : goal.tell_fits-requires
 tell_fits-requires g c κs =
     search rules steps 200000
 
-pub node-requires : goal.node-requires
-node-requires g c =
+pub node_mut-node-requires : goal.node_mut-node-requires
+node_mut-node-requires g c =
     (c.tell_fits.ensures, add-used g.K.Ord.cmp g.met.K.Ord.total c.args.tree.now c.args.addr c.args.item c.args.child c.requires.off_by_one)
 
 pub is_full-requires : goal.is_full-requires
@@ -23,11 +26,11 @@ is_full-requires g c =
 
 pub insert_and_split-requires-clause-off_by_one : goal.insert_and_split-requires-clause-off_by_one
 insert_and_split-requires-clause-off_by_one g c =
-    c.requires.off_by_one
+    subst (λ (t : TreeState _ _). IsOffByOneWith g.K.Ord.cmp t c.args.addr c.args.item c.args.child) (sym (same-state c.args.tree.now c.args.addr.id c.node_mut-node.result.now c.node_mut-node.result.now c.node_mut-node.ensures.value refl)) c.requires.off_by_one
 
 pub insert_and_split-requires-clause-full : goal.insert_and_split-requires-clause-full
 insert_and_split-requires-clause-full g c =
-    record { node = view_of c.node.result.now; here = ap (option_map view_of) c.node.ensures.value; full = is-full c.node.result.now c.if-is_full.ensures }
+    subst (λ (t : TreeState _ _). IsFull (node_map t) c.args.addr.id) (sym (same-state c.args.tree.now c.args.addr.id c.node_mut-node.result.now c.node_mut-node.result.now c.node_mut-node.ensures.value refl)) (record { node = view_of c.node_mut-node.result.now; here = ap (option_map view_of) (sym c.node_mut-node.ensures.value); full = is-full c.node_mut-node.result.now c.if-is_full.ensures })
 
 pub insert_and_split-requires-clause-rooted : goal.insert_and_split-requires-clause-rooted
 insert_and_split-requires-clause-rooted g c =
@@ -39,38 +42,50 @@ insert_and_split-requires-clause-room g c =
 
 pub returns-then-is_full-clause-inserted : goal.returns-then-is_full-clause-inserted
 returns-then-is_full-clause-inserted g c =
-    search rules steps 200000
+    subst (λ (t : TreeState _ _). IfOk c.insert_and_split.result
+    (λ b. InsertsExactly g.K.Ord.cmp t c.insert_and_split.new.tree c.args.addr b c.args.item c.args.child)) (same-state c.args.tree.now c.args.addr.id c.node_mut-node.result.now c.node_mut-node.result.now c.node_mut-node.ensures.value refl) c.insert_and_split.ensures.inserted
 
 pub returns-then-is_full-clause-returned : goal.returns-then-is_full-clause-returned
-returns-then-is_full-clause-returned g c =
-    search rules steps 200000
+returns-then-is_full-clause-returned g c = c.insert_and_split.ensures.returned
 
 pub returns-then-is_full-clause-refused : goal.returns-then-is_full-clause-refused
 returns-then-is_full-clause-refused g c =
-    search rules steps 200000
+    subst (λ (t : TreeState _ _). IfErr c.insert_and_split.result
+    (λ r. IsRefused g.C.NodesMut.MayRefuse c.args.addr.id t c.insert_and_split.new.tree r.cause)) (same-state c.args.tree.now c.args.addr.id c.node_mut-node.result.now c.node_mut-node.result.now c.node_mut-node.ensures.value refl) c.insert_and_split.ensures.refused
 
-pub unwrap-requires : goal.unwrap-requires
-unwrap-requires g c =
+pub unwrap-index-requires : goal.unwrap-index-requires
+unwrap-index-requires g c =
     let o = c.requires.off_by_one.puts.offset in rw o refl
 
-pub add_item-requires : goal.add_item-requires
-add_item-requires g c =
-    can-add g.K.Ord.cmp g.met.K.Ord.total c.args.tree.now c.args.addr c.args.item c.args.child c.requires.off_by_one c.unwrap.result (sym c.unwrap.ensures.value)
+pub insert-requires : goal.insert-requires
+insert-requires g c = (
+  c.tell_fits.ensures,
+  take-room c.args.tree.now.nodes c.args.addr.id c.node_mut-node.result.now c.node_mut-node.ensures.value c.unwrap-index.result c.args.child
+      c.from.result c.from.ensures (can-add g.K.Ord.cmp g.met.K.Ord.total c.args.tree.now c.args.addr c.args.item c.args.child c.requires.off_by_one c.unwrap-index.result (sym c.unwrap-index.ensures.value)),
+)
 
-pub rebalance_underflow-at-requires-clause-off_by_one : goal.rebalance_underflow-at-requires-clause-off_by_one
-rebalance_underflow-at-requires-clause-off_by_one g c =
-    put-off g.K.Ord.cmp g.met.K.Ord.total c.args.tree.now c.args.addr c.args.item c.args.child c.requires.off_by_one c.add_item.new.tree c.unwrap.result (sym c.unwrap.ensures.value) c.add_item.ensures
+pub rebalance_fetched-at-requires-clause-count : goal.rebalance_fetched-at-requires-clause-count
+rebalance_fetched-at-requires-clause-count g c =
+    count-written c.args.tree.now.nodes c.args.addr.id c.insert.new.self c.item_count-count.result c.item_count-count.ensures.value
 
-pub rebalance_underflow-at-requires-clause-valid : goal.rebalance_underflow-at-requires-clause-valid
-rebalance_underflow-at-requires-clause-valid g c =
-    put-valid g.K.Ord.cmp g.met.K.Ord.total c.args.tree.now c.args.addr c.args.item c.args.child c.add_item.new.tree
-    (these g.K.Ord.cmp g.met.K.Ord.total c.args.tree.now c.args.addr c.args.item c.args.child c.requires.off_by_one c.add_item.new.tree c.unwrap.result (sym c.unwrap.ensures.value) c.add_item.ensures)
+pub rebalance_fetched-at-requires-clause-parent : goal.rebalance_fetched-at-requires-clause-parent
+rebalance_fetched-at-requires-clause-parent g c =
+    parent-written c.args.tree.now.nodes c.args.addr.id c.insert.new.self c.parent-parent-2.result c.parent-parent-2.ensures.value
 
-pub rebalance_underflow-at-requires-clause-room : goal.rebalance_underflow-at-requires-clause-room
-rebalance_underflow-at-requires-clause-room g c =
-    put-room g.K.Ord.cmp g.met.K.Ord.total c.args.tree.now c.args.addr c.args.item c.args.child c.add_item.new.tree
-    (these g.K.Ord.cmp g.met.K.Ord.total c.args.tree.now c.args.addr c.args.item c.args.child c.requires.off_by_one c.add_item.new.tree c.unwrap.result (sym c.unwrap.ensures.value) c.add_item.ensures)
-    (room-at g.K.Ord.cmp g.met.K.Ord.total c.args.tree.now c.args.addr c.args.item c.args.child c.requires.off_by_one c.add_item.new.tree c.unwrap.result (sym c.unwrap.ensures.value) c.add_item.ensures c.node.result.now c.node.ensures.value (not-full c.node.result.now c.if-is_full.ensures))
+pub rebalance_fetched-at-requires-clause-off_by_one : goal.rebalance_fetched-at-requires-clause-off_by_one
+rebalance_fetched-at-requires-clause-off_by_one g c =
+    put-off g.K.Ord.cmp g.met.K.Ord.total c.args.tree.now c.args.addr c.args.item c.args.child c.requires.off_by_one (with_node c.args.tree.now c.args.addr.id c.insert.new.self) c.unwrap-index.result (sym c.unwrap-index.ensures.value) (record { nodes = adds c.args.tree.now.nodes c.args.addr.id c.node_mut-node.result.now c.node_mut-node.ensures.value c.insert.new.self c.unwrap-index.result c.args.item c.args.child c.from.result c.from.ensures (can-add g.K.Ord.cmp g.met.K.Ord.total c.args.tree.now c.args.addr c.args.item c.args.child c.requires.off_by_one c.unwrap-index.result (sym c.unwrap-index.ensures.value)) c.insert.ensures; rest = record { rest = refl } })
+
+pub rebalance_fetched-at-requires-clause-valid : goal.rebalance_fetched-at-requires-clause-valid
+rebalance_fetched-at-requires-clause-valid g c =
+    put-valid g.K.Ord.cmp g.met.K.Ord.total c.args.tree.now c.args.addr c.args.item c.args.child (with_node c.args.tree.now c.args.addr.id c.insert.new.self)
+    (these g.K.Ord.cmp g.met.K.Ord.total c.args.tree.now c.args.addr c.args.item c.args.child c.requires.off_by_one (with_node c.args.tree.now c.args.addr.id c.insert.new.self) c.unwrap-index.result (sym c.unwrap-index.ensures.value) (record { nodes = adds c.args.tree.now.nodes c.args.addr.id c.node_mut-node.result.now c.node_mut-node.ensures.value c.insert.new.self c.unwrap-index.result c.args.item c.args.child c.from.result c.from.ensures (can-add g.K.Ord.cmp g.met.K.Ord.total c.args.tree.now c.args.addr c.args.item c.args.child c.requires.off_by_one c.unwrap-index.result (sym c.unwrap-index.ensures.value)) c.insert.ensures; rest = record { rest = refl } }))
+
+pub rebalance_fetched-at-requires-clause-room : goal.rebalance_fetched-at-requires-clause-room
+rebalance_fetched-at-requires-clause-room g c =
+    put-room g.K.Ord.cmp g.met.K.Ord.total c.args.tree.now c.args.addr c.args.item c.args.child (with_node c.args.tree.now c.args.addr.id c.insert.new.self)
+    (these g.K.Ord.cmp g.met.K.Ord.total c.args.tree.now c.args.addr c.args.item c.args.child c.requires.off_by_one (with_node c.args.tree.now c.args.addr.id c.insert.new.self) c.unwrap-index.result (sym c.unwrap-index.ensures.value) (record { nodes = adds c.args.tree.now.nodes c.args.addr.id c.node_mut-node.result.now c.node_mut-node.ensures.value c.insert.new.self c.unwrap-index.result c.args.item c.args.child c.from.result c.from.ensures (can-add g.K.Ord.cmp g.met.K.Ord.total c.args.tree.now c.args.addr c.args.item c.args.child c.requires.off_by_one c.unwrap-index.result (sym c.unwrap-index.ensures.value)) c.insert.ensures; rest = record { rest = refl } }))
+    (room-at g.K.Ord.cmp g.met.K.Ord.total c.args.tree.now c.args.addr c.args.item c.args.child c.requires.off_by_one (with_node c.args.tree.now c.args.addr.id c.insert.new.self) c.unwrap-index.result (sym c.unwrap-index.ensures.value) (record { nodes = adds c.args.tree.now.nodes c.args.addr.id c.node_mut-node.result.now c.node_mut-node.ensures.value c.insert.new.self c.unwrap-index.result c.args.item c.args.child c.from.result c.from.ensures (can-add g.K.Ord.cmp g.met.K.Ord.total c.args.tree.now c.args.addr c.args.item c.args.child c.requires.off_by_one c.unwrap-index.result (sym c.unwrap-index.ensures.value)) c.insert.ensures; rest = record { rest = refl } }) c.node_mut-node.result.now (sym c.node_mut-node.ensures.value) (not-full c.node_mut-node.result.now c.if-is_full.ensures))
 
 pub len-requires : goal.len-requires
 len-requires g c κs =
@@ -78,8 +93,7 @@ len-requires g c κs =
 
 pub overflow_add-len : goal.overflow_add-len
 overflow_add-len g c =
-    let added = same-len c.add_item.ensures.rest in
-    let same = c.rebalance_underflow-at.ensures.len in
+    let same = c.rebalance_fetched-at.ensures.len in
     let room = c.requires.room in
     rw c.len.ensures (omega arith)
 
@@ -90,14 +104,14 @@ set_len-requires g c κs =
 pub returns-clause-inserted : goal.returns-clause-inserted
 returns-clause-inserted g c =
     rw (c.set_len.ensures, c.len.ensures)
-    (put-inserted g.K.Ord.cmp g.met.K.Ord.total c.args.tree.now c.args.addr c.args.item c.args.child c.add_item.new.tree
-    (these g.K.Ord.cmp g.met.K.Ord.total c.args.tree.now c.args.addr c.args.item c.args.child c.requires.off_by_one c.add_item.new.tree c.unwrap.result (sym c.unwrap.ensures.value) c.add_item.ensures)
-    c.rebalance_underflow-at.new.tree c.rebalance_underflow-at.result c.requires.rooted
-    (put-off g.K.Ord.cmp g.met.K.Ord.total c.args.tree.now c.args.addr c.args.item c.args.child c.requires.off_by_one c.add_item.new.tree c.unwrap.result (sym c.unwrap.ensures.value) c.add_item.ensures)
-    c.rebalance_underflow-at.ensures
-    (no-overflow g.K.Ord.cmp g.met.K.Ord.total c.args.tree.now c.args.addr c.args.item c.args.child c.add_item.new.tree
-    (these g.K.Ord.cmp g.met.K.Ord.total c.args.tree.now c.args.addr c.args.item c.args.child c.requires.off_by_one c.add_item.new.tree c.unwrap.result (sym c.unwrap.ensures.value) c.add_item.ensures)
-    (room-at g.K.Ord.cmp g.met.K.Ord.total c.args.tree.now c.args.addr c.args.item c.args.child c.requires.off_by_one c.add_item.new.tree c.unwrap.result (sym c.unwrap.ensures.value) c.add_item.ensures c.node.result.now c.node.ensures.value (not-full c.node.result.now c.if-is_full.ensures))))
+    (put-inserted g.K.Ord.cmp g.met.K.Ord.total c.args.tree.now c.args.addr c.args.item c.args.child (with_node c.args.tree.now c.args.addr.id c.insert.new.self)
+    (these g.K.Ord.cmp g.met.K.Ord.total c.args.tree.now c.args.addr c.args.item c.args.child c.requires.off_by_one (with_node c.args.tree.now c.args.addr.id c.insert.new.self) c.unwrap-index.result (sym c.unwrap-index.ensures.value) (record { nodes = adds c.args.tree.now.nodes c.args.addr.id c.node_mut-node.result.now c.node_mut-node.ensures.value c.insert.new.self c.unwrap-index.result c.args.item c.args.child c.from.result c.from.ensures (can-add g.K.Ord.cmp g.met.K.Ord.total c.args.tree.now c.args.addr c.args.item c.args.child c.requires.off_by_one c.unwrap-index.result (sym c.unwrap-index.ensures.value)) c.insert.ensures; rest = record { rest = refl } }))
+    c.rebalance_fetched-at.new.tree c.rebalance_fetched-at.result c.requires.rooted
+    (put-off g.K.Ord.cmp g.met.K.Ord.total c.args.tree.now c.args.addr c.args.item c.args.child c.requires.off_by_one (with_node c.args.tree.now c.args.addr.id c.insert.new.self) c.unwrap-index.result (sym c.unwrap-index.ensures.value) (record { nodes = adds c.args.tree.now.nodes c.args.addr.id c.node_mut-node.result.now c.node_mut-node.ensures.value c.insert.new.self c.unwrap-index.result c.args.item c.args.child c.from.result c.from.ensures (can-add g.K.Ord.cmp g.met.K.Ord.total c.args.tree.now c.args.addr c.args.item c.args.child c.requires.off_by_one c.unwrap-index.result (sym c.unwrap-index.ensures.value)) c.insert.ensures; rest = record { rest = refl } }))
+    c.rebalance_fetched-at.ensures
+    (no-overflow g.K.Ord.cmp g.met.K.Ord.total c.args.tree.now c.args.addr c.args.item c.args.child (with_node c.args.tree.now c.args.addr.id c.insert.new.self)
+    (these g.K.Ord.cmp g.met.K.Ord.total c.args.tree.now c.args.addr c.args.item c.args.child c.requires.off_by_one (with_node c.args.tree.now c.args.addr.id c.insert.new.self) c.unwrap-index.result (sym c.unwrap-index.ensures.value) (record { nodes = adds c.args.tree.now.nodes c.args.addr.id c.node_mut-node.result.now c.node_mut-node.ensures.value c.insert.new.self c.unwrap-index.result c.args.item c.args.child c.from.result c.from.ensures (can-add g.K.Ord.cmp g.met.K.Ord.total c.args.tree.now c.args.addr c.args.item c.args.child c.requires.off_by_one c.unwrap-index.result (sym c.unwrap-index.ensures.value)) c.insert.ensures; rest = record { rest = refl } }))
+    (room-at g.K.Ord.cmp g.met.K.Ord.total c.args.tree.now c.args.addr c.args.item c.args.child c.requires.off_by_one (with_node c.args.tree.now c.args.addr.id c.insert.new.self) c.unwrap-index.result (sym c.unwrap-index.ensures.value) (record { nodes = adds c.args.tree.now.nodes c.args.addr.id c.node_mut-node.result.now c.node_mut-node.ensures.value c.insert.new.self c.unwrap-index.result c.args.item c.args.child c.from.result c.from.ensures (can-add g.K.Ord.cmp g.met.K.Ord.total c.args.tree.now c.args.addr c.args.item c.args.child c.requires.off_by_one c.unwrap-index.result (sym c.unwrap-index.ensures.value)) c.insert.ensures; rest = record { rest = refl } }) c.node_mut-node.result.now (sym c.node_mut-node.ensures.value) (not-full c.node_mut-node.result.now c.if-is_full.ensures))))
 
 pub returns-clause-returned : goal.returns-clause-returned
 returns-clause-returned g c =
@@ -106,3 +120,9 @@ returns-clause-returned g c =
 pub returns-clause-refused : goal.returns-clause-refused
 returns-clause-refused g c =
     search rules steps 200000
+
+pub insert_and_split-requires-clause-parent : goal.insert_and_split-requires-clause-parent
+insert_and_split-requires-clause-parent g c =
+    subst (λ (t : TreeState _ _). HasParent (node_map t) c.args.addr.id c.parent-parent.result) (sym (same-state c.args.tree.now c.args.addr.id c.node_mut-node.result.now c.node_mut-node.result.now c.node_mut-node.ensures.value refl))
+    (parent-there c.args.tree.now.nodes c.args.addr.id c.node_mut-node.result.now (sym c.node_mut-node.ensures.value) c.parent-parent.result
+    c.parent-parent.ensures.value)

@@ -1,6 +1,5 @@
-use Rattle.std.proofs.Common.{refl, ap, ◌∙◌, arith, rules}
+use Rattle.std.proofs.Common.{refl, arith, rules}
 use Rattle.btree_store.specs.ContentLaws.{get-insert_same}
-use Rattle.btree_shape.specs.TreeState.{TreeState}
 use Rattle.btree_raw.specs.Claimed.{EMPTY}
 use Rattle.btree_raw.proofs.OnlyLemmas.{len-of, only-inserted, only-refused}
 use Rattle.btree_raw.proofs.StateLemmas.{same-len}

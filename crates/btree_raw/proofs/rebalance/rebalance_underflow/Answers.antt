@@ -1,11 +1,22 @@
-use Rattle.btree_raw.proofs.RebalanceLemmas.{fixing, fixed}
+use Rattle.btree_raw.proofs.FetchedLemmas.{count-there, parent-there}
+use Rattle.btree_raw.proofs.RebalanceLemmas.{off-used}
 use Rattle.btree_raw.proofs.rebalance.rebalance_underflow.Goals as goal
 
-pub fix_underflow_upward-requires : goal.fix_underflow_upward-requires
-fix_underflow_upward-requires g c = λ κs out. (
-  out.0,
-  (out.1.0, (out.1.1.0, (out.1.1.1, fixing g.K.Ord.cmp g.met.K.Ord.total c.args.tree.now c.args.id c.requires.off_by_one c.args.addr c.requires.valid c.requires.room))),
-)
+pub node-node-requires : goal.node-node-requires
+node-node-requires g c = (c.tell_fits.ensures, off-used g.K.Ord.cmp g.met.K.Ord.total c.args.tree.now c.args.id c.requires.off_by_one)
 
-pub returns : goal.returns
-returns g c = fixed g.K.Ord.cmp g.met.K.Ord.total c.args.tree.now c.args.id c.requires.off_by_one c.args.addr c.requires.valid c.requires.room c.fix_underflow_upward.new.tree c.fix_underflow_upward.result c.fix_underflow_upward.ensures.fixed c.fix_underflow_upward.ensures.back
+pub item_count-count-requires : goal.item_count-count-requires
+item_count-count-requires g c = c.tell_fits.ensures
+
+pub parent-parent-requires : goal.parent-parent-requires
+parent-parent-requires g c = c.tell_fits.ensures
+
+pub rebalance_fetched-requires-clause-count : goal.rebalance_fetched-requires-clause-count
+rebalance_fetched-requires-clause-count g c =
+    count-there c.args.tree.now.nodes c.args.id c.node-node.result.now c.node-node.ensures.value c.item_count-count.result
+    c.item_count-count.ensures.value
+
+pub rebalance_fetched-requires-clause-parent : goal.rebalance_fetched-requires-clause-parent
+rebalance_fetched-requires-clause-parent g c =
+    parent-there c.args.tree.now.nodes c.args.id c.node-node.result.now c.node-node.ensures.value c.parent-parent.result
+    c.parent-parent.ensures.value

@@ -1,5 +1,6 @@
 use Rattle.std.proofs.Common.{refl}
 use Rattle.btree_raw.specs.Raw.{with_node}
+use Rattle.btree_raw.proofs.FetchedLemmas.{count-written, parent-written}
 use Rattle.btree_raw.proofs.LastLemmas.{goes-lower, goes-right, loses-item, right-start, some-item, still-used, takes-last}
 use Rattle.btree_raw.proofs.removal.take_last_below.Goals as goal
 
@@ -33,6 +34,22 @@ returns-in-Ok-clause-tree g c =
     (takes-last g.K.Ord.cmp g.met.K.Ord.total c.args.tree.now c.requires.tree c.loop-item.tree c.loop-item.invariant.0
     c.args.id c.loop-item.lower c.loop-item.invariant.1 c.node_mut-node.result.now c.node_mut-node.ensures.value
     c.remove_rightmost_leaf.new.self c.in-Ok.ensures.child c.in-Ok.item c.in-Ok.ensures.item c.in-Ok.ensures.taken)
+
+pub item_count-count-requires : goal.item_count-count-requires
+item_count-count-requires g c = c.tell_fits.ensures
+
+pub parent-parent-requires : goal.parent-parent-requires
+parent-parent-requires g c = c.tell_fits.ensures
+
+pub returns-in-Ok-clause-count : goal.returns-in-Ok-clause-count
+returns-in-Ok-clause-count g c =
+    count-written c.loop-item.tree.nodes c.loop-item.lower c.remove_rightmost_leaf.new.self c.item_count-count.result
+    c.item_count-count.ensures.value
+
+pub returns-in-Ok-clause-parent : goal.returns-in-Ok-clause-parent
+returns-in-Ok-clause-parent g c =
+    parent-written c.loop-item.tree.nodes c.loop-item.lower c.remove_rightmost_leaf.new.self c.parent-parent.result
+    c.parent-parent.ensures.value
 
 pub loop-item-smaller : goal.loop-item-smaller
 loop-item-smaller g c =

@@ -1,18 +1,24 @@
-use Rattle.std.proofs.Common.{refl}
+use Rattle.std.proofs.Common.{◌∙◌, ap, option_map, refl, sym}
 use Rattle.std.specs.FinMap as map
 use Rattle.btree_node.specs.Node.{view_of}
-use Rattle.btree_raw.proofs.SingleNodeLemmas.{gains-all, room-for-all}
+use Rattle.btree_view.specs.View.{size_of}
+use Rattle.btree_raw.proofs.SingleNodeLemmas.{gains-all, here-at, room-for-all}
 use Rattle.btree_raw.proofs.StateLemmas.{used-here}
 use Rattle.btree_raw.proofs.rotate.put_all.Goals as goal
 
 pub node_mut-requires : goal.node_mut-requires
 node_mut-requires g c = (c.tell_fits.ensures, used-here c.args.tree.now.nodes c.args.id c.requires.node c.requires.here)
 
-pub append-offset-requires : goal.append-offset-requires
-append-offset-requires g c = (c.tell_fits.ensures, room-for-all c.args.tree.now.nodes c.args.id c.node_mut.result.now c.node_mut.ensures.value (view_of c.args.other) c.requires)
+pub append-requires : goal.append-requires
+append-requires g c = (c.tell_fits.ensures, room-for-all c.args.tree.now.nodes c.args.id c.node_mut.result.now c.node_mut.ensures.value (view_of c.args.other) c.requires)
 
-pub returns : goal.returns
-returns g c = record {
-  nodes = gains-all c.args.tree.now.nodes c.args.id c.node_mut.result.now c.node_mut.ensures.value (map.insert c.args.tree.now.nodes c.args.id c.append-offset.new.self) c.append-offset.new.self refl c.args.separator (view_of c.args.other) c.append-offset.ensures.after;
+pub returns-clause-gains : goal.returns-clause-gains
+returns-clause-gains g c = record {
+  nodes = gains-all c.args.tree.now.nodes c.args.id c.node_mut.result.now c.node_mut.ensures.value (map.insert c.args.tree.now.nodes c.args.id c.append.new.self) c.append.new.self refl c.args.separator (view_of c.args.other) c.append.ensures.after;
   rest = record { rest = refl };
 }
+
+pub returns-clause-count : goal.returns-clause-count
+returns-clause-count g c =
+    ap (option_map size_of) (here-at c.args.tree.now.nodes c.args.id c.node_mut.result.now c.node_mut.ensures.value)
+    ∙ (sym c.append.ensures.offset ∙ c.unwrap.ensures.value)

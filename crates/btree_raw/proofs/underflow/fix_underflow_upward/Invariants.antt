@@ -1,13 +1,16 @@
 use Rattle.btree_shape.specs.Need.{levels_above}
 use Rattle.btree_shape.specs.TreeState.{KeepsRest, node_map}
+use Rattle.btree_raw.specs.Steps.{HasCount, HasParent}
 use Rattle.btree_raw.proofs.FixedLemmas.{FixedUpTo}
 use Rattle.btree_raw.proofs.underflow.fix_underflow_upward.Given as goal
 
-abbrev pub invariant-loop-node : goal.invariant-loop-node
-invariant-loop-node g l = record {
+abbrev pub invariant-loop-held : goal.invariant-loop-held
+invariant-loop-held g l = record {
   up_to : FixedUpTo _ (node_map l.fn.tree) (node_map l.tree) l.fn.tree.root l.start l.id l.fn.addr l.at;
   rest : KeepsRest l.fn.tree l.tree;
+  count : HasCount (node_map l.tree) l.id l.held;
+  parent : HasParent (node_map l.tree) l.id l.above;
 }
 
-abbrev pub decreases-loop-node : goal.decreases-loop-node
-decreases-loop-node g l = levels_above (node_map l.tree) g.items l.id
+abbrev pub decreases-loop-held : goal.decreases-loop-held
+decreases-loop-held g l = levels_above (node_map l.tree) g.items l.id

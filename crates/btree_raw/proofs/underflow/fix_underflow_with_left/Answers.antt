@@ -1,78 +1,57 @@
-use Rattle.std.proofs.Common.{arith, rules}
-use Rattle.btree_shape.specs.TreeState.{node_map}
-use Rattle.btree_raw.proofs.UnderflowLemmas.{left-borrows, left-few, left-merges, left-spares, left-there}
+use Rattle.std.proofs.Common.{IfSome, IsSome, subst, sym, ◌≤◌}
+use Rattle.btree_item.specs.declared.address.Address.{Address}
+use Rattle.btree_shape.specs.TreeState.{TreeState, KeepsRest, node_map}
+use Rattle.btree_raw.specs.NodeSteps.{MergesSiblings}
+use Rattle.btree_raw.specs.Underflow.{AreAdjacent, EndsUnderflow, FitTogether, PassesUnderflowUp}
+use Rattle.btree_raw.proofs.UnderflowLemmas.{left-borrows, left-few, left-merges}
 use Rattle.btree_raw.proofs.underflow.fix_underflow_with_left.Goals as goal
-use Rattle.std.proofs.lemmas.Grind.{common_steps}
+
+pub borrow_from_left-requires-clause-adjacent : goal.borrow_from_left-requires-clause-adjacent
+borrow_from_left-requires-clause-adjacent g c =
+    subst (λ (a : Address). AreAdjacent (node_map c.args.tree.now) c.args.siblings c.args.siblings.right a) (sym c.new.ensures) c.requires.adjacent
+
+pub borrow_from_left-requires-clause-low : goal.borrow_from_left-requires-clause-low
+borrow_from_left-requires-clause-low g c =
+    subst (λ (a : Address). IfSome a.offset (λ n. n ≤ 9)) (sym c.new.ensures) c.requires.low
+
+pub returns-in-Some-clause-borrows : goal.returns-in-Some-clause-borrows
+returns-in-Some-clause-borrows g c = λ yes none. left-borrows (node_map c.args.tree.now) c.args.siblings c.args.addr c.requires.adjacent none (node_map c.borrow_from_left.new.tree) c.in-Some.ensures.spare c.in-Some.ensures.rotates.nodes
+
+pub returns-in-Some-clause-here : goal.returns-in-Some-clause-here
+returns-in-Some-clause-here g c = λ yes.
+    subst (λ (a : Address). EndsUnderflow (node_map c.args.tree.now) (node_map c.borrow_from_left.new.tree) c.args.siblings.right a c.in-Some.at)
+    c.new.ensures c.in-Some.ensures.here
+
+pub returns-in-Some-clause-rest : goal.returns-in-Some-clause-rest
+returns-in-Some-clause-rest g c = c.in-Some.ensures.rotates.rest
+
+pub returns-in-Some-clause-back : goal.returns-in-Some-clause-back
+returns-in-Some-clause-back g c = λ is.
+    c.in-Some.ensures.back (subst (λ (a : Address). IsSome a.offset) (sym c.new.ensures) is)
+
+pub merge_siblings-requires-clause-adjacent : goal.merge_siblings-requires-clause-adjacent
+merge_siblings-requires-clause-adjacent g c = (
+  c.args.siblings.right,
+  subst (λ (t : TreeState _ _). AreAdjacent (node_map t) c.args.siblings c.args.siblings.right c.args.addr) (sym c.in-None.ensures.unchanged) c.requires.adjacent,
+)
 
 pub merge_siblings-requires-clause-few : goal.merge_siblings-requires-clause-few
 merge_siblings-requires-clause-few g c =
-    left-few (node_map c.args.tree.now) c.args.siblings c.args.addr c.requires.adjacent c.count_of-held.result c.count_of-held.ensures.count (omega arith) c.requires.short
+    subst (λ (t : TreeState _ _). FitTogether (node_map t) c.args.siblings) (sym c.in-None.ensures.unchanged)
+    (left-few (node_map c.args.tree.now) c.args.siblings c.args.addr c.requires.adjacent c.in-None.ensures.none c.requires.short)
 
-pub merge_siblings-requires-clause-adjacent : goal.merge_siblings-requires-clause-adjacent
-merge_siblings-requires-clause-adjacent g c = (c.args.siblings.right, c.requires.adjacent)
+pub returns-in-None-clause-merges : goal.returns-in-None-clause-merges
+returns-in-None-clause-merges g c = λ yes none.
+    left-merges (node_map c.args.tree.now) c.args.siblings c.args.addr c.requires.adjacent none (node_map c.merge_siblings.new.tree) c.in-None.ensures.none
+    (subst (λ (t : TreeState _ _). MergesSiblings (node_map t) (node_map c.merge_siblings.new.tree) c.args.siblings) c.in-None.ensures.unchanged
+    c.merge_siblings.ensures.merges.nodes)
 
-pub count_of-held-requires : goal.count_of-held-requires
-count_of-held-requires g c = left-there (node_map c.args.tree.now) c.args.siblings c.args.addr c.requires.adjacent
+pub returns-in-None-clause-above : goal.returns-in-None-clause-above
+returns-in-None-clause-above g c = λ yes.
+    subst (λ (t : TreeState _ _). PassesUnderflowUp (node_map t) (node_map c.merge_siblings.new.tree) c.args.siblings.right c.args.siblings.parent c.args.addr c.merge_siblings.result)
+    c.in-None.ensures.unchanged
+    (c.merge_siblings.ensures.above c.args.siblings.right
+    (subst (λ (t : TreeState _ _). AreAdjacent (node_map t) c.args.siblings c.args.siblings.right c.args.addr) (sym c.in-None.ensures.unchanged) c.requires.adjacent))
 
-pub borrow_from_left-requires-clause-giver : goal.borrow_from_left-requires-clause-giver
-borrow_from_left-requires-clause-giver g c = left-spares (node_map c.args.tree.now) c.args.siblings c.args.addr c.requires.adjacent c.count_of-held.result c.count_of-held.ensures.count (omega arith)
-
-pub returns-clause-above : goal.returns-clause-above
-returns-clause-above g c = λ yes. c.merge_siblings.ensures.above c.args.siblings.right c.requires.adjacent
-
-pub returns-then-held-gt-MIN_ITEMS-clause-borrows : goal.returns-then-held-gt-MIN_ITEMS-clause-borrows
-returns-then-held-gt-MIN_ITEMS-clause-borrows g c = λ yes none. left-borrows (node_map c.args.tree.now) c.args.siblings c.args.addr c.requires.adjacent c.count_of-held.result c.count_of-held.ensures.count none (node_map c.borrow_from_left.new.tree) (omega arith) c.borrow_from_left.ensures.rotates.nodes
-
-pub returns-clause-merges : goal.returns-clause-merges
-returns-clause-merges g c = λ yes none. left-merges (node_map c.args.tree.now) c.args.siblings c.args.addr c.requires.adjacent c.count_of-held.result c.count_of-held.ensures.count none (node_map c.merge_siblings.new.tree) (omega arith) c.merge_siblings.ensures.merges.nodes
-
-pub tell_fits-requires : goal.tell_fits-requires
-tell_fits-requires g c κs = search rules steps 200000
-
-pub borrow_from_left-requires-clause-adjacent : goal.borrow_from_left-requires-clause-adjacent
-borrow_from_left-requires-clause-adjacent g c = search rules steps 200000
-
-pub borrow_from_left-requires-clause-short : goal.borrow_from_left-requires-clause-short
-borrow_from_left-requires-clause-short g c = search rules steps 200000
-
-pub borrow_from_left-requires-clause-count : goal.borrow_from_left-requires-clause-count
-borrow_from_left-requires-clause-count g c = search rules steps 200000
-
-pub borrow_from_left-requires-clause-low : goal.borrow_from_left-requires-clause-low
-borrow_from_left-requires-clause-low g c = search rules steps 200000
-
-pub returns-then-held-gt-MIN_ITEMS-clause-merges : goal.returns-then-held-gt-MIN_ITEMS-clause-merges
-returns-then-held-gt-MIN_ITEMS-clause-merges g c = grind (arith, common_steps) steps 300000
-
-pub returns-then-held-gt-MIN_ITEMS-clause-here : goal.returns-then-held-gt-MIN_ITEMS-clause-here
-returns-then-held-gt-MIN_ITEMS-clause-here g c = search rules steps 200000
-
-pub returns-then-held-gt-MIN_ITEMS-clause-above : goal.returns-then-held-gt-MIN_ITEMS-clause-above
-returns-then-held-gt-MIN_ITEMS-clause-above g c = grind (arith, common_steps) steps 300000
-
-pub returns-then-held-gt-MIN_ITEMS-clause-rest : goal.returns-then-held-gt-MIN_ITEMS-clause-rest
-returns-then-held-gt-MIN_ITEMS-clause-rest g c = search rules steps 200000
-
-pub returns-then-held-gt-MIN_ITEMS-clause-back : goal.returns-then-held-gt-MIN_ITEMS-clause-back
-returns-then-held-gt-MIN_ITEMS-clause-back g c = search rules steps 200000
-
-pub merge_siblings-requires-clause-count : goal.merge_siblings-requires-clause-count
-merge_siblings-requires-clause-count g c = search rules steps 200000
-
-pub merge_siblings-requires-clause-low : goal.merge_siblings-requires-clause-low
-merge_siblings-requires-clause-low g c = search rules steps 200000
-
-pub returns-clause-borrows : goal.returns-clause-borrows
-returns-clause-borrows g c = grind (arith, common_steps) steps 300000
-
-pub returns-clause-here : goal.returns-clause-here
-returns-clause-here g c = grind (arith, common_steps) steps 300000
-
-pub returns-clause-rest : goal.returns-clause-rest
-returns-clause-rest g c = search rules steps 200000
-
-pub returns-clause-back : goal.returns-clause-back
-returns-clause-back g c = search rules steps 200000
-
-pub borrow_from_left-requires-clause-number : goal.borrow_from_left-requires-clause-number
-borrow_from_left-requires-clause-number g c = grind (arith, common_steps) steps 1500000
+pub returns-in-None-clause-rest : goal.returns-in-None-clause-rest
+returns-in-None-clause-rest g c = subst (λ (t : TreeState _ _). KeepsRest t c.merge_siblings.new.tree) c.in-None.ensures.unchanged c.merge_siblings.ensures.merges.rest

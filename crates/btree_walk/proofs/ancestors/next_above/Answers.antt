@@ -18,7 +18,7 @@ descend-requires g c =
     let off = taken-off c.args.tree.now.nodes (map.len c.args.tree.now.nodes) c.loop-ancestor.ancestors c.pop.new.self c.in-Some.ancestor c.loop-ancestor.invariant.rows c.in-Some.ensures.answer c.in-Some.ensures.after in (
       omega arith,
       (
-        c.tell_fits.ensures,
+        search,
         (
           up-rows c.args.tree.now.nodes (map.len c.args.tree.now.nodes) _ c.loop-ancestor.ancestors c.loop-ancestor.invariant c.pop.new.self c.in-Some.ancestor off _ _ _ c.in-Some-branch_at_index.ensures.first c.push.new.self c.push.ensures,
           up-under c.args.tree.now.nodes (map.len c.args.tree.now.nodes) _ c.loop-ancestor.ancestors c.loop-ancestor.invariant c.pop.new.self c.in-Some.ancestor off _ _ _ c.in-Some-branch_at_index.ensures.first c.push.new.self c.push.ensures,

@@ -16,7 +16,7 @@ descend-requires g c =
     let is = c.len-len.ensures in (
       omega arith,
       (
-        c.tell_fits.ensures,
+        search,
         (
           rw c.requires.none tt,
           rw c.requires.none (root-under g.K.Ord.cmp c.args.tree.now c.in-Some.root (rw (← is) fits) well),

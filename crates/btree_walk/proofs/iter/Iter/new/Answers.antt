@@ -1,24 +1,25 @@
-use Rattle.std.proofs.Common.{sym, ap, ◌∙◌, length, arith, rules}
+use Rattle.std.proofs.Common.{arith}
+use Rattle.btree_node.proofs.NodeSizes.{fits-leaf}
+use Rattle.btree_shape.specs.TreeState.{pairs_of}
+use Rattle.btree_walk.proofs.EndLemmas.{ends-whole, whole-left}
 use Rattle.btree_walk.proofs.iter.Iter.new.Goals as goal
-use Rattle.std.proofs.lemmas.Grind.{common_steps}
 
 pub invariant_of-result : goal.invariant_of-result
-invariant_of-result g c = (c.note_fits.ensures, c.start-leaf.ensures.above, c.len.ensures ∙ ap length (sym c.start-leaf.ensures.left))
-
-pub tell_fits-requires : goal.tell_fits-requires
-tell_fits-requires g c κs = search rules steps 200000
-
-pub note_fits-requires : goal.note_fits-requires
-note_fits-requires g c = grind (arith, common_steps) steps 1500000
-
-pub new-ancestors-requires : goal.new-ancestors-requires
-new-ancestors-requires g c = search rules steps 200000
-
-pub start-leaf-requires : goal.start-leaf-requires
-start-leaf-requires g c = search rules steps 200000
-
-pub len-requires : goal.len-requires
-len-requires g c κs = search rules steps 200000
+invariant_of-result g c =
+    let ahead = c.start-leaf.ensures.left in
+    let behind = c.end-kept.ensures.left in (
+      c.note_fits.ensures,
+      c.start-leaf.ensures.above,
+      c.end-kept.ensures.above,
+      c.end-kept.ensures.kept,
+      rw (ahead, behind) (ends-whole c.len.result (pairs_of c.args.tree.now) c.len.ensures),
+    )
 
 pub returns : goal.returns
-returns g c = search rules steps 200000
+returns g c = rw c.start-leaf.ensures.left (whole-left c.len.result (pairs_of c.args.tree.now) c.len.ensures)
+
+pub start-leaf-requires : goal.start-leaf-requires
+start-leaf-requires g c = (omega arith, (search fits-leaf, c.new-ancestors.ensures))
+
+pub end-kept-requires : goal.end-kept-requires
+end-kept-requires g c = (omega arith, (search fits-leaf, c.new-last_ancestors.ensures))

@@ -1,0 +1,18 @@
+use Rattle.std.proofs.Common.{rules, subst}
+use Rattle.btree_find.specs.Answers.{IsAddressOf}
+use Rattle.btree_edit.proofs.UpdateKeyLemmas.{callable-found, ok-each, updates-found, updates-gap}
+use Rattle.btree_edit.proofs.updates.update_at_or_gap.Goals as goal
+
+pub update_at-requires-clause-callable : goal.update_at-requires-clause-callable
+update_at-requires-clause-callable g c =
+    callable-found g.K.Ord.cmp c.args.key c.args.tree.now c.in-Ok.addr (subst (λ r. IsAddressOf g.K.Ord.cmp c.args.key c.args.tree.now r) c.in-Ok.is c.requires.at) (goal.F-pre g c.args.action) _ (λ x p. search rules) c.requires.callable
+
+pub returns-in-Ok-clause-updated : goal.returns-in-Ok-clause-updated
+returns-in-Ok-clause-updated g c =
+    (updates-found g.K.Ord.cmp g.met.K.Ord.total c.args.tree.now c.update_at.new.tree c.requires.tree c.args.key (goal.F-post g c.args.action)
+    c.update_at.result c.in-Ok.addr (subst (λ r. IsAddressOf g.K.Ord.cmp c.args.key c.args.tree.now r) c.in-Ok.is c.requires.at) _ (λ v r e. search rules) c.update_at.ensures).runs
+
+pub returns-in-Err-clause-updated : goal.returns-in-Err-clause-updated
+returns-in-Err-clause-updated g c =
+    ok-each c.update_absent.result (λ t r. (updates-gap g.K.Ord.cmp g.met.K.Ord.total c.args.tree.now c.update_absent.new.tree c.requires.tree c.args.key (goal.F-post g c.args.action)
+    t c.in-Err.gap (subst (λ r. IsAddressOf g.K.Ord.cmp c.args.key c.args.tree.now r) c.in-Err.is c.requires.at) r).runs) c.update_absent.ensures.updated

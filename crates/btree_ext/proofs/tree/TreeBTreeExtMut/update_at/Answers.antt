@@ -1,0 +1,4 @@
+use Rattle.btree_ext.proofs.tree.TreeBTreeExtMut.update_at.Goals as goal
+
+pub returns : goal.returns
+returns g c = rw (← c.self.view_is) c.update_at.ensures

@@ -1,0 +1,117 @@
+-- A step of a cursor: the address after or before that of an item, and the value written at it.
+use Rattle.std.proofs.Common.{◌≡◌, ◌∙◌, ℕ, zero, suc, ◌+◌, ◌-◌, ◌<◌, ◌≤◌, List, [], ◌∷◌, Option, Some, None, length, sym, ap, set, slice_get, subst, arith}
+use Rattle.std.proofs.lemmas.Option.{same_Some}
+use Rattle.std.specs.Cmp.{IsTotalOrder}
+use Rattle.std.specs.declared.cmp.Ordering.{Ordering}
+use Rattle.btree_item.specs.declared.address.Address.{Address}
+use Rattle.btree_shape.specs.TreeAddresses.{item_addresses_of}
+use Rattle.btree_shape.specs.TreeState.{TreeState, IsBTree, IsOccupiedIn, IsPlaceIn, IsValidIn, item_of, node_map, pairs_of}
+use Rattle.btree_shape.specs.Visits.{prior}
+use Rattle.btree_shape.proofs.AddressLists.Whole.{addresses-tree}
+use Rattle.btree_shape.proofs.Places.OnePlace.{one_place-well}
+use Rattle.btree_find.specs.Navigation.{IsItemBefore, IsNext, IsPrevious}
+use Rattle.btree_find.proofs.FitsLemmas.{occupied-item}
+use Rattle.btree_edit.specs.Exchange.{IsValueExchanged}
+use Rattle.btree_edit.specs.ValueWritten.{value_written}
+use Rattle.btree_map.specs.Cursor.{WritesPlace, or_nowhere}
+use Rattle.btree_map.specs.WrittenAddresses.{written-addresses}
+use Rattle.btree_map.proofs.EntryLemmas.{item-valid}
+
+get_none : {X : Type 0} (list : List X) (n : ℕ) → slice_get list n ≡ None → length list ≤ n
+get_none [] n none = omega arith
+get_none (x ∷ xs) zero none = absurd (cc)
+get_none (x ∷ xs) (suc n) none = let low = get_none xs n none in omega arith
+
+module _ {K V : Type 0} (cmp : K → K → Ordering) (laws : IsTotalOrder cmp) (s : TreeState K V) (tree : IsBTree cmp s) (a : Address) (place : ℕ)
+    (listed : slice_get (item_addresses_of s) place ≡ Some a) where
+  right : IsOccupiedIn s a × IsPlaceIn s a place × (item_of s a ≡ slice_get (pairs_of s) place)
+  right = (addresses-tree cmp laws s tree).items.right place a listed
+
+  pub listed-occupied : IsOccupiedIn s a
+  listed-occupied = right.0
+
+  pub listed-valid : IsValidIn s a
+  listed-valid = item-valid s a (occupied-item s a right.0)
+
+  pub listed-item : item_of s a ≡ slice_get (pairs_of s) place
+  listed-item = right.2
+
+  pub listed-after : (found : Option Address) → IsNext s a found → found ≡ slice_get (item_addresses_of s) (place + 1)
+  listed-after found n =
+      let same = n.has.only place right.1 in
+      let one : suc n.place ≡ place + 1 = omega arith in
+      (n.after right.0).listed ∙ ap (slice_get (item_addresses_of s)) one
+
+  before-listed : (n : ℕ) (found : Option Address) → IsItemBefore s n found → found ≡ prior (item_addresses_of s) n
+  before-listed zero found is = is
+  before-listed (suc n) found is = is.listed
+
+  pub listed-before : (found : Option Address) → IsPrevious s a found → found ≡ prior (item_addresses_of s) place
+  listed-before found p =
+      let same : place ≡ p.place = p.has.only place right.1 in
+      before-listed p.place found p.item ∙ ap (prior (item_addresses_of s)) (sym same)
+
+  pub listed-written : (k : K) (was w : V) → item_of s a ≡ Some (k, was) → IsValueExchanged s (value_written s a w) a cmp was w
+      → WritesPlace cmp s (value_written s a w) a place k was w
+  listed-written k was w here x =
+      let at : x.exchanged.place ≡ place = one_place-well cmp laws (node_map s) (pairs_of s) s.len s.root tree a.id a.offset x.exchanged.place place x.exchanged.at right.1 in
+      let key : x.key ≡ k = ap (λ (p : K × V). p.0) (same_Some (x.key, was) (k, was) (sym x.had ∙ here)) in
+      record {
+        listed = listed;
+        item = sym right.2 ∙ here;
+        pairs = x.exchanged.pairs ∙ (λ i. set (pairs_of s) (at i) (key i, w));
+        addresses = written-addresses s a w;
+        exchanged = x;
+      }
+
+-- the same for the address of a cursor, which is one of these
+module _ {K V : Type 0} (cmp : K → K → Ordering) (laws : IsTotalOrder cmp) (s : TreeState K V) (tree : IsBTree cmp s) (found : Option Address) (a : Address)
+    (is : found ≡ Some a) (place : ℕ) (stands : found ≡ slice_get (item_addresses_of s) place) where
+  pub stands-listed : slice_get (item_addresses_of s) place ≡ Some a
+  stands-listed = sym stands ∙ is
+
+  pub stands-state : (w : V) → value_written s a w ≡ value_written s (or_nowhere found) w
+  stands-state w = ap (λ o. value_written s (or_nowhere o) w) (sym is)
+
+  pub stands-pair : (x : K × V) → item_of s a ≡ Some x → slice_get (pairs_of s) place ≡ Some x
+  stands-pair x here = sym (listed-item cmp laws s tree a place stands-listed) ∙ here
+
+  pub stands-written : (k : K) (was w : V) → item_of s a ≡ Some (k, was) → IsValueExchanged s (value_written s a w) a cmp was w
+      → WritesPlace cmp s (value_written s (or_nowhere found) w) (or_nowhere found) place k was w
+  stands-written k was w here x =
+      subst (λ o. WritesPlace cmp s (value_written s (or_nowhere o) w) (or_nowhere o) place k was w) (sym is)
+      (listed-written cmp laws s tree a place stands-listed k was w here x)
+
+  pub stands-next : (copy : Address) (after : Option Address) → copy ≡ a
+      → (slice_get (item_addresses_of s) place ≡ Some copy → after ≡ slice_get (item_addresses_of s) (place + 1))
+      → after ≡ slice_get (item_addresses_of s) (place + 1)
+  stands-next copy after same next = next (stands-listed ∙ ap Some (sym same))
+
+  pub stands-previous : (copy : Address) (before : Option Address) → copy ≡ a
+      → (slice_get (item_addresses_of s) place ≡ Some copy → before ≡ prior (item_addresses_of s) place)
+      → before ≡ prior (item_addresses_of s) place
+  stands-previous copy before same previous = previous (stands-listed ∙ ap Some (sym same))
+
+pub prior-some : {X : Type 0} (list : List X) (n : ℕ) → 0 < n → prior list n ≡ slice_get list (n - 1)
+prior-some list zero some = absurd (omega arith)
+prior-some list (suc n) some = let one : suc n - 1 ≡ n = omega arith in ap (slice_get list) (sym one)
+
+-- the address before a place is at the place one less
+pub last-stands : {X : Type 0} (list : List X) (last : Option X) (front n : ℕ) → front < n → last ≡ prior list n → last ≡ slice_get list (n - 1)
+last-stands list last front n some is = is ∙ prior-some list n (omega arith)
+
+pub none-last : {X : Type 0} (list : List X) (last : Option X) (front n : ℕ) → front < n → n ≤ length list → last ≡ prior list n → last ≡ None → ⊥
+none-last list last front n some low is none = let past = get_none list (n - 1) (sym (last-stands list last front n some is) ∙ none) in omega arith
+
+-- an address that stands at a place stands there still, once a value was written
+module _ {K V : Type 0} (s : TreeState K V) (a : Address) (w : V) where
+  pub stays-first : (found : Option Address) (place : ℕ) → found ≡ slice_get (item_addresses_of s) place
+      → found ≡ slice_get (item_addresses_of (value_written s a w)) place
+  stays-first found place is = is ∙ ap (λ l. slice_get l place) (sym (written-addresses s a w))
+
+  pub stays-last : (found : Option Address) (place : ℕ) → found ≡ prior (item_addresses_of s) place
+      → found ≡ prior (item_addresses_of (value_written s a w)) place
+  stays-last found place is = is ∙ ap (λ l. prior l place) (sym (written-addresses s a w))
+
+  pub stays-within : (n : ℕ) → n ≤ length (item_addresses_of s) → n ≤ length (item_addresses_of (value_written s a w))
+  stays-within n low = subst (λ l. n ≤ length l) (sym (written-addresses s a w)) low

@@ -1,0 +1,57 @@
+-- Two cursors with the same map, addresses and places are equal.
+use Rattle.std.proofs.Common.{◌≡◌, ◌≤◌, ℕ, Option, length, slice_get}
+use Rattle.std.specs.Borrow.{MutBor}
+use Rattle.std.specs.declared.cmp.Ord as ord
+use Rattle.std.specs.declared.cmp.PartialEq as eq
+use Rattle.std.specs.declared.cmp.PartialOrd as partial
+use Rattle.btree_item.specs.declared.address.Address.{Address}
+use Rattle.btree_nodes.specs.declared.Nodes as nodes
+use Rattle.btree_nodes.specs.declared.NodesMut as nodes_mut
+use Rattle.btree_shape.specs.TreeAddresses.{item_addresses_of}
+use Rattle.btree_shape.specs.TreeState.{TreeState}
+use Rattle.btree_shape.specs.Visits.{prior}
+use Rattle.btree_map.specs.declared.cursor.IterMut.{IterMut}
+use Rattle.btree_map.specs.declared.cursor.ValuesMut.{ValuesMut}
+use denote.Struct.Props.{props}
+use mathlib.Core.HLevel.{is_prop→PathP}
+
+address-prop : (a b : Option Address) → IsProp (a ≡ b)
+address-prop a b = hlevel props
+
+low-prop : (m n : ℕ) → IsProp (m ≤ n)
+low-prop m n = hlevel props
+
+module _ {K V C O : Type 0} {g : ord.Ghosts K} {g' : eq.Ghosts K} {g'' : partial.Ghosts K} {s : nodes_mut.Ghosts C K V O} {s' : nodes.Ghosts C K V} where
+  pub same_cursor : (map : MutBor (TreeState K V)) (old new : TreeState K V) (first first' last last' : Option Address) (front back : ℕ)
+      → (map_is : old ≡ new) (first_is : first ≡ first') (last_is : last ≡ last')
+      → (p : first ≡ slice_get (item_addresses_of old) front) (q : last ≡ prior (item_addresses_of old) back) (r : back ≤ length (item_addresses_of old))
+      → (p' : first' ≡ slice_get (item_addresses_of new) front) (q' : last' ≡ prior (item_addresses_of new) back) (r' : back ≤ length (item_addresses_of new))
+      → ◌≡◌ {A = IterMut K V C O g g' g'' s s'}
+      (record { map = record map { now = old }; first = first; last = last; front = front; back = back; first_stands = p; last_stands = q; within = r })
+      (record { map = record map { now = new }; first = first'; last = last'; front = front; back = back; first_stands = p'; last_stands = q'; within = r' })
+  same_cursor map old new first first' last last' front back map_is first_is last_is p q r p' q' r' i = record {
+    map = record map { now = map_is i };
+    first = first_is i;
+    last = last_is i;
+    front = front;
+    back = back;
+    first_stands = is_prop→PathP (λ j. first_is j ≡ slice_get (item_addresses_of (map_is j)) front) (λ j. address-prop _ _) p p' i;
+    last_stands = is_prop→PathP (λ j. last_is j ≡ prior (item_addresses_of (map_is j)) back) (λ j. address-prop _ _) q q' i;
+    within = is_prop→PathP (λ j. back ≤ length (item_addresses_of (map_is j))) (λ j. low-prop _ _) r r' i;
+  }
+
+  pub same_values : (map : MutBor (TreeState K V)) (old new : TreeState K V) (first first' : Option Address) (front back : ℕ)
+      → (map_is : old ≡ new) (first_is : first ≡ first')
+      → (p : first ≡ slice_get (item_addresses_of old) front) (r : back ≤ length (item_addresses_of old))
+      → (p' : first' ≡ slice_get (item_addresses_of new) front) (r' : back ≤ length (item_addresses_of new))
+      → ◌≡◌ {A = ValuesMut K V C O g g' g'' s s'}
+      (record { map = record map { now = old }; first = first; front = front; back = back; first_stands = p; within = r })
+      (record { map = record map { now = new }; first = first'; front = front; back = back; first_stands = p'; within = r' })
+  same_values map old new first first' front back map_is first_is p r p' r' i = record {
+    map = record map { now = map_is i };
+    first = first_is i;
+    front = front;
+    back = back;
+    first_stands = is_prop→PathP (λ j. first_is j ≡ slice_get (item_addresses_of (map_is j)) front) (λ j. address-prop _ _) p p' i;
+    within = is_prop→PathP (λ j. back ≤ length (item_addresses_of (map_is j))) (λ j. low-prop _ _) r r' i;
+  }

@@ -1,0 +1,42 @@
+//! The types of the cursors.
+ghost use Rattle.std.specs.Prelude.{◌≡◌, ◌≤◌, length, slice_get};
+ghost use Rattle.btree_shape.specs.TreeAddresses.{item_addresses_of};
+ghost use Rattle.btree_shape.specs.Visits.{prior};
+
+mod pairs;
+mod starts;
+mod values;
+
+use crate::BTreeMap;
+use btree_item::Address;
+use btree_nodes::NodesMut;
+
+/// A cursor over the pairs of a map, in the order of the keys and from both ends, that lends one value for writing at a time.
+///
+/// It is no `Iterator`, since a value is lent only until the next call.
+#[derive(Drop)]
+pub struct IterMut<'a, K: Ord, V, C: NodesMut<K, V>> {
+    pub(crate) map: &'a mut BTreeMap<K, V, C>,
+    // The address of the item at place `front`, and that of the item before place `back`.
+    pub(crate) first: Option<Address>,
+    pub(crate) last: Option<Address>,
+    pub(crate) front: usize,
+    pub(crate) back: usize,
+    ghost first_stands: { first ≡ slice_get (item_addresses_of map.now) front },
+    ghost last_stands: { last ≡ prior (item_addresses_of map.now) back },
+    ghost within: { back ≤ length (item_addresses_of map.now) },
+}
+
+/// A cursor over the values of a map in the order of the keys, that lends one value for writing at a time.
+///
+/// It is no `Iterator`, since a value is lent only until the next call.
+#[derive(Drop)]
+pub struct ValuesMut<'a, K: Ord, V, C: NodesMut<K, V>> {
+    pub(crate) map: &'a mut BTreeMap<K, V, C>,
+    // The address of the item at place `front`.
+    pub(crate) first: Option<Address>,
+    pub(crate) front: usize,
+    pub(crate) back: usize,
+    ghost first_stands: { first ≡ slice_get (item_addresses_of map.now) front },
+    ghost within: { back ≤ length (item_addresses_of map.now) },
+}

@@ -1,0 +1,139 @@
+//! The steps of a cursor over pairs.
+ghost use mir.Syntax.{named};
+ghost use Rattle.std.specs.Prelude.{◌≡◌, ◌+◌, ◌-◌, ◌<◌, ℕ, [], Some, IfSome, IfNone, length, slice_get};
+ghost use Rattle.std.specs.Borrow.{Lends, sem};
+ghost use Rattle.btree_shape.specs.TreeAddresses.{item_addresses_of};
+ghost use Rattle.btree_shape.specs.TreeState.{IsOccupiedIn, pairs_of};
+ghost use Rattle.btree_shape.specs.Visits.{prior};
+ghost use Rattle.btree_map.specs.Cursor.{WritesFirst, WritesLast, pairs_left, past_back, past_front};
+ghost use Rattle.btree_map.specs.contracts.cursor.IterMut.{the_row};
+
+use crate::BTreeMap;
+use crate::cursor::IterMut;
+use btree_ext::{BTreeExt, BTreeExtMut};
+use btree_item::Address;
+use btree_nodes::NodesMut;
+
+// Returns the address of the item after the one at an address.
+pub(crate) fn address_after<K: Ord, V, C: NodesMut<K, V>>(
+    map: &BTreeMap<K, V, C>,
+    addr: Address,
+) -> Option<Address>
+    requires { (place : ℕ) × (slice_get (item_addresses_of map.now) place ≡ Some addr) }
+    ensures occupied { IsOccupiedIn map.now addr }
+    ensures after { (place : ℕ) → slice_get (item_addresses_of map.now) place ≡ Some addr →
+        result ≡ slice_get (item_addresses_of map.now) (place + 1) }
+{
+    // For the prover: the tree is well formed.
+    let _root = map.root_id();
+    map.next_item_address(addr)
+}
+
+// Returns the address of the item before the one at an address.
+fn address_before<K: Ord, V, C: NodesMut<K, V>>(
+    map: &BTreeMap<K, V, C>,
+    addr: Address,
+) -> Option<Address>
+    requires { (place : ℕ) × (slice_get (item_addresses_of map.now) place ≡ Some addr) }
+    ensures occupied { IsOccupiedIn map.now addr }
+    ensures before { (place : ℕ) → slice_get (item_addresses_of map.now) place ≡ Some addr →
+        result ≡ prior (item_addresses_of map.now) place }
+{
+    // For the prover: the tree is well formed.
+    let _root = map.root_id();
+    map.previous_item_address(addr)
+}
+
+impl<'a, K: Ord, V, C: NodesMut<K, V>> IterMut<'a, K, V, C> {
+    /// Returns how many pairs are left.
+    pub fn len(&self) -> usize
+        ensures { result ≡ self.now.back - self.now.front }
+    {
+        self.back.saturating_sub(self.front)
+    }
+
+    /// Returns how many pairs are left, as both bounds.
+    pub fn size_hint(&self) -> (usize, Option<usize>)
+        ensures { result ≡
+            (self.now.back - self.now.front, Some (self.now.back - self.now.front)) }
+    {
+        let left = self.len();
+        (left, Some(left))
+    }
+}
+
+impl<'a, K: Ord + Drop, V: Drop, C: NodesMut<K, V>> IterMut<'a, K, V, C> {
+    /// Returns the key of the first pair that is left, and its value for writing. What is written replaces the value, and nothing else
+    /// changes: the key stays, and so does every address. It reads at most one node of each level, needs no new node and cannot fail.
+    ///
+    /// A pair must be left: `len` decides that. `next` returns `None` if there is none.
+    pub fn next_pair(&mut self) -> (&K, &mut V)
+        requires { self.old.front < self.old.back }
+        ensures* writes_back { sem 𝓛 (Lends
+            (the_row (record { mir = named 1; lft = [] }) K.row V.row C.row C.Origin.row
+            (record { cmp = K.cmp }) (record { eq = K.eq }) (record { partial_cmp = K.partial_cmp })
+            (record { MayRefuse = C.MayRefuse; Fits = C.Fits; written = C.written })
+            (record { content = C.content; refusals = C.refusals; CanHold = C.CanHold }))
+            V.row self.entry result.1 (past_front self.old)) }
+        ensures pair { slice_get (pairs_of self.old.map.now) self.old.front ≡
+            Some (result.0.now, result.1.now) }
+        ensures writes { (w : V) → WritesFirst self.old result.0.now result.1.now w }
+    {
+        let Some(at) = self.first else {
+            unreachable!();
+        };
+        self.first = address_after(self.map, Address::new(at.id, at.offset));
+        self.front += 1;
+        self.map.pair_mut(at)
+    }
+
+    /// Returns the key of the last pair that is left, and its value for writing, as `next_pair` does of the first one.
+    pub fn next_back_pair(&mut self) -> (&K, &mut V)
+        requires { self.old.front < self.old.back }
+        ensures* writes_back { sem 𝓛 (Lends
+            (the_row (record { mir = named 1; lft = [] }) K.row V.row C.row C.Origin.row
+            (record { cmp = K.cmp }) (record { eq = K.eq }) (record { partial_cmp = K.partial_cmp })
+            (record { MayRefuse = C.MayRefuse; Fits = C.Fits; written = C.written })
+            (record { content = C.content; refusals = C.refusals; CanHold = C.CanHold }))
+            V.row self.entry result.1 (past_back self.old)) }
+        ensures pair { slice_get (pairs_of self.old.map.now) (self.old.back - 1) ≡
+            Some (result.0.now, result.1.now) }
+        ensures writes { (w : V) → WritesLast self.old result.0.now result.1.now w }
+    {
+        let Some(at) = self.last else {
+            unreachable!();
+        };
+        self.last = address_before(self.map, Address::new(at.id, at.offset));
+        self.back -= 1;
+        self.map.pair_mut(at)
+    }
+
+    /// Returns the key of the first pair that is left, and its value for writing, or `None` if no pair is left.
+    ///
+    /// The contract does not say what the map is after the value was written; that of `next_pair` does.
+    pub fn next(&mut self) -> Option<(&K, &mut V)>
+        ensures pair { IfSome result (λ p.
+            slice_get (pairs_left self.old) 0 ≡ Some (p.0.now, p.1.now)) }
+        ensures none { IfNone result (pairs_left self.old ≡ []) }
+    {
+        if self.len() == 0 {
+            return None;
+        }
+        Some(self.next_pair())
+    }
+
+    /// Returns the key of the last pair that is left, and its value for writing, or `None` if no pair is left.
+    ///
+    /// The contract does not say what the map is after the value was written; that of `next_back_pair` does.
+    pub fn next_back(&mut self) -> Option<(&K, &mut V)>
+        ensures pair { IfSome result (λ p.
+            slice_get (pairs_left self.old) (length (pairs_left self.old) - 1) ≡
+            Some (p.0.now, p.1.now)) }
+        ensures none { IfNone result (pairs_left self.old ≡ []) }
+    {
+        if self.len() == 0 {
+            return None;
+        }
+        Some(self.next_back_pair())
+    }
+}

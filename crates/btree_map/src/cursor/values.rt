@@ -1,0 +1,69 @@
+//! The steps of a cursor over values.
+ghost use mir.Syntax.{named};
+ghost use Rattle.std.specs.Prelude.{◌≡◌, ◌-◌, ◌<◌, [], Some, IfSome, IfNone, slice_get};
+ghost use Rattle.std.specs.Borrow.{Lends, sem};
+ghost use Rattle.btree_map.specs.Cursor.{WritesFirstValue, past_value, values_left};
+ghost use Rattle.btree_map.specs.contracts.cursor.ValuesMut.{the_row};
+
+use crate::cursor::ValuesMut;
+use crate::cursor::pairs::address_after;
+use btree_ext::BTreeExtMut;
+use btree_item::Address;
+use btree_nodes::NodesMut;
+
+impl<'a, K: Ord, V, C: NodesMut<K, V>> ValuesMut<'a, K, V, C> {
+    /// Returns how many values are left.
+    pub fn len(&self) -> usize
+        ensures { result ≡ self.now.back - self.now.front }
+    {
+        self.back.saturating_sub(self.front)
+    }
+
+    /// Returns how many values are left, as both bounds.
+    pub fn size_hint(&self) -> (usize, Option<usize>)
+        ensures { result ≡
+            (self.now.back - self.now.front, Some (self.now.back - self.now.front)) }
+    {
+        let left = self.len();
+        (left, Some(left))
+    }
+}
+
+impl<'a, K: Ord + Drop, V: Drop, C: NodesMut<K, V>> ValuesMut<'a, K, V, C> {
+    /// Returns the first value that is left for writing. What is written replaces the value, and nothing else changes: the keys stay, and so
+    /// does every address. It reads at most one node of each level, needs no new node and cannot fail.
+    ///
+    /// A value must be left: `len` decides that. `next` returns `None` if there is none.
+    pub fn next_value(&mut self) -> &mut V
+        requires { self.old.front < self.old.back }
+        ensures* writes_back { sem 𝓛 (Lends
+            (the_row (record { mir = named 1; lft = [] }) K.row V.row C.row C.Origin.row
+            (record { cmp = K.cmp }) (record { eq = K.eq }) (record { partial_cmp = K.partial_cmp })
+            (record { MayRefuse = C.MayRefuse; Fits = C.Fits; written = C.written })
+            (record { content = C.content; refusals = C.refusals; CanHold = C.CanHold }))
+            V.row self.entry result (past_value self.old)) }
+        ensures value { slice_get (values_left self.old) 0 ≡ Some result.now }
+        ensures writes { (w : V) → WritesFirstValue self.old result.now w }
+    {
+        let Some(at) = self.first else {
+            unreachable!();
+        };
+        self.first = address_after(self.map, Address::new(at.id, at.offset));
+        self.front += 1;
+        let (_key, value) = self.map.pair_mut(at);
+        value
+    }
+
+    /// Returns the first value that is left for writing, or `None` if no value is left.
+    ///
+    /// The contract does not say what the map is after the value was written; that of `next_value` does.
+    pub fn next(&mut self) -> Option<&mut V>
+        ensures value { IfSome result (λ v. slice_get (values_left self.old) 0 ≡ Some v.now) }
+        ensures none { IfNone result (values_left self.old ≡ []) }
+    {
+        if self.len() == 0 {
+            return None;
+        }
+        Some(self.next_value())
+    }
+}

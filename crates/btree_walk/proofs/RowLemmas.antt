@@ -1,0 +1,115 @@
+-- Rows of a backward walk: lists, and what an internal node represents read from its last child backwards.
+use Rattle.std.proofs.Common.{◌≡◌, ℕ, zero, suc, ◌+◌, ◌-◌, ◌<◌, List, [], ◌∷◌, ◌++◌, length, map, take, slice_get, Option, Some, None, refl, sym, ap, subst, ◌∙◌, arith, append_assoc, append-nil}
+use Rattle.std.specs.List.{AllByRecursion}
+use Rattle.btree_view.specs.View.{NodeMap, internal}
+use Rattle.btree_shape.specs.Remaining.{IsUnder, remaining_in}
+use Rattle.btree_shape.specs.Represents.{represented}
+use Rattle.btree_shape.proofs.LookUp.Walk.{under-internal}
+use Rattle.btree_walk.specs.Preceding.{AreRowsBefore, preceding_above, preceding_in, with_child_before}
+
+-- one element more
+pub take-more : {X : Type 0} (xs : List X) (n : ℕ) (x : X) → slice_get xs n ≡ Some x → take (suc n) xs ≡ take n xs ++ x ∷ []
+take-more [] n x e = absurd (cc)
+take-more (y ∷ ys) zero x e = let same : y ≡ x = cc in rw same refl
+take-more (y ∷ ys) (suc n) x e = ap (λ l. y ∷ l) (take-more ys n x e)
+
+pub get-within : {X : Type 0} (xs : List X) (n : ℕ) → slice_get xs n ≡ None → n < length xs → ⊥
+get-within [] n e low = absurd (omega arith)
+get-within (y ∷ ys) zero e low = absurd (cc)
+get-within (y ∷ ys) (suc n) e low = get-within ys n e (omega arith)
+
+-- the last element, and the others
+pub split-last : {X : Type 0} (xs : List X) (x : X) → Some x ≡ slice_get xs (length xs - 1) → xs ≡ take (length xs - 1) xs ++ x ∷ []
+split-last [] x e = absurd (cc)
+split-last (y ∷ []) x e = let same : x ≡ y = cc in rw same refl
+split-last (y ∷ z ∷ zs) x e =
+    let less : length (y ∷ z ∷ zs) - 1 ≡ suc (length (z ∷ zs) - 1) = omega arith in
+    let at : Some x ≡ slice_get (y ∷ z ∷ zs) (suc (length (z ∷ zs) - 1)) = subst (λ n. Some x ≡ slice_get (y ∷ z ∷ zs) n) less e in
+    rw less (ap (λ l. y ∷ l) (split-last (z ∷ zs) x at))
+
+pub none-last : {X : Type 0} (xs : List X) → None ≡ slice_get xs (length xs - 1) → xs ≡ []
+none-last [] e = refl
+none-last (y ∷ []) e = absurd (cc)
+none-last (y ∷ z ∷ zs) e =
+    let less : length (y ∷ z ∷ zs) - 1 ≡ suc (length (z ∷ zs) - 1) = omega arith in
+    let at : None ≡ slice_get (y ∷ z ∷ zs) (suc (length (z ∷ zs) - 1)) = subst (λ n. None ≡ slice_get (y ∷ z ∷ zs) n) less e in
+    let none : z ∷ zs ≡ [] = none-last (z ∷ zs) at in
+    absurd (cc)
+
+module _ {A : Type 0} where
+  pub before-length : (child : ℕ) (bs : List (A × ℕ)) → length (with_child_before child bs) ≡ length bs
+  before-length child [] = refl
+  before-length child (b ∷ bs) = ap suc (before-length b.1 bs)
+
+  pub before-get : (child : ℕ) (bs : List (A × ℕ)) (n : ℕ) (x : A) (c : ℕ) → slice_get (map (λ b. b.0) bs) n ≡ Some x
+      → slice_get (child ∷ map (λ b. b.1) bs) n ≡ Some c → slice_get (with_child_before child bs) n ≡ Some (c, x)
+  before-get child [] n x c e f = absurd (cc)
+  before-get child (b ∷ bs) zero x c e f = let same : b.0 ≡ x = cc in let at : child ≡ c = cc in rw (same, at) refl
+  before-get child (b ∷ bs) (suc n) x c e f = before-get b.1 bs n x c e f
+
+  -- each item of the row with its child before it
+  pub all-more : (P : ℕ → Type 0) (row : List (ℕ × A)) (c : ℕ) (x : A) → AllByRecursion (λ (b : ℕ × A). P b.0) (row ++ (c, x) ∷ [])
+      → AllByRecursion (λ (b : ℕ × A). P b.0) row × P c
+  all-more P [] c x all = (tt, all.0)
+  all-more P (b ∷ row) c x all = let rest = all-more P row c x all.1 in ((all.0, rest.0), rest.1)
+
+module _ {A : Type 0} (node_at : NodeMap A) (levels : ℕ) where
+  -- of the rows, the last one added is passed first
+  pub preceding-push : (rows : List (List (ℕ × A))) (row : List (ℕ × A))
+      → preceding_above node_at levels (rows ++ row ∷ []) ≡ preceding_above node_at levels rows ++ preceding_in node_at levels row
+  preceding-push [] row = append-nil (preceding_in node_at levels row)
+  preceding-push (r ∷ rows) row =
+      ap (λ l. preceding_in node_at levels r ++ l) (preceding-push rows row)
+      ∙ sym (append_assoc (preceding_in node_at levels r) (preceding_above node_at levels rows) (preceding_in node_at levels row))
+
+  -- an item more in a row, with the child before it
+  pub preceding-more : (row : List (ℕ × A)) (c : ℕ) (x : A)
+      → preceding_in node_at levels (row ++ (c, x) ∷ []) ≡ (preceding_in node_at levels row ++ represented node_at levels c) ++ x ∷ []
+  preceding-more [] c x = append-nil (represented node_at levels c ++ x ∷ [])
+  preceding-more (b ∷ row) c x =
+      ap (λ l. (represented node_at levels b.0 ++ b.1 ∷ []) ++ l) (preceding-more row c x)
+      ∙ sym (append_assoc (represented node_at levels b.0 ++ b.1 ∷ []) (preceding_in node_at levels row ++ represented node_at levels c) (x ∷ []))
+      ∙ ap (λ l. l ++ x ∷ []) (sym (append_assoc (represented node_at levels b.0 ++ b.1 ∷ []) (preceding_in node_at levels row) (represented node_at levels c)))
+
+  pub before-push : (depth : ℕ) (rows : List (List (ℕ × A))) (row : List (ℕ × A)) → AreRowsBefore node_at levels depth rows
+      → AllByRecursion (λ (b : ℕ × A). IsUnder node_at levels (suc (depth + length rows)) b.0) row → AreRowsBefore node_at levels depth (rows ++ row ∷ [])
+  before-push depth [] row are all = let z : depth + 0 ≡ depth = omega arith in (rw (sym z) all, tt)
+  before-push depth (r ∷ rows) row are all = let s : suc depth + length rows ≡ depth + suc (length rows) = omega arith in (are.0, before-push (suc depth) rows row are.1 (rw s all))
+
+  pub record LowestBefore (depth : ℕ) (rows : List (List (ℕ × A))) (row : List (ℕ × A)) : Type 0 where
+    pub above : AreRowsBefore node_at levels depth rows
+    pub under : AllByRecursion (λ (b : ℕ × A). IsUnder node_at levels (suc (depth + length rows)) b.0) row
+
+  pub before-pop : (depth : ℕ) (rows : List (List (ℕ × A))) (row : List (ℕ × A)) → AreRowsBefore node_at levels depth (rows ++ row ∷ []) → LowestBefore depth rows row
+  before-pop depth [] row are = let z : depth + 0 ≡ depth = omega arith in record { above = tt; under = rw z are.0 }
+  before-pop depth (r ∷ rows) row are =
+      let s : depth + suc (length rows) ≡ suc depth + length rows = omega arith in
+      let low = before-pop (suc depth) rows row are.1 in
+      record { above = (are.0, low.above); under = rw s low.under }
+
+  -- an internal node represents its row, and then the list of its last child
+  pub record InsideBefore (depth id first last : ℕ) (bs : List (A × ℕ)) : Type 0 where
+    pub last_under : IsUnder node_at levels (suc depth) last
+    pub row_under : AllByRecursion (λ (b : ℕ × A). IsUnder node_at levels (suc depth) b.0) (with_child_before first bs)
+    pub list : represented node_at levels id ≡ preceding_in node_at levels (with_child_before first bs) ++ represented node_at levels last
+
+  turned : (first : ℕ) (bs : List (A × ℕ)) (last : ℕ) → slice_get (first ∷ map (λ b. b.1) bs) (length bs) ≡ Some last
+      → represented node_at levels first ++ remaining_in node_at levels bs ≡ preceding_in node_at levels (with_child_before first bs) ++ represented node_at levels last
+  turned first [] last e = let same : first ≡ last = cc in rw same (append-nil (represented node_at levels last))
+  turned first (b ∷ bs) last e =
+      let rest = turned b.1 bs last e in
+      sym (append_assoc (represented node_at levels first) (b.0 ∷ []) (represented node_at levels b.1 ++ remaining_in node_at levels bs))
+      ∙ ap (λ l. (represented node_at levels first ++ b.0 ∷ []) ++ l) rest
+      ∙ sym (append_assoc (represented node_at levels first ++ b.0 ∷ []) (preceding_in node_at levels (with_child_before b.1 bs)) (represented node_at levels last))
+
+  unders : (P : ℕ → Type 0) (first : ℕ) (bs : List (A × ℕ)) (last : ℕ) → slice_get (first ∷ map (λ b. b.1) bs) (length bs) ≡ Some last → P first
+      → AllByRecursion (λ (b : A × ℕ). P b.1) bs → AllByRecursion (λ (b : ℕ × A). P b.0) (with_child_before first bs) × P last
+  unders P first [] last e here all = let same : first ≡ last = cc in (tt, rw (← same) here)
+  unders P first (b ∷ bs) last e here all = let rest = unders P b.1 bs last e all.0 all.1 in ((here, rest.0), rest.1)
+
+  pub inside-before : (depth id : ℕ) (p : Option ℕ) (first : ℕ) (bs : List (A × ℕ)) (last : ℕ) → IsUnder node_at levels depth id → node_at id ≡ Some (internal p first bs)
+      → slice_get (first ∷ map (λ b. b.1) bs) (length bs) ≡ Some last → InsideBefore depth id first last bs
+  inside-before depth id p first bs last u e at =
+      let i = under-internal node_at levels depth id p first bs u e in
+      let all = unders (λ n. IsUnder node_at levels (suc depth) n) first bs last at i.first_under i.row_under in
+      record { last_under = all.1; row_under = all.0; list = i.list ∙ turned first bs last at }

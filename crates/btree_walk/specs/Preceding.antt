@@ -1,0 +1,103 @@
+-- What a backward walk through a tree still has to pass, as `Rows.antt` says it of a forward one.
+-- The walk has passed items of its leaf and of the nodes above from the last one backwards. A row is what is left of one
+-- internal node: the items that are not passed, each with the child before it. `preceding_of` is the list of pairs that
+-- are left, and `preceding_at` the same on the way down to a node. `IsLastIn` and `IsPreviousAbove` say which pair is the
+-- last of them, in the leaf and above it.
+use Rattle.std.specs.Prelude.{⊤, ◌≡◌, ℕ, suc, ◌+◌, ◌-◌, ◌≤◌, List, [], ◌∷◌, ◌++◌, length, map, take, Option, Some, None}
+use Rattle.std.specs.Borrow.{Bor}
+use Rattle.std.specs.FinMap as finite
+use Rattle.std.specs.List.{flat_map, AllByRecursion}
+use Rattle.btree_leaf.specs.Leaf.{Leaf}
+use Rattle.btree_node.specs.Node.{view_of}
+use Rattle.btree_view.specs.View.{View, leaf, internal, NodeMap, size_of}
+use Rattle.btree_shape.specs.Remaining.{IsUnder}
+use Rattle.btree_shape.specs.Represents.{represented}
+use Rattle.btree_shape.specs.TreeState.{TreeState, node_map}
+use Rattle.btree_walk.specs.declared.ancestors.Ancestor.{Ancestor}
+
+module _ {A : Type 0} where
+  -- the items, each with the child before it; `child` is before the first
+  abbrev pub with_child_before : (child : ℕ) → List (A × ℕ) → List (ℕ × A)
+  with_child_before child [] = []
+  with_child_before child (b ∷ bs) = (child, b.0) ∷ with_child_before b.1 bs
+
+  -- the items of an internal node, each with the child before it
+  abbrev pub branches_before : View A → List (ℕ × A)
+  branches_before (leaf parent items) = []
+  branches_before (internal parent first branches) = with_child_before first branches
+
+  -- those that are not passed
+  abbrev pub row_before : View A → (passed : ℕ) → List (ℕ × A)
+  row_before node passed = take (size_of node - passed) (branches_before node)
+
+  -- the last of them, or none if all are passed
+  abbrev pub EndsAt : View A → (passed : ℕ) → Option (Bor A × ℕ) → Type 0
+  EndsAt node passed None = row_before node passed ≡ []
+  EndsAt node passed (Some b) = row_before node passed ≡ row_before node (passed + 1) ++ (b.1, b.0.now) ∷ []
+
+module _ {A : Type 0} (node_at : NodeMap A) (levels : ℕ) where
+  -- the list that the child before each item of a row represents, and then the item
+  abbrev pub preceding_in : List (ℕ × A) → List A
+  preceding_in row = flat_map (λ b. represented node_at levels b.0 ++ b.1 ∷ []) row
+
+  -- what is left in all rows; the highest row comes first
+  abbrev pub preceding_above : List (List (ℕ × A)) → List A
+  preceding_above [] = []
+  preceding_above (row ∷ rows) = preceding_in row ++ preceding_above rows
+
+  -- the children of a row are one level below the row's node, and so is the node of the next row
+  abbrev pub AreRowsBefore : (depth : ℕ) → List (List (ℕ × A)) → Type 0
+  AreRowsBefore depth [] = Unit {0}
+  AreRowsBefore depth (row ∷ rows) =
+      AllByRecursion (λ b. IsUnder node_at levels (suc depth) b.0) row × AreRowsBefore (suc depth) rows
+
+module _ {K V : Type 0} where
+  -- for each ancestor the items that are not passed
+  abbrev pub rows_before : List (Ancestor K V) → List (List (ℕ × (K × V)))
+  rows_before ancestors = map (λ f. row_before (view_of f.node.now) f.passed) ancestors
+
+  -- the first items of a leaf, as many as are not passed
+  abbrev pub kept_in_leaf : Option (Bor (Leaf K V)) → (kept : ℕ) → List (K × V)
+  kept_in_leaf None kept = []
+  kept_in_leaf (Some node) kept = take kept node.now.items
+
+  -- a leaf has so many items
+  abbrev pub HasKept : Option (Bor (Leaf K V)) → (kept : ℕ) → Type 0
+  HasKept None kept = kept ≡ 0
+  HasKept (Some node) kept = kept ≤ length node.now.items
+
+  -- the last of these items, or none if all are passed
+  abbrev pub IsLastIn : Option (Bor (Leaf K V)) → (kept : ℕ) → Option (Bor K × Bor V) → Type 0
+  IsLastIn node kept None = kept_in_leaf node kept ≡ []
+  IsLastIn node kept (Some pair) = kept_in_leaf node kept ≡ kept_in_leaf node (kept - 1) ++ (pair.0.now, pair.1.now) ∷ []
+
+  -- the leaf before an item has as many items as it says
+  abbrev pub HasKeptAbove : Option ((Bor K × Bor V) × Bor (Leaf K V) × ℕ) → Type 0
+  HasKeptAbove None = ⊤
+  HasKeptAbove (Some p) = HasKept (Some p.1) p.2
+
+module _ {K V : Type 0} (tree : TreeState K V) where
+  -- ancestors from the root down: the child before each item that is not passed is one level below
+  abbrev pub AreAncestorsBefore : List (Ancestor K V) → Type 0
+  AreAncestorsBefore ancestors = AreRowsBefore (node_map tree) (finite.len tree.nodes) 0 (rows_before ancestors)
+
+  -- what is left in the ancestors
+  abbrev pub preceding_in_ancestors : List (Ancestor K V) → List (K × V)
+  preceding_in_ancestors ancestors = preceding_above (node_map tree) (finite.len tree.nodes) (rows_before ancestors)
+
+  -- a node that can be below the last ancestor
+  abbrev pub IsBelowBefore : List (Ancestor K V) → (id : ℕ) → Type 0
+  IsBelowBefore ancestors id = IsUnder (node_map tree) (finite.len tree.nodes) (length (rows_before ancestors)) id
+
+  -- what is left of a walk that comes to a node: what is left in its ancestors, and the list that the node represents
+  abbrev pub preceding_at : (id : ℕ) → List (Ancestor K V) → List (K × V)
+  preceding_at id ancestors = preceding_in_ancestors ancestors ++ represented (node_map tree) (finite.len tree.nodes) id
+
+  -- what is left of a walk that is in a leaf
+  abbrev pub preceding_of : Option (Bor (Leaf K V)) → (kept : ℕ) → List (Ancestor K V) → List (K × V)
+  preceding_of node kept ancestors = preceding_in_ancestors ancestors ++ kept_in_leaf node kept
+
+  -- the last item that is left in the ancestors, with the last leaf before it, or none if nothing is left
+  abbrev pub IsPreviousAbove : (old new : List (Ancestor K V)) → Option ((Bor K × Bor V) × Bor (Leaf K V) × ℕ) → Type 0
+  IsPreviousAbove old new None = (preceding_in_ancestors old ≡ []) × (rows_before new ≡ [])
+  IsPreviousAbove old new (Some p) = preceding_in_ancestors old ≡ preceding_of (Some p.1) p.2 new ++ (p.0.0.now, p.0.1.now) ∷ []
