@@ -3,8 +3,10 @@
 
 mod ancestors;
 mod backward;
+mod bounds;
 mod iter;
 mod keys;
 
+pub use bounds::is_valid_range;
 pub use iter::Iter;
 pub use keys::{Keys, Values};

@@ -1,0 +1,27 @@
+-- The two bounds of a range of keys, each included, excluded or absent. `entries_between` of std says which pairs of a
+-- list are between them.
+use Rattle.std.specs.Prelude.{◌≡◌, Bool, true}
+use Rattle.std.specs.Borrow.{Bor}
+use Rattle.std.specs.Ordering.{is_le, is_lt}
+use Rattle.std.specs.Range.Bound.{bound_map}
+use Rattle.std.specs.declared.cmp.Ordering.{Ordering}
+use Rattle.std.specs.declared.ops.Bound.{Bound}
+use Rattle.std.specs.declared.ops.Bound.TheVariants.{Included, Excluded, Unbounded}
+
+-- a bound by the key that its reference leads to
+abbrev pub bound_key : {K : Type 0} → Bound (Bor K) → Bound K
+bound_key bound = bound_map (λ key. key.now) bound
+
+-- whether the start is at most the end, and not equal to it where both are excluded
+abbrev pub is_valid : {K : Type 0} → (K → K → Ordering) → (start end : Bound K) → Bool
+is_valid cmp Unbounded end = true
+is_valid cmp (Included a) Unbounded = true
+is_valid cmp (Included a) (Included b) = is_le (cmp a b)
+is_valid cmp (Included a) (Excluded b) = is_le (cmp a b)
+is_valid cmp (Excluded a) Unbounded = true
+is_valid cmp (Excluded a) (Included b) = is_le (cmp a b)
+is_valid cmp (Excluded a) (Excluded b) = is_lt (cmp a b)
+
+-- a range that may be asked for
+abbrev pub IsValidRange : {K : Type 0} → (K → K → Ordering) → Bound (Bor K) × Bound (Bor K) → Type 0
+IsValidRange cmp range = is_valid cmp (bound_key range.0) (bound_key range.1) ≡ true
