@@ -1,5 +1,8 @@
+mod AtKeyLemmas
 mod BackLemmas
+pub mod BetweenLemmas
 mod EndLemmas
+mod FromLemmas
 mod IterLemmas
 mod RowLemmas
 mod WalkLemmas

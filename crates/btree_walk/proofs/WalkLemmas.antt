@@ -16,17 +16,17 @@ use Rattle.btree_walk.specs.Rows.{rows_of}
 use Rattle.btree_walk.proofs.RowLemmas.{none-last, split-last}
 
 module _ {K V : Type 0} where
-  abbrev row_of : Ancestor K V → List ((K × V) × ℕ)
+  abbrev pub row_of : Ancestor K V → List ((K × V) × ℕ)
   row_of f = drop f.passed (branches_of (view_of f.node.now))
 
-  rows-of-push : (ancestors : List (Ancestor K V)) (f : Ancestor K V) → rows_of (ancestors ++ f ∷ []) ≡ rows_of ancestors ++ row_of f ∷ []
+  pub rows-of-push : (ancestors : List (Ancestor K V)) (f : Ancestor K V) → rows_of (ancestors ++ f ∷ []) ≡ rows_of ancestors ++ row_of f ∷ []
   rows-of-push ancestors f = map-append row_of ancestors (f ∷ [])
 
 module _ {K V : Type 0} (nodes : Content (Node K V)) (len : ℕ) where
-  abbrev left_over : List (Ancestor K V) → List (K × V)
+  abbrev pub left_over : List (Ancestor K V) → List (K × V)
   left_over ancestors = remaining_above (views nodes) len (rows_of ancestors)
 
-  abbrev AreOpen : List (Ancestor K V) → Type 0
+  abbrev pub AreOpen : List (Ancestor K V) → Type 0
   AreOpen ancestors = AreRows (views nodes) len 0 (rows_of ancestors)
 
   -- going down: the list at the start is still that of a node and of the rows above it

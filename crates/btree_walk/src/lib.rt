@@ -2,6 +2,7 @@
 #![tactic(auto)]
 
 mod ancestors;
+mod at_key;
 mod backward;
 mod bounds;
 mod iter;

@@ -1,0 +1,63 @@
+//! Where a walk is that starts at a key.
+ghost use Rattle.std.specs.Prelude.{◌≡◌, []};
+ghost use Rattle.std.specs.BTreeMap.Range.{entries_between};
+ghost use Rattle.std.specs.declared.ops.Bound.TheVariants.{Included, Unbounded};
+ghost use Rattle.btree_item.specs.Pairs.{Ascends};
+ghost use Rattle.btree_node.specs.Node.{view_of};
+ghost use Rattle.btree_shape.specs.TreeState.{pairs_of};
+ghost use Rattle.btree_view.specs.View.{items_of};
+ghost use Rattle.btree_walk.specs.AtKey.{below_in};
+ghost use Rattle.btree_walk.specs.Rows.{AreAncestors, remaining_of};
+
+use crate::ancestors::{Ancestor, Ancestors};
+use btree_ext::{BTreeExt, Tree};
+use btree_node::{LeafNode, Node};
+use btree_nodes::NodesMut;
+
+// Returns how many items of a node have keys below `key`, and the child after them, or `None` if the key is in the node or the node is a
+// leaf. It makes at most six comparisons.
+#[inline]
+fn items_below<K: Ord, V>(node: &Node<K, V>, key: &K) -> (usize, Option<usize>)
+    requires { Ascends K.cmp (items_of (view_of node.now)) }
+    ensures { result ≡ below_in K.cmp key.now (view_of node.now) }
+{
+    match node.offset_of(key) {
+        Ok(offset) => (offset.unwrap(), None),
+        Err(gap) => gap,
+    }
+}
+
+// Returns where a forward walk is that has passed the items with keys below `key`: a leaf and how many of its items are passed. It puts
+// the internal nodes above into the empty list of ancestors.
+pub(crate) fn start_from<'a, K: Ord + 'a, V: 'a, C: NodesMut<K, V> + 'a>(
+    tree: &'a Tree<K, V, C>,
+    key: &K,
+    ancestors: &mut Ancestors<'a, K, V>,
+) -> (Option<&'a LeafNode<K, V>>, usize)
+    requires none { ancestors.old ≡ [] }
+    ensures above { AreAncestors tree.now ancestors.new }
+    ensures left { remaining_of tree.now result.0 result.1 ancestors.new ≡
+        entries_between K.cmp (Included key.now) Unbounded (pairs_of tree.now) }
+{
+    tree.tell_fits();
+    // For the prover: the length is a `usize`, so there are at most `MAX_LEVELS` levels.
+    let _len = tree.len();
+    let Some(root) = tree.root_id() else {
+        return (None, 0);
+    };
+    let mut id = root;
+    loop {
+        let node = tree.node(id);
+        let (passed, next) = items_below(node, key);
+        match node {
+            Node::Leaf(leaf) => return (Some(leaf), passed),
+            Node::Internal(_) => {
+                ancestors.push(Ancestor { node, passed });
+                match next {
+                    Some(child) => id = child,
+                    None => return (None, 0),
+                }
+            }
+        }
+    }
+}
