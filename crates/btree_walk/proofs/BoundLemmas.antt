@@ -307,3 +307,8 @@ module _ {K V : Type 0} {cmp : K → K → Ordering} (laws : IsTotalOrder cmp) (
         ∙ filter-append before rest (x ∷ [])
         ∙ ap (λ l. l ++ filter before (x ∷ [])) (filter-all before rest (all-so (λ y. cmp y.0 x.0 ≡ Less) (λ y. before y ≡ true) test rest rest-low))
         ∙ ap (λ l. rest ++ l) (filter-all before (x ∷ []) (ap (λ o. not (is_le o)) high, tt))
+
+-- without bounds, all pairs are between them
+pub between-all : {K V : Type 0} (cmp : K → K → Ordering) (xs : List (K × V)) → entries_between cmp Unbounded Unbounded xs ≡ xs
+between-all cmp [] = refl
+between-all cmp (x ∷ xs) = ap (λ l. x ∷ l) (between-all cmp xs)

@@ -1,8 +1,10 @@
 mod AtKeyLemmas
 mod BackLemmas
 pub mod BetweenLemmas
+pub mod BoundLemmas
 mod EndLemmas
 mod FromLemmas
 mod IterLemmas
+mod RangeLemmas
 mod RowLemmas
 mod WalkLemmas

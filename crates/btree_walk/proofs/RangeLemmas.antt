@@ -1,13 +1,18 @@
 -- A range of a rising list, from both ends: the first and the last pair that are left, what is ahead of the first, and
 -- what is behind the last.
-use Rattle.std.proofs.Common.{◌≡◌, ◌∙◌, ℕ, zero, suc, ◌+◌, ◌-◌, ◌<◌, List, [], ◌∷◌, ◌++◌, length, take, slice_get, Some, refl, sym, ap, arith, append_assoc, length-append}
+use Rattle.std.proofs.Common.{◌≡◌, ◌∙◌, ℕ, zero, suc, ◌+◌, ◌-◌, ◌<◌, List, [], ◌∷◌, ◌++◌, length, take, slice_get, Some, refl, sym, ap, arith, append_assoc, length-append, subst, Option, None}
 use Rattle.std.proofs.lemmas.List.{length_push}
+use Rattle.std.specs.BTreeMap.Range.{entries_between}
 use Rattle.std.specs.Cmp.{IsTotalOrder, tied_itself}
 use Rattle.std.specs.List.{AllByRecursion}
 use Rattle.std.specs.declared.cmp.Ordering.{Ordering}
 use Rattle.std.specs.declared.cmp.Ordering.TheVariants.{Equal, Greater, Less}
+use Rattle.std.specs.declared.ops.Bound.{Bound}
+use Rattle.std.specs.declared.ops.Bound.TheVariants.{Unbounded}
 use Rattle.btree_shape.proofs.LookUp.KeyInList.{Rises}
 use Rattle.btree_shape.proofs.Paths.Frames.{AllByRecursion-right}
+use Rattle.btree_walk.specs.Ranges.{IsAhead, IsBehind, IsFirstOf, IsLastOf, left_between}
+use Rattle.btree_walk.proofs.BoundLemmas.{between-take, end-cut, from-start, start-cut, until-end}
 
 -- what the order of two keys says of the places of their pairs
 pub record Compared (order : Ordering) (i j : ℕ) : Type 0 where
@@ -158,3 +163,94 @@ module _ {K V : Type 0} {cmp : K → K → Ordering} (laws : IsTotalOrder cmp) (
 
     pub last-cut : (z : K × V) (rest : List (K × V)) → behind ≡ rest ++ z ∷ [] → all ≡ rest ++ z ∷ (y ∷ after)
     last-cut z rest previous = back ∙ ap (λ l. l ++ y ∷ after) previous ∙ append_assoc rest (z ∷ []) (y ∷ after)
+
+take-none : {A : Type 0} (n : ℕ) → take {A = A} n [] ≡ []
+take-none zero = refl
+take-none (suc n) = refl
+
+-- what a range begins with
+module _ {K V : Type 0} {cmp : K → K → Ordering} (laws : IsTotalOrder cmp) (all : List (K × V)) (up : Rises cmp all) (lo hi : Bound K) where
+  abbrev from : List (K × V)
+  from = entries_between cmp lo Unbounded all
+
+  abbrev until : List (K × V)
+  until = entries_between cmp Unbounded hi all
+
+  pub begins-ahead : (first : Option (K × V)) (ahead : List (K × V)) → IsFirstOf from first ahead → IsAhead all first ahead
+  begins-ahead None ahead e = tt
+  begins-ahead (Some x) ahead e =
+      let c = start-cut laws lo all up in
+      (c.outside, c.is ∙ ap (λ l. c.outside ++ l) (sym (from-start laws all up lo) ∙ e))
+
+  pub begins-behind : (last : Option (K × V)) (behind : List (K × V)) → IsLastOf until last behind → IsBehind all last behind
+  begins-behind None behind e = tt
+  begins-behind (Some y) behind e =
+      let c = end-cut laws hi all up in
+      (c.outside, c.is ∙ ap (λ l. l ++ c.outside) (sym (until-end laws all up hi) ∙ e) ∙ append_assoc behind (y ∷ []) c.outside)
+
+  pub begins : (first : Option (K × V)) (ahead : List (K × V)) → IsFirstOf from first ahead → (last : Option (K × V)) (behind : List (K × V)) → IsLastOf until last behind
+      → left_between all first ahead last behind ≡ entries_between cmp lo hi all
+  begins None ahead f last behind u = sym (between-take laws all up lo hi [] until f refl ∙ take-none (length until + 0 - length all))
+  begins (Some x) ahead f None behind u =
+      let c = start-cut laws lo all up in
+      let long = ap length c.is ∙ length-append c.outside c.inside in
+      let same = ap length (sym (from-start laws all up lo) ∙ f) in
+      let n : 0 + length (x ∷ ahead) - length all ≡ 0 = omega arith in
+      sym (between-take laws all up lo hi (x ∷ ahead) [] f u ∙ ap (λ k. take k (x ∷ ahead)) n)
+  begins (Some x) ahead f (Some y) behind u =
+      let long = length_push behind y in
+      let n : length (behind ++ y ∷ []) + length (x ∷ ahead) - length all ≡ length behind + 2 + length ahead - length all = omega arith in
+      sym (between-take laws all up lo hi (x ∷ ahead) (behind ++ y ∷ []) f u ∙ ap (λ k. take k (x ∷ ahead)) n)
+
+-- a step of a range
+module _ {K V : Type 0} {cmp : K → K → Ordering} (laws : IsTotalOrder cmp) (all : List (K × V)) (up : Rises cmp all)
+    (x : K × V) (ahead : List (K × V)) (y : K × V) (behind : List (K × V)) where
+  less-next : IsAhead all (Some x) ahead → IsBehind all (Some y) behind → cmp x.0 y.0 ≡ Less → (next : Option (K × V)) (rest : List (K × V)) → IsFirstOf ahead next rest
+      → (left_between all (Some x) ahead (Some y) behind ≡ x ∷ left_between all next rest (Some y) behind) × IsAhead all next rest
+  less-next f b e None rest is = absurd (some-ahead laws all up f.0 x ahead f.1 behind y b.0 b.1 e is)
+  less-next f b e (Some z) rest is = (
+    first-given laws all up f.0 x ahead f.1 behind y b.0 b.1 e z rest is,
+    (f.0 ++ x ∷ [], first-cut laws all up f.0 x ahead f.1 behind y b.0 b.1 e z rest is),
+  )
+
+  less-last : IsAhead all (Some x) ahead → IsBehind all (Some y) behind → cmp x.0 y.0 ≡ Less → (next : Option (K × V)) (rest : List (K × V)) → IsLastOf behind next rest
+      → (left_between all (Some x) ahead (Some y) behind ≡ left_between all (Some x) ahead next rest ++ y ∷ []) × IsBehind all next rest
+  less-last f b e None rest is = absurd (some-behind laws all up f.0 x ahead f.1 behind y b.0 b.1 e is)
+  less-last f b e (Some z) rest is = (
+    last-given laws all up f.0 x ahead f.1 behind y b.0 b.1 e z rest is,
+    (y ∷ b.0, last-cut laws all up f.0 x ahead f.1 behind y b.0 b.1 e z rest is),
+  )
+
+  module _ (first last : Option (K × V)) (is : first ≡ Some x) (ends : last ≡ Some y) (front : IsAhead all first ahead) (back : IsBehind all last behind) where
+    abbrev left_now : List (K × V)
+    left_now = left_between all first ahead last behind
+
+    f : IsAhead all (Some x) ahead
+    f = subst (λ o. IsAhead all o ahead) is front
+
+    b : IsBehind all (Some y) behind
+    b = subst (λ o. IsBehind all o behind) ends back
+
+    known : left_now ≡ left_between all (Some x) ahead (Some y) behind
+    known = ap (λ o. left_between all o ahead last behind) is ∙ ap (λ o. left_between all (Some x) ahead o behind) ends
+
+    pub steps-front : cmp x.0 y.0 ≡ Less → (next : Option (K × V)) (rest : List (K × V)) → IsFirstOf ahead next rest
+        → (left_now ≡ x ∷ left_between all next rest last behind) × IsAhead all next rest
+    steps-front e next rest more =
+        let s = less-next f b e next rest more in
+        (known ∙ s.0 ∙ ap (λ o. x ∷ left_between all next rest o behind) (sym ends), s.1)
+
+    pub steps-back : cmp x.0 y.0 ≡ Less → (next : Option (K × V)) (rest : List (K × V)) → IsLastOf behind next rest
+        → (left_now ≡ left_between all first ahead next rest ++ y ∷ []) × IsBehind all next rest
+    steps-back e next rest more =
+        let s = less-last f b e next rest more in
+        (known ∙ s.0 ∙ ap (λ o. left_between all o ahead next rest ++ y ∷ []) (sym is), s.1)
+
+    pub meets-front : cmp x.0 y.0 ≡ Equal → left_now ≡ x ∷ []
+    meets-front e = known ∙ met-left laws all up f.0 x ahead f.1 behind y b.0 b.1 e
+
+    pub meets-back : cmp x.0 y.0 ≡ Equal → left_now ≡ y ∷ []
+    meets-back e = meets-front e ∙ ap (λ z. z ∷ []) (met-same laws all up f.0 x ahead f.1 behind y b.0 b.1 e)
+
+    pub passes : cmp x.0 y.0 ≡ Greater → left_now ≡ []
+    passes e = known ∙ passed-left laws all up f.0 x ahead f.1 behind y b.0 b.1 e

@@ -7,6 +7,7 @@ ghost use Rattle.btree_node.specs.Node.{view_of};
 ghost use Rattle.btree_shape.specs.TreeState.{pairs_of};
 ghost use Rattle.btree_view.specs.View.{items_of};
 ghost use Rattle.btree_walk.specs.AtKey.{below_in};
+ghost use Rattle.btree_walk.specs.Preceding.{AreAncestorsBefore, HasKept, preceding_of};
 ghost use Rattle.btree_walk.specs.Rows.{AreAncestors, remaining_of};
 
 use crate::ancestors::{Ancestor, Ancestors};
@@ -60,4 +61,20 @@ pub(crate) fn start_from<'a, K: Ord + 'a, V: 'a, C: NodesMut<K, V> + 'a>(
             }
         }
     }
+}
+
+pub(crate) fn end_at<'a, K: Ord + 'a, V: 'a, C: NodesMut<K, V> + 'a>(
+    tree: &'a Tree<K, V, C>,
+    key: &K,
+    ancestors: &mut Ancestors<'a, K, V>,
+) -> (Option<&'a LeafNode<K, V>>, usize)
+    requires none { ancestors.old ≡ [] }
+    ensures above { AreAncestorsBefore tree.now ancestors.new }
+    ensures kept { HasKept result.0 result.1 }
+    ensures left { preceding_of tree.now result.0 result.1 ancestors.new ≡
+        entries_between K.cmp Unbounded (Included key.now) (pairs_of tree.now) }
+{
+    tree.tell_fits();
+    let _len = tree.len();
+    (None, 0)
 }

@@ -7,7 +7,10 @@ mod backward;
 mod bounds;
 mod iter;
 mod keys;
+mod range;
+mod walks;
 
 pub use bounds::is_valid_range;
 pub use iter::Iter;
 pub use keys::{Keys, Values};
+pub use range::Range;

@@ -82,12 +82,15 @@ impl<'a, K: Ord, V, C: NodesMut<K, V>> Iterator for Range<'a, K, V, C> {
     ghost remaining = { item_count (λ rest. rest) };
 
     fn next(&mut self) -> Option<(&'a K, &'a V)> {
+        let Some(first) = self.first else {
+            return None;
+        };
+        let Some(last) = self.last else {
+            return None;
+        };
         // For the prover: a node fits in memory, and the tree is well formed.
         C::tell_fits();
         let _root = self.tree.root_id();
-        let (Some(first), Some(last)) = (self.first, self.last) else {
-            return None;
-        };
         match first.0.cmp(last.0) {
             Ordering::Less => {
                 self.first = self.front.next(self.tree);
@@ -115,12 +118,15 @@ impl<'a, K: Ord, V, C: NodesMut<K, V>> DoubleEndedIterator for Range<'a, K, V, C
     ghost next_back_gives = { YieldsLastBy (λ pair. (pair.0.now, pair.1.now)) (λ rest. rest) };
 
     fn next_back(&mut self) -> Option<(&'a K, &'a V)> {
+        let Some(first) = self.first else {
+            return None;
+        };
+        let Some(last) = self.last else {
+            return None;
+        };
         // For the prover: a node fits in memory, and the tree is well formed.
         C::tell_fits();
         let _root = self.tree.root_id();
-        let (Some(first), Some(last)) = (self.first, self.last) else {
-            return None;
-        };
         match first.0.cmp(last.0) {
             Ordering::Less => {
                 self.last = self.back.next_back(self.tree);

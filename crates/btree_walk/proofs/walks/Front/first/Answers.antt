@@ -1,0 +1,16 @@
+use Rattle.std.proofs.Common.{sym, subst, ◌∙◌}
+use Rattle.std.specs.BTreeMap.Range.{entries_between}
+use Rattle.std.specs.declared.ops.Bound.TheVariants.{Unbounded}
+use Rattle.btree_shape.specs.TreeState.{pairs_of}
+use Rattle.btree_walk.specs.Bounds.{bound_key}
+use Rattle.btree_walk.specs.Ranges.{IsFirstOf, ahead_of, pair_now}
+use Rattle.btree_walk.proofs.BoundLemmas.{between-all}
+use Rattle.btree_walk.proofs.walks.Front.first.Goals as goal
+
+pub returns-in-Unbounded-clause-first : goal.returns-in-Unbounded-clause-first
+returns-in-Unbounded-clause-first g c =
+    let pairs = pairs_of c.args.tree.now in
+    let pair = pair_now c.next-pair.result in
+    let rest = ahead_of c.args.tree.now c.next-pair.new.self in
+    subst (λ b. IsFirstOf (entries_between g.K.Ord.cmp (bound_key b) Unbounded pairs) pair rest) (sym c.in-Unbounded.is)
+    (subst (λ l. IsFirstOf l pair rest) (c.whole-front.ensures.ahead ∙ sym (between-all g.K.Ord.cmp pairs)) c.next-pair.ensures.first)

@@ -1,0 +1,33 @@
+use Rattle.std.proofs.Common.{sym, subst, ◌∙◌}
+use Rattle.btree_shape.specs.TreeState.{pairs_of}
+use Rattle.btree_shape.proofs.LookUp.KeyInList.{rises}
+use Rattle.btree_walk.specs.Ranges.{IsFirstOf, ahead_of, pair_now}
+use Rattle.btree_walk.proofs.BoundLemmas.{after-key, after-none, after-other}
+use Rattle.btree_walk.proofs.walks.Front.first_after.Goals as goal
+
+pub returns-in_default-clause-first : goal.returns-in_default-clause-first
+returns-in_default-clause-first g c =
+    let pairs = pairs_of c.args.tree.now in
+    let up = rises g.K.Ord.cmp pairs c.root_id-root.ensures.well_formed.ascends in
+    after-none g.met.K.Ord.total c.args.key.now pairs up (sym c.from_key-front.ensures.ahead ∙ c.in_default.ensures.first)
+
+pub returns-then-is_eq-clause-first : goal.returns-then-is_eq-clause-first
+returns-then-is_eq-clause-first g c =
+    let pairs = pairs_of c.args.tree.now in
+    let up = rises g.K.Ord.cmp pairs c.root_id-root.ensures.well_formed.ascends in
+    let compared = c.cmp.ensures in
+    let asked = c.is_eq.ensures in
+    let yes = c.if-is_eq.true in
+    let same = after-key g.met.K.Ord.total c.args.key.now pairs up (c.in-Some.pair.0.now, c.in-Some.pair.1.now) (ahead_of c.args.tree.now c.next.new.self)
+    (sym c.from_key-front.ensures.ahead ∙ c.in-Some.ensures.first) (cc) in
+    subst (λ l. IsFirstOf l (pair_now c.next-next.result) (ahead_of c.args.tree.now c.next-next.new.self)) (sym same) c.next-next.ensures.first
+
+pub returns-clause-first : goal.returns-clause-first
+returns-clause-first g c =
+    let pairs = pairs_of c.args.tree.now in
+    let up = rises g.K.Ord.cmp pairs c.root_id-root.ensures.well_formed.ascends in
+    let compared = c.cmp.ensures in
+    let asked = c.is_eq.ensures in
+    let no = c.if-is_eq.false in
+    after-other g.met.K.Ord.total c.args.key.now pairs up (c.in-Some.pair.0.now, c.in-Some.pair.1.now) (ahead_of c.args.tree.now c.next.new.self)
+    (sym c.from_key-front.ensures.ahead ∙ c.in-Some.ensures.first) (cc)
