@@ -4,7 +4,6 @@ use btree_node::Node;
 use btree_store::SlabStore;
 use std::alloc::Global;
 use std::cell::Cell;
-use std::process::Abort;
 
 /// A value that knows its key, and counts how many of its kind are dropped.
 pub(crate) struct Counted<'a> {
@@ -19,17 +18,18 @@ impl<'a> Drop for Counted<'a> {
     }
 }
 
-/// Returns an iterator over the keys from 0 to 99.
+/// Returns an iterator over the keys from 0 to 99, or `None` if memory ran out.
 pub(crate) fn hundred<'a>(
-    rt: &impl Abort,
     alloc: Global,
     drops: &'a Cell<u64>,
-) -> IntoIter<u64, Counted<'a>, SlabStore<Node<u64, Counted<'a>>>> {
+) -> Option<IntoIter<u64, Counted<'a>, SlabStore<Node<u64, Counted<'a>>>>> {
     let mut map: BTreeMap<u64, Counted<'a>, SlabStore<Node<u64, Counted<'a>>>> = BTreeMap::new(
         alloc,
     );
     for key in 0..100u64 {
-        assert!(rt; map.insert(key, Counted { key, drops }).is_ok());
+        if map.insert(key, Counted { key, drops }).is_err() {
+            return None;
+        }
     }
-    IntoIter::new(map)
+    Some(IntoIter::new(map))
 }

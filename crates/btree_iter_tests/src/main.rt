@@ -10,13 +10,16 @@ mod drops;
 mod owned;
 
 use crate::drops::hundred;
+use std::alloc::AllocError;
 use std::cell::Cell;
 use std::io;
 
 // Takes ten pairs from each end, drops the iterator, and prints how many values were dropped before and after that.
 fn main(rt: HostRuntime) -> io::Result<()> {
     let drops = Cell::new(0u64);
-    let mut pairs = hundred(&rt, rt.alloc(), &drops);
+    let Some(mut pairs) = hundred(rt.alloc(), &drops) else {
+        return Err(AllocError.into());
+    };
     for _ in 0..10 {
         drop(pairs.next());
         drop(pairs.next_back());

@@ -22,7 +22,9 @@ fn check_pair(rt: &impl Abort, pair: Option<(u64, Counted<'_>)>, key: u64) {
 fn gives_each_pair_once(rt: HostRuntime) {
     for turns in [[true, true], [false, false], [true, false], [false, true]] {
         let drops = Cell::new(0u64);
-        let mut pairs = hundred(&rt, rt.alloc(), &drops);
+        let Some(mut pairs) = hundred(rt.alloc(), &drops) else {
+            panic!(rt; "no memory")
+        };
         let mut low = 0u64;
         let mut high = 99u64;
         for step in 0..100u64 {
@@ -44,7 +46,9 @@ fn gives_each_pair_once(rt: HostRuntime) {
 #[test]
 fn drops_what_is_left(rt: HostRuntime) {
     let drops = Cell::new(0u64);
-    let mut pairs = hundred(&rt, rt.alloc(), &drops);
+    let Some(mut pairs) = hundred(rt.alloc(), &drops) else {
+        panic!(rt; "no memory")
+    };
     for _ in 0..10 {
         drop(pairs.next());
         drop(pairs.next_back());
