@@ -1,38 +1,11 @@
 //! Iterators that own a map, from both ends: each value is dropped once.
-use btree_map::{BTreeMap, IntoIter};
+use crate::drops::{Counted, hundred};
+use btree_map::BTreeMap;
 use btree_node::Node;
 use btree_store::SlabStore;
 use std::alloc::Global;
 use std::cell::Cell;
 use std::process::Abort;
-
-// A value that knows its key, and counts how many of its kind are dropped.
-struct Counted<'a> {
-    key: u64,
-    drops: &'a Cell<u64>,
-}
-
-impl<'a> Drop for Counted<'a> {
-    fn drop(self) {
-        let Counted { key: _, drops } = self;
-        drops.set(drops.get().wrapping_add(1));
-    }
-}
-
-// Returns an iterator over the keys from 0 to 99.
-fn hundred<'a>(
-    rt: &impl Abort,
-    alloc: Global,
-    drops: &'a Cell<u64>,
-) -> IntoIter<u64, Counted<'a>, SlabStore<Node<u64, Counted<'a>>>> {
-    let mut map: BTreeMap<u64, Counted<'a>, SlabStore<Node<u64, Counted<'a>>>> = BTreeMap::new(
-        alloc,
-    );
-    for key in 0..100u64 {
-        assert!(rt; map.insert(key, Counted { key, drops }).is_ok());
-    }
-    IntoIter::new(map)
-}
 
 // Checks that a pair is there, and that its value knows its key.
 fn check_pair(rt: &impl Abort, pair: Option<(u64, Counted<'_>)>, key: u64) {
@@ -49,7 +22,9 @@ fn check_pair(rt: &impl Abort, pair: Option<(u64, Counted<'_>)>, key: u64) {
 fn gives_each_pair_once(rt: HostRuntime) {
     for turns in [[true, true], [false, false], [true, false], [false, true]] {
         let drops = Cell::new(0u64);
-        let mut pairs = hundred(&rt, rt.alloc(), &drops);
+        let Some(mut pairs) = hundred(rt.alloc(), &drops) else {
+            panic!(rt; "no memory")
+        };
         let mut low = 0u64;
         let mut high = 99u64;
         for step in 0..100u64 {
@@ -71,7 +46,9 @@ fn gives_each_pair_once(rt: HostRuntime) {
 #[test]
 fn drops_what_is_left(rt: HostRuntime) {
     let drops = Cell::new(0u64);
-    let mut pairs = hundred(&rt, rt.alloc(), &drops);
+    let Some(mut pairs) = hundred(rt.alloc(), &drops) else {
+        panic!(rt; "no memory")
+    };
     for _ in 0..10 {
         drop(pairs.next());
         drop(pairs.next_back());
