@@ -1,12 +1,15 @@
 //! Iterators over the pairs, the keys and the values of a map.
 ghost use Rattle.std.specs.Prelude.{◌≡◌};
+ghost use Rattle.std.specs.BTreeMap.Range.{entries_between};
 ghost use Rattle.std.specs.Map.{keys_of, values_of};
 ghost use Rattle.btree_shape.specs.TreeState.{pairs_of};
+ghost use Rattle.btree_walk.specs.Bounds.{IsValidRange, bound_key};
 
 use crate::BTreeMap;
 use btree_nodes::NodesMut;
-use btree_walk::{Iter, Keys, Values};
+use btree_walk::{Iter, Keys, Range, Values};
 use std::iter::IntoIterator;
+use std::ops::Bound;
 
 impl<K: Ord, V, C: NodesMut<K, V>> BTreeMap<K, V, C> {
     /// Returns an iterator over the pairs in the order of the keys, from both ends. A whole walk fetches each node once, and allocates no
@@ -15,6 +18,18 @@ impl<K: Ord, V, C: NodesMut<K, V>> BTreeMap<K, V, C> {
         ensures { result ≡ pairs_of self.now }
     {
         Iter::new(&self.tree)
+    }
+
+    /// Returns an iterator over the pairs whose keys are between two bounds, each of them included, excluded or absent, from both ends. The
+    /// start must be at most the end, and they may not be equal if both are excluded: `is_valid_range` tells.
+    ///
+    /// It reads at most two nodes of each level, compares at most six keys in each and two more, and allocates no memory.
+    pub fn range(&self, range: (Bound<&K>, Bound<&K>)) -> Range<'_, K, V, C>
+        requires { IsValidRange K.cmp range }
+        ensures { result ≡
+            entries_between K.cmp (bound_key range.entry.0) (bound_key range.entry.1) (pairs_of self.now) }
+    {
+        Range::new(&self.tree, range)
     }
 
     /// Returns an iterator over the keys in order, from both ends, as `iter` does over the pairs.

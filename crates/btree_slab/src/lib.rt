@@ -25,7 +25,7 @@ pub mod generic {
             ValuesMut,
         };
         pub use btree_raw::RawBTree;
-        pub use btree_walk::{Iter, Keys, Values};
+        pub use btree_walk::{Iter, Keys, Range, Values, is_valid_range};
     }
 
     /// Nodes, their items, and addresses.

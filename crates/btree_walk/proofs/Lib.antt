@@ -7,4 +7,5 @@ mod FromLemmas
 mod IterLemmas
 mod RangeLemmas
 mod RowLemmas
+mod UpToLemmas
 mod WalkLemmas

@@ -202,6 +202,11 @@ module _ {K V : Type 0} {cmp : K → K → Ordering} (laws : IsTotalOrder cmp) (
       let n : length (behind ++ y ∷ []) + length (x ∷ ahead) - length all ≡ length behind + 2 + length ahead - length all = omega arith in
       sym (between-take laws all up lo hi (x ∷ ahead) (behind ++ y ∷ []) f u ∙ ap (λ k. take k (x ∷ ahead)) n)
 
+-- without a last pair, nothing is left
+pub ended : {A : Type 0} (all : List A) (first : Option A) (ahead behind : List A) → left_between all first ahead None behind ≡ []
+ended all None ahead behind = refl
+ended all (Some x) ahead behind = refl
+
 -- a step of a range
 module _ {K V : Type 0} {cmp : K → K → Ordering} (laws : IsTotalOrder cmp) (all : List (K × V)) (up : Rises cmp all)
     (x : K × V) (ahead : List (K × V)) (y : K × V) (behind : List (K × V)) where

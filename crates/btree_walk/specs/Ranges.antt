@@ -1,7 +1,7 @@
 -- A range of pairs, from both ends.
 -- The range has taken the first and the last pair that are left from its two walks, so one of them is ahead of the first
 -- pair and the other is behind the last. What is left can be read off these four.
-use Rattle.std.specs.Prelude.{◌≡◌, ℕ, ◌+◌, ◌-◌, List, [], ◌∷◌, ◌++◌, length, take, Option, Some, None, option_map}
+use Rattle.std.specs.Prelude.{◌≡◌, ◌+◌, ◌-◌, List, [], ◌∷◌, ◌++◌, length, take, Option, Some, None, option_map}
 use Rattle.std.specs.Borrow.{Bor}
 use Rattle.btree_shape.specs.TreeState.{TreeState}
 use Rattle.btree_walk.specs.Preceding.{preceding_of}

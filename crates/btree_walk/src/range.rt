@@ -133,7 +133,7 @@ impl<'a, K: Ord, V, C: NodesMut<K, V>> DoubleEndedIterator for Range<'a, K, V, C
                 Some(last)
             }
             Ordering::Equal => {
-                self.first = None;
+                self.last = None;
                 Some(last)
             }
             Ordering::Greater => None,

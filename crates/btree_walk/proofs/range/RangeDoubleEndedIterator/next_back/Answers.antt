@@ -1,9 +1,9 @@
-use Rattle.std.proofs.Common.{ap, arith, length}
+use Rattle.std.proofs.Common.{◌++◌, ◌∷◌, ◌∙◌, [], ap, arith, length, sym}
 use Rattle.std.proofs.lemmas.List.{length_push}
 use Rattle.btree_shape.specs.TreeState.{pairs_of}
 use Rattle.btree_shape.proofs.LookUp.KeyInList.{rises}
 use Rattle.btree_walk.specs.Ranges.{ahead_of, behind_of, left_between, pair_now}
-use Rattle.btree_walk.proofs.RangeLemmas.{meets-back, passes, steps-back}
+use Rattle.btree_walk.proofs.RangeLemmas.{ended, meets-back, passes, steps-back}
 use Rattle.btree_walk.proofs.range.RangeDoubleEndedIterator.next_back.Goals as goal
 
 pub tell_fits-requires : goal.tell_fits-requires
@@ -41,11 +41,13 @@ returns-in-Less-clause-goes g c =
 pub returns-in-Equal-clause-steps : goal.returns-in-Equal-clause-steps
 returns-in-Equal-clause-steps g c =
     let it = c.self.inside in
-    rw (← c.self.view_is)
-    (meets-back g.met.K.Ord.total (pairs_of it.tree.now) (rises g.K.Ord.cmp (pairs_of it.tree.now) c.root_id-root.ensures.well_formed.ascends)
-    (c.in-Some.first.0.now, c.in-Some.first.1.now) (ahead_of it.tree.now it.front) (c.in-Some-last.last.0.now, c.in-Some-last.last.1.now) (behind_of it.tree.now it.back)
+    let y : g.row.K.Denot × g.row.V.Denot = (c.in-Some-last.last.0.now, c.in-Some-last.last.1.now) in
+    let met = meets-back g.met.K.Ord.total (pairs_of it.tree.now) (rises g.K.Ord.cmp (pairs_of it.tree.now) c.root_id-root.ensures.well_formed.ascends)
+    (c.in-Some.first.0.now, c.in-Some.first.1.now) (ahead_of it.tree.now it.front) y (behind_of it.tree.now it.back)
     (pair_now it.first) (pair_now it.last) (ap pair_now c.in-Some.is) (ap pair_now c.in-Some-last.is) c.self.invariant.4 c.self.invariant.5
-    (let compared = c.cmp.ensures in let is = c.in-Equal.is in cc))
+    (let compared = c.cmp.ensures in let is = c.in-Equal.is in cc) in
+    rw (← c.self.view_is)
+    (met ∙ ap (λ l. l ++ y ∷ []) (sym (ended (pairs_of it.tree.now) (pair_now it.first) (ahead_of it.tree.now it.front) (behind_of it.tree.now it.back))))
 
 pub returns-in-Equal-clause-goes : goal.returns-in-Equal-clause-goes
 returns-in-Equal-clause-goes g c =
@@ -55,6 +57,7 @@ returns-in-Equal-clause-goes g c =
     (pair_now it.first) (pair_now it.last) (ap pair_now c.in-Some.is) (ap pair_now c.in-Some-last.is) c.self.invariant.4 c.self.invariant.5
     (let compared = c.cmp.ensures in let is = c.in-Equal.is in cc) in
     let fewer = ap length met in
+    let none = ap length (ended (pairs_of it.tree.now) (pair_now it.first) (ahead_of it.tree.now it.front) (behind_of it.tree.now it.back)) in
     rw (← c.self.view_is) record { on = λ finite. (tt, tt, omega arith); keeps = tt; rests = λ finite. tt }
 
 pub returns-in-Greater-clause-steps : goal.returns-in-Greater-clause-steps
