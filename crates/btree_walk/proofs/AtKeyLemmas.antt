@@ -1,5 +1,5 @@
 -- A walk down to a key: what one node passes on to the next.
-use Rattle.std.proofs.Common.{◌≡◌, ℕ, zero, suc, ◌≤◌, List, [], ◌∷◌, ◌++◌, length, map, drop, slice_get, Option, Some, None, Result, Ok, Err, IsSome, refl, sym, ap, subst, ◌∙◌, arith, append_assoc}
+use Rattle.std.proofs.Common.{◌≡◌, ℕ, zero, suc, ◌+◌, ◌≤◌, List, [], ◌∷◌, ◌++◌, length, map, drop, slice_get, Option, Some, None, Result, Ok, Err, IsSome, refl, sym, ap, subst, ◌∙◌, arith, append_assoc}
 use Rattle.std.proofs.lemmas.List.{length-map}
 use Rattle.std.specs.Cmp.{IsTotalOrder}
 use Rattle.std.specs.List.{AllByRecursion}
@@ -15,7 +15,7 @@ use Rattle.btree_shape.proofs.LookUp.KeyInList.{AreAbove, AreBelow, Rises, above
 use Rattle.btree_shape.proofs.LookUp.Walk.{under-internal, under-leaf}
 use Rattle.btree_shape.proofs.Paths.Frames.{AllByRecursion-append, AllByRecursion-right}
 use Rattle.btree_find.proofs.SearchLemmas.{placed-ok}
-use Rattle.btree_walk.specs.AtKey.{below_place}
+use Rattle.btree_walk.specs.AtKey.{below_place, up_to_place}
 use Rattle.btree_walk.specs.Preceding.{preceding_in, with_child_before}
 use Rattle.btree_walk.proofs.RowLemmas.{turned}
 
@@ -34,7 +34,18 @@ below-err (Err i) children gap e = cc
 pub below-some : (r : Result ℕ ℕ) (children : List ℕ) (offset : Option ℕ) → Ok offset ≡ placed r children → IsSome offset
 below-some r children offset e = let p = placed-ok r children offset e in rw p.2 refl
 
--- the two numbers of a pair
+pub up_to-ok : (r : Result ℕ ℕ) (children : List ℕ) (offset : Option ℕ) (index : ℕ) → Ok offset ≡ placed r children → offset ≡ Some index
+    → ◌≡◌ {A = ℕ × Option ℕ} (index + 1, None) (up_to_place r children)
+up_to-ok r children offset index e at =
+    let p = placed-ok r children offset e in
+    let same : index ≡ p.0 = let s = sym at ∙ p.2 in cc in
+    rw (p.1, same) refl
+
+pub up_to-err : (r : Result ℕ ℕ) (children : List ℕ) (gap : ℕ × Option ℕ) → Err gap ≡ placed r children → gap ≡ up_to_place r children
+up_to-err (Ok i) children gap e = absurd (cc)
+up_to-err (Err i) children gap e = cc
+
+-- the two parts of a pair
 pub pair-left : {X Y : Type 0} (x u : X) (y v : Y) → ◌≡◌ {A = X × Y} (x, y) (u, v) → x ≡ u
 pair-left {X} {Y} x u y v e = ap (λ (p : X × Y). p.0) e
 

@@ -73,17 +73,17 @@ kept-less None kept none = omega arith
 kept-less (Some l) kept low = omega arith
 
 module _ {K V : Type 0} where
-  abbrev row_of : Ancestor K V → List (ℕ × (K × V))
+  abbrev pub row_of : Ancestor K V → List (ℕ × (K × V))
   row_of f = row_before (view_of f.node.now) f.passed
 
-  rows-before-push : (ancestors : List (Ancestor K V)) (f : Ancestor K V) → rows_before (ancestors ++ f ∷ []) ≡ rows_before ancestors ++ row_of f ∷ []
+  pub rows-before-push : (ancestors : List (Ancestor K V)) (f : Ancestor K V) → rows_before (ancestors ++ f ∷ []) ≡ rows_before ancestors ++ row_of f ∷ []
   rows-before-push ancestors f = map-append row_of ancestors (f ∷ [])
 
 module _ {K V : Type 0} (nodes : Content (Node K V)) (len : ℕ) where
-  abbrev left_before : List (Ancestor K V) → List (K × V)
+  abbrev pub left_before : List (Ancestor K V) → List (K × V)
   left_before ancestors = preceding_above (views nodes) len (rows_before ancestors)
 
-  abbrev AreOpenBefore : List (Ancestor K V) → Type 0
+  abbrev pub AreOpenBefore : List (Ancestor K V) → Type 0
   AreOpenBefore ancestors = AreRowsBefore (views nodes) len 0 (rows_before ancestors)
 
   -- going down: the list at the start is still that of the rows above a node and of the node

@@ -5,4 +5,5 @@ mod EndLemmas
 mod FromLemmas
 mod IterLemmas
 mod RowLemmas
+mod UpToLemmas
 mod WalkLemmas

@@ -1,0 +1,20 @@
+use Rattle.btree_item.specs.Pairs.{place_of}
+use Rattle.btree_node.specs.Node.{view_of}
+use Rattle.btree_view.specs.View.{children_of, items_of}
+use Rattle.btree_walk.proofs.AtKeyLemmas.{below-some, up_to-err, up_to-ok}
+use Rattle.btree_walk.proofs.at_key.items_up_to.Goals as goal
+
+pub unwrap-requires : goal.unwrap-requires
+unwrap-requires g c =
+    below-some (place_of g.K.Ord.cmp c.args.key.now (items_of (view_of c.args.node.now))) (children_of (view_of c.args.node.now)) c.in-Ok.offset
+    c.in-Ok.ensures.value
+
+pub returns-in-Ok-clause-value : goal.returns-in-Ok-clause-value
+returns-in-Ok-clause-value g c =
+    up_to-ok (place_of g.K.Ord.cmp c.args.key.now (items_of (view_of c.args.node.now))) (children_of (view_of c.args.node.now)) c.in-Ok.offset
+    c.unwrap.result c.in-Ok.ensures.value c.unwrap.ensures.value
+
+pub returns-in-Err-clause-value : goal.returns-in-Err-clause-value
+returns-in-Err-clause-value g c =
+    up_to-err (place_of g.K.Ord.cmp c.args.key.now (items_of (view_of c.args.node.now))) (children_of (view_of c.args.node.now)) c.in-Err.gap
+    c.in-Err.ensures.value
