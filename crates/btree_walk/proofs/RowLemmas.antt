@@ -102,7 +102,7 @@ module _ {A : Type 0} (node_at : NodeMap A) (levels : ℕ) where
       ∙ ap (λ l. (represented node_at levels first ++ b.0 ∷ []) ++ l) rest
       ∙ sym (append_assoc (represented node_at levels first ++ b.0 ∷ []) (preceding_in node_at levels (with_child_before b.1 bs)) (represented node_at levels last))
 
-  pub unders : (P : ℕ → Type 0) (first : ℕ) (bs : List (A × ℕ)) (last : ℕ) → slice_get (first ∷ map (λ b. b.1) bs) (length bs) ≡ Some last → P first
+  unders : (P : ℕ → Type 0) (first : ℕ) (bs : List (A × ℕ)) (last : ℕ) → slice_get (first ∷ map (λ b. b.1) bs) (length bs) ≡ Some last → P first
       → AllByRecursion (λ (b : A × ℕ). P b.1) bs → AllByRecursion (λ (b : ℕ × A). P b.0) (with_child_before first bs) × P last
   unders P first [] last e here all = let same : first ≡ last = cc in (tt, rw (← same) here)
   unders P first (b ∷ bs) last e here all = let rest = unders P b.1 bs last e all.0 all.1 in ((here, rest.0), rest.1)
