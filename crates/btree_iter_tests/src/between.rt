@@ -149,6 +149,32 @@ fn is_between(key: u64, start: &Bound<u64>, end: &Bound<u64>) -> bool {
     from && until
 }
 
+// Checks the range of the map of the even keys up to 86, from either end, against the keys themselves.
+fn assert_as_plain(rt: &impl Abort, map: &Map, start: Bound<u64>, end: Bound<u64>) {
+    let bounds = (start.as_ref(), end.as_ref());
+    if !is_valid_range(bounds) {
+        panic!(rt; "no such range");
+    }
+    let mut forward = map.range(bounds);
+    let mut backward = map.range(bounds);
+    for half in 0..44u64 {
+        let low = half.wrapping_mul(2);
+        if is_between(low, &start, &end) {
+            assert_eq!(rt; copied(forward.next()), pair_of(low));
+        }
+        let high = 86u64.wrapping_sub(low);
+        if is_between(high, &start, &end) {
+            assert_eq!(rt; copied(backward.next_back()), pair_of(high));
+        }
+    }
+    for mut pairs in [forward, backward] {
+        assert_eq!(rt;
+            (copied(pairs.next()), copied(pairs.next_back())),
+            (None, None)
+        );
+    }
+}
+
 // In a tree of three levels, with 8, 18, 28, 48, 58, 68 and 78 in the nodes below the root and 38 in the root.
 #[test]
 fn gives_what_a_plain_list_has(rt: HostRuntime) {
@@ -175,29 +201,6 @@ fn gives_what_a_plain_list_has(rt: HostRuntime) {
         (Bound::Included(21), Bound::Excluded(21)),
         (Bound::Excluded(58), Bound::Included(78)),
     ] {
-        let bounds = (start.as_ref(), end.as_ref());
-        if !is_valid_range(bounds) {
-            panic!(rt; "no such range");
-        }
-        let mut forward = map.range(bounds);
-        let mut backward = map.range(bounds);
-        for half in 0..44u64 {
-            let low = half.wrapping_mul(2);
-            if is_between(low, &start, &end) {
-                assert_eq!(rt; copied(forward.next()), pair_of(low));
-            }
-            let high = 86u64.wrapping_sub(low);
-            if is_between(high, &start, &end) {
-                assert_eq!(rt; copied(backward.next_back()), pair_of(high));
-            }
-        }
-        assert_eq!(rt;
-            (copied(forward.next()), copied(forward.next_back())),
-            (None, None)
-        );
-        assert_eq!(rt;
-            (copied(backward.next()), copied(backward.next_back())),
-            (None, None)
-        );
+        assert_as_plain(&rt, &map, start, end);
     }
 }
