@@ -1,9 +1,8 @@
 //! Iterators over the pairs, the keys and the values of a map.
 ghost use Rattle.std.specs.Prelude.{◌≡◌};
-ghost use Rattle.std.specs.BTreeMap.Range.{entries_between};
 ghost use Rattle.std.specs.Map.{keys_of, values_of};
 ghost use Rattle.btree_shape.specs.TreeState.{pairs_of};
-ghost use Rattle.btree_walk.specs.Bounds.{IsValidRange, bound_key};
+ghost use Rattle.btree_walk.specs.Bounds.{IsValidRange, pairs_between};
 
 use crate::BTreeMap;
 use btree_nodes::NodesMut;
@@ -26,8 +25,7 @@ impl<K: Ord, V, C: NodesMut<K, V>> BTreeMap<K, V, C> {
     /// It reads at most two nodes of each level, compares at most six keys in each and two more, and allocates no memory.
     pub fn range(&self, range: (Bound<&K>, Bound<&K>)) -> Range<'_, K, V, C>
         requires { IsValidRange K.cmp range }
-        ensures { result ≡
-            entries_between K.cmp (bound_key range.entry.0) (bound_key range.entry.1) (pairs_of self.now) }
+        ensures { result ≡ pairs_between K.cmp range.entry (pairs_of self.now) }
     {
         Range::new(&self.tree, range)
     }

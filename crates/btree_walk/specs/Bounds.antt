@@ -1,6 +1,7 @@
 -- The two bounds of a range of keys, each included, excluded or absent. `entries_between` of std says which pairs of a
 -- list are between them.
-use Rattle.std.specs.Prelude.{◌≡◌, Bool, true}
+use Rattle.std.specs.Prelude.{◌≡◌, Bool, true, List}
+use Rattle.std.specs.BTreeMap.Range.{entries_between}
 use Rattle.std.specs.Borrow.{Bor}
 use Rattle.std.specs.Ordering.{is_le, is_lt}
 use Rattle.std.specs.Range.Bound.{bound_map}
@@ -25,3 +26,7 @@ is_valid cmp (Excluded a) (Excluded b) = is_lt (cmp a b)
 -- a range that may be asked for
 abbrev pub IsValidRange : {K : Type 0} → (K → K → Ordering) → Bound (Bor K) × Bound (Bor K) → Type 0
 IsValidRange cmp range = is_valid cmp (bound_key range.0) (bound_key range.1) ≡ true
+
+-- the pairs of a list whose keys are between the two bounds of a range
+abbrev pub pairs_between : {K V : Type 0} → (K → K → Ordering) → Bound (Bor K) × Bound (Bor K) → List (K × V) → List (K × V)
+pairs_between cmp range pairs = entries_between cmp (bound_key range.0) (bound_key range.1) pairs

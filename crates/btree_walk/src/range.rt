@@ -1,10 +1,9 @@
 //! The pairs of a tree between two bounds.
 ghost use Rattle.std.specs.Prelude.{◌≡◌, Some, None, IfSome};
-ghost use Rattle.std.specs.BTreeMap.Range.{entries_between};
 ghost use Rattle.std.specs.Iterator.SizeHint.{IsWithinCount};
 ghost use Rattle.std.specs.Iterator.{YieldsFirstBy, YieldsLastBy, item_count, UpTo};
 ghost use Rattle.btree_shape.specs.TreeState.{pairs_of};
-ghost use Rattle.btree_walk.specs.Bounds.{IsValidRange, bound_key};
+ghost use Rattle.btree_walk.specs.Bounds.{IsValidRange, pairs_between};
 
 use crate::walks::{Back, Front};
 use btree_ext::{BTreeExt, Tree};
@@ -53,8 +52,7 @@ impl<'a, K: Ord, V, C: NodesMut<K, V>> Range<'a, K, V, C> {
     /// two more.
     pub fn new(tree: &'a Tree<K, V, C>, range: (Bound<&K>, Bound<&K>)) -> Self
         requires { IsValidRange K.cmp range }
-        ensures { result ≡
-            entries_between K.cmp (bound_key range.entry.0) (bound_key range.entry.1) (pairs_of tree.now) }
+        ensures { result ≡ pairs_between K.cmp range.entry (pairs_of tree.now) }
     {
         tree.tell_fits();
         // For the prover: the iterator keeps the fact that a node fits in memory.
