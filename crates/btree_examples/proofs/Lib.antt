@@ -1,1 +1,2 @@
 pub mod BookingLemmas
+mod PageLemmas

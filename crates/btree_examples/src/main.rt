@@ -1,4 +1,5 @@
-//! Maps in use: a stock of parts, by part number, bookings of a room (`bookings.rt`), and a count of words (`words.rt`).
+//! Maps in use: a stock of parts, by part number, a listing of them by pages (`listing.rt`), bookings of a room (`bookings.rt`), and a
+//! count of words (`words.rt`).
 #![tactic(auto)]
 
 ghost use Rattle.std.specs.Prelude.{◌≡◌, ◌+◌, OnOk, OnErr, unwrap_or};
@@ -7,9 +8,11 @@ ghost use Rattle.btree_item.specs.Pairs.{found_value, inserted};
 ghost use Rattle.btree_shape.specs.TreeState.{IsValidIn, pairs_of};
 
 mod bookings;
+mod listing;
 mod words;
 
 use crate::bookings::{book_and_cancel, count_overlaps, three_bookings};
+use crate::listing::next_page;
 use crate::words::count_word;
 use btree_slab::BTreeMap;
 use btree_slab::generic::map::{BTreeExt, BTreeExtMut, Refused};
@@ -87,6 +90,11 @@ fn main(rt: HostRuntime) -> io::Result<()> {
     rt.println(format_args!("counted: {}", counted.unwrap_or(0)))?;
     for (part, count) in stock.iter() {
         rt.println(format_args!("{part} {count}"))?;
+    }
+    let mut page = Vec::new(rt.alloc());
+    next_page(&stock, 17, 2, &mut page)?;
+    for part in page.iter() {
+        rt.println(format_args!("after 17: {part}"))?;
     }
     let Ok(mut bookings) = three_bookings(rt.alloc()) else {
         return Err(AllocError.into());
