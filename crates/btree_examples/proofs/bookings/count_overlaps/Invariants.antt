@@ -1,4 +1,4 @@
-use Rattle.std.proofs.Common.{◌≡◌, ◌+◌, ◌≤◌, ℕ, take}
+use Rattle.std.proofs.Common.{◌≡◌, ◌≤◌, ℕ, take}
 use Rattle.std.specs.List.{count_by}
 use Rattle.btree_shape.specs.TreeState.{pairs_of}
 use Rattle.btree_find.specs.Navigation.{IsItemAt}
