@@ -8,8 +8,6 @@ mod entries;
 #[cfg(test)]
 mod extension;
 #[cfg(test)]
-mod in_turn;
-#[cfg(test)]
 mod keys;
 #[cfg(test)]
 mod named;
