@@ -1,49 +1,86 @@
 -- A node that is written, and then cut if it has an item too many.
-use Rattle.std.proofs.Common.{◌≡◌, ◌∙◌, ℕ, ◌≤◌, Some, None, ap, option_map, refl, subst, sym}
-use Rattle.std.specs.Prelude.{IfNone, IfSome, OnSome}
+use Rattle.std.proofs.Common.{◌≡◌, ◌∙◌, ◌∷◌, ◌++◌, [], ℕ, ◌≤◌, List, Option, Some, ap, option_map, refl, subst, sym}
 use Rattle.std.specs.FinMap as map
 use Rattle.btree_store.specs.Content.{Content}
 use Rattle.btree_store.specs.ContentLaws.{insert-same}
 use Rattle.btree_node.specs.declared.node.Node.{Node}
 use Rattle.btree_node.specs.Node.{view_of}
 use Rattle.btree_view.specs.Edits.{IsOverflowing, IsSplit}
-use Rattle.btree_view.specs.View.{most_of, parent_of, size_of}
+use Rattle.btree_view.specs.View.{NodeMap, View, most_of, parent_of, size_of}
+use Rattle.btree_shape.specs.Step.{Splits}
 use Rattle.btree_shape.specs.TreeState.{views}
 use Rattle.btree_shape.proofs.Trees.Stores.{writes_node}
-use Rattle.btree_raw.specs.Steps.{Cut, MayCut}
+use Rattle.btree_raw.specs.Steps.{CanCut, CutsAtMedian, CutsNode, HasCount, LeavesPart, Overflows, StaysWhole}
+use Rattle.btree_raw.proofs.StepLemmas.{halves}
 
-module _ {K V : Type 0} (nodes : Content (Node K V)) (id : ℕ) (node left : Node K V) where
+module _ {K V : Type 0} (nodes : Content (Node K V)) (id : ℕ) (node : Node K V) where
   abbrev whole : Content (Node K V)
   whole = map.insert nodes id node
 
-  abbrev new : Content (Node K V)
-  new = map.insert nodes id left
+  pub here-after : views whole id ≡ Some (view_of node)
+  here-after = (writes_node nodes whole id node refl).here
 
-  here : views whole id ≡ Some (view_of node)
-  here = (writes_node nodes whole id node refl).here
+  pub over-after : IsOverflowing (view_of node) → Overflows (views whole) id
+  over-after over = record { node = view_of node; here = here-after; over = over }
 
-  pub cut-after : (cut : Cut K V) → OnSome cut (IsOverflowing (view_of node)) → IfSome cut (λ cut. cut.0 ≡ parent_of (view_of node))
-      → IfSome cut (λ cut. cut.1 ≡ size_of (view_of left)) → IfSome cut (λ cut. IsSplit (view_of node) cut.2 (view_of left) (view_of cut.3))
-      → IfNone cut (size_of (view_of node) ≤ most_of (view_of node)) → IfNone cut (left ≡ node) → MayCut (views whole) (views new) id cut
-  cut-after (Some cut) over parent count parts room same = record {
-    over = record { node = view_of node; here = here; over = over };
-    named = ap (option_map parent_of) here ∙ ap Some (sym parent);
-    cuts = record {
-      left = view_of left;
-      counted = count;
-      parts = λ v is. let q : Some (view_of node) ≡ Some v = sym here ∙ is in
-          let e : view_of node ≡ v = cc in subst (λ v. IsSplit v cut.2 (view_of left) (view_of cut.3)) e parts;
-      writes_node = record {
-        here = (writes_node nodes new id left refl).here;
-        others = λ n ne. (writes_node nodes new id left refl).others n ne ∙ sym ((writes_node nodes whole id node refl).others n ne);
-      };
+  pub half-after : (left : Node K V) (kept : ℕ) (median : K × V) (part : View (K × V)) → kept ≡ size_of (view_of left)
+      → IsSplit (view_of node) median (view_of left) part → CutsAtMedian (views whole) (views (map.insert nodes id left)) id kept median part
+  half-after left kept median part counted parts = record {
+    left = view_of left;
+    counted = counted;
+    parts = λ v is. let q : Some (view_of node) ≡ Some v = sym here-after ∙ is in
+        let e : view_of node ≡ v = cc in subst (λ v. IsSplit v median (view_of left) part) e parts;
+    writes_node = record {
+      here = (writes_node nodes (map.insert nodes id left) id left refl).here;
+      others = λ n ne. (writes_node nodes (map.insert nodes id left) id left refl).others n ne ∙ sym ((writes_node nodes whole id node refl).others n ne);
     };
   }
-  cut-after None over parent count parts room same =
-      record { node = view_of node; here = here; room = room; same = ap (λ n. views (map.insert nodes id n)) same }
 
-  pub cut-there : Some node ≡ map.get nodes id → (cut : Cut K V) → OnSome cut (IsOverflowing (view_of node)) → IfSome cut (λ cut. cut.0 ≡ parent_of (view_of node))
-      → IfSome cut (λ cut. cut.1 ≡ size_of (view_of left)) → IfSome cut (λ cut. IsSplit (view_of node) cut.2 (view_of left) (view_of cut.3))
-      → IfNone cut (size_of (view_of node) ≤ most_of (view_of node)) → IfNone cut (left ≡ node) → MayCut (views nodes) (views new) id cut
-  cut-there at cut over parent count parts room same =
-      subst (λ m. MayCut (views m) (views new) id cut) (insert-same nodes id node (sym at)) (cut-after cut over parent count parts room same)
+  abbrev pub part-after : (left : Node K V) (kept : ℕ) (median : K × V) (part : View (K × V)) → kept ≡ size_of (view_of left)
+      → IsSplit (view_of node) median (view_of left) part → (spare : List ℕ) → CanCut (views whole) id spare → LeavesPart (views (map.insert nodes id left)) part spare
+  part-after left kept median part counted parts spare can = record {
+    whole = views whole;
+    id = id;
+    kept = kept;
+    median = median;
+    half = half-after left kept median part counted parts;
+    can = can;
+  }
+
+  pub stays-after : size_of (view_of node) ≤ most_of (view_of node) → StaysWhole (views whole) (views whole) id
+  stays-after room = record { node = view_of node; here = here-after; room = room; same = refl }
+
+  module _ (at : Some node ≡ map.get nodes id) where
+    pub here-there : views nodes id ≡ Some (view_of node)
+    here-there = ap (option_map view_of) (sym at)
+
+    pub over-there : IsOverflowing (view_of node) → Overflows (views nodes) id
+    over-there over = record { node = view_of node; here = here-there; over = over }
+
+    abbrev pub part-there : (left : Node K V) (kept : ℕ) (median : K × V) (part : Node K V) → kept ≡ size_of (view_of left)
+        → IsSplit (view_of node) median (view_of left) (view_of part) → (spare : List ℕ) → CanCut (views nodes) id spare
+        → LeavesPart (views (map.insert nodes id left)) (view_of part) spare
+    part-there left kept median part counted parts spare can = record {
+      whole = views nodes;
+      id = id;
+      kept = kept;
+      median = median;
+      half = halves nodes id node at (map.insert nodes id left) left part kept median counted parts refl;
+      can = can;
+    }
+
+    pub stays-there : size_of (view_of node) ≤ most_of (view_of node) → StaysWhole (views nodes) (views whole) id
+    stays-there room = record { node = view_of node; here = here-there; room = room; same = ap (λ n. views n) (insert-same nodes id node (sym at)) }
+
+-- the right part of the cut node was placed
+pub cuts-node : {K V : Type 0} (whole new : NodeMap (K × V)) (id : ℕ) (spare rest : List ℕ) (v : View (K × V)) → whole id ≡ Some v → IsOverflowing v
+    → (parent : Option ℕ) → parent ≡ parent_of v → (kept : ℕ) (median : K × V) (right : ℕ) → spare ≡ rest ++ right ∷ [] → Splits whole new id right median
+    → HasCount new id kept → CutsNode whole new id spare rest parent kept median right
+cuts-node whole new id spare rest v here over parent is kept median right last splits leaves = record {
+  named = ap (option_map parent_of) here ∙ ap Some (sym is);
+  last = last;
+  splits = splits;
+  over = let q : Some v ≡ Some splits.node = sym here ∙ splits.here in
+      let e : v ≡ splits.node = cc in subst (λ v. IsOverflowing v) e over;
+  leaves = leaves;
+}

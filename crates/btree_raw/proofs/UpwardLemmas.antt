@@ -1,5 +1,5 @@
 -- A split upward, from the node where it began to the node that it has reached.
-use Rattle.std.proofs.Common.{◌≡◌, ◌≢◌, ◌↔◌, ◌⊎◌, true, false, IsTrue, ℕ, suc, ◌+◌, ◌<◌, ◌≤◌, ◌^◌, ◌-◌, inl, inr, List, [], ◌∷◌, ◌++◌, All, Option, Some, None, IfSome, IsSome, length, option_map, slice_get, refl, sym, ap, subst, ◌∙◌, arith}
+use Rattle.std.proofs.Common.{◌≡◌, ◌≢◌, ◌↔◌, ◌⊎◌, true, false, IsTrue, ℕ, suc, ◌+◌, ◌<◌, ◌≤◌, ◌^◌, ◌-◌, inl, inr, List, [], ◌∷◌, ◌++◌, All, Option, Some, None, IfSome, IsSome, is_some, if◌then◌else◌, length, length-append, option_map, slice_get, refl, sym, ap, subst, ◌∙◌, arith}
 use Rattle.std.proofs.lemmas.List.{nil_from_length}
 use Rattle.btree_item.specs.declared.address.Address.{Address}
 use Rattle.btree_view.specs.Edits.{IsOverflowing, with_item, with_parent}
@@ -19,7 +19,7 @@ use Rattle.btree_shape.proofs.Paths.Frames.{one-self}
 use Rattle.btree_shape.proofs.Splits.Upward.{UpTo, child-apart, child-used, overflow-done, overflow-node, overflow-spare, overflow-used, new-root, root-spare, spare-apart, spare-used, to-parent}
 use Rattle.btree_shape.proofs.Trees.Numbers.{less-or, none-listed, same-or, times-has, used-low, used-mapped, used-one, zero-or}
 use Rattle.btree_shape.proofs.Trees.Sizes.{view-most, view-size}
-use Rattle.btree_raw.specs.Steps.{AreSplit, CanAddSeparator, CanGrowRoot, CanSplitInto, Cut, CutsNode, IsSplitting, HasCount, AddsSeparator, MayCut}
+use Rattle.btree_raw.specs.Steps.{AddsSeparator, AreSplit, CanAddSeparator, CanCut, CanGrowRoot, CanSplitInto, Cut, HasCount, IsSplitting, MayCut, Overflows}
 use Rattle.btree_raw.proofs.SeparatorLemmas.{one-more}
 use Rattle.btree_raw.proofs.OffsetLemmas.{overflow-low}
 
@@ -274,17 +274,92 @@ not-over v e = elim (nat-or (size_of v) (most_of v)) [ inl low ↦ low | inr ove
     nat-or : (m n : ℕ) → (m ≤ n) ⊎ (n < m)
     nat-or m n = elim (less-or m n) [ inl low ↦ inl (omega arith) | inr other ↦ elim other [ inl same ↦ inl (omega arith) | inr more ↦ inr more ] ]
 
+-- a node that the splits have reached can be cut, if it has an item too many
+pub can-cut : (A : Type 0) (old now : NodeMap A) (root : Option ℕ) (start id : ℕ) (spare rest : List ℕ) (a b : Address) → IsSplitting old root start spare a
+    → SplitUpTo A old now root start id spare rest a b → Overflows now id → CanCut now id rest
+can-cut A old now root start id spare rest a b s c over = record {
+  some = upward-left A old now root start id spare rest a b s c over.node over.here over.over;
+  into = upward-split A old now root start id spare rest a b s c over.node over.here over.over;
+  low = upward-number-right A old now root start id spare rest a b s c over.node over.here over.over;
+}
+
+-- a cut uses one claimed number
+pub cut-length : {K V : Type 0} (node_at new : NodeMap (K × V)) (id : ℕ) (spare rest : List ℕ) (cut : Cut K V) → MayCut node_at new id spare rest cut
+    → length rest + (if is_some cut then 1 else 0) ≤ length spare
+cut-length node_at new id spare rest (Some cut) may =
+    let n = ap length may.last in let m = length-append rest (cut.3 ∷ []) in omega arith
+cut-length node_at new id spare rest None may = let n = ap length may.1 in omega arith
+
 -- the state of the splits at a node that was cut, if it had an item too many
-module _ {K V : Type 0} (old tree : NodeMap (K × V)) (root : Option ℕ) (start id : ℕ) (spare rest : List ℕ) (a b : Address) (cut : Cut K V) where
+module _ {K V : Type 0} (old now : NodeMap (K × V)) (root : Option ℕ) (start id : ℕ) (spare rest : List ℕ) (a b : Address) (cut : Cut K V) where
   -- the splits have reached a node, which then was cut
   pub record ReachesCut : Type 0 where
     pub whole : NodeMap (K × V)
-    pub up_to : SplitUpTo (K × V) old whole root start id spare rest a b
-    pub cuts : MayCut whole tree id cut
+    pub before : List ℕ
+    pub up_to : SplitUpTo (K × V) old whole root start id spare before a b
+    pub cuts : MayCut whole now id before rest cut
 
-module _ {K V : Type 0} (node_at new : NodeMap (K × V)) (id : ℕ) where
-  -- the parent of the node that was cut
-  pub parent-cut : (parent : Option ℕ) (count : ℕ) (median : K × V) (right : View (K × V)) (cut : CutsNode node_at new id parent count median right)
-      → parent_of cut.over.node ≡ parent
-  parent-cut parent count median right cut =
-      let q : Some (parent_of cut.over.node) ≡ Some parent = sym (ap (option_map parent_of) cut.over.here) ∙ cut.named in cc
+-- the splits go on from a node that was cut
+module _ {K V : Type 0} (old now : NodeMap (K × V)) (root : Option ℕ) (start id : ℕ) (spare rest : List ℕ) (a b : Address) (s : IsSplitting old root start spare a)
+    (parent : Option ℕ) (kept : ℕ) (median : K × V) (right : ℕ) (r : ReachesCut old now root start id spare rest a b (Some (parent, kept, median, right))) where
+  named : parent_of r.cuts.splits.node ≡ parent
+  named = let q : Some (parent_of r.cuts.splits.node) ≡ Some parent = sym (ap (option_map parent_of) r.cuts.splits.here) ∙ r.cuts.named in cc
+
+  pub reached-offset : IfSome b.offset (λ n. n + 1 < 2 ^ 64 - 1)
+  reached-offset = upward-offset (K × V) old r.whole root start id spare r.before a b s r.up_to
+
+  -- below another node
+  module _ (above : ℕ) (is : parent ≡ Some above) where
+    pub reached-separator : CanAddSeparator now above id
+    reached-separator =
+        upward-insert_separator (K × V) old r.whole root start id spare r.before a b s r.up_to r.cuts.splits.node r.cuts.splits.here r.cuts.over rest right
+        r.cuts.last now median kept r.cuts.splits r.cuts.leaves above (named ∙ is)
+
+    pub reached-next : (new : NodeMap (K × V)) (k : ℕ) → AddsSeparator now new above id right k median
+        → SplitUpTo (K × V) old new root start above spare rest a (moved_by_split id right above k kept b)
+    reached-next =
+        upward-next (K × V) old r.whole root start id spare r.before a b s r.up_to r.cuts.splits.node r.cuts.splits.here r.cuts.over rest right
+        r.cuts.last now median kept r.cuts.splits r.cuts.leaves above (named ∙ is)
+
+    pub reached-cut : (new : NodeMap (K × V)) (k : ℕ) → AddsSeparator now new above id right k median → Overflows new above → CanCut new above rest
+    reached-cut new k adds over =
+        can-cut (K × V) old new root start above spare rest a (moved_by_split id right above k kept b) s (reached-next new k adds) over
+
+  -- at the root
+  module _ (is : parent ≡ None) where
+    pub reached-root-left : 0 < length rest
+    reached-root-left =
+        upward-left-root (K × V) old r.whole root start id spare r.before a b s r.up_to r.cuts.splits.node r.cuts.splits.here r.cuts.over rest right
+        r.cuts.last now median kept r.cuts.splits r.cuts.leaves (named ∙ is)
+
+    module _ (more : List ℕ) (top : ℕ) (last : rest ≡ more ++ top ∷ []) where
+      pub reached-none-left : more ≡ []
+      reached-none-left =
+          upward-none-left-root (K × V) old r.whole root start id spare r.before a b s r.up_to r.cuts.splits.node r.cuts.splits.here r.cuts.over rest right
+          r.cuts.last now median kept r.cuts.splits r.cuts.leaves (named ∙ is) more top last
+
+      pub reached-number : top < 2 ^ 64 - 1
+      reached-number =
+          upward-number (K × V) old r.whole root start id spare r.before a b s r.up_to r.cuts.splits.node r.cuts.splits.here r.cuts.over rest right
+          r.cuts.last now median kept r.cuts.splits r.cuts.leaves (named ∙ is) more top last
+
+      pub reached-grow_root : CanGrowRoot now id right top
+      reached-grow_root =
+          upward-grow_root (K × V) old r.whole root start id spare r.before a b s r.up_to r.cuts.splits.node r.cuts.splits.here r.cuts.over rest right
+          r.cuts.last now median kept r.cuts.splits r.cuts.leaves (named ∙ is) more top last
+
+      module _ (new : NodeMap (K × V)) (grows : GrowsRoot now new id right top median) where
+        pub reached-used : (n : ℕ) → times_used (new n) ≡ times_used (old n)
+        reached-used =
+            upward-used-end (K × V) old r.whole root start id spare r.before a b s r.up_to r.cuts.splits.node r.cuts.splits.here r.cuts.over rest right
+            r.cuts.last now median kept r.cuts.splits r.cuts.leaves (named ∙ is) more top last new grows
+
+        pub reached-root : AreSplit old new root (Some top) start spare a (moved_by_split id right top 0 kept b)
+        reached-root =
+            upward-root (K × V) old r.whole root start id spare r.before a b s r.up_to r.cuts.splits.node r.cuts.splits.here r.cuts.over rest right
+            r.cuts.last now median kept r.cuts.splits r.cuts.leaves (named ∙ is) more top last new grows
+
+        pub reached-back : IsSome a.offset → IsSome (moved_by_split id right top 0 kept b).offset
+        reached-back =
+            upward-back-end (K × V) old r.whole root start id spare r.before a b s r.up_to r.cuts.splits.node r.cuts.splits.here r.cuts.over rest right
+            r.cuts.last now median kept r.cuts.splits r.cuts.leaves (named ∙ is) more top last new grows

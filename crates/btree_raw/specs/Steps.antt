@@ -6,18 +6,16 @@
 -- `split_upward` requires `IsSplitting` and ensures `SplitsUpward`, so what held of the tree and of the followed
 -- address at the start (`MayOverflowAt`) holds at the end (`IsRepaired`). `IsCountingSplits` is what `split_need`
 -- requires, and the state of its loop. The words of `Rebalance.antt` cite `Overflows` too.
-use Rattle.std.specs.Prelude.{◌≡◌, ◌≢◌, ℕ, ◌+◌, ◌<◌, ◌≤◌, List, length, slice_get, Option, Some, None, option_map, IsTrue, Bool, nat_lt}
+use Rattle.std.specs.Prelude.{◌≡◌, ◌≢◌, ℕ, ◌+◌, ◌-◌, ◌^◌, ◌<◌, ◌≤◌, List, [], ◌∷◌, ◌++◌, All, length, slice_get, Option, Some, None, option_map, IsTrue, Bool, nat_lt}
 use Rattle.btree_item.specs.declared.TheConstants.{MAX_CLAIMS}
 use Rattle.btree_item.specs.declared.address.Address.{Address}
-use Rattle.btree_node.specs.declared.node.Node.{Node}
-use Rattle.btree_node.specs.Node.{view_of}
 use Rattle.btree_view.specs.View.{View, NodeMap, size_of, most_of, children_in, children_of, parent_of}
 use Rattle.btree_view.specs.Edits.{with_parent, with_item, is_internal, HasChildFor, IsOverflowing, IsSplit}
 use Rattle.btree_shape.specs.Focus.Overflow.{MayOverflowAt, IsRepaired}
 use Rattle.btree_shape.specs.Focus.Need.{IsCountingUpward}
 use Rattle.btree_shape.specs.Need.{split_need}
 use Rattle.btree_shape.specs.Lists.{times_listed}
-use Rattle.btree_shape.specs.Step.{Becomes, WritesNode}
+use Rattle.btree_shape.specs.Step.{Becomes, Splits, WritesNode}
 use Rattle.btree_shape.specs.TreeState.{TreeState, Changes, node_map}
 use Rattle.btree_shape.specs.WellFormed.{times_used}
 
@@ -78,6 +76,12 @@ module _ {A : Type 0} (node_at : NodeMap A) where
     pub children : (n : ℕ) → 0 < times_listed n (children_in (node_at id)) → 0 < times_used (node_at n)
     pub children_apart : (times_listed id (children_in (node_at id)) ≡ 0) × (times_listed right (children_in (node_at id)) ≡ 0)
 
+  -- there are claimed numbers, and the last one is that of a node that can take the right part of node `id`
+  pub record CanCut (id : ℕ) (spare : List ℕ) : Type 0 where
+    pub some : 0 < length spare
+    pub into : (rest : List ℕ) (right : ℕ) → spare ≡ rest ++ right ∷ [] → CanSplitInto id right
+    pub low : (rest : List ℕ) (right : ℕ) → spare ≡ rest ++ right ∷ [] → right < 2 ^ 64 - 1
+
   -- three different nodes that are there
   pub record CanGrowRoot (left right root : ℕ) : Type 0 where
     pub left_used : 0 < times_used (node_at left)
@@ -129,6 +133,15 @@ module _ {A : Type 0} (node_at : NodeMap A) where
     pub repaired : (old_top : ℕ) (xs : List A) (expected : Option A) (place allocated bound : ℕ) → root ≡ Some old_top
         → MayOverflowAt A node_at old_top xs id spare expected a place allocated bound → IsRepaired A new top xs expected b place (allocated + length spare) bound
 
+-- a node of `whole` was cut, and its right part is yet to be placed, at the last of the claimed numbers
+pub record LeavesPart {A : Type 0} (now : NodeMap A) (right : View A) (spare : List ℕ) : Type 0 where
+  pub whole : NodeMap A
+  pub id : ℕ
+  pub kept : ℕ
+  pub median : A
+  pub half : CutsAtMedian whole now id kept median right
+  pub can : CanCut whole id spare
+
 -- the same for the whole tree: nothing but its nodes and its root has changed, and the same numbers are used
 pub record SplitsUpward {K V : Type 0} (old new : TreeState K V) (id : ℕ) (spare : List ℕ) (a b : Address) : Type 0 where
   pub split : AreSplit (node_map old) (node_map new) old.root new.root id spare a b
@@ -136,30 +149,44 @@ pub record SplitsUpward {K V : Type 0} (old new : TreeState K V) (id : ℕ) (spa
   pub len : new.len ≡ old.len
   pub uncounted : new.refusals ≡ old.refusals
 
--- what a node was cut into, if it was, besides its left part: its parent, how many items are left, the median, and the
--- right part
+-- what is left of the cut of a node, if it was cut: its parent, how many items it kept, the median, and the node that has
+-- its right part
 abbrev pub Cut : (K V : Type 0) → Type 0
-Cut K V = Option (Option ℕ × ℕ × (K × V) × Node K V)
+Cut K V = Option (Option ℕ × ℕ × (K × V) × ℕ)
 
 module _ {K V : Type 0} where
-  module _ (node_at new : NodeMap (K × V)) (id : ℕ) where
-    -- node `id` had an item too many and named this parent, and was cut at the median
-    pub record CutsNode (parent : Option ℕ) (left_count : ℕ) (median : K × V) (right : View (K × V)) : Type 0 where
-      pub over : Overflows node_at id
+  module _ (node_at new : NodeMap (K × V)) (id : ℕ) (spare rest : List ℕ) where
+    -- node `id` had an item too many and named this parent, and was split at the median; its right part went to the last
+    -- of the claimed numbers
+    pub record CutsNode (parent : Option ℕ) (kept : ℕ) (median : K × V) (right : ℕ) : Type 0 where
       pub named : HasParent node_at id parent
-      pub cuts : CutsAtMedian node_at new id left_count median right
+      pub last : spare ≡ rest ++ right ∷ []
+      pub splits : Splits node_at new id right median
+      pub over : IsOverflowing splits.node
+      pub leaves : HasCount new id kept
 
-    -- node `id` was cut if it had an item too many
+    -- node `id` was cut if it had an item too many; else no claimed number was used
     abbrev pub MayCut : Cut K V → Type 0
-    MayCut (Some cut) = CutsNode cut.0 cut.1 cut.2 (view_of cut.3)
-    MayCut None = StaysWhole node_at new id
+    MayCut (Some cut) = CutsNode cut.0 cut.1 cut.2 cut.3
+    MayCut None = StaysWhole node_at new id × (rest ≡ spare)
+
+  module _ (old : TreeState K V) where
+    -- if node `id` has an item too many once the item is added, it can be cut
+    abbrev pub CanCutWith : (id index : ℕ) (x : K × V) (child : Option ℕ) (spare : List ℕ) → Type 0
+    CanCutWith id index x child spare = (added : TreeState K V) → Changes (λ a b. AddsItem a b id index x child) old added
+        → Overflows (node_map added) id → CanCut (node_map added) id spare
+
+    -- if node `above` has an item too many once the median is added after its child `id`, it can be cut
+    abbrev pub CanCutAbove : (above id right : ℕ) (x : K × V) (spare : List ℕ) → Type 0
+    CanCutAbove above id right x spare = (added : TreeState K V) (index : ℕ) → Changes (λ a b. AddsSeparator a b above id right index x) old added
+        → Overflows (node_map added) above → CanCut (node_map added) above spare
 
   module _ (old new : TreeState K V) (id index : ℕ) (x : K × V) (child : Option ℕ) where
     -- an item was added to node `id`, which gave `added`, and the node was cut if it then had an item too many
-    pub record AddsAndCuts (cut : Cut K V) : Type 0 where
+    pub record AddsAndCuts (spare rest : List ℕ) (cut : Cut K V) : Type 0 where
       pub added : TreeState K V
       pub adds : Changes (λ a b. AddsItem a b id index x child) old added
-      pub cuts : Changes (λ a b. MayCut a b id cut) added new
+      pub cuts : Changes (λ a b. MayCut a b id spare rest cut) added new
 
     -- an item was added to node `id`, which gave `added`, and splits went upward from there
     pub record AddsAndSplits (spare : List ℕ) (a b : Address) : Type 0 where
@@ -169,10 +196,10 @@ module _ {K V : Type 0} where
 
   -- node `above` has the item at the index of its child `id`, and node `right` as the child after it, which gave
   -- `added`, and was cut if it then had an item too many
-  pub record AddsSeparatorAndCuts (old new : TreeState K V) (above id right index : ℕ) (x : K × V) (cut : Cut K V) : Type 0 where
+  pub record AddsSeparatorAndCuts (old new : TreeState K V) (above id right index : ℕ) (x : K × V) (spare rest : List ℕ) (cut : Cut K V) : Type 0 where
     pub added : TreeState K V
     pub adds : Changes (λ a b. AddsSeparator a b above id right index x) old added
-    pub cuts : Changes (λ a b. MayCut a b above cut) added new
+    pub cuts : Changes (λ a b. MayCut a b above spare rest cut) added new
 
   -- splits may go upward once the item is added
   abbrev pub MaySplitWith : (old : TreeState K V) (id index : ℕ) (x : K × V) (child : Option ℕ) (spare : List ℕ) (a : Address) → Type 0
@@ -180,9 +207,10 @@ module _ {K V : Type 0} where
       → IsSplitting (node_map added) added.root id spare a
 
   -- splits may go upward from node `id` of `whole`, which then was cut if it had an item too many
-  pub record IsCutFrom (whole now : TreeState K V) (id : ℕ) (cut : Cut K V) (spare : List ℕ) (a : Address) : Type 0 where
+  pub record IsCutFrom (whole now : TreeState K V) (id : ℕ) (cut : Cut K V) (spare rest : List ℕ) (a : Address) : Type 0 where
     pub splitting : IsSplitting (node_map whole) whole.root id spare a
-    pub cuts : Changes (λ a b. MayCut a b id cut) whole now
+    pub low : All (λ n. n < 2 ^ 64 - 1) spare
+    pub cuts : Changes (λ a b. MayCut a b id spare rest cut) whole now
 
 module _ {A : Type 0} where
   -- what decides how far splits go upward from a node: its parent, and whether it has room for an item

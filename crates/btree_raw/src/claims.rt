@@ -1,5 +1,5 @@
 //! Nodes that are claimed from the store before a change, so that a refusal leaves the tree as it was.
-ghost use Rattle.std.specs.Prelude.{◌≡◌, ◌<◌, ◌≤◌, [], length, None, IfSome, IfNone, IsTrue, false};
+ghost use Rattle.std.specs.Prelude.{◌≡◌, ◌<◌, ◌≤◌, ◌∷◌, ◌++◌, [], length, None, IfSome, IfNone, IsTrue, false};
 ghost use Rattle.std.specs.FinMap as map;
 ghost use Rattle.btree_shape.specs.TreeState.{TreeState};
 ghost use Rattle.btree_raw.specs.Claimed.{AreClaimed, EMPTY, UndoesClaims, MayRefuseOneOf};
@@ -73,4 +73,12 @@ pub fn claim<K: Drop, V: Drop, C: NodesMut<K, V>>(
         }
     }
     true
+}
+
+// Takes the last claimed number.
+pub(crate) fn take_claim(claims: &mut ClaimedIds) -> usize
+    requires { 0 < length claims.old.items }
+    ensures { claims.old.items ≡ claims.new.items ++ result ∷ [] }
+{
+    claims.pop().unwrap()
 }

@@ -1,15 +1,15 @@
 //! Changes of single nodes.
-ghost use Rattle.std.specs.Prelude.{◌≡◌, ◌<◌, ◌≤◌, None, Some, OnOk, IfErr, IfNone, IfSome, OnErr, OnSome};
+ghost use Rattle.std.specs.Prelude.{◌≡◌, ◌<◌, ◌≤◌, ◌∷◌, ◌++◌, [], None, Some, OnOk, IfErr, OnErr};
 ghost use Rattle.std.specs.FinMap as map;
 ghost use Rattle.btree_node.specs.declared.node.Node.{Node};
 ghost use Rattle.btree_node.specs.Node.{view_of};
-ghost use Rattle.btree_view.specs.Edits.{IsOverflowing, IsSplit};
-ghost use Rattle.btree_view.specs.View.{children_in, children_of, most_of, parent_of, size_of};
-ghost use Rattle.btree_shape.specs.Step.{Reparents, WritesNode};
-ghost use Rattle.btree_shape.specs.TreeState.{Changes, IsUsed, node_map, nodes_for_splits};
-ghost use Rattle.btree_raw.specs.Steps.{AddsAndCuts, AddsItem, AddsSeparatorAndCuts, AreThere, CanAddItem, CanAddSeparator, CanReparent, HasParent, MayCut, SetsParent};
+ghost use Rattle.btree_view.specs.View.{children_in, children_of, size_of};
+ghost use Rattle.btree_shape.specs.Step.{Reparents, Splits, WritesNode};
+ghost use Rattle.btree_shape.specs.TreeState.{Changes, IsUsed, KeepsRest, node_map, nodes_for_splits};
+ghost use Rattle.btree_raw.specs.Steps.{AddsAndCuts, AddsItem, AddsSeparatorAndCuts, AreThere, CanAddItem, CanAddSeparator, CanCut, CanCutAbove, CanCutWith, CanReparent, HasCount, HasParent, LeavesPart, MayCut, Overflows, SetsParent};
 ghost use Rattle.btree_raw.specs.Insertion.{IsFull};
 
+use crate::claims::{ClaimedIds, take_claim};
 use crate::raw::RawBTree;
 use btree_item::{INTERNAL_SLOTS, Item, Offset};
 use btree_node::Node;
@@ -94,76 +94,106 @@ pub fn add_item_at_leaf<K: Drop, V: Drop, C: NodesMut<K, V>>(
     Ok(())
 }
 
-// What a node with an item too many is cut into, besides its left part, which stays: its parent, how many items are left, the median, and
-// the right part.
-pub(crate) type Cut<K, V> = (Option<usize>, usize, Item<K, V>, Node<K, V>);
+// What is left of the cut of a node: its parent, how many items it kept, the median, and the number of the node that has its right part.
+pub(crate) type Cut<K, V> = (Option<usize>, usize, Item<K, V>, usize);
 
-// Cuts a node at its median, if it has an item too many.
-fn cut<K: Drop, V: Drop>(node: &mut Node<K, V>) -> Option<Cut<K, V>>
-    ensures over { OnSome result (IsOverflowing (view_of node.old)) }
-    ensures parent { IfSome result (λ cut. cut.0 ≡ parent_of (view_of node.old)) }
-    ensures count { IfSome result (λ cut. cut.1 ≡ size_of (view_of node.new)) }
-    ensures parts { IfSome result (λ cut.
-        IsSplit (view_of node.old) cut.2 (view_of node.new) (view_of cut.3)) }
-    ensures room { IfNone result (size_of (view_of node.old) ≤ most_of (view_of node.old)) }
-    ensures unchanged { IfNone result (node.new ≡ node.old) }
+// Puts the right part of a node that was cut at the last claimed number. Returns that number.
+#[inline(always)]
+fn place_part<K: Drop, V: Drop, C: NodesMut<K, V>>(
+    tree: &mut RawBTree<K, V, C>,
+    part: Node<K, V>,
+    claims: &mut ClaimedIds,
+) -> usize
+    requires left { LeavesPart (node_map tree.old) (view_of part) claims.old.items }
+    ensures last { claims.old.items ≡ claims.new.items ++ result ∷ [] }
+    ensures splits { (left : LeavesPart (node_map tree.old) (view_of part) claims.old.items)
+        → Splits left.whole (node_map tree.new) left.id result left.median }
+    ensures leaves { (left : LeavesPart (node_map tree.old) (view_of part) claims.old.items)
+        → HasCount (node_map tree.new) left.id left.kept }
+    ensures rest { KeepsRest tree.old tree.new }
 {
+    tree.tell_fits();
+    let right = take_claim(claims);
+    adopt(tree, &part, right);
+    put(tree, right, part);
+    right
+}
+
+// Cuts a node of the tree at its median, if it has an item too many. Its right part goes to the last claimed number.
+pub(crate) fn cut_node<K: Drop, V: Drop, C: NodesMut<K, V>>(
+    tree: &mut RawBTree<K, V, C>,
+    id: usize,
+    claims: &mut ClaimedIds,
+) -> Option<Cut<K, V>>
+    requires used { IsUsed tree.old id }
+    requires can { Overflows (node_map tree.old) id → CanCut (node_map tree.old) id claims.old.items }
+    ensures { Changes (λ a b. MayCut a b id claims.old.items claims.new.items result) tree.old tree.new }
+{
+    tree.tell_fits();
+    let node = tree.node_mut(id);
     if !node.is_overflowing() {
         return None;
     }
     let parent = node.parent();
-    let (count, median, right) = node.split();
-    Some((parent, count, median, right))
+    let (kept, median, part) = node.split();
+    Some((parent, kept, median, place_part(tree, part, claims)))
 }
 
-// Cuts a node of the tree at its median, if it has an item too many.
-pub(crate) fn cut_node<K: Drop, V: Drop, C: NodesMut<K, V>>(
-    tree: &mut RawBTree<K, V, C>,
-    id: usize,
-) -> Option<Cut<K, V>>
-    requires { IsUsed tree.old id }
-    ensures { Changes (λ a b. MayCut a b id result) tree.old tree.new }
-{
-    tree.tell_fits();
-    cut(tree.node_mut(id))
-}
-
-// Inserts an item into a node at an index, and a child after it if one is given. Cuts the node at its median, if it has an item too many
-// then. It fetches the node once.
+// Inserts an item into a node at an index, and a child after it if one is given. Then it cuts the node as `cut_node` does. It fetches the
+// node once.
 pub(crate) fn add_and_cut<K: Drop, V: Drop, C: NodesMut<K, V>>(
     tree: &mut RawBTree<K, V, C>,
     id: usize,
     index: usize,
     item: Item<K, V>,
     child: Option<usize>,
+    claims: &mut ClaimedIds,
 ) -> Option<Cut<K, V>>
-    requires { CanAddItem (node_map tree.old) id index child }
-    ensures { AddsAndCuts tree.old tree.new id index item child result }
+    requires can { CanAddItem (node_map tree.old) id index child }
+    requires can_cut { CanCutWith tree.old id index item child claims.old.items }
+    ensures { AddsAndCuts tree.old tree.new id index item child
+        claims.old.items claims.new.items result }
 {
     tree.tell_fits();
     let node = tree.node_mut(id);
     node.insert(Offset::from(index), item, child);
-    cut(node)
+    if !node.is_overflowing() {
+        return None;
+    }
+    let parent = node.parent();
+    let (kept, median, part) = node.split();
+    Some((parent, kept, median, place_part(tree, part, claims)))
 }
 
-// Inserts a median and a new child into a node, after the child `id`. Returns the index of `id`, and what the node is cut into, if it has an
-// item too many then. It fetches the node once.
+// Inserts a median and a new child into a node, after the child `id`. Then it cuts the node as `cut_node` does. Returns the index of `id`,
+// and what is left of the cut. It fetches the node once.
 pub(crate) fn insert_separator<K: Drop, V: Drop, C: NodesMut<K, V>>(
     tree: &mut RawBTree<K, V, C>,
     above: usize,
     id: usize,
     median: Item<K, V>,
     right: usize,
+    claims: &mut ClaimedIds,
 ) -> (usize, Option<Cut<K, V>>)
-    requires { CanAddSeparator (node_map tree.old) above id }
-    ensures adds { AddsSeparatorAndCuts tree.old tree.new above id right result.0 median result.1 }
+    requires can { CanAddSeparator (node_map tree.old) above id }
+    requires can_cut { CanCutAbove tree.old above id right median claims.old.items }
+    ensures adds { AddsSeparatorAndCuts tree.old tree.new above id right result.0 median
+        claims.old.items claims.new.items result.1 }
     ensures few { result.0 ≤ INTERNAL_SLOTS }
 {
     tree.tell_fits();
     let node = tree.node_mut(above);
     let index = node.child_index(id).unwrap();
     node.insert(Offset::from(index), median, Some(right));
-    (index, cut(node))
+    if !node.is_overflowing() {
+        return (index, None);
+    }
+    let parent = node.parent();
+    let (kept, middle, part) = node.split();
+    (
+        index,
+        Some((parent, kept, middle, place_part(tree, part, claims))),
+    )
 }
 
 // Sets the parent of all children of a node that is not in the tree.

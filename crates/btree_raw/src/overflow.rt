@@ -1,11 +1,11 @@
 //! Splits, from a node upward.
-ghost use Rattle.std.specs.Prelude.{◌≡◌, ◌<◌, ◌∷◌, ◌++◌, [], All, IsSome, length};
+ghost use Rattle.std.specs.Prelude.{◌≡◌, ◌<◌, [], ℕ, All, IsSome, List};
 ghost use Rattle.btree_shape.specs.Step.{GrowsRoot};
 ghost use Rattle.btree_shape.specs.TreeState.{Changes, TreeState, node_map};
 ghost use Rattle.btree_raw.specs.Steps.{AddsAndSplits, CanAddItem, CanGrowRoot, IsCutFrom, IsSplitting, MaySplitWith, SplitsUpward};
 
-use crate::claims::ClaimedIds;
-use crate::nodes::{Cut, add_and_cut, adopt, cut_node, insert_separator, put, set_parent};
+use crate::claims::{ClaimedIds, take_claim};
+use crate::nodes::{Cut, add_and_cut, cut_node, insert_separator, put, set_parent};
 use crate::raw::RawBTree;
 use btree_item::{Address, Item};
 use btree_moved::moved_by_split;
@@ -30,15 +30,8 @@ fn grow_root<K: Drop, V: Drop, C: NodesMut<K, V>>(
     set_parent(tree, right, root);
 }
 
-fn take_claim(claims: &mut ClaimedIds) -> usize
-    requires { 0 < length claims.old.items }
-    ensures { claims.old.items ≡ claims.new.items ++ result ∷ [] }
-{
-    claims.pop().unwrap()
-}
-
-// Goes on with splits upward at a node that was just cut, if it had an item too many. Its right part goes to a claimed node; its parent gets
-// the median, and is cut in the same fetch if it has an item too many then, and so on.
+// Goes on with splits upward at a node that was just cut, if it had an item too many: its parent gets the median, and is cut in the same
+// fetch if it has an item too many then, and so on.
 fn split_from<K: Drop, V: Drop, C: NodesMut<K, V>>(
     tree: &mut RawBTree<K, V, C>,
     start: usize,
@@ -46,10 +39,11 @@ fn split_from<K: Drop, V: Drop, C: NodesMut<K, V>>(
     addr: Address,
     claims: &mut ClaimedIds,
 ) -> Address
-    requires begun { (whole : TreeState K V) × IsCutFrom whole tree.old start cut claims.old.items addr }
-    requires numbers { All (λ id. id < usize.MAX) claims.old.items }
-    ensures split { (whole : TreeState K V) → IsCutFrom whole tree.old start cut claims.old.items addr
-        → SplitsUpward whole tree.new start claims.old.items addr result }
+    requires begun { (whole : TreeState K V) × (spare : List ℕ)
+        × IsCutFrom whole tree.old start cut spare claims.old.items addr }
+    ensures split { (whole : TreeState K V) (spare : List ℕ)
+        → IsCutFrom whole tree.old start cut spare claims.old.items addr
+        → SplitsUpward whole tree.new start spare addr result }
     ensures none_left { claims.new.items ≡ [] }
     ensures back { IsSome addr.offset → IsSome result.offset }
 {
@@ -57,17 +51,14 @@ fn split_from<K: Drop, V: Drop, C: NodesMut<K, V>>(
     let mut id = start;
     let mut at = addr;
     let mut next = cut;
-    while let Some((parent, kept, median, part)) = next {
-        let right = take_claim(claims);
-        adopt(tree, &part, right);
-        put(tree, right, part);
+    while let Some((parent, kept, median, right)) = next {
         let Some(above) = parent else {
             let root = take_claim(claims);
             grow_root(tree, id, median, right, root);
             tree.set_root_id(Some(root));
             return moved_by_split(at, id, right, root, 0, kept);
         };
-        let (index, up) = insert_separator(tree, above, id, median, right);
+        let (index, up) = insert_separator(tree, above, id, median, right, claims);
         at = moved_by_split(at, id, right, above, index, kept);
         id = above;
         next = up;
@@ -90,7 +81,7 @@ pub fn split_upward<K: Drop, V: Drop, C: NodesMut<K, V>>(
     ensures back { IsSome addr.offset → IsSome result.offset }
 {
     tree.tell_fits();
-    let cut = cut_node(tree, start);
+    let cut = cut_node(tree, start, claims);
     split_from(tree, start, cut, addr, claims)
 }
 
@@ -113,6 +104,6 @@ pub fn add_and_split<K: Drop, V: Drop, C: NodesMut<K, V>>(
     ensures back { IsSome addr.offset → IsSome result.offset }
 {
     tree.tell_fits();
-    let cut = add_and_cut(tree, id, index, item, child);
+    let cut = add_and_cut(tree, id, index, item, child, claims);
     split_from(tree, id, cut, addr, claims)
 }

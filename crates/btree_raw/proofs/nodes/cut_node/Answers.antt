@@ -1,14 +1,47 @@
 use Rattle.std.proofs.Common.{refl}
-use Rattle.btree_raw.proofs.CutLemmas.{cut-there}
+use Rattle.btree_node.specs.Node.{view_of}
+use Rattle.btree_shape.specs.TreeState.{node_map}
+use Rattle.btree_raw.proofs.CutLemmas.{cuts-node, here-there, over-there, part-there, stays-there}
+use Rattle.btree_raw.proofs.StateLemmas.{then}
+use Rattle.btree_raw.proofs.UpwardLemmas.{is-over, not-over}
 use Rattle.btree_raw.proofs.nodes.cut_node.Goals as goal
 
-pub node_mut-requires : goal.node_mut-requires
-node_mut-requires g c = (c.tell_fits.ensures, c.requires)
+pub node_mut-node-requires : goal.node_mut-node-requires
+node_mut-node-requires g c = (c.tell_fits.ensures, c.requires.used)
 
-pub returns : goal.returns
-returns g c = record {
-  nodes =
-      cut-there c.args.tree.now.nodes c.args.id c.node_mut.result.now c.cut.new.node c.node_mut.ensures.value c.cut.result
-      c.cut.ensures.over c.cut.ensures.parent c.cut.ensures.count c.cut.ensures.parts c.cut.ensures.room c.cut.ensures.unchanged;
+pub returns-then-not-is_overflowing : goal.returns-then-not-is_overflowing
+returns-then-not-is_overflowing g c = record {
+  nodes = (
+    stays-there c.args.tree.now.nodes c.args.id c.node_mut-node.result.now c.node_mut-node.ensures.value
+        (not-over (view_of c.node_mut-node.result.now) c.if-not-is_overflowing.ensures),
+    refl,
+  );
   rest = record { rest = refl };
 }
+
+pub split-kept-requires : goal.split-kept-requires
+split-kept-requires g c = (c.tell_fits.ensures, is-over (view_of c.node_mut-node.result.now) c.if-not-is_overflowing.ensures)
+
+pub place_part-requires : goal.place_part-requires
+place_part-requires g c = (
+  c.tell_fits.ensures,
+  part-there c.args.tree.now.nodes c.args.id c.node_mut-node.result.now c.node_mut-node.ensures.value c.split-kept.new.self c.split-kept.result.0
+      c.split-kept.result.1 c.split-kept.result.2 c.split-kept.ensures.left c.split-kept.ensures.parts c.args.claims.now.items
+      (c.requires.can (over-there c.args.tree.now.nodes c.args.id c.node_mut-node.result.now c.node_mut-node.ensures.value (is-over (view_of c.node_mut-node.result.now) c.if-not-is_overflowing.ensures))),
+)
+
+pub returns : goal.returns
+returns g c =
+    let over = is-over (view_of c.node_mut-node.result.now) c.if-not-is_overflowing.ensures in
+    let left =
+    part-there c.args.tree.now.nodes c.args.id c.node_mut-node.result.now c.node_mut-node.ensures.value c.split-kept.new.self c.split-kept.result.0
+    c.split-kept.result.1 c.split-kept.result.2 c.split-kept.ensures.left c.split-kept.ensures.parts c.args.claims.now.items
+    (c.requires.can (over-there c.args.tree.now.nodes c.args.id c.node_mut-node.result.now c.node_mut-node.ensures.value over)) in
+    record {
+      nodes =
+          cuts-node (node_map c.args.tree.now) (node_map c.place_part.new.tree) c.args.id c.args.claims.now.items c.place_part.new.claims.items
+          (view_of c.node_mut-node.result.now) (here-there c.args.tree.now.nodes c.args.id c.node_mut-node.result.now c.node_mut-node.ensures.value) over
+          c.parent-parent.result c.parent-parent.ensures.value c.split-kept.result.0 c.split-kept.result.1 c.place_part.result c.place_part.ensures.last
+          (c.place_part.ensures.splits left) (c.place_part.ensures.leaves left);
+      rest = then (record { rest = refl }) c.place_part.ensures.rest;
+    }
