@@ -5,6 +5,7 @@ use Rattle.std.specs.FinMap as finite
 use Rattle.std.specs.List.{insert, remove}
 use Rattle.std.specs.declared.cmp.Ordering.{Ordering}
 use Rattle.btree_store.specs.ContentLaws.{remove-insert}
+use Rattle.btree_item.proofs.PairLemmas.{found-from_Err}
 use Rattle.btree_item.proofs.PairEdits.{before-from_KeyFits, found-from_KeyFits}
 use Rattle.btree_item.specs.Pairs.{before, found, found_value}
 use Rattle.btree_item.specs.declared.address.Address.{Address}
@@ -13,7 +14,7 @@ use Rattle.btree_shape.proofs.Trees.Stores.{used-view}
 use Rattle.btree_raw.specs.Claimed.{EMPTY}
 use Rattle.btree_raw.specs.Raw.{with_node}
 use Rattle.btree_find.specs.Answers.{IsAddressIn, IsAddressOf, IsFoundAt, IsGapAt, IsGapIn}
-use Rattle.btree_find.specs.Fits.{FitsIn}
+use Rattle.btree_find.specs.Fits.{FitsIn, pairs_below}
 use Rattle.btree_find.proofs.SearchLemmas.{gap-at}
 use Rattle.btree_edit.specs.Insert.{IsGapFor}
 use Rattle.btree_edit.specs.Remove.{IsRemoved, RemovesByKey}
@@ -157,6 +158,13 @@ module _ {K V : Type 0} (cmp : K → K → Ordering) (laws : IsTotalOrder cmp) (
   pub address-under : (r : Result Address Address) → IsAddressIn cmp k s id r → IsAddressOf cmp k s r
   address-under (Ok a) f = f.found
   address-under (Err a) g = gap-under a g
+
+  -- so what a node has at the key is what the tree has at it
+  pub found-under : (r : Result Address Address) → IsAddressIn cmp k s id r → found cmp k (pairs_below s id) ≡ found cmp k (pairs_of s)
+  found-under (Ok a) f = f.pair ∙ f.found.item
+  found-under (Err a) g =
+      let f = g.fits fits in
+      found-from_Err cmp k (pairs_below s id) g.index g.is ∙ sym (found-from_KeyFits cmp laws k f.place (pairs_of s) tree.ascends f.fits)
 
 -- the gap of a tree that is not empty is in a node
 pub gap-used : {K V : Type 0} (cmp : K → K → Ordering) (k : K) (s : TreeState K V) (a : Address) → s.root ≢ None → IsGapFor cmp k s a → IsUsed s a.id

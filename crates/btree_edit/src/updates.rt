@@ -4,7 +4,7 @@ ghost use Rattle.btree_item.specs.Pairs.{found, found_value};
 ghost use Rattle.btree_shape.specs.TreeState.{IsBTree, IsUsed, pairs_of};
 ghost use Rattle.btree_raw.specs.Insertion.{IsRefused};
 ghost use Rattle.btree_find.specs.Answers.{IsAddressOf};
-ghost use Rattle.btree_find.specs.Fits.{FitsIn};
+ghost use Rattle.btree_find.specs.Fits.{FitsIn, pairs_below};
 ghost use Rattle.btree_edit.specs.Insert.{IsGapFor, IsRefusedAtGap};
 ghost use Rattle.btree_edit.specs.Update.{RunsAtGap, RunsByKey};
 
@@ -203,6 +203,7 @@ where
     requires fits { FitsIn K.cmp key tree.old id }
     requires callable { F.pre action (found_value K.cmp key (pairs_of tree.old)) }
     ensures tree { IsBTree K.cmp tree.new }
+    ensures under { found K.cmp key (pairs_below tree.old id) ≡ found K.cmp key (pairs_of tree.old) }
     ensures updated { IfOk result (λ t. RunsByKey K.cmp tree.old tree.new (F.post action) key t) }
     ensures uncounted { OnOk result (tree.new.refusals ≡ tree.old.refusals) }
 

@@ -161,6 +161,8 @@ pub trait BTreeExtMut<K: Ord + Drop, V: Drop>: BTreeExt<K, V> {
         requires callable { F.pre action (found_value K.cmp key (pairs_of (Self.state self.old))) }
         ensures updated { IfOk result (λ t.
             RunsByKey K.cmp (Self.state self.old) (Self.state self.new) (F.post action) key t) }
+        ensures under { found K.cmp key (pairs_below (Self.state self.old) id) ≡
+            found K.cmp key (pairs_of (Self.state self.old)) }
         ensures uncounted { OnOk result
             ((Self.state self.new).refusals ≡ (Self.state self.old).refusals) }
 

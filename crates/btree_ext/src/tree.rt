@@ -254,7 +254,7 @@ impl<K: Ord, V, C: NodesMut<K, V>> BTreeExt<K, V> for Tree<K, V, C> {
 impl<K: Ord + Drop, V: Drop, C: NodesMut<K, V>> BTreeExtMut<K, V> for Tree<K, V, C> {
     ghost use Rattle.btree_item.specs.Pairs.{found, found_value};
     ghost use Rattle.btree_shape.specs.TreeState.{IsLeafAddressIn, IsUsed, IsValidIn, pairs_of};
-    ghost use Rattle.btree_find.specs.Fits.{FitsAt, FitsIn};
+    ghost use Rattle.btree_find.specs.Fits.{FitsAt, FitsIn, pairs_below};
     ghost use Rattle.btree_edit.specs.Insert.{IsRefusedAtGap};
     ghost use Rattle.btree_edit.specs.InsertAt.{InsertsAt, IsRefusedAt};
     ghost use Rattle.btree_edit.specs.Update.{RunsByKey};
@@ -325,6 +325,7 @@ impl<K: Ord + Drop, V: Drop, C: NodesMut<K, V>> BTreeExtMut<K, V> for Tree<K, V,
         requires fits { FitsIn K.cmp key self.old id }
         requires callable { F.pre action (found_value K.cmp key (pairs_of self.old)) }
         ensures updated { IfOk result (λ t. RunsByKey K.cmp self.old self.new (F.post action) key t) }
+        ensures under { found K.cmp key (pairs_below self.old id) ≡ found K.cmp key (pairs_of self.old) }
         ensures uncounted { OnOk result (self.new.refusals ≡ self.old.refusals) }
 
         ensures returned { IfErr result (λ r. (r.key ≡ key) × (r.action ≡ action)) }
