@@ -234,6 +234,7 @@ impl<K: Ord + Clone, V: Clone, C: CloneNodes<K, V>> Tree<K, V, C> {
         requires values { (x copy : V) → V.is_clone x copy → copy ≡ x }
         ensures pairs { IfOk result (λ copy. pairs_of copy ≡ pairs_of self.now) }
         ensures state { IfOk result (λ copy. copy ≡ record self.now { refusals = 0 }) }
+        ensures may_fail { OnErr result (C.MayFail self.now.nodes) }
     {
         Ok(Tree {
             raw: self.raw.clone()?,

@@ -1,5 +1,5 @@
 //! Clones of maps.
-ghost use Rattle.std.specs.Prelude.{◌≡◌, IfOk};
+ghost use Rattle.std.specs.Prelude.{◌≡◌, IfOk, OnErr};
 ghost use Rattle.btree_shape.specs.TreeState.{pairs_of};
 
 use crate::BTreeMap;
@@ -16,6 +16,7 @@ impl<K: Ord + Clone, V: Clone, C: CloneNodes<K, V>> BTreeMap<K, V, C> {
         requires values { (x copy : V) → V.is_clone x copy → copy ≡ x }
         ensures pairs { IfOk result (λ copy. pairs_of copy ≡ pairs_of self.now) }
         ensures state { IfOk result (λ copy. copy ≡ record self.now { refusals = 0 }) }
+        ensures may_fail { OnErr result (C.MayFail self.now.nodes) }
     {
         Ok(BTreeMap {
             tree: self.tree.clone()?,

@@ -114,6 +114,9 @@ pub trait ClearNodes<K, V>: NodesMut<K, V> {
 
 /// A store of nodes that can be cloned, with the contracts of [`SlabClone`].
 pub trait CloneNodes<K: Clone, V: Clone>: NodesMut<K, V> {
+    /// The contents that it may fail to clone. It clones every other one.
+    ghost MayFail: { Content (Node K V) → Type 0 };
+
     /// Returns a store with a clone of each node under the same number, which has refused no node yet.
     ///
     /// The contract requires that a clone of a key or a value is equal to it.
@@ -121,7 +124,8 @@ pub trait CloneNodes<K: Clone, V: Clone>: NodesMut<K, V> {
         requires keys { (x copy : K) → K.is_clone x copy → copy ≡ x }
         requires values { (x copy : V) → V.is_clone x copy → copy ≡ x }
         ensures content { IfOk result (λ copy. Self.content copy ≡ Self.content self.now) }
-        ensures refusals { IfOk result (λ copy. Self.refusals copy ≡ 0) };
+        ensures refusals { IfOk result (λ copy. Self.refusals copy ≡ 0) }
+        ensures may_fail { OnErr result (MayFail (Self.content self.now)) };
 }
 
 impl<K, V, C: Slab<Node<K, V>>> Nodes<K, V> for C {
@@ -197,7 +201,16 @@ impl<K, V, C: Clear<Node<K, V>>> ClearNodes<K, V> for C {
 }
 
 impl<K: Clone, V: Clone, C: SlabClone<Node<K, V>>> CloneNodes<K, V> for C {
-    fn try_clone(&self) -> Result<C, AllocError> {
+    ghost MayFail = { C.SlabClone.MayFail };
+
+    // The clauses are those of the trait, in the names that the store's own bound gives to its members.
+    fn try_clone(&self) -> Result<C, AllocError>
+        requires keys { (x copy : K) → K.is_clone x copy → copy ≡ x }
+        requires values { (x copy : V) → V.is_clone x copy → copy ≡ x }
+        ensures content { IfOk result (λ copy. C.content copy ≡ C.content self.now) }
+        ensures refusals { IfOk result (λ copy. C.refusals copy ≡ 0) }
+        ensures may_fail { OnErr result (C.SlabClone.MayFail (C.content self.now)) }
+    {
         SlabClone::try_clone(self)
     }
 }

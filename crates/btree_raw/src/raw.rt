@@ -285,7 +285,8 @@ impl<K: Clone, V: Clone, C: CloneNodes<K, V>> RawBTree<K, V, C> {
     pub fn clone(&self) -> Result<Self, AllocError>
         requires keys { (x copy : K) → K.is_clone x copy → copy ≡ x }
         requires values { (x copy : V) → V.is_clone x copy → copy ≡ x }
-        ensures { IfOk result (λ copy. copy ≡ record self.now { refusals = 0 }) }
+        ensures state { IfOk result (λ copy. copy ≡ record self.now { refusals = 0 }) }
+        ensures may_fail { OnErr result (C.MayFail self.now.nodes) }
     {
         Ok(RawBTree {
             store: self.store.try_clone()?,
