@@ -122,9 +122,11 @@ module _ {T V : Type 0} (M : Content (Node T V) → Type 0) where
   refused-set : (id : ℕ) (old new : TreeState T V) (cause : Cause) → raw.IsRefused M id old new cause → new.len ≡ length (pairs_of new)
       → IsRefused (set_of old) (set_of new) cause
   refused-set id old new Store is counted = ap set_of is.0
-  refused-set id old new Count is counted =
-      (ap set_of is.0, length-keys_of (pairs_of old) ∙ ap (λ (s : TreeState T V). length (pairs_of s)) (sym is.0) ∙ sym counted
-      ∙ ap (λ (s : TreeState T V). s.len) is.0 ∙ is.1)
+  refused-set id old new Count is counted = (
+    ap set_of is.0,
+    length-keys_of (pairs_of old) ∙ ap (λ (s : TreeState T V). length (pairs_of s)) (sym is.0) ∙ sym counted
+        ∙ ap (λ (s : TreeState T V). s.len) is.0 ∙ is.1,
+  )
 
   module _ (cmp : T → T → Ordering) (k : T) where
     pub gap-refused : (old new : TreeState T V) (cause : Cause) → IsRefusedAtGap cmp k old new M cause → new.len ≡ length (pairs_of new)

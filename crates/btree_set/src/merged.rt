@@ -129,7 +129,8 @@ impl<'a, T: Ord, C: NodesMut<T, ()>, D: NodesMut<T, ()>> Iterator for Intersecti
     }
 }
 
-impl<'a, T: Ord, C: NodesMut<T, ()>, D: NodesMut<T, ()>> FusedIterator for Intersection<'a, T, C, D> {}
+impl<'a, T: Ord, C: NodesMut<T, ()>, D: NodesMut<T, ()>> FusedIterator
+    for Intersection<'a, T, C, D> {}
 
 /// The elements of the first set that the second one does not have.
 #[derive(Drop)]
@@ -189,7 +190,8 @@ impl<'a, T: Ord, C: NodesMut<T, ()>, D: NodesMut<T, ()>> Iterator for Difference
     }
 }
 
-impl<'a, T: Ord, C: NodesMut<T, ()>, D: NodesMut<T, ()>> FusedIterator for Difference<'a, T, C, D> {}
+impl<'a, T: Ord, C: NodesMut<T, ()>, D: NodesMut<T, ()>> FusedIterator
+    for Difference<'a, T, C, D> {}
 
 /// The elements that exactly one of the sets has.
 #[derive(Drop)]
@@ -198,7 +200,8 @@ pub struct SymmetricDifference<'a, T: Ord, C: NodesMut<T, ()>, D: NodesMut<T, ()
     pub(crate) second: Peeked<'a, T, D>,
 }
 
-impl<'a, T: Ord, C: NodesMut<T, ()>, D: NodesMut<T, ()>> Model for SymmetricDifference<'a, T, C, D> {
+impl<'a, T: Ord, C: NodesMut<T, ()>, D: NodesMut<T, ()>> Model
+    for SymmetricDifference<'a, T, C, D> {
     ghost use Rattle.std.specs.Prelude.{List};
 
     ghost Value = { List T × List T };
@@ -206,7 +209,8 @@ impl<'a, T: Ord, C: NodesMut<T, ()>, D: NodesMut<T, ()>> Model for SymmetricDiff
     ghost view = { λ it. (it.first, it.second) };
 }
 
-impl<'a, T: Ord, C: NodesMut<T, ()>, D: NodesMut<T, ()>> Iterator for SymmetricDifference<'a, T, C, D> {
+impl<'a, T: Ord, C: NodesMut<T, ()>, D: NodesMut<T, ()>> Iterator
+    for SymmetricDifference<'a, T, C, D> {
     type Item = &'a T;
 
     ghost next_gives = { YieldsFirstRef (λ left. symmetric_difference T.cmp left.0 left.1) };
@@ -252,4 +256,5 @@ impl<'a, T: Ord, C: NodesMut<T, ()>, D: NodesMut<T, ()>> Iterator for SymmetricD
     }
 }
 
-impl<'a, T: Ord, C: NodesMut<T, ()>, D: NodesMut<T, ()>> FusedIterator for SymmetricDifference<'a, T, C, D> {}
+impl<'a, T: Ord, C: NodesMut<T, ()>, D: NodesMut<T, ()>> FusedIterator
+    for SymmetricDifference<'a, T, C, D> {}

@@ -5,7 +5,7 @@ use Rattle.btree_set.proofs.KeyLemmas.{refused-elements}
 use Rattle.btree_set.proofs.set.BTreeSet.extend.Goals as goal
 
 pub loop-element-preserved : goal.loop-element-preserved
-loop-element-preserved g c = 
+loop-element-preserved g c =
     let next = c.in-Some.ensures.goes.on c.loop-element.invariant.0.1 in (
       (next.0, next.1),
       c.in-Ok.ensures.uncounted ∙ c.loop-element.invariant.1,
@@ -17,7 +17,7 @@ loop-element-preserved g c =
     )
 
 pub returns-in-Err-clause-stopped : goal.returns-in-Err-clause-stopped
-returns-in-Err-clause-stopped g c = 
+returns-in-Err-clause-stopped g c =
     rw c.in-Err.ensures.returned
     (c.loop-element.invariant.2 (Some c.in-Some.element) c.insert.new.self.elements c.next.new.self (record {
       given = [];
@@ -34,6 +34,6 @@ returns-in-Err-clause-cause g c = record {
 }
 
 pub returns-clause-extended : goal.returns-clause-extended
-returns-clause-extended g c = 
+returns-clause-extended g c =
     c.loop-element.invariant.2 None c.loop-element.self.elements c.next.new.self
     (record { given = []; yields = (_, refl, c.in_default.ensures.steps); elements = refl })
