@@ -1,0 +1,215 @@
+-- The keys of a map's list, as the elements of a set.
+use Rattle.std.proofs.Common.{◌≡◌, ◌∙◌, ◌↔◌, ℕ, ◌+◌, Bool, true, false, not, cond, IsSome, IsTrue, List, [], ◌∷◌, Option, Some, None, is_some, option_map, if◌then◌else◌, IfNone, IfSome, ◌&&◌, length, set, refl, sym, ap, arith}
+use Rattle.std.proofs.lemmas.List.{map-append, map-set}
+use Rattle.std.proofs.lemmas.Map.{keys-set_value}
+use Rattle.std.proofs.lemmas.Map.Entries.{length-keys_of}
+use Rattle.std.specs.Prelude.{map}
+use Rattle.std.specs.Cmp.Lexicographic.{pointwise, slice_cmp, slice_partial_cmp}
+use Rattle.std.specs.List.{count_by, filter, find, insert, remove}
+use Rattle.std.specs.Map.{keys_of, lookup_entry}
+use Rattle.std.specs.Ordering.{is_eq, is_lt, ordering_then, partial_ordering_then}
+use Rattle.std.specs.declared.cmp.Ordering.TheVariants.{Less, Equal, Greater}
+use Rattle.std.specs.declared.cmp.Ordering.{Ordering}
+use Rattle.btree_item.specs.Pairs as pairs
+use Rattle.btree_item.proofs.KeyLemmas.{count_by-cons}
+use Rattle.btree_item.proofs.PairEdits.{keys_of-insert}
+use Rattle.btree_internal.proofs.BranchLemmas.{map_remove}
+use Rattle.btree_store.specs.Content.{Content}
+use Rattle.btree_item.specs.declared.refused.Cause.{Cause}
+use Rattle.btree_item.specs.declared.refused.Cause.TheVariants.{Count, Store}
+use Rattle.btree_node.specs.declared.node.Node.{Node}
+use Rattle.btree_shape.specs.TreeState.{TreeState, pairs_of}
+use Rattle.btree_raw.specs.Insertion as raw
+use Rattle.btree_edit.specs.Insert.{IsRefusedAtGap}
+use Rattle.btree_edit.specs.Replace as replace
+use Rattle.btree_edit.specs.Remove.{RemovesByKey}
+use Rattle.btree_map.specs.Comparison.{pair_cmp, pair_eq, pair_partial_cmp}
+use Rattle.btree_map.specs.Extension as many
+use Rattle.btree_set.specs.Elements.{IsRefused, SetState, before, inserted, removed, replaced, set_of, stored}
+use Rattle.btree_set.specs.Extension.{IsRefusedInTurn, Moves, inserted_all}
+
+module _ {T V : Type 0} where
+  find-keys : (test : T → Bool) (xs : List (T × V)) → find test (keys_of xs) ≡ option_map (λ p. p.0) (lookup_entry test xs)
+  find-keys test [] = refl
+  find-keys test (x ∷ xs) = by (test x.0) (find-keys test xs)
+    where
+      by : (b : Bool) → find test (keys_of xs) ≡ option_map (λ p. p.0) (lookup_entry test xs)
+          → cond b (Some x.0) (find test (keys_of xs)) ≡ option_map (λ p. p.0) (cond b (Some x) (lookup_entry test xs))
+      by true same = refl
+      by false same = same
+
+  count-keys : (test : T → Bool) (xs : List (T × V)) → count_by test (keys_of xs) ≡ count_by (λ x. test x.0) xs
+  count-keys test [] = refl
+  count-keys test (x ∷ xs) =
+      count_by-cons test x.0 (keys_of xs) ∙ ap (λ n. cond (test x.0) 1 0 + n) (count-keys test xs) ∙ sym (count_by-cons (λ x. test x.0) x xs)
+
+  some-map : (o : Option (T × V)) → is_some (option_map (λ p. p.0) o) ≡ is_some o
+  some-map None = refl
+  some-map (Some x) = refl
+
+  module _ (cmp : T → T → Ordering) (k : T) (xs : List (T × V)) where
+    pub stored-keys : stored cmp k (keys_of xs) ≡ option_map (λ p. p.0) (pairs.found cmp k xs)
+    stored-keys = find-keys (λ q. is_eq (cmp q k)) xs
+
+    pub before-keys : before cmp k (keys_of xs) ≡ pairs.before cmp k xs
+    before-keys = count-keys (λ q. is_lt (cmp q k)) xs
+
+    pub there-keys : is_some (stored cmp k (keys_of xs)) ≡ is_some (pairs.found cmp k xs)
+    there-keys = ap is_some stored-keys ∙ some-map (pairs.found cmp k xs)
+
+    pub inserted-keys : (w : V) → keys_of (pairs.inserted cmp k w xs) ≡ inserted cmp k (keys_of xs)
+    inserted-keys w = rw there-keys (by (is_some (pairs.found cmp k xs)))
+      where
+        by : (b : Bool) → keys_of (if b then pairs.with_value cmp k w xs else insert xs (pairs.before cmp k xs) (k, w))
+            ≡ (if b then keys_of xs else insert (keys_of xs) (before cmp k (keys_of xs)) k)
+        by true = keys-set_value (λ q. is_eq (cmp q k)) xs w
+        by false = keys_of-insert xs (pairs.before cmp k xs) (k, w) ∙ ap (λ n. insert (keys_of xs) n k) (sym before-keys)
+
+    pub replaced-keys : (w : V) → keys_of (replace.replaced cmp k w xs) ≡ replaced cmp k (keys_of xs)
+    replaced-keys w = rw there-keys (by (is_some (pairs.found cmp k xs)))
+      where
+        by : (b : Bool) → keys_of (if b then set xs (pairs.before cmp k xs) (k, w) else insert xs (pairs.before cmp k xs) (k, w))
+            ≡ (if b then set (keys_of xs) (before cmp k (keys_of xs)) k else insert (keys_of xs) (before cmp k (keys_of xs)) k)
+        by true = map-set (λ x. x.0) xs (pairs.before cmp k xs) (k, w) ∙ ap (λ n. set (keys_of xs) n k) (sym before-keys)
+        by false = keys_of-insert xs (pairs.before cmp k xs) (k, w) ∙ ap (λ n. insert (keys_of xs) n k) (sym before-keys)
+
+    pub removed-keys : keys_of (remove xs (pairs.before cmp k xs)) ≡ remove (keys_of xs) (before cmp k (keys_of xs))
+    removed-keys = map_remove (λ x. x.0) xs (pairs.before cmp k xs) ∙ ap (λ n. remove (keys_of xs) n) (sym before-keys)
+
+  -- nothing is there without pairs
+  pub none-keys : (xs : List (T × V)) → keys_of xs ≡ [] → xs ≡ []
+  none-keys [] e = refl
+  none-keys (x ∷ xs) e = absurd (cc)
+
+  pub keys-none : (xs : List (T × V)) → (xs ≡ []) ↔ (keys_of xs ≡ [])
+  keys-none xs = (λ e. ap keys_of e, none-keys xs)
+
+  is-none : (o : Option (T × V)) → option_map (λ p. p.0) o ≡ None → o ≡ None
+  is-none None e = refl
+  is-none (Some x) e = absurd (cc)
+
+  none-is : (o : Option (T × V)) → is_some o ≡ false → o ≡ None
+  none-is None e = refl
+  none-is (Some x) e = absurd (cc)
+
+  module _ (cmp : T → T → Ordering) (k : T) (xs : List (T × V)) where
+    pub absent-keys : pairs.found cmp k xs ≡ None → stored cmp k (keys_of xs) ≡ None
+    absent-keys none = stored-keys cmp k xs ∙ ap (option_map (λ p. p.0)) none
+
+    pub some-keys : IsSome (pairs.found cmp k xs) ↔ IsSome (stored cmp k (keys_of xs))
+    some-keys = (λ is. there-keys cmp k xs ∙ is, λ is. sym (there-keys cmp k xs) ∙ is)
+
+    -- whether an insertion found no value
+    pub new-keys : (old : Option V) (b : Bool) → old ≡ option_map (λ x. x.1) (pairs.found cmp k xs) → is_some old ≡ not b
+        → IsTrue b ↔ (stored cmp k (keys_of xs) ≡ None)
+    new-keys old b is test = rw (stored-keys cmp k xs) (by (pairs.found cmp k xs) b is test)
+      where
+        by : (o : Option (T × V)) (b : Bool) → old ≡ option_map (λ x. x.1) o → is_some old ≡ not b → IsTrue b ↔ (option_map (λ p. p.0) o ≡ None)
+        by None true is test = (λ e. refl, λ e. refl)
+        by None false is test = absurd (let e = ap is_some is in cc)
+        by (Some x) true is test = absurd (let e = ap is_some is in cc)
+        by (Some x) false is test = (λ e. absurd (cc), λ e. absurd (cc))
+
+-- the pairs of a list inserted, by their keys
+pub inserted_all-keys : {T V : Type 0} (cmp : T → T → Ordering) (xs ys : List (T × V))
+    → keys_of (many.inserted_all cmp xs ys) ≡ inserted_all cmp (keys_of xs) (keys_of ys)
+inserted_all-keys cmp xs [] = refl
+inserted_all-keys cmp xs (y ∷ ys) =
+    inserted_all-keys cmp (pairs.inserted cmp y.0 y.1 xs) ys ∙ ap (λ l. inserted_all cmp l (keys_of ys)) (inserted-keys cmp y.0 xs y.1)
+
+module _ {T V : Type 0} (M : Content (Node T V) → Type 0) where
+  -- a refused insertion, as the set has it
+  refused-set : (id : ℕ) (old new : TreeState T V) (cause : Cause) → raw.IsRefused M id old new cause → new.len ≡ length (pairs_of new)
+      → IsRefused (set_of old) (set_of new) cause
+  refused-set id old new Store is counted = ap set_of is.0
+  refused-set id old new Count is counted = (
+    ap set_of is.0,
+    length-keys_of (pairs_of old) ∙ ap (λ (s : TreeState T V). length (pairs_of s)) (sym is.0) ∙ sym counted
+        ∙ ap (λ (s : TreeState T V). s.len) is.0 ∙ is.1,
+  )
+
+  module _ (cmp : T → T → Ordering) (k : T) where
+    pub gap-refused : (old new : TreeState T V) (cause : Cause) → IsRefusedAtGap cmp k old new M cause → new.len ≡ length (pairs_of new)
+        → IsRefused (set_of old) (set_of new) cause
+    gap-refused old new cause is counted = refused-set is.gap.id old new cause is.refused counted
+
+    pub turn-refused : (count : ℕ) (new : TreeState T V) (cause : Cause) → many.IsRefusedInTurn cmp M k count new cause → new.len ≡ length (pairs_of new)
+        → IsRefusedInTurn cmp k count (set_of new) cause
+    turn-refused count new cause is counted = record {
+      before = set_of is.before;
+      uncounted = is.uncounted;
+      absent = absent-keys cmp k (pairs_of is.before) is.absent;
+      refused = gap-refused is.before new cause is.refused counted;
+    }
+
+-- the elements between two bounds
+pub filter-keys : {T V : Type 0} (test : T → Bool) (xs : List (T × V)) → keys_of (filter (λ x. test x.0) xs) ≡ filter test (keys_of xs)
+filter-keys test [] = refl
+filter-keys test (x ∷ xs) = by (test x.0) (filter-keys test xs)
+  where
+    by : (b : Bool) → keys_of (filter (λ x. test x.0) xs) ≡ filter test (keys_of xs)
+        → keys_of (cond b (x ∷ filter (λ x. test x.0) xs) (filter (λ x. test x.0) xs)) ≡ cond b (x.0 ∷ filter test (keys_of xs)) (filter test (keys_of xs))
+    by true same = ap (λ l. x.0 ∷ l) same
+    by false same = same
+
+-- the pair at a key was removed, if there was one
+pub taken-keys : {T V : Type 0} (cmp : T → T → Ordering) (k : T) (o : Option (T × V)) (old new : TreeState T V) → o ≡ pairs.found cmp k (pairs_of old)
+    → IfSome o (λ x. RemovesByKey old new cmp k x) → IfNone o (new ≡ old) → keys_of (pairs_of new) ≡ removed cmp k (keys_of (pairs_of old))
+taken-keys cmp k None old new is some none =
+    rw (there-keys cmp k (pairs_of old) ∙ sym (ap is_some is)) (ap (λ (s : TreeState _ _). keys_of (pairs_of s)) none)
+taken-keys cmp k (Some x) old new is some none =
+    rw (there-keys cmp k (pairs_of old) ∙ sym (ap is_some is)) (ap (λ l. keys_of l) some.pairs ∙ removed-keys cmp k (pairs_of old))
+
+-- values of `()` make no difference to comparisons
+and-true : (b : Bool) → (b && true) ≡ b
+and-true true = refl
+and-true false = refl
+
+pub same-keys : {T : Type 0} (eq : T → T → Bool) (unit_eq : Unit {0} → Unit {0} → Bool) → ((a b : Unit {0}) → unit_eq a b ≡ true) → (xs ys : List (T × Unit {0}))
+    → pointwise (pair_eq eq unit_eq) xs ys ≡ pointwise eq (keys_of xs) (keys_of ys)
+same-keys eq unit_eq units [] [] = refl
+same-keys eq unit_eq units [] (y ∷ ys) = refl
+same-keys eq unit_eq units (x ∷ xs) [] = refl
+same-keys eq unit_eq units (x ∷ xs) (y ∷ ys) =
+    rw (units x.1 y.1) (λ i. and-true (eq x.0 y.0) i && same-keys eq unit_eq units xs ys i)
+
+then-equal : (o : Ordering) → ordering_then o Equal ≡ o
+then-equal Less = refl
+then-equal Equal = refl
+then-equal Greater = refl
+
+pub order-keys : {T : Type 0} (cmp : T → T → Ordering) (unit_cmp : Unit {0} → Unit {0} → Ordering) → ((a b : Unit {0}) → unit_cmp a b ≡ Equal)
+    → (xs ys : List (T × Unit {0})) → slice_cmp (pair_cmp cmp unit_cmp) xs ys ≡ slice_cmp cmp (keys_of xs) (keys_of ys)
+order-keys cmp unit_cmp units [] [] = refl
+order-keys cmp unit_cmp units [] (y ∷ ys) = refl
+order-keys cmp unit_cmp units (x ∷ xs) [] = refl
+order-keys cmp unit_cmp units (x ∷ xs) (y ∷ ys) =
+    rw (units x.1 y.1) (λ i. ordering_then (then-equal (cmp x.0 y.0) i) (order-keys cmp unit_cmp units xs ys i))
+
+then-some : (o : Option Ordering) → partial_ordering_then o (Some Equal) ≡ o
+then-some None = refl
+then-some (Some Less) = refl
+then-some (Some Equal) = refl
+then-some (Some Greater) = refl
+
+pub partial-keys : {T : Type 0} (cmp : T → T → Option Ordering) (unit_cmp : Unit {0} → Unit {0} → Option Ordering) → ((a b : Unit {0}) → unit_cmp a b ≡ Some Equal)
+    → (xs ys : List (T × Unit {0})) → slice_partial_cmp (pair_partial_cmp cmp unit_cmp) xs ys ≡ slice_partial_cmp cmp (keys_of xs) (keys_of ys)
+partial-keys cmp unit_cmp units [] [] = refl
+partial-keys cmp unit_cmp units [] (y ∷ ys) = refl
+partial-keys cmp unit_cmp units (x ∷ xs) [] = refl
+partial-keys cmp unit_cmp units (x ∷ xs) (y ∷ ys) =
+    rw (units x.1 y.1) (λ i. partial_ordering_then (then-some (cmp x.0 y.0) i) (partial-keys cmp unit_cmp units xs ys i))
+
+-- the first pairs of a map were inserted into another
+pub moves-keys : {T V : Type 0} (cmp : T → T → Ordering) (old other : List (T × V)) (x : T × V) (new rest : List (T × V)) → many.Moves cmp old other x new rest
+    → Moves cmp (keys_of old) (keys_of other) x.0 (keys_of new) (keys_of rest)
+moves-keys cmp old other x new rest m = record {
+  given = keys_of m.given;
+  split = ap (λ l. keys_of l) m.split ∙ map-append (λ p. p.0) m.given (x ∷ rest);
+  elements = ap (λ l. keys_of l) m.pairs ∙ inserted_all-keys cmp old m.given;
+}
+
+-- a refused insertion leaves the elements
+pub refused-elements : {T : Type 0} (old new : SetState T) (cause : Cause) → IsRefused old new cause → new.elements ≡ old.elements
+refused-elements old new Store is = ap (λ (s : SetState _). s.elements) is
+refused-elements old new Count is = ap (λ (s : SetState _). s.elements) is.0

@@ -1,0 +1,5 @@
+pub mod KeyLemmas
+pub mod MergeLemmas
+pub mod PeekLemmas
+pub mod TurnLemmas
+pub mod HintLemmas

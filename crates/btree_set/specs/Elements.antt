@@ -1,0 +1,63 @@
+-- A set as contracts see it: its elements in order, and how often its store has refused a node.
+-- An element is in a set by the order: `stored` is the equal element that is there. Insertion and removal are at the
+-- place of the element, which is the number of smaller ones (`before`).
+use Rattle.std.specs.Prelude.{◌≡◌, ℕ, ◌+◌, ◌-◌, ◌^◌, List, Option, is_some, length, refl, set, if◌then◌else◌}
+use Rattle.std.specs.BTreeMap.Range.{range_contains}
+use Rattle.std.specs.Borrow.{Bor}
+use Rattle.std.specs.Coded.{Coded, code_by, coded_ℕ, coded_list, coded×}
+use Rattle.std.specs.List.{count_by, filter, find, insert, remove}
+use Rattle.std.specs.List.Sorted.{IsStrictlySortedBy}
+use Rattle.std.specs.Map.{keys_of}
+use Rattle.std.specs.Ordering.{is_eq, is_lt}
+use Rattle.std.specs.declared.cmp.Ordering.{Ordering}
+use Rattle.std.specs.declared.ops.Bound.{Bound}
+use Rattle.btree_item.specs.declared.refused.Cause.{Cause}
+use Rattle.btree_item.specs.declared.refused.Cause.TheVariants.{Store, Count}
+use Rattle.btree_shape.specs.TreeState.{TreeState, pairs_of}
+use Rattle.btree_walk.specs.Bounds.{bound_key}
+
+pub record SetState (T : Type 0) : Type 0 where
+  pub elements : List T
+  pub refusals : ℕ
+
+abbrev pub set_code : {T : Type 0} → Coded T → Coded (SetState T)
+set_code {T} code =
+    code_by (List T × ℕ) (coded× (coded_list code) coded_ℕ) (λ s. (s.elements, s.refusals)) (λ p. record { elements = p.0; refusals = p.1 }) (λ _. refl)
+
+-- the keys of a map without values
+abbrev pub set_of : {T V : Type 0} → TreeState T V → SetState T
+set_of map = record { elements = keys_of (pairs_of map); refusals = map.refusals }
+
+module _ {T : Type 0} (cmp : T → T → Ordering) where
+  -- the elements ascend strictly
+  abbrev pub Ascends : List T → Type 0
+  Ascends xs = IsStrictlySortedBy cmp xs
+
+  -- how many elements are below x
+  abbrev pub before : T → List T → ℕ
+  before x xs = count_by (λ y. is_lt (cmp y x)) xs
+
+  -- the element that is equal to x, if there is one
+  abbrev pub stored : T → List T → Option T
+  stored x xs = find (λ y. is_eq (cmp y x)) xs
+
+  -- with x, if no element is equal to it
+  abbrev pub inserted : T → List T → List T
+  inserted x xs = if is_some (stored x xs) then xs else insert xs (before x xs) x
+
+  -- with x, in the place of an equal element if there is one
+  abbrev pub replaced : T → List T → List T
+  replaced x xs = if is_some (stored x xs) then set xs (before x xs) x else insert xs (before x xs) x
+
+  -- without the element that is equal to x
+  abbrev pub removed : T → List T → List T
+  removed x xs = if is_some (stored x xs) then remove xs (before x xs) else xs
+
+-- an element was refused: only the count of refusals has changed, by one, or there are as many elements as can be counted
+abbrev pub IsRefused : {T : Type 0} → (old new : SetState T) → Cause → Type 0
+IsRefused old new Store = new ≡ record old { refusals = old.refusals + 1 }
+IsRefused old new Count = (new ≡ old) × (length old.elements ≡ 2 ^ 64 - 1)
+
+-- the elements of a list between the two bounds of a range
+abbrev pub elements_between : {T : Type 0} → (T → T → Ordering) → Bound (Bor T) × Bound (Bor T) → List T → List T
+elements_between cmp range xs = filter (range_contains cmp (bound_key range.0) (bound_key range.1)) xs

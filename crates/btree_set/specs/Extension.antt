@@ -1,0 +1,41 @@
+-- What insertions of many elements, one after another, leave of a set.
+-- Read `inserted_all` first. `Extends` says how far an iterator was stepped, and `Moves` the same of the set that `append`
+-- takes elements from. `IsRefusedInTurn` is the refusal of one of the elements.
+use Rattle.std.specs.Prelude.{◌≡◌, ℕ, List, [], ◌∷◌, ◌++◌, Option, None, option_map}
+use Rattle.std.specs.Borrow.{Bor}
+use Rattle.std.specs.Iterator.{YieldsThen}
+use Rattle.std.specs.Option.{option_copied}
+use Rattle.std.specs.declared.cmp.Ordering.{Ordering}
+use Rattle.btree_item.specs.declared.refused.Cause.{Cause}
+use Rattle.btree_set.specs.Elements.{IsRefused, SetState, inserted, stored}
+
+module _ {T : Type 0} (cmp : T → T → Ordering) where
+  -- the elements after the insertion of each element of the second list, in order
+  abbrev pub inserted_all : List T → List T → List T
+  inserted_all xs [] = xs
+  inserted_all xs (y ∷ ys) = inserted_all (inserted cmp y xs) ys
+
+  -- an iterator gave elements, which were inserted, and then the outcome: `None`, or an element that was not inserted. It
+  -- still has what comes after
+  pub record Extends {S : Type 0} (steps : S → Option T → S → Type 0) (old : List T) (source : S) (outcome : Option T) (new : List T) (rest : S) : Type 0 where
+    pub given : List T
+    pub yields : YieldsThen steps source given outcome rest
+    pub elements : new ≡ inserted_all old given
+
+  -- the first elements of `other` were inserted; then comes an element that was not inserted, and `rest` is what comes
+  -- after
+  pub record Moves (old other : List T) (x : T) (new rest : List T) : Type 0 where
+    pub given : List T
+    pub split : other ≡ given ++ x ∷ rest
+    pub elements : new ≡ inserted_all old given
+
+  -- the insertion of a new element was refused, when the store had counted `count` refusals; nothing has changed since
+  pub record IsRefusedInTurn (x : T) (count : ℕ) (new : SetState T) (cause : Cause) : Type 0 where
+    pub before : SetState T
+    pub uncounted : before.refusals ≡ count
+    pub absent : stored cmp x before.elements ≡ None
+    pub refused : IsRefused before new cause
+
+-- the steps of an iterator that lends elements, as steps that give copies
+abbrev pub copied_steps : {S T : Type 0} → (S → Option (Bor T) → S → Type 0) → S → Option T → S → Type 0
+copied_steps {T = T} steps s r t = (lent : Option (Bor T)) × steps s lent t × (r ≡ option_copied lent)

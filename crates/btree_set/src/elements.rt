@@ -1,0 +1,117 @@
+//! Iterators over the elements of a set.
+ghost use Rattle.std.specs.Prelude.{◌≡◌, IfSome};
+ghost use Rattle.std.specs.Iterator.SizeHint.{IsWithinCount};
+ghost use Rattle.std.specs.Iterator.{YieldsFirstRef, YieldsLastRef, item_count, UpTo};
+ghost use Rattle.btree_walk.specs.Bounds.{IsValidRange};
+ghost use Rattle.btree_set.specs.Elements.{elements_between};
+
+use crate::BTreeSet;
+use btree_map::IntoKeys;
+use btree_nodes::NodesMut;
+use btree_walk::{Keys, Range as Pairs};
+use std::iter::{DoubleEndedIterator, FusedIterator, IntoIterator, Iterator};
+use std::marker::Model;
+use std::ops::Bound;
+
+/// An iterator over the elements of a set in order, from both ends.
+pub type Iter<'a, T, C> = Keys<'a, T, (), C>;
+
+/// An iterator that owns a set and gives its elements in order, from both ends.
+pub type IntoIter<T, C> = IntoKeys<T, (), C>;
+
+/// An iterator over the elements of a set between two bounds, in order and from both ends.
+#[derive(Drop)]
+pub struct Range<'a, T: Ord, C: NodesMut<T, ()>> {
+    pairs: Pairs<'a, T, (), C>,
+}
+
+impl<'a, T: Ord, C: NodesMut<T, ()>> Model for Range<'a, T, C> {
+    ghost use Rattle.std.specs.Prelude.{List};
+    ghost use Rattle.std.specs.Map.{keys_of};
+
+    ghost Value = { List T };
+
+    ghost view = { λ it. keys_of it.pairs };
+}
+
+impl<'a, T: Ord, C: NodesMut<T, ()>> Iterator for Range<'a, T, C> {
+    type Item = &'a T;
+
+    ghost next_gives = { YieldsFirstRef (λ rest. rest) };
+
+    ghost remaining = { item_count (λ rest. rest) };
+
+    fn next(&mut self) -> Option<&'a T> {
+        match self.pairs.next() {
+            Some((element, _)) => Some(element),
+            None => None,
+        }
+    }
+
+    /// Returns 0 and `None`, since the number of elements that are left is not known.
+    fn size_hint(&self) -> (usize, Option<usize>)
+        ensures unknown { result ≡ (0, None) }
+        ensures lower { IsWithinCount result.0 (item_count (λ rest. rest) self.now) }
+        ensures upper { IfSome result.1 (UpTo (item_count (λ rest. rest) self.now)) }
+    {
+        (0, None)
+    }
+}
+
+impl<'a, T: Ord, C: NodesMut<T, ()>> DoubleEndedIterator for Range<'a, T, C> {
+    ghost next_back_gives = { YieldsLastRef (λ rest. rest) };
+
+    fn next_back(&mut self) -> Option<&'a T> {
+        match self.pairs.next_back() {
+            Some((element, _)) => Some(element),
+            None => None,
+        }
+    }
+}
+
+impl<'a, T: Ord, C: NodesMut<T, ()>> FusedIterator for Range<'a, T, C> {}
+
+impl<T: Ord, C: NodesMut<T, ()>> BTreeSet<T, C> {
+    /// Returns an iterator over the elements in order, from both ends. A whole walk fetches each node once, and allocates no memory.
+    pub fn iter(&self) -> Iter<'_, T, C>
+        ensures { result ≡ self.now.elements }
+    {
+        self.map.keys()
+    }
+
+    /// Returns an iterator over the elements between two bounds, each of them included, excluded or absent, from both ends. The start must be
+    /// at most the end, and they may not be equal if both are excluded: `is_valid_range` tells.
+    pub fn range(&self, range: (Bound<&T>, Bound<&T>)) -> Range<'_, T, C>
+        requires { IsValidRange T.cmp range }
+        ensures { result ≡ elements_between T.cmp range.entry self.now.elements }
+    {
+        Range {
+            pairs: self.map.range(range),
+        }
+    }
+}
+
+impl<'a, T: Ord, C: NodesMut<T, ()>> IntoIterator for &'a BTreeSet<T, C> {
+    type Item = &'a T;
+
+    type IntoIter = Iter<'a, T, C>;
+
+    ghost into_iter_gives = { λ set rest. rest ≡ set.now.elements };
+
+    fn into_iter(self) -> Iter<'a, T, C> {
+        self.iter()
+    }
+}
+
+impl<T: Ord + Drop, C: NodesMut<T, ()> + Drop> IntoIterator for BTreeSet<T, C> {
+    type Item = T;
+
+    type IntoIter = IntoIter<T, C>;
+
+    ghost into_iter_gives = { λ set rest. rest ≡ set.elements };
+
+    fn into_iter(self) -> IntoIter<T, C> {
+        let BTreeSet { map } = self;
+        map.into_keys()
+    }
+}

@@ -1,0 +1,130 @@
+//! Insertion of many elements.
+ghost use Rattle.std.specs.Prelude.{◌≡◌, ◌≢◌, [], IfErr, IfOk, None, OnErr, OnOk, Some};
+ghost use Rattle.std.specs.Iterator.{IsFinite};
+ghost use Rattle.std.specs.Mem.{FitsInMemory};
+ghost use denote.Plain.{Nothing as unit_row};
+ghost use Rattle.btree_node.specs.contracts.node.Node.{the_row as node_row};
+ghost use Rattle.btree_set.specs.Extension.{Extends, IsRefusedInTurn, Moves, copied_steps, inserted_all};
+
+use crate::BTreeSet;
+use btree_ext::BTreeExt;
+use btree_item::Refused;
+use btree_nodes::NodesMut;
+
+impl<T: Ord + Drop, C: NodesMut<T, ()>> BTreeSet<T, C> {
+    /// Moves the elements of `other` into this set. Where both have an element, this set keeps its own.
+    ///
+    /// If this set is empty, the two are swapped, with their stores. Otherwise the elements come from the front of `other`, one at a time,
+    /// as `insert` inserts them. The first one that is refused is returned: those before it are in this set, and those after it are still
+    /// in `other`.
+    pub fn append(&mut self, other: &mut Self) -> Result<(), Refused<T, ()>>
+        ensures appended { OnOk result (self.new.elements ≡
+            inserted_all T.cmp self.old.elements other.old.elements) }
+        ensures emptied { OnOk result (other.new.elements ≡ []) }
+        ensures unchanged { other.old.elements ≡ [] → (self.new ≡ self.old) × (other.new ≡ other.old) }
+        ensures swapped { self.old.elements ≡ [] → other.old.elements ≢ [] →
+            (self.new ≡ other.old) × (other.new ≡ self.old) }
+        ensures uncounted { OnOk result (self.old.elements ≢ [] →
+            self.new.refusals ≡ self.old.refusals) }
+        ensures other_uncounted { self.old.elements ≢ [] → other.new.refusals ≡ other.old.refusals }
+
+        ensures stopped { IfErr result (λ r. Moves T.cmp self.old.elements
+            other.old.elements r.key self.new.elements other.new.elements) }
+        ensures had_elements { OnErr result (self.old.elements ≢ []) }
+        ensures cause { IfErr result (λ r.
+            IsRefusedInTurn T.cmp r.key self.old.refusals self.new r.cause) }
+    {
+        match self.map.append(&mut other.map) {
+            Ok(()) => return Ok(()),
+            Err(refused) => {
+                // For the prover: the tree is well formed, so its length is that of its list.
+                let _root = self.map.root_id();
+                return Err(refused);
+            }
+        }
+    }
+
+    /// Inserts the elements that `source` gives, in order, as `insert` does. Returns the first one that is refused: those before it are in
+    /// the set, and those after it are still in `source`.
+    ///
+    /// The contract requires that `source` ends.
+    pub fn extend<I: Iterator<Item = T>>(&mut self, source: &mut I) -> Result<(), Refused<T, ()>>
+        requires can_step { I.can_next source.old }
+        requires ends { IsFinite (I.remaining source.old) }
+        ensures extended { OnOk result (Extends T.cmp I.next_gives
+            self.old.elements source.old None self.new.elements source.new) }
+        ensures uncounted { OnOk result (self.new.refusals ≡ self.old.refusals) }
+
+        ensures stopped { IfErr result (λ r. Extends T.cmp I.next_gives
+            self.old.elements source.old (Some r.key) self.new.elements source.new) }
+        ensures cause { IfErr result (λ r.
+            IsRefusedInTurn T.cmp r.key self.old.refusals self.new r.cause) }
+        ensures may_go_on { OnErr result (I.can_next source.new) }
+        ensures still_ends { OnErr result (IsFinite (I.remaining source.new)) }
+    {
+        while let Some(element) = source.next() {
+            match self.insert(element) {
+                Ok(_) => {}
+                Err(refused) => return Err(refused),
+            }
+        }
+        Ok(())
+    }
+
+    /// Does the same as `extend` for an iterator that lends elements, and inserts copies of them.
+    pub fn extend_copied<'a, I: Iterator<Item = &'a T>>(
+        &mut self,
+        source: &mut I,
+    ) -> Result<(), Refused<T, ()>>
+    where
+        T: Copy + 'a,
+        requires can_step { I.can_next source.old }
+        requires ends { IsFinite (I.remaining source.old) }
+        ensures extended { OnOk result (Extends T.cmp (copied_steps I.next_gives)
+            self.old.elements source.old None self.new.elements source.new) }
+        ensures uncounted { OnOk result (self.new.refusals ≡ self.old.refusals) }
+
+        ensures stopped { IfErr result (λ r. Extends T.cmp (copied_steps I.next_gives)
+            self.old.elements source.old (Some r.key) self.new.elements source.new) }
+        ensures cause { IfErr result (λ r.
+            IsRefusedInTurn T.cmp r.key self.old.refusals self.new r.cause) }
+        ensures may_go_on { OnErr result (I.can_next source.new) }
+        ensures still_ends { OnErr result (IsFinite (I.remaining source.new)) }
+    {
+        while let Some(element) = source.next() {
+            match self.insert(*element) {
+                Ok(_) => {}
+                Err(refused) => return Err(refused),
+            }
+        }
+        Ok(())
+    }
+
+    /// Returns a set of the elements that `source` gives, over an empty store made from `origin`. Of equal elements the first one stays, as
+    /// `insert` does it. Returns the first element that is refused, with the set of those before it; those after it are still in `source`.
+    ///
+    /// The contract requires that `source` ends, and that a node fits in memory, as `new` does.
+    pub fn from_iter<I: Iterator<Item = T>>(
+        origin: C::Origin,
+        source: &mut I,
+    ) -> Result<Self, (Self, Refused<T, ()>)>
+        requires fits { FitsInMemory (node_row T.row unit_row) }
+        requires can_step { I.can_next source.old }
+        requires ends { IsFinite (I.remaining source.old) }
+        ensures extended { IfOk result (λ set. Extends T.cmp I.next_gives
+            [] source.old None set.elements source.new) }
+        ensures uncounted { IfOk result (λ set. set.refusals ≡ 0) }
+
+        ensures stopped { IfErr result (λ e. Extends T.cmp I.next_gives
+            [] source.old (Some e.1.key) e.0.elements source.new) }
+        ensures cause { IfErr result (λ e. IsRefusedInTurn T.cmp e.1.key 0 e.0 e.1.cause) }
+        ensures may_go_on { OnErr result (I.can_next source.new) }
+        ensures still_ends { OnErr result (IsFinite (I.remaining source.new)) }
+    {
+        let mut set = BTreeSet::new(origin);
+        match set.extend(source) {
+            Ok(()) => Ok(set),
+            Err(refused) => Err((set, refused)),
+        }
+    }
+}

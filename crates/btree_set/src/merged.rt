@@ -1,0 +1,260 @@
+//! The merges of two sets, which may have different stores. Each compares two elements once and yields them in order, from the front. It is
+//! seen by contracts as the elements that are left in the first set and in the second.
+ghost use Rattle.std.specs.Prelude.{◌≡◌, IfSome, length};
+ghost use Rattle.std.specs.Iterator.SizeHint.{IsWithinCount};
+ghost use Rattle.std.specs.Iterator.{YieldsFirstRef, item_count, UpTo};
+ghost use Rattle.btree_set.specs.Merges.{difference, difference_hint, intersection, intersection_hint, symmetric_difference, symmetric_difference_hint, union, union_hint};
+
+use crate::peeked::Peeked;
+use btree_nodes::NodesMut;
+use std::cmp::Ordering;
+use std::iter::{FusedIterator, Iterator};
+use std::marker::Model;
+
+/// The elements of either set, each once. Of two equal elements it yields that of the second set.
+#[derive(Drop)]
+pub struct Union<'a, T: Ord, C: NodesMut<T, ()>, D: NodesMut<T, ()>> {
+    pub(crate) first: Peeked<'a, T, C>,
+    pub(crate) second: Peeked<'a, T, D>,
+}
+
+impl<'a, T: Ord, C: NodesMut<T, ()>, D: NodesMut<T, ()>> Model for Union<'a, T, C, D> {
+    ghost use Rattle.std.specs.Prelude.{List};
+
+    ghost Value = { List T × List T };
+
+    ghost view = { λ it. (it.first, it.second) };
+}
+
+impl<'a, T: Ord, C: NodesMut<T, ()>, D: NodesMut<T, ()>> Iterator for Union<'a, T, C, D> {
+    type Item = &'a T;
+
+    ghost next_gives = { YieldsFirstRef (λ left. union T.cmp left.0 left.1) };
+
+    ghost remaining = { item_count (λ left. union T.cmp left.0 left.1) };
+
+    fn next(&mut self) -> Option<&'a T> {
+        let Some(left) = self.first.head() else {
+            return self.second.next();
+        };
+        let Some(right) = self.second.head() else {
+            return self.first.next();
+        };
+        match right.cmp(left) {
+            Ordering::Less => {
+                self.second.advance();
+                Some(right)
+            }
+            Ordering::Equal => {
+                self.first.advance();
+                self.second.advance();
+                Some(right)
+            }
+            Ordering::Greater => {
+                self.first.advance();
+                Some(left)
+            }
+        }
+    }
+
+    /// Returns the greater of the numbers of elements that are left in the two sets, and their sum, or `None` if that passes `usize::MAX`.
+    fn size_hint(&self) -> (usize, Option<usize>)
+        ensures exact { result ≡ union_hint (length self.now.0) (length self.now.1) }
+        ensures lower { IsWithinCount result.0
+            (item_count (λ left. union T.cmp left.0 left.1) self.now) }
+        ensures upper { IfSome result.1
+            (UpTo (item_count (λ left. union T.cmp left.0 left.1) self.now)) }
+    {
+        let first = self.first.len();
+        let second = self.second.len();
+        (first.max(second), first.checked_add(second))
+    }
+}
+
+impl<'a, T: Ord, C: NodesMut<T, ()>, D: NodesMut<T, ()>> FusedIterator for Union<'a, T, C, D> {}
+
+/// The elements of the first set that the second one has.
+#[derive(Drop)]
+pub struct Intersection<'a, T: Ord, C: NodesMut<T, ()>, D: NodesMut<T, ()>> {
+    pub(crate) first: Peeked<'a, T, C>,
+    pub(crate) second: Peeked<'a, T, D>,
+}
+
+impl<'a, T: Ord, C: NodesMut<T, ()>, D: NodesMut<T, ()>> Model for Intersection<'a, T, C, D> {
+    ghost use Rattle.std.specs.Prelude.{List};
+
+    ghost Value = { List T × List T };
+
+    ghost view = { λ it. (it.first, it.second) };
+}
+
+impl<'a, T: Ord, C: NodesMut<T, ()>, D: NodesMut<T, ()>> Iterator for Intersection<'a, T, C, D> {
+    type Item = &'a T;
+
+    ghost next_gives = { YieldsFirstRef (λ left. intersection T.cmp left.0 left.1) };
+
+    ghost remaining = { item_count (λ left. intersection T.cmp left.0 left.1) };
+
+    fn next(&mut self) -> Option<&'a T> {
+        loop {
+            let Some(left) = self.first.head() else {
+                return None;
+            };
+            let Some(right) = self.second.head() else {
+                return None;
+            };
+            match left.cmp(right) {
+                Ordering::Less => self.first.advance(),
+                Ordering::Equal => {
+                    self.first.advance();
+                    self.second.advance();
+                    return Some(left);
+                }
+                Ordering::Greater => self.second.advance(),
+            }
+        }
+    }
+
+    /// Returns 0, and the lesser of the numbers of elements that are left in the two sets.
+    fn size_hint(&self) -> (usize, Option<usize>)
+        ensures exact { result ≡ intersection_hint (length self.now.0) (length self.now.1) }
+        ensures lower { IsWithinCount result.0
+            (item_count (λ left. intersection T.cmp left.0 left.1) self.now) }
+        ensures upper { IfSome result.1
+            (UpTo (item_count (λ left. intersection T.cmp left.0 left.1) self.now)) }
+    {
+        let first = self.first.len();
+        let second = self.second.len();
+        (0, Some(first.min(second)))
+    }
+}
+
+impl<'a, T: Ord, C: NodesMut<T, ()>, D: NodesMut<T, ()>> FusedIterator
+    for Intersection<'a, T, C, D> {}
+
+/// The elements of the first set that the second one does not have.
+#[derive(Drop)]
+pub struct Difference<'a, T: Ord, C: NodesMut<T, ()>, D: NodesMut<T, ()>> {
+    pub(crate) first: Peeked<'a, T, C>,
+    pub(crate) second: Peeked<'a, T, D>,
+}
+
+impl<'a, T: Ord, C: NodesMut<T, ()>, D: NodesMut<T, ()>> Model for Difference<'a, T, C, D> {
+    ghost use Rattle.std.specs.Prelude.{List};
+
+    ghost Value = { List T × List T };
+
+    ghost view = { λ it. (it.first, it.second) };
+}
+
+impl<'a, T: Ord, C: NodesMut<T, ()>, D: NodesMut<T, ()>> Iterator for Difference<'a, T, C, D> {
+    type Item = &'a T;
+
+    ghost next_gives = { YieldsFirstRef (λ left. difference T.cmp left.0 left.1) };
+
+    ghost remaining = { item_count (λ left. difference T.cmp left.0 left.1) };
+
+    fn next(&mut self) -> Option<&'a T> {
+        loop {
+            let Some(left) = self.first.head() else {
+                return None;
+            };
+            let Some(right) = self.second.head() else {
+                return self.first.next();
+            };
+            match left.cmp(right) {
+                Ordering::Less => {
+                    self.first.advance();
+                    return Some(left);
+                }
+                Ordering::Equal => {
+                    self.first.advance();
+                    self.second.advance();
+                }
+                Ordering::Greater => self.second.advance(),
+            }
+        }
+    }
+
+    /// Returns by how many more elements are left in the first set than in the second, at least 0, and how many are left in the first.
+    fn size_hint(&self) -> (usize, Option<usize>)
+        ensures exact { result ≡ difference_hint (length self.now.0) (length self.now.1) }
+        ensures lower { IsWithinCount result.0
+            (item_count (λ left. difference T.cmp left.0 left.1) self.now) }
+        ensures upper { IfSome result.1
+            (UpTo (item_count (λ left. difference T.cmp left.0 left.1) self.now)) }
+    {
+        let first = self.first.len();
+        let second = self.second.len();
+        (first.saturating_sub(second), Some(first))
+    }
+}
+
+impl<'a, T: Ord, C: NodesMut<T, ()>, D: NodesMut<T, ()>> FusedIterator
+    for Difference<'a, T, C, D> {}
+
+/// The elements that exactly one of the sets has.
+#[derive(Drop)]
+pub struct SymmetricDifference<'a, T: Ord, C: NodesMut<T, ()>, D: NodesMut<T, ()>> {
+    pub(crate) first: Peeked<'a, T, C>,
+    pub(crate) second: Peeked<'a, T, D>,
+}
+
+impl<'a, T: Ord, C: NodesMut<T, ()>, D: NodesMut<T, ()>> Model
+    for SymmetricDifference<'a, T, C, D> {
+    ghost use Rattle.std.specs.Prelude.{List};
+
+    ghost Value = { List T × List T };
+
+    ghost view = { λ it. (it.first, it.second) };
+}
+
+impl<'a, T: Ord, C: NodesMut<T, ()>, D: NodesMut<T, ()>> Iterator
+    for SymmetricDifference<'a, T, C, D> {
+    type Item = &'a T;
+
+    ghost next_gives = { YieldsFirstRef (λ left. symmetric_difference T.cmp left.0 left.1) };
+
+    ghost remaining = { item_count (λ left. symmetric_difference T.cmp left.0 left.1) };
+
+    fn next(&mut self) -> Option<&'a T> {
+        loop {
+            let Some(left) = self.first.head() else {
+                return self.second.next();
+            };
+            let Some(right) = self.second.head() else {
+                return self.first.next();
+            };
+            match right.cmp(left) {
+                Ordering::Less => {
+                    self.second.advance();
+                    return Some(right);
+                }
+                Ordering::Equal => {
+                    self.first.advance();
+                    self.second.advance();
+                }
+                Ordering::Greater => {
+                    self.first.advance();
+                    return Some(left);
+                }
+            }
+        }
+    }
+
+    /// Returns 0, and the sum of the numbers of elements that are left in the two sets, or `None` if it passes `usize::MAX`.
+    fn size_hint(&self) -> (usize, Option<usize>)
+        ensures exact { result ≡ symmetric_difference_hint (length self.now.0) (length self.now.1) }
+        ensures lower { IsWithinCount result.0
+            (item_count (λ left. symmetric_difference T.cmp left.0 left.1) self.now) }
+        ensures upper { IfSome result.1
+            (UpTo (item_count (λ left. symmetric_difference T.cmp left.0 left.1) self.now)) }
+    {
+        let first = self.first.len();
+        let second = self.second.len();
+        (0, first.checked_add(second))
+    }
+}
+
+impl<'a, T: Ord, C: NodesMut<T, ()>, D: NodesMut<T, ()>> FusedIterator
+    for SymmetricDifference<'a, T, C, D> {}

@@ -1,0 +1,195 @@
+//! The set.
+ghost use Rattle.std.specs.Prelude.{◌≡◌, ◌↔◌, ◌-◌, [], IfErr, IfOk, IsSome, IsTrue, None, OnErr, OnOk, length, option_map, slice_get};
+ghost use Rattle.std.specs.Iterator.{YieldsFirst, YieldsLast};
+ghost use Rattle.std.specs.Mem.{FitsInMemory};
+ghost use denote.Plain.{Nothing as unit_row};
+ghost use Rattle.btree_node.specs.contracts.node.Node.{the_row as node_row};
+ghost use Rattle.std.specs.Option.{option_copied};
+ghost use Rattle.btree_set.specs.Elements.{IsRefused, inserted, removed, replaced, stored};
+
+use btree_ext::BTreeExt;
+use btree_item::Refused;
+use btree_map::BTreeMap;
+use btree_nodes::{ClearNodes, NodesMut};
+use std::marker::Model;
+
+/// An ordered set: a map without values. Contracts see its elements in order.
+#[derive(Drop)]
+pub struct BTreeSet<T: Ord, C: NodesMut<T, ()>> {
+    pub(crate) map: BTreeMap<T, (), C>,
+}
+
+impl<T: Ord, C: NodesMut<T, ()>> Model for BTreeSet<T, C> {
+    ghost use Rattle.std.specs.Coded.{codes};
+    ghost use Rattle.btree_set.specs.Elements.{SetState, set_code, set_of};
+
+    ghost Value = { SetState T };
+
+    ghost coded = { set_code (Prim.hlevel codes) };
+
+    ghost view = { λ set. set_of set.map };
+}
+
+impl<T: Ord, C: NodesMut<T, ()>> BTreeSet<T, C> {
+    /// Returns a set without elements, over an empty store made from `origin`. It allocates no memory.
+    ///
+    /// The contract requires that a node fits in memory. The prover finds that by itself if the type of the elements is known.
+    pub fn new(origin: C::Origin) -> Self
+        requires { FitsInMemory (node_row T.row unit_row) }
+        ensures { result ≡ record { elements = []; refusals = 0 } }
+    {
+        BTreeSet {
+            map: BTreeMap::new(origin),
+        }
+    }
+
+    /// Returns how many elements there are.
+    pub fn len(&self) -> usize
+        ensures { result ≡ length self.now.elements }
+    {
+        self.map.len()
+    }
+
+    /// Returns whether there are no elements.
+    pub fn is_empty(&self) -> bool
+        ensures { IsTrue result ↔ (self.now.elements ≡ []) }
+    {
+        self.map.is_empty()
+    }
+
+    /// Returns whether an element is equal to the given one. It makes at most six comparisons at each level.
+    pub fn contains(&self, element: &T) -> bool
+        ensures { IsTrue result ↔ IsSome (stored T.cmp element.now self.now.elements) }
+    {
+        self.map.contains_key(element)
+    }
+
+    /// Returns the stored element that is equal to the given one, or `None`. It makes at most six comparisons at each level.
+    pub fn get(&self, element: &T) -> Option<&T>
+        ensures { option_copied result ≡ stored T.cmp element.now self.now.elements }
+    {
+        match self.map.get_key_value(element) {
+            Some((stored, _)) => Some(stored),
+            None => None,
+        }
+    }
+
+    /// Returns the least element, or `None` if there are no elements. It reads one node of each level, and compares no elements.
+    pub fn first(&self) -> Option<&T>
+        ensures { option_copied result ≡ slice_get self.now.elements 0 }
+    {
+        match self.map.first_key_value() {
+            Some((first, _)) => Some(first),
+            None => None,
+        }
+    }
+
+    /// Returns the greatest element, or `None` if there are no elements. It reads one node of each level, and compares no elements.
+    pub fn last(&self) -> Option<&T>
+        ensures { option_copied result ≡ slice_get self.now.elements (length self.now.elements - 1) }
+    {
+        match self.map.last_key_value() {
+            Some((last, _)) => Some(last),
+            None => None,
+        }
+    }
+}
+
+impl<T: Ord + Drop, C: NodesMut<T, ()>> BTreeSet<T, C> {
+    /// Inserts an element. Returns whether it was not there yet: if an element is equal to it, that one stays, and the given one is dropped.
+    ///
+    /// A new element uses as many new nodes as `BTreeMap::insert` does. It returns an error, with the element, if the store refuses one of
+    /// them, or if there are `usize::MAX` elements.
+    pub fn insert(&mut self, element: T) -> Result<bool, Refused<T, ()>>
+        ensures new { IfOk result (λ new. IsTrue new ↔ (stored T.cmp element self.old.elements ≡ None)) }
+        ensures inserted { OnOk result (self.new.elements ≡ inserted T.cmp element self.old.elements) }
+        ensures uncounted { OnOk result (self.new.refusals ≡ self.old.refusals) }
+
+        ensures returned { IfErr result (λ r. r.key ≡ element) }
+        ensures absent { OnErr result (stored T.cmp element self.old.elements ≡ None) }
+        ensures cause { IfErr result (λ r. IsRefused self.old self.new r.cause) }
+    {
+        match self.map.insert(element, ()) {
+            Ok(replaced) => return Ok(replaced.is_none()),
+            Err(refused) => {
+                // For the prover: the tree is well formed, so its length is that of its list.
+                let _root = self.map.root_id();
+                return Err(refused);
+            }
+        }
+    }
+
+    /// Inserts an element in the place of an equal one, if there is one. Returns the one that was replaced. It fails as `insert` does.
+    pub fn replace(&mut self, element: T) -> Result<Option<T>, Refused<T, ()>>
+        ensures old { IfOk result (λ old. old ≡ stored T.cmp element self.old.elements) }
+        ensures replaced { OnOk result (self.new.elements ≡ replaced T.cmp element self.old.elements) }
+        ensures uncounted { OnOk result (self.new.refusals ≡ self.old.refusals) }
+
+        ensures returned { IfErr result (λ r. r.key ≡ element) }
+        ensures absent { OnErr result (stored T.cmp element self.old.elements ≡ None) }
+        ensures cause { IfErr result (λ r. IsRefused self.old self.new r.cause) }
+    {
+        match self.map.replace(element, ()) {
+            Ok(replaced) => return Ok(first_of(replaced)),
+            Err(refused) => {
+                // For the prover: the tree is well formed, so its length is that of its list.
+                let _root = self.map.root_id();
+                return Err(refused);
+            }
+        }
+    }
+
+    /// Removes the element that is equal to the given one. Returns whether there was one. It searches once and cannot fail.
+    pub fn remove(&mut self, element: &T) -> bool
+        ensures there { IsTrue result ↔ IsSome (stored T.cmp element.now self.old.elements) }
+        ensures removed { self.new.elements ≡ removed T.cmp element.now self.old.elements }
+        ensures uncounted { self.new.refusals ≡ self.old.refusals }
+    {
+        self.map.remove_entry(element).is_some()
+    }
+
+    /// Removes the element that is equal to the given one, and returns it. Otherwise it does the same as `remove`.
+    pub fn take(&mut self, element: &T) -> Option<T>
+        ensures element { result ≡ stored T.cmp element.now self.old.elements }
+        ensures removed { self.new.elements ≡ removed T.cmp element.now self.old.elements }
+        ensures uncounted { self.new.refusals ≡ self.old.refusals }
+    {
+        first_of(self.map.remove_entry(element))
+    }
+
+    /// Removes the least element, and returns it. Returns `None`, and nothing changes, if there are no elements. It compares no elements.
+    pub fn pop_first(&mut self) -> Option<T>
+        ensures rest { YieldsFirst (λ set. set.elements) self.old result self.new }
+        ensures uncounted { self.new.refusals ≡ self.old.refusals }
+    {
+        first_of(self.map.pop_first())
+    }
+
+    /// Removes the greatest element, and returns it. Returns `None`, and nothing changes, if there are no elements. It compares no elements.
+    pub fn pop_last(&mut self) -> Option<T>
+        ensures rest { YieldsLast (λ set. set.elements) self.old result self.new }
+        ensures uncounted { self.new.refusals ≡ self.old.refusals }
+    {
+        first_of(self.map.pop_last())
+    }
+}
+
+impl<T: Ord, C: ClearNodes<T, ()>> BTreeSet<T, C> {
+    /// Removes all elements. The count of refusals stays.
+    pub fn clear(&mut self)
+        ensures empty { self.new.elements ≡ [] }
+        ensures uncounted { self.new.refusals ≡ self.old.refusals }
+    {
+        self.map.clear();
+    }
+}
+
+// Returns the element of a pair without a value.
+fn first_of<T>(pair: Option<(T, ())>) -> Option<T>
+    ensures { result ≡ option_map (λ p. p.0) pair }
+{
+    match pair {
+        Some((element, ())) => Some(element),
+        None => None,
+    }
+}

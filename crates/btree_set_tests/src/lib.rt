@@ -1,0 +1,11 @@
+//! Tests of sets: their calls, their merges over two stores, and refusals.
+#![tactic(auto)]
+
+#[cfg(test)]
+mod elements;
+#[cfg(test)]
+mod merges;
+#[cfg(test)]
+mod named;
+#[cfg(test)]
+mod refused;

@@ -1,0 +1,116 @@
+//! Elements that are equal and not the same.
+ghost use Rattle.std.specs.Prelude.{nat_eq};
+ghost use Rattle.std.proofs.Common.{rules};
+ghost use Rattle.std.specs.Cmp.{partial_order_from_own_ties};
+ghost use Rattle.std.specs.Cmp.Rules.{comparing};
+ghost use Rattle.std.specs.Ordering.{as_partial_cmp, nat_cmp, on};
+
+use btree_node::Node;
+use btree_set::BTreeSet;
+use btree_store::SlabStore;
+use std::alloc::Global;
+use std::cmp::Ordering;
+use std::process::Abort;
+
+// An element that is compared by its number alone.
+#[derive(Clone, Copy)]
+struct Named {
+    number: u64,
+    name: char,
+}
+
+impl PartialEq for Named {
+    ghost eq = { on (λ it. it.number) nat_eq };
+
+    ghost laws = { Prim.search (comparing, rules) };
+
+    fn eq(&self, other: &Self) -> bool {
+        self.number == other.number
+    }
+}
+
+impl Eq for Named {
+    ghost laws = { Prim.search (comparing, rules) };
+}
+
+impl PartialOrd for Named {
+    ghost partial_cmp = { as_partial_cmp (on (λ it. it.number) nat_cmp) };
+
+    ghost laws = { partial_order_from_own_ties (Prim.search (comparing, rules)) (Prim.search (comparing, rules)) };
+
+    fn partial_cmp(&self, other: &Self) -> Option<Ordering> {
+        Some(self.cmp(other))
+    }
+}
+
+impl Ord for Named {
+    ghost cmp = { on (λ it. it.number) nat_cmp };
+
+    ghost total = { Prim.search (comparing, rules) };
+
+    ghost matches_partial_cmp = { Prim.search (comparing, rules) };
+
+    ghost matches_eq = { Prim.search (comparing, rules) };
+
+    fn cmp(&self, other: &Self) -> Ordering {
+        self.number.cmp(&other.number)
+    }
+}
+
+type Names = BTreeSet<Named, SlabStore<Node<Named, ()>>>;
+
+// Returns the set of the numbers, each with the name.
+fn names(rt: &impl Abort, alloc: Global, numbers: &[u64], name: char) -> Names {
+    let mut set: Names = BTreeSet::new(alloc);
+    for number in numbers {
+        let number = *number;
+        assert!(rt; set.insert(Named { number, name }).is_ok());
+    }
+    set
+}
+
+// Returns the number and the name of an element.
+fn parts(element: Option<&Named>) -> Option<(u64, char)> {
+    let element = element?;
+    Some((element.number, element.name))
+}
+
+// The first set has 1 and 2 with the name a, the second one 2 and 3 with the name b.
+#[test]
+fn merges_take_the_stated_one(rt: HostRuntime) {
+    let left = names(&rt, rt.alloc(), &[1, 2], 'a');
+    let right = names(&rt, rt.alloc(), &[2, 3], 'b');
+    let mut either = left.union(&right);
+    assert_eq!(rt; either.size_hint(), (2, Some(4)));
+    assert_eq!(rt; parts(either.next()), Some((1, 'a')));
+    assert_eq!(rt; parts(either.next()), Some((2, 'b')));
+    assert_eq!(rt; parts(either.next()), Some((3, 'b')));
+    assert_eq!(rt; parts(either.next()), None);
+    let mut both = left.intersection(&right);
+    assert_eq!(rt; parts(both.next()), Some((2, 'a')));
+    assert_eq!(rt; parts(both.next()), None);
+    let mut first_only = left.difference(&right);
+    assert_eq!(rt; parts(first_only.next()), Some((1, 'a')));
+    assert_eq!(rt; parts(first_only.next()), None);
+    let mut one = left.symmetric_difference(&right);
+    assert_eq!(rt; parts(one.next()), Some((1, 'a')));
+    assert_eq!(rt; parts(one.next()), Some((3, 'b')));
+    assert_eq!(rt; parts(one.next()), None);
+}
+
+#[test]
+fn an_equal_element_stays_unless_it_is_replaced(rt: HostRuntime) {
+    let mut set = names(&rt, rt.alloc(), &[1, 2], 'a');
+    let second = Named { number: 2, name: 'b' };
+    assert_eq!(rt; set.insert(second).ok(), Some(false));
+    assert_eq!(rt; parts(set.get(&second)), Some((2, 'a')));
+    match set.replace(second) {
+        Ok(old) => assert_eq!(rt; parts(old.as_ref()), Some((2, 'a'))),
+        Err(_) => panic!(rt; "refused"),
+    }
+    assert_eq!(rt; parts(set.get(&second)), Some((2, 'b')));
+    let mut other = names(&rt, rt.alloc(), &[1, 3], 'c');
+    assert!(rt; set.append(&mut other).is_ok());
+    assert_eq!(rt; parts(set.first()), Some((1, 'a')));
+    assert_eq!(rt; parts(set.last()), Some((3, 'c')));
+}

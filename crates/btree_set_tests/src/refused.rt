@@ -1,0 +1,107 @@
+//! Insertions while the store has no memory.
+use btree_item::Cause;
+use btree_node::Node;
+use btree_nodes::NodesMut;
+use btree_refusing::Refusing;
+use btree_set::BTreeSet;
+use btree_store::SlabStore;
+use std::alloc::Global;
+use std::process::Abort;
+use std::test::Fail;
+
+// Returns whether the set has the numbers from the first to before the last, and no others.
+fn has<C: NodesMut<u64, ()>>(set: &BTreeSet<u64, C>, from: u64, to: u64) -> bool {
+    let mut next = from;
+    for element in set.iter() {
+        if *element != next {
+            return false;
+        }
+        next = next.wrapping_add(1);
+    }
+    next == to
+}
+
+// The store refuses its first node: each call returns the element that needs it, and nothing is in the set.
+fn first_refused<C: NodesMut<u64, ()> + Drop>(
+    rt: &impl Abort,
+    set: BTreeSet<u64, C>,
+    memory: &Refusing<Global>,
+) -> Result<(), Fail> {
+    let mut set = set;
+    memory.refuse(1);
+    let Err(refused) = set.insert(7) else {
+        return Err(Fail::from("not refused"));
+    };
+    assert_eq!(rt; (refused.cause, refused.key), (Cause::Store, 7));
+    memory.refuse(1);
+    let Err(refused) = set.replace(8) else {
+        return Err(Fail::from("not refused"));
+    };
+    assert_eq!(rt; (refused.cause, refused.key), (Cause::Store, 8));
+    let elements = [9u64, 10, 11];
+    let mut source = elements.iter().copied();
+    memory.refuse(1);
+    let Err(refused) = set.extend(&mut source) else {
+        return Err(Fail::from("not refused"));
+    };
+    assert_eq!(rt; (refused.cause, refused.key), (Cause::Store, 9));
+    assert_eq!(rt; source.next(), Some(10));
+    let mut lent = elements.iter();
+    memory.refuse(1);
+    let Err(refused) = set.extend_copied(&mut lent) else {
+        return Err(Fail::from("not refused"));
+    };
+    assert_eq!(rt; (refused.cause, refused.key), (Cause::Store, 9));
+    assert_eq!(rt; lent.next(), Some(&10));
+    assert!(rt; set.is_empty());
+    assert_eq!(rt; memory.refuses(), 0);
+    Ok(())
+}
+
+#[test]
+fn a_refused_element_is_returned(rt: HostRuntime) -> Result<(), Fail> {
+    let memory = Refusing::over(rt.alloc(), 0);
+    let set: BTreeSet<u64, SlabStore<Node<u64, ()>, &Refusing<Global>>> = BTreeSet::new(&memory);
+    first_refused(&rt, set, &memory)
+}
+
+// Appends the numbers from 1 to 43 to the set of 0, while an allocation is refused at this number: those before it are in the set, and
+// those after it in the other.
+fn append_refused<C: NodesMut<u64, ()> + Drop>(
+    rt: &impl Abort,
+    set: BTreeSet<u64, C>,
+    other: BTreeSet<u64, C>,
+    memory: &Refusing<Global>,
+    at: u64,
+    number: u64,
+) -> Result<(), Fail> {
+    let mut set = set;
+    let mut other = other;
+    assert!(rt; set.insert(0).is_ok());
+    for element in 1..44u64 {
+        assert!(rt; other.insert(element).is_ok());
+    }
+    memory.refuse(at);
+    let Err(refused) = set.append(&mut other) else {
+        return Err(Fail::from("not refused"));
+    };
+    assert_eq!(rt; (refused.cause, refused.key), (Cause::Store, number));
+    assert!(rt; has(&set, 0, number));
+    assert!(rt; has(&other, number.wrapping_add(1), 44));
+    Ok(())
+}
+
+// The store has room for 4 nodes first, and doubles it for the 5th node, which 18 needs, and the 9th, which 38 needs.
+#[test]
+fn an_append_stops_at_the_refused_element(rt: HostRuntime) -> Result<(), Fail> {
+    for (at, number) in [(1u64, 18u64), (2, 38)] {
+        let memory = Refusing::over(rt.alloc(), 0);
+        let plain = Refusing::over(rt.alloc(), 0);
+        let set: BTreeSet<u64, SlabStore<Node<u64, ()>, &Refusing<Global>>> =
+            BTreeSet::new(&memory);
+        let other: BTreeSet<u64, SlabStore<Node<u64, ()>, &Refusing<Global>>> =
+            BTreeSet::new(&plain);
+        append_refused(&rt, set, other, &memory, at, number)?;
+    }
+    Ok(())
+}
