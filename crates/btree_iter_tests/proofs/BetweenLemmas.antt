@@ -1,10 +1,24 @@
 -- A list whose elements in the middle are changed, from the front on.
 use Rattle.std.proofs.Common.{map as each}
-use Rattle.std.proofs.Common.{◌≡◌, ◌∙◌, ℕ, zero, suc, ◌+◌, ◌-◌, ◌<◌, ◌≤◌, Bool, true, false, cond, List, [], ◌∷◌, ◌++◌, Some, length, set, slice_get, take, drop, refl, sym, ap, arith}
+use Rattle.std.proofs.Common.{◌≡◌, ◌∙◌, ℕ, zero, suc, ◌+◌, ◌-◌, ◌<◌, ◌≤◌, Bool, true, false, cond, not, nat_lt, inl, inr, List, [], ◌∷◌, ◌++◌, Some, length, set, slice_get, take, drop, refl, sym, ap, arith}
+use Rattle.std.proofs.lemmas.Bool.{cases_Bool, ltb-false, ltb-true}
 use Rattle.std.proofs.lemmas.List.{take-append-drop}
 use Rattle.std.proofs.lemmas.List.Sums.{length-filter, sum_by-cons}
 use Rattle.std.specs.List.{count_by, filter}
 use Rattle.btree_iter_tests.proofs.ChangedLemmas.{changed}
+
+-- what it says that a cursor is empty, or not, of the places of its ends
+pub some-places : (m n : ℕ) (empty : Bool) → empty ≡ not (nat_lt m n) → empty ≡ false → m < n
+some-places m n empty told is = elim (cases_Bool (nat_lt m n)) [
+  | inl less ↦ ltb-true m n less
+  | inr more ↦ let no : empty ≡ true = told ∙ ap not more in absurd (cc)
+]
+
+pub none-places : (m n : ℕ) (empty : Bool) → empty ≡ not (nat_lt m n) → empty ≡ true → n ≤ m
+none-places m n empty told is = elim (cases_Bool (nat_lt m n)) [
+  | inl less ↦ let no : empty ≡ false = told ∙ ap not less in absurd (cc)
+  | inr more ↦ ltb-false m n more
+]
 
 module _ {X : Type 0} (f : X → X) where
   -- the elements from one place up to another are still to be changed

@@ -1,6 +1,6 @@
 //! The steps of a cursor over a range.
 ghost use mir.Syntax.{named};
-ghost use Rattle.std.specs.Prelude.{◌≡◌, ◌-◌, ◌↔◌, [], Some, true, IfSome, IfNone, IsTrue, length, not, slice_get};
+ghost use Rattle.std.specs.Prelude.{◌≡◌, ◌-◌, ◌↔◌, [], Some, true, IfSome, IfNone, IsTrue, length, nat_lt, not, slice_get};
 ghost use Rattle.std.specs.Borrow.{Lends, sem};
 ghost use Rattle.btree_shape.specs.TreeState.{pairs_of};
 ghost use Rattle.btree_map.specs.RangeCursor.{WritesFirstInRange, WritesLastInRange, past_first, past_last, range_back, range_front, range_left};
@@ -16,6 +16,7 @@ impl<'a, K: Ord, V, C: NodesMut<K, V>> RangeMut<'a, K, V, C> {
     /// Returns whether no pair is left. It reads no node. How many are left is not known.
     pub fn is_empty(&self) -> bool
         ensures value { result ≡ not self.now.any_left }
+        ensures places { result ≡ not (nat_lt (range_front self.now) (range_back self.now)) }
         ensures none { IsTrue result ↔ (range_left self.now ≡ []) }
     {
         // For the prover: the tree is well formed.
