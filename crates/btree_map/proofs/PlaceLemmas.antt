@@ -1,10 +1,10 @@
 -- How many pairs are before the start bound of a range, and how many are up to its end bound.
-use Rattle.std.proofs.Common.{◌≡◌, ◌∙◌, ℕ, zero, suc, ◌+◌, ◌-◌, ◌<◌, ◌≤◌, Bool, true, false, not, cond, List, [], ◌∷◌, ◌++◌, Result, Ok, Err, if◌then◌else◌, length, take, drop, length-append, slice_get, nat_lt, is_some, inl, inr, Option, Some, None, refl, sym, ap, arith}
+use Rattle.std.proofs.Common.{◌≡◌, ◌∙◌, ℕ, zero, suc, ◌+◌, ◌-◌, ◌<◌, Bool, true, false, not, cond, List, [], ◌∷◌, ◌++◌, Result, Ok, Err, if◌then◌else◌, length, take, drop, length-append, slice_get, nat_lt, is_some, inl, inr, Option, Some, None, refl, sym, ap, arith}
 use Rattle.std.proofs.lemmas.Bool.{cases_Bool, cases_eq, le-ltb, lt-ltb, ltb-false, ltb-true}
-use Rattle.std.proofs.lemmas.Option.{same_Some, slice_get_within}
+use Rattle.std.proofs.lemmas.Option.{same_Some}
 use Rattle.std.proofs.lemmas.List.{drop_at}
-use Rattle.std.proofs.lemmas.List.Sums.{count_by-le-length, length-filter, sum_by-cons}
-use Rattle.std.specs.BTreeMap.Range.{entries_between, is_from_start, is_past_end, range_contains}
+use Rattle.std.proofs.lemmas.List.Sums.{length-filter, sum_by-cons}
+use Rattle.std.specs.BTreeMap.Range.{entries_between, is_from_start, range_contains}
 use Rattle.std.specs.Cmp.{IsTotalOrder, tied_itself}
 use Rattle.std.specs.List.{AllByRecursion, count_by}
 use Rattle.std.specs.Ordering.{is_eq, is_le, is_lt, ordering_reverse}
@@ -15,7 +15,7 @@ use Rattle.std.specs.declared.ops.Bound.TheVariants.{Included, Excluded, Unbound
 use Rattle.btree_item.specs.Pairs.{before, found, place_of}
 use Rattle.btree_item.proofs.PairLemmas.{before-from_Ok}
 use Rattle.btree_shape.proofs.LookUp.KeyInList.{Rises}
-use Rattle.btree_walk.proofs.BoundLemmas.{all-so, between-take, end-cut, from-start, start-cut, until-end}
+use Rattle.btree_walk.proofs.BoundLemmas.{all-so, between-take, from-start, start-cut}
 use Rattle.btree_map.specs.Spans.{from_place, to_place}
 
 module _ {X : Type 0} where

@@ -2,7 +2,7 @@
 -- What is left are the pairs from place `range_front` up to place `range_back`: `range_left`. A step from the front lends
 -- the value at `range_front`, and a step from the back the one before `range_back`; `WritesPlace` says what is behind the
 -- cursor then.
-use Rattle.std.proofs.Common.{◌≡◌, ◌∙◌, ℕ, ◌+◌, ◌-◌, List, [], ◌∷◌, ◌++◌, Option, drop, nat_lt, refl, slice_get, subst, sym, take, ap}
+use Rattle.std.proofs.Common.{◌≡◌, ℕ, ◌+◌, ◌-◌, List, [], ◌∷◌, ◌++◌, drop, nat_lt, slice_get, subst, sym, take, ap}
 use Rattle.std.specs.declared.cmp.Ord as ord
 use Rattle.std.specs.declared.cmp.PartialEq as eq
 use Rattle.std.specs.declared.cmp.PartialOrd as partial
