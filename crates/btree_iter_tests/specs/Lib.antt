@@ -1,1 +1,2 @@
+pub mod AddBetween
 pub mod AddOne

@@ -135,7 +135,7 @@ fn gives_a_whole_map(rt: HostRuntime) {
 }
 
 // Returns whether a key is between two bounds.
-fn is_between(key: u64, start: &Bound<u64>, end: &Bound<u64>) -> bool {
+pub(crate) fn is_between(key: u64, start: &Bound<u64>, end: &Bound<u64>) -> bool {
     let from = match start {
         Bound::Included(low) => *low <= key,
         Bound::Excluded(low) => *low < key,

@@ -4,6 +4,8 @@
 #[cfg(test)]
 mod between;
 #[cfg(test)]
+mod between_mut;
+#[cfg(test)]
 mod borrowed;
 #[cfg(test)]
 mod cursors;

@@ -17,10 +17,14 @@ use Rattle.btree_map.specs.Cursor.{WritesPlace, or_nowhere}
 use Rattle.btree_map.specs.WrittenAddresses.{written-addresses}
 use Rattle.btree_map.proofs.EntryLemmas.{item-valid}
 
-get_none : {X : Type 0} (list : List X) (n : ℕ) → slice_get list n ≡ None → length list ≤ n
+pub get_none : {X : Type 0} (list : List X) (n : ℕ) → slice_get list n ≡ None → length list ≤ n
 get_none [] n none = omega arith
 get_none (x ∷ xs) zero none = absurd (cc)
 get_none (x ∷ xs) (suc n) none = let low = get_none xs n none in omega arith
+
+pub before-listed : {K V : Type 0} (s : TreeState K V) (n : ℕ) (found : Option Address) → IsItemBefore s n found → found ≡ prior (item_addresses_of s) n
+before-listed s zero found is = is
+before-listed s (suc n) found is = is.listed
 
 module _ {K V : Type 0} (cmp : K → K → Ordering) (laws : IsTotalOrder cmp) (s : TreeState K V) (tree : IsBTree cmp s) (a : Address) (place : ℕ)
     (listed : slice_get (item_addresses_of s) place ≡ Some a) where
@@ -42,14 +46,10 @@ module _ {K V : Type 0} (cmp : K → K → Ordering) (laws : IsTotalOrder cmp) (
       let one : suc n.place ≡ place + 1 = omega arith in
       (n.after right.0).listed ∙ ap (slice_get (item_addresses_of s)) one
 
-  before-listed : (n : ℕ) (found : Option Address) → IsItemBefore s n found → found ≡ prior (item_addresses_of s) n
-  before-listed zero found is = is
-  before-listed (suc n) found is = is.listed
-
   pub listed-before : (found : Option Address) → IsPrevious s a found → found ≡ prior (item_addresses_of s) place
   listed-before found p =
       let same : place ≡ p.place = p.has.only place right.1 in
-      before-listed p.place found p.item ∙ ap (prior (item_addresses_of s)) (sym same)
+      before-listed s p.place found p.item ∙ ap (prior (item_addresses_of s)) (sym same)
 
   pub listed-written : (k : K) (was w : V) → item_of s a ≡ Some (k, was) → IsValueExchanged s (value_written s a w) a cmp was w
       → WritesPlace cmp s (value_written s a w) a place k was w

@@ -8,3 +8,7 @@ pub mod CursorLemmas
 pub mod SameCursor
 pub mod SpanLemmas
 pub mod CursorSteps
+pub mod IndexLemmas
+pub mod PlaceLemmas
+pub mod RangeStarts
+pub mod RangeSteps

@@ -4,5 +4,8 @@ pub mod Lent
 pub mod Removal
 pub mod Extension
 pub mod Written
+pub mod Spans
+pub mod SpanLaws
 pub mod WrittenAddresses
 pub mod Cursor
+pub mod RangeCursor

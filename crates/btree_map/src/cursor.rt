@@ -1,9 +1,12 @@
 //! The types of the cursors.
-ghost use Rattle.std.specs.Prelude.{◌≡◌, ◌≤◌, length, slice_get};
+ghost use Rattle.std.specs.Prelude.{◌≡◌, ◌≤◌, length, nat_lt, slice_get};
 ghost use Rattle.btree_shape.specs.TreeAddresses.{item_addresses_of};
 ghost use Rattle.btree_shape.specs.Visits.{prior};
+ghost use Rattle.btree_map.specs.Spans.{index_after, index_of};
 
 mod pairs;
+mod range_pairs;
+mod ranges;
 mod starts;
 mod values;
 
@@ -39,4 +42,23 @@ pub struct ValuesMut<'a, K: Ord, V, C: NodesMut<K, V>> {
     pub(crate) back: usize,
     ghost first_stands: { first ≡ slice_get (item_addresses_of map.now) front },
     ghost within: { back ≤ length (item_addresses_of map.now) },
+}
+
+/// A cursor over the pairs of a map between two bounds, in the order of the keys and from both ends, that lends one value for writing at a
+/// time.
+///
+/// It is no `Iterator`, since a value is lent only until the next call.
+#[derive(Drop)]
+pub struct RangeMut<'a, K: Ord, V, C: NodesMut<K, V>> {
+    pub(crate) map: &'a mut BTreeMap<K, V, C>,
+    // The address of the first item from the start on that is not passed, and that of the last one up to the end.
+    pub(crate) first: Option<Address>,
+    pub(crate) last: Option<Address>,
+    pub(crate) any_left: bool,
+    ghost first_stands: { first ≡
+        slice_get (item_addresses_of map.now) (index_of (item_addresses_of map.now) first) },
+    ghost last_stands: { last ≡
+        prior (item_addresses_of map.now) (index_after (item_addresses_of map.now) last) },
+    ghost ordered: { any_left ≡ nat_lt (index_of (item_addresses_of map.now) first)
+        (index_after (item_addresses_of map.now) last) },
 }

@@ -21,8 +21,8 @@ pub mod generic {
         pub use btree_ext::{BTreeExt, BTreeExtMut, Tree};
         pub use btree_item::{Cause, Fault, M, Refused, UpdateRefused};
         pub use btree_map::{
-            BTreeMap, Entry, IntoIter, IntoKeys, IntoValues, IterMut, OccupiedEntry, VacantEntry,
-            ValuesMut,
+            BTreeMap, Entry, IntoIter, IntoKeys, IntoValues, IterMut, OccupiedEntry, RangeMut,
+            VacantEntry, ValuesMut,
         };
         pub use btree_raw::RawBTree;
         pub use btree_walk::{Iter, Keys, Range, Values, is_valid_range};

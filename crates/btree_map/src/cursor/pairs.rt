@@ -3,7 +3,7 @@ ghost use mir.Syntax.{named};
 ghost use Rattle.std.specs.Prelude.{◌≡◌, ◌+◌, ◌-◌, ◌<◌, ℕ, [], Some, IfSome, IfNone, length, slice_get};
 ghost use Rattle.std.specs.Borrow.{Lends, sem};
 ghost use Rattle.btree_shape.specs.TreeAddresses.{item_addresses_of};
-ghost use Rattle.btree_shape.specs.TreeState.{IsOccupiedIn, pairs_of};
+ghost use Rattle.btree_shape.specs.TreeState.{IsBTree, IsOccupiedIn, pairs_of};
 ghost use Rattle.btree_shape.specs.Visits.{prior};
 ghost use Rattle.btree_map.specs.Cursor.{WritesFirst, WritesLast, pairs_left, past_back, past_front};
 ghost use Rattle.btree_map.specs.contracts.cursor.IterMut.{the_row};
@@ -20,6 +20,7 @@ pub(crate) fn address_after<K: Ord, V, C: NodesMut<K, V>>(
     addr: Address,
 ) -> Option<Address>
     requires { (place : ℕ) × (slice_get (item_addresses_of map.now) place ≡ Some addr) }
+    ensures tree { IsBTree K.cmp map.now }
     ensures occupied { IsOccupiedIn map.now addr }
     ensures after { (place : ℕ) → slice_get (item_addresses_of map.now) place ≡ Some addr →
         result ≡ slice_get (item_addresses_of map.now) (place + 1) }
@@ -30,11 +31,12 @@ pub(crate) fn address_after<K: Ord, V, C: NodesMut<K, V>>(
 }
 
 // Returns the address of the item before the one at an address.
-fn address_before<K: Ord, V, C: NodesMut<K, V>>(
+pub(crate) fn address_before<K: Ord, V, C: NodesMut<K, V>>(
     map: &BTreeMap<K, V, C>,
     addr: Address,
 ) -> Option<Address>
     requires { (place : ℕ) × (slice_get (item_addresses_of map.now) place ≡ Some addr) }
+    ensures tree { IsBTree K.cmp map.now }
     ensures occupied { IsOccupiedIn map.now addr }
     ensures before { (place : ℕ) → slice_get (item_addresses_of map.now) place ≡ Some addr →
         result ≡ prior (item_addresses_of map.now) place }

@@ -1,0 +1,113 @@
+-- Where a cursor over a range starts: the addresses of its two ends, by the bounds.
+use Rattle.std.proofs.Common.{◌≡◌, ◌∙◌, suc, ◌-◌, List, Option, Some, drop, length, nat_lt, not, slice_get, sym, take, ap, arith}
+use Rattle.std.proofs.lemmas.List.Sums.{count_by-le-length}
+use Rattle.std.specs.BTreeMap.Range.{entries_between, is_from_start, is_past_end}
+use Rattle.std.specs.Cmp.{IsTotalOrder}
+use Rattle.std.specs.Ordering.{is_le}
+use Rattle.std.specs.declared.cmp.Ordering.{Ordering}
+use Rattle.std.specs.declared.ops.Bound.{Bound}
+use Rattle.std.specs.declared.ops.Bound.TheVariants.{Included, Excluded, Unbounded}
+use Rattle.btree_item.proofs.PairLemmas.{before-from_Err, before-from_Ok, found-from_Err}
+use Rattle.btree_item.specs.declared.address.Address.{Address}
+use Rattle.btree_shape.proofs.AddressLists.Whole.{addresses-tree}
+use Rattle.btree_shape.proofs.LookUp.KeyInList.{Rises, rises}
+use Rattle.btree_shape.proofs.Places.OnePlace.{one_place-well}
+use Rattle.btree_shape.specs.TreeAddresses.{item_addresses_of}
+use Rattle.btree_shape.specs.TreeState.{TreeState, IsBTree, item_of, node_map, pairs_of}
+use Rattle.btree_shape.specs.Visits.{prior}
+use Rattle.btree_find.specs.Answers.{IsFoundAt, IsGapAt}
+use Rattle.btree_find.specs.Ends.{IsFirstItem, IsLastItem}
+use Rattle.btree_find.specs.Navigation.{IsNext, IsNormalized, IsPrevious}
+use Rattle.btree_map.specs.Spans.{from_place, index_after, index_of, to_place}
+use Rattle.btree_map.proofs.CursorLemmas.{before-listed, listed-item}
+use Rattle.btree_map.proofs.IndexLemmas.{IsOnce, after-is, index-is}
+use Rattle.btree_map.proofs.PlaceLemmas.{below-end, below-place, between-places, count-all, count-none, order-of, past-found, past-missing, up_to-found, up_to-missing}
+
+module _ {K V : Type 0} (cmp : K → K → Ordering) (laws : IsTotalOrder cmp) (s : TreeState K V) (tree : IsBTree cmp s) where
+  abbrev list : List Address
+  list = item_addresses_of s
+
+  abbrev pairs : List (K × V)
+  pairs = pairs_of s
+
+  up : Rises cmp pairs
+  up = rises cmp pairs tree.ascends
+
+  pub once : IsOnce list
+  once i j a p q =
+      let at = (addresses-tree cmp laws s tree).items.right in
+      one_place-well cmp laws (node_map s) pairs s.len s.root tree a.id a.offset i j (at i a p).1 (at j a q).1
+
+  -- without a bound
+  pub whole-first : (found : Option Address) → IsFirstItem s found → found ≡ slice_get list (from_place cmp Unbounded pairs)
+  whole-first found x = x.item.listed ∙ ap (slice_get list) (sym (count-none pairs))
+
+  pub whole-last : (found : Option Address) → IsLastItem s found → found ≡ prior list (to_place cmp Unbounded pairs)
+  whole-last found x = before-listed s (length pairs) found x.item ∙ ap (prior list) (sym (count-all pairs))
+
+  -- at a key that is there, or at the gap where it would be
+  module _ (k : K) where
+    pub found-first : (a : Address) → IsFoundAt cmp k s a → Some a ≡ slice_get list (from_place cmp (Included k) pairs)
+    found-first a x = sym x.listed ∙ ap (slice_get list) (sym (below-place cmp laws k pairs ∙ before-from_Ok cmp k pairs x.place x.is))
+
+    pub gap-first : (gap : Address) (found : Option Address) → IsGapAt cmp k s gap → IsNormalized s gap found
+        → found ≡ slice_get list (from_place cmp (Included k) pairs)
+    gap-first gap found x n =
+        n.item.listed
+        ∙ ap (slice_get list) (sym (n.has.only x.place x.at) ∙ sym (below-place cmp laws k pairs ∙ before-from_Err cmp k pairs x.place x.is))
+
+    pub found-after : (a : Address) (found : Option Address) → IsFoundAt cmp k s a → IsNext s a found → found ≡ slice_get list (from_place cmp (Excluded k) pairs)
+    found-after a found x n =
+        (n.after x.occupied).listed
+        ∙ ap (λ m. slice_get list (suc m)) (sym (n.has.only x.place x.at))
+        ∙ ap (slice_get list) (sym (past-found cmp laws k pairs x.place up x.is))
+
+    pub gap-after : (gap : Address) (found : Option Address) → IsGapAt cmp k s gap → IsNormalized s gap found
+        → found ≡ slice_get list (from_place cmp (Excluded k) pairs)
+    gap-after gap found x n =
+        let absent = found-from_Err cmp k pairs x.place x.is in
+        n.item.listed
+        ∙ ap (slice_get list)
+        (sym (n.has.only x.place x.at) ∙ sym (past-missing cmp laws k pairs up absent ∙ before-from_Err cmp k pairs x.place x.is))
+
+    pub found-last : (a : Address) → IsFoundAt cmp k s a → Some a ≡ prior list (to_place cmp (Included k) pairs)
+    found-last a x = sym x.listed ∙ ap (prior list) (sym (up_to-found cmp laws k pairs x.place up x.is))
+
+    pub gap-last : (gap : Address) (found : Option Address) → IsGapAt cmp k s gap → IsPrevious s gap found
+        → found ≡ prior list (to_place cmp (Included k) pairs)
+    gap-last gap found x p =
+        let absent = found-from_Err cmp k pairs x.place x.is in
+        before-listed s p.place found p.item
+        ∙ ap (prior list)
+        (sym (p.has.only x.place x.at) ∙ sym (up_to-missing cmp laws k pairs up absent ∙ before-from_Err cmp k pairs x.place x.is))
+
+    pub found-before : (a : Address) (found : Option Address) → IsFoundAt cmp k s a → IsPrevious s a found → found ≡ prior list (to_place cmp (Excluded k) pairs)
+    found-before a found x p =
+        before-listed s p.place found p.item
+        ∙ ap (prior list) (sym (p.has.only x.place x.at) ∙ sym (below-end cmp laws k pairs ∙ before-from_Ok cmp k pairs x.place x.is))
+
+    pub gap-before : (gap : Address) (found : Option Address) → IsGapAt cmp k s gap → IsPrevious s gap found
+        → found ≡ prior list (to_place cmp (Excluded k) pairs)
+    gap-before gap found x p =
+        before-listed s p.place found p.item
+        ∙ ap (prior list) (sym (p.has.only x.place x.at) ∙ sym (below-end cmp laws k pairs ∙ before-from_Err cmp k pairs x.place x.is))
+
+  -- the pairs from the first end up to the last one are those between the bounds
+  module _ (lo hi : Bound K) (first last : Option Address) (first_is : first ≡ slice_get list (from_place cmp lo pairs))
+      (last_is : last ≡ prior list (to_place cmp hi pairs)) where
+    pub between-ends : take (index_after list last - index_of list first) (drop (index_of list first) pairs) ≡ entries_between cmp lo hi pairs
+    between-ends =
+        let long = (addresses-tree cmp laws s tree).items.counted in
+        let low = count_by-le-length (λ (x : K × V). not (is_from_start cmp lo x.0)) pairs in
+        let high = count_by-le-length (λ (x : K × V). not (is_past_end cmp hi x.0)) pairs in
+        let front : index_of list first ≡ from_place cmp lo pairs = index-is list once (from_place cmp lo pairs) first first_is (omega arith) in
+        let back : index_after list last ≡ to_place cmp hi pairs = after-is list once (to_place cmp hi pairs) last last_is (omega arith) in
+        (λ i. take (back i - front i) (drop (front i) pairs)) ∙ sym (between-places laws pairs up lo hi)
+
+  -- two items are in the order of their keys
+  pub ends-ordered : (a b : Address) (x y : K × V) → slice_get list (index_of list (Some a)) ≡ Some a → slice_get list (index_of list (Some b)) ≡ Some b
+      → item_of s a ≡ Some x → item_of s b ≡ Some y → is_le (cmp x.0 y.0) ≡ nat_lt (index_of list (Some a)) (index_after list (Some b))
+  ends-ordered a b x y at_a at_b is_a is_b =
+      order-of cmp laws pairs (index_of list (Some a)) (index_of list (Some b)) x y up
+      (sym (listed-item cmp laws s tree a (index_of list (Some a)) at_a) ∙ is_a)
+      (sym (listed-item cmp laws s tree b (index_of list (Some b)) at_b) ∙ is_b)

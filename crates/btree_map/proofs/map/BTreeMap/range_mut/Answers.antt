@@ -1,0 +1,25 @@
+use Rattle.btree_shape.specs.TreeAddresses.{item_addresses_of}
+use Rattle.btree_walk.specs.Bounds.{bound_key}
+use Rattle.btree_map.proofs.RangeStarts.{between-ends}
+use Rattle.btree_map.proofs.RangeSteps.{stands-first, stands-last}
+use Rattle.btree_map.proofs.map.BTreeMap.range_mut.Goals as goal
+
+pub are_in_order-any_left-requires-clause-first : goal.are_in_order-any_left-requires-clause-first
+are_in_order-any_left-requires-clause-first g c =
+    stands-first (item_addresses_of c.args.self.now) c.first_from-first.result _ c.first_from-first.ensures
+
+pub are_in_order-any_left-requires-clause-last : goal.are_in_order-any_left-requires-clause-last
+are_in_order-any_left-requires-clause-last g c =
+    stands-last (item_addresses_of c.args.self.now) c.last_up_to-last.result _ c.last_up_to-last.ensures
+
+pub invariant_of-result : goal.invariant_of-result
+invariant_of-result g c = record {
+  first_stands = stands-first (item_addresses_of c.args.self.now) c.first_from-first.result _ c.first_from-first.ensures;
+  last_stands = stands-last (item_addresses_of c.args.self.now) c.last_up_to-last.result _ c.last_up_to-last.ensures;
+  ordered = c.are_in_order-any_left.ensures.value;
+}
+
+pub returns-clause-between : goal.returns-clause-between
+returns-clause-between g c =
+    between-ends g.K.Ord.cmp g.met.K.Ord.total c.args.self.now c.are_in_order-any_left.ensures.tree (bound_key c.args.range.0) (bound_key c.args.range.1)
+    c.first_from-first.result c.last_up_to-last.result c.first_from-first.ensures c.last_up_to-last.ensures

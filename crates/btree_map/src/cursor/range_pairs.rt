@@ -1,0 +1,103 @@
+//! The steps of a cursor over a range.
+ghost use mir.Syntax.{named};
+ghost use Rattle.std.specs.Prelude.{◌≡◌, ◌-◌, ◌↔◌, [], Some, true, IfSome, IfNone, IsTrue, length, nat_lt, not, slice_get};
+ghost use Rattle.std.specs.Borrow.{Lends, sem};
+ghost use Rattle.btree_shape.specs.TreeState.{pairs_of};
+ghost use Rattle.btree_map.specs.RangeCursor.{WritesFirstInRange, WritesLastInRange, past_first, past_last, range_back, range_front, range_left};
+ghost use Rattle.btree_map.specs.contracts.cursor.RangeMut.{the_row};
+
+use crate::cursor::RangeMut;
+use crate::cursor::pairs::{address_after, address_before};
+use btree_ext::{BTreeExt, BTreeExtMut};
+use btree_item::Address;
+use btree_nodes::NodesMut;
+
+impl<'a, K: Ord, V, C: NodesMut<K, V>> RangeMut<'a, K, V, C> {
+    /// Returns whether no pair is left. It reads no node. How many are left is not known.
+    pub fn is_empty(&self) -> bool
+        ensures value { result ≡ not self.now.any_left }
+        ensures places { result ≡ not (nat_lt (range_front self.now) (range_back self.now)) }
+        ensures none { IsTrue result ↔ (range_left self.now ≡ []) }
+    {
+        // For the prover: the tree is well formed.
+        let _root = self.map.root_id();
+        !self.any_left
+    }
+}
+
+impl<'a, K: Ord + Drop, V: Drop, C: NodesMut<K, V>> RangeMut<'a, K, V, C> {
+    /// Returns the key of the first pair that is left, and its value for writing. What is written replaces the value, and nothing else
+    /// changes: the key stays, and so does every address. It reads at most one node of each level, compares no keys, needs no new node and
+    /// cannot fail.
+    ///
+    /// A pair must be left: `is_empty` decides that. `next` returns `None` if there is none.
+    pub fn next_pair(&mut self) -> (&K, &mut V)
+        requires { self.old.any_left ≡ true }
+        ensures* writes_back { sem 𝓛 (Lends
+            (the_row (record { mir = named 1; lft = [] }) K.row V.row C.row C.Origin.row
+            (record { cmp = K.cmp }) (record { eq = K.eq }) (record { partial_cmp = K.partial_cmp })
+            (record { MayRefuse = C.MayRefuse; Fits = C.Fits; written = C.written })
+            (record { content = C.content; refusals = C.refusals; CanHold = C.CanHold }))
+            V.row self.entry result.1 (past_first self.old)) }
+        ensures pair { slice_get (pairs_of self.old.map.now) (range_front self.old) ≡
+            Some (result.0.now, result.1.now) }
+        ensures writes { (w : V) → WritesFirstInRange self.old result.0.now result.1.now w }
+    {
+        let Some(at) = self.first else {
+            unreachable!();
+        };
+        self.any_left = self.first != self.last;
+        self.first = address_after(self.map, Address::new(at.id, at.offset));
+        self.map.pair_mut(at)
+    }
+
+    /// Returns the key of the last pair that is left, and its value for writing, as `next_pair` does of the first one.
+    pub fn next_back_pair(&mut self) -> (&K, &mut V)
+        requires { self.old.any_left ≡ true }
+        ensures* writes_back { sem 𝓛 (Lends
+            (the_row (record { mir = named 1; lft = [] }) K.row V.row C.row C.Origin.row
+            (record { cmp = K.cmp }) (record { eq = K.eq }) (record { partial_cmp = K.partial_cmp })
+            (record { MayRefuse = C.MayRefuse; Fits = C.Fits; written = C.written })
+            (record { content = C.content; refusals = C.refusals; CanHold = C.CanHold }))
+            V.row self.entry result.1 (past_last self.old)) }
+        ensures pair { slice_get (pairs_of self.old.map.now) (range_back self.old - 1) ≡
+            Some (result.0.now, result.1.now) }
+        ensures writes { (w : V) → WritesLastInRange self.old result.0.now result.1.now w }
+    {
+        let Some(at) = self.last else {
+            unreachable!();
+        };
+        self.any_left = self.first != self.last;
+        self.last = address_before(self.map, Address::new(at.id, at.offset));
+        self.map.pair_mut(at)
+    }
+
+    /// Returns the key of the first pair that is left, and its value for writing, or `None` if no pair is left.
+    ///
+    /// The contract does not say what the map is after the value was written; that of `next_pair` does.
+    pub fn next(&mut self) -> Option<(&K, &mut V)>
+        ensures pair { IfSome result (λ p.
+            slice_get (range_left self.old) 0 ≡ Some (p.0.now, p.1.now)) }
+        ensures none { IfNone result (range_left self.old ≡ []) }
+    {
+        if self.is_empty() {
+            return None;
+        }
+        Some(self.next_pair())
+    }
+
+    /// Returns the key of the last pair that is left, and its value for writing, or `None` if no pair is left.
+    ///
+    /// The contract does not say what the map is after the value was written; that of `next_back_pair` does.
+    pub fn next_back(&mut self) -> Option<(&K, &mut V)>
+        ensures pair { IfSome result (λ p.
+            slice_get (range_left self.old) (length (range_left self.old) - 1) ≡
+            Some (p.0.now, p.1.now)) }
+        ensures none { IfNone result (range_left self.old ≡ []) }
+    {
+        if self.is_empty() {
+            return None;
+        }
+        Some(self.next_back_pair())
+    }
+}

@@ -1,0 +1,118 @@
+//! Where a cursor over a range starts.
+ghost use Rattle.std.specs.Prelude.{◌≡◌, nat_lt, slice_get};
+ghost use Rattle.btree_shape.specs.TreeAddresses.{item_addresses_of};
+ghost use Rattle.btree_shape.specs.TreeState.{IsBTree, pairs_of};
+ghost use Rattle.btree_shape.specs.Visits.{prior};
+ghost use Rattle.btree_walk.specs.Bounds.{IsValidRange, bound_key, pairs_between};
+ghost use Rattle.btree_map.specs.RangeCursor.{range_left};
+ghost use Rattle.btree_map.specs.Spans.{from_place, index_after, index_of, to_place};
+
+use crate::BTreeMap;
+use crate::cursor::RangeMut;
+use btree_ext::BTreeExt;
+use btree_item::Address;
+use btree_nodes::NodesMut;
+use std::ops::Bound;
+
+// Returns the address of the first item that is not before a start bound.
+fn first_from<K: Ord, V, C: NodesMut<K, V>>(
+    map: &BTreeMap<K, V, C>,
+    start: Bound<&K>,
+) -> Option<Address>
+    ensures { result ≡ slice_get (item_addresses_of map.now)
+        (from_place K.cmp (bound_key start.entry) (pairs_of map.now)) }
+{
+    // For the prover: the tree is well formed.
+    let _root = map.root_id();
+    match start {
+        Bound::Unbounded => return map.first_item_address(),
+        Bound::Included(key) => match map.address_of(key) {
+            Ok(at) => return Some(at),
+            Err(gap) => return map.normalize(gap),
+        },
+        Bound::Excluded(key) => match map.address_of(key) {
+            Ok(at) => return map.next_item_address(at),
+            Err(gap) => return map.normalize(gap),
+        },
+    }
+}
+
+// Returns the address of the last item that is not past an end bound.
+fn last_up_to<K: Ord, V, C: NodesMut<K, V>>(
+    map: &BTreeMap<K, V, C>,
+    end: Bound<&K>,
+) -> Option<Address>
+    ensures { result ≡ prior (item_addresses_of map.now)
+        (to_place K.cmp (bound_key end.entry) (pairs_of map.now)) }
+{
+    // For the prover: the tree is well formed.
+    let _root = map.root_id();
+    match end {
+        Bound::Unbounded => return map.last_item_address(),
+        Bound::Included(key) => match map.address_of(key) {
+            Ok(at) => return Some(at),
+            Err(gap) => return map.previous_item_address(gap),
+        },
+        Bound::Excluded(key) => match map.address_of(key) {
+            Ok(at) => return map.previous_item_address(at),
+            Err(gap) => return map.previous_item_address(gap),
+        },
+    }
+}
+
+// Returns whether both items are there, and the first is not after the last.
+fn are_in_order<K: Ord, V, C: NodesMut<K, V>>(
+    map: &BTreeMap<K, V, C>,
+    first: &Option<Address>,
+    last: &Option<Address>,
+) -> bool
+    requires first { first.now ≡ slice_get (item_addresses_of map.now)
+        (index_of (item_addresses_of map.now) first.now) }
+    requires last { last.now ≡ prior (item_addresses_of map.now)
+        (index_after (item_addresses_of map.now) last.now) }
+    ensures tree { IsBTree K.cmp map.now }
+    ensures value { result ≡ nat_lt (index_of (item_addresses_of map.now) first.now)
+        (index_after (item_addresses_of map.now) last.now) }
+{
+    // For the prover: the tree is well formed.
+    let _root = map.root_id();
+    let Some(low) = *first else {
+        return false;
+    };
+    let Some(high) = *last else {
+        return false;
+    };
+    let Some(low) = map.item(low) else {
+        unreachable!();
+    };
+    let Some(high) = map.item(high) else {
+        unreachable!();
+    };
+    low.key().cmp(high.key()).is_le()
+}
+
+impl<K: Ord, V, C: NodesMut<K, V>> BTreeMap<K, V, C> {
+    /// Returns a cursor over the pairs whose keys are between two bounds, each of them included, excluded or absent, which lends their
+    /// values for writing. The start must be at most the end, and they may not be equal if both are excluded: `is_valid_range` tells.
+    ///
+    /// It reads at most four nodes of each level and two more, makes at most twelve comparisons at each level and one more, and allocates
+    /// no memory.
+    pub fn range_mut(&mut self, range: (Bound<&K>, Bound<&K>)) -> RangeMut<'_, K, V, C>
+        requires { IsValidRange K.cmp range }
+        ensures same_map { result.map.ghost_name ≡ self.entry.ghost_name }
+        ensures unchanged { result.map.now ≡ self.old }
+        ensures between { range_left result ≡
+            pairs_between K.cmp range.entry (pairs_of self.old) }
+    {
+        let (start, end) = range;
+        let first = first_from(self, start);
+        let last = last_up_to(self, end);
+        let any_left = are_in_order(self, &first, &last);
+        RangeMut {
+            map: self,
+            first,
+            last,
+            any_left,
+        }
+    }
+}
