@@ -10,6 +10,8 @@ mod entries;
 #[cfg(test)]
 mod extension;
 #[cfg(test)]
+mod in_turn;
+#[cfg(test)]
 mod keys;
 #[cfg(test)]
 mod named;
