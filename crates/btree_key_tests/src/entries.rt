@@ -131,6 +131,20 @@ fn shows_entries(rt: HostRuntime) -> Result<(), Fail> {
     assert_eq!(rt; map.insert(1, 2).ok(), Some(None));
     let occupied = format!(in rt.alloc(); "{:?}", map.entry(1))?;
     assert_eq!(rt; occupied.as_str(), "OccupiedEntry { key: 1, value: 2 }");
+    match map.entry(3) {
+        Entry::Vacant(entry) => {
+            let text = format!(in rt.alloc(); "{:?}", entry)?;
+            assert_eq!(rt; text.as_str(), "VacantEntry(3)");
+        }
+        Entry::Occupied(_) => return Err(Fail::from("3 is there")),
+    }
+    match map.entry(1) {
+        Entry::Occupied(entry) => {
+            let text = format!(in rt.alloc(); "{:?}", entry)?;
+            assert_eq!(rt; text.as_str(), "OccupiedEntry { key: 1, value: 2 }");
+        }
+        Entry::Vacant(_) => return Err(Fail::from("1 is not there")),
+    }
     Ok(())
 }
 

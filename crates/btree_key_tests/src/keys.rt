@@ -8,6 +8,7 @@ use btree_item::{Address, Item, Offset};
 use btree_map::BTreeMap;
 use btree_node::Node;
 use btree_nodes::NodesMut;
+use btree_refusing::Refusing;
 use btree_store::SlabStore;
 use std::alloc::Global;
 use std::cmp::Ordering;
@@ -135,32 +136,74 @@ fn maps_of_other_shapes_are_equal(rt: HostRuntime) -> Result<(), Fail> {
     Ok(())
 }
 
-// Returns whether the map and another with the keys from 0 to 8, in which `key` gets `value`, are equal, and how they compare.
-fn compare_with(
+// Inserts so many keys from 0 on, with the values 10 times the keys, and then a pair.
+fn put_keys<C: NodesMut<u64, u64>>(
     rt: &impl Abort,
-    base: &Map,
-    alloc: Global,
-    key: u64,
-    value: u64,
-) -> (bool, Ordering) {
-    let mut other = first_keys(rt, alloc, 9);
-    assert!(rt; other.insert(key, value).is_ok());
-    (base.same_items(&other), base.compare_items(&other))
+    map: &mut BTreeMap<u64, u64, C>,
+    count: u64,
+    pair: (u64, u64),
+) {
+    for key in 0..count {
+        assert!(rt; map.insert(key, key.wrapping_mul(10)).is_ok());
+    }
+    assert!(rt; map.insert(pair.0, pair.1).is_ok());
 }
 
-// Each row: a key and the value that it gets in the second map, and the order of the first map, in which the value of 3 is 30.
+// Checks how two maps, which may have different stores, compare.
+fn check_order<C: NodesMut<u64, u64>>(
+    rt: &impl Abort,
+    base: &Map,
+    other: &BTreeMap<u64, u64, C>,
+    order: Ordering,
+) {
+    assert_eq!(rt; base.same_items(other), order == Ordering::Equal);
+    assert_eq!(rt; other.same_items(base), order == Ordering::Equal);
+    assert_eq!(rt; base.compare_items(other), order);
+    assert_eq!(rt; other.compare_items(base), order.reverse());
+}
+
+// Checks the same of a map over a store of another type, with so many keys from 0 on and a pair.
+fn check_other_store<C: NodesMut<u64, u64> + Drop>(
+    rt: &impl Abort,
+    base: &Map,
+    origin: C::Origin,
+    count: u64,
+    pair: (u64, u64),
+    order: Ordering,
+) {
+    let mut other: BTreeMap<u64, u64, C> = BTreeMap::new(origin);
+    put_keys(rt, &mut other, count, pair);
+    check_order(rt, base, &other, order);
+}
+
+// The first map has the keys from 0 to 8. Each row: how many keys from 0 on the second map has, a pair that it gets then, and the order of
+// the first map.
 #[test]
 fn maps_are_ordered_by_their_pairs(rt: HostRuntime) {
     let base = first_keys(&rt, rt.alloc(), 9);
-    for (key, value, order) in [
-        (3, 30, Ordering::Equal),
-        (3, 31, Ordering::Less),
-        (3, 29, Ordering::Greater),
-        (9, 90, Ordering::Less),
+    for (count, pair, order) in [
+        (9, (3, 30), Ordering::Equal),
+        (9, (3, 31), Ordering::Less),
+        (9, (3, 29), Ordering::Greater),
+        (9, (9, 90), Ordering::Less),
+        (8, (3, 30), Ordering::Greater),
+        (8, (9, 0), Ordering::Less),
+        (3, (4, 0), Ordering::Less),
+        (0, (3, 0), Ordering::Less),
     ] {
-        let (same, found) = compare_with(&rt, &base, rt.alloc(), key, value);
-        assert_eq!(rt; found, order);
-        assert_eq!(rt; same, order == Ordering::Equal);
+        let mut other: Map = BTreeMap::new(rt.alloc());
+        put_keys(&rt, &mut other, count, pair);
+        check_order(&rt, &base, &other, order);
+        assert_eq!(rt;
+            (base.cmp(&other), other.cmp(&base)),
+            (order, order.reverse())
+        );
+        assert_eq!(rt; base.partial_cmp(&other), Some(order));
+        assert_eq!(rt; other.partial_cmp(&base), Some(order.reverse()));
+        let memory = Refusing::over(rt.alloc(), 0);
+        check_other_store::<SlabStore<Node<u64, u64>, &Refusing<Global>>>(
+            &rt, &base, &memory, count, pair, order,
+        );
     }
 }
 

@@ -2,11 +2,15 @@
 #![tactic(auto)]
 
 #[cfg(test)]
+mod callers;
+#[cfg(test)]
 mod clones;
 #[cfg(test)]
 mod entries;
 #[cfg(test)]
 mod extension;
+#[cfg(test)]
+mod in_turn;
 #[cfg(test)]
 mod keys;
 #[cfg(test)]

@@ -1,5 +1,5 @@
-//! Insertions by entries, and by an update, while the store has no memory.
-use btree_ext::BTreeExt;
+//! Insertions by entries, by a replacement, and by updates, while the store has no memory.
+use btree_ext::{BTreeExt, BTreeExtMut};
 use btree_item::{Cause, Refused, UpdateRefused};
 use btree_map::{BTreeMap, Entry};
 use btree_node::Node;
@@ -31,7 +31,7 @@ fn write_node(
 }
 
 // Returns the root's number, the length and every node as text.
-fn content_of<C: NodesMut<u64, u64>>(
+pub(crate) fn content_of<C: NodesMut<u64, u64>>(
     map: &BTreeMap<u64, u64, C>,
     alloc: Global,
 ) -> Result<String, Fail> {
@@ -44,7 +44,7 @@ fn content_of<C: NodesMut<u64, u64>>(
     Ok(text)
 }
 
-// The calls of an entry that insert, and an update whose action gives a value.
+// The calls of an entry that insert, a replacement, and updates whose action gives a value.
 #[derive(Clone, Copy, Debug, PartialEq)]
 enum Way {
     OrInsert,
@@ -52,7 +52,9 @@ enum Way {
     OrInsertWithKey,
     OrDefault,
     Insert,
+    Replace,
     Update,
+    UpdateIn,
 }
 
 // Inserts a key with the value 0 by an update. The action of a refused one has not been called: it gives the value afterwards.
@@ -71,8 +73,34 @@ fn put_by_update<C: NodesMut<u64, u64>>(
     }
 }
 
+// Does the same by an update that searches from the leaf of the gap, if there is a node.
+fn put_under_leaf<C: NodesMut<u64, u64>>(
+    rt: &impl Abort,
+    map: &mut BTreeMap<u64, u64, C>,
+    key: u64,
+) -> Result<u64, Refused<u64, u64>> {
+    if map.is_empty() {
+        return put_by_update(map, key);
+    }
+    let (Ok(at) | Err(at)) = map.address_of(&key);
+    assert!(rt;
+        map.has_node(at.id) && map.key_fits_in(at.id, &key),
+        "{key}"
+    );
+    match map.update_in(at.id, key, |_| (Some(0u64), 0u64)) {
+        Ok(answer) => Ok(answer),
+        Err(refused) => {
+            let UpdateRefused { cause, key, action } = refused;
+            let (given, _) = action(None);
+            let value = given.unwrap_or(1);
+            Err(Refused { cause, key, value })
+        }
+    }
+}
+
 // Inserts a key with the value 0 in one of the ways.
 fn put_by<C: NodesMut<u64, u64>>(
+    rt: &impl Abort,
     map: &mut BTreeMap<u64, u64, C>,
     way: Way,
     key: u64,
@@ -80,13 +108,20 @@ fn put_by<C: NodesMut<u64, u64>>(
     if way == Way::Update {
         return put_by_update(map, key);
     }
+    if way == Way::UpdateIn {
+        return put_under_leaf(rt, map, key);
+    }
+    if way == Way::Replace {
+        let old = map.replace(key, 0)?;
+        return Ok(old.map(|pair| pair.1).unwrap_or(0));
+    }
     let entry = map.entry(key);
     let lent = match way {
         Way::OrInsert => entry.or_insert(0)?,
         Way::OrInsertWith => entry.or_insert_with(|| 0)?,
         Way::OrInsertWithKey => entry.or_insert_with_key(|_| 0)?,
         Way::OrDefault => entry.or_default()?,
-        Way::Insert | Way::Update => match entry {
+        Way::Insert | Way::Replace | Way::Update | Way::UpdateIn => match entry {
             Entry::Vacant(vacant) => vacant.insert(0)?,
             Entry::Occupied(occupied) => occupied.into_mut(),
         },
@@ -106,7 +141,7 @@ fn is_refused<C: NodesMut<u64, u64> + Drop>(
 ) -> Result<bool, Fail> {
     let old = content_of(map, alloc)?;
     memory.refuse(1);
-    let result = put_by(map, way, key);
+    let result = put_by(rt, map, way, key);
     let met = memory.refuses() == 0;
     memory.refuse(0);
     match result {
@@ -117,7 +152,7 @@ fn is_refused<C: NodesMut<u64, u64> + Drop>(
                 (Cause::Store, key, 0, true)
             );
             assert_eq!(rt; content_of(map, alloc)?.as_str(), old.as_str());
-            assert_eq!(rt; put_by(map, way, key).ok(), Some(0));
+            assert_eq!(rt; put_by(rt, map, way, key).ok(), Some(0));
         }
     }
     assert_eq!(rt; map.len() as u64, key.wrapping_add(1));
@@ -165,7 +200,9 @@ fn a_refused_insertion_changes_nothing(rt: HostRuntime) -> Result<(), Fail> {
         Way::OrInsertWithKey,
         Way::OrDefault,
         Way::Insert,
+        Way::Replace,
         Way::Update,
+        Way::UpdateIn,
     ] {
         let memory = Refusing::over(rt.alloc(), 0);
         let all = count_allocated::<SlabStore<Node<u64, u64>, &Refusing<Global>>>(
