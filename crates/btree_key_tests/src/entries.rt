@@ -5,7 +5,7 @@ ghost use Rattle.btree_shape.specs.TreeState.{pairs_of};
 
 use btree_ext::BTreeExt;
 use btree_item::Refused;
-use btree_map::{BTreeMap, Entry};
+use btree_map::{BTreeMap, Entry, OccupiedEntry, VacantEntry};
 use btree_node::Node;
 use btree_nodes::NodesMut;
 use btree_store::SlabStore;
@@ -123,6 +123,21 @@ fn inserts_the_default_value(rt: HostRuntime) {
     }
 }
 
+// Returns the pair of an entry over a slab, the store that an entry has if none is named.
+fn pair_of(entry: &OccupiedEntry<'_, u64, u64>) -> (u64, u64) {
+    (*entry.key(), *entry.get())
+}
+
+// Returns the key that was asked for.
+fn asked(entry: &VacantEntry<'_, u64, u64>) -> u64 {
+    *entry.key()
+}
+
+// Returns the stored key, or the one that was asked for.
+fn key_of(entry: &Entry<'_, u64, u64>) -> u64 {
+    *entry.key()
+}
+
 #[test]
 fn shows_entries(rt: HostRuntime) -> Result<(), Fail> {
     let mut map: Map = BTreeMap::new(rt.alloc());
@@ -161,14 +176,11 @@ fn first_keys(rt: &impl Abort, alloc: Global, count: u64) -> Map {
 fn reads_and_writes_an_occupied_entry(rt: HostRuntime) -> Result<(), Fail> {
     let mut map = first_keys(&rt, rt.alloc(), 9);
     let found = map.address_of(&4).ok();
-    assert_eq!(rt; *map.entry(4).key(), 4);
+    assert_eq!(rt; key_of(&map.entry(4)), 4);
     assert_eq!(rt; Some(map.entry(4).address()), found);
     match map.entry(4) {
         Entry::Occupied(mut entry) => {
-            assert_eq!(rt;
-                (Some(entry.address()), *entry.key(), *entry.get()),
-                (found, 4, 40)
-            );
+            assert_eq!(rt; (Some(entry.address()), pair_of(&entry)), (found, (4, 40)));
             assert_eq!(rt; entry.insert(41), 40);
             *entry.get_mut() = 42;
             assert_eq!(rt; *entry.get(), 42);
@@ -184,11 +196,11 @@ fn reads_and_writes_an_occupied_entry(rt: HostRuntime) -> Result<(), Fail> {
 fn reads_a_vacant_entry(rt: HostRuntime) -> Result<(), Fail> {
     let mut map = first_keys(&rt, rt.alloc(), 9);
     let gap = map.address_of(&9).err();
-    assert_eq!(rt; *map.entry(9).key(), 9);
+    assert_eq!(rt; key_of(&map.entry(9)), 9);
     assert_eq!(rt; Some(map.entry(9).address()), gap);
     match map.entry(9) {
         Entry::Vacant(entry) => {
-            assert_eq!(rt; (Some(entry.address()), *entry.key()), (gap, 9));
+            assert_eq!(rt; (Some(entry.address()), asked(&entry)), (gap, 9));
             assert_eq!(rt; entry.into_key(), 9);
         }
         Entry::Occupied(_) => return Err(Fail::from("9 is there")),

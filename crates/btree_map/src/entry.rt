@@ -12,11 +12,13 @@ mod vacant;
 
 use crate::BTreeMap;
 use btree_item::Address;
+use btree_node::Node;
 use btree_nodes::NodesMut;
+use btree_store::SlabStore;
 
 /// The entry of a key in a map, from one search.
 #[derive(Drop)]
-pub enum Entry<'a, K: Ord, V, C: NodesMut<K, V>> {
+pub enum Entry<'a, K: Ord, V, C: NodesMut<K, V> = SlabStore<Node<K, V>>> {
     /// The key is not there.
     Vacant(VacantEntry<'a, K, V, C>),
     /// The key is there.
@@ -25,7 +27,7 @@ pub enum Entry<'a, K: Ord, V, C: NodesMut<K, V>> {
 
 /// The entry of a key that is not there, with the place where it would be.
 #[derive(Drop)]
-pub struct VacantEntry<'a, K: Ord, V, C: NodesMut<K, V>> {
+pub struct VacantEntry<'a, K: Ord, V, C: NodesMut<K, V> = SlabStore<Node<K, V>>> {
     pub(crate) map: &'a mut BTreeMap<K, V, C>,
     pub(crate) key: K,
     pub(crate) gap: Address,
@@ -35,7 +37,7 @@ pub struct VacantEntry<'a, K: Ord, V, C: NodesMut<K, V>> {
 
 /// The entry of a key that is there.
 #[derive(Drop)]
-pub struct OccupiedEntry<'a, K: Ord, V, C: NodesMut<K, V>> {
+pub struct OccupiedEntry<'a, K: Ord, V, C: NodesMut<K, V> = SlabStore<Node<K, V>>> {
     pub(crate) map: &'a mut BTreeMap<K, V, C>,
     pub(crate) at: Address,
     ghost occupied: { IsSome (item_of map.now at) },
