@@ -3,8 +3,11 @@ ghost use Rattle.std.specs.Prelude.{◌≡◌, ◌↔◌, [], IsTrue};
 ghost use Rattle.btree_set.specs.Merges.{difference, intersection};
 
 use crate::BTreeSet;
-use crate::merged::{Difference, Intersection, SymmetricDifference, Union};
+use crate::difference::Difference;
+use crate::intersection::Intersection;
 use crate::peeked::Peeked;
+use crate::symmetric_difference::SymmetricDifference;
+use crate::union::Union;
 use btree_ext::BTreeExt;
 use btree_nodes::NodesMut;
 

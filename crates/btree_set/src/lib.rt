@@ -3,12 +3,18 @@
 
 mod algebra;
 mod comparison;
+mod difference;
 mod elements;
 mod extension;
-mod merged;
+mod intersection;
 mod peeked;
 mod set;
+mod symmetric_difference;
+mod union;
 
+pub use difference::Difference;
 pub use elements::{IntoIter, Iter, Range};
-pub use merged::{Difference, Intersection, SymmetricDifference, Union};
+pub use intersection::Intersection;
 pub use set::BTreeSet;
+pub use symmetric_difference::SymmetricDifference;
+pub use union::Union;

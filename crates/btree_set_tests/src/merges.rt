@@ -61,19 +61,34 @@ fn check_merges<C: NodesMut<u64, ()>, D: NodesMut<u64, ()>>(
 fn merges_two_sets(rt: HostRuntime) {
     let memory = Refusing::over(rt.alloc(), 0);
     for (left, right, either, both, first_only, one) in [
-        (&[1u64, 2][..], &[2u64, 3][..], &[1u64, 2, 3][..], &[2u64][..], &[1u64][..], &[1u64, 3][..]),
+        (
+            &[1u64, 2][..],
+            &[2u64, 3][..],
+            &[1u64, 2, 3][..],
+            &[2u64][..],
+            &[1u64][..],
+            &[1u64, 3][..],
+        ),
         (&[], &[], &[], &[], &[], &[]),
         (&[], &[1, 2], &[1, 2], &[], &[], &[1, 2]),
         (&[1, 2], &[], &[1, 2], &[], &[1, 2], &[1, 2]),
         (&[1, 2, 3], &[1, 2, 3], &[1, 2, 3], &[1, 2, 3], &[], &[]),
         (&[1, 2], &[3, 4], &[1, 2, 3, 4], &[], &[1, 2], &[1, 2, 3, 4]),
         (&[3, 4], &[1, 2], &[1, 2, 3, 4], &[], &[3, 4], &[1, 2, 3, 4]),
-        (&[1, 3, 5], &[2, 3, 4], &[1, 2, 3, 4, 5], &[3], &[1, 5], &[1, 2, 4, 5]),
+        (
+            &[1, 3, 5],
+            &[2, 3, 4],
+            &[1, 2, 3, 4, 5],
+            &[3],
+            &[1, 5],
+            &[1, 2, 4, 5],
+        ),
         (&[2], &[1, 2, 3], &[1, 2, 3], &[2], &[], &[1, 3]),
     ] {
         let first: BTreeSet<u64, SlabStore<Node<u64, ()>>> = BTreeSet::new(rt.alloc());
-        let second: BTreeSet<u64, SlabStore<Node<u64, ()>, &Refusing<Global>>> =
-            BTreeSet::new(&memory);
+        let second: BTreeSet<u64, SlabStore<Node<u64, ()>, &Refusing<Global>>> = BTreeSet::new(
+            &memory,
+        );
         let first = numbers(&rt, first, left);
         let second = numbers(&rt, second, right);
         check_merges(&rt, &first, &second, either, both, first_only, one);
@@ -120,7 +135,10 @@ fn knows_how_many_are_left(rt: HostRuntime) {
     assert_eq!(rt; one.size_hint(), (0, Some(4)));
     assert_eq!(rt; one.next(), Some(&1));
     assert_eq!(rt; one.size_hint(), (0, Some(3)));
-    assert_eq!(rt; (one.next(), one.next(), one.next()), (Some(&3), None, None));
+    assert_eq!(rt;
+        (one.next(), one.next(), one.next()),
+        (Some(&3), None, None)
+    );
 }
 
 // Each row: the elements of two sets, and how the first compares with the second.

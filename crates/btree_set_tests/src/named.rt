@@ -101,7 +101,10 @@ fn merges_take_the_stated_one(rt: HostRuntime) {
 #[test]
 fn an_equal_element_stays_unless_it_is_replaced(rt: HostRuntime) {
     let mut set = names(&rt, rt.alloc(), &[1, 2], 'a');
-    let second = Named { number: 2, name: 'b' };
+    let second = Named {
+        number: 2,
+        name: 'b',
+    };
     assert_eq!(rt; set.insert(second).ok(), Some(false));
     assert_eq!(rt; parts(set.get(&second)), Some((2, 'a')));
     match set.replace(second) {

@@ -97,10 +97,12 @@ fn an_append_stops_at_the_refused_element(rt: HostRuntime) -> Result<(), Fail> {
     for (at, number) in [(1u64, 18u64), (2, 38)] {
         let memory = Refusing::over(rt.alloc(), 0);
         let plain = Refusing::over(rt.alloc(), 0);
-        let set: BTreeSet<u64, SlabStore<Node<u64, ()>, &Refusing<Global>>> =
-            BTreeSet::new(&memory);
-        let other: BTreeSet<u64, SlabStore<Node<u64, ()>, &Refusing<Global>>> =
-            BTreeSet::new(&plain);
+        let set: BTreeSet<u64, SlabStore<Node<u64, ()>, &Refusing<Global>>> = BTreeSet::new(
+            &memory,
+        );
+        let other: BTreeSet<u64, SlabStore<Node<u64, ()>, &Refusing<Global>>> = BTreeSet::new(
+            &plain,
+        );
         append_refused(&rt, set, other, &memory, at, number)?;
     }
     Ok(())

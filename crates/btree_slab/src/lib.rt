@@ -1,4 +1,4 @@
-//! An ordered map: a B-tree whose nodes are kept in a slab and refer to one another by number.
+//! An ordered map and an ordered set: a B-tree whose nodes are kept in a slab and refer to one another by number.
 //!
 //! This crate re-exports the public names of the crates below it.
 #![tactic(auto)]
@@ -11,10 +11,14 @@ mod tests;
 /// A map with its nodes in a slab, with memory from the global allocator.
 pub type BTreeMap<K, V> = generic::BTreeMap<K, V, SlabStore<generic::Node<K, V>>>;
 
+/// A set with its nodes in a slab, with memory from the global allocator.
+pub type BTreeSet<T> = generic::BTreeSet<T, SlabStore<generic::Node<T, ()>>>;
+
 /// The types over any store of nodes.
 pub mod generic {
     pub use btree_map::BTreeMap;
     pub use btree_node::Node;
+    pub use btree_set::BTreeSet;
 
     /// The map and the tree in it, their entries and iterators, their calls by address, and how an insertion is refused.
     pub mod map {
@@ -26,6 +30,13 @@ pub mod generic {
         };
         pub use btree_raw::RawBTree;
         pub use btree_walk::{Iter, Keys, Range, Values, is_valid_range};
+    }
+
+    /// The set, its iterators, and the merges of two sets.
+    pub mod set {
+        pub use btree_set::{
+            BTreeSet, Difference, Intersection, IntoIter, Iter, Range, SymmetricDifference, Union,
+        };
     }
 
     /// Nodes, their items, and addresses.

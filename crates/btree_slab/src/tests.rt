@@ -1,5 +1,5 @@
-use crate::BTreeMap;
 use crate::generic::map::BTreeExt;
+use crate::{BTreeMap, BTreeSet};
 use std::test::Fail;
 
 #[test]
@@ -20,5 +20,21 @@ fn a_map_in_a_slab(rt: HostRuntime) -> Result<(), Fail> {
     }
     // 10 times the sum of the squares of 0 to 8, plus 3 times 3.
     assert_eq!(rt; sum, 2049);
+    Ok(())
+}
+
+#[test]
+fn a_set_in_a_slab(rt: HostRuntime) -> Result<(), Fail> {
+    let mut left: BTreeSet<u64> = BTreeSet::new(rt.alloc());
+    let mut right: BTreeSet<u64> = BTreeSet::new(rt.alloc());
+    for number in [3u64, 1, 2] {
+        assert_eq!(rt; left.insert(number).ok(), Some(true));
+        assert_eq!(rt; right.insert(number + 1).ok(), Some(true));
+    }
+    let mut both = left.intersection(&right);
+    assert_eq!(rt;
+        (both.next(), both.next(), both.next()),
+        (Some(&2), Some(&3), None)
+    );
     Ok(())
 }

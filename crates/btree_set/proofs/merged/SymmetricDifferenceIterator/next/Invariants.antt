@@ -1,9 +1,0 @@
-use Rattle.std.proofs.Common.{◌≡◌, ◌+◌, length}
-use Rattle.btree_set.specs.Merges.{symmetric_difference}
-use Rattle.btree_set.proofs.merged.SymmetricDifferenceIterator.next.Given as goal
-
-abbrev pub invariant-loop-left : goal.invariant-loop-left
-invariant-loop-left g l = symmetric_difference g.T.Ord.cmp l.self-inside.first l.self-inside.second ≡ symmetric_difference g.T.Ord.cmp l.fn.self.0 l.fn.self.1
-
-abbrev pub decreases-loop-left : goal.decreases-loop-left
-decreases-loop-left g l = length l.self-inside.first + length l.self-inside.second
