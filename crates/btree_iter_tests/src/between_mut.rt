@@ -6,7 +6,7 @@ ghost use Rattle.btree_walk.specs.Bounds.{IsValidRange};
 ghost use Rattle.btree_iter_tests.specs.AddBetween.{greater_between};
 
 use crate::between::is_between;
-use btree_map::{BTreeMap, RangeMut};
+use btree_map::BTreeMap;
 use btree_node::Node;
 use btree_nodes::NodesMut;
 use btree_store::SlabStore;
@@ -15,9 +15,7 @@ use std::alloc::Global;
 use std::ops::Bound;
 use std::process::Abort;
 
-type Store = SlabStore<Node<u64, u64>>;
-
-type Map = BTreeMap<u64, u64, Store>;
+type Map = BTreeMap<u64, u64, SlabStore<Node<u64, u64>>>;
 
 // Adds a number to each value between two bounds.
 fn add_to_range<K: Ord + Drop, C: NodesMut<K, u64>>(
@@ -55,26 +53,6 @@ fn assert_raised(rt: &impl Abort, map: &Map, raised: &[u64]) {
     }
 }
 
-// Adds one to the value that is lent, and compares its key and what it was.
-fn raise(rt: &impl Abort, lent: Option<(&u64, &mut u64)>, expected: u64) {
-    match lent {
-        Some((key, value)) => {
-            assert_eq!(rt; (*key, *value), (expected, expected.wrapping_mul(10)));
-            *value = value.wrapping_add(1);
-        }
-        None => panic!(rt; "no pair is left"),
-    }
-}
-
-// Checks that nothing is left, however often a cursor is asked.
-fn assert_ended(rt: &impl Abort, pairs: &mut RangeMut<'_, u64, u64, Store>) {
-    for _ in 0..2 {
-        assert!(rt; pairs.is_empty());
-        assert!(rt; pairs.next().is_none());
-        assert!(rt; pairs.next_back().is_none());
-    }
-}
-
 // The ends from which a cursor is asked in turn.
 #[derive(Clone, Copy)]
 enum Side {
@@ -102,20 +80,36 @@ fn assert_lends(
         Side::Back => false,
         _ => true,
     };
-    while low < high {
-        assert!(rt; !pairs.is_empty());
+    for _ in 0..keys.len() {
         if is_front {
-            raise(rt, pairs.next(), keys[low]);
+            assert!(rt; low < keys.len());
+            match pairs.next() {
+                Some((key, value)) => {
+                    assert_eq!(rt; (*key, *value), (keys[low], keys[low].wrapping_mul(10)));
+                    *value = value.wrapping_add(1);
+                }
+                None => panic!(rt; "no pair at the front"),
+            }
             low += 1;
         } else {
+            assert!(rt; 0 < high && high <= keys.len());
             high -= 1;
-            raise(rt, pairs.next_back(), keys[high]);
+            match pairs.next_back() {
+                Some((key, value)) => {
+                    assert_eq!(rt; (*key, *value), (keys[high], keys[high].wrapping_mul(10)));
+                    *value = value.wrapping_add(1);
+                }
+                None => panic!(rt; "no pair at the back"),
+            }
         }
         if let Side::Both = side {
             is_front = !is_front;
         }
     }
-    assert_ended(rt, &mut pairs);
+    assert!(rt; pairs.is_empty());
+    assert!(rt; pairs.next().is_none());
+    assert!(rt; pairs.next_back().is_none());
+    assert!(rt; pairs.next().is_none());
     assert_raised(rt, &map, keys);
 }
 
@@ -140,11 +134,11 @@ fn adds_to_the_names_from_b_to_cheryl(rt: HostRuntime) {
     for name in ["Alice", "Bob", "Carol", "Cheryl"] {
         assert!(rt; map.insert(name, 0).is_ok());
     }
-    add_to_range(
-        &mut map,
-        (Bound::Included(&"B"), Bound::Excluded(&"Cheryl")),
-        100,
-    );
+    let range = (Bound::Included(&"B"), Bound::Excluded(&"Cheryl"));
+    if !is_valid_range(range) {
+        panic!(rt; "no such range");
+    }
+    add_to_range(&mut map, range, 100);
     let mut pairs = map.iter();
     for (name, value) in [("Alice", 0u64), ("Bob", 100), ("Carol", 100), ("Cheryl", 0)] {
         match pairs.next() {
@@ -256,8 +250,10 @@ fn adds_between_even_keys(rt: HostRuntime) {
             }
         }
         for (key, value) in map.iter() {
-            assert!(rt; *key < 87);
-            assert_eq!(rt; *value, added[*key as usize]);
+            match added.get(*key as usize) {
+                Some(sum) => assert_eq!(rt; *value, *sum),
+                None => panic!(rt; "a key that was not inserted"),
+            }
         }
     }
 }
@@ -275,6 +271,8 @@ fn lends_nothing_of_an_empty_map(rt: HostRuntime) {
             panic!(rt; "no such range");
         }
         let mut pairs = map.range_mut((start, end));
-        assert_ended(&rt, &mut pairs);
+        assert!(rt; pairs.is_empty());
+        assert!(rt; pairs.next().is_none());
+        assert!(rt; pairs.next_back().is_none());
     }
 }
