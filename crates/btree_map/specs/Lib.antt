@@ -6,3 +6,4 @@ pub mod Extension
 pub mod Written
 pub mod WrittenAddresses
 pub mod Cursor
+pub mod Editing

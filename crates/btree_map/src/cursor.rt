@@ -3,9 +3,13 @@ ghost use Rattle.std.specs.Prelude.{◌≡◌, ◌≤◌, length, slice_get};
 ghost use Rattle.btree_shape.specs.TreeAddresses.{item_addresses_of};
 ghost use Rattle.btree_shape.specs.Visits.{prior};
 
+mod editing;
+mod editing_steps;
 mod pairs;
 mod starts;
 mod values;
+
+pub use editing::EntriesMut;
 
 use crate::BTreeMap;
 use btree_item::Address;

@@ -15,7 +15,7 @@ mod owned;
 mod removal;
 mod traits;
 
-pub use cursor::{IterMut, ValuesMut};
+pub use cursor::{EntriesMut, IterMut, ValuesMut};
 pub use entry::{Entry, OccupiedEntry, VacantEntry};
 pub use map::BTreeMap;
 pub use owned::{IntoIter, IntoKeys, IntoValues};

@@ -1,0 +1,1 @@
+//! Insertions by a cursor while the store has no memory.
