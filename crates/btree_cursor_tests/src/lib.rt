@@ -5,3 +5,5 @@
 mod editing;
 #[cfg(test)]
 mod refused;
+#[cfg(test)]
+mod run;

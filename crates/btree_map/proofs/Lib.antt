@@ -8,3 +8,6 @@ pub mod CursorLemmas
 pub mod SameCursor
 pub mod SpanLemmas
 pub mod CursorSteps
+pub mod EditingLists
+pub mod EditingLemmas
+pub mod SameEditing

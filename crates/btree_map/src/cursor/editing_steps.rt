@@ -99,7 +99,10 @@ impl<'a, K: Ord + Drop, V: Drop, C: NodesMut<K, V>> EntriesMut<'a, K, V, C> {
                 self.front += 1;
                 Ok(())
             }
-            Err(refused) => Err(refused),
+            Err(refused) => {
+                let _root = self.map.root_id();
+                Err(refused)
+            }
         }
     }
 

@@ -1,0 +1,2 @@
+//! Scratch.
+#![tactic(auto)]
