@@ -17,7 +17,7 @@ use Rattle.btree_map.specs.Cursor.{WritesPlace, or_nowhere}
 use Rattle.btree_map.specs.WrittenAddresses.{written-addresses}
 use Rattle.btree_map.proofs.EntryLemmas.{item-valid}
 
-get_none : {X : Type 0} (list : List X) (n : ℕ) → slice_get list n ≡ None → length list ≤ n
+pub get_none : {X : Type 0} (list : List X) (n : ℕ) → slice_get list n ≡ None → length list ≤ n
 get_none [] n none = omega arith
 get_none (x ∷ xs) zero none = absurd (cc)
 get_none (x ∷ xs) (suc n) none = let low = get_none xs n none in omega arith

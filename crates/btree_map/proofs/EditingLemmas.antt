@@ -18,7 +18,7 @@ use Rattle.btree_shape.proofs.AddressLists.Whole.{addresses-tree}
 use Rattle.btree_find.specs.Ends.{IsLastValid}
 use Rattle.btree_find.specs.Fits.{FitsAt}
 use Rattle.btree_find.specs.Navigation.{HasPlace, IsNext, IsNormalized}
-use Rattle.btree_find.proofs.FitsLemmas.{item-occupied}
+use Rattle.btree_find.proofs.FitsLemmas.{item-occupied, occupied-item}
 use Rattle.btree_find.proofs.PlaceLemmas.{has-place, only}
 use Rattle.btree_edit.specs.InsertAt.{InsertsAt, IsRefusedAt}
 use Rattle.btree_edit.specs.Remove.{IsRemoved}
@@ -26,6 +26,10 @@ use Rattle.btree_raw.specs.Insertion.{IsRefused}
 use Rattle.btree_map.specs.Editing.{FitsBetween}
 use Rattle.btree_map.proofs.CursorLemmas.{get_none, listed-item, listed-occupied, listed-valid}
 use Rattle.btree_map.proofs.EditingLists.{between-fits, drop-first, drop-past, fits-between, insert-drop, insert-take, remove-drop, remove-take}
+
+some-none : {X : Type 0} (o : Option X) → IsSome o → o ≡ None → ⊥
+some-none None some none = absurd (cc)
+some-none (Some x) some none = absurd (cc)
 
 occupied-back : {K V : Type 0} (s : TreeState K V) (a : Address) → IsOccupiedIn s a → IsSome a.offset
 occupied-back s a is = by a.offset is
@@ -63,11 +67,17 @@ module _ {K V : Type 0} (cmp : K → K → Ordering) (laws : IsTotalOrder cmp) (
       pub at-within : front < length (item_addresses_of s)
       at-within = slice_get_within (item_addresses_of s) front at at-listed
 
+      pub at-occupied : IsOccupiedIn s at
+      at-occupied = listed-occupied cmp laws s tree at front at-listed
+
       pub at-valid : IsValidIn s at
       at-valid = listed-valid cmp laws s tree at front at-listed
 
+      pub at-there : item_of s at ≡ None → ⊥
+      at-there = some-none (item_of s at) (occupied-item s at at-occupied)
+
       pub at-back : IsSome at.offset
-      at-back = occupied-back s at (listed-occupied cmp laws s tree at front at-listed)
+      at-back = occupied-back s at at-occupied
 
       pub at-place : HasPlace s at front
       at-place = has-place cmp laws s tree at front ((addresses-tree cmp laws s tree).items.right front at at-listed).1

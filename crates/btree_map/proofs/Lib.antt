@@ -11,3 +11,4 @@ pub mod CursorSteps
 pub mod EditingLists
 pub mod EditingLemmas
 pub mod SameEditing
+pub mod EditingSteps

@@ -22,7 +22,7 @@ use Rattle.btree_map.specs.Cursor.{WritesPlace, or_nowhere}
 use Rattle.btree_map.specs.WrittenAddresses.{written-addresses}
 use Rattle.btree_map.specs.declared.cursor.editing.EntriesMut.{EntriesMut}
 
-min-low : (m n : ℕ) → min m n ≤ n
+pub min-low : (m n : ℕ) → min m n ≤ n
 min-low m n = omega arith
 
 -- a key lies between two lists of pairs: above the last key of the one and below the first key of the other

@@ -9,11 +9,10 @@ mod pairs;
 mod starts;
 mod values;
 
-pub use editing::EntriesMut;
-
 use crate::BTreeMap;
 use btree_item::Address;
 use btree_nodes::NodesMut;
+pub use editing::EntriesMut;
 
 /// A cursor over the pairs of a map, in the order of the keys and from both ends, that lends one value for writing at a time.
 ///

@@ -94,7 +94,8 @@ impl<'a, K: Ord + Drop, V: Drop, C: NodesMut<K, V>> EntriesMut<'a, K, V, C> {
         let gap = self.gap();
         match self.map.insert_at(gap, Item::new(key, value)) {
             Ok(at) => {
-                let _root = self.map.root_id();
+                // For the prover: the length is a `usize`.
+                let _len = self.map.len();
                 self.first = self.map.next_item_address(at);
                 self.front += 1;
                 Ok(())
@@ -140,7 +141,8 @@ impl<'a, K: Ord + Drop, V: Drop, C: NodesMut<K, V>> EntriesMut<'a, K, V, C> {
         ensures pair { slice_get (left_of self.old) 0 ≡ Some (result.0.now, result.1.now) }
         ensures writes { (w : V) → WritesPassed self.old result.0.now result.1.now w }
     {
-        // For the prover: the length is a `usize`.
+        // For the prover: the tree is well formed, and its length is a `usize`.
+        let _root = self.map.root_id();
         let _len = self.map.len();
         let Some(at) = self.first else {
             unreachable!();
@@ -162,6 +164,8 @@ impl<'a, K: Ord + Drop, V: Drop, C: NodesMut<K, V>> EntriesMut<'a, K, V, C> {
         ensures pair { slice_get (left_of self.old) 0 ≡ Some (result.0.now, result.1.now) }
         ensures writes { (w : V) → WritesPeeked self.old result.0.now result.1.now w }
     {
+        // For the prover: the tree is well formed.
+        let _root = self.map.root_id();
         let Some(at) = self.first else {
             unreachable!();
         };
