@@ -5,5 +5,3 @@
 mod editing;
 #[cfg(test)]
 mod refused;
-#[cfg(test)]
-mod run;

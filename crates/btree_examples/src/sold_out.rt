@@ -14,11 +14,10 @@ pub fn remove_sold_out<K: Ord + Drop, C: NodesMut<K, u64>>(stock: &mut BTreeMap<
 {
     let mut parts = stock.entries_mut();
     while let Some(part) = parts.peek() {
-        let count = *part.value();
-        if count == 0 {
+        if *part.value() == 0 {
             drop(parts.remove());
-        } else {
-            let _passed = parts.next_pair();
+            continue;
         }
+        let _passed = parts.next_pair();
     }
 }

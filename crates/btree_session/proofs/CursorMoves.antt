@@ -1,5 +1,6 @@
 -- Steps of the machine of an editing cursor, by the contracts of the cursor.
-use Rattle.std.proofs.Common.{◌≡◌, ◌∙◌, ℕ, ◌+◌, ◌-◌, ◌^◌, List, [], ◌∷◌, ◌++◌, Some, None, length, drop, slice_get, refl, sym, ap, arith, length-drop, length-take}
+use Rattle.std.proofs.Common.{◌≡◌, ◌∙◌, ℕ, ◌+◌, ◌-◌, ◌^◌, List, [], ◌∷◌, ◌++◌, Some, None, length, drop, slice_get, refl, sym, ap, arith}
+use Rattle.std.proofs.lemmas.List.{length-drop, length-take}
 use Rattle.std.proofs.lemmas.Option.{same_Some}
 use Rattle.std.specs.Ordering.{nat_cmp}
 use Rattle.std.specs.declared.cmp.Ord as ord
@@ -95,8 +96,8 @@ module _ {C O : Type 0} {g' : eq.Ghosts ℕ} {g'' : partial.Ghosts ℕ} {s : nod
           let same = ap (λ t. t.len) is.0 in
           let pairs = ap (λ t. length (pairs_of t)) is.0 in
           let long : length (passed_of old) + length (left_of old) ≡ length (pairs_of old.map.now) =
-              omega (arith, length-take old.front (pairs_of old.map.now), length-drop (pairs_of old.map.now) old.front) in
-          (omega (arith, is.1), λ i. record { passed = r.passed i; left = r.left i; refusals = (ap (λ t. t.refusals) is.0) i })
+              omega (arith, length-take old.front (pairs_of old.map.now), length-drop old.front (pairs_of old.map.now)) in
+          (long ∙ sym pairs ∙ sym all ∙ same ∙ is.1, λ i. record { passed = r.passed i; left = r.left i; refusals = (ap (λ t. t.refusals) is.0) i })
 
       pub refuses-pair : (cause : Cause) → RefusesEntry old new cause → IsCursorStep s.MayRefuse (spot_of old) (Insert k v) (Refused cause) (spot_of new)
       refuses-pair cause r =

@@ -20,6 +20,7 @@ impl<K: Ord, V, C: NodesMut<K, V>> BTreeMap<K, V, C> {
     pub fn entries_mut(&mut self) -> EntriesMut<'_, K, V, C>
         ensures same_map { result.map.ghost_name ≡ self.entry.ghost_name }
         ensures unchanged { result.map.now ≡ self.old }
+        ensures front { result.front ≡ 0 }
         ensures passed { passed_of result ≡ [] }
         ensures left { left_of result ≡ pairs_of self.old }
     {
@@ -70,7 +71,8 @@ impl<'a, K: Ord, V, C: NodesMut<K, V>> EntriesMut<'a, K, V, C> {
     /// Returns whether a key may be inserted where the cursor is: whether it is greater than the last key that was passed and less than the
     /// first one that is left. It compares at most two keys, and reads at most two nodes of each level.
     pub fn fits(&self, key: &K) -> bool
-        ensures { IsTrue result ↔ FitsBetween K.cmp key.now (passed_of self.now) (left_of self.now) }
+        ensures { IsTrue result ↔
+            FitsBetween K.cmp key.now (passed_of self.now) (left_of self.now) }
     {
         // For the prover: the tree is well formed.
         let _root = self.map.root_id();
@@ -176,7 +178,8 @@ impl<'a, K: Ord + Drop, V: Drop, C: NodesMut<K, V>> EntriesMut<'a, K, V, C> {
     ///
     /// The contract does not say what the map is after the value was written; that of `next_pair` does.
     pub fn next(&mut self) -> Option<(&K, &mut V)>
-        ensures pair { IfSome result (λ p. slice_get (left_of self.old) 0 ≡ Some (p.0.now, p.1.now)) }
+        ensures pair { IfSome result (λ p.
+            slice_get (left_of self.old) 0 ≡ Some (p.0.now, p.1.now)) }
         ensures none { IfNone result (left_of self.old ≡ []) }
     {
         if self.size_hint().0 == 0 {
@@ -187,7 +190,8 @@ impl<'a, K: Ord + Drop, V: Drop, C: NodesMut<K, V>> EntriesMut<'a, K, V, C> {
 
     /// Does the same as `next`.
     pub fn next_item(&mut self) -> Option<(&K, &mut V)>
-        ensures pair { IfSome result (λ p. slice_get (left_of self.old) 0 ≡ Some (p.0.now, p.1.now)) }
+        ensures pair { IfSome result (λ p.
+            slice_get (left_of self.old) 0 ≡ Some (p.0.now, p.1.now)) }
         ensures none { IfNone result (left_of self.old ≡ []) }
     {
         self.next()
@@ -197,7 +201,8 @@ impl<'a, K: Ord + Drop, V: Drop, C: NodesMut<K, V>> EntriesMut<'a, K, V, C> {
     ///
     /// The contract does not say what the map is after the value was written; that of `peek_pair` does.
     pub fn peek_mut(&mut self) -> Option<(&K, &mut V)>
-        ensures pair { IfSome result (λ p. slice_get (left_of self.old) 0 ≡ Some (p.0.now, p.1.now)) }
+        ensures pair { IfSome result (λ p.
+            slice_get (left_of self.old) 0 ≡ Some (p.0.now, p.1.now)) }
         ensures none { IfNone result (left_of self.old ≡ []) }
     {
         if self.size_hint().0 == 0 {

@@ -1,11 +1,14 @@
 //! Lists of steps, run by a cursor.
+use btree_item::Cause;
 use btree_map::BTreeMap;
 use btree_node::Node;
+use btree_nodes::NodesMut;
 use btree_refusing::Refusing;
 use btree_session::{CursorStep, Reply, run_cursor};
 use btree_store::SlabStore;
 use std::alloc::Global;
 use std::process::Abort;
+use std::test::Fail;
 
 type Map = BTreeMap<u64, u64, SlabStore<Node<u64, u64>>>;
 
@@ -73,4 +76,34 @@ fn runs_nothing_without_room_for_the_replies(rt: HostRuntime) {
         [Reply::Pair(1, 10), Reply::Pair(2, 20)].as_slice()
     );
     assert_eq!(rt; (map.len(), map.get(&1).copied()), (2, None));
+}
+
+// Runs three steps over an empty map, of which the first one needs the node that the store refuses.
+fn check_first_refused<C: NodesMut<u64, u64> + Drop>(
+    rt: &impl Abort,
+    alloc: Global,
+    origin: C::Origin,
+) -> Result<(), Fail> {
+    let mut map: BTreeMap<u64, u64, C> = BTreeMap::new(origin);
+    let mut replies = Vec::new(alloc);
+    let steps = [
+        CursorStep::Insert(3, 30),
+        CursorStep::Insert(4, 40),
+        CursorStep::Peek,
+    ];
+    run_cursor(&mut map, &steps, &mut replies)?;
+    assert_eq!(rt;
+        replies.as_slice(),
+        [Reply::Refused(Cause::Store), Reply::Done, Reply::Nothing].as_slice()
+    );
+    assert_eq!(rt; (map.len(), map.get(&4).copied()), (1, Some(40)));
+    Ok(())
+}
+
+#[test]
+fn a_refused_node_is_a_reply(rt: HostRuntime) -> Result<(), Fail> {
+    let memory = Refusing::over(rt.alloc(), 1);
+    check_first_refused::<SlabStore<Node<u64, u64>, &Refusing<Global>>>(&rt, rt.alloc(), &memory)?;
+    assert_eq!(rt; memory.refuses(), 0);
+    Ok(())
 }
