@@ -3,7 +3,7 @@
 -- there on, and together they are the list. `InsertsEntry` puts a pair at the end of the former, `RemovesEntry` takes the
 -- first of the latter away, and a pair that was lent is in `WritesPassed` the last one passed, in `WritesPeeked` still
 -- the first one left.
-use Rattle.std.proofs.Common.{◌≡◌, ◌≤◌, ◌<◌, ◌∙◌, ℕ, ◌+◌, ◌-◌, List, [], ◌∷◌, ◌++◌, Some, arith, drop, length, min, slice_get, subst, sym, take, ap}
+use Rattle.std.proofs.Common.{◌≡◌, ◌≤◌, ◌∙◌, ℕ, ◌+◌, ◌-◌, List, [], ◌∷◌, ◌++◌, Some, arith, drop, length, min, slice_get, subst, sym, take, ap}
 use Rattle.std.specs.declared.cmp.Ord as ord
 use Rattle.std.specs.declared.cmp.Ordering.{Ordering}
 use Rattle.std.specs.declared.cmp.Ordering.TheVariants.{Less}
