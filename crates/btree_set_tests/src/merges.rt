@@ -56,42 +56,55 @@ fn check_merges<C: NodesMut<u64, ()>, D: NodesMut<u64, ()>>(
     assert_eq!(rt; right.is_superset(left), first_only.is_empty());
 }
 
-// Each row: the elements of two sets, then those of their union, intersection, difference and symmetric difference.
+// Checks the merges of two sets over different stores. The lists are the elements of the two sets, then those of their union, intersection,
+// difference and symmetric difference.
+fn check_row<D: NodesMut<u64, ()> + Drop>(
+    rt: &impl Abort,
+    alloc: Global,
+    origin: D::Origin,
+    sets: (&[u64], &[u64]),
+    merges: (&[u64], &[u64], &[u64], &[u64]),
+) {
+    let first: BTreeSet<u64, SlabStore<Node<u64, ()>>> = BTreeSet::new(alloc);
+    let second: BTreeSet<u64, D> = BTreeSet::new(origin);
+    let first = numbers(rt, first, sets.0);
+    let second = numbers(rt, second, sets.1);
+    check_merges(rt, &first, &second, merges.0, merges.1, merges.2, merges.3);
+}
+
 #[test]
 fn merges_two_sets(rt: HostRuntime) {
-    let memory = Refusing::over(rt.alloc(), 0);
-    for (left, right, either, both, first_only, one) in [
+    for (sets, merges) in [
         (
-            &[1u64, 2][..],
-            &[2u64, 3][..],
-            &[1u64, 2, 3][..],
-            &[2u64][..],
-            &[1u64][..],
-            &[1u64, 3][..],
+            (&[1u64, 2][..], &[2u64, 3][..]),
+            (&[1u64, 2, 3][..], &[2u64][..], &[1u64][..], &[1u64, 3][..]),
         ),
-        (&[], &[], &[], &[], &[], &[]),
-        (&[], &[1, 2], &[1, 2], &[], &[], &[1, 2]),
-        (&[1, 2], &[], &[1, 2], &[], &[1, 2], &[1, 2]),
-        (&[1, 2, 3], &[1, 2, 3], &[1, 2, 3], &[1, 2, 3], &[], &[]),
-        (&[1, 2], &[3, 4], &[1, 2, 3, 4], &[], &[1, 2], &[1, 2, 3, 4]),
-        (&[3, 4], &[1, 2], &[1, 2, 3, 4], &[], &[3, 4], &[1, 2, 3, 4]),
+        ((&[], &[]), (&[], &[], &[], &[])),
+        ((&[], &[1, 2]), (&[1, 2], &[], &[], &[1, 2])),
+        ((&[1, 2], &[]), (&[1, 2], &[], &[1, 2], &[1, 2])),
+        ((&[1, 2, 3], &[1, 2, 3]), (&[1, 2, 3], &[1, 2, 3], &[], &[])),
         (
-            &[1, 3, 5],
-            &[2, 3, 4],
-            &[1, 2, 3, 4, 5],
-            &[3],
-            &[1, 5],
-            &[1, 2, 4, 5],
+            (&[1, 2], &[3, 4]),
+            (&[1, 2, 3, 4], &[], &[1, 2], &[1, 2, 3, 4]),
         ),
-        (&[2], &[1, 2, 3], &[1, 2, 3], &[2], &[], &[1, 3]),
+        (
+            (&[3, 4], &[1, 2]),
+            (&[1, 2, 3, 4], &[], &[3, 4], &[1, 2, 3, 4]),
+        ),
+        (
+            (&[1, 3, 5], &[2, 3, 4]),
+            (&[1, 2, 3, 4, 5], &[3], &[1, 5], &[1, 2, 4, 5]),
+        ),
+        ((&[2], &[1, 2, 3]), (&[1, 2, 3], &[2], &[], &[1, 3])),
     ] {
-        let first: BTreeSet<u64, SlabStore<Node<u64, ()>>> = BTreeSet::new(rt.alloc());
-        let second: BTreeSet<u64, SlabStore<Node<u64, ()>, &Refusing<Global>>> = BTreeSet::new(
+        let memory = Refusing::over(rt.alloc(), 0);
+        check_row::<SlabStore<Node<u64, ()>, &Refusing<Global>>>(
+            &rt,
+            rt.alloc(),
             &memory,
+            sets,
+            merges,
         );
-        let first = numbers(&rt, first, left);
-        let second = numbers(&rt, second, right);
-        check_merges(&rt, &first, &second, either, both, first_only, one);
     }
 }
 
