@@ -1,2 +1,3 @@
 pub mod BookingLemmas
 mod PageLemmas
+mod StockLemmas

@@ -1,1 +1,2 @@
 pub mod Bookings
+pub mod Stock

@@ -9,10 +9,12 @@ ghost use Rattle.btree_shape.specs.TreeState.{IsValidIn, pairs_of};
 
 mod bookings;
 mod listing;
+mod sold_out;
 mod words;
 
 use crate::bookings::{book_and_cancel, count_overlaps, three_bookings};
 use crate::listing::next_page;
+use crate::sold_out::remove_sold_out;
 use crate::words::count_word;
 use btree_slab::BTreeMap;
 use btree_slab::generic::map::{BTreeExt, BTreeExtMut, Refused};
@@ -96,6 +98,11 @@ fn main(rt: HostRuntime) -> io::Result<()> {
     for part in page.iter() {
         rt.println(format_args!("after 17: {part}"))?;
     }
+    let Ok(()) = set_stock(&mut stock, 408, 0) else {
+        return Err(AllocError.into());
+    };
+    remove_sold_out(&mut stock);
+    rt.println(format_args!("not sold out: {}", stock.len()))?;
     let Ok(mut bookings) = three_bookings(rt.alloc()) else {
         return Err(AllocError.into());
     };

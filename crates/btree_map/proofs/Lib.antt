@@ -12,3 +12,7 @@ pub mod IndexLemmas
 pub mod PlaceLemmas
 pub mod RangeStarts
 pub mod RangeSteps
+pub mod EditingLists
+pub mod EditingLemmas
+pub mod SameEditing
+pub mod EditingSteps

@@ -9,3 +9,4 @@ pub mod SpanLaws
 pub mod WrittenAddresses
 pub mod Cursor
 pub mod RangeCursor
+pub mod Editing

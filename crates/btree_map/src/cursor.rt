@@ -4,6 +4,8 @@ ghost use Rattle.btree_shape.specs.TreeAddresses.{item_addresses_of};
 ghost use Rattle.btree_shape.specs.Visits.{prior};
 ghost use Rattle.btree_map.specs.Spans.{index_after, index_of};
 
+mod editing;
+mod editing_steps;
 mod pairs;
 mod range_pairs;
 mod ranges;
@@ -13,6 +15,7 @@ mod values;
 use crate::BTreeMap;
 use btree_item::Address;
 use btree_nodes::NodesMut;
+pub use editing::EntriesMut;
 
 /// A cursor over the pairs of a map, in the order of the keys and from both ends, that lends one value for writing at a time.
 ///

@@ -15,7 +15,7 @@ mod owned;
 mod removal;
 mod traits;
 
-pub use cursor::{IterMut, RangeMut, ValuesMut};
+pub use cursor::{EntriesMut, IterMut, RangeMut, ValuesMut};
 pub use entry::{Entry, OccupiedEntry, VacantEntry};
 pub use map::BTreeMap;
 pub use owned::{IntoIter, IntoKeys, IntoValues};

@@ -2,6 +2,7 @@ pub mod Runs
 pub mod Steps
 pub mod Moves
 pub mod Edits
+pub mod CursorMoves
 pub mod Words
 pub mod Numerals
 pub mod Sayings

@@ -23,7 +23,7 @@ use Rattle.btree_session.specs.declared.command.Command.TheVariants.{Insert, Get
 use Rattle.btree_session.specs.declared.command.Reply.{Reply}
 use Rattle.btree_session.specs.declared.command.Reply.TheVariants.{Nothing, Value, Pair, Done, Found, Gap, NoPlace, Unfit, Refused}
 use Rattle.btree_session.specs.Held.{Held}
-use Rattle.btree_session.specs.Text.{Pushes}
+use Rattle.btree_session.specs.Run.{IsRunBy, RunsBy}
 
 -- the state of a session: its pairs by ascending keys, the place that it holds, if any, and how often its store has
 -- refused
@@ -156,11 +156,8 @@ module _ (MayRefuse : Content (Node ℕ ℕ) → Type 0) where
 
   -- The session may give these replies to these commands, one step after another.
   abbrev pub IsRun : (old : Held ℕ ℕ) → List Command → List Reply → (new : Held ℕ ℕ) → Type 0
-  IsRun old [] [] new = new ≡ old
-  IsRun old (command ∷ commands) (reply ∷ replies) new = (mid : Held ℕ ℕ) × IsStep old command reply mid × IsRun mid commands replies new
-  IsRun old [] (reply ∷ replies) new = ⊥
-  IsRun old (command ∷ commands) [] new = ⊥
+  IsRun = IsRunBy IsStep
 
   -- The commands were run one after another, and their replies appended to those that were there.
   abbrev pub Runs : {Z : Type 0} → (old : Held ℕ ℕ) → List Command → (new : Held ℕ ℕ) → (replies more : Vec Reply Z) → Type 0
-  Runs old commands new replies more = (given : List Reply) × Pushes replies more given × IsRun old commands given new
+  Runs = RunsBy IsStep

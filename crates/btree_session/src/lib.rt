@@ -5,6 +5,7 @@
 #![tactic(auto)]
 
 mod command;
+mod cursor;
 mod line;
 mod question;
 mod script;
@@ -12,5 +13,6 @@ mod session;
 mod text;
 
 pub use command::{Command, Reply};
+pub use cursor::{CursorStep, run_cursor};
 pub use script::{Stop, drive};
 pub use session::{Session, SessionOver, run};

@@ -4,6 +4,8 @@
 #[cfg(test)]
 mod content;
 #[cfg(test)]
+mod cursor;
+#[cfg(test)]
 mod flush;
 #[cfg(test)]
 mod session;

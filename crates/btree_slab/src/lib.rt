@@ -25,8 +25,8 @@ pub mod generic {
         pub use btree_ext::{BTreeExt, BTreeExtMut, Tree};
         pub use btree_item::{Cause, Fault, M, Refused, UpdateRefused};
         pub use btree_map::{
-            BTreeMap, Entry, IntoIter, IntoKeys, IntoValues, IterMut, OccupiedEntry, RangeMut,
-            VacantEntry, ValuesMut,
+            BTreeMap, EntriesMut, Entry, IntoIter, IntoKeys, IntoValues, IterMut, OccupiedEntry,
+            RangeMut, VacantEntry, ValuesMut,
         };
         pub use btree_raw::RawBTree;
         pub use btree_walk::{Iter, Keys, Range, Values, is_valid_range};
@@ -62,7 +62,7 @@ pub mod store {
 
 /// Sessions of commands over a map.
 pub mod script {
-    pub use btree_session::{Command, Reply, Session, Stop, drive, run};
+    pub use btree_session::{Command, CursorStep, Reply, Session, Stop, drive, run, run_cursor};
 }
 
 /// Lists of a fixed capacity, a search in one, and a counter of no bytes.

@@ -1,0 +1,176 @@
+-- The place of an editing cursor: the item there, an address for an insertion there, and the address of the next item
+-- after each edit.
+use Rattle.std.proofs.Common.{◌≡◌, ◌∙◌, ℕ, suc, ◌+◌, ◌<◌, ◌≤◌, List, [], ◌∷◌, ◌++◌, Option, Some, None, IsSome, is_some, length, take, drop, refl, sym, ap, slice_get, subst, arith}
+use Rattle.std.proofs.lemmas.Option.{slice_get_within}
+use Rattle.std.specs.Cmp.{IsTotalOrder}
+use Rattle.std.specs.List.{insert, remove}
+use Rattle.std.specs.declared.cmp.Ordering.{Ordering}
+use Rattle.btree_item.specs.Pairs.{KeyFits}
+use Rattle.btree_item.specs.declared.address.Address.{Address}
+use Rattle.btree_item.specs.declared.refused.Cause.{Cause}
+use Rattle.btree_item.specs.declared.refused.Cause.TheVariants.{Store, Count}
+use Rattle.btree_store.specs.Content.{Content}
+use Rattle.btree_node.specs.declared.node.Node.{Node}
+use Rattle.btree_shape.specs.Place.{IsOccupied}
+use Rattle.btree_shape.specs.TreeAddresses.{item_addresses_of}
+use Rattle.btree_shape.specs.TreeState.{TreeState, IsBTree, IsOccupiedIn, IsValidIn, item_of, node_map, pairs_of}
+use Rattle.btree_shape.proofs.AddressLists.Whole.{addresses-tree}
+use Rattle.btree_find.specs.Ends.{IsLastValid}
+use Rattle.btree_find.specs.Fits.{FitsAt}
+use Rattle.btree_find.specs.Navigation.{HasPlace, IsNext, IsNormalized}
+use Rattle.btree_find.proofs.FitsLemmas.{item-occupied, occupied-item}
+use Rattle.btree_find.proofs.PlaceLemmas.{has-place, only}
+use Rattle.btree_edit.specs.InsertAt.{InsertsAt, IsRefusedAt}
+use Rattle.btree_edit.specs.Remove.{IsRemoved}
+use Rattle.btree_raw.specs.Insertion.{IsRefused}
+use Rattle.btree_map.specs.Editing.{FitsBetween}
+use Rattle.btree_map.proofs.CursorLemmas.{get_none, listed-item, listed-occupied, listed-valid}
+use Rattle.btree_map.proofs.EditingLists.{between-fits, drop-first, drop-past, fits-between, insert-drop, insert-take, remove-drop, remove-take}
+
+some-none : {X : Type 0} (o : Option X) → IsSome o → o ≡ None → ⊥
+some-none None some none = absurd (cc)
+some-none (Some x) some none = absurd (cc)
+
+occupied-back : {K V : Type 0} (s : TreeState K V) (a : Address) → IsOccupiedIn s a → IsSome a.offset
+occupied-back s a is = by a.offset is
+  where
+    by : (o : Option ℕ) → IsOccupied (node_map s) a.id o → IsSome o
+    by None at = absurd at
+    by (Some n) at = refl
+
+module _ {K V : Type 0} (cmp : K → K → Ordering) (laws : IsTotalOrder cmp) (s : TreeState K V) (tree : IsBTree cmp s) where
+  -- there are as many addresses as pairs
+  pub counted : length (item_addresses_of s) ≡ length (pairs_of s)
+  counted = (addresses-tree cmp laws s tree).items.counted
+
+  module _ (first : Option Address) (front : ℕ) (stands : first ≡ slice_get (item_addresses_of s) front) where
+    -- without a next item nothing is left
+    pub past-low : first ≡ None → length (pairs_of s) ≤ front
+    past-low none = let past = get_none (item_addresses_of s) front (sym stands ∙ none) in omega (arith, counted)
+
+    pub past-empty : first ≡ None → drop front (pairs_of s) ≡ []
+    past-empty none = drop-past front (pairs_of s) (past-low none)
+
+    pub past-first : first ≡ None → None ≡ slice_get (drop front (pairs_of s)) 0
+    past-first none = ap (λ (l : List (K × V)). slice_get l 0) (sym (past-empty none))
+
+    pub left-some : first ≡ None → 0 < length (drop front (pairs_of s)) → ⊥
+    left-some none some = let e = ap length (past-empty none) in omega arith
+
+    module _ (at : Address) (is : first ≡ Some at) where
+      pub at-listed : slice_get (item_addresses_of s) front ≡ Some at
+      at-listed = sym stands ∙ is
+
+      pub at-first : item_of s at ≡ slice_get (drop front (pairs_of s)) 0
+      at-first = listed-item cmp laws s tree at front at-listed ∙ sym (drop-first front (pairs_of s))
+
+      pub at-within : front < length (item_addresses_of s)
+      at-within = slice_get_within (item_addresses_of s) front at at-listed
+
+      pub at-occupied : IsOccupiedIn s at
+      at-occupied = listed-occupied cmp laws s tree at front at-listed
+
+      pub at-valid : IsValidIn s at
+      at-valid = listed-valid cmp laws s tree at front at-listed
+
+      pub at-there : item_of s at ≡ None → ⊥
+      at-there = some-none (item_of s at) (occupied-item s at at-occupied)
+
+      pub at-back : IsSome at.offset
+      at-back = occupied-back s at at-occupied
+
+      pub at-place : HasPlace s at front
+      at-place = has-place cmp laws s tree at front ((addresses-tree cmp laws s tree).items.right front at at-listed).1
+
+    -- past the last item, the last back address is at the place
+    pub end-place : first ≡ None → front ≤ length (item_addresses_of s) → (a : Address) → IsLastValid s a → HasPlace s a front
+    end-place none low a last =
+        let past = past-low none in
+        let end : length (pairs_of s) ≡ front = omega (arith, counted) in
+        subst (HasPlace s a) end last.at.has
+
+  -- ---- whether a key fits at the place of a back address
+  module _ (k : K) (gap : Address) (front : ℕ) (has : HasPlace s gap front) (low : front ≤ length (item_addresses_of s)) where
+    pub fits-at : FitsBetween cmp k (take front (pairs_of s)) (drop front (pairs_of s)) → FitsAt cmp k s gap
+    fits-at between = record {
+      place = front;
+      has = has;
+      fits = between-fits cmp k front (pairs_of s) (omega (arith, counted, low)) between;
+    }
+
+    pub at-fits : FitsAt cmp k s gap → FitsBetween cmp k (take front (pairs_of s)) (drop front (pairs_of s))
+    at-fits f =
+        let same : f.place ≡ front = has.only f.place f.has.at in
+        fits-between cmp k front (pairs_of s) (subst (λ n. KeyFits cmp k n (pairs_of s)) same f.fits)
+
+module _ {K V : Type 0} (cmp : K → K → Ordering) (laws : IsTotalOrder cmp) (old new : TreeState K V) (tree : IsBTree cmp old) (front : ℕ) where
+  -- ---- after an insertion at the place
+  module _ (gap at : Address) (x : K × V) (i : InsertsAt old new gap cmp at x) (has : HasPlace old gap front) (low : front ≤ length (item_addresses_of old)) where
+    insert-pairs : pairs_of new ≡ insert (pairs_of old) front x
+    insert-pairs = i.pairs ∙ ap (λ n. insert (pairs_of old) n x) (has.only i.place i.has.at)
+
+    low-pairs : front ≤ length (pairs_of old)
+    low-pairs = omega (arith, counted cmp laws old tree, low)
+
+    pub insert-passed : take (front + 1) (pairs_of new) ≡ take front (pairs_of old) ++ x ∷ []
+    insert-passed = ap (take (front + 1)) insert-pairs ∙ insert-take x front (pairs_of old) low-pairs
+
+    pub insert-left : drop (front + 1) (pairs_of new) ≡ drop front (pairs_of old)
+    insert-left = ap (drop (front + 1)) insert-pairs ∙ insert-drop x front (pairs_of old) low-pairs
+
+    pub insert-next : (found : Option Address) → IsNext new at found → found ≡ slice_get (item_addresses_of new) (front + 1)
+    insert-next found n =
+        let occupied = item-occupied new at (ap is_some i.inserted.item) in
+        let there : n.place ≡ i.place = i.there.only n.place n.has.at in
+        let here : i.place ≡ front = has.only i.place i.has.at in
+        let one : suc n.place ≡ front + 1 = omega arith in
+        (n.after occupied).listed ∙ ap (slice_get (item_addresses_of new)) one
+
+    pub insert-within : front + 1 ≤ length (item_addresses_of new)
+    insert-within =
+        let t = i.inserted.tree in
+        let more = i.inserted.longer in
+        omega (arith, counted cmp laws old tree, counted cmp laws new t, low, more, tree.counted, t.counted)
+
+  -- ---- after a removal there
+  module _ (at after : Address) (x : K × V) (r : IsRemoved old new cmp at x after) (listed : slice_get (item_addresses_of old) front ≡ Some at) where
+    here : r.place ≡ front
+    here = only cmp laws old tree at front r.place ((addresses-tree cmp laws old tree).items.right front at listed).1 r.at
+
+    remove-pairs : pairs_of new ≡ remove (pairs_of old) front
+    remove-pairs = r.pairs ∙ ap (remove (pairs_of old)) here
+
+    there : slice_get (pairs_of old) front ≡ Some x
+    there = subst (λ n. slice_get (pairs_of old) n ≡ Some x) here r.listed
+
+    pub remove-passed : take front (pairs_of new) ≡ take front (pairs_of old)
+    remove-passed = ap (take front) remove-pairs ∙ remove-take x front (pairs_of old) there
+
+    pub remove-left : drop front (pairs_of old) ≡ x ∷ drop front (pairs_of new)
+    remove-left = remove-drop x front (pairs_of old) there ∙ ap (λ l. x ∷ drop front l) (sym remove-pairs)
+
+    pub remove-next : (found : Option Address) → IsNormalized new after found → found ≡ slice_get (item_addresses_of new) front
+    remove-next found n =
+        let same : r.place ≡ n.place = n.has.only r.place r.there in
+        n.item.listed ∙ ap (slice_get (item_addresses_of new)) (sym same ∙ here)
+
+    pub remove-within : front ≤ length (item_addresses_of new)
+    remove-within =
+        let t = r.tree in
+        let fewer = r.shorter in
+        let some = slice_get_within (item_addresses_of old) front at listed in
+        omega (arith, counted cmp laws old tree, counted cmp laws new t, some, fewer, tree.counted, t.counted)
+
+-- ---- after a refusal
+module _ {K V : Type 0} (old new : TreeState K V) (gap : Address) (may_refuse : Content (Node K V) → Type 0) where
+  refused-by : {X : Type 0} (f : TreeState K V → X) (counts : (n : ℕ) → f (record old { refusals = n }) ≡ f old)
+      → (leaf : ℕ) (cause : Cause) → IsRefused may_refuse leaf old new cause → f new ≡ f old
+  refused-by f counts leaf Store refused = ap f refused.0 ∙ counts (old.refusals + 1)
+  refused-by f counts leaf Count refused = ap f refused.0
+
+  module _ (cause : Cause) (r : IsRefusedAt old new gap may_refuse cause) where
+    pub refused-pairs : pairs_of new ≡ pairs_of old
+    refused-pairs = refused-by (λ s. pairs_of s) (λ n. refl) r.leaf.id cause r.refused
+
+    pub refused-addresses : item_addresses_of new ≡ item_addresses_of old
+    refused-addresses = refused-by (λ s. item_addresses_of s) (λ n. refl) r.leaf.id cause r.refused

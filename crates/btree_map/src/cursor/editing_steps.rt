@@ -1,0 +1,213 @@
+//! Where an editing cursor starts, and its steps.
+ghost use mir.Syntax.{named};
+ghost use Rattle.std.specs.Prelude.{◌≡◌, ◌↔◌, ◌<◌, ℕ, [], Some, IsSome, IsTrue, IfErr, IfNone, IfSome, OnOk, length, option_copied, slice_get};
+ghost use Rattle.std.specs.Borrow.{Lends, sem};
+ghost use Rattle.btree_shape.specs.TreeState.{IsValidIn, pairs_of};
+ghost use Rattle.btree_find.specs.Navigation.{HasPlace};
+ghost use Rattle.btree_map.specs.Editing.{FitsBetween, InsertsEntry, RefusesEntry, RemovesEntry, WritesPassed, WritesPeeked, left_of, passed_of, past_first, with_first};
+ghost use Rattle.btree_map.specs.contracts.cursor.editing.EntriesMut.{the_row};
+
+use crate::BTreeMap;
+use crate::cursor::EntriesMut;
+use crate::cursor::pairs::address_after;
+use btree_ext::{BTreeExt, BTreeExtMut};
+use btree_item::{Address, Item, Refused};
+use btree_nodes::NodesMut;
+
+impl<K: Ord, V, C: NodesMut<K, V>> BTreeMap<K, V, C> {
+    /// Returns a cursor that inserts and removes pairs where it is, and lends values for writing. It starts before the first pair. It reads
+    /// one node of each level.
+    pub fn entries_mut(&mut self) -> EntriesMut<'_, K, V, C>
+        ensures same_map { result.map.ghost_name ≡ self.entry.ghost_name }
+        ensures unchanged { result.map.now ≡ self.old }
+        ensures front { result.front ≡ 0 }
+        ensures passed { passed_of result ≡ [] }
+        ensures left { left_of result ≡ pairs_of self.old }
+    {
+        let first = self.first_item_address();
+        EntriesMut {
+            map: self,
+            first,
+            front: 0,
+        }
+    }
+}
+
+impl<'a, K: Ord, V, C: NodesMut<K, V>> EntriesMut<'a, K, V, C> {
+    /// Returns the first item that is left, or `None` if none is.
+    pub fn peek(&self) -> Option<&Item<K, V>>
+        ensures { option_copied result ≡ slice_get (left_of self.now) 0 }
+    {
+        // For the prover: the tree is well formed.
+        let _root = self.map.root_id();
+        let Some(at) = self.first else {
+            return None;
+        };
+        self.map.item(at)
+    }
+
+    /// Returns how many pairs are left, as both bounds.
+    pub fn size_hint(&self) -> (usize, Option<usize>)
+        ensures { result ≡ (length (left_of self.now), Some (length (left_of self.now))) }
+    {
+        let left = self.map.len().saturating_sub(self.front);
+        (left, Some(left))
+    }
+
+    // Returns a back address at the place of the cursor.
+    fn gap(&self) -> Address
+        ensures valid { IsValidIn self.now.map.now result }
+        ensures back { IsSome result.offset }
+        ensures has { HasPlace self.now.map.now result self.now.front }
+    {
+        // For the prover: the tree is well formed.
+        let _root = self.map.root_id();
+        match self.first {
+            Some(at) => at,
+            None => self.map.last_valid_address(),
+        }
+    }
+
+    /// Returns whether a key may be inserted where the cursor is: whether it is greater than the last key that was passed and less than the
+    /// first one that is left. It compares at most two keys, and reads at most two nodes of each level.
+    pub fn fits(&self, key: &K) -> bool
+        ensures { IsTrue result ↔
+            FitsBetween K.cmp key.now (passed_of self.now) (left_of self.now) }
+    {
+        // For the prover: the tree is well formed.
+        let _root = self.map.root_id();
+        self.map.fits_at(self.gap(), key)
+    }
+}
+
+impl<'a, K: Ord + Drop, V: Drop, C: NodesMut<K, V>> EntriesMut<'a, K, V, C> {
+    /// Inserts a pair where the cursor is: it is the last one passed then, and what is left stays left. It compares no keys.
+    ///
+    /// The key must fit there; `fits` decides that. It uses the same nodes as an insertion by key, and returns an error, with the pair, if
+    /// the store refuses one of them, or if there are `usize::MAX` pairs.
+    pub fn insert(&mut self, key: K, value: V) -> Result<(), Refused<K, V>>
+        requires { FitsBetween K.cmp key (passed_of self.old) (left_of self.old) }
+        ensures inserted { OnOk result (InsertsEntry self.old self.new (key, value)) }
+        ensures returned { IfErr result (λ r. (r.key ≡ key) × (r.value ≡ value)) }
+        ensures refused { IfErr result (λ r. RefusesEntry self.old self.new r.cause) }
+    {
+        // For the prover: the tree is well formed.
+        let _root = self.map.root_id();
+        let gap = self.gap();
+        match self.map.insert_at(gap, Item::new(key, value)) {
+            Ok(at) => {
+                // For the prover: the length is a `usize`.
+                let _len = self.map.len();
+                self.first = self.map.next_item_address(at);
+                self.front += 1;
+                Ok(())
+            }
+            Err(refused) => {
+                let _root = self.map.root_id();
+                Err(refused)
+            }
+        }
+    }
+
+    /// Removes the first item that is left, and returns it, or `None` if none is left; then nothing has changed. It compares no keys, frees
+    /// at most as many nodes as the map has levels, and cannot fail.
+    pub fn remove(&mut self) -> Option<Item<K, V>>
+        ensures removed { IfSome result (λ x. RemovesEntry self.old self.new x) }
+        ensures none { IfNone result (left_of self.old ≡ []) }
+        ensures unchanged { IfNone result (self.new ≡ self.old) }
+    {
+        // For the prover: the tree is well formed.
+        let _root = self.map.root_id();
+        let Some(at) = self.first else {
+            return None;
+        };
+        let Some((item, after)) = self.map.remove_at(at) else {
+            unreachable!();
+        };
+        self.first = self.map.normalize(after);
+        Some(item)
+    }
+
+    /// Passes the first pair that is left, and returns its key, and its value for writing. What is written replaces the value, and nothing
+    /// else changes: the key stays, and so does every address. It reads at most one node of each level, needs no new node and cannot fail.
+    ///
+    /// A pair must be left: `size_hint` decides that. `next` returns `None` if there is none.
+    pub fn next_pair(&mut self) -> (&K, &mut V)
+        requires { 0 < length (left_of self.old) }
+        ensures* writes_back { sem 𝓛 (Lends
+            (the_row (record { mir = named 1; lft = [] }) K.row V.row C.row C.Origin.row
+            (record { cmp = K.cmp }) (record { eq = K.eq }) (record { partial_cmp = K.partial_cmp })
+            (record { MayRefuse = C.MayRefuse; Fits = C.Fits; written = C.written })
+            (record { content = C.content; refusals = C.refusals; CanHold = C.CanHold }))
+            V.row self.entry result.1 (past_first self.old)) }
+        ensures pair { slice_get (left_of self.old) 0 ≡ Some (result.0.now, result.1.now) }
+        ensures writes { (w : V) → WritesPassed self.old result.0.now result.1.now w }
+    {
+        // For the prover: the tree is well formed, and its length is a `usize`.
+        let _root = self.map.root_id();
+        let _len = self.map.len();
+        let Some(at) = self.first else {
+            unreachable!();
+        };
+        self.first = address_after(self.map, Address::new(at.id, at.offset));
+        self.front += 1;
+        self.map.pair_mut(at)
+    }
+
+    /// Returns the key of the first pair that is left, and its value for writing, as `next_pair` does, but does not pass it.
+    pub fn peek_pair(&mut self) -> (&K, &mut V)
+        requires { 0 < length (left_of self.old) }
+        ensures* writes_back { sem 𝓛 (Lends
+            (the_row (record { mir = named 1; lft = [] }) K.row V.row C.row C.Origin.row
+            (record { cmp = K.cmp }) (record { eq = K.eq }) (record { partial_cmp = K.partial_cmp })
+            (record { MayRefuse = C.MayRefuse; Fits = C.Fits; written = C.written })
+            (record { content = C.content; refusals = C.refusals; CanHold = C.CanHold }))
+            V.row self.entry result.1 (with_first self.old)) }
+        ensures pair { slice_get (left_of self.old) 0 ≡ Some (result.0.now, result.1.now) }
+        ensures writes { (w : V) → WritesPeeked self.old result.0.now result.1.now w }
+    {
+        // For the prover: the tree is well formed.
+        let _root = self.map.root_id();
+        let Some(at) = self.first else {
+            unreachable!();
+        };
+        self.map.pair_mut(at)
+    }
+
+    /// Passes the first pair that is left, and returns its key, and its value for writing, or `None` if no pair is left.
+    ///
+    /// The contract does not say what the map is after the value was written; that of `next_pair` does.
+    pub fn next(&mut self) -> Option<(&K, &mut V)>
+        ensures pair { IfSome result (λ p.
+            slice_get (left_of self.old) 0 ≡ Some (p.0.now, p.1.now)) }
+        ensures none { IfNone result (left_of self.old ≡ []) }
+    {
+        if self.size_hint().0 == 0 {
+            return None;
+        }
+        Some(self.next_pair())
+    }
+
+    /// Does the same as `next`.
+    pub fn next_item(&mut self) -> Option<(&K, &mut V)>
+        ensures pair { IfSome result (λ p.
+            slice_get (left_of self.old) 0 ≡ Some (p.0.now, p.1.now)) }
+        ensures none { IfNone result (left_of self.old ≡ []) }
+    {
+        self.next()
+    }
+
+    /// Returns the key of the first pair that is left, and its value for writing, or `None` if no pair is left. It does not pass the pair.
+    ///
+    /// The contract does not say what the map is after the value was written; that of `peek_pair` does.
+    pub fn peek_mut(&mut self) -> Option<(&K, &mut V)>
+        ensures pair { IfSome result (λ p.
+            slice_get (left_of self.old) 0 ≡ Some (p.0.now, p.1.now)) }
+        ensures none { IfNone result (left_of self.old ≡ []) }
+    {
+        if self.size_hint().0 == 0 {
+            return None;
+        }
+        Some(self.peek_pair())
+    }
+}

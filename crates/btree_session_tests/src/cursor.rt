@@ -1,0 +1,109 @@
+//! Lists of steps, run by a cursor.
+use btree_item::Cause;
+use btree_map::BTreeMap;
+use btree_node::Node;
+use btree_nodes::NodesMut;
+use btree_refusing::Refusing;
+use btree_session::{CursorStep, Reply, run_cursor};
+use btree_store::SlabStore;
+use std::alloc::Global;
+use std::process::Abort;
+use std::test::Fail;
+
+type Map = BTreeMap<u64, u64, SlabStore<Node<u64, u64>>>;
+
+// Returns the map of three pairs.
+fn three_pairs(rt: &impl Abort, alloc: Global) -> Map {
+    let mut map: Map = BTreeMap::new(alloc);
+    for (key, value) in [(1, 10), (2, 20), (4, 40)] {
+        assert!(rt; map.insert(key, value).is_ok());
+    }
+    map
+}
+
+#[test]
+fn replies_to_each_step(rt: HostRuntime) {
+    let mut map = three_pairs(&rt, rt.alloc());
+    let mut replies = Vec::new(rt.alloc());
+    let steps = [
+        CursorStep::Next,
+        CursorStep::Next,
+        CursorStep::Insert(3, 30),
+        CursorStep::Peek,
+        CursorStep::Insert(3, 31),
+        CursorStep::Remove,
+        CursorStep::Remove,
+        CursorStep::Insert(9, 90),
+        CursorStep::Peek,
+    ];
+    assert!(rt; run_cursor(&mut map, &steps, &mut replies).is_ok());
+    assert_eq!(rt;
+        replies.as_slice(),
+        [
+            Reply::Pair(1, 10),
+            Reply::Pair(2, 20),
+            Reply::Done,
+            Reply::Pair(4, 40),
+            Reply::Unfit,
+            Reply::Pair(4, 40),
+            Reply::Nothing,
+            Reply::Done,
+            Reply::Nothing,
+        ]
+        .as_slice()
+    );
+    let mut keys = map.keys();
+    for key in [1u64, 2, 3, 9] {
+        assert_eq!(rt; keys.next().copied(), Some(key));
+    }
+    assert!(rt; keys.next().is_none());
+}
+
+// Without memory for the replies no step is run.
+#[test]
+fn runs_nothing_without_room_for_the_replies(rt: HostRuntime) {
+    let mut map = three_pairs(&rt, rt.alloc());
+    let memory = Refusing::over(rt.alloc(), 0);
+    let mut replies: Vec<Reply, &Refusing<Global>> = Vec::new(&memory);
+    let steps = [CursorStep::Remove, CursorStep::Next];
+    memory.refuse(1);
+    assert!(rt; run_cursor(&mut map, &steps, &mut replies).is_err());
+    assert_eq!(rt; memory.refuses(), 0);
+    assert_eq!(rt; (map.len(), replies.len()), (3, 0));
+    assert!(rt; run_cursor(&mut map, &steps, &mut replies).is_ok());
+    assert_eq!(rt;
+        replies.as_slice(),
+        [Reply::Pair(1, 10), Reply::Pair(2, 20)].as_slice()
+    );
+    assert_eq!(rt; (map.len(), map.get(&1).copied()), (2, None));
+}
+
+// Runs three steps over an empty map, of which the first one needs the node that the store refuses.
+fn check_first_refused<C: NodesMut<u64, u64> + Drop>(
+    rt: &impl Abort,
+    alloc: Global,
+    origin: C::Origin,
+) -> Result<(), Fail> {
+    let mut map: BTreeMap<u64, u64, C> = BTreeMap::new(origin);
+    let mut replies = Vec::new(alloc);
+    let steps = [
+        CursorStep::Insert(3, 30),
+        CursorStep::Insert(4, 40),
+        CursorStep::Peek,
+    ];
+    run_cursor(&mut map, &steps, &mut replies)?;
+    assert_eq!(rt;
+        replies.as_slice(),
+        [Reply::Refused(Cause::Store), Reply::Done, Reply::Nothing].as_slice()
+    );
+    assert_eq!(rt; (map.len(), map.get(&4).copied()), (1, Some(40)));
+    Ok(())
+}
+
+#[test]
+fn a_refused_node_is_a_reply(rt: HostRuntime) -> Result<(), Fail> {
+    let memory = Refusing::over(rt.alloc(), 1);
+    check_first_refused::<SlabStore<Node<u64, u64>, &Refusing<Global>>>(&rt, rt.alloc(), &memory)?;
+    assert_eq!(rt; memory.refuses(), 0);
+    Ok(())
+}
