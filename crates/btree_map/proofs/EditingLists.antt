@@ -96,6 +96,21 @@ module _ {X : Type 0} where
       pub remove-drop : drop n xs ≡ x ∷ drop n (remove xs n)
       remove-drop = (remove-cut n xs here).1
 
+-- the cut moves behind the next element
+module _ {X : Type 0} where
+  next-cut : (n : ℕ) (xs : List X) → 0 < length (drop n xs) → (x : X) × (take (suc n) xs ≡ take n xs ++ x ∷ []) × (drop n xs ≡ x ∷ drop (suc n) xs)
+  next-cut zero [] low = absurd (omega arith)
+  next-cut zero (x ∷ xs) low = (x, refl, refl)
+  next-cut (suc n) [] low = absurd (omega arith)
+  next-cut (suc n) (y ∷ xs) low =
+      let rest = next-cut n xs low in
+      (rest.0, ap (λ (l : List X). y ∷ l) rest.1, rest.2)
+
+  pub pass-cut : (n : ℕ) (xs : List X) → 0 < length (drop n xs) → (x : X) × (take (n + 1) xs ≡ take n xs ++ x ∷ []) × (drop n xs ≡ x ∷ drop (n + 1) xs)
+  pass-cut n xs low =
+      let more : suc n ≡ n + 1 = omega arith in
+      subst (λ m. (x : X) × (take m xs ≡ take n xs ++ x ∷ []) × (drop n xs ≡ x ∷ drop m xs)) more (next-cut n xs low)
+
 -- a key fits at a place exactly if it lies between the two parts
 module _ {K V : Type 0} (cmp : K → K → Ordering) (k : K) where
   pub fits-between : (n : ℕ) (xs : List (K × V)) → KeyFits cmp k n xs → FitsBetween cmp k (take n xs) (drop n xs)

@@ -16,3 +16,4 @@ pub mod EditingLists
 pub mod EditingLemmas
 pub mod SameEditing
 pub mod EditingSteps
+pub mod DrainRuns

@@ -105,6 +105,13 @@ module _ {K V C O : Type 0} {g : ord.Ghosts K} {g' : eq.Ghosts K} {g'' : partial
       pub gap : Address
       pub refused : IsRefusedAt old.map.now new.map.now gap s.MayRefuse cause
 
+    -- the pair x, the first one left, is the last one passed now, and the map is unchanged
+    pub record PassesEntry (x : K × V) : Type 0 where
+      pub same_map : new.map.ghost_name ≡ old.map.ghost_name
+      pub unchanged : new.map.now ≡ old.map.now
+      pub passed : passed_of new ≡ passed_of old ++ x ∷ []
+      pub left : left_of old ≡ x ∷ left_of new
+
     -- the pair x, the first one left, was removed; the map has changed as by a removal at an address
     pub record RemovesEntry (x : K × V) : Type 0 where
       pub same_map : new.map.ghost_name ≡ old.map.ghost_name

@@ -10,3 +10,5 @@ pub mod WrittenAddresses
 pub mod Cursor
 pub mod RangeCursor
 pub mod Editing
+pub mod Drain
+pub mod DrainSteps

@@ -1,10 +1,11 @@
 //! Where an editing cursor starts, and its steps.
 ghost use mir.Syntax.{named};
-ghost use Rattle.std.specs.Prelude.{◌≡◌, ◌↔◌, ◌<◌, ℕ, [], Some, IsSome, IsTrue, IfErr, IfNone, IfSome, OnOk, length, option_copied, slice_get};
+ghost use Rattle.std.specs.Prelude.{◌≡◌, ◌↔◌, ◌<◌, ◌≤◌, ℕ, [], Some, IsSome, IsTrue, IfErr, IfNone, IfSome, OnOk, length, option_copied, slice_get};
 ghost use Rattle.std.specs.Borrow.{Lends, sem};
+ghost use Rattle.btree_shape.specs.TreeAddresses.{item_addresses_of};
 ghost use Rattle.btree_shape.specs.TreeState.{IsValidIn, pairs_of};
 ghost use Rattle.btree_find.specs.Navigation.{HasPlace};
-ghost use Rattle.btree_map.specs.Editing.{FitsBetween, InsertsEntry, RefusesEntry, RemovesEntry, WritesPassed, WritesPeeked, left_of, passed_of, past_first, with_first};
+ghost use Rattle.btree_map.specs.Editing.{FitsBetween, InsertsEntry, PassesEntry, RefusesEntry, RemovesEntry, WritesPassed, WritesPeeked, left_of, passed_of, past_first, with_first};
 ghost use Rattle.btree_map.specs.contracts.cursor.editing.EntriesMut.{the_row};
 
 use crate::BTreeMap;
@@ -34,6 +35,21 @@ impl<K: Ord, V, C: NodesMut<K, V>> BTreeMap<K, V, C> {
 }
 
 impl<'a, K: Ord, V, C: NodesMut<K, V>> EntriesMut<'a, K, V, C> {
+    // Returns the cursor at a place.
+    pub(crate) fn at(
+        map: &'a mut BTreeMap<K, V, C>,
+        first: Option<Address>,
+        front: usize,
+    ) -> Self
+        requires stands { first ≡ slice_get (item_addresses_of map.old) front }
+        requires within { front ≤ length (item_addresses_of map.old) }
+        ensures same_map { result.map.ghost_name ≡ map.entry.ghost_name }
+        ensures unchanged { result.map.now ≡ map.old }
+        ensures front { result.front ≡ front }
+    {
+        EntriesMut { map, first, front }
+    }
+
     /// Returns the first item that is left, or `None` if none is.
     pub fn peek(&self) -> Option<&Item<K, V>>
         ensures { option_copied result ≡ slice_get (left_of self.now) 0 }
@@ -126,6 +142,21 @@ impl<'a, K: Ord + Drop, V: Drop, C: NodesMut<K, V>> EntriesMut<'a, K, V, C> {
         };
         self.first = self.map.normalize(after);
         Some(item)
+    }
+
+    // Passes the first pair that is left. It reads at most one node of each level.
+    pub(crate) fn pass(&mut self)
+        requires { 0 < length (left_of self.old) }
+        ensures { (x : K × V) × PassesEntry self.old self.new x }
+    {
+        // For the prover: the tree is well formed, and its length is a `usize`.
+        let _root = self.map.root_id();
+        let _len = self.map.len();
+        let Some(at) = self.first else {
+            unreachable!();
+        };
+        self.first = address_after(self.map, at);
+        self.front += 1;
     }
 
     /// Passes the first pair that is left, and returns its key, and its value for writing. What is written replaces the value, and nothing
