@@ -125,7 +125,7 @@ module _ {F K V : Type 0} (Step : F → K → V → Bool → V → F → Type 0)
         pub calls-more : Asks Step f (run.here ++ (first.key, first.was) ∷ []) (asked ++ (b, x) ∷ []) f2
         calls-more =
             subst (λ (y : K × V). Asks Step f (run.here ++ (first.key, first.was) ∷ []) (asked ++ (b, y) ∷ []) f2) (sym is-first)
-              (asks-more f f1 f2 run.here asked first.key first.was first.is b run.calls first.step)
+            (asks-more f f1 f2 run.here asked first.key first.was first.is b run.calls first.step)
 
         pub fewer-left : length rest < length (left_of mid)
         fewer-left =
@@ -152,7 +152,7 @@ module _ {F K V : Type 0} (Step : F → K → V → Bool → V → F → Type 0)
         pub callable-behind : {Accepts : F → K → V → Type 0} → CallableOnEachPair Step Accepts f1 (left_of mid) → CallableOnEachPair Step Accepts f2 rest
         callable-behind can =
             subst (λ (l : List (K × V)). CallableOnEachPair Step _ f2 l) (sym is-rest)
-              (still-callable f1 f2 (left_of mid) first.key first.was first.is b first.writes.rest can first.writes.left first.step)
+            (still-callable f1 f2 (left_of mid) first.key first.was first.is b first.writes.rest can first.writes.left first.step)
 
       module _ (new : EntriesMut K V C O g g' g'' s s') (x : K × V) where
         pub runs-passed : AsksFirst Step f1 f2 mid lent (not takes) → PassesEntry lent new x → RunsTest Step takes f f2 old.map.now old.front new.map.now new.front (asked ++ (not takes, x) ∷ [])
@@ -165,13 +165,13 @@ module _ {F K V : Type 0} (Step : F → K → V → Bool → V → F → Type 0)
               ∙ ap (λ (l : List (K × V)). l ++ x ∷ []) (passed-before (not takes) first x _ passes.left)
               ∙ append_assoc (passed_of old) (picked (not takes) asked) (x ∷ [])
               ∙ ap (λ (l : List (K × V)). passed_of old ++ l)
-                (ap (λ (l : List (K × V)). picked (not takes) asked ++ l) (sym (picked-same (not takes) x))
-                ∙ sym (picked-more (not takes) asked ((not takes, x) ∷ [])));
+              (ap (λ (l : List (K × V)). picked (not takes) asked ++ l) (sym (picked-same (not takes) x))
+              ∙ sym (picked-more (not takes) asked ((not takes, x) ∷ [])));
           uncounted = ap (λ t. t.refusals) passes.unchanged ∙ uncounted-before (not takes) first x _ passes.left;
           addresses = λ none. ap item_addresses_of passes.unchanged
               ∙ addresses-before (not takes) first x _ passes.left
-                (sym (append-nil _) ∙ ap (λ (l : List (K × V)). picked takes asked ++ l) (sym (picked-other takes x))
-                ∙ sym (picked-more takes asked ((not takes, x) ∷ [])) ∙ none);
+              (sym (append-nil _) ∙ ap (λ (l : List (K × V)). picked takes asked ++ l) (sym (picked-other takes x))
+              ∙ sym (picked-more takes asked ((not takes, x) ∷ [])) ∙ none);
         }
 
         pub runs-taken : AsksFirst Step f1 f2 mid lent takes → RemovesEntry lent new x → RunsTest Step takes f f2 old.map.now old.front new.map.now new.front (asked ++ (takes, x) ∷ [])
@@ -182,8 +182,8 @@ module _ {F K V : Type 0} (Step : F → K → V → Bool → V → F → Type 0)
           passed =
               removes.passed ∙ passed-before takes first x _ removes.left
               ∙ ap (λ (l : List (K × V)). passed_of old ++ l)
-                (sym (append-nil _) ∙ ap (λ (l : List (K × V)). picked (not takes) asked ++ l) (sym (picked-not takes x))
-                ∙ sym (picked-more (not takes) asked ((takes, x) ∷ [])));
+              (sym (append-nil _) ∙ ap (λ (l : List (K × V)). picked (not takes) asked ++ l) (sym (picked-not takes x))
+              ∙ sym (picked-more (not takes) asked ((takes, x) ∷ [])));
           uncounted = removes.removed.uncounted ∙ uncounted-before takes first x _ removes.left;
           addresses = λ none. absurd (more-than-none (picked takes asked) x
               (ap (λ (l : List (K × V)). picked takes asked ++ l) (sym (picked-same takes x)) ∙ sym (picked-more takes asked ((takes, x) ∷ [])) ∙ none));

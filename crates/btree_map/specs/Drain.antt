@@ -60,8 +60,8 @@ module _ {F K V : Type 0} (Step : F → K → V → Bool → V → F → Type 0)
   abbrev pub Yields : (takes : Bool) → F → F → (old : TreeState K V) → (front : ℕ) → (new : TreeState K V) → (front' : ℕ) → Option (K × V) → Type 0
   Yields takes f f' old front new front' result = (before : List (Bool × (K × V))) × (picked takes before ≡ [])
       × MatchOption result
-        (RunsTest takes f f' old front new front' before × (drop front' (pairs_of new) ≡ []))
-        (λ x. RunsTest takes f f' old front new front' (before ++ (takes, x) ∷ []))
+      (RunsTest takes f f' old front new front' before × (drop front' (pairs_of new) ≡ []))
+      (λ x. RunsTest takes f f' old front new front' (before ++ (takes, x) ∷ []))
 
   -- calls at all pairs that were left
   abbrev pub Ends : (takes : Bool) → F → F → (old : TreeState K V) → (front : ℕ) → (new : TreeState K V) → (front' : ℕ) → Type 0

@@ -6,7 +6,7 @@ use crate::BTreeMap;
 use crate::pair_test::ByPair;
 use btree_item::Address;
 use btree_nodes::NodesMut;
-use steps::run_out;
+pub use steps::{run_out, seek_from};
 
 /// The pairs of a map that a closure picks, removed one at a time in the order of the keys: what `BTreeMap::drain_filter` returns. The closure
 /// is called once at each pair, and the values that it writes stay.

@@ -17,9 +17,9 @@ mod pair_test;
 mod removal;
 mod traits;
 
-pub use drain::DrainFilter;
-pub use pair_test::{ByPair, PairTest};
 pub use cursor::{EntriesMut, IterMut, RangeMut, ValuesMut};
+pub use drain::{DrainFilter, run_out, seek_from};
 pub use entry::{Entry, OccupiedEntry, VacantEntry};
 pub use map::BTreeMap;
 pub use owned::{IntoIter, IntoKeys, IntoValues};
+pub use pair_test::{ByKey, ByPair, PairTest};

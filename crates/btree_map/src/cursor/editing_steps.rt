@@ -36,11 +36,7 @@ impl<K: Ord, V, C: NodesMut<K, V>> BTreeMap<K, V, C> {
 
 impl<'a, K: Ord, V, C: NodesMut<K, V>> EntriesMut<'a, K, V, C> {
     // Returns the cursor at a place.
-    pub(crate) fn at(
-        map: &'a mut BTreeMap<K, V, C>,
-        first: Option<Address>,
-        front: usize,
-    ) -> Self
+    pub(crate) fn at(map: &'a mut BTreeMap<K, V, C>, first: Option<Address>, front: usize) -> Self
         requires stands { first ≡ slice_get (item_addresses_of map.old) front }
         requires within { front ≤ length (item_addresses_of map.old) }
         ensures same_map { result.map.ghost_name ≡ map.entry.ghost_name }

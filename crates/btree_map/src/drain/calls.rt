@@ -5,15 +5,21 @@ ghost use Rattle.btree_shape.specs.TreeState.{pairs_of};
 ghost use Rattle.btree_map.specs.Drain.{Selects};
 ghost use Rattle.btree_map.specs.DrainSteps.{IsDraining, LetsGo};
 
-use super::steps::{run_out, run_rest, seek_from};
+use super::steps::run_rest;
+use super::{run_out, seek_from};
 use crate::BTreeMap;
 use crate::drain::DrainFilter;
 use crate::pair_test::{ByPair, PairTest};
 use btree_ext::BTreeExt;
 use btree_nodes::NodesMut;
 
-impl<'a, K: Ord + Drop, V: Drop, C: NodesMut<K, V>, F: FnMut(&K, &mut V) -> bool>
-    DrainFilter<'a, K, V, C, F> {
+impl<'a, K: Ord + Drop, V: Drop, C: NodesMut<K, V>, F: FnMut(&K, &mut V) -> bool> DrainFilter<
+    'a,
+    K,
+    V,
+    C,
+    F,
+> {
     /// Calls the closure at the pairs that are left, and drops those that it picks.
     pub fn finish(self)
         requires { IsDraining F.FnMut self }

@@ -73,8 +73,10 @@ pub(crate) fn run_rest<'a, 'b, 'c, K: Ord + Drop, V: Drop, C: NodesMut<K, V>, P:
     }
 }
 
-// Asks at all pairs of a map from a place on, and removes those that pass.
-pub(crate) fn run_out<'a, K: Ord + Drop, V: Drop, C: NodesMut<K, V>, P: PairTest<K, V>>(
+/// Asks at all pairs of a map from place `front` on, and removes those that pass: the end of a drain, for types that stand on a map.
+///
+/// The address must be that of the item at the place. It reads and writes what a cursor does, allocates no memory and cannot fail.
+pub fn run_out<'a, K: Ord + Drop, V: Drop, C: NodesMut<K, V>, P: PairTest<K, V>>(
     map: &'a mut BTreeMap<K, V, C>,
     first: Option<Address>,
     front: usize,
@@ -90,8 +92,11 @@ pub(crate) fn run_out<'a, K: Ord + Drop, V: Drop, C: NodesMut<K, V>, P: PairTest
     run_rest(&mut entries, test, true);
 }
 
-// Asks at the pairs of a map from a place on until one passes, and removes that one. Returns where the next pair is.
-pub(crate) fn seek_from<'a, K: Ord + Drop, V: Drop, C: NodesMut<K, V>, P: PairTest<K, V>>(
+/// Asks at the pairs of a map from place `front` on until one passes, and removes and returns that one: a step of a drain, for types that
+/// stand on a map. Returns where the pair after it is, too.
+///
+/// The address must be that of the item at the place. It reads and writes what a cursor does, allocates no memory and cannot fail.
+pub fn seek_from<'a, K: Ord + Drop, V: Drop, C: NodesMut<K, V>, P: PairTest<K, V>>(
     map: &'a mut BTreeMap<K, V, C>,
     first: Option<Address>,
     front: usize,

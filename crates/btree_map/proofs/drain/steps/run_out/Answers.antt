@@ -8,4 +8,4 @@ returns g c =
     let final = c.map-1.given.1 (sym (c.run_rest.ensures.same_map ∙ c.at-entries.ensures.same_map)) in
     let ends = rw (c.at-entries.ensures.unchanged, c.at-entries.ensures.front) at c.run_rest.ensures.ends in
     subst (λ now. RunsOut g.P.PairTest.step c.args.test.now c.args.front c.args.map.now now) (sym final)
-      (runs-out _ _ _ _ _ _ _ ends)
+    (runs-out _ _ _ _ _ _ _ ends)
