@@ -38,10 +38,7 @@ abbrev by_number : ord.Ghosts ℕ
 by_number = record { cmp = nat_cmp }
 
 module _ {C O : Type 0} {g' : eq.Ghosts ℕ} {g'' : partial.Ghosts ℕ} {s : nodes_mut.Ghosts C ℕ ℕ O} {s' : nodes.Ghosts C ℕ ℕ} where
-  abbrev pub Cursor : Type 0
-  Cursor = EntriesMut ℕ ℕ C O by_number g' g'' s s'
-
-  module _ (c : Cursor) where
+  module _ (c : EntriesMut ℕ ℕ C O by_number g' g'' s s') where
     -- ---- nothing is left
     module _ (none : left_of c ≡ []) where
       pub peeks-none : IsCursorStep s.MayRefuse (spot_of c) Peek Nothing (spot_of c)
@@ -72,9 +69,9 @@ module _ {C O : Type 0} {g' : eq.Ghosts ℕ} {g'' : partial.Ghosts ℕ} {s : nod
 
     -- ---- a key that does not fit
     pub unfit : (k v : ℕ) → (FitsBetween nat_cmp k (passed_of c) (left_of c) → ⊥) → IsCursorStep s.MayRefuse (spot_of c) (Insert k v) Unfit (spot_of c)
-    unfit k v no = record { move = (no, refl); nodes = refl }
+    unfit k v unable = record { move = (unable, refl); nodes = refl }
 
-  module _ (old new : Cursor) where
+  module _ (old new : EntriesMut ℕ ℕ C O by_number g' g'' s s') where
     pub removes-first : (x : ℕ × ℕ) → RemovesEntry old new x → IsCursorStep s.MayRefuse (spot_of old) Remove (Pair x.0 x.1) (spot_of new)
     removes-first x r = record {
       move = (left_of new, r.left, λ i. record { passed = r.passed i; left = left_of new; refusals = r.removed.uncounted i });
