@@ -1,5 +1,5 @@
 -- Steps of the machine of an editing cursor, by the contracts of the cursor.
-use Rattle.std.proofs.Common.{◌≡◌, ◌∙◌, ℕ, ◌+◌, ◌-◌, ◌^◌, List, [], ◌∷◌, ◌++◌, Some, None, length, drop, slice_get, refl, sym, ap, arith}
+use Rattle.std.proofs.Common.{◌≡◌, ◌∙◌, ℕ, ◌+◌, List, [], ◌∷◌, Some, None, length, drop, slice_get, refl, sym, ap, arith}
 use Rattle.std.proofs.lemmas.List.{length-drop, length-take}
 use Rattle.std.proofs.lemmas.Option.{same_Some}
 use Rattle.std.specs.Ordering.{nat_cmp}
@@ -16,9 +16,8 @@ use Rattle.btree_map.specs.Cursor.{or_nowhere}
 use Rattle.btree_map.specs.Editing.{FitsBetween, InsertsEntry, RefusesEntry, RemovesEntry, WritesPassed, left_of, passed_of, past_first}
 use Rattle.btree_map.specs.declared.cursor.editing.EntriesMut.{EntriesMut}
 use Rattle.btree_session.specs.declared.command.Reply.TheVariants.{Nothing, Pair, Done, Unfit, Refused}
-use Rattle.btree_session.specs.declared.cursor.CursorStep.{CursorStep}
 use Rattle.btree_session.specs.declared.cursor.CursorStep.TheVariants.{Peek, Next, Insert, Remove}
-use Rattle.btree_session.specs.CursorMachine.{CursorMove, IsCursorStep, IsRefusable, after_refusal, spot_of, state_at}
+use Rattle.btree_session.specs.CursorMachine.{IsCursorStep, IsRefusable, after_refusal, spot_of, state_at}
 
 module _ {X : Type 0} where
   first-rest : (xs : List X) (x : X) → Some x ≡ slice_get xs 0 → xs ≡ x ∷ drop 1 xs

@@ -1,4 +1,4 @@
-use Rattle.btree_session.proofs.CursorMoves.{none-long, passes-first, passes-none}
+use Rattle.btree_session.proofs.CursorMoves.{passes-first}
 use Rattle.btree_session.proofs.cursor.next.Goals as goal
 
 pub returns-clause-step : goal.returns-clause-step
