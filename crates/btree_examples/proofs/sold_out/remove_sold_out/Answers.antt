@@ -21,5 +21,5 @@ loop-part-preserved g c =
 pub returns : goal.returns
 returns g c =
     let whole = keeps-all is_in_stock (pairs_of c.args.stock.now) c.loop-part.parts.front (pairs_of c.loop-part.parts.map.now)
-        c.loop-part.invariant.kept c.in_default.ensures in
+    c.loop-part.invariant.kept c.in_default.ensures in
     ap pairs_of (c.stock-1.given.1 (sym (c.loop-part.invariant.same_map ∙ c.entries_mut-parts.ensures.same_map))) ∙ whole
