@@ -1,5 +1,17 @@
 -- A list that is filtered from its start on: the elements that were passed, and the rest.
-use Rattle.std.proofs.Common.{◌≡◌, ◌∙◌, Bool, true, false, cond, List, [], ◌∷◌, ◌++◌, filter, refl, sym, ap, append_assoc}
+use Rattle.std.proofs.Common.{◌≡◌, ◌∙◌, ℕ, zero, suc, Bool, true, false, cond, not, ◌==◌, List, [], ◌∷◌, ◌++◌, Some, None, drop, filter, slice_get, take, refl, sym, ap, subst, append_assoc, ne_eqb}
+use Rattle.std.proofs.lemmas.Option.{same_Some}
+use Rattle.btree_examples.specs.Stock.{is_in_stock}
+
+module _ {X : Type 0} where
+  cut : (n : ℕ) (xs : List X) → xs ≡ take n xs ++ drop n xs
+  cut zero xs = refl
+  cut (suc n) [] = refl
+  cut (suc n) (x ∷ xs) = ap (λ (l : List X). x ∷ l) (cut n xs)
+
+  none-first : (xs : List X) → None ≡ slice_get xs 0 → xs ≡ []
+  none-first [] none = refl
+  none-first (x ∷ xs) none = absurd (cc)
 
 module _ {X : Type 0} (keep : X → Bool) (all : List X) where
   -- those that were passed are those that are kept of all but the rest
@@ -16,5 +28,21 @@ module _ {X : Type 0} (keep : X → Bool) (all : List X) where
     pub keeps-removed : keep x ≡ false → Keeps passed left
     keeps-removed is = ap (λ b. passed ++ cond b (x ∷ filter keep left) (filter keep left)) (sym is) ∙ so_far
 
-  pub keeps-all : (passed left : List X) → Keeps passed left → left ≡ [] → passed ++ left ≡ filter keep all
-  keeps-all passed left so_far none = ap (λ l. passed ++ l) none ∙ ap (λ l. passed ++ filter keep l) (sym none) ∙ so_far
+  -- at the end they are the whole list
+  pub keeps-all : (n : ℕ) (xs : List X) → Keeps (take n xs) (drop n xs) → None ≡ slice_get (drop n xs) 0 → xs ≡ filter keep all
+  keeps-all n xs so_far none =
+      let past = none-first (drop n xs) none in
+      cut n xs ∙ ap (λ l. take n xs ++ l) past ∙ ap (λ l. take n xs ++ filter keep l) (sym past) ∙ so_far
+
+some-left : (n : ℕ) → (n ≡ 0 → ⊥) → not (n == 0) ≡ true
+some-left n some = ap not (ne_eqb n 0 some)
+
+module _ {K : Type 0} where
+  -- the first part that was left is in stock, and was passed
+  module _ (all passed left more rest : List (K × ℕ)) (x y : K × ℕ) (so_far : Keeps is_in_stock all passed left) where
+    pub keeps-in_stock : Some x ≡ slice_get left 0 → slice_get left 0 ≡ Some y → (x.1 ≡ 0 → ⊥) → more ≡ passed ++ y ∷ [] → left ≡ y ∷ rest
+        → Keeps is_in_stock all more rest
+    keeps-in_stock first next some passes goes =
+        let same = same_Some x y (first ∙ next) in
+        rw passes (keeps-passed is_in_stock all passed rest y (subst (λ l. Keeps is_in_stock all passed l) goes so_far)
+        (subst (λ (z : K × ℕ). is_in_stock z ≡ true) same (some-left x.1 some)))

@@ -1,5 +1,5 @@
 -- Steps of the machine of an editing cursor, by the contracts of the cursor.
-use Rattle.std.proofs.Common.{◌≡◌, ◌∙◌, ℕ, ◌+◌, ◌-◌, ◌^◌, List, [], ◌∷◌, ◌++◌, Some, None, length, drop, slice_get, refl, sym, ap, arith}
+use Rattle.std.proofs.Common.{◌≡◌, ◌∙◌, ℕ, ◌+◌, List, [], ◌∷◌, Some, None, length, drop, slice_get, refl, sym, ap, arith}
 use Rattle.std.proofs.lemmas.List.{length-drop, length-take}
 use Rattle.std.proofs.lemmas.Option.{same_Some}
 use Rattle.std.specs.Ordering.{nat_cmp}
@@ -16,9 +16,8 @@ use Rattle.btree_map.specs.Cursor.{or_nowhere}
 use Rattle.btree_map.specs.Editing.{FitsBetween, InsertsEntry, RefusesEntry, RemovesEntry, WritesPassed, left_of, passed_of, past_first}
 use Rattle.btree_map.specs.declared.cursor.editing.EntriesMut.{EntriesMut}
 use Rattle.btree_session.specs.declared.command.Reply.TheVariants.{Nothing, Pair, Done, Unfit, Refused}
-use Rattle.btree_session.specs.declared.cursor.CursorStep.{CursorStep}
 use Rattle.btree_session.specs.declared.cursor.CursorStep.TheVariants.{Peek, Next, Insert, Remove}
-use Rattle.btree_session.specs.CursorMachine.{CursorMove, IsCursorStep, IsRefusable, after_refusal, spot_of, state_at}
+use Rattle.btree_session.specs.CursorMachine.{IsCursorStep, IsRefusable, after_refusal, spot_of, state_at}
 
 module _ {X : Type 0} where
   first-rest : (xs : List X) (x : X) → Some x ≡ slice_get xs 0 → xs ≡ x ∷ drop 1 xs
@@ -38,10 +37,7 @@ abbrev by_number : ord.Ghosts ℕ
 by_number = record { cmp = nat_cmp }
 
 module _ {C O : Type 0} {g' : eq.Ghosts ℕ} {g'' : partial.Ghosts ℕ} {s : nodes_mut.Ghosts C ℕ ℕ O} {s' : nodes.Ghosts C ℕ ℕ} where
-  abbrev pub Cursor : Type 0
-  Cursor = EntriesMut ℕ ℕ C O by_number g' g'' s s'
-
-  module _ (c : Cursor) where
+  module _ (c : EntriesMut ℕ ℕ C O by_number g' g'' s s') where
     -- ---- nothing is left
     module _ (none : left_of c ≡ []) where
       pub peeks-none : IsCursorStep s.MayRefuse (spot_of c) Peek Nothing (spot_of c)
@@ -72,9 +68,9 @@ module _ {C O : Type 0} {g' : eq.Ghosts ℕ} {g'' : partial.Ghosts ℕ} {s : nod
 
     -- ---- a key that does not fit
     pub unfit : (k v : ℕ) → (FitsBetween nat_cmp k (passed_of c) (left_of c) → ⊥) → IsCursorStep s.MayRefuse (spot_of c) (Insert k v) Unfit (spot_of c)
-    unfit k v no = record { move = (no, refl); nodes = refl }
+    unfit k v unable = record { move = (unable, refl); nodes = refl }
 
-  module _ (old new : Cursor) where
+  module _ (old new : EntriesMut ℕ ℕ C O by_number g' g'' s s') where
     pub removes-first : (x : ℕ × ℕ) → RemovesEntry old new x → IsCursorStep s.MayRefuse (spot_of old) Remove (Pair x.0 x.1) (spot_of new)
     removes-first x r = record {
       move = (left_of new, r.left, λ i. record { passed = r.passed i; left = left_of new; refusals = r.removed.uncounted i });

@@ -1,5 +1,5 @@
 use Rattle.std.proofs.Common.{refl}
-use Rattle.btree_session.proofs.CursorMoves.{inserts-pair, refuses-pair, unfit}
+use Rattle.btree_session.proofs.CursorMoves.{inserts-pair, refuses-pair}
 use Rattle.btree_session.proofs.cursor.insert.Goals as goal
 
 pub returns-in-Ok-clause-step : goal.returns-in-Ok-clause-step

@@ -1,5 +1,5 @@
-use Rattle.btree_session.proofs.CursorMoves.{none-long, passes-first, passes-none}
+use Rattle.btree_session.proofs.CursorMoves.{passes-first}
 use Rattle.btree_session.proofs.cursor.next.Goals as goal
 
 pub returns-clause-step : goal.returns-clause-step
-returns-clause-step g c = passes-first c.args.entries.now _ _ (c.next_pair-key.ensures.writes c.next_pair-key.result.1.now)
+returns-clause-step g c = passes-first c.args.entries.now _ _ (c.next_pair-value.ensures.writes c.next_pair-value.result.1.now)
