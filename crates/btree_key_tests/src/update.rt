@@ -126,28 +126,43 @@ fn changed(found: Option<u64>, value: u64) -> (Option<u64>, Option<u64>) {
     }
 }
 
-// The pairs with even keys are there first.
-#[test]
-fn updates_by_key(rt: HostRuntime) {
-    let mut map: Numbers = BTreeMap::new(rt.alloc());
-    for (key, value) in ITEMS {
+// Inserts the pairs with even keys.
+fn put_even(rt: &impl Abort, map: &mut Numbers, items: &[(u64, u64)]) {
+    for (key, value) in items.iter().copied() {
         if key % 2 == 0 {
             assert!(rt; map.insert(key, value).is_ok());
         }
     }
-    for (key, value) in ITEMS {
+}
+
+// Updates the value at each key once.
+fn update_each(rt: &impl Abort, map: &mut Numbers, items: &[(u64, u64)]) {
+    for (key, value) in items.iter().copied() {
         let expected = if key % 2 == 0 { Some(value) } else { None };
         let answer = map.update(key, |found| changed(found, value));
         assert_eq!(rt; answer.ok(), Some(expected));
         assert_eq!(rt; map.validate(), Ok(()));
     }
-    for (key, value) in ITEMS {
-        let expected = match (key % 2, value % 2) {
-            (1, _) => Some(value),
-            (_, 1) => Some(10000u64.wrapping_sub(value)),
-            _ => None,
-        };
-        assert_eq!(rt; map.get(&key).copied(), expected);
+}
+
+// What is at a key after the update.
+fn left_at(key: u64, value: u64) -> Option<u64> {
+    match (key % 2, value % 2) {
+        (1, _) => Some(value),
+        (_, 1) => Some(10000u64.wrapping_sub(value)),
+        _ => None,
+    }
+}
+
+// The pairs with even keys are there first.
+#[test]
+fn updates_by_key(rt: HostRuntime) {
+    let mut map: Numbers = BTreeMap::new(rt.alloc());
+    let items = ITEMS;
+    put_even(&rt, &mut map, &items);
+    update_each(&rt, &mut map, &items);
+    for (key, value) in items {
+        assert_eq!(rt; map.get(&key).copied(), left_at(key, value));
     }
 }
 
