@@ -12,9 +12,9 @@ use btree_ext::{BTreeExt, BTreeExtMut};
 use btree_item::{Address, Refused};
 use btree_map::{BTreeMap, Entry};
 use btree_node::Node;
+use btree_nodes::NodesMut;
 use btree_store::SlabStore;
 use std::process::Abort;
-use std::test::Fail;
 
 type Map = BTreeMap<u64, u64, SlabStore<Node<u64, u64>>>;
 
@@ -31,6 +31,62 @@ fn overwrite(map: &mut Map, key: u64, value: u64) -> bool
         }
         Entry::Vacant(_) => false,
     }
+}
+
+// Does the same over any store.
+fn overwrite_in<C: NodesMut<u64, u64>>(
+    map: &mut BTreeMap<u64, u64, C>,
+    key: u64,
+    value: u64,
+) -> bool
+    ensures written { IsTrue result → pairs_of map.new ≡ with_value nat_cmp key value (pairs_of map.old) }
+    ensures absent { result ≡ false → map.new ≡ map.old }
+{
+    match map.entry(key) {
+        Entry::Occupied(entry) => {
+            *entry.into_mut() = value;
+            true
+        }
+        Entry::Vacant(_) => false,
+    }
+}
+
+// Does the same by an entry that is kept.
+fn overwrite_kept(map: &mut Map, key: u64, value: u64) -> bool
+    ensures written { IsTrue result → pairs_of map.new ≡ with_value nat_cmp key value (pairs_of map.old) }
+    ensures absent { result ≡ false → map.new ≡ map.old }
+{
+    match map.entry(key) {
+        Entry::Occupied(entry) => {
+            let mut entry = entry;
+            *entry.get_mut() = value;
+            true
+        }
+        Entry::Vacant(_) => false,
+    }
+}
+
+// Does the same without an entry.
+fn write(map: &mut Map, key: u64, value: u64) -> bool
+    ensures written { IsTrue result → pairs_of map.new ≡ with_value nat_cmp key value (pairs_of map.old) }
+    ensures absent { result ≡ false → map.new ≡ map.old }
+{
+    match map.get_mut(&key) {
+        Some(old) => {
+            *old = value;
+            true
+        }
+        None => false,
+    }
+}
+
+// Sets the value at a key by an entry, whether the key is there or not.
+fn put(map: &mut Map, key: u64, value: u64) -> Result<(), Refused<u64, u64>>
+    ensures { OnOk result (pairs_of map.new ≡ inserted nat_cmp key value (pairs_of map.old)) }
+{
+    let lent = map.entry(key).or_insert(0)?;
+    *lent = value;
+    Ok(())
 }
 
 // Sets the value at a key by an update. Returns the old value, if the key was there, or the key if it is refused.
@@ -67,6 +123,18 @@ fn set_at(map: &mut Map, addr: Address, value: u64) -> u64
     map.update_at(addr, |old| (Some(value), old))
 }
 
+// Does the same over any store.
+fn set_at_in<C: NodesMut<u64, u64>>(
+    map: &mut BTreeMap<u64, u64, C>,
+    addr: Address,
+    value: u64,
+) -> u64
+    requires { IsOccupiedIn map.old addr }
+    ensures { IsValueExchanged map.old map.new addr nat_cmp result value }
+{
+    map.update_at(addr, |old| (Some(value), old))
+}
+
 // Removes the pair at an address by an update. Returns its value.
 fn unset_at(map: &mut Map, addr: Address) -> u64
     requires { IsOccupiedIn map.old addr }
@@ -87,25 +155,41 @@ fn join(map: &mut Map, other: &mut Map) -> Result<(), Refused<u64, u64>>
 }
 
 #[test]
-fn each_caller_changes_the_list(rt: HostRuntime) -> Result<(), Fail> {
+fn each_caller_overwrites_a_value(rt: HostRuntime) {
+    let mut map: Map = BTreeMap::new(rt.alloc());
+    assert!(rt; put(&mut map, 1, 10).is_ok());
+    assert!(rt; overwrite(&mut map, 1, 11) && !overwrite(&mut map, 2, 20));
+    assert!(rt; overwrite_in(&mut map, 1, 12) && !overwrite_in(&mut map, 2, 20));
+    assert!(rt; overwrite_kept(&mut map, 1, 13) && !overwrite_kept(&mut map, 2, 20));
+    assert!(rt; write(&mut map, 1, 14) && !write(&mut map, 2, 20));
+    assert_eq!(rt; set(&mut map, 1, 15), Ok(Some(14)));
+    assert!(rt; put(&mut map, 1, 16).is_ok());
+    assert_eq!(rt; unset(&mut map, 1), Ok(Some(16)));
+    assert_eq!(rt; unset(&mut map, 1), Ok(None));
+}
+
+#[test]
+fn a_caller_joins_two_maps(rt: HostRuntime) {
     let mut map: Map = BTreeMap::new(rt.alloc());
     let mut other: Map = BTreeMap::new(rt.alloc());
     assert_eq!(rt; set(&mut map, 1, 10), Ok(None));
-    assert_eq!(rt; set(&mut map, 1, 11), Ok(Some(10)));
-    assert!(rt; overwrite(&mut map, 1, 12) && !overwrite(&mut map, 2, 20));
-    assert_eq!(rt; set(&mut other, 2, 21), Ok(None));
-    assert_eq!(rt; set(&mut other, 1, 13), Ok(None));
+    assert_eq!(rt; set(&mut other, 1, 11), Ok(None));
     assert!(rt; join(&mut map, &mut other).is_ok());
-    assert_eq!(rt; (map.len(), other.len()), (2, 0));
-    assert_eq!(rt; unset(&mut map, 1), Ok(Some(13)));
-    assert_eq!(rt; unset(&mut map, 1), Ok(None));
-    let Ok(at) = map.address_of(&2) else {
-        return Err(Fail::from("2 is not there"));
-    };
-    assert!(rt; map.item(Address::new(at.id, at.offset)).is_some());
-    assert_eq!(rt; set_at(&mut map, Address::new(at.id, at.offset), 22), 21);
-    assert!(rt; map.item(Address::new(at.id, at.offset)).is_some());
-    assert_eq!(rt; unset_at(&mut map, at), 22);
+    assert_eq!(rt; (map.get(&1).copied(), other.len()), (Some(11), 0));
+}
+
+#[test]
+fn each_caller_updates_at_an_address(rt: HostRuntime) {
+    let mut map: Map = BTreeMap::new(rt.alloc());
+    assert_eq!(rt; set(&mut map, 2, 20), Ok(None));
+    if let Ok(at) = map.address_of(&2) {
+        assert_eq!(rt; set_at(&mut map, at, 21), 20);
+    }
+    if let Ok(at) = map.address_of(&2) {
+        assert_eq!(rt; set_at_in(&mut map, at, 22), 21);
+    }
+    if let Ok(at) = map.address_of(&2) {
+        assert_eq!(rt; unset_at(&mut map, at), 22);
+    }
     assert!(rt; map.is_empty());
-    Ok(())
 }

@@ -1,4 +1,5 @@
 //! Clones of maps: the same pairs on the same nodes.
+use crate::refused::content_of;
 use btree_ext::BTreeExt;
 use btree_map::BTreeMap;
 use btree_node::Node;
@@ -64,24 +65,64 @@ fn clones_an_empty_map(rt: HostRuntime) -> Result<(), Fail> {
     Ok(())
 }
 
-// While the memory of the clone is refused there is none, and the map stays as it is; afterwards there is one.
-fn check_refused<C: CloneNodes<u64, u64> + Drop>(
+// Clones the map of so many keys while the `at`-th allocation is refused: with an error the map stays as it is. Returns whether there was one.
+fn is_refused<C: CloneNodes<u64, u64> + Drop>(
+    rt: &impl Abort,
+    map: &BTreeMap<u64, u64, C>,
+    memory: &Refusing<Global>,
+    at: u64,
+    alloc: Global,
+) -> Result<bool, Fail> {
+    let old = content_of(map, alloc)?;
+    memory.refuse(at);
+    let result = map.clone();
+    let left = memory.refuses();
+    memory.refuse(0);
+    assert_eq!(rt; content_of(map, alloc)?.as_str(), old.as_str());
+    match result {
+        Ok(copy) => {
+            assert_eq!(rt; content_of(&copy, alloc)?.as_str(), old.as_str());
+            assert!(rt; left > 0, "{at}");
+            Ok(false)
+        }
+        Err(_) => {
+            assert_eq!(rt; left, 0, "{at}");
+            Ok(true)
+        }
+    }
+}
+
+// Returns how many allocations of a clone are refused, one in each run, before a run has none.
+fn count_refused<C: CloneNodes<u64, u64> + Drop>(
     rt: &impl Abort,
     origin: C::Origin,
     memory: &Refusing<Global>,
-) -> Result<(), Fail> {
+    count: u64,
+    alloc: Global,
+) -> Result<u64, Fail> {
     let mut map: BTreeMap<u64, u64, C> = BTreeMap::new(origin);
-    put_first_keys(rt, &mut map, 9);
-    memory.refuse(1);
-    assert!(rt; map.clone().is_err());
-    assert_eq!(rt; memory.refuses(), 0);
-    let copy = map.clone()?;
-    check_same_nodes(rt, &map, &copy, 9);
-    Ok(())
+    put_first_keys(rt, &mut map, count);
+    for at in 1..10u64 {
+        if !is_refused(rt, &map, memory, at, alloc)? {
+            return Ok(at.wrapping_sub(1));
+        }
+    }
+    Err(Fail::from("each run was refused"))
 }
 
+// A slab allocates once for all nodes, and not at all if it has none.
 #[test]
-fn a_refused_clone_changes_nothing(rt: HostRuntime) -> Result<(), Fail> {
-    let memory = Refusing::over(rt.alloc(), 0);
-    check_refused::<SlabStore<Node<u64, u64>, &Refusing<Global>>>(&rt, &memory, &memory)
+fn each_allocation_of_a_clone_is_refused(rt: HostRuntime) -> Result<(), Fail> {
+    for (count, refused) in [(0, 0), (1, 1), (9, 1), (44, 1)] {
+        let memory = Refusing::over(rt.alloc(), 0);
+        let runs = count_refused::<SlabStore<Node<u64, u64>, &Refusing<Global>>>(
+            &rt,
+            &memory,
+            &memory,
+            count,
+            rt.alloc(),
+        )?;
+        assert_eq!(rt; runs, refused, "{count}");
+    }
+    Ok(())
 }

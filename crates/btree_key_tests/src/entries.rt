@@ -65,27 +65,6 @@ fn counts_letters(rt: HostRuntime) {
 }
 
 #[test]
-fn inserts_what_is_given(rt: HostRuntime) {
-    let mut map: Counts = BTreeMap::new(rt.alloc());
-    match map.entry("health").or_insert(100) {
-        Ok(value) => assert_eq!(rt; *value, 100),
-        Err(_) => panic!(rt; "refused"),
-    }
-    match map.entry("attack").or_insert(100) {
-        Ok(value) => *value = value.wrapping_add(42),
-        Err(_) => panic!(rt; "refused"),
-    }
-    assert_eq!(rt;
-        (
-            map.len(),
-            map.get(&"health").copied(),
-            map.get(&"attack").copied()
-        ),
-        (2, Some(100), Some(142))
-    );
-}
-
-#[test]
 fn inserts_what_a_closure_returns(rt: HostRuntime) {
     let mut map: Counts = BTreeMap::new(rt.alloc());
     match map.entry("defence").or_insert_with(|| 42) {
@@ -96,6 +75,11 @@ fn inserts_what_a_closure_returns(rt: HostRuntime) {
         Ok(value) => assert_eq!(rt; *value, 42),
         Err(_) => panic!(rt; "refused"),
     }
+}
+
+#[test]
+fn inserts_what_a_closure_returns_of_the_key(rt: HostRuntime) {
+    let mut map: Counts = BTreeMap::new(rt.alloc());
     match map
         .entry("poneyland")
         .or_insert_with_key(|key| key.len() as u64)
@@ -139,28 +123,34 @@ fn key_of(entry: &Entry<'_, u64, u64>) -> u64 {
 }
 
 #[test]
-fn shows_entries(rt: HostRuntime) -> Result<(), Fail> {
+fn shows_a_vacant_entry(rt: HostRuntime) -> Result<(), Fail> {
     let mut map: Map = BTreeMap::new(rt.alloc());
-    let vacant = format!(in rt.alloc(); "{:?}", map.entry(1))?;
-    assert_eq!(rt; vacant.as_str(), "VacantEntry(1)");
-    assert_eq!(rt; map.insert(1, 2).ok(), Some(None));
-    let occupied = format!(in rt.alloc(); "{:?}", map.entry(1))?;
-    assert_eq!(rt; occupied.as_str(), "OccupiedEntry { key: 1, value: 2 }");
+    let text = format!(in rt.alloc(); "{:?}", map.entry(1))?;
+    assert_eq!(rt; text.as_str(), "VacantEntry(1)");
     match map.entry(3) {
         Entry::Vacant(entry) => {
             let text = format!(in rt.alloc(); "{:?}", entry)?;
             assert_eq!(rt; text.as_str(), "VacantEntry(3)");
+            Ok(())
         }
-        Entry::Occupied(_) => return Err(Fail::from("3 is there")),
+        Entry::Occupied(_) => Err(Fail::from("3 is there")),
     }
+}
+
+#[test]
+fn shows_an_occupied_entry(rt: HostRuntime) -> Result<(), Fail> {
+    let mut map: Map = BTreeMap::new(rt.alloc());
+    assert_eq!(rt; map.insert(1, 2).ok(), Some(None));
+    let text = format!(in rt.alloc(); "{:?}", map.entry(1))?;
+    assert_eq!(rt; text.as_str(), "OccupiedEntry { key: 1, value: 2 }");
     match map.entry(1) {
         Entry::Occupied(entry) => {
             let text = format!(in rt.alloc(); "{:?}", entry)?;
             assert_eq!(rt; text.as_str(), "OccupiedEntry { key: 1, value: 2 }");
+            Ok(())
         }
-        Entry::Vacant(_) => return Err(Fail::from("1 is not there")),
+        Entry::Vacant(_) => Err(Fail::from("1 is not there")),
     }
-    Ok(())
 }
 
 // Returns the map of the keys from 0 on, with the values 10 times the keys.
@@ -172,12 +162,23 @@ fn first_keys(rt: &impl Abort, alloc: Global, count: u64) -> Map {
     map
 }
 
+// Each row: a key, and whether it is there.
+#[test]
+fn reads_entries(rt: HostRuntime) {
+    let mut map = first_keys(&rt, rt.alloc(), 9);
+    for (key, is_there) in [(4, true), (9, false)] {
+        let searched = map.address_of(&key);
+        assert_eq!(rt; searched.is_ok(), is_there);
+        let (Ok(at) | Err(at)) = searched;
+        assert_eq!(rt; key_of(&map.entry(key)), key);
+        assert_eq!(rt; map.entry(key).address(), at);
+    }
+}
+
 #[test]
 fn reads_and_writes_an_occupied_entry(rt: HostRuntime) -> Result<(), Fail> {
     let mut map = first_keys(&rt, rt.alloc(), 9);
     let found = map.address_of(&4).ok();
-    assert_eq!(rt; key_of(&map.entry(4)), 4);
-    assert_eq!(rt; Some(map.entry(4).address()), found);
     match map.entry(4) {
         Entry::Occupied(mut entry) => {
             assert_eq!(rt; (Some(entry.address()), pair_of(&entry)), (found, (4, 40)));
@@ -196,8 +197,6 @@ fn reads_and_writes_an_occupied_entry(rt: HostRuntime) -> Result<(), Fail> {
 fn reads_a_vacant_entry(rt: HostRuntime) -> Result<(), Fail> {
     let mut map = first_keys(&rt, rt.alloc(), 9);
     let gap = map.address_of(&9).err();
-    assert_eq!(rt; key_of(&map.entry(9)), 9);
-    assert_eq!(rt; Some(map.entry(9).address()), gap);
     match map.entry(9) {
         Entry::Vacant(entry) => {
             assert_eq!(rt; (Some(entry.address()), asked(&entry)), (gap, 9));

@@ -154,43 +154,59 @@ fn each_allocation_of_an_extension_is_refused(rt: HostRuntime) -> Result<(), Fai
     Ok(())
 }
 
-// Appends the keys from 1 to 43 to the map of key 0. The nodes of the other map are those that the removals of its first keys leave.
-fn append_refused<C: NodesMut<u64, u64> + Drop>(
+// Checks that the nodes of a map are those that the removals of the first keys leave of the keys from 1 to 43.
+fn check_rest<C: NodesMut<u64, u64>>(
+    rt: &impl Abort,
+    other: &BTreeMap<u64, u64, C>,
+    removals: u64,
+    alloc: Global,
+) -> Result<(), Fail> {
+    let mut plain: Map = BTreeMap::new(alloc);
+    put_keys(rt, &mut plain, 1, 44);
+    for removed in 0..removals {
+        let key = removed.wrapping_add(1);
+        assert_eq!(rt; plain.pop_first(), Some((key, key.wrapping_mul(10))));
+    }
+    assert_eq!(rt;
+        content_of(other, alloc)?.as_str(),
+        content_of(&plain, alloc)?.as_str()
+    );
+    Ok(())
+}
+
+// Appends the keys from 1 to 43 to the map of key 0, while an allocation is refused. Returns whether one was. Then the rest is appended.
+fn is_append_refused<C: NodesMut<u64, u64> + Drop>(
     rt: &impl Abort,
     origins: (C::Origin, C::Origin),
     memory: &Refusing<Global>,
     at: u64,
     key: u64,
     alloc: Global,
-) -> Result<(), Fail> {
+) -> Result<bool, Fail> {
     let mut map: BTreeMap<u64, u64, C> = BTreeMap::new(origins.0);
     let mut other: BTreeMap<u64, u64, C> = BTreeMap::new(origins.1);
-    let mut plain: Map = BTreeMap::new(alloc);
     put_keys(rt, &mut map, 0, 1);
     put_keys(rt, &mut other, 1, 44);
-    put_keys(rt, &mut plain, 1, 44);
     memory.refuse(at);
-    let Err(refused) = map.append(&mut other) else {
-        return Err(Fail::from("not refused"));
+    let result = map.append(&mut other);
+    let Err(refused) = result else {
+        assert_eq!(rt; (map.len(), other.node_count()), (44, 0));
+        return Ok(false);
     };
     check_refused(rt, &map, refused, key, alloc)?;
-    for removed in 0..key {
-        let pair = removed.wrapping_add(1);
-        assert_eq!(rt; plain.pop_first(), Some((pair, pair.wrapping_mul(10))));
-    }
-    assert_eq!(rt;
-        content_of(&other, alloc)?.as_str(),
-        content_of(&plain, alloc)?.as_str()
-    );
-    Ok(())
+    check_rest(rt, &other, key, alloc)?;
+    assert!(rt; map.append(&mut other).is_ok());
+    assert_eq!(rt; (map.len(), other.node_count()), (43, 0));
+    Ok(true)
 }
 
+// Each row: which allocation is refused, the key whose pair is refused then, and whether there is such an allocation.
 #[test]
 fn each_allocation_of_an_appending_is_refused(rt: HostRuntime) -> Result<(), Fail> {
-    for (at, key) in [(1, 18), (2, 38)] {
+    for (at, key, is_refused) in [(1, 18, true), (2, 38, true), (3, 44, false)] {
         let memory = Refusing::over(rt.alloc(), 0);
         let plain = Refusing::over(rt.alloc(), 0);
-        append_refused::<SlabStore<Node<u64, u64>, &Refusing<Global>>>(
+        let met = is_append_refused::<SlabStore<Node<u64, u64>, &Refusing<Global>>>(
             &rt,
             (&memory, &plain),
             &memory,
@@ -198,7 +214,7 @@ fn each_allocation_of_an_appending_is_refused(rt: HostRuntime) -> Result<(), Fai
             key,
             rt.alloc(),
         )?;
-        assert_eq!(rt; memory.refuses(), 0);
+        assert_eq!(rt; met, is_refused, "{at}");
     }
     Ok(())
 }

@@ -3,8 +3,7 @@ ghost use Rattle.std.specs.Prelude.{◌≡◌, IsTrue, false};
 ghost use Rattle.btree_item.specs.Pairs.{with_value};
 ghost use Rattle.btree_shape.specs.TreeState.{pairs_of};
 
-use btree_ext::{BTreeExt, BTreeExtMut};
-use btree_item::{Address, Item, Offset};
+use btree_ext::BTreeExt;
 use btree_map::BTreeMap;
 use btree_node::Node;
 use btree_nodes::NodesMut;
@@ -14,7 +13,6 @@ use std::alloc::Global;
 use std::cmp::Ordering;
 use std::hash::{DefaultHasher, Hash, Hasher};
 use std::process::Abort;
-use std::test::Fail;
 
 type Letters = BTreeMap<u64, char, SlabStore<Node<u64, char>>>;
 
@@ -92,48 +90,20 @@ fn hash_both<K: Ord + Hash, V: Eq + Hash, C: NodesMut<K, V>, D: NodesMut<K, V>, 
     left.same_items(right)
 }
 
-// Removes the item of the root, which has one, and puts it back: the tree then has another shape.
-fn reshape(rt: &impl Abort, map: &mut Map) -> Result<(), Fail> {
-    let Some(top) = map.root_id() else {
-        return Err(Fail::from("no root"));
-    };
-    assert!(rt; map.is_valid(Address::new(top, Offset::from(0))));
-    let Some((item, back)) = map.remove_at(Address::new(top, Offset::from(0))) else {
-        return Err(Fail::from("nothing there"));
-    };
-    let (key, value) = item.into_pair();
-    assert!(rt; map.is_valid(Address::new(back.id, back.offset)));
-    assert!(rt; back.offset.value().is_some());
-    assert!(rt; map.fits_at(Address::new(back.id, back.offset), &key));
-    assert!(rt; map.insert_at(back, Item::new(key, value)).is_ok());
-    Ok(())
-}
-
-// Returns the keys of the root.
-fn root_keys(rt: &impl Abort, map: &Map) -> Option<u64> {
-    let top = map.root_id()?;
-    assert!(rt; map.has_node(top));
-    map.node(top).item(Offset::from(0)).map(|item| *item.key())
-}
-
+// Ten ascending keys have 4 in the root, and ten descending ones 5.
 #[test]
-fn maps_of_other_shapes_are_equal(rt: HostRuntime) -> Result<(), Fail> {
-    let base = first_keys(&rt, rt.alloc(), 9);
-    let mut other = first_keys(&rt, rt.alloc(), 9);
-    reshape(&rt, &mut other)?;
-    assert_eq!(rt;
-        (root_keys(&rt, &base), root_keys(&rt, &other)),
-        (Some(4), Some(3))
-    );
+fn maps_of_other_shapes_are_equal(rt: HostRuntime) {
+    let base = first_keys(&rt, rt.alloc(), 10);
+    let mut other: Map = BTreeMap::new(rt.alloc());
+    for left in 0..10u64 {
+        let key = 9u64.wrapping_sub(left);
+        assert!(rt; other.insert(key, key.wrapping_mul(10)).is_ok());
+    }
+    assert!(rt; base.address_of(&4) != other.address_of(&4));
     assert!(rt; base == other);
-    assert_eq!(rt;
-        (base.cmp(&other), base.partial_cmp(&other)),
-        (Ordering::Equal, Some(Ordering::Equal))
-    );
     let (mut first, mut second) = (DefaultHasher::new(), DefaultHasher::new());
     assert!(rt; hash_both(&base, &other, &mut first, &mut second));
     assert_eq!(rt; first.finish(), second.finish());
-    Ok(())
 }
 
 // Inserts so many keys from 0 on, with the values 10 times the keys, and then a pair.
@@ -162,7 +132,7 @@ fn check_order<C: NodesMut<u64, u64>>(
     assert_eq!(rt; other.compare_items(base), order.reverse());
 }
 
-// Checks the same of a map over a store of another type, with so many keys from 0 on and a pair.
+// Checks the order of a map over a store of another type, with so many keys from 0 on and a pair.
 fn check_other_store<C: NodesMut<u64, u64> + Drop>(
     rt: &impl Abort,
     base: &Map,
@@ -174,6 +144,17 @@ fn check_other_store<C: NodesMut<u64, u64> + Drop>(
     let mut other: BTreeMap<u64, u64, C> = BTreeMap::new(origin);
     put_keys(rt, &mut other, count, pair);
     check_order(rt, base, &other, order);
+}
+
+// Checks the order of two maps of one type.
+fn check_same_store(rt: &impl Abort, base: &Map, other: &Map, order: Ordering) {
+    assert_eq!(rt; base == other, order == Ordering::Equal);
+    assert_eq!(rt;
+        (base.cmp(other), other.cmp(base)),
+        (order, order.reverse())
+    );
+    assert_eq!(rt; base.partial_cmp(other), Some(order));
+    assert_eq!(rt; other.partial_cmp(base), Some(order.reverse()));
 }
 
 // The first map has the keys from 0 to 8. Each row: how many keys from 0 on the second map has, a pair that it gets then, and the order of
@@ -193,13 +174,7 @@ fn maps_are_ordered_by_their_pairs(rt: HostRuntime) {
     ] {
         let mut other: Map = BTreeMap::new(rt.alloc());
         put_keys(&rt, &mut other, count, pair);
-        check_order(&rt, &base, &other, order);
-        assert_eq!(rt;
-            (base.cmp(&other), other.cmp(&base)),
-            (order, order.reverse())
-        );
-        assert_eq!(rt; base.partial_cmp(&other), Some(order));
-        assert_eq!(rt; other.partial_cmp(&base), Some(order.reverse()));
+        check_same_store(&rt, &base, &other, order);
         let memory = Refusing::over(rt.alloc(), 0);
         check_other_store::<SlabStore<Node<u64, u64>, &Refusing<Global>>>(
             &rt, &base, &memory, count, pair, order,

@@ -64,98 +64,48 @@ fn stored(map: &NamedMap, number: u64) -> Option<(char, u64)> {
     Some((key.name, *value))
 }
 
+// Inserts a pair. Returns the value that was there.
+fn put(rt: &impl Abort, map: &mut NamedMap, number: u64, name: char, value: u64) -> Option<u64> {
+    match map.insert(Named { number, name }, value) {
+        Ok(old) => old,
+        Err(_) => panic!(rt; "refused"),
+    }
+}
+
 #[test]
 fn an_equal_key_stays_unless_it_is_replaced(rt: HostRuntime) {
     let mut map: NamedMap = BTreeMap::new(rt.alloc());
-    assert!(rt;
-        map.insert(
-            Named {
-                number: 1,
-                name: 'a'
-            },
-            1
-        )
-        .is_ok()
-    );
-    assert!(rt;
-        map.insert(
-            Named {
-                number: 2,
-                name: 'a'
-            },
-            2
-        )
-        .is_ok()
-    );
-    assert_eq!(rt;
-        map.insert(
-            Named {
-                number: 2,
-                name: 'b'
-            },
-            20
-        )
-        .ok(),
-        Some(Some(2))
-    );
+    assert_eq!(rt; put(&rt, &mut map, 2, 'a', 2), None);
+    assert_eq!(rt; put(&rt, &mut map, 2, 'b', 20), Some(2));
     assert_eq!(rt; stored(&map, 2), Some(('a', 20)));
-    match map.replace(
-        Named {
-            number: 2,
-            name: 'c',
-        },
-        30,
-    ) {
+    let key = Named {
+        number: 2,
+        name: 'c',
+    };
+    match map.replace(key, 30) {
         Ok(Some((key, value))) => assert_eq!(rt; (key.number, key.name, value), (2, 'a', 20)),
         Ok(None) | Err(_) => panic!(rt; "not replaced"),
     }
     assert_eq!(rt; stored(&map, 2), Some(('c', 30)));
+}
+
+#[test]
+fn an_equal_key_stays_when_a_map_is_appended(rt: HostRuntime) {
+    let mut map: NamedMap = BTreeMap::new(rt.alloc());
     let mut other: NamedMap = BTreeMap::new(rt.alloc());
-    assert!(rt;
-        other
-            .insert(
-                Named {
-                    number: 1,
-                    name: 'd'
-                },
-                9
-            )
-            .is_ok()
-    );
+    assert_eq!(rt; put(&rt, &mut map, 1, 'a', 1), None);
+    assert_eq!(rt; put(&rt, &mut other, 1, 'd', 9), None);
     assert!(rt; map.append(&mut other).is_ok());
-    assert_eq!(rt;
-        (stored(&map, 1), stored(&map, 2)),
-        (Some(('a', 9)), Some(('c', 30)))
-    );
-    assert_eq!(rt; (map.len(), other.len()), (2, 0));
+    assert_eq!(rt; stored(&map, 1), Some(('a', 9)));
+    assert_eq!(rt; (map.len(), other.len()), (1, 0));
 }
 
 #[test]
 fn an_equal_key_stays_when_pairs_are_added(rt: HostRuntime) {
-    let pairs = [
-        (
-            Named {
-                number: 1,
-                name: 'a',
-            },
-            1,
-        ),
-        (
-            Named {
-                number: 2,
-                name: 'b',
-            },
-            2,
-        ),
-        (
-            Named {
-                number: 1,
-                name: 'c',
-            },
-            3,
-        ),
-    ];
-    let mut source = pairs.iter().copied();
+    let names = [(1, 'a', 1), (2, 'b', 2), (1, 'c', 3)];
+    let mut source = names
+        .iter()
+        .map(|&(number, name, value)| (Named { number, name }, value));
     match NamedMap::from_iter(rt.alloc(), &mut source) {
         Ok(map) => {
             assert_eq!(rt;

@@ -98,23 +98,12 @@ fn put_under_leaf<C: NodesMut<u64, u64>>(
     }
 }
 
-// Inserts a key with the value 0 in one of the ways.
-fn put_by<C: NodesMut<u64, u64>>(
-    rt: &impl Abort,
+// Inserts a key with the value 0 by an entry.
+fn put_by_entry<C: NodesMut<u64, u64>>(
     map: &mut BTreeMap<u64, u64, C>,
     way: Way,
     key: u64,
 ) -> Result<u64, Refused<u64, u64>> {
-    if way == Way::Update {
-        return put_by_update(map, key);
-    }
-    if way == Way::UpdateIn {
-        return put_under_leaf(rt, map, key);
-    }
-    if way == Way::Replace {
-        let old = map.replace(key, 0)?;
-        return Ok(old.map(|pair| pair.1).unwrap_or(0));
-    }
     let entry = map.entry(key);
     let lent = match way {
         Way::OrInsert => entry.or_insert(0)?,
@@ -127,6 +116,25 @@ fn put_by<C: NodesMut<u64, u64>>(
         },
     };
     Ok(*lent)
+}
+
+// Inserts a key with the value 0 in one of the ways.
+fn put_by<C: NodesMut<u64, u64>>(
+    rt: &impl Abort,
+    map: &mut BTreeMap<u64, u64, C>,
+    way: Way,
+    key: u64,
+) -> Result<u64, Refused<u64, u64>> {
+    match way {
+        Way::Update => put_by_update(map, key),
+        Way::UpdateIn => put_under_leaf(rt, map, key),
+        Way::Replace => match map.replace(key, 0)? {
+            Some((_key, value)) => Ok(value),
+            None => Ok(0),
+        },
+        Way::OrInsert | Way::OrInsertWith | Way::OrInsertWithKey | Way::OrDefault | Way::Insert =>
+            put_by_entry(map, way, key),
+    }
 }
 
 // Inserts a key while the next allocation is refused: with an error nothing has changed, and the error does not occur again. Returns

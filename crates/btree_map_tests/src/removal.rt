@@ -109,6 +109,32 @@ fn leaves_of(rt: &impl Abort, map: &Map, alloc: Global) -> Result<String, Fail> 
     Ok(text)
 }
 
+// Returns the map of the keys from 0 on, each to itself.
+fn first_keys(rt: &impl Abort, alloc: Global, count: u64) -> Map {
+    let mut map: Map = BTreeMap::new(alloc);
+    for key in 0..count {
+        assert!(rt; map.insert(key, key).is_ok());
+    }
+    map
+}
+
+// Returns the address of the first item of the root.
+fn top_of(map: &Map) -> Result<Address, Fail> {
+    match map.root_id() {
+        Some(root) => Ok(Address::new(root, Offset::from(0))),
+        None => Err(Fail::from("no root")),
+    }
+}
+
+// Removes the item at an address. Returns its key, and where the next item is then.
+fn take_at(rt: &impl Abort, map: &mut Map, addr: Address) -> (u64, Address) {
+    assert!(rt; map.is_valid(Address::new(addr.id, addr.offset)));
+    match map.remove_at(addr) {
+        Some((item, back)) => (*item.key(), back),
+        None => panic!(rt; "nothing there"),
+    }
+}
+
 // The pairs are inserted in their order.
 #[test]
 fn a_hundred_pairs_use_twenty_nodes(rt: HostRuntime) -> Result<(), Fail> {
@@ -229,10 +255,7 @@ fn neighbours_lead_back(rt: HostRuntime) -> Result<(), Fail> {
 // The nodes of nine keys: the root has 4, and is over two leaves.
 #[test]
 fn hands_out_its_nodes(rt: HostRuntime) -> Result<(), Fail> {
-    let mut map: Map = BTreeMap::new(rt.alloc());
-    for key in 0..9u64 {
-        assert!(rt; map.insert(key, key).is_ok());
-    }
+    let map = first_keys(&rt, rt.alloc(), 9);
     let raw = map.into_raw();
     assert_eq!(rt; (raw.len(), raw.node_count()), (9, 3));
     let Some(top) = raw.root_id() else {
@@ -245,10 +268,7 @@ fn hands_out_its_nodes(rt: HostRuntime) -> Result<(), Fail> {
 
 #[test]
 fn removal_merges_up_to_the_root(rt: HostRuntime) -> Result<(), Fail> {
-    let mut map: Map = BTreeMap::new(rt.alloc());
-    for key in 0..44u64 {
-        assert!(rt; map.insert(key, key).is_ok());
-    }
+    let mut map = first_keys(&rt, rt.alloc(), 44);
     assert_eq!(rt; (map.node_count(), map.height()), (12, 3));
     for key in 0..7u64 {
         assert_eq!(rt; map.remove(&key), Some(key));
@@ -280,28 +300,15 @@ fn two_leaves(rt: &impl Abort, map: &Map) -> Result<(usize, usize), Fail> {
 
 #[test]
 fn puts_back_the_item_of_an_internal_node(rt: HostRuntime) -> Result<(), Fail> {
-    let mut map: Map = BTreeMap::new(rt.alloc());
-    for key in 0..9u64 {
-        assert!(rt; map.insert(key, key).is_ok());
-    }
-    let Some(top) = map.root_id() else {
-        return Err(Fail::from("no root"));
-    };
-    assert!(rt; map.has_node(top));
-    let right = map.node(top).child_id_opt(1);
-    let addr = Address::new(top, Offset::from(0));
-    assert!(rt; map.is_valid(Address::new(addr.id, addr.offset)));
-    let Some((item, back)) = map.remove_at(addr) else {
-        return Err(Fail::from("nothing there"));
-    };
-    assert_eq!(rt;
-        (*item.key(), Some(back.id), back.offset.value()),
-        (4, right, Some(0))
-    );
+    let mut map = first_keys(&rt, rt.alloc(), 9);
+    let (_left, right) = two_leaves(&rt, &map)?;
+    let top = top_of(&map)?;
+    let (key, back) = take_at(&rt, &mut map, top);
+    assert_eq!(rt; (key, back.id, back.offset.value()), (4, right, Some(0)));
     let leaves = leaves_of(&rt, &map, rt.alloc())?;
     assert_eq!(rt; (leaves.as_str(), map.len()), ("(3) 3 (4)", 8));
     let at = put(&rt, &mut map, back, 4, 4);
-    assert_eq!(rt; (Some(at.id), at.offset.value()), (right, Some(0)));
+    assert_eq!(rt; (at.id, at.offset.value()), (right, Some(0)));
     let leaves = leaves_of(&rt, &map, rt.alloc())?;
     assert_eq!(rt; leaves.as_str(), "(3) 3 (5)");
     assert_eq!(rt; (map.len(), map.node_count()), (9, 3));
@@ -311,23 +318,12 @@ fn puts_back_the_item_of_an_internal_node(rt: HostRuntime) -> Result<(), Fail> {
 // The left leaf has three items and the right one four. The left one borrows, so that the next item, 5, goes to the root.
 #[test]
 fn answers_the_address_that_the_next_item_moves_to(rt: HostRuntime) -> Result<(), Fail> {
-    let mut map: Map = BTreeMap::new(rt.alloc());
-    for key in 0..9u64 {
-        assert!(rt; map.insert(key, key).is_ok());
-    }
+    let mut map = first_keys(&rt, rt.alloc(), 9);
     assert_eq!(rt; map.remove(&3), Some(3));
-    let Some(top) = map.root_id() else {
-        return Err(Fail::from("no root"));
-    };
-    let addr = Address::new(top, Offset::from(0));
-    assert!(rt; map.is_valid(Address::new(addr.id, addr.offset)));
-    let Some((item, back)) = map.remove_at(addr) else {
-        return Err(Fail::from("nothing there"));
-    };
-    assert_eq!(rt;
-        (*item.key(), back.id, back.offset.value()),
-        (4, top, Some(0))
-    );
+    let top = top_of(&map)?;
+    let id = top.id;
+    let (key, back) = take_at(&rt, &mut map, top);
+    assert_eq!(rt; (key, back.id, back.offset.value()), (4, id, Some(0)));
     let leaves = leaves_of(&rt, &map, rt.alloc())?;
     assert_eq!(rt; leaves.as_str(), "(3) 5 (3)");
     Ok(())
@@ -336,21 +332,11 @@ fn answers_the_address_that_the_next_item_moves_to(rt: HostRuntime) -> Result<()
 // Both leaves have three items, so that they are merged into the left one. The address past the end of the right one goes with its item's place.
 #[test]
 fn answers_the_end_of_the_merged_leaf(rt: HostRuntime) -> Result<(), Fail> {
-    let mut map: Map = BTreeMap::new(rt.alloc());
-    for key in 0..9u64 {
-        assert!(rt; map.insert(key, key).is_ok());
-    }
+    let mut map = first_keys(&rt, rt.alloc(), 9);
     assert_eq!(rt; (map.remove(&8), map.remove(&3)), (Some(8), Some(3)));
     let (left, right) = two_leaves(&rt, &map)?;
-    let addr = Address::new(right, Offset::from(2));
-    assert!(rt; map.is_valid(Address::new(addr.id, addr.offset)));
-    let Some((item, back)) = map.remove_at(addr) else {
-        return Err(Fail::from("nothing there"));
-    };
-    assert_eq!(rt;
-        (*item.key(), back.id, back.offset.value()),
-        (7, left, Some(6))
-    );
+    let (key, back) = take_at(&rt, &mut map, Address::new(right, Offset::from(2)));
+    assert_eq!(rt; (key, back.id, back.offset.value()), (7, left, Some(6)));
     assert_eq!(rt;
         (map.root_id(), map.node_count(), map.height(), map.len()),
         (Some(left), 1, 1, 6)
