@@ -90,7 +90,9 @@ impl<K: Ord + Drop, V: Drop, C: NodesMut<K, V>> BTreeMap<K, V, C> {
     pub fn retain<F: FnMut(&K, &mut V) -> bool>(&mut self, f: F)
         requires { CallableOnEachPair
             (CalledAtPair F.FnMut) (TakesPair F.FnMut) f (pairs_of self.old) }
-        ensures { Selects (CalledAtPair F.FnMut) true f (pairs_of self.old) (pairs_of self.new) }
+        ensures kept {
+            Selects (CalledAtPair F.FnMut) true f (pairs_of self.old) (pairs_of self.new) }
+        ensures uncounted { self.new.refusals ≡ self.old.refusals }
     {
         self.retain_by(ByPair::new(f));
     }
@@ -98,7 +100,8 @@ impl<K: Ord + Drop, V: Drop, C: NodesMut<K, V>> BTreeMap<K, V, C> {
     /// Keeps the pairs that pass the test, and drops the others.
     pub fn retain_by<P: PairTest<K, V>>(&mut self, test: P)
         requires { CallableOnEachPair P.step P.accepts test (pairs_of self.old) }
-        ensures { Selects P.step true test (pairs_of self.old) (pairs_of self.new) }
+        ensures kept { Selects P.step true test (pairs_of self.old) (pairs_of self.new) }
+        ensures uncounted { self.new.refusals ≡ self.old.refusals }
     {
         let mut test = test;
         let mut entries = self.entries_mut();
