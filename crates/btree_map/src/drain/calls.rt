@@ -90,8 +90,7 @@ impl<K: Ord + Drop, V: Drop, C: NodesMut<K, V>> BTreeMap<K, V, C> {
     pub fn retain<F: FnMut(&K, &mut V) -> bool>(&mut self, f: F)
         requires { CallableOnEachPair
             (CalledAtPair F.FnMut) (TakesPair F.FnMut) f (pairs_of self.old) }
-        ensures kept {
-            Selects (CalledAtPair F.FnMut) true f (pairs_of self.old) (pairs_of self.new) }
+        ensures kept { Selects (CalledAtPair F.FnMut) true f (pairs_of self.old) (pairs_of self.new) }
         ensures uncounted { self.new.refusals ≡ self.old.refusals }
     {
         self.retain_by(ByPair::new(f));
