@@ -3,3 +3,4 @@ pub mod MergeLemmas
 pub mod PeekLemmas
 pub mod TurnLemmas
 pub mod HintLemmas
+pub mod DrainLemmas

@@ -1,3 +1,4 @@
 pub mod Elements
 pub mod Merges
 pub mod Extension
+pub mod Drain

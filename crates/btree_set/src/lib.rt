@@ -4,6 +4,7 @@
 mod algebra;
 mod comparison;
 mod difference;
+mod drain;
 mod elements;
 mod extension;
 mod intersection;
@@ -13,6 +14,7 @@ mod symmetric_difference;
 mod union;
 
 pub use difference::Difference;
+pub use drain::DrainFilter;
 pub use elements::{IntoIter, Iter, Range};
 pub use intersection::Intersection;
 pub use set::BTreeSet;

@@ -1,0 +1,85 @@
+-- Drains of a set. A closure is called once at each element, in order: `Asks` is such a run, with each answer beside its
+-- element, and `picked` are the elements with one answer. `Selects` is a run over a whole list. `IsDraining` is what a drain
+-- is between its steps, `DrainsNext` a step of it, and `LetsGo` its end.
+use Rattle.std.specs.Prelude.{◌≡◌, ◌≤◌, ℕ, Bool, true, false, List, [], ◌∷◌, ◌++◌, Option, MatchOption, drop, length, slice_get, take}
+use Rattle.std.specs.Fn.{CalledAt, TakesAt}
+use Rattle.std.specs.List.{FoldsTo}
+use denote.Ref.{Bor}
+use denote.Param.Members.{Mut}
+use Rattle.btree_shape.specs.TreeAddresses.{item_addresses_of}
+use Rattle.btree_shape.specs.TreeState.{TreeState}
+use Rattle.btree_set.specs.Elements.{SetState, set_of}
+use Rattle.btree_set.specs.declared.drain.DrainFilter.{DrainFilter}
+
+module _ {T : Type 0} where
+  -- the elements, and before them x if the two answers are the same
+  abbrev pub if_same : Bool → Bool → T → List T → List T
+  if_same true true x xs = x ∷ xs
+  if_same true false x xs = xs
+  if_same false true x xs = xs
+  if_same false false x xs = x ∷ xs
+
+  -- of the elements that were asked, those with this answer
+  abbrev pub picked : Bool → List (Bool × T) → List T
+  picked answer [] = []
+  picked answer ((given, x) ∷ more) = if_same answer given x (picked answer more)
+
+module _ {F T : Type 0} (Step : F → T → Bool → F → Type 0) where
+  -- a call at x may take f to f'
+  abbrev pub SomeCallAt : F → T → F → Type 0
+  SomeCallAt f x f' = (answer : Bool) × Step f x answer f'
+
+  -- f may be called at each element, as the calls at those before have left it
+  pub record CallableOnEach (Takes : F → T → Type 0) (f : F) (xs : List T) : Type 0 where
+    pub at : (before after : List T) (f' : F) (x : T) → xs ≡ before ++ x ∷ after → FoldsTo SomeCallAt f before f' → Takes f' x
+
+  -- one call at each element in order took the closure from f to f'; `asked` has each answer beside its element
+  abbrev pub Asks : F → List T → (asked : List (Bool × T)) → F → Type 0
+  Asks f [] asked f' = (asked ≡ []) × (f' ≡ f)
+  Asks f (x ∷ rest) asked f' = (answer : Bool) × (f1 : F) × (more : List (Bool × T))
+      × Step f x answer f1 × Asks f1 rest more f' × (asked ≡ (answer, x) ∷ more)
+
+  -- the closure was called at each element of `old` in order, and `new` are those with this answer
+  abbrev pub Selects : (answer : Bool) → F → (old new : List T) → Type 0
+  Selects answer f old new = (asked : List (Bool × T)) × (f' : F) × Asks f old asked f' × (new ≡ picked answer asked)
+
+  -- calls at the next elements of a set of which `front` were passed: those that were picked are gone, and `front'` are
+  -- passed now
+  pub record RunsTest (f f' : F) (old : SetState T) (front : ℕ) (new : SetState T) (front' : ℕ) (asked : List (Bool × T)) : Type 0 where
+    pub here : List T
+    pub left : drop front old.elements ≡ here ++ drop front' new.elements
+    pub calls : Asks f here asked f'
+    pub passed : take front' new.elements ≡ take front old.elements ++ picked false asked
+    pub uncounted : new.refusals ≡ old.refusals
+
+  -- calls up to the first element that is picked, which is removed, or at all that were left
+  abbrev pub Yields : F → F → (old : SetState T) → (front : ℕ) → (new : SetState T) → (front' : ℕ) → Option T → Type 0
+  Yields f f' old front new front' result = (before : List (Bool × T)) × (picked true before ≡ [])
+      × MatchOption result
+      (RunsTest f f' old front new front' before × (drop front' new.elements ≡ []))
+      (λ x. RunsTest f f' old front new front' (before ++ (true, x) ∷ []))
+
+  -- calls at all elements from place `front` on; those that were picked are gone
+  pub record RunsOut (f : F) (front : ℕ) (old now : SetState T) : Type 0 where
+    pub asked : List (Bool × T)
+    pub last : F
+    pub calls : Asks f (drop front old.elements) asked last
+    pub elements : now.elements ≡ take front old.elements ++ picked false asked
+    pub uncounted : now.refusals ≡ old.refusals
+
+module _ {T C F O : Type 0} (calls : Mut F (Bor T × Unit {0}) Bool) where
+  -- the first address is that of the place, and the closure may be called at each element that is left
+  pub record IsDraining (d : DrainFilter T C F O) : Type 0 where
+    pub stands : d.first ≡ slice_get (item_addresses_of d.map.now) d.front
+    pub within : d.front ≤ length (item_addresses_of d.map.now)
+    pub callable : CallableOnEach (CalledAt calls) (TakesAt calls) d.test (drop d.front (set_of d.map.now).elements)
+
+  -- a step
+  pub record DrainsNext (old : DrainFilter T C F O) (result : Option T) (new : DrainFilter T C F O) : Type 0 where
+    pub same_set : new.map.ghost_name ≡ old.map.ghost_name
+    pub yields : Yields (CalledAt calls) old.test new.test (set_of old.map.now) old.front (set_of new.map.now) new.front result
+    pub draining : IsDraining new
+
+  -- the end
+  abbrev pub LetsGo : (old : DrainFilter T C F O) → (now : TreeState T (Unit {0})) → Type 0
+  LetsGo old now = RunsOut (CalledAt calls) old.test old.front (set_of old.map.now) (set_of now)

@@ -1,0 +1,85 @@
+//! What drains of a set are asked, and what keeps elements.
+ghost use Rattle.std.specs.Prelude.{◌≡◌, true};
+ghost use Rattle.std.specs.Fn.{CalledAt, TakesAt};
+ghost use Rattle.btree_set.specs.Drain.{CallableOnEach, IsDraining, LetsGo, Selects};
+ghost use Rattle.btree_set.specs.Elements.{set_of};
+
+use crate::BTreeSet;
+use crate::drain::DrainFilter;
+use btree_ext::BTreeExt;
+use btree_map::{ByKey, run_out, seek_from};
+use btree_nodes::NodesMut;
+
+impl<'a, T: Ord + Drop, C: NodesMut<T, ()>, F: FnMut(&T) -> bool> DrainFilter<'a, T, C, F> {
+    /// Calls the closure at the elements that are left, and drops those that it picks.
+    pub fn finish(self)
+        requires { IsDraining F.FnMut self }
+        ensures { LetsGo F.FnMut self.entry self.exit.0.now }
+    {
+        let DrainFilter {
+            map,
+            first,
+            front,
+            mut test,
+        } = self;
+        run_out(map, first, front, &mut test);
+    }
+}
+
+impl<'a, T: Ord + Drop, C: NodesMut<T, ()>, F: FnMut(&T) -> bool> Iterator
+    for DrainFilter<'a, T, C, F> {
+    ghost use Rattle.std.specs.Prelude.{drop, length};
+    ghost use Rattle.std.specs.Iterator.{at_most};
+    ghost use Rattle.btree_set.specs.Drain.{DrainsNext};
+
+    type Item = T;
+
+    ghost can_next = { IsDraining F.FnMut };
+
+    ghost next_gives = { DrainsNext F.FnMut };
+
+    ghost remaining = { λ s. at_most (length (drop s.front (set_of s.map.now).elements)) };
+
+    fn next(&mut self) -> Option<T> {
+        let (first, front, pair) = seek_from(self.map, self.first, self.front, &mut self.test);
+        self.first = first;
+        self.front = front;
+        match pair {
+            Some((element, _)) => Some(element),
+            None => None,
+        }
+    }
+
+    fn size_hint(&self) -> (usize, Option<usize>) {
+        (0, Some(self.map.len().saturating_sub(self.front)))
+    }
+}
+
+impl<T: Ord + Drop, C: NodesMut<T, ()>> BTreeSet<T, C> {
+    /// Returns the elements for which the closure returns `true`, which are removed one at a time. It is called once at each element, in order.
+    pub fn drain_filter<F: FnMut(&T) -> bool>(&mut self, f: F) -> DrainFilter<'_, T, C, F>
+        requires { CallableOnEach (CalledAt F.FnMut) (TakesAt F.FnMut) f self.old.elements }
+        ensures unchanged { set_of result.map.now ≡ self.old }
+        ensures front { result.front ≡ 0 }
+        ensures test { result.test ≡ f }
+        ensures draining { IsDraining F.FnMut result }
+    {
+        let first = self.map.first_item_address();
+        DrainFilter {
+            map: &mut self.map,
+            first,
+            front: 0,
+            test: ByKey::new(f),
+        }
+    }
+
+    /// Keeps the elements for which the closure returns `true`, and drops the others. It is called once at each element, in order. It allocates
+    /// no memory and cannot fail.
+    pub fn retain<F: FnMut(&T) -> bool>(&mut self, f: F)
+        requires { CallableOnEach (CalledAt F.FnMut) (TakesAt F.FnMut) f self.old.elements }
+        ensures kept { Selects (CalledAt F.FnMut) true f self.old.elements self.new.elements }
+        ensures uncounted { self.new.refusals ≡ self.old.refusals }
+    {
+        self.map.retain_by(ByKey::new(f));
+    }
+}

@@ -1,0 +1,82 @@
+//! Tests of drains of a set, of `retain`, and of the size of a node.
+use btree_item::Item;
+use btree_node::Node;
+use btree_set::BTreeSet;
+use btree_store::SlabStore;
+use std::alloc::Global;
+use std::mem::size_of;
+use std::process::Abort;
+
+type Numbers = BTreeSet<u64, SlabStore<Node<u64, ()>>>;
+
+// The numbers below a bound.
+fn numbers_below(rt: &impl Abort, alloc: Global, bound: u64) -> Numbers {
+    let mut set = Numbers::new(alloc);
+    for number in 0..bound {
+        assert_eq!(rt; set.insert(number).ok(), Some(true));
+    }
+    set
+}
+
+// Checks that a set has every second number from a first one on, up to a bound.
+fn check_every_second(rt: &impl Abort, set: &Numbers, first: u64, bound: u64) {
+    let mut walk = set.iter();
+    let mut number = first;
+    while number < bound {
+        assert_eq!(rt; walk.next(), Some(&number));
+        number = number.wrapping_add(2);
+    }
+    assert!(rt; walk.next().is_none());
+}
+
+// Takes so many of the odd numbers that a drain picks, and drops it.
+fn take_odd(rt: &impl Abort, set: &mut Numbers, count: u64) {
+    let mut drain = set.drain_filter(|number: &u64| *number % 2 == 1);
+    for index in 0..count {
+        let number = index.wrapping_mul(2).wrapping_add(1);
+        assert_eq!(rt; drain.next(), Some(number));
+    }
+}
+
+#[test]
+fn a_dropped_drain_picks_what_is_left(rt: HostRuntime) {
+    for count in 0..23 {
+        let mut set = numbers_below(&rt, rt.alloc(), 44);
+        take_odd(&rt, &mut set, count);
+        check_every_second(&rt, &set, 0, 44);
+    }
+}
+
+#[test]
+fn a_drain_ends_or_is_finished(rt: HostRuntime) {
+    let mut set = numbers_below(&rt, rt.alloc(), 9);
+    let mut drain = set.drain_filter(|number: &u64| *number == 5);
+    assert_eq!(rt; drain.size_hint(), (0, Some(9)));
+    assert_eq!(rt; drain.next(), Some(5));
+    assert_eq!(rt; drain.size_hint(), (0, Some(3)));
+    assert_eq!(rt; (drain.next(), drain.next()), (None, None));
+    drain.finish();
+    assert_eq!(rt; (set.len(), set.contains(&5)), (8, false));
+    set.drain_filter(|_number: &u64| true).finish();
+    assert!(rt; set.is_empty());
+}
+
+#[test]
+fn retains_what_is_asked(rt: HostRuntime) {
+    let mut set = numbers_below(&rt, rt.alloc(), 44);
+    let mut count = 0u64;
+    set.retain(|number: &u64| {
+        count = count.wrapping_add(1);
+        *number % 2 == 1
+    });
+    assert_eq!(rt; count, 44);
+    check_every_second(&rt, &set, 1, 44);
+    set.retain(|_number: &u64| false);
+    assert!(rt; set.is_empty());
+}
+
+#[test]
+fn a_value_of_no_bytes_takes_none(rt: HostRuntime) {
+    assert_eq!(rt; size_of::<Item<u64, ()>>(), size_of::<u64>());
+    assert!(rt; size_of::<Node<u64, ()>>() < size_of::<Node<u64, u64>>());
+}
