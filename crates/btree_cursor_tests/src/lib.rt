@@ -1,6 +1,8 @@
-//! Tests of the editing cursor.
+//! Tests of the editing cursor, and of the drains.
 #![tactic(auto)]
 
+#[cfg(test)]
+mod drains;
 #[cfg(test)]
 mod editing;
 #[cfg(test)]
