@@ -16,9 +16,9 @@ use crate::bookings::{book_and_cancel, count_overlaps, three_bookings};
 use crate::listing::next_page;
 use crate::sold_out::remove_sold_out;
 use crate::words::count_word;
-use btree_slab::BTreeMap;
 use btree_slab::generic::map::{BTreeExt, BTreeExtMut, Refused};
 use btree_slab::generic::node::Address;
+use btree_slab::{BTreeMap, BTreeSet};
 use std::alloc::{AllocError, Global};
 use std::io;
 
@@ -73,6 +73,26 @@ fn print_counts(rt: &impl Print, alloc: Global) -> io::Result<()> {
     Ok(())
 }
 
+/// Prints the parts of an order that are not in stock.
+fn print_missing(rt: &impl Print, alloc: Global, stock: &BTreeMap<u32, u64>) -> io::Result<()> {
+    let mut order: BTreeSet<u32> = BTreeSet::new(alloc);
+    for part in [408, 1203, 2000] {
+        let Ok(_) = order.insert(part) else {
+            return Err(AllocError.into());
+        };
+    }
+    let mut parts: BTreeSet<u32> = BTreeSet::new(alloc);
+    for (part, _) in stock.iter() {
+        let Ok(_) = parts.insert(*part) else {
+            return Err(AllocError.into());
+        };
+    }
+    for part in order.difference(&parts) {
+        rt.println(format_args!("missing: {part}"))?;
+    }
+    Ok(())
+}
+
 fn main(rt: HostRuntime) -> io::Result<()> {
     let mut stock: BTreeMap<u32, u64> = BTreeMap::new(rt.alloc());
     for (part, count) in [(408, 20), (17, 350), (1203, 4), (17, 349)] {
@@ -103,6 +123,7 @@ fn main(rt: HostRuntime) -> io::Result<()> {
     };
     remove_sold_out(&mut stock);
     rt.println(format_args!("not sold out: {}", stock.len()))?;
+    print_missing(&rt, rt.alloc(), &stock)?;
     let Ok(mut bookings) = three_bookings(rt.alloc()) else {
         return Err(AllocError.into());
     };

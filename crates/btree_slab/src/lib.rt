@@ -25,8 +25,8 @@ pub mod generic {
         pub use btree_ext::{BTreeExt, BTreeExtMut, Tree};
         pub use btree_item::{Cause, Fault, M, Refused, UpdateRefused};
         pub use btree_map::{
-            BTreeMap, EntriesMut, Entry, IntoIter, IntoKeys, IntoValues, IterMut, OccupiedEntry,
-            RangeMut, VacantEntry, ValuesMut,
+            BTreeMap, ByKey, ByPair, DrainFilter, EntriesMut, Entry, IntoIter, IntoKeys,
+            IntoValues, IterMut, OccupiedEntry, PairTest, RangeMut, VacantEntry, ValuesMut,
         };
         pub use btree_raw::RawBTree;
         pub use btree_walk::{Iter, Keys, Range, Values, is_valid_range};
@@ -35,7 +35,8 @@ pub mod generic {
     /// The set, its iterators, and the merges of two sets.
     pub mod set {
         pub use btree_set::{
-            BTreeSet, Difference, Intersection, IntoIter, Iter, Range, SymmetricDifference, Union,
+            BTreeSet, Difference, DrainFilter, Intersection, IntoIter, Iter, Range,
+            SymmetricDifference, Union,
         };
     }
 
