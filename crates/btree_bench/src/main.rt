@@ -1,5 +1,5 @@
 //! Times insertion, look-up, a walk and removal in the kit's map and in this repository's map, and insertion in descending order, in
-//! this repository's map also at the address of the item before.
+//! this repository's map also at the address of the item before, and short ranges of it.
 //!
 //! Without an argument it runs over 1000 keys and prints the sum of each phase. With a number of keys as its argument it prints, for each
 //! phase, its name, the nanoseconds that it took, and its sum.
@@ -7,10 +7,12 @@
 
 mod descent;
 mod random;
+mod ranges;
 mod tables;
 
 use crate::descent::{descend, descend_at};
 use crate::random::{Numbers, drawn, shuffle};
+use crate::ranges::sum_ranges;
 use crate::tables::{KitMap, SlabMap, Table};
 use std::alloc::{AllocError, Global};
 use std::env::Env;
@@ -142,6 +144,20 @@ fn measure_descent_at(
     )
 }
 
+// From each key on, a range that has about ten pairs.
+fn measure_ranges(
+    rt: &(impl Print + Clock + AllocGlobal),
+    is_timed: bool,
+    keys: &Keys,
+) -> io::Result<()> {
+    let mut ours = SlabMap::new(rt.alloc());
+    let _present = put_all(&mut ours, keys.put.as_slice())?;
+    let width = (u64::MAX / (keys.put.len() as u64).max(1)).saturating_mul(9);
+    let since = Instant::now(rt)?;
+    let sum = sum_ranges(&ours, keys.present.as_slice(), width);
+    report(rt, is_timed, ("btree_slab", "range_ten"), since, sum)
+}
+
 // Each phase with a new map, so that all of them touch fresh memory.
 fn measure_descents(
     rt: &(impl Print + Clock + AllocGlobal),
@@ -165,6 +181,7 @@ fn measure_both(
     measure(rt, is_timed, "std", &mut kit, &keys)?;
     let mut ours = SlabMap::new(rt.alloc());
     measure(rt, is_timed, "btree_slab", &mut ours, &keys)?;
+    measure_ranges(rt, is_timed, &keys)?;
     measure_descents(rt, is_timed, count as u64)
 }
 
