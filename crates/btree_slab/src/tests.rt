@@ -1,5 +1,9 @@
-use crate::generic::map::BTreeExt;
+use crate::generic::map::{BTreeExt, BTreeExtMut};
+use crate::generic::node::{Address, Item, Offset};
 use crate::{BTreeMap, BTreeSet};
+use std::alloc::Global;
+use std::hash::{DefaultHasher, Hash, Hasher};
+use std::process::Abort;
 use std::test::Fail;
 
 #[test]
@@ -36,5 +40,45 @@ fn a_set_in_a_slab(rt: HostRuntime) -> Result<(), Fail> {
         (both.next(), both.next(), both.next()),
         (Some(&2), Some(&3), None)
     );
+    Ok(())
+}
+
+fn keys_below(rt: &impl Abort, alloc: Global, bound: u64) -> BTreeMap<u64, u64> {
+    let mut map: BTreeMap<u64, u64> = BTreeMap::new(alloc);
+    for key in 0..bound {
+        assert!(rt; map.insert(key, key.wrapping_mul(10)).is_ok());
+    }
+    map
+}
+
+// Removes the item of the root and inserts it at the returned address.
+fn reshape(rt: &impl Abort, map: &mut BTreeMap<u64, u64>) -> Result<(), Fail> {
+    let Some(top) = map.root_id() else {
+        return Err(Fail::from("no root"));
+    };
+    assert!(rt; map.is_valid(Address::new(top, Offset::from(0))));
+    let Some((item, back)) = map.remove_at(Address::new(top, Offset::from(0))) else {
+        return Err(Fail::from("nothing there"));
+    };
+    let (key, value) = item.into_pair();
+    assert_eq!(rt; key, 4);
+    assert!(rt; map.is_valid(Address::new(back.id, back.offset)));
+    assert!(rt; back.offset.value().is_some());
+    assert!(rt; map.fits_at(Address::new(back.id, back.offset), &key));
+    assert!(rt; map.insert_at(back, Item::new(key, value)).is_ok());
+    Ok(())
+}
+
+#[test]
+fn a_map_of_another_shape_is_equal(rt: HostRuntime) -> Result<(), Fail> {
+    let base = keys_below(&rt, rt.alloc(), 9);
+    let mut other = keys_below(&rt, rt.alloc(), 9);
+    reshape(&rt, &mut other)?;
+    assert!(rt; base.address_of(&4) != other.address_of(&4));
+    assert!(rt; base == other);
+    let (mut first, mut second) = (DefaultHasher::new(), DefaultHasher::new());
+    base.hash(&mut first);
+    other.hash(&mut second);
+    assert_eq!(rt; first.finish(), second.finish());
     Ok(())
 }
