@@ -48,8 +48,8 @@ impl<'a, K: Ord, V, C: NodesMut<K, V>> Model for Range<'a, K, V, C> {
 
 impl<'a, K: Ord, V, C: NodesMut<K, V>> Range<'a, K, V, C> {
     /// Returns an iterator over the pairs whose keys are between two bounds, each included, excluded or absent. `is_valid_range` tells
-    /// whether a range may be asked for. It reads at most two nodes of each level, and makes at most six comparisons of keys in each and
-    /// two more.
+    /// whether a range may be asked for. It reads at most two nodes of each level, and makes at most six comparisons of keys in each for the
+    /// start, at most eight for the end, and two more. A node that is above both ends takes two for the end.
     pub fn new(tree: &'a Tree<K, V, C>, range: (Bound<&K>, Bound<&K>)) -> Self
         requires { IsValidRange K.cmp range }
         ensures { result ≡ pairs_between K.cmp range.entry (pairs_of tree.now) }
@@ -60,8 +60,10 @@ impl<'a, K: Ord, V, C: NodesMut<K, V>> Range<'a, K, V, C> {
         // For the prover: the tree is well formed.
         let _root = tree.root_id();
         let (start, end) = range;
-        let (first, front) = Front::first(tree, start);
-        let (last, back) = Back::last(tree, end);
+        let mut front = Front::new();
+        let first = front.first(tree, start);
+        let mut back = Back::new();
+        let last = back.last(tree, end, &front);
         Range {
             tree,
             first,
@@ -79,6 +81,7 @@ impl<'a, K: Ord, V, C: NodesMut<K, V>> Iterator for Range<'a, K, V, C> {
 
     ghost remaining = { item_count (λ rest. rest) };
 
+    #[inline]
     fn next(&mut self) -> Option<(&'a K, &'a V)> {
         let Some(first) = self.first else {
             return None;
@@ -115,6 +118,7 @@ impl<'a, K: Ord, V, C: NodesMut<K, V>> Iterator for Range<'a, K, V, C> {
 impl<'a, K: Ord, V, C: NodesMut<K, V>> DoubleEndedIterator for Range<'a, K, V, C> {
     ghost next_back_gives = { YieldsLastBy (λ pair. (pair.0.now, pair.1.now)) (λ rest. rest) };
 
+    #[inline]
     fn next_back(&mut self) -> Option<(&'a K, &'a V)> {
         let Some(first) = self.first else {
             return None;

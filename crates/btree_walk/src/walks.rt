@@ -1,5 +1,5 @@
 //! A walk forward and a walk backward, each from a bound on the keys.
-ghost use Rattle.std.specs.Prelude.{◌≡◌};
+ghost use Rattle.std.specs.Prelude.{◌≡◌, []};
 ghost use Rattle.std.specs.BTreeMap.Range.{entries_between};
 ghost use Rattle.std.specs.declared.ops.Bound.TheVariants.{Excluded, Included, Unbounded};
 ghost use Rattle.btree_shape.specs.TreeState.{pairs_of};
@@ -34,35 +34,39 @@ pub(crate) struct Back<'a, K, V> {
 }
 
 impl<'a, K: Ord + 'a, V: 'a> Front<'a, K, V> {
-    // Returns a walk that has passed nothing.
-    fn whole<C: NodesMut<K, V> + 'a>(tree: &'a Tree<K, V, C>) -> Self
-        ensures above { AreAncestors tree.now result.ancestors }
-        ensures ahead { ahead_of tree.now result ≡ pairs_of tree.now }
+    // Returns a walk that is nowhere yet.
+    pub fn new() -> Self
+        ensures none { result.ancestors ≡ [] }
     {
-        tree.tell_fits();
-        let mut ancestors = Slots::new();
-        let leaf = start(tree, &mut ancestors);
         Front {
-            leaf,
+            leaf: None,
             passed: 0,
-            ancestors,
+            ancestors: Slots::new(),
         }
     }
 
-    // Returns a walk that has passed the pairs with smaller keys.
-    fn from_key<C: NodesMut<K, V> + 'a>(tree: &'a Tree<K, V, C>, key: &K) -> Self
-        ensures above { AreAncestors tree.now result.ancestors }
-        ensures ahead { ahead_of tree.now result ≡
+    // Starts before all pairs.
+    fn start<C: NodesMut<K, V> + 'a>(&mut self, tree: &'a Tree<K, V, C>)
+        requires none { self.old.ancestors ≡ [] }
+        ensures above { AreAncestors tree.now self.new.ancestors }
+        ensures ahead { ahead_of tree.now self.new ≡ pairs_of tree.now }
+    {
+        tree.tell_fits();
+        self.leaf = start(tree, &mut self.ancestors);
+        self.passed = 0;
+    }
+
+    // Starts after the pairs with smaller keys.
+    fn start_from<C: NodesMut<K, V> + 'a>(&mut self, tree: &'a Tree<K, V, C>, key: &K)
+        requires none { self.old.ancestors ≡ [] }
+        ensures above { AreAncestors tree.now self.new.ancestors }
+        ensures ahead { ahead_of tree.now self.new ≡
             entries_between K.cmp (Included key.now) Unbounded (pairs_of tree.now) }
     {
         tree.tell_fits();
-        let mut ancestors = Slots::new();
-        let (leaf, passed) = start_from(tree, key, &mut ancestors);
-        Front {
-            leaf,
-            passed,
-            ancestors,
-        }
+        let (leaf, passed) = start_from(tree, key, &mut self.ancestors);
+        self.leaf = leaf;
+        self.passed = passed;
     }
 
     // Passes the next pair and returns it.
@@ -89,87 +93,98 @@ impl<'a, K: Ord + 'a, V: 'a> Front<'a, K, V> {
         }
     }
 
-    // Returns the first pair after a key, and a walk that has passed it.
+    // Starts after a key, passes the first pair and returns it.
     fn first_after<C: NodesMut<K, V> + 'a>(
+        &mut self,
         tree: &'a Tree<K, V, C>,
         key: &K,
-    ) -> (Option<(&'a K, &'a V)>, Self)
-        ensures above { AreAncestors tree.now result.1.ancestors }
+    ) -> Option<(&'a K, &'a V)>
+        requires none { self.old.ancestors ≡ [] }
+        ensures above { AreAncestors tree.now self.new.ancestors }
         ensures first { IsFirstOf
             (entries_between K.cmp (Excluded key.now) Unbounded (pairs_of tree.now))
-            (pair_now result.0) (ahead_of tree.now result.1) }
+            (pair_now result) (ahead_of tree.now self.new) }
     {
         // For the prover: the tree is well formed.
         let _root = tree.root_id();
-        let mut front = Front::from_key(tree, key);
-        let Some(pair) = front.next(tree) else {
-            return (None, front);
+        self.start_from(tree, key);
+        let Some(pair) = self.next(tree) else {
+            return None;
         };
         if key.cmp(pair.0).is_eq() {
-            let next = front.next(tree);
-            return (next, front);
+            return self.next(tree);
         }
-        (Some(pair), front)
+        Some(pair)
     }
 
-    // Returns the first pair from a bound on, and a walk that has passed it.
+    // Starts at a bound, passes the first pair and returns it.
     pub fn first<C: NodesMut<K, V> + 'a>(
+        &mut self,
         tree: &'a Tree<K, V, C>,
         bound: Bound<&K>,
-    ) -> (Option<(&'a K, &'a V)>, Self)
-        ensures above { AreAncestors tree.now result.1.ancestors }
+    ) -> Option<(&'a K, &'a V)>
+        requires none { self.old.ancestors ≡ [] }
+        ensures above { AreAncestors tree.now self.new.ancestors }
         ensures first { IsFirstOf
             (entries_between K.cmp (bound_key bound.entry) Unbounded (pairs_of tree.now))
-            (pair_now result.0) (ahead_of tree.now result.1) }
+            (pair_now result) (ahead_of tree.now self.new) }
     {
         match bound {
             Bound::Unbounded => {
-                let mut front = Front::whole(tree);
-                let pair = front.next(tree);
-                return (pair, front);
+                self.start(tree);
+                self.next(tree)
             }
             Bound::Included(key) => {
-                let mut front = Front::from_key(tree, key);
-                let pair = front.next(tree);
-                return (pair, front);
+                self.start_from(tree, key);
+                self.next(tree)
             }
-            Bound::Excluded(key) => return Front::first_after(tree, key),
+            Bound::Excluded(key) => self.first_after(tree, key),
         }
     }
 }
 
 impl<'a, K: Ord + 'a, V: 'a> Back<'a, K, V> {
-    // Returns a walk that has passed nothing.
-    fn whole<C: NodesMut<K, V> + 'a>(tree: &'a Tree<K, V, C>) -> Self
-        ensures above { AreAncestorsBefore tree.now result.ancestors }
-        ensures kept { HasKept result.leaf result.kept }
-        ensures behind { behind_of tree.now result ≡ pairs_of tree.now }
+    // Returns a walk that is nowhere yet.
+    pub fn new() -> Self
+        ensures none { result.ancestors ≡ [] }
     {
-        tree.tell_fits();
-        let mut ancestors = Slots::new();
-        let (leaf, kept) = end(tree, &mut ancestors);
         Back {
-            leaf,
-            kept,
-            ancestors,
+            leaf: None,
+            kept: 0,
+            ancestors: Slots::new(),
         }
     }
 
-    // Returns a walk that has passed the pairs with greater keys.
-    fn from_key<C: NodesMut<K, V> + 'a>(tree: &'a Tree<K, V, C>, key: &K) -> Self
-        ensures above { AreAncestorsBefore tree.now result.ancestors }
-        ensures kept { HasKept result.leaf result.kept }
-        ensures behind { behind_of tree.now result ≡
+    // Starts after all pairs.
+    fn start<C: NodesMut<K, V> + 'a>(&mut self, tree: &'a Tree<K, V, C>)
+        requires none { self.old.ancestors ≡ [] }
+        ensures above { AreAncestorsBefore tree.now self.new.ancestors }
+        ensures kept { HasKept self.new.leaf self.new.kept }
+        ensures behind { behind_of tree.now self.new ≡ pairs_of tree.now }
+    {
+        tree.tell_fits();
+        let (leaf, kept) = end(tree, &mut self.ancestors);
+        self.leaf = leaf;
+        self.kept = kept;
+    }
+
+    // Starts before the pairs with greater keys, near the place of a forward walk.
+    fn start_at<C: NodesMut<K, V> + 'a>(
+        &mut self,
+        tree: &'a Tree<K, V, C>,
+        key: &K,
+        front: &Front<'a, K, V>,
+    )
+        requires none { self.old.ancestors ≡ [] }
+        ensures above { AreAncestorsBefore tree.now self.new.ancestors }
+        ensures kept { HasKept self.new.leaf self.new.kept }
+        ensures behind { behind_of tree.now self.new ≡
             entries_between K.cmp Unbounded (Included key.now) (pairs_of tree.now) }
     {
         tree.tell_fits();
-        let mut ancestors = Slots::new();
-        let (leaf, kept) = end_at(tree, key, &mut ancestors);
-        Back {
-            leaf,
-            kept,
-            ancestors,
-        }
+        let (leaf, kept) = end_at(tree, key, &front.ancestors, &mut self.ancestors);
+        self.leaf = leaf;
+        self.kept = kept;
     }
 
     // Passes the previous pair and returns it.
@@ -198,53 +213,56 @@ impl<'a, K: Ord + 'a, V: 'a> Back<'a, K, V> {
         }
     }
 
-    // Returns the last pair before a key, and a walk that has passed it.
+    // Starts before a key, passes the last pair and returns it.
     fn last_before<C: NodesMut<K, V> + 'a>(
+        &mut self,
         tree: &'a Tree<K, V, C>,
         key: &K,
-    ) -> (Option<(&'a K, &'a V)>, Self)
-        ensures above { AreAncestorsBefore tree.now result.1.ancestors }
-        ensures kept { HasKept result.1.leaf result.1.kept }
+        front: &Front<'a, K, V>,
+    ) -> Option<(&'a K, &'a V)>
+        requires none { self.old.ancestors ≡ [] }
+        ensures above { AreAncestorsBefore tree.now self.new.ancestors }
+        ensures kept { HasKept self.new.leaf self.new.kept }
         ensures last { IsLastOf
             (entries_between K.cmp Unbounded (Excluded key.now) (pairs_of tree.now))
-            (pair_now result.0) (behind_of tree.now result.1) }
+            (pair_now result) (behind_of tree.now self.new) }
     {
         // For the prover: the tree is well formed.
         let _root = tree.root_id();
-        let mut back = Back::from_key(tree, key);
-        let Some(pair) = back.next_back(tree) else {
-            return (None, back);
+        self.start_at(tree, key, front);
+        let Some(pair) = self.next_back(tree) else {
+            return None;
         };
         if key.cmp(pair.0).is_eq() {
-            let previous = back.next_back(tree);
-            return (previous, back);
+            return self.next_back(tree);
         }
-        (Some(pair), back)
+        Some(pair)
     }
 
-    // Returns the last pair up to a bound, and a walk that has passed it.
+    // Starts at a bound, passes the last pair and returns it. It is quick if a forward walk is near that place.
     pub fn last<C: NodesMut<K, V> + 'a>(
+        &mut self,
         tree: &'a Tree<K, V, C>,
         bound: Bound<&K>,
-    ) -> (Option<(&'a K, &'a V)>, Self)
-        ensures above { AreAncestorsBefore tree.now result.1.ancestors }
-        ensures kept { HasKept result.1.leaf result.1.kept }
+        front: &Front<'a, K, V>,
+    ) -> Option<(&'a K, &'a V)>
+        requires none { self.old.ancestors ≡ [] }
+        ensures above { AreAncestorsBefore tree.now self.new.ancestors }
+        ensures kept { HasKept self.new.leaf self.new.kept }
         ensures last { IsLastOf
             (entries_between K.cmp Unbounded (bound_key bound.entry) (pairs_of tree.now))
-            (pair_now result.0) (behind_of tree.now result.1) }
+            (pair_now result) (behind_of tree.now self.new) }
     {
         match bound {
             Bound::Unbounded => {
-                let mut back = Back::whole(tree);
-                let pair = back.next_back(tree);
-                return (pair, back);
+                self.start(tree);
+                self.next_back(tree)
             }
             Bound::Included(key) => {
-                let mut back = Back::from_key(tree, key);
-                let pair = back.next_back(tree);
-                return (pair, back);
+                self.start_at(tree, key, front);
+                self.next_back(tree)
             }
-            Bound::Excluded(key) => return Back::last_before(tree, key),
+            Bound::Excluded(key) => self.last_before(tree, key, front),
         }
     }
 }

@@ -12,16 +12,16 @@ invariant_of-result g c =
     let lo = bound_key c.args.range.0 in
     let hi = bound_key c.args.range.1 in (
       c.note_fits.ensures,
-      c.first-front.ensures.above,
-      c.last-back.ensures.above,
-      c.last-back.ensures.kept,
-      begins-ahead g.met.K.Ord.total pairs up lo hi (pair_now c.first-front.result.0) (ahead_of c.args.tree.now c.first-front.result.1) c.first-front.ensures.first,
-      begins-behind g.met.K.Ord.total pairs up lo hi (pair_now c.last-back.result.0) (behind_of c.args.tree.now c.last-back.result.1) c.last-back.ensures.last,
+      c.first-first.ensures.above,
+      c.last-last.ensures.above,
+      c.last-last.ensures.kept,
+      begins-ahead g.met.K.Ord.total pairs up lo hi (pair_now c.first-first.result) (ahead_of c.args.tree.now c.first-first.new.self) c.first-first.ensures.first,
+      begins-behind g.met.K.Ord.total pairs up lo hi (pair_now c.last-last.result) (behind_of c.args.tree.now c.last-last.new.self) c.last-last.ensures.last,
     )
 
 pub returns : goal.returns
 returns g c =
     let pairs = pairs_of c.args.tree.now in
     let up = rises g.K.Ord.cmp pairs c.root_id-root.ensures.well_formed.ascends in
-    begins g.met.K.Ord.total pairs up (bound_key c.args.range.0) (bound_key c.args.range.1) (pair_now c.first-front.result.0) (ahead_of c.args.tree.now c.first-front.result.1) c.first-front.ensures.first
-    (pair_now c.last-back.result.0) (behind_of c.args.tree.now c.last-back.result.1) c.last-back.ensures.last
+    begins g.met.K.Ord.total pairs up (bound_key c.args.range.0) (bound_key c.args.range.1) (pair_now c.first-first.result) (ahead_of c.args.tree.now c.first-first.new.self) c.first-first.ensures.first
+    (pair_now c.last-last.result) (behind_of c.args.tree.now c.last-last.new.self) c.last-last.ensures.last

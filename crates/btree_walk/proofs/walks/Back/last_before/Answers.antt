@@ -9,7 +9,7 @@ pub returns-in_default-clause-last : goal.returns-in_default-clause-last
 returns-in_default-clause-last g c =
     let pairs = pairs_of c.args.tree.now in
     let up = rises g.K.Ord.cmp pairs c.root_id-root.ensures.well_formed.ascends in
-    before-none g.met.K.Ord.total c.args.key.now pairs up (sym c.from_key-back.ensures.behind ∙ c.in_default.ensures.last)
+    before-none g.met.K.Ord.total c.args.key.now pairs up (sym c.start_at.ensures.behind ∙ c.in_default.ensures.last)
 
 pub returns-then-is_eq-clause-last : goal.returns-then-is_eq-clause-last
 returns-then-is_eq-clause-last g c =
@@ -19,8 +19,8 @@ returns-then-is_eq-clause-last g c =
     let asked = c.is_eq.ensures in
     let yes = c.if-is_eq.true in
     let same = before-key g.met.K.Ord.total c.args.key.now pairs up (c.in-Some.pair.0.now, c.in-Some.pair.1.now) (behind_of c.args.tree.now c.next_back.new.self)
-    (sym c.from_key-back.ensures.behind ∙ c.in-Some.ensures.last) (cc) in
-    subst (λ l. IsLastOf l (pair_now c.next_back-previous.result) (behind_of c.args.tree.now c.next_back-previous.new.self)) (sym same) c.next_back-previous.ensures.last
+    (sym c.start_at.ensures.behind ∙ c.in-Some.ensures.last) (cc) in
+    subst (λ l. IsLastOf l (pair_now c.next_back-then-is_eq.result) (behind_of c.args.tree.now c.next_back-then-is_eq.new.self)) (sym same) c.next_back-then-is_eq.ensures.last
 
 pub returns-clause-last : goal.returns-clause-last
 returns-clause-last g c =
@@ -30,4 +30,4 @@ returns-clause-last g c =
     let asked = c.is_eq.ensures in
     let no = c.if-is_eq.false in
     before-other g.met.K.Ord.total c.args.key.now pairs up (c.in-Some.pair.0.now, c.in-Some.pair.1.now) (behind_of c.args.tree.now c.next_back.new.self)
-    (sym c.from_key-back.ensures.behind ∙ c.in-Some.ensures.last) (cc)
+    (sym c.start_at.ensures.behind ∙ c.in-Some.ensures.last) (cc)

@@ -9,7 +9,7 @@ pub returns-in_default-clause-first : goal.returns-in_default-clause-first
 returns-in_default-clause-first g c =
     let pairs = pairs_of c.args.tree.now in
     let up = rises g.K.Ord.cmp pairs c.root_id-root.ensures.well_formed.ascends in
-    after-none g.met.K.Ord.total c.args.key.now pairs up (sym c.from_key-front.ensures.ahead ∙ c.in_default.ensures.first)
+    after-none g.met.K.Ord.total c.args.key.now pairs up (sym c.start_from.ensures.ahead ∙ c.in_default.ensures.first)
 
 pub returns-then-is_eq-clause-first : goal.returns-then-is_eq-clause-first
 returns-then-is_eq-clause-first g c =
@@ -19,8 +19,8 @@ returns-then-is_eq-clause-first g c =
     let asked = c.is_eq.ensures in
     let yes = c.if-is_eq.true in
     let same = after-key g.met.K.Ord.total c.args.key.now pairs up (c.in-Some.pair.0.now, c.in-Some.pair.1.now) (ahead_of c.args.tree.now c.next.new.self)
-    (sym c.from_key-front.ensures.ahead ∙ c.in-Some.ensures.first) (cc) in
-    subst (λ l. IsFirstOf l (pair_now c.next-next.result) (ahead_of c.args.tree.now c.next-next.new.self)) (sym same) c.next-next.ensures.first
+    (sym c.start_from.ensures.ahead ∙ c.in-Some.ensures.first) (cc) in
+    subst (λ l. IsFirstOf l (pair_now c.next-then-is_eq.result) (ahead_of c.args.tree.now c.next-then-is_eq.new.self)) (sym same) c.next-then-is_eq.ensures.first
 
 pub returns-clause-first : goal.returns-clause-first
 returns-clause-first g c =
@@ -30,4 +30,4 @@ returns-clause-first g c =
     let asked = c.is_eq.ensures in
     let no = c.if-is_eq.false in
     after-other g.met.K.Ord.total c.args.key.now pairs up (c.in-Some.pair.0.now, c.in-Some.pair.1.now) (ahead_of c.args.tree.now c.next.new.self)
-    (sym c.from_key-front.ensures.ahead ∙ c.in-Some.ensures.first) (cc)
+    (sym c.start_from.ensures.ahead ∙ c.in-Some.ensures.first) (cc)

@@ -1,0 +1,6 @@
+use Rattle.std.proofs.Common.{arith}
+use Rattle.btree_node.proofs.NodeSizes.{fits-leaf}
+use Rattle.btree_walk.proofs.walks.Back.start.Goals as goal
+
+pub end-kept-requires : goal.end-kept-requires
+end-kept-requires g c = (omega arith, (search fits-leaf, c.requires.none))

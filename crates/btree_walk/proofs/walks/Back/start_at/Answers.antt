@@ -1,0 +1,6 @@
+use Rattle.std.proofs.Common.{arith}
+use Rattle.btree_node.proofs.NodeSizes.{fits-leaf}
+use Rattle.btree_walk.proofs.walks.Back.start_at.Goals as goal
+
+pub end_at-kept-requires : goal.end_at-kept-requires
+end_at-kept-requires g c = (omega arith, (search fits-leaf, c.requires.none))

@@ -1,6 +1,0 @@
-use Rattle.std.proofs.Common.{arith}
-use Rattle.btree_node.proofs.NodeSizes.{fits-leaf}
-use Rattle.btree_walk.proofs.walks.Front.from_key.Goals as goal
-
-pub start_from-passed-requires : goal.start_from-passed-requires
-start_from-passed-requires g c = (omega arith, (search fits-leaf, c.new-ancestors.ensures))

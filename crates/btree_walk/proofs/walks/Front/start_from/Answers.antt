@@ -1,0 +1,6 @@
+use Rattle.std.proofs.Common.{arith}
+use Rattle.btree_node.proofs.NodeSizes.{fits-leaf}
+use Rattle.btree_walk.proofs.walks.Front.start_from.Goals as goal
+
+pub start_from-passed-requires : goal.start_from-passed-requires
+start_from-passed-requires g c = (omega arith, (search fits-leaf, c.requires.none))
