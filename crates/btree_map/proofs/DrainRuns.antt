@@ -1,5 +1,5 @@
 -- Runs of a test over the pairs that a cursor has left, call by call.
-use Rattle.std.proofs.Common.{◌≡◌, ◌∙◌, ℕ, zero, suc, ◌<◌, Bool, true, false, not, List, [], ◌∷◌, ◌++◌, Some, None, length, ◌≤◌, slice_get, refl, sym, ap, subst, arith, drop, take, append_assoc, append-nil}
+use Rattle.std.proofs.Common.{◌≡◌, ◌∙◌, ℕ, zero, suc, ◌+◌, ◌<◌, Bool, true, false, not, List, [], ◌∷◌, ◌++◌, Some, None, length, ◌≤◌, slice_get, refl, sym, ap, subst, arith, drop, take, append_assoc, append-nil}
 use mathlib.Core.Bool.{beq}
 use Rattle.std.specs.Map.Calls.{CallableOnEachPair}
 use Rattle.std.specs.declared.cmp.Ord as ord
@@ -9,7 +9,7 @@ use Rattle.btree_nodes.specs.declared.Nodes as nodes
 use Rattle.btree_nodes.specs.declared.NodesMut as nodes_mut
 use Rattle.btree_shape.specs.TreeAddresses.{item_addresses_of}
 use Rattle.btree_shape.specs.TreeState.{TreeState, pairs_of}
-use Rattle.btree_map.specs.Drain.{Asks, AsksFirst, Ends, RunsOut, RunsTest, Selects, if_same, picked}
+use Rattle.btree_map.specs.Drain.{Asks, AsksFirst, Ends, KeepsAddresses, RunsOut, RunsTest, Selects, if_same, picked}
 use Rattle.btree_map.specs.Editing.{PassesEntry, RemovesEntry, left_of, passed_of, with_first}
 use Rattle.btree_map.specs.WrittenAddresses.{written-addresses}
 use Rattle.btree_map.specs.declared.cursor.editing.EntriesMut.{EntriesMut}
@@ -70,6 +70,12 @@ module _ {K V : Type 0} where
   pub still-none : (asked : List (Bool × (K × V))) (x : K × V) → picked true asked ≡ [] → picked true (asked ++ (false, x) ∷ []) ≡ []
   still-none asked x none = picked-more true asked ((false, x) ∷ []) ∙ append-nil _ ∙ none
 
+  -- each pair that was asked has one of the two answers
+  pub answers : (asked : List (Bool × (K × V))) → length (picked true asked) + length (picked false asked) ≡ length asked
+  answers [] = refl
+  answers ((true, x) ∷ asked) = let more = answers asked in omega (arith, more)
+  answers ((false, x) ∷ asked) = let more = answers asked in omega (arith, more)
+
   more-than-none : (xs : List (K × V)) (x : K × V) → xs ++ x ∷ [] ≡ [] → ⊥
   more-than-none [] x e = cc
   more-than-none (y ∷ xs) x e = cc
@@ -81,6 +87,13 @@ module _ {F K V : Type 0} (Step : F → K → V → Bool → V → F → Type 0)
       (b, w, f2, [], subst (λ z. Step z k v b w f2) run.1 step, (refl, refl), ap (λ (l : List (Bool × (K × V))). l ++ (b, (k, w)) ∷ []) run.0)
   asks-more f f1 f2 (e ∷ es) asked k v w b (b', u, f3, more, first, rest, is) step =
       (b', u, f3, more ++ (b, (k, w)) ∷ [], first, asks-more f3 f1 f2 es more k v w b rest step, ap (λ (l : List (Bool × (K × V))). l ++ (b, (k, w)) ∷ []) is)
+
+  asked-each : (f f' : F) (es : List (K × V)) (asked : List (Bool × (K × V))) → Asks Step f es asked f' → length asked ≡ length es
+  asked-each f f' [] asked run = ap length run.0
+  asked-each f f' (e ∷ es) asked (b, w, f1, more, first, rest, is) =
+      let whole = ap length is in
+      let each = asked-each f1 f' es more rest in
+      omega (arith, whole, each)
 
   pub runs-start : (takes : Bool) (f : F) (t : TreeState K V) (n : ℕ) → RunsTest Step takes f f t n t n []
   runs-start takes f t n = record {
@@ -233,3 +246,11 @@ module _ {F K V : Type 0} (Step : F → K → V → Bool → V → F → Type 0)
   selects f f' old new front' (asked, run, none) =
       let none-left = run.left ∙ ap (λ (l : List (K × V)). run.here ++ l) none ∙ append-nil run.here in
       (asked, f', subst (λ (l : List (K × V)). Asks Step f l asked f') (sym none-left) run.calls, sym (all-left f f' old 0 new front' none) ∙ run.passed)
+
+  pub keeps-addresses : (f f' : F) (old new : TreeState K V) (front' : ℕ) → Ends Step false f f' old 0 new front' → KeepsAddresses old new
+  keeps-addresses f f' old new front' (asked, run, none) all =
+      let here = ap length (run.left ∙ ap (λ (l : List (K × V)). run.here ++ l) none ∙ append-nil run.here) in
+      let kept = ap length (sym (all-left f f' old 0 new front' none) ∙ run.passed) in
+      let each = asked-each f f' run.here asked run.calls in
+      let both = answers asked in
+      run.addresses (none-left _ (omega (arith, all, here, kept, each, both)))

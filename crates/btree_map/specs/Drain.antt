@@ -2,7 +2,7 @@
 -- value that the call left, and `picked` are those with one answer. `AsksFirst` is one call at the first pair that a cursor
 -- has left, and `RunsTest` what was done after several: pairs with the answer `takes` were removed, the others passed.
 -- `Yields` is a step of a drain, and `Ends` and `RunsOut` are its end.
-use Rattle.std.specs.Prelude.{◌≡◌, ℕ, Bool, true, false, not, List, [], ◌∷◌, ◌++◌, drop, take, Option, MatchOption}
+use Rattle.std.specs.Prelude.{◌≡◌, ℕ, Bool, true, false, not, List, [], ◌∷◌, ◌++◌, drop, length, take, Option, MatchOption}
 use Rattle.std.specs.declared.cmp.Ord as ord
 use Rattle.std.specs.declared.cmp.PartialEq as eq
 use Rattle.std.specs.declared.cmp.PartialOrd as partial
@@ -25,6 +25,10 @@ module _ {K V : Type 0} where
   abbrev pub picked : Bool → List (Bool × (K × V)) → List (K × V)
   picked answer [] = []
   picked answer ((given, x) ∷ more) = if_same answer given x (picked answer more)
+
+  -- if no pair is gone, every address stays
+  abbrev pub KeepsAddresses : (old now : TreeState K V) → Type 0
+  KeepsAddresses old now = length (pairs_of now) ≡ length (pairs_of old) → item_addresses_of now ≡ item_addresses_of old
 
 module _ {F K V : Type 0} (Step : F → K → V → Bool → V → F → Type 0) where
   -- one call at each pair in order took the test from f to f'; `asked` has each answer, and the pair after the call

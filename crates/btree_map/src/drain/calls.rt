@@ -2,7 +2,7 @@
 ghost use Rattle.std.specs.Prelude.{◌≡◌, true};
 ghost use Rattle.std.specs.Map.Calls.{CallableOnEachPair, CalledAtPair, TakesPair};
 ghost use Rattle.btree_shape.specs.TreeState.{pairs_of};
-ghost use Rattle.btree_map.specs.Drain.{Selects};
+ghost use Rattle.btree_map.specs.Drain.{KeepsAddresses, Selects};
 ghost use Rattle.btree_map.specs.DrainSteps.{IsDraining, LetsGo};
 
 use super::steps::run_rest;
@@ -37,8 +37,9 @@ impl<'a, K: Ord + Drop, V: Drop, C: NodesMut<K, V>, F: FnMut(&K, &mut V) -> bool
 
 impl<'a, K: Ord + Drop, V: Drop, C: NodesMut<K, V>, F: FnMut(&K, &mut V) -> bool> Iterator
     for DrainFilter<'a, K, V, C, F> {
-    ghost use Rattle.std.specs.Prelude.{drop, length};
-    ghost use Rattle.std.specs.Iterator.{at_most};
+    ghost use Rattle.std.specs.Prelude.{Some, IfSome, drop, length};
+    ghost use Rattle.std.specs.Iterator.SizeHint.{IsWithinCount};
+    ghost use Rattle.std.specs.Iterator.{UpTo, at_most};
     ghost use Rattle.btree_map.specs.DrainSteps.{DrainsNext};
 
     type Item = (K, V);
@@ -56,7 +57,15 @@ impl<'a, K: Ord + Drop, V: Drop, C: NodesMut<K, V>, F: FnMut(&K, &mut V) -> bool
         pair
     }
 
-    fn size_hint(&self) -> (usize, Option<usize>) {
+    /// Returns 0, and the number of pairs that are left as the upper bound.
+    fn size_hint(&self) -> (usize, Option<usize>)
+        ensures exact { result ≡
+            (0, Some (length (drop self.now.front (pairs_of self.now.map.now)))) }
+        ensures lower { IsWithinCount result.0
+            (at_most (length (drop self.now.front (pairs_of self.now.map.now)))) }
+        ensures upper { IfSome result.1
+            (UpTo (at_most (length (drop self.now.front (pairs_of self.now.map.now))))) }
+    {
         (0, Some(self.map.len().saturating_sub(self.front)))
     }
 }
@@ -90,8 +99,10 @@ impl<K: Ord + Drop, V: Drop, C: NodesMut<K, V>> BTreeMap<K, V, C> {
     pub fn retain<F: FnMut(&K, &mut V) -> bool>(&mut self, f: F)
         requires { CallableOnEachPair
             (CalledAtPair F.FnMut) (TakesPair F.FnMut) f (pairs_of self.old) }
-        ensures kept { Selects (CalledAtPair F.FnMut) true f (pairs_of self.old) (pairs_of self.new) }
+        ensures kept { Selects
+            (CalledAtPair F.FnMut) true f (pairs_of self.old) (pairs_of self.new) }
         ensures uncounted { self.new.refusals ≡ self.old.refusals }
+        ensures addresses { KeepsAddresses self.old self.new }
     {
         self.retain_by(ByPair::new(f));
     }
@@ -101,6 +112,7 @@ impl<K: Ord + Drop, V: Drop, C: NodesMut<K, V>> BTreeMap<K, V, C> {
         requires { CallableOnEachPair P.step P.accepts test (pairs_of self.old) }
         ensures kept { Selects P.step true test (pairs_of self.old) (pairs_of self.new) }
         ensures uncounted { self.new.refusals ≡ self.old.refusals }
+        ensures addresses { KeepsAddresses self.old self.new }
     {
         let mut test = test;
         let mut entries = self.entries_mut();

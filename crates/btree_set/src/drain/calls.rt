@@ -28,8 +28,9 @@ impl<'a, T: Ord + Drop, C: NodesMut<T, ()>, F: FnMut(&T) -> bool> DrainFilter<'a
 
 impl<'a, T: Ord + Drop, C: NodesMut<T, ()>, F: FnMut(&T) -> bool> Iterator
     for DrainFilter<'a, T, C, F> {
-    ghost use Rattle.std.specs.Prelude.{drop, length};
-    ghost use Rattle.std.specs.Iterator.{at_most};
+    ghost use Rattle.std.specs.Prelude.{Some, IfSome, drop, length};
+    ghost use Rattle.std.specs.Iterator.SizeHint.{IsWithinCount};
+    ghost use Rattle.std.specs.Iterator.{UpTo, at_most};
     ghost use Rattle.btree_set.specs.Drain.{DrainsNext};
 
     type Item = T;
@@ -50,7 +51,15 @@ impl<'a, T: Ord + Drop, C: NodesMut<T, ()>, F: FnMut(&T) -> bool> Iterator
         }
     }
 
-    fn size_hint(&self) -> (usize, Option<usize>) {
+    /// Returns 0, and the number of elements that are left as the upper bound.
+    fn size_hint(&self) -> (usize, Option<usize>)
+        ensures exact { result ≡
+            (0, Some (length (drop self.now.front (set_of self.now.map.now).elements))) }
+        ensures lower { IsWithinCount result.0
+            (at_most (length (drop self.now.front (set_of self.now.map.now).elements))) }
+        ensures upper { IfSome result.1
+            (UpTo (at_most (length (drop self.now.front (set_of self.now.map.now).elements)))) }
+    {
         (0, Some(self.map.len().saturating_sub(self.front)))
     }
 }
