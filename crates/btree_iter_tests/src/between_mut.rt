@@ -61,6 +61,17 @@ enum Side {
     Both,
 }
 
+// Checks that a pair of this key was lent, with 10 times the key as its value, and adds one to the value.
+fn raise(rt: &impl Abort, pair: Option<(&u64, &mut u64)>, key: u64) {
+    match pair {
+        Some((found, value)) => {
+            assert_eq!(rt; (*found, *value), (key, key.wrapping_mul(10)));
+            *value = value.wrapping_add(1);
+        }
+        None => panic!(rt; "{key} is not lent"),
+    }
+}
+
 // Checks that a cursor lends the values of these keys, each once, and of no other.
 fn assert_lends(
     rt: &impl Abort,
@@ -83,24 +94,12 @@ fn assert_lends(
     for _ in 0..keys.len() {
         if is_front {
             assert!(rt; low < keys.len());
-            match pairs.next() {
-                Some((key, value)) => {
-                    assert_eq!(rt; (*key, *value), (keys[low], keys[low].wrapping_mul(10)));
-                    *value = value.wrapping_add(1);
-                }
-                None => panic!(rt; "no pair at the front"),
-            }
+            raise(rt, pairs.next(), keys[low]);
             low += 1;
         } else {
             assert!(rt; 0 < high && high <= keys.len());
             high -= 1;
-            match pairs.next_back() {
-                Some((key, value)) => {
-                    assert_eq!(rt; (*key, *value), (keys[high], keys[high].wrapping_mul(10)));
-                    *value = value.wrapping_add(1);
-                }
-                None => panic!(rt; "no pair at the back"),
-            }
+            raise(rt, pairs.next_back(), keys[high]);
         }
         if let Side::Both = side {
             is_front = !is_front;
