@@ -149,7 +149,8 @@ pub(crate) fn is_between(key: u64, start: &Bound<u64>, end: &Bound<u64>) -> bool
     from && until
 }
 
-// Checks the range of the map of the even keys up to 86, from either end, against the keys themselves.
+// Checks the range of the map of the even keys up to 86 against the keys themselves: from the front, from the back, and from both ends,
+// which meet at 44.
 fn assert_as_plain(rt: &impl Abort, map: &Map, start: Bound<u64>, end: Bound<u64>) {
     let bounds = (start.as_ref(), end.as_ref());
     if !is_valid_range(bounds) {
@@ -157,17 +158,24 @@ fn assert_as_plain(rt: &impl Abort, map: &Map, start: Bound<u64>, end: Bound<u64
     }
     let mut forward = map.range(bounds);
     let mut backward = map.range(bounds);
+    let mut in_turn = map.range(bounds);
     for half in 0..44u64 {
         let low = half.wrapping_mul(2);
         if is_between(low, &start, &end) {
             assert_eq!(rt; copied(forward.next()), pair_of(low));
+            if low < 44 {
+                assert_eq!(rt; copied(in_turn.next()), pair_of(low));
+            }
         }
         let high = 86u64.wrapping_sub(low);
         if is_between(high, &start, &end) {
             assert_eq!(rt; copied(backward.next_back()), pair_of(high));
+            if high >= 44 {
+                assert_eq!(rt; copied(in_turn.next_back()), pair_of(high));
+            }
         }
     }
-    for mut pairs in [forward, backward] {
+    for mut pairs in [forward, backward, in_turn] {
         assert_eq!(rt;
             (copied(pairs.next()), copied(pairs.next_back())),
             (None, None)

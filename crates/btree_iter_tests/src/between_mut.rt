@@ -61,6 +61,17 @@ enum Side {
     Both,
 }
 
+// Checks that a pair of this key was lent, with 10 times the key as its value, and adds one to the value.
+fn raise(rt: &impl Abort, pair: Option<(&u64, &mut u64)>, key: u64) {
+    match pair {
+        Some((found, value)) => {
+            assert_eq!(rt; (*found, *value), (key, key.wrapping_mul(10)));
+            *value = value.wrapping_add(1);
+        }
+        None => panic!(rt; "{key} is not lent"),
+    }
+}
+
 // Checks that a cursor lends the values of these keys, each once, and of no other.
 fn assert_lends(
     rt: &impl Abort,
@@ -83,24 +94,12 @@ fn assert_lends(
     for _ in 0..keys.len() {
         if is_front {
             assert!(rt; low < keys.len());
-            match pairs.next() {
-                Some((key, value)) => {
-                    assert_eq!(rt; (*key, *value), (keys[low], keys[low].wrapping_mul(10)));
-                    *value = value.wrapping_add(1);
-                }
-                None => panic!(rt; "no pair at the front"),
-            }
+            raise(rt, pairs.next(), keys[low]);
             low += 1;
         } else {
             assert!(rt; 0 < high && high <= keys.len());
             high -= 1;
-            match pairs.next_back() {
-                Some((key, value)) => {
-                    assert_eq!(rt; (*key, *value), (keys[high], keys[high].wrapping_mul(10)));
-                    *value = value.wrapping_add(1);
-                }
-                None => panic!(rt; "no pair at the back"),
-            }
+            raise(rt, pairs.next_back(), keys[high]);
         }
         if let Side::Both = side {
             is_front = !is_front;
@@ -153,38 +152,19 @@ fn adds_to_the_names_from_b_to_cheryl(rt: HostRuntime) {
 fn lends_between_each_pair_of_bounds(rt: HostRuntime) {
     let low = &2u64;
     let high = &5u64;
+    let any = Bound::Unbounded;
     for (start, end, keys) in [
-        (
-            Bound::Unbounded,
-            Bound::Unbounded,
-            &[0u64, 1, 2, 3, 4, 5, 6, 7, 8][..],
-        ),
-        (
-            Bound::Unbounded,
-            Bound::Included(high),
-            &[0, 1, 2, 3, 4, 5][..],
-        ),
-        (
-            Bound::Unbounded,
-            Bound::Excluded(high),
-            &[0, 1, 2, 3, 4][..],
-        ),
-        (
-            Bound::Included(low),
-            Bound::Unbounded,
-            &[2, 3, 4, 5, 6, 7, 8][..],
-        ),
+        (any, any, &[0u64, 1, 2, 3, 4, 5, 6, 7, 8][..]),
+        (any, Bound::Included(high), &[0, 1, 2, 3, 4, 5][..]),
+        (any, Bound::Excluded(high), &[0, 1, 2, 3, 4][..]),
+        (Bound::Included(low), any, &[2, 3, 4, 5, 6, 7, 8][..]),
         (
             Bound::Included(low),
             Bound::Included(high),
             &[2, 3, 4, 5][..],
         ),
         (Bound::Included(low), Bound::Excluded(high), &[2, 3, 4][..]),
-        (
-            Bound::Excluded(low),
-            Bound::Unbounded,
-            &[3, 4, 5, 6, 7, 8][..],
-        ),
+        (Bound::Excluded(low), any, &[3, 4, 5, 6, 7, 8][..]),
         (Bound::Excluded(low), Bound::Included(high), &[3, 4, 5][..]),
         (Bound::Excluded(low), Bound::Excluded(high), &[3, 4][..]),
     ] {
@@ -211,6 +191,16 @@ fn lends_in_narrow_ranges(rt: HostRuntime) {
         (Bound::Included(&7), Bound::Included(&100), &[7, 8][..]),
     ] {
         assert_range(&rt, rt.alloc(), start, end, keys);
+    }
+}
+
+// Compares each value with the number at the index of its key.
+fn assert_sums(rt: &impl Abort, map: &Map, sums: &[u64]) {
+    for (key, value) in map.iter() {
+        match sums.get(*key as usize) {
+            Some(sum) => assert_eq!(rt; *value, *sum),
+            None => panic!(rt; "a key that was not inserted"),
+        }
     }
 }
 
@@ -249,12 +239,7 @@ fn adds_between_even_keys(rt: HostRuntime) {
                 added[key] = added[key].wrapping_add(3);
             }
         }
-        for (key, value) in map.iter() {
-            match added.get(*key as usize) {
-                Some(sum) => assert_eq!(rt; *value, *sum),
-                None => panic!(rt; "a key that was not inserted"),
-            }
-        }
+        assert_sums(&rt, &map, &added);
     }
 }
 

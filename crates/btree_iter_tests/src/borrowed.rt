@@ -28,8 +28,17 @@ fn copied(pair: Option<(&u64, &u64)>) -> Option<(u64, u64)> {
 fn iterates_from_both_ends_in_turn(rt: HostRuntime) {
     let map = first_keys(&rt, rt.alloc(), 9);
     let mut pairs = map.iter();
-    for (front, back, left) in [(0u64, 8u64, 7), (1, 7, 5), (2, 6, 3), (3, 5, 1)] {
+    for (front, back, between, left) in [
+        (0u64, 8u64, 8, 7),
+        (1, 7, 6, 5),
+        (2, 6, 4, 3),
+        (3, 5, 2, 1),
+    ] {
         assert_eq!(rt; copied(pairs.next()), Some((front, front.wrapping_mul(10))));
+        assert_eq!(rt;
+            (pairs.len(), pairs.size_hint()),
+            (between, (between, Some(between)))
+        );
         assert_eq!(rt;
             copied(pairs.next_back()),
             Some((back, back.wrapping_mul(10)))
@@ -95,8 +104,12 @@ fn iterates_over_keys_and_values(rt: HostRuntime) {
         (keys.next_back().copied(), values.next_back().copied()),
         (Some(4), Some(40))
     );
-    assert_eq!(rt; (keys.next(), keys.next_back()), (None, None));
-    assert_eq!(rt; (values.next(), values.next_back()), (None, None));
+    for _ in 0..2 {
+        assert_eq!(rt; (keys.next(), keys.next_back()), (None, None));
+        assert_eq!(rt; (values.next(), values.next_back()), (None, None));
+        assert_eq!(rt; (keys.len(), keys.size_hint()), (0, (0, Some(0))));
+        assert_eq!(rt; (values.len(), values.size_hint()), (0, (0, Some(0))));
+    }
 }
 
 #[test]
@@ -128,15 +141,13 @@ fn keeps_titles_in_order(rt: HostRuntime) {
     );
     assert_eq!(rt; map.remove(&"The Blues Brothers"), Some("music"));
     assert_eq!(rt; map.get(&"Up!").copied(), None);
-    assert_eq!(rt;
-        map.get(&"Office Space").copied(),
-        Some("deals with a real office")
-    );
-    let mut titles = map.keys();
-    for title in ["Office Space", "Pulp Fiction", "The Godfather"] {
-        assert_eq!(rt; titles.next().copied(), Some(title));
+    assert!(rt; map.contains_key(&"Office Space"));
+    assert_eq!(rt; map[&"Office Space"], "deals with a real office");
+    let mut titles = ["Office Space", "Pulp Fiction", "The Godfather"].into_iter();
+    for (title, _text) in &map {
+        assert_eq!(rt; Some(*title), titles.next());
     }
-    assert_eq!(rt; titles.next().copied(), None);
+    assert!(rt; titles.next().is_none());
 }
 
 #[test]

@@ -38,8 +38,12 @@ fn gives_each_pair_once(rt: HostRuntime) {
             assert_eq!(rt; pairs.len() as u64, 99u64.wrapping_sub(step));
             assert_eq!(rt; drops.get(), step.wrapping_add(1));
         }
-        assert!(rt; pairs.next().is_none() && pairs.next_back().is_none());
-        assert_eq!(rt; (pairs.len(), pairs.size_hint()), (0, (0, Some(0))));
+        for _ in 0..2 {
+            assert!(rt; pairs.next().is_none() && pairs.next_back().is_none());
+            assert_eq!(rt; (pairs.len(), pairs.size_hint()), (0, (0, Some(0))));
+        }
+        drop(pairs);
+        assert_eq!(rt; drops.get(), 100);
     }
 }
 
@@ -84,8 +88,12 @@ fn gives_keys_and_values(rt: HostRuntime) {
         );
     }
     assert_eq!(rt; (keys.next(), values.next()), (Some(4), Some(40)));
-    assert_eq!(rt; (keys.next(), keys.next_back()), (None, None));
-    assert_eq!(rt; (values.next(), values.next_back()), (None, None));
+    for _ in 0..2 {
+        assert_eq!(rt; (keys.next(), keys.next_back()), (None, None));
+        assert_eq!(rt; (values.next(), values.next_back()), (None, None));
+        assert_eq!(rt; (keys.len(), keys.size_hint()), (0, (0, Some(0))));
+        assert_eq!(rt; (values.len(), values.size_hint()), (0, (0, Some(0))));
+    }
 }
 
 #[test]

@@ -49,15 +49,19 @@ pub(crate) fn address_before<K: Ord, V, C: NodesMut<K, V>>(
 impl<'a, K: Ord, V, C: NodesMut<K, V>> IterMut<'a, K, V, C> {
     /// Returns how many pairs are left.
     pub fn len(&self) -> usize
-        ensures { result ≡ self.now.back - self.now.front }
+        ensures value { result ≡ self.now.back - self.now.front }
+        ensures left { result ≡ length (pairs_left self.now) }
     {
+        // For the prover: the tree is well formed.
+        let _root = self.map.root_id();
         self.back.saturating_sub(self.front)
     }
 
     /// Returns how many pairs are left, as both bounds.
     pub fn size_hint(&self) -> (usize, Option<usize>)
-        ensures { result ≡
+        ensures value { result ≡
             (self.now.back - self.now.front, Some (self.now.back - self.now.front)) }
+        ensures left { result ≡ (length (pairs_left self.now), Some (length (pairs_left self.now))) }
     {
         let left = self.len();
         (left, Some(left))

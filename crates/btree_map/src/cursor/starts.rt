@@ -1,6 +1,8 @@
 //! Where a cursor starts.
 ghost use Rattle.std.specs.Prelude.{◌≡◌, length};
+ghost use Rattle.std.specs.Map.{values_of};
 ghost use Rattle.btree_shape.specs.TreeState.{pairs_of};
+ghost use Rattle.btree_map.specs.Cursor.{pairs_left, values_left};
 
 use crate::BTreeMap;
 use crate::cursor::{IterMut, ValuesMut};
@@ -14,6 +16,7 @@ impl<K: Ord, V, C: NodesMut<K, V>> BTreeMap<K, V, C> {
         ensures unchanged { result.map.now ≡ self.old }
         ensures front { result.front ≡ 0 }
         ensures back { result.back ≡ length (pairs_of self.old) }
+        ensures left { pairs_left result ≡ pairs_of self.old }
     {
         let first = self.first_item_address();
         let last = self.last_item_address();
@@ -33,6 +36,7 @@ impl<K: Ord, V, C: NodesMut<K, V>> BTreeMap<K, V, C> {
         ensures unchanged { result.map.now ≡ self.old }
         ensures front { result.front ≡ 0 }
         ensures back { result.back ≡ length (pairs_of self.old) }
+        ensures left { values_left result ≡ values_of (pairs_of self.old) }
     {
         let IterMut {
             map,

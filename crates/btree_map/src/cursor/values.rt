@@ -1,28 +1,32 @@
 //! The steps of a cursor over values.
 ghost use mir.Syntax.{named};
-ghost use Rattle.std.specs.Prelude.{◌≡◌, ◌-◌, ◌<◌, [], Some, IfSome, IfNone, slice_get};
+ghost use Rattle.std.specs.Prelude.{◌≡◌, ◌-◌, ◌<◌, [], Some, IfSome, IfNone, length, slice_get};
 ghost use Rattle.std.specs.Borrow.{Lends, sem};
 ghost use Rattle.btree_map.specs.Cursor.{WritesFirstValue, past_value, values_left};
 ghost use Rattle.btree_map.specs.contracts.cursor.ValuesMut.{the_row};
 
 use crate::cursor::ValuesMut;
 use crate::cursor::pairs::address_after;
-use btree_ext::BTreeExtMut;
+use btree_ext::{BTreeExt, BTreeExtMut};
 use btree_item::Address;
 use btree_nodes::NodesMut;
 
 impl<'a, K: Ord, V, C: NodesMut<K, V>> ValuesMut<'a, K, V, C> {
     /// Returns how many values are left.
     pub fn len(&self) -> usize
-        ensures { result ≡ self.now.back - self.now.front }
+        ensures value { result ≡ self.now.back - self.now.front }
+        ensures left { result ≡ length (values_left self.now) }
     {
+        // For the prover: the tree is well formed.
+        let _root = self.map.root_id();
         self.back.saturating_sub(self.front)
     }
 
     /// Returns how many values are left, as both bounds.
     pub fn size_hint(&self) -> (usize, Option<usize>)
-        ensures { result ≡
+        ensures value { result ≡
             (self.now.back - self.now.front, Some (self.now.back - self.now.front)) }
+        ensures left { result ≡ (length (values_left self.now), Some (length (values_left self.now))) }
     {
         let left = self.len();
         (left, Some(left))

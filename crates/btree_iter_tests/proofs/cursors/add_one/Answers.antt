@@ -17,7 +17,7 @@ loop-pairs-preserved g c =
     record {
       same_map = held.same_map;
       back = held.back;
-      front = omega (arith, held.back, c.len.ensures, c.loop-pairs-test.true);
+      front = omega (arith, held.back, c.len.ensures.value, c.loop-pairs-test.true);
       pairs =
           x.writes.pairs
           ∙ ap (λ l. set l it.front (k, w)) held.pairs
@@ -31,7 +31,7 @@ pub returns-clause-pairs : goal.returns-clause-pairs
 returns-clause-pairs g c =
     let it = c.loop-pairs.pairs in
     let held = c.loop-pairs.invariant in
-    let all : it.front ≡ length (pairs_of c.args.map.now) = omega (arith, held.front, held.back, c.len.ensures, c.loop-pairs-test.false) in
+    let all : it.front ≡ length (pairs_of c.args.map.now) = omega (arith, held.front, held.back, c.len.ensures.value, c.loop-pairs-test.false) in
     let pairs : pairs_of it.map.now ≡ each one_more (pairs_of c.args.map.now) =
     held.pairs ∙ ap (λ n. changed one_more n (pairs_of c.args.map.now)) all ∙ changed-all one_more (pairs_of c.args.map.now) in
     grind (arith, common_steps, pairs) steps 300000

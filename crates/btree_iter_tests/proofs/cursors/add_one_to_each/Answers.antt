@@ -16,7 +16,7 @@ loop-values-preserved c =
     record {
       same_map = held.same_map;
       back = held.back;
-      front = omega (arith, held.back, c.len.ensures, c.loop-values-test.true);
+      front = omega (arith, held.back, c.len.ensures.value, c.loop-values-test.true);
       pairs =
           x.writes.pairs
           ∙ ap (λ l. set l it.front (x.key, w)) held.pairs
@@ -28,7 +28,7 @@ pub returns : goal.returns
 returns c =
     let it = c.loop-values.values in
     let held = c.loop-values.invariant in
-    let all : it.front ≡ length (pairs_of c.args.map.now) = omega (arith, held.front, held.back, c.len.ensures, c.loop-values-test.false) in
+    let all : it.front ≡ length (pairs_of c.args.map.now) = omega (arith, held.front, held.back, c.len.ensures.value, c.loop-values-test.false) in
     let pairs : pairs_of it.map.now ≡ each one_more (pairs_of c.args.map.now) =
     held.pairs ∙ ap (λ n. changed one_more n (pairs_of c.args.map.now)) all ∙ changed-all one_more (pairs_of c.args.map.now) in
     record { pairs = grind (arith, common_steps, pairs) steps 300000 }

@@ -1,0 +1,14 @@
+use Rattle.std.proofs.Common.{◌∙◌, ◌-◌, drop, take, sym, arith}
+use Rattle.std.proofs.lemmas.List.{length-drop, length-map, length-take}
+use Rattle.btree_shape.specs.TreeState.{pairs_of}
+use Rattle.btree_shape.proofs.AddressLists.Whole.{addresses-tree}
+use Rattle.btree_map.proofs.cursor.ValuesMut.len.Goals as goal
+
+pub returns-clause-left : goal.returns-clause-left
+returns-clause-left g c =
+    let now = c.args.self.now in
+    let long = (addresses-tree g.K.Ord.cmp g.met.K.Ord.total now.map.now c.root_id-root.ensures.well_formed).items.counted in
+    let rest = drop now.front (pairs_of now.map.now) in
+    let left = take (now.back - now.front) rest in
+    omega (arith, c.saturating_sub.ensures, now.within, long, length-take (now.back - now.front) rest, length-drop now.front (pairs_of now.map.now))
+    ∙ sym (length-map left (λ x. x.1))
