@@ -1,6 +1,7 @@
 //! Tests of drains of a set, of `retain`, and of the size of a node.
-use btree_item::Item;
+use btree_item::{Item, Slots};
 use btree_node::Node;
+use btree_node::internal::Branch;
 use btree_set::BTreeSet;
 use btree_store::SlabStore;
 use std::alloc::Global;
@@ -78,5 +79,10 @@ fn retains_what_is_asked(rt: HostRuntime) {
 #[test]
 fn a_value_of_no_bytes_takes_none(rt: HostRuntime) {
     assert_eq!(rt; size_of::<Item<u64, ()>>(), size_of::<u64>());
+    assert_eq!(rt;
+        size_of::<Slots<Item<u64, ()>, 9>>(),
+        size_of::<Slots<u64, 9>>()
+    );
+    assert_eq!(rt; size_of::<Branch<u64, ()>>(), size_of::<(u64, usize)>());
     assert!(rt; size_of::<Node<u64, ()>>() < size_of::<Node<u64, u64>>());
 }

@@ -1,8 +1,9 @@
-//! Insertion, look-up, removal and iteration.
+//! Insertion, look-up, removal, iteration and hash.
 use btree_node::Node;
 use btree_set::BTreeSet;
 use btree_store::SlabStore;
 use std::alloc::Global;
+use std::hash::{DefaultHasher, Hash, Hasher};
 use std::ops::Bound;
 use std::process::Abort;
 
@@ -20,7 +21,7 @@ fn numbers(rt: &impl Abort, alloc: Global, elements: &[u64]) -> Numbers {
 // Checks that these are the elements of the set.
 fn check(rt: &impl Abort, set: &Numbers, expected: &[u64]) {
     let mut rest = expected.iter().copied();
-    for element in set.iter() {
+    for element in set {
         assert_eq!(rt; rest.next(), Some(*element));
     }
     assert_eq!(rt; rest.next(), None);
@@ -128,4 +129,22 @@ fn a_clone_has_equal_elements(rt: HostRuntime) {
         }
         Err(_) => panic!(rt; "no memory"),
     }
+}
+
+// Ten ascending numbers have 4 in the root, and ten descending ones 5. A hash is fed the elements in order, and nothing else.
+#[test]
+fn a_hash_is_that_of_the_elements(rt: HostRuntime) {
+    let ascending = numbers(&rt, rt.alloc(), &[0, 1, 2, 3, 4, 5, 6, 7, 8, 9]);
+    let descending = numbers(&rt, rt.alloc(), &[9, 8, 7, 6, 5, 4, 3, 2, 1, 0]);
+    assert!(rt; ascending == descending);
+    let mut first = DefaultHasher::new();
+    let mut second = DefaultHasher::new();
+    let mut plain = DefaultHasher::new();
+    ascending.hash(&mut first);
+    descending.hash(&mut second);
+    for number in 0..10u64 {
+        number.hash(&mut plain);
+    }
+    assert_eq!(rt; first.finish(), plain.finish());
+    assert_eq!(rt; second.finish(), plain.finish());
 }

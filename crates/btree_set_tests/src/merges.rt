@@ -108,6 +108,30 @@ fn merges_two_sets(rt: HostRuntime) {
     }
 }
 
+// Sets of several nodes: of the numbers below 120, those that 2 divides and those that 3 divides.
+#[test]
+fn merges_larger_sets(rt: HostRuntime) {
+    let mut left: BTreeSet<u64, SlabStore<Node<u64, ()>>> = BTreeSet::new(rt.alloc());
+    let mut right: BTreeSet<u64, SlabStore<Node<u64, ()>>> = BTreeSet::new(rt.alloc());
+    for number in 0..120u64 {
+        assert!(rt; number % 2 != 0 || left.insert(number).is_ok());
+        assert!(rt; number % 3 != 0 || right.insert(number).is_ok());
+    }
+    let mut either = left.union(&right);
+    let mut both = left.intersection(&right);
+    let mut first_only = left.difference(&right);
+    let mut one = left.symmetric_difference(&right);
+    for number in 0..120u64 {
+        let (first, second) = (number % 2 == 0, number % 3 == 0);
+        assert!(rt; !(first || second) || either.next() == Some(&number));
+        assert!(rt; !(first && second) || both.next() == Some(&number));
+        assert!(rt; !first || second || first_only.next() == Some(&number));
+        assert!(rt; first == second || one.next() == Some(&number));
+    }
+    assert_eq!(rt; (either.next(), both.next()), (None, None));
+    assert_eq!(rt; (first_only.next(), one.next()), (None, None));
+}
+
 // Each row: the elements of a set, and whether it is a superset of {1, 2}.
 #[test]
 fn knows_its_subsets(rt: HostRuntime) {

@@ -1,7 +1,9 @@
-//! Insertions while the store has no memory.
+//! Insertions and clones while an allocation of the store is refused.
+//!
+//! The store has room for 4 nodes first, and doubles it for the 5th node, which 18 needs, and the 9th, which 38 needs.
 use btree_item::Cause;
 use btree_node::Node;
-use btree_nodes::NodesMut;
+use btree_nodes::{CloneNodes, NodesMut};
 use btree_refusing::Refusing;
 use btree_set::BTreeSet;
 use btree_store::SlabStore;
@@ -91,7 +93,6 @@ fn append_refused<C: NodesMut<u64, ()> + Drop>(
     Ok(())
 }
 
-// The store has room for 4 nodes first, and doubles it for the 5th node, which 18 needs, and the 9th, which 38 needs.
 #[test]
 fn an_append_stops_at_the_refused_element(rt: HostRuntime) -> Result<(), Fail> {
     for (at, number) in [(1u64, 18u64), (2, 38)] {
@@ -106,4 +107,173 @@ fn an_append_stops_at_the_refused_element(rt: HostRuntime) -> Result<(), Fail> {
         append_refused(&rt, set, other, &memory, at, number)?;
     }
     Ok(())
+}
+
+// Inserts the numbers from 0 on one by one, while an allocation is refused at this number: it is returned, nothing has changed, and then it
+// is inserted.
+fn insert_refused<C: NodesMut<u64, ()> + Drop>(
+    rt: &impl Abort,
+    origin: C::Origin,
+    memory: &Refusing<Global>,
+    at: u64,
+    number: u64,
+) -> Result<(), Fail> {
+    let mut set: BTreeSet<u64, C> = BTreeSet::new(origin);
+    memory.refuse(at);
+    for element in 0..number {
+        assert_eq!(rt; set.insert(element).ok(), Some(true));
+    }
+    let Err(refused) = set.insert(number) else {
+        return Err(Fail::from("not refused"));
+    };
+    assert_eq!(rt; (refused.cause, refused.key), (Cause::Store, number));
+    assert!(rt; has(&set, 0, number));
+    assert_eq!(rt; set.insert(number).ok(), Some(true));
+    assert!(rt; has(&set, 0, number.wrapping_add(1)));
+    Ok(())
+}
+
+// Does the same by `replace`.
+fn replace_refused<C: NodesMut<u64, ()> + Drop>(
+    rt: &impl Abort,
+    origin: C::Origin,
+    memory: &Refusing<Global>,
+    at: u64,
+    number: u64,
+) -> Result<(), Fail> {
+    let mut set: BTreeSet<u64, C> = BTreeSet::new(origin);
+    memory.refuse(at);
+    for element in 0..number {
+        assert_eq!(rt; set.replace(element).ok(), Some(None));
+    }
+    let Err(refused) = set.replace(number) else {
+        return Err(Fail::from("not refused"));
+    };
+    assert_eq!(rt; (refused.cause, refused.key), (Cause::Store, number));
+    assert!(rt; has(&set, 0, number));
+    assert_eq!(rt; set.replace(number).ok(), Some(None));
+    assert!(rt; has(&set, 0, number.wrapping_add(1)));
+    Ok(())
+}
+
+#[test]
+fn each_allocation_of_insertions_is_refused(rt: HostRuntime) -> Result<(), Fail> {
+    for (at, number) in [(1u64, 0u64), (2, 18), (3, 38)] {
+        let memory = Refusing::over(rt.alloc(), 0);
+        insert_refused::<SlabStore<Node<u64, ()>, &Refusing<Global>>>(
+            &rt, &memory, &memory, at, number,
+        )?;
+        replace_refused::<SlabStore<Node<u64, ()>, &Refusing<Global>>>(
+            &rt, &memory, &memory, at, number,
+        )?;
+    }
+    Ok(())
+}
+
+// The refused number is returned, those before it are in the set, and those after it are still in the source.
+fn extend_refused<C: NodesMut<u64, ()> + Drop>(
+    rt: &impl Abort,
+    origin: C::Origin,
+    memory: &Refusing<Global>,
+    numbers: &[u64],
+    at: u64,
+    number: u64,
+) -> Result<(), Fail> {
+    let mut set: BTreeSet<u64, C> = BTreeSet::new(origin);
+    let mut source = numbers.iter().copied();
+    memory.refuse(at);
+    let Err(refused) = set.extend(&mut source) else {
+        return Err(Fail::from("not refused"));
+    };
+    assert_eq!(rt; (refused.cause, refused.key), (Cause::Store, number));
+    assert!(rt; has(&set, 0, number));
+    assert_eq!(rt; source.next(), Some(number.wrapping_add(1)));
+    Ok(())
+}
+
+fn extend_copied_refused<C: NodesMut<u64, ()> + Drop>(
+    rt: &impl Abort,
+    origin: C::Origin,
+    memory: &Refusing<Global>,
+    numbers: &[u64],
+    at: u64,
+    number: u64,
+) -> Result<(), Fail> {
+    let mut set: BTreeSet<u64, C> = BTreeSet::new(origin);
+    let mut source = numbers.iter();
+    memory.refuse(at);
+    let Err(refused) = set.extend_copied(&mut source) else {
+        return Err(Fail::from("not refused"));
+    };
+    assert_eq!(rt; (refused.cause, refused.key), (Cause::Store, number));
+    assert!(rt; has(&set, 0, number));
+    assert_eq!(rt; source.next(), Some(&number.wrapping_add(1)));
+    Ok(())
+}
+
+fn from_iter_refused<C: NodesMut<u64, ()> + Drop>(
+    rt: &impl Abort,
+    origin: C::Origin,
+    memory: &Refusing<Global>,
+    numbers: &[u64],
+    at: u64,
+    number: u64,
+) -> Result<(), Fail> {
+    let mut source = numbers.iter().copied();
+    memory.refuse(at);
+    let Err((set, refused)) = BTreeSet::<u64, C>::from_iter(origin, &mut source) else {
+        return Err(Fail::from("not refused"));
+    };
+    assert_eq!(rt; (refused.cause, refused.key), (Cause::Store, number));
+    assert!(rt; has(&set, 0, number));
+    assert_eq!(rt; source.next(), Some(number.wrapping_add(1)));
+    Ok(())
+}
+
+// Each row: which allocation is refused, and the number that is refused then. The source has the numbers from 0 to 39.
+#[test]
+fn each_allocation_of_an_extension_is_refused(rt: HostRuntime) -> Result<(), Fail> {
+    let mut numbers = Vec::new(rt.alloc());
+    for number in 0..40u64 {
+        numbers.push(number)?;
+    }
+    for (at, number) in [(1u64, 0u64), (2, 18), (3, 38)] {
+        let memory = Refusing::over(rt.alloc(), 0);
+        let list = numbers.as_slice();
+        extend_refused::<SlabStore<Node<u64, ()>, &Refusing<Global>>>(
+            &rt, &memory, &memory, list, at, number,
+        )?;
+        extend_copied_refused::<SlabStore<Node<u64, ()>, &Refusing<Global>>>(
+            &rt, &memory, &memory, list, at, number,
+        )?;
+        from_iter_refused::<SlabStore<Node<u64, ()>, &Refusing<Global>>>(
+            &rt, &memory, &memory, list, at, number,
+        )?;
+        assert_eq!(rt; memory.refuses(), 0);
+    }
+    Ok(())
+}
+
+// A clone allocates once for all nodes: if that is refused, the set stays as it was.
+fn clone_refused<C: CloneNodes<u64, ()> + Drop>(
+    rt: &impl Abort,
+    origin: C::Origin,
+    memory: &Refusing<Global>,
+) -> Result<(), Fail> {
+    let mut set: BTreeSet<u64, C> = BTreeSet::new(origin);
+    for element in 0..20u64 {
+        assert!(rt; set.insert(element).is_ok());
+    }
+    memory.refuse(1);
+    assert!(rt; set.clone().is_err());
+    assert!(rt; has(&set, 0, 20));
+    let copy = set.clone()?;
+    assert!(rt; has(&copy, 0, 20));
+    Ok(())
+}
+
+#[test]
+fn a_refused_clone_leaves_the_set(rt: HostRuntime) -> Result<(), Fail> {
+    let memory = Refusing::over(rt.alloc(), 0);
+    clone_refused::<SlabStore<Node<u64, ()>, &Refusing<Global>>>(&rt, &memory, &memory)
 }
