@@ -1,4 +1,4 @@
-use Rattle.std.proofs.Common.{arith, rules, sym, ◌∙◌}
+use Rattle.std.proofs.Common.{arith}
 use Rattle.btree_node.specs.Node.{view_of}
 use Rattle.btree_view.specs.View.{items_of}
 use Rattle.btree_walk.proofs.AtKeyLemmas.{below-end, below-item, fits-after, fits-first}
