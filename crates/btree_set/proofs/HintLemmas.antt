@@ -1,5 +1,5 @@
 -- How many elements the merges yield, at least and at most.
-use Rattle.std.proofs.Common.{◌≡◌, ◌+◌, ◌-◌, ◌^◌, ◌<◌, ◌≤◌, ℕ, true, false, List, Option, None, Some, IfSome, length, sym, ap, arith}
+use Rattle.std.proofs.Common.{◌+◌, ◌^◌, ◌<◌, ◌≤◌, ℕ, true, false, List, Option, None, Some, IfSome, length, arith}
 use Rattle.std.specs.Cmp.{IsTotalOrder}
 use Rattle.std.specs.Iterator.{UpTo, at_most}
 use Rattle.std.specs.List.Sorted.{IsStrictlySortedBy}

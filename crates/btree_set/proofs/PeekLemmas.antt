@@ -1,5 +1,5 @@
 -- The elements that an iterator shows before it gives them.
-use Rattle.std.proofs.Common.{◌≡◌, ◌∙◌, ◌^◌, ◌<◌, ◌∷◌, [], List, Option, None, Some, IfNone, drop, length, option_copied, slice_get, refl, sym, ap, subst, arith}
+use Rattle.std.proofs.Common.{◌≡◌, ◌∙◌, ◌^◌, ◌<◌, [], List, Option, None, Some, IfNone, drop, length, option_copied, refl, sym, arith}
 use Rattle.std.specs.Borrow.{Bor}
 use Rattle.std.specs.Iterator.{YieldsFirstRef}
 use Rattle.std.specs.List.{cons_option}

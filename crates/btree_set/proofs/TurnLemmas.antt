@@ -1,10 +1,9 @@
 -- One turn of each merge, as the iterators take it.
-use Rattle.std.proofs.Common.{◌≡◌, ◌∙◌, ◌+◌, ◌<◌, ◌≤◌, true, false, List, [], ◌∷◌, Option, None, Some, drop, length, option_copied, slice_get, refl, sym, ap, subst, arith}
+use Rattle.std.proofs.Common.{◌≡◌, ◌∙◌, ◌<◌, true, false, List, [], ◌∷◌, Option, None, Some, drop, length, option_copied, slice_get, refl, sym, ap, subst, arith}
 use Rattle.std.specs.Borrow.{Bor}
 use Rattle.std.specs.Cmp.{IsTotalOrder}
 use Rattle.std.specs.Iterator.{MakesProgress, YieldsFirstRef, item_count}
 use Rattle.std.specs.List.Sorted.{IsStrictlySortedBy}
-use Rattle.std.specs.Set.{sorted_merge}
 use Rattle.std.specs.declared.cmp.Ordering.{Ordering}
 use Rattle.std.specs.declared.cmp.Ordering.TheVariants.{Less, Equal, Greater}
 use Rattle.btree_set.specs.Merges.{difference, intersection, symmetric_difference, union}

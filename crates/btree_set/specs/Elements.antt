@@ -6,7 +6,6 @@ use Rattle.std.specs.BTreeMap.Range.{range_contains}
 use Rattle.std.specs.Borrow.{Bor}
 use Rattle.std.specs.Coded.{Coded, code_by, coded_ℕ, coded_list, coded×}
 use Rattle.std.specs.List.{count_by, filter, find, insert, remove}
-use Rattle.std.specs.List.Sorted.{IsStrictlySortedBy}
 use Rattle.std.specs.Map.{keys_of}
 use Rattle.std.specs.Ordering.{is_eq, is_lt}
 use Rattle.std.specs.declared.cmp.Ordering.{Ordering}
@@ -29,10 +28,6 @@ abbrev pub set_of : {T V : Type 0} → TreeState T V → SetState T
 set_of map = record { elements = keys_of (pairs_of map); refusals = map.refusals }
 
 module _ {T : Type 0} (cmp : T → T → Ordering) where
-  -- the elements ascend strictly
-  abbrev pub Ascends : List T → Type 0
-  Ascends xs = IsStrictlySortedBy cmp xs
-
   -- how many elements are below x
   abbrev pub before : T → List T → ℕ
   before x xs = count_by (λ y. is_lt (cmp y x)) xs

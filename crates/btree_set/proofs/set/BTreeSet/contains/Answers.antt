@@ -1,4 +1,3 @@
-use Rattle.std.proofs.Common.{◌≡◌, ◌∙◌, ◌↔◌, ◌∷◌, [], None, Some, ap, length, option_map, refl, sym}
 use Rattle.btree_shape.specs.TreeState.{pairs_of}
 use Rattle.btree_set.proofs.KeyLemmas.{some-keys}
 use Rattle.btree_set.proofs.set.BTreeSet.contains.Goals as goal

@@ -1,5 +1,4 @@
-use Rattle.std.proofs.Common.{◌≡◌, ◌∙◌, ◌↔◌, ◌∷◌, [], None, Some, ap, length, option_map, refl, sym}
-use Rattle.btree_shape.specs.TreeState.{pairs_of}
+use Rattle.std.proofs.Common.{◌∙◌, ◌∷◌, [], None, Some, ap, refl}
 use Rattle.btree_set.specs.Extension.{inserted_all}
 use Rattle.btree_set.proofs.KeyLemmas.{refused-elements}
 use Rattle.btree_set.proofs.set.BTreeSet.extend.Goals as goal

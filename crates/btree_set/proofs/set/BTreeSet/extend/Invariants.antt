@@ -1,6 +1,6 @@
 use Rattle.std.proofs.Common.{◌≡◌}
 use Rattle.std.specs.Iterator.{IsFinite, size}
-use Rattle.btree_set.specs.Extension.{Extends, copied_steps}
+use Rattle.btree_set.specs.Extension.{Extends}
 use Rattle.btree_set.proofs.set.BTreeSet.extend.Given as goal
 
 abbrev pub invariant-loop-element : goal.invariant-loop-element

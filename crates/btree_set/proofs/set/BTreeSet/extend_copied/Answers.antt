@@ -1,6 +1,5 @@
-use Rattle.std.proofs.Common.{◌≡◌, ◌∙◌, ◌↔◌, ◌∷◌, [], None, Some, ap, length, option_map, refl, sym}
-use Rattle.btree_shape.specs.TreeState.{pairs_of}
-use Rattle.btree_set.specs.Extension.{copied_steps, inserted_all}
+use Rattle.std.proofs.Common.{◌∙◌, ◌∷◌, [], None, Some, ap, refl}
+use Rattle.btree_set.specs.Extension.{inserted_all}
 use Rattle.btree_set.proofs.KeyLemmas.{refused-elements}
 use Rattle.btree_set.proofs.set.BTreeSet.extend_copied.Goals as goal
 

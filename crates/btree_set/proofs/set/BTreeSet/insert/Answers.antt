@@ -1,4 +1,4 @@
-use Rattle.std.proofs.Common.{◌≡◌, ◌∙◌, ◌↔◌, ◌∷◌, [], None, Some, ap, length, option_map, refl, sym}
+use Rattle.std.proofs.Common.{◌∙◌, ap}
 use Rattle.btree_shape.specs.TreeState.{pairs_of}
 use Rattle.std.specs.Map.{keys_of}
 use Rattle.btree_set.proofs.KeyLemmas.{absent-keys, gap-refused, inserted-keys, new-keys}

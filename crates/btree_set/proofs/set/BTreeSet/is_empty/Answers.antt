@@ -1,4 +1,3 @@
-use Rattle.std.proofs.Common.{◌≡◌, ◌∙◌, ◌↔◌, ◌∷◌, [], None, Some, ap, length, option_map, refl, sym}
 use Rattle.btree_shape.specs.TreeState.{pairs_of}
 use Rattle.btree_set.proofs.KeyLemmas.{keys-none}
 use Rattle.btree_set.proofs.set.BTreeSet.is_empty.Goals as goal

@@ -1,4 +1,4 @@
-use Rattle.std.proofs.Common.{◌≡◌, ◌∙◌, ◌↔◌, ◌∷◌, [], None, Some, ap, length, option_map, refl, sym}
+use Rattle.std.proofs.Common.{◌≡◌, ◌∙◌, ap, sym}
 use Rattle.btree_shape.specs.TreeState.{pairs_of}
 use Rattle.std.proofs.Common.{is_some}
 use Rattle.std.specs.Map.{keys_of}

@@ -1,4 +1,4 @@
-use Rattle.std.proofs.Common.{◌≡◌, ◌∙◌, ◌↔◌, ◌∷◌, [], None, Some, ap, length, option_map, refl, sym}
+use Rattle.std.proofs.Common.{◌∙◌, refl}
 use Rattle.btree_shape.specs.TreeState.{pairs_of}
 use Rattle.btree_set.proofs.KeyLemmas.{same-keys}
 use Rattle.btree_set.proofs.set.BTreeSet.same_items.Goals as goal
