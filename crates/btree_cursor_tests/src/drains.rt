@@ -99,6 +99,48 @@ fn picks_on_both_sides_of_a_separator(rt: HostRuntime) {
     }
 }
 
+// Takes so many of the pairs by a drain of all, and drops it.
+fn take_first(rt: &impl Abort, map: &mut Map, count: u64) {
+    let mut drain = map.drain_filter(|_key: &u64, _value: &mut u64| true);
+    for key in 0..count {
+        assert_eq!(rt; drain.next(), Some((key, key.wrapping_mul(10))));
+    }
+}
+
+#[test]
+fn a_dropped_drain_of_all_leaves_none(rt: HostRuntime) {
+    for count in 0..101 {
+        let mut map = keys_below(&rt, rt.alloc(), 100, 7);
+        take_first(&rt, &mut map, count);
+        assert_eq!(rt; (map.len(), map.node_count()), (0, 0), "{count}");
+    }
+}
+
+#[test]
+fn a_drain_is_finished_at_once(rt: HostRuntime) {
+    let mut map = keys_below(&rt, rt.alloc(), 9, 1);
+    map.drain_filter(|key: &u64, _value: &mut u64| *key % 2 == 1)
+        .finish();
+    check_pairs(&rt, &map, &[(0, 0), (2, 20), (4, 40), (6, 60), (8, 80)]);
+}
+
+#[test]
+fn a_drain_is_finished_at_its_end(rt: HostRuntime) {
+    let mut map = keys_below(&rt, rt.alloc(), 9, 1);
+    let mut drain = map.drain_filter(|key: &u64, _value: &mut u64| *key % 4 == 3);
+    assert_eq!(rt;
+        (drain.next(), drain.next()),
+        (Some((3, 30)), Some((7, 70)))
+    );
+    assert_eq!(rt; drain.next(), None);
+    drain.finish();
+    check_pairs(
+        &rt,
+        &map,
+        &[(0, 0), (1, 10), (2, 20), (4, 40), (5, 50), (6, 60), (8, 80)],
+    );
+}
+
 // Picks odd keys by a closure that adds to each value how often it was called, in a drain that ends after one pair.
 fn number_values(rt: &impl Abort, map: &mut Map, finishes: bool) {
     let mut count = 0u64;
@@ -147,6 +189,13 @@ fn has_at_most_what_is_left(rt: HostRuntime) {
         assert_eq!(rt; drain.next(), None);
         assert_eq!(rt; drain.size_hint(), (0, Some(0)));
     }
+}
+
+#[test]
+fn retains_even_keys(rt: HostRuntime) {
+    let mut map = keys_below(&rt, rt.alloc(), 8, 1);
+    map.retain(|key: &u64, _value: &mut u64| *key % 2 == 0);
+    check_pairs(&rt, &map, &[(0, 0), (2, 20), (4, 40), (6, 60)]);
 }
 
 #[test]

@@ -6,4 +6,8 @@ mod drains;
 #[cfg(test)]
 mod editing;
 #[cfg(test)]
+mod listed;
+#[cfg(test)]
 mod refused;
+#[cfg(test)]
+mod without_memory;

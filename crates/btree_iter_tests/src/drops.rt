@@ -18,11 +18,11 @@ impl<'a> Drop for Counted<'a> {
     }
 }
 
-/// Returns an iterator over the keys from 0 to 99, or `None` if memory ran out.
-pub(crate) fn hundred<'a>(
+/// Returns the map of the keys from 0 to 99, or `None` if memory ran out.
+pub(crate) fn hundred_pairs<'a>(
     alloc: Global,
     drops: &'a Cell<u64>,
-) -> Option<IntoIter<u64, Counted<'a>, SlabStore<Node<u64, Counted<'a>>>>> {
+) -> Option<BTreeMap<u64, Counted<'a>, SlabStore<Node<u64, Counted<'a>>>>> {
     let mut map: BTreeMap<u64, Counted<'a>, SlabStore<Node<u64, Counted<'a>>>> = BTreeMap::new(
         alloc,
     );
@@ -31,5 +31,14 @@ pub(crate) fn hundred<'a>(
             return None;
         }
     }
+    Some(map)
+}
+
+/// Returns an iterator over the keys from 0 to 99, or `None` if memory ran out.
+pub(crate) fn hundred<'a>(
+    alloc: Global,
+    drops: &'a Cell<u64>,
+) -> Option<IntoIter<u64, Counted<'a>, SlabStore<Node<u64, Counted<'a>>>>> {
+    let map = hundred_pairs(alloc, drops)?;
     Some(IntoIter::new(map))
 }

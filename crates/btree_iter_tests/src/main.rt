@@ -9,6 +9,8 @@ mod between_mut;
 mod borrowed;
 #[cfg(test)]
 mod cursors;
+#[cfg(test)]
+mod drained;
 mod drops;
 #[cfg(test)]
 mod owned;
