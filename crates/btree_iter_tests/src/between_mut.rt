@@ -61,15 +61,10 @@ enum Side {
     Both,
 }
 
-// Checks that a pair of this key was lent, with 10 times the key as its value, and adds one to the value.
-fn raise(rt: &impl Abort, pair: Option<(&u64, &mut u64)>, key: u64) {
-    match pair {
-        Some((found, value)) => {
-            assert_eq!(rt; (*found, *value), (key, key.wrapping_mul(10)));
-            *value = value.wrapping_add(1);
-        }
-        None => panic!(rt; "{key} is not lent"),
-    }
+// Checks that the pair that was lent is that of a key, with 10 times the key as its value, and adds one to the value.
+fn raise(rt: &impl Abort, found: u64, value: &mut u64, key: u64) {
+    assert_eq!(rt; (found, *value), (key, key.wrapping_mul(10)));
+    *value = value.wrapping_add(1);
 }
 
 // Checks that a cursor lends the values of these keys, each once, and of no other.
@@ -94,12 +89,18 @@ fn assert_lends(
     for _ in 0..keys.len() {
         if is_front {
             assert!(rt; low < keys.len());
-            raise(rt, pairs.next(), keys[low]);
+            match pairs.next() {
+                Some((key, value)) => raise(rt, *key, value, keys[low]),
+                None => panic!(rt; "no pair at the front"),
+            }
             low += 1;
         } else {
             assert!(rt; 0 < high && high <= keys.len());
             high -= 1;
-            raise(rt, pairs.next_back(), keys[high]);
+            match pairs.next_back() {
+                Some((key, value)) => raise(rt, *key, value, keys[high]),
+                None => panic!(rt; "no pair at the back"),
+            }
         }
         if let Side::Both = side {
             is_front = !is_front;
