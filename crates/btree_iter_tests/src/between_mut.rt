@@ -61,6 +61,14 @@ enum Side {
     Both,
 }
 
+// Returns whether a cursor is asked at its front first.
+fn is_front_first(side: Side) -> bool {
+    match side {
+        Side::Back => false,
+        _ => true,
+    }
+}
+
 // Checks that the pair that was lent is that of a key, with 10 times the key as its value, and adds one to the value.
 fn raise(rt: &impl Abort, found: u64, value: &mut u64, key: u64) {
     assert_eq!(rt; (found, *value), (key, key.wrapping_mul(10)));
@@ -82,10 +90,7 @@ fn assert_lends(
     let mut pairs = map.range_mut(range);
     let mut low = 0usize;
     let mut high = keys.len();
-    let mut is_front = match side {
-        Side::Back => false,
-        _ => true,
-    };
+    let mut is_front = is_front_first(side);
     for _ in 0..keys.len() {
         if is_front {
             assert!(rt; low < keys.len());
@@ -107,8 +112,7 @@ fn assert_lends(
         }
     }
     assert!(rt; pairs.is_empty());
-    assert!(rt; pairs.next().is_none());
-    assert!(rt; pairs.next_back().is_none());
+    assert!(rt; pairs.next().is_none() && pairs.next_back().is_none());
     assert!(rt; pairs.next().is_none());
     assert_raised(rt, &map, keys);
 }
