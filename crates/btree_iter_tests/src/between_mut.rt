@@ -61,15 +61,18 @@ enum Side {
     Both,
 }
 
-// Checks that a pair of this key was lent, with 10 times the key as its value, and adds one to the value.
-fn raise(rt: &impl Abort, pair: Option<(&u64, &mut u64)>, key: u64) {
-    match pair {
-        Some((found, value)) => {
-            assert_eq!(rt; (*found, *value), (key, key.wrapping_mul(10)));
-            *value = value.wrapping_add(1);
-        }
-        None => panic!(rt; "{key} is not lent"),
+// Returns whether a cursor is asked at its front first.
+fn is_front_first(side: Side) -> bool {
+    match side {
+        Side::Back => false,
+        _ => true,
     }
+}
+
+// Checks that the pair that was lent is that of a key, with 10 times the key as its value, and adds one to the value.
+fn raise(rt: &impl Abort, found: u64, value: &mut u64, key: u64) {
+    assert_eq!(rt; (found, *value), (key, key.wrapping_mul(10)));
+    *value = value.wrapping_add(1);
 }
 
 // Checks that a cursor lends the values of these keys, each once, and of no other.
@@ -87,27 +90,29 @@ fn assert_lends(
     let mut pairs = map.range_mut(range);
     let mut low = 0usize;
     let mut high = keys.len();
-    let mut is_front = match side {
-        Side::Back => false,
-        _ => true,
-    };
+    let mut is_front = is_front_first(side);
     for _ in 0..keys.len() {
         if is_front {
             assert!(rt; low < keys.len());
-            raise(rt, pairs.next(), keys[low]);
+            match pairs.next() {
+                Some((key, value)) => raise(rt, *key, value, keys[low]),
+                None => panic!(rt; "no pair at the front"),
+            }
             low += 1;
         } else {
             assert!(rt; 0 < high && high <= keys.len());
             high -= 1;
-            raise(rt, pairs.next_back(), keys[high]);
+            match pairs.next_back() {
+                Some((key, value)) => raise(rt, *key, value, keys[high]),
+                None => panic!(rt; "no pair at the back"),
+            }
         }
         if let Side::Both = side {
             is_front = !is_front;
         }
     }
     assert!(rt; pairs.is_empty());
-    assert!(rt; pairs.next().is_none());
-    assert!(rt; pairs.next_back().is_none());
+    assert!(rt; pairs.next().is_none() && pairs.next_back().is_none());
     assert!(rt; pairs.next().is_none());
     assert_raised(rt, &map, keys);
 }
