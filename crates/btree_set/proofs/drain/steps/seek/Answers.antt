@@ -1,4 +1,4 @@
-use Rattle.std.proofs.Common.{◌∙◌, ◌≡◌, ◌≤◌, drop, length, option_map, slice_get, subst, sym, ap}
+use Rattle.std.proofs.Common.{◌≡◌, ◌≤◌, drop, length, slice_get, subst, sym}
 use Rattle.std.specs.Fn.{CalledAt, TakesAt}
 use Rattle.btree_shape.specs.TreeAddresses.{item_addresses_of}
 use Rattle.btree_shape.specs.TreeState.{pairs_of}
