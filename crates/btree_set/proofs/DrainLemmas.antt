@@ -1,5 +1,6 @@
 -- A drain of a map without values is one of its keys.
-use Rattle.std.proofs.Common.{◌≡◌, ◌∙◌, ℕ, zero, suc, Bool, true, false, List, [], ◌∷◌, ◌++◌, Some, None, map, drop, take, length, ◌+◌, ◌<◌, arith, refl, sym, ap, subst}
+use Rattle.std.proofs.Common.{◌≡◌, ◌∙◌, ℕ, zero, suc, Bool, true, false, List, [], ◌∷◌, ◌++◌, Option, Some, None, IfSome, map, option_map, drop, take, length, ◌+◌, ◌<◌, arith, refl, sym, ap, subst}
+use Rattle.std.specs.Iterator.{MakesProgress, at_most}
 use Rattle.std.specs.List.{FoldsTo}
 use Rattle.std.specs.Map.{keys_of}
 use Rattle.std.specs.Map.Calls.{CallableOnEachPair, SomeCallAtPair}
@@ -35,12 +36,19 @@ module _ {F T : Type 0} (Step : F → T → Bool → F → Type 0) where
   some-asked f f' (x ∷ xs) before a run = omega arith
 
   -- fewer elements are left after one was removed
-  pub fewer-left : (f f' : F) (old : SetState T) (front : ℕ) (new : SetState T) (front' : ℕ) (x : T) → Yields Step f f' old front new front' (Some x)
-      → length (drop front' new.elements) < length (drop front old.elements)
-  fewer-left f f' old front new front' x (before, none, run) =
+  pub fewer-left : (f f' : F) (old : SetState T) (front : ℕ) (new : SetState T) (front' : ℕ) (found : Option T) → Yields Step f f' old front new front' found
+      → IfSome found (λ _. length (drop front' new.elements) < length (drop front old.elements))
+  fewer-left f f' old front new front' None yields = tt
+  fewer-left f f' old front new front' (Some x) (before, none, run) =
       let whole = ap length run.left ∙ length-append run.here (drop front' new.elements) in
       let some = some-asked f f' run.here before (true, x) run.calls in
       omega (arith, whole, some)
+
+-- so a step goes on
+pub goes-on : {S T : Type 0} (can : S → Type 0) (left : S → List T) (s t : S) (found : Option T) → can t
+    → IfSome found (λ _. length (left t) < length (left s)) → MakesProgress can (λ d. at_most (length (left d))) s found t
+goes-on can left s t None may fewer = record { on = λ finite. tt; keeps = tt; rests = λ finite. finite }
+goes-on can left s t (Some x) may fewer = record { on = λ finite. (may, finite, fewer); keeps = may; rests = λ finite. tt }
 
 module _ {T V : Type 0} where
   keys-append : (ps qs : List (T × V)) → keys_of (ps ++ qs) ≡ keys_of ps ++ keys_of qs
@@ -75,36 +83,36 @@ module _ {T V : Type 0} where
   picked-keys answer [] = refl
   picked-keys answer ((b, x) ∷ more) = picked-one answer b x (picked_pairs answer more) ∙ ap (if_same answer b x.0) (picked-keys answer more)
 
-module _ {F T V : Type 0} (Step : F → T → Bool → F → Type 0) where
+module _ {F T : Type 0} (Step : F → T → Bool → F → Type 0) where
   -- the same call, beside a value that stays
-  abbrev pub PairStep : F → T → V → Bool → V → F → Type 0
+  abbrev pub PairStep : F → T → Unit {0} → Bool → Unit {0} → F → Type 0
   PairStep f k v b w f' = Step f k b f' × (w ≡ v)
 
-  call-key : (f f' : F) (p : T × V) → SomeCallAtPair PairStep f p f' → SomeCallAt Step f p.0 f'
+  call-key : (f f' : F) (p : T × Unit {0}) → SomeCallAtPair PairStep f p f' → SomeCallAt Step f p.0 f'
   call-key f f' p (b, w, step) = (b, step.0)
 
-  folds-keys : (f f' : F) (ps : List (T × V)) → FoldsTo (SomeCallAtPair PairStep) f ps f' → FoldsTo (SomeCallAt Step) f (keys_of ps) f'
+  folds-keys : (f f' : F) (ps : List (T × Unit {0})) → FoldsTo (SomeCallAtPair PairStep) f ps f' → FoldsTo (SomeCallAt Step) f (keys_of ps) f'
   folds-keys f f' [] same = same
   folds-keys f f' (p ∷ ps) (f1, call, rest) = (f1, call-key f f1 p call, folds-keys f1 f' ps rest)
 
-  pub callable-pairs : (Takes : F → T → Type 0) (f : F) (ps : List (T × V)) → CallableOnEach Step Takes f (keys_of ps)
+  pub callable-pairs : (Takes : F → T → Type 0) (f : F) (ps : List (T × Unit {0})) → CallableOnEach Step Takes f (keys_of ps)
       → CallableOnEachPair PairStep (λ f k v. Takes f k) f ps
   callable-pairs Takes f ps can = record {
     at = λ before after f' k v is calls. can.at (keys_of before) (keys_of after) f' k (ap keys_of is ∙ keys-append before ((k, v) ∷ after)) (folds-keys f f' before calls);
   }
 
   -- what is callable beside values is so without them
-  pub callable-keys : (Takes : F → T → Type 0) (f : F) (ps : List (T × V)) → CallableOnEachPair PairStep (λ f k v. Takes f k) f ps
+  pub callable-keys : (Takes : F → T → Type 0) (f : F) (ps : List (T × Unit {0})) → CallableOnEachPair PairStep (λ f k v. Takes f k) f ps
       → CallableOnEach Step Takes f (keys_of ps)
   callable-keys Takes f ps can = record { at = λ before after f' x is calls. each ps before after f f' x is calls can }
     where
-      behind : (f f1 : F) (p : T × V) (ps : List (T × V)) (answer : Bool) → Step f p.0 answer f1
+      behind : (f f1 : F) (p : T × Unit {0}) (ps : List (T × Unit {0})) (answer : Bool) → Step f p.0 answer f1
           → CallableOnEachPair PairStep (λ f k v. Takes f k) f (p ∷ ps) → CallableOnEachPair PairStep (λ f k v. Takes f k) f1 ps
       behind f f1 p ps answer step can = record {
-        at = λ before after f' k v is calls. can.at (p ∷ before) after f' k v (ap (λ (l : List (T × V)). p ∷ l) is) (f1, (answer, p.1, (step, refl)), calls);
+        at = λ before after f' k v is calls. can.at (p ∷ before) after f' k v (ap (λ (l : List (T × Unit {0})). p ∷ l) is) (f1, (answer, p.1, (step, refl)), calls);
       }
 
-      each : (ps : List (T × V)) (before after : List T) (f f' : F) (x : T) → keys_of ps ≡ before ++ x ∷ after
+      each : (ps : List (T × Unit {0})) (before after : List T) (f f' : F) (x : T) → keys_of ps ≡ before ++ x ∷ after
           → FoldsTo (SomeCallAt Step) f before f' → CallableOnEachPair PairStep (λ f k v. Takes f k) f ps → Takes f' x
       each [] [] after f f' x is calls can = absurd (cc)
       each [] (b ∷ before) after f f' x is calls can = absurd (cc)
@@ -113,15 +121,15 @@ module _ {F T V : Type 0} (Step : F → T → Bool → F → Type 0) where
       each ((k, v) ∷ ps) (b ∷ before) after f f' x is (f1, call, rest) can =
           each ps before after f1 f' x (same-tail is) rest (behind f f1 (k, v) ps call.0 (subst (λ y. Step f y call.0 f1) (sym (same-head is)) call.1) can)
 
-  pub asks-keys : (f f' : F) (ps : List (T × V)) (asked : List (Bool × (T × V))) → PairAsks PairStep f ps asked f' → Asks Step f (keys_of ps) (answers_of asked) f'
+  pub asks-keys : (f f' : F) (ps : List (T × Unit {0})) (asked : List (Bool × (T × Unit {0}))) → PairAsks PairStep f ps asked f' → Asks Step f (keys_of ps) (answers_of asked) f'
   asks-keys f f' [] asked run = (ap answers_of run.0, run.1)
   asks-keys f f' (p ∷ ps) asked (b, w, f1, more, step, rest, is) = (b, f1, answers_of more, step.0, asks-keys f1 f' ps more rest, ap answers_of is)
 
-  pub selects-keys : (answer : Bool) (f : F) (old new : List (T × V)) → PairSelects PairStep answer f old new → Selects Step answer f (keys_of old) (keys_of new)
+  pub selects-keys : (answer : Bool) (f : F) (old new : List (T × Unit {0})) → PairSelects PairStep answer f old new → Selects Step answer f (keys_of old) (keys_of new)
   selects-keys answer f old new (asked, f', run, is) = (answers_of asked, f', asks-keys f f' old asked run, ap keys_of is ∙ picked-keys answer asked)
 
-  module _ (f f' : F) (old : TreeState T V) (front : ℕ) (new : TreeState T V) (front' : ℕ) where
-    runs-keys : (asked : List (Bool × (T × V))) → PairRunsTest PairStep true f f' old front new front' asked
+  module _ (f f' : F) (old : TreeState T (Unit {0})) (front : ℕ) (new : TreeState T (Unit {0})) (front' : ℕ) where
+    runs-keys : (asked : List (Bool × (T × Unit {0}))) → PairRunsTest PairStep true f f' old front new front' asked
         → RunsTest Step f f' (set_of old) front (set_of new) front' (answers_of asked)
     runs-keys asked run = record {
       here = keys_of run.here;
@@ -136,21 +144,26 @@ module _ {F T V : Type 0} (Step : F → T → Bool → F → Type 0) where
       uncounted = run.uncounted;
     }
 
-    pub yields-some : (x : T × V) → PairYields PairStep true f f' old front new front' (Some x) → Yields Step f f' (set_of old) front (set_of new) front' (Some x.0)
+    yields-some : (x : T × Unit {0}) → PairYields PairStep true f f' old front new front' (Some x) → Yields Step f f' (set_of old) front (set_of new) front' (Some x.0)
     yields-some x (before, none, run) = (
       answers_of before,
       sym (picked-keys true before) ∙ ap keys_of none,
       subst (RunsTest Step f f' (set_of old) front (set_of new) front') (answers-append before ((true, x) ∷ [])) (runs-keys (before ++ (true, x) ∷ []) run),
     )
 
-    pub yields-none : PairYields PairStep true f f' old front new front' None → Yields Step f f' (set_of old) front (set_of new) front' None
+    yields-none : PairYields PairStep true f f' old front new front' None → Yields Step f f' (set_of old) front (set_of new) front' None
     yields-none (before, none, ran) = (
       answers_of before,
       sym (picked-keys true before) ∙ ap keys_of none,
       (runs-keys before ran.0, drop-keys front' (pairs_of new) ∙ ap keys_of ran.1),
     )
 
-  pub runs-out-keys : (f : F) (front : ℕ) (old now : TreeState T V) → PairRunsOut PairStep f front old now → RunsOut Step f front (set_of old) (set_of now)
+    pub yields-keys : (found : Option (T × Unit {0})) → PairYields PairStep true f f' old front new front' found
+        → Yields Step f f' (set_of old) front (set_of new) front' (option_map (λ p. p.0) found)
+    yields-keys None yields = yields-none yields
+    yields-keys (Some x) yields = yields-some x yields
+
+  pub runs-out-keys : (f : F) (front : ℕ) (old now : TreeState T (Unit {0})) → PairRunsOut PairStep f front old now → RunsOut Step f front (set_of old) (set_of now)
   runs-out-keys f front old now run = record {
     asked = answers_of run.asked;
     last = run.last;

@@ -116,23 +116,23 @@ inserted_all-keys cmp xs [] = refl
 inserted_all-keys cmp xs (y ∷ ys) =
     inserted_all-keys cmp (pairs.inserted cmp y.0 y.1 xs) ys ∙ ap (λ l. inserted_all cmp l (keys_of ys)) (inserted-keys cmp y.0 xs y.1)
 
-module _ {T V : Type 0} (M : Content (Node T V) → Type 0) where
+module _ {T : Type 0} (M : Content (Node T (Unit {0})) → Type 0) where
   -- a refused insertion, as the set has it
-  refused-set : (id : ℕ) (old new : TreeState T V) (cause : Cause) → raw.IsRefused M id old new cause → new.len ≡ length (pairs_of new)
+  refused-set : (id : ℕ) (old new : TreeState T (Unit {0})) (cause : Cause) → raw.IsRefused M id old new cause → new.len ≡ length (pairs_of new)
       → IsRefused (set_of old) (set_of new) cause
-  refused-set id old new Store is counted = ap set_of is.0
+  refused-set id old new Store is counted = (ap (λ (s : TreeState T (Unit {0})). keys_of (pairs_of s)) is.0, ap (λ (s : TreeState T (Unit {0})). s.refusals) is.0)
   refused-set id old new Count is counted = (
     ap set_of is.0,
-    length-keys_of (pairs_of old) ∙ ap (λ (s : TreeState T V). length (pairs_of s)) (sym is.0) ∙ sym counted
-        ∙ ap (λ (s : TreeState T V). s.len) is.0 ∙ is.1,
+    length-keys_of (pairs_of old) ∙ ap (λ (s : TreeState T (Unit {0})). length (pairs_of s)) (sym is.0) ∙ sym counted
+        ∙ ap (λ (s : TreeState T (Unit {0})). s.len) is.0 ∙ is.1,
   )
 
   module _ (cmp : T → T → Ordering) (k : T) where
-    pub gap-refused : (old new : TreeState T V) (cause : Cause) → IsRefusedAtGap cmp k old new M cause → new.len ≡ length (pairs_of new)
+    pub gap-refused : (old new : TreeState T (Unit {0})) (cause : Cause) → IsRefusedAtGap cmp k old new M cause → new.len ≡ length (pairs_of new)
         → IsRefused (set_of old) (set_of new) cause
     gap-refused old new cause is counted = refused-set is.gap.id old new cause is.refused counted
 
-    pub turn-refused : (count : ℕ) (new : TreeState T V) (cause : Cause) → many.IsRefusedInTurn cmp M k count new cause → new.len ≡ length (pairs_of new)
+    pub turn-refused : (count : ℕ) (new : TreeState T (Unit {0})) (cause : Cause) → many.IsRefusedInTurn cmp M k count new cause → new.len ≡ length (pairs_of new)
         → IsRefusedInTurn cmp k count (set_of new) cause
     turn-refused count new cause is counted = record {
       before = set_of is.before;
@@ -210,5 +210,5 @@ moves-keys cmp old other x new rest m = record {
 
 -- a refused insertion leaves the elements
 pub refused-elements : {T : Type 0} (old new : SetState T) (cause : Cause) → IsRefused old new cause → new.elements ≡ old.elements
-refused-elements old new Store is = ap (λ (s : SetState _). s.elements) is
+refused-elements old new Store is = is.0
 refused-elements old new Count is = ap (λ (s : SetState _). s.elements) is.0

@@ -7,8 +7,7 @@ use Rattle.std.specs.List.{FoldsTo}
 use denote.Ref.{Bor}
 use denote.Param.Members.{Mut}
 use Rattle.btree_shape.specs.TreeAddresses.{item_addresses_of}
-use Rattle.btree_shape.specs.TreeState.{TreeState}
-use Rattle.btree_set.specs.Elements.{SetState, set_of}
+use Rattle.btree_set.specs.Elements.{SetState}
 use Rattle.btree_set.specs.declared.drain.DrainFilter.{DrainFilter}
 
 module _ {T : Type 0} where
@@ -70,16 +69,16 @@ module _ {F T : Type 0} (Step : F → T → Bool → F → Type 0) where
 module _ {T C F O : Type 0} (calls : Mut F (Bor T × Unit {0}) Bool) where
   -- the first address is that of the place, and the closure may be called at each element that is left
   pub record IsDraining (d : DrainFilter T C F O) : Type 0 where
-    pub stands : d.first ≡ slice_get (item_addresses_of d.map.now) d.front
-    pub within : d.front ≤ length (item_addresses_of d.map.now)
-    pub callable : CallableOnEach (CalledAt calls) (TakesAt calls) d.test (drop d.front (set_of d.map.now).elements)
+    pub stands : d.first ≡ slice_get (item_addresses_of d.set.now.tree) d.front
+    pub within : d.front ≤ length (item_addresses_of d.set.now.tree)
+    pub callable : CallableOnEach (CalledAt calls) (TakesAt calls) d.test (drop d.front d.set.now.elements)
 
   -- a step
   pub record DrainsNext (old : DrainFilter T C F O) (result : Option T) (new : DrainFilter T C F O) : Type 0 where
-    pub same_set : new.map.ghost_name ≡ old.map.ghost_name
-    pub yields : Yields (CalledAt calls) old.test new.test (set_of old.map.now) old.front (set_of new.map.now) new.front result
+    pub same_set : new.set.ghost_name ≡ old.set.ghost_name
+    pub yields : Yields (CalledAt calls) old.test new.test old.set.now old.front new.set.now new.front result
     pub draining : IsDraining new
 
   -- the end
-  abbrev pub LetsGo : (old : DrainFilter T C F O) → (now : TreeState T (Unit {0})) → Type 0
-  LetsGo old now = RunsOut (CalledAt calls) old.test old.front (set_of old.map.now) (set_of now)
+  abbrev pub LetsGo : (old : DrainFilter T C F O) → (now : SetState T) → Type 0
+  LetsGo old now = RunsOut (CalledAt calls) old.test old.front old.set.now now

@@ -1,4 +1,5 @@
--- A set as contracts see it: its elements in order, and how often its store has refused a node.
+-- A set as contracts see it: its elements in order, and how often its store has refused a node. Drains alone name the tree
+-- behind the elements.
 -- An element is in a set by the order: `stored` is the equal element that is there. Insertion and removal are at the
 -- place of the element, which is the number of smaller ones (`before`).
 use Rattle.std.specs.Prelude.{◌≡◌, ℕ, ◌+◌, ◌-◌, ◌^◌, List, Option, is_some, length, refl, set, if◌then◌else◌}
@@ -10,22 +11,30 @@ use Rattle.std.specs.Map.{keys_of}
 use Rattle.std.specs.Ordering.{is_eq, is_lt}
 use Rattle.std.specs.declared.cmp.Ordering.{Ordering}
 use Rattle.std.specs.declared.ops.Bound.{Bound}
+use Rattle.btree_store.specs.Content.{Content}
 use Rattle.btree_item.specs.declared.refused.Cause.{Cause}
 use Rattle.btree_item.specs.declared.refused.Cause.TheVariants.{Store, Count}
-use Rattle.btree_shape.specs.TreeState.{TreeState, pairs_of}
+use Rattle.btree_node.specs.declared.node.Node.{Node}
+use Rattle.btree_shape.specs.TreeState.{TreeState, pairs_of, tree_code}
 use Rattle.btree_walk.specs.Bounds.{bound_key}
 
 pub record SetState (T : Type 0) : Type 0 where
   pub elements : List T
   pub refusals : ℕ
+  pub tree : TreeState T (Unit {0})
 
-abbrev pub set_code : {T : Type 0} → Coded T → Coded (SetState T)
-set_code {T} code =
-    code_by (List T × ℕ) (coded× (coded_list code) coded_ℕ) (λ s. (s.elements, s.refusals)) (λ p. record { elements = p.0; refusals = p.1 }) (λ _. refl)
+abbrev pub set_code : {T : Type 0} → Coded T → Coded (Node T (Unit {0})) → Coded (SetState T)
+set_code {T} code nodes =
+    code_by
+    (List T × (ℕ × TreeState T (Unit {0})))
+    (coded× (coded_list code) (coded× coded_ℕ (tree_code nodes)))
+    (λ s. (s.elements, (s.refusals, s.tree)))
+    (λ p. record { elements = p.0; refusals = p.1.0; tree = p.1.1 })
+    (λ _. refl)
 
 -- the keys of a map without values
-abbrev pub set_of : {T V : Type 0} → TreeState T V → SetState T
-set_of map = record { elements = keys_of (pairs_of map); refusals = map.refusals }
+abbrev pub set_of : {T : Type 0} → TreeState T (Unit {0}) → SetState T
+set_of map = record { elements = keys_of (pairs_of map); refusals = map.refusals; tree = map }
 
 module _ {T : Type 0} (cmp : T → T → Ordering) where
   -- how many elements are below x
@@ -50,8 +59,14 @@ module _ {T : Type 0} (cmp : T → T → Ordering) where
 
 -- an element was refused: only the count of refusals has changed, by one, or there are as many elements as can be counted
 abbrev pub IsRefused : {T : Type 0} → (old new : SetState T) → Cause → Type 0
-IsRefused old new Store = new ≡ record old { refusals = old.refusals + 1 }
+IsRefused old new Store = (new.elements ≡ old.elements) × (new.refusals ≡ old.refusals + 1)
 IsRefused old new Count = (new ≡ old) × (length old.elements ≡ 2 ^ 64 - 1)
+
+-- a clone of the nodes of some tree with these elements may fail
+pub record MayFailOn {T : Type 0} (MayFail : Content (Node T (Unit {0})) → Type 0) (elements : List T) : Type 0 where
+  pub tree : TreeState T (Unit {0})
+  pub same : keys_of (pairs_of tree) ≡ elements
+  pub fails : MayFail tree.nodes
 
 -- the elements of a list between the two bounds of a range
 abbrev pub elements_between : {T : Type 0} → (T → T → Ordering) → Bound (Bor T) × Bound (Bor T) → List T → List T

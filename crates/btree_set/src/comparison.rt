@@ -1,9 +1,10 @@
 //! Equality, order and hash of sets: those of their lists of elements. And their clones.
-ghost use Rattle.std.specs.Prelude.{◌≡◌, IfOk};
+ghost use Rattle.std.specs.Prelude.{◌≡◌, IfOk, OnErr};
 ghost use Rattle.std.specs.Cmp.{on_equiv, on_per, on_po, on_total};
 ghost use Rattle.std.specs.Cmp.Lexicographic.{lists_agrees, lists_equiv, lists_per, lists_po, lists_ties, lists_total, pointwise, slice_cmp, slice_partial_cmp};
 ghost use Rattle.std.specs.List.{flat_map};
 ghost use Rattle.btree_map.specs.Comparison.{writes-same};
+ghost use Rattle.btree_set.specs.Elements.{MayFailOn};
 
 use crate::BTreeSet;
 use btree_nodes::{CloneNodes, NodesMut};
@@ -35,7 +36,9 @@ impl<T: Ord + Clone, C: CloneNodes<T, ()>> BTreeSet<T, C> {
     /// The contract requires that a clone of an element is equal to it.
     pub fn clone(&self) -> Result<Self, AllocError>
         requires { (x copy : T) → T.is_clone x copy → copy ≡ x }
-        ensures { IfOk result (λ copy. copy ≡ record self.now { refusals = 0 }) }
+        ensures elements { IfOk result (λ copy. copy.elements ≡ self.now.elements) }
+        ensures uncounted { IfOk result (λ copy. copy.refusals ≡ 0) }
+        ensures may_fail { OnErr result (MayFailOn C.MayFail self.now.elements) }
     {
         Ok(BTreeSet {
             map: self.map.clone()?,

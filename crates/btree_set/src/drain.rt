@@ -1,9 +1,12 @@
 //! The drain: the elements of a set that a closure picks, removed one at a time.
 mod calls;
+mod steps;
 
+use crate::BTreeSet;
 use btree_item::Address;
-use btree_map::{BTreeMap, ByKey, run_out};
+use btree_map::ByKey;
 use btree_nodes::NodesMut;
+use steps::run_rest;
 
 /// The elements of a set that a closure picks, removed one at a time in order: what `BTreeSet::drain_filter` returns. The closure is called
 /// once at each element.
@@ -13,7 +16,7 @@ use btree_nodes::NodesMut;
 ///
 /// A `for` loop cannot take it, since its drop requires that the closure may be called: write `while let Some(element) = drain.next()`.
 pub struct DrainFilter<'a, T: Ord, C: NodesMut<T, ()>, F: FnMut(&T) -> bool> {
-    pub(crate) map: &'a mut BTreeMap<T, (), C>,
+    pub(crate) set: &'a mut BTreeSet<T, C>,
     // The address of the element at place `front`: so many were kept.
     pub(crate) first: Option<Address>,
     pub(crate) front: usize,
@@ -29,11 +32,11 @@ impl<'a, T: Ord + Drop, C: NodesMut<T, ()>, F: FnMut(&T) -> bool> Drop
         ensures { LetsGo F.FnMut self.entry self.exit.0.now }
     {
         let DrainFilter {
-            map,
+            set,
             first,
             front,
             mut test,
         } = self;
-        run_out(map, first, front, &mut test);
+        run_rest(set, first, front, &mut test);
     }
 }

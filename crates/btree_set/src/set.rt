@@ -25,7 +25,7 @@ impl<T: Ord, C: NodesMut<T, ()>> Model for BTreeSet<T, C> {
 
     ghost Value = { SetState T };
 
-    ghost coded = { set_code (Prim.hlevel codes) };
+    ghost coded = { set_code (Prim.hlevel codes) (Prim.hlevel codes) };
 
     ghost view = { λ set. set_of set.map };
 }
@@ -36,7 +36,8 @@ impl<T: Ord, C: NodesMut<T, ()>> BTreeSet<T, C> {
     /// The contract requires that a node fits in memory. The prover finds that by itself if the type of the elements is known.
     pub fn new(origin: C::Origin) -> Self
         requires { FitsInMemory (node_row T.row unit_row) }
-        ensures { result ≡ record { elements = []; refusals = 0 } }
+        ensures empty { result.elements ≡ [] }
+        ensures uncounted { result.refusals ≡ 0 }
     {
         BTreeSet {
             map: BTreeMap::new(origin),
@@ -185,7 +186,7 @@ impl<T: Ord, C: ClearNodes<T, ()>> BTreeSet<T, C> {
 }
 
 // Returns the element of a pair without a value.
-fn first_of<T>(pair: Option<(T, ())>) -> Option<T>
+pub(crate) fn first_of<T>(pair: Option<(T, ())>) -> Option<T>
     ensures { result ≡ option_map (λ p. p.0) pair }
 {
     match pair {

@@ -1,8 +1,13 @@
 //! Tests of drains of a set, of `retain`, and of the size of a node.
+ghost use Rattle.std.specs.Prelude.{◌≡◌, false};
+ghost use Rattle.std.specs.Fn.{CalledAt, TakesAt};
+ghost use Rattle.btree_set.specs.Drain.{CallableOnEach, Selects};
+
 use btree_item::{Item, Slots};
 use btree_node::Node;
 use btree_node::internal::Branch;
-use btree_set::BTreeSet;
+use btree_nodes::NodesMut;
+use btree_set::{BTreeSet, DrainFilter};
 use btree_store::SlabStore;
 use std::alloc::Global;
 use std::mem::size_of;
@@ -60,6 +65,40 @@ fn a_drain_ends_or_is_finished(rt: HostRuntime) {
     assert_eq!(rt; (set.len(), set.contains(&5)), (8, false));
     set.drain_filter(|_number: &u64| true).finish();
     assert!(rt; set.is_empty());
+}
+
+// Finishes a drain. What is left follows from the contracts of the drain alone.
+fn drain_and_finish<T: Ord + Drop, C: NodesMut<T, ()>, F: FnMut(&T) -> bool>(
+    set: &mut BTreeSet<T, C>,
+    f: F,
+)
+    requires { CallableOnEach (CalledAt F.FnMut) (TakesAt F.FnMut) f set.old.elements }
+    ensures kept { Selects (CalledAt F.FnMut) false f set.old.elements set.new.elements }
+    ensures uncounted { set.new.refusals ≡ set.old.refusals }
+{
+    set.drain_filter(f).finish();
+}
+
+// Drops a drain, with the same outcome.
+fn drain_and_drop<T: Ord + Drop, C: NodesMut<T, ()>, F: FnMut(&T) -> bool>(
+    set: &mut BTreeSet<T, C>,
+    f: F,
+)
+    requires { CallableOnEach (CalledAt F.FnMut) (TakesAt F.FnMut) f set.old.elements }
+    ensures kept { Selects (CalledAt F.FnMut) false f set.old.elements set.new.elements }
+    ensures uncounted { set.new.refusals ≡ set.old.refusals }
+{
+    let _drain = DrainFilter::new(set, f);
+}
+
+#[test]
+fn a_caller_knows_what_a_drain_leaves(rt: HostRuntime) {
+    let mut set = numbers_below(&rt, rt.alloc(), 44);
+    drain_and_finish(&mut set, |number: &u64| *number % 2 == 1);
+    check_every_second(&rt, &set, 0, 44);
+    let mut set = numbers_below(&rt, rt.alloc(), 44);
+    drain_and_drop(&mut set, |number: &u64| *number % 2 == 0);
+    check_every_second(&rt, &set, 1, 44);
 }
 
 #[test]
