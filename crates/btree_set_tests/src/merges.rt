@@ -1,7 +1,7 @@
 //! Merges of two sets over different stores, and the tests between them.
+use crate::bounded::Bounded;
 use btree_node::Node;
 use btree_nodes::NodesMut;
-use btree_refusing::Refusing;
 use btree_set::BTreeSet;
 use btree_store::SlabStore;
 use std::alloc::Global;
@@ -97,11 +97,10 @@ fn merges_two_sets(rt: HostRuntime) {
         ),
         ((&[2], &[1, 2, 3]), (&[1, 2, 3], &[2], &[], &[1, 3])),
     ] {
-        let memory = Refusing::over(rt.alloc(), 0);
-        check_row::<SlabStore<Node<u64, ()>, &Refusing<Global>>>(
+        check_row::<Bounded<SlabStore<Node<u64, ()>>, 3>>(
             &rt,
             rt.alloc(),
-            &memory,
+            rt.alloc(),
             sets,
             merges,
         );
