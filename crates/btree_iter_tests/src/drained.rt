@@ -7,13 +7,13 @@ use std::cell::Cell;
 use std::process::Abort;
 
 // Takes so many of the odd keys that a drain picks, each of which is dropped, and drops the drain.
-fn take_odd<'a, C: NodesMut<u64, Counted<'a>>>(
+fn take_odd<V: Drop, C: NodesMut<u64, V>>(
     rt: &impl Abort,
-    map: &mut BTreeMap<u64, Counted<'a>, C>,
-    drops: &'a Cell<u64>,
+    map: &mut BTreeMap<u64, V, C>,
+    drops: &Cell<u64>,
     count: u64,
 ) {
-    let mut drain = map.drain_filter(|key: &u64, _value: &mut Counted<'_>| *key % 2 == 1);
+    let mut drain = map.drain_filter(|key: &u64, _value: &mut V| *key % 2 == 1);
     for taken in 0..count {
         assert!(rt; drain.next().is_some());
         assert_eq!(rt; drops.get(), taken.wrapping_add(1));
