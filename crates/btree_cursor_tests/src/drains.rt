@@ -1,4 +1,5 @@
 //! Drains: which pairs they yield, and what the map has then.
+use btree_asserts::{assert_same, assert_same_in, assert_true};
 use btree_ext::BTreeExt;
 use btree_map::BTreeMap;
 use btree_node::Node;
@@ -13,17 +14,17 @@ fn keys_below(rt: &impl Abort, alloc: Global, count: u64, step: u64) -> Map {
     let mut map: Map = BTreeMap::new(alloc);
     for index in 0..count {
         let key = index.wrapping_mul(step) % count;
-        assert!(rt; map.insert(key, key.wrapping_mul(10)).is_ok());
+        assert_true(rt, map.insert(key, key.wrapping_mul(10)).is_ok());
     }
     map
 }
 
 // Checks that a map is well formed, and has these pairs.
 fn check_pairs(rt: &impl Abort, map: &Map, pairs: &[(u64, u64)]) {
-    assert_eq!(rt; (map.len(), map.validate()), (pairs.len(), Ok(())));
+    assert_same(rt, (map.len(), map.validate()), (pairs.len(), Ok(())));
     let mut walk = map.iter();
     for (key, value) in pairs {
-        assert_eq!(rt; walk.next(), Some((key, value)));
+        assert_same(rt, walk.next(), Some((key, value)));
     }
 }
 
@@ -33,11 +34,11 @@ fn yields_all_pairs_in_order(rt: HostRuntime) {
     let mut drain = map.drain_filter(|_key: &u64, _value: &mut u64| true);
     let mut key = 0u64;
     while let Some(pair) = drain.next() {
-        assert_eq!(rt; pair, (key, key.wrapping_mul(10)));
+        assert_same(&rt, pair, (key, key.wrapping_mul(10)));
         key = key.wrapping_add(1);
     }
     drop(drain);
-    assert_eq!(rt; (key, map.len(), map.node_count()), (100, 0, 0));
+    assert_same(&rt, (key, map.len(), map.node_count()), (100, 0, 0));
 }
 
 // Takes so many of the odd keys that a drain picks, and drops it.
@@ -45,7 +46,7 @@ fn take_odd_keys(rt: &impl Abort, map: &mut Map, count: u64) {
     let mut drain = map.drain_filter(|key: &u64, _value: &mut u64| *key % 2 == 1);
     for index in 0..count {
         let key = index.wrapping_mul(2).wrapping_add(1);
-        assert_eq!(rt; drain.next(), Some((key, key.wrapping_mul(10))));
+        assert_same(rt, drain.next(), Some((key, key.wrapping_mul(10))));
     }
 }
 
@@ -63,10 +64,10 @@ fn a_dropped_drain_picks_what_is_left(rt: HostRuntime) {
     for count in 0..51 {
         let mut map = keys_below(&rt, rt.alloc(), 100, 7);
         take_odd_keys(&rt, &mut map, count);
-        assert_eq!(rt; (map.len(), map.validate()), (50, Ok(())));
+        assert_same(&rt, (map.len(), map.validate()), (50, Ok(())));
         let mut key = 0u64;
         for (k, v) in map.iter() {
-            assert_eq!(rt; (*k, *v), (key, key.wrapping_mul(10)));
+            assert_same(&rt, (*k, *v), (key, key.wrapping_mul(10)));
             key = key.wrapping_add(2);
         }
     }
@@ -81,7 +82,7 @@ fn take_three_and_five(rt: &impl Abort, map: &mut Map, count: u64) {
             1 => Some((5, 50)),
             _ => None,
         };
-        assert_eq!(rt; drain.next(), pair);
+        assert_same(rt, drain.next(), pair);
     }
 }
 
@@ -103,7 +104,7 @@ fn picks_on_both_sides_of_a_separator(rt: HostRuntime) {
 fn take_first(rt: &impl Abort, map: &mut Map, count: u64) {
     let mut drain = map.drain_filter(|_key: &u64, _value: &mut u64| true);
     for key in 0..count {
-        assert_eq!(rt; drain.next(), Some((key, key.wrapping_mul(10))));
+        assert_same(rt, drain.next(), Some((key, key.wrapping_mul(10))));
     }
 }
 
@@ -112,7 +113,7 @@ fn a_dropped_drain_of_all_leaves_none(rt: HostRuntime) {
     for count in 0..101 {
         let mut map = keys_below(&rt, rt.alloc(), 100, 7);
         take_first(&rt, &mut map, count);
-        assert_eq!(rt; (map.len(), map.node_count()), (0, 0), "{count}");
+        assert_same_in(&rt, count, (map.len(), map.node_count()), (0, 0));
     }
 }
 
@@ -128,11 +129,12 @@ fn a_drain_is_finished_at_once(rt: HostRuntime) {
 fn a_drain_is_finished_at_its_end(rt: HostRuntime) {
     let mut map = keys_below(&rt, rt.alloc(), 9, 1);
     let mut drain = map.drain_filter(|key: &u64, _value: &mut u64| *key % 4 == 3);
-    assert_eq!(rt;
+    assert_same(
+        &rt,
         (drain.next(), drain.next()),
-        (Some((3, 30)), Some((7, 70)))
+        (Some((3, 30)), Some((7, 70))),
     );
-    assert_eq!(rt; drain.next(), None);
+    assert_same(&rt, drain.next(), None);
     drain.finish();
     check_pairs(
         &rt,
@@ -149,7 +151,7 @@ fn number_values(rt: &impl Abort, map: &mut Map, finishes: bool) {
         *value = value.wrapping_add(count);
         *key % 2 == 1
     });
-    assert_eq!(rt; drain.next(), Some((1, 12)));
+    assert_same(rt, drain.next(), Some((1, 12)));
     if finishes {
         drain.finish();
     } else {
@@ -174,7 +176,7 @@ fn retain_calls_the_closure_once_at_each_pair(rt: HostRuntime) {
         count = count.wrapping_add(1);
         *key % 3 == 0
     });
-    assert_eq!(rt; count, 9);
+    assert_same(&rt, count, 9);
     check_pairs(&rt, &map, &[(0, 0), (3, 30), (6, 60)]);
 }
 
@@ -182,12 +184,12 @@ fn retain_calls_the_closure_once_at_each_pair(rt: HostRuntime) {
 fn has_at_most_what_is_left(rt: HostRuntime) {
     let mut map = keys_below(&rt, rt.alloc(), 9, 1);
     let mut drain = map.drain_filter(|key: &u64, _value: &mut u64| *key == 5);
-    assert_eq!(rt; drain.size_hint(), (0, Some(9)));
-    assert_eq!(rt; drain.next(), Some((5, 50)));
-    assert_eq!(rt; drain.size_hint(), (0, Some(3)));
+    assert_same(&rt, drain.size_hint(), (0, Some(9)));
+    assert_same(&rt, drain.next(), Some((5, 50)));
+    assert_same(&rt, drain.size_hint(), (0, Some(3)));
     for _ in 0..2 {
-        assert_eq!(rt; drain.next(), None);
-        assert_eq!(rt; drain.size_hint(), (0, Some(0)));
+        assert_same(&rt, drain.next(), None);
+        assert_same(&rt, drain.size_hint(), (0, Some(0)));
     }
 }
 
@@ -212,7 +214,7 @@ fn retains_values_that_were_written(rt: HostRuntime) {
 fn retains_nothing(rt: HostRuntime) {
     let mut map = keys_below(&rt, rt.alloc(), 100, 7);
     map.retain(|_key: &u64, _value: &mut u64| false);
-    assert_eq!(rt; (map.len(), map.node_count()), (0, 0));
+    assert_same(&rt, (map.len(), map.node_count()), (0, 0));
 }
 
 // Every pair stays at its address.
@@ -221,13 +223,14 @@ fn retains_all_pairs(rt: HostRuntime) {
     let mut map = keys_below(&rt, rt.alloc(), 100, 7);
     let same = keys_below(&rt, rt.alloc(), 100, 7);
     map.retain(|_key: &u64, _value: &mut u64| true);
-    assert_eq!(rt; (map.len(), map.validate()), (100, Ok(())));
-    assert_eq!(rt;
+    assert_same(&rt, (map.len(), map.validate()), (100, Ok(())));
+    assert_same(
+        &rt,
         (map.root_id(), map.node_count()),
-        (same.root_id(), same.node_count())
+        (same.root_id(), same.node_count()),
     );
     for key in 0..100u64 {
-        assert_eq!(rt; map.address_of(&key), same.address_of(&key));
-        assert_eq!(rt; map.get(&key), same.get(&key));
+        assert_same(&rt, map.address_of(&key), same.address_of(&key));
+        assert_same(&rt, map.get(&key), same.get(&key));
     }
 }

@@ -1,4 +1,5 @@
 //! Steps of an editing cursor: what it shows, passes, inserts and removes, and what the map has then.
+use btree_asserts::{assert_same, assert_true};
 use btree_ext::BTreeExt;
 use btree_item::Item;
 use btree_map::BTreeMap;
@@ -13,7 +14,7 @@ type Map<K> = BTreeMap<K, u64, SlabStore<Node<K, u64>>>;
 fn first_keys(rt: &impl Abort, alloc: Global, count: u64) -> Map<u64> {
     let mut map: Map<u64> = BTreeMap::new(alloc);
     for key in 0..count {
-        assert!(rt; map.insert(key, key.wrapping_mul(10)).is_ok());
+        assert_true(rt, map.insert(key, key.wrapping_mul(10)).is_ok());
     }
     map
 }
@@ -30,45 +31,45 @@ fn pair_of(item: Option<&Item<u64, u64>>) -> Option<(u64, u64)> {
 fn shows_passes_and_removes_nothing_without_pairs(rt: HostRuntime) {
     let mut map: Map<u64> = BTreeMap::new(rt.alloc());
     let mut entries = map.entries_mut();
-    assert!(rt; entries.peek().is_none());
-    assert!(rt; entries.peek_mut().is_none());
-    assert!(rt; entries.next().is_none());
-    assert!(rt; entries.next_item().is_none());
-    assert!(rt; entries.remove().is_none());
-    assert_eq!(rt; entries.size_hint(), (0, Some(0)));
-    assert!(rt; entries.fits(&5));
-    assert!(rt; entries.insert(5, 50).is_ok());
-    assert!(rt; entries.peek().is_none());
-    assert_eq!(rt; entries.size_hint(), (0, Some(0)));
-    assert_eq!(rt; (map.len(), map.get(&5).copied()), (1, Some(50)));
+    assert_true(&rt, entries.peek().is_none());
+    assert_true(&rt, entries.peek_mut().is_none());
+    assert_true(&rt, entries.next().is_none());
+    assert_true(&rt, entries.next_item().is_none());
+    assert_true(&rt, entries.remove().is_none());
+    assert_same(&rt, entries.size_hint(), (0, Some(0)));
+    assert_true(&rt, entries.fits(&5));
+    assert_true(&rt, entries.insert(5, 50).is_ok());
+    assert_true(&rt, entries.peek().is_none());
+    assert_same(&rt, entries.size_hint(), (0, Some(0)));
+    assert_same(&rt, (map.len(), map.get(&5).copied()), (1, Some(50)));
 }
 
 #[test]
 fn inserts_before_what_is_left(rt: HostRuntime) {
     let mut map: Map<&'static str> = BTreeMap::new(rt.alloc());
     for (key, value) in [("a", 1), ("b", 2), ("d", 4)] {
-        assert!(rt; map.insert(key, value).is_ok());
+        assert_true(&rt, map.insert(key, value).is_ok());
     }
     let mut entries = map.entries_mut();
-    assert!(rt; entries.next().is_some());
-    assert!(rt; entries.next().is_some());
-    assert_eq!(rt; entries.size_hint(), (1, Some(1)));
-    assert!(rt; entries.fits(&"c"));
-    assert!(rt; entries.insert("c", 3).is_ok());
-    assert_eq!(rt; entries.size_hint(), (1, Some(1)));
+    assert_true(&rt, entries.next().is_some());
+    assert_true(&rt, entries.next().is_some());
+    assert_same(&rt, entries.size_hint(), (1, Some(1)));
+    assert_true(&rt, entries.fits(&"c"));
+    assert_true(&rt, entries.insert("c", 3).is_ok());
+    assert_same(&rt, entries.size_hint(), (1, Some(1)));
     match entries.next() {
-        Some((key, value)) => assert_eq!(rt; (*key, *value), ("d", 4)),
+        Some((key, value)) => assert_same(&rt, (*key, *value), ("d", 4)),
         None => panic!(rt; "no pair after the one that was inserted"),
     }
-    assert_eq!(rt; entries.size_hint(), (0, Some(0)));
+    assert_same(&rt, entries.size_hint(), (0, Some(0)));
     let mut pairs = map.iter();
     for (key, value) in [("a", 1), ("b", 2), ("c", 3), ("d", 4)] {
         match pairs.next() {
-            Some((k, v)) => assert_eq!(rt; (*k, *v), (key, value)),
+            Some((k, v)) => assert_same(&rt, (*k, *v), (key, value)),
             None => panic!(rt; "no pair"),
         }
     }
-    assert!(rt; pairs.next().is_none());
+    assert_true(&rt, pairs.next().is_none());
 }
 
 // Removes the odd keys, and reads each pair before that.
@@ -77,25 +78,30 @@ fn removes_odd_keys(rt: HostRuntime) {
     let mut map = first_keys(&rt, rt.alloc(), 8);
     let mut entries = map.entries_mut();
     for key in 0..8u64 {
-        assert_eq!(rt; pair_of(entries.peek()), Some((key, key.wrapping_mul(10))));
+        assert_same(
+            &rt,
+            pair_of(entries.peek()),
+            Some((key, key.wrapping_mul(10))),
+        );
         if key % 2 == 0 {
-            assert!(rt; entries.next_item().is_some());
+            assert_true(&rt, entries.next_item().is_some());
         } else {
-            assert_eq!(rt;
+            assert_same(
+                &rt,
                 pair_of(entries.remove().as_ref()),
-                Some((key, key.wrapping_mul(10)))
+                Some((key, key.wrapping_mul(10))),
             );
         }
     }
-    assert!(rt; entries.remove().is_none());
+    assert_true(&rt, entries.remove().is_none());
     let mut pairs = map.iter();
     for (key, value) in [(0u64, 0u64), (2, 20), (4, 40), (6, 60)] {
         match pairs.next() {
-            Some((k, v)) => assert_eq!(rt; (*k, *v), (key, value)),
+            Some((k, v)) => assert_same(&rt, (*k, *v), (key, value)),
             None => panic!(rt; "no pair"),
         }
     }
-    assert!(rt; pairs.next().is_none());
+    assert_true(&rt, pairs.next().is_none());
 }
 
 // Removes the pairs from a place on, each time with the number left: the end of a leaf stops nothing.
@@ -103,25 +109,30 @@ fn remove_from(rt: &impl Abort, alloc: Global, count: u64, place: u64) {
     let mut map = first_keys(rt, alloc, count);
     let mut entries = map.entries_mut();
     for _ in 0..place {
-        assert!(rt; entries.next().is_some());
+        assert_true(rt, entries.next().is_some());
     }
     for key in place..count {
         let left = count.wrapping_sub(key) as usize;
-        assert_eq!(rt; entries.size_hint(), (left, Some(left)));
-        assert_eq!(rt; pair_of(entries.peek()), Some((key, key.wrapping_mul(10))));
-        assert_eq!(rt;
+        assert_same(rt, entries.size_hint(), (left, Some(left)));
+        assert_same(
+            rt,
+            pair_of(entries.peek()),
+            Some((key, key.wrapping_mul(10))),
+        );
+        assert_same(
+            rt,
             pair_of(entries.remove().as_ref()),
-            Some((key, key.wrapping_mul(10)))
+            Some((key, key.wrapping_mul(10))),
         );
     }
-    assert!(rt; entries.remove().is_none());
-    assert_eq!(rt; (map.len() as u64, map.validate()), (place, Ok(())));
+    assert_true(rt, entries.remove().is_none());
+    assert_same(rt, (map.len() as u64, map.validate()), (place, Ok(())));
     let mut key = 0u64;
     for (k, v) in map.iter() {
-        assert_eq!(rt; (*k, *v), (key, key.wrapping_mul(10)));
+        assert_same(rt, (*k, *v), (key, key.wrapping_mul(10)));
         key = key.wrapping_add(1);
     }
-    assert_eq!(rt; key, place);
+    assert_same(rt, key, place);
 }
 
 #[test]
@@ -138,19 +149,20 @@ fn passes_what_follows_a_removed_pair(rt: HostRuntime) {
         let mut map = first_keys(&rt, rt.alloc(), 44);
         let mut entries = map.entries_mut();
         for _ in 0..place {
-            assert!(rt; entries.next().is_some());
+            assert_true(&rt, entries.next().is_some());
         }
-        assert!(rt; entries.remove().is_some());
+        assert_true(&rt, entries.remove().is_some());
         for key in place.wrapping_add(1)..44 {
             match entries.next() {
-                Some((k, v)) => assert_eq!(rt; (*k, *v), (key, key.wrapping_mul(10))),
+                Some((k, v)) => assert_same(&rt, (*k, *v), (key, key.wrapping_mul(10))),
                 None => panic!(rt; "no pair after {place}"),
             }
         }
-        assert!(rt; entries.next().is_none());
-        assert_eq!(rt;
+        assert_true(&rt, entries.next().is_none());
+        assert_same(
+            &rt,
             (map.len(), map.get(&place), map.validate()),
-            (43, None, Ok(()))
+            (43, None, Ok(())),
         );
     }
 }
@@ -160,29 +172,29 @@ fn passes_what_follows_a_removed_pair(rt: HostRuntime) {
 fn inserts_between_all_pairs(rt: HostRuntime) {
     let mut map: Map<u64> = BTreeMap::new(rt.alloc());
     for key in 0..50u64 {
-        assert!(rt; map.insert(key.wrapping_mul(2), 0).is_ok());
+        assert_true(&rt, map.insert(key.wrapping_mul(2), 0).is_ok());
     }
     let mut entries = map.entries_mut();
     for key in 0..50u64 {
         let even = key.wrapping_mul(2);
         let odd = even.wrapping_add(1);
-        assert!(rt; !entries.fits(&odd));
-        assert!(rt; entries.next().is_some());
-        assert!(rt; !entries.fits(&even));
-        assert!(rt; entries.fits(&odd));
-        assert!(rt; entries.insert(odd, 1).is_ok());
-        assert!(rt; !entries.fits(&odd));
+        assert_true(&rt, !entries.fits(&odd));
+        assert_true(&rt, entries.next().is_some());
+        assert_true(&rt, !entries.fits(&even));
+        assert_true(&rt, entries.fits(&odd));
+        assert_true(&rt, entries.insert(odd, 1).is_ok());
+        assert_true(&rt, !entries.fits(&odd));
         let left = 49u64.wrapping_sub(key) as usize;
-        assert_eq!(rt; entries.size_hint(), (left, Some(left)));
+        assert_same(&rt, entries.size_hint(), (left, Some(left)));
     }
-    assert!(rt; entries.peek().is_none());
-    assert_eq!(rt; (map.len(), map.validate()), (100, Ok(())));
+    assert_true(&rt, entries.peek().is_none());
+    assert_same(&rt, (map.len(), map.validate()), (100, Ok(())));
     let mut key = 0u64;
     for (k, v) in map.iter() {
-        assert_eq!(rt; (*k, *v), (key, key % 2));
+        assert_same(&rt, (*k, *v), (key, key % 2));
         key = key.wrapping_add(1);
     }
-    assert_eq!(rt; key, 100);
+    assert_same(&rt, key, 100);
 }
 
 // Writes through each call that lends a value.
@@ -193,25 +205,25 @@ fn lends_values(rt: HostRuntime) {
     for key in 0..9u64 {
         match entries.peek_mut() {
             Some((k, v)) => {
-                assert_eq!(rt; (*k, *v), (key, key.wrapping_mul(10)));
+                assert_same(&rt, (*k, *v), (key, key.wrapping_mul(10)));
                 *v = v.wrapping_add(1);
             }
             None => panic!(rt; "no pair to peek at"),
         }
         match entries.next_item() {
             Some((k, v)) => {
-                assert_eq!(rt; (*k, *v), (key, key.wrapping_mul(10).wrapping_add(1)));
+                assert_same(&rt, (*k, *v), (key, key.wrapping_mul(10).wrapping_add(1)));
                 *v = v.wrapping_add(2);
             }
             None => panic!(rt; "no pair to pass"),
         }
     }
-    assert!(rt; entries.peek_mut().is_none());
-    assert!(rt; entries.next_item().is_none());
+    assert_true(&rt, entries.peek_mut().is_none());
+    assert_true(&rt, entries.next_item().is_none());
     for (key, value) in map.iter() {
-        assert_eq!(rt; *value, key.wrapping_mul(10).wrapping_add(3));
+        assert_same(&rt, *value, key.wrapping_mul(10).wrapping_add(3));
     }
-    assert_eq!(rt; map.len(), 9);
+    assert_same(&rt, map.len(), 9);
 }
 
 #[test]
@@ -219,12 +231,12 @@ fn a_cursor_that_is_dropped_at_once_changes_nothing(rt: HostRuntime) {
     for count in [0u64, 1, 9, 44] {
         let mut map = first_keys(&rt, rt.alloc(), count);
         drop(map.entries_mut());
-        assert_eq!(rt; (map.len() as u64, map.validate()), (count, Ok(())));
+        assert_same(&rt, (map.len() as u64, map.validate()), (count, Ok(())));
         let mut key = 0u64;
         for (k, v) in map.iter() {
-            assert_eq!(rt; (*k, *v), (key, key.wrapping_mul(10)));
+            assert_same(&rt, (*k, *v), (key, key.wrapping_mul(10)));
             key = key.wrapping_add(1);
         }
-        assert_eq!(rt; key, count);
+        assert_same(&rt, key, count);
     }
 }

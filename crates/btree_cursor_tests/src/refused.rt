@@ -1,10 +1,12 @@
 //! Insertions by a cursor while the store has no memory.
+use btree_asserts::{assert_same, assert_same_in, assert_true, assert_true_in};
 use btree_ext::BTreeExt;
 use btree_item::{Cause, Refused};
 use btree_map::BTreeMap;
 use btree_node::Node;
 use btree_nodes::NodesMut;
 use btree_refusing::Refusing;
+use btree_samples::content_of;
 use btree_store::SlabStore;
 use std::alloc::Global;
 use std::process::Abort;
@@ -15,40 +17,6 @@ use std::test::Fail;
 enum Way {
     AtStart,
     AtEnd,
-}
-
-// Writes the pairs of one node, its number and those of its parent and children.
-fn write_node(
-    text: &mut String,
-    node: &Node<u64, u64>,
-    id: usize,
-    alloc: Global,
-) -> Result<(), Fail> {
-    text.push_str(format!(in alloc; "{id} under {:?}:", node.parent())?.as_str())?;
-    for index in 0..node.item_count() {
-        if let Some(item) = node.item(index.into()) {
-            text.push_str(format!(in alloc; " {}={}", item.key(), item.value())?.as_str())?;
-        }
-    }
-    for index in 0..node.child_count() {
-        text.push_str(format!(in alloc; " {:?}", node.child_id_opt(index))?.as_str())?;
-    }
-    text.push('\n')?;
-    Ok(())
-}
-
-// Returns the root's number, the length and every node as text.
-fn content_of<C: NodesMut<u64, u64>>(
-    map: &BTreeMap<u64, u64, C>,
-    alloc: Global,
-) -> Result<String, Fail> {
-    let mut text = format!(in alloc; "{:?} {} {}\n", map.root_id(), map.len(), map.node_count())?;
-    for id in 0..64 {
-        if map.has_node(id) {
-            write_node(&mut text, map.node(id), id, alloc)?;
-        }
-    }
-    Ok(text)
 }
 
 // Returns the n-th key, of 64, that is inserted.
@@ -68,9 +36,9 @@ fn put<C: NodesMut<u64, u64> + Drop>(
 ) -> Result<(), Refused<u64, u64>> {
     let mut entries = map.entries_mut();
     for _ in 0..place {
-        assert!(rt; entries.next().is_some());
+        assert_true(rt, entries.next().is_some());
     }
-    assert!(rt; entries.fits(&key));
+    assert_true(rt, entries.fits(&key));
     let left = entries.size_hint();
     let first = match entries.peek() {
         Some(item) => Some(*item.key()),
@@ -81,7 +49,7 @@ fn put<C: NodesMut<u64, u64> + Drop>(
         Some(item) => Some(*item.key()),
         None => None,
     };
-    assert_eq!(rt; (entries.size_hint(), still), (left, first));
+    assert_same(rt, (entries.size_hint(), still), (left, first));
     result
 }
 
@@ -97,25 +65,27 @@ fn is_refused<C: NodesMut<u64, u64> + Drop>(
 ) -> Result<bool, Fail> {
     let key = nth_key(way, n);
     let place = if way == Way::AtEnd { n } else { 0 };
-    let old = content_of(map, alloc)?;
+    let old = content_of(map.as_raw(), alloc)?;
     memory.refuse(1);
     let result = put(rt, map, place, key);
     let met = memory.refuses() == 0;
     memory.refuse(0);
     match result {
-        Ok(()) => assert!(rt; !met, "{way:?} {key}"),
+        Ok(()) => assert_true_in(rt, (way, key), !met),
         Err(refused) => {
-            assert_eq!(rt;
+            assert_same(
+                rt,
                 (refused.cause, refused.key, refused.value, met),
-                (Cause::Store, key, 7, true)
+                (Cause::Store, key, 7, true),
             );
-            assert_eq!(rt; content_of(map, alloc)?.as_str(), old.as_str());
-            assert!(rt; put(rt, map, place, key).is_ok());
+            assert_same(rt, content_of(map.as_raw(), alloc)?.as_str(), old.as_str());
+            assert_true(rt, put(rt, map, place, key).is_ok());
         }
     }
-    assert_eq!(rt;
+    assert_same(
+        rt,
         (map.len() as u64, map.get(&key).copied()),
-        (n.wrapping_add(1), Some(7))
+        (n.wrapping_add(1), Some(7)),
     );
     Ok(met)
 }
@@ -135,7 +105,7 @@ fn count_refused<C: NodesMut<u64, u64> + Drop>(
             count = count.wrapping_add(1);
         }
     }
-    assert_eq!(rt; map.validate(), Ok(()));
+    assert_same(rt, map.validate(), Ok(()));
     Ok(count)
 }
 
@@ -149,7 +119,7 @@ fn count_allocated<C: NodesMut<u64, u64> + Drop>(
     let mut map: BTreeMap<u64, u64, C> = BTreeMap::new(origin);
     memory.refuse(1000);
     for n in 0..64 {
-        assert!(rt; map.insert(nth_key(way, n), 7).is_ok());
+        assert_true(rt, map.insert(nth_key(way, n), 7).is_ok());
     }
     1000u64.wrapping_sub(memory.refuses())
 }
@@ -162,7 +132,7 @@ fn a_refused_insertion_changes_nothing(rt: HostRuntime) -> Result<(), Fail> {
         let all = count_allocated::<SlabStore<Node<u64, u64>, &Refusing<Global>>>(
             &rt, &memory, &memory, way,
         );
-        assert!(rt; all > 0);
+        assert_true(&rt, all > 0);
         let count = count_refused::<SlabStore<Node<u64, u64>, &Refusing<Global>>>(
             &rt,
             &memory,
@@ -170,7 +140,7 @@ fn a_refused_insertion_changes_nothing(rt: HostRuntime) -> Result<(), Fail> {
             way,
             rt.alloc(),
         )?;
-        assert_eq!(rt; count, all, "{way:?}");
+        assert_same_in(&rt, way, count, all);
     }
     Ok(())
 }

@@ -1,4 +1,5 @@
 //! A drain, `retain` and the removals of a cursor while the store has no memory: none of them asks for any.
+use btree_asserts::{assert_same, assert_true};
 use btree_ext::BTreeExt;
 use btree_map::BTreeMap;
 use btree_node::Node;
@@ -15,17 +16,17 @@ fn keys_below_64<C: NodesMut<u64, u64> + Drop>(
 ) -> BTreeMap<u64, u64, C> {
     let mut map: BTreeMap<u64, u64, C> = BTreeMap::new(origin);
     for key in 0..64u64 {
-        assert!(rt; map.insert(key, key.wrapping_mul(10)).is_ok());
+        assert_true(rt, map.insert(key, key.wrapping_mul(10)).is_ok());
     }
     map
 }
 
 // Checks that a map is well formed, and has the even keys below 64.
 fn check_even<C: NodesMut<u64, u64> + Drop>(rt: &impl Abort, map: &BTreeMap<u64, u64, C>) {
-    assert_eq!(rt; (map.len(), map.validate()), (32, Ok(())));
+    assert_same(rt, (map.len(), map.validate()), (32, Ok(())));
     let mut low = 0u64;
     for (key, value) in map.iter() {
-        assert_eq!(rt; (*key, *value), (low, low.wrapping_mul(10)));
+        assert_same(rt, (*key, *value), (low, low.wrapping_mul(10)));
         low = low.wrapping_add(2);
     }
 }
@@ -41,11 +42,11 @@ fn drain_odd<C: NodesMut<u64, u64> + Drop>(
     let mut drain = map.drain_filter(|key: &u64, _value: &mut u64| *key % 2 == 1);
     let mut key = 1u64;
     while let Some(pair) = drain.next() {
-        assert_eq!(rt; pair, (key, key.wrapping_mul(10)));
+        assert_same(rt, pair, (key, key.wrapping_mul(10)));
         key = key.wrapping_add(2);
     }
     drop(drain);
-    assert_eq!(rt; (key, memory.refuses()), (65, 1));
+    assert_same(rt, (key, memory.refuses()), (65, 1));
     check_even(rt, &map);
 }
 
@@ -58,7 +59,7 @@ fn retain_even<C: NodesMut<u64, u64> + Drop>(
     let mut map = keys_below_64::<C>(rt, origin);
     memory.refuse(1);
     map.retain(|key: &u64, _value: &mut u64| *key % 2 == 0);
-    assert_eq!(rt; memory.refuses(), 1);
+    assert_same(rt, memory.refuses(), 1);
     check_even(rt, &map);
 }
 
@@ -72,16 +73,20 @@ fn remove_odd<C: NodesMut<u64, u64> + Drop>(
     memory.refuse(1);
     let mut entries = map.entries_mut();
     for pair in 0..32u64 {
-        assert!(rt; entries.next().is_some());
+        assert_true(rt, entries.next().is_some());
         let key = pair.wrapping_mul(2).wrapping_add(1);
         match entries.remove() {
             Some(item) => {
-                assert_eq!(rt; (*item.key(), *item.value()), (key, key.wrapping_mul(10)));
+                assert_same(
+                    rt,
+                    (*item.key(), *item.value()),
+                    (key, key.wrapping_mul(10)),
+                );
             }
             None => panic!(rt; "{key} is not there"),
         }
     }
-    assert_eq!(rt; memory.refuses(), 1);
+    assert_same(rt, memory.refuses(), 1);
     check_even(rt, &map);
 }
 

@@ -2,6 +2,7 @@ ghost use Rattle.std.specs.Prelude.{◌≡◌, ◌+◌, ◌<◌, ◌≤◌, leng
 ghost use Rattle.std.specs.Ordering.{nat_cmp, on};
 ghost use Rattle.btree_item.specs.Pairs.{Ascends};
 
+use btree_asserts::{assert_same, assert_same_in, assert_true, assert_true_in};
 use btree_counted::{COMPARISONS, Counted, promised_comparisons};
 use btree_item::{
     Address, Cause, Item, MAX_COMPARISONS, Offset, Refused, Slots, binary_search_min, search,
@@ -22,25 +23,26 @@ fn prints(rt: HostRuntime) -> Result<(), Fail> {
         (usize::MAX, 0, "@18446744073709551615:0"),
     ] {
         let address = Address::new(id, Offset::from(offset));
-        assert_eq!(rt; format!(in rt.alloc(); "{address}")?.as_str(), text);
-        assert_eq!(rt; format!(in rt.alloc(); "{address:?}")?.as_str(), text);
+        assert_same(&rt, format!(in rt.alloc(); "{address}")?.as_str(), text);
+        assert_same(&rt, format!(in rt.alloc(); "{address:?}")?.as_str(), text);
     }
     for (offset, text) in [
         (Offset::before(), "-1"),
         (Offset::from(0), "0"),
         (Offset::from(18446744073709551614), "18446744073709551614"),
     ] {
-        assert_eq!(rt; format!(in rt.alloc(); "{offset}")?.as_str(), text);
-        assert_eq!(rt; format!(in rt.alloc(); "{offset:?}")?.as_str(), text);
+        assert_same(&rt, format!(in rt.alloc(); "{offset}")?.as_str(), text);
+        assert_same(&rt, format!(in rt.alloc(); "{offset:?}")?.as_str(), text);
     }
     let refused = Refused {
         cause: Cause::Store,
         key: 1,
         value: 2,
     };
-    assert_eq!(rt;
+    assert_same(
+        &rt,
         format!(in rt.alloc(); "{refused:?}")?.as_str(),
-        "Refused { cause: Store, key: 1, value: 2 }"
+        "Refused { cause: Store, key: 1, value: 2 }",
     );
     Ok(())
 }
@@ -50,23 +52,26 @@ fn orders_offsets(rt: HostRuntime) {
     let before = Offset::before();
     let first = Offset::from(0);
     let last = Offset::from(usize::MAX - 1);
-    assert!(rt; before < first && first < last && before <= before);
-    assert_eq!(rt; Offset::from(usize::MAX), before);
-    assert_eq!(rt; before.cmp_index(0), Ordering::Less);
-    assert_eq!(rt; first.cmp_index(0), Ordering::Equal);
-    assert_eq!(rt; last.cmp_index(0), Ordering::Greater);
-    assert_eq!(rt; (before.value(), first.value()), (None, Some(0)));
-    assert!(rt; before.is_before() && !first.is_before());
-    assert!(rt; Address::nowhere().is_nowhere() && Address::nowhere().offset == first);
+    assert_true(&rt, before < first && first < last && before <= before);
+    assert_same(&rt, Offset::from(usize::MAX), before);
+    assert_same(&rt, before.cmp_index(0), Ordering::Less);
+    assert_same(&rt, first.cmp_index(0), Ordering::Equal);
+    assert_same(&rt, last.cmp_index(0), Ordering::Greater);
+    assert_same(&rt, (before.value(), first.value()), (None, Some(0)));
+    assert_true(&rt, before.is_before() && !first.is_before());
+    assert_true(
+        &rt,
+        Address::nowhere().is_nowhere() && Address::nowhere().offset == first,
+    );
 
     let mut offset = before;
     offset.incr();
-    assert_eq!(rt; offset, first);
+    assert_same(&rt, offset, first);
     offset.decr();
-    assert_eq!(rt; offset, before);
+    assert_same(&rt, offset, before);
     let mut offset = Offset::from(usize::MAX - 2);
     offset.incr();
-    assert_eq!(rt; offset.unwrap(), 18446744073709551614);
+    assert_same(&rt, offset.unwrap(), 18446744073709551614);
 }
 
 fn clone_of<K: Clone, V: Clone>(item: &Item<K, V>) -> Result<Item<K, V>, AllocError>
@@ -83,25 +88,26 @@ fn writes_items(rt: HostRuntime) -> Result<(), Fail> {
     let (key, value) = item.as_pair_mut();
     *key = 2;
     *value = 20;
-    assert_eq!(rt; item.as_pair(), (&2, &20));
+    assert_same(&rt, item.as_pair(), (&2, &20));
     let (key, value) = item.pair_mut();
     *key = 3;
     *value = 30;
-    assert_eq!(rt; item.as_pair(), (&3, &30));
+    assert_same(&rt, item.as_pair(), (&3, &30));
     *item.key_mut() = 4;
     *item.value_mut() = 40;
-    assert_eq!(rt; (*item.key(), *item.as_item().value()), (4, 40));
-    assert_eq!(rt; item.set_key(5), 4);
-    assert_eq!(rt; item.set_value(50), 40);
-    assert!(rt; item == Item::new(5, 0) && item < Item::new(6, 0));
+    assert_same(&rt, (*item.key(), *item.as_item().value()), (4, 40));
+    assert_same(&rt, item.set_key(5), 4);
+    assert_same(&rt, item.set_value(50), 40);
+    assert_true(&rt, item == Item::new(5, 0) && item < Item::new(6, 0));
     let copy = clone_of(&item)?;
-    assert_eq!(rt; copy.into_pair(), (5, 50));
-    assert_eq!(rt; item.set(6, 60), (5, 50));
-    assert_eq!(rt;
+    assert_same(&rt, copy.into_pair(), (5, 50));
+    assert_same(&rt, item.set(6, 60), (5, 50));
+    assert_same(
+        &rt,
         (clone_of(&item)?.into_key(), clone_of(&item)?.into_value()),
-        (6, 60)
+        (6, 60),
     );
-    assert_eq!(rt; item.into_inner(), (6, 60));
+    assert_same(&rt, item.into_inner(), (6, 60));
     Ok(())
 }
 
@@ -114,15 +120,15 @@ fn edits_slots(rt: HostRuntime) {
     if let Some(first) = slots.get_mut(0) {
         *first = 7;
     }
-    assert_eq!(rt; slots.remove(1), 2);
-    assert_eq!(rt; slots.len(), 2);
-    assert_eq!(rt; (slots.get(0), slots.get(2)), (Some(&7), None));
+    assert_same(&rt, slots.remove(1), 2);
+    assert_same(&rt, slots.len(), 2);
+    assert_same(&rt, (slots.get(0), slots.get(2)), (Some(&7), None));
     let mut left = slots.iter();
-    assert_eq!(rt; left.size_hint(), (2, Some(2)));
-    assert_eq!(rt; left.next(), Some(&7));
-    assert_eq!(rt; left.size_hint(), (1, Some(1)));
-    assert_eq!(rt; left.next(), Some(&3));
-    assert_eq!(rt; left.next(), None);
+    assert_same(&rt, left.size_hint(), (2, Some(2)));
+    assert_same(&rt, left.next(), Some(&7));
+    assert_same(&rt, left.size_hint(), (1, Some(1)));
+    assert_same(&rt, left.next(), Some(&3));
+    assert_same(&rt, left.next(), None);
 }
 
 // Inserts a key at the index that a search returns, which keeps the keys in order.
@@ -166,9 +172,9 @@ fn searched<'a>(
     key.compared.set(0);
     let mut steps = Steps::new();
     let (counted, ticks) = searched_counted(slots, &key, &mut steps);
-    assert_eq!(rt; (counted, key.compared.get()), (place, compared));
-    assert_eq!(rt; ticks, compared as usize, "{}", key.number);
-    assert!(rt; ticks <= MAX_COMPARISONS, "{}", key.number);
+    assert_same(rt, (counted, key.compared.get()), (place, compared));
+    assert_same_in(rt, key.number, ticks, compared as usize);
+    assert_true_in(rt, key.number, ticks <= MAX_COMPARISONS);
     (place, ticks)
 }
 
@@ -186,9 +192,10 @@ fn compares_as_many_keys_as_promised(rt: HostRuntime) {
             let smaller = (number / 2).min(held) as usize;
             let is_held = number % 2 == 1 && number < 2 * held;
             let place = if is_held { Ok(smaller) } else { Err(smaller) };
-            assert_eq!(rt;
+            assert_same(
+                &rt,
                 searched(&rt, &slots, key(number)),
-                (place, COMPARISONS[held as usize][smaller])
+                (place, COMPARISONS[held as usize][smaller]),
             );
         }
         if held < 9 {
@@ -222,7 +229,7 @@ fn finds_the_last_at_most(rt: HostRuntime) {
         (7, Some(5)),
         (9, Some(5)),
     ] {
-        assert_eq!(rt; binary_search_min(&slots, &key), index, "at {key}");
+        assert_same_in(&rt, key, binary_search_min(&slots, &key), index);
     }
-    assert_eq!(rt; binary_search_min(&slots_of(&[]), &1), None);
+    assert_same(&rt, binary_search_min(&slots_of(&[]), &1), None);
 }

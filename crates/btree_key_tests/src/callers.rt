@@ -8,6 +8,7 @@ ghost use Rattle.btree_edit.specs.Remove.{IsRemoved};
 ghost use Rattle.btree_edit.specs.Update.{updated};
 ghost use Rattle.btree_map.specs.Extension.{Moves, inserted_all};
 
+use btree_asserts::{assert_same, assert_true};
 use btree_ext::{BTreeExt, BTreeExtMut};
 use btree_item::{Address, Refused};
 use btree_map::{BTreeMap, Entry};
@@ -157,39 +158,48 @@ fn join(map: &mut Map, other: &mut Map) -> Result<(), Refused<u64, u64>>
 #[test]
 fn each_caller_overwrites_a_value(rt: HostRuntime) {
     let mut map: Map = BTreeMap::new(rt.alloc());
-    assert!(rt; put(&mut map, 1, 10).is_ok());
-    assert!(rt; overwrite(&mut map, 1, 11) && !overwrite(&mut map, 2, 20));
-    assert!(rt; overwrite_in(&mut map, 1, 12) && !overwrite_in(&mut map, 2, 20));
-    assert!(rt; overwrite_kept(&mut map, 1, 13) && !overwrite_kept(&mut map, 2, 20));
-    assert!(rt; write(&mut map, 1, 14) && !write(&mut map, 2, 20));
-    assert_eq!(rt; set(&mut map, 1, 15), Ok(Some(14)));
-    assert!(rt; put(&mut map, 1, 16).is_ok());
-    assert_eq!(rt; unset(&mut map, 1), Ok(Some(16)));
-    assert_eq!(rt; unset(&mut map, 1), Ok(None));
+    assert_true(&rt, put(&mut map, 1, 10).is_ok());
+    assert_true(
+        &rt,
+        overwrite(&mut map, 1, 11) && !overwrite(&mut map, 2, 20),
+    );
+    assert_true(
+        &rt,
+        overwrite_in(&mut map, 1, 12) && !overwrite_in(&mut map, 2, 20),
+    );
+    assert_true(
+        &rt,
+        overwrite_kept(&mut map, 1, 13) && !overwrite_kept(&mut map, 2, 20),
+    );
+    assert_true(&rt, write(&mut map, 1, 14) && !write(&mut map, 2, 20));
+    assert_same(&rt, set(&mut map, 1, 15), Ok(Some(14)));
+    assert_true(&rt, put(&mut map, 1, 16).is_ok());
+    assert_same(&rt, unset(&mut map, 1), Ok(Some(16)));
+    assert_same(&rt, unset(&mut map, 1), Ok(None));
 }
 
 #[test]
 fn a_caller_joins_two_maps(rt: HostRuntime) {
     let mut map: Map = BTreeMap::new(rt.alloc());
     let mut other: Map = BTreeMap::new(rt.alloc());
-    assert_eq!(rt; set(&mut map, 1, 10), Ok(None));
-    assert_eq!(rt; set(&mut other, 1, 11), Ok(None));
-    assert!(rt; join(&mut map, &mut other).is_ok());
-    assert_eq!(rt; (map.get(&1).copied(), other.len()), (Some(11), 0));
+    assert_same(&rt, set(&mut map, 1, 10), Ok(None));
+    assert_same(&rt, set(&mut other, 1, 11), Ok(None));
+    assert_true(&rt, join(&mut map, &mut other).is_ok());
+    assert_same(&rt, (map.get(&1).copied(), other.len()), (Some(11), 0));
 }
 
 #[test]
 fn each_caller_updates_at_an_address(rt: HostRuntime) {
     let mut map: Map = BTreeMap::new(rt.alloc());
-    assert_eq!(rt; set(&mut map, 2, 20), Ok(None));
+    assert_same(&rt, set(&mut map, 2, 20), Ok(None));
     if let Ok(at) = map.address_of(&2) {
-        assert_eq!(rt; set_at(&mut map, at, 21), 20);
+        assert_same(&rt, set_at(&mut map, at, 21), 20);
     }
     if let Ok(at) = map.address_of(&2) {
-        assert_eq!(rt; set_at_in(&mut map, at, 22), 21);
+        assert_same(&rt, set_at_in(&mut map, at, 22), 21);
     }
     if let Ok(at) = map.address_of(&2) {
-        assert_eq!(rt; unset_at(&mut map, at), 22);
+        assert_same(&rt, unset_at(&mut map, at), 22);
     }
-    assert!(rt; map.is_empty());
+    assert_true(&rt, map.is_empty());
 }

@@ -1,10 +1,11 @@
 //! Clones of maps: the same pairs on the same nodes.
-use crate::refused::content_of;
+use btree_asserts::{assert_same, assert_same_in, assert_true, assert_true_in};
 use btree_ext::BTreeExt;
 use btree_map::BTreeMap;
 use btree_node::Node;
 use btree_nodes::{CloneNodes, NodesMut};
 use btree_refusing::Refusing;
+use btree_samples::content_of;
 use btree_store::SlabStore;
 use std::alloc::Global;
 use std::process::Abort;
@@ -19,7 +20,7 @@ fn put_first_keys<C: NodesMut<u64, u64>>(
     count: u64,
 ) {
     for key in 0..count {
-        assert!(rt; map.insert(key, key.wrapping_mul(10)).is_ok());
+        assert_true(rt, map.insert(key, key.wrapping_mul(10)).is_ok());
     }
 }
 
@@ -30,12 +31,12 @@ fn check_same_nodes<C: NodesMut<u64, u64>>(
     copy: &BTreeMap<u64, u64, C>,
     count: u64,
 ) {
-    assert_eq!(rt; copy.root_id(), map.root_id());
-    assert_eq!(rt; copy.node_count(), map.node_count());
-    assert_eq!(rt; copy.len(), map.len());
+    assert_same(rt, copy.root_id(), map.root_id());
+    assert_same(rt, copy.node_count(), map.node_count());
+    assert_same(rt, copy.len(), map.len());
     for key in 0..count {
-        assert_eq!(rt; copy.get(&key), Some(&key.wrapping_mul(10)));
-        assert!(rt; copy.address_of(&key) == map.address_of(&key), "{key}");
+        assert_same(rt, copy.get(&key), Some(&key.wrapping_mul(10)));
+        assert_true_in(rt, key, copy.address_of(&key) == map.address_of(&key));
     }
 }
 
@@ -45,12 +46,16 @@ fn clones_a_tree_of_two_levels(rt: HostRuntime) -> Result<(), Fail> {
     let mut map: Map = BTreeMap::new(rt.alloc());
     put_first_keys(&rt, &mut map, 9);
     let mut copy = map.clone()?;
-    assert_eq!(rt; (copy.len(), copy.height(), copy.node_count()), (9, 2, 3));
-    assert!(rt; copy == map && copy.validate().is_ok());
+    assert_same(
+        &rt,
+        (copy.len(), copy.height(), copy.node_count()),
+        (9, 2, 3),
+    );
+    assert_true(&rt, copy == map && copy.validate().is_ok());
     check_same_nodes(&rt, &map, &copy, 9);
-    assert_eq!(rt; copy.remove(&4), Some(40));
-    assert_eq!(rt; (copy.get(&4), map.get(&4)), (None, Some(&40)));
-    assert_eq!(rt; (copy.len(), map.len()), (8, 9));
+    assert_same(&rt, copy.remove(&4), Some(40));
+    assert_same(&rt, (copy.get(&4), map.get(&4)), (None, Some(&40)));
+    assert_same(&rt, (copy.len(), map.len()), (8, 9));
     Ok(())
 }
 
@@ -58,9 +63,10 @@ fn clones_a_tree_of_two_levels(rt: HostRuntime) -> Result<(), Fail> {
 fn clones_an_empty_map(rt: HostRuntime) -> Result<(), Fail> {
     let map: Map = BTreeMap::new(rt.alloc());
     let copy = map.clone()?;
-    assert_eq!(rt;
+    assert_same(
+        &rt,
         (copy.len(), copy.root_id(), copy.node_count()),
-        (0, None, 0)
+        (0, None, 0),
     );
     Ok(())
 }
@@ -73,20 +79,20 @@ fn is_refused<C: CloneNodes<u64, u64> + Drop>(
     at: u64,
     alloc: Global,
 ) -> Result<bool, Fail> {
-    let old = content_of(map, alloc)?;
+    let old = content_of(map.as_raw(), alloc)?;
     memory.refuse(at);
     let result = map.clone();
     let left = memory.refuses();
     memory.refuse(0);
-    assert_eq!(rt; content_of(map, alloc)?.as_str(), old.as_str());
+    assert_same(rt, content_of(map.as_raw(), alloc)?.as_str(), old.as_str());
     match result {
         Ok(copy) => {
-            assert_eq!(rt; content_of(&copy, alloc)?.as_str(), old.as_str());
-            assert!(rt; left > 0, "{at}");
+            assert_same(rt, content_of(copy.as_raw(), alloc)?.as_str(), old.as_str());
+            assert_true_in(rt, at, left > 0);
             Ok(false)
         }
         Err(_) => {
-            assert_eq!(rt; left, 0, "{at}");
+            assert_same_in(rt, at, left, 0);
             Ok(true)
         }
     }
@@ -122,7 +128,7 @@ fn each_allocation_of_a_clone_is_refused(rt: HostRuntime) -> Result<(), Fail> {
             count,
             rt.alloc(),
         )?;
-        assert_eq!(rt; runs, refused, "{count}");
+        assert_same_in(&rt, count, runs, refused);
     }
     Ok(())
 }

@@ -3,6 +3,7 @@ ghost use Rattle.std.specs.Prelude.{◌≡◌, OnOk};
 ghost use Rattle.btree_item.specs.Pairs.{inserted};
 ghost use Rattle.btree_shape.specs.TreeState.{pairs_of};
 
+use btree_asserts::{assert_same, assert_same_in, assert_true};
 use btree_ext::BTreeExt;
 use btree_item::Refused;
 use btree_map::{BTreeMap, Entry, OccupiedEntry, VacantEntry};
@@ -39,12 +40,13 @@ fn counts_calls_of_a_name(rt: HostRuntime) {
             .and_modify(|n| *n = n.wrapping_add(1))
             .or_insert(42)
         {
-            Ok(value) => assert_eq!(rt; *value, count),
+            Ok(value) => assert_same(&rt, *value, count),
             Err(_) => panic!(rt; "refused"),
         }
-        assert_eq!(rt;
+        assert_same(
+            &rt,
             (map.len(), map.get(&"poneyland").copied()),
-            (1, Some(count))
+            (1, Some(count)),
         );
     }
 }
@@ -60,7 +62,7 @@ fn counts_letters(rt: HostRuntime) {
         }
     }
     for (letter, count) in [('s', Some(2)), ('t', Some(3)), ('u', Some(1)), ('y', None)] {
-        assert_eq!(rt; map.get(&letter).copied(), count, "{letter}");
+        assert_same_in(&rt, letter, map.get(&letter).copied(), count);
     }
 }
 
@@ -68,11 +70,11 @@ fn counts_letters(rt: HostRuntime) {
 fn inserts_what_a_closure_returns(rt: HostRuntime) {
     let mut map: Counts = BTreeMap::new(rt.alloc());
     match map.entry("defence").or_insert_with(|| 42) {
-        Ok(value) => assert_eq!(rt; *value, 42),
+        Ok(value) => assert_same(&rt, *value, 42),
         Err(_) => panic!(rt; "refused"),
     }
     match map.entry("defence").or_insert_with(|| 7) {
-        Ok(value) => assert_eq!(rt; *value, 42),
+        Ok(value) => assert_same(&rt, *value, 42),
         Err(_) => panic!(rt; "refused"),
     }
 }
@@ -84,7 +86,7 @@ fn inserts_what_a_closure_returns_of_the_key(rt: HostRuntime) {
         .entry("poneyland")
         .or_insert_with_key(|key| key.len() as u64)
     {
-        Ok(value) => assert_eq!(rt; *value, 9),
+        Ok(value) => assert_same(&rt, *value, 9),
         Err(_) => panic!(rt; "refused"),
     }
 }
@@ -96,13 +98,13 @@ fn inserts_the_default_value(rt: HostRuntime) {
     );
     match map.entry(3).or_default() {
         Ok(value) => {
-            assert_eq!(rt; *value, None);
+            assert_same(&rt, *value, None);
             *value = Some(8);
         }
         Err(_) => panic!(rt; "refused"),
     }
     match map.entry(3).or_default() {
-        Ok(value) => assert_eq!(rt; *value, Some(8)),
+        Ok(value) => assert_same(&rt, *value, Some(8)),
         Err(_) => panic!(rt; "refused"),
     }
 }
@@ -126,11 +128,11 @@ fn key_of(entry: &Entry<'_, u64, u64>) -> u64 {
 fn shows_a_vacant_entry(rt: HostRuntime) -> Result<(), Fail> {
     let mut map: Map = BTreeMap::new(rt.alloc());
     let text = format!(in rt.alloc(); "{:?}", map.entry(1))?;
-    assert_eq!(rt; text.as_str(), "VacantEntry(1)");
+    assert_same(&rt, text.as_str(), "VacantEntry(1)");
     match map.entry(3) {
         Entry::Vacant(entry) => {
             let text = format!(in rt.alloc(); "{:?}", entry)?;
-            assert_eq!(rt; text.as_str(), "VacantEntry(3)");
+            assert_same(&rt, text.as_str(), "VacantEntry(3)");
             Ok(())
         }
         Entry::Occupied(_) => Err(Fail::from("3 is there")),
@@ -140,13 +142,13 @@ fn shows_a_vacant_entry(rt: HostRuntime) -> Result<(), Fail> {
 #[test]
 fn shows_an_occupied_entry(rt: HostRuntime) -> Result<(), Fail> {
     let mut map: Map = BTreeMap::new(rt.alloc());
-    assert_eq!(rt; map.insert(1, 2).ok(), Some(None));
+    assert_same(&rt, map.insert(1, 2).ok(), Some(None));
     let text = format!(in rt.alloc(); "{:?}", map.entry(1))?;
-    assert_eq!(rt; text.as_str(), "OccupiedEntry { key: 1, value: 2 }");
+    assert_same(&rt, text.as_str(), "OccupiedEntry { key: 1, value: 2 }");
     match map.entry(1) {
         Entry::Occupied(entry) => {
             let text = format!(in rt.alloc(); "{:?}", entry)?;
-            assert_eq!(rt; text.as_str(), "OccupiedEntry { key: 1, value: 2 }");
+            assert_same(&rt, text.as_str(), "OccupiedEntry { key: 1, value: 2 }");
             Ok(())
         }
         Entry::Vacant(_) => Err(Fail::from("1 is not there")),
@@ -157,7 +159,7 @@ fn shows_an_occupied_entry(rt: HostRuntime) -> Result<(), Fail> {
 fn first_keys(rt: &impl Abort, alloc: Global, count: u64) -> Map {
     let mut map: Map = BTreeMap::new(alloc);
     for key in 0..count {
-        assert!(rt; put(&mut map, key, key.wrapping_mul(10)).is_ok());
+        assert_true(rt, put(&mut map, key, key.wrapping_mul(10)).is_ok());
     }
     map
 }
@@ -168,10 +170,10 @@ fn reads_entries(rt: HostRuntime) {
     let mut map = first_keys(&rt, rt.alloc(), 9);
     for (key, is_there) in [(4, true), (9, false)] {
         let searched = map.address_of(&key);
-        assert_eq!(rt; searched.is_ok(), is_there);
+        assert_same(&rt, searched.is_ok(), is_there);
         let (Ok(at) | Err(at)) = searched;
-        assert_eq!(rt; key_of(&map.entry(key)), key);
-        assert_eq!(rt; map.entry(key).address(), at);
+        assert_same(&rt, key_of(&map.entry(key)), key);
+        assert_same(&rt, map.entry(key).address(), at);
     }
 }
 
@@ -181,15 +183,19 @@ fn reads_and_writes_an_occupied_entry(rt: HostRuntime) -> Result<(), Fail> {
     let found = map.address_of(&4).ok();
     match map.entry(4) {
         Entry::Occupied(mut entry) => {
-            assert_eq!(rt; (Some(entry.address()), pair_of(&entry)), (found, (4, 40)));
-            assert_eq!(rt; entry.insert(41), 40);
+            assert_same(
+                &rt,
+                (Some(entry.address()), pair_of(&entry)),
+                (found, (4, 40)),
+            );
+            assert_same(&rt, entry.insert(41), 40);
             *entry.get_mut() = 42;
-            assert_eq!(rt; *entry.get(), 42);
+            assert_same(&rt, *entry.get(), 42);
             *entry.into_mut() = 43;
         }
         Entry::Vacant(_) => return Err(Fail::from("4 is not there")),
     }
-    assert_eq!(rt; (map.len(), map.get(&4).copied()), (9, Some(43)));
+    assert_same(&rt, (map.len(), map.get(&4).copied()), (9, Some(43)));
     Ok(())
 }
 
@@ -199,12 +205,12 @@ fn reads_a_vacant_entry(rt: HostRuntime) -> Result<(), Fail> {
     let gap = map.address_of(&9).err();
     match map.entry(9) {
         Entry::Vacant(entry) => {
-            assert_eq!(rt; (Some(entry.address()), asked(&entry)), (gap, 9));
-            assert_eq!(rt; entry.into_key(), 9);
+            assert_same(&rt, (Some(entry.address()), asked(&entry)), (gap, 9));
+            assert_same(&rt, entry.into_key(), 9);
         }
         Entry::Occupied(_) => return Err(Fail::from("9 is there")),
     }
-    assert_eq!(rt; (map.len(), map.get(&9).copied()), (9, None));
+    assert_same(&rt, (map.len(), map.get(&9).copied()), (9, None));
     Ok(())
 }
 
@@ -218,7 +224,7 @@ fn inserts_into_a_vacant_entry(rt: HostRuntime) -> Result<(), Fail> {
         },
         Entry::Occupied(_) => return Err(Fail::from("9 is there")),
     }
-    assert_eq!(rt; (map.len(), map.get(&9).copied()), (10, Some(91)));
+    assert_same(&rt, (map.len(), map.get(&9).copied()), (10, Some(91)));
     Ok(())
 }
 
@@ -226,15 +232,19 @@ fn inserts_into_a_vacant_entry(rt: HostRuntime) -> Result<(), Fail> {
 fn removes_by_entries(rt: HostRuntime) -> Result<(), Fail> {
     let mut map = first_keys(&rt, rt.alloc(), 44);
     match map.entry(20) {
-        Entry::Occupied(entry) => assert_eq!(rt; entry.remove(), 200),
+        Entry::Occupied(entry) => assert_same(&rt, entry.remove(), 200),
         Entry::Vacant(_) => return Err(Fail::from("20 is not there")),
     }
     match map.entry(21) {
-        Entry::Occupied(entry) => assert_eq!(rt; entry.remove_entry(), (21, 210)),
+        Entry::Occupied(entry) => assert_same(&rt, entry.remove_entry(), (21, 210)),
         Entry::Vacant(_) => return Err(Fail::from("21 is not there")),
     }
-    assert_eq!(rt; (map.len(), map.get(&20), map.get(&21)), (42, None, None));
-    assert!(rt; map.validate().is_ok());
+    assert_same(
+        &rt,
+        (map.len(), map.get(&20), map.get(&21)),
+        (42, None, None),
+    );
+    assert_true(&rt, map.validate().is_ok());
     Ok(())
 }
 
@@ -244,17 +254,18 @@ fn takes_the_first_and_the_last_entry(rt: HostRuntime) {
     let mut map = first_keys(&rt, rt.alloc(), 20);
     for key in 0..10u64 {
         let first = map.first_entry().map(|entry| entry.remove_entry());
-        assert_eq!(rt; first, Some((key, key.wrapping_mul(10))));
+        assert_same(&rt, first, Some((key, key.wrapping_mul(10))));
         let last = 19u64.wrapping_sub(key);
         let back = map.last_entry().map(|entry| entry.remove_entry());
-        assert_eq!(rt; back, Some((last, last.wrapping_mul(10))));
+        assert_same(&rt, back, Some((last, last.wrapping_mul(10))));
     }
-    assert_eq!(rt;
+    assert_same(
+        &rt,
         (
             map.len(),
             map.first_entry().is_none(),
-            map.last_entry().is_none()
+            map.last_entry().is_none(),
         ),
-        (0, true, true)
+        (0, true, true),
     );
 }

@@ -1,6 +1,7 @@
 //! Insertions of many pairs: from an iterator, and from another map.
 ghost use Rattle.std.specs.Iterator.{IsFinite};
 
+use btree_asserts::{assert_same, assert_true};
 use btree_ext::BTreeExt;
 use btree_item::Refused;
 use btree_map::BTreeMap;
@@ -17,7 +18,7 @@ type Letters = BTreeMap<u64, char, SlabStore<Node<u64, char>>>;
 fn letters(rt: &impl Abort, alloc: Global, pairs: &[(u64, char)]) -> Letters {
     let mut map: Letters = BTreeMap::new(alloc);
     for (key, value) in pairs {
-        assert!(rt; map.insert(*key, *value).is_ok());
+        assert_true(rt, map.insert(*key, *value).is_ok());
     }
     map
 }
@@ -26,10 +27,10 @@ fn letters(rt: &impl Abort, alloc: Global, pairs: &[(u64, char)]) -> Letters {
 fn check_letters(rt: &impl Abort, map: &Letters, expected: &[(u64, char)]) {
     let mut rest = expected.iter().copied();
     for (key, value) in map.iter() {
-        assert_eq!(rt; rest.next(), Some((*key, *value)));
+        assert_same(rt, rest.next(), Some((*key, *value)));
     }
-    assert_eq!(rt; rest.next(), None);
-    assert_eq!(rt; map.len(), expected.len());
+    assert_same(rt, rest.next(), None);
+    assert_same(rt, map.len(), expected.len());
 }
 
 // Each row: the pairs of a map, those of another, and those of the map after it was appended.
@@ -46,10 +47,10 @@ fn appends_a_map(rt: HostRuntime) {
     ] {
         let mut map = letters(&rt, rt.alloc(), left);
         let mut other = letters(&rt, rt.alloc(), right);
-        assert!(rt; map.append(&mut other).is_ok());
+        assert_true(&rt, map.append(&mut other).is_ok());
         check_letters(&rt, &map, all);
         check_letters(&rt, &other, &[]);
-        assert_eq!(rt; other.node_count(), 0);
+        assert_same(&rt, other.node_count(), 0);
     }
 }
 
@@ -59,9 +60,9 @@ fn extends_a_map(rt: HostRuntime) {
     let all = [(1, 'a'), (2, 'e'), (4, 'g'), (5, 'f')];
     let mut map = letters(&rt, rt.alloc(), &[(1, 'a'), (2, 'b')]);
     let mut source = more.iter().copied();
-    assert!(rt; map.extend(&mut source).is_ok());
+    assert_true(&rt, map.extend(&mut source).is_ok());
     check_letters(&rt, &map, &all);
-    assert_eq!(rt; source.next(), None);
+    assert_same(&rt, source.next(), None);
 }
 
 #[test]
@@ -69,7 +70,7 @@ fn extends_a_map_by_copies_of_another(rt: HostRuntime) {
     let mut map = letters(&rt, rt.alloc(), &[(1, 'a'), (2, 'b')]);
     let other = letters(&rt, rt.alloc(), &[(2, 'c'), (3, 'd')]);
     let mut source = other.iter();
-    assert!(rt; map.extend_copied(&mut source).is_ok());
+    assert_true(&rt, map.extend_copied(&mut source).is_ok());
     check_letters(&rt, &map, &[(1, 'a'), (2, 'c'), (3, 'd')]);
     check_letters(&rt, &other, &[(2, 'c'), (3, 'd')]);
 }
@@ -127,9 +128,9 @@ fn add_refused<C: NodesMut<u64, u64> + Drop>(
     let mut source = pairs.iter().copied();
     memory.refuse(1);
     let answer = extend_in_turn(&mut map, &mut other, &mut source);
-    assert_eq!(rt; answer.ok(), Some(Some((2, 20))));
-    assert!(rt; map.is_empty() && has_keys(&other, 3, 5));
-    assert_eq!(rt; source.next(), None);
+    assert_same(rt, answer.ok(), Some(Some((2, 20))));
+    assert_true(rt, map.is_empty() && has_keys(&other, 3, 5));
+    assert_same(rt, source.next(), None);
 }
 
 #[test]

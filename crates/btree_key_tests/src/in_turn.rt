@@ -1,13 +1,14 @@
 //! Insertions of many pairs, while each allocation of the store is refused in turn.
 //!
 //! The store has room for 4 nodes first, and doubles it for the 5th node, which key 18 needs, and the 9th, which key 38 needs.
-use crate::refused::content_of;
+use btree_asserts::{assert_same, assert_same_in, assert_true};
 use btree_ext::BTreeExt;
 use btree_item::{Cause, Refused};
 use btree_map::BTreeMap;
 use btree_node::Node;
 use btree_nodes::NodesMut;
 use btree_refusing::Refusing;
+use btree_samples::content_of;
 use btree_store::SlabStore;
 use std::alloc::Global;
 use std::process::Abort;
@@ -23,7 +24,7 @@ fn put_keys<C: NodesMut<u64, u64>>(
     to: u64,
 ) {
     for key in from..to {
-        assert!(rt; map.insert(key, key.wrapping_mul(10)).is_ok());
+        assert_true(rt, map.insert(key, key.wrapping_mul(10)).is_ok());
     }
 }
 
@@ -35,15 +36,17 @@ fn check_refused<C: NodesMut<u64, u64>>(
     key: u64,
     alloc: Global,
 ) -> Result<(), Fail> {
-    assert_eq!(rt;
+    assert_same(
+        rt,
         (refused.cause, refused.key, refused.value),
-        (Cause::Store, key, key.wrapping_mul(10))
+        (Cause::Store, key, key.wrapping_mul(10)),
     );
     let mut plain: Map = BTreeMap::new(alloc);
     put_keys(rt, &mut plain, 0, key);
-    assert_eq!(rt;
-        content_of(map, alloc)?.as_str(),
-        content_of(&plain, alloc)?.as_str()
+    assert_same(
+        rt,
+        content_of(map.as_raw(), alloc)?.as_str(),
+        content_of(plain.as_raw(), alloc)?.as_str(),
     );
     Ok(())
 }
@@ -65,7 +68,7 @@ fn extend_refused<C: NodesMut<u64, u64> + Drop>(
     };
     check_refused(rt, &map, refused, key, alloc)?;
     let next = key.wrapping_add(1);
-    assert_eq!(rt; source.next(), Some((next, next.wrapping_mul(10))));
+    assert_same(rt, source.next(), Some((next, next.wrapping_mul(10))));
     Ok(())
 }
 
@@ -85,7 +88,7 @@ fn from_iter_refused<C: NodesMut<u64, u64> + Drop>(
     };
     check_refused(rt, &map, refused, key, alloc)?;
     let next = key.wrapping_add(1);
-    assert_eq!(rt; source.next(), Some((next, next.wrapping_mul(10))));
+    assert_same(rt, source.next(), Some((next, next.wrapping_mul(10))));
     Ok(())
 }
 
@@ -106,7 +109,7 @@ fn extend_copied_refused<C: NodesMut<u64, u64> + Drop>(
     };
     check_refused(rt, &map, refused, key, alloc)?;
     let next = key.wrapping_add(1);
-    assert_eq!(rt; source.next(), Some((&next, &next.wrapping_mul(10))));
+    assert_same(rt, source.next(), Some((&next, &next.wrapping_mul(10))));
     Ok(())
 }
 
@@ -149,7 +152,7 @@ fn each_allocation_of_an_extension_is_refused(rt: HostRuntime) -> Result<(), Fai
             key,
             rt.alloc(),
         )?;
-        assert_eq!(rt; memory.refuses(), 0);
+        assert_same(&rt, memory.refuses(), 0);
     }
     Ok(())
 }
@@ -165,11 +168,12 @@ fn check_rest<C: NodesMut<u64, u64>>(
     put_keys(rt, &mut plain, 1, 44);
     for removed in 0..removals {
         let key = removed.wrapping_add(1);
-        assert_eq!(rt; plain.pop_first(), Some((key, key.wrapping_mul(10))));
+        assert_same(rt, plain.pop_first(), Some((key, key.wrapping_mul(10))));
     }
-    assert_eq!(rt;
-        content_of(other, alloc)?.as_str(),
-        content_of(&plain, alloc)?.as_str()
+    assert_same(
+        rt,
+        content_of(other.as_raw(), alloc)?.as_str(),
+        content_of(plain.as_raw(), alloc)?.as_str(),
     );
     Ok(())
 }
@@ -190,13 +194,13 @@ fn is_append_refused<C: NodesMut<u64, u64> + Drop>(
     memory.refuse(at);
     let result = map.append(&mut other);
     let Err(refused) = result else {
-        assert_eq!(rt; (map.len(), other.node_count()), (44, 0));
+        assert_same(rt, (map.len(), other.node_count()), (44, 0));
         return Ok(false);
     };
     check_refused(rt, &map, refused, key, alloc)?;
     check_rest(rt, &other, key, alloc)?;
-    assert!(rt; map.append(&mut other).is_ok());
-    assert_eq!(rt; (map.len(), other.node_count()), (43, 0));
+    assert_true(rt, map.append(&mut other).is_ok());
+    assert_same(rt, (map.len(), other.node_count()), (43, 0));
     Ok(true)
 }
 
@@ -214,7 +218,7 @@ fn each_allocation_of_an_appending_is_refused(rt: HostRuntime) -> Result<(), Fai
             key,
             rt.alloc(),
         )?;
-        assert_eq!(rt; met, is_refused, "{at}");
+        assert_same_in(&rt, at, met, is_refused);
     }
     Ok(())
 }
@@ -228,10 +232,18 @@ fn an_appending_uses_the_nodes_of_insertions(rt: HostRuntime) -> Result<(), Fail
     put_keys(&rt, &mut map, 0, 1);
     put_keys(&rt, &mut other, 1, 44);
     put_keys(&rt, &mut plain, 0, 44);
-    assert!(rt; map.append(&mut other).is_ok());
-    assert_eq!(rt; (map.len(), map.node_count(), map.height()), (44, 12, 3));
-    let text = content_of(&map, rt.alloc())?;
-    assert_eq!(rt; text.as_str(), content_of(&plain, rt.alloc())?.as_str());
-    assert_eq!(rt; other.node_count(), 0);
+    assert_true(&rt, map.append(&mut other).is_ok());
+    assert_same(
+        &rt,
+        (map.len(), map.node_count(), map.height()),
+        (44, 12, 3),
+    );
+    let text = content_of(map.as_raw(), rt.alloc())?;
+    assert_same(
+        &rt,
+        text.as_str(),
+        content_of(plain.as_raw(), rt.alloc())?.as_str(),
+    );
+    assert_same(&rt, other.node_count(), 0);
     Ok(())
 }

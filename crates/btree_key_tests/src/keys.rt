@@ -3,6 +3,7 @@ ghost use Rattle.std.specs.Prelude.{◌≡◌, IsTrue, false};
 ghost use Rattle.btree_item.specs.Pairs.{with_value};
 ghost use Rattle.btree_shape.specs.TreeState.{pairs_of};
 
+use btree_asserts::{assert_same, assert_true, assert_true_in};
 use btree_ext::BTreeExt;
 use btree_map::BTreeMap;
 use btree_node::Node;
@@ -21,13 +22,20 @@ type Map = BTreeMap<u64, u64, SlabStore<Node<u64, u64>>>;
 #[test]
 fn finds_pairs_and_both_ends(rt: HostRuntime) {
     let mut map: Letters = BTreeMap::new(rt.alloc());
-    assert_eq!(rt; (map.first_key_value(), map.last_key_value()), (None, None));
-    assert!(rt; map.insert(2, 'a').is_ok() && map.insert(1, 'b').is_ok());
-    assert_eq!(rt; map.first_key_value(), Some((&1, &'b')));
-    assert_eq!(rt; map.last_key_value(), Some((&2, &'a')));
-    assert_eq!(rt; map.get_key_value(&2), Some((&2, &'a')));
-    assert_eq!(rt; map.get_key_value(&3), None);
-    assert!(rt; map.contains_key(&1) && !map.contains_key(&3));
+    assert_same(
+        &rt,
+        (map.first_key_value(), map.last_key_value()),
+        (None, None),
+    );
+    assert_true(
+        &rt,
+        map.insert(2, 'a').is_ok() && map.insert(1, 'b').is_ok(),
+    );
+    assert_same(&rt, map.first_key_value(), Some((&1, &'b')));
+    assert_same(&rt, map.last_key_value(), Some((&2, &'a')));
+    assert_same(&rt, map.get_key_value(&2), Some((&2, &'a')));
+    assert_same(&rt, map.get_key_value(&3), None);
+    assert_true(&rt, map.contains_key(&1) && !map.contains_key(&3));
 }
 
 // Replaces the value at a key, for any keys and any store. Returns whether the key is there.
@@ -53,7 +61,7 @@ fn set_value<K: Ord, C: NodesMut<K, u64>>(
 fn first_keys(rt: &impl Abort, alloc: Global, count: u64) -> Map {
     let mut map: Map = BTreeMap::new(alloc);
     for key in 0..count {
-        assert!(rt; map.insert(key, key.wrapping_mul(10)).is_ok());
+        assert_true(rt, map.insert(key, key.wrapping_mul(10)).is_ok());
     }
     map
 }
@@ -63,16 +71,20 @@ fn first_keys(rt: &impl Abort, alloc: Global, count: u64) -> Map {
 fn writes_to_the_value_of_each_key(rt: HostRuntime) {
     let mut map = first_keys(&rt, rt.alloc(), 44);
     for key in 0..44u64 {
-        assert!(rt; set_value(&mut map, &key, key.wrapping_add(1)), "{key}");
-        assert_eq!(rt; map.get(&key).copied(), Some(key.wrapping_add(1)));
+        assert_true_in(&rt, key, set_value(&mut map, &key, key.wrapping_add(1)));
+        assert_same(&rt, map.get(&key).copied(), Some(key.wrapping_add(1)));
     }
-    assert!(rt; !set_value(&mut map, &44, 0));
-    assert_eq!(rt; (map.len(), map.node_count(), map.height()), (44, 12, 3));
+    assert_true(&rt, !set_value(&mut map, &44, 0));
+    assert_same(
+        &rt,
+        (map.len(), map.node_count(), map.height()),
+        (44, 12, 3),
+    );
     let mut sum = 0u64;
     for (key, value) in map.iter() {
         sum = sum.wrapping_add(value.wrapping_sub(*key));
     }
-    assert_eq!(rt; sum, 44);
+    assert_same(&rt, sum, 44);
 }
 
 // Feeds two maps, which may have different stores, to two hashers, and returns whether their pairs are equal: equal maps have equal hashes,
@@ -97,13 +109,13 @@ fn maps_of_other_shapes_are_equal(rt: HostRuntime) {
     let mut other: Map = BTreeMap::new(rt.alloc());
     for left in 0..10u64 {
         let key = 9u64.wrapping_sub(left);
-        assert!(rt; other.insert(key, key.wrapping_mul(10)).is_ok());
+        assert_true(&rt, other.insert(key, key.wrapping_mul(10)).is_ok());
     }
-    assert!(rt; base.address_of(&4) != other.address_of(&4));
-    assert!(rt; base == other);
+    assert_true(&rt, base.address_of(&4) != other.address_of(&4));
+    assert_true(&rt, base == other);
     let (mut first, mut second) = (DefaultHasher::new(), DefaultHasher::new());
-    assert!(rt; hash_both(&base, &other, &mut first, &mut second));
-    assert_eq!(rt; first.finish(), second.finish());
+    assert_true(&rt, hash_both(&base, &other, &mut first, &mut second));
+    assert_same(&rt, first.finish(), second.finish());
 }
 
 // Inserts so many keys from 0 on, with the values 10 times the keys, and then a pair.
@@ -114,9 +126,9 @@ fn put_keys<C: NodesMut<u64, u64>>(
     pair: (u64, u64),
 ) {
     for key in 0..count {
-        assert!(rt; map.insert(key, key.wrapping_mul(10)).is_ok());
+        assert_true(rt, map.insert(key, key.wrapping_mul(10)).is_ok());
     }
-    assert!(rt; map.insert(pair.0, pair.1).is_ok());
+    assert_true(rt, map.insert(pair.0, pair.1).is_ok());
 }
 
 // Checks how two maps, which may have different stores, compare.
@@ -126,10 +138,10 @@ fn check_order<C: NodesMut<u64, u64>>(
     other: &BTreeMap<u64, u64, C>,
     order: Ordering,
 ) {
-    assert_eq!(rt; base.same_items(other), order == Ordering::Equal);
-    assert_eq!(rt; other.same_items(base), order == Ordering::Equal);
-    assert_eq!(rt; base.compare_items(other), order);
-    assert_eq!(rt; other.compare_items(base), order.reverse());
+    assert_same(rt, base.same_items(other), order == Ordering::Equal);
+    assert_same(rt, other.same_items(base), order == Ordering::Equal);
+    assert_same(rt, base.compare_items(other), order);
+    assert_same(rt, other.compare_items(base), order.reverse());
 }
 
 // Checks the order of a map over a store of another type, with so many keys from 0 on and a pair.
@@ -148,13 +160,14 @@ fn check_other_store<C: NodesMut<u64, u64> + Drop>(
 
 // Checks the order of two maps of one type.
 fn check_same_store(rt: &impl Abort, base: &Map, other: &Map, order: Ordering) {
-    assert_eq!(rt; base == other, order == Ordering::Equal);
-    assert_eq!(rt;
+    assert_same(rt, base == other, order == Ordering::Equal);
+    assert_same(
+        rt,
         (base.cmp(other), other.cmp(base)),
-        (order, order.reverse())
+        (order, order.reverse()),
     );
-    assert_eq!(rt; base.partial_cmp(other), Some(order));
-    assert_eq!(rt; other.partial_cmp(base), Some(order.reverse()));
+    assert_same(rt, base.partial_cmp(other), Some(order));
+    assert_same(rt, other.partial_cmp(base), Some(order.reverse()));
 }
 
 // The first map has the keys from 0 to 8. Each row: how many keys from 0 on the second map has, a pair that it gets then, and the order of
@@ -193,12 +206,12 @@ fn replaces_pairs(rt: HostRuntime) {
         (2, 'd', Some((2, 'b')), 2),
     ] {
         match map.replace(key, value) {
-            Ok(found) => assert_eq!(rt; found, old),
+            Ok(found) => assert_same(&rt, found, old),
             Err(_) => panic!(rt; "refused"),
         }
-        assert_eq!(rt; map.len(), len);
-        assert!(rt; map.contains_key(&key));
-        assert_eq!(rt; map[&key], value);
+        assert_same(&rt, map.len(), len);
+        assert_true(&rt, map.contains_key(&key));
+        assert_same(&rt, map[&key], value);
     }
 }
 
@@ -207,10 +220,10 @@ fn replaces_pairs(rt: HostRuntime) {
 fn pops_from_both_ends(rt: HostRuntime) {
     let mut map = first_keys(&rt, rt.alloc(), 44);
     for key in 0..22u64 {
-        assert_eq!(rt; map.pop_first(), Some((key, key.wrapping_mul(10))));
+        assert_same(&rt, map.pop_first(), Some((key, key.wrapping_mul(10))));
         let last = 43u64.wrapping_sub(key);
-        assert_eq!(rt; map.pop_last(), Some((last, last.wrapping_mul(10))));
+        assert_same(&rt, map.pop_last(), Some((last, last.wrapping_mul(10))));
     }
-    assert_eq!(rt; (map.pop_first(), map.pop_last()), (None, None));
-    assert_eq!(rt; (map.len(), map.node_count()), (0, 0));
+    assert_same(&rt, (map.pop_first(), map.pop_last()), (None, None));
+    assert_same(&rt, (map.len(), map.node_count()), (0, 0));
 }

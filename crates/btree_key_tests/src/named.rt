@@ -5,6 +5,7 @@ ghost use Rattle.std.specs.Cmp.{partial_order_from_own_ties};
 ghost use Rattle.std.specs.Cmp.Rules.{comparing};
 ghost use Rattle.std.specs.Ordering.{as_partial_cmp, nat_cmp, on};
 
+use btree_asserts::{assert_same, assert_true};
 use btree_map::BTreeMap;
 use btree_node::Node;
 use btree_store::SlabStore;
@@ -75,29 +76,29 @@ fn put(rt: &impl Abort, map: &mut NamedMap, number: u64, name: char, value: u64)
 #[test]
 fn an_equal_key_stays_unless_it_is_replaced(rt: HostRuntime) {
     let mut map: NamedMap = BTreeMap::new(rt.alloc());
-    assert_eq!(rt; put(&rt, &mut map, 2, 'a', 2), None);
-    assert_eq!(rt; put(&rt, &mut map, 2, 'b', 20), Some(2));
-    assert_eq!(rt; stored(&map, 2), Some(('a', 20)));
+    assert_same(&rt, put(&rt, &mut map, 2, 'a', 2), None);
+    assert_same(&rt, put(&rt, &mut map, 2, 'b', 20), Some(2));
+    assert_same(&rt, stored(&map, 2), Some(('a', 20)));
     let key = Named {
         number: 2,
         name: 'c',
     };
     match map.replace(key, 30) {
-        Ok(Some((key, value))) => assert_eq!(rt; (key.number, key.name, value), (2, 'a', 20)),
+        Ok(Some((key, value))) => assert_same(&rt, (key.number, key.name, value), (2, 'a', 20)),
         Ok(None) | Err(_) => panic!(rt; "not replaced"),
     }
-    assert_eq!(rt; stored(&map, 2), Some(('c', 30)));
+    assert_same(&rt, stored(&map, 2), Some(('c', 30)));
 }
 
 #[test]
 fn an_equal_key_stays_when_a_map_is_appended(rt: HostRuntime) {
     let mut map: NamedMap = BTreeMap::new(rt.alloc());
     let mut other: NamedMap = BTreeMap::new(rt.alloc());
-    assert_eq!(rt; put(&rt, &mut map, 1, 'a', 1), None);
-    assert_eq!(rt; put(&rt, &mut other, 1, 'd', 9), None);
-    assert!(rt; map.append(&mut other).is_ok());
-    assert_eq!(rt; stored(&map, 1), Some(('a', 9)));
-    assert_eq!(rt; (map.len(), other.len()), (1, 0));
+    assert_same(&rt, put(&rt, &mut map, 1, 'a', 1), None);
+    assert_same(&rt, put(&rt, &mut other, 1, 'd', 9), None);
+    assert_true(&rt, map.append(&mut other).is_ok());
+    assert_same(&rt, stored(&map, 1), Some(('a', 9)));
+    assert_same(&rt, (map.len(), other.len()), (1, 0));
 }
 
 #[test]
@@ -108,11 +109,12 @@ fn an_equal_key_stays_when_pairs_are_added(rt: HostRuntime) {
         .map(|&(number, name, value)| (Named { number, name }, value));
     match NamedMap::from_iter(rt.alloc(), &mut source) {
         Ok(map) => {
-            assert_eq!(rt;
+            assert_same(
+                &rt,
                 (stored(&map, 1), stored(&map, 2)),
-                (Some(('a', 3)), Some(('b', 2)))
+                (Some(('a', 3)), Some(('b', 2))),
             );
-            assert_eq!(rt; map.len(), 2);
+            assert_same(&rt, map.len(), 2);
         }
         Err(_) => panic!(rt; "refused"),
     }

@@ -1,48 +1,16 @@
 //! Insertions by entries, by a replacement, and by updates, while the store has no memory.
+use btree_asserts::{assert_same, assert_same_in, assert_true, assert_true_in};
 use btree_ext::{BTreeExt, BTreeExtMut};
 use btree_item::{Cause, Refused, UpdateRefused};
 use btree_map::{BTreeMap, Entry};
 use btree_node::Node;
 use btree_nodes::NodesMut;
 use btree_refusing::Refusing;
+use btree_samples::content_of;
 use btree_store::SlabStore;
 use std::alloc::Global;
 use std::process::Abort;
 use std::test::Fail;
-
-// Writes the pairs of one node, its number and those of its parent and children.
-fn write_node(
-    text: &mut String,
-    node: &Node<u64, u64>,
-    id: usize,
-    alloc: Global,
-) -> Result<(), Fail> {
-    text.push_str(format!(in alloc; "{id} under {:?}:", node.parent())?.as_str())?;
-    for index in 0..node.item_count() {
-        if let Some(item) = node.item(index.into()) {
-            text.push_str(format!(in alloc; " {}={}", item.key(), item.value())?.as_str())?;
-        }
-    }
-    for index in 0..node.child_count() {
-        text.push_str(format!(in alloc; " {:?}", node.child_id_opt(index))?.as_str())?;
-    }
-    text.push('\n')?;
-    Ok(())
-}
-
-// Returns the root's number, the length and every node as text.
-pub(crate) fn content_of<C: NodesMut<u64, u64>>(
-    map: &BTreeMap<u64, u64, C>,
-    alloc: Global,
-) -> Result<String, Fail> {
-    let mut text = format!(in alloc; "{:?} {} {}\n", map.root_id(), map.len(), map.node_count())?;
-    for id in 0..64 {
-        if map.has_node(id) {
-            write_node(&mut text, map.node(id), id, alloc)?;
-        }
-    }
-    Ok(text)
-}
 
 // The calls of an entry that insert, a replacement, and updates whose action gives a value.
 #[derive(Clone, Copy, Debug, PartialEq)]
@@ -83,10 +51,7 @@ fn put_under_leaf<C: NodesMut<u64, u64>>(
         return put_by_update(map, key);
     }
     let (Ok(at) | Err(at)) = map.address_of(&key);
-    assert!(rt;
-        map.has_node(at.id) && map.key_fits_in(at.id, &key),
-        "{key}"
-    );
+    assert_true_in(rt, key, map.has_node(at.id) && map.key_fits_in(at.id, &key));
     match map.update_in(at.id, key, |_| (Some(0u64), 0u64)) {
         Ok(answer) => Ok(answer),
         Err(refused) => {
@@ -147,23 +112,24 @@ fn is_refused<C: NodesMut<u64, u64> + Drop>(
     key: u64,
     alloc: Global,
 ) -> Result<bool, Fail> {
-    let old = content_of(map, alloc)?;
+    let old = content_of(map.as_raw(), alloc)?;
     memory.refuse(1);
     let result = put_by(rt, map, way, key);
     let met = memory.refuses() == 0;
     memory.refuse(0);
     match result {
-        Ok(value) => assert_eq!(rt; (value, met), (0, false), "{way:?} {key}"),
+        Ok(value) => assert_same_in(rt, (way, key), (value, met), (0, false)),
         Err(refused) => {
-            assert_eq!(rt;
+            assert_same(
+                rt,
                 (refused.cause, refused.key, refused.value, met),
-                (Cause::Store, key, 0, true)
+                (Cause::Store, key, 0, true),
             );
-            assert_eq!(rt; content_of(map, alloc)?.as_str(), old.as_str());
-            assert_eq!(rt; put_by(rt, map, way, key).ok(), Some(0));
+            assert_same(rt, content_of(map.as_raw(), alloc)?.as_str(), old.as_str());
+            assert_same(rt, put_by(rt, map, way, key).ok(), Some(0));
         }
     }
-    assert_eq!(rt; map.len() as u64, key.wrapping_add(1));
+    assert_same(rt, map.len() as u64, key.wrapping_add(1));
     Ok(met)
 }
 
@@ -194,7 +160,7 @@ fn count_allocated<C: NodesMut<u64, u64> + Drop>(
     let mut map: BTreeMap<u64, u64, C> = BTreeMap::new(origin);
     memory.refuse(1000);
     for key in 0..64 {
-        assert!(rt; map.insert(key, 0).is_ok());
+        assert_true(rt, map.insert(key, 0).is_ok());
     }
     1000u64.wrapping_sub(memory.refuses())
 }
@@ -216,7 +182,7 @@ fn a_refused_insertion_changes_nothing(rt: HostRuntime) -> Result<(), Fail> {
         let all = count_allocated::<SlabStore<Node<u64, u64>, &Refusing<Global>>>(
             &rt, &memory, &memory,
         );
-        assert!(rt; all > 0);
+        assert_true(&rt, all > 0);
         let count = count_refused::<SlabStore<Node<u64, u64>, &Refusing<Global>>>(
             &rt,
             &memory,
@@ -224,7 +190,7 @@ fn a_refused_insertion_changes_nothing(rt: HostRuntime) -> Result<(), Fail> {
             way,
             rt.alloc(),
         )?;
-        assert_eq!(rt; count, all, "{way:?}");
+        assert_same_in(&rt, way, count, all);
     }
     Ok(())
 }

@@ -3,12 +3,14 @@ ghost use Rattle.std.specs.Prelude.{◌+◌, ◌%◌, ◌^◌};
 ghost use Rattle.btree_shape.specs.TreeState.{IsOccupiedIn};
 ghost use Rattle.btree_edit.specs.Exchange.{IsValueExchanged};
 
+use btree_asserts::{assert_same, assert_same_in, assert_true};
 use btree_ext::{BTreeExt, BTreeExtMut};
 use btree_item::{Address, Cause, Item, Offset, Refused};
 use btree_map::BTreeMap;
 use btree_node::Node;
 use btree_nodes::NodesMut;
 use btree_refusing::Refusing;
+use btree_samples::content_of;
 use btree_store::SlabStore;
 use std::alloc::Global;
 use std::process::Abort;
@@ -21,7 +23,7 @@ fn odd_keys(rt: &impl Abort, alloc: Global, keys: u64) -> Map {
     let mut map: Map = BTreeMap::new(alloc);
     for index in 0..keys {
         let key = index.wrapping_mul(2).wrapping_add(1);
-        assert!(rt; map.insert(key, key).is_ok());
+        assert_true(rt, map.insert(key, key).is_ok());
     }
     map
 }
@@ -50,9 +52,9 @@ fn insert_fitting<C: NodesMut<u64, u64>>(
     key: u64,
 ) -> Result<Address, Refused<u64, u64>> {
     let at = Address::new(addr.id, addr.offset);
-    assert!(rt; map.is_valid(at));
-    assert!(rt; !at.offset.is_before());
-    assert!(rt; map.fits_at(at, &key));
+    assert_true(rt, map.is_valid(at));
+    assert_true(rt, !at.offset.is_before());
+    assert_true(rt, map.fits_at(at, &key));
     map.insert_at(at, Item::new(key, key))
 }
 
@@ -89,12 +91,13 @@ fn inserts_at_an_address(rt: HostRuntime) -> Result<(), Fail> {
         let Ok(at) = insert_fitting(&rt, &mut map, addr, key) else {
             return Err(Fail::from("refused"));
         };
-        assert_eq!(rt; map.item(at).map(|item| *item.key()), Some(key), "{key}");
-        assert_eq!(rt; pairs_text(&map, rt.alloc())?.as_str(), text);
-        assert_eq!(rt;
+        assert_same_in(&rt, key, map.item(at).map(|item| *item.key()), Some(key));
+        assert_same(&rt, pairs_text(&map, rt.alloc())?.as_str(), text);
+        assert_same_in(
+            &rt,
+            key,
             (map.len() as u64, map.node_count()),
             (keys.wrapping_add(1), nodes),
-            "{key}"
         );
     }
     Ok(())
@@ -116,12 +119,13 @@ fn inserts_at_each_gap(rt: HostRuntime) -> Result<(), Fail> {
         (14, 4),
         (16, 5),
     ] {
-        assert!(rt; insert_in_gap(&rt, &mut map, key).is_ok());
-        assert_eq!(rt; map.node_count(), nodes, "{key}");
+        assert_true(&rt, insert_in_gap(&rt, &mut map, key).is_ok());
+        assert_same_in(&rt, key, map.node_count(), nodes);
     }
-    assert_eq!(rt;
+    assert_same(
+        &rt,
         pairs_text(&map, rt.alloc())?.as_str(),
-        "0 1 2 3 4 5 6 7 8 9 10 11 12 13 14 15 16 17 18 "
+        "0 1 2 3 4 5 6 7 8 9 10 11 12 13 14 15 16 17 18 ",
     );
     Ok(())
 }
@@ -137,11 +141,11 @@ fn replaces_a_pair(rt: HostRuntime) -> Result<(), Fail> {
     ] {
         let mut map = odd_keys(&rt, rt.alloc(), 9);
         let (Ok(addr) | Err(addr)) = map.address_of(&old);
-        assert!(rt; map.is_valid(addr));
-        assert!(rt; map.replaces_at(addr, &key));
-        assert_eq!(rt; map.replace_at(addr, key, 70), (old, old));
-        assert_eq!(rt; pairs_text(&map, rt.alloc())?.as_str(), text);
-        assert_eq!(rt; (map.len(), map.node_count()), (9, 3), "{key}");
+        assert_true(&rt, map.is_valid(addr));
+        assert_true(&rt, map.replaces_at(addr, &key));
+        assert_same(&rt, map.replace_at(addr, key, 70), (old, old));
+        assert_same(&rt, pairs_text(&map, rt.alloc())?.as_str(), text);
+        assert_same_in(&rt, key, (map.len(), map.node_count()), (9, 3));
     }
     Ok(())
 }
@@ -157,8 +161,8 @@ fn replaces_a_value(rt: HostRuntime) -> Result<(), Fail> {
         let Ok(addr) = map.address_of(&key) else {
             return Err(Fail::from("absent"));
         };
-        assert_eq!(rt; map.replace_value_at(addr, 70), key);
-        assert_eq!(rt; pairs_text(&map, rt.alloc())?.as_str(), text);
+        assert_same(&rt, map.replace_value_at(addr, 70), key);
+        assert_same(&rt, pairs_text(&map, rt.alloc())?.as_str(), text);
     }
     Ok(())
 }
@@ -192,12 +196,12 @@ fn writes_to_a_value(rt: HostRuntime) -> Result<(), Fail> {
         let Some((stored, value)) = map.item_mut(Address::new(addr.id, addr.offset)) else {
             return Err(Fail::from("no item"));
         };
-        assert_eq!(rt; (*stored, *value), (key, key));
+        assert_same(&rt, (*stored, *value), (key, key));
         *value = 70;
-        assert_eq!(rt; pairs_text(&map, rt.alloc())?.as_str(), by_item);
-        assert!(rt; map.item(addr).is_some());
-        assert_eq!(rt; add_at(&mut map, addr, 2), 70);
-        assert_eq!(rt; pairs_text(&map, rt.alloc())?.as_str(), by_pair);
+        assert_same(&rt, pairs_text(&map, rt.alloc())?.as_str(), by_item);
+        assert_true(&rt, map.item(addr).is_some());
+        assert_same(&rt, add_at(&mut map, addr, 2), 70);
+        assert_same(&rt, pairs_text(&map, rt.alloc())?.as_str(), by_pair);
     }
     Ok(())
 }
@@ -208,13 +212,19 @@ fn lends_nothing_without_an_item(rt: HostRuntime) -> Result<(), Fail> {
     let Some(root) = map.root_id() else {
         return Err(Fail::from("no root"));
     };
-    assert!(rt; map.is_valid(Address::new(root, Offset::before())));
-    assert!(rt; map.item_mut(Address::new(root, Offset::before())).is_none());
-    assert!(rt; map.is_valid(Address::new(root, Offset::from(1))));
-    assert!(rt; map.item_mut(Address::new(root, Offset::from(1))).is_none());
+    assert_true(&rt, map.is_valid(Address::new(root, Offset::before())));
+    assert_true(
+        &rt,
+        map.item_mut(Address::new(root, Offset::before())).is_none(),
+    );
+    assert_true(&rt, map.is_valid(Address::new(root, Offset::from(1))));
+    assert_true(
+        &rt,
+        map.item_mut(Address::new(root, Offset::from(1))).is_none(),
+    );
     let mut empty = odd_keys(&rt, rt.alloc(), 0);
-    assert!(rt; empty.is_valid(Address::nowhere()));
-    assert!(rt; empty.item_mut(Address::nowhere()).is_none());
+    assert_true(&rt, empty.is_valid(Address::nowhere()));
+    assert_true(&rt, empty.item_mut(Address::nowhere()).is_none());
     Ok(())
 }
 
@@ -223,7 +233,7 @@ fn lends_nothing_without_an_item(rt: HostRuntime) -> Result<(), Fail> {
 #[test]
 fn removes_by_key(rt: HostRuntime) -> Result<(), Fail> {
     let mut map = odd_keys(&rt, rt.alloc(), 9);
-    assert_eq!(rt; map.insert(9, 70).ok(), Some(Some(9)));
+    assert_same(&rt, map.insert(9, 70).ok(), Some(Some(9)));
     for (key, value, nodes, text) in [
         (0, None, 3, "1 3 5 7 9=70 11 13 15 17 "),
         (9, Some(70), 3, "1 3 5 7 11 13 15 17 "),
@@ -238,9 +248,9 @@ fn removes_by_key(rt: HostRuntime) -> Result<(), Fail> {
         (13, Some(13), 0, ""),
         (13, None, 0, ""),
     ] {
-        assert_eq!(rt; map.remove(&key), value, "{key}");
-        assert_eq!(rt; map.node_count(), nodes, "{key}");
-        assert_eq!(rt; pairs_text(&map, rt.alloc())?.as_str(), text);
+        assert_same_in(&rt, key, map.remove(&key), value);
+        assert_same_in(&rt, key, map.node_count(), nodes);
+        assert_same(&rt, pairs_text(&map, rt.alloc())?.as_str(), text);
     }
     Ok(())
 }
@@ -254,12 +264,16 @@ fn takes_a_pair(rt: HostRuntime) -> Result<(), Fail> {
         (2, None),
         (17, Some((17, 17))),
     ] {
-        assert_eq!(rt; map.take(&key), pair, "{key}");
+        assert_same_in(&rt, key, map.take(&key), pair);
     }
     for (key, pair) in [(1, Some((1, 1))), (1, None)] {
-        assert_eq!(rt; map.remove_entry(&key), pair, "{key}");
+        assert_same_in(&rt, key, map.remove_entry(&key), pair);
     }
-    assert_eq!(rt; pairs_text(&map, rt.alloc())?.as_str(), "3 5 7 11 13 15 ");
+    assert_same(
+        &rt,
+        pairs_text(&map, rt.alloc())?.as_str(),
+        "3 5 7 11 13 15 ",
+    );
     Ok(())
 }
 
@@ -268,50 +282,17 @@ fn clears_and_begins_again(rt: HostRuntime) -> Result<(), Fail> {
     for keys in [0, 1, 9] {
         let mut map = odd_keys(&rt, rt.alloc(), keys);
         map.clear();
-        assert_eq!(rt;
+        assert_same_in(
+            &rt,
+            keys,
             (map.len(), map.root_id(), map.node_count()),
             (0, None, 0),
-            "{keys}"
         );
-        assert_eq!(rt; map.get(&1), None);
-        assert_eq!(rt; map.insert(3, 30).ok(), Some(None));
-        assert_eq!(rt; pairs_text(&map, rt.alloc())?.as_str(), "3=30 ");
+        assert_same(&rt, map.get(&1), None);
+        assert_same(&rt, map.insert(3, 30).ok(), Some(None));
+        assert_same(&rt, pairs_text(&map, rt.alloc())?.as_str(), "3=30 ");
     }
     Ok(())
-}
-
-// Writes the pairs of one node, its number and those of its parent and children.
-fn write_node(
-    text: &mut String,
-    node: &Node<u64, u64>,
-    id: usize,
-    alloc: Global,
-) -> Result<(), Fail> {
-    text.push_str(format!(in alloc; "{id} under {:?}:", node.parent())?.as_str())?;
-    for index in 0..node.item_count() {
-        if let Some(item) = node.item(index.into()) {
-            text.push_str(format!(in alloc; " {}={}", item.key(), item.value())?.as_str())?;
-        }
-    }
-    for index in 0..node.child_count() {
-        text.push_str(format!(in alloc; " {:?}", node.child_id_opt(index))?.as_str())?;
-    }
-    text.push('\n')?;
-    Ok(())
-}
-
-// Returns the root's number, the length and every node as text.
-fn content_of<C: NodesMut<u64, u64>>(
-    map: &BTreeMap<u64, u64, C>,
-    alloc: Global,
-) -> Result<String, Fail> {
-    let mut text = format!(in alloc; "{:?} {} {}\n", map.root_id(), map.len(), map.node_count())?;
-    for id in 0..64 {
-        if map.has_node(id) {
-            write_node(&mut text, map.node(id), id, alloc)?;
-        }
-    }
-    Ok(text)
 }
 
 // Inserts the keys below the last one, and then the last one while the next allocation is refused: with an error nothing has changed, and
@@ -325,20 +306,21 @@ fn check_refused<C: NodesMut<u64, u64> + Drop>(
 ) -> Result<(), Fail> {
     let mut map: BTreeMap<u64, u64, C> = BTreeMap::new(origin);
     for key in 0..last {
-        assert!(rt; insert_in_gap(rt, &mut map, key).is_ok());
+        assert_true(rt, insert_in_gap(rt, &mut map, key).is_ok());
     }
-    let old = content_of(&map, alloc)?;
+    let old = content_of(map.as_raw(), alloc)?;
     memory.refuse(1);
     let Err(refused) = insert_in_gap(rt, &mut map, last) else {
         return Err(Fail::from("not refused"));
     };
-    assert_eq!(rt;
+    assert_same(
+        rt,
         (refused.cause, refused.key, refused.value),
-        (Cause::Store, last, last)
+        (Cause::Store, last, last),
     );
-    assert_eq!(rt; content_of(&map, alloc)?.as_str(), old.as_str());
-    assert!(rt; insert_in_gap(rt, &mut map, last).is_ok());
-    assert_eq!(rt; map.len() as u64, last.wrapping_add(1));
+    assert_same(rt, content_of(map.as_raw(), alloc)?.as_str(), old.as_str());
+    assert_true(rt, insert_in_gap(rt, &mut map, last).is_ok());
+    assert_same(rt, map.len() as u64, last.wrapping_add(1));
     Ok(())
 }
 
@@ -354,7 +336,7 @@ fn a_refused_node_changes_nothing(rt: HostRuntime) -> Result<(), Fail> {
             last,
             rt.alloc(),
         )?;
-        assert_eq!(rt; memory.refuses(), 0, "{last}");
+        assert_same_in(&rt, last, memory.refuses(), 0);
     }
     Ok(())
 }

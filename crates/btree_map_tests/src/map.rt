@@ -1,3 +1,4 @@
+use btree_asserts::{assert_same, assert_same_in, assert_true};
 use btree_ext::BTreeExt;
 use btree_item::Cause;
 use btree_map::BTreeMap;
@@ -18,15 +19,16 @@ fn check_refused_once<C: NodesMut<u64, u64> + Drop>(
     let Err(refused) = map.insert(3, 30) else {
         return Err(Fail::from("taken"));
     };
-    assert_eq!(rt;
+    assert_same(
+        rt,
         (refused.cause, refused.key, refused.value),
-        (Cause::Store, 3, 30)
+        (Cause::Store, 3, 30),
     );
-    assert_eq!(rt; (map.len(), map.is_empty()), (0, true));
-    assert_eq!(rt; map.get(&3), None);
-    assert_eq!(rt; map.insert(3, 30).ok(), Some(None));
-    assert_eq!(rt; map.get(&3).copied(), Some(30));
-    assert_eq!(rt; (map.len(), map.is_empty()), (1, false));
+    assert_same(rt, (map.len(), map.is_empty()), (0, true));
+    assert_same(rt, map.get(&3).copied(), None);
+    assert_same(rt, map.insert(3, 30).ok(), Some(None));
+    assert_same(rt, map.get(&3).copied(), Some(30));
+    assert_same(rt, (map.len(), map.is_empty()), (1, false));
     Ok(())
 }
 
@@ -34,7 +36,7 @@ fn check_refused_once<C: NodesMut<u64, u64> + Drop>(
 fn a_refused_node_leaves_the_map_empty(rt: HostRuntime) -> Result<(), Fail> {
     let memory = Refusing::over(rt.alloc(), 1);
     check_refused_once::<SlabStore<Node<u64, u64>, &Refusing<Global>>>(&rt, &memory)?;
-    assert_eq!(rt; memory.refuses(), 0);
+    assert_same(&rt, memory.refuses(), 0);
     Ok(())
 }
 
@@ -49,36 +51,37 @@ fn equal_keys_are_told_by_their_order(rt: HostRuntime) -> Result<(), Fail> {
         ((2, 'a'), None),
         ((2, 'b'), Some(0)),
     ] {
-        assert_eq!(rt; map.insert(key, 0).ok(), Some(old), "at {key:?}");
+        assert_same_in(&rt, key, map.insert(key, 0).ok(), Some(old));
     }
-    assert_eq!(rt; map.len(), 3);
+    assert_same(&rt, map.len(), 3);
     Ok(())
 }
 
 #[test]
 fn reads_its_tree(rt: HostRuntime) -> Result<(), Fail> {
     let mut map: BTreeMap<u64, u64, SlabStore<Node<u64, u64>>> = BTreeMap::new(rt.alloc());
-    assert_eq!(rt;
+    assert_same(
+        &rt,
         (map.root_id(), map.height(), map.node_count()),
-        (None, 0, 0)
+        (None, 0, 0),
     );
     for key in 0..9 {
-        assert_eq!(rt; map.insert(key, 10 * key).ok(), Some(None));
+        assert_same(&rt, map.insert(key, 10 * key).ok(), Some(None));
     }
-    assert_eq!(rt; (map.len(), map.height(), map.node_count()), (9, 2, 3));
+    assert_same(&rt, (map.len(), map.height(), map.node_count()), (9, 2, 3));
     let Some(root) = map.root_id() else {
         return Err(Fail::from("no root"));
     };
-    assert!(rt; map.has_node(root) && map.node(root).item_count() == 1);
+    assert_true(&rt, map.has_node(root) && map.node(root).item_count() == 1);
     let Ok(found) = map.address_of(&4) else {
         return Err(Fail::from("absent"));
     };
-    assert_eq!(rt; found.id, root);
-    assert_eq!(rt; map.item(found).map(|item| *item.value()), Some(40));
+    assert_same(&rt, found.id, root);
+    assert_same(&rt, map.item(found).map(|item| *item.value()), Some(40));
     let mut walk = map.iter();
     for key in 0..9u64 {
-        assert_eq!(rt; walk.next(), Some((&key, &(10 * key))));
+        assert_same(&rt, walk.next(), Some((&key, &(10 * key))));
     }
-    assert_eq!(rt; walk.next(), None);
+    assert_same(&rt, walk.next(), None);
     Ok(())
 }

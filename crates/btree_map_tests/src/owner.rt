@@ -1,6 +1,7 @@
 //! A map over any store of nodes can be kept in a caller's type, and passed on by value.
 ghost use Rattle.std.specs.Prelude.{◌≡◌};
 
+use btree_asserts::assert_same;
 use btree_map::BTreeMap;
 use btree_node::Node;
 use btree_nodes::NodesMut;
@@ -43,12 +44,12 @@ fn a_map_is_kept_and_handed_on_by_value(rt: HostRuntime) -> Result<(), Fail> {
         let mut first: BTreeMap<u64, u64, SlabStore<Node<u64, u64>>> = BTreeMap::new(rt.alloc());
         let mut second: BTreeMap<u64, u64, SlabStore<Node<u64, u64>>> = BTreeMap::new(rt.alloc());
         for key in 0..keys {
-            assert_eq!(rt; first.insert(key, key).ok(), Some(None));
-            assert_eq!(rt; second.insert(key, key).ok(), Some(None));
+            assert_same(&rt, first.insert(key, key).ok(), Some(None));
+            assert_same(&rt, second.insert(key, key).ok(), Some(None));
         }
         let owner = Owner::new(first);
-        assert_eq!(rt; take(owner.into_inner()), taken);
-        assert_eq!(rt; keep_and_take(second), taken);
+        assert_same(&rt, take(owner.into_inner()), taken);
+        assert_same(&rt, keep_and_take(second), taken);
     }
     Ok(())
 }

@@ -1,8 +1,10 @@
 //! Pairs removed by key and by address, in several orders, and put back. The list is compared with std's map.
+use btree_asserts::{assert_same, assert_true, assert_true_in};
 use btree_ext::{BTreeExt, BTreeExtMut};
 use btree_item::{Address, Item, Offset};
 use btree_map::BTreeMap;
 use btree_node::Node;
+use btree_samples::listed_pairs;
 use btree_store::SlabStore;
 use std::alloc::Global;
 use std::collections;
@@ -12,42 +14,6 @@ use std::test::Fail;
 type Map = BTreeMap<u64, u64, SlabStore<Node<u64, u64>>>;
 
 type KitMap = collections::BTreeMap<u64, u64>;
-
-// A hundred pairs: a key and its value in turn, each followed by a space.
-const ITEMS: &str =
-    "4223 5948 8175 4629 1411 7458 9208 4040 1246 2287 6568 7583 5426 491 7850 8789 2034 9388 1408 7331 7346 5820 \
-    9712 4253 5430 7253 1662 5278 9322 777 9256 8116 7971 8071 648 3082 7510 2207 8394 7839 57 8834 7770 5437 \
-    6388 6755 9177 9904 6487 5143 2231 688 7389 4472 577 1930 9130 3222 2230 8268 1211 2354 9237 3643 2912 8471 \
-    8783 4977 4325 9566 9355 528 9814 9342 1641 6027 3009 8304 4199 2688 7011 9579 8391 8562 1097 5448 1224 5844 \
-    5309 2846 7493 8845 3682 48 9165 2755 9959 7420 8158 2616 3210 7795 4418 7790 5592 4184 4111 885 742 952 \
-    2486 6088 6797 271 8829 3005 6444 5818 6566 8783 913 2886 2325 1260 4382 3045 5451 1473 9376 8133 9036 4924 \
-    5202 7364 9190 5619 8190 2892 9493 500 3043 8315 9220 6396 6400 5692 2709 8547 1218 7403 581 117 2577 9373 \
-    9349 3186 9021 4874 4207 1781 5201 5305 7889 1996 6327 6377 8120 2338 8213 9072 865 6524 5858 5331 1904 3594 \
-    9950 8859 518 6551 2674 7081 9848 618 5120 5595 259 9662 3077 863 4519 7217 3931 6743 2575 6810 1553 5964 \
-    4493 3677 ";
-
-// Returns the pairs of `ITEMS`.
-fn items(alloc: Global) -> Result<Vec<(u64, u64)>, Fail> {
-    let mut pairs: Vec<(u64, u64)> = Vec::new(alloc);
-    let mut first: Option<u64> = None;
-    let mut number = 0u64;
-    for letter in ITEMS.as_bytes() {
-        if *letter != b' ' {
-            let digit = letter.wrapping_sub(b'0') as u64;
-            number = number.wrapping_mul(10).wrapping_add(digit);
-            continue;
-        }
-        match first {
-            None => first = Some(number),
-            Some(key) => {
-                pairs.push((key, number))?;
-                first = None;
-            }
-        }
-        number = 0;
-    }
-    Ok(pairs)
-}
 
 // Returns the map, and std's map, of the first `count` pairs.
 fn maps_of(
@@ -59,8 +25,8 @@ fn maps_of(
     let mut map: Map = BTreeMap::new(alloc);
     let mut list: KitMap = collections::BTreeMap::new(alloc);
     for (key, value) in pairs.iter().take(count) {
-        assert!(rt; map.insert(*key, *value).is_ok());
-        assert_eq!(rt; map.validate(), Ok(()));
+        assert_true(rt, map.insert(*key, *value).is_ok());
+        assert_same(rt, map.validate(), Ok(()));
         list.insert(*key, *value)?;
     }
     Ok((map, list))
@@ -68,20 +34,20 @@ fn maps_of(
 
 // Checks that a map is well formed, and has the pairs of std's map, in the same order.
 fn check_list(rt: &impl Abort, map: &Map, list: &KitMap) {
-    assert_eq!(rt; map.validate(), Ok(()));
-    assert_eq!(rt; map.len(), list.len());
+    assert_same(rt, map.validate(), Ok(()));
+    assert_same(rt, map.len(), list.len());
     let mut walk = map.iter();
     for (key, value) in list.iter() {
-        assert_eq!(rt; walk.next(), Some((key, value)));
+        assert_same(rt, walk.next(), Some((key, value)));
     }
-    assert_eq!(rt; walk.next(), None);
+    assert_same(rt, walk.next(), None);
 }
 
 // Inserts a pair at an address where its key fits.
 fn put(rt: &impl Abort, map: &mut Map, addr: Address, key: u64, value: u64) -> Address {
-    assert!(rt; addr.offset.value().is_some());
-    assert!(rt; map.is_valid(addr));
-    assert!(rt; map.fits_at(addr, &key));
+    assert_true(rt, addr.offset.value().is_some());
+    assert_true(rt, map.is_valid(addr));
+    assert_true(rt, map.fits_at(addr, &key));
     match map.insert_at(addr, Item::new(key, value)) {
         Ok(at) => at,
         Err(_) => panic!(rt; "refused"),
@@ -94,13 +60,13 @@ fn leaves_of(rt: &impl Abort, map: &Map, alloc: Global) -> Result<String, Fail> 
     let Some(root) = map.root_id() else {
         return Ok(text);
     };
-    assert!(rt; map.has_node(root));
+    assert_true(rt, map.has_node(root));
     let node = map.node(root);
     for index in 0..node.child_count() {
         let Some(child) = node.child_id_opt(index) else {
             return Err(Fail::from("no child"));
         };
-        assert!(rt; map.has_node(child));
+        assert_true(rt, map.has_node(child));
         write!(text, "({})", map.node(child).item_count())?;
         if let Some(item) = node.item(Offset::from(index)) {
             write!(text, " {} ", item.key())?;
@@ -113,7 +79,7 @@ fn leaves_of(rt: &impl Abort, map: &Map, alloc: Global) -> Result<String, Fail> 
 fn first_keys(rt: &impl Abort, alloc: Global, count: u64) -> Map {
     let mut map: Map = BTreeMap::new(alloc);
     for key in 0..count {
-        assert!(rt; map.insert(key, key).is_ok());
+        assert_true(rt, map.insert(key, key).is_ok());
     }
     map
 }
@@ -128,7 +94,7 @@ fn top_of(map: &Map) -> Result<Address, Fail> {
 
 // Removes the item at an address. Returns its key, and where the next item is then.
 fn take_at(rt: &impl Abort, map: &mut Map, addr: Address) -> (u64, Address) {
-    assert!(rt; map.is_valid(Address::new(addr.id, addr.offset)));
+    assert_true(rt, map.is_valid(Address::new(addr.id, addr.offset)));
     match map.remove_at(addr) {
         Some((item, back)) => (*item.key(), back),
         None => panic!(rt; "nothing there"),
@@ -138,48 +104,52 @@ fn take_at(rt: &impl Abort, map: &mut Map, addr: Address) -> (u64, Address) {
 // The pairs are inserted in their order.
 #[test]
 fn a_hundred_pairs_use_twenty_nodes(rt: HostRuntime) -> Result<(), Fail> {
-    let pairs = items(rt.alloc())?;
+    let pairs = listed_pairs(rt.alloc())?;
     let (map, list) = maps_of(&rt, &pairs, 100, rt.alloc())?;
     check_list(&rt, &map, &list);
-    assert_eq!(rt; (map.len(), map.node_count(), map.height()), (100, 20, 3));
+    assert_same(
+        &rt,
+        (map.len(), map.node_count(), map.height()),
+        (100, 20, 3),
+    );
     let Some(root) = map.root_id() else {
         return Err(Fail::from("no root"));
     };
-    assert!(rt; map.has_node(root));
+    assert_true(&rt, map.has_node(root));
     let node = map.node(root);
-    assert_eq!(rt; node.item_count(), 2);
+    assert_same(&rt, node.item_count(), 2);
     for (index, key) in [(0usize, 4199), (1, 7850)] {
         let item = node.item(Offset::from(index));
-        assert_eq!(rt; item.map(|item| *item.key()), Some(key));
+        assert_same(&rt, item.map(|item| *item.key()), Some(key));
     }
     Ok(())
 }
 
 #[test]
 fn removes_all_pairs_in_two_orders(rt: HostRuntime) -> Result<(), Fail> {
-    let pairs = items(rt.alloc())?;
+    let pairs = listed_pairs(rt.alloc())?;
     for (start, step) in [(0usize, 7usize), (99, 99)] {
         let (mut map, mut list) = maps_of(&rt, &pairs, 100, rt.alloc())?;
-        assert_eq!(rt; map.len(), 100);
+        assert_same(&rt, map.len(), 100);
         let mut index = start;
         for _ in 0..100 {
             let Some((key, value)) = pairs.get(index) else {
                 return Err(Fail::from("no pair"));
             };
             list.remove(key);
-            assert_eq!(rt; map.remove(key), Some(*value));
-            assert_eq!(rt; map.remove(key), None);
+            assert_same(&rt, map.remove(key), Some(*value));
+            assert_same(&rt, map.remove(key), None);
             check_list(&rt, &map, &list);
             index = index.wrapping_add(step) % 100;
         }
-        assert_eq!(rt; (map.root_id(), map.node_count()), (None, 0));
+        assert_same(&rt, (map.root_id(), map.node_count()), (None, 0));
     }
     Ok(())
 }
 
 #[test]
 fn puts_back_each_pair_that_it_takes(rt: HostRuntime) -> Result<(), Fail> {
-    let pairs = items(rt.alloc())?;
+    let pairs = listed_pairs(rt.alloc())?;
     for count in 1..100usize {
         let (mut map, list) = maps_of(&rt, &pairs, count, rt.alloc())?;
         for (key, value) in pairs.iter().take(count) {
@@ -189,10 +159,11 @@ fn puts_back_each_pair_that_it_takes(rt: HostRuntime) -> Result<(), Fail> {
             let Some((item, back)) = map.remove_at(addr) else {
                 return Err(Fail::from("nothing there"));
             };
-            assert_eq!(rt; (*item.key(), *item.value()), (*key, *value));
-            assert_eq!(rt;
+            assert_same(&rt, (*item.key(), *item.value()), (*key, *value));
+            assert_same(
+                &rt,
                 (map.len(), map.validate()),
-                (count.wrapping_sub(1), Ok(()))
+                (count.wrapping_sub(1), Ok(())),
             );
             put(&rt, &mut map, back, *key, *value);
             check_list(&rt, &map, &list);
@@ -203,7 +174,7 @@ fn puts_back_each_pair_that_it_takes(rt: HostRuntime) -> Result<(), Fail> {
 
 #[test]
 fn inserts_each_pair_at_the_address_of_its_gap(rt: HostRuntime) -> Result<(), Fail> {
-    let pairs = items(rt.alloc())?;
+    let pairs = listed_pairs(rt.alloc())?;
     let mut map: Map = BTreeMap::new(rt.alloc());
     for (key, value) in pairs.iter() {
         let Err(gap) = map.address_of(key) else {
@@ -212,9 +183,9 @@ fn inserts_each_pair_at_the_address_of_its_gap(rt: HostRuntime) -> Result<(), Fa
         let Ok(at) = map.insert_exactly_at(gap, Item::new(*key, *value)) else {
             return Err(Fail::from("refused"));
         };
-        assert_eq!(rt; map.item(at).map(|item| *item.value()), Some(*value));
+        assert_same(&rt, map.item(at).map(|item| *item.value()), Some(*value));
     }
-    assert_eq!(rt; map.len(), 100);
+    assert_same(&rt, map.len(), 100);
     Ok(())
 }
 
@@ -225,16 +196,17 @@ fn check_neighbours(rt: &impl Abort, map: &Map, key: &u64) -> Result<usize, Fail
     };
     let mut neighbours = 0usize;
     if let Some(next) = map.next_item_address(Address::new(addr.id, addr.offset)) {
-        assert!(rt; next != addr, "{key}");
-        assert!(rt;
+        assert_true_in(rt, key, next != addr);
+        assert_true_in(
+            rt,
+            key,
             map.previous_item_address(next) == Some(Address::new(addr.id, addr.offset)),
-            "{key}"
         );
         neighbours = neighbours.wrapping_add(1);
     }
     if let Some(previous) = map.previous_item_address(Address::new(addr.id, addr.offset)) {
-        assert!(rt; previous != addr, "{key}");
-        assert!(rt; map.next_item_address(previous) == Some(addr), "{key}");
+        assert_true_in(rt, key, previous != addr);
+        assert_true_in(rt, key, map.next_item_address(previous) == Some(addr));
         neighbours = neighbours.wrapping_add(1);
     }
     Ok(neighbours)
@@ -242,13 +214,13 @@ fn check_neighbours(rt: &impl Abort, map: &Map, key: &u64) -> Result<usize, Fail
 
 #[test]
 fn neighbours_lead_back(rt: HostRuntime) -> Result<(), Fail> {
-    let pairs = items(rt.alloc())?;
+    let pairs = listed_pairs(rt.alloc())?;
     let (map, _list) = maps_of(&rt, &pairs, 100, rt.alloc())?;
     let mut neighbours = 0usize;
     for (key, _value) in pairs.iter() {
         neighbours = neighbours.wrapping_add(check_neighbours(&rt, &map, key)?);
     }
-    assert_eq!(rt; neighbours, 198);
+    assert_same(&rt, neighbours, 198);
     Ok(())
 }
 
@@ -257,29 +229,30 @@ fn neighbours_lead_back(rt: HostRuntime) -> Result<(), Fail> {
 fn hands_out_its_nodes(rt: HostRuntime) -> Result<(), Fail> {
     let map = first_keys(&rt, rt.alloc(), 9);
     let raw = map.into_raw();
-    assert_eq!(rt; (raw.len(), raw.node_count()), (9, 3));
+    assert_same(&rt, (raw.len(), raw.node_count()), (9, 3));
     let Some(top) = raw.root_id() else {
         return Err(Fail::from("no root"));
     };
     let item = raw.item(Address::new(top, Offset::from(0)));
-    assert_eq!(rt; item.map(|item| *item.key()), Some(4));
+    assert_same(&rt, item.map(|item| *item.key()), Some(4));
     Ok(())
 }
 
 #[test]
 fn removal_merges_up_to_the_root(rt: HostRuntime) -> Result<(), Fail> {
     let mut map = first_keys(&rt, rt.alloc(), 44);
-    assert_eq!(rt; (map.node_count(), map.height()), (12, 3));
+    assert_same(&rt, (map.node_count(), map.height()), (12, 3));
     for key in 0..7u64 {
-        assert_eq!(rt; map.remove(&key), Some(key));
+        assert_same(&rt, map.remove(&key), Some(key));
     }
-    assert_eq!(rt; map.node_count(), 11);
-    assert_eq!(rt; map.remove(&7), Some(7));
-    assert_eq!(rt; (map.node_count(), map.height()), (8, 2));
+    assert_same(&rt, map.node_count(), 11);
+    assert_same(&rt, map.remove(&7), Some(7));
+    assert_same(&rt, (map.node_count(), map.height()), (8, 2));
     let leaves = leaves_of(&rt, &map, rt.alloc())?;
-    assert_eq!(rt;
+    assert_same(
+        &rt,
         leaves.as_str(),
-        "(6) 14 (4) 19 (4) 24 (4) 29 (4) 34 (4) 39 (4)"
+        "(6) 14 (4) 19 (4) 24 (4) 29 (4) 34 (4) 39 (4)",
     );
     Ok(())
 }
@@ -289,9 +262,9 @@ fn two_leaves(rt: &impl Abort, map: &Map) -> Result<(usize, usize), Fail> {
     let Some(root) = map.root_id() else {
         return Err(Fail::from("no root"));
     };
-    assert!(rt; map.has_node(root));
+    assert_true(rt, map.has_node(root));
     let node = map.node(root);
-    assert_eq!(rt; node.child_count(), 2);
+    assert_same(rt, node.child_count(), 2);
     match (node.child_id_opt(0), node.child_id_opt(1)) {
         (Some(left), Some(right)) => Ok((left, right)),
         _ => Err(Fail::from("no leaves")),
@@ -304,14 +277,18 @@ fn puts_back_the_item_of_an_internal_node(rt: HostRuntime) -> Result<(), Fail> {
     let (_left, right) = two_leaves(&rt, &map)?;
     let top = top_of(&map)?;
     let (key, back) = take_at(&rt, &mut map, top);
-    assert_eq!(rt; (key, back.id, back.offset.value()), (4, right, Some(0)));
+    assert_same(
+        &rt,
+        (key, back.id, back.offset.value()),
+        (4, right, Some(0)),
+    );
     let leaves = leaves_of(&rt, &map, rt.alloc())?;
-    assert_eq!(rt; (leaves.as_str(), map.len()), ("(3) 3 (4)", 8));
+    assert_same(&rt, (leaves.as_str(), map.len()), ("(3) 3 (4)", 8));
     let at = put(&rt, &mut map, back, 4, 4);
-    assert_eq!(rt; (at.id, at.offset.value()), (right, Some(0)));
+    assert_same(&rt, (at.id, at.offset.value()), (right, Some(0)));
     let leaves = leaves_of(&rt, &map, rt.alloc())?;
-    assert_eq!(rt; leaves.as_str(), "(3) 3 (5)");
-    assert_eq!(rt; (map.len(), map.node_count()), (9, 3));
+    assert_same(&rt, leaves.as_str(), "(3) 3 (5)");
+    assert_same(&rt, (map.len(), map.node_count()), (9, 3));
     Ok(())
 }
 
@@ -319,13 +296,13 @@ fn puts_back_the_item_of_an_internal_node(rt: HostRuntime) -> Result<(), Fail> {
 #[test]
 fn answers_the_address_that_the_next_item_moves_to(rt: HostRuntime) -> Result<(), Fail> {
     let mut map = first_keys(&rt, rt.alloc(), 9);
-    assert_eq!(rt; map.remove(&3), Some(3));
+    assert_same(&rt, map.remove(&3), Some(3));
     let top = top_of(&map)?;
     let id = top.id;
     let (key, back) = take_at(&rt, &mut map, top);
-    assert_eq!(rt; (key, back.id, back.offset.value()), (4, id, Some(0)));
+    assert_same(&rt, (key, back.id, back.offset.value()), (4, id, Some(0)));
     let leaves = leaves_of(&rt, &map, rt.alloc())?;
-    assert_eq!(rt; leaves.as_str(), "(3) 5 (3)");
+    assert_same(&rt, leaves.as_str(), "(3) 5 (3)");
     Ok(())
 }
 
@@ -333,39 +310,41 @@ fn answers_the_address_that_the_next_item_moves_to(rt: HostRuntime) -> Result<()
 #[test]
 fn answers_the_end_of_the_merged_leaf(rt: HostRuntime) -> Result<(), Fail> {
     let mut map = first_keys(&rt, rt.alloc(), 9);
-    assert_eq!(rt; (map.remove(&8), map.remove(&3)), (Some(8), Some(3)));
+    assert_same(&rt, (map.remove(&8), map.remove(&3)), (Some(8), Some(3)));
     let (left, right) = two_leaves(&rt, &map)?;
     let (key, back) = take_at(&rt, &mut map, Address::new(right, Offset::from(2)));
-    assert_eq!(rt; (key, back.id, back.offset.value()), (7, left, Some(6)));
-    assert_eq!(rt;
+    assert_same(&rt, (key, back.id, back.offset.value()), (7, left, Some(6)));
+    assert_same(
+        &rt,
         (map.root_id(), map.node_count(), map.height(), map.len()),
-        (Some(left), 1, 1, 6)
+        (Some(left), 1, 1, 6),
     );
     let mut keys = map.iter();
     for key in [0, 1, 2, 4, 5, 6] {
-        assert_eq!(rt; keys.next(), Some((&key, &key)));
+        assert_same(&rt, keys.next(), Some((&key, &key)));
     }
-    assert_eq!(rt; keys.next(), None);
+    assert_same(&rt, keys.next(), None);
     Ok(())
 }
 
 #[test]
 fn removes_nothing_where_no_item_is(rt: HostRuntime) -> Result<(), Fail> {
     let mut map: Map = BTreeMap::new(rt.alloc());
-    assert!(rt; map.is_valid(Address::nowhere()));
-    assert!(rt; map.remove_at(Address::nowhere()).is_none());
-    assert_eq!(rt; (map.len(), map.root_id()), (0, None));
-    assert!(rt; map.insert(3, 30).is_ok() && map.insert(5, 50).is_ok());
+    assert_true(&rt, map.is_valid(Address::nowhere()));
+    assert_true(&rt, map.remove_at(Address::nowhere()).is_none());
+    assert_same(&rt, (map.len(), map.root_id()), (0, None));
+    assert_true(&rt, map.insert(3, 30).is_ok() && map.insert(5, 50).is_ok());
     let Some(root) = map.root_id() else {
         return Err(Fail::from("no root"));
     };
     for offset in [Offset::from(2), Offset::before()] {
         let addr = Address::new(root, offset);
-        assert!(rt; map.is_valid(addr));
-        assert!(rt; map.remove_at(addr).is_none());
-        assert_eq!(rt;
+        assert_true(&rt, map.is_valid(addr));
+        assert_true(&rt, map.remove_at(addr).is_none());
+        assert_same(
+            &rt,
             (map.len(), map.get(&3), map.get(&5)),
-            (2, Some(&30), Some(&50))
+            (2, Some(&30), Some(&50)),
         );
     }
     Ok(())

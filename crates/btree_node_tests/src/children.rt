@@ -1,4 +1,5 @@
 //! The children of a node, with the items and keys between them.
+use btree_asserts::{assert_same, assert_same_in, assert_true};
 use btree_item::Item;
 use btree_node::Node;
 use std::test::Fail;
@@ -19,10 +20,10 @@ fn lists_children(rt: HostRuntime) {
     let node = node_of_two();
     let mut children = node.children();
     for id in [Some(1), Some(2), Some(3), None, None] {
-        assert_eq!(rt; children.next(), id);
+        assert_same(&rt, children.next(), id);
     }
     let leaf = Node::leaf(None, Item::new(20u32, 'b'));
-    assert_eq!(rt; leaf.children().next(), None);
+    assert_same(&rt, leaf.children().next(), None);
 }
 
 #[test]
@@ -40,10 +41,10 @@ fn lists_children_with_the_items_between(rt: HostRuntime) {
             Some((before, id, after)) => Some((key_of(before), id, key_of(after))),
             None => None,
         };
-        assert_eq!(rt; next, expected);
+        assert_same(&rt, next, expected);
     }
     let leaf = Node::leaf(None, Item::new(20u32, 'b'));
-    assert!(rt; leaf.children_with_separators().next().is_none());
+    assert_true(&rt, leaf.children_with_separators().next().is_none());
 }
 
 #[test]
@@ -54,10 +55,10 @@ fn finds_separators(rt: HostRuntime) {
         (1, Some(&20), Some(&30)),
         (2, Some(&30), None),
     ] {
-        assert!(rt; index <= node.item_count());
-        assert_eq!(rt; node.separators(index), (before, after), "{index}");
+        assert_true(&rt, index <= node.item_count());
+        assert_same_in(&rt, index, node.separators(index), (before, after));
     }
     let leaf = Node::leaf(None, Item::new(20u32, 'b'));
-    assert!(rt; leaf.child_count() == 0);
-    assert_eq!(rt; leaf.separators(0), (None, None));
+    assert_true(&rt, leaf.child_count() == 0);
+    assert_same(&rt, leaf.separators(0), (None, None));
 }

@@ -7,6 +7,7 @@ ghost use Rattle.btree_node.specs.Node.{view_of};
 ghost use Rattle.btree_view.specs.View.{items_of};
 
 use crate::nodes::put;
+use btree_asserts::{assert_same_in, assert_true, assert_true_in};
 use btree_counted::{COMPARISONS, Counted, promised_comparisons};
 use btree_item::{Item, MAX_COMPARISONS, Offset};
 use btree_node::{InternalNode, LeafNode, Node};
@@ -50,9 +51,9 @@ fn looked_up<'a>(
     key.compared.set(0);
     let mut steps = Steps::new();
     let (counted, ticks) = counted_of(node, &key, &mut steps);
-    assert_eq!(rt; key.compared.get(), compared, "{}", key.number);
-    assert_eq!(rt; ticks, compared as usize, "{}", key.number);
-    assert!(rt; ticks <= MAX_COMPARISONS, "{}", key.number);
+    assert_same_in(rt, key.number, key.compared.get(), compared);
+    assert_same_in(rt, key.number, ticks, compared as usize);
+    assert_true_in(rt, key.number, ticks <= MAX_COMPARISONS);
     (place, counted, ticks)
 }
 
@@ -68,9 +69,9 @@ fn leaf_of<'a>(rt: &impl Abort, compared: &'a Cell<u32>, count: u32) -> Node<Cou
             number: 2 * index + 1,
             compared,
         };
-        assert!(rt; leaf.item_count() < 9);
+        assert_true(rt, leaf.item_count() < 9);
         let (_, old) = leaf.insert_by_key(key, 0);
-        assert!(rt; old.is_none());
+        assert_true(rt, old.is_none());
     }
     Node::Leaf(leaf)
 }
@@ -91,7 +92,7 @@ fn internal_of<'a>(rt: &impl Abort, compared: &'a Cell<u32>, count: u32) -> Node
             number: 2 * index + 1,
             compared,
         };
-        assert!(rt; put(&mut node, key, 0, (index as usize) + 101));
+        assert_true(rt, put(&mut node, key, 0, (index as usize) + 101));
     }
     Node::Internal(node)
 }
@@ -114,12 +115,13 @@ fn looks_up_each<'a>(
         } else {
             Err((smaller, node.child_id_opt(smaller)))
         };
-        assert_eq!(rt; place, expected, "{number} among {held}");
-        assert_eq!(rt; counted, expected, "{number} among {held}");
-        assert_eq!(rt;
+        assert_same_in(rt, number, &place, &expected);
+        assert_same_in(rt, number, &counted, &expected);
+        assert_same_in(
+            rt,
+            (number, held),
             ticks,
             COMPARISONS[held as usize][smaller],
-            "{number} among {held}"
         );
     }
 }

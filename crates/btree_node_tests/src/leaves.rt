@@ -2,6 +2,7 @@ ghost use Rattle.std.specs.Prelude.{◌≡◌, true, false};
 ghost use Rattle.btree_item.specs.Pairs.{Ascends};
 ghost use Rattle.btree_leaf.specs.LeafLends.{leaf_with_value};
 
+use btree_asserts::{assert_same, assert_same_in, assert_true, assert_true_in};
 use btree_counted::Counted;
 use btree_item::{Item, Offset};
 use btree_node::LeafNode;
@@ -34,15 +35,16 @@ fn keeps_items_by_key(rt: HostRuntime) {
         (25, 'x', 2, None),
         (30, 'C', 3, Some('c')),
     ] {
-        assert!(rt; leaf.item_count() < 9);
-        assert_eq!(rt;
+        assert_true(&rt, leaf.item_count() < 9);
+        assert_same_in(
+            &rt,
+            key,
             leaf.insert_by_key(key, value),
             (Offset::from(offset), old),
-            "{key}"
         );
     }
-    assert_eq!(rt; leaf.parent(), Some(3));
-    assert_eq!(rt; leaf.item_count(), 4);
+    assert_same(&rt, leaf.parent(), Some(3));
+    assert_same(&rt, leaf.item_count(), 4);
     for (key, value, place) in [
         (5, None, Err(Offset::from(0))),
         (10, Some(&'a'), Ok(Offset::from(0))),
@@ -51,13 +53,13 @@ fn keeps_items_by_key(rt: HostRuntime) {
         (30, Some(&'C'), Ok(Offset::from(3))),
         (31, None, Err(Offset::from(4))),
     ] {
-        assert_eq!(rt; leaf.get(&key), value, "{key}");
-        assert_eq!(rt; leaf.offset_of(&key), place, "{key}");
+        assert_same_in(&rt, key, leaf.get(&key), value);
+        assert_same_in(&rt, key, leaf.offset_of(&key), place);
     }
-    assert!(rt; write(&mut leaf, &25, 'X'));
-    assert!(rt; !write(&mut leaf, &26, 'Y'));
-    assert_eq!(rt; leaf.get(&25), Some(&'X'));
-    assert_eq!(rt; leaf.items().get(0).map(|item| *item.key()), Some(10));
+    assert_true(&rt, write(&mut leaf, &25, 'X'));
+    assert_true(&rt, !write(&mut leaf, &26, 'Y'));
+    assert_same(&rt, leaf.get(&25), Some(&'X'));
+    assert_same(&rt, leaf.items().get(0).map(|item| *item.key()), Some(10));
 }
 
 // The keys are 1, 3, 5, up to nine of them; each of these and each number between is searched for.
@@ -74,17 +76,17 @@ fn compares_at_most_six_times(rt: HostRuntime) {
         for number in 0..2 * held + 2 {
             compared.set(0);
             let value = leaf.get(&key(number)).copied();
-            assert!(rt; compared.get() <= 6, "{number} among {held}");
+            assert_true_in(&rt, (number, held), compared.get() <= 6);
             let is_held = number % 2 == 1 && number < 2 * held;
-            assert_eq!(rt; value, if is_held { Some(number / 2) } else { None });
+            assert_same(&rt, value, if is_held { Some(number / 2) } else { None });
         }
         if leaf.item_count() < 9 {
             compared.set(0);
             leaf.insert_by_key(key(2 * held + 1), held);
-            assert!(rt; compared.get() <= 6, "{held}");
+            assert_true_in(&rt, held, compared.get() <= 6);
         }
     }
-    assert_eq!(rt; leaf.item_count(), 9);
+    assert_same(&rt, leaf.item_count(), 9);
 }
 
 #[test]
@@ -92,10 +94,10 @@ fn inserts_at_an_offset(rt: HostRuntime) {
     let mut leaf = LeafNode::new(Some(usize::MAX), Item::new(1, 'a'));
     leaf.insert(Offset::from(1), Item::new(3, 'c'));
     leaf.insert(Offset::from(1), Item::new(2, 'b'));
-    assert_eq!(rt; leaf.parent(), None);
+    assert_same(&rt, leaf.parent(), None);
     let mut items = leaf.iter();
     for key in 1..4 {
-        assert_eq!(rt; items.next().map(|item| *item.key()), Some(key));
+        assert_same(&rt, items.next().map(|item| *item.key()), Some(key));
     }
-    assert!(rt; items.next().is_none());
+    assert_true(&rt, items.next().is_none());
 }

@@ -5,6 +5,7 @@ ghost use Rattle.btree_internal.specs.Internal.{internal_view};
 ghost use Rattle.btree_node.specs.Node.{view_of};
 ghost use Rattle.btree_view.specs.View.{items_of};
 
+use btree_asserts::{assert_same, assert_same_in, assert_true, assert_true_in};
 use btree_counted::Counted;
 use btree_item::{Item, Keyed, Offset};
 use btree_node::{Balance, Branch, InternalNode, LeafNode, Node, internal};
@@ -25,7 +26,7 @@ fn leaf_of(rt: &impl Abort, items: u32) -> LeafNode<u32, char> {
     let mut leaf = LeafNode::empty(Some(5));
     for number in 0..items {
         let count = leaf.item_count();
-        assert!(rt; count < 9);
+        assert_true(rt, count < 9);
         leaf.insert(at(count), Item::new(number.wrapping_mul(10), 'v'));
     }
     leaf
@@ -36,7 +37,7 @@ fn internal_of(rt: &impl Abort, items: u32) -> InternalNode<u32, char> {
     let mut node = InternalNode::binary(Some(6), 100, Item::new(0, 'v'), 101);
     for number in 1..items {
         let count = node.item_count();
-        assert!(rt; count < 8);
+        assert_true(rt, count < 8);
         node.insert(
             at(count),
             Item::new(number.wrapping_mul(10), 'v'),
@@ -55,56 +56,63 @@ fn key_at(node: &Node<u32, char>, index: usize) -> Option<u32>
 #[test]
 fn splits_a_leaf_of_nine(rt: HostRuntime) {
     let mut node = Node::Leaf(leaf_of(&rt, 9));
-    assert!(rt; node.is_overflowing());
-    assert_eq!(rt; node.balance(), Balance::Overflow);
+    assert_true(&rt, node.is_overflowing());
+    assert_same(&rt, node.balance(), Balance::Overflow);
     let (left, median, right) = node.split();
-    assert_eq!(rt; (left, *median.key()), (4, 40));
-    assert_eq!(rt; (node.parent(), right.parent()), (Some(5), Some(5)));
-    assert_eq!(rt; (node.item_count(), right.item_count()), (4, 4));
-    assert_eq!(rt;
+    assert_same(&rt, (left, *median.key()), (4, 40));
+    assert_same(&rt, (node.parent(), right.parent()), (Some(5), Some(5)));
+    assert_same(&rt, (node.item_count(), right.item_count()), (4, 4));
+    assert_same(
+        &rt,
         (
             node.child_count(),
             node.child_id_opt(0),
-            node.child_index(0)
+            node.child_index(0),
         ),
-        (0, None, None)
+        (0, None, None),
     );
     for index in 0..4 {
         let key = (index as u32) * 10;
-        assert_eq!(rt; key_at(&node, index), Some(key));
-        assert_eq!(rt; key_at(&right, index), Some(key + 50));
+        assert_same(&rt, key_at(&node, index), Some(key));
+        assert_same(&rt, key_at(&right, index), Some(key + 50));
     }
-    assert_eq!(rt; node.item(Offset::before()).map(|item| *item.key()), None);
+    assert_same(
+        &rt,
+        node.item(Offset::before()).map(|item| *item.key()),
+        None,
+    );
 }
 
 #[test]
 fn splits_an_internal_node_of_eight(rt: HostRuntime) {
     let mut node = Node::Internal(internal_of(&rt, 8));
-    assert!(rt; node.is_overflowing());
+    assert_true(&rt, node.is_overflowing());
     let (left, median, right) = node.split();
-    assert_eq!(rt; (left, *median.key()), (3, 30));
-    assert_eq!(rt; (node.parent(), right.parent()), (Some(6), Some(6)));
-    assert_eq!(rt; (node.child_count(), right.child_count()), (4, 5));
+    assert_same(&rt, (left, *median.key()), (3, 30));
+    assert_same(&rt, (node.parent(), right.parent()), (Some(6), Some(6)));
+    assert_same(&rt, (node.child_count(), right.child_count()), (4, 5));
     for index in 0..4 {
-        assert_eq!(rt; node.child_id_opt(index), Some(100 + index));
-        assert_eq!(rt; key_at(&right, index), Some((index as u32) * 10 + 40));
+        assert_same(&rt, node.child_id_opt(index), Some(100 + index));
+        assert_same(&rt, key_at(&right, index), Some((index as u32) * 10 + 40));
     }
     for index in 0..5 {
-        assert_eq!(rt; right.child_id_opt(index), Some(104 + index));
-        assert_eq!(rt; right.child_index(104 + index), Some(index));
+        assert_same(&rt, right.child_id_opt(index), Some(104 + index));
+        assert_same(&rt, right.child_index(104 + index), Some(index));
     }
-    assert_eq!(rt; node.child_id_opt(4), None);
-    assert_eq!(rt;
+    assert_same(&rt, node.child_id_opt(4), None);
+    assert_same(
+        &rt,
         (node.balance(), node.is_underflowing()),
-        (Balance::Balanced, false)
+        (Balance::Balanced, false),
     );
 }
 
 #[test]
 fn tells_how_full_a_node_is(rt: HostRuntime) {
-    assert_eq!(rt;
+    assert_same(
+        &rt,
         LeafNode::<u32, char>::empty(None).balance(),
-        Balance::Underflow(true)
+        Balance::Underflow(true),
     );
     for (items, balance, is_full) in [
         (2, Balance::Underflow(false), false),
@@ -114,10 +122,10 @@ fn tells_how_full_a_node_is(rt: HostRuntime) {
         (9, Balance::Overflow, true),
     ] {
         let leaf = leaf_of(&rt, items);
-        assert_eq!(rt; leaf.balance(), balance, "{items}");
-        assert_eq!(rt; leaf.is_overflowing(), balance == Balance::Overflow);
-        assert_eq!(rt; leaf.is_underflowing(), items < 3);
-        assert_eq!(rt; Node::Leaf(leaf).is_full(), is_full, "{items}");
+        assert_same_in(&rt, items, leaf.balance(), balance);
+        assert_same(&rt, leaf.is_overflowing(), balance == Balance::Overflow);
+        assert_same(&rt, leaf.is_underflowing(), items < 3);
+        assert_same_in(&rt, items, Node::Leaf(leaf).is_full(), is_full);
     }
     for (items, balance, is_full) in [
         (1, Balance::Underflow(false), false),
@@ -127,10 +135,10 @@ fn tells_how_full_a_node_is(rt: HostRuntime) {
         (8, Balance::Overflow, true),
     ] {
         let node = internal_of(&rt, items);
-        assert_eq!(rt; node.balance(), balance, "{items}");
-        assert_eq!(rt; node.is_overflowing(), balance == Balance::Overflow);
-        assert_eq!(rt; node.is_underflowing(), items < 3);
-        assert_eq!(rt; Node::Internal(node).is_full(), is_full, "{items}");
+        assert_same_in(&rt, items, node.balance(), balance);
+        assert_same(&rt, node.is_overflowing(), balance == Balance::Overflow);
+        assert_same(&rt, node.is_underflowing(), items < 3);
+        assert_same_in(&rt, items, Node::Internal(node).is_full(), is_full);
     }
 }
 
@@ -154,10 +162,10 @@ fn reads_items_and_branches_by_index(rt: HostRuntime) {
         (3, None, None),
         (usize::MAX, None, None),
     ] {
-        assert_eq!(rt; key_at_index(&leaf, index), key, "{index}");
-        assert_eq!(rt; key_at_index(&node, index), key, "{index}");
-        assert_eq!(rt; branch_at_index(&leaf, index), None, "{index}");
-        assert_eq!(rt; branch_at_index(&node, index), branch, "{index}");
+        assert_same_in(&rt, index, key_at_index(&leaf, index), key);
+        assert_same_in(&rt, index, key_at_index(&node, index), key);
+        assert_same_in(&rt, index, branch_at_index(&leaf, index), None);
+        assert_same_in(&rt, index, branch_at_index(&node, index), branch);
     }
 }
 
@@ -167,18 +175,19 @@ fn changes_nodes(rt: HostRuntime) {
     leaf.insert(Offset::from(0), Item::new(10, 'a'), None);
     leaf.insert(Offset::from(2), Item::new(30, 'c'), None);
     leaf.set_parent(Some(4));
-    assert_eq!(rt; (leaf.parent(), leaf.item_count()), (Some(4), 3));
+    assert_same(&rt, (leaf.parent(), leaf.item_count()), (Some(4), 3));
     let mut node = Node::binary(Some(8), 1, Item::new(20, 'b'), 3);
     node.insert(Offset::from(0), Item::new(10, 'a'), Some(2));
     node.set_parent(None);
-    assert_eq!(rt; (node.parent(), node.child_count()), (None, 3));
+    assert_same(&rt, (node.parent(), node.child_count()), (None, 3));
     for index in 0..3 {
-        assert_eq!(rt; node.child_id_opt(index), Some(index + 1));
-        assert_eq!(rt; key_at(&leaf, index), Some((index as u32) * 10 + 10));
+        assert_same(&rt, node.child_id_opt(index), Some(index + 1));
+        assert_same(&rt, key_at(&leaf, index), Some((index as u32) * 10 + 10));
     }
-    assert_eq!(rt;
+    assert_same(
+        &rt,
         (key_at(&node, 0), key_at(&node, 1), key_at(&node, 2)),
-        (Some(10), Some(20), None)
+        (Some(10), Some(20), None),
     );
 }
 
@@ -205,40 +214,44 @@ fn value_of(node: &Node<u32, char>) -> Option<char> {
 #[test]
 fn finds_a_key_in_an_internal_node(rt: HostRuntime) {
     let node = node_of_one();
-    assert_eq!(rt; node.get(&20), Ok(Some(&'b')));
-    assert_eq!(rt; (node.get(&10), node.get(&30)), (Err(1), Err(2)));
-    assert_eq!(rt; node.offset_of(&20), Ok(Offset::from(0)));
-    assert_eq!(rt; node.offset_of(&30), Err((1, Some(2))));
+    assert_same(&rt, node.get(&20), Ok(Some(&'b')));
+    assert_same(&rt, (node.get(&10), node.get(&30)), (Err(1), Err(2)));
+    assert_same(&rt, node.offset_of(&20), Ok(Offset::from(0)));
+    assert_same(&rt, node.offset_of(&30), Err((1, Some(2))));
     let mut written = node_of_one();
     match written.find_mut(&20) {
         Ok(value) => *value = 'c',
-        Err(_) => assert!(rt; false),
+        Err(_) => assert_true(&rt, false),
     }
-    assert_eq!(rt; value_of(&written), Some('c'));
+    assert_same(&rt, value_of(&written), Some('c'));
     let mut absent = node_of_one();
     match absent.get_mut(&30) {
-        Ok(_) => assert!(rt; false),
-        Err(child) => assert_eq!(rt; child, 2),
+        Ok(_) => assert_true(&rt, false),
+        Err(child) => assert_same(&rt, child, 2),
     }
 }
 
 #[test]
 fn finds_a_key_in_a_leaf(rt: HostRuntime) {
     let leaf = leaf_of_one();
-    assert_eq!(rt; (leaf.get(&10), leaf.get(&20)), (Ok(None), Ok(Some(&'b'))));
-    assert_eq!(rt; leaf.offset_of(&20), Ok(Offset::from(0)));
-    assert_eq!(rt; leaf.offset_of(&30), Err((1, None)));
+    assert_same(
+        &rt,
+        (leaf.get(&10), leaf.get(&20)),
+        (Ok(None), Ok(Some(&'b'))),
+    );
+    assert_same(&rt, leaf.offset_of(&20), Ok(Offset::from(0)));
+    assert_same(&rt, leaf.offset_of(&30), Err((1, None)));
     let mut absent = leaf_of_one();
     match absent.find_mut(&10) {
-        Ok(_) => assert!(rt; false),
-        Err(child) => assert_eq!(rt; child, None),
+        Ok(_) => assert_true(&rt, false),
+        Err(child) => assert_same(&rt, child, None),
     }
     let mut written = leaf_of_one();
     match written.get_mut(&20) {
         Ok(Some(value)) => *value = 'c',
-        _ => assert!(rt; false),
+        _ => assert_true(&rt, false),
     }
-    assert_eq!(rt; value_of(&written), Some('c'));
+    assert_same(&rt, value_of(&written), Some('c'));
 }
 
 // Returns a leaf under node 5 with the keys 20 and 30.
@@ -294,21 +307,21 @@ fn writes_one_value_of_a_leaf(rt: HostRuntime) {
     let mut written = leaf_of_two();
     match written.get_mut(&30) {
         Ok(Some(value)) => *value = 'x',
-        _ => assert!(rt; false),
+        _ => assert_true(&rt, false),
     }
-    assert!(rt; is_so(&written, 5, ('b', 'x'), NO_CHILD));
+    assert_true(&rt, is_so(&written, 5, ('b', 'x'), NO_CHILD));
     let mut found = leaf_of_two();
     match found.get_mut(&20) {
-        Ok(Some(value)) => assert_eq!(rt; *value, 'b'),
-        _ => assert!(rt; false),
+        Ok(Some(value)) => assert_same(&rt, *value, 'b'),
+        _ => assert_true(&rt, false),
     }
-    assert!(rt; is_so(&found, 5, ('b', 'c'), NO_CHILD));
+    assert_true(&rt, is_so(&found, 5, ('b', 'c'), NO_CHILD));
     let mut missed = leaf_of_two();
     match missed.get_mut(&25) {
         Ok(None) => {}
-        _ => assert!(rt; false),
+        _ => assert_true(&rt, false),
     }
-    assert!(rt; is_so(&missed, 5, ('b', 'c'), NO_CHILD));
+    assert_true(&rt, is_so(&missed, 5, ('b', 'c'), NO_CHILD));
 }
 
 #[test]
@@ -316,51 +329,52 @@ fn writes_one_value_of_an_internal_node(rt: HostRuntime) {
     let mut written = node_of_two();
     match written.get_mut(&20) {
         Ok(Some(value)) => *value = 'x',
-        _ => assert!(rt; false),
+        _ => assert_true(&rt, false),
     }
-    assert!(rt; is_so(&written, 6, ('x', 'c'), CHILDREN));
+    assert_true(&rt, is_so(&written, 6, ('x', 'c'), CHILDREN));
     let mut found = node_of_two();
     match found.get_mut(&30) {
-        Ok(Some(value)) => assert_eq!(rt; *value, 'c'),
-        _ => assert!(rt; false),
+        Ok(Some(value)) => assert_same(&rt, *value, 'c'),
+        _ => assert_true(&rt, false),
     }
-    assert!(rt; is_so(&found, 6, ('b', 'c'), CHILDREN));
+    assert_true(&rt, is_so(&found, 6, ('b', 'c'), CHILDREN));
     let mut missed = node_of_two();
     match missed.get_mut(&25) {
-        Err(child) => assert_eq!(rt; child, 2),
-        Ok(_) => assert!(rt; false),
+        Err(child) => assert_same(&rt, child, 2),
+        Ok(_) => assert_true(&rt, false),
     }
-    assert!(rt; is_so(&missed, 6, ('b', 'c'), CHILDREN));
+    assert_true(&rt, is_so(&missed, 6, ('b', 'c'), CHILDREN));
 }
 
 #[test]
 fn inserts_by_key(rt: HostRuntime) {
     let mut present = node_of_two();
-    assert!(rt; !present.is_full());
+    assert_true(&rt, !present.is_full());
     match present.insert_by_key(30, 'x') {
-        Ok(put) => assert_eq!(rt; put, (Offset::from(1), Some('c'))),
-        Err(_) => assert!(rt; false),
+        Ok(put) => assert_same(&rt, put, (Offset::from(1), Some('c'))),
+        Err(_) => assert_true(&rt, false),
     }
-    assert!(rt; is_so(&present, 6, ('b', 'x'), CHILDREN));
+    assert_true(&rt, is_so(&present, 6, ('b', 'x'), CHILDREN));
     let mut absent = node_of_two();
-    assert!(rt; !absent.is_full());
+    assert_true(&rt, !absent.is_full());
     match absent.insert_by_key(25, 'x') {
-        Ok(_) => assert!(rt; false),
+        Ok(_) => assert_true(&rt, false),
         Err(error) => {
-            assert_eq!(rt; (error.key, error.value), (25, 'x'));
-            assert_eq!(rt; (error.child_offset, error.child_id), (1, 2));
+            assert_same(&rt, (error.key, error.value), (25, 'x'));
+            assert_same(&rt, (error.child_offset, error.child_id), (1, 2));
         }
     }
-    assert!(rt; is_so(&absent, 6, ('b', 'c'), CHILDREN));
+    assert_true(&rt, is_so(&absent, 6, ('b', 'c'), CHILDREN));
     let mut leaf = leaf_of_two();
-    assert!(rt; !leaf.is_full());
+    assert_true(&rt, !leaf.is_full());
     match leaf.insert_by_key(25, 'x') {
-        Ok(put) => assert_eq!(rt; put, (Offset::from(1), None)),
-        Err(_) => assert!(rt; false),
+        Ok(put) => assert_same(&rt, put, (Offset::from(1), None)),
+        Err(_) => assert_true(&rt, false),
     }
-    assert_eq!(rt;
+    assert_same(
+        &rt,
         (pair_at(&leaf, 1), leaf.item_count()),
-        (Some((25, 'x')), 3)
+        (Some((25, 'x')), 3),
     );
 }
 
@@ -379,8 +393,8 @@ fn compares_branches_by_key(rt: HostRuntime) {
             branch.cmp(&other),
         )
     });
-    assert_eq!(rt; first, Some((20, 'b', true, Ordering::Equal)));
-    assert_eq!(rt; (node.first_child_id(), node.child_id(1)), (1, 2));
+    assert_same(&rt, first, Some((20, 'b', true, Ordering::Equal)));
+    assert_same(&rt, (node.first_child_id(), node.child_id(1)), (1, 2));
 }
 
 // Inserts an item with a new key at its place.
@@ -420,14 +434,21 @@ fn compares_at_most_six_times(rt: HostRuntime) {
         for number in 0..2 * held + 2 {
             compared.set(0);
             let found = node.get(&key(number)).copied();
-            assert!(rt; compared.get() <= 6, "{number} among {held}");
+            assert_true_in(&rt, (number, held), compared.get() <= 6);
             let is_held = number % 2 == 1 && number < 2 * held;
             let child = ((number / 2) as usize) + 100;
-            assert_eq!(rt; found, if is_held { Ok(number / 2) } else { Err(child) });
+            assert_same(
+                &rt,
+                found,
+                if is_held { Ok(number / 2) } else { Err(child) },
+            );
         }
         if held < 7 {
-            assert!(rt; put(&mut node, key(2 * held + 1), held, (held as usize) + 101));
+            assert_true(
+                &rt,
+                put(&mut node, key(2 * held + 1), held, (held as usize) + 101),
+            );
         }
     }
-    assert_eq!(rt; node.item_count(), 7);
+    assert_same(&rt, node.item_count(), 7);
 }

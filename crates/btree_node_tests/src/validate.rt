@@ -1,4 +1,5 @@
 //! The checks of one node, of either kind.
+use btree_asserts::{assert_same, assert_true};
 use btree_item::{Fault, Item};
 use btree_node::{InternalNode, LeafNode, Node};
 use std::process::Abort;
@@ -8,7 +9,7 @@ use std::test::Fail;
 fn leaf_of(rt: &impl Abort, keys: &[u32]) -> Node<u32, char> {
     let mut leaf = LeafNode::empty(Some(5));
     for key in keys {
-        assert!(rt; leaf.item_count() < 9);
+        assert_true(rt, leaf.item_count() < 9);
         leaf.push_right(Item::new(*key, 'v'));
     }
     Node::Leaf(leaf)
@@ -19,7 +20,7 @@ fn internal_of(rt: &impl Abort, first: u32, keys: &[u32]) -> Node<u32, char> {
     let mut node = InternalNode::binary(Some(5), 100, Item::new(first, 'v'), 101);
     for key in keys {
         let count = node.item_count();
-        assert!(rt; count < 8);
+        assert_true(rt, count < 8);
         node.push_right(Item::new(*key, 'v'), count + 101);
     }
     Node::Internal(node)
@@ -40,58 +41,74 @@ fn between(node: &Node<u32, char>, min: u32, max: u32) -> Result<(), Fault> {
 #[test]
 fn finds_each_fault_of_a_leaf(rt: HostRuntime) {
     let three = leaf_of(&rt, &[10, 20, 30]);
-    assert_eq!(rt; between(&three, 9, 31), Ok(()));
-    assert_eq!(rt;
+    assert_same(&rt, between(&three, 9, 31), Ok(()));
+    assert_same(
+        &rt,
         three.validate(Some(4), Some(&9), None),
-        Err(Fault::WrongParent)
+        Err(Fault::WrongParent),
     );
-    assert_eq!(rt;
+    assert_same(
+        &rt,
         three.validate(None, Some(&9), None),
-        Err(Fault::WrongParent)
+        Err(Fault::WrongParent),
     );
-    assert_eq!(rt; between(&three, 10, 31), Err(Fault::BelowSeparator));
-    assert_eq!(rt; between(&three, 9, 30), Err(Fault::AboveSeparator));
-    assert_eq!(rt; between(&three, 10, 30), Err(Fault::BelowSeparator));
+    assert_same(&rt, between(&three, 10, 31), Err(Fault::BelowSeparator));
+    assert_same(&rt, between(&three, 9, 30), Err(Fault::AboveSeparator));
+    assert_same(&rt, between(&three, 10, 30), Err(Fault::BelowSeparator));
     let eight = leaf_of(&rt, &[1, 2, 3, 4, 5, 6, 7, 8]);
-    assert_eq!(rt; between(&eight, 0, 9), Ok(()));
+    assert_same(&rt, between(&eight, 0, 9), Ok(()));
     let nine = leaf_of(&rt, &[1, 2, 3, 4, 5, 6, 7, 8, 9]);
-    assert_eq!(rt; between(&nine, 0, 10), Err(Fault::Overflowing));
+    assert_same(&rt, between(&nine, 0, 10), Err(Fault::Overflowing));
     let two = leaf_of(&rt, &[20, 10]);
-    assert_eq!(rt; between(&two, 9, 31), Err(Fault::Underflowing));
-    assert_eq!(rt;
+    assert_same(&rt, between(&two, 9, 31), Err(Fault::Underflowing));
+    assert_same(
+        &rt,
         two.validate(Some(5), None, Some(&31)),
-        Err(Fault::Underflowing)
+        Err(Fault::Underflowing),
     );
-    assert_eq!(rt; two.validate(Some(5), None, None), Err(Fault::Unsorted));
+    assert_same(&rt, two.validate(Some(5), None, None), Err(Fault::Unsorted));
     let empty = leaf_of(&rt, &[]);
-    assert_eq!(rt; empty.validate(Some(5), None, None), Err(Fault::EmptyRoot));
-    assert_eq!(rt; between(&empty, 9, 31), Err(Fault::Underflowing));
+    assert_same(
+        &rt,
+        empty.validate(Some(5), None, None),
+        Err(Fault::EmptyRoot),
+    );
+    assert_same(&rt, between(&empty, 9, 31), Err(Fault::Underflowing));
     let equal = leaf_of(&rt, &[10, 20, 20]);
-    assert_eq!(rt; between(&equal, 9, 31), Err(Fault::Unsorted));
+    assert_same(&rt, between(&equal, 9, 31), Err(Fault::Unsorted));
 }
 
 #[test]
 fn finds_each_fault_of_an_internal_node(rt: HostRuntime) {
     let three = internal_of(&rt, 10, &[20, 30]);
-    assert_eq!(rt; between(&three, 9, 31), Ok(()));
-    assert_eq!(rt;
+    assert_same(&rt, between(&three, 9, 31), Ok(()));
+    assert_same(
+        &rt,
         three.validate(Some(4), Some(&9), None),
-        Err(Fault::WrongParent)
+        Err(Fault::WrongParent),
     );
-    assert_eq!(rt; between(&three, 10, 31), Err(Fault::BelowSeparator));
-    assert_eq!(rt; between(&three, 9, 30), Err(Fault::AboveSeparator));
+    assert_same(&rt, between(&three, 10, 31), Err(Fault::BelowSeparator));
+    assert_same(&rt, between(&three, 9, 30), Err(Fault::AboveSeparator));
     let seven = internal_of(&rt, 1, &[2, 3, 4, 5, 6, 7]);
-    assert_eq!(rt; between(&seven, 0, 9), Ok(()));
+    assert_same(&rt, between(&seven, 0, 9), Ok(()));
     let eight = internal_of(&rt, 1, &[2, 3, 4, 5, 6, 7, 8]);
-    assert_eq!(rt; between(&eight, 0, 9), Err(Fault::Overflowing));
+    assert_same(&rt, between(&eight, 0, 9), Err(Fault::Overflowing));
     let one = internal_of(&rt, 10, &[]);
-    assert_eq!(rt; between(&one, 9, 31), Err(Fault::Underflowing));
-    assert_eq!(rt; one.validate(Some(5), None, None), Ok(()));
+    assert_same(&rt, between(&one, 9, 31), Err(Fault::Underflowing));
+    assert_same(&rt, one.validate(Some(5), None, None), Ok(()));
     let turned = internal_of(&rt, 10, &[30, 20]);
-    assert_eq!(rt; between(&turned, 9, 31), Err(Fault::Unsorted));
+    assert_same(&rt, between(&turned, 9, 31), Err(Fault::Unsorted));
     let empty = only_child();
-    assert_eq!(rt; (empty.item_count(), empty.child_count()), (0, 1));
-    assert_eq!(rt; empty.validate(Some(5), None, None), Err(Fault::EmptyRoot));
-    assert_eq!(rt; empty.validate(None, None, None), Err(Fault::WrongParent));
-    assert_eq!(rt; between(&empty, 9, 31), Err(Fault::Underflowing));
+    assert_same(&rt, (empty.item_count(), empty.child_count()), (0, 1));
+    assert_same(
+        &rt,
+        empty.validate(Some(5), None, None),
+        Err(Fault::EmptyRoot),
+    );
+    assert_same(
+        &rt,
+        empty.validate(None, None, None),
+        Err(Fault::WrongParent),
+    );
+    assert_same(&rt, between(&empty, 9, 31), Err(Fault::Underflowing));
 }

@@ -1,5 +1,6 @@
 //! Trees built node by node, and their keys.
 use crate::faults::{Raw, put_leaf};
+use btree_asserts::{assert_same, assert_true};
 use btree_item::Item;
 use btree_node::Node;
 use std::alloc::Global;
@@ -13,8 +14,8 @@ pub(crate) fn put_over(
     key: u64,
     right: usize,
 ) -> usize {
-    assert!(rt; raw.has_node(left));
-    assert!(rt; raw.has_node(right));
+    assert_true(rt, raw.has_node(left));
+    assert_true(rt, raw.has_node(right));
     match raw.allocate_node(Node::binary(None, left, Item::new(key, key), right)) {
         Ok(id) => id,
         Err(_) => panic!(rt; "refused"),
@@ -30,11 +31,11 @@ pub(crate) fn add_leaf(
     keys: &[u64],
 ) -> usize {
     let leaf = put_leaf(rt, raw, keys);
-    assert!(rt; raw.has_node(leaf));
+    assert_true(rt, raw.has_node(leaf));
     raw.node_mut(leaf).set_parent(Some(above));
-    assert!(rt; raw.has_node(above));
+    assert_true(rt, raw.has_node(above));
     if let Node::Internal(node) = raw.node_mut(above) {
-        assert!(rt; node.item_count() < 8);
+        assert_true(rt, node.item_count() < 8);
         node.push_right(Item::new(key, key), leaf);
     }
     leaf
@@ -60,13 +61,14 @@ pub(crate) fn tree_of(
 
 /// Checks that a node has exactly these keys.
 pub(crate) fn check_keys(rt: &impl Abort, raw: &Raw, id: usize, keys: &[u64]) {
-    assert!(rt; raw.has_node(id));
+    assert_true(rt, raw.has_node(id));
     let node = raw.node(id);
-    assert_eq!(rt; node.item_count(), keys.len());
+    assert_same(rt, node.item_count(), keys.len());
     for (index, key) in keys.iter().enumerate() {
-        assert_eq!(rt;
+        assert_same(
+            rt,
             node.item_at_index(index).map(|item| *item.key()),
-            Some(*key)
+            Some(*key),
         );
     }
 }

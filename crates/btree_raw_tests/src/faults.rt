@@ -3,6 +3,7 @@ ghost use Rattle.std.specs.Prelude.{◌≡◌, []};
 ghost use Rattle.btree_node.specs.Node.{view_of};
 ghost use Rattle.btree_view.specs.View.{children_of};
 
+use btree_asserts::{assert_same, assert_same_in, assert_true};
 use btree_item::{Fault, Item};
 use btree_node::{LeafNode, Node};
 use btree_raw::RawBTree;
@@ -17,7 +18,7 @@ fn leaf_of(rt: &impl Abort, keys: &[u64]) -> Node<u64, u64>
 {
     let mut leaf = LeafNode::empty(None);
     for key in keys {
-        assert!(rt; leaf.item_count() < 9);
+        assert_true(rt, leaf.item_count() < 9);
         leaf.push_right(Item::new(*key, *key));
     }
     Node::Leaf(leaf)
@@ -42,8 +43,8 @@ fn two_leaves(
     let mut raw = Raw::new(alloc);
     let low = put_leaf(rt, &mut raw, left);
     let high = put_leaf(rt, &mut raw, right);
-    assert!(rt; raw.has_node(low));
-    assert!(rt; raw.has_node(high));
+    assert_true(rt, raw.has_node(low));
+    assert_true(rt, raw.has_node(high));
     let top = match raw.allocate_node(Node::binary(None, low, Item::new(4, 4), high)) {
         Ok(id) => id,
         Err(_) => panic!(rt; "refused"),
@@ -74,10 +75,10 @@ const RIGHT: [(&[u64], usize, Result<(), Fault>); 9] = [
 fn finds_each_fault_of_a_leaf(rt: HostRuntime) {
     for (right, len, answer) in &RIGHT {
         let (raw, _, _, _) = two_leaves(&rt, &[0, 1, 2, 3], right, *len, rt.alloc());
-        assert_eq!(rt; raw.validate(), *answer, "{len}");
+        assert_same_in(&rt, len, raw.validate(), *answer);
     }
     let (raw, _, _, _) = two_leaves(&rt, &[0, 1, 2, 5], &[5, 6, 7, 8], 9, rt.alloc());
-    assert_eq!(rt; raw.validate(), Err(Fault::AboveSeparator));
+    assert_same(&rt, raw.validate(), Err(Fault::AboveSeparator));
 }
 
 #[test]
@@ -94,10 +95,11 @@ fn compares_a_node_with_what_is_expected(rt: HostRuntime) {
         (77, None, None, None, Err(Fault::NoNode)),
     ] {
         let (low, high): (Option<u64>, Option<u64>) = (min, max);
-        assert_eq!(rt;
+        assert_same_in(
+            &rt,
+            id,
             raw.validate_node(id, parent, low.as_ref(), high.as_ref()),
             answer,
-            "{id}"
         );
     }
 }
@@ -105,37 +107,37 @@ fn compares_a_node_with_what_is_expected(rt: HostRuntime) {
 #[test]
 fn a_root_has_an_item(rt: HostRuntime) {
     let mut raw = Raw::new(rt.alloc());
-    assert_eq!(rt; raw.validate(), Ok(()));
+    assert_same(&rt, raw.validate(), Ok(()));
     raw.set_len(1);
-    assert_eq!(rt; raw.validate(), Err(Fault::WrongLength));
+    assert_same(&rt, raw.validate(), Err(Fault::WrongLength));
     raw.set_len(0);
     let id = put_leaf(&rt, &mut raw, &[]);
-    assert_eq!(rt; raw.validate(), Err(Fault::Unreachable));
+    assert_same(&rt, raw.validate(), Err(Fault::Unreachable));
     raw.set_root_id(Some(id));
-    assert_eq!(rt; raw.validate(), Err(Fault::EmptyRoot));
+    assert_same(&rt, raw.validate(), Err(Fault::EmptyRoot));
 }
 
 #[test]
 fn each_child_is_there_and_names_its_parent(rt: HostRuntime) {
     let (mut raw, t, _, r) = two_leaves(&rt, &[0, 1, 2, 3], &[5, 6, 7, 8], 9, rt.alloc());
-    assert!(rt; raw.has_node(r));
+    assert_true(&rt, raw.has_node(r));
     raw.node_mut(r).set_parent(None);
-    assert_eq!(rt; raw.validate(), Err(Fault::WrongParent));
-    assert!(rt; raw.has_node(r));
+    assert_same(&rt, raw.validate(), Err(Fault::WrongParent));
+    assert_true(&rt, raw.has_node(r));
     raw.node_mut(r).set_parent(Some(t));
-    assert_eq!(rt; raw.validate(), Ok(()));
-    assert!(rt; raw.has_node(r));
+    assert_same(&rt, raw.validate(), Ok(()));
+    assert_true(&rt, raw.has_node(r));
     drop(raw.release_node(r));
-    assert_eq!(rt; raw.validate(), Err(Fault::NoNode));
+    assert_same(&rt, raw.validate(), Err(Fault::NoNode));
 }
 
 #[test]
 fn each_node_is_met(rt: HostRuntime) {
     let (mut raw, _, _, _) = two_leaves(&rt, &[0, 1, 2, 3], &[5, 6, 7, 8], 9, rt.alloc());
     let _id = put_leaf(&rt, &mut raw, &[9, 10, 11]);
-    assert_eq!(rt; raw.validate(), Err(Fault::Unreachable));
+    assert_same(&rt, raw.validate(), Err(Fault::Unreachable));
     raw.set_len(10);
-    assert_eq!(rt; raw.validate(), Err(Fault::WrongLength));
+    assert_same(&rt, raw.validate(), Err(Fault::WrongLength));
 }
 
 // Allocates an internal node with the same number as key and value of each item, over children that are there.
@@ -146,18 +148,18 @@ fn put_inner(
     (key, second): (u64, usize),
     more: &[(u64, usize)],
 ) -> usize {
-    assert!(rt; raw.has_node(first));
-    assert!(rt; raw.has_node(second));
+    assert_true(rt, raw.has_node(first));
+    assert_true(rt, raw.has_node(second));
     let id = match raw.allocate_node(Node::binary(None, first, Item::new(key, key), second)) {
         Ok(id) => id,
         Err(_) => panic!(rt; "refused"),
     };
     for (key, child) in more {
-        assert!(rt; raw.has_node(*child));
+        assert_true(rt, raw.has_node(*child));
         raw.node_mut(*child).set_parent(Some(id));
-        assert!(rt; raw.has_node(id));
+        assert_true(rt, raw.has_node(id));
         if let Node::Internal(node) = raw.node_mut(id) {
-            assert!(rt; node.item_count() < 8);
+            assert_true(rt, node.item_count() < 8);
             node.push_right(Item::new(*key, *key), *child);
         }
     }
@@ -187,7 +189,7 @@ fn compares_all_keys_below_a_node(rt: HostRuntime) {
     let top = put_inner(&rt, &mut raw, low, (15, high), &[]);
     raw.set_root_id(Some(top));
     raw.set_len(31);
-    assert_eq!(rt; raw.validate(), Ok(()));
+    assert_same(&rt, raw.validate(), Ok(()));
     for (id, parent, min, max, answer) in [
         (top, None, None, None, Ok(2)),
         (low, Some(top), None, Some(15), Ok(1)),
@@ -198,10 +200,11 @@ fn compares_all_keys_below_a_node(rt: HostRuntime) {
         (high, None, Some(15), None, Err(Fault::WrongParent)),
     ] {
         let (least, most): (Option<u64>, Option<u64>) = (min, max);
-        assert_eq!(rt;
+        assert_same_in(
+            &rt,
+            id,
             raw.validate_node(id, parent, least.as_ref(), most.as_ref()),
             answer,
-            "{id}"
         );
     }
 }
@@ -213,13 +216,13 @@ fn leaves_are_on_one_level(rt: HostRuntime) {
     let four = put_four(&rt, &mut raw, 4);
     let top = put_inner(&rt, &mut raw, leaf, (3, four), &[]);
     raw.set_root_id(Some(top));
-    assert_eq!(rt; raw.validate(), Err(Fault::NotBalanced));
+    assert_same(&rt, raw.validate(), Err(Fault::NotBalanced));
     let mut raw = Raw::new(rt.alloc());
     let four = put_four(&rt, &mut raw, 0);
     let leaf = put_three(&rt, &mut raw, 16);
     let top = put_inner(&rt, &mut raw, four, (15, leaf), &[]);
     raw.set_root_id(Some(top));
-    assert_eq!(rt; raw.validate(), Err(Fault::NotBalanced));
+    assert_same(&rt, raw.validate(), Err(Fault::NotBalanced));
 }
 
 #[test]
@@ -231,15 +234,15 @@ fn a_node_is_not_its_own_child(rt: HostRuntime) {
     let inner = put_inner(&rt, &mut raw, a, (9, b), &[]);
     let top = put_inner(&rt, &mut raw, leaf, (3, inner), &[]);
     raw.set_root_id(Some(top));
-    assert_eq!(rt; raw.validate(), Err(Fault::Underflowing));
+    assert_same(&rt, raw.validate(), Err(Fault::Underflowing));
     for key in [5, 4] {
-        assert!(rt; raw.has_node(inner));
+        assert_true(&rt, raw.has_node(inner));
         if let Node::Internal(node) = raw.node_mut(inner) {
-            assert!(rt; node.item_count() < 8);
+            assert_true(&rt, node.item_count() < 8);
             node.push_left(Item::new(key, key), inner);
         }
     }
-    assert_eq!(rt; raw.validate(), Err(Fault::WrongParent));
+    assert_same(&rt, raw.validate(), Err(Fault::WrongParent));
 }
 
 // Each node has three items, and its first child is the node before it; its others, and the first child of the lowest, are one leaf,
@@ -261,6 +264,6 @@ fn a_tree_has_at_most_32_levels(rt: HostRuntime) {
             key = key.wrapping_add(3);
         }
         raw.set_root_id(Some(top));
-        assert_eq!(rt; raw.validate(), Err(fault), "{inner}");
+        assert_same_in(&rt, inner, raw.validate(), Err(fault));
     }
 }

@@ -1,6 +1,7 @@
 //! Insertion into raw trees at exactly an address.
 use crate::built::{add_leaf, check_keys, tree_of};
 use crate::faults::Raw;
+use btree_asserts::{assert_same, assert_true};
 use btree_item::{Address, Cause, Item, Offset, Refused};
 use btree_node::Node;
 use btree_nodes::NodesMut;
@@ -17,15 +18,19 @@ fn check_first<C: NodesMut<u64, u64> + Drop>(
     origin: C::Origin,
 ) -> Result<(), Fail> {
     let mut raw: RawBTree<u64, u64, C> = RawBTree::new(origin);
-    assert!(rt; raw.is_valid(Address::nowhere()) && raw.node_count() == 0);
+    assert_true(
+        rt,
+        raw.is_valid(Address::nowhere()) && raw.node_count() == 0,
+    );
     let Err(refused) = raw.insert_exactly_at(Address::nowhere(), Item::new(3, 5), None) else {
         return Err(Fail::from("not refused"));
     };
-    assert_eq!(rt;
+    assert_same(
+        rt,
         (refused.cause, refused.key, refused.value),
-        (Cause::Store, 3, 5)
+        (Cause::Store, 3, 5),
     );
-    assert!(rt; raw.root_id().is_none() && raw.node_count() == 0);
+    assert_true(rt, raw.root_id().is_none() && raw.node_count() == 0);
     Ok(())
 }
 
@@ -33,22 +38,26 @@ fn check_first<C: NodesMut<u64, u64> + Drop>(
 fn a_refused_first_item_comes_back(rt: HostRuntime) -> Result<(), Fail> {
     let memory = Refusing::over(rt.alloc(), 1);
     check_first::<SlabStore<Node<u64, u64>, &Refusing<Global>>>(&rt, &memory)?;
-    assert_eq!(rt; memory.refuses(), 0);
+    assert_same(&rt, memory.refuses(), 0);
     Ok(())
 }
 
 #[test]
 fn the_first_item_takes_one_node(rt: HostRuntime) -> Result<(), Fail> {
     let mut raw: RawBTree<u64, u64, SlabStore<Node<u64, u64>>> = RawBTree::new(rt.alloc());
-    assert!(rt; raw.is_valid(Address::nowhere()) && raw.node_count() == 0);
+    assert_true(
+        &rt,
+        raw.is_valid(Address::nowhere()) && raw.node_count() == 0,
+    );
     let Ok(at) = raw.insert_exactly_at(Address::nowhere(), Item::new(3, 5), None) else {
         return Err(Fail::from("refused"));
     };
-    assert_eq!(rt;
+    assert_same(
+        &rt,
         (raw.root_id(), raw.node_count(), raw.len()),
-        (Some(at.id), 1, 1)
+        (Some(at.id), 1, 1),
     );
-    assert_eq!(rt; raw.item(at).map(|item| *item.key()), Some(3));
+    assert_same(&rt, raw.item(at).map(|item| *item.key()), Some(3));
     Ok(())
 }
 
@@ -60,8 +69,8 @@ fn put_back(
     id: usize,
     offset: Offset,
 ) -> Result<Address, Refused<u64, u64>> {
-    assert!(rt; raw.is_off_by_one(id));
-    assert!(rt; raw.has_node(id));
+    assert_true(rt, raw.is_off_by_one(id));
+    assert_true(rt, raw.has_node(id));
     let Some(Ok(item)) = raw.node_mut(id).leaf_remove(offset) else {
         panic!(rt; "no item of a leaf");
     };
@@ -76,9 +85,9 @@ fn insert_key(
     index: usize,
     key: u64,
 ) -> Result<Address, Refused<u64, u64>> {
-    assert!(rt; raw.has_node(id));
+    assert_true(rt, raw.has_node(id));
     if let Node::Leaf(leaf) = raw.node_mut(id) {
-        assert!(rt; leaf.item_count() <= 8 && index <= leaf.item_count());
+        assert_true(rt, leaf.item_count() <= 8 && index <= leaf.item_count());
         leaf.insert(Offset::from(index), Item::new(key, key));
     }
     put_back(rt, raw, id, Offset::from(index))
@@ -96,11 +105,11 @@ fn inserted(rt: &impl Abort, raw: &mut Raw, id: usize, index: usize, key: u64) -
 fn a_leaf_with_room_takes_an_item(rt: HostRuntime) {
     let (mut raw, t, l, r) = tree_of(&rt, &[0, 2, 4, 6], 8, &[10, 12, 14, 16], 9, rt.alloc());
     let at = inserted(&rt, &mut raw, l, 1, 1);
-    assert_eq!(rt; at, Address::new(l, Offset::from(1)));
+    assert_same(&rt, at, Address::new(l, Offset::from(1)));
     check_keys(&rt, &raw, l, &[0, 1, 2, 4, 6]);
     check_keys(&rt, &raw, t, &[8]);
     check_keys(&rt, &raw, r, &[10, 12, 14, 16]);
-    assert_eq!(rt; (raw.len(), raw.node_count()), (10, 3));
+    assert_same(&rt, (raw.len(), raw.node_count()), (10, 3));
 }
 
 #[test]
@@ -114,11 +123,11 @@ fn the_median_goes_to_the_root(rt: HostRuntime) {
         rt.alloc(),
     );
     let at = inserted(&rt, &mut raw, l, 4, 7);
-    assert_eq!(rt; at, Address::new(t, Offset::from(0)));
+    assert_same(&rt, at, Address::new(t, Offset::from(0)));
     check_keys(&rt, &raw, t, &[7, 16]);
     check_keys(&rt, &raw, l, &[0, 2, 4, 6]);
     check_keys(&rt, &raw, r, &[18, 20, 22]);
-    assert_eq!(rt; (raw.len(), raw.node_count()), (13, 4));
+    assert_same(&rt, (raw.len(), raw.node_count()), (13, 4));
 }
 
 #[test]
@@ -133,25 +142,25 @@ fn an_item_goes_to_the_right_part(rt: HostRuntime) {
     );
     let at = inserted(&rt, &mut raw, l, 7, 13);
     check_keys(&rt, &raw, t, &[8, 16]);
-    assert!(rt; raw.has_node(t));
+    assert_true(&rt, raw.has_node(t));
     let Some(new) = raw.node(t).child_id_opt(1) else {
         panic!(rt; "no second child");
     };
-    assert_eq!(rt; at, Address::new(new, Offset::from(2)));
+    assert_same(&rt, at, Address::new(new, Offset::from(2)));
     check_keys(&rt, &raw, l, &[0, 2, 4, 6]);
     check_keys(&rt, &raw, new, &[10, 12, 13, 14]);
-    assert_eq!(rt; (raw.len(), raw.node_count()), (13, 4));
+    assert_same(&rt, (raw.len(), raw.node_count()), (13, 4));
 }
 
 #[test]
 fn a_short_leaf_borrows_an_item(rt: HostRuntime) {
     let (mut raw, t, l, r) = tree_of(&rt, &[0], 8, &[10, 12, 14, 16], 6, rt.alloc());
     let at = inserted(&rt, &mut raw, l, 1, 2);
-    assert_eq!(rt; at, Address::new(l, Offset::from(1)));
+    assert_same(&rt, at, Address::new(l, Offset::from(1)));
     check_keys(&rt, &raw, t, &[10]);
     check_keys(&rt, &raw, l, &[0, 2, 8]);
     check_keys(&rt, &raw, r, &[12, 14, 16]);
-    assert_eq!(rt; (raw.len(), raw.node_count()), (7, 3));
+    assert_same(&rt, (raw.len(), raw.node_count()), (7, 3));
 }
 
 #[test]
@@ -167,20 +176,21 @@ fn the_greatest_length_is_refused(rt: HostRuntime) {
     let Err(refused) = insert_key(&rt, &mut raw, l, 1, 1) else {
         panic!(rt; "not refused");
     };
-    assert_eq!(rt;
+    assert_same(
+        &rt,
         (refused.cause, refused.key, refused.value),
-        (Cause::Count, 1, 1)
+        (Cause::Count, 1, 1),
     );
     check_keys(&rt, &raw, l, &[0, 2, 4, 6]);
     check_keys(&rt, &raw, t, &[8]);
     check_keys(&rt, &raw, r, &[10, 12, 14, 16]);
-    assert_eq!(rt; (raw.len(), raw.node_count()), (usize::MAX, 3));
+    assert_same(&rt, (raw.len(), raw.node_count()), (usize::MAX, 3));
 }
 
 // Takes an item and the child after it out of an internal node, and inserts both at the same address.
 fn put_back_inner(rt: &impl Abort, raw: &mut Raw, id: usize, index: usize) -> Address {
-    assert!(rt; raw.is_off_by_one(id));
-    assert!(rt; raw.has_node(id));
+    assert_true(rt, raw.is_off_by_one(id));
+    assert_true(rt, raw.has_node(id));
     let Node::Internal(node) = raw.node_mut(id) else {
         panic!(rt; "a leaf");
     };
@@ -197,18 +207,19 @@ fn an_internal_node_takes_an_item_and_a_child(rt: HostRuntime) {
     let (mut raw, t, l, r) = tree_of(&rt, &[0, 1, 2, 3], 4, &[5, 6, 7, 8], 12, rt.alloc());
     let child = add_leaf(&rt, &mut raw, t, 15, &[20, 21, 22]);
     let at = put_back_inner(&rt, &mut raw, t, 1);
-    assert_eq!(rt; at, Address::new(t, Offset::from(1)));
+    assert_same(&rt, at, Address::new(t, Offset::from(1)));
     check_keys(&rt, &raw, t, &[4, 15]);
-    assert!(rt; raw.has_node(t));
+    assert_true(&rt, raw.has_node(t));
     let node = raw.node(t);
-    assert_eq!(rt;
+    assert_same(
+        &rt,
         (
             node.child_id_opt(0),
             node.child_id_opt(1),
-            node.child_id_opt(2)
+            node.child_id_opt(2),
         ),
-        (Some(l), Some(r), Some(child))
+        (Some(l), Some(r), Some(child)),
     );
     check_keys(&rt, &raw, child, &[20, 21, 22]);
-    assert_eq!(rt; (raw.len(), raw.node_count()), (13, 4));
+    assert_same(&rt, (raw.len(), raw.node_count()), (13, 4));
 }

@@ -1,6 +1,7 @@
 //! Removal of the last item under a node.
 use crate::built::{add_leaf, check_keys, put_over, tree_of};
 use crate::faults::{Raw, put_leaf};
+use btree_asserts::{assert_same, assert_true};
 use btree_item::{Address, Offset};
 use std::alloc::Global;
 use std::process::Abort;
@@ -8,12 +9,12 @@ use std::process::Abort;
 // Takes the last item under a node, and returns its key and the number of its leaf. Rebalancing at the root shows that the tree is well
 // formed except for its length.
 fn take_last(rt: &impl Abort, raw: &mut Raw, root: usize, id: usize) -> (u64, usize) {
-    assert!(rt; raw.is_off_by_one(root));
-    assert!(rt; raw.is_valid(Address::new(root, Offset::before())));
+    assert_true(rt, raw.is_off_by_one(root));
+    assert_true(rt, raw.is_valid(Address::new(root, Offset::before())));
     let Ok(_at) = raw.rebalance(root, Address::new(root, Offset::before())) else {
         panic!(rt; "refused");
     };
-    assert!(rt; raw.has_node(id));
+    assert_true(rt, raw.has_node(id));
     let (item, leaf) = raw.remove_rightmost_leaf_of(id);
     (*item.key(), leaf)
 }
@@ -21,26 +22,28 @@ fn take_last(rt: &impl Abort, raw: &mut Raw, root: usize, id: usize) -> (u64, us
 #[test]
 fn takes_the_last_item_under_the_root(rt: HostRuntime) {
     let (mut raw, t, l, r) = tree_of(&rt, &[0, 1, 2, 3], 4, &[5, 6, 7, 8], 9, rt.alloc());
-    assert_eq!(rt; take_last(&rt, &mut raw, t, t), (8, r));
+    assert_same(&rt, take_last(&rt, &mut raw, t, t), (8, r));
     check_keys(&rt, &raw, r, &[5, 6, 7]);
     check_keys(&rt, &raw, l, &[0, 1, 2, 3]);
     check_keys(&rt, &raw, t, &[4]);
-    assert_eq!(rt;
+    assert_same(
+        &rt,
         (raw.root_id(), raw.len(), raw.node_count()),
-        (Some(t), 9, 3)
+        (Some(t), 9, 3),
     );
 }
 
 #[test]
 fn takes_the_last_item_of_a_leaf(rt: HostRuntime) {
     let (mut raw, t, l, r) = tree_of(&rt, &[0, 1, 2, 3], 4, &[5, 6, 7, 8], 9, rt.alloc());
-    assert_eq!(rt; take_last(&rt, &mut raw, t, l), (3, l));
+    assert_same(&rt, take_last(&rt, &mut raw, t, l), (3, l));
     check_keys(&rt, &raw, l, &[0, 1, 2]);
     check_keys(&rt, &raw, r, &[5, 6, 7, 8]);
     check_keys(&rt, &raw, t, &[4]);
-    assert_eq!(rt;
+    assert_same(
+        &rt,
         (raw.root_id(), raw.len(), raw.node_count()),
-        (Some(t), 9, 3)
+        (Some(t), 9, 3),
     );
 }
 
@@ -84,21 +87,21 @@ fn three_levels(rt: &impl Abort, alloc: Global) -> (Raw, usize, (usize, usize), 
 #[test]
 fn goes_down_two_levels(rt: HostRuntime) {
     let (mut raw, top, (left, middle), last) = three_levels(&rt, rt.alloc());
-    assert_eq!(rt; take_last(&rt, &mut raw, top, top), (30, last));
+    assert_same(&rt, take_last(&rt, &mut raw, top, top), (30, last));
     check_keys(&rt, &raw, last, &[28, 29]);
     check_keys(&rt, &raw, middle, &[12, 13, 14]);
     check_keys(&rt, &raw, left, &[3, 7, 11]);
     check_keys(&rt, &raw, top, &[15]);
-    assert_eq!(rt; (raw.len(), raw.node_count()), (31, 11));
+    assert_same(&rt, (raw.len(), raw.node_count()), (31, 11));
 }
 
 #[test]
 fn goes_down_from_an_inner_node(rt: HostRuntime) {
     let (mut raw, top, (left, middle), last) = three_levels(&rt, rt.alloc());
-    assert_eq!(rt; take_last(&rt, &mut raw, top, left), (14, middle));
+    assert_same(&rt, take_last(&rt, &mut raw, top, left), (14, middle));
     check_keys(&rt, &raw, middle, &[12, 13]);
     check_keys(&rt, &raw, last, &[28, 29, 30]);
     check_keys(&rt, &raw, left, &[3, 7, 11]);
     check_keys(&rt, &raw, top, &[15]);
-    assert_eq!(rt; (raw.len(), raw.node_count()), (31, 11));
+    assert_same(&rt, (raw.len(), raw.node_count()), (31, 11));
 }

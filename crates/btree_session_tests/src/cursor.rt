@@ -1,4 +1,5 @@
 //! Lists of steps, run by a cursor.
+use btree_asserts::{assert_same, assert_true};
 use btree_item::Cause;
 use btree_map::BTreeMap;
 use btree_node::Node;
@@ -16,7 +17,7 @@ type Map = BTreeMap<u64, u64, SlabStore<Node<u64, u64>>>;
 fn three_pairs(rt: &impl Abort, alloc: Global) -> Map {
     let mut map: Map = BTreeMap::new(alloc);
     for (key, value) in [(1, 10), (2, 20), (4, 40)] {
-        assert!(rt; map.insert(key, value).is_ok());
+        assert_true(rt, map.insert(key, value).is_ok());
     }
     map
 }
@@ -36,8 +37,9 @@ fn replies_to_each_step(rt: HostRuntime) {
         CursorStep::Insert(9, 90),
         CursorStep::Peek,
     ];
-    assert!(rt; run_cursor(&mut map, &steps, &mut replies).is_ok());
-    assert_eq!(rt;
+    assert_true(&rt, run_cursor(&mut map, &steps, &mut replies).is_ok());
+    assert_same(
+        &rt,
         replies.as_slice(),
         [
             Reply::Pair(1, 10),
@@ -50,13 +52,13 @@ fn replies_to_each_step(rt: HostRuntime) {
             Reply::Done,
             Reply::Nothing,
         ]
-        .as_slice()
+        .as_slice(),
     );
     let mut keys = map.keys();
     for key in [1u64, 2, 3, 9] {
-        assert_eq!(rt; keys.next().copied(), Some(key));
+        assert_same(&rt, keys.next().copied(), Some(key));
     }
-    assert!(rt; keys.next().is_none());
+    assert_true(&rt, keys.next().is_none());
 }
 
 // Without memory for the replies no step is run.
@@ -67,15 +69,16 @@ fn runs_nothing_without_room_for_the_replies(rt: HostRuntime) {
     let mut replies: Vec<Reply, &Refusing<Global>> = Vec::new(&memory);
     let steps = [CursorStep::Remove, CursorStep::Next];
     memory.refuse(1);
-    assert!(rt; run_cursor(&mut map, &steps, &mut replies).is_err());
-    assert_eq!(rt; memory.refuses(), 0);
-    assert_eq!(rt; (map.len(), replies.len()), (3, 0));
-    assert!(rt; run_cursor(&mut map, &steps, &mut replies).is_ok());
-    assert_eq!(rt;
+    assert_true(&rt, run_cursor(&mut map, &steps, &mut replies).is_err());
+    assert_same(&rt, memory.refuses(), 0);
+    assert_same(&rt, (map.len(), replies.len()), (3, 0));
+    assert_true(&rt, run_cursor(&mut map, &steps, &mut replies).is_ok());
+    assert_same(
+        &rt,
         replies.as_slice(),
-        [Reply::Pair(1, 10), Reply::Pair(2, 20)].as_slice()
+        [Reply::Pair(1, 10), Reply::Pair(2, 20)].as_slice(),
     );
-    assert_eq!(rt; (map.len(), map.get(&1).copied()), (2, None));
+    assert_same(&rt, (map.len(), map.get(&1).copied()), (2, None));
 }
 
 // Runs three steps over an empty map, of which the first one needs the node that the store refuses.
@@ -92,11 +95,12 @@ fn check_first_refused<C: NodesMut<u64, u64> + Drop>(
         CursorStep::Peek,
     ];
     run_cursor(&mut map, &steps, &mut replies)?;
-    assert_eq!(rt;
+    assert_same(
+        rt,
         replies.as_slice(),
-        [Reply::Refused(Cause::Store), Reply::Done, Reply::Nothing].as_slice()
+        [Reply::Refused(Cause::Store), Reply::Done, Reply::Nothing].as_slice(),
     );
-    assert_eq!(rt; (map.len(), map.get(&4).copied()), (1, Some(40)));
+    assert_same(rt, (map.len(), map.get(&4).copied()), (1, Some(40)));
     Ok(())
 }
 
@@ -104,6 +108,6 @@ fn check_first_refused<C: NodesMut<u64, u64> + Drop>(
 fn a_refused_node_is_a_reply(rt: HostRuntime) -> Result<(), Fail> {
     let memory = Refusing::over(rt.alloc(), 1);
     check_first_refused::<SlabStore<Node<u64, u64>, &Refusing<Global>>>(&rt, rt.alloc(), &memory)?;
-    assert_eq!(rt; memory.refuses(), 0);
+    assert_same(&rt, memory.refuses(), 0);
     Ok(())
 }

@@ -1,4 +1,5 @@
 //! A writer that cannot flush.
+use btree_asserts::assert_same;
 use btree_node::Node;
 use btree_session::{Session, Stop, drive};
 use btree_store::SlabStore;
@@ -32,7 +33,7 @@ fn a_failed_flush_is_failed_output(rt: HostRuntime) -> Result<(), Fail> {
     };
     let mut input: &[u8] = b"get 1\n";
     let end = drive(rt.alloc(), &mut session, &mut input, &mut output);
-    assert_eq!(rt; end, Err(Stop::Output));
-    assert_eq!(rt; output.written.as_slice(), b"none\n".as_slice());
+    assert_same(&rt, end, Err(Stop::Output));
+    assert_same(&rt, output.written.as_slice(), b"none\n".as_slice());
     Ok(())
 }

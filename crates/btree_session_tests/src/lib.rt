@@ -2,7 +2,6 @@
 #![tactic(auto)]
 
 #[cfg(test)]
-mod content;
 #[cfg(test)]
 mod cursor;
 #[cfg(test)]

@@ -1,10 +1,11 @@
 //! Sessions: commands as values while memory is refused, and lines of text from readers and to writers that fail.
-use crate::content::content_of;
+use btree_asserts::{assert_same, assert_same_in, assert_true};
 use btree_ext::BTreeExt;
 use btree_item::Cause;
 use btree_node::Node;
 use btree_nodes::ClearNodes;
 use btree_refusing::Refusing;
+use btree_samples::content_of;
 use btree_session::{Command, Reply, Session, Stop, drive, run};
 use btree_store::SlabStore;
 use std::alloc::Global;
@@ -107,7 +108,7 @@ fn lines_are_answered(rt: HostRuntime) -> Result<(), Fail> {
         let mut session: Session<Store> = Session::new(rt.alloc());
         let (mut input, mut output) = (text, Vec::new(rt.alloc()));
         let result = drive(rt.alloc(), &mut session, &mut input, &mut output);
-        assert_eq!(rt; (result, output.as_slice()), (end, written), "at {text:?}");
+        assert_same_in(&rt, text, (result, output.as_slice()), (end, written));
     }
     Ok(())
 }
@@ -136,10 +137,11 @@ fn questions_are_answered(rt: HostRuntime) -> Result<(), Fail> {
     ];
     for (text, written) in runs {
         let mut session: Session<Store> = Session::new(rt.alloc());
-        assert_eq!(rt;
+        assert_same_in(
+            &rt,
+            text,
             written_for(&mut session, text, rt.alloc())?.as_slice(),
             written,
-            "at {text:?}"
         );
     }
     Ok(())
@@ -172,10 +174,11 @@ fn other_words_are_no_commands(rt: HostRuntime) -> Result<(), Fail> {
         let mut session: Session<Store> = Session::new(rt.alloc());
         let (mut input, mut output) = (line, Vec::new(rt.alloc()));
         let result = drive(rt.alloc(), &mut session, &mut input, &mut output);
-        assert_eq!(rt;
+        assert_same_in(
+            &rt,
+            line,
             (result, output.len()),
             (Err(Stop::NotACommand(1)), 0),
-            "at {line:?}"
         );
     }
     Ok(())
@@ -317,17 +320,13 @@ fn replies_are_written_before_more_is_read(rt: HostRuntime) -> Result<(), Fail> 
             most: wanted.most,
         };
         let result = drive(rt.alloc(), &mut session, &mut input, &mut output);
-        assert_eq!(rt; result, wanted.end, "in run {number}");
-        assert_eq!(rt;
-            output.written.as_slice(),
-            wanted.written,
-            "in run {number}"
-        );
-        assert_eq!(rt; input.seen.as_slice(), wanted.seen, "in run {number}");
+        assert_same_in(&rt, number, result, wanted.end);
+        assert_same_in(&rt, number, output.written.as_slice(), wanted.written);
+        assert_same_in(&rt, number, input.seen.as_slice(), wanted.seen);
         // A command that was run keeps its effect, whether its reply could be written or not.
-        assert_eq!(rt; session.map().get(&1).copied(), Some(10), "in run {number}");
+        assert_same_in(&rt, number, session.map().get(&1).copied(), Some(10));
         if result != Err(Stop::Output) {
-            assert_eq!(rt; flushed.get(), wanted.written.len(), "in run {number}");
+            assert_same_in(&rt, number, flushed.get(), wanted.written.len());
         }
     }
     Ok(())
@@ -350,16 +349,17 @@ fn end_at(rt: &impl Abort, kind: ErrorKind, alloc: Global) -> Result<(), Stop> {
     };
     let mut output = Vec::new(alloc);
     let result = drive(alloc, &mut session, &mut input, &mut output);
-    assert_eq!(rt; output.as_slice(), b"none\n".as_slice());
-    assert_eq!(rt; session.map().get(&1).copied(), Some(10));
+    assert_same(rt, output.as_slice(), b"none\n".as_slice());
+    assert_same(rt, session.map().get(&1).copied(), Some(10));
     result
 }
 
 #[test]
 fn a_failed_read_is_the_end_of_input_or_of_memory(rt: HostRuntime) {
-    assert_eq!(rt;
+    assert_same(
+        &rt,
         end_at(&rt, ErrorKind::OutOfMemory, rt.alloc()),
-        Err(Stop::Memory)
+        Err(Stop::Memory),
     );
     for kind in [
         ErrorKind::NotFound,
@@ -376,7 +376,7 @@ fn a_failed_read_is_the_end_of_input_or_of_memory(rt: HostRuntime) {
         ErrorKind::WriteZero,
         ErrorKind::Other,
     ] {
-        assert_eq!(rt; end_at(&rt, kind, rt.alloc()), Err(Stop::Input));
+        assert_same(&rt, end_at(&rt, kind, rt.alloc()), Err(Stop::Input));
     }
 }
 
@@ -393,7 +393,7 @@ fn many_lines_are_served(rt: HostRuntime) -> Result<(), Fail> {
     replies.push_str("2500\n")?;
     let mut session: Session<Store> = Session::new(rt.alloc());
     let written = written_for(&mut session, lines.as_bytes(), rt.alloc())?;
-    assert_eq!(rt; written.as_slice(), replies.as_bytes());
+    assert_same(&rt, written.as_slice(), replies.as_bytes());
     Ok(())
 }
 
@@ -403,23 +403,24 @@ fn refused_room_for_replies_changes_nothing(rt: HostRuntime) -> Result<(), Fail>
     let mut replies: Vec<Reply, &Refusing<Global>> = Vec::new(&memory);
     let mut session: Session<Store> = Session::new(rt.alloc());
     run(&mut session, &[Command::Insert(1, 10)], &mut replies)?;
-    assert_eq!(rt; replies.as_slice(), [Reply::Nothing].as_slice());
+    assert_same(&rt, replies.as_slice(), [Reply::Nothing].as_slice());
 
     let commands = [Command::Insert(1, 11); 100];
     let before = content_of(session.map().as_raw(), rt.alloc())?;
     memory.refuse(1);
-    assert!(rt; run(&mut session, &commands, &mut replies).is_err());
-    assert_eq!(rt; memory.refuses(), 0);
-    assert_eq!(rt; replies.as_slice(), [Reply::Nothing].as_slice());
+    assert_true(&rt, run(&mut session, &commands, &mut replies).is_err());
+    assert_same(&rt, memory.refuses(), 0);
+    assert_same(&rt, replies.as_slice(), [Reply::Nothing].as_slice());
     let after = content_of(session.map().as_raw(), rt.alloc())?;
-    assert_eq!(rt; after.as_str(), before.as_str());
+    assert_same(&rt, after.as_str(), before.as_str());
 
     run(&mut session, &commands, &mut replies)?;
-    assert_eq!(rt;
+    assert_same(
+        &rt,
         (replies.len(), replies.get(1).copied()),
-        (101, Some(Reply::Value(10)))
+        (101, Some(Reply::Value(10))),
     );
-    assert_eq!(rt; replies.last().copied(), Some(Reply::Value(11)));
+    assert_same(&rt, replies.last().copied(), Some(Reply::Value(11)));
     Ok(())
 }
 
@@ -452,7 +453,7 @@ fn commands_edit_at_the_held_place(rt: HostRuntime) -> Result<(), Fail> {
         Reply::Value(30),
         Reply::NoPlace,
     ];
-    assert_eq!(rt; replies.as_slice(), expected.as_slice());
+    assert_same(&rt, replies.as_slice(), expected.as_slice());
     Ok(())
 }
 
@@ -465,25 +466,27 @@ fn check_first_refused<C: ClearNodes<u64, u64> + Drop>(
     let mut session: Session<C> = Session::new(origin);
     let mut replies = Vec::new(alloc);
     run(&mut session, &[Command::Insert(3, 30)], &mut replies)?;
-    assert_eq!(rt;
+    assert_same(
+        rt,
         replies.as_slice(),
-        [Reply::Refused(Cause::Store)].as_slice()
+        [Reply::Refused(Cause::Store)].as_slice(),
     );
     let content = content_of(session.map().as_raw(), alloc)?;
-    assert_eq!(rt; content.as_str(), "no root, 0 nodes, length 0");
+    assert_same(rt, content.as_str(), "no root, 0 nodes, length 0");
     run(
         &mut session,
         &[Command::Insert(3, 31), Command::Get(3)],
         &mut replies,
     )?;
-    assert_eq!(rt;
+    assert_same(
+        rt,
         replies.as_slice(),
         [
             Reply::Refused(Cause::Store),
             Reply::Nothing,
-            Reply::Value(31)
+            Reply::Value(31),
         ]
-        .as_slice()
+        .as_slice(),
     );
     Ok(())
 }
@@ -492,7 +495,7 @@ fn check_first_refused<C: ClearNodes<u64, u64> + Drop>(
 fn a_refused_node_is_a_reply(rt: HostRuntime) -> Result<(), Fail> {
     let memory = Refusing::over(rt.alloc(), 1);
     check_first_refused::<SlabStore<Node<u64, u64>, &Refusing<Global>>>(&rt, rt.alloc(), &memory)?;
-    assert_eq!(rt; memory.refuses(), 0);
+    assert_same(&rt, memory.refuses(), 0);
     Ok(())
 }
 
@@ -509,15 +512,11 @@ fn is_refused<C: ClearNodes<u64, u64>>(
     if reply.as_slice() == accepted {
         return Ok(false);
     }
-    assert_eq!(rt;
-        reply.as_slice(),
-        b"refused store\n".as_slice(),
-        "at {line:?}"
-    );
+    assert_same_in(rt, line, reply.as_slice(), b"refused store\n".as_slice());
     let after = content_of(session.map().as_raw(), alloc)?;
-    assert_eq!(rt; after.as_str(), before.as_str(), "at {line:?}");
+    assert_same_in(rt, line, after.as_str(), before.as_str());
     let again = written_for(session, line, alloc)?;
-    assert_eq!(rt; again.as_slice(), accepted, "at {line:?}");
+    assert_same_in(rt, line, again.as_slice(), accepted);
     Ok(true)
 }
 
@@ -535,7 +534,7 @@ fn is_key_refused<C: ClearNodes<u64, u64>>(
     }
     let seek = format!(in alloc; "seek {key}\n")?;
     let reply = written_for(session, seek.as_bytes(), alloc)?;
-    assert_eq!(rt; reply.as_slice(), b"gap\n".as_slice());
+    assert_same(rt, reply.as_slice(), b"gap\n".as_slice());
     let line = format!(in alloc; "put {key} {key}\n")?;
     is_refused(rt, session, line.as_bytes(), b"ok\n", alloc)
 }
@@ -554,7 +553,7 @@ fn refusals_of_64<C: ClearNodes<u64, u64> + Drop>(
         }
     }
     let counts = written_for(&mut session, b"len\nnodes\n", alloc)?;
-    assert_eq!(rt; counts.as_slice(), b"64\n17\n".as_slice());
+    assert_same(rt, counts.as_slice(), b"64\n17\n".as_slice());
     Ok(refusals)
 }
 
@@ -570,11 +569,11 @@ fn a_refused_line_changes_nothing(rt: HostRuntime) -> Result<(), Fail> {
             rt.alloc(),
         )?;
         if refusals == 0 {
-            assert_eq!(rt; nth, 5);
-            assert!(rt; memory.refuses() > 0);
+            assert_same(&rt, nth, 5);
+            assert_true(&rt, memory.refuses() > 0);
             return Ok(());
         }
-        assert_eq!(rt; (refusals, memory.refuses()), (1, 0), "at {nth}");
+        assert_same_in(&rt, nth, (refusals, memory.refuses()), (1, 0));
     }
     Err(Fail::from("each run met a refusal"))
 }
@@ -621,7 +620,7 @@ fn a_refused_line_of_edits_changes_nothing(rt: HostRuntime) -> Result<(), Fail> 
             &memory,
             rt.alloc(),
         )?;
-        assert_eq!(rt; (refusals, memory.refuses()), (refused, left), "at {nth}");
+        assert_same_in(&rt, nth, (refusals, memory.refuses()), (refused, left));
     }
     Ok(())
 }
@@ -638,9 +637,10 @@ fn check_held_when_refused<C: ClearNodes<u64, u64> + Drop>(
         b"seek 2\ninsert 1 10\nnext\nput 2 20\ntake\nnext\ninsert 1 10\nnext\n",
         alloc,
     )?;
-    assert_eq!(rt;
+    assert_same(
+        rt,
         written.as_slice(),
-        b"gap\nrefused store\nnone\nok\npair 2 20\nnone\nnone\nno place\n".as_slice()
+        b"gap\nrefused store\nnone\nok\npair 2 20\nnone\nnone\nno place\n".as_slice(),
     );
     Ok(())
 }
@@ -653,7 +653,7 @@ fn a_refused_insertion_keeps_the_held_place(rt: HostRuntime) -> Result<(), Fail>
         &memory,
         rt.alloc(),
     )?;
-    assert_eq!(rt; memory.refuses(), 0);
+    assert_same(&rt, memory.refuses(), 0);
     Ok(())
 }
 
@@ -679,10 +679,11 @@ fn removals_are_shown_by_the_shape(rt: HostRuntime) -> Result<(), Fail> {
             let line = format!(in rt.alloc(); "insert {key} {key}\n")?;
             written_for(&mut session, line.as_bytes(), rt.alloc())?;
         }
-        assert_eq!(rt;
+        assert_same_in(
+            &rt,
+            text,
             written_for(&mut session, text, rt.alloc())?.as_slice(),
             written,
-            "at {text:?}"
         );
     }
     Ok(())

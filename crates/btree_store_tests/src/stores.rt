@@ -1,4 +1,5 @@
 //! A store over memory in which one allocation is refused.
+use btree_asserts::{assert_same, assert_same_in, assert_true};
 use btree_refusing::Refusing;
 use btree_store::{Slab, SlabMut, SlabStore};
 use std::alloc::Global;
@@ -11,9 +12,9 @@ const VALUES: u32 = 200;
 
 // Checks that the values from 0 on are under these numbers, and that no other number is used.
 fn check_content(rt: &impl Abort, store: &LentStore<'_>, numbers: &[usize]) {
-    assert_eq!(rt; store.len(), numbers.len());
+    assert_same(rt, store.len(), numbers.len());
     for (value, id) in (0..VALUES).zip(numbers) {
-        assert_eq!(rt; store.get(*id).copied(), Some(value));
+        assert_same(rt, store.get(*id).copied(), Some(value));
     }
 }
 
@@ -25,7 +26,7 @@ fn fill(rt: &impl Abort, store: &mut LentStore<'_>, alloc: Global) -> Result<Vec
     for value in 0..VALUES {
         let mut answer = store.insert(value);
         if answer.is_err() {
-            assert_eq!(rt; answer, Err(value));
+            assert_same(rt, answer, Err(value));
             check_content(rt, store, numbers.as_slice());
             refused.push(value)?;
             answer = store.insert(value);
@@ -48,12 +49,12 @@ fn each_growth_is_refused_in_turn(rt: HostRuntime) -> Result<(), Fail> {
         let mut store: LentStore<'_> = SlabStore::empty(&memory);
         let refused = fill(&rt, &mut store, rt.alloc())?;
         let Some(place) = refused.first() else {
-            assert!(rt; memory.refuses() > 0);
-            assert_eq!(rt; places.first(), Some(&0));
-            assert!(rt; places.is_sorted_by(|earlier, later| earlier < later));
+            assert_true(&rt, memory.refuses() > 0);
+            assert_same(&rt, places.first(), Some(&0));
+            assert_true(&rt, places.is_sorted_by(|earlier, later| earlier < later));
             return Ok(());
         };
-        assert_eq!(rt; (refused.len(), memory.refuses()), (1, 0), "at {nth}");
+        assert_same_in(&rt, nth, (refused.len(), memory.refuses()), (1, 0));
         places.push(*place)?;
     }
     Err(Fail::from("each run met a refusal"))

@@ -8,6 +8,7 @@ ghost use Rattle.btree_view.specs.View.{items_of};
 ghost use Rattle.btree_shape.specs.TreeState.{IsUsed};
 ghost use Rattle.btree_find.specs.Levels.{comparisons_from};
 
+use btree_asserts::{assert_same, assert_same_in, assert_true, assert_true_in};
 use btree_counted::{COMPARISONS, Counted, promised_comparisons};
 use btree_ext::{BTreeExt, BTreeExtMut, Tree};
 use btree_item::{Address, Offset};
@@ -22,7 +23,7 @@ type CountedTree<'a> = Tree<Counted<'a>, u32, SlabStore<Node<Counted<'a>, u32>>>
 
 // Checks that at most six keys at each level were compared since the count began.
 fn check_count(rt: &impl Abort, tree: &CountedTree<'_>, compared: &Cell<u32>, number: u32) {
-    assert!(rt; compared.get() as usize <= 6 * tree.height(), "at {number}");
+    assert_true_in(rt, number, compared.get() as usize <= 6 * tree.height());
 }
 
 // Returns a tree of the keys 1, 3, 5 and so on up to 87.
@@ -31,9 +32,10 @@ fn odd_keys<'a>(rt: &impl Abort, compared: &'a Cell<u32>, alloc: Global) -> Coun
     for value in 0..44u32 {
         let number = 2 * value + 1;
         compared.set(0);
-        assert_eq!(rt;
+        assert_same(
+            rt,
             tree.insert(Counted { number, compared }, value).ok(),
-            Some(None)
+            Some(None),
         );
         check_count(rt, &tree, compared, number);
     }
@@ -61,11 +63,11 @@ fn expected_from(rt: &impl Abort, tree: &CountedTree<'_>, top: usize, number: u3
     let mut id = top;
     let mut total = 0usize;
     for _ in 0..tree.height() {
-        assert!(rt; tree.has_node(id));
+        assert_true(rt, tree.has_node(id));
         let node = tree.node(id);
         let len = node.item_count();
         let (smaller, is_there) = place_in(node, number);
-        assert!(rt; len < 10 && smaller < 10);
+        assert_true(rt, len < 10 && smaller < 10);
         total = total.wrapping_add(COMPARISONS[len][smaller]);
         match node.child_id_opt(smaller) {
             Some(child) if !is_there => id = child,
@@ -136,7 +138,7 @@ fn address_counted<'a>(
     let Some(root) = tree.root_id() else {
         panic!(rt; "no root");
     };
-    assert!(rt; tree.has_node(root));
+    assert_true(rt, tree.has_node(root));
     assert_eq!(rt; promised_from(rt, tree, root, key), compared);
     (found, compared)
 }
@@ -155,13 +157,13 @@ fn compares_as_many_keys_as_promised(rt: HostRuntime) {
             compared: &compared,
         };
         let expected = expected_from(&rt, &tree, root, number);
-        assert!(rt; expected <= 6 * tree.height(), "at {number}");
+        assert_true_in(&rt, number, expected <= 6 * tree.height());
         let mut steps = Steps::new();
         let (found, ticks) = address_counted(&rt, &tree, &key, &mut steps);
-        assert_eq!(rt; ticks, expected, "at {number}");
+        assert_same_in(&rt, number, ticks, expected);
         compared.set(0);
-        assert!(rt; tree.address_of(&key) == found, "at {number}");
-        assert_eq!(rt; compared.get() as usize, expected, "at {number}");
+        assert_true_in(&rt, number, tree.address_of(&key) == found);
+        assert_same_in(&rt, number, compared.get() as usize, expected);
     }
 }
 
@@ -176,18 +178,18 @@ fn check_under<'a>(
     let promised = expected_from(rt, tree, id, number);
     let key = Counted { number, compared };
     compared.set(0);
-    assert!(rt; tree.has_node(id));
+    assert_true(rt, tree.has_node(id));
     let is_there = tree.address_in(id, &key).is_ok();
-    assert_eq!(rt; compared.get() as usize, promised, "{number} in {id}");
+    assert_same_in(rt, (number, id), compared.get() as usize, promised);
     compared.set(0);
-    assert_eq!(rt; tree.get_in(&key, id).is_some(), is_there);
-    assert!(rt; compared.get() as usize <= promised, "{number} in {id}");
+    assert_same(rt, tree.get_in(&key, id).is_some(), is_there);
+    assert_true_in(rt, (number, id), compared.get() as usize <= promised);
     compared.set(0);
-    assert!(rt; !is_there || tree.key_fits_in(id, &key), "{number} in {id}");
-    assert!(rt; compared.get() <= 2, "{number} in {id}");
+    assert_true_in(rt, (number, id), !is_there || tree.key_fits_in(id, &key));
+    assert_true_in(rt, (number, id), compared.get() <= 2);
     compared.set(0);
-    assert_eq!(rt; tree.get_mut_in(&key, id).is_some(), is_there);
-    assert!(rt; compared.get() as usize <= promised, "{number} in {id}");
+    assert_same(rt, tree.get_mut_in(&key, id).is_some(), is_there);
+    assert_true_in(rt, (number, id), compared.get() as usize <= promised);
 }
 
 // Each of the keys and each number between is searched for under each of the twelve nodes.
@@ -195,9 +197,9 @@ fn check_under<'a>(
 fn compares_no_more_keys_under_a_node_than_promised(rt: HostRuntime) {
     let compared = Cell::new(0);
     let mut tree = odd_keys(&rt, &compared, rt.alloc());
-    assert_eq!(rt; tree.node_count(), 12);
+    assert_same(&rt, tree.node_count(), 12);
     for id in 0..12usize {
-        assert!(rt; tree.has_node(id));
+        assert_true(&rt, tree.has_node(id));
         for number in 0..89u32 {
             check_under(&rt, &mut tree, &compared, id, number);
         }
@@ -217,7 +219,7 @@ fn value_at<'a>(tree: &CountedTree<'a>, key: &Counted<'a>) -> Option<u32> {
 fn compares_at_most_six_keys_a_level(rt: HostRuntime) {
     let compared = Cell::new(0);
     let tree = odd_keys(&rt, &compared, rt.alloc());
-    assert_eq!(rt; tree.height(), 3);
+    assert_same(&rt, tree.height(), 3);
     for number in 0..89u32 {
         let key = Counted {
             number,
@@ -229,10 +231,10 @@ fn compares_at_most_six_keys_a_level(rt: HostRuntime) {
         } else {
             None
         };
-        assert_eq!(rt; tree.get(&key).copied(), value);
+        assert_same(&rt, tree.get(&key).copied(), value);
         check_count(&rt, &tree, &compared, number);
         compared.set(0);
-        assert_eq!(rt; value_at(&tree, &key), value);
+        assert_same(&rt, value_at(&tree, &key), value);
         check_count(&rt, &tree, &compared, number);
     }
 }
@@ -250,15 +252,15 @@ fn compares_at_most_six_keys_a_level_to_remove(rt: HostRuntime) {
         let levels = tree.height();
         compared.set(0);
         let removed = tree.remove_entry(&key).map(|pair| pair.1);
-        assert!(rt; compared.get() as usize <= 6 * levels, "at {number}");
+        assert_true_in(&rt, number, compared.get() as usize <= 6 * levels);
         let value = if number % 2 == 1 {
             Some(number / 2)
         } else {
             None
         };
-        assert_eq!(rt; removed, value);
+        assert_same(&rt, removed, value);
     }
-    assert_eq!(rt; (tree.len(), tree.node_count()), (0, 0));
+    assert_same(&rt, (tree.len(), tree.node_count()), (0, 0));
 }
 
 // Each of the keys is removed at its address, which compares no keys.
@@ -272,10 +274,10 @@ fn compares_no_keys_to_remove_at_an_address(rt: HostRuntime) {
             compared: &compared,
         };
         let (Ok(addr) | Err(addr)) = tree.address_of(&key);
-        assert!(rt; tree.is_valid(Address::new(addr.id, addr.offset)));
+        assert_true(&rt, tree.is_valid(Address::new(addr.id, addr.offset)));
         compared.set(0);
         let removed = tree.remove_at(addr).map(|pair| *pair.0.value());
-        assert_eq!(rt; (removed, compared.get()), (Some(value), 0));
+        assert_same(&rt, (removed, compared.get()), (Some(value), 0));
     }
 }
 
@@ -290,14 +292,14 @@ fn compares_at_most_two_keys_at_an_address(rt: HostRuntime) {
             compared: &compared,
         };
         let (Ok(addr) | Err(addr)) = tree.address_of(&key);
-        assert!(rt; tree.is_valid(Address::new(addr.id, addr.offset)));
+        assert_true(&rt, tree.is_valid(Address::new(addr.id, addr.offset)));
         compared.set(0);
         let fits = tree.fits_at(Address::new(addr.id, addr.offset), &key);
-        assert_eq!(rt; fits, number % 2 == 0, "at {number}");
-        assert!(rt; compared.get() <= 2, "at {number}");
+        assert_same_in(&rt, number, fits, number % 2 == 0);
+        assert_true_in(&rt, number, compared.get() <= 2);
         compared.set(0);
         let replaces = tree.replaces_at(addr, &key);
-        assert!(rt; replaces || number % 2 == 0, "at {number}");
-        assert!(rt; compared.get() <= 2, "at {number}");
+        assert_true_in(&rt, number, replaces || number % 2 == 0);
+        assert_true_in(&rt, number, compared.get() <= 2);
     }
 }

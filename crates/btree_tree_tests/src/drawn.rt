@@ -5,6 +5,7 @@ ghost use Rattle.btree_node.specs.Node.{view_of};
 ghost use Rattle.btree_view.specs.View.{children_of};
 ghost use Rattle.btree_raw.specs.Raw.{AreUsed};
 
+use btree_asserts::{assert_same, assert_true};
 use btree_item::{Address, Item, Offset};
 use btree_node::{LeafNode, Node};
 use btree_nodes::NodesMut;
@@ -27,7 +28,7 @@ fn leaf_from(rt: &impl Abort, first: u64, items: u64) -> Node<u64, u64>
     let mut leaf = LeafNode::empty(None);
     for index in 0..items {
         let key = first.wrapping_add(index);
-        assert!(rt; leaf.item_count() < 9);
+        assert_true(rt, leaf.item_count() < 9);
         leaf.push_right(Item::new(key, key));
     }
     Node::Leaf(leaf)
@@ -77,14 +78,14 @@ fn put_child<C: NodesMut<u64, u64>>(
     open: Open,
     child: usize,
 ) -> usize {
-    assert!(rt; raw.has_node(child));
+    assert_true(rt, raw.has_node(child));
     let Some(id) = open.node else {
         return put(rt, raw, over(child));
     };
     raw.node_mut(child).set_parent(Some(id));
-    assert!(rt; raw.has_node(id));
+    assert_true(rt, raw.has_node(id));
     if let Node::Internal(node) = raw.node_mut(id) {
-        assert!(rt; node.item_count() < 8);
+        assert_true(rt, node.item_count() < 8);
         node.push_right(Item::new(open.key, open.key), child);
     }
     id
@@ -239,7 +240,7 @@ pub(crate) fn walk<C: NodesMut<u64, u64>>(
 pub(crate) fn check_keys(rt: &impl Abort, walked: &Walked) {
     for stop in &walked.stops {
         if let Some(key) = stop.key {
-            assert_eq!(rt; key, stop.place);
+            assert_same(rt, key, stop.place);
         }
     }
 }
@@ -264,50 +265,6 @@ pub(crate) fn keys_of<C: NodesMut<u64, u64>>(
     Ok(text)
 }
 
-// Writes one node: its number and its parent's, its keys and values, and its children.
-fn write_node(
-    text: &mut String,
-    node: &Node<u64, u64>,
-    id: usize,
-    alloc: Global,
-) -> Result<(), Fail> {
-    match node.parent() {
-        Some(parent) => write!(text, "{id} under {parent}:")?,
-        None => write!(text, "{id}:")?,
-    }
-    for index in 0..node.item_count() {
-        if let Some(item) = node.item(Offset::from(index)) {
-            text.push_str(format!(in alloc; " {}={}", item.key(), item.value())?.as_str())?;
-        }
-    }
-    for index in 0..node.child_count() {
-        if let Some(child) = node.child_id_opt(index) {
-            text.push_str(format!(in alloc; " [{child}]")?.as_str())?;
-        }
-    }
-    text.push('\n')?;
-    Ok(())
-}
-
-/// Returns a whole tree as text: the nodes of its store by their numbers, those below 64.
-pub(crate) fn content_of<C: NodesMut<u64, u64>>(
-    raw: &RawBTree<u64, u64, C>,
-    alloc: Global,
-) -> Result<String, Fail> {
-    let mut text = String::new(alloc);
-    for id in 0..64 {
-        if raw.has_node(id) {
-            write_node(&mut text, raw.node(id), id, alloc)?;
-        }
-    }
-    match raw.root_id() {
-        Some(root) => write!(text, "root {root}")?,
-        None => text.push_str("no root")?,
-    }
-    write!(text, ", {} nodes, length {}", raw.node_count(), raw.len())?;
-    Ok(text)
-}
-
 /// Returns the node at the end of a path down from the root, child by child.
 pub(crate) fn follow<C: NodesMut<u64, u64>>(
     rt: &impl Abort,
@@ -319,7 +276,7 @@ pub(crate) fn follow<C: NodesMut<u64, u64>>(
     };
     let mut id = root;
     for index in way {
-        assert!(rt; raw.has_node(id));
+        assert_true(rt, raw.has_node(id));
         match raw.node(id).child_id_opt(*index) {
             Some(child) => id = child,
             None => panic!(rt; "no child {index}"),
@@ -340,7 +297,7 @@ pub(crate) fn put_spare<C: NodesMut<u64, u64>>(
         spare.push(put(rt, raw, leaf_from(rt, 0, 0)))?;
     }
     for id in spare {
-        assert!(rt; raw.has_node(id));
+        assert_true(rt, raw.has_node(id));
         drop(raw.release_node(id));
     }
     Ok(())

@@ -1,6 +1,7 @@
 //! Navigation by address in a root T over two leaves: the keys 1, 3, 5, 7 in L, 9 in T, and 11, 13, 15, 17 in R.
 ghost use Rattle.btree_shape.specs.TreeState.{IsValidIn};
 
+use btree_asserts::{assert_same, assert_same_in, assert_true, assert_true_in};
 use btree_ext::{BTreeExt, Tree};
 use btree_item::{Address, Offset};
 use btree_node::Node;
@@ -104,12 +105,12 @@ fn two_leaves(rt: &impl Abort, alloc: Global) -> (Map, Ids) {
     let mut tree: Map = Tree::new(alloc);
     for index in 0..9u64 {
         let key = 2 * index + 1;
-        assert!(rt; tree.insert(key, key).is_ok());
+        assert_true(rt, tree.insert(key, key).is_ok());
     }
     let Some(root) = tree.root_id() else {
         panic!(rt; "no root");
     };
-    assert!(rt; tree.has_node(root));
+    assert_true(rt, tree.has_node(root));
     let (left, right) = (
         tree.node(root).child_id_opt(0),
         tree.node(root).child_id_opt(1),
@@ -126,7 +127,8 @@ fn valid(rt: &impl Abort, tree: &Map, ids: Ids, name: usize) -> Address
 {
     match named(ids, name) {
         Some(addr) => {
-            assert!(rt; tree.is_valid(addr), "{addr}");
+            let is_valid = tree.is_valid(addr);
+            assert_true_in(rt, &addr, is_valid);
             addr
         }
         None => panic!(rt; "no address"),
@@ -136,34 +138,29 @@ fn valid(rt: &impl Abort, tree: &Map, ids: Ids, name: usize) -> Address
 fn check_addresses(rt: &impl Abort, tree: &Map, ids: Ids) {
     for (name, item, next, previous, leaf, next_or_back) in &ROWS {
         let addr = valid(rt, tree, ids, *name);
-        assert_eq!(rt;
-            (
-                tree.normalize(addr),
-                tree.next_item_address(addr),
-                tree.previous_item_address(addr),
-                Some(tree.leaf_address(addr)),
-                tree.next_item_or_back_address(addr),
-            ),
-            (
-                named(ids, *item),
-                named(ids, *next),
-                named(ids, *previous),
-                named(ids, *leaf),
-                named(ids, *next_or_back),
-            ),
-            "{addr}"
+        let found = (
+            tree.normalize(addr),
+            tree.next_item_address(addr),
+            tree.previous_item_address(addr),
+            Some(tree.leaf_address(addr)),
+            tree.next_item_or_back_address(addr),
         );
+        let expected = (
+            named(ids, *item),
+            named(ids, *next),
+            named(ids, *previous),
+            named(ids, *leaf),
+            named(ids, *next_or_back),
+        );
+        assert_same_in(rt, &addr, &found, &expected);
     }
 }
 
 fn check_keys(rt: &impl Abort, tree: &Map, ids: Ids) {
     for (name, key, fits, replaces) in &KEY_ROWS {
         let addr = valid(rt, tree, ids, *name);
-        assert_eq!(rt;
-            (tree.fits_at(addr, key), tree.replaces_at(addr, key)),
-            (*fits, *replaces),
-            "{addr} {key}"
-        );
+        let found = (tree.fits_at(addr, key), tree.replaces_at(addr, key));
+        assert_same_in(rt, &addr, found, (*fits, *replaces));
     }
 }
 
@@ -194,7 +191,8 @@ fn decides_which_addresses_are_valid(rt: HostRuntime) {
         (usize::MAX, 0, false),
     ] {
         let addr = Address::new(id, Offset::from(offset));
-        assert_eq!(rt; tree.is_valid(addr), valid, "{addr}");
+        let is_valid = tree.is_valid(addr);
+        assert_same_in(&rt, &addr, is_valid, valid);
     }
     for (id, valid) in [
         (ids.0, true),
@@ -203,7 +201,8 @@ fn decides_which_addresses_are_valid(rt: HostRuntime) {
         (usize::MAX, false),
     ] {
         let addr = Address::new(id, Offset::before());
-        assert_eq!(rt; tree.is_valid(addr), valid, "{addr}");
+        let is_valid = tree.is_valid(addr);
+        assert_same_in(&rt, &addr, is_valid, valid);
     }
 }
 
@@ -221,19 +220,19 @@ const FRONTS: [usize; 12] = [
 fn check_backs(rt: &impl Abort, tree: &Map, ids: Ids) {
     let mut addr = Some(tree.first_back_address());
     for name in &BACKS {
-        assert_eq!(rt; addr, named(ids, *name));
+        assert_same(rt, addr, named(ids, *name));
         addr = tree.next_back_address(valid(rt, tree, ids, *name));
     }
-    assert_eq!(rt; addr, None);
+    assert_same(rt, addr, None);
 }
 
 fn check_fronts(rt: &impl Abort, tree: &Map, ids: Ids) {
     let mut addr = tree.last_item_address();
     for name in &FRONTS {
-        assert_eq!(rt; addr, named(ids, *name));
+        assert_same(rt, addr, named(ids, *name));
         addr = tree.previous_front_address(valid(rt, tree, ids, *name));
     }
-    assert_eq!(rt; addr, None);
+    assert_same(rt, addr, None);
 }
 
 // An address at -1 and the next back address.
@@ -249,11 +248,11 @@ const BEFORE_END: [(usize, usize); 3] = [(LEFT_4, LEFT_3), (TOP_1, RIGHT_3), (RI
 fn check_outside(rt: &impl Abort, tree: &Map, ids: Ids) {
     for (name, next) in &AFTER_BEFORE {
         let addr = valid(rt, tree, ids, *name);
-        assert_eq!(rt; tree.next_back_address(addr), named(ids, *next));
+        assert_same(rt, tree.next_back_address(addr), named(ids, *next));
     }
     for (name, previous) in &BEFORE_END {
         let addr = valid(rt, tree, ids, *name);
-        assert_eq!(rt; tree.previous_front_address(addr), named(ids, *previous));
+        assert_same(rt, tree.previous_front_address(addr), named(ids, *previous));
     }
 }
 
@@ -268,24 +267,25 @@ fn visits_each_address_once(rt: HostRuntime) {
 #[test]
 fn finds_the_ends(rt: HostRuntime) {
     let (tree, ids) = two_leaves(&rt, rt.alloc());
-    assert_eq!(rt; tree.first_item_address(), named(ids, LEFT_0));
-    assert_eq!(rt; tree.last_item_address(), named(ids, RIGHT_3));
-    assert_eq!(rt; Some(tree.first_back_address()), named(ids, LEFT_0));
-    assert_eq!(rt; Some(tree.last_valid_address()), named(ids, RIGHT_4));
+    assert_same(&rt, tree.first_item_address(), named(ids, LEFT_0));
+    assert_same(&rt, tree.last_item_address(), named(ids, RIGHT_3));
+    assert_same(&rt, Some(tree.first_back_address()), named(ids, LEFT_0));
+    assert_same(&rt, Some(tree.last_valid_address()), named(ids, RIGHT_4));
 }
 
 #[test]
 fn visits_no_address_of_an_empty_tree(rt: HostRuntime) {
     let tree: Map = Tree::new(rt.alloc());
-    assert_eq!(rt;
+    assert_same(
+        &rt,
         (tree.first_item_address(), tree.last_item_address()),
-        (None, None)
+        (None, None),
     );
-    assert!(rt; tree.first_back_address().is_nowhere());
-    assert!(rt; tree.last_valid_address().is_nowhere());
-    assert!(rt; tree.is_valid(Address::nowhere()));
-    assert_eq!(rt; tree.next_back_address(Address::nowhere()), None);
-    assert_eq!(rt; tree.previous_front_address(Address::nowhere()), None);
+    assert_true(&rt, tree.first_back_address().is_nowhere());
+    assert_true(&rt, tree.last_valid_address().is_nowhere());
+    assert_true(&rt, tree.is_valid(Address::nowhere()));
+    assert_same(&rt, tree.next_back_address(Address::nowhere()), None);
+    assert_same(&rt, tree.previous_front_address(Address::nowhere()), None);
 }
 
 // Three levels: 44 keys in 12 nodes, so 56 back addresses.
@@ -296,14 +296,14 @@ fn check_all_backs(rt: &impl Abort, tree: &Map) {
         let Some(here) = addr else {
             panic!(rt; "stops early");
         };
-        assert!(rt; tree.is_valid(Address::new(here.id, here.offset)));
+        assert_true(rt, tree.is_valid(Address::new(here.id, here.offset)));
         if let Some(item) = tree.item(Address::new(here.id, here.offset)) {
-            assert_eq!(rt; *item.key(), keys);
+            assert_same(rt, *item.key(), keys);
             keys = keys.wrapping_add(1);
         }
         addr = tree.next_back_address(here);
     }
-    assert_eq!(rt; (addr, keys), (None, 44));
+    assert_same(rt, (addr, keys), (None, 44));
 }
 
 // The same backwards.
@@ -314,21 +314,21 @@ fn check_all_fronts(rt: &impl Abort, tree: &Map) {
         let Some(here) = addr else {
             panic!(rt; "stops early");
         };
-        assert!(rt; tree.is_valid(Address::new(here.id, here.offset)));
+        assert_true(rt, tree.is_valid(Address::new(here.id, here.offset)));
         if let Some(item) = tree.item(Address::new(here.id, here.offset)) {
             keys = keys.wrapping_sub(1);
-            assert_eq!(rt; *item.key(), keys);
+            assert_same(rt, *item.key(), keys);
         }
         addr = tree.previous_front_address(here);
     }
-    assert_eq!(rt; (addr, keys), (None, 0));
+    assert_same(rt, (addr, keys), (None, 0));
 }
 
 #[test]
 fn visits_three_levels(rt: HostRuntime) {
     let mut tree: Map = Tree::new(rt.alloc());
     for key in 0..44u64 {
-        assert!(rt; tree.insert(key, key).is_ok());
+        assert_true(&rt, tree.insert(key, key).is_ok());
     }
     check_all_backs(&rt, &tree);
     check_all_fronts(&rt, &tree);

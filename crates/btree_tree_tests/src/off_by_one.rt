@@ -1,6 +1,7 @@
 //! `is_off_by_one`, for trees that are off by one at a node and trees that are not.
 use crate::drawn::{drawn, put};
 use crate::rebalance::{Raw, leaf_of, two};
+use btree_asserts::{assert_same, assert_same_in, assert_true, assert_true_in};
 use btree_item::Item;
 use btree_node::Node;
 use std::alloc::Global;
@@ -36,7 +37,7 @@ fn counts_of_items_are_within_bounds(rt: HostRuntime) -> Result<(), Fail> {
         ("((3333)3)", false),
         ("(3(3333))", false),
     ] {
-        assert_eq!(rt; is_off_at_root(&rt, text, rt.alloc())?, is_off, "{text}");
+        assert_same_in(&rt, text, is_off_at_root(&rt, text, rt.alloc())?, is_off);
     }
     Ok(())
 }
@@ -44,10 +45,10 @@ fn counts_of_items_are_within_bounds(rt: HostRuntime) -> Result<(), Fail> {
 #[test]
 fn only_the_named_node_is_short(rt: HostRuntime) {
     let (raw, t, l, r) = two(&rt, rt.alloc(), &[0, 1], 3, &[4, 5, 6, 7]);
-    assert!(rt; raw.is_off_by_one(l));
-    assert!(rt; !raw.is_off_by_one(r) && !raw.is_off_by_one(t));
+    assert_true(&rt, raw.is_off_by_one(l));
+    assert_true(&rt, !raw.is_off_by_one(r) && !raw.is_off_by_one(t));
     let (raw, _, l, _) = two(&rt, rt.alloc(), &[0], 3, &[4, 5, 6, 7]);
-    assert!(rt; !raw.is_off_by_one(l));
+    assert_true(&rt, !raw.is_off_by_one(l));
 }
 
 #[test]
@@ -61,14 +62,17 @@ fn keys_ascend(rt: HostRuntime) {
         ([4, 5, 6], 3, [0, 1, 2]),
     ] {
         let (raw, t, _, _) = two(&rt, rt.alloc(), &left, key, &right);
-        assert!(rt; !raw.is_off_by_one(t), "{key}");
+        assert_true_in(&rt, key, !raw.is_off_by_one(t));
     }
 }
 
 #[test]
 fn nodes_name_their_parents(rt: HostRuntime) {
     let (mut raw, t, l, r) = even(&rt, rt.alloc());
-    assert!(rt; raw.is_off_by_one(t) && raw.is_off_by_one(l) && raw.is_off_by_one(r));
+    assert_true(
+        &rt,
+        raw.is_off_by_one(t) && raw.is_off_by_one(l) && raw.is_off_by_one(r),
+    );
     for (id, parent) in [
         (l, Some(r)),
         (l, None),
@@ -76,13 +80,13 @@ fn nodes_name_their_parents(rt: HostRuntime) {
         (t, Some(t)),
         (t, Some(l)),
     ] {
-        assert!(rt; raw.has_node(id));
+        assert_true(&rt, raw.has_node(id));
         let own = raw.node(id).parent();
         raw.node_mut(id).set_parent(parent);
-        assert!(rt; !raw.is_off_by_one(l));
-        assert!(rt; raw.has_node(id));
+        assert_true(&rt, !raw.is_off_by_one(l));
+        assert_true(&rt, raw.has_node(id));
         raw.node_mut(id).set_parent(own);
-        assert!(rt; raw.is_off_by_one(l));
+        assert_true(&rt, raw.is_off_by_one(l));
     }
 }
 
@@ -91,7 +95,7 @@ fn the_root_is_named(rt: HostRuntime) {
     let (mut raw, t, l, _) = even(&rt, rt.alloc());
     for (root, is_off) in [(Some(l), false), (None, false), (Some(t), true)] {
         raw.set_root_id(root);
-        assert_eq!(rt; raw.is_off_by_one(l), is_off);
+        assert_same(&rt, raw.is_off_by_one(l), is_off);
     }
 }
 
@@ -99,27 +103,27 @@ fn the_root_is_named(rt: HostRuntime) {
 fn each_node_is_in_the_tree(rt: HostRuntime) {
     let (mut raw, t, _, _) = even(&rt, rt.alloc());
     let spare = put(&rt, &mut raw, leaf_of(&rt, &[7, 8, 9]));
-    assert!(rt; !raw.is_off_by_one(t) && !raw.is_off_by_one(spare));
-    assert!(rt; raw.has_node(spare));
+    assert_true(&rt, !raw.is_off_by_one(t) && !raw.is_off_by_one(spare));
+    assert_true(&rt, raw.has_node(spare));
     drop(raw.release_node(spare));
-    assert!(rt; raw.is_off_by_one(t) && !raw.is_off_by_one(spare));
+    assert_true(&rt, raw.is_off_by_one(t) && !raw.is_off_by_one(spare));
 }
 
 #[test]
 fn each_child_is_there(rt: HostRuntime) {
     let (mut raw, t, _, r) = even(&rt, rt.alloc());
-    assert!(rt; raw.has_node(r));
+    assert_true(&rt, raw.has_node(r));
     drop(raw.release_node(r));
-    assert!(rt; !raw.is_off_by_one(t));
+    assert_true(&rt, !raw.is_off_by_one(t));
 }
 
 #[test]
 fn a_node_is_in_the_tree_once(rt: HostRuntime) {
     let (mut raw, t, l, _) = even(&rt, rt.alloc());
-    assert!(rt; raw.has_node(t));
+    assert_true(&rt, raw.has_node(t));
     if let Node::Internal(node) = raw.node_mut(t) {
-        assert!(rt; node.item_count() < 8);
+        assert_true(&rt, node.item_count() < 8);
         node.push_right(Item::new(7, 7), l);
     }
-    assert!(rt; !raw.is_off_by_one(t));
+    assert_true(&rt, !raw.is_off_by_one(t));
 }

@@ -1,5 +1,6 @@
 //! Rebalancing keeps the place of every address of trees that are off by one at a node, as a walk finds it.
 use crate::drawn::{Stop, Walked, check_keys, drawn, follow, walk};
+use btree_asserts::{assert_same, assert_same_in, assert_true_in};
 use btree_item::Address;
 use btree_node::Node;
 use btree_raw::RawBTree;
@@ -33,16 +34,16 @@ type Row<'a> = (&'a str, &'a [usize], usize, usize, &'a str, usize);
 fn check_place(rt: &impl Abort, walked: &Walked, asked: &Stop, answer: Address) {
     for found in &walked.stops {
         if found.addr == answer {
-            assert_eq!(rt; found.place, asked.place, "{}", asked.addr);
-            assert!(rt;
+            assert_same_in(rt, asked.addr, found.place, asked.place);
+            assert_true_in(
+                rt,
+                asked.addr,
                 asked.key.is_none() || found.key == asked.key,
-                "{}",
-                asked.addr
             );
-            assert!(rt;
+            assert_true_in(
+                rt,
+                asked.addr,
                 asked.addr.offset.is_before() || !answer.offset.is_before(),
-                "{}",
-                asked.addr
             );
             return;
         }
@@ -59,7 +60,7 @@ fn rebalanced(
 ) -> Result<(Raw, Address), Fail> {
     let mut raw: Raw = drawn(rt, alloc, before.text, alloc)?;
     let id = follow(rt, &raw, before.way);
-    assert!(rt; raw.is_off_by_one(id), "{}", before.text);
+    assert_true_in(rt, before.text, raw.is_off_by_one(id));
     assert!(rt; raw.is_valid(asked), "{} at {asked}", before.text);
     match raw.rebalance(id, asked) {
         Ok(answer) => Ok((raw, answer)),
@@ -75,12 +76,12 @@ fn check_after(
     raw: &Raw,
     walked: &Walked,
 ) {
-    assert_eq!(rt; walked.text.as_str(), after.text, "{}", before.text);
-    assert_eq!(rt;
+    assert_same_in(rt, before.text, walked.text.as_str(), after.text);
+    assert_same_in(
+        rt,
+        before.text,
         (raw.node_count(), raw.len()),
         (after.nodes, 77),
-        "{}",
-        before.text
     );
     check_keys(rt, walked);
 }
@@ -103,12 +104,12 @@ fn check_address(
 fn walked_before(rt: &impl Abort, before: &Before<'_>, alloc: Global) -> Result<Walked, Fail> {
     let raw: Raw = drawn(rt, alloc, before.text, alloc)?;
     let walked = walk(&raw, alloc)?;
-    assert_eq!(rt; walked.text.as_str(), before.text);
-    assert_eq!(rt;
+    assert_same(rt, walked.text.as_str(), before.text);
+    assert_same_in(
+        rt,
+        before.text,
         (walked.stops.len(), raw.node_count()),
         (before.addresses, before.nodes),
-        "{}",
-        before.text
     );
     Ok(walked)
 }

@@ -4,6 +4,7 @@ ghost use Rattle.btree_node.specs.Node.{view_of};
 ghost use Rattle.btree_view.specs.View.{children_of};
 
 use crate::drawn::{keys_of, put};
+use btree_asserts::{assert_same, assert_same_in, assert_true, assert_true_in};
 use btree_item::{Address, Item, Offset};
 use btree_node::{LeafNode, Node};
 use btree_raw::RawBTree;
@@ -19,7 +20,7 @@ pub(crate) fn leaf_of(rt: &impl Abort, keys: &[u64]) -> Node<u64, u64>
 {
     let mut leaf = LeafNode::empty(None);
     for key in keys {
-        assert!(rt; leaf.item_count() < 9);
+        assert_true(rt, leaf.item_count() < 9);
         leaf.push_right(Item::new(*key, *key));
     }
     Node::Leaf(leaf)
@@ -45,8 +46,8 @@ pub(crate) fn two(
     let mut raw = Raw::new(alloc);
     let low = put(rt, &mut raw, leaf_of(rt, left));
     let high = put(rt, &mut raw, leaf_of(rt, right));
-    assert!(rt; raw.has_node(low));
-    assert!(rt; raw.has_node(high));
+    assert_true(rt, raw.has_node(low));
+    assert_true(rt, raw.has_node(high));
     let root = put(
         rt,
         &mut raw,
@@ -67,8 +68,9 @@ fn before(id: usize) -> Address {
 
 // Rebalances a tree at a node, if `is_off_by_one` and `is_valid` allow it.
 fn rebalanced(rt: &impl Abort, raw: &mut Raw, id: usize, addr: Address) -> Address {
-    assert!(rt; raw.is_off_by_one(id));
-    assert!(rt; raw.is_valid(addr), "{addr}");
+    assert_true(rt, raw.is_off_by_one(id));
+    let is_valid = raw.is_valid(addr);
+    assert_true_in(rt, &addr, is_valid);
     match raw.rebalance(id, addr) {
         Ok(answer) => answer,
         Err(_) => panic!(rt; "refused"),
@@ -84,12 +86,13 @@ fn check_tree(
     count: usize,
     nodes: &[(usize, &str)],
 ) -> Result<(), Fail> {
-    assert_eq!(rt;
+    assert_same(
+        rt,
         (raw.root_id(), raw.node_count(), raw.len()),
-        (root, count, 77)
+        (root, count, 77),
     );
     for (id, keys) in nodes {
-        assert_eq!(rt; keys_of(raw, *id, alloc)?.as_str(), *keys);
+        assert_same(rt, keys_of(raw, *id, alloc)?.as_str(), *keys);
     }
     Ok(())
 }
@@ -98,8 +101,8 @@ fn rotates_left(rt: &impl Abort, alloc: Global, case: usize) -> Result<(), Fail>
     let (mut raw, t, l, r) = two(rt, alloc, &[0, 1], 3, &[4, 5, 6, 7]);
     let from = [at(r, 0), before(r), at(r, 2), at(t, 0), at(l, 2)];
     let to = [at(t, 0), at(t, 0), at(r, 1), at(l, 2), at(l, 2)];
-    assert!(rt; case < 5);
-    assert_eq!(rt; rebalanced(rt, &mut raw, l, from[case]), to[case], "{case}");
+    assert_true(rt, case < 5);
+    assert_same_in(rt, case, rebalanced(rt, &mut raw, l, from[case]), to[case]);
     check_tree(
         rt,
         &raw,
@@ -122,8 +125,8 @@ fn rotates_right(rt: &impl Abort, alloc: Global, case: usize) -> Result<(), Fail
     let (mut raw, t, l, r) = two(rt, alloc, &[0, 1, 2, 3], 4, &[5, 6]);
     let from = [at(l, 3), at(l, 4), before(r)];
     let to = [at(t, 0), at(r, 0), at(r, 1)];
-    assert!(rt; case < 3);
-    assert_eq!(rt; rebalanced(rt, &mut raw, r, from[case]), to[case], "{case}");
+    assert_true(rt, case < 3);
+    assert_same_in(rt, case, rebalanced(rt, &mut raw, r, from[case]), to[case]);
     check_tree(
         rt,
         &raw,
@@ -146,8 +149,8 @@ fn merges(rt: &impl Abort, alloc: Global, case: usize) -> Result<(), Fail> {
     let (mut raw, t, l, r) = two(rt, alloc, &[0, 1, 2], 3, &[4, 5]);
     let from = [before(r), at(t, 1), at(t, 0), before(t)];
     let to = [at(l, 4), at(l, 6), at(l, 3), before(l)];
-    assert!(rt; case < 4);
-    assert_eq!(rt; rebalanced(rt, &mut raw, r, from[case]), to[case], "{case}");
+    assert_true(rt, case < 4);
+    assert_same_in(rt, case, rebalanced(rt, &mut raw, r, from[case]), to[case]);
     check_tree(rt, &raw, alloc, Some(l), 1, &[(l, "0 1 2 3 4 5 ")])
 }
 
@@ -172,13 +175,13 @@ fn root_and_second(raw: &Raw) -> Option<(usize, usize)> {
 fn splits(rt: &impl Abort, alloc: Global, case: usize) -> Result<(), Fail> {
     let (mut raw, l) = one(rt, alloc, &[0, 1, 2, 3, 4, 5, 6, 7, 8]);
     let from = [at(l, 3), at(l, 4), at(l, 5), at(l, 9), before(l)];
-    assert!(rt; case < 5);
+    assert_true(rt, case < 5);
     let answer = rebalanced(rt, &mut raw, l, from[case]);
     let Some((t, y)) = root_and_second(&raw) else {
         panic!(rt; "no root with two children");
     };
     let to = [at(l, 3), at(t, 0), at(y, 0), at(y, 4), before(l)];
-    assert_eq!(rt; answer, to[case], "{case}");
+    assert_same_in(rt, case, answer, to[case]);
     check_tree(
         rt,
         &raw,
@@ -203,7 +206,11 @@ fn lets_an_empty_root_leaf_go(rt: HostRuntime) {
         let (mut raw, l) = one(&rt, rt.alloc(), &[]);
         let from = [before(l), at(l, 0)];
         let answer = rebalanced(&rt, &mut raw, l, from[case]);
-        assert_eq!(rt; answer, Address::nowhere(), "{case}");
-        assert_eq!(rt; (raw.root_id(), raw.node_count(), raw.len()), (None, 0, 77));
+        assert_same_in(&rt, case, answer, Address::nowhere());
+        assert_same(
+            &rt,
+            (raw.root_id(), raw.node_count(), raw.len()),
+            (None, 0, 77),
+        );
     }
 }

@@ -1,11 +1,13 @@
 //! Memory that is refused while a tree is rebalanced, or a node is allocated.
-use crate::drawn::{content_of, drawn, follow, put_spare};
+use crate::drawn::{drawn, follow, put_spare};
 use crate::rebalance::leaf_of;
+use btree_asserts::{assert_same, assert_same_in, assert_true, assert_true_in};
 use btree_item::{Address, Cause, Offset};
 use btree_node::Node;
 use btree_nodes::NodesMut;
 use btree_raw::RawBTree;
 use btree_refusing::Refusing;
+use btree_samples::content_of;
 use btree_store::SlabStore;
 use std::alloc::Global;
 use std::process::Abort;
@@ -18,8 +20,9 @@ fn rebalanced<C: NodesMut<u64, u64>>(
     id: usize,
 ) -> Result<Address, Cause> {
     let addr = Address::new(id, Offset::from(5));
-    assert!(rt; raw.is_off_by_one(id));
-    assert!(rt; raw.is_valid(addr), "{addr}");
+    assert_true(rt, raw.is_off_by_one(id));
+    let is_valid = raw.is_valid(addr);
+    assert_true_in(rt, &addr, is_valid);
     raw.rebalance(id, addr)
 }
 
@@ -41,16 +44,17 @@ fn is_refused<C: NodesMut<u64, u64> + Drop>(
     memory.refuse(1);
     match rebalanced(rt, &mut raw, id) {
         Ok(_) => {
-            assert_eq!(rt; raw.node_count(), nodes.wrapping_add(2));
+            assert_same(rt, raw.node_count(), nodes.wrapping_add(2));
             return Ok(false);
         }
-        Err(cause) => assert_eq!(rt; cause, Cause::Store),
+        Err(cause) => assert_same(rt, cause, Cause::Store),
     }
-    assert_eq!(rt; content_of(&raw, alloc)?.as_str(), old.as_str());
-    assert!(rt; rebalanced(rt, &mut raw, id).is_ok());
-    assert_eq!(rt;
+    assert_same(rt, content_of(&raw, alloc)?.as_str(), old.as_str());
+    assert_true(rt, rebalanced(rt, &mut raw, id).is_ok());
+    assert_same(
+        rt,
         (raw.root_id(), raw.node_count(), raw.len()),
-        (root, nodes.wrapping_add(2), 77)
+        (root, nodes.wrapping_add(2), 77),
     );
     Ok(true)
 }
@@ -79,7 +83,7 @@ fn a_refused_node_of_a_split_changes_nothing(rt: HostRuntime) -> Result<(), Fail
         ("((93333333)(33333))", 2, false),
     ] {
         let met = split_is_refused(&rt, text, spare, rt.alloc())?;
-        assert_eq!(rt; met, (refused, refused), "{text}");
+        assert_same_in(&rt, text, met, (refused, refused));
     }
     Ok(())
 }
@@ -97,17 +101,17 @@ fn check_allocated<C: NodesMut<u64, u64> + Drop>(
     let Err(node) = raw.allocate_node(leaf_of(rt, &[3, 5])) else {
         return Err(Fail::from("not refused"));
     };
-    assert_eq!(rt; content_of(&raw, alloc)?.as_str(), old.as_str());
+    assert_same(rt, content_of(&raw, alloc)?.as_str(), old.as_str());
     let keys = (
         node.item(Offset::from(0)).map(|item| *item.key()),
         node.item(Offset::from(1)).map(|item| *item.key()),
     );
-    assert_eq!(rt; (node.item_count(), keys), (2, (Some(3), Some(5))));
+    assert_same(rt, (node.item_count(), keys), (2, (Some(3), Some(5))));
     let Ok(id) = raw.allocate_node(leaf_of(rt, &[3, 5])) else {
         return Err(Fail::from("refused twice"));
     };
-    assert!(rt; raw.has_node(id));
-    assert_eq!(rt; (raw.node(id).item_count(), raw.node_count()), (2, 1));
+    assert_true(rt, raw.has_node(id));
+    assert_same(rt, (raw.node(id).item_count(), raw.node_count()), (2, 1));
     Ok(())
 }
 

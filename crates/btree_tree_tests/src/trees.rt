@@ -1,10 +1,12 @@
 //! Trees that grow by insertions of keys in their order.
-use crate::drawn::{check_keys, content_of, walk};
+use crate::drawn::{check_keys, walk};
+use btree_asserts::{assert_same, assert_same_in, assert_true};
 use btree_ext::{BTreeExt, Tree};
 use btree_item::Cause;
 use btree_node::Node;
 use btree_nodes::NodesMut;
 use btree_refusing::Refusing;
+use btree_samples::content_of;
 use btree_store::SlabStore;
 use btree_walk::Iter;
 use std::alloc::Global;
@@ -24,17 +26,18 @@ fn grow<C: NodesMut<u64, u64> + Drop>(
     for key in 0..keys {
         let before = content_of(tree.as_raw(), alloc)?;
         if let Err(refused) = tree.insert(key, key) {
-            assert_eq!(rt;
+            assert_same(
+                rt,
                 (refused.cause, refused.key, refused.value),
-                (Cause::Store, key, key)
+                (Cause::Store, key, key),
             );
-            assert_eq!(rt; content_of(tree.as_raw(), alloc)?.as_str(), before.as_str());
+            assert_same(
+                rt,
+                content_of(tree.as_raw(), alloc)?.as_str(),
+                before.as_str(),
+            );
             refusals = refusals.wrapping_add(1);
-            assert_eq!(rt;
-                tree.insert(key, key).ok(),
-                Some(None),
-                "{key} is refused twice"
-            );
+            assert_same_in(rt, key, tree.insert(key, key).ok(), Some(None));
         }
     }
     Ok((tree, refusals))
@@ -50,17 +53,18 @@ fn check_grown(
     alloc: Global,
 ) -> Result<(), Fail> {
     let (tree, refusals) = grow::<SlabStore<Node<u64, u64>>>(rt, alloc, keys, alloc)?;
-    assert_eq!(rt;
+    assert_same(
+        rt,
         (
             refusals,
             tree.node_count(),
             tree.height(),
-            tree.len() as u64
+            tree.len() as u64,
         ),
-        (0, nodes, height, keys)
+        (0, nodes, height, keys),
     );
     let walked = walk(tree.as_raw(), alloc)?;
-    assert_eq!(rt; (walked.text.as_str(), walked.items), (text, keys));
+    assert_same(rt, (walked.text.as_str(), walked.items), (text, keys));
     check_keys(rt, &walked);
     Ok(())
 }
@@ -89,9 +93,10 @@ fn refusals_of<C: NodesMut<u64, u64> + Drop>(
     alloc: Global,
 ) -> Result<usize, Fail> {
     let (tree, refusals) = grow::<C>(rt, origin, keys, alloc)?;
-    assert_eq!(rt;
+    assert_same(
+        rt,
         (tree.node_count(), tree.height(), tree.len() as u64),
-        (nodes, 3, keys)
+        (nodes, 3, keys),
     );
     Ok(refusals)
 }
@@ -102,12 +107,13 @@ fn walks_from_the_front(rt: HostRuntime) -> Result<(), Fail> {
         let (tree, _) = grow::<SlabStore<Node<u64, u64>>>(&rt, rt.alloc(), keys, rt.alloc())?;
         let mut walk = Iter::new(&tree);
         for key in 0..keys {
-            assert_eq!(rt;
+            assert_same(
+                &rt,
                 (walk.len() as u64, walk.next()),
-                (keys - key, Some((&key, &key)))
+                (keys - key, Some((&key, &key))),
             );
         }
-        assert_eq!(rt; (walk.len(), walk.next(), walk.next()), (0, None, None));
+        assert_same(&rt, (walk.len(), walk.next(), walk.next()), (0, None, None));
     }
     Ok(())
 }
@@ -132,10 +138,10 @@ fn check_each_refused(rt: &impl Abort, keys: u64, nodes: usize, alloc: Global) -
     for nth in 1..64u64 {
         let (refusals, left) = refused_at(rt, nth, keys, nodes, alloc)?;
         if refusals == 0 {
-            assert!(rt; nth > 1 && left > 0);
+            assert_true(rt, nth > 1 && left > 0);
             return Ok(());
         }
-        assert_eq!(rt; (refusals, left), (1, 0), "at {nth} of {keys}");
+        assert_same_in(rt, (nth, keys), (refusals, left), (1, 0));
     }
     Err(Fail::from("each run met a refusal"))
 }

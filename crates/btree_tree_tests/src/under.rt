@@ -4,6 +4,7 @@ ghost use Rattle.std.specs.Prelude.{IsTrue};
 ghost use Rattle.btree_shape.specs.TreeState.{IsUsed};
 ghost use Rattle.btree_find.specs.Fits.{FitsIn};
 
+use btree_asserts::{assert_same, assert_same_in, assert_true, assert_true_in};
 use btree_ext::{BTreeExt, BTreeExtMut, Tree};
 use btree_item::{Address, Fault, Offset};
 use btree_node::Node;
@@ -56,12 +57,12 @@ fn number_of(ids: Ids, name: usize) -> usize {
 fn nine_keys(rt: &impl Abort, alloc: Global) -> (Map, Ids) {
     let mut tree: Map = Tree::new(alloc);
     for key in 0..9u64 {
-        assert!(rt; tree.insert(key, 10 * key).is_ok());
+        assert_true(rt, tree.insert(key, 10 * key).is_ok());
     }
     let Some(root) = tree.root_id() else {
         panic!(rt; "no root");
     };
-    assert!(rt; tree.has_node(root));
+    assert_true(rt, tree.has_node(root));
     let (left, right) = (
         tree.node(root).child_id_opt(0),
         tree.node(root).child_id_opt(1),
@@ -77,14 +78,15 @@ fn looks_up_under_each_node(rt: HostRuntime) {
     let (tree, ids) = nine_keys(&rt, rt.alloc());
     for (name, key, found, leaf, offset, fits) in &ROWS {
         let id = number_of(ids, *name);
-        assert!(rt; tree.has_node(id));
+        assert_true(&rt, tree.has_node(id));
         let addr = Address::new(number_of(ids, *leaf), Offset::from(*offset));
         let expected = if *found { Ok(addr) } else { Err(addr) };
-        assert!(rt; tree.address_in(id, key) == expected, "{key}");
+        assert_true_in(&rt, key, tree.address_in(id, key) == expected);
         let value = tree.get_in(key, id).copied();
-        assert_eq!(rt;
+        assert_same(
+            &rt,
             (value, tree.key_fits_in(id, key)),
-            (if *found { Some(10 * *key) } else { None }, *fits)
+            (if *found { Some(10 * *key) } else { None }, *fits),
         );
     }
 }
@@ -95,13 +97,13 @@ fn writes_under_each_node(rt: HostRuntime) {
     let (mut tree, ids) = nine_keys(&rt, rt.alloc());
     for (name, key, found, _, _, _) in &ROWS {
         let id = number_of(ids, *name);
-        assert!(rt; tree.has_node(id));
+        assert_true(&rt, tree.has_node(id));
         if let Some(value) = tree.get_mut_in(key, id) {
             *value = 11 * *key;
         }
-        assert!(rt; tree.has_node(id));
+        assert_true(&rt, tree.has_node(id));
         let value = tree.get_in(key, id).copied();
-        assert_eq!(rt; value, if *found { Some(11 * *key) } else { None }, "{key}");
+        assert_same_in(&rt, key, value, if *found { Some(11 * *key) } else { None });
     }
 }
 
@@ -122,10 +124,10 @@ fn fits_where_it_is_missing(rt: HostRuntime) {
     let (tree, ids) = nine_keys(&rt, rt.alloc());
     for (name, key, found, _, _, fits) in &ROWS {
         let id = number_of(ids, *name);
-        assert!(rt; tree.has_node(id));
+        assert_true(&rt, tree.has_node(id));
         if *fits && !*found {
-            assert!(rt; tree.key_fits_in(id, key), "{key}");
-            assert!(rt; fits_at_its_gap(&tree, id, key), "{key}");
+            assert_true_in(&rt, key, tree.key_fits_in(id, key));
+            assert_true_in(&rt, key, fits_at_its_gap(&tree, id, key));
         }
     }
 }
@@ -133,7 +135,7 @@ fn fits_where_it_is_missing(rt: HostRuntime) {
 #[test]
 fn compares_each_node_with_what_is_expected(rt: HostRuntime) {
     let (tree, (l, t, r)) = nine_keys(&rt, rt.alloc());
-    assert_eq!(rt; tree.validate(), Ok(()));
+    assert_same(&rt, tree.validate(), Ok(()));
     for (id, parent, min, max, answer) in [
         (t, None, None, None, Ok(1)),
         (t, None, None, Some(9), Err(Fault::Underflowing)),
@@ -144,11 +146,12 @@ fn compares_each_node_with_what_is_expected(rt: HostRuntime) {
         (r, Some(t), Some(5), None, Err(Fault::BelowSeparator)),
     ] {
         let (low, high): (Option<u64>, Option<u64>) = (min, max);
-        assert!(rt; tree.has_node(id));
-        assert_eq!(rt;
+        assert_true(&rt, tree.has_node(id));
+        assert_same_in(
+            &rt,
+            id,
             tree.validate_node(id, parent, low.as_ref(), high.as_ref()),
             answer,
-            "{id}"
         );
     }
 }
