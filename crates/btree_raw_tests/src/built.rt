@@ -1,15 +1,16 @@
 //! Trees built node by node, and their keys.
-use crate::faults::{Raw, put_leaf};
+use crate::faults::put_leaf;
 use btree_asserts::{assert_same, assert_true};
 use btree_item::Item;
 use btree_node::Node;
-use std::alloc::Global;
+use btree_nodes::NodesMut;
+use btree_raw::RawBTree;
 use std::process::Abort;
 
 /// Allocates a node with one key over two others, and returns its number.
-pub(crate) fn put_over(
+pub(crate) fn put_over<C: NodesMut<u64, u64>>(
     rt: &impl Abort,
-    raw: &mut Raw,
+    raw: &mut RawBTree<u64, u64, C>,
     left: usize,
     key: u64,
     right: usize,
@@ -23,9 +24,9 @@ pub(crate) fn put_over(
 }
 
 /// Adds a leaf of these keys to an internal node, after a key, and returns its number.
-pub(crate) fn add_leaf(
+pub(crate) fn add_leaf<C: NodesMut<u64, u64>>(
     rt: &impl Abort,
-    raw: &mut Raw,
+    raw: &mut RawBTree<u64, u64, C>,
     above: usize,
     key: u64,
     keys: &[u64],
@@ -42,15 +43,15 @@ pub(crate) fn add_leaf(
 }
 
 /// Returns a root with one key over two leaves, and the numbers of the three.
-pub(crate) fn tree_of(
+pub(crate) fn tree_of<C: NodesMut<u64, u64>>(
     rt: &impl Abort,
     left: &[u64],
     key: u64,
     right: &[u64],
     len: usize,
-    alloc: Global,
-) -> (Raw, usize, usize, usize) {
-    let mut raw = Raw::new(alloc);
+    origin: C::Origin,
+) -> (RawBTree<u64, u64, C>, usize, usize, usize) {
+    let mut raw: RawBTree<u64, u64, C> = RawBTree::new(origin);
     let low = put_leaf(rt, &mut raw, left);
     let high = put_leaf(rt, &mut raw, right);
     let top = put_over(rt, &mut raw, low, key, high);
@@ -60,7 +61,12 @@ pub(crate) fn tree_of(
 }
 
 /// Checks that a node has exactly these keys.
-pub(crate) fn check_keys(rt: &impl Abort, raw: &Raw, id: usize, keys: &[u64]) {
+pub(crate) fn check_keys<C: NodesMut<u64, u64>>(
+    rt: &impl Abort,
+    raw: &RawBTree<u64, u64, C>,
+    id: usize,
+    keys: &[u64],
+) {
     assert_true(rt, raw.has_node(id));
     let node = raw.node(id);
     assert_same(rt, node.item_count(), keys.len());

@@ -1,6 +1,6 @@
 //! Insertion into raw trees at exactly an address.
 use crate::built::{add_leaf, check_keys, tree_of};
-use crate::faults::Raw;
+use crate::faults::{Raw, Store};
 use btree_asserts::{assert_same, assert_true};
 use btree_item::{Address, Cause, Item, Offset, Refused};
 use btree_node::Node;
@@ -103,7 +103,14 @@ fn inserted(rt: &impl Abort, raw: &mut Raw, id: usize, index: usize, key: u64) -
 
 #[test]
 fn a_leaf_with_room_takes_an_item(rt: HostRuntime) {
-    let (mut raw, t, l, r) = tree_of(&rt, &[0, 2, 4, 6], 8, &[10, 12, 14, 16], 9, rt.alloc());
+    let (mut raw, t, l, r) = tree_of::<Store>(
+        &rt,
+        &[0, 2, 4, 6],
+        8,
+        &[10, 12, 14, 16],
+        9,
+        rt.alloc(),
+    );
     let at = inserted(&rt, &mut raw, l, 1, 1);
     assert_same(&rt, at, Address::new(l, Offset::from(1)));
     check_keys(&rt, &raw, l, &[0, 1, 2, 4, 6]);
@@ -114,7 +121,7 @@ fn a_leaf_with_room_takes_an_item(rt: HostRuntime) {
 
 #[test]
 fn the_median_goes_to_the_root(rt: HostRuntime) {
-    let (mut raw, t, l, r) = tree_of(
+    let (mut raw, t, l, r) = tree_of::<Store>(
         &rt,
         &[0, 2, 4, 6, 8, 10, 12, 14],
         16,
@@ -132,7 +139,7 @@ fn the_median_goes_to_the_root(rt: HostRuntime) {
 
 #[test]
 fn an_item_goes_to_the_right_part(rt: HostRuntime) {
-    let (mut raw, t, l, _) = tree_of(
+    let (mut raw, t, l, _) = tree_of::<Store>(
         &rt,
         &[0, 2, 4, 6, 8, 10, 12, 14],
         16,
@@ -154,7 +161,7 @@ fn an_item_goes_to_the_right_part(rt: HostRuntime) {
 
 #[test]
 fn a_short_leaf_borrows_an_item(rt: HostRuntime) {
-    let (mut raw, t, l, r) = tree_of(&rt, &[0], 8, &[10, 12, 14, 16], 6, rt.alloc());
+    let (mut raw, t, l, r) = tree_of::<Store>(&rt, &[0], 8, &[10, 12, 14, 16], 6, rt.alloc());
     let at = inserted(&rt, &mut raw, l, 1, 2);
     assert_same(&rt, at, Address::new(l, Offset::from(1)));
     check_keys(&rt, &raw, t, &[10]);
@@ -165,7 +172,7 @@ fn a_short_leaf_borrows_an_item(rt: HostRuntime) {
 
 #[test]
 fn the_greatest_length_is_refused(rt: HostRuntime) {
-    let (mut raw, t, l, r) = tree_of(
+    let (mut raw, t, l, r) = tree_of::<Store>(
         &rt,
         &[0, 2, 4, 6],
         8,
@@ -204,7 +211,7 @@ fn put_back_inner(rt: &impl Abort, raw: &mut Raw, id: usize, index: usize) -> Ad
 
 #[test]
 fn an_internal_node_takes_an_item_and_a_child(rt: HostRuntime) {
-    let (mut raw, t, l, r) = tree_of(&rt, &[0, 1, 2, 3], 4, &[5, 6, 7, 8], 12, rt.alloc());
+    let (mut raw, t, l, r) = tree_of::<Store>(&rt, &[0, 1, 2, 3], 4, &[5, 6, 7, 8], 12, rt.alloc());
     let child = add_leaf(&rt, &mut raw, t, 15, &[20, 21, 22]);
     let at = put_back_inner(&rt, &mut raw, t, 1);
     assert_same(&rt, at, Address::new(t, Offset::from(1)));

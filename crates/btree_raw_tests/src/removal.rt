@@ -1,14 +1,20 @@
 //! Removal of the last item under a node.
 use crate::built::{add_leaf, check_keys, put_over, tree_of};
-use crate::faults::{Raw, put_leaf};
+use crate::faults::{Store, put_leaf};
 use btree_asserts::{assert_same, assert_true};
 use btree_item::{Address, Offset};
-use std::alloc::Global;
+use btree_nodes::NodesMut;
+use btree_raw::RawBTree;
 use std::process::Abort;
 
 // Takes the last item under a node, and returns its key and the number of its leaf. Rebalancing at the root shows that the tree is well
 // formed except for its length.
-fn take_last(rt: &impl Abort, raw: &mut Raw, root: usize, id: usize) -> (u64, usize) {
+fn take_last<C: NodesMut<u64, u64>>(
+    rt: &impl Abort,
+    raw: &mut RawBTree<u64, u64, C>,
+    root: usize,
+    id: usize,
+) -> (u64, usize) {
     assert_true(rt, raw.is_off_by_one(root));
     assert_true(rt, raw.is_valid(Address::new(root, Offset::before())));
     let Ok(_at) = raw.rebalance(root, Address::new(root, Offset::before())) else {
@@ -19,15 +25,40 @@ fn take_last(rt: &impl Abort, raw: &mut Raw, root: usize, id: usize) -> (u64, us
     (*item.key(), leaf)
 }
 
+// The same over any store.
+fn takes_the_last_item_under_the_root_in<C: NodesMut<u64, u64> + Drop>(
+    rt: &impl Abort,
+    origin: C::Origin,
+) {
+    let (mut raw, t, l, r) = tree_of::<C>(rt, &[0, 1, 2, 3], 4, &[5, 6, 7, 8], 9, origin);
+    assert_same(rt, take_last(rt, &mut raw, t, t), (8, r));
+    check_keys(rt, &raw, r, &[5, 6, 7]);
+    check_keys(rt, &raw, l, &[0, 1, 2, 3]);
+    check_keys(rt, &raw, t, &[4]);
+    assert_same(
+        rt,
+        (raw.root_id(), raw.len(), raw.node_count()),
+        (Some(t), 9, 3),
+    );
+}
+
 #[test]
 fn takes_the_last_item_under_the_root(rt: HostRuntime) {
-    let (mut raw, t, l, r) = tree_of(&rt, &[0, 1, 2, 3], 4, &[5, 6, 7, 8], 9, rt.alloc());
-    assert_same(&rt, take_last(&rt, &mut raw, t, t), (8, r));
-    check_keys(&rt, &raw, r, &[5, 6, 7]);
-    check_keys(&rt, &raw, l, &[0, 1, 2, 3]);
-    check_keys(&rt, &raw, t, &[4]);
+    takes_the_last_item_under_the_root_in::<Store>(&rt, rt.alloc());
+}
+
+// The same over any store.
+fn takes_the_last_item_of_a_leaf_in<C: NodesMut<u64, u64> + Drop>(
+    rt: &impl Abort,
+    origin: C::Origin,
+) {
+    let (mut raw, t, l, r) = tree_of::<C>(rt, &[0, 1, 2, 3], 4, &[5, 6, 7, 8], 9, origin);
+    assert_same(rt, take_last(rt, &mut raw, t, l), (3, l));
+    check_keys(rt, &raw, l, &[0, 1, 2]);
+    check_keys(rt, &raw, r, &[5, 6, 7, 8]);
+    check_keys(rt, &raw, t, &[4]);
     assert_same(
-        &rt,
+        rt,
         (raw.root_id(), raw.len(), raw.node_count()),
         (Some(t), 9, 3),
     );
@@ -35,22 +66,13 @@ fn takes_the_last_item_under_the_root(rt: HostRuntime) {
 
 #[test]
 fn takes_the_last_item_of_a_leaf(rt: HostRuntime) {
-    let (mut raw, t, l, r) = tree_of(&rt, &[0, 1, 2, 3], 4, &[5, 6, 7, 8], 9, rt.alloc());
-    assert_same(&rt, take_last(&rt, &mut raw, t, l), (3, l));
-    check_keys(&rt, &raw, l, &[0, 1, 2]);
-    check_keys(&rt, &raw, r, &[5, 6, 7, 8]);
-    check_keys(&rt, &raw, t, &[4]);
-    assert_same(
-        &rt,
-        (raw.root_id(), raw.len(), raw.node_count()),
-        (Some(t), 9, 3),
-    );
+    takes_the_last_item_of_a_leaf_in::<Store>(&rt, rt.alloc());
 }
 
 // Allocates an internal node over four leaves with the keys from `first` on, and returns its number and that of its last leaf.
-fn put_four(
+fn put_four<C: NodesMut<u64, u64>>(
     rt: &impl Abort,
-    raw: &mut Raw,
+    raw: &mut RawBTree<u64, u64, C>,
     keys: &[[u64; 3]; 4],
     between: &[u64; 3],
 ) -> (usize, usize) {
@@ -74,8 +96,11 @@ const RIGHT: ([[u64; 3]; 4], [u64; 3]) = (
 );
 
 // Returns a tree of three levels, its root, and the left child of that with its last leaf, and the last leaf of all.
-fn three_levels(rt: &impl Abort, alloc: Global) -> (Raw, usize, (usize, usize), usize) {
-    let mut raw = Raw::new(alloc);
+fn three_levels<C: NodesMut<u64, u64>>(
+    rt: &impl Abort,
+    origin: C::Origin,
+) -> (RawBTree<u64, u64, C>, usize, (usize, usize), usize) {
+    let mut raw: RawBTree<u64, u64, C> = RawBTree::new(origin);
     let left = put_four(rt, &mut raw, &LEFT.0, &LEFT.1);
     let right = put_four(rt, &mut raw, &RIGHT.0, &RIGHT.1);
     let top = put_over(rt, &mut raw, left.0, 15, right.0);
@@ -84,24 +109,37 @@ fn three_levels(rt: &impl Abort, alloc: Global) -> (Raw, usize, (usize, usize), 
     (raw, top, left, right.1)
 }
 
+// The same over any store.
+fn goes_down_two_levels_in<C: NodesMut<u64, u64> + Drop>(rt: &impl Abort, origin: C::Origin) {
+    let (mut raw, top, (left, middle), last) = three_levels::<C>(rt, origin);
+    assert_same(rt, take_last(rt, &mut raw, top, top), (30, last));
+    check_keys(rt, &raw, last, &[28, 29]);
+    check_keys(rt, &raw, middle, &[12, 13, 14]);
+    check_keys(rt, &raw, left, &[3, 7, 11]);
+    check_keys(rt, &raw, top, &[15]);
+    assert_same(rt, (raw.len(), raw.node_count()), (31, 11));
+}
+
 #[test]
 fn goes_down_two_levels(rt: HostRuntime) {
-    let (mut raw, top, (left, middle), last) = three_levels(&rt, rt.alloc());
-    assert_same(&rt, take_last(&rt, &mut raw, top, top), (30, last));
-    check_keys(&rt, &raw, last, &[28, 29]);
-    check_keys(&rt, &raw, middle, &[12, 13, 14]);
-    check_keys(&rt, &raw, left, &[3, 7, 11]);
-    check_keys(&rt, &raw, top, &[15]);
-    assert_same(&rt, (raw.len(), raw.node_count()), (31, 11));
+    goes_down_two_levels_in::<Store>(&rt, rt.alloc());
+}
+
+// The same over any store.
+fn goes_down_from_an_inner_node_in<C: NodesMut<u64, u64> + Drop>(
+    rt: &impl Abort,
+    origin: C::Origin,
+) {
+    let (mut raw, top, (left, middle), last) = three_levels::<C>(rt, origin);
+    assert_same(rt, take_last(rt, &mut raw, top, left), (14, middle));
+    check_keys(rt, &raw, middle, &[12, 13]);
+    check_keys(rt, &raw, last, &[28, 29, 30]);
+    check_keys(rt, &raw, left, &[3, 7, 11]);
+    check_keys(rt, &raw, top, &[15]);
+    assert_same(rt, (raw.len(), raw.node_count()), (31, 11));
 }
 
 #[test]
 fn goes_down_from_an_inner_node(rt: HostRuntime) {
-    let (mut raw, top, (left, middle), last) = three_levels(&rt, rt.alloc());
-    assert_same(&rt, take_last(&rt, &mut raw, top, left), (14, middle));
-    check_keys(&rt, &raw, middle, &[12, 13]);
-    check_keys(&rt, &raw, last, &[28, 29, 30]);
-    check_keys(&rt, &raw, left, &[3, 7, 11]);
-    check_keys(&rt, &raw, top, &[15]);
-    assert_same(&rt, (raw.len(), raw.node_count()), (31, 11));
+    goes_down_from_an_inner_node_in::<Store>(&rt, rt.alloc());
 }

@@ -11,21 +11,21 @@ use std::alloc::Global;
 use std::process::Abort;
 use std::test::Fail;
 
-type Map = BTreeMap<u64, u64, SlabStore<Node<u64, u64>>>;
+type Store = SlabStore<Node<u64, u64>>;
 
 // Returns the map of three pairs.
-fn three_pairs(rt: &impl Abort, alloc: Global) -> Map {
-    let mut map: Map = BTreeMap::new(alloc);
+fn three_pairs<C: NodesMut<u64, u64>>(rt: &impl Abort, origin: C::Origin) -> BTreeMap<u64, u64, C> {
+    let mut map: BTreeMap<u64, u64, C> = BTreeMap::new(origin);
     for (key, value) in [(1, 10), (2, 20), (4, 40)] {
         assert_true(rt, map.insert(key, value).is_ok());
     }
     map
 }
 
-#[test]
-fn replies_to_each_step(rt: HostRuntime) {
-    let mut map = three_pairs(&rt, rt.alloc());
-    let mut replies = Vec::new(rt.alloc());
+// Runs steps of each kind.
+fn run_steps<C: NodesMut<u64, u64> + Drop>(rt: &impl Abort, alloc: Global, origin: C::Origin) {
+    let mut map = three_pairs::<C>(rt, origin);
+    let mut replies = Vec::new(alloc);
     let steps = [
         CursorStep::Next,
         CursorStep::Next,
@@ -37,9 +37,9 @@ fn replies_to_each_step(rt: HostRuntime) {
         CursorStep::Insert(9, 90),
         CursorStep::Peek,
     ];
-    assert_true(&rt, run_cursor(&mut map, &steps, &mut replies).is_ok());
+    assert_true(rt, run_cursor(&mut map, &steps, &mut replies).is_ok());
     assert_same(
-        &rt,
+        rt,
         replies.as_slice(),
         [
             Reply::Pair(1, 10),
@@ -56,29 +56,42 @@ fn replies_to_each_step(rt: HostRuntime) {
     );
     let mut keys = map.keys();
     for key in [1u64, 2, 3, 9] {
-        assert_same(&rt, keys.next().copied(), Some(key));
+        assert_same(rt, keys.next().copied(), Some(key));
     }
-    assert_true(&rt, keys.next().is_none());
+    assert_true(rt, keys.next().is_none());
+}
+
+#[test]
+fn replies_to_each_step(rt: HostRuntime) {
+    run_steps::<Store>(&rt, rt.alloc(), rt.alloc());
 }
 
 // Without memory for the replies no step is run.
-#[test]
-fn runs_nothing_without_room_for_the_replies(rt: HostRuntime) {
-    let mut map = three_pairs(&rt, rt.alloc());
-    let memory = Refusing::over(rt.alloc(), 0);
-    let mut replies: Vec<Reply, &Refusing<Global>> = Vec::new(&memory);
+fn run_without_room<C: NodesMut<u64, u64> + Drop>(
+    rt: &impl Abort,
+    memory: &Refusing<Global>,
+    origin: C::Origin,
+) {
+    let mut map = three_pairs::<C>(rt, origin);
+    let mut replies: Vec<Reply, &Refusing<Global>> = Vec::new(memory);
     let steps = [CursorStep::Remove, CursorStep::Next];
     memory.refuse(1);
-    assert_true(&rt, run_cursor(&mut map, &steps, &mut replies).is_err());
-    assert_same(&rt, memory.refuses(), 0);
-    assert_same(&rt, (map.len(), replies.len()), (3, 0));
-    assert_true(&rt, run_cursor(&mut map, &steps, &mut replies).is_ok());
+    assert_true(rt, run_cursor(&mut map, &steps, &mut replies).is_err());
+    assert_same(rt, memory.refuses(), 0);
+    assert_same(rt, (map.len(), replies.len()), (3, 0));
+    assert_true(rt, run_cursor(&mut map, &steps, &mut replies).is_ok());
     assert_same(
-        &rt,
+        rt,
         replies.as_slice(),
         [Reply::Pair(1, 10), Reply::Pair(2, 20)].as_slice(),
     );
-    assert_same(&rt, (map.len(), map.get(&1).copied()), (2, None));
+    assert_same(rt, (map.len(), map.get(&1).copied()), (2, None));
+}
+
+#[test]
+fn runs_nothing_without_room_for_the_replies(rt: HostRuntime) {
+    let memory = Refusing::over(rt.alloc(), 0);
+    run_without_room::<Store>(&rt, &memory, rt.alloc());
 }
 
 // Runs three steps over an empty map, of which the first one needs the node that the store refuses.

@@ -333,14 +333,19 @@ fn replies_are_written_before_more_is_read(rt: HostRuntime) -> Result<(), Fail> 
 }
 
 // A read fails with this kind of error after a line and a half. Returns how the run ends.
-fn end_at(rt: &impl Abort, kind: ErrorKind, alloc: Global) -> Result<(), Stop> {
+fn end_at<C: ClearNodes<u64, u64> + Drop>(
+    rt: &impl Abort,
+    kind: ErrorKind,
+    origin: C::Origin,
+    alloc: Global,
+) -> Result<(), Stop> {
     let flushed = Cell::new(0);
     let pieces = [
         Piece::Bytes(b"insert 1 10\nget"),
         Piece::Fails(kind),
         Piece::Bytes(b" 1\n"),
     ];
-    let mut session: Session<Store> = Session::new(alloc);
+    let mut session: Session<C> = Session::new(origin);
     let mut input = Pieces {
         pieces: pieces.as_slice(),
         next: 0,
@@ -358,7 +363,7 @@ fn end_at(rt: &impl Abort, kind: ErrorKind, alloc: Global) -> Result<(), Stop> {
 fn a_failed_read_is_the_end_of_input_or_of_memory(rt: HostRuntime) {
     assert_same(
         &rt,
-        end_at(&rt, ErrorKind::OutOfMemory, rt.alloc()),
+        end_at::<Store>(&rt, ErrorKind::OutOfMemory, rt.alloc(), rt.alloc()),
         Err(Stop::Memory),
     );
     for kind in [
@@ -376,7 +381,11 @@ fn a_failed_read_is_the_end_of_input_or_of_memory(rt: HostRuntime) {
         ErrorKind::WriteZero,
         ErrorKind::Other,
     ] {
-        assert_same(&rt, end_at(&rt, kind, rt.alloc()), Err(Stop::Input));
+        assert_same(
+            &rt,
+            end_at::<Store>(&rt, kind, rt.alloc(), rt.alloc()),
+            Err(Stop::Input),
+        );
     }
 }
 
@@ -397,31 +406,41 @@ fn many_lines_are_served(rt: HostRuntime) -> Result<(), Fail> {
     Ok(())
 }
 
-#[test]
-fn refused_room_for_replies_changes_nothing(rt: HostRuntime) -> Result<(), Fail> {
-    let memory = Refusing::over(rt.alloc(), 0);
-    let mut replies: Vec<Reply, &Refusing<Global>> = Vec::new(&memory);
-    let mut session: Session<Store> = Session::new(rt.alloc());
+// Refuses the room for the replies of a run after the first.
+fn refuse_room<C: ClearNodes<u64, u64> + Drop>(
+    rt: &impl Abort,
+    memory: &Refusing<Global>,
+    origin: C::Origin,
+    alloc: Global,
+) -> Result<(), Fail> {
+    let mut replies: Vec<Reply, &Refusing<Global>> = Vec::new(memory);
+    let mut session: Session<C> = Session::new(origin);
     run(&mut session, &[Command::Insert(1, 10)], &mut replies)?;
-    assert_same(&rt, replies.as_slice(), [Reply::Nothing].as_slice());
+    assert_same(rt, replies.as_slice(), [Reply::Nothing].as_slice());
 
     let commands = [Command::Insert(1, 11); 100];
-    let before = content_of(session.map().as_raw(), rt.alloc())?;
+    let before = content_of(session.map().as_raw(), alloc)?;
     memory.refuse(1);
-    assert_true(&rt, run(&mut session, &commands, &mut replies).is_err());
-    assert_same(&rt, memory.refuses(), 0);
-    assert_same(&rt, replies.as_slice(), [Reply::Nothing].as_slice());
-    let after = content_of(session.map().as_raw(), rt.alloc())?;
-    assert_same(&rt, after.as_str(), before.as_str());
+    assert_true(rt, run(&mut session, &commands, &mut replies).is_err());
+    assert_same(rt, memory.refuses(), 0);
+    assert_same(rt, replies.as_slice(), [Reply::Nothing].as_slice());
+    let after = content_of(session.map().as_raw(), alloc)?;
+    assert_same(rt, after.as_str(), before.as_str());
 
     run(&mut session, &commands, &mut replies)?;
     assert_same(
-        &rt,
+        rt,
         (replies.len(), replies.get(1).copied()),
         (101, Some(Reply::Value(10))),
     );
-    assert_same(&rt, replies.last().copied(), Some(Reply::Value(11)));
+    assert_same(rt, replies.last().copied(), Some(Reply::Value(11)));
     Ok(())
+}
+
+#[test]
+fn refused_room_for_replies_changes_nothing(rt: HostRuntime) -> Result<(), Fail> {
+    let memory = Refusing::over(rt.alloc(), 0);
+    refuse_room::<Store>(&rt, &memory, rt.alloc(), rt.alloc())
 }
 
 #[test]
@@ -657,6 +676,21 @@ fn a_refused_insertion_keeps_the_held_place(rt: HostRuntime) -> Result<(), Fail>
     Ok(())
 }
 
+// Returns what is written for lines after the insertion of keys from 0 on.
+fn written_after<C: ClearNodes<u64, u64> + Drop>(
+    origin: C::Origin,
+    keys: u64,
+    text: &[u8],
+    alloc: Global,
+) -> Result<Vec<u8>, Fail> {
+    let mut session: Session<C> = Session::new(origin);
+    for key in 0..keys {
+        let line = format!(in alloc; "insert {key} {key}\n")?;
+        written_for(&mut session, line.as_bytes(), alloc)?;
+    }
+    written_for(&mut session, text, alloc)
+}
+
 // In each row: how many keys, from 0 on, are inserted before the lines are driven.
 #[test]
 fn removals_are_shown_by_the_shape(rt: HostRuntime) -> Result<(), Fail> {
@@ -674,17 +708,8 @@ fn removals_are_shown_by_the_shape(rt: HostRuntime) -> Result<(), Fail> {
         ),
     ];
     for (keys, text, written) in runs {
-        let mut session: Session<Store> = Session::new(rt.alloc());
-        for key in 0..keys {
-            let line = format!(in rt.alloc(); "insert {key} {key}\n")?;
-            written_for(&mut session, line.as_bytes(), rt.alloc())?;
-        }
-        assert_same_in(
-            &rt,
-            text,
-            written_for(&mut session, text, rt.alloc())?.as_slice(),
-            written,
-        );
+        let found = written_after::<Store>(rt.alloc(), keys, text, rt.alloc())?;
+        assert_same_in(&rt, text, found.as_slice(), written);
     }
     Ok(())
 }

@@ -3,13 +3,14 @@ use crate::drawn::{Stop, Walked, check_keys, drawn, follow, walk};
 use btree_asserts::{assert_same, assert_same_in, assert_true_in};
 use btree_item::Address;
 use btree_node::Node;
+use btree_nodes::NodesMut;
 use btree_raw::RawBTree;
 use btree_store::SlabStore;
 use std::alloc::Global;
 use std::process::Abort;
 use std::test::Fail;
 
-type Raw = RawBTree<u64, u64, SlabStore<Node<u64, u64>>>;
+type Store = SlabStore<Node<u64, u64>>;
 
 // A tree that is off by one at a node: its text, the path down to the node, child by child, and how many addresses and nodes it has.
 #[derive(Clone, Copy)]
@@ -52,13 +53,14 @@ fn check_place(rt: &impl Abort, walked: &Walked, asked: &Stop, answer: Address) 
 }
 
 // Draws a tree, and rebalances it with one address.
-fn rebalanced(
+fn rebalanced<C: NodesMut<u64, u64> + Drop>(
     rt: &impl Abort,
+    origin: C::Origin,
     before: &Before<'_>,
     asked: Address,
     alloc: Global,
-) -> Result<(Raw, Address), Fail> {
-    let mut raw: Raw = drawn(rt, alloc, before.text, alloc)?;
+) -> Result<(RawBTree<u64, u64, C>, Address), Fail> {
+    let mut raw: RawBTree<u64, u64, C> = drawn(rt, origin, before.text, alloc)?;
     let id = follow(rt, &raw, before.way);
     assert_true_in(rt, before.text, raw.is_off_by_one(id));
     assert!(rt; raw.is_valid(asked), "{} at {asked}", before.text);
@@ -69,11 +71,11 @@ fn rebalanced(
 }
 
 // Checks a tree after rebalancing. Its text and the keys, which are the places, say which keys each node has.
-fn check_after(
+fn check_after<C: NodesMut<u64, u64>>(
     rt: &impl Abort,
     before: &Before<'_>,
     after: &After<'_>,
-    raw: &Raw,
+    raw: &RawBTree<u64, u64, C>,
     walked: &Walked,
 ) {
     assert_same_in(rt, before.text, walked.text.as_str(), after.text);
@@ -86,14 +88,15 @@ fn check_after(
     check_keys(rt, walked);
 }
 
-fn check_address(
+fn check_address<C: NodesMut<u64, u64> + Drop>(
     rt: &impl Abort,
+    origin: C::Origin,
     before: &Before<'_>,
     after: &After<'_>,
     asked: &Stop,
     alloc: Global,
 ) -> Result<(), Fail> {
-    let (raw, answer) = rebalanced(rt, before, asked.addr, alloc)?;
+    let (raw, answer) = rebalanced::<C>(rt, origin, before, asked.addr, alloc)?;
     let walked = walk(&raw, alloc)?;
     check_after(rt, before, after, &raw, &walked);
     check_place(rt, &walked, asked, answer);
@@ -101,8 +104,13 @@ fn check_address(
 }
 
 // Draws a tree, and walks over it.
-fn walked_before(rt: &impl Abort, before: &Before<'_>, alloc: Global) -> Result<Walked, Fail> {
-    let raw: Raw = drawn(rt, alloc, before.text, alloc)?;
+fn walked_before<C: NodesMut<u64, u64> + Drop>(
+    rt: &impl Abort,
+    origin: C::Origin,
+    before: &Before<'_>,
+    alloc: Global,
+) -> Result<Walked, Fail> {
+    let raw: RawBTree<u64, u64, C> = drawn(rt, origin, before.text, alloc)?;
     let walked = walk(&raw, alloc)?;
     assert_same(rt, walked.text.as_str(), before.text);
     assert_same_in(
@@ -121,9 +129,9 @@ fn check(
     after: &After<'_>,
     alloc: Global,
 ) -> Result<(), Fail> {
-    let walked = walked_before(rt, before, alloc)?;
+    let walked = walked_before::<Store>(rt, alloc, before, alloc)?;
     for asked in &walked.stops {
-        check_address(rt, before, after, asked, alloc)?;
+        check_address::<Store>(rt, alloc, before, after, asked, alloc)?;
     }
     Ok(())
 }

@@ -7,13 +7,14 @@ use crate::drawn::{keys_of, put};
 use btree_asserts::{assert_same, assert_same_in, assert_true, assert_true_in};
 use btree_item::{Address, Item, Offset};
 use btree_node::{LeafNode, Node};
+use btree_nodes::NodesMut;
 use btree_raw::RawBTree;
 use btree_store::SlabStore;
 use std::alloc::Global;
 use std::process::Abort;
 use std::test::Fail;
 
-pub(crate) type Raw = RawBTree<u64, u64, SlabStore<Node<u64, u64>>>;
+type Store = SlabStore<Node<u64, u64>>;
 
 pub(crate) fn leaf_of(rt: &impl Abort, keys: &[u64]) -> Node<u64, u64>
     ensures { children_of (view_of result) ≡ [] }
@@ -27,8 +28,12 @@ pub(crate) fn leaf_of(rt: &impl Abort, keys: &[u64]) -> Node<u64, u64>
 }
 
 // Returns a tree with a root leaf of these keys, and the number of the root.
-fn one(rt: &impl Abort, alloc: Global, keys: &[u64]) -> (Raw, usize) {
-    let mut raw = Raw::new(alloc);
+fn one<C: NodesMut<u64, u64>>(
+    rt: &impl Abort,
+    origin: C::Origin,
+    keys: &[u64],
+) -> (RawBTree<u64, u64, C>, usize) {
+    let mut raw: RawBTree<u64, u64, C> = RawBTree::new(origin);
     let id = put(rt, &mut raw, leaf_of(rt, keys));
     raw.set_root_id(Some(id));
     raw.set_len(77);
@@ -36,14 +41,14 @@ fn one(rt: &impl Abort, alloc: Global, keys: &[u64]) -> (Raw, usize) {
 }
 
 // Returns a tree with a root of one item over two leaves, and the numbers of the root and the leaves.
-pub(crate) fn two(
+pub(crate) fn two<C: NodesMut<u64, u64>>(
     rt: &impl Abort,
-    alloc: Global,
+    origin: C::Origin,
     left: &[u64],
     key: u64,
     right: &[u64],
-) -> (Raw, usize, usize, usize) {
-    let mut raw = Raw::new(alloc);
+) -> (RawBTree<u64, u64, C>, usize, usize, usize) {
+    let mut raw: RawBTree<u64, u64, C> = RawBTree::new(origin);
     let low = put(rt, &mut raw, leaf_of(rt, left));
     let high = put(rt, &mut raw, leaf_of(rt, right));
     assert_true(rt, raw.has_node(low));
@@ -67,7 +72,12 @@ fn before(id: usize) -> Address {
 }
 
 // Rebalances a tree at a node, if `is_off_by_one` and `is_valid` allow it.
-fn rebalanced(rt: &impl Abort, raw: &mut Raw, id: usize, addr: Address) -> Address {
+fn rebalanced<C: NodesMut<u64, u64>>(
+    rt: &impl Abort,
+    raw: &mut RawBTree<u64, u64, C>,
+    id: usize,
+    addr: Address,
+) -> Address {
     assert_true(rt, raw.is_off_by_one(id));
     let is_valid = raw.is_valid(addr);
     assert_true_in(rt, &addr, is_valid);
@@ -78,9 +88,9 @@ fn rebalanced(rt: &impl Abort, raw: &mut Raw, id: usize, addr: Address) -> Addre
 }
 
 // Checks that the tree has this root, this number of nodes, and among them these numbers with these keys.
-fn check_tree(
+fn check_tree<C: NodesMut<u64, u64>>(
     rt: &impl Abort,
-    raw: &Raw,
+    raw: &RawBTree<u64, u64, C>,
     alloc: Global,
     root: Option<usize>,
     count: usize,
@@ -97,8 +107,13 @@ fn check_tree(
     Ok(())
 }
 
-fn rotates_left(rt: &impl Abort, alloc: Global, case: usize) -> Result<(), Fail> {
-    let (mut raw, t, l, r) = two(rt, alloc, &[0, 1], 3, &[4, 5, 6, 7]);
+fn rotates_left<C: NodesMut<u64, u64> + Drop>(
+    rt: &impl Abort,
+    origin: C::Origin,
+    alloc: Global,
+    case: usize,
+) -> Result<(), Fail> {
+    let (mut raw, t, l, r) = two::<C>(rt, origin, &[0, 1], 3, &[4, 5, 6, 7]);
     let from = [at(r, 0), before(r), at(r, 2), at(t, 0), at(l, 2)];
     let to = [at(t, 0), at(t, 0), at(r, 1), at(l, 2), at(l, 2)];
     assert_true(rt, case < 5);
@@ -116,13 +131,18 @@ fn rotates_left(rt: &impl Abort, alloc: Global, case: usize) -> Result<(), Fail>
 #[test]
 fn rotates_to_the_left(rt: HostRuntime) -> Result<(), Fail> {
     for case in 0..5usize {
-        rotates_left(&rt, rt.alloc(), case)?;
+        rotates_left::<Store>(&rt, rt.alloc(), rt.alloc(), case)?;
     }
     Ok(())
 }
 
-fn rotates_right(rt: &impl Abort, alloc: Global, case: usize) -> Result<(), Fail> {
-    let (mut raw, t, l, r) = two(rt, alloc, &[0, 1, 2, 3], 4, &[5, 6]);
+fn rotates_right<C: NodesMut<u64, u64> + Drop>(
+    rt: &impl Abort,
+    origin: C::Origin,
+    alloc: Global,
+    case: usize,
+) -> Result<(), Fail> {
+    let (mut raw, t, l, r) = two::<C>(rt, origin, &[0, 1, 2, 3], 4, &[5, 6]);
     let from = [at(l, 3), at(l, 4), before(r)];
     let to = [at(t, 0), at(r, 0), at(r, 1)];
     assert_true(rt, case < 3);
@@ -140,13 +160,18 @@ fn rotates_right(rt: &impl Abort, alloc: Global, case: usize) -> Result<(), Fail
 #[test]
 fn rotates_to_the_right(rt: HostRuntime) -> Result<(), Fail> {
     for case in 0..3usize {
-        rotates_right(&rt, rt.alloc(), case)?;
+        rotates_right::<Store>(&rt, rt.alloc(), rt.alloc(), case)?;
     }
     Ok(())
 }
 
-fn merges(rt: &impl Abort, alloc: Global, case: usize) -> Result<(), Fail> {
-    let (mut raw, t, l, r) = two(rt, alloc, &[0, 1, 2], 3, &[4, 5]);
+fn merges<C: NodesMut<u64, u64> + Drop>(
+    rt: &impl Abort,
+    origin: C::Origin,
+    alloc: Global,
+    case: usize,
+) -> Result<(), Fail> {
+    let (mut raw, t, l, r) = two::<C>(rt, origin, &[0, 1, 2], 3, &[4, 5]);
     let from = [before(r), at(t, 1), at(t, 0), before(t)];
     let to = [at(l, 4), at(l, 6), at(l, 3), before(l)];
     assert_true(rt, case < 4);
@@ -157,13 +182,13 @@ fn merges(rt: &impl Abort, alloc: Global, case: usize) -> Result<(), Fail> {
 #[test]
 fn merges_below_a_root(rt: HostRuntime) -> Result<(), Fail> {
     for case in 0..4usize {
-        merges(&rt, rt.alloc(), case)?;
+        merges::<Store>(&rt, rt.alloc(), rt.alloc(), case)?;
     }
     Ok(())
 }
 
 // Returns the root's number, and that of its second child, if there are such.
-fn root_and_second(raw: &Raw) -> Option<(usize, usize)> {
+fn root_and_second<C: NodesMut<u64, u64>>(raw: &RawBTree<u64, u64, C>) -> Option<(usize, usize)> {
     let root = raw.root_id()?;
     if !raw.has_node(root) {
         return None;
@@ -172,8 +197,13 @@ fn root_and_second(raw: &Raw) -> Option<(usize, usize)> {
     Some((root, second))
 }
 
-fn splits(rt: &impl Abort, alloc: Global, case: usize) -> Result<(), Fail> {
-    let (mut raw, l) = one(rt, alloc, &[0, 1, 2, 3, 4, 5, 6, 7, 8]);
+fn splits<C: NodesMut<u64, u64> + Drop>(
+    rt: &impl Abort,
+    origin: C::Origin,
+    alloc: Global,
+    case: usize,
+) -> Result<(), Fail> {
+    let (mut raw, l) = one::<C>(rt, origin, &[0, 1, 2, 3, 4, 5, 6, 7, 8]);
     let from = [at(l, 3), at(l, 4), at(l, 5), at(l, 9), before(l)];
     assert_true(rt, case < 5);
     let answer = rebalanced(rt, &mut raw, l, from[case]);
@@ -195,22 +225,28 @@ fn splits(rt: &impl Abort, alloc: Global, case: usize) -> Result<(), Fail> {
 #[test]
 fn splits_a_root_leaf(rt: HostRuntime) -> Result<(), Fail> {
     for case in 0..5usize {
-        splits(&rt, rt.alloc(), case)?;
+        splits::<Store>(&rt, rt.alloc(), rt.alloc(), case)?;
     }
     Ok(())
+}
+
+// Rebalances a tree of an empty leaf.
+fn empties<C: NodesMut<u64, u64> + Drop>(rt: &impl Abort, origin: C::Origin, case: usize) {
+    let (mut raw, l) = one::<C>(rt, origin, &[]);
+    let from = [before(l), at(l, 0)];
+    assert_true(rt, case < 2);
+    let answer = rebalanced(rt, &mut raw, l, from[case]);
+    assert_same_in(rt, case, answer, Address::nowhere());
+    assert_same(
+        rt,
+        (raw.root_id(), raw.node_count(), raw.len()),
+        (None, 0, 77),
+    );
 }
 
 #[test]
 fn lets_an_empty_root_leaf_go(rt: HostRuntime) {
     for case in 0..2usize {
-        let (mut raw, l) = one(&rt, rt.alloc(), &[]);
-        let from = [before(l), at(l, 0)];
-        let answer = rebalanced(&rt, &mut raw, l, from[case]);
-        assert_same_in(&rt, case, answer, Address::nowhere());
-        assert_same(
-            &rt,
-            (raw.root_id(), raw.node_count(), raw.len()),
-            (None, 0, 77),
-        );
+        empties::<Store>(&rt, rt.alloc(), case);
     }
 }
