@@ -1,5 +1,5 @@
 //! Drains: which pairs they yield, and what the map has then.
-use btree_asserts::{assert_same, assert_same_in, assert_true};
+use crate::asserts::{assert_same, assert_same_in, assert_true};
 use btree_ext::BTreeExt;
 use btree_map::BTreeMap;
 use btree_node::Node;

@@ -1,5 +1,5 @@
 //! Steps of an editing cursor: what it shows, passes, inserts and removes, and what the map has then.
-use btree_asserts::{assert_same, assert_true};
+use crate::asserts::{assert_same, assert_true};
 use btree_ext::BTreeExt;
 use btree_item::Item;
 use btree_map::BTreeMap;

@@ -1,5 +1,5 @@
 //! A drain of all pairs of a map that has a hundred listed ones.
-use btree_asserts::{assert_same, assert_true, assert_true_in};
+use crate::asserts::{assert_same, assert_true, assert_true_in};
 use btree_ext::BTreeExt;
 use btree_map::BTreeMap;
 use btree_node::Node;

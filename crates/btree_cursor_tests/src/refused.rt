@@ -1,5 +1,5 @@
 //! Insertions by a cursor while the store has no memory.
-use btree_asserts::{assert_same, assert_same_in, assert_true, assert_true_in};
+use crate::asserts::{assert_same, assert_same_in, assert_true, assert_true_in};
 use btree_ext::BTreeExt;
 use btree_item::{Cause, Refused};
 use btree_map::BTreeMap;

@@ -1,5 +1,5 @@
 //! A drain, `retain` and the removals of a cursor while the store has no memory: none of them asks for any.
-use btree_asserts::{assert_same, assert_true};
+use crate::asserts::{assert_same, assert_true};
 use btree_ext::BTreeExt;
 use btree_map::BTreeMap;
 use btree_node::Node;

@@ -1,5 +1,4 @@
 //! Ranges, from both ends.
-use btree_asserts::{assert_same, assert_true};
 use btree_map::BTreeMap;
 use btree_node::Node;
 use btree_store::SlabStore;
@@ -15,7 +14,7 @@ fn even_keys(rt: &impl Abort, alloc: Global, count: u64) -> Map {
     let mut map: Map = BTreeMap::new(alloc);
     for half in 0..count {
         let key = half.wrapping_mul(2);
-        assert_true(rt, map.insert(key, key.wrapping_mul(10)).is_ok());
+        assert!(rt; map.insert(key, key.wrapping_mul(10)).is_ok());
     }
     map
 }
@@ -45,31 +44,29 @@ fn assert_range(rt: &impl Abort, map: &Map, start: Bound<&u64>, end: Bound<&u64>
     let mut low = 0usize;
     let mut high = keys.len();
     for index in 0..keys.len() {
-        assert_same(rt, copied(forward.next()), pair_of(keys[index]));
-        assert_same(
-            rt,
+        assert_eq!(rt; copied(forward.next()), pair_of(keys[index]));
+        assert_eq!(rt;
             copied(backward.next_back()),
-            pair_of(keys[keys.len() - 1 - index]),
+            pair_of(keys[keys.len() - 1 - index])
         );
         if is_front {
-            assert_true(rt, low < keys.len());
-            assert_same(rt, copied(in_turn.next()), pair_of(keys[low]));
+            assert!(rt; low < keys.len());
+            assert_eq!(rt; copied(in_turn.next()), pair_of(keys[low]));
             low += 1;
         } else {
-            assert_true(rt, 0 < high && high <= keys.len());
+            assert!(rt; 0 < high && high <= keys.len());
             high -= 1;
-            assert_same(rt, copied(in_turn.next_back()), pair_of(keys[high]));
+            assert_eq!(rt; copied(in_turn.next_back()), pair_of(keys[high]));
         }
         is_front = !is_front;
     }
     for mut pairs in [forward, backward, in_turn] {
         for _ in 0..2 {
-            assert_same(
-                rt,
+            assert_eq!(rt;
                 (copied(pairs.next()), copied(pairs.next_back())),
-                (None, None),
+                (None, None)
             );
-            assert_same(rt, pairs.size_hint(), (0, None));
+            assert_eq!(rt; pairs.size_hint(), (0, None));
         }
     }
 }
@@ -103,7 +100,7 @@ fn tells_valid_ranges(rt: HostRuntime) {
         (Bound::Unbounded, Bound::Excluded(five), true),
         (Bound::Unbounded, Bound::Unbounded, true),
     ] {
-        assert_same(&rt, is_valid_range((start, end)), expected);
+        assert_eq!(rt; is_valid_range((start, end)), expected);
     }
 }
 
@@ -112,7 +109,7 @@ fn excludes_both_ends(rt: HostRuntime) {
     let mut map: Map = BTreeMap::new(rt.alloc());
     assert_range(&rt, &map, Bound::Unbounded, Bound::Unbounded, &[]);
     for key in 0..9u64 {
-        assert_true(&rt, map.insert(key, key.wrapping_mul(10)).is_ok());
+        assert!(rt; map.insert(key, key.wrapping_mul(10)).is_ok());
     }
     assert_range(&rt, &map, Bound::Excluded(&3), Bound::Excluded(&5), &[4]);
     assert_range(&rt, &map, Bound::Included(&5), Bound::Excluded(&5), &[]);
@@ -122,20 +119,17 @@ fn excludes_both_ends(rt: HostRuntime) {
 fn gives_a_whole_map(rt: HostRuntime) {
     let mut map: BTreeMap<u64, &str, SlabStore<Node<u64, &str>>> = BTreeMap::new(rt.alloc());
     for (key, value) in [(3u64, "a"), (5, "b"), (8, "c")] {
-        assert_true(&rt, map.insert(key, value).is_ok());
+        assert!(rt; map.insert(key, value).is_ok());
     }
     let mut forward = map.range((Bound::Unbounded, Bound::Unbounded));
     let mut backward = map.range((Bound::Unbounded, Bound::Unbounded));
     for (front, back) in [(3u64, 8u64), (5, 5), (8, 3)] {
-        assert_same(&rt, forward.next().map(|pair| *pair.0), Some(front));
-        assert_same(&rt, backward.next_back().map(|pair| *pair.0), Some(back));
+        assert_eq!(rt; forward.next().map(|pair| *pair.0), Some(front));
+        assert_eq!(rt; backward.next_back().map(|pair| *pair.0), Some(back));
     }
-    assert_true(
-        &rt,
-        forward.next().is_none() && backward.next_back().is_none(),
-    );
+    assert!(rt; forward.next().is_none() && backward.next_back().is_none());
     match map.range((Bound::Included(&4), Bound::Unbounded)).next() {
-        Some((key, value)) => assert_same(&rt, (*key, *value), (5, "b")),
+        Some((key, value)) => assert_eq!(rt; (*key, *value), (5, "b")),
         None => panic!(rt; "nothing after 4"),
     }
 }
@@ -168,24 +162,23 @@ fn assert_as_plain(rt: &impl Abort, map: &Map, start: Bound<u64>, end: Bound<u64
     for half in 0..44u64 {
         let low = half.wrapping_mul(2);
         if is_between(low, &start, &end) {
-            assert_same(rt, copied(forward.next()), pair_of(low));
+            assert_eq!(rt; copied(forward.next()), pair_of(low));
             if low < 44 {
-                assert_same(rt, copied(in_turn.next()), pair_of(low));
+                assert_eq!(rt; copied(in_turn.next()), pair_of(low));
             }
         }
         let high = 86u64.wrapping_sub(low);
         if is_between(high, &start, &end) {
-            assert_same(rt, copied(backward.next_back()), pair_of(high));
+            assert_eq!(rt; copied(backward.next_back()), pair_of(high));
             if high >= 44 {
-                assert_same(rt, copied(in_turn.next_back()), pair_of(high));
+                assert_eq!(rt; copied(in_turn.next_back()), pair_of(high));
             }
         }
     }
     for mut pairs in [forward, backward, in_turn] {
-        assert_same(
-            rt,
+        assert_eq!(rt;
             (copied(pairs.next()), copied(pairs.next_back())),
-            (None, None),
+            (None, None)
         );
     }
 }

@@ -6,7 +6,6 @@ ghost use Rattle.btree_walk.specs.Bounds.{IsValidRange};
 ghost use Rattle.btree_iter_tests.specs.AddBetween.{greater_between};
 
 use crate::between::is_between;
-use btree_asserts::{assert_same, assert_true};
 use btree_map::BTreeMap;
 use btree_node::Node;
 use btree_nodes::NodesMut;
@@ -41,7 +40,7 @@ fn add_to_range<K: Ord + Drop, C: NodesMut<K, u64>>(
 fn first_keys(rt: &impl Abort, alloc: Global, count: u64) -> Map {
     let mut map: Map = BTreeMap::new(alloc);
     for key in 0..count {
-        assert_true(rt, map.insert(key, key.wrapping_mul(10)).is_ok());
+        assert!(rt; map.insert(key, key.wrapping_mul(10)).is_ok());
     }
     map
 }
@@ -50,7 +49,7 @@ fn first_keys(rt: &impl Abort, alloc: Global, count: u64) -> Map {
 fn assert_raised(rt: &impl Abort, map: &Map, raised: &[u64]) {
     for (key, value) in map.iter() {
         let more = if raised.contains(key) { 1u64 } else { 0 };
-        assert_same(rt, *value, key.wrapping_mul(10).wrapping_add(more));
+        assert_eq!(rt; *value, key.wrapping_mul(10).wrapping_add(more));
     }
 }
 
@@ -72,7 +71,7 @@ fn is_front_first(side: Side) -> bool {
 
 // Checks that the pair that was lent is that of a key, with 10 times the key as its value, and adds one to the value.
 fn raise(rt: &impl Abort, found: u64, value: &mut u64, key: u64) {
-    assert_same(rt, (found, *value), (key, key.wrapping_mul(10)));
+    assert_eq!(rt; (found, *value), (key, key.wrapping_mul(10)));
     *value = value.wrapping_add(1);
 }
 
@@ -94,14 +93,14 @@ fn assert_lends(
     let mut is_front = is_front_first(side);
     for _ in 0..keys.len() {
         if is_front {
-            assert_true(rt, low < keys.len());
+            assert!(rt; low < keys.len());
             match pairs.next() {
                 Some((key, value)) => raise(rt, *key, value, keys[low]),
                 None => panic!(rt; "no pair at the front"),
             }
             low += 1;
         } else {
-            assert_true(rt, 0 < high && high <= keys.len());
+            assert!(rt; 0 < high && high <= keys.len());
             high -= 1;
             match pairs.next_back() {
                 Some((key, value)) => raise(rt, *key, value, keys[high]),
@@ -112,9 +111,9 @@ fn assert_lends(
             is_front = !is_front;
         }
     }
-    assert_true(rt, pairs.is_empty());
-    assert_true(rt, pairs.next().is_none() && pairs.next_back().is_none());
-    assert_true(rt, pairs.next().is_none());
+    assert!(rt; pairs.is_empty());
+    assert!(rt; pairs.next().is_none() && pairs.next_back().is_none());
+    assert!(rt; pairs.next().is_none());
     assert_raised(rt, &map, keys);
 }
 
@@ -137,7 +136,7 @@ fn adds_to_the_names_from_b_to_cheryl(rt: HostRuntime) {
         rt.alloc(),
     );
     for name in ["Alice", "Bob", "Carol", "Cheryl"] {
-        assert_true(&rt, map.insert(name, 0).is_ok());
+        assert!(rt; map.insert(name, 0).is_ok());
     }
     let range = (Bound::Included(&"B"), Bound::Excluded(&"Cheryl"));
     if !is_valid_range(range) {
@@ -147,11 +146,11 @@ fn adds_to_the_names_from_b_to_cheryl(rt: HostRuntime) {
     let mut pairs = map.iter();
     for (name, value) in [("Alice", 0u64), ("Bob", 100), ("Carol", 100), ("Cheryl", 0)] {
         match pairs.next() {
-            Some(pair) => assert_same(&rt, (*pair.0, *pair.1), (name, value)),
+            Some(pair) => assert_eq!(rt; (*pair.0, *pair.1), (name, value)),
             None => panic!(rt; "no pair"),
         }
     }
-    assert_true(&rt, pairs.next().is_none());
+    assert!(rt; pairs.next().is_none());
 }
 
 #[test]
@@ -204,7 +203,7 @@ fn lends_in_narrow_ranges(rt: HostRuntime) {
 fn assert_sums(rt: &impl Abort, map: &Map, sums: &[u64]) {
     for (key, value) in map.iter() {
         match sums.get(*key as usize) {
-            Some(sum) => assert_same(rt, *value, *sum),
+            Some(sum) => assert_eq!(rt; *value, *sum),
             None => panic!(rt; "a key that was not inserted"),
         }
     }
@@ -215,7 +214,7 @@ fn assert_sums(rt: &impl Abort, map: &Map, sums: &[u64]) {
 fn adds_between_even_keys(rt: HostRuntime) {
     let mut map: Map = BTreeMap::new(rt.alloc());
     for half in 0..44u64 {
-        assert_true(&rt, map.insert(half.wrapping_mul(2), 0).is_ok());
+        assert!(rt; map.insert(half.wrapping_mul(2), 0).is_ok());
     }
     let mut added = [0u64; 87];
     for (start, end) in [
@@ -262,8 +261,8 @@ fn lends_nothing_of_an_empty_map(rt: HostRuntime) {
             panic!(rt; "no such range");
         }
         let mut pairs = map.range_mut((start, end));
-        assert_true(&rt, pairs.is_empty());
-        assert_true(&rt, pairs.next().is_none());
-        assert_true(&rt, pairs.next_back().is_none());
+        assert!(rt; pairs.is_empty());
+        assert!(rt; pairs.next().is_none());
+        assert!(rt; pairs.next_back().is_none());
     }
 }

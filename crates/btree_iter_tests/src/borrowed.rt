@@ -1,5 +1,4 @@
 //! Iterators that borrow a map, from both ends.
-use btree_asserts::{assert_same, assert_same_in, assert_true};
 use btree_map::BTreeMap;
 use btree_node::Node;
 use btree_store::SlabStore;
@@ -12,7 +11,7 @@ type Map = BTreeMap<u64, u64, SlabStore<Node<u64, u64>>>;
 fn first_keys(rt: &impl Abort, alloc: Global, count: u64) -> Map {
     let mut map: Map = BTreeMap::new(alloc);
     for key in 0..count {
-        assert_true(rt, map.insert(key, key.wrapping_mul(10)).is_ok());
+        assert!(rt; map.insert(key, key.wrapping_mul(10)).is_ok());
     }
     map
 }
@@ -35,35 +34,27 @@ fn iterates_from_both_ends_in_turn(rt: HostRuntime) {
         (2, 6, 4, 3),
         (3, 5, 2, 1),
     ] {
-        assert_same(
-            &rt,
-            copied(pairs.next()),
-            Some((front, front.wrapping_mul(10))),
-        );
-        assert_same(
-            &rt,
+        assert_eq!(rt; copied(pairs.next()), Some((front, front.wrapping_mul(10))));
+        assert_eq!(rt;
             (pairs.len(), pairs.size_hint()),
-            (between, (between, Some(between))),
+            (between, (between, Some(between)))
         );
-        assert_same(
-            &rt,
+        assert_eq!(rt;
             copied(pairs.next_back()),
-            Some((back, back.wrapping_mul(10))),
+            Some((back, back.wrapping_mul(10)))
         );
-        assert_same(
-            &rt,
+        assert_eq!(rt;
             (pairs.len(), pairs.size_hint()),
-            (left, (left, Some(left))),
+            (left, (left, Some(left)))
         );
     }
-    assert_same(&rt, copied(pairs.next()), Some((4, 40)));
+    assert_eq!(rt; copied(pairs.next()), Some((4, 40)));
     for _ in 0..2 {
-        assert_same(
-            &rt,
+        assert_eq!(rt;
             (copied(pairs.next()), copied(pairs.next_back())),
-            (None, None),
+            (None, None)
         );
-        assert_same(&rt, (pairs.len(), pairs.size_hint()), (0, (0, Some(0))));
+        assert_eq!(rt; (pairs.len(), pairs.size_hint()), (0, (0, Some(0))));
     }
 }
 
@@ -74,21 +65,19 @@ fn meets_at_each_pair(rt: HostRuntime) {
     for taken in 0..44u64 {
         let mut pairs = map.iter();
         for key in 0..taken {
-            assert_same(&rt, copied(pairs.next()), Some((key, key.wrapping_mul(10))));
+            assert_eq!(rt; copied(pairs.next()), Some((key, key.wrapping_mul(10))));
         }
         for step in taken..44u64 {
             let key = taken.wrapping_add(43).wrapping_sub(step);
-            assert_same_in(
-                &rt,
-                taken,
+            assert_eq!(rt;
                 copied(pairs.next_back()),
                 Some((key, key.wrapping_mul(10))),
+                "{taken}"
             );
         }
-        assert_same(
-            &rt,
+        assert_eq!(rt;
             (copied(pairs.next()), copied(pairs.next_back())),
-            (None, None),
+            (None, None)
         );
     }
 }
@@ -99,38 +88,27 @@ fn iterates_over_keys_and_values(rt: HostRuntime) {
     let mut keys = map.keys();
     let mut values = map.values();
     for (front, back, left) in [(0u64, 8u64, 7), (1, 7, 5), (2, 6, 3), (3, 5, 1)] {
-        assert_same(
-            &rt,
+        assert_eq!(rt;
             (keys.next().copied(), keys.next_back().copied()),
-            (Some(front), Some(back)),
+            (Some(front), Some(back))
         );
-        assert_same(&rt, values.next().copied(), Some(front.wrapping_mul(10)));
-        assert_same(
-            &rt,
-            values.next_back().copied(),
-            Some(back.wrapping_mul(10)),
-        );
-        assert_same(
-            &rt,
-            (keys.len(), keys.size_hint()),
-            (left, (left, Some(left))),
-        );
-        assert_same(
-            &rt,
+        assert_eq!(rt; values.next().copied(), Some(front.wrapping_mul(10)));
+        assert_eq!(rt; values.next_back().copied(), Some(back.wrapping_mul(10)));
+        assert_eq!(rt; (keys.len(), keys.size_hint()), (left, (left, Some(left))));
+        assert_eq!(rt;
             (values.len(), values.size_hint()),
-            (left, (left, Some(left))),
+            (left, (left, Some(left)))
         );
     }
-    assert_same(
-        &rt,
+    assert_eq!(rt;
         (keys.next_back().copied(), values.next_back().copied()),
-        (Some(4), Some(40)),
+        (Some(4), Some(40))
     );
     for _ in 0..2 {
-        assert_same(&rt, (keys.next(), keys.next_back()), (None, None));
-        assert_same(&rt, (values.next(), values.next_back()), (None, None));
-        assert_same(&rt, (keys.len(), keys.size_hint()), (0, (0, Some(0))));
-        assert_same(&rt, (values.len(), values.size_hint()), (0, (0, Some(0))));
+        assert_eq!(rt; (keys.next(), keys.next_back()), (None, None));
+        assert_eq!(rt; (values.next(), values.next_back()), (None, None));
+        assert_eq!(rt; (keys.len(), keys.size_hint()), (0, (0, Some(0))));
+        assert_eq!(rt; (values.len(), values.size_hint()), (0, (0, Some(0))));
     }
 }
 
@@ -139,10 +117,10 @@ fn loops_over_a_reference(rt: HostRuntime) {
     let map = first_keys(&rt, rt.alloc(), 10);
     let mut count = 0u64;
     for (key, value) in &map {
-        assert_same(&rt, (*key, *value), (count, count.wrapping_mul(10)));
+        assert_eq!(rt; (*key, *value), (count, count.wrapping_mul(10)));
         count = count.wrapping_add(1);
     }
-    assert_same(&rt, count, 10);
+    assert_eq!(rt; count, 10);
 }
 
 #[test]
@@ -155,31 +133,29 @@ fn keeps_titles_in_order(rt: HostRuntime) {
         ("The Godfather", "long"),
         ("The Blues Brothers", "music"),
     ] {
-        assert_true(&rt, map.insert(title, text).is_ok());
+        assert!(rt; map.insert(title, text).is_ok());
     }
-    assert_same(
-        &rt,
+    assert_eq!(rt;
         (map.contains_key(&"Les Misérables"), map.len()),
-        (false, 4),
+        (false, 4)
     );
-    assert_same(&rt, map.remove(&"The Blues Brothers"), Some("music"));
-    assert_same(&rt, map.get(&"Up!").copied(), None);
-    assert_true(&rt, map.contains_key(&"Office Space"));
-    assert_same(&rt, map[&"Office Space"], "deals with a real office");
+    assert_eq!(rt; map.remove(&"The Blues Brothers"), Some("music"));
+    assert_eq!(rt; map.get(&"Up!").copied(), None);
+    assert!(rt; map.contains_key(&"Office Space"));
+    assert_eq!(rt; map[&"Office Space"], "deals with a real office");
     let mut titles = ["Office Space", "Pulp Fiction", "The Godfather"].into_iter();
     for (title, _text) in &map {
-        assert_same(&rt, Some(*title), titles.next());
+        assert_eq!(rt; Some(*title), titles.next());
     }
-    assert_true(&rt, titles.next().is_none());
+    assert!(rt; titles.next().is_none());
 }
 
 #[test]
 fn iterates_over_no_pairs(rt: HostRuntime) {
     let map: Map = BTreeMap::new(rt.alloc());
     let mut pairs = map.iter();
-    assert_same(
-        &rt,
+    assert_eq!(rt;
         (copied(pairs.next_back()), copied(pairs.next()), pairs.len()),
-        (None, None, 0),
+        (None, None, 0)
     );
 }

@@ -4,7 +4,6 @@ ghost use Rattle.btree_shape.specs.TreeAddresses.{item_addresses_of};
 ghost use Rattle.btree_shape.specs.TreeState.{pairs_of};
 ghost use Rattle.btree_iter_tests.specs.AddOne.{one_more};
 
-use btree_asserts::{assert_same, assert_true};
 use btree_map::BTreeMap;
 use btree_node::Node;
 use btree_nodes::NodesMut;
@@ -42,7 +41,7 @@ fn add_one_to_each(map: &mut Map)
 fn first_keys(rt: &impl Abort, alloc: Global, count: u64) -> Map {
     let mut map: Map = BTreeMap::new(alloc);
     for key in 0..count {
-        assert_true(rt, map.insert(key, key.wrapping_mul(10)).is_ok());
+        assert!(rt; map.insert(key, key.wrapping_mul(10)).is_ok());
     }
     map
 }
@@ -50,7 +49,7 @@ fn first_keys(rt: &impl Abort, alloc: Global, count: u64) -> Map {
 // Compares each value with 10 times its key and one number more.
 fn assert_values(rt: &impl Abort, map: &Map, more: u64) {
     for (key, value) in map.iter() {
-        assert_same(rt, *value, key.wrapping_mul(10).wrapping_add(more));
+        assert_eq!(rt; *value, key.wrapping_mul(10).wrapping_add(more));
     }
 }
 
@@ -61,7 +60,7 @@ fn adds_one_to_each_value(rt: HostRuntime) {
     assert_values(&rt, &map, 1);
     add_one_to_each(&mut map);
     assert_values(&rt, &map, 2);
-    assert_same(&rt, map.len(), 44);
+    assert_eq!(rt; map.len(), 44);
 }
 
 #[test]
@@ -71,35 +70,34 @@ fn lends_from_both_ends_in_turn(rt: HostRuntime) {
     for (front, back, left) in [(0u64, 8u64, 7), (1, 7, 5), (2, 6, 3), (3, 5, 1)] {
         match pairs.next() {
             Some((key, value)) => {
-                assert_same(&rt, (*key, *value), (front, front.wrapping_mul(10)));
+                assert_eq!(rt; (*key, *value), (front, front.wrapping_mul(10)));
                 *value = value.wrapping_add(3);
             }
             None => panic!(rt; "no pair at the front"),
         }
         match pairs.next_back() {
             Some((key, value)) => {
-                assert_same(&rt, (*key, *value), (back, back.wrapping_mul(10)));
+                assert_eq!(rt; (*key, *value), (back, back.wrapping_mul(10)));
                 *value = value.wrapping_add(3);
             }
             None => panic!(rt; "no pair at the back"),
         }
-        assert_same(
-            &rt,
+        assert_eq!(rt;
             (pairs.len(), pairs.size_hint()),
-            (left, (left, Some(left))),
+            (left, (left, Some(left)))
         );
     }
     match pairs.next_back() {
         Some((key, value)) => {
-            assert_same(&rt, (*key, *value), (4, 40));
+            assert_eq!(rt; (*key, *value), (4, 40));
             *value = 43;
         }
         None => panic!(rt; "no pair in the middle"),
     }
     for _ in 0..2 {
-        assert_true(&rt, pairs.next().is_none());
-        assert_true(&rt, pairs.next_back().is_none());
-        assert_same(&rt, (pairs.len(), pairs.size_hint()), (0, (0, Some(0))));
+        assert!(rt; pairs.next().is_none());
+        assert!(rt; pairs.next_back().is_none());
+        assert_eq!(rt; (pairs.len(), pairs.size_hint()), (0, (0, Some(0))));
     }
     assert_values(&rt, &map, 3);
 }
@@ -121,20 +119,19 @@ fn lends_values(rt: HostRuntime) {
     ] {
         match values.next() {
             Some(value) => {
-                assert_same(&rt, *value, key.wrapping_mul(10));
+                assert_eq!(rt; *value, key.wrapping_mul(10));
                 *value = value.wrapping_add(5);
             }
             None => panic!(rt; "no value"),
         }
-        assert_same(
-            &rt,
+        assert_eq!(rt;
             (values.len(), values.size_hint()),
-            (left, (left, Some(left))),
+            (left, (left, Some(left)))
         );
     }
     for _ in 0..2 {
-        assert_true(&rt, values.next().is_none());
-        assert_same(&rt, (values.len(), values.size_hint()), (0, (0, Some(0))));
+        assert!(rt; values.next().is_none());
+        assert_eq!(rt; (values.len(), values.size_hint()), (0, (0, Some(0))));
     }
     assert_values(&rt, &map, 5);
 }
@@ -143,10 +140,10 @@ fn lends_values(rt: HostRuntime) {
 fn lends_nothing_without_pairs(rt: HostRuntime) {
     let mut map: Map = BTreeMap::new(rt.alloc());
     let mut pairs = map.iter_mut();
-    assert_true(&rt, pairs.next().is_none());
-    assert_true(&rt, pairs.next_back().is_none());
-    assert_same(&rt, (pairs.len(), pairs.size_hint()), (0, (0, Some(0))));
+    assert!(rt; pairs.next().is_none());
+    assert!(rt; pairs.next_back().is_none());
+    assert_eq!(rt; (pairs.len(), pairs.size_hint()), (0, (0, Some(0))));
     let mut values = map.values_mut();
-    assert_true(&rt, values.next().is_none());
-    assert_same(&rt, (values.len(), values.size_hint()), (0, (0, Some(0))));
+    assert!(rt; values.next().is_none());
+    assert_eq!(rt; (values.len(), values.size_hint()), (0, (0, Some(0))));
 }

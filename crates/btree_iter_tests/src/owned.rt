@@ -1,6 +1,5 @@
 //! Iterators that own a map, from both ends: each value is dropped once.
 use crate::drops::{Counted, hundred};
-use btree_asserts::{assert_same, assert_true};
 use btree_map::BTreeMap;
 use btree_node::Node;
 use btree_store::SlabStore;
@@ -12,7 +11,7 @@ use std::process::Abort;
 fn check_pair(rt: &impl Abort, pair: Option<(u64, Counted<'_>)>, key: u64) {
     match pair {
         Some((found, value)) => {
-            assert_same(rt, (found, value.key), (key, key));
+            assert_eq!(rt; (found, value.key), (key, key));
         }
         None => panic!(rt; "{key} is not there"),
     }
@@ -36,15 +35,15 @@ fn gives_each_pair_once(rt: HostRuntime) {
                 check_pair(&rt, pairs.next_back(), high);
                 high = high.wrapping_sub(1);
             }
-            assert_same(&rt, pairs.len() as u64, 99u64.wrapping_sub(step));
-            assert_same(&rt, drops.get(), step.wrapping_add(1));
+            assert_eq!(rt; pairs.len() as u64, 99u64.wrapping_sub(step));
+            assert_eq!(rt; drops.get(), step.wrapping_add(1));
         }
         for _ in 0..2 {
-            assert_true(&rt, pairs.next().is_none() && pairs.next_back().is_none());
-            assert_same(&rt, (pairs.len(), pairs.size_hint()), (0, (0, Some(0))));
+            assert!(rt; pairs.next().is_none() && pairs.next_back().is_none());
+            assert_eq!(rt; (pairs.len(), pairs.size_hint()), (0, (0, Some(0))));
         }
         drop(pairs);
-        assert_same(&rt, drops.get(), 100);
+        assert_eq!(rt; drops.get(), 100);
     }
 }
 
@@ -58,9 +57,9 @@ fn drops_what_is_left(rt: HostRuntime) {
         drop(pairs.next());
         drop(pairs.next_back());
     }
-    assert_same(&rt, (pairs.len(), drops.get()), (80, 20));
+    assert_eq!(rt; (pairs.len(), drops.get()), (80, 20));
     drop(pairs);
-    assert_same(&rt, drops.get(), 100);
+    assert_eq!(rt; drops.get(), 100);
 }
 
 type Map = BTreeMap<u64, u64, SlabStore<Node<u64, u64>>>;
@@ -69,7 +68,7 @@ type Map = BTreeMap<u64, u64, SlabStore<Node<u64, u64>>>;
 fn base(rt: &impl Abort, alloc: Global) -> Map {
     let mut map: Map = BTreeMap::new(alloc);
     for key in 0..9u64 {
-        assert_true(rt, map.insert(key, key.wrapping_mul(10)).is_ok());
+        assert!(rt; map.insert(key, key.wrapping_mul(10)).is_ok());
     }
     map
 }
@@ -79,30 +78,21 @@ fn gives_keys_and_values(rt: HostRuntime) {
     let mut keys = base(&rt, rt.alloc()).into_keys();
     let mut values = base(&rt, rt.alloc()).into_values();
     for (front, back, left) in [(0u64, 8u64, 7), (1, 7, 5), (2, 6, 3), (3, 5, 1)] {
-        assert_same(
-            &rt,
-            (keys.next(), keys.next_back()),
-            (Some(front), Some(back)),
-        );
-        assert_same(&rt, values.next(), Some(front.wrapping_mul(10)));
-        assert_same(&rt, values.next_back(), Some(back.wrapping_mul(10)));
-        assert_same(
-            &rt,
-            (keys.len(), keys.size_hint()),
-            (left, (left, Some(left))),
-        );
-        assert_same(
-            &rt,
+        assert_eq!(rt; (keys.next(), keys.next_back()), (Some(front), Some(back)));
+        assert_eq!(rt; values.next(), Some(front.wrapping_mul(10)));
+        assert_eq!(rt; values.next_back(), Some(back.wrapping_mul(10)));
+        assert_eq!(rt; (keys.len(), keys.size_hint()), (left, (left, Some(left))));
+        assert_eq!(rt;
             (values.len(), values.size_hint()),
-            (left, (left, Some(left))),
+            (left, (left, Some(left)))
         );
     }
-    assert_same(&rt, (keys.next(), values.next()), (Some(4), Some(40)));
+    assert_eq!(rt; (keys.next(), values.next()), (Some(4), Some(40)));
     for _ in 0..2 {
-        assert_same(&rt, (keys.next(), keys.next_back()), (None, None));
-        assert_same(&rt, (values.next(), values.next_back()), (None, None));
-        assert_same(&rt, (keys.len(), keys.size_hint()), (0, (0, Some(0))));
-        assert_same(&rt, (values.len(), values.size_hint()), (0, (0, Some(0))));
+        assert_eq!(rt; (keys.next(), keys.next_back()), (None, None));
+        assert_eq!(rt; (values.next(), values.next_back()), (None, None));
+        assert_eq!(rt; (keys.len(), keys.size_hint()), (0, (0, Some(0))));
+        assert_eq!(rt; (values.len(), values.size_hint()), (0, (0, Some(0))));
     }
 }
 
@@ -110,8 +100,8 @@ fn gives_keys_and_values(rt: HostRuntime) {
 fn loops_over_a_map(rt: HostRuntime) {
     let mut count = 0u64;
     for (key, value) in base(&rt, rt.alloc()) {
-        assert_same(&rt, (key, value), (count, count.wrapping_mul(10)));
+        assert_eq!(rt; (key, value), (count, count.wrapping_mul(10)));
         count = count.wrapping_add(1);
     }
-    assert_same(&rt, count, 9);
+    assert_eq!(rt; count, 9);
 }

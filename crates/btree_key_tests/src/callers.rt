@@ -8,7 +8,7 @@ ghost use Rattle.btree_edit.specs.Remove.{IsRemoved};
 ghost use Rattle.btree_edit.specs.Update.{updated};
 ghost use Rattle.btree_map.specs.Extension.{Moves, inserted_all};
 
-use btree_asserts::{assert_same, assert_true};
+use crate::asserts::{assert_same, assert_true};
 use btree_ext::{BTreeExt, BTreeExtMut};
 use btree_item::{Address, Refused};
 use btree_map::{BTreeMap, Entry};

@@ -1,5 +1,5 @@
 //! Clones of maps: the same pairs on the same nodes.
-use btree_asserts::{assert_same, assert_same_in, assert_true, assert_true_in};
+use crate::asserts::{assert_same, assert_same_in, assert_true, assert_true_in};
 use btree_ext::BTreeExt;
 use btree_map::BTreeMap;
 use btree_node::Node;

@@ -3,7 +3,7 @@ ghost use Rattle.std.specs.Prelude.{◌≡◌, OnOk};
 ghost use Rattle.btree_item.specs.Pairs.{inserted};
 ghost use Rattle.btree_shape.specs.TreeState.{pairs_of};
 
-use btree_asserts::{assert_same, assert_same_in, assert_true};
+use crate::asserts::{assert_same, assert_same_in, assert_true};
 use btree_ext::BTreeExt;
 use btree_item::Refused;
 use btree_map::{BTreeMap, Entry, OccupiedEntry, VacantEntry};

@@ -1,7 +1,7 @@
 //! Insertions of many pairs: from an iterator, and from another map.
 ghost use Rattle.std.specs.Iterator.{IsFinite};
 
-use btree_asserts::{assert_same, assert_true};
+use crate::asserts::{assert_same, assert_true};
 use btree_ext::BTreeExt;
 use btree_item::Refused;
 use btree_map::BTreeMap;

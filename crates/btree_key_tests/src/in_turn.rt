@@ -1,7 +1,7 @@
 //! Insertions of many pairs, while each allocation of the store is refused in turn.
 //!
 //! The store has room for 4 nodes first, and doubles it for the 5th node, which key 18 needs, and the 9th, which key 38 needs.
-use btree_asserts::{assert_same, assert_same_in, assert_true};
+use crate::asserts::{assert_same, assert_same_in, assert_true};
 use btree_ext::BTreeExt;
 use btree_item::{Cause, Refused};
 use btree_map::BTreeMap;

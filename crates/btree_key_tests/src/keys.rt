@@ -3,7 +3,7 @@ ghost use Rattle.std.specs.Prelude.{◌≡◌, IsTrue, false};
 ghost use Rattle.btree_item.specs.Pairs.{with_value};
 ghost use Rattle.btree_shape.specs.TreeState.{pairs_of};
 
-use btree_asserts::{assert_same, assert_true, assert_true_in};
+use crate::asserts::{assert_same, assert_true, assert_true_in};
 use btree_ext::BTreeExt;
 use btree_map::BTreeMap;
 use btree_node::Node;

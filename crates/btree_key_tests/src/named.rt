@@ -5,7 +5,7 @@ ghost use Rattle.std.specs.Cmp.{partial_order_from_own_ties};
 ghost use Rattle.std.specs.Cmp.Rules.{comparing};
 ghost use Rattle.std.specs.Ordering.{as_partial_cmp, nat_cmp, on};
 
-use btree_asserts::{assert_same, assert_true};
+use crate::asserts::{assert_same, assert_true};
 use btree_map::BTreeMap;
 use btree_node::Node;
 use btree_store::SlabStore;

@@ -1,5 +1,5 @@
 //! Insertions by entries, by a replacement, and by updates, while the store has no memory.
-use btree_asserts::{assert_same, assert_same_in, assert_true, assert_true_in};
+use crate::asserts::{assert_same, assert_same_in, assert_true, assert_true_in};
 use btree_ext::{BTreeExt, BTreeExtMut};
 use btree_item::{Cause, Refused, UpdateRefused};
 use btree_map::{BTreeMap, Entry};

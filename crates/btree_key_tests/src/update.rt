@@ -1,5 +1,5 @@
 //! Updates by an action: by key, under a node and at an address.
-use btree_asserts::{assert_same, assert_true};
+use crate::asserts::{assert_same, assert_true};
 use btree_ext::{BTreeExt, BTreeExtMut};
 use btree_map::BTreeMap;
 use btree_node::Node;

@@ -1,4 +1,4 @@
-use btree_asserts::{assert_same, assert_same_in, assert_true};
+use crate::asserts::{assert_same, assert_same_in, assert_true};
 use btree_ext::BTreeExt;
 use btree_item::Cause;
 use btree_map::BTreeMap;
@@ -57,31 +57,39 @@ fn equal_keys_are_told_by_their_order(rt: HostRuntime) -> Result<(), Fail> {
     Ok(())
 }
 
-#[test]
-fn reads_its_tree(rt: HostRuntime) -> Result<(), Fail> {
-    let mut map: BTreeMap<u64, u64, SlabStore<Node<u64, u64>>> = BTreeMap::new(rt.alloc());
+// Reads the tree of nine keys, which are inserted into an empty map.
+fn read_tree<C: NodesMut<u64, u64> + Drop>(
+    rt: &impl Abort,
+    map: BTreeMap<u64, u64, C>,
+) -> Result<(), Fail> {
+    let mut map = map;
     assert_same(
-        &rt,
+        rt,
         (map.root_id(), map.height(), map.node_count()),
         (None, 0, 0),
     );
     for key in 0..9 {
-        assert_same(&rt, map.insert(key, 10 * key).ok(), Some(None));
+        assert_same(rt, map.insert(key, 10 * key).ok(), Some(None));
     }
-    assert_same(&rt, (map.len(), map.height(), map.node_count()), (9, 2, 3));
+    assert_same(rt, (map.len(), map.height(), map.node_count()), (9, 2, 3));
     let Some(root) = map.root_id() else {
         return Err(Fail::from("no root"));
     };
-    assert_true(&rt, map.has_node(root) && map.node(root).item_count() == 1);
+    assert_true(rt, map.has_node(root) && map.node(root).item_count() == 1);
     let Ok(found) = map.address_of(&4) else {
         return Err(Fail::from("absent"));
     };
-    assert_same(&rt, found.id, root);
-    assert_same(&rt, map.item(found).map(|item| *item.value()), Some(40));
+    assert_same(rt, found.id, root);
+    assert_same(rt, map.item(found).map(|item| *item.value()), Some(40));
     let mut walk = map.iter();
     for key in 0..9u64 {
-        assert_same(&rt, walk.next(), Some((&key, &(10 * key))));
+        assert_same(rt, walk.next(), Some((&key, &(10 * key))));
     }
-    assert_same(&rt, walk.next(), None);
+    assert_same(rt, walk.next(), None);
     Ok(())
+}
+
+#[test]
+fn reads_its_tree(rt: HostRuntime) -> Result<(), Fail> {
+    read_tree::<SlabStore<Node<u64, u64>>>(&rt, BTreeMap::new(rt.alloc()))
 }

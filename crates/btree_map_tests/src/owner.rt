@@ -1,12 +1,15 @@
 //! A map over any store of nodes can be kept in a caller's type, and passed on by value.
 ghost use Rattle.std.specs.Prelude.{◌≡◌};
 
-use btree_asserts::assert_same;
+use crate::asserts::assert_same;
+use crate::removal::first_keys;
 use btree_map::BTreeMap;
 use btree_node::Node;
 use btree_nodes::NodesMut;
 use btree_store::SlabStore;
 use std::test::Fail;
+
+type Store = SlabStore<Node<u64, u64>>;
 
 // Keeps a value of any type.
 struct Owner<T> {
@@ -41,12 +44,8 @@ fn keep_and_take<C: NodesMut<u64, u64> + Drop>(map: BTreeMap<u64, u64, C>) -> us
 #[test]
 fn a_map_is_kept_and_handed_on_by_value(rt: HostRuntime) -> Result<(), Fail> {
     for (keys, taken) in [(0, 0), (1, 1), (40, 40)] {
-        let mut first: BTreeMap<u64, u64, SlabStore<Node<u64, u64>>> = BTreeMap::new(rt.alloc());
-        let mut second: BTreeMap<u64, u64, SlabStore<Node<u64, u64>>> = BTreeMap::new(rt.alloc());
-        for key in 0..keys {
-            assert_same(&rt, first.insert(key, key).ok(), Some(None));
-            assert_same(&rt, second.insert(key, key).ok(), Some(None));
-        }
+        let first = first_keys::<Store>(&rt, rt.alloc(), keys);
+        let second = first_keys::<Store>(&rt, rt.alloc(), keys);
         let owner = Owner::new(first);
         assert_same(&rt, take(owner.into_inner()), taken);
         assert_same(&rt, keep_and_take(second), taken);

@@ -1,5 +1,5 @@
 //! The children of a node, with the items and keys between them.
-use btree_asserts::{assert_same, assert_same_in, assert_true};
+use crate::asserts::{assert_same, assert_same_in, assert_true};
 use btree_item::Item;
 use btree_node::Node;
 use std::test::Fail;

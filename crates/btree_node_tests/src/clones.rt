@@ -1,7 +1,7 @@
 //! Clones of nodes.
 ghost use Rattle.std.specs.Prelude.{◌≡◌, IfOk};
 
-use btree_asserts::assert_same;
+use crate::asserts::assert_same;
 use btree_item::{Item, Offset};
 use btree_node::{InternalNode, LeafNode, Node};
 use std::alloc::AllocError;

@@ -6,8 +6,8 @@ ghost use Rattle.btree_internal.specs.Internal.{internal_view};
 ghost use Rattle.btree_node.specs.Node.{view_of};
 ghost use Rattle.btree_view.specs.View.{items_of};
 
+use crate::asserts::{assert_same_in, assert_true, assert_true_in};
 use crate::nodes::put;
-use btree_asserts::{assert_same_in, assert_true, assert_true_in};
 use btree_counted::{COMPARISONS, Counted, promised_comparisons};
 use btree_item::{Item, MAX_COMPARISONS, Offset};
 use btree_node::{InternalNode, LeafNode, Node};

@@ -1,4 +1,4 @@
-use btree_asserts::{assert_same, assert_true};
+use crate::asserts::{assert_same, assert_true};
 use btree_item::{Item, Offset};
 use btree_node::Node;
 

@@ -2,7 +2,7 @@ ghost use Rattle.std.specs.Prelude.{◌≡◌, true, false};
 ghost use Rattle.btree_item.specs.Pairs.{Ascends};
 ghost use Rattle.btree_leaf.specs.LeafLends.{leaf_with_value};
 
-use btree_asserts::{assert_same, assert_same_in, assert_true, assert_true_in};
+use crate::asserts::{assert_same, assert_same_in, assert_true, assert_true_in};
 use btree_counted::Counted;
 use btree_item::{Item, Offset};
 use btree_node::LeafNode;

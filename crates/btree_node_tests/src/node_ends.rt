@@ -1,7 +1,7 @@
 //! The calls that pop from, push to, merge and shrink nodes, of either kind.
 ghost use Rattle.std.specs.Prelude.{◌≡◌, ◌<◌, Some};
 
-use btree_asserts::{assert_same, assert_same_in, assert_true, assert_true_in};
+use crate::asserts::{assert_same, assert_same_in, assert_true, assert_true_in};
 use btree_item::{Item, Offset};
 use btree_node::{Balance, InternalNode, LeafNode, Node};
 use std::process::Abort;

@@ -1,5 +1,5 @@
 //! The checks of one node, of either kind.
-use btree_asserts::{assert_same, assert_true};
+use crate::asserts::{assert_same, assert_true};
 use btree_item::{Fault, Item};
 use btree_node::{InternalNode, LeafNode, Node};
 use std::process::Abort;

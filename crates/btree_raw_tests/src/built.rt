@@ -1,6 +1,6 @@
 //! Trees built node by node, and their keys.
+use crate::asserts::{assert_same, assert_true};
 use crate::faults::put_leaf;
-use btree_asserts::{assert_same, assert_true};
 use btree_item::Item;
 use btree_node::Node;
 use btree_nodes::NodesMut;

@@ -1,7 +1,7 @@
 //! Insertion into raw trees at exactly an address.
+use crate::asserts::{assert_same, assert_true};
 use crate::built::{add_leaf, check_keys, tree_of};
 use crate::faults::{Raw, Store};
-use btree_asserts::{assert_same, assert_true};
 use btree_item::{Address, Cause, Item, Offset, Refused};
 use btree_node::Node;
 use btree_nodes::NodesMut;

@@ -1,7 +1,7 @@
 //! Removal of the last item under a node.
+use crate::asserts::{assert_same, assert_true};
 use crate::built::{add_leaf, check_keys, put_over, tree_of};
 use crate::faults::{Store, put_leaf};
-use btree_asserts::{assert_same, assert_true};
 use btree_item::{Address, Offset};
 use btree_nodes::NodesMut;
 use btree_raw::RawBTree;

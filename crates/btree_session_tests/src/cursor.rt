@@ -1,5 +1,5 @@
 //! Lists of steps, run by a cursor.
-use btree_asserts::{assert_same, assert_true};
+use crate::asserts::{assert_same, assert_true};
 use btree_item::Cause;
 use btree_map::BTreeMap;
 use btree_node::Node;

@@ -1,5 +1,5 @@
 //! A writer that cannot flush.
-use btree_asserts::assert_same;
+use crate::asserts::assert_same;
 use btree_node::Node;
 use btree_session::{Session, Stop, drive};
 use btree_store::SlabStore;

@@ -3,6 +3,8 @@
 
 #[cfg(test)]
 #[cfg(test)]
+mod asserts;
+#[cfg(test)]
 mod cursor;
 #[cfg(test)]
 mod flush;

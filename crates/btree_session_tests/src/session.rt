@@ -1,5 +1,5 @@
 //! Sessions: commands as values while memory is refused, and lines of text from readers and to writers that fail.
-use btree_asserts::{assert_same, assert_same_in, assert_true};
+use crate::asserts::{assert_same, assert_same_in, assert_true};
 use btree_ext::BTreeExt;
 use btree_item::Cause;
 use btree_node::Node;

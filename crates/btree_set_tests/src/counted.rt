@@ -1,5 +1,4 @@
 //! How often merges compare elements.
-use btree_asserts::{assert_same, assert_true};
 use btree_counted::Counted;
 use btree_node::Node;
 use btree_set::BTreeSet;
@@ -20,11 +19,7 @@ fn counted<'a>(
     let mut set: CountedSet<'a> = BTreeSet::new(alloc);
     for number in numbers {
         let number = *number;
-        assert_same(
-            rt,
-            set.insert(Counted { number, compared }).ok(),
-            Some(true),
-        );
+        assert_eq!(rt; set.insert(Counted { number, compared }).ok(), Some(true));
     }
     set
 }
@@ -41,22 +36,22 @@ fn check_merges<'a>(
     for _ in left.union(right) {
         yielded = yielded.wrapping_add(1);
     }
-    assert_same(rt, (yielded, compared.replace(0)), (13, 13));
+    assert_eq!(rt; (yielded, compared.replace(0)), (13, 13));
     yielded = 0;
     for _ in left.intersection(right) {
         yielded = yielded.wrapping_add(1);
     }
-    assert_same(rt, (yielded, compared.replace(0)), (4, 13));
+    assert_eq!(rt; (yielded, compared.replace(0)), (4, 13));
     yielded = 0;
     for _ in left.difference(right) {
         yielded = yielded.wrapping_add(1);
     }
-    assert_same(rt, (yielded, compared.replace(0)), (6, 13));
+    assert_eq!(rt; (yielded, compared.replace(0)), (6, 13));
     yielded = 0;
     for _ in left.symmetric_difference(right) {
         yielded = yielded.wrapping_add(1);
     }
-    assert_same(rt, (yielded, compared.replace(0)), (9, 13));
+    assert_eq!(rt; (yielded, compared.replace(0)), (9, 13));
 }
 
 // A merge compares nothing before its first step. The tests end at the first element that decides: 0 is in both, 2 only in the first set, and 3
@@ -69,15 +64,15 @@ fn check_ends<'a>(
 ) {
     compared.set(0);
     let mut either = left.union(right);
-    assert_same(rt, compared.get(), 0);
-    assert_true(rt, either.next().is_some());
-    assert_same(rt, compared.replace(0), 1);
-    assert_true(rt, !left.is_disjoint(right));
-    assert_same(rt, compared.replace(0), 1);
-    assert_true(rt, !left.is_subset(right));
-    assert_same(rt, compared.replace(0), 2);
-    assert_true(rt, !left.is_superset(right));
-    assert_same(rt, compared.replace(0), 3);
+    assert_eq!(rt; compared.get(), 0);
+    assert!(rt; either.next().is_some());
+    assert_eq!(rt; compared.replace(0), 1);
+    assert!(rt; !left.is_disjoint(right));
+    assert_eq!(rt; compared.replace(0), 1);
+    assert!(rt; !left.is_subset(right));
+    assert_eq!(rt; compared.replace(0), 2);
+    assert!(rt; !left.is_superset(right));
+    assert_eq!(rt; compared.replace(0), 3);
 }
 
 // The sets have 10 and 7 numbers. Four are in both, the greatest among them: so neither ends before the other, and each of the 13 numbers is

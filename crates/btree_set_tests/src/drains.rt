@@ -3,7 +3,6 @@ ghost use Rattle.std.specs.Prelude.{◌≡◌, false};
 ghost use Rattle.std.specs.Fn.{CalledAt, TakesAt};
 ghost use Rattle.btree_set.specs.Drain.{CallableOnEach, Selects};
 
-use btree_asserts::{assert_same, assert_true};
 use btree_item::{Item, Slots};
 use btree_node::Node;
 use btree_node::internal::Branch;
@@ -20,7 +19,7 @@ type Numbers = BTreeSet<u64, SlabStore<Node<u64, ()>>>;
 fn numbers_below(rt: &impl Abort, alloc: Global, bound: u64) -> Numbers {
     let mut set = Numbers::new(alloc);
     for number in 0..bound {
-        assert_same(rt, set.insert(number).ok(), Some(true));
+        assert_eq!(rt; set.insert(number).ok(), Some(true));
     }
     set
 }
@@ -30,10 +29,10 @@ fn check_every_second(rt: &impl Abort, set: &Numbers, first: u64, bound: u64) {
     let mut walk = set.iter();
     let mut number = first;
     while number < bound {
-        assert_same(rt, walk.next(), Some(&number));
+        assert_eq!(rt; walk.next(), Some(&number));
         number = number.wrapping_add(2);
     }
-    assert_true(rt, walk.next().is_none());
+    assert!(rt; walk.next().is_none());
 }
 
 // Takes so many of the odd numbers that a drain picks, and drops it.
@@ -41,7 +40,7 @@ fn take_odd(rt: &impl Abort, set: &mut Numbers, count: u64) {
     let mut drain = set.drain_filter(|number: &u64| *number % 2 == 1);
     for index in 0..count {
         let number = index.wrapping_mul(2).wrapping_add(1);
-        assert_same(rt, drain.next(), Some(number));
+        assert_eq!(rt; drain.next(), Some(number));
     }
 }
 
@@ -58,14 +57,14 @@ fn a_dropped_drain_picks_what_is_left(rt: HostRuntime) {
 fn a_drain_ends_or_is_finished(rt: HostRuntime) {
     let mut set = numbers_below(&rt, rt.alloc(), 9);
     let mut drain = set.drain_filter(|number: &u64| *number == 5);
-    assert_same(&rt, drain.size_hint(), (0, Some(9)));
-    assert_same(&rt, drain.next(), Some(5));
-    assert_same(&rt, drain.size_hint(), (0, Some(3)));
-    assert_same(&rt, (drain.next(), drain.next()), (None, None));
+    assert_eq!(rt; drain.size_hint(), (0, Some(9)));
+    assert_eq!(rt; drain.next(), Some(5));
+    assert_eq!(rt; drain.size_hint(), (0, Some(3)));
+    assert_eq!(rt; (drain.next(), drain.next()), (None, None));
     drain.finish();
-    assert_same(&rt, (set.len(), set.contains(&5)), (8, false));
+    assert_eq!(rt; (set.len(), set.contains(&5)), (8, false));
     set.drain_filter(|_number: &u64| true).finish();
-    assert_true(&rt, set.is_empty());
+    assert!(rt; set.is_empty());
 }
 
 // Finishes a drain. What is left follows from the contracts of the drain alone.
@@ -110,22 +109,19 @@ fn retains_what_is_asked(rt: HostRuntime) {
         count = count.wrapping_add(1);
         *number % 2 == 1
     });
-    assert_same(&rt, count, 44);
+    assert_eq!(rt; count, 44);
     check_every_second(&rt, &set, 1, 44);
     set.retain(|_number: &u64| false);
-    assert_true(&rt, set.is_empty());
+    assert!(rt; set.is_empty());
 }
 
 #[test]
 fn a_value_of_no_bytes_takes_none(rt: HostRuntime) {
-    assert_same(&rt, size_of::<Item<u64, ()>>(), size_of::<u64>());
+    assert_eq!(rt; size_of::<Item<u64, ()>>(), size_of::<u64>());
     assert_eq!(rt;
         size_of::<Slots<Item<u64, ()>, 9>>(),
         size_of::<Slots<u64, 9>>()
     );
-    assert_same(&rt, size_of::<Branch<u64, ()>>(), size_of::<(u64, usize)>());
-    assert_true(
-        &rt,
-        size_of::<Node<u64, ()>>() < size_of::<Node<u64, u64>>(),
-    );
+    assert_eq!(rt; size_of::<Branch<u64, ()>>(), size_of::<(u64, usize)>());
+    assert!(rt; size_of::<Node<u64, ()>>() < size_of::<Node<u64, u64>>());
 }

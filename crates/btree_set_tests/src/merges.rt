@@ -1,6 +1,5 @@
 //! Merges of two sets over different stores, and the tests between them.
 use crate::bounded::Bounded;
-use btree_asserts::{assert_same, assert_true};
 use btree_node::Node;
 use btree_nodes::NodesMut;
 use btree_set::BTreeSet;
@@ -17,7 +16,7 @@ fn numbers<C: NodesMut<u64, ()>>(
 ) -> BTreeSet<u64, C> {
     let mut set = set;
     for element in elements {
-        assert_true(rt, set.insert(*element).is_ok());
+        assert!(rt; set.insert(*element).is_ok());
     }
     set
 }
@@ -34,27 +33,27 @@ fn check_merges<C: NodesMut<u64, ()>, D: NodesMut<u64, ()>>(
 ) {
     let mut rest = either.iter().copied();
     for element in left.union(right) {
-        assert_same(rt, rest.next(), Some(*element));
+        assert_eq!(rt; rest.next(), Some(*element));
     }
-    assert_same(rt, rest.next(), None);
+    assert_eq!(rt; rest.next(), None);
     let mut rest = both.iter().copied();
     for element in left.intersection(right) {
-        assert_same(rt, rest.next(), Some(*element));
+        assert_eq!(rt; rest.next(), Some(*element));
     }
-    assert_same(rt, rest.next(), None);
+    assert_eq!(rt; rest.next(), None);
     let mut rest = first_only.iter().copied();
     for element in left.difference(right) {
-        assert_same(rt, rest.next(), Some(*element));
+        assert_eq!(rt; rest.next(), Some(*element));
     }
-    assert_same(rt, rest.next(), None);
+    assert_eq!(rt; rest.next(), None);
     let mut rest = one.iter().copied();
     for element in left.symmetric_difference(right) {
-        assert_same(rt, rest.next(), Some(*element));
+        assert_eq!(rt; rest.next(), Some(*element));
     }
-    assert_same(rt, rest.next(), None);
-    assert_same(rt, left.is_disjoint(right), both.is_empty());
-    assert_same(rt, left.is_subset(right), first_only.is_empty());
-    assert_same(rt, right.is_superset(left), first_only.is_empty());
+    assert_eq!(rt; rest.next(), None);
+    assert_eq!(rt; left.is_disjoint(right), both.is_empty());
+    assert_eq!(rt; left.is_subset(right), first_only.is_empty());
+    assert_eq!(rt; right.is_superset(left), first_only.is_empty());
 }
 
 // Checks the merges of two sets over different stores. The lists are the elements of the two sets, then those of their union, intersection,
@@ -114,8 +113,8 @@ fn merges_larger_sets(rt: HostRuntime) {
     let mut left: BTreeSet<u64, SlabStore<Node<u64, ()>>> = BTreeSet::new(rt.alloc());
     let mut right: BTreeSet<u64, SlabStore<Node<u64, ()>>> = BTreeSet::new(rt.alloc());
     for number in 0..120u64 {
-        assert_true(&rt, number % 2 != 0 || left.insert(number).is_ok());
-        assert_true(&rt, number % 3 != 0 || right.insert(number).is_ok());
+        assert!(rt; number % 2 != 0 || left.insert(number).is_ok());
+        assert!(rt; number % 3 != 0 || right.insert(number).is_ok());
     }
     let mut either = left.union(&right);
     let mut both = left.intersection(&right);
@@ -123,13 +122,13 @@ fn merges_larger_sets(rt: HostRuntime) {
     let mut one = left.symmetric_difference(&right);
     for number in 0..120u64 {
         let (first, second) = (number % 2 == 0, number % 3 == 0);
-        assert_true(&rt, !(first || second) || either.next() == Some(&number));
-        assert_true(&rt, !(first && second) || both.next() == Some(&number));
-        assert_true(&rt, !first || second || first_only.next() == Some(&number));
-        assert_true(&rt, first == second || one.next() == Some(&number));
+        assert!(rt; !(first || second) || either.next() == Some(&number));
+        assert!(rt; !(first && second) || both.next() == Some(&number));
+        assert!(rt; !first || second || first_only.next() == Some(&number));
+        assert!(rt; first == second || one.next() == Some(&number));
     }
-    assert_same(&rt, (either.next(), both.next()), (None, None));
-    assert_same(&rt, (first_only.next(), one.next()), (None, None));
+    assert_eq!(rt; (either.next(), both.next()), (None, None));
+    assert_eq!(rt; (first_only.next(), one.next()), (None, None));
 }
 
 // Each row: the elements of a set, and whether it is a superset of {1, 2}.
@@ -144,7 +143,7 @@ fn knows_its_subsets(rt: HostRuntime) {
     ] {
         let empty: BTreeSet<u64, SlabStore<Node<u64, ()>>> = BTreeSet::new(rt.alloc());
         let set = numbers(&rt, empty, elements);
-        assert_same(&rt, set.is_superset(&sub), above);
+        assert_eq!(rt; set.is_superset(&sub), above);
     }
 }
 
@@ -156,26 +155,25 @@ fn knows_how_many_are_left(rt: HostRuntime) {
     let left = numbers(&rt, first, &[1, 2]);
     let right = numbers(&rt, second, &[2, 3]);
     let mut either = left.union(&right);
-    assert_same(&rt, either.size_hint(), (2, Some(4)));
-    assert_same(&rt, either.next(), Some(&1));
-    assert_same(&rt, either.size_hint(), (2, Some(3)));
+    assert_eq!(rt; either.size_hint(), (2, Some(4)));
+    assert_eq!(rt; either.next(), Some(&1));
+    assert_eq!(rt; either.size_hint(), (2, Some(3)));
     let mut both = left.intersection(&right);
-    assert_same(&rt, both.size_hint(), (0, Some(2)));
-    assert_same(&rt, both.next(), Some(&2));
-    assert_same(&rt, both.size_hint(), (0, Some(0)));
+    assert_eq!(rt; both.size_hint(), (0, Some(2)));
+    assert_eq!(rt; both.next(), Some(&2));
+    assert_eq!(rt; both.size_hint(), (0, Some(0)));
     let mut first_only = left.difference(&right);
-    assert_same(&rt, first_only.size_hint(), (0, Some(2)));
-    assert_same(&rt, first_only.next(), Some(&1));
-    assert_same(&rt, first_only.size_hint(), (0, Some(1)));
-    assert_same(&rt, (first_only.next(), first_only.next()), (None, None));
+    assert_eq!(rt; first_only.size_hint(), (0, Some(2)));
+    assert_eq!(rt; first_only.next(), Some(&1));
+    assert_eq!(rt; first_only.size_hint(), (0, Some(1)));
+    assert_eq!(rt; (first_only.next(), first_only.next()), (None, None));
     let mut one = left.symmetric_difference(&right);
-    assert_same(&rt, one.size_hint(), (0, Some(4)));
-    assert_same(&rt, one.next(), Some(&1));
-    assert_same(&rt, one.size_hint(), (0, Some(3)));
-    assert_same(
-        &rt,
+    assert_eq!(rt; one.size_hint(), (0, Some(4)));
+    assert_eq!(rt; one.next(), Some(&1));
+    assert_eq!(rt; one.size_hint(), (0, Some(3)));
+    assert_eq!(rt;
         (one.next(), one.next(), one.next()),
-        (Some(&3), None, None),
+        (Some(&3), None, None)
     );
 }
 
@@ -194,9 +192,9 @@ fn compares_two_sets(rt: HostRuntime) {
         let second: BTreeSet<u64, SlabStore<Node<u64, ()>>> = BTreeSet::new(rt.alloc());
         let first = numbers(&rt, first, left);
         let second = numbers(&rt, second, right);
-        assert_same(&rt, first.cmp(&second), order);
-        assert_same(&rt, second.compare_items(&first), order.reverse());
-        assert_same(&rt, first.partial_cmp(&second), Some(order));
-        assert_same(&rt, first.same_items(&second), order == Ordering::Equal);
+        assert_eq!(rt; first.cmp(&second), order);
+        assert_eq!(rt; second.compare_items(&first), order.reverse());
+        assert_eq!(rt; first.partial_cmp(&second), Some(order));
+        assert_eq!(rt; first.same_items(&second), order == Ordering::Equal);
     }
 }

@@ -5,7 +5,6 @@ ghost use Rattle.std.specs.Cmp.{partial_order_from_own_ties};
 ghost use Rattle.std.specs.Cmp.Rules.{comparing};
 ghost use Rattle.std.specs.Ordering.{as_partial_cmp, nat_cmp, on};
 
-use btree_asserts::{assert_same, assert_true};
 use btree_node::Node;
 use btree_set::BTreeSet;
 use btree_store::SlabStore;
@@ -65,7 +64,7 @@ fn names(rt: &impl Abort, alloc: Global, numbers: &[u64], name: char) -> Names {
     let mut set: Names = BTreeSet::new(alloc);
     for number in numbers {
         let number = *number;
-        assert_true(rt, set.insert(Named { number, name }).is_ok());
+        assert!(rt; set.insert(Named { number, name }).is_ok());
     }
     set
 }
@@ -82,21 +81,21 @@ fn merges_take_the_stated_one(rt: HostRuntime) {
     let left = names(&rt, rt.alloc(), &[1, 2], 'a');
     let right = names(&rt, rt.alloc(), &[2, 3], 'b');
     let mut either = left.union(&right);
-    assert_same(&rt, either.size_hint(), (2, Some(4)));
-    assert_same(&rt, parts(either.next()), Some((1, 'a')));
-    assert_same(&rt, parts(either.next()), Some((2, 'b')));
-    assert_same(&rt, parts(either.next()), Some((3, 'b')));
-    assert_same(&rt, parts(either.next()), None);
+    assert_eq!(rt; either.size_hint(), (2, Some(4)));
+    assert_eq!(rt; parts(either.next()), Some((1, 'a')));
+    assert_eq!(rt; parts(either.next()), Some((2, 'b')));
+    assert_eq!(rt; parts(either.next()), Some((3, 'b')));
+    assert_eq!(rt; parts(either.next()), None);
     let mut both = left.intersection(&right);
-    assert_same(&rt, parts(both.next()), Some((2, 'a')));
-    assert_same(&rt, parts(both.next()), None);
+    assert_eq!(rt; parts(both.next()), Some((2, 'a')));
+    assert_eq!(rt; parts(both.next()), None);
     let mut first_only = left.difference(&right);
-    assert_same(&rt, parts(first_only.next()), Some((1, 'a')));
-    assert_same(&rt, parts(first_only.next()), None);
+    assert_eq!(rt; parts(first_only.next()), Some((1, 'a')));
+    assert_eq!(rt; parts(first_only.next()), None);
     let mut one = left.symmetric_difference(&right);
-    assert_same(&rt, parts(one.next()), Some((1, 'a')));
-    assert_same(&rt, parts(one.next()), Some((3, 'b')));
-    assert_same(&rt, parts(one.next()), None);
+    assert_eq!(rt; parts(one.next()), Some((1, 'a')));
+    assert_eq!(rt; parts(one.next()), Some((3, 'b')));
+    assert_eq!(rt; parts(one.next()), None);
 }
 
 #[test]
@@ -106,15 +105,15 @@ fn an_equal_element_stays_unless_it_is_replaced(rt: HostRuntime) {
         number: 2,
         name: 'b',
     };
-    assert_same(&rt, set.insert(second).ok(), Some(false));
-    assert_same(&rt, parts(set.get(&second)), Some((2, 'a')));
+    assert_eq!(rt; set.insert(second).ok(), Some(false));
+    assert_eq!(rt; parts(set.get(&second)), Some((2, 'a')));
     match set.replace(second) {
-        Ok(old) => assert_same(&rt, parts(old.as_ref()), Some((2, 'a'))),
+        Ok(old) => assert_eq!(rt; parts(old.as_ref()), Some((2, 'a'))),
         Err(_) => panic!(rt; "refused"),
     }
-    assert_same(&rt, parts(set.get(&second)), Some((2, 'b')));
+    assert_eq!(rt; parts(set.get(&second)), Some((2, 'b')));
     let mut other = names(&rt, rt.alloc(), &[1, 3], 'c');
-    assert_true(&rt, set.append(&mut other).is_ok());
-    assert_same(&rt, parts(set.first()), Some((1, 'a')));
-    assert_same(&rt, parts(set.last()), Some((3, 'c')));
+    assert!(rt; set.append(&mut other).is_ok());
+    assert_eq!(rt; parts(set.first()), Some((1, 'a')));
+    assert_eq!(rt; parts(set.last()), Some((3, 'c')));
 }

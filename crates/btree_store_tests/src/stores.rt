@@ -1,5 +1,5 @@
 //! A store over memory in which one allocation is refused.
-use btree_asserts::{assert_same, assert_same_in, assert_true};
+use crate::asserts::{assert_same, assert_same_in, assert_true};
 use btree_refusing::Refusing;
 use btree_store::{Slab, SlabMut, SlabStore};
 use std::alloc::Global;

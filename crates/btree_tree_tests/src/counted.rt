@@ -8,7 +8,7 @@ ghost use Rattle.btree_view.specs.View.{items_of};
 ghost use Rattle.btree_shape.specs.TreeState.{IsUsed};
 ghost use Rattle.btree_find.specs.Levels.{comparisons_from};
 
-use btree_asserts::{assert_same, assert_same_in, assert_true, assert_true_in};
+use crate::asserts::{assert_same, assert_same_in, assert_true, assert_true_in};
 use btree_counted::{COMPARISONS, Counted, promised_comparisons};
 use btree_ext::{BTreeExt, BTreeExtMut, Tree};
 use btree_item::{Address, Offset};

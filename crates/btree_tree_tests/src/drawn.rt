@@ -5,7 +5,7 @@ ghost use Rattle.btree_node.specs.Node.{view_of};
 ghost use Rattle.btree_view.specs.View.{children_of};
 ghost use Rattle.btree_raw.specs.Raw.{AreUsed};
 
-use btree_asserts::{assert_same, assert_true};
+use crate::asserts::{assert_same, assert_true};
 use btree_item::{Address, Item, Offset};
 use btree_node::{LeafNode, Node};
 use btree_nodes::NodesMut;

@@ -1,7 +1,7 @@
 //! Navigation by address in a root T over two leaves: the keys 1, 3, 5, 7 in L, 9 in T, and 11, 13, 15, 17 in R.
 ghost use Rattle.btree_shape.specs.TreeState.{IsValidIn};
 
-use btree_asserts::{assert_same, assert_same_in, assert_true, assert_true_in};
+use crate::asserts::{assert_same, assert_same_in, assert_true, assert_true_in};
 use btree_ext::{BTreeExt, Tree};
 use btree_item::{Address, Offset};
 use btree_node::Node;

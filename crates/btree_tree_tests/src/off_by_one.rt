@@ -1,7 +1,7 @@
 //! `is_off_by_one`, for trees that are off by one at a node and trees that are not.
+use crate::asserts::{assert_same, assert_same_in, assert_true, assert_true_in};
 use crate::drawn::{drawn, put};
 use crate::rebalance::{leaf_of, two};
-use btree_asserts::{assert_same, assert_same_in, assert_true, assert_true_in};
 use btree_item::Item;
 use btree_node::Node;
 use btree_nodes::NodesMut;

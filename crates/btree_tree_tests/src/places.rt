@@ -1,6 +1,6 @@
 //! Rebalancing keeps the place of every address of trees that are off by one at a node, as a walk finds it.
+use crate::asserts::{assert_same, assert_same_in, assert_true_in};
 use crate::drawn::{Stop, Walked, check_keys, drawn, follow, walk};
-use btree_asserts::{assert_same, assert_same_in, assert_true_in};
 use btree_item::Address;
 use btree_node::Node;
 use btree_nodes::NodesMut;

@@ -3,8 +3,8 @@ ghost use Rattle.std.specs.Prelude.{◌≡◌, []};
 ghost use Rattle.btree_node.specs.Node.{view_of};
 ghost use Rattle.btree_view.specs.View.{children_of};
 
+use crate::asserts::{assert_same, assert_same_in, assert_true, assert_true_in};
 use crate::drawn::{keys_of, put};
-use btree_asserts::{assert_same, assert_same_in, assert_true, assert_true_in};
 use btree_item::{Address, Item, Offset};
 use btree_node::{LeafNode, Node};
 use btree_nodes::NodesMut;

@@ -1,7 +1,7 @@
 //! Memory that is refused while a tree is rebalanced, or a node is allocated.
+use crate::asserts::{assert_same, assert_same_in, assert_true, assert_true_in};
 use crate::drawn::{drawn, follow, put_spare};
 use crate::rebalance::leaf_of;
-use btree_asserts::{assert_same, assert_same_in, assert_true, assert_true_in};
 use btree_item::{Address, Cause, Offset};
 use btree_node::Node;
 use btree_nodes::NodesMut;

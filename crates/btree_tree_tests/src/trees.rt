@@ -1,6 +1,6 @@
 //! Trees that grow by insertions of keys in their order.
+use crate::asserts::{assert_same, assert_same_in, assert_true};
 use crate::drawn::{check_keys, walk};
-use btree_asserts::{assert_same, assert_same_in, assert_true};
 use btree_ext::{BTreeExt, Tree};
 use btree_item::Cause;
 use btree_node::Node;

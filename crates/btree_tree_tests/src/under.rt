@@ -4,7 +4,7 @@ ghost use Rattle.std.specs.Prelude.{IsTrue};
 ghost use Rattle.btree_shape.specs.TreeState.{IsUsed};
 ghost use Rattle.btree_find.specs.Fits.{FitsIn};
 
-use btree_asserts::{assert_same, assert_same_in, assert_true, assert_true_in};
+use crate::asserts::{assert_same, assert_same_in, assert_true, assert_true_in};
 use btree_ext::{BTreeExt, BTreeExtMut, Tree};
 use btree_item::{Address, Fault, Offset};
 use btree_node::Node;
