@@ -1,30 +1,28 @@
 //! Ranges, from both ends.
+use crate::asserts::{assert_same, assert_true};
+use crate::samples::{copied, first_keys};
 use btree_map::BTreeMap;
 use btree_node::Node;
+use btree_nodes::NodesMut;
 use btree_store::SlabStore;
 use btree_walk::is_valid_range;
-use std::alloc::Global;
 use std::ops::Bound;
 use std::process::Abort;
 
-type Map = BTreeMap<u64, u64, SlabStore<Node<u64, u64>>>;
+type Store = SlabStore<Node<u64, u64>>;
 
 // Returns the map of `count` even keys from 0 on, with the values 10 times the keys.
-fn even_keys(rt: &impl Abort, alloc: Global, count: u64) -> Map {
-    let mut map: Map = BTreeMap::new(alloc);
+fn even_keys<C: NodesMut<u64, u64> + Drop>(
+    rt: &impl Abort,
+    origin: C::Origin,
+    count: u64,
+) -> BTreeMap<u64, u64, C> {
+    let mut map: BTreeMap<u64, u64, C> = BTreeMap::new(origin);
     for half in 0..count {
         let key = half.wrapping_mul(2);
-        assert!(rt; map.insert(key, key.wrapping_mul(10)).is_ok());
+        assert_true(rt, map.insert(key, key.wrapping_mul(10)).is_ok());
     }
     map
-}
-
-// Returns a pair by value.
-fn copied(pair: Option<(&u64, &u64)>) -> Option<(u64, u64)> {
-    match pair {
-        Some((key, value)) => Some((*key, *value)),
-        None => None,
-    }
 }
 
 // Returns what the pair of a key is.
@@ -33,7 +31,13 @@ fn pair_of(key: u64) -> Option<(u64, u64)> {
 }
 
 // Checks that a range has these keys, from the front, from the back, and in turn from both.
-fn assert_range(rt: &impl Abort, map: &Map, start: Bound<&u64>, end: Bound<&u64>, keys: &[u64]) {
+fn assert_range<C: NodesMut<u64, u64>>(
+    rt: &impl Abort,
+    map: &BTreeMap<u64, u64, C>,
+    start: Bound<&u64>,
+    end: Bound<&u64>,
+    keys: &[u64],
+) {
     if !is_valid_range((start, end)) {
         panic!(rt; "no such range");
     }
@@ -44,36 +48,38 @@ fn assert_range(rt: &impl Abort, map: &Map, start: Bound<&u64>, end: Bound<&u64>
     let mut low = 0usize;
     let mut high = keys.len();
     for index in 0..keys.len() {
-        assert_eq!(rt; copied(forward.next()), pair_of(keys[index]));
-        assert_eq!(rt;
+        assert_same(rt, copied(forward.next()), pair_of(keys[index]));
+        assert_same(
+            rt,
             copied(backward.next_back()),
-            pair_of(keys[keys.len() - 1 - index])
+            pair_of(keys[keys.len() - 1 - index]),
         );
         if is_front {
-            assert!(rt; low < keys.len());
-            assert_eq!(rt; copied(in_turn.next()), pair_of(keys[low]));
+            assert_true(rt, low < keys.len());
+            assert_same(rt, copied(in_turn.next()), pair_of(keys[low]));
             low += 1;
         } else {
-            assert!(rt; 0 < high && high <= keys.len());
+            assert_true(rt, 0 < high && high <= keys.len());
             high -= 1;
-            assert_eq!(rt; copied(in_turn.next_back()), pair_of(keys[high]));
+            assert_same(rt, copied(in_turn.next_back()), pair_of(keys[high]));
         }
         is_front = !is_front;
     }
     for mut pairs in [forward, backward, in_turn] {
         for _ in 0..2 {
-            assert_eq!(rt;
+            assert_same(
+                rt,
                 (copied(pairs.next()), copied(pairs.next_back())),
-                (None, None)
+                (None, None),
             );
-            assert_eq!(rt; pairs.size_hint(), (0, None));
+            assert_same(rt, pairs.size_hint(), (0, None));
         }
     }
 }
 
 #[test]
 fn begins_between_two_keys(rt: HostRuntime) {
-    let map = even_keys(&rt, rt.alloc(), 9);
+    let map = even_keys::<Store>(&rt, rt.alloc(), 9);
     assert_range(
         &rt,
         &map,
@@ -100,36 +106,45 @@ fn tells_valid_ranges(rt: HostRuntime) {
         (Bound::Unbounded, Bound::Excluded(five), true),
         (Bound::Unbounded, Bound::Unbounded, true),
     ] {
-        assert_eq!(rt; is_valid_range((start, end)), expected);
+        assert_same(&rt, is_valid_range((start, end)), expected);
     }
+}
+
+// Checks ranges of an empty map, and of that of the keys from 0 to 8.
+fn check_excluded<C: NodesMut<u64, u64> + Drop>(
+    rt: &impl Abort,
+    empty: BTreeMap<u64, u64, C>,
+    map: BTreeMap<u64, u64, C>,
+) {
+    assert_range(rt, &empty, Bound::Unbounded, Bound::Unbounded, &[]);
+    assert_range(rt, &map, Bound::Excluded(&3), Bound::Excluded(&5), &[4]);
+    assert_range(rt, &map, Bound::Included(&5), Bound::Excluded(&5), &[]);
 }
 
 #[test]
 fn excludes_both_ends(rt: HostRuntime) {
-    let mut map: Map = BTreeMap::new(rt.alloc());
-    assert_range(&rt, &map, Bound::Unbounded, Bound::Unbounded, &[]);
-    for key in 0..9u64 {
-        assert!(rt; map.insert(key, key.wrapping_mul(10)).is_ok());
-    }
-    assert_range(&rt, &map, Bound::Excluded(&3), Bound::Excluded(&5), &[4]);
-    assert_range(&rt, &map, Bound::Included(&5), Bound::Excluded(&5), &[]);
+    let map = first_keys::<Store>(&rt, rt.alloc(), 9);
+    check_excluded(&rt, BTreeMap::new(rt.alloc()), map);
 }
 
 #[test]
 fn gives_a_whole_map(rt: HostRuntime) {
     let mut map: BTreeMap<u64, &str, SlabStore<Node<u64, &str>>> = BTreeMap::new(rt.alloc());
     for (key, value) in [(3u64, "a"), (5, "b"), (8, "c")] {
-        assert!(rt; map.insert(key, value).is_ok());
+        assert_true(&rt, map.insert(key, value).is_ok());
     }
     let mut forward = map.range((Bound::Unbounded, Bound::Unbounded));
     let mut backward = map.range((Bound::Unbounded, Bound::Unbounded));
     for (front, back) in [(3u64, 8u64), (5, 5), (8, 3)] {
-        assert_eq!(rt; forward.next().map(|pair| *pair.0), Some(front));
-        assert_eq!(rt; backward.next_back().map(|pair| *pair.0), Some(back));
+        assert_same(&rt, forward.next().map(|pair| *pair.0), Some(front));
+        assert_same(&rt, backward.next_back().map(|pair| *pair.0), Some(back));
     }
-    assert!(rt; forward.next().is_none() && backward.next_back().is_none());
+    assert_true(
+        &rt,
+        forward.next().is_none() && backward.next_back().is_none(),
+    );
     match map.range((Bound::Included(&4), Bound::Unbounded)).next() {
-        Some((key, value)) => assert_eq!(rt; (*key, *value), (5, "b")),
+        Some((key, value)) => assert_same(&rt, (*key, *value), (5, "b")),
         None => panic!(rt; "nothing after 4"),
     }
 }
@@ -151,7 +166,12 @@ pub(crate) fn is_between(key: u64, start: &Bound<u64>, end: &Bound<u64>) -> bool
 
 // Checks the range of the map of the even keys up to 86 against the keys themselves: from the front, from the back, and from both ends,
 // which meet at 44.
-fn assert_as_plain(rt: &impl Abort, map: &Map, start: Bound<u64>, end: Bound<u64>) {
+fn assert_as_plain<C: NodesMut<u64, u64>>(
+    rt: &impl Abort,
+    map: &BTreeMap<u64, u64, C>,
+    start: Bound<u64>,
+    end: Bound<u64>,
+) {
     let bounds = (start.as_ref(), end.as_ref());
     if !is_valid_range(bounds) {
         panic!(rt; "no such range");
@@ -162,23 +182,24 @@ fn assert_as_plain(rt: &impl Abort, map: &Map, start: Bound<u64>, end: Bound<u64
     for half in 0..44u64 {
         let low = half.wrapping_mul(2);
         if is_between(low, &start, &end) {
-            assert_eq!(rt; copied(forward.next()), pair_of(low));
+            assert_same(rt, copied(forward.next()), pair_of(low));
             if low < 44 {
-                assert_eq!(rt; copied(in_turn.next()), pair_of(low));
+                assert_same(rt, copied(in_turn.next()), pair_of(low));
             }
         }
         let high = 86u64.wrapping_sub(low);
         if is_between(high, &start, &end) {
-            assert_eq!(rt; copied(backward.next_back()), pair_of(high));
+            assert_same(rt, copied(backward.next_back()), pair_of(high));
             if high >= 44 {
-                assert_eq!(rt; copied(in_turn.next_back()), pair_of(high));
+                assert_same(rt, copied(in_turn.next_back()), pair_of(high));
             }
         }
     }
     for mut pairs in [forward, backward, in_turn] {
-        assert_eq!(rt;
+        assert_same(
+            rt,
             (copied(pairs.next()), copied(pairs.next_back())),
-            (None, None)
+            (None, None),
         );
     }
 }
@@ -186,7 +207,7 @@ fn assert_as_plain(rt: &impl Abort, map: &Map, start: Bound<u64>, end: Bound<u64
 // In a tree of three levels, with 8, 18, 28, 48, 58, 68 and 78 in the nodes below the root and 38 in the root.
 #[test]
 fn gives_what_a_plain_list_has(rt: HostRuntime) {
-    let map = even_keys(&rt, rt.alloc(), 44);
+    let map = even_keys::<Store>(&rt, rt.alloc(), 44);
     for (start, end) in [
         (Bound::Unbounded, Bound::Unbounded),
         (Bound::Included(8u64), Bound::Included(8u64)),

@@ -5,7 +5,9 @@ ghost use Rattle.btree_shape.specs.TreeState.{pairs_of};
 ghost use Rattle.btree_walk.specs.Bounds.{IsValidRange};
 ghost use Rattle.btree_iter_tests.specs.AddBetween.{greater_between};
 
+use crate::asserts::{assert_same, assert_true};
 use crate::between::is_between;
+use crate::samples::first_keys;
 use btree_map::BTreeMap;
 use btree_node::Node;
 use btree_nodes::NodesMut;
@@ -15,7 +17,7 @@ use std::alloc::Global;
 use std::ops::Bound;
 use std::process::Abort;
 
-type Map = BTreeMap<u64, u64, SlabStore<Node<u64, u64>>>;
+type Store = SlabStore<Node<u64, u64>>;
 
 // Adds a number to each value between two bounds.
 fn add_to_range<K: Ord + Drop, C: NodesMut<K, u64>>(
@@ -36,20 +38,15 @@ fn add_to_range<K: Ord + Drop, C: NodesMut<K, u64>>(
     }
 }
 
-// Returns the map of the keys from 0 on, with the values 10 times the keys.
-fn first_keys(rt: &impl Abort, alloc: Global, count: u64) -> Map {
-    let mut map: Map = BTreeMap::new(alloc);
-    for key in 0..count {
-        assert!(rt; map.insert(key, key.wrapping_mul(10)).is_ok());
-    }
-    map
-}
-
 // Compares each value with 10 times its key, and one more if the key is in a list.
-fn assert_raised(rt: &impl Abort, map: &Map, raised: &[u64]) {
+fn assert_raised<C: NodesMut<u64, u64>>(
+    rt: &impl Abort,
+    map: &BTreeMap<u64, u64, C>,
+    raised: &[u64],
+) {
     for (key, value) in map.iter() {
         let more = if raised.contains(key) { 1u64 } else { 0 };
-        assert_eq!(rt; *value, key.wrapping_mul(10).wrapping_add(more));
+        assert_same(rt, *value, key.wrapping_mul(10).wrapping_add(more));
     }
 }
 
@@ -71,14 +68,14 @@ fn is_front_first(side: Side) -> bool {
 
 // Checks that the pair that was lent is that of a key, with 10 times the key as its value, and adds one to the value.
 fn raise(rt: &impl Abort, found: u64, value: &mut u64, key: u64) {
-    assert_eq!(rt; (found, *value), (key, key.wrapping_mul(10)));
+    assert_same(rt, (found, *value), (key, key.wrapping_mul(10)));
     *value = value.wrapping_add(1);
 }
 
-// Checks that a cursor lends the values of these keys, each once, and of no other.
-fn assert_lends(
+// Checks that a cursor over the map of the keys from 0 to 8 lends the values of these keys, each once, and of no other.
+fn assert_lends<C: NodesMut<u64, u64> + Drop>(
     rt: &impl Abort,
-    alloc: Global,
+    map: BTreeMap<u64, u64, C>,
     range: (Bound<&u64>, Bound<&u64>),
     keys: &[u64],
     side: Side,
@@ -86,21 +83,21 @@ fn assert_lends(
     if !is_valid_range(range) {
         panic!(rt; "no such range");
     }
-    let mut map = first_keys(rt, alloc, 9);
+    let mut map = map;
     let mut pairs = map.range_mut(range);
     let mut low = 0usize;
     let mut high = keys.len();
     let mut is_front = is_front_first(side);
     for _ in 0..keys.len() {
         if is_front {
-            assert!(rt; low < keys.len());
+            assert_true(rt, low < keys.len());
             match pairs.next() {
                 Some((key, value)) => raise(rt, *key, value, keys[low]),
                 None => panic!(rt; "no pair at the front"),
             }
             low += 1;
         } else {
-            assert!(rt; 0 < high && high <= keys.len());
+            assert_true(rt, 0 < high && high <= keys.len());
             high -= 1;
             match pairs.next_back() {
                 Some((key, value)) => raise(rt, *key, value, keys[high]),
@@ -111,9 +108,9 @@ fn assert_lends(
             is_front = !is_front;
         }
     }
-    assert!(rt; pairs.is_empty());
-    assert!(rt; pairs.next().is_none() && pairs.next_back().is_none());
-    assert!(rt; pairs.next().is_none());
+    assert_true(rt, pairs.is_empty());
+    assert_true(rt, pairs.next().is_none() && pairs.next_back().is_none());
+    assert_true(rt, pairs.next().is_none());
     assert_raised(rt, &map, keys);
 }
 
@@ -126,7 +123,8 @@ fn assert_range(
     keys: &[u64],
 ) {
     for side in [Side::Front, Side::Back, Side::Both] {
-        assert_lends(rt, alloc, (start, end), keys, side);
+        let map = first_keys::<Store>(rt, alloc, 9);
+        assert_lends(rt, map, (start, end), keys, side);
     }
 }
 
@@ -136,7 +134,7 @@ fn adds_to_the_names_from_b_to_cheryl(rt: HostRuntime) {
         rt.alloc(),
     );
     for name in ["Alice", "Bob", "Carol", "Cheryl"] {
-        assert!(rt; map.insert(name, 0).is_ok());
+        assert_true(&rt, map.insert(name, 0).is_ok());
     }
     let range = (Bound::Included(&"B"), Bound::Excluded(&"Cheryl"));
     if !is_valid_range(range) {
@@ -146,11 +144,11 @@ fn adds_to_the_names_from_b_to_cheryl(rt: HostRuntime) {
     let mut pairs = map.iter();
     for (name, value) in [("Alice", 0u64), ("Bob", 100), ("Carol", 100), ("Cheryl", 0)] {
         match pairs.next() {
-            Some(pair) => assert_eq!(rt; (*pair.0, *pair.1), (name, value)),
+            Some(pair) => assert_same(&rt, (*pair.0, *pair.1), (name, value)),
             None => panic!(rt; "no pair"),
         }
     }
-    assert!(rt; pairs.next().is_none());
+    assert_true(&rt, pairs.next().is_none());
 }
 
 #[test]
@@ -200,24 +198,44 @@ fn lends_in_narrow_ranges(rt: HostRuntime) {
 }
 
 // Compares each value with the number at the index of its key.
-fn assert_sums(rt: &impl Abort, map: &Map, sums: &[u64]) {
+fn assert_sums<C: NodesMut<u64, u64>>(rt: &impl Abort, map: &BTreeMap<u64, u64, C>, sums: &[u64]) {
     for (key, value) in map.iter() {
         match sums.get(*key as usize) {
-            Some(sum) => assert_eq!(rt; *value, *sum),
+            Some(sum) => assert_same(rt, *value, *sum),
             None => panic!(rt; "a key that was not inserted"),
         }
     }
 }
 
-// In a tree of three levels, with 8, 18, 28, 48, 58, 68 and 78 in the nodes below the root and 38 in the root.
-#[test]
-fn adds_between_even_keys(rt: HostRuntime) {
-    let mut map: Map = BTreeMap::new(rt.alloc());
+// Adds 3 to the values between two bounds, and to the numbers at the indices of the keys there, and compares them.
+fn add_between<C: NodesMut<u64, u64>>(
+    rt: &impl Abort,
+    map: &mut BTreeMap<u64, u64, C>,
+    added: &mut [u64; 87],
+    bounds: (Bound<u64>, Bound<u64>),
+) {
+    let (start, end) = bounds;
+    if !is_valid_range((start.as_ref(), end.as_ref())) {
+        panic!(rt; "no such range");
+    }
+    add_to_range(map, (start.as_ref(), end.as_ref()), 3);
+    for key in 0..87usize {
+        if is_between(key as u64, &start, &end) {
+            added[key] = added[key].wrapping_add(3);
+        }
+    }
+    assert_sums(rt, map, added);
+}
+
+// Inserts 44 even keys into an empty map, and adds to ranges of it. It is a tree of three levels, with 8, 18, 28, 48, 58, 68 and 78 in the nodes
+// below the root and 38 in the root.
+fn add_to_even_keys<C: NodesMut<u64, u64> + Drop>(rt: &impl Abort, map: BTreeMap<u64, u64, C>) {
+    let mut map = map;
     for half in 0..44u64 {
-        assert!(rt; map.insert(half.wrapping_mul(2), 0).is_ok());
+        assert_true(rt, map.insert(half.wrapping_mul(2), 0).is_ok());
     }
     let mut added = [0u64; 87];
-    for (start, end) in [
+    for bounds in [
         (Bound::Unbounded, Bound::Unbounded),
         (Bound::Included(8u64), Bound::Included(8u64)),
         (Bound::Excluded(8), Bound::Excluded(18)),
@@ -235,22 +253,18 @@ fn adds_between_even_keys(rt: HostRuntime) {
         (Bound::Excluded(58), Bound::Included(78)),
         (Bound::Excluded(86), Bound::Unbounded),
     ] {
-        if !is_valid_range((start.as_ref(), end.as_ref())) {
-            panic!(rt; "no such range");
-        }
-        add_to_range(&mut map, (start.as_ref(), end.as_ref()), 3);
-        for key in 0..87usize {
-            if is_between(key as u64, &start, &end) {
-                added[key] = added[key].wrapping_add(3);
-            }
-        }
-        assert_sums(&rt, &map, &added);
+        add_between(rt, &mut map, &mut added, bounds);
     }
 }
 
 #[test]
-fn lends_nothing_of_an_empty_map(rt: HostRuntime) {
-    let mut map: Map = BTreeMap::new(rt.alloc());
+fn adds_between_even_keys(rt: HostRuntime) {
+    add_to_even_keys::<Store>(&rt, BTreeMap::new(rt.alloc()));
+}
+
+// Asks for pairs between bounds in an empty map.
+fn lend_nothing<C: NodesMut<u64, u64> + Drop>(rt: &impl Abort, map: BTreeMap<u64, u64, C>) {
+    let mut map = map;
     for (start, end) in [
         (Bound::Unbounded, Bound::Unbounded),
         (Bound::Included(&3u64), Bound::Included(&3u64)),
@@ -261,8 +275,13 @@ fn lends_nothing_of_an_empty_map(rt: HostRuntime) {
             panic!(rt; "no such range");
         }
         let mut pairs = map.range_mut((start, end));
-        assert!(rt; pairs.is_empty());
-        assert!(rt; pairs.next().is_none());
-        assert!(rt; pairs.next_back().is_none());
+        assert_true(rt, pairs.is_empty());
+        assert_true(rt, pairs.next().is_none());
+        assert_true(rt, pairs.next_back().is_none());
     }
+}
+
+#[test]
+fn lends_nothing_of_an_empty_map(rt: HostRuntime) {
+    lend_nothing::<Store>(&rt, BTreeMap::new(rt.alloc()));
 }

@@ -1,4 +1,5 @@
 //! Drains of a map whose values count their drops: each value is dropped once.
+use crate::asserts::{assert_same, assert_true};
 use crate::drops::{Counted, hundred_pairs};
 use btree_ext::BTreeExt;
 use btree_map::BTreeMap;
@@ -15,8 +16,8 @@ fn take_odd<V: Drop, C: NodesMut<u64, V>>(
 ) {
     let mut drain = map.drain_filter(|key: &u64, _value: &mut V| *key % 2 == 1);
     for taken in 0..count {
-        assert!(rt; drain.next().is_some());
-        assert_eq!(rt; drops.get(), taken.wrapping_add(1));
+        assert_true(rt, drain.next().is_some());
+        assert_same(rt, drops.get(), taken.wrapping_add(1));
     }
 }
 
@@ -28,9 +29,9 @@ fn a_drain_drops_what_it_picks(rt: HostRuntime) {
             panic!(rt; "no memory")
         };
         take_odd(&rt, &mut map, &drops, count);
-        assert_eq!(rt; (map.len(), drops.get()), (50, 50));
+        assert_same(&rt, (map.len(), drops.get()), (50, 50));
         drop(map);
-        assert_eq!(rt; drops.get(), 100);
+        assert_same(&rt, drops.get(), 100);
     }
 }
 
@@ -41,7 +42,7 @@ fn retain_drops_what_it_does_not_keep(rt: HostRuntime) {
         panic!(rt; "no memory")
     };
     map.retain(|key: &u64, _value: &mut Counted<'_>| *key % 4 == 0);
-    assert_eq!(rt; (map.len(), drops.get()), (25, 75));
+    assert_same(&rt, (map.len(), drops.get()), (25, 75));
     drop(map);
-    assert_eq!(rt; drops.get(), 100);
+    assert_same(&rt, drops.get(), 100);
 }

@@ -2,6 +2,8 @@
 #![tactic(auto)]
 
 #[cfg(test)]
+mod asserts;
+#[cfg(test)]
 mod between;
 #[cfg(test)]
 mod between_mut;
@@ -14,6 +16,8 @@ mod drained;
 mod drops;
 #[cfg(test)]
 mod owned;
+#[cfg(test)]
+mod samples;
 
 use crate::drops::hundred;
 use std::alloc::AllocError;
