@@ -5,10 +5,11 @@ ghost use Rattle.std.specs.Cmp.{partial_order_from_own_ties};
 ghost use Rattle.std.specs.Cmp.Rules.{comparing};
 ghost use Rattle.std.specs.Ordering.{as_partial_cmp, nat_cmp, on};
 
+use crate::asserts::{assert_same, assert_true};
 use btree_node::Node;
+use btree_nodes::NodesMut;
 use btree_set::BTreeSet;
 use btree_store::SlabStore;
-use std::alloc::Global;
 use std::cmp::Ordering;
 use std::process::Abort;
 
@@ -59,12 +60,17 @@ impl Ord for Named {
 
 type Names = BTreeSet<Named, SlabStore<Node<Named, ()>>>;
 
-// Returns the set of the numbers, each with the name.
-fn names(rt: &impl Abort, alloc: Global, numbers: &[u64], name: char) -> Names {
-    let mut set: Names = BTreeSet::new(alloc);
+// Inserts the numbers, each with the name, into a set that is empty, and returns it.
+fn names<C: NodesMut<Named, ()>>(
+    rt: &impl Abort,
+    set: BTreeSet<Named, C>,
+    numbers: &[u64],
+    name: char,
+) -> BTreeSet<Named, C> {
+    let mut set = set;
     for number in numbers {
         let number = *number;
-        assert!(rt; set.insert(Named { number, name }).is_ok());
+        assert_true(rt, set.insert(Named { number, name }).is_ok());
     }
     set
 }
@@ -75,45 +81,89 @@ fn parts(element: Option<&Named>) -> Option<(u64, char)> {
     Some((element.number, element.name))
 }
 
-// The first set has 1 and 2 with the name a, the second one 2 and 3 with the name b.
-#[test]
-fn merges_take_the_stated_one(rt: HostRuntime) {
-    let left = names(&rt, rt.alloc(), &[1, 2], 'a');
-    let right = names(&rt, rt.alloc(), &[2, 3], 'b');
-    let mut either = left.union(&right);
-    assert_eq!(rt; either.size_hint(), (2, Some(4)));
-    assert_eq!(rt; parts(either.next()), Some((1, 'a')));
-    assert_eq!(rt; parts(either.next()), Some((2, 'b')));
-    assert_eq!(rt; parts(either.next()), Some((3, 'b')));
-    assert_eq!(rt; parts(either.next()), None);
-    let mut both = left.intersection(&right);
-    assert_eq!(rt; parts(both.next()), Some((2, 'a')));
-    assert_eq!(rt; parts(both.next()), None);
-    let mut first_only = left.difference(&right);
-    assert_eq!(rt; parts(first_only.next()), Some((1, 'a')));
-    assert_eq!(rt; parts(first_only.next()), None);
-    let mut one = left.symmetric_difference(&right);
-    assert_eq!(rt; parts(one.next()), Some((1, 'a')));
-    assert_eq!(rt; parts(one.next()), Some((3, 'b')));
-    assert_eq!(rt; parts(one.next()), None);
+// Checks the union of {1, 2} with the name a and {2, 3} with the name b.
+fn check_union<C: NodesMut<Named, ()>, D: NodesMut<Named, ()>>(
+    rt: &impl Abort,
+    left: &BTreeSet<Named, C>,
+    right: &BTreeSet<Named, D>,
+) {
+    let mut either = left.union(right);
+    assert_same(rt, either.size_hint(), (2, Some(4)));
+    assert_same(rt, parts(either.next()), Some((1, 'a')));
+    assert_same(rt, parts(either.next()), Some((2, 'b')));
+    assert_same(rt, parts(either.next()), Some((3, 'b')));
+    assert_same(rt, parts(either.next()), None);
+}
+
+// Checks the intersection and the difference of the same sets.
+fn check_first<C: NodesMut<Named, ()>, D: NodesMut<Named, ()>>(
+    rt: &impl Abort,
+    left: &BTreeSet<Named, C>,
+    right: &BTreeSet<Named, D>,
+) {
+    let mut both = left.intersection(right);
+    assert_same(rt, parts(both.next()), Some((2, 'a')));
+    assert_same(rt, parts(both.next()), None);
+    let mut first_only = left.difference(right);
+    assert_same(rt, parts(first_only.next()), Some((1, 'a')));
+    assert_same(rt, parts(first_only.next()), None);
+}
+
+// Checks the symmetric difference of the same sets.
+fn check_symmetric<C: NodesMut<Named, ()>, D: NodesMut<Named, ()>>(
+    rt: &impl Abort,
+    left: &BTreeSet<Named, C>,
+    right: &BTreeSet<Named, D>,
+) {
+    let mut one = left.symmetric_difference(right);
+    assert_same(rt, parts(one.next()), Some((1, 'a')));
+    assert_same(rt, parts(one.next()), Some((3, 'b')));
+    assert_same(rt, parts(one.next()), None);
+}
+
+// Merges two sets: the first has 1 and 2 with the name a, the second one 2 and 3 with the name b.
+fn merge<C: NodesMut<Named, ()> + Drop, D: NodesMut<Named, ()> + Drop>(
+    rt: &impl Abort,
+    left: BTreeSet<Named, C>,
+    right: BTreeSet<Named, D>,
+) {
+    let left = names(rt, left, &[1, 2], 'a');
+    let right = names(rt, right, &[2, 3], 'b');
+    check_union(rt, &left, &right);
+    check_first(rt, &left, &right);
+    check_symmetric(rt, &left, &right);
 }
 
 #[test]
-fn an_equal_element_stays_unless_it_is_replaced(rt: HostRuntime) {
-    let mut set = names(&rt, rt.alloc(), &[1, 2], 'a');
+fn merges_take_the_stated_one(rt: HostRuntime) {
+    merge(&rt, Names::new(rt.alloc()), Names::new(rt.alloc()));
+}
+
+// Inserts, replaces and appends elements that are equal to some of a set.
+fn insert_equal<C: NodesMut<Named, ()> + Drop>(
+    rt: &impl Abort,
+    set: BTreeSet<Named, C>,
+    other: BTreeSet<Named, C>,
+) {
+    let mut set = names(rt, set, &[1, 2], 'a');
     let second = Named {
         number: 2,
         name: 'b',
     };
-    assert_eq!(rt; set.insert(second).ok(), Some(false));
-    assert_eq!(rt; parts(set.get(&second)), Some((2, 'a')));
+    assert_same(rt, set.insert(second).ok(), Some(false));
+    assert_same(rt, parts(set.get(&second)), Some((2, 'a')));
     match set.replace(second) {
-        Ok(old) => assert_eq!(rt; parts(old.as_ref()), Some((2, 'a'))),
+        Ok(old) => assert_same(rt, parts(old.as_ref()), Some((2, 'a'))),
         Err(_) => panic!(rt; "refused"),
     }
-    assert_eq!(rt; parts(set.get(&second)), Some((2, 'b')));
-    let mut other = names(&rt, rt.alloc(), &[1, 3], 'c');
-    assert!(rt; set.append(&mut other).is_ok());
-    assert_eq!(rt; parts(set.first()), Some((1, 'a')));
-    assert_eq!(rt; parts(set.last()), Some((3, 'c')));
+    assert_same(rt, parts(set.get(&second)), Some((2, 'b')));
+    let mut other = names(rt, other, &[1, 3], 'c');
+    assert_true(rt, set.append(&mut other).is_ok());
+    assert_same(rt, parts(set.first()), Some((1, 'a')));
+    assert_same(rt, parts(set.last()), Some((3, 'c')));
+}
+
+#[test]
+fn an_equal_element_stays_unless_it_is_replaced(rt: HostRuntime) {
+    insert_equal(&rt, Names::new(rt.alloc()), Names::new(rt.alloc()));
 }

@@ -1,6 +1,7 @@
 //! Insertions and clones while an allocation of the store is refused.
 //!
 //! The store has room for 4 nodes first, and doubles it for the 5th node, which 18 needs, and the 9th, which 38 needs.
+use crate::asserts::{assert_same, assert_true};
 use btree_item::Cause;
 use btree_node::Node;
 use btree_nodes::{CloneNodes, NodesMut};
@@ -34,29 +35,29 @@ fn first_refused<C: NodesMut<u64, ()> + Drop>(
     let Err(refused) = set.insert(7) else {
         return Err(Fail::from("not refused"));
     };
-    assert_eq!(rt; (refused.cause, refused.key), (Cause::Store, 7));
+    assert_same(rt, (refused.cause, refused.key), (Cause::Store, 7));
     memory.refuse(1);
     let Err(refused) = set.replace(8) else {
         return Err(Fail::from("not refused"));
     };
-    assert_eq!(rt; (refused.cause, refused.key), (Cause::Store, 8));
+    assert_same(rt, (refused.cause, refused.key), (Cause::Store, 8));
     let elements = [9u64, 10, 11];
     let mut source = elements.iter().copied();
     memory.refuse(1);
     let Err(refused) = set.extend(&mut source) else {
         return Err(Fail::from("not refused"));
     };
-    assert_eq!(rt; (refused.cause, refused.key), (Cause::Store, 9));
-    assert_eq!(rt; source.next(), Some(10));
+    assert_same(rt, (refused.cause, refused.key), (Cause::Store, 9));
+    assert_same(rt, source.next(), Some(10));
     let mut lent = elements.iter();
     memory.refuse(1);
     let Err(refused) = set.extend_copied(&mut lent) else {
         return Err(Fail::from("not refused"));
     };
-    assert_eq!(rt; (refused.cause, refused.key), (Cause::Store, 9));
-    assert_eq!(rt; lent.next(), Some(&10));
-    assert!(rt; set.is_empty());
-    assert_eq!(rt; memory.refuses(), 0);
+    assert_same(rt, (refused.cause, refused.key), (Cause::Store, 9));
+    assert_same(rt, lent.next(), Some(&10));
+    assert_true(rt, set.is_empty());
+    assert_same(rt, memory.refuses(), 0);
     Ok(())
 }
 
@@ -79,17 +80,17 @@ fn append_refused<C: NodesMut<u64, ()> + Drop>(
 ) -> Result<(), Fail> {
     let mut set = set;
     let mut other = other;
-    assert!(rt; set.insert(0).is_ok());
+    assert_true(rt, set.insert(0).is_ok());
     for element in 1..44u64 {
-        assert!(rt; other.insert(element).is_ok());
+        assert_true(rt, other.insert(element).is_ok());
     }
     memory.refuse(at);
     let Err(refused) = set.append(&mut other) else {
         return Err(Fail::from("not refused"));
     };
-    assert_eq!(rt; (refused.cause, refused.key), (Cause::Store, number));
-    assert!(rt; has(&set, 0, number));
-    assert!(rt; has(&other, number.wrapping_add(1), 44));
+    assert_same(rt, (refused.cause, refused.key), (Cause::Store, number));
+    assert_true(rt, has(&set, 0, number));
+    assert_true(rt, has(&other, number.wrapping_add(1), 44));
     Ok(())
 }
 
@@ -121,15 +122,15 @@ fn insert_refused<C: NodesMut<u64, ()> + Drop>(
     let mut set: BTreeSet<u64, C> = BTreeSet::new(origin);
     memory.refuse(at);
     for element in 0..number {
-        assert_eq!(rt; set.insert(element).ok(), Some(true));
+        assert_same(rt, set.insert(element).ok(), Some(true));
     }
     let Err(refused) = set.insert(number) else {
         return Err(Fail::from("not refused"));
     };
-    assert_eq!(rt; (refused.cause, refused.key), (Cause::Store, number));
-    assert!(rt; has(&set, 0, number));
-    assert_eq!(rt; set.insert(number).ok(), Some(true));
-    assert!(rt; has(&set, 0, number.wrapping_add(1)));
+    assert_same(rt, (refused.cause, refused.key), (Cause::Store, number));
+    assert_true(rt, has(&set, 0, number));
+    assert_same(rt, set.insert(number).ok(), Some(true));
+    assert_true(rt, has(&set, 0, number.wrapping_add(1)));
     Ok(())
 }
 
@@ -144,15 +145,15 @@ fn replace_refused<C: NodesMut<u64, ()> + Drop>(
     let mut set: BTreeSet<u64, C> = BTreeSet::new(origin);
     memory.refuse(at);
     for element in 0..number {
-        assert_eq!(rt; set.replace(element).ok(), Some(None));
+        assert_same(rt, set.replace(element).ok(), Some(None));
     }
     let Err(refused) = set.replace(number) else {
         return Err(Fail::from("not refused"));
     };
-    assert_eq!(rt; (refused.cause, refused.key), (Cause::Store, number));
-    assert!(rt; has(&set, 0, number));
-    assert_eq!(rt; set.replace(number).ok(), Some(None));
-    assert!(rt; has(&set, 0, number.wrapping_add(1)));
+    assert_same(rt, (refused.cause, refused.key), (Cause::Store, number));
+    assert_true(rt, has(&set, 0, number));
+    assert_same(rt, set.replace(number).ok(), Some(None));
+    assert_true(rt, has(&set, 0, number.wrapping_add(1)));
     Ok(())
 }
 
@@ -185,9 +186,9 @@ fn extend_refused<C: NodesMut<u64, ()> + Drop>(
     let Err(refused) = set.extend(&mut source) else {
         return Err(Fail::from("not refused"));
     };
-    assert_eq!(rt; (refused.cause, refused.key), (Cause::Store, number));
-    assert!(rt; has(&set, 0, number));
-    assert_eq!(rt; source.next(), Some(number.wrapping_add(1)));
+    assert_same(rt, (refused.cause, refused.key), (Cause::Store, number));
+    assert_true(rt, has(&set, 0, number));
+    assert_same(rt, source.next(), Some(number.wrapping_add(1)));
     Ok(())
 }
 
@@ -205,9 +206,9 @@ fn extend_copied_refused<C: NodesMut<u64, ()> + Drop>(
     let Err(refused) = set.extend_copied(&mut source) else {
         return Err(Fail::from("not refused"));
     };
-    assert_eq!(rt; (refused.cause, refused.key), (Cause::Store, number));
-    assert!(rt; has(&set, 0, number));
-    assert_eq!(rt; source.next(), Some(&number.wrapping_add(1)));
+    assert_same(rt, (refused.cause, refused.key), (Cause::Store, number));
+    assert_true(rt, has(&set, 0, number));
+    assert_same(rt, source.next(), Some(&number.wrapping_add(1)));
     Ok(())
 }
 
@@ -224,9 +225,9 @@ fn from_iter_refused<C: NodesMut<u64, ()> + Drop>(
     let Err((set, refused)) = BTreeSet::<u64, C>::from_iter(origin, &mut source) else {
         return Err(Fail::from("not refused"));
     };
-    assert_eq!(rt; (refused.cause, refused.key), (Cause::Store, number));
-    assert!(rt; has(&set, 0, number));
-    assert_eq!(rt; source.next(), Some(number.wrapping_add(1)));
+    assert_same(rt, (refused.cause, refused.key), (Cause::Store, number));
+    assert_true(rt, has(&set, 0, number));
+    assert_same(rt, source.next(), Some(number.wrapping_add(1)));
     Ok(())
 }
 
@@ -249,7 +250,7 @@ fn each_allocation_of_an_extension_is_refused(rt: HostRuntime) -> Result<(), Fai
         from_iter_refused::<SlabStore<Node<u64, ()>, &Refusing<Global>>>(
             &rt, &memory, &memory, list, at, number,
         )?;
-        assert_eq!(rt; memory.refuses(), 0);
+        assert_same(&rt, memory.refuses(), 0);
     }
     Ok(())
 }
@@ -262,13 +263,13 @@ fn clone_refused<C: CloneNodes<u64, ()> + Drop>(
 ) -> Result<(), Fail> {
     let mut set: BTreeSet<u64, C> = BTreeSet::new(origin);
     for element in 0..20u64 {
-        assert!(rt; set.insert(element).is_ok());
+        assert_true(rt, set.insert(element).is_ok());
     }
     memory.refuse(1);
-    assert!(rt; set.clone().is_err());
-    assert!(rt; has(&set, 0, 20));
+    assert_true(rt, set.clone().is_err());
+    assert_true(rt, has(&set, 0, 20));
     let copy = set.clone()?;
-    assert!(rt; has(&copy, 0, 20));
+    assert_true(rt, has(&copy, 0, 20));
     Ok(())
 }
 
