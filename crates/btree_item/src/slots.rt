@@ -143,12 +143,23 @@ impl<T: Drop, const N: usize> Slots<T, N> {
         ensures answer { result ≡ drop at self.old }
         ensures after { self.new ≡ take at self.old }
     {
-        let tail = tail_from(&mut self.slots, at);
+        // For the prover: there are at most `N`.
+        let _fits = self.len();
+        let mut tail = Slots::new();
+        self.move_tail(at, &mut tail);
+        tail
+    }
+
+    /// Moves the values from an index on to the end of another list. Each moves once. There must be room for them.
+    pub fn move_tail(&mut self, at: usize, to: &mut Self)
+        requires within { at ≤ length self.old }
+        requires room { length to.old + (length self.old - at) ≤ N }
+        ensures moved { to.new ≡ to.old ++ drop at self.old }
+        ensures left { self.new ≡ take at self.old }
+    {
+        move_slots(&mut self.slots, at, &mut to.slots);
         self.len = self.slots.len();
-        Slots {
-            len: tail.len(),
-            slots: tail,
-        }
+        to.len = to.slots.len();
     }
 }
 
@@ -202,20 +213,20 @@ fn append_to<T: Drop, const N: usize>(
     }
 }
 
-// Moves out the values from an index on. Not inlined, so that they are written once into the caller's place.
-#[inline(never)]
-fn tail_from<T: Drop, const N: usize>(
+// Moves the slots from an index on to the end of another list.
+fn move_slots<T: Drop, const N: usize>(
     slots: &mut ArrayVec<Option<T>, N>,
     at: usize,
-) -> ArrayVec<Option<T>, N>
-    requires { at ≤ length slots.old.items }
-    ensures moved { result.items ≡ drop at slots.old.items }
+    to: &mut ArrayVec<Option<T>, N>,
+)
+    requires within { at ≤ length slots.old.items }
+    requires room { length to.old.items + (length slots.old.items - at) ≤ N }
+    ensures moved { to.new.items ≡ to.old.items ++ drop at slots.old.items }
     ensures left { slots.new.items ≡ take at slots.old.items }
 {
     let len = slots.len();
-    let mut tail = ArrayVec::new();
-    for slot in slots.drain(at..len) {
-        tail.push(slot);
+    for i in at..len {
+        to.push(slots.as_mut_slice()[i].take());
     }
-    tail
+    slots.truncate(at);
 }

@@ -131,6 +131,22 @@ fn edits_slots(rt: HostRuntime) {
     assert_same(&rt, left.next(), None);
 }
 
+#[test]
+fn moves_the_tail_of_slots(rt: HostRuntime) {
+    let mut slots: Slots<u32, 4> = Slots::new();
+    let mut others: Slots<u32, 4> = Slots::new();
+    slots.push(1);
+    slots.push(2);
+    slots.push(3);
+    others.push(9);
+    slots.move_tail(1, &mut others);
+    assert_same(&rt, (slots.len(), others.len()), (1, 3));
+    assert_same(&rt, (slots.get(0), slots.get(1)), (Some(&1), None));
+    assert_same(&rt, (others.get(0), others.get(1)), (Some(&9), Some(&2)));
+    let tail = others.split_off(2);
+    assert_same(&rt, (others.len(), tail.get(0)), (2, Some(&3)));
+}
+
 // Inserts a key at the index that a search returns, which keeps the keys in order.
 fn add<'a>(slots: &mut Slots<Item<Counted<'a>, u32>, 9>, key: Counted<'a>)
     requires room { length slots.old < 9 }

@@ -397,14 +397,25 @@ impl<K: Drop, V: Drop> LeafNode<K, V> {
         ensures left { result.0 ≡ LEAF_MEDIAN }
         ensures right { length result.2.items ≡ MIN_ITEMS + 1 }
     {
+        let mut right = LeafNode::empty(None);
+        let (left, median) = self.split_into(&mut right);
+        (left, median, right)
+    }
+
+    /// Keeps the first four items of nine, and moves those after the median into an empty leaf, which gets the same parent. Returns how many
+    /// are kept, and the median. Each item moves once, and no leaf is passed by value.
+    pub fn split_into(&mut self, right: &mut LeafNode<K, V>) -> (usize, Item<K, V>)
+        requires over { IsOverflowing (view_of self.old) }
+        requires empty { right.old.items ≡ [] }
+        ensures parts { IsSplit (view_of self.old) result.1 (view_of self.new) (view_of right.new) }
+        ensures left { result.0 ≡ LEAF_MEDIAN }
+        ensures right { length right.new.items ≡ MIN_ITEMS + 1 }
+    {
         // For the prover alone: there are at most nine items, which gives the size of the right part.
         let _count = self.item_count();
-        let items = self.items.split_off(LEAF_MEDIAN + 1);
+        right.parent = self.parent;
+        self.items.move_tail(LEAF_MEDIAN + 1, &mut right.items);
         let median = self.items.pop().unwrap();
-        let right = LeafNode {
-            parent: self.parent,
-            items,
-        };
-        (self.items.len(), median, right)
+        (self.items.len(), median)
     }
 }

@@ -17,6 +17,7 @@ use btree_item::{
 use btree_leaf::LeafNode;
 use btree_steps::Steps;
 use btree_view::{Balance, WouldUnderflow, offset_at};
+use std::mem;
 
 /// What `Node::pop_right` removes: the offset that the item had, the item, and the child after it, which is there exactly in an internal
 /// node.
@@ -233,7 +234,7 @@ impl<K, V> Node<K, V> {
 }
 
 impl<K: Drop, V: Drop> Node<K, V> {
-    ghost use Rattle.std.specs.Prelude.{[], ◌∷◌, ◌+◌, IfNone, IfOk, IsFalse, OnErr, OnOk};
+    ghost use Rattle.std.specs.Prelude.{[], ◌∷◌, ◌+◌, IfNone, IfOk, IsFalse, OnErr, OnOk, false};
     ghost use Rattle.std.specs.Result.{result_err};
     ghost use Rattle.btree_view.specs.Removal.{removal_in};
     ghost use Rattle.btree_view.specs.View.{leaf, internal, last_child_of, last_item_of};
@@ -453,6 +454,30 @@ impl<K: Drop, V: Drop> Node<K, V> {
                 let (left, median, right) = leaf.split();
                 (left, median, Node::Leaf(right))
             }
+        }
+    }
+
+    /// Keeps the first items of a node with one too many, as `split` does, and moves those after the median into `part`: a leaf without
+    /// items, which becomes a node of the same kind under the same parent. Returns how many are kept, and the median. Each item of a leaf
+    /// moves once, and no leaf is passed by value. The parents of the children are then up to the caller.
+    pub fn split_into(&mut self, part: &mut Node<K, V>) -> (usize, Item<K, V>)
+        requires over { IsOverflowing (view_of self.old) }
+        requires leaf { is_internal (view_of part.old) ≡ false }
+        requires empty { items_of (view_of part.old) ≡ [] }
+        ensures parts { IsSplit (view_of self.old) result.1 (view_of self.new) (view_of part.new) }
+        ensures left { result.0 ≡ size_of (view_of self.new) }
+        ensures right { size_of (view_of part.new) ≡ MIN_ITEMS + 1 }
+    {
+        match self {
+            Node::Internal(node) => {
+                let (left, median, right) = node.split();
+                drop(mem::replace(part, Node::Internal(right)));
+                (left, median)
+            }
+            Node::Leaf(leaf) => match part {
+                Node::Leaf(right) => leaf.split_into(right),
+                Node::Internal(_) => unreachable!(),
+            },
         }
     }
 }

@@ -107,6 +107,45 @@ fn splits_an_internal_node_of_eight(rt: HostRuntime) {
     );
 }
 
+// A leaf keeps its items 0 to 3 of 9, and an internal node its items 0 to 2 of 8. The part has what comes after the next item.
+#[test]
+fn splits_into_an_empty_leaf(rt: HostRuntime) {
+    let mut node = Node::Leaf(leaf_of(&rt, 9));
+    assert_true(&rt, node.is_overflowing());
+    let mut part = Node::Leaf(LeafNode::empty(None));
+    let (left, median) = node.split_into(&mut part);
+    assert_same(&rt, (left, *median.key()), (4, 40));
+    assert_same(&rt, (node.item_count(), part.item_count()), (4, 4));
+    assert_same(&rt, (part.parent(), part.child_count()), (Some(5), 0));
+    assert_same(&rt, (key_at(&node, 3), key_at(&node, 4)), (Some(30), None));
+    assert_same(
+        &rt,
+        (key_at(&part, 0), key_at(&part, 3)),
+        (Some(50), Some(80)),
+    );
+}
+
+#[test]
+fn splits_an_internal_node_into_a_leaf(rt: HostRuntime) {
+    let mut node = Node::Internal(internal_of(&rt, 8));
+    assert_true(&rt, node.is_overflowing());
+    let mut part = Node::Leaf(LeafNode::empty(None));
+    let (left, median) = node.split_into(&mut part);
+    assert_same(&rt, (left, *median.key()), (3, 30));
+    assert_same(&rt, (node.child_count(), part.child_count()), (4, 5));
+    assert_same(&rt, part.parent(), Some(6));
+    assert_same(
+        &rt,
+        (key_at(&part, 0), key_at(&part, 3)),
+        (Some(40), Some(70)),
+    );
+    assert_same(
+        &rt,
+        (part.child_id_opt(0), part.child_id_opt(4)),
+        (Some(104), Some(108)),
+    );
+}
+
 #[test]
 fn tells_how_full_a_node_is(rt: HostRuntime) {
     assert_same(

@@ -29,7 +29,7 @@ pub fn release<K: Drop, V: Drop, C: NodesMut<K, V>>(
     }
 }
 
-fn empty_leaf<K: Drop, V: Drop>() -> Node<K, V>
+pub(crate) fn empty_leaf<K: Drop, V: Drop>() -> Node<K, V>
     ensures { result ≡ EMPTY }
 {
     Node::Leaf(LeafNode::empty(None))

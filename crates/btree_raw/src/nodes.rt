@@ -9,7 +9,7 @@ ghost use Rattle.btree_shape.specs.TreeState.{Changes, IsUsed, KeepsRest, node_m
 ghost use Rattle.btree_raw.specs.Steps.{AddsAndCuts, AddsItem, AddsSeparatorAndCuts, AreThere, CanAddItem, CanAddSeparator, CanCut, CanCutAbove, CanCutWith, CanReparent, HasCount, HasParent, LeavesPart, MayCut, Overflows, SetsParent};
 ghost use Rattle.btree_raw.specs.Insertion.{IsFull};
 
-use crate::claims::{ClaimedIds, take_claim};
+use crate::claims::{ClaimedIds, empty_leaf, take_claim};
 use crate::raw::RawBTree;
 use btree_item::{INTERNAL_SLOTS, Item, Offset};
 use btree_node::Node;
@@ -135,7 +135,8 @@ pub(crate) fn cut_node<K: Drop, V: Drop, C: NodesMut<K, V>>(
         return None;
     }
     let parent = node.parent();
-    let (kept, median, part) = node.split();
+    let mut part = empty_leaf();
+    let (kept, median) = node.split_into(&mut part);
     Some((parent, kept, median, place_part(tree, part, claims)))
 }
 
@@ -161,7 +162,8 @@ pub(crate) fn add_and_cut<K: Drop, V: Drop, C: NodesMut<K, V>>(
         return None;
     }
     let parent = node.parent();
-    let (kept, median, part) = node.split();
+    let mut part = empty_leaf();
+    let (kept, median) = node.split_into(&mut part);
     Some((parent, kept, median, place_part(tree, part, claims)))
 }
 
@@ -189,7 +191,8 @@ pub(crate) fn insert_separator<K: Drop, V: Drop, C: NodesMut<K, V>>(
         return (index, None);
     }
     let parent = node.parent();
-    let (kept, middle, part) = node.split();
+    let mut part = empty_leaf();
+    let (kept, middle) = node.split_into(&mut part);
     (
         index,
         Some((parent, kept, middle, place_part(tree, part, claims))),

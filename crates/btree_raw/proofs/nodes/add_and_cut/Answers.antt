@@ -1,5 +1,7 @@
-use Rattle.std.proofs.Common.{refl}
+use Rattle.std.proofs.Common.{refl, ap}
 use Rattle.btree_node.specs.Node.{view_of}
+use Rattle.btree_view.specs.Edits.{is_internal}
+use Rattle.btree_view.specs.View.{items_of}
 use Rattle.btree_shape.specs.TreeState.{Changes, node_map}
 use Rattle.btree_raw.specs.Raw.{with_node}
 use Rattle.btree_raw.specs.Steps.{AddsItem}
@@ -29,14 +31,17 @@ returns-then-not-is_overflowing g c = record {
   };
 }
 
-pub split-kept-requires : goal.split-kept-requires
-split-kept-requires g c = (c.tell_fits.ensures, is-over (view_of c.insert.new.self) c.if-not-is_overflowing.ensures)
+pub split_into-kept-requires : goal.split_into-kept-requires
+split_into-kept-requires g c = (
+  c.tell_fits.ensures,
+  (is-over (view_of c.insert.new.self) c.if-not-is_overflowing.ensures, (ap (λ n. is_internal (view_of n)) c.empty_leaf-part.ensures, ap (λ n. items_of (view_of n)) c.empty_leaf-part.ensures)),
+)
 
 pub place_part-requires : goal.place_part-requires
 place_part-requires g c = (
   c.tell_fits.ensures,
-  part-after c.args.tree.now.nodes c.args.id c.insert.new.self c.split-kept.new.self c.split-kept.result.0 c.split-kept.result.1
-      (view_of c.split-kept.result.2) c.split-kept.ensures.left c.split-kept.ensures.parts c.args.claims.now.items
+  part-after c.args.tree.now.nodes c.args.id c.insert.new.self c.split_into-kept.new.self c.split_into-kept.result.0 c.split_into-kept.result.1
+      (view_of c.split_into-kept.new.part) c.split_into-kept.ensures.left c.split_into-kept.ensures.parts c.args.claims.now.items
       (c.requires.can_cut (with_node c.args.tree.now c.args.id c.insert.new.self)
       (record {
         nodes = adds c.args.tree.now.nodes c.args.id c.node_mut-node.result.now c.node_mut-node.ensures.value c.insert.new.self c.args.index c.args.item c.args.child c.from.result c.from.ensures c.requires.can c.insert.ensures;
@@ -53,8 +58,8 @@ returns g c =
       rest = record { rest = refl };
     }) in
     let left =
-    part-after c.args.tree.now.nodes c.args.id c.insert.new.self c.split-kept.new.self c.split-kept.result.0 c.split-kept.result.1
-    (view_of c.split-kept.result.2) c.split-kept.ensures.left c.split-kept.ensures.parts c.args.claims.now.items
+    part-after c.args.tree.now.nodes c.args.id c.insert.new.self c.split_into-kept.new.self c.split_into-kept.result.0 c.split_into-kept.result.1
+    (view_of c.split_into-kept.new.part) c.split_into-kept.ensures.left c.split_into-kept.ensures.parts c.args.claims.now.items
     (c.requires.can_cut (with_node c.args.tree.now c.args.id c.insert.new.self) put (over-after c.args.tree.now.nodes c.args.id c.insert.new.self over)) in
     record {
       added = with_node c.args.tree.now c.args.id c.insert.new.self;
@@ -63,7 +68,7 @@ returns g c =
         nodes =
             cuts-node (node_map (with_node c.args.tree.now c.args.id c.insert.new.self)) (node_map c.place_part.new.tree) c.args.id c.args.claims.now.items
             c.place_part.new.claims.items (view_of c.insert.new.self) (here-after c.args.tree.now.nodes c.args.id c.insert.new.self) over
-            c.parent-parent.result c.parent-parent.ensures.value c.split-kept.result.0 c.split-kept.result.1 c.place_part.result c.place_part.ensures.last
+            c.parent-parent.result c.parent-parent.ensures.value c.split_into-kept.result.0 c.split_into-kept.result.1 c.place_part.result c.place_part.ensures.last
             (c.place_part.ensures.splits left) (c.place_part.ensures.leaves left);
         rest = then (record { rest = refl }) c.place_part.ensures.rest;
       };

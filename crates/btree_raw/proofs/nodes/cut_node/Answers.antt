@@ -1,5 +1,7 @@
-use Rattle.std.proofs.Common.{refl}
+use Rattle.std.proofs.Common.{refl, ap}
 use Rattle.btree_node.specs.Node.{view_of}
+use Rattle.btree_view.specs.Edits.{is_internal}
+use Rattle.btree_view.specs.View.{items_of}
 use Rattle.btree_shape.specs.TreeState.{node_map}
 use Rattle.btree_raw.proofs.CutLemmas.{cuts-node, here-there, over-there, part-there, stays-there}
 use Rattle.btree_raw.proofs.StateLemmas.{then}
@@ -19,14 +21,17 @@ returns-then-not-is_overflowing g c = record {
   rest = record { rest = refl };
 }
 
-pub split-kept-requires : goal.split-kept-requires
-split-kept-requires g c = (c.tell_fits.ensures, is-over (view_of c.node_mut-node.result.now) c.if-not-is_overflowing.ensures)
+pub split_into-kept-requires : goal.split_into-kept-requires
+split_into-kept-requires g c = (
+  c.tell_fits.ensures,
+  (is-over (view_of c.node_mut-node.result.now) c.if-not-is_overflowing.ensures, (ap (λ n. is_internal (view_of n)) c.empty_leaf-part.ensures, ap (λ n. items_of (view_of n)) c.empty_leaf-part.ensures)),
+)
 
 pub place_part-requires : goal.place_part-requires
 place_part-requires g c = (
   c.tell_fits.ensures,
-  part-there c.args.tree.now.nodes c.args.id c.node_mut-node.result.now c.node_mut-node.ensures.value c.split-kept.new.self c.split-kept.result.0
-      c.split-kept.result.1 c.split-kept.result.2 c.split-kept.ensures.left c.split-kept.ensures.parts c.args.claims.now.items
+  part-there c.args.tree.now.nodes c.args.id c.node_mut-node.result.now c.node_mut-node.ensures.value c.split_into-kept.new.self c.split_into-kept.result.0
+      c.split_into-kept.result.1 c.split_into-kept.new.part c.split_into-kept.ensures.left c.split_into-kept.ensures.parts c.args.claims.now.items
       (c.requires.can (over-there c.args.tree.now.nodes c.args.id c.node_mut-node.result.now c.node_mut-node.ensures.value (is-over (view_of c.node_mut-node.result.now) c.if-not-is_overflowing.ensures))),
 )
 
@@ -34,14 +39,14 @@ pub returns : goal.returns
 returns g c =
     let over = is-over (view_of c.node_mut-node.result.now) c.if-not-is_overflowing.ensures in
     let left =
-    part-there c.args.tree.now.nodes c.args.id c.node_mut-node.result.now c.node_mut-node.ensures.value c.split-kept.new.self c.split-kept.result.0
-    c.split-kept.result.1 c.split-kept.result.2 c.split-kept.ensures.left c.split-kept.ensures.parts c.args.claims.now.items
+    part-there c.args.tree.now.nodes c.args.id c.node_mut-node.result.now c.node_mut-node.ensures.value c.split_into-kept.new.self c.split_into-kept.result.0
+    c.split_into-kept.result.1 c.split_into-kept.new.part c.split_into-kept.ensures.left c.split_into-kept.ensures.parts c.args.claims.now.items
     (c.requires.can (over-there c.args.tree.now.nodes c.args.id c.node_mut-node.result.now c.node_mut-node.ensures.value over)) in
     record {
       nodes =
           cuts-node (node_map c.args.tree.now) (node_map c.place_part.new.tree) c.args.id c.args.claims.now.items c.place_part.new.claims.items
           (view_of c.node_mut-node.result.now) (here-there c.args.tree.now.nodes c.args.id c.node_mut-node.result.now c.node_mut-node.ensures.value) over
-          c.parent-parent.result c.parent-parent.ensures.value c.split-kept.result.0 c.split-kept.result.1 c.place_part.result c.place_part.ensures.last
+          c.parent-parent.result c.parent-parent.ensures.value c.split_into-kept.result.0 c.split_into-kept.result.1 c.place_part.result c.place_part.ensures.last
           (c.place_part.ensures.splits left) (c.place_part.ensures.leaves left);
       rest = then (record { rest = refl }) c.place_part.ensures.rest;
     }
