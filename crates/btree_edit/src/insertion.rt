@@ -64,7 +64,7 @@ pub(crate) fn insert_claimed<K: Ord + Drop, V: Drop, C: NodesMut<K, V>>(
 // Inserts a pair, whose key fits, into a full leaf, which is split. Not inlined, so that the usual insertion keeps its values in
 // registers.
 #[inline(never)]
-fn insert_and_split<K: Ord + Drop, V: Drop, C: NodesMut<K, V>>(
+pub(crate) fn insert_and_split<K: Ord + Drop, V: Drop, C: NodesMut<K, V>>(
     tree: &mut RawBTree<K, V, C>,
     addr: Address,
     item: Item<K, V>,

@@ -1,14 +1,15 @@
 //! Insertion at an address.
-ghost use Rattle.std.specs.Prelude.{◌≡◌, IfOk, IfErr, IsSome};
-ghost use Rattle.btree_shape.specs.TreeState.{IsBTree, IsLeafAddressIn, IsValidIn};
+ghost use Rattle.std.specs.Prelude.{◌≡◌, ◌≢◌, ◌<◌, None, IfOk, IfErr, IsSome};
+ghost use Rattle.btree_shape.specs.TreeState.{IsBTree, IsLeafAddressIn, IsValidIn, node_map};
+ghost use Rattle.btree_raw.specs.Insertion.{IsFullLeaf};
 ghost use Rattle.btree_find.specs.Fits.{FitsAt};
 ghost use Rattle.btree_edit.specs.InsertAt.{InsertsAt, IsRefusedAt};
 
-use crate::insertion::insert_at_gap;
+use crate::insertion::{insert_and_split, insert_at_gap};
 use btree_find::leaf_address;
 use btree_item::{Address, Item, Refused};
 use btree_nodes::NodesMut;
-use btree_raw::{RawBTree, add_item_at_leaf};
+use btree_raw::{RawBTree, add_item_at_leaf, need_above};
 
 /// Inserts a pair at the place of an address, which its key fits, before the item there. An address of an internal node stands for the
 /// one in a leaf at its place. Returns the address of the pair. It returns an error, with the pair, and nothing but the count of
@@ -40,8 +41,33 @@ pub fn insert_at<K: Ord + Drop, V: Drop, C: NodesMut<K, V>>(
             tree.set_len(tree.len() + 1);
             Ok(addr)
         }
-        Err(item) => insert_by_leaf(tree, addr, item),
+        Err((item, full)) => match full {
+            Some(parent) => insert_at_full_leaf(tree, addr, item, parent),
+            None => insert_by_leaf(tree, addr, item),
+        },
     }
+}
+
+// Does the same at an address in a leaf that is full, with its parent.
+fn insert_at_full_leaf<K: Ord + Drop, V: Drop, C: NodesMut<K, V>>(
+    tree: &mut RawBTree<K, V, C>,
+    addr: Address,
+    item: Item<K, V>,
+    parent: Option<usize>,
+) -> Result<Address, Refused<K, V>>
+    requires tree { IsBTree K.cmp tree.old }
+    requires some { tree.old.root ≢ None }
+    requires valid { IsValidIn tree.old addr }
+    requires back { IsSome addr.offset }
+    requires fits { FitsAt K.cmp item.0 tree.old addr }
+    requires room { tree.old.len < usize.MAX }
+    requires full { IsFullLeaf (node_map tree.old) addr.id parent }
+    ensures inserted { IfOk result (λ b. InsertsAt tree.old tree.new addr K.cmp b item) }
+    ensures returned { IfErr result (λ r. (r.key, r.value) ≡ item) }
+    ensures refused { IfErr result (λ r. IsRefusedAt tree.old tree.new addr C.MayRefuse r.cause) }
+{
+    let count = need_above(tree, addr.id, parent);
+    insert_and_split(tree, addr, item, count)
 }
 
 // Does the same by way of the address in a leaf.

@@ -5,7 +5,7 @@ use btree_map::BTreeMap;
 use btree_node::Node;
 use btree_nodes::NodesMut;
 use btree_store::SlabStore;
-use btree_walk::is_valid_range;
+use btree_walk::{Range, is_valid_range};
 use std::ops::Bound;
 use std::process::Abort;
 
@@ -28,6 +28,19 @@ fn even_keys<C: NodesMut<u64, u64> + Drop>(
 // Returns what the pair of a key is.
 fn pair_of(key: u64) -> Option<(u64, u64)> {
     Some((key, key.wrapping_mul(10)))
+}
+
+// Checks that a range has no pairs left, from either end, and stays so.
+fn assert_ended<C: NodesMut<u64, u64>>(rt: &impl Abort, pairs: Range<'_, u64, u64, C>) {
+    let mut pairs = pairs;
+    for _ in 0..2 {
+        assert_same(
+            rt,
+            (copied(pairs.next()), copied(pairs.next_back())),
+            (None, None),
+        );
+        assert_same(rt, pairs.size_hint(), (0, None));
+    }
 }
 
 // Checks that a range has these keys, from the front, from the back, and in turn from both.
@@ -65,15 +78,8 @@ fn assert_range<C: NodesMut<u64, u64>>(
         }
         is_front = !is_front;
     }
-    for mut pairs in [forward, backward, in_turn] {
-        for _ in 0..2 {
-            assert_same(
-                rt,
-                (copied(pairs.next()), copied(pairs.next_back())),
-                (None, None),
-            );
-            assert_same(rt, pairs.size_hint(), (0, None));
-        }
+    for pairs in [forward, backward, in_turn] {
+        assert_ended(rt, pairs);
     }
 }
 

@@ -1,5 +1,5 @@
 -- Single nodes of a store, changed, as a map of nodes sees them.
-use Rattle.std.proofs.Common.{◌≡◌, ℕ, ◌<◌, ◌≤◌, ◌^◌, ◌-◌, Option, Some, None, IsSomeAnd, false, length, arith, refl, sym, ap, ◌∙◌, option_map}
+use Rattle.std.proofs.Common.{◌≡◌, ℕ, ◌<◌, ◌≤◌, ◌^◌, ◌-◌, Option, Some, None, IsSomeAnd, false, length, arith, refl, sym, subst, ap, ◌∙◌, option_map}
 use Rattle.std.specs.FinMap as map
 use Rattle.btree_store.specs.Content.{Content}
 use Rattle.btree_item.specs.Offset.{index_offset}
@@ -7,6 +7,7 @@ use Rattle.btree_node.specs.declared.node.Node.{Node}
 use Rattle.btree_view.specs.Edits.{HasChildFor, is_internal, IsOverflowing, IsSplit, with_item, with_item_at}
 use Rattle.btree_node.specs.Node.{view_of}
 use Rattle.btree_view.specs.View.{View, NodeMap, leaf, internal, children_of, most_of, size_of}
+use Rattle.btree_shape.specs.Place.{IsLeaf}
 use Rattle.btree_shape.specs.TreeState.{views}
 use Rattle.btree_raw.specs.Steps.{AddsItem, CanAddItem, Overflows, CutsAtMedian, HasCount}
 use Rattle.btree_shape.proofs.Places.Untouched.{other-test}
@@ -28,6 +29,10 @@ pub childless : {A : Type 0} (v : View A) → length (children_of v) ≤ 0 → f
 childless (leaf p xs) none = refl
 childless (internal p u bs) none = absurd (omega arith)
 
+leaf-of : {A : Type 0} (node_at : NodeMap A) (v : View A) → length (children_of v) ≤ 0 → IsLeaf node_at (Some v)
+leaf-of node_at (leaf p xs) none = tt
+leaf-of node_at (internal p u bs) none = absurd (omega arith)
+
 module _ {K V : Type 0} where
   module _ (nodes : Content (Node K V)) (id : ℕ) (node : Node K V) (at : Some node ≡ map.get nodes id) where
     -- what `insert` of a node requires
@@ -47,6 +52,9 @@ module _ {K V : Type 0} where
       within = within;
       kind = childless (view_of node) (omega arith);
     }
+
+    pub leaf-there : (count : ℕ) → count ≡ length (children_of (view_of node)) → count ≤ 0 → IsLeaf (views nodes) (views nodes id)
+    leaf-there count is none = subst (λ v. IsLeaf (views nodes) v) (ap (option_map view_of) at) (leaf-of (views nodes) (view_of node) (omega arith))
 
     -- an item was added
     pub adds : (new : Node K V) (index : ℕ) (x : K × V) (child o : Option ℕ) → o ≡ index_offset index → CanAddItem (views nodes) id index child

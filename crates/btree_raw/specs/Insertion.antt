@@ -12,17 +12,24 @@ use Rattle.btree_item.specs.declared.refused.Cause.{Cause}
 use Rattle.btree_item.specs.declared.refused.Cause.TheVariants.{Store, Count}
 use Rattle.btree_node.specs.declared.node.Node.{Node}
 use Rattle.btree_view.specs.View.{View, NodeMap, most_of, size_of}
+use Rattle.btree_shape.specs.Place.{IsLeaf}
 use Rattle.btree_shape.specs.TreeState.{TreeState, Changes, IsBTreeButLength, IsOffByOneAt, IsPlaceIn, IsValidIn, item_of, node_map, nodes_for_splits, nodes_needed, pairs_of}
 use Rattle.btree_raw.specs.Claimed.{EMPTY, MayRefuseOneOf}
 use Rattle.btree_raw.specs.Raw.{Refuses}
 use Rattle.btree_raw.specs.Rebalance.{IsRebalanced}
-use Rattle.btree_raw.specs.Steps.{AddsItem, CanAddItem, Overflows}
+use Rattle.btree_raw.specs.Steps.{AddsItem, CanAddItem, HasParent, Overflows}
 
 -- node `id` has no room for an item, unless it is split
 pub record IsFull {A : Type 0} (node_at : NodeMap A) (id : ℕ) : Type 0 where
   pub node : View A
   pub here : node_at id ≡ Some node
   pub full : most_of node ≤ size_of node
+
+-- node `id` is a leaf without room, and names this parent
+pub record IsFullLeaf {A : Type 0} (node_at : NodeMap A) (id : ℕ) (parent : Option ℕ) : Type 0 where
+  pub full : IsFull node_at id
+  pub leaf : IsLeaf node_at (node_at id)
+  pub named : HasParent node_at id parent
 
 module _ {K V : Type 0} where
   -- the item x was put at address a, which is at an index of a node, and a child after it exactly in an internal node;

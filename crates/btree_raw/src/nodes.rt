@@ -1,5 +1,5 @@
 //! Changes of single nodes.
-ghost use Rattle.std.specs.Prelude.{◌≡◌, ◌<◌, ◌≤◌, ◌∷◌, ◌++◌, [], None, Some, OnOk, IfErr, OnErr};
+ghost use Rattle.std.specs.Prelude.{◌≡◌, ◌<◌, ◌≤◌, ◌∷◌, ◌++◌, [], None, Some, OnOk, IfErr, IfSome, OnErr};
 ghost use Rattle.std.specs.FinMap as map;
 ghost use Rattle.btree_node.specs.declared.node.Node.{Node};
 ghost use Rattle.btree_node.specs.Node.{view_of};
@@ -7,7 +7,7 @@ ghost use Rattle.btree_view.specs.View.{children_in, children_of, size_of};
 ghost use Rattle.btree_shape.specs.Step.{Reparents, Splits, WritesNode};
 ghost use Rattle.btree_shape.specs.TreeState.{Changes, IsUsed, KeepsRest, node_map, nodes_for_splits};
 ghost use Rattle.btree_raw.specs.Steps.{AddsAndCuts, AddsItem, AddsSeparatorAndCuts, AreThere, CanAddItem, CanAddSeparator, CanCut, CanCutAbove, CanCutWith, CanReparent, HasCount, HasParent, LeavesPart, MayCut, Overflows, SetsParent};
-ghost use Rattle.btree_raw.specs.Insertion.{IsFull};
+ghost use Rattle.btree_raw.specs.Insertion.{IsFull, IsFullLeaf};
 
 use crate::claims::{ClaimedIds, empty_leaf, take_claim};
 use crate::raw::RawBTree;
@@ -68,27 +68,33 @@ pub fn add_item_in_room<K: Drop, V: Drop, C: NodesMut<K, V>>(
     Ok(())
 }
 
-/// Inserts an item into a node at an index, if the node is a leaf that is not full. Returns the item, and nothing changes, if it is not. It
-/// fetches the node once.
+/// Inserts an item into a node at an index, if the node is a leaf that is not full. Otherwise it returns the item, and nothing changes: with
+/// the leaf's parent if the node is a full leaf, and with `None` if it is an internal node. It fetches the node once.
 pub fn add_item_at_leaf<K: Drop, V: Drop, C: NodesMut<K, V>>(
     tree: &mut RawBTree<K, V, C>,
     id: usize,
     index: usize,
     item: Item<K, V>,
-) -> Result<(), Item<K, V>>
+) -> Result<(), (Item<K, V>, Option<Option<usize>>)>
     requires used { IsUsed tree.old id }
     requires within { (node : Node K V) → map.get tree.old.nodes id ≡ Some node
         → index ≤ size_of (view_of node) }
     ensures can { OnOk result (CanAddItem (node_map tree.old) id index None) }
     ensures added { OnOk result (Changes (λ a b. AddsItem a b id index item None) tree.old tree.new) }
     ensures enough { OnOk result (nodes_for_splits tree.old id ≡ 0) }
-    ensures returned { IfErr result (λ back. back ≡ item) }
+    ensures returned { IfErr result (λ back. back.0 ≡ item) }
+    ensures full { IfErr result (λ back.
+        IfSome back.1 (λ parent. IsFullLeaf (node_map tree.old) id parent)) }
     ensures unchanged { OnErr result (tree.new ≡ tree.old) }
 {
     tree.tell_fits();
     let node = tree.node_mut(id);
-    if node.child_count() > 0 || node.is_full() {
-        return Err(item);
+    if node.child_count() > 0 {
+        return Err((item, None));
+    }
+    if node.is_full() {
+        let parent = node.parent();
+        return Err((item, Some(parent)));
     }
     node.insert(Offset::from(index), item, None);
     Ok(())

@@ -1,6 +1,9 @@
-use Rattle.std.proofs.Common.{None, refl, sym}
-use Rattle.btree_raw.proofs.NeedLemmas.{not-full, room-no_split}
-use Rattle.btree_raw.proofs.StepLemmas.{adds, leaf-can, take-room}
+use Rattle.std.proofs.Common.{None, ap, option_map, refl, sym}
+use Rattle.btree_node.specs.Node.{view_of}
+use Rattle.btree_raw.proofs.FetchedLemmas.{parent-there}
+use Rattle.btree_raw.proofs.LastLemmas.{same-state}
+use Rattle.btree_raw.proofs.NeedLemmas.{is-full, not-full, room-no_split}
+use Rattle.btree_raw.proofs.StepLemmas.{adds, leaf-can, leaf-there, take-room}
 use Rattle.btree_raw.proofs.nodes.add_item_at_leaf.Goals as goal
 
 pub node_mut-node-requires : goal.node_mut-node-requires
@@ -28,3 +31,22 @@ pub returns-clause-enough : goal.returns-clause-enough
 returns-clause-enough g c =
     room-no_split c.args.tree.now c.args.id c.node_mut-node.result.now c.node_mut-node.ensures.value
     (not-full c.node_mut-node.result.now c.if-is_full.ensures)
+
+pub parent-parent-requires : goal.parent-parent-requires
+parent-parent-requires g c = c.tell_fits.ensures
+
+pub returns-then-is_full-clause-full : goal.returns-then-is_full-clause-full
+returns-then-is_full-clause-full g c = record {
+  full = record {
+    node = view_of c.node_mut-node.result.now;
+    here = ap (option_map view_of) (sym c.node_mut-node.ensures.value);
+    full = is-full c.node_mut-node.result.now c.if-is_full.ensures;
+  };
+  leaf = leaf-there c.args.tree.now.nodes c.args.id c.node_mut-node.result.now c.node_mut-node.ensures.value c.child_count.result c.child_count.ensures.value c.if-child_count-gt0.false;
+  named = parent-there c.args.tree.now.nodes c.args.id c.node_mut-node.result.now (sym c.node_mut-node.ensures.value) c.parent-parent.result
+    c.parent-parent.ensures.value;
+}
+
+pub returns-then-is_full-clause-unchanged : goal.returns-then-is_full-clause-unchanged
+returns-then-is_full-clause-unchanged g c =
+    same-state c.args.tree.now c.args.id c.node_mut-node.result.now c.node_mut-node.result.now c.node_mut-node.ensures.value refl

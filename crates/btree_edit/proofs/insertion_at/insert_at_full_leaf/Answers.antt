@@ -1,0 +1,32 @@
+use Rattle.std.proofs.Common.{inl}
+use Rattle.std.proofs.lemmas.Result.{IfErr-weaker, IfOk-weaker}
+use Rattle.btree_find.proofs.LeafLemmas.{leaf-same}
+use Rattle.btree_edit.proofs.InsertAtLemmas.{gap-at-leaf, inserts-at}
+use Rattle.btree_edit.proofs.insertion_at.insert_at_full_leaf.Goals as goal
+
+pub need_above-count-requires-clause-full : goal.need_above-count-requires-clause-full
+need_above-count-requires-clause-full g c = c.requires.full.full
+
+pub need_above-count-requires-clause-parent : goal.need_above-count-requires-clause-parent
+need_above-count-requires-clause-parent g c = c.requires.full.named
+
+pub insert_and_split-requires-clause-gap : goal.insert_and_split-requires-clause-gap
+insert_and_split-requires-clause-gap g c =
+    let here = leaf-same g.K.Ord.cmp g.met.K.Ord.total c.args.tree.now c.requires.tree c.args.addr c.requires.valid (inl c.requires.full.leaf) in
+    gap-at-leaf g.K.Ord.cmp g.met.K.Ord.total c.args.tree.now c.requires.tree c.args.item c.args.addr c.requires.fits
+    c.args.addr here c.requires.back
+
+pub returns-clause-inserted : goal.returns-clause-inserted
+returns-clause-inserted g c =
+    let here = leaf-same g.K.Ord.cmp g.met.K.Ord.total c.args.tree.now c.requires.tree c.args.addr c.requires.valid (inl c.requires.full.leaf) in
+    IfOk-weaker c.insert_and_split.result _ _
+    (inserts-at g.K.Ord.cmp g.met.K.Ord.total c.args.tree.now c.requires.tree c.args.item c.args.addr c.requires.fits
+    c.args.addr here c.insert_and_split.new.tree)
+    c.insert_and_split.ensures.inserted
+
+pub returns-clause-refused : goal.returns-clause-refused
+returns-clause-refused g c =
+    let here = leaf-same g.K.Ord.cmp g.met.K.Ord.total c.args.tree.now c.requires.tree c.args.addr c.requires.valid (inl c.requires.full.leaf) in
+    IfErr-weaker c.insert_and_split.result _ _
+    (λ r refused. record { leaf = c.args.addr; leaf_for = here; refused = refused })
+    c.insert_and_split.ensures.refused
