@@ -144,7 +144,8 @@ fn moves_the_tail_of_slots(rt: HostRuntime) {
     assert_same(&rt, (slots.get(0), slots.get(1)), (Some(&1), None));
     assert_same(&rt, (others.get(0), others.get(1)), (Some(&9), Some(&2)));
     let tail = others.split_off(2);
-    assert_same(&rt, (others.len(), tail.get(0)), (2, Some(&3)));
+    assert_same(&rt, (others.len(), tail.len()), (2, 1));
+    assert_same(&rt, tail.get(0), Some(&3));
 }
 
 // Inserts a key at the index that a search returns, which keeps the keys in order.

@@ -113,6 +113,7 @@ fn inserts_at_an_address(rt: HostRuntime) -> Result<(), Fail> {
         (9, 9, 8, 3, "1 3 5 7 8 9 11 13 15 17 "),
         (9, 10, 10, 3, "1 3 5 7 9 10 11 13 15 17 "),
         (9, 18, 18, 3, "1 3 5 7 9 11 13 15 17 18 "),
+        (13, 26, 26, 4, "1 3 5 7 9 11 13 15 17 19 21 23 25 26 "),
     ] {
         check_inserted::<Store>(&rt, rt.alloc(), row, rt.alloc())?;
     }

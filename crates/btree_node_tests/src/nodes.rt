@@ -112,11 +112,12 @@ fn splits_an_internal_node_of_eight(rt: HostRuntime) {
 fn splits_into_an_empty_leaf(rt: HostRuntime) {
     let mut node = Node::Leaf(leaf_of(&rt, 9));
     assert_true(&rt, node.is_overflowing());
-    let mut part = Node::Leaf(LeafNode::empty(None));
+    let mut part = Node::Leaf(LeafNode::empty(Some(9)));
     let (left, median) = node.split_into(&mut part);
     assert_same(&rt, (left, *median.key()), (4, 40));
     assert_same(&rt, (node.item_count(), part.item_count()), (4, 4));
-    assert_same(&rt, (part.parent(), part.child_count()), (Some(5), 0));
+    assert_same(&rt, (node.parent(), part.parent()), (Some(5), Some(5)));
+    assert_same(&rt, part.child_count(), 0);
     assert_same(&rt, (key_at(&node, 3), key_at(&node, 4)), (Some(30), None));
     assert_same(
         &rt,
@@ -129,11 +130,11 @@ fn splits_into_an_empty_leaf(rt: HostRuntime) {
 fn splits_an_internal_node_into_a_leaf(rt: HostRuntime) {
     let mut node = Node::Internal(internal_of(&rt, 8));
     assert_true(&rt, node.is_overflowing());
-    let mut part = Node::Leaf(LeafNode::empty(None));
+    let mut part = Node::Leaf(LeafNode::empty(Some(9)));
     let (left, median) = node.split_into(&mut part);
     assert_same(&rt, (left, *median.key()), (3, 30));
     assert_same(&rt, (node.child_count(), part.child_count()), (4, 5));
-    assert_same(&rt, part.parent(), Some(6));
+    assert_same(&rt, (node.parent(), part.parent()), (Some(6), Some(6)));
     assert_same(
         &rt,
         (key_at(&part, 0), key_at(&part, 3)),

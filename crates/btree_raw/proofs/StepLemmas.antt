@@ -6,7 +6,7 @@ use Rattle.btree_item.specs.Offset.{index_offset}
 use Rattle.btree_node.specs.declared.node.Node.{Node}
 use Rattle.btree_view.specs.Edits.{HasChildFor, is_internal, IsOverflowing, IsSplit, with_item, with_item_at}
 use Rattle.btree_node.specs.Node.{view_of}
-use Rattle.btree_view.specs.View.{View, NodeMap, leaf, internal, children_of, most_of, size_of}
+use Rattle.btree_view.specs.View.{View, NodeMap, leaf, internal, children_in, children_of, most_of, size_of}
 use Rattle.btree_shape.specs.Place.{IsLeaf}
 use Rattle.btree_shape.specs.TreeState.{views}
 use Rattle.btree_raw.specs.Steps.{AddsItem, CanAddItem, Overflows, CutsAtMedian, HasCount}
@@ -55,6 +55,9 @@ module _ {K V : Type 0} where
 
     pub leaf-there : (count : ℕ) → count ≡ length (children_of (view_of node)) → count ≤ 0 → IsLeaf (views nodes) (views nodes id)
     leaf-there count is none = subst (λ v. IsLeaf (views nodes) v) (ap (option_map view_of) at) (leaf-of (views nodes) (view_of node) (omega arith))
+
+    pub children-there : (count : ℕ) → count ≡ length (children_of (view_of node)) → 0 < count → 0 < length (children_in (views nodes id))
+    children-there count is some = subst (λ v. 0 < length (children_in v)) (ap (option_map view_of) at) (omega (arith, is, some))
 
     -- an item was added
     pub adds : (new : Node K V) (index : ℕ) (x : K × V) (child o : Option ℕ) → o ≡ index_offset index → CanAddItem (views nodes) id index child

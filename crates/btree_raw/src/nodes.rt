@@ -1,5 +1,5 @@
 //! Changes of single nodes.
-ghost use Rattle.std.specs.Prelude.{◌≡◌, ◌<◌, ◌≤◌, ◌∷◌, ◌++◌, [], None, Some, OnOk, IfErr, IfSome, OnErr};
+ghost use Rattle.std.specs.Prelude.{◌≡◌, ◌<◌, ◌≤◌, ◌∷◌, ◌++◌, [], None, Some, length, OnOk, IfErr, IfSome, IfNone, OnErr};
 ghost use Rattle.std.specs.FinMap as map;
 ghost use Rattle.btree_node.specs.declared.node.Node.{Node};
 ghost use Rattle.btree_node.specs.Node.{view_of};
@@ -85,6 +85,8 @@ pub fn add_item_at_leaf<K: Drop, V: Drop, C: NodesMut<K, V>>(
     ensures returned { IfErr result (λ back. back.0 ≡ item) }
     ensures full { IfErr result (λ back.
         IfSome back.1 (λ parent. IsFullLeaf (node_map tree.old) id parent)) }
+    ensures inner { IfErr result (λ back.
+        IfNone back.1 (0 < length (children_in (node_map tree.old id)))) }
     ensures unchanged { OnErr result (tree.new ≡ tree.old) }
 {
     tree.tell_fits();

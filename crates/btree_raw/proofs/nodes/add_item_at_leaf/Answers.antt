@@ -3,7 +3,7 @@ use Rattle.btree_node.specs.Node.{view_of}
 use Rattle.btree_raw.proofs.FetchedLemmas.{parent-there}
 use Rattle.btree_raw.proofs.LastLemmas.{same-state}
 use Rattle.btree_raw.proofs.NeedLemmas.{is-full, not-full, room-no_split}
-use Rattle.btree_raw.proofs.StepLemmas.{adds, leaf-can, leaf-there, take-room}
+use Rattle.btree_raw.proofs.StepLemmas.{adds, children-there, leaf-can, leaf-there, take-room}
 use Rattle.btree_raw.proofs.nodes.add_item_at_leaf.Goals as goal
 
 pub node_mut-node-requires : goal.node_mut-node-requires
@@ -50,3 +50,8 @@ returns-then-is_full-clause-full g c = record {
 pub returns-then-is_full-clause-unchanged : goal.returns-then-is_full-clause-unchanged
 returns-then-is_full-clause-unchanged g c =
     same-state c.args.tree.now c.args.id c.node_mut-node.result.now c.node_mut-node.result.now c.node_mut-node.ensures.value refl
+
+pub returns-then-child_count-gt0-clause-inner : goal.returns-then-child_count-gt0-clause-inner
+returns-then-child_count-gt0-clause-inner g c =
+    children-there c.args.tree.now.nodes c.args.id c.node_mut-node.result.now c.node_mut-node.ensures.value c.child_count.result c.child_count.ensures.value
+    c.if-child_count-gt0.true

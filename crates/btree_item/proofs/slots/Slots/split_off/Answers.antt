@@ -6,5 +6,5 @@ move_tail-requires g c =
     let fits = c.well_formed in
     let none = ap (λ xs. length xs) c.new-tail.ensures in (
       omega arith,
-      (c.requires, omega (arith, none, c.len-fits.ensures.fits, c.len-fits.ensures.value)),
+      (omega (arith, c.requires), omega (arith, none, c.len-fits.ensures.fits, c.len-fits.ensures.value)),
     )
