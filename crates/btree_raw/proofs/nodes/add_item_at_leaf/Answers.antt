@@ -44,7 +44,7 @@ returns-then-is_full-clause-full g c = record {
   };
   leaf = leaf-there c.args.tree.now.nodes c.args.id c.node_mut-node.result.now c.node_mut-node.ensures.value c.child_count.result c.child_count.ensures.value c.if-child_count-gt0.false;
   named = parent-there c.args.tree.now.nodes c.args.id c.node_mut-node.result.now (sym c.node_mut-node.ensures.value) c.parent-parent.result
-    c.parent-parent.ensures.value;
+      c.parent-parent.ensures.value;
 }
 
 pub returns-then-is_full-clause-unchanged : goal.returns-then-is_full-clause-unchanged
