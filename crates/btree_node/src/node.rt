@@ -351,13 +351,44 @@ impl<K: Drop, V: Drop> Node<K, V> {
         ensures offset { result ≡ Some (size_of (view_of self.old)) }
         ensures after { view_of self.new ≡ joined (view_of self.old) separator (view_of other) }
     {
+        let mut emptied = other;
+        self.append_from(separator, &mut emptied)
+    }
+
+    /// Appends the separator and then what the other node, of the same kind, holds, which has no items afterwards. Each item moves once, and
+    /// no node is passed by value. Returns the separator's offset. The order of the keys and the parents of the children are up to the
+    /// caller.
+    pub fn append_from(&mut self, separator: Item<K, V>, other: &mut Node<K, V>) -> Offset
+        requires kind { is_internal (view_of other.old) ≡ is_internal (view_of self.old) }
+        requires room { HaveRoom (view_of self.old) (view_of other.old) }
+        ensures offset { result ≡ Some (size_of (view_of self.old)) }
+        ensures after { view_of self.new ≡ joined (view_of self.old) separator (view_of other.old) }
+        ensures emptied { items_of (view_of other.new) ≡ [] }
+    {
         match self {
             Node::Internal(node) => match other {
-                Node::Internal(other) => node.append(separator, other),
+                Node::Internal(other) => node.append_from(separator, other),
                 Node::Leaf(_) => unreachable!(),
             },
             Node::Leaf(leaf) => match other {
-                Node::Leaf(other) => leaf.append(separator, other),
+                Node::Leaf(other) => leaf.append_from(separator, other),
+                Node::Internal(_) => unreachable!(),
+            },
+        }
+    }
+
+    /// Moves what a node holds into `part`, a leaf without items, which becomes the node that this one was. This one has no items
+    /// afterwards. Each item of a leaf moves once, and no leaf is passed by value.
+    pub fn move_into(&mut self, part: &mut Node<K, V>)
+        requires leaf { is_internal (view_of part.old) ≡ false }
+        requires empty { items_of (view_of part.old) ≡ [] }
+        ensures moved { part.new ≡ self.old }
+        ensures emptied { items_of (view_of self.new) ≡ [] }
+    {
+        match self {
+            Node::Internal(_) => mem::swap(self, part),
+            Node::Leaf(leaf) => match part {
+                Node::Leaf(part) => leaf.move_into(part),
                 Node::Internal(_) => unreachable!(),
             },
         }

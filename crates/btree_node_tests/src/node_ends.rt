@@ -90,6 +90,26 @@ fn joins_internal_nodes(rt: HostRuntime) {
     assert_same(&rt, node.parent(), Some(6));
 }
 
+// The other node stays where it is, and has no items afterwards.
+#[test]
+fn joins_by_reference(rt: HostRuntime) {
+    let mut leaf = Node::Leaf(leaf_of(&rt, &[0, 10, 20]));
+    let mut other = Node::Leaf(leaf_of(&rt, &[40, 50]));
+    assert_true(&rt, leaf.item_count() + other.item_count() <= 8);
+    assert_same(&rt, leaf.append_from(item(30), &mut other), Offset::from(3));
+    assert_true(&rt, is_node(&leaf, &[0, 10, 20, 30, 40, 50], &[]));
+    assert_same(&rt, other.item_count(), 0);
+    let mut node = Node::Internal(internal_of(&rt, &[10]));
+    let mut right = Node::binary(Some(9), 200, item(30), 201);
+    assert_true(&rt, node.item_count() + right.item_count() <= 7);
+    assert_same(&rt, node.append_from(item(20), &mut right), Offset::from(2));
+    assert_true(
+        &rt,
+        is_node(&node, &[0, 10, 20, 30], &[100, 101, 102, 200, 201]),
+    );
+    assert_same(&rt, right.item_count(), 0);
+}
+
 #[test]
 fn pushes_at_both_ends(rt: HostRuntime) {
     let mut leaf = Node::Leaf(leaf_of(&rt, &[10, 20]));

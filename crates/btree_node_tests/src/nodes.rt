@@ -147,6 +147,30 @@ fn splits_an_internal_node_into_a_leaf(rt: HostRuntime) {
     );
 }
 
+// The leaf becomes the node, which has no items afterwards.
+#[test]
+fn moves_into_an_empty_leaf(rt: HostRuntime) {
+    let mut leaf = Node::Leaf(leaf_of(&rt, 4));
+    let mut part = Node::Leaf(LeafNode::empty(Some(9)));
+    leaf.move_into(&mut part);
+    assert_same(&rt, (leaf.item_count(), part.item_count()), (0, 4));
+    assert_same(&rt, (part.parent(), part.child_count()), (Some(5), 0));
+    assert_same(
+        &rt,
+        (key_at(&part, 0), key_at(&part, 3)),
+        (Some(0), Some(30)),
+    );
+    let mut node = Node::Internal(internal_of(&rt, 3));
+    let mut whole = Node::Leaf(LeafNode::empty(Some(9)));
+    node.move_into(&mut whole);
+    assert_same(&rt, (node.item_count(), whole.item_count()), (0, 3));
+    assert_same(
+        &rt,
+        (whole.parent(), whole.child_id_opt(3)),
+        (Some(6), Some(103)),
+    );
+}
+
 #[test]
 fn tells_how_full_a_node_is(rt: HostRuntime) {
     assert_same(

@@ -2,6 +2,7 @@
 use Rattle.std.proofs.Common.{◌≡◌, ◌↔◌, ℕ, Bor, Option, Some, None, IsSome, refl, sym, ap, ◌∙◌, option_and_then, option_copied, arith}
 use Rattle.std.specs.FinMap as map
 use Rattle.btree_store.specs.Content.{Content}
+use Rattle.btree_store.specs.ContentLaws.{get-insert_other, get-remove_other, get-remove_same, is_remove}
 use Rattle.btree_node.specs.declared.node.Node.{Node}
 use Rattle.btree_item.specs.declared.address.Address.{Address}
 use Rattle.btree_view.specs.View.{View, item_in}
@@ -30,6 +31,12 @@ module _ {K V : Type 0} where
 
   pub nodes-of : {a b : TreeState K V} → a ≡ b → a.nodes ≡ b.nodes
   nodes-of e = let f : TreeState K V → Content (Node K V) = λ s. s.nodes in ap f e
+
+  -- what was written to a node before it is removed does not matter
+  pub remove-written : (nodes : Content (Node K V)) (id : ℕ) (node : Node K V) → map.remove (map.insert nodes id node) id ≡ map.remove nodes id
+  remove-written nodes id node =
+      is_remove nodes (map.remove (map.insert nodes id node) id) id (get-remove_same (map.insert nodes id node) id)
+      (λ q differs. get-remove_other (map.insert nodes id node) id q differs ∙ get-insert_other nodes id node q differs)
 
   -- a node was removed
   pub removed : {a b : TreeState K V} (id : ℕ) → b ≡ record a { nodes = map.remove a.nodes id } → KeepsRest a b

@@ -1,5 +1,6 @@
 //! The steps that fix an underflow.
 ghost use Rattle.std.specs.Prelude.{◌≡◌, ◌<◌, ◌≤◌, IfNone, IfOk, IfSome, None, OnErr, OnOk, Some, option_map};
+ghost use Rattle.std.specs.FinMap as map;
 ghost use Rattle.btree_node.specs.Node.{view_of};
 ghost use Rattle.btree_shape.specs.Lists.{as_list};
 ghost use Rattle.btree_shape.specs.Moved.{first_in};
@@ -7,9 +8,11 @@ ghost use Rattle.btree_shape.specs.SiblingSteps.{ShrinksRoot};
 ghost use Rattle.btree_shape.specs.Step.{RemovesNode, Reparents};
 ghost use Rattle.btree_shape.specs.TreeState.{Changes, IsUsed, node_map};
 ghost use Rattle.btree_shape.specs.UnderflowFix.{size_in};
+ghost use Rattle.btree_raw.specs.Claimed.{EMPTY};
 ghost use Rattle.btree_raw.specs.NodeSteps.{MergesSiblings, RotatesSiblingsLeft, RotatesSiblingsRight, HasRoomFor, HasRoomForAll, HasSeparator, LosesFirst, LosesLast, ChangesSeparator, GainsFirst, GainsLast, GainsAll, LosesSeparator, ClearsParent, CanRotateLeft, CanRotateRight, CanMerge, CanShrinkToFirst, IsThere};
 ghost use Rattle.btree_raw.specs.Steps.{HasCount};
 
+use crate::claims::empty_leaf;
 use crate::nodes::{adopt, set_parent};
 use crate::raw::RawBTree;
 use btree_item::{Item, LEAF_SLOTS, MIN_ITEMS, Offset};
@@ -113,19 +116,36 @@ fn take_separator<K: Drop, V: Drop, C: NodesMut<K, V>>(
     item
 }
 
-// Appends a separator, and then what another node holds, to a node. Returns how many items the node had.
+// Appends a separator, and then what another node holds, to a node. The other node has no items afterwards. Returns how many items the node
+// had.
 fn put_all<K: Drop, V: Drop, C: NodesMut<K, V>>(
     tree: &mut RawBTree<K, V, C>,
     id: usize,
     separator: Item<K, V>,
-    other: Node<K, V>,
+    other: &mut Node<K, V>,
 ) -> usize
-    requires { HasRoomForAll (node_map tree.old) id (view_of other) }
-    ensures gains { Changes (λ a b. GainsAll a b id separator (view_of other)) tree.old tree.new }
+    requires { HasRoomForAll (node_map tree.old) id (view_of other.old) }
+    ensures gains { Changes (λ a b. GainsAll a b id separator (view_of other.old)) tree.old tree.new }
     ensures count { HasCount (node_map tree.old) id result }
 {
     tree.tell_fits();
-    tree.node_mut(id).append(separator, other).unwrap()
+    tree.node_mut(id).append_from(separator, other).unwrap()
+}
+
+// Removes a node. What it held goes into `part`, which becomes that node. No leaf is passed by value.
+fn take_node<K: Drop, V: Drop, C: NodesMut<K, V>>(
+    tree: &mut RawBTree<K, V, C>,
+    id: usize,
+    part: &mut Node<K, V>,
+)
+    requires used { IsUsed tree.old id }
+    requires empty { part.old ≡ EMPTY }
+    ensures node { map.get tree.old.nodes id ≡ Some part.new }
+    ensures after { tree.new ≡ record tree.old { nodes = map.remove tree.old.nodes id } }
+{
+    tree.tell_fits();
+    tree.node_mut(id).move_into(part);
+    drop(tree.release_node(id));
 }
 
 // Sets the parent of a child that has moved, if there is one.
@@ -223,10 +243,11 @@ pub(crate) fn merge<K: Drop, V: Drop, C: NodesMut<K, V>>(
     tree.tell_fits();
     tree.tell_numbers();
     let down = take_separator(tree, siblings.parent, siblings.index);
-    let other = tree.release_node(siblings.right);
+    let mut other = empty_leaf();
+    take_node(tree, siblings.right, &mut other);
     let first = other.child_id_opt(0);
     adopt(tree, &other, siblings.left);
-    let held = put_all(tree, siblings.left, down, other);
+    let held = put_all(tree, siblings.left, down, &mut other);
     (held, first)
 }
 

@@ -1,40 +1,5 @@
-use Rattle.btree_node.proofs.NodeSizes.{fits-internal, fits-leaf}
-use Rattle.std.proofs.Common.{Some, ap, sym, ◌∙◌, arith}
-use Rattle.std.proofs.lemmas.List.{length-map}
+use Rattle.std.proofs.Common.{arith}
 use Rattle.btree_node.proofs.node.Node.append.Goals as goal
-use Rattle.std.proofs.lemmas.Grind.{common_steps}
 
-pub append-requires : goal.append-requires
-append-requires g c =
-    let fits = c.well_formed in
-    (search fits-internal, rw (c.in-Internal.is, c.in-Internal-other.is) at c.requires.room)
-
-pub append-requires-in-Leaf-other-2 : goal.append-requires-in-Leaf-other-2
-append-requires-in-Leaf-other-2 g c =
-    let fits = c.well_formed in
-    (search fits-leaf, rw (c.in-Leaf.is, c.in-Leaf-other-2.is) at c.requires.room)
-
-pub returns-in-Internal-other-clause-offset : goal.returns-in-Internal-other-clause-offset
-returns-in-Internal-other-clause-offset g c =
-    rw c.in-Internal.is (c.append.ensures.offset ∙ ap (λ n. Some n) (sym (length-map c.in-Internal.node.branches (λ b. b.0))))
-
-pub returns-in-Internal-other-clause-after : goal.returns-in-Internal-other-clause-after
-returns-in-Internal-other-clause-after g c = rw (c.in-Internal.is, c.in-Internal-other.is) c.append.ensures.after
-
-pub returns-in-Leaf-other-2-clause-offset : goal.returns-in-Leaf-other-2-clause-offset
-returns-in-Leaf-other-2-clause-offset g c = rw c.in-Leaf.is c.append-in-Leaf-other-2.ensures.offset
-
-pub returns-in-Leaf-other-2-clause-after : goal.returns-in-Leaf-other-2-clause-after
-returns-in-Leaf-other-2-clause-after g c = rw (c.in-Leaf.is, c.in-Leaf-other-2.is) c.append-in-Leaf-other-2.ensures.after
-
-pub unreachable-requires : goal.unreachable-requires
-unreachable-requires g c = grind (arith, common_steps) steps 300000
-
-pub unreachable-unreachable : goal.unreachable-unreachable
-unreachable-unreachable g c = grind (arith, common_steps) steps 300000
-
-pub unreachable-requires-in-Internal-other-2 : goal.unreachable-requires-in-Internal-other-2
-unreachable-requires-in-Internal-other-2 g c = grind (arith, common_steps) steps 300000
-
-pub unreachable-unreachable-in-Internal-other-2 : goal.unreachable-unreachable-in-Internal-other-2
-unreachable-unreachable-in-Internal-other-2 g c = grind (arith, common_steps) steps 300000
+pub array_drop-emptied-requires-2 : goal.array_drop-emptied-requires-2
+array_drop-emptied-requires-2 g c = let fits = c.well_formed in omega arith

@@ -2,7 +2,7 @@ use Rattle.std.proofs.Common.{◌≡◌, ◌∙◌, ◌++◌, ◌∷◌, ap, len
 use Rattle.std.proofs.lemmas.List.{length-map}
 use Rattle.btree_view.specs.View.{internal}
 use Rattle.btree_internal.proofs.ChangeLemmas.{length-pairs, pairs, pairs-joined}
-use Rattle.btree_internal.proofs.internal.InternalNode.append.Goals as goal
+use Rattle.btree_internal.proofs.internal.InternalNode.append_from.Goals as goal
 
 pub item_count-requires : goal.item_count-requires
 item_count-requires g c = omega arith
@@ -10,17 +10,17 @@ item_count-requires g c = omega arith
 pub offset_at-offset-requires : goal.offset_at-offset-requires
 offset_at-offset-requires g c = search rules steps 200000
 
-pub append-requires : goal.append-requires
-append-requires g c =
+pub move_tail-requires : goal.move_tail-requires
+move_tail-requires g c =
     let fits = c.well_formed in
     let long : length (pairs c.self.inside.branches) ≡ length c.args.self.now.branches = ap (λ n. length n.branches) c.self.view_is in
-    let more : length (pairs c.other.inside.branches) ≡ length c.args.other.branches = ap (λ n. length n.branches) c.other.view_is in
+    let more : length (pairs c.other.inside.branches) ≡ length c.args.other.now.branches = ap (λ n. length n.branches) c.other.view_is in
     let mine = length-pairs c.self.inside.branches in
     let own = length-map c.args.self.now.branches (λ b. b.0) in
-    let others = length-map c.args.other.branches (λ b. b.0) in
+    let others = length-map c.args.other.now.branches (λ b. b.0) in
     let its = length-pairs c.other.inside.branches in
     let pushed = ap length c.push.ensures ∙ length-append c.self.inside.branches _ in
-    (omega arith, omega (arith, long, more, mine, its, own, others, pushed, c.requires))
+    (omega arith, (omega arith, omega (arith, long, more, mine, its, own, others, pushed, c.requires)))
 
 pub returns-clause-offset : goal.returns-clause-offset
 returns-clause-offset g c = search rules steps 200000
@@ -32,6 +32,6 @@ returns-clause-after g c =
     let mine = ap (λ n. n.branches) c.self.view_is in
     let its = ap (λ n. n.branches) c.other.view_is in
     let child = ap (λ n. n.first) c.other.view_is in
-    let all = pairs-joined c.self.inside.branches c.other.inside.branches c.push.new.self c.append.new.self (record { item = c.args.separator; child = c.other.inside.first }) c.push.ensures c.append.ensures in
+    let all = pairs-joined c.self.inside.branches c.other.inside.branches c.push.new.self c.move_tail.new.to (record { item = c.args.separator; child = c.other.inside.first }) c.push.ensures c.move_tail.ensures.moved in
     let both = all ∙ (λ j. mine j ++ (c.args.separator, child j) ∷ its j) in
     λ j. internal (parent j) (first j) (both j)

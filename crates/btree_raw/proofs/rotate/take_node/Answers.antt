@@ -1,0 +1,12 @@
+use Rattle.std.proofs.Common.{◌∙◌}
+use Rattle.btree_store.specs.ContentLaws.{insert-used}
+use Rattle.btree_raw.proofs.StateLemmas.{remove-written}
+use Rattle.btree_raw.proofs.rotate.take_node.Goals as goal
+
+pub release_node-requires : goal.release_node-requires
+release_node-requires g c = (c.tell_fits.ensures, insert-used c.args.tree.now.nodes c.args.id c.move_into.new.self c.args.id c.requires.used)
+
+pub returns-clause-after : goal.returns-clause-after
+returns-clause-after g c =
+    c.release_node.ensures.after
+    ∙ (λ i. record c.args.tree.now { nodes = remove-written c.args.tree.now.nodes c.args.id c.move_into.new.self i })
