@@ -13,7 +13,7 @@ use std::mem;
 #[derive(Drop)]
 pub struct Slots<T, const N: usize> {
     // The number of values. A list keeps its own after its last slot: this one lies before the first, so that a look-up need not read
-    // that far.
+    // that far, and an edit need not wait for it.
     len: usize,
     slots: ArrayVec<Option<T>, N>,
 }
@@ -91,7 +91,7 @@ impl<T: Drop, const N: usize> Slots<T, N> {
         ensures { self.new ≡ self.old ++ value ∷ [] }
     {
         self.slots.push(Some(value));
-        self.len = self.slots.len();
+        self.len += 1;
     }
 
     /// Inserts a value at an index, and moves those from there on right by one. There must be room for it.
@@ -100,8 +100,8 @@ impl<T: Drop, const N: usize> Slots<T, N> {
         requires room { length self.old < N }
         ensures { self.new ≡ insert self.old index value }
     {
-        insert_slot(&mut self.slots, index, Some(value));
-        self.len = self.slots.len();
+        insert_slot(&mut self.slots, self.len, index, Some(value));
+        self.len += 1;
     }
 
     /// Removes and returns the value at an index, and moves those after it left by one.
@@ -110,8 +110,8 @@ impl<T: Drop, const N: usize> Slots<T, N> {
         ensures answer { slice_get self.old index ≡ Some result }
         ensures after { self.new ≡ remove self.old index }
     {
-        let slot = remove_slot(&mut self.slots, index);
-        self.len = self.slots.len();
+        let slot = remove_slot(&mut self.slots, self.len, index);
+        self.len -= 1;
         slot.unwrap()
     }
 
@@ -120,10 +120,11 @@ impl<T: Drop, const N: usize> Slots<T, N> {
         ensures answer { result ≡ slice_get self.old (length self.old - 1) }
         ensures after { self.new ≡ take (length self.old - 1) self.old }
     {
-        let last = self.slots.pop();
-        self.len = self.slots.len();
-        match last {
-            Some(slot) => slot,
+        match self.slots.pop() {
+            Some(slot) => {
+                self.len -= 1;
+                slot
+            }
             None => None,
         }
     }
@@ -157,23 +158,24 @@ impl<T: Drop, const N: usize> Slots<T, N> {
         ensures moved { to.new ≡ to.old ++ drop at self.old }
         ensures left { self.new ≡ take at self.old }
     {
-        move_slots(&mut self.slots, at, &mut to.slots);
-        self.len = self.slots.len();
-        to.len = to.slots.len();
+        move_slots(&mut self.slots, self.len, at, &mut to.slots);
+        to.len += self.len - at;
+        self.len = at;
     }
 }
 
-// Inserts a slot. Each slot from the index on moves once.
+// Inserts a slot into a list of this length. Each slot from the index on moves once.
 fn insert_slot<T: Drop, const N: usize>(
     slots: &mut ArrayVec<Option<T>, N>,
+    len: usize,
     index: usize,
     slot: Option<T>,
 )
+    requires len { len ≡ length slots.old.items }
     requires within { index ≤ length slots.old.items }
     requires room { length slots.old.items < N }
     ensures { slots.new.items ≡ insert slots.old.items index slot }
 {
-    let len = slots.len();
     let mut carried = slot;
     for i in index..len {
         carried = mem::replace(&mut slots.as_mut_slice()[i], carried);
@@ -181,17 +183,19 @@ fn insert_slot<T: Drop, const N: usize>(
     slots.push(carried);
 }
 
-// Removes a slot. Each slot after it moves once, from the last one on.
+// Removes a slot of a list of this length. Each slot after it moves once, from the last one on.
 fn remove_slot<T: Drop, const N: usize>(
     slots: &mut ArrayVec<Option<T>, N>,
+    len: usize,
     index: usize,
 ) -> Option<T>
-    requires { index < length slots.old.items }
+    requires len { len ≡ length slots.old.items }
+    requires within { index < length slots.old.items }
     ensures answer { slice_get slots.old.items index ≡ Some result }
     ensures after { slots.new.items ≡ remove slots.old.items index }
 {
     let mut carried = slots.pop().unwrap();
-    let mut i = slots.len();
+    let mut i = len - 1;
     while i > index {
         i -= 1;
         carried = mem::replace(&mut slots.as_mut_slice()[i], carried);
@@ -213,18 +217,19 @@ fn append_to<T: Drop, const N: usize>(
     }
 }
 
-// Moves the slots from an index on to the end of another list.
+// Moves the slots of a list of this length from an index on to the end of another list.
 fn move_slots<T: Drop, const N: usize>(
     slots: &mut ArrayVec<Option<T>, N>,
+    len: usize,
     at: usize,
     to: &mut ArrayVec<Option<T>, N>,
 )
+    requires len { len ≡ length slots.old.items }
     requires within { at ≤ length slots.old.items }
     requires room { length to.old.items + (length slots.old.items - at) ≤ N }
     ensures moved { to.new.items ≡ to.old.items ++ drop at slots.old.items }
     ensures left { slots.new.items ≡ take at slots.old.items }
 {
-    let len = slots.len();
     for i in at..len {
         to.push(slots.as_mut_slice()[i].take());
     }

@@ -11,7 +11,7 @@ has_room to to_old xs xs_old i at n rest same more room =
 pub push-requires : goal.push-requires
 push-requires g c =
     let fits = c.well_formed in
-    let more : c.loop-i.i < length c.loop-i.slots.items = (let s = c.loop-i.invariant.same in let t = c.loop-i-test.true in let l = c.len-len.ensures.value in omega (arith, s, t, l)) in (
+    let more : c.loop-i.i < length c.loop-i.slots.items = (let s = c.loop-i.invariant.same in let t = c.loop-i-test.true in let l = c.requires.len in omega (arith, s, t, l)) in (
       omega arith,
       has_room _ _ _ _ _ _ _ c.loop-i.invariant.rest c.loop-i.invariant.same more c.requires.room,
     )
