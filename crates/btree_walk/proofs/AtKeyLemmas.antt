@@ -1,16 +1,13 @@
 -- A walk down to a key: what one node passes on to the next.
-use Rattle.std.proofs.Common.{◌≡◌, true, ◌-◌, ◌<◌, ℕ, zero, suc, ◌+◌, ◌≤◌, List, [], ◌∷◌, ◌++◌, length, map, drop, slice_get, Option, Some, None, Result, Ok, Err, IsSome, refl, sym, ap, subst, ◌∙◌, arith, append_assoc}
+use Rattle.std.proofs.Common.{◌≡◌, ℕ, zero, suc, ◌+◌, ◌≤◌, List, [], ◌∷◌, ◌++◌, length, map, drop, slice_get, Option, Some, None, Result, Ok, Err, IsSome, refl, sym, ap, subst, ◌∙◌, arith, append_assoc}
 use Rattle.std.proofs.lemmas.List.{length-map}
-use Rattle.std.proofs.lemmas.Option.{slice_get_within}
 use Rattle.std.specs.Cmp.{IsTotalOrder}
 use Rattle.std.specs.List.{AllByRecursion}
 use Rattle.std.specs.declared.cmp.Ordering.{Ordering}
-use Rattle.std.specs.Ordering.{is_lt}
-use Rattle.std.specs.declared.cmp.Ordering.TheVariants.{Equal, Greater, Less}
-use Rattle.btree_item.specs.Pairs.{Ascends, KeyFits, place_of}
-use Rattle.btree_item.proofs.PairEdits.{before-from_KeyFits, found-from_KeyFits}
+use Rattle.std.specs.declared.cmp.Ordering.TheVariants.{Equal, Less}
+use Rattle.btree_item.specs.Pairs.{place_of}
 use Rattle.btree_view.specs.LookUp.{placed}
-use Rattle.btree_view.specs.View.{NodeMap, View, children_of, internal, items_of, leaf}
+use Rattle.btree_view.specs.View.{NodeMap, View, internal, items_of, leaf}
 use Rattle.btree_shape.specs.Remaining.{IsUnder, remaining_in}
 use Rattle.btree_shape.specs.Represents.{represented}
 use Rattle.btree_shape.proofs.LookUp.Descent.{map-parts}
@@ -18,7 +15,7 @@ use Rattle.btree_shape.proofs.LookUp.KeyInList.{AreAbove, AreBelow, Rises, above
 use Rattle.btree_shape.proofs.LookUp.Walk.{under-internal, under-leaf}
 use Rattle.btree_shape.proofs.Paths.Frames.{AllByRecursion-append, AllByRecursion-right}
 use Rattle.btree_find.proofs.SearchLemmas.{placed-ok}
-use Rattle.btree_walk.specs.AtKey.{below_place, up_to_in, up_to_place}
+use Rattle.btree_walk.specs.AtKey.{below_place, up_to_place}
 use Rattle.btree_walk.specs.Preceding.{preceding_in, with_child_before}
 use Rattle.btree_walk.proofs.RowLemmas.{turned}
 
@@ -47,43 +44,6 @@ up_to-ok r children offset index e at =
 pub up_to-err : (r : Result ℕ ℕ) (children : List ℕ) (gap : ℕ × Option ℕ) → Err gap ≡ placed r children → gap ≡ up_to_place r children
 up_to-err (Ok i) children gap e = absurd (cc)
 up_to-err (Err i) children gap e = cc
-
--- a key that fits at a place in a node: the walk goes on in the child there
-pub up_to-fits : {K V : Type 0} (cmp : K → K → Ordering) → IsTotalOrder cmp → (k : K) (index : ℕ) (node : View (K × V))
-    → Ascends cmp (items_of node) → KeyFits cmp k index (items_of node)
-    → ◌≡◌ {A = ℕ × Option ℕ} (index, slice_get (children_of node) index) (up_to_in cmp k node)
-up_to-fits cmp laws k index node up fits =
-    rw (found-from_KeyFits cmp laws k index (items_of node) up fits, before-from_KeyFits cmp laws k index (items_of node) up fits) refl
-
-less-from : (o : Ordering) → is_lt o ≡ true → o ≡ Less
-less-from Less e = refl
-less-from Equal e = absurd (cc)
-less-from Greater e = absurd (cc)
-
--- a key between that of the item before a place, if there is one, and that of the item there, if there is one
-module _ {K V : Type 0} (cmp : K → K → Ordering) (k : K) (xs : List (K × V)) (p : ℕ) where
-  pub fits-first : p ≡ 0 → ((x : K × V) → slice_get xs p ≡ Some x → cmp k x.0 ≡ Less) → KeyFits cmp k p xs
-  fits-first none below = record { within = omega arith; above = λ q x at here. absurd (omega arith); below = below }
-
-  pub fits-after : (y : K × V) → 0 < p → slice_get xs (p - 1) ≡ Some y → is_lt (cmp y.0 k) ≡ true
-      → ((x : K × V) → slice_get xs p ≡ Some x → cmp k x.0 ≡ Less) → KeyFits cmp k p xs
-  fits-after y some here low below =
-      record {
-        within = let i = slice_get_within xs (p - 1) y here in omega arith;
-        above = λ q x at get.
-            let index : q ≡ p - 1 = omega arith in
-            let same : y ≡ x = cc in
-            rw (← same) (less-from (cmp y.0 k) low);
-        below = below;
-      }
-
-  pub below-item : (y : K × V) → slice_get xs p ≡ Some y → is_lt (cmp k y.0) ≡ true → (x : K × V) → slice_get xs p ≡ Some x → cmp k x.0 ≡ Less
-  below-item y here high x get =
-      let same : y ≡ x = cc in
-      rw (← same) (less-from (cmp k y.0) high)
-
-  pub below-end : slice_get xs p ≡ None → (x : K × V) → slice_get xs p ≡ Some x → cmp k x.0 ≡ Less
-  below-end none x get = absurd (cc)
 
 -- the two parts of a pair
 pub pair-left : {X Y : Type 0} (x u : X) (y v : Y) → ◌≡◌ {A = X × Y} (x, y) (u, v) → x ≡ u

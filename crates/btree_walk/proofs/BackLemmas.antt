@@ -5,7 +5,6 @@ use Rattle.std.specs.Borrow.{Bor}
 use Rattle.std.specs.List.{AllByRecursion}
 use Rattle.std.specs.FinMap as finite
 use Rattle.btree_store.specs.Content.{Content}
-use Rattle.btree_leaf.specs.Leaf.{Leaf}
 use Rattle.btree_node.specs.declared.node.Node.{Node}
 use Rattle.btree_node.specs.Node.{view_of}
 use Rattle.btree_view.specs.View.{View, leaf, internal, items_of, children_of, size_of}
@@ -14,15 +13,8 @@ use Rattle.btree_shape.specs.TreeState.{views}
 use Rattle.btree_shape.specs.Remaining.{IsUnder}
 use Rattle.btree_shape.proofs.LookUp.Walk.{under-leaf}
 use Rattle.btree_walk.specs.declared.ancestors.Ancestor.{Ancestor}
-use Rattle.btree_walk.specs.Preceding.{AreRowsBefore, EndsAt, HasKept, branches_before, preceding_above, preceding_in, row_before, rows_before, with_child_before}
+use Rattle.btree_walk.specs.Preceding.{AreRowsBefore, EndsAt, branches_before, preceding_above, preceding_in, row_before, rows_before, with_child_before}
 use Rattle.btree_walk.proofs.RowLemmas.{all-more, before-get, before-length, before-pop, before-push, get-within, inside-before, none-last, preceding-more, preceding-push, split-last, take-more}
-
--- the last element of what a leaf has left is the last of all
-pub above-last : {X : Type 0} (above items others : List X) (x : X) → items ≡ others ++ x ∷ [] → above ++ items ≡ (above ++ others) ++ x ∷ []
-above-last above items others x last = ap (λ l. above ++ l) last ∙ sym (append_assoc above others (x ∷ []))
-
-pub above-none : {X : Type 0} (above items : List X) → items ≡ [] → above ++ items ≡ above
-above-none above items none = ap (λ l. above ++ l) none ∙ append-nil above
 
 module _ {A : Type 0} where
   -- nothing is passed yet
@@ -66,11 +58,6 @@ module _ {A : Type 0} (v : View A) (passed : ℕ) (item : Bor A) (child count : 
   row-at e f =
       row-some v passed item child (omega arith) (subst (λ n. slice_get (items_of v) (n - passed - 1) ≡ Some item.now) counted e)
       (subst (λ n. slice_get (children_of v) (n - passed - 1) ≡ Some child) counted f)
-
--- one item of a leaf less
-pub kept-less : {K V : Type 0} (l : Option (Bor (Leaf K V))) (kept : ℕ) → HasKept l kept → HasKept l (kept - 1)
-kept-less None kept none = omega arith
-kept-less (Some l) kept low = omega arith
 
 module _ {K V : Type 0} where
   abbrev pub row_of : Ancestor K V → List (ℕ × (K × V))

@@ -91,7 +91,7 @@ module _ {K : Type 0} {cmp : K → K → Ordering} (laws : IsTotalOrder cmp) whe
       by Equal e = let no : false ≡ true = ap is_lt (sym e) ∙ pass in absurd (cc)
       by Greater e = let no : false ≡ true = ap is_lt (sym e) ∙ pass in absurd (cc)
 
-  past-on : (hi : Bound K) (x y : K) → cmp x y ≡ Less → is_past_end cmp hi x ≡ true → is_past_end cmp hi y ≡ true
+  pub past-on : (hi : Bound K) (x y : K) → cmp x y ≡ Less → is_past_end cmp hi x ≡ true → is_past_end cmp hi y ≡ true
   past-on Unbounded x y less past = past
   past-on (Included b) x y less past = from-on (Excluded b) x y less past
   past-on (Excluded b) x y less past = from-on (Included b) x y less past

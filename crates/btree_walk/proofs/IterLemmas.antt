@@ -1,5 +1,5 @@
 -- A step of the iterator, and where it starts.
-use Rattle.std.proofs.Common.{◌≡◌, ℕ, ◌-◌, ◌^◌, ◌<◌, ◌≤◌, List, ◌∷◌, length, Some, None, ap, arith}
+use Rattle.std.proofs.Common.{◌≡◌, ℕ, ◌^◌, ◌<◌, List, [], ◌∷◌, ◌++◌, ◌∙◌, length, Some, None, ap, sym, arith}
 use Rattle.std.specs.FinMap as map
 use Rattle.std.specs.declared.cmp.Ordering.{Ordering}
 use Rattle.btree_shape.specs.TreeState.{TreeState, node_map, pairs_of}
@@ -8,12 +8,9 @@ use Rattle.btree_shape.specs.Remaining.{IsUnder}
 use Rattle.btree_shape.proofs.Trees.Density.{height-low}
 use Rattle.btree_shape.proofs.Trees.States.{height_held}
 
-module _ {B : Type 0} (whole rest : List B) (x : B) (left : ℕ) (counted : left ≡ length whole) (is : whole ≡ x ∷ rest) where
-  pub some-left : 1 ≤ left
-  some-left = let n = ap length is in omega arith
-
-  pub one-less : left - 1 ≡ length rest
-  one-less = let n = ap length is in omega arith
+-- the next item is above the leaf, and the next leaf is there as a list
+pub next-above : {X : Type 0} (none above new items run : List X) (x : X) → none ≡ [] → above ≡ x ∷ (items ++ new) → run ≡ items → none ++ above ≡ x ∷ (run ++ new)
+next-above none above new items run x e next is = ap (λ l. l ++ above) e ∙ next ∙ ap (λ l. x ∷ (l ++ new)) (sym is)
 
 module _ {K V : Type 0} (cmp : K → K → Ordering) (s : TreeState K V) (root : ℕ) where
   -- the root has no node above it

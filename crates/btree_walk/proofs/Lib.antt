@@ -5,6 +5,9 @@ pub mod BoundLemmas
 mod EndLemmas
 mod FromLemmas
 mod IterLemmas
+mod LevelLemmas
+mod NearLemmas
+mod NearRowLemmas
 mod RangeLemmas
 mod RowLemmas
 mod UpToLemmas

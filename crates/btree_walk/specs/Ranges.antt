@@ -1,30 +1,33 @@
 -- A range of pairs, from both ends.
--- The range has taken the first and the last pair that are left from its two walks, so one of them is ahead of the first
--- pair and the other is behind the last. What is left can be read off these four.
-use Rattle.std.specs.Prelude.{◌≡◌, ◌+◌, ◌-◌, List, [], ◌∷◌, ◌++◌, length, take, Option, Some, None, option_map}
+-- The range has taken the first pair that is left from a forward walk, and it knows the last pair that it found. That one
+-- is left, or the range has given it. What is left can be read off these.
+use Rattle.std.specs.Prelude.{⊤, ◌≡◌, Bool, true, false, List, [], ◌∷◌, ◌++◌, Option, Some, None, option_map}
+use Rattle.std.specs.BTreeMap.Range.{entries_between}
 use Rattle.std.specs.Borrow.{Bor}
-use Rattle.btree_shape.specs.TreeState.{TreeState}
-use Rattle.btree_walk.specs.Preceding.{preceding_of}
+use Rattle.std.specs.declared.cmp.Ordering.{Ordering}
+use Rattle.std.specs.declared.ops.Bound.{Bound}
+use Rattle.std.specs.declared.ops.Bound.TheVariants.{Excluded, Included, Unbounded}
+use Rattle.btree_shape.specs.TreeState.{TreeState, pairs_of}
+use Rattle.btree_walk.specs.Preceding.{AreAncestorsBefore, HasKept, preceding_of}
 use Rattle.btree_walk.specs.Rows.{remaining_of}
 use Rattle.btree_walk.specs.declared.walks.Front.{Front}
 use Rattle.btree_walk.specs.declared.walks.Back.{Back}
 
 module _ {A : Type 0} where
-  -- what is left between the first pair that is left, with the pairs ahead of it, and the last one, with those behind it
-  abbrev pub left_between : (all : List A) → (first : Option A) → (ahead : List A) → (last : Option A) → (behind : List A) → List A
-  left_between all None ahead last behind = []
-  left_between all (Some x) ahead None behind = []
-  left_between all (Some x) ahead (Some y) behind = take (length behind + 2 + length ahead - length all) (x ∷ ahead)
+  -- the first pair that is left, with the pairs ahead of it
+  abbrev pub from_first : (first : Option A) → (ahead : List A) → List A
+  from_first None ahead = []
+  from_first (Some x) ahead = x ∷ ahead
 
-  -- the first pair, with those ahead of it, is the end of the list
+  -- these are the end of the list
   abbrev pub IsAhead : (all : List A) → (first : Option A) → (ahead : List A) → Type 0
-  IsAhead all None ahead = Unit {0}
-  IsAhead all (Some x) ahead = (before : List A) × (all ≡ before ++ x ∷ ahead)
+  IsAhead all first ahead = (before : List A) × (all ≡ before ++ from_first first ahead)
 
-  -- the last pair, with those behind it, is the beginning of the list
-  abbrev pub IsBehind : (all : List A) → (last : Option A) → (behind : List A) → Type 0
-  IsBehind all None behind = Unit {0}
-  IsBehind all (Some y) behind = (after : List A) × (all ≡ behind ++ y ∷ after)
+  -- the last pair is in the list; with a backward walk, the pairs before it are those that the walk has left
+  abbrev pub IsBehind : (all : List A) → (last : Option A) → (behind : Option (List A)) → Type 0
+  IsBehind all None behind = ⊤
+  IsBehind all (Some y) None = (before : List A) × (after : List A) × (all ≡ before ++ y ∷ after)
+  IsBehind all (Some y) (Some behind) = (after : List A) × (all ≡ behind ++ y ∷ after)
 
   -- the first element of a list and the others
   abbrev pub IsFirstOf : List A → (first : Option A) → (rest : List A) → Type 0
@@ -35,6 +38,22 @@ module _ {A : Type 0} where
   abbrev pub IsLastOf : List A → (last : Option A) → (rest : List A) → Type 0
   IsLastOf xs None rest = xs ≡ []
   IsLastOf xs (Some x) rest = xs ≡ rest ++ x ∷ []
+
+-- the bound that a last key is, if it is left, and if it was given
+abbrev pub bound_at : {K : Type 0} → K → (is_left : Bool) → Bound K
+bound_at k true = Included k
+bound_at k false = Excluded k
+
+module _ {K V : Type 0} (cmp : K → K → Ordering) where
+  -- what is left of the pairs from the first one on
+  abbrev pub left_until : List (K × V) → (last : Option (K × V)) → (is_left : Bool) → List (K × V)
+  left_until pairs None is_left = []
+  left_until pairs (Some y) is_left = entries_between cmp Unbounded (bound_at y.0 is_left) pairs
+
+  -- of each end of the list, two last pairs leave the same
+  abbrev pub AreLeftSame : (all : List (K × V)) → (last : Option (K × V)) → Bool → (other : Option (K × V)) → Bool → Type 0
+  AreLeftSame all last is_left other other_left = (before pairs : List (K × V)) → all ≡ before ++ pairs
+      → left_until pairs last is_left ≡ left_until pairs other other_left
 
 module _ {K V : Type 0} where
   -- a pair that references lead to
@@ -48,3 +67,17 @@ module _ {K V : Type 0} where
   -- what a backward walk has left
   abbrev pub behind_of : TreeState K V → Back K V → List (K × V)
   behind_of tree back = preceding_of tree back.leaf back.kept back.ancestors
+
+  -- the same, if there is such a walk
+  abbrev pub behind_in : TreeState K V → Option (Back K V) → Option (List (K × V))
+  behind_in tree back = option_map (behind_of tree) back
+
+  -- the same; without a walk, all pairs
+  abbrev pub behind_or_all : TreeState K V → Option (Back K V) → List (K × V)
+  behind_or_all tree None = pairs_of tree
+  behind_or_all tree (Some back) = behind_of tree back
+
+  -- a backward walk, if there is one
+  abbrev pub IsBack : TreeState K V → Option (Back K V) → Type 0
+  IsBack tree None = ⊤
+  IsBack tree (Some back) = AreAncestorsBefore tree back.ancestors × HasKept back.leaf back.kept

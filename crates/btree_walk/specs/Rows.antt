@@ -23,6 +23,11 @@ module _ {K V : Type 0} where
   remaining_in_leaf None passed = []
   remaining_in_leaf (Some leaf) passed = drop passed leaf.now.items
 
+  -- the same, kept as a list
+  abbrev pub run_left : Option (List (K × V)) → List (K × V)
+  run_left None = []
+  run_left (Some run) = run
+
   -- the first of these items, or none if all are passed
   abbrev pub IsNextIn : Option (Bor (Leaf K V)) → (passed : ℕ) → Option (Bor K × Bor V) → Type 0
   IsNextIn leaf passed None = remaining_in_leaf leaf passed ≡ []
@@ -48,6 +53,10 @@ module _ {K V : Type 0} (tree : TreeState K V) where
   -- what is left of a walk that is in a leaf
   abbrev pub remaining_of : Option (Bor (Leaf K V)) → (passed : ℕ) → List (Ancestor K V) → List (K × V)
   remaining_of leaf passed ancestors = remaining_in_leaf leaf passed ++ remaining_in_ancestors ancestors
+
+  -- the same, where what the leaf has left is kept as a list
+  abbrev pub remaining_after : Option (List (K × V)) → List (Ancestor K V) → List (K × V)
+  remaining_after run ancestors = run_left run ++ remaining_in_ancestors ancestors
 
   -- the first item that is left in the ancestors, with the first leaf after it, or none if nothing is left
   abbrev pub IsNextAbove : (old new : List (Ancestor K V)) → Option ((Bor K × Bor V) × Bor (Leaf K V)) → Type 0

@@ -1,5 +1,6 @@
 //! The path from the root to the leaf that a walk is in.
-ghost use Rattle.std.specs.Prelude.{◌≡◌, ◌<◌, [], Some, OnSome};
+ghost use Rattle.std.specs.Prelude.{◌≡◌, ◌-◌, ◌<◌, ◌++◌, [], ◌∷◌, Some, OnSome, length, slice_get, take};
+ghost use Rattle.std.specs.Option.{option_copied};
 ghost use Rattle.btree_shape.specs.TreeState.{pairs_of};
 ghost use Rattle.btree_walk.specs.Rows.{AreAncestors, IsBelow, IsNextAbove, IsNextIn, remaining_at, remaining_of};
 
@@ -7,6 +8,7 @@ use btree_ext::{BTreeExt, Tree};
 use btree_item::{LEAF_SLOTS, MAX_LEVELS, Slots};
 use btree_node::{LeafNode, Node};
 use btree_nodes::NodesMut;
+use std::marker::Model;
 
 /// An internal node above the leaf, and how many of its items are passed.
 #[derive(Drop)]
@@ -15,8 +17,80 @@ pub(crate) struct Ancestor<'a, K, V> {
     pub passed: usize,
 }
 
-/// The internal nodes above the leaf, from the root down.
-pub(crate) type Ancestors<'a, K, V> = Slots<Ancestor<'a, K, V>, MAX_LEVELS>;
+/// The internal nodes above the leaf, from the root down, seen by contracts as a list. The lowest one may lie beside the others: most steps
+/// from a leaf to the next take it off, and put it back.
+#[derive(Drop)]
+pub(crate) struct Ancestors<'a, K, V> {
+    lowest: Option<Ancestor<'a, K, V>>,
+    others: Slots<Ancestor<'a, K, V>, MAX_LEVELS>,
+}
+
+impl<'a, K, V> Model for Ancestors<'a, K, V> {
+    ghost use Rattle.std.specs.Prelude.{List, ◌++◌};
+    ghost use Rattle.std.specs.Option.{option_to_list};
+    ghost use Rattle.btree_walk.specs.declared.ancestors.Ancestor.{Ancestor};
+
+    ghost Value = { List (Ancestor K V) };
+
+    ghost view = { λ it. it.others ++ option_to_list it.lowest };
+}
+
+impl<'a, K, V> Ancestors<'a, K, V> {
+    pub fn new() -> Self
+        ensures { result ≡ [] }
+    {
+        Ancestors {
+            lowest: None,
+            others: Slots::new(),
+        }
+    }
+
+    /// Returns the number of nodes.
+    #[inline]
+    pub fn len(&self) -> usize
+        ensures { result ≡ length self.now }
+    {
+        match self.lowest {
+            Some(_) => self.others.len() + 1,
+            None => self.others.len(),
+        }
+    }
+
+    /// Returns the node at a level, counted from the root, or `None` past the lowest.
+    #[inline]
+    pub fn get(&self, level: usize) -> Option<&Ancestor<'a, K, V>>
+        ensures { option_copied result ≡ slice_get self.now level }
+    {
+        if level == self.others.len() {
+            return self.lowest.as_ref();
+        }
+        self.others.get(level)
+    }
+
+    /// Adds a node below the others.
+    #[inline]
+    pub fn push(&mut self, ancestor: Ancestor<'a, K, V>)
+        requires { length self.old < MAX_LEVELS }
+        ensures { self.new ≡ self.old ++ ancestor.entry ∷ [] }
+    {
+        if let Some(lowest) = self.lowest.take() {
+            self.others.push(lowest);
+        }
+        self.lowest = Some(ancestor);
+    }
+
+    /// Removes and returns the lowest node, if there is one.
+    #[inline]
+    pub fn pop(&mut self) -> Option<Ancestor<'a, K, V>>
+        ensures answer { result ≡ slice_get self.old (length self.old - 1) }
+        ensures after { self.new ≡ take (length self.old - 1) self.old }
+    {
+        match self.lowest.take() {
+            Some(lowest) => Some(lowest),
+            None => self.others.pop(),
+        }
+    }
+}
 
 // Returns the first item of a leaf after those that are passed.
 #[inline]

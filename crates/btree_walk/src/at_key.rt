@@ -1,8 +1,8 @@
 //! Where a walk is that starts at a key.
-ghost use Rattle.std.specs.Prelude.{◌≡◌, ◌≤◌, [], true};
+ghost use Rattle.std.specs.Prelude.{◌≡◌, ◌≤◌, []};
 ghost use Rattle.std.specs.BTreeMap.Range.{entries_between};
 ghost use Rattle.std.specs.declared.ops.Bound.TheVariants.{Included, Unbounded};
-ghost use Rattle.btree_item.specs.Pairs.{Ascends, KeyFits};
+ghost use Rattle.btree_item.specs.Pairs.{Ascends};
 ghost use Rattle.btree_node.specs.Node.{view_of};
 ghost use Rattle.btree_shape.specs.TreeState.{pairs_of};
 ghost use Rattle.btree_view.specs.View.{items_of, size_of};
@@ -63,60 +63,25 @@ pub(crate) fn start_from<'a, K: Ord + 'a, V: 'a, C: NodesMut<K, V> + 'a>(
     }
 }
 
-// Returns whether a key is less than that of the item at an index, and greater than that of the item before it.
-#[inline]
-fn fits_before<K: Ord, V>(node: &Node<K, V>, key: &K, index: usize) -> bool
-    ensures { result ≡ true → KeyFits K.cmp key.now index (items_of (view_of node.now)) }
-{
-    if index > 0 {
-        match node.item_at_index(index - 1) {
-            Some(before) => {
-                if !before.key().cmp(key).is_lt() {
-                    return false;
-                }
-            }
-            None => return false,
-        }
-    }
-    match node.item_at_index(index) {
-        Some(item) => key.cmp(item.key()).is_lt(),
-        None => true,
-    }
-}
-
 // Returns how many items of a node have keys up to `key`, and the child after them, or `None` if the key is in the node or the node is a
-// leaf. It makes two comparisons if the answer is `guess` and the key is not in the node, and at most eight in any case.
+// leaf. It makes at most six comparisons.
 #[inline]
-fn items_up_to<K: Ord, V>(node: &Node<K, V>, key: &K, guess: usize) -> (usize, Option<usize>)
+fn items_up_to<K: Ord, V>(node: &Node<K, V>, key: &K) -> (usize, Option<usize>)
     requires { Ascends K.cmp (items_of (view_of node.now)) }
     ensures value { result ≡ up_to_in K.cmp key.now (view_of node.now) }
     ensures within { result.0 ≤ size_of (view_of node.now) }
 {
-    if fits_before(node, key, guess) {
-        return (guess, node.child_id_opt(guess));
-    }
     match node.offset_of(key) {
         Ok(offset) => (offset.unwrap() + 1, None),
         Err(gap) => gap,
     }
 }
 
-// Returns how many items are passed in the node of a level, or more than a node has if there is no such level.
-#[inline]
-fn passed_at<K, V>(ancestors: &Ancestors<'_, K, V>, level: usize) -> usize {
-    match ancestors.get(level) {
-        Some(ancestor) => ancestor.passed,
-        None => usize::MAX,
-    }
-}
-
 // Returns where a backward walk is that has passed the items with keys above `key`: a leaf and how many of its items are not passed. It puts
-// the internal nodes above into the empty list of ancestors. Where a forward walk, of which the ancestors are given, is under the same nodes,
-// each of them takes two comparisons.
+// the internal nodes above into the empty list of ancestors.
 pub(crate) fn end_at<'a, K: Ord + 'a, V: 'a, C: NodesMut<K, V> + 'a>(
     tree: &'a Tree<K, V, C>,
     key: &K,
-    forward: &Ancestors<'a, K, V>,
     ancestors: &mut Ancestors<'a, K, V>,
 ) -> (Option<&'a LeafNode<K, V>>, usize)
     requires none { ancestors.old ≡ [] }
@@ -134,7 +99,7 @@ pub(crate) fn end_at<'a, K: Ord + 'a, V: 'a, C: NodesMut<K, V> + 'a>(
     let mut id = root;
     loop {
         let node = tree.node(id);
-        let (kept, next) = items_up_to(node, key, passed_at(forward, ancestors.len()));
+        let (kept, next) = items_up_to(node, key);
         match node {
             Node::Leaf(leaf) => return (Some(leaf), kept),
             Node::Internal(_) => {

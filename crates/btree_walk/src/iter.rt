@@ -2,15 +2,64 @@
 ghost use Rattle.std.specs.Prelude.{◌≡◌, Some, IfSome, length};
 ghost use Rattle.std.specs.Iterator.SizeHint.{IsWithinCount};
 ghost use Rattle.std.specs.Iterator.{YieldsFirstBy, YieldsLastBy, item_count, UpTo};
+ghost use Rattle.btree_walk.specs.Ranges.{IsBack, IsFirstOf, IsLastOf, behind_or_all, pair_now};
+ghost use Rattle.btree_walk.specs.Rows.{remaining_in_leaf, run_left};
 
-use crate::ancestors::{Ancestors, next_above, next_in_leaf, start};
-use crate::backward::{end, last_in_leaf, previous_above};
+use crate::ancestors::{Ancestors, next_above, start};
+use crate::walks::Back;
 use btree_ext::Tree;
-use btree_item::Slots;
+use btree_item::{Item, SlotsIter};
 use btree_node::LeafNode;
 use btree_nodes::NodesMut;
 use std::iter::{DoubleEndedIterator, ExactSizeIterator, FusedIterator};
 use std::marker::Model;
+
+// Returns the items of a leaf in order.
+#[inline]
+fn run_of<'a, K, V>(leaf: Option<&'a LeafNode<K, V>>) -> Option<SlotsIter<'a, Item<K, V>>>
+    ensures { run_left result ≡ remaining_in_leaf leaf.entry 0 }
+{
+    match leaf {
+        Some(leaf) => Some(leaf.items().iter()),
+        None => None,
+    }
+}
+
+// Passes the next item of a leaf and returns it.
+#[inline]
+fn next_in_run<'a, K, V>(run: &mut Option<SlotsIter<'a, Item<K, V>>>) -> Option<(&'a K, &'a V)>
+    ensures { IsFirstOf (run_left run.old) (pair_now result) (run_left run.new) }
+{
+    let Some(run) = run else {
+        return None;
+    };
+    match run.next() {
+        Some(item) => Some((item.key(), item.value())),
+        None => None,
+    }
+}
+
+// Passes the last pair that a backward walk has left, and returns it. Without a walk, makes one that has left all pairs.
+#[inline]
+fn step_back<'a, K: Ord + 'a, V: 'a, C: NodesMut<K, V> + 'a>(
+    tree: &'a Tree<K, V, C>,
+    back: &mut Option<Back<'a, K, V>>,
+) -> Option<(&'a K, &'a V)>
+    requires { IsBack tree.now back.old }
+    ensures back { IsBack tree.now back.new }
+    ensures last { IsLastOf
+        (behind_or_all tree.now back.old) (pair_now result) (behind_or_all tree.now back.new) }
+{
+    tree.tell_fits();
+    if let Some(back) = back {
+        return back.next_back(tree);
+    }
+    let mut new = Back::new();
+    new.start(tree);
+    let last = new.next_back(tree);
+    *back = Some(new);
+    last
+}
 
 /// An iterator over the pairs of a tree in the order of the keys, from both ends, seen by contracts as the list of those that are left. It
 /// allocates no memory. A whole walk fetches each node from the store once, and a step inside a leaf reads that leaf alone.
@@ -18,32 +67,28 @@ use std::marker::Model;
 pub struct Iter<'a, K: Ord, V, C: NodesMut<K, V>> {
     tree: &'a Tree<K, V, C>,
     left: usize,
-    // The front: its leaf, or `None` in a tree without pairs, how many of its items are passed, and the nodes above.
-    leaf: Option<&'a LeafNode<K, V>>,
-    passed: usize,
+    // The front: what is left of its leaf, or `None` in a tree without pairs, and the nodes above.
+    run: Option<SlotsIter<'a, Item<K, V>>>,
     ancestors: Ancestors<'a, K, V>,
-    // The back: its leaf, how many of its items are not passed, and the nodes above.
-    last_leaf: Option<&'a LeafNode<K, V>>,
-    kept: usize,
-    last_ancestors: Ancestors<'a, K, V>,
+    // The back, from the first step from it on.
+    back: Option<Back<'a, K, V>>,
 }
 
 impl<'a, K: Ord, V, C: NodesMut<K, V>> Model for Iter<'a, K, V, C> {
     ghost use Rattle.std.specs.Prelude.{List, take};
     ghost use Rattle.btree_walk.specs.Ends.{AreEnds};
-    ghost use Rattle.btree_walk.specs.Preceding.{AreAncestorsBefore, HasKept, preceding_of};
-    ghost use Rattle.btree_walk.specs.Rows.{AreAncestors, remaining_of};
+    ghost use Rattle.btree_walk.specs.Ranges.{IsBack, behind_or_all};
+    ghost use Rattle.btree_walk.specs.Rows.{AreAncestors, remaining_after};
 
     ghost Value = { List (K × V) };
 
-    ghost view = { λ it. take it.left (remaining_of it.tree.now it.leaf it.passed it.ancestors) };
+    ghost view = { λ it. take it.left (remaining_after it.tree.now it.run it.ancestors) };
 
     ghost invariant = { λ it. C.Fits
         × AreAncestors it.tree.now it.ancestors
-        × AreAncestorsBefore it.tree.now it.last_ancestors
-        × HasKept it.last_leaf it.kept
-        × AreEnds it.left (remaining_of it.tree.now it.leaf it.passed it.ancestors)
-        (preceding_of it.tree.now it.last_leaf it.kept it.last_ancestors) };
+        × IsBack it.tree.now it.back
+        × AreEnds it.left (remaining_after it.tree.now it.run it.ancestors)
+        (behind_or_all it.tree.now it.back) };
 }
 
 impl<'a, K: Ord, V, C: NodesMut<K, V>> Iter<'a, K, V, C> {
@@ -56,20 +101,15 @@ impl<'a, K: Ord, V, C: NodesMut<K, V>> Iter<'a, K, V, C> {
         tree.tell_fits();
         // For the prover: the iterator keeps the fact that a node fits in memory.
         C::note_fits();
-        let mut ancestors = Slots::new();
-        let leaf = start(tree, &mut ancestors);
-        let mut last_ancestors = Slots::new();
-        let (last_leaf, kept) = end(tree, &mut last_ancestors);
-        Iter {
+        let mut pairs = Iter {
             tree,
             left: tree.len(),
-            leaf,
-            passed: 0,
-            ancestors,
-            last_leaf,
-            kept,
-            last_ancestors,
-        }
+            run: None,
+            ancestors: Ancestors::new(),
+            back: None,
+        };
+        pairs.run = run_of(start(tree, &mut pairs.ancestors));
+        pairs
     }
 }
 
@@ -87,15 +127,13 @@ impl<'a, K: Ord, V, C: NodesMut<K, V>> Iterator for Iter<'a, K, V, C> {
         }
         // For the prover: a node fits in memory.
         C::tell_fits();
-        if let Some(pair) = next_in_leaf(self.leaf, self.passed) {
-            self.passed += 1;
+        if let Some(pair) = next_in_run(&mut self.run) {
             self.left -= 1;
             return Some(pair);
         }
         match next_above(self.tree, &mut self.ancestors) {
             Some((next, leaf)) => {
-                self.leaf = Some(leaf);
-                self.passed = 0;
+                self.run = run_of(Some(leaf));
                 self.left -= 1;
                 Some(next)
             }
@@ -123,17 +161,10 @@ impl<'a, K: Ord, V, C: NodesMut<K, V>> DoubleEndedIterator for Iter<'a, K, V, C>
         }
         // For the prover: a node fits in memory.
         C::tell_fits();
-        if let Some(pair) = last_in_leaf(self.last_leaf, self.kept) {
-            self.kept -= 1;
-            self.left -= 1;
-            return Some(pair);
-        }
-        match previous_above(self.tree, &mut self.last_ancestors) {
-            Some((previous, leaf, kept)) => {
-                self.last_leaf = Some(leaf);
-                self.kept = kept;
+        match step_back(self.tree, &mut self.back) {
+            Some(pair) => {
                 self.left -= 1;
-                Some(previous)
+                Some(pair)
             }
             None => unreachable!(),
         }

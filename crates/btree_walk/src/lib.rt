@@ -7,6 +7,7 @@ mod backward;
 mod bounds;
 mod iter;
 mod keys;
+mod near;
 mod range;
 mod walks;
 

@@ -1,10 +1,15 @@
 //! The pairs of a tree between two bounds.
-ghost use Rattle.std.specs.Prelude.{◌≡◌, Some, None, IfSome};
+ghost use Rattle.std.specs.Prelude.{◌≡◌, Some, None, IfSome, true};
 ghost use Rattle.std.specs.Iterator.SizeHint.{IsWithinCount};
 ghost use Rattle.std.specs.Iterator.{YieldsFirstBy, YieldsLastBy, item_count, UpTo};
+ghost use Rattle.btree_item.specs.Pairs.{Ascends};
 ghost use Rattle.btree_shape.specs.TreeState.{pairs_of};
-ghost use Rattle.btree_walk.specs.Bounds.{IsValidRange, pairs_between};
+ghost use Rattle.btree_walk.specs.Bounds.{IsValidRange, bound_key, pairs_between};
+ghost use Rattle.btree_walk.specs.Near.{IsLastWithin};
+ghost use Rattle.btree_walk.specs.Ranges.{AreLeftSame, IsBack, IsBehind, ahead_of, behind_in, from_first, pair_now};
+ghost use Rattle.btree_walk.specs.Rows.{AreAncestors};
 
+use crate::near::{is_past, last_within};
 use crate::walks::{Back, Front};
 use btree_ext::{BTreeExt, Tree};
 use btree_nodes::NodesMut;
@@ -13,43 +18,92 @@ use std::iter::{DoubleEndedIterator, FusedIterator};
 use std::marker::Model;
 use std::ops::Bound;
 
+// Returns the last pair within an end bound among a first pair and those that a forward walk has left after it.
+fn last_from<'a, K: Ord + 'a, V: 'a, C: NodesMut<K, V> + 'a>(
+    tree: &'a Tree<K, V, C>,
+    first: Option<(&'a K, &'a V)>,
+    front: &Front<'a, K, V>,
+    end: Bound<&K>,
+) -> Option<(&'a K, &'a V)>
+    requires above { AreAncestors tree.now front.now.ancestors }
+    requires rises { Ascends K.cmp (from_first (pair_now first) (ahead_of tree.now front.now)) }
+    ensures { IsLastWithin K.cmp (bound_key end.entry)
+        (from_first (pair_now first.entry) (ahead_of tree.now front.now)) (pair_now result) }
+{
+    tree.tell_fits();
+    let Some(pair) = first else {
+        return None;
+    };
+    if is_past(end, pair.0) {
+        return None;
+    }
+    last_within(tree, front.leaf, front.passed, &front.ancestors, end).or(Some(pair))
+}
+
+// Returns the last pair that is left before or at the last one found, which `is_left` tells of, and steps a backward walk if it must.
+fn last_left<'a, K: Ord + 'a, V: 'a, C: NodesMut<K, V> + 'a>(
+    tree: &'a Tree<K, V, C>,
+    back: &mut Option<Back<'a, K, V>>,
+    last: (&'a K, &'a V),
+    is_left: bool,
+) -> Option<(&'a K, &'a V)>
+    requires back { IsBack tree.now back.old }
+    requires behind { IsBehind (pairs_of tree.now) (pair_now (Some last)) (behind_in tree.now back.old) }
+    ensures back { IsBack tree.now back.new }
+    ensures behind { IsBehind (pairs_of tree.now) (pair_now result) (behind_in tree.now back.new) }
+    ensures same { AreLeftSame K.cmp (pairs_of tree.now) (pair_now (Some last.entry)) is_left (pair_now result) true }
+{
+    if is_left {
+        return Some(last);
+    }
+    // For the prover: the tree is well formed.
+    let _root = tree.root_id();
+    if let Some(back) = back {
+        return back.next_back(tree);
+    }
+    let mut new = Back::new();
+    let previous = new.last_before(tree, last.0);
+    *back = Some(new);
+    previous
+}
+
 /// An iterator over the pairs of a tree between two bounds, in the order of the keys and from both ends, seen by contracts as the list of
 /// those that are left. It allocates no memory. It compares two keys for each pair that it returns, and a step inside a leaf reads that
-/// leaf alone.
+/// leaf alone. The second step from the back searches once more, for the place of the first.
 #[derive(Drop)]
 pub struct Range<'a, K: Ord, V, C: NodesMut<K, V>> {
     tree: &'a Tree<K, V, C>,
-    // The first and the last pair that are left, if the walks found any, and the walks that have passed them.
+    // The first pair that is left, if there may be one, and the walk that has passed it.
     first: Option<(&'a K, &'a V)>,
     front: Front<'a, K, V>,
+    // The last pair that was found, and whether it is left.
     last: Option<(&'a K, &'a V)>,
-    back: Back<'a, K, V>,
+    is_left: bool,
+    // The walk that has passed the last pair, from the second step from the back on.
+    back: Option<Back<'a, K, V>>,
 }
 
 impl<'a, K: Ord, V, C: NodesMut<K, V>> Model for Range<'a, K, V, C> {
     ghost use Rattle.std.specs.Prelude.{List};
     ghost use Rattle.btree_shape.specs.TreeState.{pairs_of};
-    ghost use Rattle.btree_walk.specs.Preceding.{AreAncestorsBefore, HasKept};
-    ghost use Rattle.btree_walk.specs.Ranges.{IsAhead, IsBehind, ahead_of, behind_of, left_between, pair_now};
+    ghost use Rattle.btree_walk.specs.Ranges.{IsAhead, IsBack, IsBehind, ahead_of, behind_in, from_first, left_until, pair_now};
     ghost use Rattle.btree_walk.specs.Rows.{AreAncestors};
 
     ghost Value = { List (K × V) };
 
-    ghost view = { λ it. left_between (pairs_of it.tree.now) (pair_now it.first)
-        (ahead_of it.tree.now it.front) (pair_now it.last) (behind_of it.tree.now it.back) };
+    ghost view = { λ it. left_until K.cmp (from_first (pair_now it.first) (ahead_of it.tree.now it.front)) (pair_now it.last) it.is_left };
 
     ghost invariant = { λ it. C.Fits
         × AreAncestors it.tree.now it.front.ancestors
-        × AreAncestorsBefore it.tree.now it.back.ancestors
-        × HasKept it.back.leaf it.back.kept
         × IsAhead (pairs_of it.tree.now) (pair_now it.first) (ahead_of it.tree.now it.front)
-        × IsBehind (pairs_of it.tree.now) (pair_now it.last) (behind_of it.tree.now it.back) };
+        × IsBack it.tree.now it.back
+        × IsBehind (pairs_of it.tree.now) (pair_now it.last) (behind_in it.tree.now it.back) };
 }
 
 impl<'a, K: Ord, V, C: NodesMut<K, V>> Range<'a, K, V, C> {
     /// Returns an iterator over the pairs whose keys are between two bounds, each included, excluded or absent. `is_valid_range` tells
-    /// whether a range may be asked for. It reads at most two nodes of each level, and makes at most six comparisons of keys in each for the
-    /// start, at most eight for the end, and two more. A node that is above both ends takes two for the end.
+    /// whether a range may be asked for. It makes at most six comparisons of keys in each node on the way to the start. From there it
+    /// searches for the end: up to the node that both ends are under, and down from it, with at most one comparison for each item.
     pub fn new(tree: &'a Tree<K, V, C>, range: (Bound<&K>, Bound<&K>)) -> Self
         requires { IsValidRange K.cmp range }
         ensures { result ≡ pairs_between K.cmp range.entry (pairs_of tree.now) }
@@ -60,17 +114,17 @@ impl<'a, K: Ord, V, C: NodesMut<K, V>> Range<'a, K, V, C> {
         // For the prover: the tree is well formed.
         let _root = tree.root_id();
         let (start, end) = range;
-        let mut front = Front::new();
-        let first = front.first(tree, start);
-        let mut back = Back::new();
-        let last = back.last(tree, end, &front);
-        Range {
+        let mut pairs = Range {
             tree,
-            first,
-            front,
-            last,
-            back,
-        }
+            first: None,
+            front: Front::new(),
+            last: None,
+            is_left: true,
+            back: None,
+        };
+        pairs.first = pairs.front.first(tree, start);
+        pairs.last = last_from(tree, pairs.first, &pairs.front, end);
+        pairs
     }
 }
 
@@ -98,6 +152,9 @@ impl<'a, K: Ord, V, C: NodesMut<K, V>> Iterator for Range<'a, K, V, C> {
                 Some(first)
             }
             Ordering::Equal => {
+                if !self.is_left {
+                    return None;
+                }
                 self.first = None;
                 Some(first)
             }
@@ -129,17 +186,17 @@ impl<'a, K: Ord, V, C: NodesMut<K, V>> DoubleEndedIterator for Range<'a, K, V, C
         // For the prover: a node fits in memory, and the tree is well formed.
         C::tell_fits();
         let _root = self.tree.root_id();
-        match first.0.cmp(last.0) {
-            Ordering::Less => {
-                self.last = self.back.next_back(self.tree);
-                Some(last)
-            }
-            Ordering::Equal => {
-                self.last = None;
-                Some(last)
-            }
-            Ordering::Greater => None,
+        let Some(last) = last_left(self.tree, &mut self.back, last, self.is_left) else {
+            self.last = None;
+            return None;
+        };
+        self.last = Some(last);
+        self.is_left = false;
+        if first.0.cmp(last.0).is_gt() {
+            self.first = None;
+            return None;
         }
+        Some(last)
     }
 }
 

@@ -12,7 +12,6 @@ use crate::ancestors::{Ancestors, next_above, next_in_leaf, start};
 use crate::at_key::{end_at, start_from};
 use crate::backward::{end, last_in_leaf, previous_above};
 use btree_ext::{BTreeExt, Tree};
-use btree_item::Slots;
 use btree_node::LeafNode;
 use btree_nodes::NodesMut;
 use std::ops::Bound;
@@ -41,7 +40,7 @@ impl<'a, K: Ord + 'a, V: 'a> Front<'a, K, V> {
         Front {
             leaf: None,
             passed: 0,
-            ancestors: Slots::new(),
+            ancestors: Ancestors::new(),
         }
     }
 
@@ -151,12 +150,12 @@ impl<'a, K: Ord + 'a, V: 'a> Back<'a, K, V> {
         Back {
             leaf: None,
             kept: 0,
-            ancestors: Slots::new(),
+            ancestors: Ancestors::new(),
         }
     }
 
     // Starts after all pairs.
-    fn start<C: NodesMut<K, V> + 'a>(&mut self, tree: &'a Tree<K, V, C>)
+    pub fn start<C: NodesMut<K, V> + 'a>(&mut self, tree: &'a Tree<K, V, C>)
         requires none { self.old.ancestors ≡ [] }
         ensures above { AreAncestorsBefore tree.now self.new.ancestors }
         ensures kept { HasKept self.new.leaf self.new.kept }
@@ -168,13 +167,8 @@ impl<'a, K: Ord + 'a, V: 'a> Back<'a, K, V> {
         self.kept = kept;
     }
 
-    // Starts before the pairs with greater keys, near the place of a forward walk.
-    fn start_at<C: NodesMut<K, V> + 'a>(
-        &mut self,
-        tree: &'a Tree<K, V, C>,
-        key: &K,
-        front: &Front<'a, K, V>,
-    )
+    // Starts before the pairs with greater keys.
+    fn start_at<C: NodesMut<K, V> + 'a>(&mut self, tree: &'a Tree<K, V, C>, key: &K)
         requires none { self.old.ancestors ≡ [] }
         ensures above { AreAncestorsBefore tree.now self.new.ancestors }
         ensures kept { HasKept self.new.leaf self.new.kept }
@@ -182,7 +176,7 @@ impl<'a, K: Ord + 'a, V: 'a> Back<'a, K, V> {
             entries_between K.cmp Unbounded (Included key.now) (pairs_of tree.now) }
     {
         tree.tell_fits();
-        let (leaf, kept) = end_at(tree, key, &front.ancestors, &mut self.ancestors);
+        let (leaf, kept) = end_at(tree, key, &mut self.ancestors);
         self.leaf = leaf;
         self.kept = kept;
     }
@@ -214,11 +208,10 @@ impl<'a, K: Ord + 'a, V: 'a> Back<'a, K, V> {
     }
 
     // Starts before a key, passes the last pair and returns it.
-    fn last_before<C: NodesMut<K, V> + 'a>(
+    pub fn last_before<C: NodesMut<K, V> + 'a>(
         &mut self,
         tree: &'a Tree<K, V, C>,
         key: &K,
-        front: &Front<'a, K, V>,
     ) -> Option<(&'a K, &'a V)>
         requires none { self.old.ancestors ≡ [] }
         ensures above { AreAncestorsBefore tree.now self.new.ancestors }
@@ -229,7 +222,7 @@ impl<'a, K: Ord + 'a, V: 'a> Back<'a, K, V> {
     {
         // For the prover: the tree is well formed.
         let _root = tree.root_id();
-        self.start_at(tree, key, front);
+        self.start_at(tree, key);
         let Some(pair) = self.next_back(tree) else {
             return None;
         };
@@ -237,32 +230,5 @@ impl<'a, K: Ord + 'a, V: 'a> Back<'a, K, V> {
             return self.next_back(tree);
         }
         Some(pair)
-    }
-
-    // Starts at a bound, passes the last pair and returns it. It is quick if a forward walk is near that place.
-    pub fn last<C: NodesMut<K, V> + 'a>(
-        &mut self,
-        tree: &'a Tree<K, V, C>,
-        bound: Bound<&K>,
-        front: &Front<'a, K, V>,
-    ) -> Option<(&'a K, &'a V)>
-        requires none { self.old.ancestors ≡ [] }
-        ensures above { AreAncestorsBefore tree.now self.new.ancestors }
-        ensures kept { HasKept self.new.leaf self.new.kept }
-        ensures last { IsLastOf
-            (entries_between K.cmp Unbounded (bound_key bound.entry) (pairs_of tree.now))
-            (pair_now result) (behind_of tree.now self.new) }
-    {
-        match bound {
-            Bound::Unbounded => {
-                self.start(tree);
-                self.next_back(tree)
-            }
-            Bound::Included(key) => {
-                self.start_at(tree, key, front);
-                self.next_back(tree)
-            }
-            Bound::Excluded(key) => self.last_before(tree, key, front),
-        }
     }
 }

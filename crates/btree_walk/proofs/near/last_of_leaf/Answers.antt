@@ -1,0 +1,17 @@
+use Rattle.std.proofs.Common.{◌+◌}
+use Rattle.btree_walk.specs.Bounds.{bound_key}
+use Rattle.btree_walk.specs.Near.{pair_past}
+use Rattle.btree_walk.specs.Ranges.{pair_now}
+use Rattle.btree_walk.specs.Rows.{remaining_in_leaf}
+use Rattle.btree_walk.proofs.NearLemmas.{cutting-next, cutting-start}
+use Rattle.btree_walk.proofs.near.last_of_leaf.Goals as goal
+
+pub loop-pair-init : goal.loop-pair-init
+loop-pair-init g c = cutting-start (pair_past g.K.Ord.cmp (bound_key c.args.end)) (remaining_in_leaf c.args.leaf c.args.passed)
+
+pub loop-pair-preserved : goal.loop-pair-preserved
+loop-pair-preserved g c =
+    let asked = c.is_past.ensures in
+    let no = c.if-is_past.false in
+    cutting-next (pair_past g.K.Ord.cmp (bound_key c.args.end)) (remaining_in_leaf c.args.leaf c.args.passed) (pair_now c.loop-pair.last) (remaining_in_leaf c.args.leaf c.loop-pair.index)
+    c.loop-pair.invariant (c.in-Some.pair.0.now, c.in-Some.pair.1.now) (remaining_in_leaf c.args.leaf (c.loop-pair.index + 1)) c.in-Some.ensures.first (cc)

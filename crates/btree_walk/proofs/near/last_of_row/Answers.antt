@@ -1,0 +1,31 @@
+use Rattle.std.proofs.Common.{◌+◌, drop}
+use Rattle.btree_node.specs.Node.{view_of}
+use Rattle.btree_view.specs.View.{branches_of}
+use Rattle.btree_walk.specs.Bounds.{bound_key}
+use Rattle.btree_walk.specs.Near.{branch_now, branch_past}
+use Rattle.btree_walk.proofs.NearLemmas.{cutting-next, cutting-start, cutting-stop}
+use Rattle.btree_walk.proofs.near.last_of_row.Goals as goal
+
+pub loop-item-init : goal.loop-item-init
+loop-item-init g c = cutting-start (branch_past g.K.Ord.cmp (bound_key c.args.end)) (drop c.args.passed (branches_of (view_of c.args.node.now)))
+
+pub returns-then-is_past : goal.returns-then-is_past
+returns-then-is_past g c =
+    let asked = c.is_past.ensures in
+    let yes = c.if-is_past.true in
+    let key = c.key.ensures in
+    cutting-stop (branch_past g.K.Ord.cmp (bound_key c.args.end)) (drop c.args.passed (branches_of (view_of c.args.node.now))) (branch_now c.loop-item.last)
+    (drop c.loop-item.index (branches_of (view_of c.args.node.now))) c.loop-item.invariant (c.in-Some.item.now, c.in-Some.child) (drop (c.loop-item.index + 1) (branches_of (view_of c.args.node.now)))
+    c.in-Some.ensures.first (cc)
+
+pub loop-item-preserved : goal.loop-item-preserved
+loop-item-preserved g c =
+    let asked = c.is_past.ensures in
+    let no = c.if-is_past.false in
+    let key = c.key.ensures in
+    let last = c.key-in-Some.ensures in
+    let value = c.value.ensures in
+    rw (last, value)
+    (cutting-next (branch_past g.K.Ord.cmp (bound_key c.args.end)) (drop c.args.passed (branches_of (view_of c.args.node.now))) (branch_now c.loop-item.last)
+    (drop c.loop-item.index (branches_of (view_of c.args.node.now))) c.loop-item.invariant (c.in-Some.item.now, c.in-Some.child) (drop (c.loop-item.index + 1) (branches_of (view_of c.args.node.now)))
+    c.in-Some.ensures.first (cc))

@@ -1,0 +1,14 @@
+use Rattle.std.specs.FinMap as map
+use Rattle.btree_shape.specs.Focus.Search.{levels_below}
+use Rattle.btree_shape.specs.TreeState.{node_map}
+use Rattle.btree_walk.specs.Bounds.{bound_key}
+use Rattle.btree_walk.specs.Near.{list_under}
+use Rattle.btree_walk.specs.Ranges.{pair_now}
+use Rattle.btree_walk.proofs.NearRowLemmas.{IsGoingDown}
+use Rattle.btree_walk.proofs.near.last_under.Given as goal
+
+abbrev pub invariant-loop-leaf : goal.invariant-loop-leaf
+invariant-loop-leaf g l = IsGoingDown g.met.K.Ord.total (bound_key l.end) l.tree (list_under l.tree l.top) (pair_now l.last) l.id
+
+abbrev pub decreases-loop-leaf : goal.decreases-loop-leaf
+decreases-loop-leaf g l = levels_below (node_map l.tree) (map.len l.tree.nodes) l.id
