@@ -101,15 +101,15 @@ impl<'a, K: Ord, V, C: NodesMut<K, V>> Iter<'a, K, V, C> {
         tree.tell_fits();
         // For the prover: the iterator keeps the fact that a node fits in memory.
         C::note_fits();
-        let mut pairs = Iter {
+        let mut ancestors = Ancestors::new();
+        let leaf = start(tree, &mut ancestors);
+        Iter {
             tree,
             left: tree.len(),
-            run: None,
-            ancestors: Ancestors::new(),
+            run: run_of(leaf),
+            ancestors,
             back: None,
-        };
-        pairs.run = run_of(start(tree, &mut pairs.ancestors));
-        pairs
+        }
     }
 }
 

@@ -114,17 +114,17 @@ impl<'a, K: Ord, V, C: NodesMut<K, V>> Range<'a, K, V, C> {
         // For the prover: the tree is well formed.
         let _root = tree.root_id();
         let (start, end) = range;
-        let mut pairs = Range {
+        let mut front = Front::new();
+        let first = front.first(tree, start);
+        let last = last_from(tree, first, &front, end);
+        Range {
             tree,
-            first: None,
-            front: Front::new(),
-            last: None,
+            first,
+            front,
+            last,
             is_left: true,
             back: None,
-        };
-        pairs.first = pairs.front.first(tree, start);
-        pairs.last = last_from(tree, pairs.first, &pairs.front, end);
-        pairs
+        }
     }
 }
 

@@ -7,18 +7,18 @@ use Rattle.btree_walk.specs.Rows.{rows_of}
 use Rattle.btree_walk.proofs.EndLemmas.{ends-whole, whole-left}
 use Rattle.btree_walk.proofs.iter.Iter.new.Goals as goal
 
-pub invariant_of-pairs : goal.invariant_of-pairs
-invariant_of-pairs g c =
-    let ahead = ap (λ l. l ++ remaining_above (views c.args.tree.now.nodes) (map.len c.args.tree.now.nodes) (rows_of c.start.new.ancestors)) c.run_of-pairs-inside.ensures ∙ c.start.ensures.left in
-    (c.note_fits.ensures, c.start.ensures.above, tt, rw ahead (ends-whole c.len.result (pairs_of c.args.tree.now) c.len.ensures))
+pub invariant_of-result : goal.invariant_of-result
+invariant_of-result g c =
+    let ahead = ap (λ l. l ++ remaining_above (views c.args.tree.now.nodes) (map.len c.args.tree.now.nodes) (rows_of c.start-leaf.new.ancestors)) c.run_of.ensures ∙ c.start-leaf.ensures.left in
+    (c.note_fits.ensures, c.start-leaf.ensures.above, tt, rw ahead (ends-whole c.len.result (pairs_of c.args.tree.now) c.len.ensures))
 
 pub returns : goal.returns
 returns g c =
-    rw (ap (λ l. l ++ remaining_above (views c.args.tree.now.nodes) (map.len c.args.tree.now.nodes) (rows_of c.start.new.ancestors)) c.run_of-pairs-inside.ensures ∙ c.start.ensures.left)
+    rw (ap (λ l. l ++ remaining_above (views c.args.tree.now.nodes) (map.len c.args.tree.now.nodes) (rows_of c.start-leaf.new.ancestors)) c.run_of.ensures ∙ c.start-leaf.ensures.left)
     (whole-left c.len.result (pairs_of c.args.tree.now) c.len.ensures)
 
-pub start-requires : goal.start-requires
-start-requires g c = (omega arith, (search fits-leaf, c.new.ensures))
+pub start-leaf-requires : goal.start-leaf-requires
+start-leaf-requires g c = (omega arith, (search fits-leaf, c.new-ancestors.ensures))
 
-pub run_of-pairs-inside-requires : goal.run_of-pairs-inside-requires
-run_of-pairs-inside-requires g c = search fits-leaf
+pub run_of-requires : goal.run_of-requires
+run_of-requires g c = search fits-leaf
