@@ -57,6 +57,10 @@ fn main() {
         let sum = |sum: u64, (key, value): (&u64, &u64)| sum.wrapping_add(*key).wrapping_add(*value);
         map.iter().fold(0, sum)
     });
+    phase("iterate_back", || {
+        let sum = |sum: u64, (key, value): (&u64, &u64)| sum.wrapping_add(*key).wrapping_add(*value);
+        map.iter().rev().fold(0, sum)
+    });
     let width = (u64::MAX / (count as u64).max(1)).saturating_mul(9);
     phase("range_ten", || {
         let pairs = |key: &u64| map.range(*key..=key.saturating_add(width));

@@ -1,5 +1,5 @@
-//! Times insertion, look-up, a walk and removal in the kit's map and in this repository's map, and insertion in descending order, in
-//! this repository's map also at the address of the item before, and short ranges of it.
+//! Times insertion, look-up, walks from both ends and removal in the kit's map and in this repository's map, and insertion in descending
+//! order, in this repository's map also at the address of the item before, and short ranges of it.
 //!
 //! Without an argument it runs over 1000 keys and prints the sum of each phase. With a number of keys as its argument it prints, for each
 //! phase, its name, the nanoseconds that it took, and its sum.
@@ -110,6 +110,9 @@ fn measure(
     let since = Instant::now(rt)?;
     let sum = table.sum();
     report(rt, is_timed, (map, "iterate"), since, sum)?;
+    let since = Instant::now(rt)?;
+    let sum = table.sum_back();
+    report(rt, is_timed, (map, "iterate_back"), since, sum)?;
     let since = Instant::now(rt)?;
     let sum = take_all(table, keys.present.as_slice());
     report(rt, is_timed, (map, "remove"), since, sum)

@@ -22,6 +22,9 @@ pub trait Table {
     /// Returns the sum of all keys and values, by a walk.
     fn sum(&self) -> u64;
 
+    /// Returns the same sum, by a walk from the back.
+    fn sum_back(&self) -> u64;
+
     /// Removes a key, and returns its value, or `None`.
     fn take(&mut self, key: u64) -> Option<u64>;
 }
@@ -38,6 +41,14 @@ impl Table for KitMap {
     fn sum(&self) -> u64 {
         let mut sum = 0u64;
         for (key, value) in self.iter() {
+            sum = sum.wrapping_add(*key).wrapping_add(*value);
+        }
+        sum
+    }
+
+    fn sum_back(&self) -> u64 {
+        let mut sum = 0u64;
+        for (key, value) in self.iter().rev() {
             sum = sum.wrapping_add(*key).wrapping_add(*value);
         }
         sum
@@ -63,6 +74,14 @@ impl Table for SlabMap {
     fn sum(&self) -> u64 {
         let mut sum = 0u64;
         for (key, value) in self.iter() {
+            sum = sum.wrapping_add(*key).wrapping_add(*value);
+        }
+        sum
+    }
+
+    fn sum_back(&self) -> u64 {
+        let mut sum = 0u64;
+        for (key, value) in self.iter().rev() {
             sum = sum.wrapping_add(*key).wrapping_add(*value);
         }
         sum

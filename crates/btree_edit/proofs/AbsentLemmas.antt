@@ -1,5 +1,5 @@
 -- An insertion of an absent key at the address of its gap.
-use Rattle.std.proofs.Common.{◌≡◌, ℕ, List, Option, Some, None, Err, IsSome, refl, sym, ap, subst, is_some, if◌then◌else◌, Ok, Result}
+use Rattle.std.proofs.Common.{◌≡◌, ℕ, Option, Some, None, Err, IsSome, refl, is_some, if◌then◌else◌, Ok}
 use Rattle.std.specs.Cmp.{IsTotalOrder}
 use Rattle.std.specs.declared.cmp.Ordering.{Ordering}
 use Rattle.btree_item.specs.Pairs.{before, found}

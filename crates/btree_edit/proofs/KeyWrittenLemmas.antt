@@ -1,10 +1,9 @@
 -- A value written at a key: at its address, and in the list.
-use Rattle.std.proofs.Common.{◌≡◌, ◌∙◌, ℕ, List, Ok, Some, sym, ap, slice_get, subst, unwrap_or}
+use Rattle.std.proofs.Common.{◌≡◌, ◌∙◌, Some, sym, ap, slice_get, subst, unwrap_or}
 use Rattle.std.specs.Cmp.{IsTotalOrder}
 use Rattle.std.specs.declared.cmp.Ordering.{Ordering}
-use Rattle.btree_item.specs.Pairs.{before, with_value}
 use Rattle.btree_item.specs.declared.address.Address.{Address}
-use Rattle.btree_item.proofs.PairLemmas.{before-from_Ok, set-from_Ok, slice_get-from_Ok}
+use Rattle.btree_item.proofs.PairLemmas.{before-from_Ok, set-from_Ok}
 use Rattle.btree_shape.specs.Focus.Positions.{address_at}
 use Rattle.btree_shape.specs.Place.{NOWHERE}
 use Rattle.btree_shape.specs.TreeAddresses.{item_addresses_of}

@@ -1,12 +1,12 @@
 -- A replacement by key: at a key that is there, and at the gap of one that is not.
-use Rattle.std.proofs.Common.{◌≡◌, ◌∙◌, ℕ, List, Option, Some, None, IsSome, refl, sym, ap, subst, is_some, set, if◌then◌else◌}
+use Rattle.std.proofs.Common.{◌≡◌, ◌∙◌, List, Option, Some, None, IsSome, refl, sym, ap, is_some, set, if◌then◌else◌}
 use Rattle.std.specs.Cmp.{IsTotalOrder}
 use Rattle.std.specs.List.{insert}
 use Rattle.std.specs.declared.cmp.Ordering.{Ordering}
 use Rattle.btree_item.proofs.PairLemmas.{before-from_Err, before-from_Ok}
 use Rattle.btree_item.specs.Pairs.{before, found}
 use Rattle.btree_item.specs.declared.address.Address.{Address}
-use Rattle.btree_shape.specs.TreeState.{TreeState, IsBTree, IsPlaceIn, item_of, pairs_of}
+use Rattle.btree_shape.specs.TreeState.{TreeState, IsBTree, item_of, pairs_of}
 use Rattle.btree_find.specs.Answers.{IsFoundAt, IsGapAt}
 use Rattle.btree_find.proofs.PlaceLemmas.{only}
 use Rattle.btree_edit.specs.Exchange.{IsExchanged}

@@ -603,14 +603,14 @@ impl<K: Drop, V: Drop> InternalNode<K, V> {
         self.append_from(separator, &mut emptied)
     }
 
-    /// Appends the separator with the other node's first child, and then the other node's branches, of which it has none afterwards. Each
-    /// moves once, and no node is passed by value. Returns the separator's offset. The order of the keys and the parents of the children
-    /// are up to the caller.
+    /// Appends the separator with the other node's first child, and then the other node's branches. The other node keeps only its parent and
+    /// its first child. Each branch moves once, and no node is passed by value. Returns the separator's offset. The order of the keys
+    /// and the parents of the children are up to the caller.
     pub fn append_from(&mut self, separator: Item<K, V>, other: &mut InternalNode<K, V>) -> Offset
         requires { HaveRoom (view_of self.old) (view_of other.old) }
         ensures offset { result ≡ Some (length self.old.branches) }
         ensures after { view_of self.new ≡ joined (view_of self.old) separator (view_of other.old) }
-        ensures emptied { other.new.branches ≡ [] }
+        ensures emptied { other.new ≡ record other.old { branches = [] } }
     {
         let offset = offset_at(self.item_count());
         self.branches.push(Branch {

@@ -12,8 +12,8 @@ use std::mem;
 /// A list of at most `N` values. They are stored inline, so that it never allocates, and as options, so that a value needs no default.
 #[derive(Drop)]
 pub struct Slots<T, const N: usize> {
-    // The number of values. A list keeps its own after its last slot: this one lies before the first, so that a look-up need not read
-    // that far, and an edit need not wait for it.
+    // The number of values. An `ArrayVec` keeps its own after its last slot. This one lies before the first, so that a look-up need not
+    // read that far, and the loops of an edit need not wait for it.
     len: usize,
     slots: ArrayVec<Option<T>, N>,
 }
@@ -129,15 +129,6 @@ impl<T: Drop, const N: usize> Slots<T, N> {
         }
     }
 
-    /// Appends the values of the other list. Each moves once. There must be room for them.
-    pub fn append(&mut self, other: Self)
-        requires { length self.old + length other ≤ N }
-        ensures { self.new ≡ self.old ++ other }
-    {
-        append_to(&mut self.slots, other.slots);
-        self.len = self.slots.len();
-    }
-
     /// Removes the values from an index on, and returns them as a list of their own. Each moves once.
     pub fn split_off(&mut self, at: usize) -> Self
         requires { at ≤ length self.old }
@@ -164,7 +155,7 @@ impl<T: Drop, const N: usize> Slots<T, N> {
     }
 }
 
-// Inserts a slot into a list of this length. Each slot from the index on moves once.
+// Inserts a slot into a list of `len` slots. Each slot from the index on moves once.
 fn insert_slot<T: Drop, const N: usize>(
     slots: &mut ArrayVec<Option<T>, N>,
     len: usize,
@@ -183,7 +174,7 @@ fn insert_slot<T: Drop, const N: usize>(
     slots.push(carried);
 }
 
-// Removes a slot of a list of this length. Each slot after it moves once, from the last one on.
+// Removes a slot of a list of `len` slots. Each slot after it moves once, from the last one on.
 fn remove_slot<T: Drop, const N: usize>(
     slots: &mut ArrayVec<Option<T>, N>,
     len: usize,
@@ -203,21 +194,7 @@ fn remove_slot<T: Drop, const N: usize>(
     carried
 }
 
-// Moves the other values to the end of these.
-fn append_to<T: Drop, const N: usize>(
-    slots: &mut ArrayVec<Option<T>, N>,
-    mut other: ArrayVec<Option<T>, N>,
-)
-    requires { length slots.old.items + length other.items ≤ N }
-    ensures { slots.new.items ≡ slots.old.items ++ other.items }
-{
-    let len = other.len();
-    for slot in other.drain(0..len) {
-        slots.push(slot);
-    }
-}
-
-// Moves the slots of a list of this length from an index on to the end of another list.
+// Moves the slots of a list of `len` slots from an index on to the end of another list.
 fn move_slots<T: Drop, const N: usize>(
     slots: &mut ArrayVec<Option<T>, N>,
     len: usize,

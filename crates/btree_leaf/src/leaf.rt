@@ -335,13 +335,13 @@ impl<K: Drop, V: Drop> LeafNode<K, V> {
         self.append_from(separator, &mut emptied)
     }
 
-    /// Appends the separator and then the items of the other leaf, which has none afterwards. Each moves once, and no leaf is passed by
+    /// Appends the separator and then the items of the other leaf, which keeps only its parent. Each moves once, and no leaf is passed by
     /// value. Returns the separator's offset. The order of the keys is then up to the caller.
     pub fn append_from(&mut self, separator: Item<K, V>, other: &mut LeafNode<K, V>) -> Offset
         requires { HaveRoom (view_of self.old) (view_of other.old) }
         ensures offset { result ≡ Some (length self.old.items) }
         ensures after { view_of self.new ≡ joined (view_of self.old) separator (view_of other.old) }
-        ensures emptied { other.new.items ≡ [] }
+        ensures emptied { other.new ≡ record other.old { items = [] } }
     {
         let offset = offset_at(self.items.len());
         self.items.push(separator);
@@ -349,11 +349,12 @@ impl<K: Drop, V: Drop> LeafNode<K, V> {
         offset
     }
 
-    /// Moves the items into an empty leaf, which gets the same parent. Each moves once, and no leaf is passed by value.
+    /// Moves the items into an empty leaf, which gets the same parent, and keeps only its own parent. Each moves once, and no leaf is
+    /// passed by value.
     pub fn move_into(&mut self, part: &mut LeafNode<K, V>)
         requires { part.old.items ≡ [] }
         ensures moved { part.new ≡ self.old }
-        ensures emptied { self.new.items ≡ [] }
+        ensures emptied { self.new ≡ record self.old { items = [] } }
     {
         // For the prover alone: there are at most nine items, which an empty leaf has room for.
         let _count = self.item_count();

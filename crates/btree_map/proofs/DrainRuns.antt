@@ -1,5 +1,5 @@
 -- Runs of a test over the pairs that a cursor has left, call by call.
-use Rattle.std.proofs.Common.{◌≡◌, ◌∙◌, ℕ, zero, suc, ◌+◌, ◌<◌, Bool, true, false, not, List, [], ◌∷◌, ◌++◌, Some, None, length, ◌≤◌, slice_get, refl, sym, ap, subst, arith, drop, take, append_assoc, append-nil}
+use Rattle.std.proofs.Common.{◌≡◌, ◌∙◌, ℕ, zero, suc, ◌+◌, ◌<◌, Bool, true, false, not, List, [], ◌∷◌, ◌++◌, Some, length, ◌≤◌, slice_get, refl, sym, ap, subst, arith, drop, take, append_assoc, append-nil}
 use mathlib.Core.Bool.{beq}
 use Rattle.std.specs.Map.Calls.{CallableOnEachPair}
 use Rattle.std.specs.declared.cmp.Ord as ord
@@ -10,8 +10,7 @@ use Rattle.btree_nodes.specs.declared.NodesMut as nodes_mut
 use Rattle.btree_shape.specs.TreeAddresses.{item_addresses_of}
 use Rattle.btree_shape.specs.TreeState.{TreeState, pairs_of}
 use Rattle.btree_map.specs.Drain.{Asks, AsksFirst, Ends, KeepsAddresses, RunsOut, RunsTest, Selects, if_same, picked}
-use Rattle.btree_map.specs.Editing.{PassesEntry, RemovesEntry, left_of, passed_of, with_first}
-use Rattle.btree_map.specs.WrittenAddresses.{written-addresses}
+use Rattle.btree_map.specs.Editing.{PassesEntry, RemovesEntry, left_of, passed_of}
 use Rattle.btree_map.specs.declared.cursor.editing.EntriesMut.{EntriesMut}
 
 pub same-answer : (a b : Bool) → beq a b ≡ true → a ≡ b

@@ -10,7 +10,7 @@ use Rattle.btree_nodes.specs.declared.Nodes as nodes
 use Rattle.btree_nodes.specs.declared.NodesMut as nodes_mut
 use Rattle.btree_shape.specs.TreeAddresses.{item_addresses_of}
 use Rattle.btree_shape.specs.TreeState.{TreeState, pairs_of}
-use Rattle.btree_map.specs.Editing.{WritesPeeked, left_of, passed_of, with_first}
+use Rattle.btree_map.specs.Editing.{WritesPeeked, with_first}
 use Rattle.btree_map.specs.declared.cursor.editing.EntriesMut.{EntriesMut}
 
 module _ {K V : Type 0} where

@@ -238,7 +238,7 @@ impl<K: Drop, V: Drop> Node<K, V> {
     ghost use Rattle.std.specs.Result.{result_err};
     ghost use Rattle.btree_view.specs.Removal.{removal_in};
     ghost use Rattle.btree_view.specs.View.{leaf, internal, last_child_of, last_item_of};
-    ghost use Rattle.btree_view.specs.Edits.{HasSpare, HaveRoom, joined, PopsLeft, PopsRight, pushed_left, pushed_right, with_item_at, with_other_item_at, without, without_at, without_last};
+    ghost use Rattle.btree_view.specs.Edits.{HasSpare, HaveRoom, joined, left_behind, PopsLeft, PopsRight, pushed_left, pushed_right, with_item_at, with_items, with_other_item_at, without, without_at, without_last};
 
     /// Returns a leaf with one item. `Some(usize::MAX)` as the parent is read as `None`.
     pub fn leaf(parent: Option<usize>, item: Item<K, V>) -> Self
@@ -355,15 +355,15 @@ impl<K: Drop, V: Drop> Node<K, V> {
         self.append_from(separator, &mut emptied)
     }
 
-    /// Appends the separator and then what the other node, of the same kind, holds, which has no items afterwards. Each item moves once, and
-    /// no node is passed by value. Returns the separator's offset. The order of the keys and the parents of the children are up to the
-    /// caller.
+    /// Appends the separator and then what the other node, of the same kind, holds. The other node keeps only its parent and, as an internal
+    /// node, its first child. Each item moves once, and no node is passed by value. Returns the separator's offset. The order of the
+    /// keys and the parents of the children are up to the caller.
     pub fn append_from(&mut self, separator: Item<K, V>, other: &mut Node<K, V>) -> Offset
         requires kind { is_internal (view_of other.old) ≡ is_internal (view_of self.old) }
         requires room { HaveRoom (view_of self.old) (view_of other.old) }
         ensures offset { result ≡ Some (size_of (view_of self.old)) }
         ensures after { view_of self.new ≡ joined (view_of self.old) separator (view_of other.old) }
-        ensures emptied { items_of (view_of other.new) ≡ [] }
+        ensures emptied { view_of other.new ≡ with_items [] (view_of other.old) }
     {
         match self {
             Node::Internal(node) => match other {
@@ -377,13 +377,13 @@ impl<K: Drop, V: Drop> Node<K, V> {
         }
     }
 
-    /// Moves what a node holds into `part`, a leaf without items, which becomes the node that this one was. This one has no items
-    /// afterwards. Each item of a leaf moves once, and no leaf is passed by value.
+    /// Moves what a node holds into `part`, a leaf without items, which becomes the node that this one was. A leaf keeps only its parent,
+    /// and an internal node becomes the leaf that `part` was. Each item of a leaf moves once, and no leaf is passed by value.
     pub fn move_into(&mut self, part: &mut Node<K, V>)
         requires leaf { is_internal (view_of part.old) ≡ false }
         requires empty { items_of (view_of part.old) ≡ [] }
         ensures moved { part.new ≡ self.old }
-        ensures emptied { items_of (view_of self.new) ≡ [] }
+        ensures emptied { view_of self.new ≡ left_behind (view_of self.old) (view_of part.old) }
     {
         match self {
             Node::Internal(_) => mem::swap(self, part),

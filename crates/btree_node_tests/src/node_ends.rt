@@ -90,15 +90,18 @@ fn joins_internal_nodes(rt: HostRuntime) {
     assert_same(&rt, node.parent(), Some(6));
 }
 
-// The other node stays where it is, and has no items afterwards.
+// The other node stays where it is, under its parent, without items. An internal node keeps its first child.
 #[test]
 fn joins_by_reference(rt: HostRuntime) {
     let mut leaf = Node::Leaf(leaf_of(&rt, &[0, 10, 20]));
     let mut other = Node::Leaf(leaf_of(&rt, &[40, 50]));
+    other.set_parent(Some(7));
     assert_true(&rt, leaf.item_count() + other.item_count() <= 8);
     assert_same(&rt, leaf.append_from(item(30), &mut other), Offset::from(3));
     assert_true(&rt, is_node(&leaf, &[0, 10, 20, 30, 40, 50], &[]));
-    assert_same(&rt, other.item_count(), 0);
+    assert_same(&rt, leaf.parent(), Some(5));
+    assert_true(&rt, is_node(&other, &[], &[]));
+    assert_same(&rt, other.parent(), Some(7));
     let mut node = Node::Internal(internal_of(&rt, &[10]));
     let mut right = Node::binary(Some(9), 200, item(30), 201);
     assert_true(&rt, node.item_count() + right.item_count() <= 7);
@@ -107,7 +110,31 @@ fn joins_by_reference(rt: HostRuntime) {
         &rt,
         is_node(&node, &[0, 10, 20, 30], &[100, 101, 102, 200, 201]),
     );
-    assert_same(&rt, right.item_count(), 0);
+    assert_same(&rt, node.parent(), Some(6));
+    assert_true(&rt, is_node(&right, &[], &[200]));
+    assert_same(&rt, right.parent(), Some(9));
+}
+
+// The calls of a kind that take the other node by value.
+#[test]
+fn joins_by_value(rt: HostRuntime) {
+    let mut leaf = leaf_of(&rt, &[0, 10]);
+    let other = leaf_of(&rt, &[30, 40]);
+    assert_true(&rt, leaf.item_count() + other.item_count() <= 8);
+    assert_same(&rt, leaf.append(item(20), other), Offset::from(2));
+    assert_true(&rt, is_node(&Node::Leaf(leaf), &[0, 10, 20, 30, 40], &[]));
+    let mut node = internal_of(&rt, &[10]);
+    let right = InternalNode::binary(Some(9), 200, item(30), 201);
+    assert_true(&rt, node.item_count() + right.item_count() <= 7);
+    assert_same(&rt, node.append(item(20), right), Offset::from(2));
+    assert_true(
+        &rt,
+        is_node(
+            &Node::Internal(node),
+            &[0, 10, 20, 30],
+            &[100, 101, 102, 200, 201],
+        ),
+    );
 }
 
 #[test]

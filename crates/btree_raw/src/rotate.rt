@@ -1,7 +1,8 @@
 //! The steps that fix an underflow.
-ghost use Rattle.std.specs.Prelude.{◌≡◌, ◌<◌, ◌≤◌, IfNone, IfOk, IfSome, None, OnErr, OnOk, Some, option_map};
+ghost use Rattle.std.specs.Prelude.{◌≡◌, ◌<◌, ◌≤◌, [], IfNone, IfOk, IfSome, None, OnErr, OnOk, Some, option_map};
 ghost use Rattle.std.specs.FinMap as map;
 ghost use Rattle.btree_node.specs.Node.{view_of};
+ghost use Rattle.btree_view.specs.Edits.{with_items};
 ghost use Rattle.btree_shape.specs.Lists.{as_list};
 ghost use Rattle.btree_shape.specs.Moved.{first_in};
 ghost use Rattle.btree_shape.specs.SiblingSteps.{ShrinksRoot};
@@ -116,8 +117,8 @@ fn take_separator<K: Drop, V: Drop, C: NodesMut<K, V>>(
     item
 }
 
-// Appends a separator, and then what another node holds, to a node. The other node has no items afterwards. Returns how many items the node
-// had.
+// Appends a separator, and then what another node holds, to a node. The other node keeps its parent and, as an internal node, its first
+// child. Returns how many items the node had.
 fn put_all<K: Drop, V: Drop, C: NodesMut<K, V>>(
     tree: &mut RawBTree<K, V, C>,
     id: usize,
@@ -127,12 +128,13 @@ fn put_all<K: Drop, V: Drop, C: NodesMut<K, V>>(
     requires { HasRoomForAll (node_map tree.old) id (view_of other.old) }
     ensures gains { Changes (λ a b. GainsAll a b id separator (view_of other.old)) tree.old tree.new }
     ensures count { HasCount (node_map tree.old) id result }
+    ensures emptied { view_of other.new ≡ with_items [] (view_of other.old) }
 {
     tree.tell_fits();
     tree.node_mut(id).append_from(separator, other).unwrap()
 }
 
-// Removes a node. What it held goes into `part`, which becomes that node. No leaf is passed by value.
+// Removes a node. What it held goes into `part`, a leaf without items, which becomes that node. No leaf is passed by value.
 fn take_node<K: Drop, V: Drop, C: NodesMut<K, V>>(
     tree: &mut RawBTree<K, V, C>,
     id: usize,

@@ -20,6 +20,12 @@ module _ {A : Type 0} where
   with_items xs (leaf parent items) = leaf parent xs
   with_items xs (internal parent first branches) = internal parent first (zip xs (map (λ b. b.1) branches))
 
+  -- what is left of a node after what it held moved into an empty leaf: a leaf keeps its parent, and an internal node
+  -- becomes the leaf that the other was
+  abbrev pub left_behind : View A → View A → View A
+  left_behind (leaf parent items) part = leaf parent []
+  left_behind (internal parent first branches) part = part
+
   abbrev pub is_internal : View A → Bool
   is_internal (leaf parent items) = false
   is_internal (internal parent first branches) = true

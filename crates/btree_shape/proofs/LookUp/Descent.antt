@@ -11,15 +11,13 @@ use Rattle.btree_item.specs.Pairs.{Ascends, place_of}
 use Rattle.btree_view.specs.View.{NodeMap, View, children_of, items_of, leaf}
 use Rattle.btree_shape.specs.Focus.Search.{IsPart, IsSearching, levels_below}
 use Rattle.btree_shape.specs.Focus.Subtree.{IsFilled, Subtree, count_at, id_of, items_under, later_items, view_at}
-use Rattle.btree_shape.specs.Focus.Path.{Path, Frame, after_in, at_branch, at_first, before_in, fill, frame_id, items_after, items_before, least_at, parent_above, top, under}
-use Rattle.btree_shape.specs.WellFormed.{IsRooted, IsSized}
+use Rattle.btree_shape.specs.Focus.Path.{Path, Frame, after_in, at_branch, at_first, before_in, fill, frame_id, items_after, items_before, least_at, parent_above, under}
 use Rattle.btree_shape.specs.Focus.Focus.{HasFocus, IsFocus}
 use Rattle.btree_shape.specs.Focus.Node.{IsNode}
 use Rattle.btree_shape.proofs.Paths.Frames.{AllByRecursion-append, AllByRecursion-right, fill-id, fill-items, top-view}
 use Rattle.btree_shape.proofs.Trees.Heights.{height-fits, levels-is}
-use Rattle.btree_shape.proofs.Paths.FromRoot.{rooted-tree, unsized-rooted}
 use Rattle.btree_shape.proofs.LookUp.KeyInList.{AreAbove, AreBelow, Rises, above-pivot, ascends, below-pivot, rises-left, rises-right, searched, side}
-use Rattle.btree_shape.proofs.Paths.Focus.{descend, from-tree}
+use Rattle.btree_shape.proofs.Paths.Focus.{descend}
 
 -- a list whose image is two parts is itself two parts
 pub record MapParts {X Y : Type 0} (f : X → Y) (xs : List X) (ys zs : List Y) : Type 0 where

@@ -11,7 +11,7 @@ use Rattle.btree_view.specs.View.{NodeMap, View, item_in, items_of, leaf}
 use Rattle.btree_shape.specs.Place.{IsPlace}
 use Rattle.btree_shape.specs.Focus.Search.{IsPart, IsSearching}
 use Rattle.btree_shape.specs.Focus.Subtree.{Subtree, id_of, items_under, later_items, view_at}
-use Rattle.btree_shape.specs.Focus.Path.{Path, items_after, items_before, parent_above}
+use Rattle.btree_shape.specs.Focus.Path.{Path, items_before, parent_above}
 use Rattle.btree_shape.specs.Focus.Focus.{IsFocus}
 use Rattle.btree_shape.proofs.LookUp.Descent.{get-after, map-parts, hole-rises, items-rise, part-rises, view-items}
 use Rattle.btree_shape.proofs.Paths.Frames.{AllByRecursion-append}

@@ -10,7 +10,7 @@ use Rattle.btree_shape.specs.Focus.Focus.{IsUnsizedFocus}
 use Rattle.btree_shape.specs.Focus.Path.{Frame, Path, at_branch, at_first, before_in, depth, fill, frame_id, frame_index, frame_view, items_before, parent_above, under}
 use Rattle.btree_shape.specs.Focus.Search.{levels_below}
 use Rattle.btree_shape.specs.Focus.Subtree.{Subtree, count_at, id_of, items_under, later_items, view_at}
-use Rattle.btree_shape.proofs.Paths.ChildFocus.{ChildAt, child-at}
+use Rattle.btree_shape.proofs.Paths.ChildFocus.{child-at}
 use Rattle.btree_shape.proofs.Paths.Frames.{fill-count, fill-id, top-view}
 use Rattle.btree_shape.proofs.Paths.Levels.{levels-rooted}
 use Rattle.btree_shape.proofs.Paths.Parents.{index-fits, levels-above-is}

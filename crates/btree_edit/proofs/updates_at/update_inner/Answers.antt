@@ -1,5 +1,4 @@
-use Rattle.std.proofs.Common.{◌≡◌, ◌∙◌, ◌-◌, ℕ, Option, Some, None, IfSome, false, sym, ap, subst, arith}
-use Rattle.btree_item.specs.declared.address.Address.{Address}
+use Rattle.std.proofs.Common.{◌∙◌, ◌-◌, Option, Some, None, IfSome, sym, ap, subst, arith}
 use Rattle.btree_node.specs.Node.{view_of}
 use Rattle.btree_view.specs.Edits.{with_other_item_at}
 use Rattle.btree_shape.specs.TreeState.{TreeState, IsOffByOneAt, IsValidIn, node_map}

@@ -22,3 +22,6 @@ pub returns-clause-count : goal.returns-clause-count
 returns-clause-count g c =
     ap (option_map size_of) (here-at c.args.tree.now.nodes c.args.id c.node_mut.result.now c.node_mut.ensures.value)
     ∙ (sym c.append_from.ensures.offset ∙ c.unwrap.ensures.value)
+
+pub returns-clause-emptied : goal.returns-clause-emptied
+returns-clause-emptied g c = c.append_from.ensures.emptied

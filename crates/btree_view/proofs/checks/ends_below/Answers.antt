@@ -1,4 +1,4 @@
-use Rattle.std.proofs.Common.{◌∙◌, ap}
+use Rattle.std.proofs.Common.{ap}
 use Rattle.std.specs.Option.{option_copied}
 use Rattle.btree_item.proofs.KeyLemmas.{is_lt-from_partial}
 use Rattle.btree_view.proofs.EndLemmas.{EndsBelow-last, EndsBelow-none}

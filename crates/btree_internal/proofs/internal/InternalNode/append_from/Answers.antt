@@ -1,4 +1,4 @@
-use Rattle.std.proofs.Common.{◌≡◌, ◌∙◌, ◌++◌, ◌∷◌, ap, length, length-append, arith, rules}
+use Rattle.std.proofs.Common.{◌≡◌, ◌∙◌, [], ◌++◌, ◌∷◌, ap, length, length-append, arith, rules}
 use Rattle.std.proofs.lemmas.List.{length-map}
 use Rattle.btree_view.specs.View.{internal}
 use Rattle.btree_internal.proofs.ChangeLemmas.{length-pairs, pairs, pairs-joined}
@@ -35,3 +35,10 @@ returns-clause-after g c =
     let all = pairs-joined c.self.inside.branches c.other.inside.branches c.push.new.self c.move_tail.new.to (record { item = c.args.separator; child = c.other.inside.first }) c.push.ensures c.move_tail.ensures.moved in
     let both = all ∙ (λ j. mine j ++ (c.args.separator, child j) ∷ its j) in
     λ j. internal (parent j) (first j) (both j)
+
+pub returns-clause-emptied : goal.returns-clause-emptied
+returns-clause-emptied g c =
+    let parent = ap (λ n. n.parent) c.other.view_is in
+    let first = ap (λ n. n.first) c.other.view_is in
+    let none : pairs c.move_tail.new.self ≡ [] = ap pairs c.move_tail.ensures.left in
+    λ i. record { parent = parent i; first = first i; branches = none i }

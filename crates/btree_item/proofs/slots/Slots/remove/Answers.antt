@@ -1,7 +1,7 @@
 use Rattle.std.proofs.lemmas.Grind.{common_steps}
 use Rattle.std.proofs.lemmas.List.Edits.{length-remove}
 use Rattle.std.specs.List.{remove}
-use Rattle.std.proofs.Common.{◌≡◌, ◌<◌, ap, length, arith}
+use Rattle.std.proofs.Common.{◌<◌, ap, length, arith}
 use Rattle.btree_item.proofs.slots.Slots.remove.Goals as goal
 use Rattle.btree_item.proofs.SomesLemmas.{AreSome-remove, length-somes, slot_edits}
 

@@ -1,4 +1,4 @@
-use Rattle.std.proofs.Common.{length, ◌++◌, ◌∷◌, arith, ap, ◌∙◌, length-append, rules}
+use Rattle.std.proofs.Common.{◌≡◌, length, [], ◌++◌, ◌∷◌, arith, ap, ◌∙◌, length-append, rules}
 use Rattle.btree_view.specs.View.{leaf}
 use Rattle.btree_view.proofs.Cuts.{joined_behind}
 use Rattle.btree_leaf.proofs.leaf.LeafNode.append_from.Goals as goal
@@ -36,4 +36,7 @@ pub returns-clause-offset : goal.returns-clause-offset
 returns-clause-offset g c = search rules steps 200000
 
 pub returns-clause-emptied : goal.returns-clause-emptied
-returns-clause-emptied g c = search rules steps 200000
+returns-clause-emptied g c =
+    let parent = ap (λ l. l.parent) c.other.view_is in
+    let none : c.move_tail.new.self ≡ [] = c.move_tail.ensures.left in
+    λ i. record { parent = parent i; items = none i }

@@ -1,4 +1,4 @@
-use Rattle.std.proofs.Common.{length, ◌∙◌, ap, arith, rules}
+use Rattle.std.proofs.Common.{◌≡◌, length, [], ◌∙◌, ap, arith, rules}
 use Rattle.btree_leaf.proofs.leaf.LeafNode.move_into.Goals as goal
 
 pub item_count-count-requires : goal.item_count-count-requires
@@ -12,3 +12,9 @@ move_tail-requires g c =
       omega arith,
       (omega arith, omega (arith, none, long, c.item_count-count.ensures.fits, c.item_count-count.ensures.value)),
     )
+
+pub returns-clause-emptied : goal.returns-clause-emptied
+returns-clause-emptied g c =
+    let parent = ap (λ l. l.parent) c.self.view_is in
+    let none : c.move_tail.new.self ≡ [] = c.move_tail.ensures.left in
+    λ i. record { parent = parent i; items = none i }

@@ -1,5 +1,4 @@
-use Rattle.std.proofs.Common.{◌≡◌, ◌∙◌, ◌++◌, ◌∷◌, [], Bool, not, arith, ap, length, refl}
-use Rattle.btree_map.specs.Editing.{left_of}
+use Rattle.std.proofs.Common.{◌∙◌, ◌++◌, ◌∷◌, [], not, arith, ap, refl}
 use Rattle.btree_map.proofs.DrainRuns.{first-accepts, head-is, none-left, runs-start, runs-passed, runs-taken, runs-callable, same-answer, same-lent, other-answer}
 use Rattle.btree_map.proofs.drain.steps.run_rest.Goals as goal
 

@@ -1,5 +1,5 @@
-use Rattle.std.proofs.Common.{◌≡◌, ◌∙◌, ◌++◌, ◌∷◌, [], arith, ap, false, length, refl, sym, subst}
-use Rattle.btree_map.specs.Editing.{RemovesEntry, left_of}
+use Rattle.std.proofs.Common.{◌∙◌, ◌++◌, ◌∷◌, [], arith, ap, false, refl}
+use Rattle.btree_map.specs.Editing.{left_of}
 use Rattle.btree_map.proofs.DrainRuns.{first-accepts, head-is, none-left, runs-start, runs-passed, runs-taken, runs-callable, still-none, fewer-left, same-lent}
 use Rattle.btree_map.proofs.drain.steps.seek.Goals as goal
 

@@ -1,4 +1,4 @@
-use Rattle.std.proofs.Common.{◌∙◌, ◌+◌, arith, length, refl, slice_get, sym}
+use Rattle.std.proofs.Common.{◌∙◌, arith, refl, sym}
 use Rattle.btree_shape.specs.TreeState.{pairs_of}
 use Rattle.btree_map.proofs.EditingLemmas.{at-within, left-some}
 use Rattle.btree_map.proofs.EditingLists.{pass-cut}
