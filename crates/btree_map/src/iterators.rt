@@ -22,8 +22,8 @@ impl<K: Ord, V, C: NodesMut<K, V>> BTreeMap<K, V, C> {
     /// Returns an iterator over the pairs whose keys are between two bounds, each of them included, excluded or absent, from both ends. The
     /// start must be at most the end, and they may not be equal if both are excluded: `is_valid_range` tells.
     ///
-    /// It reads at most two nodes of each level, compares at most six keys in each for the start and eight for the end, and two more, and
-    /// allocates no memory.
+    /// It reads at most three nodes of each level, and allocates no memory. It makes at most six comparisons in each node on the way to the
+    /// start, and from there on at most one for each item until the end.
     pub fn range(&self, range: (Bound<&K>, Bound<&K>)) -> Range<'_, K, V, C>
         requires { IsValidRange K.cmp range }
         ensures { result ≡ pairs_between K.cmp range.entry (pairs_of self.now) }

@@ -147,13 +147,14 @@ fn splits_an_internal_node_into_a_leaf(rt: HostRuntime) {
     );
 }
 
-// The leaf becomes the node, which has no items afterwards.
+// The leaf becomes the node. A leaf keeps only its parent, and in place of an internal node the leaf is left.
 #[test]
 fn moves_into_an_empty_leaf(rt: HostRuntime) {
     let mut leaf = Node::Leaf(leaf_of(&rt, 4));
     let mut part = Node::Leaf(LeafNode::empty(Some(9)));
     leaf.move_into(&mut part);
     assert_same(&rt, (leaf.item_count(), part.item_count()), (0, 4));
+    assert_same(&rt, leaf.parent(), Some(5));
     assert_same(&rt, (part.parent(), part.child_count()), (Some(5), 0));
     assert_same(
         &rt,
@@ -164,6 +165,7 @@ fn moves_into_an_empty_leaf(rt: HostRuntime) {
     let mut whole = Node::Leaf(LeafNode::empty(Some(9)));
     node.move_into(&mut whole);
     assert_same(&rt, (node.item_count(), whole.item_count()), (0, 3));
+    assert_same(&rt, (node.parent(), node.child_count()), (Some(9), 0));
     assert_same(
         &rt,
         (whole.parent(), whole.child_id_opt(3)),

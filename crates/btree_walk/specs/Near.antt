@@ -98,7 +98,8 @@ module _ {K V : Type 0} (tree : TreeState K V) where
   list_below None = []
   list_below (Some id) = list_under id
 
-  -- the last pair within an end bound under the child of a branch, or else the item of the branch, or without one another pair
+  -- the last pair within an end bound under the child of a branch; if there is none, the item of the branch; without a
+  -- branch, another pair
   abbrev pub IsLastBelow : (K → K → Ordering) → Bound K → (branch : Option ((Bor K × Bor V) × ℕ)) → (other result : Option (Bor K × Bor V)) → Type 0
   IsLastBelow cmp end branch other result =
       IsLastOr (entries_between cmp Unbounded end (list_below (child_in (branch_now branch)))) (item_or (branch_now branch) (pair_now other)) (pair_now result)

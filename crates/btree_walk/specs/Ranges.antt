@@ -50,7 +50,7 @@ module _ {K V : Type 0} (cmp : K → K → Ordering) where
   left_until pairs None is_left = []
   left_until pairs (Some y) is_left = entries_between cmp Unbounded (bound_at y.0 is_left) pairs
 
-  -- of each end of the list, two last pairs leave the same
+  -- of any final part of a list, the same is left with either of two last pairs
   abbrev pub AreLeftSame : (all : List (K × V)) → (last : Option (K × V)) → Bool → (other : Option (K × V)) → Bool → Type 0
   AreLeftSame all last is_left other other_left = (before pairs : List (K × V)) → all ≡ before ++ pairs
       → left_until pairs last is_left ≡ left_until pairs other other_left

@@ -25,8 +25,7 @@ pub(crate) fn is_past<K: Ord>(end: Bound<&K>, key: &K) -> bool
     }
 }
 
-// Returns the last item of a leaf, after those that are passed, that comes before the first one past an end bound, and whether there is
-// one past it.
+// Returns the last item of a leaf that is within an end bound, after those that are passed, and whether an item is past the bound.
 fn last_of_leaf<'a, K: Ord, V>(
     leaf: Option<&'a LeafNode<K, V>>,
     passed: usize,
@@ -46,7 +45,7 @@ fn last_of_leaf<'a, K: Ord, V>(
     (last, false)
 }
 
-// The same for an internal node. Returns each item with the child after it.
+// The same for an internal node. The item is returned with the child after it.
 fn last_of_row<'a, K: Ord, V>(
     node: &'a Node<K, V>,
     passed: usize,

@@ -40,7 +40,7 @@ fn last_from<'a, K: Ord + 'a, V: 'a, C: NodesMut<K, V> + 'a>(
     last_within(tree, front.leaf, front.passed, &front.ancestors, end).or(Some(pair))
 }
 
-// Returns the last pair that is left before or at the last one found, which `is_left` tells of, and steps a backward walk if it must.
+// Returns the last pair if it is left, and otherwise the one before it, by a step of the backward walk.
 fn last_left<'a, K: Ord + 'a, V: 'a, C: NodesMut<K, V> + 'a>(
     tree: &'a Tree<K, V, C>,
     back: &mut Option<Back<'a, K, V>>,
@@ -68,8 +68,8 @@ fn last_left<'a, K: Ord + 'a, V: 'a, C: NodesMut<K, V> + 'a>(
 }
 
 /// An iterator over the pairs of a tree between two bounds, in the order of the keys and from both ends, seen by contracts as the list of
-/// those that are left. It allocates no memory. It compares two keys for each pair that it returns, and a step inside a leaf reads that
-/// leaf alone. The second step from the back searches once more, for the place of the first.
+/// those that are left. It allocates no memory. Each step makes one comparison, with the last key at the other end, and a step inside a
+/// leaf fetches no node. The second step from the back searches once more, for the place of the first.
 #[derive(Drop)]
 pub struct Range<'a, K: Ord, V, C: NodesMut<K, V>> {
     tree: &'a Tree<K, V, C>,
@@ -103,7 +103,8 @@ impl<'a, K: Ord, V, C: NodesMut<K, V>> Model for Range<'a, K, V, C> {
 impl<'a, K: Ord, V, C: NodesMut<K, V>> Range<'a, K, V, C> {
     /// Returns an iterator over the pairs whose keys are between two bounds, each included, excluded or absent. `is_valid_range` tells
     /// whether a range may be asked for. It makes at most six comparisons of keys in each node on the way to the start. From there it
-    /// searches for the end: up to the node that both ends are under, and down from it, with at most one comparison for each item.
+    /// searches for the end: up to the first node that has an item past it, or to the root, and down again, with at most one comparison
+    /// for each item. At each level it reads at most three nodes.
     pub fn new(tree: &'a Tree<K, V, C>, range: (Bound<&K>, Bound<&K>)) -> Self
         requires { IsValidRange K.cmp range }
         ensures { result ≡ pairs_between K.cmp range.entry (pairs_of tree.now) }
