@@ -69,6 +69,8 @@ where
     if len <= MIDDLE {
         return first_not_below(slots, key, 0, len, steps);
     }
+    // Reads a slot before the middle too, so that a node that is not in the cache is fetched from two places at once.
+    let _early = key_at(slots, MIDDLE / 2);
     steps.tick();
     if key_at(slots, MIDDLE) < key {
         first_not_below(slots, key, MIDDLE + 1, len, steps)

@@ -1,12 +1,13 @@
 //! The iterator over the values in slots.
 ghost use Rattle.std.specs.Prelude.{◌≡◌, Some, IfSome, length};
 ghost use Rattle.std.specs.Iterator.SizeHint.{IsWithinCount};
-ghost use Rattle.std.specs.Iterator.{YieldsFirstRef, item_count, UpTo};
+ghost use Rattle.std.specs.Iterator.{YieldsFirstRef, YieldsLastRef, item_count, UpTo};
 
+use std::iter::DoubleEndedIterator;
 use std::marker::Model;
 use std::slice;
 
-/// An iterator over the values in slots, in order, seen by contracts as the list of those that are left.
+/// An iterator over the values in slots, in order and from both ends, seen by contracts as the list of those that are left.
 #[derive(Drop)]
 pub struct SlotsIter<'a, T> {
     pub(crate) slots: slice::Iter<'a, Option<T>>,
@@ -47,5 +48,17 @@ impl<'a, T> Iterator for SlotsIter<'a, T> {
     {
         let left = self.slots.len();
         (left, Some(left))
+    }
+}
+
+#[tactic(auto, using(crate::proofs::IterLemmas::slot_steps_back))]
+impl<'a, T> DoubleEndedIterator for SlotsIter<'a, T> {
+    ghost next_back_gives = { YieldsLastRef (λ rest. rest) };
+
+    fn next_back(&mut self) -> Option<&'a T> {
+        let Some(slot) = self.slots.next_back() else {
+            return None;
+        };
+        slot.as_ref()
     }
 }

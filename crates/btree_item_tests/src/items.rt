@@ -129,6 +129,10 @@ fn edits_slots(rt: HostRuntime) {
     assert_same(&rt, left.size_hint(), (1, Some(1)));
     assert_same(&rt, left.next(), Some(&3));
     assert_same(&rt, left.next(), None);
+    let mut from_back = slots.iter();
+    assert_same(&rt, from_back.next_back(), Some(&3));
+    assert_same(&rt, from_back.next(), Some(&7));
+    assert_same(&rt, from_back.next_back(), None);
 }
 
 #[test]

@@ -349,8 +349,8 @@ impl<K: Drop, V: Drop> LeafNode<K, V> {
         offset
     }
 
-    /// Moves the items into an empty leaf, which gets the same parent, and keeps only its own parent. Each moves once, and no leaf is
-    /// passed by value.
+    /// Moves the items into an empty leaf, `part`, which gets the parent of this leaf too. This leaf keeps its parent. Each item moves once,
+    /// and no leaf is passed by value.
     pub fn move_into(&mut self, part: &mut LeafNode<K, V>)
         requires { part.old.items ≡ [] }
         ensures moved { part.new ≡ self.old }

@@ -3,6 +3,7 @@ mod BackLemmas
 pub mod BetweenLemmas
 pub mod BoundLemmas
 mod EndLemmas
+mod FetchedLemmas
 mod FromLemmas
 mod IterLemmas
 mod LevelLemmas

@@ -1,10 +1,11 @@
 //! The path from the root to the leaf that a backward walk is in. The items of its nodes are passed from the last one backwards.
-ghost use Rattle.std.specs.Prelude.{◌≡◌, ◌<◌, ◌≤◌, [], Some, OnSome};
+ghost use Rattle.std.specs.Prelude.{◌≡◌, ◌<◌, [], Some, OnSome};
 ghost use Rattle.btree_node.specs.Node.{view_of};
 ghost use Rattle.btree_shape.specs.TreeState.{pairs_of};
-ghost use Rattle.btree_walk.specs.Preceding.{AreAncestorsBefore, EndsAt, HasKept, HasKeptAbove, IsBelowBefore, IsLastIn, IsPreviousAbove, preceding_at, preceding_of};
+ghost use Rattle.btree_walk.specs.Preceding.{AreAncestorsBefore, AreFetched, EndsAt, HasKept, HasKeptAbove, IsBelowBefore, IsLastIn, IsPreviousAbove, preceding_at, preceding_of};
 
 use crate::ancestors::{Ancestor, Ancestors};
+use crate::fetched::{Fetched, fetch_before, take_or_fetch};
 use btree_ext::{BTreeExt, Tree};
 use btree_item::{Item, LEAF_SLOTS};
 use btree_node::{LeafNode, Node};
@@ -56,10 +57,13 @@ fn descend_last<'a, K: Ord + 'a, V: 'a, C: NodesMut<K, V> + 'a>(
     tree: &'a Tree<K, V, C>,
     top: usize,
     ancestors: &mut Ancestors<'a, K, V>,
+    fetched: &mut Fetched<'a, K, V>,
 ) -> (&'a LeafNode<K, V>, usize)
     requires above { AreAncestorsBefore tree.now ancestors.old }
     requires below { IsBelowBefore tree.now ancestors.old top }
+    requires fetched { AreFetched tree.now fetched.old }
     ensures above { AreAncestorsBefore tree.now ancestors.new }
+    ensures fetched { AreFetched tree.now fetched.new }
     ensures kept { HasKept (Some result.0) result.1 }
     ensures left { preceding_at tree.now top ancestors.old ≡
         preceding_of tree.now (Some result.0) result.1 ancestors.new }
@@ -67,7 +71,7 @@ fn descend_last<'a, K: Ord + 'a, V: 'a, C: NodesMut<K, V> + 'a>(
     tree.tell_fits();
     let mut id = top;
     loop {
-        let node = tree.node(id);
+        let node = take_or_fetch(tree, fetched, id);
         match node {
             Node::Leaf(leaf) => return (leaf, leaf.item_count()),
             Node::Internal(inner) => {
@@ -82,9 +86,12 @@ fn descend_last<'a, K: Ord + 'a, V: 'a, C: NodesMut<K, V> + 'a>(
 pub(crate) fn end<'a, K: Ord + 'a, V: 'a, C: NodesMut<K, V> + 'a>(
     tree: &'a Tree<K, V, C>,
     ancestors: &mut Ancestors<'a, K, V>,
+    fetched: &mut Fetched<'a, K, V>,
 ) -> (Option<&'a LeafNode<K, V>>, usize)
     requires none { ancestors.old ≡ [] }
+    requires fetched { AreFetched tree.now fetched.old }
     ensures above { AreAncestorsBefore tree.now ancestors.new }
+    ensures fetched { AreFetched tree.now fetched.new }
     ensures kept { HasKept result.0 result.1 }
     ensures left { preceding_of tree.now result.0 result.1 ancestors.new ≡ pairs_of tree.now }
 {
@@ -94,7 +101,7 @@ pub(crate) fn end<'a, K: Ord + 'a, V: 'a, C: NodesMut<K, V> + 'a>(
     let Some(root) = tree.root_id() else {
         return (None, 0);
     };
-    let (leaf, kept) = descend_last(tree, root, ancestors);
+    let (leaf, kept) = descend_last(tree, root, ancestors, fetched);
     (Some(leaf), kept)
 }
 
@@ -102,9 +109,12 @@ pub(crate) fn end<'a, K: Ord + 'a, V: 'a, C: NodesMut<K, V> + 'a>(
 pub(crate) fn previous_above<'a, K: Ord + 'a, V: 'a, C: NodesMut<K, V> + 'a>(
     tree: &'a Tree<K, V, C>,
     ancestors: &mut Ancestors<'a, K, V>,
+    fetched: &mut Fetched<'a, K, V>,
 ) -> Option<((&'a K, &'a V), &'a LeafNode<K, V>, usize)>
     requires above { AreAncestorsBefore tree.now ancestors.old }
+    requires fetched { AreFetched tree.now fetched.old }
     ensures above { AreAncestorsBefore tree.now ancestors.new }
+    ensures fetched { AreFetched tree.now fetched.new }
     ensures kept { HasKeptAbove result }
     ensures left { IsPreviousAbove tree.now ancestors.old ancestors.new result }
 {
@@ -117,7 +127,8 @@ pub(crate) fn previous_above<'a, K: Ord + 'a, V: 'a, C: NodesMut<K, V> + 'a>(
                 node,
                 passed: passed + 1,
             });
-            let (leaf, kept) = descend_last(tree, child, ancestors);
+            let (leaf, kept) = descend_last(tree, child, ancestors, fetched);
+            fetch_before(tree, ancestors, fetched);
             return Some(((item.key(), item.value()), leaf, kept));
         }
     }

@@ -5,6 +5,7 @@ mod ancestors;
 mod at_key;
 mod backward;
 mod bounds;
+mod fetched;
 mod iter;
 mod keys;
 mod near;

@@ -4,14 +4,16 @@ ghost use Rattle.std.specs.BTreeMap.Range.{entries_between};
 ghost use Rattle.std.specs.declared.ops.Bound.TheVariants.{Excluded, Included, Unbounded};
 ghost use Rattle.btree_shape.specs.TreeState.{pairs_of};
 ghost use Rattle.btree_walk.specs.Bounds.{bound_key};
-ghost use Rattle.btree_walk.specs.Preceding.{AreAncestorsBefore, HasKept};
+ghost use Rattle.btree_walk.specs.Preceding.{AreAncestorsBefore, AreFetched, HasKept};
 ghost use Rattle.btree_walk.specs.Ranges.{IsFirstOf, IsLastOf, ahead_of, behind_of, pair_now};
 ghost use Rattle.btree_walk.specs.Rows.{AreAncestors};
 
 use crate::ancestors::{Ancestors, next_above, next_in_leaf, start};
 use crate::at_key::{end_at, start_from};
 use crate::backward::{end, last_in_leaf, previous_above};
+use crate::fetched::Fetched;
 use btree_ext::{BTreeExt, Tree};
+use btree_item::Slots;
 use btree_node::LeafNode;
 use btree_nodes::NodesMut;
 use std::ops::Bound;
@@ -24,12 +26,13 @@ pub(crate) struct Front<'a, K, V> {
     pub ancestors: Ancestors<'a, K, V>,
 }
 
-/// A backward walk: its leaf, how many of its items are not passed, and the nodes above.
+/// A backward walk: its leaf, how many of its items are not passed, the nodes above, and the leaves that it comes to next.
 #[derive(Drop)]
 pub(crate) struct Back<'a, K, V> {
     pub leaf: Option<&'a LeafNode<K, V>>,
     pub kept: usize,
     pub ancestors: Ancestors<'a, K, V>,
+    pub fetched: Fetched<'a, K, V>,
 }
 
 impl<'a, K: Ord + 'a, V: 'a> Front<'a, K, V> {
@@ -146,23 +149,27 @@ impl<'a, K: Ord + 'a, V: 'a> Back<'a, K, V> {
     // Returns a walk that is nowhere yet.
     pub fn new() -> Self
         ensures none { result.ancestors ≡ [] }
+        ensures fetched { result.fetched ≡ [] }
     {
         Back {
             leaf: None,
             kept: 0,
             ancestors: Ancestors::new(),
+            fetched: Slots::new(),
         }
     }
 
     // Starts after all pairs.
     pub fn start<C: NodesMut<K, V> + 'a>(&mut self, tree: &'a Tree<K, V, C>)
         requires none { self.old.ancestors ≡ [] }
+        requires fetched { AreFetched tree.now self.old.fetched }
         ensures above { AreAncestorsBefore tree.now self.new.ancestors }
         ensures kept { HasKept self.new.leaf self.new.kept }
+        ensures fetched { AreFetched tree.now self.new.fetched }
         ensures behind { behind_of tree.now self.new ≡ pairs_of tree.now }
     {
         tree.tell_fits();
-        let (leaf, kept) = end(tree, &mut self.ancestors);
+        let (leaf, kept) = end(tree, &mut self.ancestors, &mut self.fetched);
         self.leaf = leaf;
         self.kept = kept;
     }
@@ -170,8 +177,10 @@ impl<'a, K: Ord + 'a, V: 'a> Back<'a, K, V> {
     // Starts before the pairs with greater keys.
     fn start_at<C: NodesMut<K, V> + 'a>(&mut self, tree: &'a Tree<K, V, C>, key: &K)
         requires none { self.old.ancestors ≡ [] }
+        requires fetched { AreFetched tree.now self.old.fetched }
         ensures above { AreAncestorsBefore tree.now self.new.ancestors }
         ensures kept { HasKept self.new.leaf self.new.kept }
+        ensures fetched { AreFetched tree.now self.new.fetched }
         ensures behind { behind_of tree.now self.new ≡
             entries_between K.cmp Unbounded (Included key.now) (pairs_of tree.now) }
     {
@@ -188,8 +197,10 @@ impl<'a, K: Ord + 'a, V: 'a> Back<'a, K, V> {
     ) -> Option<(&'a K, &'a V)>
         requires above { AreAncestorsBefore tree.now self.old.ancestors }
         requires kept { HasKept self.old.leaf self.old.kept }
+        requires fetched { AreFetched tree.now self.old.fetched }
         ensures above { AreAncestorsBefore tree.now self.new.ancestors }
         ensures kept { HasKept self.new.leaf self.new.kept }
+        ensures fetched { AreFetched tree.now self.new.fetched }
         ensures last { IsLastOf (behind_of tree.now self.old) (pair_now result) (behind_of tree.now self.new) }
     {
         tree.tell_fits();
@@ -197,7 +208,7 @@ impl<'a, K: Ord + 'a, V: 'a> Back<'a, K, V> {
             self.kept -= 1;
             return Some(pair);
         }
-        match previous_above(tree, &mut self.ancestors) {
+        match previous_above(tree, &mut self.ancestors, &mut self.fetched) {
             Some((pair, leaf, kept)) => {
                 self.leaf = Some(leaf);
                 self.kept = kept;
@@ -214,8 +225,10 @@ impl<'a, K: Ord + 'a, V: 'a> Back<'a, K, V> {
         key: &K,
     ) -> Option<(&'a K, &'a V)>
         requires none { self.old.ancestors ≡ [] }
+        requires fetched { AreFetched tree.now self.old.fetched }
         ensures above { AreAncestorsBefore tree.now self.new.ancestors }
         ensures kept { HasKept self.new.leaf self.new.kept }
+        ensures fetched { AreFetched tree.now self.new.fetched }
         ensures last { IsLastOf
             (entries_between K.cmp Unbounded (Excluded key.now) (pairs_of tree.now))
             (pair_now result) (behind_of tree.now self.new) }

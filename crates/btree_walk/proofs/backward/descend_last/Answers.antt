@@ -1,4 +1,4 @@
-use Rattle.std.proofs.Common.{◌≡◌, ◌∷◌, length, map, slice_get, Some, refl, arith, ap, ◌∙◌, subst}
+use Rattle.std.proofs.Common.{◌≡◌, ◌∷◌, length, map, slice_get, Some, refl, arith, rules, ap, ◌∙◌, subst}
 use Rattle.std.specs.FinMap as finite
 use Rattle.btree_node.specs.Node.{view_of}
 use Rattle.btree_node.proofs.NodeSizes.{fits-internal, fits-leaf}
@@ -7,29 +7,39 @@ use Rattle.btree_walk.proofs.WalkLemmas.{under-used}
 use Rattle.btree_walk.proofs.backward.descend_last.Goals as goal
 
 pub loop-leaf-init : goal.loop-leaf-init
-loop-leaf-init g c = record { rows = c.requires.above; under = c.requires.below; list = refl }
+loop-leaf-init g c = record { down = record { rows = c.requires.above; under = c.requires.below; list = refl }; fetched = c.requires.fetched }
 
-pub node-node-requires : goal.node-node-requires
-node-node-requires g c = (c.tell_fits.ensures, under-used c.args.tree.now.nodes (finite.len c.args.tree.now.nodes) _ c.loop-leaf.id c.loop-leaf.invariant.under)
+pub take_or_fetch-node-requires : goal.take_or_fetch-node-requires
+take_or_fetch-node-requires g c = (
+  omega arith,
+  (
+    search rules,
+    (under-used c.args.tree.now.nodes (finite.len c.args.tree.now.nodes) _ c.loop-leaf.id c.loop-leaf.invariant.down.under, c.loop-leaf.invariant.fetched),
+  ),
+)
 
 pub push-requires : goal.push-requires
-push-requires g c = (omega arith, back-room c.args.tree.now.nodes (finite.len c.args.tree.now.nodes) _ c.loop-leaf.ancestors c.loop-leaf.id c.loop-leaf.invariant)
+push-requires g c = (omega arith, back-room c.args.tree.now.nodes (finite.len c.args.tree.now.nodes) _ c.loop-leaf.ancestors c.loop-leaf.id c.loop-leaf.invariant.down)
 
 pub loop-leaf-smaller : goal.loop-leaf-smaller
-loop-leaf-smaller g c = back-smaller c.args.tree.now.nodes (finite.len c.args.tree.now.nodes) _ c.loop-leaf.ancestors c.loop-leaf.id c.loop-leaf.invariant _ c.push.new.self c.push.ensures
+loop-leaf-smaller g c = back-smaller c.args.tree.now.nodes (finite.len c.args.tree.now.nodes) _ c.loop-leaf.ancestors c.loop-leaf.id c.loop-leaf.invariant.down _ c.push.new.self c.push.ensures
 
 pub loop-leaf-preserved : goal.loop-leaf-preserved
 loop-leaf-preserved g c =
     let inner = c.in-Internal.inner in
     let last : slice_get (inner.first ∷ map (λ b. b.1) inner.branches) (length inner.branches) ≡ Some c.child_id-id.result =
     subst (λ n. slice_get (inner.first ∷ map (λ b. b.1) inner.branches) n ≡ Some c.child_id-id.result) c.item_count-in-Internal.ensures.value c.child_id-id.ensures in
-    back-internal c.args.tree.now.nodes (finite.len c.args.tree.now.nodes) _ c.loop-leaf.ancestors c.loop-leaf.id c.loop-leaf.invariant c.node-node.result.now c.node-node.ensures
-    inner.parent inner.first inner.branches (ap view_of c.in-Internal.is) _ last _ (whole-row (view_of c.node-node.result.now) ∙ rw c.in-Internal.is refl) c.push.new.self c.push.ensures
+    record {
+      down =
+          back-internal c.args.tree.now.nodes (finite.len c.args.tree.now.nodes) _ c.loop-leaf.ancestors c.loop-leaf.id c.loop-leaf.invariant.down c.take_or_fetch-node.result.now c.take_or_fetch-node.ensures.value
+          inner.parent inner.first inner.branches (ap view_of c.in-Internal.is) _ last _ (whole-row (view_of c.take_or_fetch-node.result.now) ∙ rw c.in-Internal.is refl) c.push.new.self c.push.ensures;
+      fetched = c.take_or_fetch-node.ensures.fetched;
+    }
 
 pub returns-in-Leaf-clause-left : goal.returns-in-Leaf-clause-left
 returns-in-Leaf-clause-left g c =
     let leaf = c.in-Leaf.leaf in
-    back-leaf c.args.tree.now.nodes (finite.len c.args.tree.now.nodes) _ c.loop-leaf.ancestors c.loop-leaf.id c.loop-leaf.invariant c.node-node.result.now c.node-node.ensures
+    back-leaf c.args.tree.now.nodes (finite.len c.args.tree.now.nodes) _ c.loop-leaf.ancestors c.loop-leaf.id c.loop-leaf.invariant.down c.take_or_fetch-node.result.now c.take_or_fetch-node.ensures.value
     leaf.parent leaf.items (ap view_of c.in-Leaf.is) _ c.item_count.ensures.value
 
 pub item_count-requires : goal.item_count-requires

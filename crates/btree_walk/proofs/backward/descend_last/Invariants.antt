@@ -2,13 +2,16 @@ use Rattle.std.proofs.Common.{◌++◌, ◌-◌, length}
 use Rattle.std.specs.FinMap as map
 use Rattle.btree_shape.specs.Represents.{represented}
 use Rattle.btree_shape.specs.TreeState.{views}
-use Rattle.btree_walk.specs.Preceding.{preceding_above, rows_before}
+use Rattle.btree_walk.specs.Preceding.{AreFetched, preceding_above, rows_before}
 use Rattle.btree_walk.proofs.BackLemmas.{IsDownBack}
 use Rattle.btree_walk.proofs.backward.descend_last.Given as goal
 
 abbrev pub invariant-loop-leaf : goal.invariant-loop-leaf
-invariant-loop-leaf g l =
-    IsDownBack l.tree.nodes (map.len l.tree.nodes) (preceding_above (views l.tree.nodes) (map.len l.tree.nodes) (rows_before l.initial.ancestors) ++ represented (views l.tree.nodes) (map.len l.tree.nodes) l.fn.top) l.ancestors l.id
+invariant-loop-leaf g l = record {
+  down :
+      IsDownBack l.tree.nodes (map.len l.tree.nodes) (preceding_above (views l.tree.nodes) (map.len l.tree.nodes) (rows_before l.initial.ancestors) ++ represented (views l.tree.nodes) (map.len l.tree.nodes) l.fn.top) l.ancestors l.id;
+  fetched : AreFetched l.tree l.fetched;
+}
 
 abbrev pub decreases-loop-leaf : goal.decreases-loop-leaf
 decreases-loop-leaf g l = 32 - length l.ancestors

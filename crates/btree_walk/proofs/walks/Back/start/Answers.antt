@@ -1,6 +1,6 @@
-use Rattle.std.proofs.Common.{arith}
+use Rattle.std.proofs.Common.{arith, rules}
 use Rattle.btree_node.proofs.NodeSizes.{fits-leaf}
 use Rattle.btree_walk.proofs.walks.Back.start.Goals as goal
 
 pub end-kept-requires : goal.end-kept-requires
-end-kept-requires g c = (omega arith, (search fits-leaf, c.requires.none))
+end-kept-requires g c = (omega arith, (omega arith, (search rules, (search fits-leaf, (c.requires.none, c.requires.fetched)))))
