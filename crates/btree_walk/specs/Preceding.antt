@@ -8,12 +8,11 @@ use Rattle.std.specs.Borrow.{Bor}
 use Rattle.std.specs.FinMap as finite
 use Rattle.std.specs.List.{flat_map, AllByRecursion}
 use Rattle.btree_leaf.specs.Leaf.{Leaf}
-use Rattle.btree_node.specs.declared.node.Node.{Node}
 use Rattle.btree_node.specs.Node.{view_of}
 use Rattle.btree_view.specs.View.{View, leaf, internal, NodeMap, size_of}
 use Rattle.btree_shape.specs.Remaining.{IsUnder}
 use Rattle.btree_shape.specs.Represents.{represented}
-use Rattle.btree_shape.specs.TreeState.{TreeState, IsUsed, node_map}
+use Rattle.btree_shape.specs.TreeState.{TreeState, node_map}
 use Rattle.btree_walk.specs.declared.ancestors.Ancestor.{Ancestor}
 
 module _ {A : Type 0} where
@@ -81,14 +80,6 @@ module _ {K V : Type 0} (tree : TreeState K V) where
   -- ancestors from the root down: the child before each item that is not passed is one level below
   abbrev pub AreAncestorsBefore : List (Ancestor K V) → Type 0
   AreAncestorsBefore ancestors = AreRowsBefore (node_map tree) (finite.len tree.nodes) 0 (rows_before ancestors)
-
-  -- each is the node with its number
-  abbrev pub AreFetched : List (ℕ × Bor (Node K V)) → Type 0
-  AreFetched fetched = AllByRecursion (λ f. finite.get tree.nodes f.0 ≡ Some f.1.now) fetched
-
-  -- the child before each item that an ancestor has not passed is a node of the tree
-  abbrev pub HasChildrenBefore : Ancestor K V → Type 0
-  HasChildrenBefore f = AllByRecursion (λ b. IsUsed tree b.0) (row_before (view_of f.node.now) f.passed)
 
   -- what is left in the ancestors
   abbrev pub preceding_in_ancestors : List (Ancestor K V) → List (K × V)

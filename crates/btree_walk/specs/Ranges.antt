@@ -8,7 +8,8 @@ use Rattle.std.specs.declared.cmp.Ordering.{Ordering}
 use Rattle.std.specs.declared.ops.Bound.{Bound}
 use Rattle.std.specs.declared.ops.Bound.TheVariants.{Excluded, Included, Unbounded}
 use Rattle.btree_shape.specs.TreeState.{TreeState, pairs_of}
-use Rattle.btree_walk.specs.Preceding.{AreAncestorsBefore, AreFetched, HasKept, preceding_of}
+use Rattle.btree_walk.specs.Fetched.{AreFetched}
+use Rattle.btree_walk.specs.Preceding.{AreAncestorsBefore, HasKept, preceding_of}
 use Rattle.btree_walk.specs.Rows.{remaining_of}
 use Rattle.btree_walk.specs.declared.walks.Front.{Front}
 use Rattle.btree_walk.specs.declared.walks.Back.{Back}
@@ -80,4 +81,6 @@ module _ {K V : Type 0} where
   -- a backward walk, if there is one
   abbrev pub IsBack : TreeState K V → Option (Back K V) → Type 0
   IsBack tree None = ⊤
-  IsBack tree (Some back) = AreAncestorsBefore tree back.ancestors × HasKept back.leaf back.kept × AreFetched tree back.fetched
+  IsBack tree (Some back) = AreAncestorsBefore tree back.ancestors
+      × HasKept back.leaf back.kept
+      × AreFetched tree back.fetched

@@ -2,10 +2,12 @@
 ghost use Rattle.std.specs.Prelude.{◌≡◌, ◌<◌, [], Some, OnSome};
 ghost use Rattle.btree_node.specs.Node.{view_of};
 ghost use Rattle.btree_shape.specs.TreeState.{pairs_of};
-ghost use Rattle.btree_walk.specs.Preceding.{AreAncestorsBefore, AreFetched, EndsAt, HasKept, HasKeptAbove, IsBelowBefore, IsLastIn, IsPreviousAbove, preceding_at, preceding_of};
+ghost use Rattle.btree_walk.specs.Fetched.{AreFetched};
+ghost use Rattle.btree_walk.specs.Preceding.{AreAncestorsBefore, EndsAt, HasKept, HasKeptAbove, IsBelowBefore, IsLastIn, IsPreviousAbove, preceding_at, preceding_of};
 
+use crate::ahead::fetch_before;
 use crate::ancestors::{Ancestor, Ancestors};
-use crate::fetched::{Fetched, fetch_before, take_or_fetch};
+use crate::fetched::{Fetched, take_or_fetch};
 use btree_ext::{BTreeExt, Tree};
 use btree_item::{Item, LEAF_SLOTS};
 use btree_node::{LeafNode, Node};
@@ -52,7 +54,8 @@ fn branch_before<'a, K, V>(node: &'a Node<K, V>, passed: usize) -> Option<(&'a I
     }
 }
 
-// Returns the rightmost leaf under a node and how many items it has, and appends the internal nodes on the path to it to the ancestors.
+// Returns the rightmost leaf under a node and how many items it has, and appends the internal nodes on the path to it to the ancestors. Nodes
+// that were fetched before are taken from there.
 fn descend_last<'a, K: Ord + 'a, V: 'a, C: NodesMut<K, V> + 'a>(
     tree: &'a Tree<K, V, C>,
     top: usize,
@@ -105,7 +108,8 @@ pub(crate) fn end<'a, K: Ord + 'a, V: 'a, C: NodesMut<K, V> + 'a>(
     (Some(leaf), kept)
 }
 
-// Returns the previous item of the ancestors, and the last leaf before it with the number of its items.
+// Returns the previous item of the ancestors, and the last leaf before it with the number of its items. It may fetch the leaves before that
+// one too.
 pub(crate) fn previous_above<'a, K: Ord + 'a, V: 'a, C: NodesMut<K, V> + 'a>(
     tree: &'a Tree<K, V, C>,
     ancestors: &mut Ancestors<'a, K, V>,

@@ -4,7 +4,8 @@ ghost use Rattle.std.specs.BTreeMap.Range.{entries_between};
 ghost use Rattle.std.specs.declared.ops.Bound.TheVariants.{Excluded, Included, Unbounded};
 ghost use Rattle.btree_shape.specs.TreeState.{pairs_of};
 ghost use Rattle.btree_walk.specs.Bounds.{bound_key};
-ghost use Rattle.btree_walk.specs.Preceding.{AreAncestorsBefore, AreFetched, HasKept};
+ghost use Rattle.btree_walk.specs.Fetched.{AreFetched};
+ghost use Rattle.btree_walk.specs.Preceding.{AreAncestorsBefore, HasKept};
 ghost use Rattle.btree_walk.specs.Ranges.{IsFirstOf, IsLastOf, ahead_of, behind_of, pair_now};
 ghost use Rattle.btree_walk.specs.Rows.{AreAncestors};
 
@@ -26,7 +27,7 @@ pub(crate) struct Front<'a, K, V> {
     pub ancestors: Ancestors<'a, K, V>,
 }
 
-/// A backward walk: its leaf, how many of its items are not passed, the nodes above, and the leaves that it comes to next.
+/// A backward walk: its leaf, how many of its items are not passed, the nodes above, and the leaves that are fetched already.
 #[derive(Drop)]
 pub(crate) struct Back<'a, K, V> {
     pub leaf: Option<&'a LeafNode<K, V>>,
@@ -54,7 +55,8 @@ impl<'a, K: Ord + 'a, V: 'a> Front<'a, K, V> {
         ensures ahead { ahead_of tree.now self.new ≡ pairs_of tree.now }
     {
         tree.tell_fits();
-        self.leaf = start(tree, &mut self.ancestors);
+        let mut fetched = Slots::new();
+        self.leaf = start(tree, &mut self.ancestors, &mut fetched);
         self.passed = 0;
     }
 
@@ -85,7 +87,8 @@ impl<'a, K: Ord + 'a, V: 'a> Front<'a, K, V> {
             self.passed += 1;
             return Some(pair);
         }
-        match next_above(tree, &mut self.ancestors) {
+        let mut fetched = Slots::new();
+        match next_above(tree, &mut self.ancestors, &mut fetched) {
             Some((pair, leaf)) => {
                 self.leaf = Some(leaf);
                 self.passed = 0;

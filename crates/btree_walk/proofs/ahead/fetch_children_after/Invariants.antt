@@ -1,0 +1,13 @@
+use Rattle.std.proofs.Common.{◌≤◌, ◌+◌, length}
+use Rattle.btree_item.specs.declared.TheConstants.{LEAF_SLOTS}
+use Rattle.btree_walk.specs.Fetched.{AreFetched}
+use Rattle.btree_walk.proofs.ahead.fetch_children_after.Given as goal
+
+abbrev pub invariant-loop-index : goal.invariant-loop-index
+invariant-loop-index g l = record {
+  fetched : AreFetched l.tree l.fetched;
+  counted : length l.fetched + l.index ≤ LEAF_SLOTS;
+}
+
+abbrev pub decreases-loop-index : goal.decreases-loop-index
+decreases-loop-index g l = l.index
