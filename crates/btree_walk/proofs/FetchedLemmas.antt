@@ -1,20 +1,18 @@
--- The leaves that a walk has fetched ahead.
-use Rattle.std.proofs.Common.{◌≡◌, ℕ, zero, suc, ◌-◌, ◌<◌, ◌≤◌, List, [], ◌∷◌, ◌++◌, length, map, take, drop, Option, Some, None, IsSome, refl, sym, subst, slice_get, arith}
+-- The leaves that a backward walk has fetched.
+use Rattle.std.proofs.Common.{◌≡◌, ℕ, zero, suc, ◌-◌, ◌<◌, ◌≤◌, List, [], ◌∷◌, ◌++◌, length, map, take, Option, Some, None, IsSome, refl, sym, subst, slice_get, arith}
 use Rattle.std.proofs.lemmas.List.{length-map}
 use Rattle.std.specs.Borrow.{Bor}
 use Rattle.std.specs.FinMap as finite
 use Rattle.std.specs.List.{AllByRecursion}
 use Rattle.std.specs.Option.{option_copied}
-use Rattle.btree_view.specs.View.{View, leaf, internal, branches_of, children_of, size_of}
+use Rattle.btree_view.specs.View.{View, leaf, internal, children_of, size_of}
 use Rattle.btree_shape.specs.Remaining.{IsUnder}
 use Rattle.btree_shape.specs.TreeState.{TreeState, IsUsed, node_map}
 use Rattle.btree_walk.specs.declared.ancestors.Ancestor.{Ancestor}
-use Rattle.btree_walk.specs.Fetched.{HasChildrenAfter, HasChildrenBefore}
-use Rattle.btree_walk.specs.Preceding.{AreAncestorsBefore, row_before, with_child_before}
-use Rattle.btree_walk.specs.Rows.{AreAncestors}
+use Rattle.btree_walk.specs.Preceding.{AreAncestorsBefore, HasChildrenBefore, row_before, with_child_before}
 use Rattle.btree_walk.proofs.BackLemmas.{row_of, taken-off-back}
 use Rattle.btree_walk.proofs.RowLemmas.{get-within}
-use Rattle.btree_walk.proofs.WalkLemmas as forward
+use Rattle.btree_walk.proofs.WalkLemmas.{under-used}
 
 module _ {X : Type 0} (P : X → Type 0) where
   -- what holds of each element holds of one of them, and of each of the first ones
@@ -58,40 +56,14 @@ module _ {A : Type 0} (P : ℕ → Type 0) where
       let n = length-map bs (λ (b : A × ℕ). b.0) in
       in-row first bs (length (map (λ (b : A × ℕ). b.0) bs) - passed) index id e low (omega arith) all
 
-  in-rest : (first : ℕ) (bs : List (A × ℕ)) (passed index id : ℕ) → slice_get (first ∷ map (λ b. b.1) bs) index ≡ Some id → passed < index
-      → AllByRecursion (λ (b : A × ℕ). P b.1) (drop passed bs) → P id
-  in-rest first [] passed zero id e low all = absurd (omega arith)
-  in-rest first [] passed (suc index) id e low all = absurd (cc)
-  in-rest first (b ∷ bs) zero zero id e low all = absurd (omega arith)
-  in-rest first (b ∷ bs) zero (suc zero) id e low all = let same : b.1 ≡ id = cc in subst P same all.0
-  in-rest first (b ∷ bs) zero (suc (suc index)) id e low all = in-rest b.1 bs zero (suc index) id e (omega arith) all.1
-  in-rest first (b ∷ bs) (suc passed) zero id e low all = absurd (omega arith)
-  in-rest first (b ∷ bs) (suc passed) (suc index) id e low all = in-rest b.1 bs passed index id e (omega arith) all
-
-  -- a child after an item that is not passed is in what is left of the branches
-  pub rest-child : (v : View A) (passed index id : ℕ) → slice_get (children_of v) index ≡ Some id → passed < index
-      → AllByRecursion (λ (b : A × ℕ). P b.1) (drop passed (branches_of v)) → P id
-  rest-child (leaf p ys) passed index id e low all = absurd (cc)
-  rest-child (internal p first bs) passed index id e low all = in-rest first bs passed index id e low all
-
 module _ {K V : Type 0} (tree : TreeState K V) where
   all-used : (depth : ℕ) (row : List (ℕ × (K × V))) → AllByRecursion (λ (b : ℕ × (K × V)). IsUnder (node_map tree) (finite.len tree.nodes) depth b.0) row
       → AllByRecursion (λ (b : ℕ × (K × V)). IsUsed tree b.0) row
   all-used depth [] all = tt
-  all-used depth (b ∷ row) all = (forward.under-used tree.nodes (finite.len tree.nodes) depth b.0 all.0, all-used depth row all.1)
+  all-used depth (b ∷ row) all = (under-used tree.nodes (finite.len tree.nodes) depth b.0 all.0, all-used depth row all.1)
 
   -- the children of the lowest ancestor are nodes
-  pub lowest-before : (ancestors : List (Ancestor K V)) (f : Ancestor K V) → AreAncestorsBefore tree ancestors → slice_get ancestors (length ancestors - 1) ≡ Some f
+  pub lowest-used : (ancestors : List (Ancestor K V)) (f : Ancestor K V) → AreAncestorsBefore tree ancestors → slice_get ancestors (length ancestors - 1) ≡ Some f
       → HasChildrenBefore tree f
-  lowest-before ancestors f was at =
+  lowest-used ancestors f was at =
       all-used _ (row_of f) (taken-off-back tree.nodes (finite.len tree.nodes) ancestors (take (length ancestors - 1) ancestors) f was (sym at) refl).under
-
-  all-used-after : (depth : ℕ) (row : List ((K × V) × ℕ)) → AllByRecursion (λ (b : (K × V) × ℕ). IsUnder (node_map tree) (finite.len tree.nodes) depth b.1) row
-      → AllByRecursion (λ (b : (K × V) × ℕ). IsUsed tree b.1) row
-  all-used-after depth [] all = tt
-  all-used-after depth (b ∷ row) all = (forward.under-used tree.nodes (finite.len tree.nodes) depth b.1 all.0, all-used-after depth row all.1)
-
-  pub lowest-after : (ancestors : List (Ancestor K V)) (f : Ancestor K V) → AreAncestors tree ancestors → slice_get ancestors (length ancestors - 1) ≡ Some f
-      → HasChildrenAfter tree f
-  lowest-after ancestors f was at =
-      all-used-after _ (forward.row_of f) (forward.taken-off tree.nodes (finite.len tree.nodes) ancestors (take (length ancestors - 1) ancestors) f was (sym at) refl).under

@@ -1,5 +1,8 @@
 -- Rows of a backward walk: lists, and what an internal node represents read from its last child backwards.
-use Rattle.std.proofs.Common.{◌≡◌, ℕ, zero, suc, ◌+◌, ◌-◌, ◌<◌, List, [], ◌∷◌, ◌++◌, length, map, take, slice_get, Option, Some, None, refl, sym, ap, subst, ◌∙◌, arith, append_assoc, append-nil}
+use Rattle.std.proofs.Common.{◌≡◌, ℕ, zero, suc, ◌+◌, ◌-◌, ◌<◌, ◌≤◌, List, [], ◌∷◌, ◌++◌, length, map, take, slice_get, Option, Some, None, refl, sym, ap, subst, ◌∙◌, arith, append_assoc, append-nil}
+use Rattle.std.proofs.lemmas.List.{length_push}
+use Rattle.std.specs.Borrow.{Bor}
+use Rattle.std.specs.Iterator.{YieldsLastRef}
 use Rattle.std.specs.List.{AllByRecursion}
 use Rattle.btree_view.specs.View.{NodeMap, internal}
 use Rattle.btree_shape.specs.Remaining.{IsUnder, remaining_in}
@@ -12,6 +15,25 @@ pub take-more : {X : Type 0} (xs : List X) (n : ℕ) (x : X) → slice_get xs n 
 take-more [] n x e = absurd (cc)
 take-more (y ∷ ys) zero x e = let same : y ≡ x = cc in rw same refl
 take-more (y ∷ ys) (suc n) x e = ap (λ l. y ∷ l) (take-more ys n x e)
+
+-- a list that ends in an element, without it
+pub take-less : {X : Type 0} (xs : List X) (n : ℕ) (others : List X) (x : X) → take (suc n) xs ≡ others ++ x ∷ [] → suc n ≤ length xs → others ≡ take n xs
+take-less [] n others x e low = absurd (omega arith)
+take-less (y ∷ ys) zero [] x e low = refl
+take-less (y ∷ ys) zero (z ∷ zs) x e low = let l = ap length e in let m = length_push zs x in absurd (omega arith)
+take-less (y ∷ []) (suc n) others x e low = absurd (omega arith)
+take-less (y ∷ w ∷ ys) (suc n) [] x e low = absurd (cc)
+take-less (y ∷ w ∷ ys) (suc n) (z ∷ zs) x e low =
+    let first : y ≡ z = cc in
+    let rest : take (suc n) (w ∷ ys) ≡ zs ++ x ∷ [] = cc in
+    rw (sym first) (ap (λ l. y ∷ l) (take-less (w ∷ ys) n zs x rest (omega arith)))
+
+-- the same, if the element was yielded from the back
+pub yields-less : {X : Type 0} (xs : List X) (n : ℕ) (run others : List X) (r : Option (Bor X)) → run ≡ take (suc n) xs → suc n ≤ length xs
+    → YieldsLastRef (λ l. l) run r others → others ≡ take n xs
+yields-less [] n run others r is low step = absurd (omega arith)
+yields-less (y ∷ ys) n run others None is low step = let none : run ≡ [] = step.0 in absurd (cc)
+yields-less (y ∷ ys) n run others (Some x) is low step = take-less (y ∷ ys) n others x.now (sym is ∙ step) low
 
 pub get-within : {X : Type 0} (xs : List X) (n : ℕ) → slice_get xs n ≡ None → n < length xs → ⊥
 get-within [] n e low = absurd (omega arith)

@@ -1,18 +1,20 @@
 -- What a backward walk through a tree still has to pass, as `Rows.antt` says it of a forward one.
 -- The walk has passed items of its leaf and of the nodes above from the last one backwards. A row is what is left of one
 -- internal node: the items that are not passed, each with the child before it. `preceding_of` is the list of pairs that
--- are left, and `preceding_at` the same on the way down to a node. `IsLastIn` and `IsPreviousAbove` say which pair is the
--- last of them, in the leaf and above it.
+-- are left, and `preceding_at` the same on the way down to a node. `IsPreviousAbove` says which pair above the
+-- leaf is the last of them.
 use Rattle.std.specs.Prelude.{⊤, ◌≡◌, ℕ, suc, ◌+◌, ◌-◌, ◌≤◌, List, [], ◌∷◌, ◌++◌, length, map, take, Option, Some, None}
 use Rattle.std.specs.Borrow.{Bor}
 use Rattle.std.specs.FinMap as finite
 use Rattle.std.specs.List.{flat_map, AllByRecursion}
 use Rattle.btree_leaf.specs.Leaf.{Leaf}
+use Rattle.btree_node.specs.declared.node.Node.{Node}
 use Rattle.btree_node.specs.Node.{view_of}
 use Rattle.btree_view.specs.View.{View, leaf, internal, NodeMap, size_of}
 use Rattle.btree_shape.specs.Remaining.{IsUnder}
 use Rattle.btree_shape.specs.Represents.{represented}
-use Rattle.btree_shape.specs.TreeState.{TreeState, node_map}
+use Rattle.btree_shape.specs.TreeState.{TreeState, IsUsed, node_map}
+use Rattle.btree_walk.specs.Rows.{run_left}
 use Rattle.btree_walk.specs.declared.ancestors.Ancestor.{Ancestor}
 
 module _ {A : Type 0} where
@@ -66,11 +68,6 @@ module _ {K V : Type 0} where
   HasKept None kept = kept ≡ 0
   HasKept (Some node) kept = kept ≤ length node.now.items
 
-  -- the last of these items, or none if all are passed
-  abbrev pub IsLastIn : Option (Bor (Leaf K V)) → (kept : ℕ) → Option (Bor K × Bor V) → Type 0
-  IsLastIn node kept None = kept_in_leaf node kept ≡ []
-  IsLastIn node kept (Some pair) = kept_in_leaf node kept ≡ kept_in_leaf node (kept - 1) ++ (pair.0.now, pair.1.now) ∷ []
-
   -- the leaf before an item has as many items as it says
   abbrev pub HasKeptAbove : Option ((Bor K × Bor V) × Bor (Leaf K V) × ℕ) → Type 0
   HasKeptAbove None = ⊤
@@ -80,6 +77,15 @@ module _ {K V : Type 0} (tree : TreeState K V) where
   -- ancestors from the root down: the child before each item that is not passed is one level below
   abbrev pub AreAncestorsBefore : List (Ancestor K V) → Type 0
   AreAncestorsBefore ancestors = AreRowsBefore (node_map tree) (finite.len tree.nodes) 0 (rows_before ancestors)
+
+  -- each is the node with its number
+  abbrev pub AreFetched : List (ℕ × Bor (Node K V)) → Type 0
+  AreFetched fetched = AllByRecursion (λ f. finite.get tree.nodes f.0 ≡ Some f.1.now) fetched
+
+  -- the child before each item that an ancestor has not passed is a node of the tree
+  abbrev pub HasChildrenBefore : Ancestor K V → Type 0
+  HasChildrenBefore f =
+      AllByRecursion (λ b. IsUsed tree b.0) (row_before (view_of f.node.now) f.passed)
 
   -- what is left in the ancestors
   abbrev pub preceding_in_ancestors : List (Ancestor K V) → List (K × V)
@@ -96,6 +102,10 @@ module _ {K V : Type 0} (tree : TreeState K V) where
   -- what is left of a walk that is in a leaf
   abbrev pub preceding_of : Option (Bor (Leaf K V)) → (kept : ℕ) → List (Ancestor K V) → List (K × V)
   preceding_of node kept ancestors = preceding_in_ancestors ancestors ++ kept_in_leaf node kept
+
+  -- the same, where what the leaf has left is kept as a list
+  abbrev pub preceding_with : Option (List (K × V)) → List (Ancestor K V) → List (K × V)
+  preceding_with run ancestors = preceding_in_ancestors ancestors ++ run_left run
 
   -- the last item that is left in the ancestors, with the last leaf before it, or none if nothing is left
   abbrev pub IsPreviousAbove : (old new : List (Ancestor K V)) → Option ((Bor K × Bor V) × Bor (Leaf K V) × ℕ) → Type 0

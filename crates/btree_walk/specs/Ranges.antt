@@ -8,8 +8,7 @@ use Rattle.std.specs.declared.cmp.Ordering.{Ordering}
 use Rattle.std.specs.declared.ops.Bound.{Bound}
 use Rattle.std.specs.declared.ops.Bound.TheVariants.{Excluded, Included, Unbounded}
 use Rattle.btree_shape.specs.TreeState.{TreeState, pairs_of}
-use Rattle.btree_walk.specs.Fetched.{AreFetched}
-use Rattle.btree_walk.specs.Preceding.{AreAncestorsBefore, HasKept, preceding_of}
+use Rattle.btree_walk.specs.Preceding.{AreAncestorsBefore, AreFetched, preceding_with}
 use Rattle.btree_walk.specs.Rows.{remaining_of}
 use Rattle.btree_walk.specs.declared.walks.Front.{Front}
 use Rattle.btree_walk.specs.declared.walks.Back.{Back}
@@ -67,7 +66,7 @@ module _ {K V : Type 0} where
 
   -- what a backward walk has left
   abbrev pub behind_of : TreeState K V → Back K V → List (K × V)
-  behind_of tree back = preceding_of tree back.leaf back.kept back.ancestors
+  behind_of tree back = preceding_with tree back.run back.ancestors
 
   -- the same, if there is such a walk
   abbrev pub behind_in : TreeState K V → Option (Back K V) → Option (List (K × V))
@@ -81,6 +80,4 @@ module _ {K V : Type 0} where
   -- a backward walk, if there is one
   abbrev pub IsBack : TreeState K V → Option (Back K V) → Type 0
   IsBack tree None = ⊤
-  IsBack tree (Some back) = AreAncestorsBefore tree back.ancestors
-      × HasKept back.leaf back.kept
-      × AreFetched tree back.fetched
+  IsBack tree (Some back) = AreAncestorsBefore tree back.ancestors × AreFetched tree back.fetched

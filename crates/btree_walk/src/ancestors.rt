@@ -2,10 +2,8 @@
 ghost use Rattle.std.specs.Prelude.{◌≡◌, ◌-◌, ◌<◌, ◌++◌, [], ◌∷◌, Some, OnSome, length, slice_get, take};
 ghost use Rattle.std.specs.Option.{option_copied};
 ghost use Rattle.btree_shape.specs.TreeState.{pairs_of};
-ghost use Rattle.btree_walk.specs.Fetched.{AreFetched};
 ghost use Rattle.btree_walk.specs.Rows.{AreAncestors, IsBelow, IsNextAbove, IsNextIn, remaining_at, remaining_of};
 
-use crate::fetched::{Fetched, take_or_fetch};
 use btree_ext::{BTreeExt, Tree};
 use btree_item::{LEAF_SLOTS, MAX_LEVELS, Slots};
 use btree_node::{LeafNode, Node};
@@ -116,25 +114,21 @@ pub(crate) fn next_in_leaf<'a, K, V>(
     }
 }
 
-// Returns the leftmost leaf under a node, and appends the internal nodes on the path to it to the ancestors. Nodes that were fetched before
-// are taken from there.
+// Returns the leftmost leaf under a node, and appends the internal nodes on the path to it to the ancestors.
 fn descend<'a, K: Ord + 'a, V: 'a, C: NodesMut<K, V> + 'a>(
     tree: &'a Tree<K, V, C>,
     top: usize,
     ancestors: &mut Ancestors<'a, K, V>,
-    fetched: &mut Fetched<'a, K, V>,
 ) -> &'a LeafNode<K, V>
     requires above { AreAncestors tree.now ancestors.old }
     requires below { IsBelow tree.now ancestors.old top }
-    requires fetched { AreFetched tree.now fetched.old }
     ensures above { AreAncestors tree.now ancestors.new }
-    ensures fetched { AreFetched tree.now fetched.new }
     ensures left { remaining_at tree.now top ancestors.old ≡ remaining_of tree.now (Some result) 0 ancestors.new }
 {
     tree.tell_fits();
     let mut id = top;
     loop {
-        let node = take_or_fetch(tree, fetched, id);
+        let node = tree.node(id);
         match node {
             Node::Leaf(leaf) => return leaf,
             Node::Internal(inner) => {
@@ -149,19 +143,16 @@ fn descend<'a, K: Ord + 'a, V: 'a, C: NodesMut<K, V> + 'a>(
 pub(crate) fn start<'a, K: Ord + 'a, V: 'a, C: NodesMut<K, V> + 'a>(
     tree: &'a Tree<K, V, C>,
     ancestors: &mut Ancestors<'a, K, V>,
-    fetched: &mut Fetched<'a, K, V>,
 ) -> Option<&'a LeafNode<K, V>>
     requires none { ancestors.old ≡ [] }
-    requires fetched { AreFetched tree.now fetched.old }
     ensures above { AreAncestors tree.now ancestors.new }
-    ensures fetched { AreFetched tree.now fetched.new }
     ensures left { remaining_of tree.now result 0 ancestors.new ≡ pairs_of tree.now }
 {
     tree.tell_fits();
     // For the prover: the length is a `usize`, so there are at most `MAX_LEVELS` levels.
     let _len = tree.len();
     match tree.root_id() {
-        Some(root) => Some(descend(tree, root, ancestors, fetched)),
+        Some(root) => Some(descend(tree, root, ancestors)),
         None => None,
     }
 }
@@ -170,12 +161,9 @@ pub(crate) fn start<'a, K: Ord + 'a, V: 'a, C: NodesMut<K, V> + 'a>(
 pub(crate) fn next_above<'a, K: Ord + 'a, V: 'a, C: NodesMut<K, V> + 'a>(
     tree: &'a Tree<K, V, C>,
     ancestors: &mut Ancestors<'a, K, V>,
-    fetched: &mut Fetched<'a, K, V>,
 ) -> Option<((&'a K, &'a V), &'a LeafNode<K, V>)>
     requires above { AreAncestors tree.now ancestors.old }
-    requires fetched { AreFetched tree.now fetched.old }
     ensures above { AreAncestors tree.now ancestors.new }
-    ensures fetched { AreFetched tree.now fetched.new }
     ensures left { IsNextAbove tree.now ancestors.old ancestors.new result }
 {
     tree.tell_fits();
@@ -188,7 +176,7 @@ pub(crate) fn next_above<'a, K: Ord + 'a, V: 'a, C: NodesMut<K, V> + 'a>(
                 passed: passed + 1,
             });
             let pair = (item.key(), item.value());
-            return Some((pair, descend(tree, child, ancestors, fetched)));
+            return Some((pair, descend(tree, child, ancestors)));
         }
     }
     None

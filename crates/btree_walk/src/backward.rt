@@ -2,36 +2,49 @@
 ghost use Rattle.std.specs.Prelude.{◌≡◌, ◌<◌, [], Some, OnSome};
 ghost use Rattle.btree_node.specs.Node.{view_of};
 ghost use Rattle.btree_shape.specs.TreeState.{pairs_of};
-ghost use Rattle.btree_walk.specs.Fetched.{AreFetched};
-ghost use Rattle.btree_walk.specs.Preceding.{AreAncestorsBefore, EndsAt, HasKept, HasKeptAbove, IsBelowBefore, IsLastIn, IsPreviousAbove, preceding_at, preceding_of};
+ghost use Rattle.btree_walk.specs.Preceding.{AreAncestorsBefore, AreFetched, EndsAt, HasKept, HasKeptAbove, IsBelowBefore, IsPreviousAbove, kept_in_leaf, preceding_at, preceding_of};
+ghost use Rattle.btree_walk.specs.Ranges.{IsLastOf, pair_now};
+ghost use Rattle.btree_walk.specs.Rows.{run_left};
 
-use crate::ahead::fetch_before;
 use crate::ancestors::{Ancestor, Ancestors};
-use crate::fetched::{Fetched, take_or_fetch};
+use crate::fetched::{Fetched, fetch_before, take_or_fetch};
 use btree_ext::{BTreeExt, Tree};
-use btree_item::{Item, LEAF_SLOTS};
+use btree_item::{Item, LEAF_SLOTS, SlotsIter};
 use btree_node::{LeafNode, Node};
 use btree_nodes::NodesMut;
 
-// Returns the last of the first `kept` items of a leaf.
+// Returns the first `kept` items of a leaf, to be passed from the last one back.
 #[inline]
-pub(crate) fn last_in_leaf<'a, K, V>(
+pub(crate) fn run_to<'a, K, V>(
     leaf: Option<&'a LeafNode<K, V>>,
     kept: usize,
-) -> Option<(&'a K, &'a V)>
+) -> Option<SlotsIter<'a, Item<K, V>>>
     requires { HasKept leaf kept }
-    ensures some { OnSome result (0 < kept) }
-    ensures last { IsLastIn leaf.entry kept result }
+    ensures { run_left result ≡ kept_in_leaf leaf.entry kept }
 {
     let Some(leaf) = leaf else {
         return None;
     };
-    if kept == 0 {
-        return None;
+    let mut run = leaf.items().iter();
+    for _ in kept..leaf.item_count() {
+        run.next_back();
     }
-    match leaf.items().get(kept - 1) {
+    Some(run)
+}
+
+// Passes the last item of a run and returns it.
+#[inline]
+pub(crate) fn last_in_run<'a, K, V>(
+    run: &mut Option<SlotsIter<'a, Item<K, V>>>,
+) -> Option<(&'a K, &'a V)>
+    ensures { IsLastOf (run_left run.old) (pair_now result) (run_left run.new) }
+{
+    let Some(run) = run else {
+        return None;
+    };
+    match run.next_back() {
         Some(item) => Some((item.key(), item.value())),
-        None => unreachable!(),
+        None => None,
     }
 }
 

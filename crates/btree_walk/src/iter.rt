@@ -5,12 +5,10 @@ ghost use Rattle.std.specs.Iterator.{YieldsFirstBy, YieldsLastBy, item_count, Up
 ghost use Rattle.btree_walk.specs.Ranges.{IsBack, IsFirstOf, IsLastOf, behind_or_all, pair_now};
 ghost use Rattle.btree_walk.specs.Rows.{remaining_in_leaf, run_left};
 
-use crate::ahead::fetch_after;
 use crate::ancestors::{Ancestors, next_above, start};
-use crate::fetched::Fetched;
 use crate::walks::Back;
 use btree_ext::Tree;
-use btree_item::{Item, Slots, SlotsIter};
+use btree_item::{Item, SlotsIter};
 use btree_node::LeafNode;
 use btree_nodes::NodesMut;
 use std::iter::{DoubleEndedIterator, ExactSizeIterator, FusedIterator};
@@ -64,16 +62,15 @@ fn step_back<'a, K: Ord + 'a, V: 'a, C: NodesMut<K, V> + 'a>(
 }
 
 /// An iterator over the pairs of a tree in the order of the keys, from both ends, seen by contracts as the list of those that are left. It
-/// allocates no memory. A whole walk from one end fetches each node from the store once. A step inside a leaf reads that leaf alone. A step
-/// to another leaf may fetch all that come after it and have the same parent, at most seven, for the steps to come.
+/// allocates no memory. A whole walk from one end fetches each node from the store once. A step inside a leaf reads that leaf alone. From
+/// the back, a step to another leaf may fetch all leaves before it that have the same parent, at most seven, for the steps to come.
 #[derive(Drop)]
 pub struct Iter<'a, K: Ord, V, C: NodesMut<K, V>> {
     tree: &'a Tree<K, V, C>,
     left: usize,
-    // The front: what is left of its leaf, or `None` in a tree without pairs, the nodes above, and the leaves that are fetched already.
+    // The front: what is left of its leaf, or `None` in a tree without pairs, and the nodes above.
     run: Option<SlotsIter<'a, Item<K, V>>>,
     ancestors: Ancestors<'a, K, V>,
-    fetched: Fetched<'a, K, V>,
     // The back, from the first step from it on.
     back: Option<Back<'a, K, V>>,
 }
@@ -81,7 +78,6 @@ pub struct Iter<'a, K: Ord, V, C: NodesMut<K, V>> {
 impl<'a, K: Ord, V, C: NodesMut<K, V>> Model for Iter<'a, K, V, C> {
     ghost use Rattle.std.specs.Prelude.{List, take};
     ghost use Rattle.btree_walk.specs.Ends.{AreEnds};
-    ghost use Rattle.btree_walk.specs.Fetched.{AreFetched};
     ghost use Rattle.btree_walk.specs.Ranges.{IsBack, behind_or_all};
     ghost use Rattle.btree_walk.specs.Rows.{AreAncestors, remaining_after};
 
@@ -93,8 +89,7 @@ impl<'a, K: Ord, V, C: NodesMut<K, V>> Model for Iter<'a, K, V, C> {
         × AreAncestors it.tree.now it.ancestors
         × IsBack it.tree.now it.back
         × AreEnds it.left (remaining_after it.tree.now it.run it.ancestors)
-        (behind_or_all it.tree.now it.back)
-        × AreFetched it.tree.now it.fetched };
+        (behind_or_all it.tree.now it.back) };
 }
 
 impl<'a, K: Ord, V, C: NodesMut<K, V>> Iter<'a, K, V, C> {
@@ -108,14 +103,12 @@ impl<'a, K: Ord, V, C: NodesMut<K, V>> Iter<'a, K, V, C> {
         // For the prover: the iterator keeps the fact that a node fits in memory.
         C::note_fits();
         let mut ancestors = Ancestors::new();
-        let mut fetched = Slots::new();
-        let leaf = start(tree, &mut ancestors, &mut fetched);
+        let leaf = start(tree, &mut ancestors);
         Iter {
             tree,
             left: tree.len(),
             run: run_of(leaf),
             ancestors,
-            fetched,
             back: None,
         }
     }
@@ -139,9 +132,8 @@ impl<'a, K: Ord, V, C: NodesMut<K, V>> Iterator for Iter<'a, K, V, C> {
             self.left -= 1;
             return Some(pair);
         }
-        match next_above(self.tree, &mut self.ancestors, &mut self.fetched) {
+        match next_above(self.tree, &mut self.ancestors) {
             Some((next, leaf)) => {
-                fetch_after(self.tree, &self.ancestors, &mut self.fetched);
                 self.run = run_of(Some(leaf));
                 self.left -= 1;
                 Some(next)

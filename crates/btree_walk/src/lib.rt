@@ -1,7 +1,6 @@
 //! Walks through a tree in the order of the keys.
 #![tactic(auto)]
 
-mod ahead;
 mod ancestors;
 mod at_key;
 mod backward;

@@ -4,17 +4,16 @@ ghost use Rattle.std.specs.BTreeMap.Range.{entries_between};
 ghost use Rattle.std.specs.declared.ops.Bound.TheVariants.{Excluded, Included, Unbounded};
 ghost use Rattle.btree_shape.specs.TreeState.{pairs_of};
 ghost use Rattle.btree_walk.specs.Bounds.{bound_key};
-ghost use Rattle.btree_walk.specs.Fetched.{AreFetched};
-ghost use Rattle.btree_walk.specs.Preceding.{AreAncestorsBefore, HasKept};
+ghost use Rattle.btree_walk.specs.Preceding.{AreAncestorsBefore, AreFetched};
 ghost use Rattle.btree_walk.specs.Ranges.{IsFirstOf, IsLastOf, ahead_of, behind_of, pair_now};
 ghost use Rattle.btree_walk.specs.Rows.{AreAncestors};
 
 use crate::ancestors::{Ancestors, next_above, next_in_leaf, start};
 use crate::at_key::{end_at, start_from};
-use crate::backward::{end, last_in_leaf, previous_above};
+use crate::backward::{end, last_in_run, previous_above, run_to};
 use crate::fetched::Fetched;
 use btree_ext::{BTreeExt, Tree};
-use btree_item::Slots;
+use btree_item::{Item, Slots, SlotsIter};
 use btree_node::LeafNode;
 use btree_nodes::NodesMut;
 use std::ops::Bound;
@@ -27,11 +26,10 @@ pub(crate) struct Front<'a, K, V> {
     pub ancestors: Ancestors<'a, K, V>,
 }
 
-/// A backward walk: its leaf, how many of its items are not passed, the nodes above, and the leaves that are fetched already.
+/// A backward walk: what is left of its leaf, the nodes above, and the leaves that are fetched already.
 #[derive(Drop)]
 pub(crate) struct Back<'a, K, V> {
-    pub leaf: Option<&'a LeafNode<K, V>>,
-    pub kept: usize,
+    pub run: Option<SlotsIter<'a, Item<K, V>>>,
     pub ancestors: Ancestors<'a, K, V>,
     pub fetched: Fetched<'a, K, V>,
 }
@@ -55,8 +53,7 @@ impl<'a, K: Ord + 'a, V: 'a> Front<'a, K, V> {
         ensures ahead { ahead_of tree.now self.new ≡ pairs_of tree.now }
     {
         tree.tell_fits();
-        let mut fetched = Slots::new();
-        self.leaf = start(tree, &mut self.ancestors, &mut fetched);
+        self.leaf = start(tree, &mut self.ancestors);
         self.passed = 0;
     }
 
@@ -87,8 +84,7 @@ impl<'a, K: Ord + 'a, V: 'a> Front<'a, K, V> {
             self.passed += 1;
             return Some(pair);
         }
-        let mut fetched = Slots::new();
-        match next_above(tree, &mut self.ancestors, &mut fetched) {
+        match next_above(tree, &mut self.ancestors) {
             Some((pair, leaf)) => {
                 self.leaf = Some(leaf);
                 self.passed = 0;
@@ -155,8 +151,7 @@ impl<'a, K: Ord + 'a, V: 'a> Back<'a, K, V> {
         ensures fetched { result.fetched ≡ [] }
     {
         Back {
-            leaf: None,
-            kept: 0,
+            run: None,
             ancestors: Ancestors::new(),
             fetched: Slots::new(),
         }
@@ -167,14 +162,12 @@ impl<'a, K: Ord + 'a, V: 'a> Back<'a, K, V> {
         requires none { self.old.ancestors ≡ [] }
         requires fetched { AreFetched tree.now self.old.fetched }
         ensures above { AreAncestorsBefore tree.now self.new.ancestors }
-        ensures kept { HasKept self.new.leaf self.new.kept }
         ensures fetched { AreFetched tree.now self.new.fetched }
         ensures behind { behind_of tree.now self.new ≡ pairs_of tree.now }
     {
         tree.tell_fits();
         let (leaf, kept) = end(tree, &mut self.ancestors, &mut self.fetched);
-        self.leaf = leaf;
-        self.kept = kept;
+        self.run = run_to(leaf, kept);
     }
 
     // Starts before the pairs with greater keys.
@@ -182,15 +175,13 @@ impl<'a, K: Ord + 'a, V: 'a> Back<'a, K, V> {
         requires none { self.old.ancestors ≡ [] }
         requires fetched { AreFetched tree.now self.old.fetched }
         ensures above { AreAncestorsBefore tree.now self.new.ancestors }
-        ensures kept { HasKept self.new.leaf self.new.kept }
         ensures fetched { AreFetched tree.now self.new.fetched }
         ensures behind { behind_of tree.now self.new ≡
             entries_between K.cmp Unbounded (Included key.now) (pairs_of tree.now) }
     {
         tree.tell_fits();
         let (leaf, kept) = end_at(tree, key, &mut self.ancestors);
-        self.leaf = leaf;
-        self.kept = kept;
+        self.run = run_to(leaf, kept);
     }
 
     // Passes the previous pair and returns it.
@@ -199,22 +190,18 @@ impl<'a, K: Ord + 'a, V: 'a> Back<'a, K, V> {
         tree: &'a Tree<K, V, C>,
     ) -> Option<(&'a K, &'a V)>
         requires above { AreAncestorsBefore tree.now self.old.ancestors }
-        requires kept { HasKept self.old.leaf self.old.kept }
         requires fetched { AreFetched tree.now self.old.fetched }
         ensures above { AreAncestorsBefore tree.now self.new.ancestors }
-        ensures kept { HasKept self.new.leaf self.new.kept }
         ensures fetched { AreFetched tree.now self.new.fetched }
         ensures last { IsLastOf (behind_of tree.now self.old) (pair_now result) (behind_of tree.now self.new) }
     {
         tree.tell_fits();
-        if let Some(pair) = last_in_leaf(self.leaf, self.kept) {
-            self.kept -= 1;
+        if let Some(pair) = last_in_run(&mut self.run) {
             return Some(pair);
         }
         match previous_above(tree, &mut self.ancestors, &mut self.fetched) {
             Some((pair, leaf, kept)) => {
-                self.leaf = Some(leaf);
-                self.kept = kept;
+                self.run = run_to(Some(leaf), kept);
                 Some(pair)
             }
             None => None,
@@ -230,7 +217,6 @@ impl<'a, K: Ord + 'a, V: 'a> Back<'a, K, V> {
         requires none { self.old.ancestors ≡ [] }
         requires fetched { AreFetched tree.now self.old.fetched }
         ensures above { AreAncestorsBefore tree.now self.new.ancestors }
-        ensures kept { HasKept self.new.leaf self.new.kept }
         ensures fetched { AreFetched tree.now self.new.fetched }
         ensures last { IsLastOf
             (entries_between K.cmp Unbounded (Excluded key.now) (pairs_of tree.now))

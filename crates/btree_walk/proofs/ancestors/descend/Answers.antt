@@ -1,4 +1,4 @@
-use Rattle.std.proofs.Common.{refl, arith, rules, ap}
+use Rattle.std.proofs.Common.{refl, arith, ap}
 use Rattle.std.specs.FinMap as map
 use Rattle.btree_node.specs.Node.{view_of}
 use Rattle.btree_node.proofs.NodeSizes.{fits-internal}
@@ -6,38 +6,28 @@ use Rattle.btree_walk.proofs.WalkLemmas.{under-used, down-room, down-smaller, do
 use Rattle.btree_walk.proofs.ancestors.descend.Goals as goal
 
 pub loop-leaf-init : goal.loop-leaf-init
-loop-leaf-init g c = record { down = record { rows = c.requires.above; under = c.requires.below; list = refl }; fetched = c.requires.fetched }
+loop-leaf-init g c = record { rows = c.requires.above; under = c.requires.below; list = refl }
 
-pub take_or_fetch-node-requires : goal.take_or_fetch-node-requires
-take_or_fetch-node-requires g c = (
-  omega arith,
-  (
-    search rules,
-    (under-used c.args.tree.now.nodes (map.len c.args.tree.now.nodes) _ c.loop-leaf.id c.loop-leaf.invariant.down.under, c.loop-leaf.invariant.fetched),
-  ),
-)
+pub node-node-requires : goal.node-node-requires
+node-node-requires g c = (c.tell_fits.ensures, under-used c.args.tree.now.nodes (map.len c.args.tree.now.nodes) _ c.loop-leaf.id c.loop-leaf.invariant.under)
 
 pub push-requires : goal.push-requires
-push-requires g c = (omega arith, down-room c.args.tree.now.nodes (map.len c.args.tree.now.nodes) _ c.loop-leaf.ancestors c.loop-leaf.id c.loop-leaf.invariant.down)
+push-requires g c = (omega arith, down-room c.args.tree.now.nodes (map.len c.args.tree.now.nodes) _ c.loop-leaf.ancestors c.loop-leaf.id c.loop-leaf.invariant)
 
 pub loop-leaf-smaller : goal.loop-leaf-smaller
-loop-leaf-smaller g c = down-smaller c.args.tree.now.nodes (map.len c.args.tree.now.nodes) _ c.loop-leaf.ancestors c.loop-leaf.id c.loop-leaf.invariant.down _ c.push.new.self c.push.ensures
+loop-leaf-smaller g c = down-smaller c.args.tree.now.nodes (map.len c.args.tree.now.nodes) _ c.loop-leaf.ancestors c.loop-leaf.id c.loop-leaf.invariant _ c.push.new.self c.push.ensures
 
 pub loop-leaf-preserved : goal.loop-leaf-preserved
 loop-leaf-preserved g c =
     let inner = c.in-Internal.inner in
-    record {
-      down =
-          rw c.first_child_id-id.ensures
-          (down-internal c.args.tree.now.nodes (map.len c.args.tree.now.nodes) _ c.loop-leaf.ancestors c.loop-leaf.id c.loop-leaf.invariant.down c.take_or_fetch-node.result.now c.take_or_fetch-node.ensures.value
-          inner.parent inner.first inner.branches (ap view_of c.in-Internal.is) _ (rw c.in-Internal.is refl) c.push.new.self c.push.ensures);
-      fetched = c.take_or_fetch-node.ensures.fetched;
-    }
+    rw c.first_child_id-id.ensures
+    (down-internal c.args.tree.now.nodes (map.len c.args.tree.now.nodes) _ c.loop-leaf.ancestors c.loop-leaf.id c.loop-leaf.invariant c.node-node.result.now c.node-node.ensures
+    inner.parent inner.first inner.branches (ap view_of c.in-Internal.is) _ (rw c.in-Internal.is refl) c.push.new.self c.push.ensures)
 
 pub returns-in-Leaf-clause-left : goal.returns-in-Leaf-clause-left
 returns-in-Leaf-clause-left g c =
     let leaf = c.in-Leaf.leaf in
-    down-leaf c.args.tree.now.nodes (map.len c.args.tree.now.nodes) _ c.loop-leaf.ancestors c.loop-leaf.id c.loop-leaf.invariant.down c.take_or_fetch-node.result.now c.take_or_fetch-node.ensures.value
+    down-leaf c.args.tree.now.nodes (map.len c.args.tree.now.nodes) _ c.loop-leaf.ancestors c.loop-leaf.id c.loop-leaf.invariant c.node-node.result.now c.node-node.ensures
     leaf.parent leaf.items (ap view_of c.in-Leaf.is)
 
 pub first_child_id-id-requires : goal.first_child_id-id-requires

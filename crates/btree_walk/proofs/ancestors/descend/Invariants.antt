@@ -3,17 +3,13 @@ use Rattle.std.specs.FinMap as map
 use Rattle.btree_shape.specs.Remaining.{remaining_above}
 use Rattle.btree_shape.specs.Represents.{represented}
 use Rattle.btree_shape.specs.TreeState.{views}
-use Rattle.btree_walk.specs.Fetched.{AreFetched}
 use Rattle.btree_walk.specs.Rows.{rows_of}
 use Rattle.btree_walk.proofs.WalkLemmas.{IsDown}
 use Rattle.btree_walk.proofs.ancestors.descend.Given as goal
 
 abbrev pub invariant-loop-leaf : goal.invariant-loop-leaf
-invariant-loop-leaf g l = record {
-  down :
-      IsDown l.tree.nodes (map.len l.tree.nodes) (represented (views l.tree.nodes) (map.len l.tree.nodes) l.fn.top ++ remaining_above (views l.tree.nodes) (map.len l.tree.nodes) (rows_of l.initial.ancestors)) l.ancestors l.id;
-  fetched : AreFetched l.tree l.fetched;
-}
+invariant-loop-leaf g l =
+    IsDown l.tree.nodes (map.len l.tree.nodes) (represented (views l.tree.nodes) (map.len l.tree.nodes) l.fn.top ++ remaining_above (views l.tree.nodes) (map.len l.tree.nodes) (rows_of l.initial.ancestors)) l.ancestors l.id
 
 abbrev pub decreases-loop-leaf : goal.decreases-loop-leaf
 decreases-loop-leaf g l = 32 - length l.ancestors

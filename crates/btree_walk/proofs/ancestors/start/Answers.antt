@@ -1,6 +1,5 @@
 use Rattle.std.proofs.Common.{sym, ap, subst, ◌∙◌, ◌++◌, arith, append-nil, rules}
 use Rattle.std.specs.FinMap as map
-use Rattle.btree_node.proofs.NodeSizes.{fits-leaf}
 use Rattle.btree_shape.specs.Remaining.{remaining_above}
 use Rattle.btree_shape.specs.Represents.{represented}
 use Rattle.btree_shape.specs.TreeState.{node_map, pairs_under, pairs_of}
@@ -14,9 +13,16 @@ pub descend-requires : goal.descend-requires
 descend-requires g c =
     let well = subst (λ r. IsWellFormed g.K.Ord.cmp (node_map c.args.tree.now) r c.args.tree.now.len (pairs_of c.args.tree.now)) (sym c.in-Some.ensures.value) c.in-Some.ensures.well_formed in
     let fits = c.len-len.type_inv in
-    let is = c.len-len.ensures in
-    let under = root-under g.K.Ord.cmp c.args.tree.now c.in-Some.root (rw (← is) fits) well in
-    (omega arith, (omega arith, (search rules, (search fits-leaf, (rw c.requires.none tt, (rw c.requires.none under, c.requires.fetched))))))
+    let is = c.len-len.ensures in (
+      omega arith,
+      (
+        search,
+        (
+          rw c.requires.none tt,
+          rw c.requires.none (root-under g.K.Ord.cmp c.args.tree.now c.in-Some.root (rw (← is) fits) well),
+        ),
+      ),
+    )
 
 pub returns-in-Some-clause-left : goal.returns-in-Some-clause-left
 returns-in-Some-clause-left g c =

@@ -1,4 +1,4 @@
-use Rattle.std.proofs.Common.{◌++◌, ◌∙◌, ap, arith, rules}
+use Rattle.std.proofs.Common.{◌++◌, ◌∙◌, ap, arith}
 use Rattle.std.specs.FinMap as map
 use Rattle.btree_node.proofs.NodeSizes.{fits-leaf}
 use Rattle.btree_shape.specs.Remaining.{remaining_above}
@@ -10,7 +10,7 @@ use Rattle.btree_walk.proofs.iter.Iter.new.Goals as goal
 pub invariant_of-result : goal.invariant_of-result
 invariant_of-result g c =
     let ahead = ap (λ l. l ++ remaining_above (views c.args.tree.now.nodes) (map.len c.args.tree.now.nodes) (rows_of c.start-leaf.new.ancestors)) c.run_of.ensures ∙ c.start-leaf.ensures.left in
-    (c.note_fits.ensures, c.start-leaf.ensures.above, tt, rw ahead (ends-whole c.len.result (pairs_of c.args.tree.now) c.len.ensures), c.start-leaf.ensures.fetched)
+    (c.note_fits.ensures, c.start-leaf.ensures.above, tt, rw ahead (ends-whole c.len.result (pairs_of c.args.tree.now) c.len.ensures))
 
 pub returns : goal.returns
 returns g c =
@@ -18,7 +18,7 @@ returns g c =
     (whole-left c.len.result (pairs_of c.args.tree.now) c.len.ensures)
 
 pub start-leaf-requires : goal.start-leaf-requires
-start-leaf-requires g c = (omega arith, (omega arith, (search rules, (search fits-leaf, (c.new-ancestors.ensures, rw c.new-fetched.ensures tt)))))
+start-leaf-requires g c = (omega arith, (search fits-leaf, c.new-ancestors.ensures))
 
 pub run_of-requires : goal.run_of-requires
 run_of-requires g c = search fits-leaf

@@ -14,7 +14,6 @@ invariant_of-self g c = (
   c.self.invariant.1,
   c.step_back.ensures.back,
   ends-last _ _ _ c.self.invariant.3 (omega (arith, c.if-self-eq0.false)) _ _ c.in-Some.ensures.last,
-  c.self.invariant.4,
 )
 
 pub returns-clause-steps : goal.returns-clause-steps

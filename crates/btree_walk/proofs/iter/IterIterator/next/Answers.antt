@@ -1,4 +1,4 @@
-use Rattle.std.proofs.Common.{◌++◌, length, ap, ◌∙◌, arith, rules}
+use Rattle.std.proofs.Common.{◌++◌, length, ap, ◌∙◌, arith}
 use Rattle.std.specs.FinMap as map
 use Rattle.btree_node.proofs.NodeSizes.{fits-leaf}
 use Rattle.btree_shape.specs.Remaining.{remaining_above}
@@ -18,7 +18,6 @@ invariant_of-self g c = (
   c.self.invariant.2,
   ends-first _ _ _ c.self.invariant.3 (omega (arith, c.if-self-eq0.false)) _ _
       (ap (λ l. l ++ remaining_above (views c.self.inside.tree.now.nodes) (map.len c.self.inside.tree.now.nodes) (rows_of c.self.inside.ancestors)) c.in-Some.ensures),
-  c.self.invariant.4,
 )
 
 pub returns-in-Some-clause-steps : goal.returns-in-Some-clause-steps
@@ -38,7 +37,7 @@ pub run_of-self-inside-requires : goal.run_of-self-inside-requires
 run_of-self-inside-requires g c = search fits-leaf
 
 pub next_above-requires : goal.next_above-requires
-next_above-requires g c = (omega arith, (omega arith, (search rules, (search fits-leaf, (c.self.invariant.1, c.self.invariant.4)))))
+next_above-requires g c = (omega arith, (search fits-leaf, c.self.invariant.1))
 
 pub invariant_of-self-in-Some-next_above : goal.invariant_of-self-in-Some-next_above
 invariant_of-self-in-Some-next_above g c = (
@@ -47,11 +46,7 @@ invariant_of-self-in-Some-next_above g c = (
   c.self.invariant.2,
   ends-first _ _ _ c.self.invariant.3 (omega (arith, c.if-self-eq0.false)) _ _
       (next-above _ _ _ _ _ _ c.in_default.ensures c.in-Some-next_above.ensures.left c.run_of-self-inside.ensures),
-  c.fetch_after.ensures,
 )
-
-pub fetch_after-requires : goal.fetch_after-requires
-fetch_after-requires g c = (omega arith, (omega arith, (search rules, (c.in-Some-next_above.ensures.above, c.in-Some-next_above.ensures.fetched))))
 
 pub unreachable-requires : goal.unreachable-requires
 unreachable-requires g c =

@@ -1,4 +1,4 @@
-use Rattle.std.proofs.Common.{arith, rules}
+use Rattle.std.proofs.Common.{arith}
 use Rattle.btree_node.proofs.NodeSizes.{fits-leaf}
 use Rattle.btree_walk.proofs.walks.Front.next.Goals as goal
 
@@ -6,4 +6,4 @@ pub next_in_leaf-requires : goal.next_in_leaf-requires
 next_in_leaf-requires g c = search fits-leaf
 
 pub next_above-requires : goal.next_above-requires
-next_above-requires g c = (omega arith, (omega arith, (search rules, (search fits-leaf, (c.requires.above, rw c.new-fetched.ensures tt)))))
+next_above-requires g c = (omega arith, (search fits-leaf, c.requires.above))

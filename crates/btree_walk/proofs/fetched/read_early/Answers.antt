@@ -1,6 +1,6 @@
 use Rattle.std.proofs.Common.{◌-◌, arith}
 use Rattle.btree_walk.proofs.FetchedLemmas.{some-get}
-use Rattle.btree_walk.proofs.ahead.read_early.Goals as goal
+use Rattle.btree_walk.proofs.fetched.read_early.Goals as goal
 
 pub unwrap-near_start-requires : goal.unwrap-near_start-requires
 unwrap-near_start-requires g c =

@@ -1,9 +1,0 @@
-use Rattle.std.proofs.Common.{◌≤◌, length}
-use Rattle.btree_walk.specs.Fetched.{AreFetched}
-use Rattle.btree_walk.proofs.ahead.fetch_children_before.Given as goal
-
-abbrev pub invariant-loop-index : goal.invariant-loop-index
-invariant-loop-index g l = record {
-  fetched : AreFetched l.tree l.fetched;
-  counted : length l.fetched ≤ l.index;
-}
