@@ -69,7 +69,7 @@ where
     if len <= MIDDLE {
         return first_not_below(slots, key, 0, len, steps);
     }
-    // Reads a slot before the middle too, so that a node that is not in the cache is fetched from two places at once.
+    // Reads a slot before the middle too, so that two cache lines of the node are loaded together.
     let _early = key_at(slots, MIDDLE / 2);
     steps.tick();
     if key_at(slots, MIDDLE) < key {

@@ -64,7 +64,7 @@ impl<T, const N: usize> Slots<T, N> {
         }
     }
 
-    /// Returns an iterator over the values in order.
+    /// Returns an iterator over the values, in order and from both ends.
     pub fn iter(&self) -> SlotsIter<'_, T>
         ensures { result ≡ self.now }
     {

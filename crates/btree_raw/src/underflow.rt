@@ -103,15 +103,10 @@ fn fix_underflow_at<K: Drop, V: Drop, C: NodesMut<K, V>>(
     ensures rest { KeepsRest tree.old tree.new }
     ensures back { IsSome addr.offset → IsSome result.0.offset }
 {
-    tree.tell_fits();
     let (before, after) = siblings(tree, parent, id);
     let Some(after) = after else {
         return fix_underflow_with_left(tree, before.unwrap(), addr);
     };
-    if let Some(before) = &before {
-        // Fetches the left sibling before the right one is asked, so that the two come from memory at once.
-        let _early = tree.node(before.left);
-    }
     if let Some(at) = borrow_from_right(tree, after, count, Address::new(addr.id, addr.offset)) {
         return (at, false);
     }

@@ -15,7 +15,8 @@ module _ {A : Type 0} where
   with_parent parent (leaf old items) = leaf parent items
   with_parent parent (internal old first branches) = internal parent first branches
 
-  -- the node with other items: a leaf with any number of them, an internal node with as many as before
+  -- the node with other items: a leaf with any number of them, an internal node with as many as before,
+  -- or with none and its first child alone
   abbrev pub with_items : List A → View A → View A
   with_items xs (leaf parent items) = leaf parent xs
   with_items xs (internal parent first branches) = internal parent first (zip xs (map (λ b. b.1) branches))

@@ -54,7 +54,7 @@ module _ {A : Type 0} where
           ∙ sym (ap (λ b. filter (λ y. not (q y)) (cond (b && true) (x ∷ filter (λ y. p y && true) xs) (filter (λ y. p y && true) xs))) e)
 
   pub first-list : (xs : List A) (first : Option A) (rest : List A) → IsFirstOf xs first rest → xs ≡ from_first first rest
-  first-list xs None rest e = e
+  first-list xs None rest e = e.0
   first-list xs (Some x) rest e = e
 
   pub behind-parts : (all : List A) (y : A) (behind : Option (List A)) → IsBehind all (Some y) behind → (before : List A) × (after : List A) × (all ≡ before ++ y ∷ after)
@@ -166,7 +166,7 @@ module _ {K V : Type 0} {cmp : K → K → Ordering} (laws : IsTotalOrder cmp) w
     -- the last step of a backward walk
     pub walk-behind : (behind : List (K × V)) → all ≡ behind ++ y ∷ after → (last : Option (K × V)) (rest : List (K × V)) → IsLastOf behind last rest
         → AreLeftSame cmp all (Some y) false last true × IsBehind all last (Some rest)
-    walk-behind behind is None rest none = (given-none (is ∙ ap (λ l. l ++ y ∷ after) none), tt)
+    walk-behind behind is None rest none = (given-none (is ∙ ap (λ l. l ++ y ∷ after) none.0), tt)
     walk-behind behind is (Some z) rest more =
         let parts : all ≡ rest ++ z ∷ (y ∷ after) = is ∙ ap (λ l. l ++ y ∷ after) more ∙ append_assoc rest (z ∷ []) (y ∷ after) in
         (given-some rest z parts, (y ∷ after, parts))

@@ -29,14 +29,14 @@ module _ {A : Type 0} where
   IsBehind all (Some y) None = (before : List A) × (after : List A) × (all ≡ before ++ y ∷ after)
   IsBehind all (Some y) (Some behind) = (after : List A) × (all ≡ behind ++ y ∷ after)
 
-  -- the first element of a list and the others
+  -- the first element of a list and the others; of no elements none are left
   abbrev pub IsFirstOf : List A → (first : Option A) → (rest : List A) → Type 0
-  IsFirstOf xs None rest = xs ≡ []
+  IsFirstOf xs None rest = (xs ≡ []) × (rest ≡ [])
   IsFirstOf xs (Some x) rest = xs ≡ x ∷ rest
 
-  -- the last element of a list and the others
+  -- the last element of a list and the others; of no elements none are left
   abbrev pub IsLastOf : List A → (last : Option A) → (rest : List A) → Type 0
-  IsLastOf xs None rest = xs ≡ []
+  IsLastOf xs None rest = (xs ≡ []) × (rest ≡ [])
   IsLastOf xs (Some x) rest = xs ≡ rest ++ x ∷ []
 
 -- the bound that a last key is, if it is left, and if it was given

@@ -6,7 +6,7 @@ ghost use Rattle.btree_shape.specs.TreeState.{pairs_of};
 ghost use Rattle.btree_walk.specs.Bounds.{bound_key};
 ghost use Rattle.btree_walk.specs.Preceding.{AreAncestorsBefore, AreFetched};
 ghost use Rattle.btree_walk.specs.Ranges.{IsFirstOf, IsLastOf, ahead_of, behind_of, pair_now};
-ghost use Rattle.btree_walk.specs.Rows.{AreAncestors};
+ghost use Rattle.btree_walk.specs.Rows.{AreAncestors, run_left};
 
 use crate::ancestors::{Ancestors, next_above, next_in_leaf, start};
 use crate::at_key::{end_at, start_from};
@@ -184,7 +184,32 @@ impl<'a, K: Ord + 'a, V: 'a> Back<'a, K, V> {
         self.run = run_to(leaf, kept);
     }
 
+    // Passes the last pair above the leaf, of which nothing is left, and returns it. A step inside a leaf saves no registers for what
+    // this one needs, since it is never inlined.
+    #[inline(never)]
+    fn last_above<C: NodesMut<K, V> + 'a>(
+        &mut self,
+        tree: &'a Tree<K, V, C>,
+    ) -> Option<(&'a K, &'a V)>
+        requires above { AreAncestorsBefore tree.now self.old.ancestors }
+        requires fetched { AreFetched tree.now self.old.fetched }
+        requires passed { run_left self.old.run ≡ [] }
+        ensures above { AreAncestorsBefore tree.now self.new.ancestors }
+        ensures fetched { AreFetched tree.now self.new.fetched }
+        ensures last { IsLastOf (behind_of tree.now self.old) (pair_now result) (behind_of tree.now self.new) }
+    {
+        tree.tell_fits();
+        match previous_above(tree, &mut self.ancestors, &mut self.fetched) {
+            Some((pair, leaf, kept)) => {
+                self.run = run_to(Some(leaf), kept);
+                Some(pair)
+            }
+            None => None,
+        }
+    }
+
     // Passes the previous pair and returns it.
+    #[inline]
     pub fn next_back<C: NodesMut<K, V> + 'a>(
         &mut self,
         tree: &'a Tree<K, V, C>,
@@ -199,13 +224,7 @@ impl<'a, K: Ord + 'a, V: 'a> Back<'a, K, V> {
         if let Some(pair) = last_in_run(&mut self.run) {
             return Some(pair);
         }
-        match previous_above(tree, &mut self.ancestors, &mut self.fetched) {
-            Some((pair, leaf, kept)) => {
-                self.run = run_to(Some(leaf), kept);
-                Some(pair)
-            }
-            None => None,
-        }
+        self.last_above(tree)
     }
 
     // Starts before a key, passes the last pair and returns it.

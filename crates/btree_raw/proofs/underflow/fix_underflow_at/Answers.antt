@@ -5,9 +5,6 @@ use Rattle.btree_shape.specs.TreeState.{TreeState, KeepsRest, node_map}
 use Rattle.btree_raw.specs.NodeSteps.{MergesSiblings}
 use Rattle.btree_raw.specs.Underflow.{AreAdjacent, BorrowsFromLeft, EndsUnderflow, FitTogether, MergesWithLeft, PassesUnderflowUp, Underflows}
 use Rattle.btree_raw.proofs.UnderflowLemmas.{is-child, is-short, before-there, are-after, after-adjacent, after-left, after-up, after-few, are-before, as-after, as-before, before-right, low-after, none-after, right-borrows, right-merges}
-use Rattle.btree_shape.proofs.Trees.Stores.{used-view}
-use Rattle.btree_raw.proofs.BorrowLemmas.{can-right}
-use Rattle.btree_raw.proofs.SiblingLemmas.{right-giver}
 use Rattle.btree_raw.proofs.underflow.fix_underflow_at.Goals as goal
 
 pub siblings-before-requires : goal.siblings-before-requires
@@ -61,42 +58,42 @@ pub returns-in-Some-borrow_from_right-clause-back : goal.returns-in-Some-borrow_
 returns-in-Some-borrow_from_right-clause-back g c = λ is.
     c.in-Some-borrow_from_right.ensures.back (subst (λ (a : Address). IsSome a.offset) (sym c.new.ensures) is)
 
-pub fix_underflow_with_left-requires-in-Some-before-2-clause-adjacent : goal.fix_underflow_with_left-requires-in-Some-before-2-clause-adjacent
-fix_underflow_with_left-requires-in-Some-before-2-clause-adjacent g c =
-    subst (λ (t : TreeState _ _). AreAdjacent (node_map t) c.in-Some-before-2.before c.in-Some-before-2.before.right c.args.addr) (sym c.in_default-borrow_from_right.ensures.unchanged)
-    (are-before (node_map c.args.tree.now) c.args.id c.args.parent c.args.addr c.requires.followed c.requires.under c.siblings-before.result.0 c.siblings-before.result.1 c.siblings-before.ensures c.in-Some-before-2.before c.in-Some-before-2.is)
+pub fix_underflow_with_left-requires-in-Some-before-clause-adjacent : goal.fix_underflow_with_left-requires-in-Some-before-clause-adjacent
+fix_underflow_with_left-requires-in-Some-before-clause-adjacent g c =
+    subst (λ (t : TreeState _ _). AreAdjacent (node_map t) c.in-Some-before.before c.in-Some-before.before.right c.args.addr) (sym c.in_default-borrow_from_right.ensures.unchanged)
+    (are-before (node_map c.args.tree.now) c.args.id c.args.parent c.args.addr c.requires.followed c.requires.under c.siblings-before.result.0 c.siblings-before.result.1 c.siblings-before.ensures c.in-Some-before.before c.in-Some-before.is)
 
-pub fix_underflow_with_left-requires-in-Some-before-2-clause-short : goal.fix_underflow_with_left-requires-in-Some-before-2-clause-short
-fix_underflow_with_left-requires-in-Some-before-2-clause-short g c =
-    subst (λ (t : TreeState _ _). Underflows (node_map t) c.in-Some-before-2.before.right) (sym c.in_default-borrow_from_right.ensures.unchanged)
-    (rw (before-right (node_map c.args.tree.now) c.args.id c.args.parent c.args.addr c.requires.followed c.requires.under c.siblings-before.result.0 c.siblings-before.result.1 c.siblings-before.ensures c.in-Some-before-2.before c.in-Some-before-2.is) (is-short (node_map c.args.tree.now) c.args.id c.args.parent c.args.addr c.requires.followed c.requires.under c.args.count c.requires.count c.requires.short))
+pub fix_underflow_with_left-requires-in-Some-before-clause-short : goal.fix_underflow_with_left-requires-in-Some-before-clause-short
+fix_underflow_with_left-requires-in-Some-before-clause-short g c =
+    subst (λ (t : TreeState _ _). Underflows (node_map t) c.in-Some-before.before.right) (sym c.in_default-borrow_from_right.ensures.unchanged)
+    (rw (before-right (node_map c.args.tree.now) c.args.id c.args.parent c.args.addr c.requires.followed c.requires.under c.siblings-before.result.0 c.siblings-before.result.1 c.siblings-before.ensures c.in-Some-before.before c.in-Some-before.is) (is-short (node_map c.args.tree.now) c.args.id c.args.parent c.args.addr c.requires.followed c.requires.under c.args.count c.requires.count c.requires.short))
 
-pub returns-in-Some-before-2-clause-borrows : goal.returns-in-Some-before-2-clause-borrows
-returns-in-Some-before-2-clause-borrows g c = λ yes.
-    as-before (node_map c.args.tree.now) c.args.id c.args.parent c.args.addr c.requires.followed c.requires.under c.siblings-before.result.0 c.siblings-before.result.1 c.siblings-before.ensures c.in-Some-before-2.before c.in-Some-before-2.is (Borrows (node_map c.args.tree.now) (node_map c.fix_underflow_with_left-in-Some-before-2.new.tree))
-    (subst (λ (t : TreeState _ _). BorrowsFromLeft t c.fix_underflow_with_left-in-Some-before-2.new.tree c.in-Some-before-2.before) c.in_default-borrow_from_right.ensures.unchanged (c.fix_underflow_with_left-in-Some-before-2.ensures.borrows yes)
-    (low-after (node_map c.args.tree.now) c.args.id c.args.parent c.args.addr c.requires.followed c.requires.under c.siblings-before.result.0 c.siblings-before.result.1 c.siblings-before.ensures c.in-Some-before-2.before c.in-Some-before-2.is c.in-Some.after c.in-Some.is c.in_default-borrow_from_right.ensures.none))
+pub returns-in-Some-before-clause-borrows : goal.returns-in-Some-before-clause-borrows
+returns-in-Some-before-clause-borrows g c = λ yes.
+    as-before (node_map c.args.tree.now) c.args.id c.args.parent c.args.addr c.requires.followed c.requires.under c.siblings-before.result.0 c.siblings-before.result.1 c.siblings-before.ensures c.in-Some-before.before c.in-Some-before.is (Borrows (node_map c.args.tree.now) (node_map c.fix_underflow_with_left-in-Some-before.new.tree))
+    (subst (λ (t : TreeState _ _). BorrowsFromLeft t c.fix_underflow_with_left-in-Some-before.new.tree c.in-Some-before.before) c.in_default-borrow_from_right.ensures.unchanged (c.fix_underflow_with_left-in-Some-before.ensures.borrows yes)
+    (low-after (node_map c.args.tree.now) c.args.id c.args.parent c.args.addr c.requires.followed c.requires.under c.siblings-before.result.0 c.siblings-before.result.1 c.siblings-before.ensures c.in-Some-before.before c.in-Some-before.is c.in-Some.after c.in-Some.is c.in_default-borrow_from_right.ensures.none))
 
-pub returns-in-Some-before-2-clause-merges : goal.returns-in-Some-before-2-clause-merges
-returns-in-Some-before-2-clause-merges g c = λ yes.
-    as-before (node_map c.args.tree.now) c.args.id c.args.parent c.args.addr c.requires.followed c.requires.under c.siblings-before.result.0 c.siblings-before.result.1 c.siblings-before.ensures c.in-Some-before-2.before c.in-Some-before-2.is (MergesNode (node_map c.args.tree.now) (node_map c.fix_underflow_with_left-in-Some-before-2.new.tree))
-    (subst (λ (t : TreeState _ _). MergesWithLeft t c.fix_underflow_with_left-in-Some-before-2.new.tree c.in-Some-before-2.before) c.in_default-borrow_from_right.ensures.unchanged (c.fix_underflow_with_left-in-Some-before-2.ensures.merges yes)
-    (low-after (node_map c.args.tree.now) c.args.id c.args.parent c.args.addr c.requires.followed c.requires.under c.siblings-before.result.0 c.siblings-before.result.1 c.siblings-before.ensures c.in-Some-before-2.before c.in-Some-before-2.is c.in-Some.after c.in-Some.is c.in_default-borrow_from_right.ensures.none))
+pub returns-in-Some-before-clause-merges : goal.returns-in-Some-before-clause-merges
+returns-in-Some-before-clause-merges g c = λ yes.
+    as-before (node_map c.args.tree.now) c.args.id c.args.parent c.args.addr c.requires.followed c.requires.under c.siblings-before.result.0 c.siblings-before.result.1 c.siblings-before.ensures c.in-Some-before.before c.in-Some-before.is (MergesNode (node_map c.args.tree.now) (node_map c.fix_underflow_with_left-in-Some-before.new.tree))
+    (subst (λ (t : TreeState _ _). MergesWithLeft t c.fix_underflow_with_left-in-Some-before.new.tree c.in-Some-before.before) c.in_default-borrow_from_right.ensures.unchanged (c.fix_underflow_with_left-in-Some-before.ensures.merges yes)
+    (low-after (node_map c.args.tree.now) c.args.id c.args.parent c.args.addr c.requires.followed c.requires.under c.siblings-before.result.0 c.siblings-before.result.1 c.siblings-before.ensures c.in-Some-before.before c.in-Some-before.is c.in-Some.after c.in-Some.is c.in_default-borrow_from_right.ensures.none))
 
-pub returns-in-Some-before-2-clause-here : goal.returns-in-Some-before-2-clause-here
-returns-in-Some-before-2-clause-here g c = λ yes.
-    as-before (node_map c.args.tree.now) c.args.id c.args.parent c.args.addr c.requires.followed c.requires.under c.siblings-before.result.0 c.siblings-before.result.1 c.siblings-before.ensures c.in-Some-before-2.before c.in-Some-before-2.is (λ q n. EndsUnderflow (node_map c.args.tree.now) (node_map c.fix_underflow_with_left-in-Some-before-2.new.tree) n c.args.addr c.fix_underflow_with_left-in-Some-before-2.result.0)
-    (subst (λ (t : TreeState _ _). EndsUnderflow (node_map t) (node_map c.fix_underflow_with_left-in-Some-before-2.new.tree) c.in-Some-before-2.before.right c.args.addr c.fix_underflow_with_left-in-Some-before-2.result.0)
-    c.in_default-borrow_from_right.ensures.unchanged (c.fix_underflow_with_left-in-Some-before-2.ensures.here yes))
+pub returns-in-Some-before-clause-here : goal.returns-in-Some-before-clause-here
+returns-in-Some-before-clause-here g c = λ yes.
+    as-before (node_map c.args.tree.now) c.args.id c.args.parent c.args.addr c.requires.followed c.requires.under c.siblings-before.result.0 c.siblings-before.result.1 c.siblings-before.ensures c.in-Some-before.before c.in-Some-before.is (λ q n. EndsUnderflow (node_map c.args.tree.now) (node_map c.fix_underflow_with_left-in-Some-before.new.tree) n c.args.addr c.fix_underflow_with_left-in-Some-before.result.0)
+    (subst (λ (t : TreeState _ _). EndsUnderflow (node_map t) (node_map c.fix_underflow_with_left-in-Some-before.new.tree) c.in-Some-before.before.right c.args.addr c.fix_underflow_with_left-in-Some-before.result.0)
+    c.in_default-borrow_from_right.ensures.unchanged (c.fix_underflow_with_left-in-Some-before.ensures.here yes))
 
-pub returns-in-Some-before-2-clause-above : goal.returns-in-Some-before-2-clause-above
-returns-in-Some-before-2-clause-above g c = λ yes.
-    as-before (node_map c.args.tree.now) c.args.id c.args.parent c.args.addr c.requires.followed c.requires.under c.siblings-before.result.0 c.siblings-before.result.1 c.siblings-before.ensures c.in-Some-before-2.before c.in-Some-before-2.is (λ q n. PassesUnderflowUp (node_map c.args.tree.now) (node_map c.fix_underflow_with_left-in-Some-before-2.new.tree) n q c.args.addr c.fix_underflow_with_left-in-Some-before-2.result.0)
-    (subst (λ (t : TreeState _ _). PassesUnderflowUp (node_map t) (node_map c.fix_underflow_with_left-in-Some-before-2.new.tree) c.in-Some-before-2.before.right c.in-Some-before-2.before.parent c.args.addr c.fix_underflow_with_left-in-Some-before-2.result.0)
-    c.in_default-borrow_from_right.ensures.unchanged (c.fix_underflow_with_left-in-Some-before-2.ensures.above yes))
+pub returns-in-Some-before-clause-above : goal.returns-in-Some-before-clause-above
+returns-in-Some-before-clause-above g c = λ yes.
+    as-before (node_map c.args.tree.now) c.args.id c.args.parent c.args.addr c.requires.followed c.requires.under c.siblings-before.result.0 c.siblings-before.result.1 c.siblings-before.ensures c.in-Some-before.before c.in-Some-before.is (λ q n. PassesUnderflowUp (node_map c.args.tree.now) (node_map c.fix_underflow_with_left-in-Some-before.new.tree) n q c.args.addr c.fix_underflow_with_left-in-Some-before.result.0)
+    (subst (λ (t : TreeState _ _). PassesUnderflowUp (node_map t) (node_map c.fix_underflow_with_left-in-Some-before.new.tree) c.in-Some-before.before.right c.in-Some-before.before.parent c.args.addr c.fix_underflow_with_left-in-Some-before.result.0)
+    c.in_default-borrow_from_right.ensures.unchanged (c.fix_underflow_with_left-in-Some-before.ensures.above yes))
 
-pub returns-in-Some-before-2-clause-rest : goal.returns-in-Some-before-2-clause-rest
-returns-in-Some-before-2-clause-rest g c = subst (λ (t : TreeState _ _). KeepsRest t c.fix_underflow_with_left-in-Some-before-2.new.tree) c.in_default-borrow_from_right.ensures.unchanged c.fix_underflow_with_left-in-Some-before-2.ensures.rest
+pub returns-in-Some-before-clause-rest : goal.returns-in-Some-before-clause-rest
+returns-in-Some-before-clause-rest g c = subst (λ (t : TreeState _ _). KeepsRest t c.fix_underflow_with_left-in-Some-before.new.tree) c.in_default-borrow_from_right.ensures.unchanged c.fix_underflow_with_left-in-Some-before.ensures.rest
 
 pub merge_siblings-requires-clause-adjacent : goal.merge_siblings-requires-clause-adjacent
 merge_siblings-requires-clause-adjacent g c = (
@@ -125,12 +122,3 @@ returns-in-None-clause-above g c = λ yes.
 
 pub returns-in-None-clause-rest : goal.returns-in-None-clause-rest
 returns-in-None-clause-rest g c = subst (λ (t : TreeState _ _). KeepsRest t c.merge_siblings.new.tree) c.in_default-borrow_from_right.ensures.unchanged c.merge_siblings.ensures.merges.rest
-
-pub node-early-requires : goal.node-early-requires
-node-early-requires g c = (
-  c.tell_fits.ensures,
-  used-view c.args.tree.now.nodes c.in-Some-before.before.left
-      (right-giver (node_map c.args.tree.now) c.in-Some-before.before
-      (can-right (node_map c.args.tree.now) c.in-Some-before.before c.in-Some-before.before.right c.args.addr
-      (are-before (node_map c.args.tree.now) c.args.id c.args.parent c.args.addr c.requires.followed c.requires.under c.siblings-before.result.0 c.siblings-before.result.1 c.siblings-before.ensures c.in-Some-before.before c.in-Some-before.is))),
-)

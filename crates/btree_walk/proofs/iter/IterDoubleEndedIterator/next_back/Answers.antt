@@ -25,4 +25,4 @@ returns-clause-goes g c =
     rw (← c.self.view_is) record { on = λ finite. (tt, tt, omega arith); keeps = tt; rests = λ finite. tt }
 
 pub unreachable-requires : goal.unreachable-requires
-unreachable-requires g c = c.if-self-eq0.false (left-none _ _ _ c.self.invariant.3 c.in-None.ensures.last)
+unreachable-requires g c = c.if-self-eq0.false (left-none _ _ _ c.self.invariant.3 c.in-None.ensures.last.0)

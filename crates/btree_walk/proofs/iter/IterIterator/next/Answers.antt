@@ -45,13 +45,13 @@ invariant_of-self-in-Some-next_above g c = (
   c.in-Some-next_above.ensures.above,
   c.self.invariant.2,
   ends-first _ _ _ c.self.invariant.3 (omega (arith, c.if-self-eq0.false)) _ _
-      (next-above _ _ _ _ _ _ c.in_default.ensures c.in-Some-next_above.ensures.left c.run_of-self-inside.ensures),
+      (next-above _ _ _ _ _ _ c.in_default.ensures.0 c.in-Some-next_above.ensures.left c.run_of-self-inside.ensures),
 )
 
 pub unreachable-requires : goal.unreachable-requires
 unreachable-requires g c =
     let none = none-ahead _ _ _ c.self.invariant.3
-    (ap (λ l. l ++ remaining_above (views c.self.inside.tree.now.nodes) (map.len c.self.inside.tree.now.nodes) (rows_of c.self.inside.ancestors)) c.in_default.ensures
+    (ap (λ l. l ++ remaining_above (views c.self.inside.tree.now.nodes) (map.len c.self.inside.tree.now.nodes) (rows_of c.self.inside.ancestors)) c.in_default.ensures.0
     ∙ c.in-None.ensures.left.0) in
     c.if-self-eq0.false none
 
@@ -59,11 +59,11 @@ pub returns-clause-steps : goal.returns-clause-steps
 returns-clause-steps g c =
     rw (← c.self.view_is)
     (first-left _ _ _ c.self.invariant.3 (omega (arith, c.if-self-eq0.false)) _ _
-    (next-above _ _ _ _ _ _ c.in_default.ensures c.in-Some-next_above.ensures.left c.run_of-self-inside.ensures))
+    (next-above _ _ _ _ _ _ c.in_default.ensures.0 c.in-Some-next_above.ensures.left c.run_of-self-inside.ensures))
 
 pub returns-clause-goes : goal.returns-clause-goes
 returns-clause-goes g c =
     let first = first-left _ _ _ c.self.invariant.3 (omega (arith, c.if-self-eq0.false)) _ _
-    (next-above _ _ _ _ _ _ c.in_default.ensures c.in-Some-next_above.ensures.left c.run_of-self-inside.ensures) in
+    (next-above _ _ _ _ _ _ c.in_default.ensures.0 c.in-Some-next_above.ensures.left c.run_of-self-inside.ensures) in
     let fewer = ap length first in
     rw (← c.self.view_is) record { on = λ finite. (tt, tt, omega arith); keeps = tt; rests = λ finite. tt }

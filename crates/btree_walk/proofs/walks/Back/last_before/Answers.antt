@@ -9,7 +9,10 @@ pub returns-in_default-clause-last : goal.returns-in_default-clause-last
 returns-in_default-clause-last g c =
     let pairs = pairs_of c.args.tree.now in
     let up = rises g.K.Ord.cmp pairs c.root_id-root.ensures.well_formed.ascends in
-    before-none g.met.K.Ord.total c.args.key.now pairs up (sym c.start_at.ensures.behind ∙ c.in_default.ensures.last)
+    (
+      before-none g.met.K.Ord.total c.args.key.now pairs up (sym c.start_at.ensures.behind ∙ c.in_default.ensures.last.0),
+      c.in_default.ensures.last.1,
+    )
 
 pub returns-then-is_eq-clause-last : goal.returns-then-is_eq-clause-last
 returns-then-is_eq-clause-last g c =

@@ -1,9 +1,5 @@
-use Rattle.std.proofs.Common.{arith, rules}
-use Rattle.btree_node.proofs.NodeSizes.{fits-leaf}
+use Rattle.std.proofs.Common.{arith}
 use Rattle.btree_walk.proofs.walks.Back.next_back.Goals as goal
 
-pub previous_above-requires : goal.previous_above-requires
-previous_above-requires g c = (omega arith, (omega arith, (search rules, (search fits-leaf, (c.requires.above, c.requires.fetched)))))
-
-pub run_to-self-requires : goal.run_to-self-requires
-run_to-self-requires g c = (search fits-leaf, c.in-Some-previous_above.ensures.kept)
+pub last_above-requires : goal.last_above-requires
+last_above-requires g c = (omega arith, (c.requires.above, (c.requires.fetched, c.in_default.ensures.1)))
