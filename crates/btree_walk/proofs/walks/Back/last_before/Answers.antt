@@ -8,8 +8,7 @@ use Rattle.btree_walk.proofs.walks.Back.last_before.Goals as goal
 pub returns-in_default-clause-last : goal.returns-in_default-clause-last
 returns-in_default-clause-last g c =
     let pairs = pairs_of c.args.tree.now in
-    let up = rises g.K.Ord.cmp pairs c.root_id-root.ensures.well_formed.ascends in
-    (
+    let up = rises g.K.Ord.cmp pairs c.root_id-root.ensures.well_formed.ascends in (
       before-none g.met.K.Ord.total c.args.key.now pairs up (sym c.start_at.ensures.behind ∙ c.in_default.ensures.last.0),
       c.in_default.ensures.last.1,
     )

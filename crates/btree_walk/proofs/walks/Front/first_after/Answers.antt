@@ -8,8 +8,7 @@ use Rattle.btree_walk.proofs.walks.Front.first_after.Goals as goal
 pub returns-in_default-clause-first : goal.returns-in_default-clause-first
 returns-in_default-clause-first g c =
     let pairs = pairs_of c.args.tree.now in
-    let up = rises g.K.Ord.cmp pairs c.root_id-root.ensures.well_formed.ascends in
-    (
+    let up = rises g.K.Ord.cmp pairs c.root_id-root.ensures.well_formed.ascends in (
       after-none g.met.K.Ord.total c.args.key.now pairs up (sym c.start_from.ensures.ahead ∙ c.in_default.ensures.first.0),
       c.in_default.ensures.first.1,
     )
