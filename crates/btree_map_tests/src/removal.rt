@@ -448,6 +448,44 @@ fn answers_the_end_of_the_merged_leaf(rt: HostRuntime) -> Result<(), Fail> {
     merge_at_the_end(&rt, first_keys::<Store>(&rt, rt.alloc(), 9))
 }
 
+// Removes some keys, and then the last item of the leaf that has a key. The answer is the end of that leaf.
+fn take_the_last_of_a_leaf<C: NodesMut<u64, u64> + Drop>(
+    rt: &impl Abort,
+    map: BTreeMap<u64, u64, C>,
+    gone: &[u64],
+    (key, end): (u64, usize),
+    alloc: Global,
+) -> Result<String, Fail> {
+    let mut map = map;
+    for other in gone {
+        assert_same(rt, map.remove(other), Some(*other));
+    }
+    let Ok(addr) = map.address_of(&key) else {
+        return Err(Fail::from("no such key"));
+    };
+    let leaf = addr.id;
+    let (taken, back) = take_at(rt, &mut map, addr);
+    assert_same(
+        rt,
+        (taken, back.id, back.offset.value()),
+        (key, leaf, Some(end)),
+    );
+    leaves_of(rt, &map, alloc)
+}
+
+// The left leaf of nine keys has four items and keeps three. Of fourteen keys without 5 and 13, the leaf in the middle keeps two of three, and
+// borrows one from the left leaf.
+#[test]
+fn answers_the_end_of_the_leaf(rt: HostRuntime) -> Result<(), Fail> {
+    let map = first_keys::<Store>(&rt, rt.alloc(), 9);
+    let leaves = take_the_last_of_a_leaf(&rt, map, &[], (3, 3), rt.alloc())?;
+    assert_same(&rt, leaves.as_str(), "(3) 4 (4)");
+    let map = first_keys::<Store>(&rt, rt.alloc(), 14);
+    let leaves = take_the_last_of_a_leaf(&rt, map, &[5, 13], (8, 3), rt.alloc())?;
+    assert_same(&rt, leaves.as_str(), "(3) 3 (3) 9 (3)");
+    Ok(())
+}
+
 // Removes at addresses without an item, of an empty map and of one of two pairs.
 fn remove_nothing<C: NodesMut<u64, u64> + Drop>(
     rt: &impl Abort,
