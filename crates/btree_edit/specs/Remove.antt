@@ -1,6 +1,6 @@
 -- What a removal leaves of a tree. `IsRemoved` is the main word: with `valid`, `back` and `fits` it has all that
--- `insert_at` requires to put the pair back, and `restores` says that this gives the old list. A removal frees nodes and
--- never allocates one. `ReplacesInner` says which item takes the place of one of an internal node. `RemovesByKey` is a
+-- `insert_at` requires to put the pair back, and `restores` says that this gives the old list. A removal may free nodes
+-- and never allocates one. `ReplacesInner` says which item takes the place of one of an internal node. `RemovesByKey` is a
 -- removal at the address of a key.
 use Rattle.std.specs.Prelude.{◌≡◌, ℕ, suc, ◌+◌, ◌≤◌, slice_get, Some, IsSome, IsTrue}
 use Rattle.std.specs.FinMap as map

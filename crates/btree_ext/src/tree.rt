@@ -134,7 +134,7 @@ impl<K: Ord + Drop, V: Drop, C: NodesMut<K, V>> Tree<K, V, C> {
         insert(&mut self.raw, key, value)
     }
 
-    /// Inserts a pair whose key is not there at the address of its gap, which `address_of` returns. Returns the address of the pair. It
+    /// Inserts a pair with an absent key, at the address of its gap, which `address_of` returns. Returns the address of the pair. It
     /// compares no keys.
     ///
     /// It uses the same nodes as `insert`, and returns the same errors.
@@ -225,7 +225,7 @@ impl<K: Ord, V, C: ClearNodes<K, V>> Tree<K, V, C> {
 impl<K: Ord + Clone, V: Clone, C: CloneNodes<K, V>> Tree<K, V, C> {
     ghost use Rattle.btree_shape.specs.TreeState.{pairs_of};
 
-    /// Returns a tree with clones of the keys and values, on the same numbers of nodes. Its store has refused no node yet. It fails only if
+    /// Returns a tree with clones of the keys and values, whose nodes have the same numbers. Its store has refused no node yet. It fails only if
     /// the clone of the store fails.
     ///
     /// The contract requires that a clone of a key or a value is equal to it.

@@ -1,5 +1,6 @@
 pub mod SomesLemmas
 pub mod CarryLemmas
+pub mod StoreLemmas
 pub mod IterLemmas
 pub mod KeyLemmas
 pub mod PairLemmas

@@ -1,9 +1,10 @@
 -- What an edit of a list of options leaves of the values, if every option holds one.
-use Rattle.std.proofs.Common.{◌≡◌, ℕ, ◌<◌, List, [], ◌∷◌, ◌++◌, Option, Some, map, length, take, drop, set, get_or, zero, suc, refl, sym, ◌∙◌, ap, arith}
+use Rattle.std.proofs.Common.{◌≡◌, ℕ, ◌+◌, ◌<◌, ◌≤◌, List, [], ◌∷◌, ◌++◌, Option, Some, map, length, take, drop, set, get_or, zero, suc, refl, sym, ◌∙◌, ap, arith}
 use Rattle.std.specs.Prelude.{slice_get, IsSome}
 use Rattle.std.specs.List.{insert, remove}
 use Rattle.std.specs.Option.{option_map}
-use Rattle.std.proofs.lemmas.List.{take-map, drop-map, map-append, length-map, map-set, set-get_or}
+use Rattle.std.proofs.lemmas.List.{take-map, drop-map, map-append, length-map, length-take-le, map-set, set-get_or, take_more_set}
+use Rattle.std.proofs.Math.Seq.{take-set-lt}
 use Rattle.std.proofs.lemmas.Option.{slice_get-map}
 use Rattle.btree_item.specs.Somes.{somes, AreSome}
 
@@ -118,5 +119,31 @@ module _ {T : Type 0} where
   -- to write back what was read changes nothing
   pub AreSome-set_read : (slots : List (Option T)) (i : ℕ) (r : Option T) → AreSome slots → r ≡ get_or slots i r → AreSome (set slots i r)
   AreSome-set_read slots i r h read = rw (set-read slots i r read) h
+
+  -- of a list whose first n options are in use
+  pub length-held : (n : ℕ) (slots : List (Option T)) → AreSome (take n slots) → n ≤ length slots → length (somes (take n slots)) ≡ n
+  length-held n slots h within = length-somes (take n slots) h ∙ length-take-le n slots within
+
+  pub AreSome-store : (slots : List (Option T)) (n : ℕ) (x : T) → AreSome (take n slots) → n < length slots → AreSome (take (n + 1) (set slots n (Some x)))
+  AreSome-store slots n x h within = rw (take_more_set slots n (Some x) within) (AreSome-push (take n slots) x h)
+
+  pub somes-store : (slots : List (Option T)) (n : ℕ) (x : T) → AreSome (take n slots) → n < length slots → somes (take (n + 1) (set slots n (Some x))) ≡ somes (take n slots) ++ x ∷ []
+  somes-store slots n x h within = ap somes (take_more_set slots n (Some x) within) ∙ somes-push (take n slots) x h
+
+  pub AreSome-lend : (slots : List (Option T)) (n i : ℕ) (x : T) → AreSome (take n slots) → i < n → AreSome (take n (set slots i (Some x)))
+  AreSome-lend slots n i x h below = rw (take-set-lt n slots i (Some x) below) (AreSome-set (take n slots) i x h)
+
+  pub somes-lend : (slots : List (Option T)) (n i : ℕ) (x : T) → AreSome (take n slots) → i < n → somes (take n (set slots i (Some x))) ≡ set (somes (take n slots)) i x
+  somes-lend slots n i x h below = ap somes (take-set-lt n slots i (Some x) below) ∙ somes-set (take n slots) i x h
+
+  read_in_use : (slots : List (Option T)) (n i : ℕ) (r : Option T) → i < n → r ≡ get_or slots i r → r ≡ get_or (take n slots) i r
+  read_in_use slots zero i r below read = absurd (omega (arith, below))
+  read_in_use [] (suc n) i r below read = read
+  read_in_use (s ∷ slots) (suc n) zero r below read = read
+  read_in_use (s ∷ slots) (suc n) (suc i) r below read = read_in_use slots n i r (omega (arith, below)) read
+
+  pub slot_held : (slots : List (Option T)) (n i : ℕ) (r : Option T) → AreSome (take n slots) → n ≤ length slots → i < n → r ≡ get_or slots i r → slice_get (somes (take n slots)) i ≡ r
+  slot_held slots n i r h within below read =
+      slot_read (take n slots) i r h (omega (arith, length-take-le n slots within, below)) (read_in_use slots n i r below read)
 
 pub ruleset slot_edits = (somes-map, IsSome-slot, slot_read, AreSome-set_read, length-somes, somes-push, AreSome-push, somes-set, AreSome-set, somes-insert, AreSome-insert, somes-remove, AreSome-remove, somes-take, AreSome-take, somes-drop, AreSome-drop, somes-append, AreSome-append, slice_get-somes)

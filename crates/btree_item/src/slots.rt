@@ -12,21 +12,21 @@ use std::mem;
 /// A list of at most `N` values. They are stored inline, so that it never allocates, and as options, so that a value needs no default.
 #[derive(Drop)]
 pub struct Slots<T, const N: usize> {
-    // The number of values. An `ArrayVec` keeps its own after its last slot. This one lies before the first, so that a look-up need not
-    // read that far, and the loops of an edit need not wait for it.
+    // The number of values, which lie in the first slots. An `ArrayVec` keeps its length after its last slot, on a line of memory that an
+    // edit need not touch otherwise. So the vector is always full, and its length is not read.
     len: usize,
     slots: ArrayVec<Option<T>, N>,
 }
 
 impl<T, const N: usize> Model for Slots<T, N> {
-    ghost use Rattle.std.specs.Prelude.{◌≡◌, List, length};
+    ghost use Rattle.std.specs.Prelude.{◌≡◌, ◌≤◌, List, length, take};
     ghost use Rattle.btree_item.specs.Somes.{somes, AreSome};
 
     ghost Value = { List T };
 
-    ghost view = { λ s. somes s.slots.items };
+    ghost view = { λ s. somes (take s.len s.slots.items) };
 
-    ghost invariant = { λ s. (s.len ≡ length s.slots.items) × AreSome s.slots.items };
+    ghost invariant = { λ s. (length s.slots.items ≡ N) × (s.len ≤ N) × AreSome (take s.len s.slots.items) };
 }
 
 #[tactic(auto, using(crate::proofs::SomesLemmas::slot_edits))]
@@ -37,8 +37,6 @@ impl<T, const N: usize> Slots<T, N> {
         ensures value { result ≡ length self.now }
         ensures fits { result ≤ N }
     {
-        // For the prover: there are at most `N`.
-        let _fits = self.slots.len();
         self.len
     }
 
@@ -58,6 +56,9 @@ impl<T, const N: usize> Slots<T, N> {
         ensures* writes_back { sem 𝓛 (lends_slot T.row N.row self.entry index result) }
         ensures value { option_copied_mut result ≡ slice_get self.old index }
     {
+        if index >= self.len {
+            return None;
+        }
         match self.slots.get_mut(index) {
             Some(slot) => slot.as_mut(),
             None => None,
@@ -81,7 +82,7 @@ impl<T: Drop, const N: usize> Slots<T, N> {
     {
         Slots {
             len: 0,
-            slots: ArrayVec::new(),
+            slots: ArrayVec::from_array_in((), Default::default()),
         }
     }
 
@@ -90,7 +91,7 @@ impl<T: Drop, const N: usize> Slots<T, N> {
         requires { length self.old < N }
         ensures { self.new ≡ self.old ++ value ∷ [] }
     {
-        self.slots.push(Some(value));
+        self.slots.as_mut_slice()[self.len] = Some(value);
         self.len += 1;
     }
 
@@ -120,13 +121,11 @@ impl<T: Drop, const N: usize> Slots<T, N> {
         ensures answer { result ≡ slice_get self.old (length self.old - 1) }
         ensures after { self.new ≡ take (length self.old - 1) self.old }
     {
-        match self.slots.pop() {
-            Some(slot) => {
-                self.len -= 1;
-                slot
-            }
-            None => None,
+        if self.len == 0 {
+            return None;
         }
+        self.len -= 1;
+        self.slots.as_mut_slice()[self.len].take()
     }
 
     /// Removes the values from an index on, and returns them as a list of their own. Each moves once.
@@ -149,44 +148,45 @@ impl<T: Drop, const N: usize> Slots<T, N> {
         ensures moved { to.new ≡ to.old ++ drop at self.old }
         ensures left { self.new ≡ take at self.old }
     {
-        move_slots(&mut self.slots, self.len, at, &mut to.slots);
+        move_slots(&mut self.slots, self.len, at, &mut to.slots, to.len);
         to.len += self.len - at;
         self.len = at;
     }
 }
 
-// Inserts a slot into a list of `len` slots. Each slot from the index on moves once.
+// Inserts a slot among the first `len` slots, with an unused one after them. Each of them from the index on moves once.
 fn insert_slot<T: Drop, const N: usize>(
     slots: &mut ArrayVec<Option<T>, N>,
     len: usize,
     index: usize,
     slot: Option<T>,
 )
-    requires len { len ≡ length slots.old.items }
-    requires within { index ≤ length slots.old.items }
-    requires room { length slots.old.items < N }
-    ensures { slots.new.items ≡ insert slots.old.items index slot }
+    requires within { index ≤ len }
+    requires room { len < length slots.old.items }
+    ensures after { take (len + 1) slots.new.items ≡ insert (take len slots.old.items) index slot }
+    ensures same { length slots.new.items ≡ length slots.old.items }
 {
     let mut carried = slot;
     for i in index..len {
         carried = mem::replace(&mut slots.as_mut_slice()[i], carried);
     }
-    slots.push(carried);
+    slots.as_mut_slice()[len] = carried;
 }
 
-// Removes a slot of a list of `len` slots. Each slot after it moves once, from the last one on.
+// Removes one of the first `len` slots. Each of them after it moves once, from the last one on.
 fn remove_slot<T: Drop, const N: usize>(
     slots: &mut ArrayVec<Option<T>, N>,
     len: usize,
     index: usize,
 ) -> Option<T>
-    requires len { len ≡ length slots.old.items }
-    requires within { index < length slots.old.items }
-    ensures answer { slice_get slots.old.items index ≡ Some result }
-    ensures after { slots.new.items ≡ remove slots.old.items index }
+    requires within { index < len }
+    requires fits { len ≤ length slots.old.items }
+    ensures answer { slice_get (take len slots.old.items) index ≡ Some result }
+    ensures after { take (len - 1) slots.new.items ≡ remove (take len slots.old.items) index }
+    ensures same { length slots.new.items ≡ length slots.old.items }
 {
-    let mut carried = slots.pop().unwrap();
     let mut i = len - 1;
+    let mut carried = slots.as_mut_slice()[i].take();
     while i > index {
         i -= 1;
         carried = mem::replace(&mut slots.as_mut_slice()[i], carried);
@@ -194,21 +194,26 @@ fn remove_slot<T: Drop, const N: usize>(
     carried
 }
 
-// Moves the slots of a list of `len` slots from an index on to the end of another list.
+// Moves the slots from an index on, of the first `len` slots, behind the first `to_len` slots of another list.
 fn move_slots<T: Drop, const N: usize>(
     slots: &mut ArrayVec<Option<T>, N>,
     len: usize,
     at: usize,
     to: &mut ArrayVec<Option<T>, N>,
+    to_len: usize,
 )
-    requires len { len ≡ length slots.old.items }
-    requires within { at ≤ length slots.old.items }
-    requires room { length to.old.items + (length slots.old.items - at) ≤ N }
-    ensures moved { to.new.items ≡ to.old.items ++ drop at slots.old.items }
-    ensures left { slots.new.items ≡ take at slots.old.items }
+    requires within { at ≤ len }
+    requires fits { len ≤ length slots.old.items }
+    requires room { to_len + (len - at) ≤ length to.old.items }
+    ensures moved { take (to_len + (len - at)) to.new.items ≡
+        take to_len to.old.items ++ drop at (take len slots.old.items) }
+    ensures left { take at slots.new.items ≡ take at slots.old.items }
+    ensures same { length slots.new.items ≡ length slots.old.items }
+    ensures same_to { length to.new.items ≡ length to.old.items }
 {
+    let mut place = to_len;
     for i in at..len {
-        to.push(slots.as_mut_slice()[i].take());
+        to.as_mut_slice()[place] = slots.as_mut_slice()[i].take();
+        place += 1;
     }
-    slots.truncate(at);
 }

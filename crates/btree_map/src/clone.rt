@@ -7,7 +7,7 @@ use btree_nodes::CloneNodes;
 use std::alloc::AllocError;
 
 impl<K: Ord + Clone, V: Clone, C: CloneNodes<K, V>> BTreeMap<K, V, C> {
-    /// Returns a map with clones of the keys and values, on the same numbers of nodes. Its store has refused no node yet. It fails only if
+    /// Returns a map with clones of the keys and values, whose nodes have the same numbers. Its store has refused no node yet. It fails only if
     /// the clone of the store fails.
     ///
     /// The contract requires that a clone of a key or a value is equal to it.

@@ -278,7 +278,7 @@ impl<K, V, C: ClearNodes<K, V>> RawBTree<K, V, C> {
 }
 
 impl<K: Clone, V: Clone, C: CloneNodes<K, V>> RawBTree<K, V, C> {
-    /// Returns a tree with clones of the keys and values, on the same numbers of nodes. Its store has refused no node yet. It fails only if
+    /// Returns a tree with clones of the keys and values, whose nodes have the same numbers. Its store has refused no node yet. It fails only if
     /// the clone of the store fails.
     ///
     /// The contract requires that a clone of a key or a value is equal to it.

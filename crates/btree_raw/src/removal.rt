@@ -10,8 +10,8 @@ use btree_nodes::NodesMut;
 
 impl<K: Ord + Drop, V: Drop, C: NodesMut<K, V>> RawBTree<K, V, C> {
     /// Takes the last item out of the rightmost leaf under a node, and returns it with the number of that leaf. Nothing else changes:
-    /// nothing is rebalanced, and the length stays. It reads one node of each level from the given one down. `rebalance` may then be called
-    /// for the leaf.
+    /// nothing is rebalanced, and the length stays. It reads one node of each level from the given one down. If there are fewer than
+    /// 2^64 pairs, `rebalance` may then be called for the leaf.
     ///
     /// The contract requires a number that is used, see `has_node`, in a tree that is well formed except for its length, so that the leaf has
     /// an item.

@@ -1,4 +1,4 @@
-use Rattle.std.proofs.Common.{◌≡◌, ◌≤◌, length}
+use Rattle.std.proofs.Common.{◌≡◌, ◌≤◌, length, take}
 use Rattle.std.specs.List.{insert}
 use Rattle.btree_item.proofs.slots.insert_slot.Given as goal
 
@@ -6,5 +6,5 @@ abbrev pub invariant-loop-i : goal.invariant-loop-i
 invariant-loop-i g l = record {
   same : length l.slots.items ≡ length l.initial.slots.items;
   from : l.index ≤ l.i;
-  carried : insert l.slots.items l.i l.carried ≡ insert l.initial.slots.items l.index l.initial.carried;
+  carried : insert (take l.len l.slots.items) l.i l.carried ≡ insert (take l.len l.initial.slots.items) l.index l.initial.carried;
 }

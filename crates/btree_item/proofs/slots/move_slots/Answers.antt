@@ -1,17 +1,31 @@
-use Rattle.std.proofs.Common.{◌≡◌, ℕ, ◌+◌, ◌-◌, ◌<◌, ◌≤◌, List, ◌++◌, length, drop, sym, ◌∙◌, ap, arith, length-append, length-drop}
+use Rattle.std.proofs.Common.{◌≡◌, ◌+◌, ◌-◌, ◌<◌, ◌++◌, suc, length, take, drop, set, ap, ◌∙◌, arith}
+use Rattle.std.specs.List.{refill}
+use Rattle.btree_item.proofs.StoreLemmas.{length-stored, moved-next, read-at, stored, stored-after-from}
 use Rattle.btree_item.proofs.slots.move_slots.Goals as goal
 
-has_room : {X : Type 0} (to to_old xs xs_old : List X) (i at n : ℕ) → to ++ drop i xs ≡ to_old ++ drop at xs_old → length xs ≡ length xs_old → i < length xs → length to_old + (length xs_old - at) ≤ n → length to < n
-has_room to to_old xs xs_old i at n rest same more room =
-    let long = sym (length-append to (drop i xs)) ∙ ap length rest ∙ length-append to_old (drop at xs_old) in
-    let left = length-drop i xs in
-    let moved = length-drop at xs_old in
-    omega (arith, long, left, moved, same, more, room)
-
-pub push-requires : goal.push-requires
-push-requires g c =
-    let fits = c.well_formed in
-    let more : c.loop-i.i < length c.loop-i.slots.items = (let s = c.loop-i.invariant.same in let t = c.loop-i-test.true in let l = c.requires.len in omega (arith, s, t, l)) in (
-      omega arith,
-      has_room _ _ _ _ _ _ _ c.loop-i.invariant.rest c.loop-i.invariant.same more c.requires.room,
-    )
+pub loop-i-preserved : goal.loop-i-preserved
+loop-i-preserved g c =
+    let xs = c.loop-i.slots.items in
+    let ys = c.loop-i.to.items in
+    let i = c.loop-i.i in
+    let k = c.loop-i.place in
+    let whole = c.as_mut_slice.ensures.value in
+    let whole_to = c.as_mut_slice-in-loop-i.ensures.value in
+    let below = c.loop-i-test.true in
+    let from = c.loop-i.invariant.from in
+    let within : i < length xs = (let f = c.requires.fits in let s = c.loop-i.invariant.same in omega (arith, f, s, below)) in
+    let room : k < length ys = (let r = c.requires.room in let s = c.loop-i.invariant.same_to in let p = c.loop-i.invariant.place in omega (arith, r, s, p, below, from)) in
+    let next : i + 1 ≡ suc i = omega arith in
+    record {
+      same = length-stored xs _ i _ whole ∙ c.loop-i.invariant.same;
+      same_to = length-stored ys _ k _ whole_to ∙ c.loop-i.invariant.same_to;
+      from = omega (arith, from);
+      place = (let p = c.loop-i.invariant.place in omega (arith, p, from));
+      front = stored-after-from xs _ c.args.at i _ whole from ∙ c.loop-i.invariant.front;
+      rest =
+          ap (λ l. take (k + 1) l ++ drop (i + 1) (take c.args.len (refill (length xs) xs (set c.as_mut_slice.result.now i c.take.new.self)))) (stored ys _ k c.take.result whole_to)
+          ∙ ap (λ l. take (k + 1) (set ys k c.take.result) ++ drop (i + 1) (take c.args.len l)) (stored xs _ i c.take.new.self whole)
+          ∙ ap (λ j. take (k + 1) (set ys k c.take.result) ++ drop j (take c.args.len (set xs i c.take.new.self))) next
+          ∙ moved-next xs ys c.args.len i k c.take.new.self c.take.result below within room (read-at xs _ i _ c.take.result whole within c.take.ensures.value)
+          ∙ c.loop-i.invariant.rest;
+    }

@@ -1,13 +1,13 @@
-use Rattle.std.proofs.Common.{◌≡◌, ◌≤◌, length}
+use Rattle.std.proofs.Common.{◌≡◌, ◌-◌, ◌<◌, ◌≤◌, length, take}
 use Rattle.std.specs.List.{insert}
 use Rattle.btree_item.proofs.slots.remove_slot.Given as goal
 
 abbrev pub invariant-loop-i : goal.invariant-loop-i
 invariant-loop-i g l = record {
   same : length l.slots.items ≡ length l.initial.slots.items;
-  within : l.i ≤ length l.slots.items;
+  within : l.i < l.len;
   from : l.index ≤ l.i;
-  carried : insert l.slots.items l.i l.carried ≡ insert l.initial.slots.items l.initial.i l.initial.carried;
+  carried : insert (take (l.len - 1) l.slots.items) l.i l.carried ≡ insert (take (l.len - 1) l.initial.slots.items) l.initial.i l.initial.carried;
 }
 
 abbrev pub decreases-loop-i : goal.decreases-loop-i

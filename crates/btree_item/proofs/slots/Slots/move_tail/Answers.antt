@@ -1,23 +1,43 @@
-use Rattle.std.proofs.Common.{◌≤◌, ◌∙◌, ap, drop, length, length-append, length-drop, arith}
-use Rattle.std.proofs.lemmas.List.{length-take}
-use Rattle.btree_item.proofs.SomesLemmas.{AreSome-append, AreSome-drop, AreSome-take, length-somes}
+use Rattle.std.proofs.Common.{◌≤◌, ◌∙◌, sym, ap, length, take, drop, arith}
+use Rattle.btree_item.specs.Somes.{somes}
+use Rattle.btree_item.proofs.SomesLemmas.{AreSome-append, AreSome-drop, AreSome-take, length-held, somes-take}
+use Rattle.btree_item.proofs.StoreLemmas.{take-take}
 use Rattle.btree_item.proofs.slots.Slots.move_tail.Goals as goal
 
 pub invariant_of-self : goal.invariant_of-self
 invariant_of-self g c =
-    let old = c.self.inside.slots.items in
-    let view = ap (λ xs. length xs) c.self.view_is in
-    let same = length-somes old c.self.invariant.1 in
-    let within : c.args.at ≤ length old = omega (arith, c.requires.within, view, same) in
-    let short = ap (λ xs. length xs) c.move_slots.ensures.left ∙ length-take c.args.at old in
-    (omega (arith, short, within), rw c.move_slots.ensures.left (AreSome-take old c.args.at c.self.invariant.1))
+    let xs = c.self.inside.slots.items in
+    let n = c.self.inside.len in
+    let held = length-held n xs c.self.invariant.2 (omega (arith, c.self.invariant.0, c.self.invariant.1)) in
+    let view = ap (λ l. length l) c.self.view_is in
+    let within : c.args.at ≤ n = omega (arith, c.requires.within, held, view) in (
+      c.move_slots.ensures.same ∙ c.self.invariant.0,
+      omega (arith, within, c.self.invariant.1),
+      rw (c.move_slots.ensures.left ∙ sym (take-take c.args.at n xs within)) (AreSome-take (take n xs) c.args.at c.self.invariant.2),
+    )
 
 pub invariant_of-to : goal.invariant_of-to
 invariant_of-to g c =
-    let old = c.self.inside.slots.items in
-    let to = c.to.inside.slots.items in
-    let long = ap (λ xs. length xs) c.move_slots.ensures.moved ∙ length-append to (drop c.args.at old) in
-    let moved = length-drop c.args.at old in (
-      omega (arith, long, moved, c.self.invariant.0, c.to.invariant.0),
-      rw c.move_slots.ensures.moved (AreSome-append to (drop c.args.at old) c.to.invariant.1 (AreSome-drop old c.args.at c.self.invariant.1)),
+    let xs = c.self.inside.slots.items in
+    let n = c.self.inside.len in
+    let held = length-held n xs c.self.invariant.2 (omega (arith, c.self.invariant.0, c.self.invariant.1)) in
+    let view = ap (λ l. length l) c.self.view_is in
+    let ys = c.to.inside.slots.items in
+    let m = c.to.inside.len in
+    let held_to = length-held m ys c.to.invariant.2 (omega (arith, c.to.invariant.0, c.to.invariant.1)) in
+    let view_to = ap (λ l. length l) c.to.view_is in (
+      c.move_slots.ensures.same_to ∙ c.to.invariant.0,
+      omega (arith, c.requires.room, held, view, held_to, view_to),
+      rw c.move_slots.ensures.moved (AreSome-append (take m ys) (drop c.args.at (take n xs)) c.to.invariant.2 (AreSome-drop (take n xs) c.args.at c.self.invariant.2)),
     )
+
+pub returns-clause-left : goal.returns-clause-left
+returns-clause-left g c =
+    let xs = c.self.inside.slots.items in
+    let n = c.self.inside.len in
+    let held = length-held n xs c.self.invariant.2 (omega (arith, c.self.invariant.0, c.self.invariant.1)) in
+    let view = ap (λ l. length l) c.self.view_is in
+    let within : c.args.at ≤ n = omega (arith, c.requires.within, held, view) in
+    ap somes (c.move_slots.ensures.left ∙ sym (take-take c.args.at n xs within))
+    ∙ somes-take (take n xs) c.args.at c.self.invariant.2
+    ∙ ap (take c.args.at) c.self.view_is
