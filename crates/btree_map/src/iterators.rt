@@ -11,8 +11,8 @@ use std::iter::IntoIterator;
 use std::ops::Bound;
 
 impl<K: Ord, V, C: NodesMut<K, V>> BTreeMap<K, V, C> {
-    /// Returns an iterator over the pairs in the order of the keys, from both ends. A whole walk fetches each node once, and allocates no
-    /// memory.
+    /// Returns an iterator over the pairs in the order of the keys, from both ends. A whole walk from one end fetches each node once. It
+    /// allocates no memory.
     pub fn iter(&self) -> Iter<'_, K, V, C>
         ensures { result ≡ pairs_of self.now }
     {
@@ -23,7 +23,7 @@ impl<K: Ord, V, C: NodesMut<K, V>> BTreeMap<K, V, C> {
     /// start must be at most the end, and they may not be equal if both are excluded: `is_valid_range` tells.
     ///
     /// It reads at most three nodes of each level, and allocates no memory. It makes at most six comparisons in each node on the way to the
-    /// start, and from there on at most one for each item until the end.
+    /// start, one more if the start is excluded, and from there on at most one for each item until the end.
     pub fn range(&self, range: (Bound<&K>, Bound<&K>)) -> Range<'_, K, V, C>
         requires { IsValidRange K.cmp range }
         ensures { result ≡ pairs_between K.cmp range.entry (pairs_of self.now) }

@@ -86,7 +86,7 @@ impl<K: Ord + Drop, V: Drop, C: NodesMut<K, V> + Drop> IntoIterator for BTreeMap
     }
 }
 
-/// An iterator that owns a map and gives its keys, from both ends. The values are dropped with their keys' steps.
+/// An iterator that owns a map and gives its keys, from both ends. Each value is dropped in the step that gives its key.
 #[derive(Drop)]
 pub struct IntoKeys<K: Ord, V, C: NodesMut<K, V>> {
     pairs: IntoIter<K, V, C>,
@@ -144,8 +144,8 @@ impl<K: Ord + Drop, V: Drop, C: NodesMut<K, V> + Drop> ExactSizeIterator for Int
 
 impl<K: Ord + Drop, V: Drop, C: NodesMut<K, V> + Drop> FusedIterator for IntoKeys<K, V, C> {}
 
-/// An iterator that owns a map and gives its values in the order of their keys, from both ends. The keys are dropped with their values'
-/// steps.
+/// An iterator that owns a map and gives its values in the order of their keys, from both ends. Each key is dropped in the step
+/// that gives its value.
 #[derive(Drop)]
 pub struct IntoValues<K: Ord, V, C: NodesMut<K, V>> {
     pairs: IntoIter<K, V, C>,

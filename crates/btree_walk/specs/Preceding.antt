@@ -63,12 +63,12 @@ module _ {K V : Type 0} where
   kept_in_leaf None kept = []
   kept_in_leaf (Some node) kept = take kept node.now.items
 
-  -- a leaf has so many items
+  -- a leaf has at least so many items
   abbrev pub HasKept : Option (Bor (Leaf K V)) → (kept : ℕ) → Type 0
   HasKept None kept = kept ≡ 0
   HasKept (Some node) kept = kept ≤ length node.now.items
 
-  -- the leaf before an item has as many items as it says
+  -- the leaf before an item has at least as many items as it says
   abbrev pub HasKeptAbove : Option ((Bor K × Bor V) × Bor (Leaf K V) × ℕ) → Type 0
   HasKeptAbove None = ⊤
   HasKeptAbove (Some p) = HasKept (Some p.1) p.2

@@ -1,7 +1,7 @@
 -- What the parts of a walk still have to pass.
 -- A walk is in a leaf, of which it has passed some items, below a list of ancestors, each with its items that are not
--- passed. `remaining_of` is the list of pairs that are left, which is what contracts see of an iterator. `remaining_at`
--- is the same on the way down to a node. `IsNextIn` and `IsNextAbove` say which pair is next, in the leaf and above it.
+-- passed. `remaining_of` is the list of pairs that are left, `remaining_after` the same where the run of the leaf is
+-- kept, and `remaining_at` the same on the way down to a node. `IsNextIn` and `IsNextAbove` say which pair is next, in the leaf and above it.
 use Rattle.std.specs.Prelude.{◌≡◌, ℕ, ◌+◌, List, [], ◌∷◌, ◌++◌, length, map, drop, Option, Some, None}
 use Rattle.std.specs.Borrow.{Bor}
 use Rattle.std.specs.FinMap as finite

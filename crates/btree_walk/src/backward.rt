@@ -68,7 +68,7 @@ fn branch_before<'a, K, V>(node: &'a Node<K, V>, passed: usize) -> Option<(&'a I
 }
 
 // Returns the rightmost leaf under a node and how many items it has, and appends the internal nodes on the path to it to the ancestors. Nodes
-// that were fetched before are taken from there.
+// that were fetched before are taken from `fetched`.
 fn descend_last<'a, K: Ord + 'a, V: 'a, C: NodesMut<K, V> + 'a>(
     tree: &'a Tree<K, V, C>,
     top: usize,

@@ -103,9 +103,9 @@ impl<'a, K: Ord, V, C: NodesMut<K, V>> Model for Range<'a, K, V, C> {
 
 impl<'a, K: Ord, V, C: NodesMut<K, V>> Range<'a, K, V, C> {
     /// Returns an iterator over the pairs whose keys are between two bounds, each included, excluded or absent. `is_valid_range` tells
-    /// whether a range may be asked for. It makes at most six comparisons of keys in each node on the way to the start. From there it
-    /// searches for the end: up to the first node that has an item past it, or to the root, and down again, with at most one comparison
-    /// for each item. At each level it reads at most three nodes.
+    /// whether a range may be asked for. It makes at most six comparisons of keys in each node on the way to the start, and one more if
+    /// the start is excluded. From there it searches for the end: up to the first node that has an item past it, or to the root, and down
+    /// again, with at most one comparison for each item. At each level it reads at most three nodes.
     pub fn new(tree: &'a Tree<K, V, C>, range: (Bound<&K>, Bound<&K>)) -> Self
         requires { IsValidRange K.cmp range }
         ensures { result ≡ pairs_between K.cmp range.entry (pairs_of tree.now) }

@@ -184,8 +184,8 @@ impl<'a, K: Ord + 'a, V: 'a> Back<'a, K, V> {
         self.run = run_to(leaf, kept);
     }
 
-    // Passes the last pair above the leaf, of which nothing is left, and returns it. A step inside a leaf saves no registers for what
-    // this one needs, since it is never inlined.
+    // Passes the last pair above the leaf, of which nothing is left, and returns it. It is never inlined, so that a step inside a leaf
+    // saves no registers for it.
     #[inline(never)]
     fn last_above<C: NodesMut<K, V> + 'a>(
         &mut self,
