@@ -21,8 +21,8 @@ use Rattle.btree_shape.proofs.Trees.Stores.{item-some, writes_node}
 use Rattle.btree_raw.specs.Raw.{with_node}
 use Rattle.btree_raw.specs.Rebalance.{HasRoom, IsRebalanced}
 use Rattle.btree_raw.proofs.RebalanceLemmas.{enough-rebalanced}
-use Rattle.btree_find.specs.Navigation.{LeadsToItem}
-use Rattle.btree_find.proofs.NextLemmas.{child-used, next-below}
+use Rattle.btree_find.specs.Navigation.{AreBeside, LeadsToItem}
+use Rattle.btree_find.proofs.NextLemmas.{next-below}
 use Rattle.btree_find.proofs.PreviousLemmas.{below-used}
 use Rattle.btree_find.proofs.WalkLemmas.{occupied-below}
 use Rattle.btree_edit.specs.Remove.{HasChildBehind, IsInnerAt, IsRemoved, LeadsBehind}
@@ -188,9 +188,6 @@ module _ {K V : Type 0} (cmp : K → K → Ordering) (laws : IsTotalOrder cmp) (
             let same : inner.index ≡ index = cc in
             subst (λ n. n < size_of (view_of node)) same low
 
-        pub behind-used : IsUsed s child
-        behind-used = child-used cmp laws s tree a.id index node at index-low child (sym below)
-
         pub leads-behind : (b : Address) → LeadsToItem s (address_before child) (Some b) → LeadsBehind s a b
         leads-behind b leads place i =
             let a-is : a ≡ address_at a.id index = λ j. record { id = a.id; offset = offset j } in
@@ -217,8 +214,13 @@ module _ {K V : Type 0} (cmp : K → K → Ordering) (laws : IsTotalOrder cmp) (
           ∙ sym (ap (λ v. slice_get (children_in v) (suc inner.index)) (ap (option_map view_of) at-inner.1))
           ∙ behind inner.index inner.offset
 
-      pub right-used : IsUsed s right
-      right-used = behind-used at-inner.0 at-inner.1 inner.index inner.offset right below-inner
+      pub beside : AreBeside s left right
+      beside = record {
+        parent = a.id;
+        index = inner.index;
+        first = ap (λ v. slice_get (children_in v) inner.index) inner.here ∙ inner.child;
+        second = behind inner.index inner.offset;
+      }
 
       pub right-leads : (b : Address) → LeadsToItem s (address_before right) (Some b) → LeadsBehind s a b
       right-leads b leads = leads-behind at-inner.0 at-inner.1 inner.index inner.offset right below-inner b leads

@@ -4,7 +4,7 @@ ghost use Rattle.btree_item.specs.Pairs.{found};
 ghost use Rattle.btree_shape.specs.TreeState.{IsBTree, IsValidIn, item_of, pairs_of};
 ghost use Rattle.btree_edit.specs.Remove.{HasChildBehind, IsInnerAt, IsRemoved, RemovesByKey, ReplacesInner};
 
-use btree_find::{address_of, first_item};
+use btree_find::{address_of, first_item_beside};
 use btree_item::{Address, Item, MIN_ITEMS};
 use btree_nodes::NodesMut;
 use btree_raw::{RawBTree, rebalance_fetched, take_last_below};
@@ -87,7 +87,7 @@ fn remove_inner<K: Ord + Drop, V: Drop, C: NodesMut<K, V>>(
 {
     tree.tell_fits();
     let len = tree.len();
-    let next = first_item(tree, right);
+    let next = first_item_beside(tree, left, right);
     let (last, leaf, count, parent) = take_last_below(tree, left);
     let item = tree.node_mut(addr.id).replace(addr.offset, last);
     tree.set_len(len - 1);

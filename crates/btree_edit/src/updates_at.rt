@@ -4,7 +4,7 @@ ghost use Rattle.btree_shape.specs.TreeState.{IsBTree, IsOccupiedIn, item_of};
 ghost use Rattle.btree_edit.specs.Remove.{HasChildBehind, IsInnerAt};
 ghost use Rattle.btree_edit.specs.Update.{RunsAt};
 
-use btree_find::first_item;
+use btree_find::first_item_beside;
 use btree_item::{Address, Item, MIN_ITEMS};
 use btree_nodes::NodesMut;
 use btree_raw::{RawBTree, rebalance_fetched, take_last_below};
@@ -75,7 +75,7 @@ where
 {
     tree.tell_fits();
     let len = tree.len();
-    let next = first_item(tree, right);
+    let next = first_item_beside(tree, left, right);
     let (last, leaf, count, parent) = take_last_below(tree, left);
     let item = tree.node_mut(addr.id).replace(addr.offset, last);
     let (key, value) = item.into_pair();

@@ -29,7 +29,7 @@ use Rattle.btree_find.specs.Navigation.{BeginsInLeaf, IsItemAt, LeadsToItem}
 use Rattle.btree_find.proofs.PlaceLemmas.{in-state, in-tree, item-here, no-item, placed, root-there, some-items}
 
 -- a leaf has no first child
-leaf-by-none : {A : Type 0} (v : View A) → slice_get (children_of v) 0 ≡ None → (parent : Option ℕ) × (items : List A) × (v ≡ leaf parent items)
+pub leaf-by-none : {A : Type 0} (v : View A) → slice_get (children_of v) 0 ≡ None → (parent : Option ℕ) × (items : List A) × (v ≡ leaf parent items)
 leaf-by-none (leaf parent items) e = (parent, items, refl)
 leaf-by-none (internal parent first branches) e = absurd (cc)
 

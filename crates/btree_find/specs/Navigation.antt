@@ -4,6 +4,7 @@
 use Rattle.std.specs.Prelude.{◌≡◌, ◌≢◌, ◌+◌, ℕ, zero, suc, ◌≤◌, length, slice_get, Option, Some, None, IfSome, IsSome, ◌↔◌}
 use Rattle.std.specs.FinMap as map
 use Rattle.btree_item.specs.declared.address.Address.{Address}
+use Rattle.btree_view.specs.View.{children_in}
 use Rattle.btree_shape.specs.Addresses.{first_leaf}
 use Rattle.btree_shape.specs.Focus.Positions.{address_at, address_before}
 use Rattle.btree_shape.specs.Place.{IsLeaf}
@@ -96,3 +97,10 @@ module _ {K V : Type 0} (s : TreeState K V) where
     pub is_leaf : IsLeaf (node_map s) (node_map s leaf)
     pub begins : (place : ℕ) → IsPlaceIn s (address_before id) place → IsPlaceIn s (address_before leaf) place
     pub same : IsLeaf (node_map s) (node_map s id) → leaf ≡ id
+
+  -- two children of one node, the second right after the first
+  pub record AreBeside (left right : ℕ) : Type 0 where
+    pub parent : ℕ
+    pub index : ℕ
+    pub first : slice_get (children_in (node_map s parent)) index ≡ Some left
+    pub second : slice_get (children_in (node_map s parent)) (suc index) ≡ Some right

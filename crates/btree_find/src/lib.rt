@@ -10,8 +10,8 @@ mod visits;
 pub use ends::{first_back_address, first_item_address, last_item_address, last_valid_address};
 pub use fits::{fits_at, key_fits_in, replaces_at};
 pub use navigation::{
-    first_item, leaf_address, next_item_address, next_item_or_back_address, normalize,
-    previous_item_address,
+    first_item, first_item_beside, leaf_address, next_item_address, next_item_or_back_address,
+    normalize, previous_item_address,
 };
 pub use search::{address_in, address_of, address_of_counted, get, get_in, height};
 pub use visits::{next_back_address, previous_front_address};

@@ -6,7 +6,7 @@ ghost use Rattle.btree_view.specs.View.{size_of};
 ghost use Rattle.btree_shape.specs.Focus.Positions.{address_at, address_before};
 ghost use Rattle.btree_shape.specs.TreeState.{IsBTree, IsUsed, IsValidIn};
 ghost use Rattle.btree_raw.specs.LastItem.{EndsInLeaf};
-ghost use Rattle.btree_find.specs.Navigation.{BeginsInLeaf, IsLeafAddressFor, IsNext, IsNextOrBack, IsNormalized, IsPrevious, LeadsBefore, LeadsToItem, LeadsToNext};
+ghost use Rattle.btree_find.specs.Navigation.{AreBeside, BeginsInLeaf, IsLeafAddressFor, IsNext, IsNextOrBack, IsNormalized, IsPrevious, LeadsBefore, LeadsToItem, LeadsToNext};
 
 use btree_item::{Address, Offset};
 use btree_node::Node;
@@ -36,6 +36,24 @@ pub fn first_item<K: Ord, V, C: NodesMut<K, V>>(tree: &RawBTree<K, V, C>, id: us
     ensures { LeadsToItem tree.now (address_before id) (Some result) }
 {
     Address::new(leftmost_leaf(tree, id), Offset::from(0))
+}
+
+/// Returns the address of the first item under `right`, which is the child after `left` in a node. It reads `left`, and `right` and one
+/// node of each level below it only if `left` is not a leaf.
+pub fn first_item_beside<K: Ord, V, C: NodesMut<K, V>>(
+    tree: &RawBTree<K, V, C>,
+    left: usize,
+    right: usize,
+) -> Address
+    requires tree { IsBTree K.cmp tree.now }
+    requires beside { AreBeside tree.now left right }
+    ensures { LeadsToItem tree.now (address_before right) (Some result) }
+{
+    tree.tell_fits();
+    match tree.node(left).child_id_opt(0) {
+        Some(_child) => first_item(tree, right),
+        None => Address::new(right, Offset::from(0)),
+    }
 }
 
 // Returns the address of the item at an offset of a node; past the last item, that of the item at the same place, which is in a node above.

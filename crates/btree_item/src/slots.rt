@@ -13,7 +13,7 @@ use std::mem;
 #[derive(Drop)]
 pub struct Slots<T, const N: usize> {
     // The number of values, which lie in the first slots. An `ArrayVec` keeps its length after its last slot, on a line of memory that an
-    // edit need not touch otherwise. So the vector is always full, and its length is not read.
+    // edit need not touch otherwise. So the vector is always full, and only `get_mut` reads its length.
     len: usize,
     slots: ArrayVec<Option<T>, N>,
 }

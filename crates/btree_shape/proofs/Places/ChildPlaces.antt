@@ -80,6 +80,7 @@ module _ {A : Type 0} (node_at : NodeMap A) (levels root : ℕ) (xs : List A) wh
     pub at_first : index ≡ 0 → HasPlaceAt id None before
     pub after_item : (i : ℕ) → index ≡ suc i → (place : ℕ) × (before ≡ suc place) × HasPlaceAt id (Some i) place
     -- the child is a level lower
+    pub one_lower : suc (levels_below node_at levels child) ≡ levels_below node_at levels id
     pub lower : levels_below node_at levels child < levels_below node_at levels id
     pub higher : levels_above node_at levels id < levels_above node_at levels child
 
@@ -144,8 +145,8 @@ module _ {A : Type 0} (node_at : NodeMap A) (levels root : ℕ) (xs : List A) wh
           let m = p.low in
           omega arith
 
-      levels-down : levels_below node_at levels (id_of A h t) < levels_below node_at levels (frame_id f)
-      levels-down =
+      one-down : suc (levels_below node_at levels (id_of A h t)) ≡ levels_below node_at levels (frame_id f)
+      one-down =
           let low = few in
           let a = levels-is A node_at h levels (Some (frame_id f)) t (omega arith) w.inner in
           let g = full h f c t w in
@@ -179,7 +180,8 @@ module _ {A : Type 0} (node_at : NodeMap A) (levels root : ℕ) (xs : List A) wh
             at_index = at-hole h f c t w;
             at_first = first-at h f c t w;
             after_item = after-at h f c t w;
-            lower = levels-down;
+            one_lower = one-down;
+            lower = (let d = one-down in omega arith);
             higher = levels-up;
           }
 
