@@ -1,3 +1,4 @@
+pub mod BesideLemmas
 pub mod ReplacesLemmas
 pub mod SearchLemmas
 pub mod HeightLemmas

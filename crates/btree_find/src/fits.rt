@@ -10,20 +10,34 @@ use btree_nodes::NodesMut;
 use btree_raw::RawBTree;
 use std::cmp::Ordering;
 
-// Returns whether a key is greater than that of the item at an address; true without an item.
-fn is_above<K: Ord, V, C: NodesMut<K, V>>(tree: &RawBTree<K, V, C>, addr: Address, key: &K) -> bool
-    ensures { IsTrue result ↔ IfSome (item_of tree.now addr) (λ x. K.cmp x.0 key.now ≡ Less) }
+// Returns whether a key is greater than that of the item at an address; true without an address or an item.
+fn is_above<K: Ord, V, C: NodesMut<K, V>>(
+    tree: &RawBTree<K, V, C>,
+    before: Option<Address>,
+    key: &K,
+) -> bool
+    ensures { IsTrue result ↔ IfSome before (λ a. IfSome (item_of tree.now a) (λ x. K.cmp x.0 key.now ≡ Less)) }
 {
+    let Some(addr) = before else {
+        return true;
+    };
     match tree.item(addr) {
         Some(item) => item.key().cmp(key) == Ordering::Less,
         None => true,
     }
 }
 
-// Returns whether a key is less than that of the item at an address; true without an item.
-fn is_below<K: Ord, V, C: NodesMut<K, V>>(tree: &RawBTree<K, V, C>, addr: Address, key: &K) -> bool
-    ensures { IsTrue result ↔ IfSome (item_of tree.now addr) (λ x. K.cmp key.now x.0 ≡ Less) }
+// Returns whether a key is less than that of the item at an address; true without an address or an item.
+fn is_below<K: Ord, V, C: NodesMut<K, V>>(
+    tree: &RawBTree<K, V, C>,
+    after: Option<Address>,
+    key: &K,
+) -> bool
+    ensures { IsTrue result ↔ IfSome after (λ a. IfSome (item_of tree.now a) (λ x. K.cmp key.now x.0 ≡ Less)) }
 {
+    let Some(addr) = after else {
+        return true;
+    };
     match tree.item(addr) {
         Some(item) => key.cmp(item.key()) == Ordering::Less,
         None => true,
@@ -43,16 +57,8 @@ pub fn fits_at<K: Ord, V, C: NodesMut<K, V>>(
     requires valid { IsValidIn tree.now addr }
     ensures { IsTrue result ↔ FitsAt K.cmp key.now tree.now addr }
 {
-    let place = Address::new(addr.id, addr.offset);
-    if let Some(previous) = previous_item_address(tree, place) {
-        if !is_above(tree, previous, key) {
-            return false;
-        }
-    }
-    match normalize(tree, addr) {
-        Some(here) => is_below(tree, here, key),
-        None => true,
-    }
+    let previous = previous_item_address(tree, Address::new(addr.id, addr.offset));
+    is_above(tree, previous, key) && is_below(tree, normalize(tree, addr), key)
 }
 
 /// Returns whether an item is at an address and a key may replace its key: whether the key is greater than the key before it and less than
@@ -72,16 +78,8 @@ pub fn replaces_at<K: Ord, V, C: NodesMut<K, V>>(
     let Some(_item) = tree.item(Address::new(addr.id, addr.offset)) else {
         return false;
     };
-    let place = Address::new(addr.id, addr.offset);
-    if let Some(previous) = previous_item_address(tree, place) {
-        if !is_above(tree, previous, key) {
-            return false;
-        }
-    }
-    match next_item_address(tree, addr) {
-        Some(next) => is_below(tree, next, key),
-        None => true,
-    }
+    let previous = previous_item_address(tree, Address::new(addr.id, addr.offset));
+    is_above(tree, previous, key) && is_below(tree, next_item_address(tree, addr), key)
 }
 
 /// Returns whether a key is between the separators of a node, which must be in use: whether it is greater than the key before those under
@@ -100,14 +98,8 @@ pub fn key_fits_in<K: Ord, V, C: NodesMut<K, V>>(
 {
     tree.tell_fits();
     let count = tree.node(id).item_count();
-    let before = Address::new(id, Offset::before());
-    if let Some(previous) = previous_item_address(tree, before) {
-        if !is_above(tree, previous, key) {
-            return false;
-        }
-    }
-    match normalize(tree, Address::new(id, Offset::from(count))) {
-        Some(after) => is_below(tree, after, key),
-        None => true,
-    }
+    let start = Address::new(id, Offset::before());
+    let end = Address::new(id, Offset::from(count));
+    is_above(tree, previous_item_address(tree, start), key)
+        && is_below(tree, normalize(tree, end), key)
 }
