@@ -13,8 +13,8 @@ use btree_raw::{RawBTree, rebalance_fetched, take_last_below};
 /// is no item at the address. It frees at most as many nodes as the tree has levels and needs no new one. A leaf is
 /// fetched once, unless another node is written before it is fixed.
 ///
-/// An item of an internal node is replaced with the last one under the child before it. `RawBTree::is_valid` decides whether an address is
-/// valid.
+/// An item of an internal node is replaced with the last one under the child before it. That child is fetched once more, to see whether it
+/// is a leaf. `RawBTree::is_valid` decides whether an address is valid.
 pub fn remove_at<K: Ord + Drop, V: Drop, C: NodesMut<K, V>>(
     tree: &mut RawBTree<K, V, C>,
     addr: Address,
