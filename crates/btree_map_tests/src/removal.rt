@@ -189,7 +189,7 @@ fn removes_all_pairs_in_two_orders(rt: HostRuntime) -> Result<(), Fail> {
     Ok(())
 }
 
-// Takes each of the first `count` pairs from their map by address, and puts it back.
+// Takes each of the first `count` pairs from their map by address, and puts it back. The place of one in a leaf stays in a leaf.
 fn put_back_each<C: NodesMut<u64, u64> + Drop>(
     rt: &impl Abort,
     origin: C::Origin,
@@ -202,10 +202,12 @@ fn put_back_each<C: NodesMut<u64, u64> + Drop>(
         let Ok(addr) = map.address_of(key) else {
             return Err(Fail::from("absent"));
         };
+        let in_leaf = map.leaf_address(addr) == addr;
         let Some((item, back)) = map.remove_at(addr) else {
             return Err(Fail::from("nothing there"));
         };
         assert_same(rt, (*item.key(), *item.value()), (*key, *value));
+        assert_true_in(rt, key, !in_leaf || map.leaf_address(back) == back);
         assert_same(
             rt,
             (map.len(), map.validate()),
