@@ -1,8 +1,8 @@
--- Rows of a backward walk: lists, and what an internal node represents read from its last child backwards.
-use Rattle.std.proofs.Common.{◌≡◌, ℕ, zero, suc, ◌+◌, ◌-◌, ◌<◌, ◌≤◌, List, [], ◌∷◌, ◌++◌, length, map, take, slice_get, Option, Some, None, refl, sym, ap, subst, ◌∙◌, arith, append_assoc, append-nil}
+-- Rows of a walk: lists, and what an internal node represents read from its last child backwards.
+use Rattle.std.proofs.Common.{◌≡◌, ℕ, zero, suc, ◌+◌, ◌-◌, ◌<◌, ◌≤◌, List, [], ◌∷◌, ◌++◌, length, map, drop, take, slice_get, Option, Some, None, refl, sym, ap, subst, ◌∙◌, arith, append_assoc, append-nil}
 use Rattle.std.proofs.lemmas.List.{length_push}
 use Rattle.std.specs.Borrow.{Bor}
-use Rattle.std.specs.Iterator.{YieldsLastRef}
+use Rattle.std.specs.Iterator.{YieldsFirstRef, YieldsLastRef}
 use Rattle.std.specs.List.{AllByRecursion}
 use Rattle.btree_view.specs.View.{NodeMap, internal}
 use Rattle.btree_shape.specs.Remaining.{IsUnder, remaining_in}
@@ -34,6 +34,26 @@ pub yields-less : {X : Type 0} (xs : List X) (n : ℕ) (run others : List X) (r 
 yields-less [] n run others r is low step = absurd (omega arith)
 yields-less (y ∷ ys) n run others None is low step = let none : run ≡ [] = step.0 in absurd (cc)
 yields-less (y ∷ ys) n run others (Some x) is low step = take-less (y ∷ ys) n others x.now (sym is ∙ step) low
+
+-- after a step from the front one element more is dropped
+drop-none : {X : Type 0} (xs : List X) (n : ℕ) → drop n xs ≡ [] → drop (suc n) xs ≡ []
+drop-none [] n e = refl
+drop-none (y ∷ ys) zero e = absurd (cc)
+drop-none (y ∷ ys) (suc n) e = drop-none ys n e
+
+drop-first : {X : Type 0} (xs : List X) (n : ℕ) (x : X) (others : List X) → drop n xs ≡ x ∷ others → others ≡ drop (suc n) xs
+drop-first [] zero x others e = absurd (cc)
+drop-first [] (suc n) x others e = absurd (cc)
+drop-first (y ∷ ys) zero x others e = let rest : ys ≡ others = cc in sym rest
+drop-first (y ∷ ys) (suc n) x others e = drop-first ys n x others e
+
+pub yields-more : {X : Type 0} (xs : List X) (n : ℕ) (run others : List X) (r : Option (Bor X)) → run ≡ drop n xs
+    → YieldsFirstRef (λ l. l) run r others → others ≡ drop (n + 1) xs
+yields-more xs n run others r is step = let m : suc n ≡ n + 1 = omega arith in subst (λ k. others ≡ drop k xs) m (by r step)
+  where
+    by : (r : Option (Bor _)) → YieldsFirstRef (λ l. l) run r others → others ≡ drop (suc n) xs
+    by None step = step.1 ∙ sym (drop-none xs n (sym is ∙ step.0))
+    by (Some x) step = drop-first xs n x.now others (sym is ∙ step)
 
 pub get-within : {X : Type 0} (xs : List X) (n : ℕ) → slice_get xs n ≡ None → n < length xs → ⊥
 get-within [] n e low = absurd (omega arith)

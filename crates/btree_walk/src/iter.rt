@@ -3,11 +3,11 @@ ghost use Rattle.std.specs.Prelude.{◌≡◌, Some, IfSome, length};
 ghost use Rattle.std.specs.Iterator.SizeHint.{IsWithinCount};
 ghost use Rattle.std.specs.Iterator.{YieldsFirstBy, YieldsLastBy, item_count, UpTo};
 ghost use Rattle.btree_walk.specs.Ranges.{IsBack, IsFirstOf, IsLastOf, behind_or_all, pair_now};
-ghost use Rattle.btree_walk.specs.Rows.{remaining_in_leaf, run_left};
+ghost use Rattle.btree_walk.specs.Rows.{AreAncestors, remaining_after, remaining_in_leaf, run_left};
 
 use crate::ancestors::{Ancestors, next_above, start};
 use crate::walks::Back;
-use btree_ext::Tree;
+use btree_ext::{BTreeExt, Tree};
 use btree_item::{Item, SlotsIter};
 use btree_node::LeafNode;
 use btree_nodes::NodesMut;
@@ -25,6 +25,23 @@ fn run_of<'a, K, V>(leaf: Option<&'a LeafNode<K, V>>) -> Option<SlotsIter<'a, It
     }
 }
 
+// Returns the items of a leaf after those that are passed.
+pub(crate) fn run_from<'a, K, V>(
+    leaf: Option<&'a LeafNode<K, V>>,
+    passed: usize,
+) -> Option<SlotsIter<'a, Item<K, V>>>
+    ensures { run_left result ≡ remaining_in_leaf leaf.entry passed }
+{
+    let Some(leaf) = leaf else {
+        return None;
+    };
+    let mut run = leaf.items().iter();
+    for _ in 0..passed {
+        run.next();
+    }
+    Some(run)
+}
+
 // Passes the next item of a leaf and returns it.
 #[inline]
 fn next_in_run<'a, K, V>(run: &mut Option<SlotsIter<'a, Item<K, V>>>) -> Option<(&'a K, &'a V)>
@@ -35,6 +52,31 @@ fn next_in_run<'a, K, V>(run: &mut Option<SlotsIter<'a, Item<K, V>>>) -> Option<
     };
     match run.next() {
         Some(item) => Some((item.key(), item.value())),
+        None => None,
+    }
+}
+
+// Passes the next pair of a forward walk and returns it.
+#[inline]
+pub(crate) fn next_pair<'a, K: Ord + 'a, V: 'a, C: NodesMut<K, V> + 'a>(
+    tree: &'a Tree<K, V, C>,
+    run: &mut Option<SlotsIter<'a, Item<K, V>>>,
+    ancestors: &mut Ancestors<'a, K, V>,
+) -> Option<(&'a K, &'a V)>
+    requires { AreAncestors tree.now ancestors.old }
+    ensures above { AreAncestors tree.now ancestors.new }
+    ensures first { IsFirstOf (remaining_after tree.now run.old ancestors.old) (pair_now result)
+        (remaining_after tree.now run.new ancestors.new) }
+{
+    tree.tell_fits();
+    if let Some(pair) = next_in_run(run) {
+        return Some(pair);
+    }
+    match next_above(tree, ancestors) {
+        Some((pair, leaf)) => {
+            *run = run_of(Some(leaf));
+            Some(pair)
+        }
         None => None,
     }
 }

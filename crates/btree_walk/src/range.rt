@@ -9,9 +9,12 @@ ghost use Rattle.btree_walk.specs.Near.{IsLastWithin};
 ghost use Rattle.btree_walk.specs.Ranges.{AreLeftSame, IsBack, IsBehind, ahead_of, behind_in, from_first, pair_now};
 ghost use Rattle.btree_walk.specs.Rows.{AreAncestors};
 
+use crate::ancestors::Ancestors;
+use crate::iter::{next_pair, run_from};
 use crate::near::{is_past, last_within};
 use crate::walks::{Back, Front};
 use btree_ext::{BTreeExt, Tree};
+use btree_item::{Item, SlotsIter};
 use btree_nodes::NodesMut;
 use std::cmp::Ordering;
 use std::iter::{DoubleEndedIterator, FusedIterator};
@@ -74,9 +77,10 @@ fn last_left<'a, K: Ord + 'a, V: 'a, C: NodesMut<K, V> + 'a>(
 #[derive(Drop)]
 pub struct Range<'a, K: Ord, V, C: NodesMut<K, V>> {
     tree: &'a Tree<K, V, C>,
-    // The first pair that is left, if there may be one, and the walk that has passed it.
+    // The first pair that is left, if there may be one, and the walk that has passed it: what is left of its leaf, and the nodes above.
     first: Option<(&'a K, &'a V)>,
-    front: Front<'a, K, V>,
+    run: Option<SlotsIter<'a, Item<K, V>>>,
+    ancestors: Ancestors<'a, K, V>,
     // The last pair that was found, and whether it is left.
     last: Option<(&'a K, &'a V)>,
     is_left: bool,
@@ -87,16 +91,16 @@ pub struct Range<'a, K: Ord, V, C: NodesMut<K, V>> {
 impl<'a, K: Ord, V, C: NodesMut<K, V>> Model for Range<'a, K, V, C> {
     ghost use Rattle.std.specs.Prelude.{List};
     ghost use Rattle.btree_shape.specs.TreeState.{pairs_of};
-    ghost use Rattle.btree_walk.specs.Ranges.{IsAhead, IsBack, IsBehind, ahead_of, behind_in, from_first, left_until, pair_now};
-    ghost use Rattle.btree_walk.specs.Rows.{AreAncestors};
+    ghost use Rattle.btree_walk.specs.Ranges.{IsAhead, IsBack, IsBehind, behind_in, from_first, left_until, pair_now};
+    ghost use Rattle.btree_walk.specs.Rows.{AreAncestors, remaining_after};
 
     ghost Value = { List (K × V) };
 
-    ghost view = { λ it. left_until K.cmp (from_first (pair_now it.first) (ahead_of it.tree.now it.front)) (pair_now it.last) it.is_left };
+    ghost view = { λ it. left_until K.cmp (from_first (pair_now it.first) (remaining_after it.tree.now it.run it.ancestors)) (pair_now it.last) it.is_left };
 
     ghost invariant = { λ it. C.Fits
-        × AreAncestors it.tree.now it.front.ancestors
-        × IsAhead (pairs_of it.tree.now) (pair_now it.first) (ahead_of it.tree.now it.front)
+        × AreAncestors it.tree.now it.ancestors
+        × IsAhead (pairs_of it.tree.now) (pair_now it.first) (remaining_after it.tree.now it.run it.ancestors)
         × IsBack it.tree.now it.back
         × IsBehind (pairs_of it.tree.now) (pair_now it.last) (behind_in it.tree.now it.back) };
 }
@@ -122,7 +126,8 @@ impl<'a, K: Ord, V, C: NodesMut<K, V>> Range<'a, K, V, C> {
         Range {
             tree,
             first,
-            front,
+            run: run_from(front.leaf, front.passed),
+            ancestors: front.ancestors,
             last,
             is_left: true,
             back: None,
@@ -150,7 +155,7 @@ impl<'a, K: Ord, V, C: NodesMut<K, V>> Iterator for Range<'a, K, V, C> {
         let _root = self.tree.root_id();
         match first.0.cmp(last.0) {
             Ordering::Less => {
-                self.first = self.front.next(self.tree);
+                self.first = next_pair(self.tree, &mut self.run, &mut self.ancestors);
                 Some(first)
             }
             Ordering::Equal => {

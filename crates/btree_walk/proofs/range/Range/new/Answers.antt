@@ -1,8 +1,10 @@
-use Rattle.std.proofs.Common.{arith}
+use Rattle.std.proofs.Common.{◌++◌, ◌∙◌, ap, arith, subst, sym, true}
+use Rattle.btree_node.proofs.NodeSizes.{fits-leaf}
 use Rattle.btree_shape.specs.TreeState.{pairs_of}
 use Rattle.btree_shape.proofs.LookUp.KeyInList.{ascends, rises}
 use Rattle.btree_walk.specs.Bounds.{bound_key}
-use Rattle.btree_walk.specs.Ranges.{ahead_of, from_first, pair_now}
+use Rattle.btree_walk.specs.Ranges.{IsAhead, ahead_of, from_first, left_until, pair_now}
+use Rattle.btree_walk.specs.Rows.{remaining_in_ancestors}
 use Rattle.btree_walk.proofs.RangeLemmas.{begins, begins-ahead, begins-behind, begins-rises}
 use Rattle.btree_walk.proofs.range.Range.new.Goals as goal
 
@@ -19,6 +21,9 @@ last_from-last-requires g c =
       ),
     )
 
+pub run_from-requires : goal.run_from-requires
+run_from-requires g c = search fits-leaf
+
 pub invariant_of-result : goal.invariant_of-result
 invariant_of-result g c =
     let pairs = pairs_of c.args.tree.now in
@@ -26,10 +31,12 @@ invariant_of-result g c =
     let lo = bound_key c.args.range.0 in
     let hi = bound_key c.args.range.1 in
     let first = pair_now c.first-first.result in
-    let ahead = ahead_of c.args.tree.now c.first-first.new.self in (
+    let ahead = ahead_of c.args.tree.now c.first-first.new.self in
+    let run = ap (λ l. l ++ remaining_in_ancestors c.args.tree.now c.first-first.new.self.ancestors) c.run_from.ensures in (
       c.note_fits.ensures,
       c.first-first.ensures.above,
-      begins-ahead g.met.K.Ord.total pairs up lo hi first ahead c.first-first.ensures.first,
+      subst (λ l. IsAhead pairs first l) (sym run)
+          (begins-ahead g.met.K.Ord.total pairs up lo hi first ahead c.first-first.ensures.first),
       tt,
       begins-behind g.met.K.Ord.total pairs up lo hi first ahead c.first-first.ensures.first (pair_now c.last_from-last.result) c.last_from-last.ensures,
     )
@@ -38,5 +45,9 @@ pub returns : goal.returns
 returns g c =
     let pairs = pairs_of c.args.tree.now in
     let up = rises g.K.Ord.cmp pairs c.root_id-root.ensures.well_formed.ascends in
-    begins g.met.K.Ord.total pairs up (bound_key c.args.range.0) (bound_key c.args.range.1) (pair_now c.first-first.result) (ahead_of c.args.tree.now c.first-first.new.self) c.first-first.ensures.first
-    (pair_now c.last_from-last.result) c.last_from-last.ensures
+    let first = pair_now c.first-first.result in
+    let last = pair_now c.last_from-last.result in
+    let run = ap (λ l. l ++ remaining_in_ancestors c.args.tree.now c.first-first.new.self.ancestors) c.run_from.ensures in
+    ap (λ l. left_until g.K.Ord.cmp (from_first first l) last true) run
+    ∙ begins g.met.K.Ord.total pairs up (bound_key c.args.range.0) (bound_key c.args.range.1) first (ahead_of c.args.tree.now c.first-first.new.self)
+    c.first-first.ensures.first last c.last_from-last.ensures

@@ -1,7 +1,8 @@
 use Rattle.std.proofs.Common.{◌∷◌, ◌∙◌, ap, arith, length, sym}
 use Rattle.btree_shape.specs.TreeState.{pairs_of}
 use Rattle.btree_shape.proofs.LookUp.KeyInList.{rises}
-use Rattle.btree_walk.specs.Ranges.{ahead_of, pair_now}
+use Rattle.btree_walk.specs.Ranges.{pair_now}
+use Rattle.btree_walk.specs.Rows.{remaining_after}
 use Rattle.btree_walk.proofs.RangeLemmas.{meets-after, meets-front, none-left, passes-front, steps-front}
 use Rattle.btree_walk.proofs.range.RangeIterator.next.Goals as goal
 
@@ -12,27 +13,27 @@ pub invariant_of-self : goal.invariant_of-self
 invariant_of-self g c =
     let it = c.self.inside in
     let s = steps-front g.met.K.Ord.total (pairs_of it.tree.now) (rises g.K.Ord.cmp (pairs_of it.tree.now) c.root_id-root.ensures.well_formed.ascends)
-    (pair_now it.first) (pair_now it.last) (ahead_of it.tree.now it.front) c.self.invariant.2 (c.in-Some.first.0.now, c.in-Some.first.1.now) (c.in-Some-last.last.0.now, c.in-Some-last.last.1.now)
+    (pair_now it.first) (pair_now it.last) (remaining_after it.tree.now it.run it.ancestors) c.self.invariant.2 (c.in-Some.first.0.now, c.in-Some.first.1.now) (c.in-Some-last.last.0.now, c.in-Some-last.last.1.now)
     (ap pair_now c.in-Some.is) (ap pair_now c.in-Some-last.is) it.is_left
-    (let compared = c.cmp.ensures in let is = c.in-Less.is in cc) (pair_now c.next-self-inside.result) (ahead_of it.tree.now c.next-self-inside.new.self) c.next-self-inside.ensures.first in
-    (c.self.invariant.0, c.next-self-inside.ensures.above, s.1, c.self.invariant.3, c.self.invariant.4)
+    (let compared = c.cmp.ensures in let is = c.in-Less.is in cc) (pair_now c.next_pair-self-inside.result) (remaining_after it.tree.now c.next_pair-self-inside.new.run c.next_pair-self-inside.new.ancestors) c.next_pair-self-inside.ensures.first in
+    (c.self.invariant.0, c.next_pair-self-inside.ensures.above, s.1, c.self.invariant.3, c.self.invariant.4)
 
 pub returns-in-Less-clause-steps : goal.returns-in-Less-clause-steps
 returns-in-Less-clause-steps g c =
     let it = c.self.inside in
     let s = steps-front g.met.K.Ord.total (pairs_of it.tree.now) (rises g.K.Ord.cmp (pairs_of it.tree.now) c.root_id-root.ensures.well_formed.ascends)
-    (pair_now it.first) (pair_now it.last) (ahead_of it.tree.now it.front) c.self.invariant.2 (c.in-Some.first.0.now, c.in-Some.first.1.now) (c.in-Some-last.last.0.now, c.in-Some-last.last.1.now)
+    (pair_now it.first) (pair_now it.last) (remaining_after it.tree.now it.run it.ancestors) c.self.invariant.2 (c.in-Some.first.0.now, c.in-Some.first.1.now) (c.in-Some-last.last.0.now, c.in-Some-last.last.1.now)
     (ap pair_now c.in-Some.is) (ap pair_now c.in-Some-last.is) it.is_left
-    (let compared = c.cmp.ensures in let is = c.in-Less.is in cc) (pair_now c.next-self-inside.result) (ahead_of it.tree.now c.next-self-inside.new.self) c.next-self-inside.ensures.first in
+    (let compared = c.cmp.ensures in let is = c.in-Less.is in cc) (pair_now c.next_pair-self-inside.result) (remaining_after it.tree.now c.next_pair-self-inside.new.run c.next_pair-self-inside.new.ancestors) c.next_pair-self-inside.ensures.first in
     rw (← c.self.view_is) s.0
 
 pub returns-in-Less-clause-goes : goal.returns-in-Less-clause-goes
 returns-in-Less-clause-goes g c =
     let it = c.self.inside in
     let s = steps-front g.met.K.Ord.total (pairs_of it.tree.now) (rises g.K.Ord.cmp (pairs_of it.tree.now) c.root_id-root.ensures.well_formed.ascends)
-    (pair_now it.first) (pair_now it.last) (ahead_of it.tree.now it.front) c.self.invariant.2 (c.in-Some.first.0.now, c.in-Some.first.1.now) (c.in-Some-last.last.0.now, c.in-Some-last.last.1.now)
+    (pair_now it.first) (pair_now it.last) (remaining_after it.tree.now it.run it.ancestors) c.self.invariant.2 (c.in-Some.first.0.now, c.in-Some.first.1.now) (c.in-Some-last.last.0.now, c.in-Some-last.last.1.now)
     (ap pair_now c.in-Some.is) (ap pair_now c.in-Some-last.is) it.is_left
-    (let compared = c.cmp.ensures in let is = c.in-Less.is in cc) (pair_now c.next-self-inside.result) (ahead_of it.tree.now c.next-self-inside.new.self) c.next-self-inside.ensures.first in
+    (let compared = c.cmp.ensures in let is = c.in-Less.is in cc) (pair_now c.next_pair-self-inside.result) (remaining_after it.tree.now c.next_pair-self-inside.new.run c.next_pair-self-inside.new.ancestors) c.next_pair-self-inside.ensures.first in
     let fewer = ap length s.0 in
     rw (← c.self.view_is) record { on = λ finite. (tt, tt, omega arith); keeps = tt; rests = λ finite. tt }
 
@@ -41,7 +42,7 @@ returns-else-not-self-clause-steps g c =
     let it = c.self.inside in
     rw (← c.self.view_is)
     (meets-front g.met.K.Ord.total (pairs_of it.tree.now) (rises g.K.Ord.cmp (pairs_of it.tree.now) c.root_id-root.ensures.well_formed.ascends)
-    (pair_now it.first) (pair_now it.last) (ahead_of it.tree.now it.front) c.self.invariant.2 (c.in-Some.first.0.now, c.in-Some.first.1.now) (c.in-Some-last.last.0.now, c.in-Some-last.last.1.now)
+    (pair_now it.first) (pair_now it.last) (remaining_after it.tree.now it.run it.ancestors) c.self.invariant.2 (c.in-Some.first.0.now, c.in-Some.first.1.now) (c.in-Some-last.last.0.now, c.in-Some-last.last.1.now)
     (ap pair_now c.in-Some.is) (ap pair_now c.in-Some-last.is) it.is_left
     (let compared = c.cmp.ensures in let is = c.in-Equal.is in cc) c.if-not-self.false
     ∙ ap (λ l. (c.in-Some.first.0.now, c.in-Some.first.1.now) ∷ l) (sym (none-left g.K.Ord.cmp (pair_now it.last) it.is_left)))
@@ -50,7 +51,7 @@ pub returns-else-not-self-clause-goes : goal.returns-else-not-self-clause-goes
 returns-else-not-self-clause-goes g c =
     let it = c.self.inside in
     let met = meets-front g.met.K.Ord.total (pairs_of it.tree.now) (rises g.K.Ord.cmp (pairs_of it.tree.now) c.root_id-root.ensures.well_formed.ascends)
-    (pair_now it.first) (pair_now it.last) (ahead_of it.tree.now it.front) c.self.invariant.2 (c.in-Some.first.0.now, c.in-Some.first.1.now) (c.in-Some-last.last.0.now, c.in-Some-last.last.1.now)
+    (pair_now it.first) (pair_now it.last) (remaining_after it.tree.now it.run it.ancestors) c.self.invariant.2 (c.in-Some.first.0.now, c.in-Some.first.1.now) (c.in-Some-last.last.0.now, c.in-Some-last.last.1.now)
     (ap pair_now c.in-Some.is) (ap pair_now c.in-Some-last.is) it.is_left
     (let compared = c.cmp.ensures in let is = c.in-Equal.is in cc) c.if-not-self.false in
     let fewer = ap length met in
@@ -61,7 +62,7 @@ pub returns-then-not-self-clause-steps : goal.returns-then-not-self-clause-steps
 returns-then-not-self-clause-steps g c =
     let it = c.self.inside in
     let none = meets-after g.met.K.Ord.total (pairs_of it.tree.now) (rises g.K.Ord.cmp (pairs_of it.tree.now) c.root_id-root.ensures.well_formed.ascends)
-    (pair_now it.first) (pair_now it.last) (ahead_of it.tree.now it.front) c.self.invariant.2 (c.in-Some.first.0.now, c.in-Some.first.1.now) (c.in-Some-last.last.0.now, c.in-Some-last.last.1.now)
+    (pair_now it.first) (pair_now it.last) (remaining_after it.tree.now it.run it.ancestors) c.self.invariant.2 (c.in-Some.first.0.now, c.in-Some.first.1.now) (c.in-Some-last.last.0.now, c.in-Some-last.last.1.now)
     (ap pair_now c.in-Some.is) (ap pair_now c.in-Some-last.is) it.is_left
     (let compared = c.cmp.ensures in let is = c.in-Equal.is in cc) c.if-not-self.true in
     rw (← c.self.view_is) (none, none)
@@ -70,7 +71,7 @@ pub returns-in-Greater-clause-steps : goal.returns-in-Greater-clause-steps
 returns-in-Greater-clause-steps g c =
     let it = c.self.inside in
     let none = passes-front g.met.K.Ord.total (pairs_of it.tree.now) (rises g.K.Ord.cmp (pairs_of it.tree.now) c.root_id-root.ensures.well_formed.ascends)
-    (pair_now it.first) (pair_now it.last) (ahead_of it.tree.now it.front) c.self.invariant.2 (c.in-Some.first.0.now, c.in-Some.first.1.now) (c.in-Some-last.last.0.now, c.in-Some-last.last.1.now)
+    (pair_now it.first) (pair_now it.last) (remaining_after it.tree.now it.run it.ancestors) c.self.invariant.2 (c.in-Some.first.0.now, c.in-Some.first.1.now) (c.in-Some-last.last.0.now, c.in-Some-last.last.1.now)
     (ap pair_now c.in-Some.is) (ap pair_now c.in-Some-last.is) it.is_left
     (let compared = c.cmp.ensures in let is = c.in-Greater.is in cc) in
     rw (← c.self.view_is) (none, none)

@@ -1,0 +1,6 @@
+use Rattle.std.proofs.Common.{◌≡◌}
+use Rattle.btree_walk.specs.Rows.{remaining_in_leaf}
+use Rattle.btree_walk.proofs.iter.run_from.Given as goal
+
+abbrev pub invariant-loop : goal.invariant-loop
+invariant-loop g l = l.run ≡ remaining_in_leaf l.leaf l.counter
