@@ -3,7 +3,7 @@ use crate::asserts::{assert_same, assert_true, assert_true_in};
 use btree_ext::BTreeExt;
 use btree_map::BTreeMap;
 use btree_node::Node;
-use btree_samples::listed_pairs;
+use btree_testing::listed_pairs;
 use btree_store::SlabStore;
 use std::process::Abort;
 use std::test::Fail;

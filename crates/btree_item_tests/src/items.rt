@@ -3,7 +3,7 @@ ghost use Rattle.std.specs.Ordering.{nat_cmp, on};
 ghost use Rattle.btree_item.specs.Pairs.{Ascends};
 
 use crate::asserts::{assert_same, assert_same_in, assert_true, assert_true_in};
-use btree_counted::{COMPARISONS, Counted, promised_comparisons};
+use btree_testing::{COMPARISONS, Counted, promised_comparisons};
 use btree_item::{
     Address, Cause, Item, MAX_COMPARISONS, Offset, Refused, Slots, binary_search_min, search,
     search_counted,

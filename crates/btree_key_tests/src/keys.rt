@@ -8,7 +8,7 @@ use btree_ext::BTreeExt;
 use btree_map::BTreeMap;
 use btree_node::Node;
 use btree_nodes::NodesMut;
-use btree_refusing::Refusing;
+use btree_testing::Refusing;
 use btree_store::SlabStore;
 use std::alloc::Global;
 use std::cmp::Ordering;

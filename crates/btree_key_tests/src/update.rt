@@ -4,7 +4,7 @@ use btree_ext::{BTreeExt, BTreeExtMut};
 use btree_map::BTreeMap;
 use btree_node::Node;
 use btree_nodes::NodesMut;
-use btree_samples::listed_pairs;
+use btree_testing::listed_pairs;
 use btree_store::SlabStore;
 use std::process::Abort;
 use std::test::Fail;

@@ -4,7 +4,7 @@ use btree_item::Cause;
 use btree_map::BTreeMap;
 use btree_node::Node;
 use btree_nodes::NodesMut;
-use btree_refusing::Refusing;
+use btree_testing::Refusing;
 use btree_store::SlabStore;
 use std::alloc::Global;
 use std::process::Abort;

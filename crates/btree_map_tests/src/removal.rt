@@ -5,7 +5,7 @@ use btree_item::{Address, Item, Offset};
 use btree_map::BTreeMap;
 use btree_node::Node;
 use btree_nodes::NodesMut;
-use btree_samples::listed_pairs;
+use btree_testing::listed_pairs;
 use btree_store::SlabStore;
 use std::alloc::Global;
 use std::collections;

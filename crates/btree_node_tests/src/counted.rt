@@ -8,7 +8,7 @@ ghost use Rattle.btree_view.specs.View.{items_of};
 
 use crate::asserts::{assert_same_in, assert_true, assert_true_in};
 use crate::nodes::put;
-use btree_counted::{COMPARISONS, Counted, promised_comparisons};
+use btree_testing::{COMPARISONS, Counted, promised_comparisons};
 use btree_item::{Item, MAX_COMPARISONS, Offset};
 use btree_node::{InternalNode, LeafNode, Node};
 use btree_steps::Steps;

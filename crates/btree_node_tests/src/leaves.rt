@@ -3,7 +3,7 @@ ghost use Rattle.btree_item.specs.Pairs.{Ascends};
 ghost use Rattle.btree_leaf.specs.LeafLends.{leaf_with_value};
 
 use crate::asserts::{assert_same, assert_same_in, assert_true, assert_true_in};
-use btree_counted::Counted;
+use btree_testing::Counted;
 use btree_item::{Item, Offset};
 use btree_node::LeafNode;
 use std::cell::Cell;

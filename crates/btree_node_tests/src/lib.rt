@@ -18,4 +18,6 @@ mod node_ends;
 #[cfg(test)]
 mod nodes;
 #[cfg(test)]
+mod refusing;
+#[cfg(test)]
 mod validate;

@@ -6,7 +6,7 @@ ghost use Rattle.btree_node.specs.Node.{view_of};
 ghost use Rattle.btree_view.specs.View.{items_of};
 
 use crate::asserts::{assert_same, assert_same_in, assert_true, assert_true_in};
-use btree_counted::Counted;
+use btree_testing::Counted;
 use btree_item::{Item, Keyed, Offset};
 use btree_node::{Balance, Branch, InternalNode, LeafNode, Node, internal};
 use std::cell::Cell;

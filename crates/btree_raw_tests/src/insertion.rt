@@ -6,7 +6,7 @@ use btree_item::{Address, Cause, Item, Offset, Refused};
 use btree_node::Node;
 use btree_nodes::NodesMut;
 use btree_raw::RawBTree;
-use btree_refusing::Refusing;
+use btree_testing::Refusing;
 use btree_store::SlabStore;
 use std::alloc::Global;
 use std::process::Abort;

@@ -1,6 +1,6 @@
 //! How often merges compare elements.
 use crate::asserts::{assert_same, assert_true};
-use btree_counted::Counted;
+use btree_testing::Counted;
 use btree_node::Node;
 use btree_nodes::NodesMut;
 use btree_set::BTreeSet;

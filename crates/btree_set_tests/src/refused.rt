@@ -5,7 +5,7 @@ use crate::asserts::{assert_same, assert_true};
 use btree_item::Cause;
 use btree_node::Node;
 use btree_nodes::{CloneNodes, NodesMut};
-use btree_refusing::Refusing;
+use btree_testing::Refusing;
 use btree_set::BTreeSet;
 use btree_store::SlabStore;
 use std::alloc::Global;

@@ -1,6 +1,6 @@
 //! A store over memory in which one allocation is refused.
 use crate::asserts::{assert_same, assert_same_in, assert_true};
-use btree_refusing::Refusing;
+use btree_testing::Refusing;
 use btree_store::{Slab, SlabMut, SlabStore};
 use std::alloc::Global;
 use std::process::Abort;

@@ -9,7 +9,7 @@ ghost use Rattle.btree_shape.specs.TreeState.{IsUsed};
 ghost use Rattle.btree_find.specs.Levels.{comparisons_from};
 
 use crate::asserts::{assert_same, assert_same_in, assert_true, assert_true_in};
-use btree_counted::{COMPARISONS, Counted, promised_comparisons};
+use btree_testing::{COMPARISONS, Counted, promised_comparisons};
 use btree_ext::{BTreeExt, BTreeExtMut, Tree};
 use btree_item::{Address, Offset};
 use btree_node::Node;

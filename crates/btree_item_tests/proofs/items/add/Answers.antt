@@ -1,7 +1,7 @@
 use Rattle.std.proofs.Common.{◌≡◌, List, Err, sym, subst, ◌∙◌}
 use Rattle.std.specs.Cmp.{nat_cmp_total, on_total}
 use Rattle.std.specs.Ordering.{nat_cmp, on}
-use Rattle.btree_counted.specs.declared.counted.Counted.{Counted}
+use Rattle.btree_testing.specs.declared.counted.Counted.{Counted}
 use Rattle.btree_item.specs.Pairs.{Ascends, inserted, place_of}
 use Rattle.btree_item.proofs.PairLemmas.{inserted-from_Err, key_place-keys_of}
 use Rattle.btree_item.proofs.PairEdits.{Ascends-inserted}

@@ -35,13 +35,13 @@ use denote.Triple.Table.{entered, cited}
 use denote.Triple.Walked.{Stays, stay_dropped, walk_of, ends_at, walked, Goes-dropped, walk_Meets}
 use Rattle.std.proofs.alloc.Calls.{Al, seen, token, got, Answer, answer_val, Answer-typed, Answer-Ok, Answer-err, takes_key, Takes, at_takes, Answered, Takes-goes, Takes-gives, answers}
 use Rattle.std.proofs.alloc.Shapes.{after}
-use Rattle.btree_refusing.proofs.CountDown.{Counts, counts_at, Counts-goes, Counts-gives}
-use Rattle.btree_refusing.proofs.Inside.{Counter, Outer, type_args, self_slot, inner_place, cell_place, self_parts}
-use Rattle.btree_refusing.proofs.count_down.Met.{met as counts_met}
-use Rattle.btree_refusing.proofs.count_down.Symbol as counts_symbol
-use Rattle.btree_refusing.specs.contracts.RefusingAllocator.allocate as allocate
-use Rattle.btree_refusing.proofs.RefusingAllocator.allocate.Code as code
-use Rattle.btree_refusing.proofs.RefusingAllocator.allocate.Statement.{statement}
+use Rattle.btree_testing.proofs.CountDown.{Counts, counts_at, Counts-goes, Counts-gives}
+use Rattle.btree_testing.proofs.Inside.{Counter, Outer, type_args, self_slot, inner_place, cell_place, self_parts}
+use Rattle.btree_testing.proofs.refusing.count_down.Met.{met as counts_met}
+use Rattle.btree_testing.proofs.refusing.count_down.Symbol as counts_symbol
+use Rattle.btree_testing.specs.contracts.refusing.RefusingAllocator.allocate as allocate
+use Rattle.btree_testing.proofs.refusing.RefusingAllocator.allocate.Code as code
+use Rattle.btree_testing.proofs.refusing.RefusingAllocator.allocate.Statement.{statement}
 
 module _ (inner : Al) where
   abbrev function : Fn
@@ -125,7 +125,7 @@ allocate_spec 𝓤 𝓛 𝓜 𝓡 wired row laws g dict drops met _ =
     let inner : Al = record { row = row; laws = laws; g = g; d = dict; drops = drops } in
     let 𝓣 : Tables 𝓤 𝓛.H = tables_of 𝓤 𝓛.H 𝓜 (tables 𝓤 𝓛.H 𝓜 𝓡 𝓡.env) in
     let held = allocate.clauses row g dict drops 𝓛 𝓜.mem 𝓡.returns in
-    let counts = cited 𝓤 𝓛.H _ 𝓜 𝓡 𝓡.env counts_symbol.name (𝓡.env counts_symbol.name) refl (counts_met 𝓤 𝓛 𝓜 𝓡 (code.calls-btree_refusing::count_down 𝓡.env wired)) in
+    let counts = cited 𝓤 𝓛.H _ 𝓜 𝓡 𝓡.env counts_symbol.name (𝓡.env counts_symbol.name) refl (counts_met 𝓤 𝓛 𝓜 𝓡 (code.calls-btree_testing::refusing::count_down 𝓡.env wired)) in
     let number = Goes-dropped 𝓛 2 (plain (λ _. usize)) yes (λ κs x f. refl) in
     entered 𝓤 𝓛.H (triple_of 𝓛 (allocate.signature row) (allocate.spec row g dict drops 𝓛 𝓜.mem 𝓡.returns)) 𝓣.C 𝓣.Λ (allocate.Key.name (type_args inner)) (function inner) (code.unfolded 𝓤 𝓛.H 𝓜 𝓡 wired (row, tt) dict drops)
     (walk_Meets 𝓛 (ended inner) (stayed inner) (Goes-dropped 𝓛 2 (self_slot inner) yes (λ κs x f. refl), (number, (number, tt))) held (WpFn 𝓤 𝓛.H 𝓣.C 𝓣.Λ (function inner)) (WpFn-mono 𝓤 𝓛.H 𝓛.laws 𝓣 (function inner))

@@ -16,7 +16,7 @@ use denote.Ref.{shr_vals}
 use denote.Signature.{Slot, plain}
 use Rattle.std.proofs.alloc.Calls.{Al, α, seen}
 use Rattle.std.specs.contracts.cell.Cell as cell
-use Rattle.btree_refusing.specs.contracts.Refusing as refusing
+use Rattle.btree_testing.specs.contracts.refusing.Refusing as refusing
 
 -- a `Cell<u64>`
 abbrev pub Counter : RattleType

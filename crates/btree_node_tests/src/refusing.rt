@@ -1,4 +1,4 @@
-use crate::Refusing;
+use btree_testing::Refusing;
 use std::alloc::{AllocError, Global};
 use std::process::Abort;
 use std::test::Fail;

@@ -33,10 +33,10 @@ use denote.Triple.Statement.{Triple}
 use denote.Triple.Table.{entered}
 use denote.Triple.Walked.{Stays, stay_dropped, walk_of, ends_at, walked, Goes-dropped, walk_Meets}
 use Rattle.std.proofs.alloc.Calls.{Al, seen, token, gives_key, Gives, at_gives, Gives-goes, Gives-Gives}
-use Rattle.btree_refusing.proofs.Inside.{Counter, Outer, type_args, self_slot, inner_place, cell_place, self_parts}
-use Rattle.btree_refusing.specs.contracts.RefusingAllocator.deallocate as deallocate
-use Rattle.btree_refusing.proofs.RefusingAllocator.deallocate.Code as code
-use Rattle.btree_refusing.proofs.RefusingAllocator.deallocate.Statement.{statement}
+use Rattle.btree_testing.proofs.Inside.{Counter, Outer, type_args, self_slot, inner_place, cell_place, self_parts}
+use Rattle.btree_testing.specs.contracts.refusing.RefusingAllocator.deallocate as deallocate
+use Rattle.btree_testing.proofs.refusing.RefusingAllocator.deallocate.Code as code
+use Rattle.btree_testing.proofs.refusing.RefusingAllocator.deallocate.Statement.{statement}
 
 module _ (inner : Al) where
   abbrev function : Fn

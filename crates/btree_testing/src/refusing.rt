@@ -1,11 +1,6 @@
-//! An allocator for tests that refuses one chosen allocation.
-#![tactic(auto)]
-
+//! An allocator that refuses one chosen allocation.
 use std::alloc::{AllocError, Allocator};
 use std::cell::Cell;
-
-#[cfg(test)]
-mod tests;
 
 /// An allocator that refuses one allocation, and passes every other call on to an inner allocator.
 ///

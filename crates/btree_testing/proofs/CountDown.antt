@@ -14,8 +14,8 @@ use denote.Builtin.{bool}
 use denote.Steps.{nothing, only}
 use denote.Triple.Statement.{Contract}
 use denote.Triple.Spec.{triple_of}
-use Rattle.btree_refusing.proofs.Inside.{Counter}
-use Rattle.btree_refusing.specs.contracts.count_down as count_down
+use Rattle.btree_testing.proofs.Inside.{Counter}
+use Rattle.btree_testing.specs.contracts.refusing.count_down as count_down
 
 module _ {M : Type 1} {𝓤 : Ura M} (𝓛 : Logic 𝓤) (at_mem : Memory → SProp 𝓤) (run : Routine → Fun 𝓤) where
   -- its contract
