@@ -1,3 +1,5 @@
+//! The allocator that refuses one allocation.
+use crate::asserts::{assert_same, assert_same_in, assert_true};
 use btree_testing::Refusing;
 use std::alloc::{AllocError, Global};
 use std::process::Abort;
@@ -7,12 +9,8 @@ use std::test::Fail;
 fn check_refusals(rt: &impl Abort, memory: &Refusing<Global>, at: u64) {
     for allocation in 1..6u64 {
         let block: Result<Vec<u32, &Refusing<Global>>, AllocError> = Vec::with_capacity(memory, 4);
-        assert_eq!(rt; block.is_err(), allocation == at, "{allocation} of {at}");
-        assert_eq!(rt;
-            memory.refuses(),
-            at.saturating_sub(allocation),
-            "{allocation} of {at}"
-        );
+        assert_same_in(rt, at, block.is_err(), allocation == at);
+        assert_same_in(rt, at, memory.refuses(), at.saturating_sub(allocation));
     }
 }
 
@@ -30,8 +28,8 @@ fn a_growth_is_an_allocation(rt: HostRuntime) -> Result<(), Fail> {
     values.push(1)?;
     values.reserve_exact(3)?;
     memory.refuse(1);
-    assert!(rt; values.reserve(100).is_err());
-    assert_eq!(rt; values.as_slice(), [1].as_slice());
+    assert_true(&rt, values.reserve(100).is_err());
+    assert_same(&rt, values.as_slice(), [1].as_slice());
     values.reserve(100)?;
     Ok(())
 }

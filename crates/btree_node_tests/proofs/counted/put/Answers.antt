@@ -6,7 +6,7 @@ use Rattle.btree_view.specs.LookUp.{placed}
 use Rattle.btree_internal.specs.Internal.{internal_view}
 use Rattle.btree_view.specs.View.{items_of, children_of}
 use Rattle.btree_internal.proofs.BranchLemmas.{map_insert}
-use Rattle.btree_node_tests.proofs.nodes.put.Goals as goal
+use Rattle.btree_node_tests.proofs.counted.put.Goals as goal
 
 gap_of : Result (Option ℕ) (ℕ × Option ℕ) → ℕ
 gap_of (Ok o) = 0

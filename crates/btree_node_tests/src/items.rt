@@ -3,12 +3,12 @@ ghost use Rattle.std.specs.Ordering.{nat_cmp, on};
 ghost use Rattle.btree_item.specs.Pairs.{Ascends};
 
 use crate::asserts::{assert_same, assert_same_in, assert_true, assert_true_in};
-use btree_testing::{COMPARISONS, Counted, promised_comparisons};
 use btree_item::{
     Address, Cause, Item, MAX_COMPARISONS, Offset, Refused, Slots, binary_search_min, search,
     search_counted,
 };
 use btree_steps::Steps;
+use btree_testing::{COMPARISONS, Counted, promised_comparisons};
 use std::alloc::AllocError;
 use std::cell::Cell;
 use std::cmp::Ordering;
@@ -17,12 +17,11 @@ use std::test::Fail;
 
 #[test]
 fn prints(rt: HostRuntime) -> Result<(), Fail> {
-    for (id, offset, text) in [
-        (0, 1, "@0:1"),
-        (3, usize::MAX, "@3:-1"),
-        (usize::MAX, 0, "@18446744073709551615:0"),
+    for (address, text) in [
+        (Address::new(0, Offset::from(1)), "@0:1"),
+        (Address::new(3, Offset::before()), "@3:-1"),
+        (Address::nowhere(), "@18446744073709551615:0"),
     ] {
-        let address = Address::new(id, Offset::from(offset));
         assert_same(&rt, format!(in rt.alloc(); "{address}")?.as_str(), text);
         assert_same(&rt, format!(in rt.alloc(); "{address:?}")?.as_str(), text);
     }
@@ -133,23 +132,6 @@ fn edits_slots(rt: HostRuntime) {
     assert_same(&rt, from_back.next_back(), Some(&3));
     assert_same(&rt, from_back.next(), Some(&7));
     assert_same(&rt, from_back.next_back(), None);
-}
-
-#[test]
-fn moves_the_tail_of_slots(rt: HostRuntime) {
-    let mut slots: Slots<u32, 4> = Slots::new();
-    let mut others: Slots<u32, 4> = Slots::new();
-    slots.push(1);
-    slots.push(2);
-    slots.push(3);
-    others.push(9);
-    slots.move_tail(1, &mut others);
-    assert_same(&rt, (slots.len(), others.len()), (1, 3));
-    assert_same(&rt, (slots.get(0), slots.get(1)), (Some(&1), None));
-    assert_same(&rt, (others.get(0), others.get(1)), (Some(&9), Some(&2)));
-    let tail = others.split_off(2);
-    assert_same(&rt, (others.len(), tail.len()), (2, 1));
-    assert_same(&rt, tail.get(0), Some(&3));
 }
 
 // Inserts a key at the index that a search returns, which keeps the keys in order.

@@ -5,7 +5,7 @@ use Rattle.btree_testing.specs.declared.counted.Counted.{Counted}
 use Rattle.btree_item.specs.Pairs.{Ascends, inserted, place_of}
 use Rattle.btree_item.proofs.PairLemmas.{inserted-from_Err, key_place-keys_of}
 use Rattle.btree_item.proofs.PairEdits.{Ascends-inserted}
-use Rattle.btree_item_tests.proofs.items.add.Goals as goal
+use Rattle.btree_node_tests.proofs.items.add.Goals as goal
 
 pub returns-in-Err-clause-ascends : goal.returns-in-Err-clause-ascends
 returns-in-Err-clause-ascends c =

@@ -1,17 +1,15 @@
 //! A store over memory in which one allocation is refused.
 use crate::asserts::{assert_same, assert_same_in, assert_true};
-use btree_testing::Refusing;
 use btree_store::{Slab, SlabMut, SlabStore};
+use btree_testing::Refusing;
 use std::alloc::Global;
 use std::process::Abort;
 use std::test::Fail;
 
-type LentStore<'a> = SlabStore<u32, &'a Refusing<Global>>;
-
 const VALUES: u32 = 200;
 
 // Checks that the values from 0 on are under these numbers, and that no other number is used.
-fn check_content(rt: &impl Abort, store: &LentStore<'_>, numbers: &[usize]) {
+fn check_content<S: Slab<u32>>(rt: &impl Abort, store: &S, numbers: &[usize]) {
     assert_same(rt, store.len(), numbers.len());
     for (value, id) in (0..VALUES).zip(numbers) {
         assert_same(rt, store.get(*id).copied(), Some(value));
@@ -20,7 +18,7 @@ fn check_content(rt: &impl Abort, store: &LentStore<'_>, numbers: &[usize]) {
 
 // Inserts the values from 0 on, and returns which of them were refused. After a refusal the store is as before, and accepts the same
 // value the next time.
-fn fill(rt: &impl Abort, store: &mut LentStore<'_>, alloc: Global) -> Result<Vec<u32>, Fail> {
+fn fill<S: SlabMut<u32>>(rt: &impl Abort, store: &mut S, alloc: Global) -> Result<Vec<u32>, Fail> {
     let mut refused = Vec::new(alloc);
     let mut numbers = Vec::new(alloc);
     for value in 0..VALUES {
@@ -40,14 +38,24 @@ fn fill(rt: &impl Abort, store: &mut LentStore<'_>, alloc: Global) -> Result<Vec
     Ok(refused)
 }
 
+// Fills a new store.
+fn fill_new<S: SlabMut<u32> + Drop>(
+    rt: &impl Abort,
+    origin: S::Origin,
+    alloc: Global,
+) -> Result<Vec<u32>, Fail> {
+    S::note_fits();
+    let mut store = S::empty(origin);
+    fill(rt, &mut store, alloc)
+}
+
 // When a store grows is not specified. So each growth is refused in turn, until a run has fewer growths than that.
 #[test]
 fn each_growth_is_refused_in_turn(rt: HostRuntime) -> Result<(), Fail> {
     let mut places: Vec<u32> = Vec::new(rt.alloc());
     for nth in 1..u64::from(VALUES) {
         let memory = Refusing::over(rt.alloc(), nth);
-        let mut store: LentStore<'_> = SlabStore::empty(&memory);
-        let refused = fill(&rt, &mut store, rt.alloc())?;
+        let refused = fill_new::<SlabStore<u32, &Refusing<Global>>>(&rt, &memory, rt.alloc())?;
         let Some(place) = refused.first() else {
             assert_true(&rt, memory.refuses() > 0);
             assert_same(&rt, places.first(), Some(&0));

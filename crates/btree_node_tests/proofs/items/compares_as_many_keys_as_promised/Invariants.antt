@@ -1,7 +1,7 @@
 use Rattle.std.proofs.Common.{◌≤◌, length}
 use Rattle.std.specs.Ordering.{nat_cmp, on}
 use Rattle.btree_item.specs.Pairs.{Ascends}
-use Rattle.btree_item_tests.proofs.items.compares_as_many_keys_as_promised.Given as goal
+use Rattle.btree_node_tests.proofs.items.compares_as_many_keys_as_promised.Given as goal
 
 abbrev pub invariant-loop-held : goal.invariant-loop-held
 invariant-loop-held g l = record {
