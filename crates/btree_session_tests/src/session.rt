@@ -245,6 +245,7 @@ fn drive_many<C: ClearNodes<u64, u64> + Drop>(
     origin: C::Origin,
     alloc: Global,
 ) -> Result<(), Fail> {
+    let mut session: Session<C> = Session::new(origin);
     let (mut lines, mut replies) = (String::new(alloc), String::new(alloc));
     for key in 0..2500u64 {
         write!(lines, "insert {key} {key}\n")?;
@@ -252,7 +253,6 @@ fn drive_many<C: ClearNodes<u64, u64> + Drop>(
     }
     lines.push_str("len\n")?;
     replies.push_str("2500\n")?;
-    let mut session: Session<C> = Session::new(origin);
     let (mut input, mut output) = (lines.as_bytes(), Vec::new(alloc));
     let end = drive(alloc, &mut session, &mut input, &mut output);
     assert_same(rt, end, Ok(()));
