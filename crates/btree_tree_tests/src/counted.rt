@@ -80,6 +80,12 @@ fn expected_from<'a, C: NodesMut<Counted<'a>, u32>>(
     panic!(rt; "{number} is sought below the leaves")
 }
 
+fn assert_equal(rt: &impl Abort, left: usize, right: usize)
+    ensures { left ≡ right }
+{
+    assert_eq!(rt; left, right);
+}
+
 fn sum(rt: &impl Abort, left: usize, right: usize) -> usize
     ensures { result ≡ left + right }
 {
@@ -142,29 +148,53 @@ fn address_counted<'a, C: NodesMut<Counted<'a>, u32>>(
         panic!(rt; "no root");
     };
     assert_true(rt, tree.has_node(root));
-    assert_eq!(rt; promised_from(rt, tree, root, key), compared);
+    assert_equal(rt, promised_from(rt, tree, root, key), compared);
     (found, compared)
 }
 
-// Checks the tests of a key at its own address or gap, which compare at most two keys.
+// Checks `get`, which compares at most six keys at each of three levels, and the tests of a key at its own address or gap, which compare at
+// most two.
 fn check_at<'a, C: NodesMut<Counted<'a>, u32>>(
     rt: &impl Abort,
     tree: &Tree<Counted<'a>, u32, C>,
     addr: Address,
     key: Counted<'a>,
 ) {
+    let is_there = key.number % 2 == 1;
+    let value = if is_there { Some(key.number / 2) } else { None };
+    key.compared.set(0);
+    assert_same_in(rt, key.number, tree.get(&key).copied(), value);
+    assert_true_in(rt, key.number, key.compared.get() <= 18);
     assert_true(rt, tree.is_valid(Address::new(addr.id, addr.offset)));
     key.compared.set(0);
     let fits = tree.fits_at(Address::new(addr.id, addr.offset), &key);
-    assert_same_in(rt, key.number, fits, key.number % 2 == 0);
-    assert_true_in(rt, key.number, key.compared.get() <= 2);
+    assert_true_in(rt, key.number, fits != is_there && key.compared.get() <= 2);
     key.compared.set(0);
     let replaces = tree.replaces_at(addr, &key);
-    assert_true_in(rt, key.number, replaces || key.number % 2 == 0);
+    assert_true_in(rt, key.number, replaces || !is_there);
     assert_true_in(rt, key.number, key.compared.get() <= 2);
 }
 
-// Searches for each of the keys and each number between, with a counter and without one, and by `get`.
+// Searches for a key with a counter and without one, which compares as many keys as the table has. Returns its address or gap.
+fn search<'a, C: NodesMut<Counted<'a>, u32>>(
+    rt: &impl Abort,
+    tree: &Tree<Counted<'a>, u32, C>,
+    root: usize,
+    key: Counted<'a>,
+) -> Address {
+    let expected = expected_from(rt, tree, root, key.number);
+    let mut steps = Steps::new();
+    let (found, ticks) = address_counted(rt, tree, &key, &mut steps);
+    assert_same_in(rt, key.number, ticks, expected);
+    key.compared.set(0);
+    let same = tree.address_of(&key) == found;
+    assert_true_in(rt, key.number, same && expected <= 18);
+    assert_same_in(rt, key.number, key.compared.get() as usize, expected);
+    let (Ok(addr) | Err(addr)) = found;
+    addr
+}
+
+// Searches for each of the keys and each number between.
 fn search_each<'a, C: NodesMut<Counted<'a>, u32> + Drop>(
     rt: &impl Abort,
     compared: &'a Cell<u32>,
@@ -177,23 +207,7 @@ fn search_each<'a, C: NodesMut<Counted<'a>, u32> + Drop>(
     };
     for number in 0..89u32 {
         let key = Counted { number, compared };
-        let expected = expected_from(rt, &tree, root, number);
-        assert_true_in(rt, number, expected <= 18);
-        let mut steps = Steps::new();
-        let (found, ticks) = address_counted(rt, &tree, &key, &mut steps);
-        assert_same_in(rt, number, ticks, expected);
-        compared.set(0);
-        assert_true_in(rt, number, tree.address_of(&key) == found);
-        assert_same_in(rt, number, compared.get() as usize, expected);
-        compared.set(0);
-        let value = if number % 2 == 1 {
-            Some(number / 2)
-        } else {
-            None
-        };
-        assert_same_in(rt, number, tree.get(&key).copied(), value);
-        assert_true_in(rt, number, compared.get() <= 18);
-        let (Ok(addr) | Err(addr)) = found;
+        let addr = search(rt, &tree, root, key);
         check_at(rt, &tree, addr, key);
     }
 }
