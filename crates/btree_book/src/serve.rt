@@ -38,7 +38,10 @@ impl Ending {
 impl fmt::Display for Ending {
     fn fmt<W: fmt::Write>(&self, f: &mut fmt::Formatter<W>) -> fmt::Result {
         match self {
-            Ending::WrongArguments => write!(f, "there are no arguments"),
+            Ending::WrongArguments => write!(
+                f,
+                "usage: a book on standard input, and no arguments"
+            ),
             Ending::NotACall(number) => write!(f, "line {number}: not a call"),
             Ending::OtherReply(number) => write!(f, "line {number}: another reply"),
             Ending::Memory => write!(f, "out of memory"),
