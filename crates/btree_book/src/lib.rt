@@ -1,0 +1,21 @@
+//! A book: a text in which a line is one call of the library and, after an arrow, its reply.
+//!
+//! A program that speaks it implements `Desk`, and `serve` reads the lines. An address is a path from the root: `T` is the root, `T0` its
+//! first child, `T02` the third child of that one, and `T02:3` the address there at offset 3.
+#![tactic(auto)]
+
+mod desk;
+mod draw;
+mod insist;
+mod places;
+mod replies;
+mod reply;
+mod serve;
+mod words;
+
+pub use crate::desk::Desk;
+pub use crate::draw::{draw, shape};
+pub use crate::places::{address, node, offset, place, put_address, put_node};
+pub use crate::reply::Reply;
+pub use crate::serve::{Desks, Ending, serve};
+pub use crate::words::{high, low, number, pair, two_numbers, word};

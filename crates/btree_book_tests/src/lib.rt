@@ -1,0 +1,5 @@
+//! Tests of the book's loop over its lines.
+#![tactic(auto)]
+
+#[cfg(test)]
+mod lines;
