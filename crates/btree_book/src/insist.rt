@@ -1,6 +1,6 @@
 //! A call whose memory is refused in turn.
 use crate::{Desk, Reply};
-use btree_refusing::Refusing;
+use btree_testing::Refusing;
 use std::alloc::{AllocError, Global};
 
 // The most growths of one call that are refused in turn.

@@ -2,7 +2,7 @@
 use crate::insist::insist;
 use crate::words::{number, word};
 use crate::{Desk, Reply};
-use btree_refusing::Refusing;
+use btree_testing::Refusing;
 use std::alloc::{AllocError, Global};
 use std::io::{BufRead, BufReader, ErrorKind, Read, Write};
 use std::{fmt, str};

@@ -1,6 +1,6 @@
 //! The lines of a book, from readers and to writers that fail.
 use btree_book::{Desk, Desks, Ending, Reply, serve};
-use btree_refusing::Refusing;
+use btree_testing::Refusing;
 use std::alloc::{AllocError, Global};
 use std::io;
 use std::io::{ErrorKind, Read, Write};
