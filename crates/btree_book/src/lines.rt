@@ -1,5 +1,5 @@
 //! The lines of a book, one after another.
-use crate::insist::insist;
+use crate::refusals::insist;
 use crate::words::{number, word};
 use crate::{Desk, Reply};
 use btree_testing::Refusing;
