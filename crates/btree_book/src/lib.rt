@@ -4,7 +4,7 @@
 //! first child, `T02` the third child of that one, and `T02:3` the address there at offset 3.
 #![tactic(auto)]
 
-mod desks;
+mod calls;
 mod drawing;
 mod lines;
 mod places;
@@ -13,7 +13,7 @@ mod replies;
 mod text;
 mod words;
 
-pub use crate::desks::Desk;
+pub use crate::calls::Desk;
 pub use crate::drawing::{draw, shape};
 pub use crate::lines::{Desks, Ending, serve};
 pub use crate::places::{address, node, offset, place, put_address, put_node};
