@@ -6,6 +6,7 @@
 
 mod desk;
 mod draw;
+mod each;
 mod insist;
 mod places;
 mod replies;
