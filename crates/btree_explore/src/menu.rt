@@ -12,9 +12,11 @@ pub(crate) enum Action {
     Clear,
     /// Gives none for an even value, the difference from 10000 for an odd one, and this value for none.
     Turn(u64),
+    /// Gives none for a value, and this value for none.
+    Flip(u64),
 }
 
-/// Returns the action that a word as `=3`, `+3`, `none` or `turn:3` names.
+/// Returns the action that a word as `=3`, `+3`, `none`, `turn:3` or `flip:3` names.
 pub(crate) fn read_action(word: &str) -> Option<Action> {
     if let Some(rest) = word.strip_prefix('=') {
         return Some(Action::Set(number(rest)?));
@@ -25,6 +27,9 @@ pub(crate) fn read_action(word: &str) -> Option<Action> {
     if let Some(rest) = word.strip_prefix("turn:") {
         return Some(Action::Turn(number(rest)?));
     }
+    if let Some(rest) = word.strip_prefix("flip:") {
+        return Some(Action::Flip(number(rest)?));
+    }
     if word == "none" {
         return Some(Action::Clear);
     }
@@ -33,16 +38,37 @@ pub(crate) fn read_action(word: &str) -> Option<Action> {
 
 /// Returns what an action gives.
 pub(crate) fn given(action: Action, found: Option<u64>) -> Option<u64> {
-    match action {
-        Action::Set(value) => Some(value),
-        Action::Raise(by) => Some(found.unwrap_or(0).wrapping_add(by)),
-        Action::Clear => None,
-        Action::Turn(value) => match found {
-            Some(old) if old % 2 == 0 => None,
-            Some(old) => Some(10000u64.wrapping_sub(old)),
-            None => Some(value),
-        },
+    match (action, found) {
+        (Action::Set(value), _) => Some(value),
+        (Action::Raise(by), _) => Some(found.unwrap_or(0).wrapping_add(by)),
+        (Action::Clear, _) => None,
+        (Action::Turn(_), Some(old)) if old % 2 == 0 => None,
+        (Action::Turn(_), Some(old)) => Some(10000u64.wrapping_sub(old)),
+        (Action::Flip(_), Some(_)) => None,
+        (Action::Turn(value), None) | (Action::Flip(value), None) => Some(value),
     }
+}
+
+/// Writes what an action gives, if it gives a value. Returns the old one.
+pub(crate) fn write(value: &mut u64, action: Action) -> u64 {
+    let old = *value;
+    *value = given(action, Some(old)).unwrap_or(old);
+    old
+}
+
+/// Returns the name of a step, and what it writes: a step as `next`, `next=3` or `next+3`.
+pub(crate) fn read_step(word: &str) -> (&str, Option<Action>) {
+    if let Some((name, value)) = word.split_once('=')
+        && let Some(value) = number(value)
+    {
+        return (name, Some(Action::Set(value)));
+    }
+    if let Some((name, by)) = word.split_once('+')
+        && let Some(by) = number(by)
+    {
+        return (name, Some(Action::Raise(by)));
+    }
+    (word, None)
 }
 
 /// Which keys a test picks.
@@ -52,24 +78,23 @@ pub(crate) enum Pick {
     All,
     /// None.
     Nothing,
-    /// The keys with this remainder by the first number.
-    Rest(u64, u64),
+    /// The keys with this remainder by 2.
+    Rest(u64),
     /// Two keys.
     Two(u64, u64),
 }
 
-/// Returns the test that a word as `all`, `nothing`, `even`, `odd` or `3|5` names.
+/// Returns the test that a word as `all`, `nothing`, `even`, `odd`, `3` or `3|5` names.
 pub(crate) fn read_pick(word: &str) -> Option<Pick> {
     match word {
-        "all" => Some(Pick::All),
-        "nothing" => Some(Pick::Nothing),
-        "even" => Some(Pick::Rest(2, 0)),
-        "odd" => Some(Pick::Rest(2, 1)),
-        _ => {
-            let (one, other) = word.split_once('|')?;
-            Some(Pick::Two(number(one)?, number(other)?))
-        }
+        "all" => return Some(Pick::All),
+        "nothing" => return Some(Pick::Nothing),
+        "even" => return Some(Pick::Rest(0)),
+        "odd" => return Some(Pick::Rest(1)),
+        _ => {}
     }
+    let (one, other) = word.split_once('|').unwrap_or((word, word));
+    Some(Pick::Two(number(one)?, number(other)?))
 }
 
 /// Returns whether a test picks a key.
@@ -77,7 +102,33 @@ pub(crate) fn picks(pick: Pick, key: u64) -> bool {
     match pick {
         Pick::All => true,
         Pick::Nothing => false,
-        Pick::Rest(by, rest) => by != 0 && key % by == rest,
+        Pick::Rest(rest) => key % 2 == rest,
         Pick::Two(one, other) => key == one || key == other,
+    }
+}
+
+/// What a test adds to the value of each pair that it is asked about.
+#[derive(Clone, Copy)]
+pub(crate) enum Raise {
+    /// This number.
+    By(u64),
+    /// How often the test was called.
+    ByCalls,
+}
+
+/// Returns what is added by a word as `+3` or `+calls`. No word adds nothing.
+pub(crate) fn read_raise(word: &str) -> Option<Raise> {
+    match word {
+        "" => Some(Raise::By(0)),
+        "+calls" => Some(Raise::ByCalls),
+        _ => Some(Raise::By(number(word.strip_prefix('+')?)?)),
+    }
+}
+
+/// Returns a value with what the call with this number adds.
+pub(crate) fn raised(raise: Raise, value: u64, calls: u64) -> u64 {
+    match raise {
+        Raise::By(by) => value.wrapping_add(by),
+        Raise::ByCalls => value.wrapping_add(calls),
     }
 }
