@@ -1,5 +1,5 @@
 //! Calls by address that change nothing.
-use btree_book::{Reply, address, node, number, put_address, put_node, word};
+use btree_book::{Reply, node, number, offset, put_address, put_node, word};
 use btree_slab::generic::BTreeMap;
 use btree_slab::generic::map::BTreeExt;
 use btree_slab::generic::node::Address;
@@ -14,26 +14,36 @@ pub(crate) fn same(addr: &Address) -> Address {
     Address::new(addr.id, addr.offset)
 }
 
-/// Returns the address that a word names: one as `T0:3`, or with `of:3` that of a key or of its gap.
-pub(crate) fn map_address<C: NodesMut<u64, u64>>(map: &Map<C>, word: &str) -> Option<Address> {
-    let Some(key) = word.strip_prefix("of:") else {
-        return address(map.as_raw(), word);
-    };
-    match map.address_of(&number(key)?) {
-        Ok(addr) => Some(addr),
-        Err(gap) => Some(gap),
+// Returns the address of a key, or of its gap.
+fn place_of<C: NodesMut<u64, u64>>(map: &Map<C>, key: u64) -> Address {
+    match map.address_of(&key) {
+        Ok(addr) => addr,
+        Err(gap) => gap,
     }
 }
 
-/// Returns the number of the node that a word names: one as `T0`, with `of:3` that of a key's address, or with `unused` none that is there.
+/// Returns the number of the node that a word names: one as `T0`, with `of:3` that of a key's address or gap, or with `unused` one that no node
+/// has.
 pub(crate) fn map_node<C: NodesMut<u64, u64>>(map: &Map<C>, word: &str) -> Option<usize> {
     if word == "unused" {
         return (0..usize::MAX).find(|id| !map.has_node(*id));
     }
-    if word.starts_with("of:") {
-        return Some(map_address(map, word)?.id);
+    match word.strip_prefix("of:") {
+        Some(key) => Some(place_of(map, number(key)?).id),
+        None => node(map.as_raw(), word),
     }
-    node(map.as_raw(), word)
+}
+
+/// Returns the address that a word names: `nowhere`, a node and an offset as `T0:3`, or with `of:3` that of a key or of its gap.
+pub(crate) fn map_address<C: NodesMut<u64, u64>>(map: &Map<C>, word: &str) -> Option<Address> {
+    if word == "nowhere" {
+        return Some(Address::nowhere());
+    }
+    let (at, index) = word.split_once(':')?;
+    if at == "of" {
+        return Some(place_of(map, number(index)?));
+    }
+    Some(Address::new(map_node(map, at)?, offset(index)?))
 }
 
 fn put_search<C: NodesMut<u64, u64>>(
@@ -300,12 +310,17 @@ pub(crate) fn serve_addresses<C: NodesMut<u64, u64>>(
             Some(key) => search(map, verb, key, reply),
             None => Ok(false),
         },
-        "has_node" | "node" | "validate_node" | "get_in" | "address_in" | "key_fits_in" =>
-            by_node(map, verb, rest, reply),
+        "has_node" | "node" | "validate_node" | "get_in" | "address_in" | "key_fits_in" => by_node(
+            map, verb, rest, reply,
+        ),
         "is_valid" | "item" | "fits_at" | "replaces_at" => by_address(map, verb, rest, reply),
-        "normalize" | "next_item_address" | "previous_item_address" | "leaf_address"
-        | "next_item_or_back_address" | "next_back_address" | "previous_front_address" =>
-            by_address(map, verb, rest, reply),
+        "normalize"
+        | "next_item_address"
+        | "previous_item_address"
+        | "leaf_address"
+        | "next_item_or_back_address"
+        | "next_back_address"
+        | "previous_front_address" => by_address(map, verb, rest, reply),
         _ => Ok(false),
     }
 }

@@ -54,8 +54,12 @@ fn step<C: NodesMut<u64, u64>>(
     let (verb, action) = read_step(word);
     match (verb, number(verb), action) {
         (_, Some(key), Some(Action::Set(value))) => insert(entries, key, value, reply),
-        ("next", _, _) | ("next_item", _, _) | ("peek_mut", _, _) =>
-            lend(entries, verb, action.unwrap_or(Action::Clear), reply),
+        ("next", _, _) | ("next_item", _, _) | ("peek_mut", _, _) => lend(
+            entries,
+            verb,
+            action.unwrap_or(Action::Clear),
+            reply,
+        ),
         ("peek", _, None) => match entries.peek() {
             Some(item) => reply.pair(*item.key(), *item.value()),
             None => reply.word("none"),
@@ -64,7 +68,7 @@ fn step<C: NodesMut<u64, u64>>(
             let removed = entries.remove().map(|item| item.into_pair());
             reply.found(removed)
         }
-        ("left", _, None) => reply.hint(entries.size_hint()),
+        ("hint", _, None) => reply.hint(entries.size_hint()),
         _ => step_with_number(entries, verb, reply),
     }
 }
@@ -183,8 +187,13 @@ pub(crate) fn serve_cursors<C: NodesMut<u64, u64>>(
     match (verb, number(count), read_raise(by), read_raise(more)) {
         ("retain", _, _, Some(raise)) => retain(map, (pick, raise), reply)?,
         ("drain", Some(count), Some(raise), _) => drain(map, (pick, raise), count, false, reply)?,
-        ("drain", Some(count), None, _) if by == "hint" =>
-            drain(map, (pick, Raise::By(0)), count, true, reply)?,
+        ("drain", Some(count), None, _) if by == "hint" => drain(
+            map,
+            (pick, Raise::By(0)),
+            count,
+            true,
+            reply,
+        )?,
         ("finish", Some(count), Some(raise), _) => finish(map, (pick, raise), count, reply)?,
         _ => return Ok(false),
     }

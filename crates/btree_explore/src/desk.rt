@@ -49,10 +49,7 @@ struct Watched<'m, D: Drop> {
     desk: D,
 }
 
-fn serve_map<
-    C: ClearNodes<u64, u64> + CloneNodes<u64, u64> + Drop,
-    E: NodesMut<u64, u64> + Drop,
->(
+fn serve_map<C: ClearNodes<u64, u64> + CloneNodes<u64, u64> + Drop, E: NodesMut<u64, u64> + Drop>(
     alloc: Global,
     origins: (C::Origin, E::Origin),
     map: &mut BTreeMap<u64, u64, C>,
@@ -65,20 +62,19 @@ where
     E::Origin: Copy,
 {
     let (verb, rest) = word(words);
-    Ok(serve_keys(map, verb, rest, reply)?
-        || serve_entries(map, verb, rest, reply)?
-        || serve_addresses(map, verb, rest, reply)?
-        || serve_edits(map, verb, rest, reply)?
-        || serve_walks(map, verb, rest, reply)?
-        || serve_cursors(map, verb, rest, reply)?
-        || serve_loops(alloc, map, other, verb, rest, reply)?
-        || serve_several::<C, E>(alloc, origins, map, other, verb, rest, reply)?)
+    Ok(
+        serve_keys(map, verb, rest, reply)?
+            || serve_entries(map, verb, rest, reply)?
+            || serve_addresses(map, verb, rest, reply)?
+            || serve_edits(map, verb, rest, reply)?
+            || serve_walks(map, verb, rest, reply)?
+            || serve_cursors(map, verb, rest, reply)?
+            || serve_loops(alloc, map, other, verb, rest, reply)?
+            || serve_several::<C, E>(alloc, origins, map, other, verb, rest, reply)?,
+    )
 }
 
-fn serve_set<
-    D: ClearNodes<u64, ()> + CloneNodes<u64, ()> + Drop,
-    F: NodesMut<u64, ()> + Drop,
->(
+fn serve_set<D: ClearNodes<u64, ()> + CloneNodes<u64, ()> + Drop, F: NodesMut<u64, ()> + Drop>(
     alloc: Global,
     origins: (D::Origin, F::Origin),
     set: &mut BTreeSet<u64, D>,
@@ -91,8 +87,10 @@ where
     F::Origin: Copy,
 {
     let (verb, rest) = word(words);
-    Ok(serve_sets(set, verb, rest, reply)?
-        || serve_merges::<D, F>(alloc, origins, set, other, verb, rest, reply)?)
+    Ok(
+        serve_sets(set, verb, rest, reply)?
+            || serve_merges::<D, F>(alloc, origins, set, other, verb, rest, reply)?,
+    )
 }
 
 impl<
@@ -154,11 +152,7 @@ fn set_out<
     D: ClearNodes<u64, ()> + Drop,
     E: NodesMut<u64, u64>,
     F: NodesMut<u64, ()>,
->(
-    alloc: Global,
-    maps: (C::Origin, E::Origin),
-    sets: (D::Origin, F::Origin),
-) -> Things<C, D, E, F>
+>(alloc: Global, maps: (C::Origin, E::Origin), sets: (D::Origin, F::Origin)) -> Things<C, D, E, F>
 where
     C::Origin: Copy,
     D::Origin: Copy,

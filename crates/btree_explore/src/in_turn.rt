@@ -80,8 +80,7 @@ fn call_from<D: Desk>(
     match call.verb {
         "append" => call_with(alloc, desk, call.name, "append", 0, 0),
         "extend_copied" if from == 0 => call_with(alloc, desk, call.name, "extend_copied", 0, 0),
-        "from_iter" if from == 0 =>
-            call_with(alloc, desk, call.name, "from_iter", 0, call.count),
+        "from_iter" if from == 0 => call_with(alloc, desk, call.name, "from_iter", 0, call.count),
         _ => call_with(alloc, desk, call.name, "extend", from, call.count),
     }
 }
@@ -95,7 +94,14 @@ fn insert_each<D: Desk>(
     to: u64,
 ) -> Result<(), AllocError> {
     for number in from..to {
-        call_with(alloc, desk, call.name, "insert", number, number.wrapping_add(1))?;
+        call_with(
+            alloc,
+            desk,
+            call.name,
+            "insert",
+            number,
+            number.wrapping_add(1),
+        )?;
         if call.verb == "append" {
             call_with(alloc, desk, other_of(call.name), "pop_first", 0, 0)?;
         }
@@ -130,7 +136,12 @@ fn names_rest(
     put_numbers(&mut expected, call.name, refused, refused.wrapping_add(1))?;
     expected.word("left")?;
     if refused.wrapping_add(1) < call.count {
-        put_numbers(&mut expected, call.name, refused.wrapping_add(1), call.count)?;
+        put_numbers(
+            &mut expected,
+            call.name,
+            refused.wrapping_add(1),
+            call.count,
+        )?;
     } else {
         expected.word("none")?;
     }
@@ -146,7 +157,14 @@ fn is_kept<D: Desk>(
     refused: u64,
 ) -> Result<bool, AllocError> {
     let stopped = content(alloc, desk)?;
-    call_with(alloc, desk, call.name, "insert", refused, refused.wrapping_add(1))?;
+    call_with(
+        alloc,
+        desk,
+        call.name,
+        "insert",
+        refused,
+        refused.wrapping_add(1),
+    )?;
     if refused.wrapping_add(1) < call.count {
         call_from(alloc, desk, call, refused.wrapping_add(1))?;
     }
@@ -181,9 +199,8 @@ pub(crate) fn in_turn<D: Desk>(
         let said = call_from(alloc, desk, &call, 0)?;
         memory.refuse(0);
         let is_kept = match refused_number(said.as_str()) {
-            Some(refused) =>
-                names_rest(alloc, said.as_str(), &call, refused)?
-                    && is_kept(alloc, desk, &call, refused)?,
+            Some(refused) => names_rest(alloc, said.as_str(), &call, refused)?
+                && is_kept(alloc, desk, &call, refused)?,
             None => {
                 reply.word("kept")?;
                 reply.word(said.as_str())?;

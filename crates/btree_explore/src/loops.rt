@@ -256,7 +256,9 @@ fn cut<C: NodesMut<u64, u64>>(map: &mut Map<C>, other: &Map<C>, place: u64, coun
     let (mut left, mut at) = (other.len(), 0u64);
     for (key, value) in other.iter() {
         let removes = at >= place && at.wrapping_sub(place) < count;
-        if entries.size_hint() != (left, Some(left)) || !passes(&mut entries, (*key, *value), removes) {
+        if entries.size_hint() != (left, Some(left))
+            || !passes(&mut entries, (*key, *value), removes)
+        {
             return false;
         }
         left = left.saturating_sub(1);
@@ -328,11 +330,12 @@ pub(crate) fn serve_loops<C: ClearNodes<u64, u64>>(
 ) -> Result<bool, AllocError> {
     let is_right = match verb {
         "remove_each" => remove_in_order(alloc, map, rest)?,
-        "insert_each" | "insert_gaps" | "update_each" | "put_back_each" =>
-            match pairs(alloc, rest)? {
-                Some(pairs) => with_pairs(alloc, map, verb, pairs.as_slice())?,
-                None => None,
-            },
+        "insert_each" | "insert_gaps" | "update_each" | "put_back_each" => match pairs(
+            alloc, rest,
+        )? {
+            Some(pairs) => with_pairs(alloc, map, verb, pairs.as_slice())?,
+            None => None,
+        },
         _ => return with_other(map, other, verb, rest, reply),
     };
     match is_right {

@@ -24,7 +24,27 @@ fn put_merge<'a, I: Iterator<Item = &'a u64> + Drop>(
         reply.number(*element)?;
         reply.hint(items.size_hint())?;
     }
-    reply.word(if items.next().is_none() { "none" } else { "more" })
+    reply.word(if items.next().is_none() {
+        "none"
+    } else {
+        "more"
+    })
+}
+
+// Compares two sets, and the first with one over another store that has the elements of the second.
+fn compare<C: NodesMut<u64, ()>, D: NodesMut<u64, ()>>(
+    set: &Set<C>,
+    other: &Set<C>,
+    copy: &Set<D>,
+    reply: &mut Reply,
+) -> Result<(), AllocError> {
+    reply.truth(*set == *other)?;
+    reply.order(set.cmp(other))?;
+    if let Some(order) = set.partial_cmp(other) {
+        reply.order(order)?;
+    }
+    reply.truth(set.same_items(copy))?;
+    reply.order(set.compare_items(copy))
 }
 
 // Merges a set with one over another store that has the elements of the other set.
@@ -51,8 +71,7 @@ where
         "is_disjoint" => reply.truth(set.is_disjoint(&copy))?,
         "is_subset" => reply.truth(set.is_subset(&copy))?,
         "is_superset" => reply.truth(set.is_superset(&copy))?,
-        "same_items" => reply.truth(set.same_items(&copy))?,
-        "compare_items" => reply.order(set.compare_items(&copy))?,
+        "compare" => compare(set, other, &copy, reply)?,
         _ => return Ok(false),
     }
     Ok(true)
@@ -160,11 +179,6 @@ fn of_two<C: CloneNodes<u64, ()> + Drop>(
         "clone" => clone(set, other, reply)?,
         "extend_copied" => extend_copied(set, other, reply)?,
         "equals" => reply.truth(*set == *other)?,
-        "cmp" => reply.order((*set).cmp(&*other))?,
-        "partial_cmp" => match (*set).partial_cmp(&*other) {
-            Some(order) => reply.order(order)?,
-            None => reply.word("none")?,
-        },
         "same_hash" => reply.truth(hash_of(set) == hash_of(other))?,
         "plain_hash" => reply.truth(hash_of(set) == plain_hash_of(set))?,
         _ => return Ok(false),
@@ -187,8 +201,9 @@ where
     D::Origin: Copy,
 {
     if rest == "" {
-        return Ok(of_two(set, other, verb, reply)?
-            || merge::<C, D>(set, other, origins.1, verb, reply)?);
+        return Ok(
+            of_two(set, other, verb, reply)? || merge::<C, D>(set, other, origins.1, verb, reply)?,
+        );
     }
     if verb != "extend" && verb != "from_iter" {
         return Ok(false);

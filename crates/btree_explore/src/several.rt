@@ -85,12 +85,11 @@ fn clone<C: CloneNodes<u64, u64> + Drop>(
     }
 }
 
-// Compares a map with one over another store that has the pairs of the other map.
-fn compare_stores<C: NodesMut<u64, u64>, D: NodesMut<u64, u64> + Drop>(
+// Compares two maps, and the first with one over another store that has the pairs of the second.
+fn compare<C: NodesMut<u64, u64>, D: NodesMut<u64, u64> + Drop>(
     map: &Map<C>,
     other: &Map<C>,
     origin: D::Origin,
-    verb: &str,
     reply: &mut Reply,
 ) -> Result<(), AllocError>
 where
@@ -100,11 +99,13 @@ where
     if copy.extend_copied(&mut other.iter()).is_err() {
         return reply.word("no memory");
     }
-    if verb == "same_items" {
-        reply.truth(map.same_items(&copy))
-    } else {
-        reply.order(map.compare_items(&copy))
+    reply.truth(*map == *other)?;
+    reply.order(map.cmp(other))?;
+    if let Some(order) = map.partial_cmp(other) {
+        reply.order(order)?;
     }
+    reply.truth(map.same_items(&copy))?;
+    reply.order(map.compare_items(&copy))
 }
 
 fn hash_of<C: NodesMut<u64, u64>>(map: &Map<C>) -> u64 {
@@ -163,13 +164,8 @@ where
         "append" => append(map, other, reply)?,
         "clone" => clone(map, other, reply)?,
         "extend_copied" => extend_copied(map, other, reply)?,
+        "compare" => compare::<C, D>(map, other, origin, reply)?,
         "equals" => reply.truth(*map == *other)?,
-        "cmp" => reply.order((*map).cmp(&*other))?,
-        "partial_cmp" => match (*map).partial_cmp(&*other) {
-            Some(order) => reply.order(order)?,
-            None => reply.word("none")?,
-        },
-        "same_items" | "compare_items" => compare_stores::<C, D>(map, other, origin, verb, reply)?,
         "same_hash" => reply.truth(hash_of(map) == hash_of(other))?,
         "plain_hash" => reply.truth(hash_of(map) == plain_hash_of(map))?,
         "same_nodes" => reply.truth(have_same_nodes(alloc, map, other)?)?,

@@ -183,8 +183,7 @@ fn range_mut<C: NodesMut<u64, u64>>(
     ends: &str,
     action: Action,
     reply: &mut Reply,
-) -> Result<(), AllocError>
-{
+) -> Result<(), AllocError> {
     if !is_valid_range(bounds) {
         return reply.word("not valid");
     }
@@ -258,8 +257,9 @@ pub(crate) fn serve_walks<C: CloneNodes<u64, u64> + Drop>(
         "keys" => walk_known(map.keys(), rest, reply)?,
         "values" => walk_known(map.values(), rest, reply)?,
         "loop" => put_all((&*map).into_iter(), reply)?,
-        "into_iter" | "into_keys" | "into_values" | "into_loop" =>
-            return owned(map, verb, rest, reply),
+        "into_iter" | "into_keys" | "into_values" | "into_loop" => return owned(
+            map, verb, rest, reply,
+        ),
         "iter_mut" => iter_mut(map, ends, action, reply)?,
         "values_mut" => values_mut(map, ends, action, reply)?,
         "range" | "range_mut" | "is_valid_range" => return ranges(map, verb, rest, reply),
