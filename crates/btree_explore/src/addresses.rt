@@ -51,31 +51,19 @@ fn put_search<C: NodesMut<u64, u64>>(
     found: Result<Address, Address>,
     reply: &mut Reply,
 ) -> Result<(), AllocError> {
-    let addr = match found {
+    match found {
         Ok(addr) => {
             reply.word("found")?;
-            addr
+            put_address(reply, map.as_raw(), Some(addr))
         }
         Err(gap) => {
             reply.word("gap")?;
-            gap
+            put_address(reply, map.as_raw(), Some(gap))
         }
-    };
-    put_address(reply, map.as_raw(), Some(addr))
-}
-
-fn item<C: NodesMut<u64, u64>>(
-    map: &Map<C>,
-    addr: Address,
-    reply: &mut Reply,
-) -> Result<(), AllocError> {
-    match map.item(addr) {
-        Some(item) => reply.pair(*item.key(), *item.value()),
-        None => reply.word("none"),
     }
 }
 
-// Adds the item at an address of a visit, and returns the address after it.
+// Adds an address of a visit, and returns the one after it.
 fn visit<C: NodesMut<u64, u64>>(
     map: &Map<C>,
     addr: Address,
@@ -134,7 +122,7 @@ fn ends<C: NodesMut<u64, u64>>(
     Ok(true)
 }
 
-// Steps from a valid address.
+// Steps from an address that is valid.
 fn navigate<C: NodesMut<u64, u64>>(
     map: &Map<C>,
     verb: &str,
@@ -175,6 +163,28 @@ fn fitting<C: NodesMut<u64, u64>>(
         "fits_at" => reply.truth(map.fits_at(addr, &key))?,
         "replaces_at" => reply.truth(map.replaces_at(addr, &key))?,
         _ => return Ok(false),
+    }
+    Ok(true)
+}
+
+fn by_address<C: NodesMut<u64, u64>>(
+    map: &Map<C>,
+    verb: &str,
+    words: &str,
+    reply: &mut Reply,
+) -> Result<bool, AllocError> {
+    let (first, more) = word(words);
+    let Some(addr) = map_address(map, first) else {
+        return Ok(false);
+    };
+    match (verb, number(more)) {
+        ("is_valid", None) => reply.truth(map.is_valid(addr))?,
+        ("item", None) => match map.item(addr) {
+            Some(item) => reply.pair(*item.key(), *item.value())?,
+            None => reply.word("none")?,
+        },
+        (_, None) => return navigate(map, verb, addr, reply),
+        (_, Some(key)) => return fitting(map, verb, addr, key, reply),
     }
     Ok(true)
 }
@@ -240,22 +250,6 @@ fn validate_node<C: NodesMut<u64, u64>>(
     }
 }
 
-// Searches a key from the root.
-fn search<C: NodesMut<u64, u64>>(
-    map: &Map<C>,
-    verb: &str,
-    key: u64,
-    reply: &mut Reply,
-) -> Result<bool, AllocError> {
-    let found = if verb == "address_of" {
-        map.address_of(&key)
-    } else {
-        map.address_of_counted(&key, &mut Steps::new())
-    };
-    put_search(map, found, reply)?;
-    Ok(true)
-}
-
 fn by_node<C: NodesMut<u64, u64>>(
     map: &Map<C>,
     verb: &str,
@@ -276,25 +270,6 @@ fn by_node<C: NodesMut<u64, u64>>(
     Ok(true)
 }
 
-fn by_address<C: NodesMut<u64, u64>>(
-    map: &Map<C>,
-    verb: &str,
-    words: &str,
-    reply: &mut Reply,
-) -> Result<bool, AllocError> {
-    let (first, more) = word(words);
-    let Some(addr) = map_address(map, first) else {
-        return Ok(false);
-    };
-    match (verb, number(more)) {
-        ("is_valid", None) => reply.truth(map.is_valid(addr))?,
-        ("item", None) => item(map, addr, reply)?,
-        (_, None) => return navigate(map, verb, addr, reply),
-        (_, Some(key)) => return fitting(map, verb, addr, key, reply),
-    }
-    Ok(true)
-}
-
 /// Serves a call by address that changes nothing. Returns whether the words are one.
 pub(crate) fn serve_addresses<C: NodesMut<u64, u64>>(
     map: &Map<C>,
@@ -302,25 +277,18 @@ pub(crate) fn serve_addresses<C: NodesMut<u64, u64>>(
     rest: &str,
     reply: &mut Reply,
 ) -> Result<bool, AllocError> {
-    if rest == "" {
-        return ends(map, verb, reply);
+    match (verb, number(rest)) {
+        ("address_of", Some(key)) => put_search(map, map.address_of(&key), reply)?,
+        ("address_of_counted", Some(key)) => {
+            let found = map.address_of_counted(&key, &mut Steps::new());
+            put_search(map, found, reply)?
+        }
+        ("has_node" | "node" | "validate_node" | "get_in" | "address_in" | "key_fits_in", None) =>
+            return by_node(map, verb, rest, reply),
+        ("is_valid" | "item" | "fits_at" | "replaces_at" | "leaf_address" | "normalize", None) =>
+            return by_address(map, verb, rest, reply),
+        _ if verb.ends_with("_address") && rest != "" => return by_address(map, verb, rest, reply),
+        _ => return ends(map, verb, reply),
     }
-    match verb {
-        "address_of" | "address_of_counted" => match number(rest) {
-            Some(key) => search(map, verb, key, reply),
-            None => Ok(false),
-        },
-        "has_node" | "node" | "validate_node" | "get_in" | "address_in" | "key_fits_in" => by_node(
-            map, verb, rest, reply,
-        ),
-        "is_valid" | "item" | "fits_at" | "replaces_at" => by_address(map, verb, rest, reply),
-        "normalize"
-        | "next_item_address"
-        | "previous_item_address"
-        | "leaf_address"
-        | "next_item_or_back_address"
-        | "next_back_address"
-        | "previous_front_address" => by_address(map, verb, rest, reply),
-        _ => Ok(false),
-    }
+    Ok(true)
 }

@@ -159,38 +159,6 @@ fn item_mut<C: NodesMut<u64, u64>>(
     }
 }
 
-fn with_pair<C: NodesMut<u64, u64>>(
-    map: &mut Map<C>,
-    verb: &str,
-    addr: Address,
-    pair: (u64, u64),
-    reply: &mut Reply,
-) -> Result<bool, AllocError> {
-    match verb {
-        "insert_at" => insert_at(map, addr, pair, reply)?,
-        "insert_exactly_at" => insert_exactly_at(map, addr, pair, reply)?,
-        "replace_at" => replace_at(map, addr, pair, reply)?,
-        _ => return Ok(false),
-    }
-    Ok(true)
-}
-
-fn with_action<C: NodesMut<u64, u64>>(
-    map: &mut Map<C>,
-    verb: &str,
-    addr: Address,
-    action: Action,
-    reply: &mut Reply,
-) -> Result<bool, AllocError> {
-    match (verb, action) {
-        ("update_at", action) => update_at(map, addr, action, reply)?,
-        ("item_mut", action) => item_mut(map, addr, action, reply)?,
-        ("replace_value_at", Action::Set(value)) => replace_value_at(map, addr, value, reply)?,
-        _ => return Ok(false),
-    }
-    Ok(true)
-}
-
 fn under<C: NodesMut<u64, u64>>(
     map: &mut Map<C>,
     verb: &str,
@@ -225,15 +193,17 @@ pub(crate) fn serve_edits<C: NodesMut<u64, u64>>(
     let Some(addr) = map_address(map, first) else {
         return Ok(false);
     };
-    if let Some(pair) = pair(more) {
-        return with_pair(map, verb, addr, pair, reply);
+    match (verb, pair(more), read_action(more)) {
+        ("insert_at", Some(pair), _) => insert_at(map, addr, pair, reply)?,
+        ("insert_exactly_at", Some(pair), _) => insert_exactly_at(map, addr, pair, reply)?,
+        ("replace_at", Some(pair), _) => replace_at(map, addr, pair, reply)?,
+        ("replace_value_at", _, Some(Action::Set(value))) => replace_value_at(
+            map, addr, value, reply,
+        )?,
+        ("item_mut", _, Some(action)) => item_mut(map, addr, action, reply)?,
+        ("update_at", _, Some(action)) => update_at(map, addr, action, reply)?,
+        ("remove_at", None, None) if more == "" => remove_at(map, addr, reply)?,
+        _ => return Ok(false),
     }
-    if let Some(action) = read_action(more) {
-        return with_action(map, verb, addr, action, reply);
-    }
-    if verb == "remove_at" && more == "" {
-        remove_at(map, addr, reply)?;
-        return Ok(true);
-    }
-    Ok(false)
+    Ok(true)
 }

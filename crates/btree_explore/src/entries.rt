@@ -3,67 +3,36 @@ use crate::menu::{Action, read_action, read_step, write};
 use btree_book::{Reply, number, pair, put_address, word};
 use btree_slab::generic::BTreeMap;
 use btree_slab::generic::map::{BTreeExt, Entry, OccupiedEntry, VacantEntry};
-use btree_slab::generic::node::Address;
 use btree_slab::store::NodesMut;
 use std::alloc::AllocError;
+use std::mem;
 
 type Map<C> = BTreeMap<u64, u64, C>;
 
-// An entry as it is shown: address, key and, if it is occupied, value.
-type Shown = (Address, u64, Option<u64>);
-
+// Shows the entry of a key: its address and key, and then what its kind has.
 fn show<C: NodesMut<u64, u64>>(
-    map: &Map<C>,
-    (at, key, value): Shown,
-    reply: &mut Reply,
-) -> Result<(), AllocError> {
-    match value {
-        Some(value) => {
-            reply.word("occupied")?;
-            put_address(reply, map.as_raw(), Some(at))?;
-            reply.pair(key, value)
-        }
-        None => {
-            reply.word("vacant")?;
-            put_address(reply, map.as_raw(), Some(at))?;
-            reply.number(key)
-        }
-    }
-}
-
-// Shows the entry of a key: its address and key, and then what is of its kind.
-fn show_entry<C: NodesMut<u64, u64>>(
     map: &mut Map<C>,
     key: u64,
     reply: &mut Reply,
 ) -> Result<(), AllocError> {
     let entry = map.entry(key);
     let (at, asked) = (entry.address(), *entry.key());
-    let shown = match entry {
+    let (inner, key, value) = match entry {
         Entry::Occupied(entry) => (entry.address(), *entry.key(), Some(*entry.get())),
         Entry::Vacant(entry) => (entry.address(), *entry.key(), None),
     };
     put_address(reply, map.as_raw(), Some(at))?;
     reply.number(asked)?;
-    show(map, shown, reply)
-}
-
-// Shows the first entry, or the last one.
-fn show_end<C: NodesMut<u64, u64>>(
-    map: &mut Map<C>,
-    verb: &str,
-    reply: &mut Reply,
-) -> Result<(), AllocError> {
-    let end = if verb == "first_entry" {
-        map.first_entry()
+    reply.word(if value.is_some() {
+        "occupied"
     } else {
-        map.last_entry()
-    };
-    let shown = match end {
-        Some(entry) => (entry.address(), *entry.key(), Some(*entry.get())),
-        None => return reply.word("none"),
-    };
-    show(map, shown, reply)
+        "vacant"
+    })?;
+    put_address(reply, map.as_raw(), Some(inner))?;
+    match value {
+        Some(value) => reply.pair(key, value),
+        None => reply.number(key),
+    }
 }
 
 // Does a step after which the entry is still there.
@@ -146,44 +115,33 @@ fn vacant<C: NodesMut<u64, u64>>(
     }
 }
 
-// Inserts a value if there is none, and writes to it.
+// Inserts a value if there is none, and writes to it; or writes to the one that is there, and inserts one if there is none.
 fn or_insert<C: NodesMut<u64, u64>>(
     map: &mut Map<C>,
     verb: &str,
     (key, value): (u64, u64),
     action: Action,
     reply: &mut Reply,
-) -> Result<bool, AllocError> {
-    let entry = map.entry(key);
+) -> Result<(), AllocError> {
+    let (entry, mut action) = (map.entry(key), action);
     let lent = match verb {
         "or_insert" => entry.or_insert(value),
         "or_insert_with" => entry.or_insert_with(move || value),
         "or_insert_with_key" => entry.or_insert_with_key(|key| *key),
         "or_default" => entry.or_default(),
-        _ => return Ok(false),
+        _ => {
+            let before = mem::replace(&mut action, Action::Clear);
+            let entry = entry.and_modify(move |found| {
+                write(found, before);
+            });
+            entry.or_insert(value)
+        }
     };
     match lent {
         Ok(lent) => {
             write(lent, action);
-            reply.number(*lent)?
+            reply.number(*lent)
         }
-        Err(refused) => reply.refused_pair(refused.cause, refused.key, refused.value)?,
-    }
-    Ok(true)
-}
-
-// Writes to a value that is there, and inserts one if there is none.
-fn and_modify<C: NodesMut<u64, u64>>(
-    map: &mut Map<C>,
-    (key, value): (u64, u64),
-    action: Action,
-    reply: &mut Reply,
-) -> Result<(), AllocError> {
-    let entry = map.entry(key).and_modify(|found| {
-        write(found, action);
-    });
-    match entry.or_insert(value) {
-        Ok(lent) => reply.number(*lent),
         Err(refused) => reply.refused_pair(refused.cause, refused.key, refused.value),
     }
 }
@@ -239,24 +197,20 @@ pub(crate) fn serve_entries<C: NodesMut<u64, u64>>(
     rest: &str,
     reply: &mut Reply,
 ) -> Result<bool, AllocError> {
-    match verb {
-        "first_entry" | "last_entry" if rest == "" => show_end(map, verb, reply)?,
-        "first_entry" | "last_entry" => of_end(map, verb, rest, reply)?,
-        _ => {
-            let (first, more) = word(rest);
-            let Some(pair) = asked(first) else {
-                return Ok(false);
-            };
+    let (first, more) = word(rest);
+    match (verb, asked(first)) {
+        ("first_entry" | "last_entry", _) => of_end(map, verb, rest, reply)?,
+        ("entry", Some((key, _))) => show(map, key, reply)?,
+        ("occupied" | "vacant", Some((key, _))) => return of_key(map, verb, key, more, reply),
+        ("or_insert" | "or_insert_with" | "or_insert_with_key" | "or_default", Some(pair)) => {
             let action = read_action(more).unwrap_or(Action::Clear);
-            match verb {
-                "entry" => show_entry(map, pair.0, reply)?,
-                "occupied" | "vacant" => return of_key(map, verb, pair.0, more, reply),
-                "and_modify" => and_modify(map, pair, action, reply)?,
-                "or_insert" | "or_insert_with" | "or_insert_with_key" | "or_default" =>
-                    return or_insert(map, verb, pair, action, reply),
-                _ => return Ok(false),
-            }
+            or_insert(map, verb, pair, action, reply)?
         }
+        ("and_modify", Some(pair)) => {
+            let action = read_action(more).unwrap_or(Action::Clear);
+            or_insert(map, verb, pair, action, reply)?
+        }
+        _ => return Ok(false),
     }
     Ok(true)
 }

@@ -64,19 +64,6 @@ fn get_mut<C: NodesMut<u64, u64>>(
     }
 }
 
-// Reads by the index, which asks that the key is there.
-fn index<C: NodesMut<u64, u64>>(
-    map: &Map<C>,
-    key: u64,
-    reply: &mut Reply,
-) -> Result<(), AllocError> {
-    if map.contains_key(&key) {
-        reply.number(map[&key])
-    } else {
-        reply.word("absent")
-    }
-}
-
 fn by_key<C: NodesMut<u64, u64>>(
     map: &mut Map<C>,
     verb: &str,
@@ -87,7 +74,8 @@ fn by_key<C: NodesMut<u64, u64>>(
         "get" => reply.value(map.get(&key).copied())?,
         "contains_key" => reply.truth(map.contains_key(&key))?,
         "get_key_value" => reply.found(copied(map.get_key_value(&key)))?,
-        "index" => index(map, key, reply)?,
+        "index" if map.contains_key(&key) => reply.number(map[&key])?,
+        "index" => reply.word("absent")?,
         "remove" => {
             let old = map.remove(&key);
             reply.value(old)?

@@ -1,11 +1,10 @@
 //! Calls that are done at each of many pairs, with what has to hold after each.
 use crate::addresses::same;
-use crate::keys::copied;
 use crate::lists::pairs;
 use crate::menu::{Action, given};
-use btree_book::{Reply, number, two_numbers, word};
+use btree_book::{Reply, number, word};
 use btree_slab::generic::BTreeMap;
-use btree_slab::generic::map::{BTreeExt, BTreeExtMut, EntriesMut, Iter};
+use btree_slab::generic::map::{BTreeExt, BTreeExtMut, EntriesMut};
 use btree_slab::generic::node::Item;
 use btree_slab::store::{ClearNodes, NodesMut};
 use std::alloc::{AllocError, Global};
@@ -200,30 +199,16 @@ fn neighbours<C: NodesMut<u64, u64>>(map: &Map<C>, reply: &mut Reply) -> Result<
     reply.number(neighbours)
 }
 
-// Returns whether an iterator gives the pairs of another map up to a place from the front.
-fn gives_first<C: NodesMut<u64, u64>>(
-    pairs: &mut Iter<'_, u64, u64, C>,
-    other: &Map<C>,
-    place: u64,
-) -> bool {
-    let mut rest = other.iter();
-    for _ in 0..place {
-        if pairs.next() != rest.next() {
-            return false;
-        }
-    }
-    true
-}
-
-// Returns whether an iterator gives the pairs of another map after a place, from the back, and none after that.
-fn gives_last<C: NodesMut<u64, u64>>(
-    pairs: &mut Iter<'_, u64, u64, C>,
-    other: &Map<C>,
-    place: u64,
-) -> bool {
-    let mut rest = other.iter();
-    for _ in place..other.len() as u64 {
-        if pairs.next_back() != rest.next_back() {
+// Takes the pairs before a place from the front of an iterator, and the others from its back. Returns whether all are those of the other map.
+fn meets<C: NodesMut<u64, u64>>(map: &Map<C>, other: &Map<C>, place: u64) -> bool {
+    let (mut pairs, mut expected) = (map.iter(), other.iter());
+    for at in 0..other.len() as u64 {
+        let is_same = if at < place {
+            pairs.next() == expected.next()
+        } else {
+            pairs.next_back() == expected.next_back()
+        };
+        if !is_same {
             return false;
         }
     }
@@ -267,53 +252,19 @@ fn cut<C: NodesMut<u64, u64>>(map: &mut Map<C>, other: &Map<C>, place: u64, coun
     entries.size_hint() == (0, Some(0)) && entries.remove().is_none() && entries.next().is_none()
 }
 
-fn with_other<C: NodesMut<u64, u64>>(
-    map: &mut Map<C>,
-    other: &Map<C>,
-    verb: &str,
-    rest: &str,
-    reply: &mut Reply,
-) -> Result<bool, AllocError> {
-    match (verb, number(rest), two_numbers(rest)) {
-        ("neighbours", None, None) => neighbours(map, reply)?,
-        ("fill", _, Some((count, step))) => fill(map, count, step, reply)?,
-        ("cut", _, Some((place, count))) => reply.truth(cut(map, other, place, count))?,
-        ("meets", Some(place), _) => {
-            let mut pairs = map.iter();
-            let gives = gives_first(&mut pairs, other, place);
-            reply.truth(gives && gives_last(&mut pairs, other, place))?
-        }
-        _ => return Ok(false),
-    }
-    Ok(true)
-}
-
-// Removes pairs in an order that the first two words give.
-fn remove_in_order<C: NodesMut<u64, u64>>(
-    alloc: Global,
-    map: &mut Map<C>,
-    words: &str,
-) -> Result<Option<bool>, AllocError> {
-    let (start, rest) = word(words);
-    let (step, rest) = word(rest);
-    let (Some(start), Some(step), Some(pairs)) = (number(start), number(step), pairs(alloc, rest)?)
-    else {
-        return Ok(None);
-    };
-    let mut list = listed(alloc, pairs.as_slice())?;
-    Ok(Some(remove_each(map, &mut list, pairs.as_slice(), (start, step))))
-}
-
-fn with_pairs<C: ClearNodes<u64, u64>>(
+// Does a loop over a list of pairs, of which one has two more words in front.
+fn over_pairs<C: ClearNodes<u64, u64>>(
     alloc: Global,
     map: &mut Map<C>,
     verb: &str,
+    order: (u64, u64),
     pairs: &[(u64, u64)],
 ) -> Result<Option<bool>, AllocError> {
     Ok(Some(match verb {
         "insert_each" => insert_each(map, pairs),
         "insert_gaps" => insert_gaps(map, pairs),
         "update_each" => update_each(map, pairs),
+        "remove_each" => remove_each(map, &mut listed(alloc, pairs)?, pairs, order),
         "put_back_each" => put_back_each(alloc, map, pairs)?,
         _ => return Ok(None),
     }))
@@ -328,19 +279,32 @@ pub(crate) fn serve_loops<C: ClearNodes<u64, u64>>(
     rest: &str,
     reply: &mut Reply,
 ) -> Result<bool, AllocError> {
-    let is_right = match verb {
-        "remove_each" => remove_in_order(alloc, map, rest)?,
-        "insert_each" | "insert_gaps" | "update_each" | "put_back_each" => match pairs(
-            alloc, rest,
-        )? {
-            Some(pairs) => with_pairs(alloc, map, verb, pairs.as_slice())?,
-            None => None,
-        },
-        _ => return with_other(map, other, verb, rest, reply),
+    let (first, more) = word(rest);
+    let (second, more) = word(more);
+    let is_right = match (verb, number(first), number(second)) {
+        ("neighbours", None, None) => {
+            neighbours(map, reply)?;
+            return Ok(true);
+        }
+        ("fill", Some(count), Some(step)) => {
+            fill(map, count, step, reply)?;
+            return Ok(true);
+        }
+        ("cut", Some(place), Some(count)) => Some(cut(map, other, place, count)),
+        ("meets", Some(place), None) => Some(meets(map, other, place)),
+        (_, start, step) => {
+            let words = if verb == "remove_each" { more } else { rest };
+            match pairs(alloc, words)? {
+                Some(pairs) => {
+                    let order = (start.unwrap_or(0), step.unwrap_or(1));
+                    over_pairs(alloc, map, verb, order, pairs.as_slice())?
+                }
+                None => None,
+            }
+        }
     };
     match is_right {
-        Some(true) => reply.word("ok")?,
-        Some(false) => reply.word("wrong")?,
+        Some(is_right) => reply.truth(is_right)?,
         None => return Ok(false),
     }
     Ok(true)

@@ -7,7 +7,6 @@ use btree_slab::generic::map::is_valid_range;
 use btree_slab::generic::set::DrainFilter;
 use btree_slab::store::{ClearNodes, CloneNodes, NodesMut};
 use std::alloc::AllocError;
-use std::ops::Bound;
 
 type Set<C> = BTreeSet<u64, C>;
 
@@ -71,27 +70,6 @@ pub(crate) fn put_set<C: NodesMut<u64, ()>>(
     Ok(())
 }
 
-fn ends<C: NodesMut<u64, ()>>(
-    set: &mut Set<C>,
-    verb: &str,
-    reply: &mut Reply,
-) -> Result<bool, AllocError> {
-    match verb {
-        "first" => reply.value(set.first().copied())?,
-        "last" => reply.value(set.last().copied())?,
-        "pop_first" => {
-            let element = set.pop_first();
-            reply.value(element)?
-        }
-        "pop_last" => {
-            let element = set.pop_last();
-            reply.value(element)?
-        }
-        _ => return Ok(false),
-    }
-    Ok(true)
-}
-
 fn whole<C: ClearNodes<u64, ()>>(
     set: &mut Set<C>,
     verb: &str,
@@ -105,24 +83,19 @@ fn whole<C: ClearNodes<u64, ()>>(
             set.clear();
             reply.word("ok")?
         }
-        _ => return ends(set, verb, reply),
+        "first" => reply.value(set.first().copied())?,
+        "last" => reply.value(set.last().copied())?,
+        "pop_first" => {
+            let element = set.pop_first();
+            reply.value(element)?
+        }
+        "pop_last" => {
+            let element = set.pop_last();
+            reply.value(element)?
+        }
+        _ => return Ok(false),
     }
     Ok(true)
-}
-
-// Inserts this many numbers, each so far after the one before, modulo their number.
-fn fill<C: NodesMut<u64, ()>>(
-    set: &mut Set<C>,
-    count: u64,
-    step: u64,
-    reply: &mut Reply,
-) -> Result<(), AllocError> {
-    for index in 0..count {
-        if let Err(refused) = set.insert(index.wrapping_mul(step) % count) {
-            return reply.refused_key(refused.cause, refused.key);
-        }
-    }
-    reply.word("ok")
 }
 
 fn into_iter<C: CloneNodes<u64, ()> + Drop>(
@@ -139,18 +112,6 @@ fn into_iter<C: CloneNodes<u64, ()> + Drop>(
     } else {
         put_all(copy.into_iter(), reply)
     }
-}
-
-fn range<C: NodesMut<u64, ()>>(
-    set: &Set<C>,
-    bounds: (Bound<&u64>, Bound<&u64>),
-    ends: &str,
-    reply: &mut Reply,
-) -> Result<(), AllocError> {
-    if !is_valid_range(bounds) {
-        return reply.word("not valid");
-    }
-    walk(set.range(bounds), ends, reply)
 }
 
 // Takes so many elements of a drain, and drops it.
@@ -230,7 +191,12 @@ fn walks<C: CloneNodes<u64, ()> + Drop>(
             let (Some(start), Some(end)) = (low(start), high(end)) else {
                 return Ok(false);
             };
-            range(set, (start.as_ref(), end.as_ref()), ends, reply)?
+            let bounds = (start.as_ref(), end.as_ref());
+            if !is_valid_range(bounds) {
+                reply.word("not valid")?;
+                return Ok(true);
+            }
+            walk(set.range(bounds), ends, reply)?
         }
         _ => return Ok(false),
     }
@@ -251,15 +217,7 @@ pub(crate) fn serve_sets<C: ClearNodes<u64, ()> + CloneNodes<u64, ()> + Drop>(
         return by_element(set, verb, element, reply);
     }
     match verb {
-        "fill" => {
-            let (count, step) = word(rest);
-            match (number(count), number(step)) {
-                (Some(count), Some(step)) => fill(set, count, step, reply)?,
-                _ => return Ok(false),
-            }
-        }
-        "retain" | "drain" | "finish" => return by_test(set, verb, rest, reply),
-        _ => return walks(set, verb, rest, reply),
+        "retain" | "drain" | "finish" => by_test(set, verb, rest, reply),
+        _ => walks(set, verb, rest, reply),
     }
-    Ok(true)
 }
