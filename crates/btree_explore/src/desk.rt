@@ -12,7 +12,7 @@ use crate::sets::{put_set, serve_sets};
 use crate::several::{put_map, serve_several};
 use crate::walks::serve_walks;
 use btree_book::{Desk, Desks, Ending, Reply, serve, word};
-use btree_refusing::Refusing;
+use btree_testing::Refusing;
 use btree_slab::generic::{BTreeMap, BTreeSet};
 use btree_slab::store::{ClearNodes, CloneNodes, NodesMut};
 use std::alloc::{AllocError, Global};

@@ -1,6 +1,6 @@
 //! Calls that keep what came before a refused element, while each growth of the memory is refused in turn.
 use btree_book::{Desk, Reply, number, word};
-use btree_refusing::Refusing;
+use btree_testing::Refusing;
 use std::alloc::{AllocError, Global};
 
 // The most growths of one call that are refused in turn.
