@@ -1,20 +1,14 @@
 //! What the lines are calls of.
-use crate::addresses::serve_addresses;
-use crate::cursors::serve_cursors;
-use crate::edits::serve_edits;
-use crate::entries::serve_entries;
 use crate::help::help;
 use crate::in_turn::in_turn;
-use crate::keys::serve_keys;
 use crate::loops::serve_loops;
 use crate::merges::serve_merges;
 use crate::sets::{put_set, serve_sets};
-use crate::several::{put_map, serve_several};
-use crate::walks::serve_walks;
 use btree_book::{Desk, Desks, Ending, Reply, serve, word};
-use btree_testing::Refusing;
+use btree_map_calls::{put_map, serve_map};
 use btree_slab::generic::{BTreeMap, BTreeSet};
 use btree_slab::store::{ClearNodes, CloneNodes, NodesMut};
+use btree_testing::Refusing;
 use std::alloc::{AllocError, Global};
 use std::io;
 
@@ -49,7 +43,7 @@ struct Watched<'m, D: Drop> {
     desk: D,
 }
 
-fn serve_map<C: ClearNodes<u64, u64> + CloneNodes<u64, u64> + Drop, E: NodesMut<u64, u64> + Drop>(
+fn serve_pair<C: ClearNodes<u64, u64> + CloneNodes<u64, u64> + Drop, E: NodesMut<u64, u64> + Drop>(
     alloc: Global,
     origins: (C::Origin, E::Origin),
     map: &mut BTreeMap<u64, u64, C>,
@@ -61,16 +55,9 @@ where
     C::Origin: Copy,
     E::Origin: Copy,
 {
-    let (verb, rest) = word(words);
     Ok(
-        serve_keys(map, verb, rest, reply)?
-            || serve_entries(map, verb, rest, reply)?
-            || serve_addresses(map, verb, rest, reply)?
-            || serve_edits(map, verb, rest, reply)?
-            || serve_walks(map, verb, rest, reply)?
-            || serve_cursors(map, verb, rest, reply)?
-            || serve_loops(alloc, map, other, verb, rest, reply)?
-            || serve_several::<C, E>(alloc, origins, map, other, verb, rest, reply)?,
+        serve_map::<C, E>(alloc, origins, map, other, words, reply)?
+            || serve_loops(alloc, map, other, words, reply)?,
     )
 }
 
@@ -109,11 +96,14 @@ where
         let (name, rest) = word(words);
         let (alloc, maps, sets) = (self.alloc, self.maps, self.sets);
         match name {
-            "a" => serve_map::<C, E>(alloc, maps, &mut self.a, &mut self.b, rest, reply),
-            "b" => serve_map::<C, E>(alloc, maps, &mut self.b, &mut self.a, rest, reply),
+            "a" => serve_pair::<C, E>(alloc, maps, &mut self.a, &mut self.b, rest, reply),
+            "b" => serve_pair::<C, E>(alloc, maps, &mut self.b, &mut self.a, rest, reply),
             "p" => serve_set::<D, F>(alloc, sets, &mut self.p, &mut self.q, rest, reply),
             "q" => serve_set::<D, F>(alloc, sets, &mut self.q, &mut self.p, rest, reply),
-            "help" => help(reply),
+            "help" => {
+                help(reply)?;
+                Ok(true)
+            }
             "new" => {
                 self.a = BTreeMap::new(maps.0);
                 self.b = BTreeMap::new(maps.0);

@@ -1,8 +1,6 @@
 //! Calls that are done at each of many pairs, with what has to hold after each.
-use crate::addresses::same;
-use crate::lists::pairs;
-use crate::menu::{Action, given};
 use btree_book::{Reply, number, word};
+use btree_map_calls::{Action, given, pairs, same};
 use btree_slab::generic::BTreeMap;
 use btree_slab::generic::map::{BTreeExt, BTreeExtMut, EntriesMut};
 use btree_slab::generic::node::Item;
@@ -275,10 +273,10 @@ pub(crate) fn serve_loops<C: ClearNodes<u64, u64>>(
     alloc: Global,
     map: &mut Map<C>,
     other: &Map<C>,
-    verb: &str,
-    rest: &str,
+    words: &str,
     reply: &mut Reply,
 ) -> Result<bool, AllocError> {
+    let (verb, rest) = word(words);
     let (first, more) = word(rest);
     let (second, more) = word(more);
     let is_right = match (verb, number(first), number(second)) {

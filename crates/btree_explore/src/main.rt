@@ -1,21 +1,12 @@
 //! Calls of maps and sets, one a line: a book of rows, and a way to look at the library from the keyboard.
 #![tactic(auto)]
 
-mod addresses;
-mod cursors;
 mod desk;
-mod edits;
-mod entries;
 mod help;
 mod in_turn;
-mod keys;
-mod lists;
 mod loops;
-mod menu;
 mod merges;
 mod sets;
-mod several;
-mod walks;
 
 use crate::desk::serve_stores;
 use btree_book::Ending;

@@ -1,8 +1,8 @@
 //! Calls of two sets, and of a set and a list of elements.
 ghost use Rattle.std.specs.Iterator.{IsFinite};
 
-use crate::lists::{numbers, put_left};
 use btree_book::Reply;
+use btree_map_calls::{numbers, put_left};
 use btree_slab::generic::BTreeSet;
 use btree_slab::store::{CloneNodes, NodesMut};
 use std::alloc::{AllocError, Global};

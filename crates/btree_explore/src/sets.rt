@@ -1,7 +1,6 @@
 //! Calls of a set.
-use crate::menu::{Pick, picks, read_pick};
-use crate::walks::{put_all, walk, walk_known};
 use btree_book::{Reply, high, low, number, word};
+use btree_map_calls::{Pick, picks, put_all, read_pick, walk, walk_known};
 use btree_slab::generic::BTreeSet;
 use btree_slab::generic::map::is_valid_range;
 use btree_slab::generic::set::DrainFilter;

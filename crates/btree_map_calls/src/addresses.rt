@@ -10,7 +10,7 @@ use std::alloc::AllocError;
 type Map<C> = BTreeMap<u64, u64, C>;
 
 /// Returns an address with the same node and offset.
-pub(crate) fn same(addr: &Address) -> Address {
+pub fn same(addr: &Address) -> Address {
     Address::new(addr.id, addr.offset)
 }
 

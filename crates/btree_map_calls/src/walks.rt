@@ -14,7 +14,7 @@ use std::ops::Bound;
 type Map<C> = BTreeMap<u64, u64, C>;
 
 /// What an iterator yields.
-pub(crate) trait Yielded {
+pub trait Yielded {
     /// Adds it to a reply.
     fn put(self, reply: &mut Reply) -> Result<(), AllocError>;
 }
@@ -52,7 +52,7 @@ pub(crate) fn put<T: Yielded>(item: Option<T>, reply: &mut Reply) -> Result<(), 
 }
 
 /// Takes items from both ends of an iterator.
-pub(crate) fn walk<I: DoubleEndedIterator + Drop>(
+pub fn walk<I: DoubleEndedIterator + Drop>(
     items: I,
     ends: &str,
     reply: &mut Reply,
@@ -74,7 +74,7 @@ where
 }
 
 /// Takes items from both ends of an iterator that knows how many are left.
-pub(crate) fn walk_known<I: DoubleEndedIterator + ExactSizeIterator + Drop>(
+pub fn walk_known<I: DoubleEndedIterator + ExactSizeIterator + Drop>(
     items: I,
     ends: &str,
     reply: &mut Reply,
@@ -97,7 +97,7 @@ where
 }
 
 /// Adds all that an iterator yields.
-pub(crate) fn put_all<I: Iterator + Drop>(items: I, reply: &mut Reply) -> Result<(), AllocError>
+pub fn put_all<I: Iterator + Drop>(items: I, reply: &mut Reply) -> Result<(), AllocError>
 where
     I::Item: Yielded,
     requires can { I.can_next items }

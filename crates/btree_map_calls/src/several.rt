@@ -125,10 +125,7 @@ fn plain_hash_of<C: NodesMut<u64, u64>>(map: &Map<C>) -> u64 {
 }
 
 /// Adds everything that a map is: its nodes, with their numbers, and its pairs.
-pub(crate) fn put_map<C: NodesMut<u64, u64>>(
-    map: &Map<C>,
-    reply: &mut Reply,
-) -> Result<(), AllocError> {
+pub fn put_map<C: NodesMut<u64, u64>>(map: &Map<C>, reply: &mut Reply) -> Result<(), AllocError> {
     draw(reply, map.as_raw())?;
     reply.count(map.len())?;
     for (key, value) in map.iter() {

@@ -3,7 +3,7 @@ use btree_book::number;
 
 /// What an action does with the value that it finds.
 #[derive(Clone, Copy)]
-pub(crate) enum Action {
+pub enum Action {
     /// Gives this value.
     Set(u64),
     /// Gives the value raised by this number, which it also gives for none.
@@ -37,7 +37,7 @@ pub(crate) fn read_action(word: &str) -> Option<Action> {
 }
 
 /// Returns what an action gives.
-pub(crate) fn given(action: Action, found: Option<u64>) -> Option<u64> {
+pub fn given(action: Action, found: Option<u64>) -> Option<u64> {
     match (action, found) {
         (Action::Set(value), _) => Some(value),
         (Action::Raise(by), _) => Some(found.unwrap_or(0).wrapping_add(by)),
@@ -73,7 +73,7 @@ pub(crate) fn read_step(word: &str) -> (&str, Option<Action>) {
 
 /// Which keys a test picks.
 #[derive(Clone, Copy)]
-pub(crate) enum Pick {
+pub enum Pick {
     /// Every key.
     All,
     /// None.
@@ -85,7 +85,7 @@ pub(crate) enum Pick {
 }
 
 /// Returns the test that a word as `all`, `nothing`, `even`, `odd`, `3` or `3|5` names.
-pub(crate) fn read_pick(word: &str) -> Option<Pick> {
+pub fn read_pick(word: &str) -> Option<Pick> {
     match word {
         "all" => return Some(Pick::All),
         "nothing" => return Some(Pick::Nothing),
@@ -98,7 +98,7 @@ pub(crate) fn read_pick(word: &str) -> Option<Pick> {
 }
 
 /// Returns whether a test picks a key.
-pub(crate) fn picks(pick: Pick, key: u64) -> bool {
+pub fn picks(pick: Pick, key: u64) -> bool {
     match pick {
         Pick::All => true,
         Pick::Nothing => false,

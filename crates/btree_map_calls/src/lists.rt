@@ -6,7 +6,7 @@ use btree_book::{Reply, number, pair};
 use std::alloc::{AllocError, Global};
 
 /// Returns the pairs of a text, or none if a word is not one. It fails if memory for them is refused.
-pub(crate) fn pairs(alloc: Global, text: &str) -> Result<Option<Vec<(u64, u64)>>, AllocError> {
+pub fn pairs(alloc: Global, text: &str) -> Result<Option<Vec<(u64, u64)>>, AllocError> {
     let mut pairs: Vec<(u64, u64)> = Vec::new(alloc);
     for word in text.split(' ') {
         match pair(word) {
@@ -18,7 +18,7 @@ pub(crate) fn pairs(alloc: Global, text: &str) -> Result<Option<Vec<(u64, u64)>>
 }
 
 /// Returns the numbers of a text, or none if a word is not one. It fails if memory for them is refused.
-pub(crate) fn numbers(alloc: Global, text: &str) -> Result<Option<Vec<u64>>, AllocError> {
+pub fn numbers(alloc: Global, text: &str) -> Result<Option<Vec<u64>>, AllocError> {
     let mut numbers: Vec<u64> = Vec::new(alloc);
     for word in text.split(' ') {
         match number(word) {
@@ -30,7 +30,7 @@ pub(crate) fn numbers(alloc: Global, text: &str) -> Result<Option<Vec<u64>>, All
 }
 
 /// Adds what is left of an iterator.
-pub(crate) fn put_left<I: Iterator>(source: &mut I, reply: &mut Reply) -> Result<(), AllocError>
+pub fn put_left<I: Iterator>(source: &mut I, reply: &mut Reply) -> Result<(), AllocError>
 where
     I::Item: Yielded,
     requires can { (state : I) → I.can_next state }
