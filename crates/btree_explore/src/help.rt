@@ -28,7 +28,7 @@ const LINES: [&str; 31] = [
     "a, b: entries_mut STEPS: peek peek_mut next next_item remove hint KEY=VALUE fits:KEY skip:N, where the lent ones take a WRITE as next+1",
     "a, b: drain finish TEST N WRITE; retain TEST WRITE: N pairs are taken; +calls adds how often the test was called; drain TEST N hint",
     "a, b: fill COUNT STEP; insert_each insert_gaps update_each put_back_each PAIRS; remove_each START STEP PAIRS: whether all was right",
-    "a, b: neighbours; meets N; cut PLACE N: whether an iterator or a cursor gives the pairs of the other map",
+    "a, b: neighbours; meets N: whether an iterator gives those of fill, N from the front; cut PLACE N: a cursor those of the other map",
     "a, b: extend from_iter PAIRS; append clone extend_copied equals compare same_hash plain_hash same_nodes: with the other map",
     "p, q: len is_empty list clear first last pop_first pop_last; insert replace contains get remove take ELEMENT",
     "p, q: iter into_iter ENDS; into_loop; range LOW HIGH ENDS; drain finish TEST N; retain TEST",

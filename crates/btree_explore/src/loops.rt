@@ -197,16 +197,17 @@ fn neighbours<C: NodesMut<u64, u64>>(map: &Map<C>, reply: &mut Reply) -> Result<
     reply.number(neighbours)
 }
 
-// Takes the pairs before a place from the front of an iterator, and the others from its back. Returns whether all are those of the other map.
-fn meets<C: NodesMut<u64, u64>>(map: &Map<C>, other: &Map<C>, place: u64) -> bool {
-    let (mut pairs, mut expected) = (map.iter(), other.iter());
-    for at in 0..other.len() as u64 {
-        let is_same = if at < place {
-            pairs.next() == expected.next()
+// Takes so many pairs from the front of an iterator, and the others from its back. Returns whether all are those of `fill`, in order.
+fn meets<C: NodesMut<u64, u64>>(map: &Map<C>, count: u64) -> bool {
+    let mut pairs = map.iter();
+    for at in 0..map.len() as u64 {
+        let last = (map.len() as u64).wrapping_sub(1).wrapping_sub(at);
+        let (key, pair) = if at < count {
+            (at, pairs.next())
         } else {
-            pairs.next_back() == expected.next_back()
+            (last.wrapping_add(count), pairs.next_back())
         };
-        if !is_same {
+        if pair != Some((&key, &key.wrapping_mul(10))) {
             return false;
         }
     }
@@ -289,7 +290,7 @@ pub(crate) fn serve_loops<C: ClearNodes<u64, u64>>(
             return Ok(true);
         }
         ("cut", Some(place), Some(count)) => Some(cut(map, other, place, count)),
-        ("meets", Some(place), None) => Some(meets(map, other, place)),
+        ("meets", Some(place), None) => Some(meets(map, place)),
         (_, start, step) => {
             let words = if verb == "remove_each" { more } else { rest };
             match pairs(alloc, words)? {
