@@ -6,4 +6,6 @@ mod asserts;
 #[cfg(test)]
 mod cursor;
 #[cfg(test)]
+mod lines;
+#[cfg(test)]
 mod session;
