@@ -1,0 +1,133 @@
+//! What the lines are calls of.
+use crate::build::build_by_map;
+use crate::help::put_help;
+use crate::names::{Raw, put_content};
+use crate::node_calls::serve_node;
+use crate::node_text::{PlainNode, empty_leaf, put_node_text, read_node};
+use crate::raw_calls::{put_built, serve_raw};
+use crate::session_calls::{Map, serve_cursor, serve_session};
+use btree_book::{Desk, Desks, Ending, Reply, serve, word};
+use btree_refusing::Refusing;
+use btree_slab::generic::BTreeMap;
+use btree_slab::generic::map::{BTreeExt, RawBTree};
+use btree_slab::script::Session;
+use btree_slab::store::{ClearNodes, NodesMut};
+use std::alloc::{AllocError, Global};
+use std::io;
+
+/// Two nodes in no tree, a raw tree with one of its nodes marked, a session, and a map that a cursor edits.
+#[derive(Drop)]
+struct Bench<C: ClearNodes<u64, u64> + Drop>
+where
+    C::Origin: Copy,
+{
+    alloc: Global,
+    origin: C::Origin,
+    n: PlainNode,
+    m: PlainNode,
+    t: Raw<C>,
+    mark: Option<usize>,
+    s: Session<C>,
+    c: Map<C>,
+}
+
+// Serves a call of a node. A child of a node that is built is named by its number, or as a node of the tree.
+fn serve_one<C: NodesMut<u64, u64>>(
+    node: &mut PlainNode,
+    other: &mut PlainNode,
+    raw: &Raw<C>,
+    mark: Option<usize>,
+    words: &str,
+    reply: &mut Reply,
+) -> Result<bool, AllocError> {
+    if let Some(built) = read_node(raw, mark, words) {
+        *node = built;
+        reply.word("ok")?;
+        return Ok(true);
+    }
+    let (verb, rest) = word(words);
+    serve_node(node, other, verb, rest, reply)
+}
+
+// Puts the tree of a map with these keys in place of the raw tree.
+fn from_map<C: NodesMut<u64, u64> + Drop>(
+    raw: &mut Raw<C>,
+    origin: C::Origin,
+    keys: &str,
+    reply: &mut Reply,
+) -> Result<bool, AllocError> {
+    let is_built = build_by_map(raw, origin, keys).is_some();
+    put_built(reply, is_built)
+}
+
+fn set_up<C: ClearNodes<u64, u64> + Drop>(alloc: Global, origin: C::Origin) -> Bench<C>
+where
+    C::Origin: Copy,
+{
+    Bench {
+        alloc,
+        origin,
+        n: empty_leaf(),
+        m: empty_leaf(),
+        t: RawBTree::new(origin),
+        mark: None,
+        s: Session::new(origin),
+        c: BTreeMap::new(origin),
+    }
+}
+
+impl<C: ClearNodes<u64, u64> + Drop> Desk for Bench<C>
+where
+    C::Origin: Copy,
+{
+    fn call(&mut self, words: &str, reply: &mut Reply) -> Result<bool, AllocError> {
+        let (name, rest) = word(words);
+        match name {
+            "n" => serve_one(&mut self.n, &mut self.m, &self.t, self.mark, rest, reply),
+            "m" => serve_one(&mut self.m, &mut self.n, &self.t, self.mark, rest, reply),
+            "t" => match rest.strip_prefix("from_map ") {
+                Some(keys) => from_map(&mut self.t, self.origin, keys, reply),
+                None => serve_raw(&mut self.t, &mut self.mark, self.alloc, rest, reply),
+            },
+            "s" => serve_session(&mut self.s, self.alloc, rest, reply),
+            "c" => serve_cursor(&mut self.c, self.alloc, rest, reply),
+            "help" => put_help(rest, reply),
+            "new" if rest == "" => {
+                *self = set_up(self.alloc, self.origin);
+                reply.word("ok")?;
+                Ok(true)
+            }
+            _ => Ok(false),
+        }
+    }
+
+    fn content(&self, reply: &mut Reply) -> Result<(), AllocError> {
+        put_content(reply, &self.t)?;
+        put_content(reply, self.s.map().as_raw())?;
+        put_content(reply, self.c.as_raw())?;
+        put_node_text(reply, &self.n)?;
+        put_node_text(reply, &self.m)
+    }
+}
+
+/// Serves the lines of standard input, on stores from these origins.
+pub(crate) fn serve_stores<C: ClearNodes<u64, u64> + Drop, D: ClearNodes<u64, u64> + Drop>(
+    rt: &(impl Print + Input + AllocGlobal),
+    memory: &Refusing<Global>,
+    plain: C::Origin,
+    refusing: D::Origin,
+) -> Result<(), Ending>
+where
+    C::Origin: Copy,
+    D::Origin: Copy,
+{
+    let plain: Bench<C> = set_up(rt.alloc(), plain);
+    let refusing: Bench<D> = set_up(rt.alloc(), refusing);
+    let mut desks = Desks {
+        plain,
+        refusing,
+        is_refusing: false,
+    };
+    let (mut input, mut output) = (rt.reader(), io::writer(rt));
+    serve(rt.alloc(), memory, &mut desks, &mut input, &mut output)
+}
