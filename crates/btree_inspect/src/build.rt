@@ -3,8 +3,8 @@ ghost use Rattle.std.specs.Prelude.{◌≡◌, ◌∷◌, []};
 ghost use Rattle.btree_node.specs.Node.{view_of};
 ghost use Rattle.btree_view.specs.View.{children_of};
 
-use crate::names::Raw;
 use btree_book::{Reply, number};
+use btree_node_calls::Raw;
 use btree_slab::generic::Node;
 use btree_slab::generic::map::BTreeMap;
 use btree_slab::generic::node::internal::Internal;

@@ -1,12 +1,10 @@
 //! What the lines are calls of.
 use crate::build::build_by_map;
 use crate::help::put_help;
-use crate::names::{Raw, put_content};
-use crate::node_calls::serve_node;
-use crate::node_text::{PlainNode, empty_leaf, put_node_text, read_node};
 use crate::raw_calls::{put_built, serve_raw};
 use crate::session_calls::{Map, serve_cursor, serve_session};
 use btree_book::{Desk, Desks, Ending, Reply, serve, word};
+use btree_node_calls::{PlainNode, Raw, empty_leaf, put_node_text, read_node, serve_node};
 use btree_refusing::Refusing;
 use btree_slab::generic::BTreeMap;
 use btree_slab::generic::map::{BTreeExt, RawBTree};
@@ -30,6 +28,9 @@ where
     s: Session<C>,
     c: Map<C>,
 }
+
+// The numbers of nodes that are compared.
+const NUMBERS: usize = 128;
 
 // Serves a call of a node. A child of a node that is built is named by its number, or as a node of the tree.
 fn serve_one<C: NodesMut<u64, u64>>(
@@ -74,6 +75,19 @@ where
         s: Session::new(origin),
         c: BTreeMap::new(origin),
     }
+}
+
+// Adds everything that calls can change in a tree: its nodes with the numbers that the store gave them, its root and its length.
+fn put_content<C: NodesMut<u64, u64>>(reply: &mut Reply, raw: &Raw<C>) -> Result<(), AllocError> {
+    for id in 0..NUMBERS {
+        if raw.has_node(id) {
+            reply.count(id)?;
+            put_node_text(reply, raw.node(id))?;
+        }
+    }
+    reply.value(raw.root_id().map(|id| id as u64))?;
+    reply.count(raw.node_count())?;
+    reply.count(raw.len())
 }
 
 impl<C: ClearNodes<u64, u64> + Drop> Desk for Bench<C>

@@ -1,7 +1,7 @@
 //! Rebalancing with each valid address of a tree.
 use crate::build::build;
-use crate::names::{Raw, named, put_named};
 use btree_book::{Reply, place, shape};
+use btree_node_calls::{Raw, named, put_named};
 use btree_slab::generic::node::{Address, Offset};
 use btree_slab::store::{ClearNodes, NodesMut};
 use std::alloc::{AllocError, Global};
@@ -130,7 +130,10 @@ fn follow<C: ClearNodes<u64, u64>>(
     }
     raw.set_len(plan.len);
     match (named(raw, None, plan.node), nth_address(raw, nth)) {
-        (Some(id), Some(addr)) => is_followed(raw, id, addr, plan.is_listed, reply),
+        (Some(id), Some(addr)) => {
+            let is_followed = is_followed(raw, id, addr, plan.is_listed, reply)?;
+            Ok(is_followed && raw.len() == plan.len)
+        }
         _ => Ok(false),
     }
 }

@@ -1,7 +1,6 @@
 //! Insertion into raw trees at exactly an address.
-use crate::names::{Raw, put_named};
-use crate::node_edits::takes;
 use btree_book::Reply;
+use btree_node_calls::{Raw, objection, put_named};
 use btree_slab::generic::Node;
 use btree_slab::generic::map::Refused;
 use btree_slab::generic::node::{Address, Item, Offset};
@@ -78,7 +77,8 @@ fn put_in<C: NodesMut<u64, u64>>(
         reply.word("not valid")?;
         return Ok(false);
     }
-    if !takes(node, child, reply)? {
+    if let Some(objection) = objection(node, child) {
+        reply.word(objection)?;
         return Ok(false);
     }
     node.insert(Offset::from(index), item, child);

@@ -2,14 +2,14 @@
 use crate::build::{build, build_tower, put_counts};
 use crate::everywhere::{Plan, rebalance_everywhere};
 use crate::insertion::insert_exactly_at;
-use crate::names::{Raw, named, named_address, named_or_none};
-use crate::node_asks::read_separators;
-use crate::node_text::{put_item, read_item, read_node};
 use crate::raws::{
     allocate_node, print, put_node_at, put_place, rebalance, release_node,
     remove_rightmost_leaf_of, set_parent, validate_node, write_node,
 };
 use btree_book::{Reply, draw, number, put_node, shape, word};
+use btree_node_calls::{
+    Raw, named, named_address, named_or_none, put_item, read_item, read_node, read_separators,
+};
 use btree_slab::generic::node::Address;
 use btree_slab::store::{ClearNodes, NodesMut};
 use std::alloc::{AllocError, Global};

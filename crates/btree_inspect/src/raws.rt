@@ -1,7 +1,6 @@
 //! Calls of a raw tree.
-use crate::names::{Raw, put_name, put_named};
-use crate::node_text::{PlainNode, put_item, put_node_of};
 use btree_book::{Reply, place};
+use btree_node_calls::{PlainNode, Raw, put_item, put_name, put_named, put_node_of};
 use btree_slab::generic::map::Cause;
 use btree_slab::generic::node::Address;
 use btree_slab::store::NodesMut;

@@ -6,7 +6,7 @@ ghost use Rattle.btree_node.specs.Node.{view_of};
 ghost use Rattle.btree_view.specs.View.{items_of};
 
 use crate::names::glue_offset;
-use crate::node_text::{PlainNode, put_item, put_node_text};
+use crate::text::{PlainNode, put_item, put_node_text};
 use btree_book::{Reply, number, word};
 use btree_slab::generic::Node;
 use btree_slab::generic::node::{Balance, Offset};
@@ -258,7 +258,7 @@ pub(crate) fn number_or_none(word: &str) -> Option<Option<u64>> {
 }
 
 /// Returns the two separators that a text names, each a number or `none`.
-pub(crate) fn read_separators(text: &str) -> Option<(Option<u64>, Option<u64>)> {
+pub fn read_separators(text: &str) -> Option<(Option<u64>, Option<u64>)> {
     let (min, max) = word(text);
     Some((number_or_none(min)?, number_or_none(max)?))
 }

@@ -1,5 +1,4 @@
 //! The nodes of a raw tree by words: paths from the root, numbers, and `M` for the marked one.
-use crate::node_text::put_node_text;
 use btree_book::{Reply, node, number, offset, put_node};
 use btree_slab::generic::map::RawBTree;
 use btree_slab::generic::node::{Address, Offset};
@@ -7,13 +6,10 @@ use btree_slab::store::NodesMut;
 use std::alloc::AllocError;
 
 /// A raw tree.
-pub(crate) type Raw<C> = RawBTree<u64, u64, C>;
-
-// The numbers of nodes that are compared.
-const NUMBERS: usize = 128;
+pub type Raw<C> = RawBTree<u64, u64, C>;
 
 /// Returns the number of the node that a word names: `M`, a number, or a path. The number may not be in use.
-pub(crate) fn named<C: NodesMut<u64, u64>>(
+pub fn named<C: NodesMut<u64, u64>>(
     raw: &Raw<C>,
     mark: Option<usize>,
     word: &str,
@@ -28,7 +24,7 @@ pub(crate) fn named<C: NodesMut<u64, u64>>(
 }
 
 /// Returns the number of the node that a word names, or none for the word `none`.
-pub(crate) fn named_or_none<C: NodesMut<u64, u64>>(
+pub fn named_or_none<C: NodesMut<u64, u64>>(
     raw: &Raw<C>,
     mark: Option<usize>,
     word: &str,
@@ -40,7 +36,7 @@ pub(crate) fn named_or_none<C: NodesMut<u64, u64>>(
 }
 
 /// Returns the address that a word names: `nowhere`, or a node and an offset, such as `T02:3`.
-pub(crate) fn named_address<C: NodesMut<u64, u64>>(
+pub fn named_address<C: NodesMut<u64, u64>>(
     raw: &Raw<C>,
     mark: Option<usize>,
     word: &str,
@@ -53,7 +49,7 @@ pub(crate) fn named_address<C: NodesMut<u64, u64>>(
 }
 
 /// Adds a node: `M` if it is the marked one, or else its path.
-pub(crate) fn put_name<C: NodesMut<u64, u64>>(
+pub fn put_name<C: NodesMut<u64, u64>>(
     reply: &mut Reply,
     raw: &Raw<C>,
     mark: Option<usize>,
@@ -74,7 +70,7 @@ pub(crate) fn glue_offset(reply: &mut Reply, offset: Offset) -> Result<(), Alloc
 }
 
 /// Adds an address.
-pub(crate) fn put_named<C: NodesMut<u64, u64>>(
+pub fn put_named<C: NodesMut<u64, u64>>(
     reply: &mut Reply,
     raw: &Raw<C>,
     mark: Option<usize>,
@@ -86,20 +82,4 @@ pub(crate) fn put_named<C: NodesMut<u64, u64>>(
     put_name(reply, raw, mark, addr.id)?;
     reply.glue(":")?;
     glue_offset(reply, addr.offset)
-}
-
-/// Adds everything that calls can change in a tree: its nodes with the numbers that the store gave them, its root and its length.
-pub(crate) fn put_content<C: NodesMut<u64, u64>>(
-    reply: &mut Reply,
-    raw: &Raw<C>,
-) -> Result<(), AllocError> {
-    for id in 0..NUMBERS {
-        if raw.has_node(id) {
-            reply.count(id)?;
-            put_node_text(reply, raw.node(id))?;
-        }
-    }
-    reply.value(raw.root_id().map(|id| id as u64))?;
-    reply.count(raw.node_count())?;
-    reply.count(raw.len())
 }

@@ -8,15 +8,15 @@ use btree_slab::store::NodesMut;
 use std::alloc::AllocError;
 
 /// A node in no tree, or one of a tree.
-pub(crate) type PlainNode = Node<u64, u64>;
+pub type PlainNode = Node<u64, u64>;
 
 /// Returns a leaf without items or parent.
-pub(crate) fn empty_leaf() -> PlainNode {
+pub fn empty_leaf() -> PlainNode {
     Node::Leaf(LeafNode::empty(None))
 }
 
 /// Returns the item that a word such as `3=30` names.
-pub(crate) fn read_item(word: &str) -> Option<Item<u64, u64>> {
+pub fn read_item(word: &str) -> Option<Item<u64, u64>> {
     let (key, value) = pair(word)?;
     Some(Item::new(key, value))
 }
@@ -84,7 +84,7 @@ fn read_internal<C: NodesMut<u64, u64>>(
 }
 
 /// Returns the node of a text, if it is one. A parent and children are named by their numbers, or as nodes of the tree.
-pub(crate) fn read_node<C: NodesMut<u64, u64>>(
+pub fn read_node<C: NodesMut<u64, u64>>(
     raw: &Raw<C>,
     mark: Option<usize>,
     text: &str,
@@ -105,7 +105,7 @@ pub(crate) fn read_node<C: NodesMut<u64, u64>>(
 }
 
 /// Adds an item, or `none`.
-pub(crate) fn put_item(reply: &mut Reply, item: Option<&Item<u64, u64>>) -> Result<(), AllocError> {
+pub fn put_item(reply: &mut Reply, item: Option<&Item<u64, u64>>) -> Result<(), AllocError> {
     match item {
         Some(item) => reply.pair(*item.key(), *item.value()),
         None => reply.word("none"),
@@ -120,7 +120,7 @@ fn kind_word(node: &PlainNode) -> &'static str {
 }
 
 /// Adds the text of a node in no tree.
-pub(crate) fn put_node_text(reply: &mut Reply, node: &PlainNode) -> Result<(), AllocError> {
+pub fn put_node_text(reply: &mut Reply, node: &PlainNode) -> Result<(), AllocError> {
     reply.word(kind_word(node))?;
     if let Some(parent) = node.parent() {
         reply.word("under")?;
@@ -138,7 +138,7 @@ pub(crate) fn put_node_text(reply: &mut Reply, node: &PlainNode) -> Result<(), A
 }
 
 /// Adds the text of a node of a tree, in which other nodes are named.
-pub(crate) fn put_node_of<C: NodesMut<u64, u64>>(
+pub fn put_node_of<C: NodesMut<u64, u64>>(
     reply: &mut Reply,
     raw: &Raw<C>,
     mark: Option<usize>,

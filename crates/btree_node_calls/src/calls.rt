@@ -1,8 +1,8 @@
 //! The calls of a node, by their words.
-use crate::node_asks::{ask, ask_number, number_or_none, read_separators, validate};
-use crate::node_edits::{insert, put_at, put_by_key, take_at, take_end};
-use crate::node_ends::{append, merge, push, serve_both};
-use crate::node_text::{PlainNode, read_item};
+use crate::asks::{ask, ask_number, number_or_none, read_separators, validate};
+use crate::edits::{insert, put_at, put_by_key, take_at, take_end};
+use crate::ends::{append, merge, push, serve_both};
+use crate::text::{PlainNode, read_item};
 use btree_book::{Reply, number, offset, pair, two_numbers, word};
 use std::alloc::AllocError;
 
@@ -70,7 +70,7 @@ fn serve_insertion(
 }
 
 /// Serves a call of a node. Returns whether the words are one.
-pub(crate) fn serve_node(
+pub fn serve_node(
     node: &mut PlainNode,
     other: &mut PlainNode,
     verb: &str,

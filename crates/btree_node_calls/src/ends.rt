@@ -1,7 +1,11 @@
 //! Calls of a node that push at an end, and those of two nodes.
-use crate::node_asks::{put_balance, put_offset};
-use crate::node_edits::takes;
-use crate::node_text::{PlainNode, empty_leaf, put_item};
+ghost use Rattle.std.specs.Prelude.{◌≡◌, IfNone};
+ghost use Rattle.btree_node.specs.Node.{view_of};
+ghost use Rattle.btree_view.specs.Edits.{HaveRoom, is_internal};
+
+use crate::asks::{put_balance, put_offset};
+use crate::edits::objection;
+use crate::text::{PlainNode, empty_leaf, put_item};
 use btree_book::Reply;
 use btree_slab::generic::Node;
 use btree_slab::generic::node::Item;
@@ -14,8 +18,8 @@ fn push_left(
     child: Option<usize>,
     reply: &mut Reply,
 ) -> Result<(), AllocError> {
-    if !takes(node, child, reply)? {
-        return Ok(());
+    if let Some(objection) = objection(node, child) {
+        return reply.word(objection);
     }
     node.push_left(item, child);
     reply.word("ok")
@@ -27,8 +31,8 @@ fn push_right(
     child: Option<usize>,
     reply: &mut Reply,
 ) -> Result<(), AllocError> {
-    if !takes(node, child, reply)? {
-        return Ok(());
+    if let Some(objection) = objection(node, child) {
+        return reply.word(objection);
     }
     let offset = node.push_right(item, child);
     put_offset(reply, offset)
@@ -61,17 +65,21 @@ fn split(node: &mut PlainNode, other: &mut PlainNode, reply: &mut Reply) -> Resu
     put_item(reply, Some(&median))
 }
 
-// Returns whether two nodes are of one kind, and one has room for a separator and the items of the other.
-fn joins(node: &PlainNode, other: &PlainNode) -> Option<bool> {
-    match (node, other) {
-        (Node::Leaf(leaf), Node::Leaf(other)) => {
-            Some(leaf.item_count() + other.item_count() <= 8)
-        }
-        (Node::Internal(node), Node::Internal(other)) => {
-            Some(node.item_count() + other.item_count() <= 7)
-        }
-        _ => None,
+// Returns why a separator and the items of the other node cannot be appended to one, if they cannot: they are of two kinds, or there is no
+// room.
+fn objection_to_joining(node: &PlainNode, other: &PlainNode) -> Option<&'static str>
+    ensures kind { IfNone result (is_internal (view_of other.now) ≡ is_internal (view_of node.now)) }
+    ensures room { IfNone result (HaveRoom (view_of node.now) (view_of other.now)) }
+{
+    let most = match (node, other) {
+        (Node::Leaf(_), Node::Leaf(_)) => 8usize,
+        (Node::Internal(_), Node::Internal(_)) => 7,
+        _ => return Some("two kinds"),
+    };
+    if node.item_count() + other.item_count() > most {
+        return Some("full");
     }
+    None
 }
 
 /// Appends an item and what the other node holds, which becomes an empty leaf.
@@ -81,15 +89,12 @@ pub(crate) fn append(
     item: Item<u64, u64>,
     reply: &mut Reply,
 ) -> Result<(), AllocError> {
-    match joins(node, other) {
-        None => reply.word("two kinds"),
-        Some(false) => reply.word("full"),
-        Some(true) => {
-            let appended = mem::replace(other, empty_leaf());
-            let offset = node.append(item, appended);
-            put_offset(reply, offset)
-        }
+    if let Some(objection) = objection_to_joining(node, other) {
+        return reply.word(objection);
     }
+    let appended = mem::replace(other, empty_leaf());
+    let offset = node.append(item, appended);
+    put_offset(reply, offset)
 }
 
 /// Takes out the item between two children, and the number of the right one.

@@ -1,14 +1,21 @@
 //! Calls of a node that insert, exchange and remove an item.
-use crate::node_asks::{is_valid, put_child, put_number, put_offset};
-use crate::node_text::{PlainNode, put_item};
+ghost use Rattle.std.specs.Prelude.{◌≡◌, ◌≤◌, ◌↔◌, IfNone, IsTrue};
+ghost use Rattle.btree_node.specs.Node.{view_of};
+ghost use Rattle.btree_view.specs.Edits.{HasChildFor};
+ghost use Rattle.btree_view.specs.View.{most_of, size_of};
+
+use crate::asks::{is_valid, put_child, put_number, put_offset};
+use crate::text::{PlainNode, put_item};
 use btree_book::Reply;
 use btree_slab::generic::Node;
 use btree_slab::generic::node::{Item, Offset};
 use std::alloc::AllocError;
 use std::mem;
 
-/// Returns whether a node has room for one more item.
-pub(crate) fn has_room(node: &PlainNode) -> bool {
+// Returns whether a node has room for one more item.
+fn has_room(node: &PlainNode) -> bool
+    ensures { IsTrue result ↔ (size_of (view_of node.now) ≤ most_of (view_of node.now)) }
+{
     match node {
         Node::Leaf(leaf) => leaf.item_count() < 9,
         Node::Internal(node) => node.item_count() < 8,
@@ -53,7 +60,7 @@ fn insert_by_key(
     value: u64,
     reply: &mut Reply,
 ) -> Result<(), AllocError> {
-    if !has_room(node) {
+    if node.child_count() == 0 && !has_room(node) {
         return reply.word("full");
     }
     if !is_valid(node) {
@@ -141,22 +148,20 @@ pub(crate) fn put_at(
     Ok(true)
 }
 
-/// Adds what keeps an item and a child out of a node, if something does. Returns whether nothing does.
-pub(crate) fn takes(
-    node: &PlainNode,
-    child: Option<usize>,
-    reply: &mut Reply,
-) -> Result<bool, AllocError> {
+/// Returns why a node does not take an item and a child, if it does not: it has no room, or a leaf is given a child, or an internal node none.
+pub fn objection(node: &PlainNode, child: Option<usize>) -> Option<&'static str>
+    ensures room { IfNone result (size_of (view_of node.now) ≤ most_of (view_of node.now)) }
+    ensures child { IfNone result (HasChildFor child (view_of node.now)) }
+{
     if !has_room(node) {
-        reply.word("full")?;
-        return Ok(false);
+        return Some("full");
     }
     match (node, child) {
-        (Node::Leaf(_), Some(_)) => reply.word("takes no child")?,
-        (Node::Internal(_), None) => reply.word("takes a child")?,
-        _ => return Ok(true),
+        (Node::Leaf(_), Some(_)) => Some("takes no child"),
+        (Node::Internal(_), None) => Some("takes a child"),
+        (Node::Leaf(_), None) => None,
+        (Node::Internal(_), Some(_)) => None,
     }
-    Ok(false)
 }
 
 /// Inserts an item at an offset, and in an internal node a child after it.
@@ -173,8 +178,8 @@ pub(crate) fn insert(
     if index > node.item_count() {
         return reply.word("not valid");
     }
-    if !takes(node, child, reply)? {
-        return Ok(());
+    if let Some(objection) = objection(node, child) {
+        return reply.word(objection);
     }
     node.insert(offset, item, child);
     reply.word("ok")
