@@ -4,18 +4,18 @@
 //! first child, `T02` the third child of that one, and `T02:3` the address there at offset 3.
 #![tactic(auto)]
 
-mod desk;
-mod draw;
-mod insist;
+mod calls;
+mod drawing;
+mod lines;
 mod places;
+mod refusals;
 mod replies;
-mod reply;
-mod serve;
+mod text;
 mod words;
 
-pub use crate::desk::Desk;
-pub use crate::draw::{draw, shape};
+pub use crate::calls::Desk;
+pub use crate::drawing::{draw, shape};
+pub use crate::lines::{Desks, Ending, serve};
 pub use crate::places::{address, node, offset, place, put_address, put_node};
-pub use crate::reply::Reply;
-pub use crate::serve::{Desks, Ending, serve};
+pub use crate::text::Reply;
 pub use crate::words::{high, low, number, pair, two_numbers, word};

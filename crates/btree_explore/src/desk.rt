@@ -1,10 +1,10 @@
 //! What the lines are calls of.
 use crate::keys::serve_keys;
 use btree_book::{Desk, Desks, Ending, Reply, serve, shape, word};
-use btree_refusing::Refusing;
 use btree_slab::generic::map::BTreeExt;
 use btree_slab::generic::{BTreeMap, BTreeSet};
 use btree_slab::store::{ClearNodes, CloneNodes};
+use btree_testing::Refusing;
 use std::alloc::{AllocError, Global};
 use std::io;
 

@@ -5,7 +5,7 @@ use crate::raw_calls::{put_built, serve_raw};
 use crate::session_calls::{Map, serve_cursor, serve_session};
 use btree_book::{Desk, Desks, Ending, Reply, serve, word};
 use btree_node_calls::{PlainNode, Raw, empty_leaf, put_node_text, read_node, serve_node};
-use btree_refusing::Refusing;
+use btree_testing::Refusing;
 use btree_slab::generic::BTreeMap;
 use btree_slab::generic::map::{BTreeExt, RawBTree};
 use btree_slab::script::Session;

@@ -13,7 +13,7 @@ mod session_calls;
 
 use crate::desk::serve_stores;
 use btree_book::Ending;
-use btree_refusing::Refusing;
+use btree_testing::Refusing;
 use btree_slab::generic::Node;
 use btree_slab::store::SlabStore;
 use std::alloc::Global;

@@ -1,0 +1,2 @@
+pub mod BetweenLemmas
+pub mod ChangedLemmas

@@ -2,12 +2,11 @@
 ghost use Rattle.std.specs.Prelude.{◌≡◌};
 
 use crate::asserts::assert_same;
-use crate::removal::first_keys;
+use crate::samples::first_keys;
 use btree_map::BTreeMap;
 use btree_node::Node;
 use btree_nodes::NodesMut;
 use btree_store::SlabStore;
-use std::test::Fail;
 
 type Store = SlabStore<Node<u64, u64>>;
 
@@ -42,13 +41,11 @@ fn keep_and_take<C: NodesMut<u64, u64> + Drop>(map: BTreeMap<u64, u64, C>) -> us
 }
 
 #[test]
-fn a_map_is_kept_and_handed_on_by_value(rt: HostRuntime) -> Result<(), Fail> {
+fn a_map_is_kept_and_handed_on_by_value(rt: HostRuntime) {
     for (keys, taken) in [(0, 0), (1, 1), (40, 40)] {
-        let first = first_keys::<Store>(&rt, rt.alloc(), keys);
-        let second = first_keys::<Store>(&rt, rt.alloc(), keys);
-        let owner = Owner::new(first);
+        let owner = Owner::new(first_keys::<Store>(&rt, rt.alloc(), keys));
         assert_same(&rt, take(owner.into_inner()), taken);
-        assert_same(&rt, keep_and_take(second), taken);
+        let map = first_keys::<Store>(&rt, rt.alloc(), keys);
+        assert_same(&rt, keep_and_take(map), taken);
     }
-    Ok(())
 }

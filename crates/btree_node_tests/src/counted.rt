@@ -1,5 +1,5 @@
-//! Look-up with a counter, in nodes of either kind.
-ghost use Rattle.std.specs.Prelude.{◌≡◌, ◌+◌, ◌≤◌};
+//! How many keys a look-up in a node of either kind compares, by keys that count.
+ghost use Rattle.std.specs.Prelude.{◌≡◌, ◌+◌, ◌<◌, ◌≤◌, Some};
 ghost use Rattle.std.specs.Ordering.{nat_cmp, on};
 ghost use Rattle.btree_item.specs.Pairs.{Ascends};
 ghost use Rattle.btree_internal.specs.Internal.{internal_view};
@@ -7,11 +7,10 @@ ghost use Rattle.btree_node.specs.Node.{view_of};
 ghost use Rattle.btree_view.specs.View.{items_of};
 
 use crate::asserts::{assert_same_in, assert_true, assert_true_in};
-use crate::nodes::put;
-use btree_counted::{COMPARISONS, Counted, promised_comparisons};
 use btree_item::{Item, MAX_COMPARISONS, Offset};
 use btree_node::{InternalNode, LeafNode, Node};
 use btree_steps::Steps;
+use btree_testing::{COMPARISONS, Counted, promised_comparisons};
 use std::cell::Cell;
 use std::process::Abort;
 
@@ -57,7 +56,23 @@ fn looked_up<'a>(
     (place, counted, ticks)
 }
 
-// Returns a leaf with this many keys, which are 1, 3, 5 and so on.
+// Checks that `get` compares at most six keys, and finds the value of a key that is there, or the child to look in.
+fn check_get<'a>(rt: &impl Abort, node: &Node<Counted<'a>, u32>, key: Counted<'a>, place: Place)
+    requires { Ascends (on (λ key. key.number) nat_cmp) (items_of (view_of node.now)) }
+{
+    key.compared.set(0);
+    let found = node.get(&key).map(|value| value.copied());
+    assert_true_in(rt, key.number, key.compared.get() <= 6);
+    let expected = match place {
+        Ok(_) => Ok(Some(key.number / 2)),
+        Err((_, None)) => Ok(None),
+        Err((_, Some(child))) => Err(child),
+    };
+    assert_same_in(rt, key.number, found, expected);
+}
+
+// Returns a leaf with this many keys, which are 1, 3, 5 and so on, with the values 0, 1, 2 and so on. An insertion by key compares at most
+// six keys.
 #[tactic(auto, using(btree_item::proofs::PairEdits::order_kept))]
 fn leaf_of<'a>(rt: &impl Abort, compared: &'a Cell<u32>, count: u32) -> Node<Counted<'a>, u32>
     requires { count ≤ 9 }
@@ -70,13 +85,45 @@ fn leaf_of<'a>(rt: &impl Abort, compared: &'a Cell<u32>, count: u32) -> Node<Cou
             compared,
         };
         assert_true(rt, leaf.item_count() < 9);
-        let (_, old) = leaf.insert_by_key(key, 0);
-        assert_true(rt, old.is_none());
+        compared.set(0);
+        let (_, old) = leaf.insert_by_key(key, index);
+        assert_true_in(rt, index, old.is_none() && compared.get() <= 6);
     }
     Node::Leaf(leaf)
 }
 
-// Returns an internal node with this many keys, which are 1, 3, 5 and so on.
+// Inserts an item with a new key at its place.
+fn put<K: Ord + Drop, V: Drop>(
+    node: &mut InternalNode<K, V>,
+    key: K,
+    value: V,
+    right_id: usize,
+) -> bool
+    requires { Ascends K.cmp (items_of (internal_view node.old)) }
+    ensures { Ascends K.cmp (items_of (internal_view node.new)) }
+{
+    match node.offset_of(&key) {
+        Ok(_) => false,
+        Err((index, _)) => {
+            if node.item_count() < 8 {
+                node.insert(at(index), Item::new(key, value), right_id);
+                true
+            } else {
+                false
+            }
+        }
+    }
+}
+
+fn at(index: usize) -> Offset
+    requires { index < usize.MAX }
+    ensures { result ≡ Some index }
+{
+    Offset::from(index)
+}
+
+// Returns an internal node with this many keys, which are 1, 3, 5 and so on, with the values 0, 1, 2 and so on, between the children 100,
+// 101, 102 and so on.
 #[tactic(auto, using(btree_item::proofs::PairEdits::order_kept))]
 fn internal_of<'a>(rt: &impl Abort, compared: &'a Cell<u32>, count: u32) -> Node<Counted<'a>, u32>
     requires { count ≤ 8 }
@@ -92,13 +139,13 @@ fn internal_of<'a>(rt: &impl Abort, compared: &'a Cell<u32>, count: u32) -> Node
             number: 2 * index + 1,
             compared,
         };
-        assert_true(rt, put(&mut node, key, 0, (index as usize) + 101));
+        assert_true(rt, put(&mut node, key, index, (index as usize) + 101));
     }
     Node::Internal(node)
 }
 
 // Looks up each of the keys and each number between, in a node that holds this many.
-fn looks_up_each<'a>(
+fn look_up_each<'a>(
     rt: &impl Abort,
     node: &Node<Counted<'a>, u32>,
     compared: &'a Cell<u32>,
@@ -107,22 +154,20 @@ fn looks_up_each<'a>(
     requires few { held ≤ 9 }
     requires ascends { Ascends (on (λ key. key.number) nat_cmp) (items_of (view_of node.now)) }
 {
+    let is_leaf = node.child_count() == 0;
     for number in 0..2 * held + 2 {
         let smaller = (number / 2).min(held) as usize;
-        let (place, counted, ticks) = looked_up(rt, node, Counted { number, compared });
+        let child = if is_leaf { None } else { Some(smaller + 100) };
         let expected = if number % 2 == 1 && number < 2 * held {
             Ok(Offset::from(smaller))
         } else {
-            Err((smaller, node.child_id_opt(smaller)))
+            Err((smaller, child))
         };
+        let (place, counted, ticks) = looked_up(rt, node, Counted { number, compared });
         assert_same_in(rt, number, &place, &expected);
         assert_same_in(rt, number, &counted, &expected);
-        assert_same_in(
-            rt,
-            (number, held),
-            ticks,
-            COMPARISONS[held as usize][smaller],
-        );
+        assert_same_in(rt, number, ticks, COMPARISONS[held as usize][smaller]);
+        check_get(rt, node, Counted { number, compared }, expected);
     }
 }
 
@@ -131,7 +176,7 @@ fn compares_as_many_keys_as_promised_in_a_leaf(rt: HostRuntime) {
     let compared = Cell::new(0);
     for held in 1..10u32 {
         let leaf = leaf_of(&rt, &compared, held);
-        looks_up_each(&rt, &leaf, &compared, held);
+        look_up_each(&rt, &leaf, &compared, held);
     }
 }
 
@@ -140,6 +185,6 @@ fn compares_as_many_keys_as_promised_in_an_internal_node(rt: HostRuntime) {
     let compared = Cell::new(0);
     for held in 1..9u32 {
         let node = internal_of(&rt, &compared, held);
-        looks_up_each(&rt, &node, &compared, held);
+        look_up_each(&rt, &node, &compared, held);
     }
 }

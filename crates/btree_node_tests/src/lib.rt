@@ -1,21 +1,15 @@
-//! Tests of nodes.
+//! Tests of stores, of items and lists of them, of nodes, and of the allocator that refuses.
 #![tactic(auto)]
 
 #[cfg(test)]
 mod asserts;
 #[cfg(test)]
-mod children;
-#[cfg(test)]
-mod clones;
-#[cfg(test)]
 mod counted;
 #[cfg(test)]
-mod item_mut;
-#[cfg(test)]
-mod leaves;
-#[cfg(test)]
-mod node_ends;
+mod items;
 #[cfg(test)]
 mod nodes;
 #[cfg(test)]
-mod validate;
+mod refusing;
+#[cfg(test)]
+mod stores;

@@ -2,11 +2,10 @@
 #![tactic(auto)]
 
 #[cfg(test)]
-#[cfg(test)]
 mod asserts;
 #[cfg(test)]
 mod cursor;
 #[cfg(test)]
-mod flush;
+mod lines;
 #[cfg(test)]
 mod session;

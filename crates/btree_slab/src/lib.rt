@@ -5,9 +5,6 @@
 
 use btree_store::SlabStore;
 
-#[cfg(test)]
-mod tests;
-
 /// A map with its nodes in a slab, with memory from the global allocator.
 pub type BTreeMap<K, V> = generic::BTreeMap<K, V, SlabStore<generic::Node<K, V>>>;
 

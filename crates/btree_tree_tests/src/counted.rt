@@ -1,43 +1,41 @@
 //! Look-up, insertion and removal in whole trees, and the tests of a key at an address, by keys that count how often they are compared.
-ghost use Rattle.std.specs.Prelude.{◌≡◌, ◌+◌};
+ghost use Rattle.std.specs.Prelude.{◌≡◌, ◌+◌, IsTrue};
 ghost use Rattle.std.specs.Ordering.{nat_cmp, on};
 ghost use Rattle.btree_item.specs.Pairs.{Ascends};
 ghost use Rattle.btree_node.specs.Node.{view_of};
 ghost use Rattle.btree_view.specs.LookUp.{comparisons_in};
 ghost use Rattle.btree_view.specs.View.{items_of};
 ghost use Rattle.btree_shape.specs.TreeState.{IsUsed};
+ghost use Rattle.btree_find.specs.Fits.{FitsIn};
 ghost use Rattle.btree_find.specs.Levels.{comparisons_from};
 
 use crate::asserts::{assert_same, assert_same_in, assert_true, assert_true_in};
-use btree_counted::{COMPARISONS, Counted, promised_comparisons};
 use btree_ext::{BTreeExt, BTreeExtMut, Tree};
 use btree_item::{Address, Offset};
 use btree_node::Node;
+use btree_nodes::NodesMut;
 use btree_steps::Steps;
 use btree_store::SlabStore;
-use std::alloc::Global;
+use btree_testing::{COMPARISONS, Counted, promised_comparisons};
 use std::cell::Cell;
 use std::process::Abort;
 
-type CountedTree<'a> = Tree<Counted<'a>, u32, SlabStore<Node<Counted<'a>, u32>>>;
+type Store<'a> = SlabStore<Node<Counted<'a>, u32>>;
 
-// Checks that at most six keys at each level were compared since the count began.
-fn check_count(rt: &impl Abort, tree: &CountedTree<'_>, compared: &Cell<u32>, number: u32) {
-    assert_true_in(rt, number, compared.get() as usize <= 6 * tree.height());
-}
-
-// Returns a tree of the keys 1, 3, 5 and so on up to 87.
-fn odd_keys<'a>(rt: &impl Abort, compared: &'a Cell<u32>, alloc: Global) -> CountedTree<'a> {
-    let mut tree: CountedTree<'a> = Tree::new(alloc);
+// Returns the tree of the keys 1, 3, 5 and so on up to 87, with the values 0, 1, 2 and so on. An insertion compares at most six keys at each
+// level of the tree that it makes.
+fn odd_keys<'a, C: NodesMut<Counted<'a>, u32> + Drop>(
+    rt: &impl Abort,
+    compared: &'a Cell<u32>,
+    origin: C::Origin,
+) -> Tree<Counted<'a>, u32, C> {
+    let mut tree: Tree<Counted<'a>, u32, C> = Tree::new(origin);
     for value in 0..44u32 {
         let number = 2 * value + 1;
         compared.set(0);
-        assert_same(
-            rt,
-            tree.insert(Counted { number, compared }, value).ok(),
-            Some(None),
-        );
-        check_count(rt, &tree, compared, number);
+        let old = tree.insert(Counted { number, compared }, value);
+        assert_same(rt, old.ok(), Some(None));
+        assert_true_in(rt, number, compared.get() as usize <= 6 * tree.height());
     }
     tree
 }
@@ -59,7 +57,12 @@ fn place_in(node: &Node<Counted<'_>, u32>, number: u32) -> (usize, bool) {
 }
 
 // Returns how many keys a search from a node down is to compare: the sum of what the table has for the nodes on its path.
-fn expected_from(rt: &impl Abort, tree: &CountedTree<'_>, top: usize, number: u32) -> usize {
+fn expected_from<'a, C: NodesMut<Counted<'a>, u32>>(
+    rt: &impl Abort,
+    tree: &Tree<Counted<'a>, u32, C>,
+    top: usize,
+    number: u32,
+) -> usize {
     let mut id = top;
     let mut total = 0usize;
     for _ in 0..tree.height() {
@@ -75,6 +78,12 @@ fn expected_from(rt: &impl Abort, tree: &CountedTree<'_>, top: usize, number: u3
         }
     }
     panic!(rt; "{number} is sought below the leaves")
+}
+
+fn assert_equal(rt: &impl Abort, left: usize, right: usize)
+    ensures { left ≡ right }
+{
+    assert_eq!(rt; left, right);
 }
 
 fn sum(rt: &impl Abort, left: usize, right: usize) -> usize
@@ -99,9 +108,9 @@ fn promised_in<'a>(node: &Node<Counted<'a>, u32>, key: &Counted<'a>) -> usize
 }
 
 // Returns how many keys a search from a node down promises to compare.
-fn promised_from<'a>(
+fn promised_from<'a, C: NodesMut<Counted<'a>, u32>>(
     rt: &impl Abort,
-    tree: &CountedTree<'a>,
+    tree: &Tree<Counted<'a>, u32, C>,
     top: usize,
     key: &Counted<'a>,
 ) -> usize
@@ -124,9 +133,9 @@ fn promised_from<'a>(
 }
 
 // Searches with a counter, and returns also how many comparisons the key counted. It ticks as often.
-fn address_counted<'a>(
+fn address_counted<'a, C: NodesMut<Counted<'a>, u32>>(
     rt: &impl Abort,
-    tree: &CountedTree<'a>,
+    tree: &Tree<Counted<'a>, u32, C>,
     key: &Counted<'a>,
     steps: &mut Steps,
 ) -> (Result<Address, Address>, usize)
@@ -139,38 +148,92 @@ fn address_counted<'a>(
         panic!(rt; "no root");
     };
     assert_true(rt, tree.has_node(root));
-    assert_eq!(rt; promised_from(rt, tree, root, key), compared);
+    assert_equal(rt, promised_from(rt, tree, root, key), compared);
     (found, compared)
 }
 
-// Each of the keys and each number between is searched for, with a counter and without one.
-#[test]
-fn compares_as_many_keys_as_promised(rt: HostRuntime) {
-    let compared = Cell::new(0);
-    let tree = odd_keys(&rt, &compared, rt.alloc());
+// Checks `get`, which compares at most six keys at each of three levels, and the tests of a key at its own address or gap, which compare at
+// most two.
+fn check_at<'a, C: NodesMut<Counted<'a>, u32>>(
+    rt: &impl Abort,
+    tree: &Tree<Counted<'a>, u32, C>,
+    addr: Address,
+    key: Counted<'a>,
+) {
+    let is_there = key.number % 2 == 1;
+    let value = if is_there { Some(key.number / 2) } else { None };
+    key.compared.set(0);
+    assert_same_in(rt, key.number, tree.get(&key).copied(), value);
+    assert_true_in(rt, key.number, key.compared.get() <= 18);
+    assert_true(rt, tree.is_valid(Address::new(addr.id, addr.offset)));
+    key.compared.set(0);
+    let fits = tree.fits_at(Address::new(addr.id, addr.offset), &key);
+    assert_true_in(rt, key.number, fits != is_there && key.compared.get() <= 2);
+    key.compared.set(0);
+    let replaces = tree.replaces_at(addr, &key);
+    assert_true_in(rt, key.number, replaces || !is_there);
+    assert_true_in(rt, key.number, key.compared.get() <= 2);
+}
+
+// Searches for a key with a counter and without one, which compares as many keys as the table has. Returns its address or gap.
+fn search<'a, C: NodesMut<Counted<'a>, u32>>(
+    rt: &impl Abort,
+    tree: &Tree<Counted<'a>, u32, C>,
+    root: usize,
+    key: Counted<'a>,
+) -> Address {
+    let expected = expected_from(rt, tree, root, key.number);
+    let mut steps = Steps::new();
+    let (found, ticks) = address_counted(rt, tree, &key, &mut steps);
+    assert_same_in(rt, key.number, ticks, expected);
+    key.compared.set(0);
+    let same = tree.address_of(&key) == found;
+    assert_true_in(rt, key.number, same && expected <= 18);
+    assert_same_in(rt, key.number, key.compared.get() as usize, expected);
+    let (Ok(addr) | Err(addr)) = found;
+    addr
+}
+
+// Searches for each of the keys and each number between.
+fn search_each<'a, C: NodesMut<Counted<'a>, u32> + Drop>(
+    rt: &impl Abort,
+    compared: &'a Cell<u32>,
+    origin: C::Origin,
+) {
+    let tree: Tree<Counted<'a>, u32, C> = odd_keys(rt, compared, origin);
+    assert_same(rt, tree.height(), 3);
     let Some(root) = tree.root_id() else {
         panic!(rt; "no root");
     };
     for number in 0..89u32 {
-        let key = Counted {
-            number,
-            compared: &compared,
-        };
-        let expected = expected_from(&rt, &tree, root, number);
-        assert_true_in(&rt, number, expected <= 6 * tree.height());
-        let mut steps = Steps::new();
-        let (found, ticks) = address_counted(&rt, &tree, &key, &mut steps);
-        assert_same_in(&rt, number, ticks, expected);
-        compared.set(0);
-        assert_true_in(&rt, number, tree.address_of(&key) == found);
-        assert_same_in(&rt, number, compared.get() as usize, expected);
+        let key = Counted { number, compared };
+        let addr = search(rt, &tree, root, key);
+        check_at(rt, &tree, addr, key);
+    }
+}
+
+#[test]
+fn compares_as_many_keys_as_promised(rt: HostRuntime) {
+    let compared = Cell::new(0);
+    search_each::<Store<'_>>(&rt, &compared, rt.alloc());
+}
+
+// Returns whether a key that is between the separators of a node, and not under it, fits where the look-up says that it would be.
+fn fits_at_its_gap<K: Ord, V, C: NodesMut<K, V>>(tree: &Tree<K, V, C>, id: usize, key: &K) -> bool
+    requires used { IsUsed tree.now id }
+    requires fits { FitsIn K.cmp key.now tree.now id }
+    ensures { IsTrue result }
+{
+    match tree.address_in(id, key) {
+        Ok(_) => true,
+        Err(addr) => tree.fits_at(addr, key),
     }
 }
 
 // Checks the calls under a node, which is in the tree, with one number.
-fn check_under<'a>(
+fn check_under<'a, C: NodesMut<Counted<'a>, u32>>(
     rt: &impl Abort,
-    tree: &mut CountedTree<'a>,
+    tree: &mut Tree<Counted<'a>, u32, C>,
     compared: &'a Cell<u32>,
     id: usize,
     number: u32,
@@ -185,121 +248,87 @@ fn check_under<'a>(
     assert_same(rt, tree.get_in(&key, id).is_some(), is_there);
     assert_true_in(rt, (number, id), compared.get() as usize <= promised);
     compared.set(0);
-    assert_true_in(rt, (number, id), !is_there || tree.key_fits_in(id, &key));
+    let fits = tree.key_fits_in(id, &key);
     assert_true_in(rt, (number, id), compared.get() <= 2);
+    assert_true_in(rt, (number, id), fits || !is_there);
+    if fits {
+        assert_true_in(rt, (number, id), fits_at_its_gap(tree, id, &key));
+    }
     compared.set(0);
     assert_same(rt, tree.get_mut_in(&key, id).is_some(), is_there);
     assert_true_in(rt, (number, id), compared.get() as usize <= promised);
 }
 
-// Each of the keys and each number between is searched for under each of the twelve nodes.
-#[test]
-fn compares_no_more_keys_under_a_node_than_promised(rt: HostRuntime) {
-    let compared = Cell::new(0);
-    let mut tree = odd_keys(&rt, &compared, rt.alloc());
-    assert_same(&rt, tree.node_count(), 12);
+// Searches for each of the keys and each number between under each of the twelve nodes.
+fn search_under<'a, C: NodesMut<Counted<'a>, u32> + Drop>(
+    rt: &impl Abort,
+    compared: &'a Cell<u32>,
+    origin: C::Origin,
+) {
+    let mut tree: Tree<Counted<'a>, u32, C> = odd_keys(rt, compared, origin);
+    assert_same(rt, tree.node_count(), 12);
     for id in 0..12usize {
-        assert_true(&rt, tree.has_node(id));
         for number in 0..89u32 {
-            check_under(&rt, &mut tree, &compared, id, number);
+            check_under(rt, &mut tree, compared, id, number);
         }
     }
 }
 
-// Returns the value at the address of a key that is there.
-fn value_at<'a>(tree: &CountedTree<'a>, key: &Counted<'a>) -> Option<u32> {
-    match tree.address_of(key) {
-        Ok(addr) => tree.item(addr).map(|item| *item.value()),
-        Err(_) => None,
-    }
+#[test]
+fn compares_no_more_keys_under_a_node_than_promised(rt: HostRuntime) {
+    let compared = Cell::new(0);
+    search_under::<Store<'_>>(&rt, &compared, rt.alloc());
 }
 
-// Each of the keys and each number between is searched for.
-#[test]
-fn compares_at_most_six_keys_a_level(rt: HostRuntime) {
-    let compared = Cell::new(0);
-    let tree = odd_keys(&rt, &compared, rt.alloc());
-    assert_same(&rt, tree.height(), 3);
+// Removes each of the keys and each number between.
+fn remove_each<'a, C: NodesMut<Counted<'a>, u32> + Drop>(
+    rt: &impl Abort,
+    compared: &'a Cell<u32>,
+    origin: C::Origin,
+) {
+    let mut tree: Tree<Counted<'a>, u32, C> = odd_keys(rt, compared, origin);
     for number in 0..89u32 {
-        let key = Counted {
-            number,
-            compared: &compared,
-        };
+        let levels = tree.height();
         compared.set(0);
+        let removed = tree
+            .remove_entry(&Counted { number, compared })
+            .map(|pair| pair.1);
+        assert_true_in(rt, number, compared.get() as usize <= 6 * levels);
         let value = if number % 2 == 1 {
             Some(number / 2)
         } else {
             None
         };
-        assert_same(&rt, tree.get(&key).copied(), value);
-        check_count(&rt, &tree, &compared, number);
+        assert_same_in(rt, number, removed, value);
+    }
+    assert_same(rt, (tree.len(), tree.node_count()), (0, 0));
+}
+
+// Removes each of the keys at its address, which compares no keys.
+fn remove_each_at<'a, C: NodesMut<Counted<'a>, u32> + Drop>(
+    rt: &impl Abort,
+    compared: &'a Cell<u32>,
+    origin: C::Origin,
+) {
+    let mut tree: Tree<Counted<'a>, u32, C> = odd_keys(rt, compared, origin);
+    for value in 0..44u32 {
+        let number = 2 * value + 1;
+        let (Ok(addr) | Err(addr)) = tree.address_of(&Counted { number, compared });
+        assert_true(rt, tree.is_valid(Address::new(addr.id, addr.offset)));
         compared.set(0);
-        assert_same(&rt, value_at(&tree, &key), value);
-        check_count(&rt, &tree, &compared, number);
+        let removed = tree.remove_at(addr).map(|pair| *pair.0.value());
+        assert_same(rt, (removed, compared.get()), (Some(value), 0));
     }
 }
 
-// Each of the keys and each number between is removed.
 #[test]
 fn compares_at_most_six_keys_a_level_to_remove(rt: HostRuntime) {
     let compared = Cell::new(0);
-    let mut tree = odd_keys(&rt, &compared, rt.alloc());
-    for number in 0..89u32 {
-        let key = Counted {
-            number,
-            compared: &compared,
-        };
-        let levels = tree.height();
-        compared.set(0);
-        let removed = tree.remove_entry(&key).map(|pair| pair.1);
-        assert_true_in(&rt, number, compared.get() as usize <= 6 * levels);
-        let value = if number % 2 == 1 {
-            Some(number / 2)
-        } else {
-            None
-        };
-        assert_same(&rt, removed, value);
-    }
-    assert_same(&rt, (tree.len(), tree.node_count()), (0, 0));
+    remove_each::<Store<'_>>(&rt, &compared, rt.alloc());
 }
 
-// Each of the keys is removed at its address, which compares no keys.
 #[test]
 fn compares_no_keys_to_remove_at_an_address(rt: HostRuntime) {
     let compared = Cell::new(0);
-    let mut tree = odd_keys(&rt, &compared, rt.alloc());
-    for value in 0..44u32 {
-        let key = Counted {
-            number: 2 * value + 1,
-            compared: &compared,
-        };
-        let (Ok(addr) | Err(addr)) = tree.address_of(&key);
-        assert_true(&rt, tree.is_valid(Address::new(addr.id, addr.offset)));
-        compared.set(0);
-        let removed = tree.remove_at(addr).map(|pair| *pair.0.value());
-        assert_same(&rt, (removed, compared.get()), (Some(value), 0));
-    }
-}
-
-// Each of the keys and each number between is tried at its own address or gap.
-#[test]
-fn compares_at_most_two_keys_at_an_address(rt: HostRuntime) {
-    let compared = Cell::new(0);
-    let tree = odd_keys(&rt, &compared, rt.alloc());
-    for number in 0..89u32 {
-        let key = Counted {
-            number,
-            compared: &compared,
-        };
-        let (Ok(addr) | Err(addr)) = tree.address_of(&key);
-        assert_true(&rt, tree.is_valid(Address::new(addr.id, addr.offset)));
-        compared.set(0);
-        let fits = tree.fits_at(Address::new(addr.id, addr.offset), &key);
-        assert_same_in(&rt, number, fits, number % 2 == 0);
-        assert_true_in(&rt, number, compared.get() <= 2);
-        compared.set(0);
-        let replaces = tree.replaces_at(addr, &key);
-        assert_true_in(&rt, number, replaces || number % 2 == 0);
-        assert_true_in(&rt, number, compared.get() <= 2);
-    }
+    remove_each_at::<Store<'_>>(&rt, &compared, rt.alloc());
 }

@@ -1,7 +1,7 @@
 use Rattle.std.proofs.Common.{arith}
 use Rattle.std.specs.Cmp.{nat_cmp_total, on_total}
 use Rattle.std.specs.Ordering.{nat_cmp, on}
-use Rattle.btree_counted.specs.declared.counted.Counted.{Counted}
+use Rattle.btree_testing.specs.declared.counted.Counted.{Counted}
 use Rattle.btree_find.proofs.CountLemmas.{counts-begin, counts-down, counts-hit, counts-miss}
 use Rattle.btree_find.proofs.SearchLemmas.{down, node-ascends, node-used, search-begins}
 use Rattle.btree_tree_tests.proofs.counted.promised_from.Goals as goal

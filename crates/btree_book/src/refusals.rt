@@ -1,0 +1,44 @@
+//! A call whose memory is refused in turn.
+use crate::{Desk, Reply};
+use btree_testing::Refusing;
+use std::alloc::{AllocError, Global};
+
+// The most growths of one call that are refused in turn.
+const MOST: u64 = 4096;
+
+// Returns whether a reply says that the call was refused.
+fn says_refused(text: &str) -> bool {
+    text.starts_with("refused") || text.starts_with("no memory")
+}
+
+/// Refuses the first growth of a call, then the second, and so on, until none is refused. After each refusal everything on the desk has to be
+/// as before. The reply is `kept` and that of the granted call, or `changed` and that of the call that changed something. Returns whether
+/// the words are a call.
+pub(crate) fn insist<D: Desk>(
+    alloc: Global,
+    memory: &Refusing<Global>,
+    desk: &mut D,
+    words: &str,
+    reply: &mut Reply,
+) -> Result<bool, AllocError> {
+    let mut before = Reply::new(alloc);
+    desk.content(&mut before)?;
+    for at in 1..MOST {
+        let (mut said, mut after) = (Reply::new(alloc), Reply::new(alloc));
+        memory.refuse(at);
+        let is_call = desk.call(words, &mut said)?;
+        let was_refused = memory.refuses() == 0;
+        memory.refuse(0);
+        if !is_call {
+            return Ok(false);
+        }
+        desk.content(&mut after)?;
+        let is_kept = says_refused(said.as_str()) && before.as_str() == after.as_str();
+        if !was_refused || !is_kept {
+            reply.word(if was_refused { "changed" } else { "kept" })?;
+            reply.word(said.as_str())?;
+            return Ok(true);
+        }
+    }
+    Ok(false)
+}

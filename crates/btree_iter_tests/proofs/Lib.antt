@@ -1,2 +1,0 @@
-pub mod BetweenLemmas
-pub mod ChangedLemmas

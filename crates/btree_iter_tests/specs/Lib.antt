@@ -1,2 +1,0 @@
-pub mod AddBetween
-pub mod AddOne

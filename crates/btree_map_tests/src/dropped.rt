@@ -1,0 +1,134 @@
+//! Values that count their drops: each is dropped once, by an iterator that owns a map, by a drain, and by `retain`.
+use crate::asserts::{assert_same, assert_true};
+use crate::drops::{Counted, hundred};
+use btree_ext::BTreeExt;
+use btree_map::{BTreeMap, IntoIter};
+use btree_nodes::NodesMut;
+use std::cell::Cell;
+use std::process::Abort;
+
+// Checks that a pair is there, and that its value knows its key.
+fn check_pair(rt: &impl Abort, pair: Option<(u64, Counted<'_>)>, key: u64) {
+    match pair {
+        Some((found, value)) => {
+            assert_same(rt, (found, value.key), (key, key));
+        }
+        None => panic!(rt; "{key} is not there"),
+    }
+}
+
+// Takes a hundred pairs, in each step from the front or from the back as it is that step's turn. Each key comes with its own value.
+fn take_in_turns<'a, C: NodesMut<u64, Counted<'a>> + Drop>(
+    rt: &impl Abort,
+    map: BTreeMap<u64, Counted<'a>, C>,
+    drops: &Cell<u64>,
+    turns: [bool; 2],
+) {
+    let mut pairs = IntoIter::new(map);
+    let mut low = 0u64;
+    let mut high = 99u64;
+    for step in 0..100u64 {
+        if turns[(step % 2) as usize] {
+            check_pair(rt, pairs.next(), low);
+            low = low.wrapping_add(1);
+        } else {
+            check_pair(rt, pairs.next_back(), high);
+            high = high.wrapping_sub(1);
+        }
+        assert_same(rt, pairs.len() as u64, 99u64.wrapping_sub(step));
+        assert_same(rt, drops.get(), step.wrapping_add(1));
+    }
+    for _ in 0..2 {
+        assert_true(rt, pairs.next().is_none() && pairs.next_back().is_none());
+        assert_same(rt, (pairs.len(), pairs.size_hint()), (0, (0, Some(0))));
+    }
+    drop(pairs);
+    assert_same(rt, drops.get(), 100);
+}
+
+// From the front, from the back, and from both in turn with either first.
+#[test]
+fn gives_each_pair_once(rt: HostRuntime) {
+    for turns in [[true, true], [false, false], [true, false], [false, true]] {
+        let drops = Cell::new(0u64);
+        let Some(map) = hundred(rt.alloc(), &drops) else {
+            panic!(rt; "no memory")
+        };
+        take_in_turns(&rt, map, &drops, turns);
+    }
+}
+
+// Takes so many pairs from each end of a hundred, and drops the others.
+fn take_some<V: Drop, C: NodesMut<u64, V> + Drop>(
+    rt: &impl Abort,
+    map: BTreeMap<u64, V, C>,
+    drops: &Cell<u64>,
+    from_front: u64,
+    from_back: u64,
+) {
+    let mut pairs = IntoIter::new(map);
+    for _ in 0..from_front {
+        drop(pairs.next());
+    }
+    for _ in 0..from_back {
+        drop(pairs.next_back());
+    }
+    let taken = from_front.wrapping_add(from_back);
+    assert_same(rt, drops.get(), taken);
+    assert_same(rt, pairs.len() as u64, 100u64.wrapping_sub(taken));
+    drop(pairs);
+    assert_same(rt, drops.get(), 100);
+}
+
+// Each row: how many are taken from the front, and from the back.
+#[test]
+fn drops_what_is_left(rt: HostRuntime) {
+    for (from_front, from_back) in [(0, 0), (1, 0), (50, 0), (10, 10), (30, 30), (50, 50)] {
+        let drops = Cell::new(0u64);
+        let Some(map) = hundred(rt.alloc(), &drops) else {
+            panic!(rt; "no memory")
+        };
+        take_some(&rt, map, &drops, from_front, from_back);
+    }
+}
+
+// Takes so many of the odd keys that a drain picks, each of which is dropped, and drops the drain.
+fn take_odd<V: Drop, C: NodesMut<u64, V>>(
+    rt: &impl Abort,
+    map: &mut BTreeMap<u64, V, C>,
+    drops: &Cell<u64>,
+    count: u64,
+) {
+    let mut drain = map.drain_filter(|key: &u64, _value: &mut V| *key % 2 == 1);
+    for taken in 0..count {
+        assert_true(rt, drain.next().is_some());
+        assert_same(rt, drops.get(), taken.wrapping_add(1));
+    }
+}
+
+// Drains the odd keys of a hundred, keeps every fourth key, and drops the map.
+fn drain_and_retain<V: Drop, C: NodesMut<u64, V> + Drop>(
+    rt: &impl Abort,
+    map: BTreeMap<u64, V, C>,
+    drops: &Cell<u64>,
+    count: u64,
+) {
+    let mut map = map;
+    take_odd(rt, &mut map, drops, count);
+    assert_same(rt, (map.len(), drops.get()), (50, 50));
+    map.retain(|key: &u64, _value: &mut V| *key % 4 == 0);
+    assert_same(rt, (map.len(), drops.get()), (25, 75));
+    drop(map);
+    assert_same(rt, drops.get(), 100);
+}
+
+#[test]
+fn drains_drop_what_they_take(rt: HostRuntime) {
+    for count in [0, 1, 25, 50] {
+        let drops = Cell::new(0u64);
+        let Some(map) = hundred(rt.alloc(), &drops) else {
+            panic!(rt; "no memory")
+        };
+        drain_and_retain(&rt, map, &drops, count);
+    }
+}

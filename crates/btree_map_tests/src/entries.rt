@@ -1,0 +1,83 @@
+//! Entries as text, over the store that an entry has if none is named, and values of a type with a default.
+use crate::asserts::assert_same;
+use btree_map::{BTreeMap, Entry, OccupiedEntry, VacantEntry};
+use btree_node::Node;
+use btree_nodes::NodesMut;
+use btree_store::SlabStore;
+use std::alloc::{AllocError, Global};
+use std::fmt::Debug;
+use std::process::Abort;
+use std::test::Fail;
+
+// Returns what a value is in a text.
+fn shown<T: Debug>(alloc: Global, value: &T) -> Result<String, AllocError> {
+    let mut text = String::new(alloc);
+    write!(text, "{value:?}")?;
+    Ok(text)
+}
+
+// Returns the key that was asked for.
+fn asked(entry: &VacantEntry<'_, u64, u64>) -> u64 {
+    *entry.key()
+}
+
+// Returns the pair of an entry.
+fn pair_of(entry: &OccupiedEntry<'_, u64, u64>) -> (u64, u64) {
+    (*entry.key(), *entry.get())
+}
+
+// Checks an entry's text, and that of the entry in it.
+fn check_entry(
+    rt: &impl Abort,
+    alloc: Global,
+    entry: Entry<'_, u64, u64>,
+    pair: (u64, Option<u64>),
+    text: &str,
+) -> Result<(), Fail> {
+    assert_same(rt, shown(alloc, &entry)?.as_str(), text);
+    match entry {
+        Entry::Vacant(vacant) => {
+            assert_same(rt, (asked(&vacant), None), pair);
+            assert_same(rt, shown(alloc, &vacant)?.as_str(), text);
+        }
+        Entry::Occupied(occupied) => {
+            let (key, value) = pair_of(&occupied);
+            assert_same(rt, (key, Some(value)), pair);
+            assert_same(rt, shown(alloc, &occupied)?.as_str(), text);
+        }
+    }
+    Ok(())
+}
+
+#[test]
+fn shows_entries(rt: HostRuntime) -> Result<(), Fail> {
+    let mut map: BTreeMap<u64, u64, SlabStore<Node<u64, u64>>> = BTreeMap::new(rt.alloc());
+    check_entry(&rt, rt.alloc(), map.entry(1), (1, None), "VacantEntry(1)")?;
+    assert_same(&rt, map.insert(1, 2).ok(), Some(None));
+    check_entry(
+        &rt,
+        rt.alloc(),
+        map.entry(1),
+        (1, Some(2)),
+        "OccupiedEntry { key: 1, value: 2 }",
+    )
+}
+
+// Inserts the default value at a key twice, and writes to it in between.
+fn insert_default<C: NodesMut<u64, Option<usize>> + Drop>(rt: &impl Abort, origin: C::Origin) {
+    let mut map: BTreeMap<u64, Option<usize>, C> = BTreeMap::new(origin);
+    for expected in [None, Some(8)] {
+        match map.entry(3).or_default() {
+            Ok(value) => {
+                assert_same(rt, *value, expected);
+                *value = Some(8);
+            }
+            Err(_) => panic!(rt; "refused"),
+        }
+    }
+}
+
+#[test]
+fn inserts_the_default_value(rt: HostRuntime) {
+    insert_default::<SlabStore<Node<u64, Option<usize>>>>(&rt, rt.alloc());
+}

@@ -1,0 +1,252 @@
+//! Keys and elements that are equal and not the same.
+ghost use Rattle.std.specs.Prelude.{nat_eq};
+ghost use Rattle.std.proofs.Common.{rules};
+ghost use Rattle.std.specs.Cmp.{partial_order_from_own_ties};
+ghost use Rattle.std.specs.Cmp.Rules.{comparing};
+ghost use Rattle.std.specs.Ordering.{as_partial_cmp, nat_cmp, on};
+
+use crate::asserts::{assert_same, assert_true};
+use crate::bounded::Bounded;
+use btree_map::BTreeMap;
+use btree_node::Node;
+use btree_nodes::NodesMut;
+use btree_set::BTreeSet;
+use btree_store::SlabStore;
+use std::cmp::Ordering;
+use std::process::Abort;
+
+// A key or an element that is compared by its number alone.
+#[derive(Clone, Copy)]
+struct Named {
+    number: u64,
+    name: char,
+}
+
+impl PartialEq for Named {
+    ghost eq = { on (λ key. key.number) nat_eq };
+
+    ghost laws = { Prim.search (comparing, rules) };
+
+    fn eq(&self, other: &Self) -> bool {
+        self.number == other.number
+    }
+}
+
+impl Eq for Named {
+    ghost laws = { Prim.search (comparing, rules) };
+}
+
+impl PartialOrd for Named {
+    ghost partial_cmp = { as_partial_cmp (on (λ key. key.number) nat_cmp) };
+
+    ghost laws = { partial_order_from_own_ties (Prim.search (comparing, rules)) (Prim.search (comparing, rules)) };
+
+    fn partial_cmp(&self, other: &Self) -> Option<Ordering> {
+        Some(self.cmp(other))
+    }
+}
+
+impl Ord for Named {
+    ghost cmp = { on (λ key. key.number) nat_cmp };
+
+    ghost total = { Prim.search (comparing, rules) };
+
+    ghost matches_partial_cmp = { Prim.search (comparing, rules) };
+
+    ghost matches_eq = { Prim.search (comparing, rules) };
+
+    fn cmp(&self, other: &Self) -> Ordering {
+        self.number.cmp(&other.number)
+    }
+}
+
+type MapStore = SlabStore<Node<Named, u64>>;
+
+type SetStore = SlabStore<Node<Named, ()>>;
+
+// Returns the name of the stored key with a number, and its value.
+fn stored<C: NodesMut<Named, u64>>(
+    map: &BTreeMap<Named, u64, C>,
+    number: u64,
+) -> Option<(char, u64)> {
+    let (key, value) = map.get_key_value(&Named { number, name: '?' })?;
+    Some((key.name, *value))
+}
+
+// Inserts a pair. Returns the value that was there.
+fn put<C: NodesMut<Named, u64>>(
+    rt: &impl Abort,
+    map: &mut BTreeMap<Named, u64, C>,
+    number: u64,
+    name: char,
+    value: u64,
+) -> Option<u64> {
+    match map.insert(Named { number, name }, value) {
+        Ok(old) => old,
+        Err(_) => panic!(rt; "refused"),
+    }
+}
+
+// Inserts and replaces a key that is equal to one of the map, and appends a map that has one.
+fn put_equal<C: NodesMut<Named, u64> + Drop>(
+    rt: &impl Abort,
+    mut map: BTreeMap<Named, u64, C>,
+    mut other: BTreeMap<Named, u64, C>,
+) {
+    assert_same(rt, put(rt, &mut map, 1, 'a', 1), None);
+    assert_same(rt, put(rt, &mut map, 2, 'a', 2), None);
+    assert_same(rt, put(rt, &mut map, 2, 'b', 20), Some(2));
+    assert_same(rt, stored(&map, 2), Some(('a', 20)));
+    let key = Named {
+        number: 2,
+        name: 'c',
+    };
+    match map.replace(key, 30) {
+        Ok(Some((key, value))) => assert_same(rt, (key.number, key.name, value), (2, 'a', 20)),
+        Ok(None) | Err(_) => panic!(rt; "not replaced"),
+    }
+    assert_same(rt, stored(&map, 2), Some(('c', 30)));
+    assert_same(rt, put(rt, &mut other, 1, 'd', 9), None);
+    assert_true(rt, map.append(&mut other).is_ok());
+    assert_same(rt, stored(&map, 1), Some(('a', 9)));
+    assert_same(rt, (map.len(), other.len()), (2, 0));
+}
+
+#[test]
+fn an_equal_key_stays_unless_it_is_replaced(rt: HostRuntime) {
+    put_equal::<MapStore>(&rt, BTreeMap::new(rt.alloc()), BTreeMap::new(rt.alloc()));
+}
+
+// Makes a map of three pairs, of which the first and the last one have equal keys.
+fn make_map<C: NodesMut<Named, u64> + Drop>(rt: &impl Abort, origin: C::Origin) {
+    let names = [(1, 'a', 1), (2, 'b', 2), (1, 'c', 3)];
+    let mut source = names
+        .iter()
+        .map(|&(number, name, value)| (Named { number, name }, value));
+    match BTreeMap::<Named, u64, C>::from_iter(origin, &mut source) {
+        Ok(map) => {
+            assert_same(rt, stored(&map, 1), Some(('a', 3)));
+            assert_same(rt, stored(&map, 2), Some(('b', 2)));
+            assert_same(rt, map.len(), 2);
+        }
+        Err(_) => panic!(rt; "refused"),
+    }
+}
+
+#[test]
+fn an_equal_key_stays_when_pairs_are_added(rt: HostRuntime) {
+    make_map::<MapStore>(&rt, rt.alloc());
+}
+
+// Inserts the numbers, each with the name, into a set that is empty, and returns it.
+fn names<C: NodesMut<Named, ()>>(
+    rt: &impl Abort,
+    set: BTreeSet<Named, C>,
+    numbers: &[u64],
+    name: char,
+) -> BTreeSet<Named, C> {
+    let mut set = set;
+    for number in numbers {
+        let number = *number;
+        assert_true(rt, set.insert(Named { number, name }).is_ok());
+    }
+    set
+}
+
+// Returns the number and the name of an element.
+fn parts(element: Option<&Named>) -> Option<(u64, char)> {
+    let element = element?;
+    Some((element.number, element.name))
+}
+
+// Checks the union of {1, 2} with the name a and {2, 3} with the name b.
+fn check_union<C: NodesMut<Named, ()>, D: NodesMut<Named, ()>>(
+    rt: &impl Abort,
+    left: &BTreeSet<Named, C>,
+    right: &BTreeSet<Named, D>,
+) {
+    let mut either = left.union(right);
+    assert_same(rt, either.size_hint(), (2, Some(4)));
+    assert_same(rt, parts(either.next()), Some((1, 'a')));
+    assert_same(rt, parts(either.next()), Some((2, 'b')));
+    assert_same(rt, parts(either.next()), Some((3, 'b')));
+    assert_same(rt, parts(either.next()), None);
+}
+
+// Checks the intersection and the difference of the same sets.
+fn check_first<C: NodesMut<Named, ()>, D: NodesMut<Named, ()>>(
+    rt: &impl Abort,
+    left: &BTreeSet<Named, C>,
+    right: &BTreeSet<Named, D>,
+) {
+    let mut both = left.intersection(right);
+    assert_same(rt, parts(both.next()), Some((2, 'a')));
+    assert_same(rt, parts(both.next()), None);
+    let mut first_only = left.difference(right);
+    assert_same(rt, parts(first_only.next()), Some((1, 'a')));
+    assert_same(rt, parts(first_only.next()), None);
+}
+
+// Checks the symmetric difference of the same sets.
+fn check_symmetric<C: NodesMut<Named, ()>, D: NodesMut<Named, ()>>(
+    rt: &impl Abort,
+    left: &BTreeSet<Named, C>,
+    right: &BTreeSet<Named, D>,
+) {
+    let mut one = left.symmetric_difference(right);
+    assert_same(rt, parts(one.next()), Some((1, 'a')));
+    assert_same(rt, parts(one.next()), Some((3, 'b')));
+    assert_same(rt, parts(one.next()), None);
+}
+
+// Merges two sets: the first has 1 and 2 with the name a, the second one 2 and 3 with the name b.
+fn merge<C: NodesMut<Named, ()> + Drop, D: NodesMut<Named, ()> + Drop>(
+    rt: &impl Abort,
+    left: BTreeSet<Named, C>,
+    right: BTreeSet<Named, D>,
+) {
+    let left = names(rt, left, &[1, 2], 'a');
+    let right = names(rt, right, &[2, 3], 'b');
+    check_union(rt, &left, &right);
+    check_first(rt, &left, &right);
+    check_symmetric(rt, &left, &right);
+}
+
+// The sets have stores of two types.
+#[test]
+fn merges_take_the_stated_one(rt: HostRuntime) {
+    merge::<SetStore, Bounded<SetStore, 3>>(
+        &rt,
+        BTreeSet::new(rt.alloc()),
+        BTreeSet::new(rt.alloc()),
+    );
+}
+
+// Inserts, replaces and appends elements that are equal to some of a set.
+fn insert_equal<C: NodesMut<Named, ()> + Drop>(
+    rt: &impl Abort,
+    set: BTreeSet<Named, C>,
+    other: BTreeSet<Named, C>,
+) {
+    let mut set = names(rt, set, &[1, 2], 'a');
+    let second = Named {
+        number: 2,
+        name: 'b',
+    };
+    assert_same(rt, set.insert(second).ok(), Some(false));
+    assert_same(rt, parts(set.get(&second)), Some((2, 'a')));
+    match set.replace(second) {
+        Ok(old) => assert_same(rt, parts(old.as_ref()), Some((2, 'a'))),
+        Err(_) => panic!(rt; "refused"),
+    }
+    assert_same(rt, parts(set.get(&second)), Some((2, 'b')));
+    let mut other = names(rt, other, &[1, 3], 'c');
+    assert_true(rt, set.append(&mut other).is_ok());
+    assert_same(rt, parts(set.first()), Some((1, 'a')));
+    assert_same(rt, parts(set.last()), Some((3, 'c')));
+}
+
+#[test]
+fn an_equal_element_stays_unless_it_is_replaced(rt: HostRuntime) {
+    insert_equal::<SetStore>(&rt, BTreeSet::new(rt.alloc()), BTreeSet::new(rt.alloc()));
+}

@@ -1,0 +1,51 @@
+//! Tests of maps and sets. It is a program since its values count their drops: it counts how many an owning iterator drops.
+#![tactic(auto)]
+
+#[cfg(test)]
+mod asserts;
+#[cfg(test)]
+mod bounded;
+#[cfg(test)]
+mod callers;
+#[cfg(test)]
+mod drains;
+#[cfg(test)]
+mod dropped;
+mod drops;
+#[cfg(test)]
+mod entries;
+#[cfg(test)]
+mod equal;
+#[cfg(test)]
+mod lending;
+#[cfg(test)]
+mod merges;
+#[cfg(test)]
+mod names;
+#[cfg(test)]
+mod owner;
+#[cfg(test)]
+mod samples;
+
+use crate::drops::hundred;
+use btree_map::IntoIter;
+use std::alloc::AllocError;
+use std::cell::Cell;
+use std::io;
+
+// Takes ten pairs from each end, drops the iterator, and prints how many values were dropped before and after that.
+fn main(rt: HostRuntime) -> io::Result<()> {
+    let drops = Cell::new(0u64);
+    let Some(map) = hundred(rt.alloc(), &drops) else {
+        return Err(AllocError.into());
+    };
+    let mut pairs = IntoIter::new(map);
+    for _ in 0..10 {
+        drop(pairs.next());
+        drop(pairs.next_back());
+    }
+    let taken = drops.get();
+    drop(pairs);
+    rt.println(format_args!("{} {}", taken, drops.get()))?;
+    Ok(())
+}

@@ -1,9 +1,0 @@
-use Rattle.std.specs.Ordering.{nat_cmp, on}
-use Rattle.btree_item.specs.Pairs.{Ascends}
-use Rattle.btree_node_tests.proofs.leaves.compares_at_most_six_times.Given as goal
-
-abbrev pub invariant-loop-held : goal.invariant-loop-held
-invariant-loop-held g l = Ascends (on (λ key. key.number) nat_cmp) l.leaf.items
-
-abbrev pub invariant-loop-number : goal.invariant-loop-number
-invariant-loop-number g l = Ascends (on (λ key. key.number) nat_cmp) l.leaf.items

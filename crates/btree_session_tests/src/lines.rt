@@ -1,0 +1,220 @@
+//! The lines of a book, from readers and to writers that fail.
+use btree_book::{Desk, Desks, Ending, Reply, serve};
+use btree_testing::Refusing;
+use std::alloc::{AllocError, Global};
+use std::io;
+use std::io::{ErrorKind, Read, Write};
+use std::process::Abort;
+use std::test::Fail;
+
+// Replies with the words after `say`, and with two lines to `list`.
+#[derive(Drop)]
+struct Echo {
+    is_spent: bool,
+}
+
+impl Desk for Echo {
+    fn call(&mut self, words: &str, reply: &mut Reply) -> Result<bool, AllocError> {
+        if words == "fail" {
+            self.is_spent = true;
+            return Err(AllocError);
+        }
+        if words == "list" {
+            reply.word("two")?;
+            reply.line()?;
+            reply.word("lines")?;
+            return Ok(true);
+        }
+        match words.strip_prefix("say ") {
+            Some(rest) => {
+                reply.word(rest)?;
+                Ok(true)
+            }
+            None => Ok(false),
+        }
+    }
+
+    fn content(&self, reply: &mut Reply) -> Result<(), AllocError> {
+        reply.truth(self.is_spent)
+    }
+}
+
+// Gives its bytes, and then fails, if there is an error to fail with.
+#[derive(Drop)]
+struct Breaks<'a> {
+    bytes: &'a [u8],
+    with: Option<ErrorKind>,
+}
+
+impl Read for Breaks<'_> {
+    fn read(&mut self, buf: &mut [u8]) -> io::Result<usize> {
+        if self.bytes.is_empty()
+            && let Some(kind) = self.with
+        {
+            return Err(io::Error::from(kind));
+        }
+        self.bytes.read(buf)
+    }
+}
+
+// Takes so many bytes, and then fails; or takes all, and fails to flush.
+#[derive(Drop)]
+struct Narrow {
+    written: Vec<u8>,
+    most: usize,
+    flushes: bool,
+}
+
+impl Write for Narrow {
+    fn write(&mut self, buf: &[u8]) -> io::Result<usize> {
+        if self.written.len() >= self.most {
+            return Err(io::Error::from(ErrorKind::BrokenPipe));
+        }
+        self.written.extend_from_slice(buf)?;
+        Ok(buf.len())
+    }
+
+    fn flush(&mut self) -> io::Result<()> {
+        if self.flushes {
+            Ok(())
+        } else {
+            Err(io::Error::from(ErrorKind::Other))
+        }
+    }
+}
+
+fn serve_from(
+    alloc: Global,
+    bytes: &[u8],
+    with: Option<ErrorKind>,
+    output: &mut Narrow,
+) -> Result<(), Ending> {
+    let memory = Refusing::over(alloc, 0);
+    let mut desks = Desks {
+        plain: Echo { is_spent: false },
+        refusing: Echo { is_spent: false },
+        is_refusing: false,
+    };
+    let mut input = Breaks { bytes, with };
+    serve(alloc, &memory, &mut desks, &mut input, output)
+}
+
+fn wide(alloc: Global) -> Narrow {
+    Narrow {
+        written: Vec::new(alloc),
+        most: usize::MAX,
+        flushes: true,
+    }
+}
+
+fn check(rt: &impl Abort, case: &[u8], left: &[u8], right: &[u8], ends: bool) {
+    assert_eq!(rt; left, right, "{case:?}");
+    assert!(rt; ends, "{case:?}");
+}
+
+const LINES: [(&[u8], &[u8], Result<(), Ending>); 12] = [
+    (b"", b"", Ok(())),
+    (
+        b"# A heading\n\nsay 1 -> 1\nsay 2\n",
+        b"# A heading\n\nsay 1 -> 1\n2\n",
+        Ok(()),
+    ),
+    (b"say 1 -> 1", b"say 1 -> 1\n", Ok(())),
+    (
+        b"say 1 -> 2\nsay 3 -> 3\n",
+        b"say 1 -> 1\nsay 3 -> 3\n",
+        Err(Ending::OtherReply(1)),
+    ),
+    (
+        b"\njump\nsay 1\njump -> 1\n",
+        b"\nnot a call (line 2)\n1\njump -> not a call (line 4)\n",
+        Err(Ending::NotACall(2)),
+    ),
+    (
+        b"say \xff\nsay 1\n",
+        b"not a call (line 1)\n1\n",
+        Err(Ending::NotACall(1)),
+    ),
+    (
+        b"list -> two\n| lines\nlist\n",
+        b"list -> two\n| lines\ntwo\n| lines\n",
+        Ok(()),
+    ),
+    (
+        b"list -> two lines\n",
+        b"list -> two\n| lines\n",
+        Err(Ending::OtherReply(1)),
+    ),
+    (
+        b"refuse 1 -> ok\nover refusing -> ok\nsay 1\n",
+        b"refuse 1 -> ok\nover refusing -> ok\n1\n",
+        Ok(()),
+    ),
+    (
+        b"insist say 1 -> kept 1\ninsist jump\nrefuse now\n",
+        b"insist say 1 -> kept 1\nnot a call (line 2)\nnot a call (line 3)\n",
+        Err(Ending::NotACall(2)),
+    ),
+    (b"say 1\nfail\nsay 2\n", b"1\n", Err(Ending::Memory)),
+    (b"say 1 -> \n", b"say 1 -> 1\n", Err(Ending::OtherReply(1))),
+];
+
+#[test]
+fn lines_have_replies(rt: HostRuntime) {
+    for (bytes, written, ends) in LINES {
+        let mut output = wide(rt.alloc());
+        let end = serve_from(rt.alloc(), bytes, None, &mut output);
+        check(&rt, bytes, output.written.as_slice(), written, end == ends);
+    }
+}
+
+#[test]
+fn a_failed_read_is_the_end_of_input_or_of_memory(rt: HostRuntime) {
+    for (kind, ends) in [
+        (ErrorKind::Other, Err(Ending::Input)),
+        (ErrorKind::OutOfMemory, Err(Ending::Memory)),
+    ] {
+        let mut output = wide(rt.alloc());
+        let end = serve_from(rt.alloc(), b"say 1\nsay 2", Some(kind), &mut output);
+        check(&rt, b"read", output.written.as_slice(), b"1\n", end == ends);
+    }
+}
+
+#[test]
+fn a_writer_that_is_closed_ends_it(rt: HostRuntime) {
+    for (most, flushes, written) in [
+        (0, true, b"".as_slice()),
+        (1, true, b"1\n"),
+        (usize::MAX, false, b"1\n"),
+    ] {
+        let mut output = Narrow {
+            written: Vec::new(rt.alloc()),
+            most,
+            flushes,
+        };
+        let end = serve_from(rt.alloc(), b"say 1\nsay 2\n", None, &mut output);
+        let ends = end == Err(Ending::Output);
+        check(&rt, b"write", output.written.as_slice(), written, ends);
+    }
+}
+
+#[test]
+fn each_ending_has_a_line_and_a_status(rt: HostRuntime) -> Result<(), Fail> {
+    for (ending, status, line) in [
+        (
+            Ending::WrongArguments,
+            1,
+            "usage: a book on standard input, and no arguments",
+        ),
+        (Ending::NotACall(3), 1, "line 3: not a call"),
+        (Ending::OtherReply(4), 1, "line 4: another reply"),
+        (Ending::Memory, 2, "out of memory"),
+        (Ending::Input, 3, "input failed"),
+        (Ending::Output, 3, "output failed"),
+    ] {
+        let text = format!(in rt.alloc(); "{ending}")?;
+        assert_eq!(rt; text.as_str(), line);
+        assert_eq!(rt; ending.status(), status);
+    }
+    Ok(())
+}
