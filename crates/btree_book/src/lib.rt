@@ -9,6 +9,7 @@ mod drawing;
 mod lines;
 mod places;
 mod refusals;
+mod repeats;
 mod replies;
 mod text;
 mod words;

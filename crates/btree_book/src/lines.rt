@@ -1,5 +1,6 @@
 //! The lines of a book, one after another.
 use crate::refusals::insist;
+use crate::repeats::each;
 use crate::words::{number, word};
 use crate::{Desk, Reply};
 use btree_testing::Refusing;
@@ -89,8 +90,8 @@ pub struct Desks<P, Q> {
     pub is_refusing: bool,
 }
 
-// Does a call of one of the desks, or one that is about them.
-fn call<P: Desk, Q: Desk>(
+/// Does a call of one of the desks, or one that is about them.
+pub(crate) fn call<P: Desk, Q: Desk>(
     alloc: Global,
     memory: &Refusing<Global>,
     desks: &mut Desks<P, Q>,
@@ -138,7 +139,11 @@ fn serve_call<P: Desk, Q: Desk>(
         text.push_str(" -> ")?;
     }
     let mut reply = Reply::new(alloc);
-    if !call(alloc, memory, desks, words, &mut reply)? {
+    let is_call = match words.strip_prefix("each ") {
+        Some(rest) => each(alloc, memory, desks, rest, &mut reply)?,
+        None => call(alloc, memory, desks, words, &mut reply)?,
+    };
+    if !is_call {
         writeln!(text, "not a call (line {at})")?;
         return Ok(Some(Ending::NotACall(at)));
     }

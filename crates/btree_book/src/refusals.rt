@@ -8,7 +8,7 @@ const MOST: u64 = 4096;
 
 // Returns whether a reply says that the call was refused.
 fn says_refused(text: &str) -> bool {
-    text.starts_with("refused") || text.starts_with("no memory")
+    text.contains("refused") || text.contains("no memory")
 }
 
 /// Refuses the first growth of a call, then the second, and so on, until none is refused. After each refusal everything on the desk has to be

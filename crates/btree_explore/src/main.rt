@@ -2,8 +2,11 @@
 #![tactic(auto)]
 
 mod desk;
-mod keys;
-mod menu;
+mod help;
+mod in_turn;
+mod loops;
+mod merges;
+mod sets;
 
 use crate::desk::serve_stores;
 use btree_book::Ending;

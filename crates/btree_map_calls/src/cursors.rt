@@ -1,0 +1,201 @@
+//! Cursors that insert and remove pairs, drains, and what keeps pairs.
+use crate::menu::{Action, Pick, Raise, picks, raised, read_pick, read_raise, read_step, write};
+use btree_book::{Reply, number, word};
+use btree_slab::generic::BTreeMap;
+use btree_slab::generic::map::EntriesMut;
+use btree_slab::store::NodesMut;
+use std::alloc::AllocError;
+
+type Map<C> = BTreeMap<u64, u64, C>;
+
+fn insert<C: NodesMut<u64, u64>>(
+    entries: &mut EntriesMut<'_, u64, u64, C>,
+    key: u64,
+    value: u64,
+    reply: &mut Reply,
+) -> Result<(), AllocError> {
+    if !entries.fits(&key) {
+        return reply.word("unfit");
+    }
+    match entries.insert(key, value) {
+        Ok(()) => reply.word("ok"),
+        Err(refused) => reply.refused_pair(refused.cause, refused.key, refused.value),
+    }
+}
+
+fn lend<C: NodesMut<u64, u64>>(
+    entries: &mut EntriesMut<'_, u64, u64, C>,
+    verb: &str,
+    action: Action,
+    reply: &mut Reply,
+) -> Result<(), AllocError> {
+    let lent = match verb {
+        "next" => entries.next(),
+        "next_item" => entries.next_item(),
+        _ => entries.peek_mut(),
+    };
+    match lent {
+        Some((key, value)) => reply.pair(*key, write(value, action)),
+        None => reply.word("none"),
+    }
+}
+
+fn skip<C: NodesMut<u64, u64>>(entries: &mut EntriesMut<'_, u64, u64, C>, count: u64) {
+    for _ in 0..count {
+        entries.next();
+    }
+}
+
+fn step<C: NodesMut<u64, u64>>(
+    entries: &mut EntriesMut<'_, u64, u64, C>,
+    word: &str,
+    reply: &mut Reply,
+) -> Result<(), AllocError> {
+    let (verb, action) = read_step(word);
+    match (verb, number(verb), action) {
+        (_, Some(key), Some(Action::Set(value))) => insert(entries, key, value, reply),
+        ("next", _, _) | ("next_item", _, _) | ("peek_mut", _, _) => lend(
+            entries,
+            verb,
+            action.unwrap_or(Action::Clear),
+            reply,
+        ),
+        ("peek", _, None) => match entries.peek() {
+            Some(item) => reply.pair(*item.key(), *item.value()),
+            None => reply.word("none"),
+        },
+        ("remove", _, None) => {
+            let removed = entries.remove().map(|item| item.into_pair());
+            reply.found(removed)
+        }
+        ("hint", _, None) => reply.hint(entries.size_hint()),
+        _ => step_with_number(entries, verb, reply),
+    }
+}
+
+fn step_with_number<C: NodesMut<u64, u64>>(
+    entries: &mut EntriesMut<'_, u64, u64, C>,
+    word: &str,
+    reply: &mut Reply,
+) -> Result<(), AllocError> {
+    match word.split_once(':') {
+        Some(("fits", key)) => match number(key) {
+            Some(key) => reply.truth(entries.fits(&key)),
+            None => reply.word("?"),
+        },
+        Some(("skip", count)) => {
+            skip(entries, number(count).unwrap_or(0));
+            Ok(())
+        }
+        _ => reply.word("?"),
+    }
+}
+
+fn entries_mut<C: NodesMut<u64, u64>>(
+    map: &mut Map<C>,
+    steps: &str,
+    reply: &mut Reply,
+) -> Result<(), AllocError> {
+    let mut entries = map.entries_mut();
+    if steps == "" {
+        return reply.word("dropped");
+    }
+    for word in steps.split(' ') {
+        step(&mut entries, word, reply)?;
+    }
+    Ok(())
+}
+
+// Takes so many pairs of a drain that writes to the values, and drops it.
+fn drain<C: NodesMut<u64, u64>>(
+    map: &mut Map<C>,
+    (pick, raise): (Pick, Raise),
+    count: u64,
+    shows_hints: bool,
+    reply: &mut Reply,
+) -> Result<(), AllocError> {
+    let mut calls = 0u64;
+    let mut drain = map.drain_filter(move |key: &u64, value: &mut u64| {
+        calls = calls.wrapping_add(1);
+        *value = raised(raise, *value, calls);
+        picks(pick, *key)
+    });
+    for _ in 0..count {
+        if shows_hints {
+            reply.hint(drain.size_hint())?;
+        }
+        reply.found(drain.next())?;
+    }
+    if shows_hints {
+        reply.hint(drain.size_hint())?;
+    }
+    reply.word("dropped")
+}
+
+// Takes so many pairs of a drain that writes to the values, and finishes it.
+fn finish<C: NodesMut<u64, u64>>(
+    map: &mut Map<C>,
+    (pick, raise): (Pick, Raise),
+    count: u64,
+    reply: &mut Reply,
+) -> Result<(), AllocError> {
+    let mut calls = 0u64;
+    let mut drain = map.drain_filter(move |key: &u64, value: &mut u64| {
+        calls = calls.wrapping_add(1);
+        *value = raised(raise, *value, calls);
+        picks(pick, *key)
+    });
+    for _ in 0..count {
+        reply.found(drain.next())?;
+    }
+    drain.finish();
+    reply.word("finished")
+}
+
+// Keeps the pairs that a test picks, and adds how often it was called.
+fn retain<C: NodesMut<u64, u64>>(
+    map: &mut Map<C>,
+    (pick, raise): (Pick, Raise),
+    reply: &mut Reply,
+) -> Result<(), AllocError> {
+    let mut calls = 0u64;
+    map.retain(|key: &u64, value: &mut u64| {
+        calls = calls.wrapping_add(1);
+        *value = raised(raise, *value, calls);
+        picks(pick, *key)
+    });
+    reply.word("calls")?;
+    reply.number(calls)
+}
+
+/// Serves a cursor or a drain. Returns whether the words are one.
+pub(crate) fn serve_cursors<C: NodesMut<u64, u64>>(
+    map: &mut Map<C>,
+    verb: &str,
+    rest: &str,
+    reply: &mut Reply,
+) -> Result<bool, AllocError> {
+    if verb == "entries_mut" {
+        entries_mut(map, rest, reply)?;
+        return Ok(true);
+    }
+    let (first, more) = word(rest);
+    let Some(pick) = read_pick(first) else {
+        return Ok(false);
+    };
+    let (count, by) = word(more);
+    match (verb, number(count), read_raise(by), read_raise(more)) {
+        ("retain", _, _, Some(raise)) => retain(map, (pick, raise), reply)?,
+        ("drain", Some(count), Some(raise), _) => drain(map, (pick, raise), count, false, reply)?,
+        ("drain", Some(count), None, _) if by == "hint" => drain(
+            map,
+            (pick, Raise::By(0)),
+            count,
+            true,
+            reply,
+        )?,
+        ("finish", Some(count), Some(raise), _) => finish(map, (pick, raise), count, reply)?,
+        _ => return Ok(false),
+    }
+    Ok(true)
+}
