@@ -1,15 +1,15 @@
 //! What the lines are calls of.
 use crate::build::build_by_map;
-use crate::help::put_help;
+use crate::help::help;
 use crate::raw_calls::{put_built, serve_raw};
 use crate::session_calls::{Map, serve_cursor, serve_session};
 use btree_book::{Desk, Desks, Ending, Reply, serve, word};
 use btree_node_calls::{PlainNode, Raw, empty_leaf, put_node_text, read_node, serve_node};
-use btree_testing::Refusing;
 use btree_slab::generic::BTreeMap;
 use btree_slab::generic::map::{BTreeExt, RawBTree};
 use btree_slab::script::Session;
 use btree_slab::store::{ClearNodes, NodesMut};
+use btree_testing::Refusing;
 use std::alloc::{AllocError, Global};
 use std::io;
 
@@ -105,9 +105,17 @@ where
             },
             "s" => serve_session(&mut self.s, self.alloc, rest, reply),
             "c" => serve_cursor(&mut self.c, self.alloc, rest, reply),
-            "help" => put_help(rest, reply),
-            "new" if rest == "" => {
-                *self = set_up(self.alloc, self.origin);
+            "help" => {
+                help(reply)?;
+                Ok(true)
+            }
+            "new" => {
+                self.n = empty_leaf();
+                self.m = empty_leaf();
+                self.t = RawBTree::new(self.origin);
+                self.mark = None;
+                self.s = Session::new(self.origin);
+                self.c = BTreeMap::new(self.origin);
                 reply.word("ok")?;
                 Ok(true)
             }

@@ -13,9 +13,9 @@ mod session_calls;
 
 use crate::desk::serve_stores;
 use btree_book::Ending;
-use btree_testing::Refusing;
 use btree_slab::generic::Node;
 use btree_slab::store::SlabStore;
+use btree_testing::Refusing;
 use std::alloc::Global;
 use std::env::FillError;
 use std::process::ExitCode;

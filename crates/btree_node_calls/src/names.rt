@@ -1,4 +1,4 @@
-//! The nodes of a raw tree by words: paths from the root, numbers, and `M` for the marked one.
+//! The nodes of a raw tree by words: paths from the root, `M` for the marked one, `unused` for one that is not there, and numbers.
 use btree_book::{Reply, node, number, offset, put_node};
 use btree_slab::generic::map::RawBTree;
 use btree_slab::generic::node::{Address, Offset};
@@ -8,7 +8,7 @@ use std::alloc::AllocError;
 /// A raw tree.
 pub type Raw<C> = RawBTree<u64, u64, C>;
 
-/// Returns the number of the node that a word names: `M`, a number, or a path. The number may not be in use.
+/// Returns the number of the node that a word names: a path, `M`, `unused`, or the number itself.
 pub fn named<C: NodesMut<u64, u64>>(
     raw: &Raw<C>,
     mark: Option<usize>,
@@ -16,6 +16,9 @@ pub fn named<C: NodesMut<u64, u64>>(
 ) -> Option<usize> {
     if word == "M" {
         return mark;
+    }
+    if word == "unused" {
+        return (0..usize::MAX).find(|id| !raw.has_node(*id));
     }
     match number(word) {
         Some(id) => Some(id as usize),
