@@ -50,12 +50,13 @@ fn inserts_values_of_names(rt: HostRuntime) {
         assert_same(&rt, called(&rt, &mut map, "poneyland"), calls);
     }
     assert_same(&rt, raised(&rt, &mut map, "health", 100, 0), 100);
-    match map.entry("defence").or_insert_with(|| 42) {
-        Ok(value) => assert_same(&rt, *value, 42),
-        Err(_) => panic!(rt; "refused"),
+    for given in [42u64, 7] {
+        match map.entry("defence").or_insert_with(move || given) {
+            Ok(value) => assert_same(&rt, *value, 42),
+            Err(_) => panic!(rt; "refused"),
+        }
     }
     assert_same(&rt, raised(&rt, &mut map, "attack", 100, 42), 142);
-    assert_same(&rt, raised(&rt, &mut map, "defence", 7, 0), 42);
     check_pairs(
         &rt,
         &map,
