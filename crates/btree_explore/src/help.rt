@@ -15,7 +15,7 @@ const LINES: [&str; 31] = [
     "a, b: len is_empty nodes height root list shape draw validate clear into_raw first_key_value last_key_value pop_first pop_last",
     "a, b: get contains_key get_key_value index remove remove_entry take KEY; insert replace KEY=VALUE; get_mut KEY WRITE; update KEY ACTION",
     "a, b: entry KEY; or_insert or_insert_with and_modify KEY=VALUE WRITE; or_insert_with_key or_default KEY WRITE",
-    "a, b: occupied KEY STEPS; first_entry last_entry STEPS: key get insert=VALUE get_mut=VALUE into_mut=VALUE remove remove_entry",
+    "a, b: occupied KEY STEPS: key get insert=VALUE get_mut=VALUE, the last into_mut=VALUE remove remove_entry; first_entry last_entry STEP",
     "a, b: vacant KEY STEP: key into_key insert=VALUE",
     "a, b: first_item_address last_item_address first_back_address last_valid_address visit_backs visit_fronts; address_of address_of_counted KEY",
     "a, b: is_valid item normalize leaf_address next_item_address previous_item_address next_item_or_back_address ADDRESS",

@@ -135,7 +135,8 @@ fn append<C: NodesMut<u64, ()>>(
         Ok(()) => reply.word("ok")?,
         Err(refused) => reply.refused_key(refused.cause, refused.key)?,
     }
-    put_left(&mut other.iter(), reply)
+    let mut left = other.iter();
+    put_left(&mut left, reply)
 }
 
 // Makes a set a clone of the other one.

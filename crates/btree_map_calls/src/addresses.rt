@@ -177,14 +177,16 @@ fn by_address<C: NodesMut<u64, u64>>(
     let Some(addr) = map_address(map, first) else {
         return Ok(false);
     };
-    match (verb, number(more)) {
-        ("is_valid", None) => reply.truth(map.is_valid(addr))?,
-        ("item", None) => match map.item(addr) {
+    if let Some(key) = number(more) {
+        return fitting(map, verb, addr, key, reply);
+    }
+    match verb {
+        "is_valid" => reply.truth(map.is_valid(addr))?,
+        "item" => match map.item(addr) {
             Some(item) => reply.pair(*item.key(), *item.value())?,
             None => reply.word("none")?,
         },
-        (_, None) => return navigate(map, verb, addr, reply),
-        (_, Some(key)) => return fitting(map, verb, addr, key, reply),
+        _ => return navigate(map, verb, addr, reply),
     }
     Ok(true)
 }

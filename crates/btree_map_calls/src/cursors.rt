@@ -1,5 +1,6 @@
 //! Cursors that insert and remove pairs, drains, and what keeps pairs.
-use crate::menu::{Action, Pick, Raise, picks, raised, read_pick, read_raise, read_step, write};
+use crate::menu::{Action, Pick, Raise, picks, raised, read_pick, read_raise, read_step};
+use crate::walks::put_lent;
 use btree_book::{Reply, number, word};
 use btree_slab::generic::BTreeMap;
 use btree_slab::generic::map::EntriesMut;
@@ -23,23 +24,6 @@ fn insert<C: NodesMut<u64, u64>>(
     }
 }
 
-fn lend<C: NodesMut<u64, u64>>(
-    entries: &mut EntriesMut<'_, u64, u64, C>,
-    verb: &str,
-    action: Action,
-    reply: &mut Reply,
-) -> Result<(), AllocError> {
-    let lent = match verb {
-        "next" => entries.next(),
-        "next_item" => entries.next_item(),
-        _ => entries.peek_mut(),
-    };
-    match lent {
-        Some((key, value)) => reply.pair(*key, write(value, action)),
-        None => reply.word("none"),
-    }
-}
-
 fn skip<C: NodesMut<u64, u64>>(entries: &mut EntriesMut<'_, u64, u64, C>, count: u64) {
     for _ in 0..count {
         entries.next();
@@ -54,12 +38,9 @@ fn step<C: NodesMut<u64, u64>>(
     let (verb, action) = read_step(word);
     match (verb, number(verb), action) {
         (_, Some(key), Some(Action::Set(value))) => insert(entries, key, value, reply),
-        ("next", _, _) | ("next_item", _, _) | ("peek_mut", _, _) => lend(
-            entries,
-            verb,
-            action.unwrap_or(Action::Clear),
-            reply,
-        ),
+        ("next", _, _) => put_lent(entries.next(), action, reply),
+        ("next_item", _, _) => put_lent(entries.next_item(), action, reply),
+        ("peek_mut", _, _) => put_lent(entries.peek_mut(), action, reply),
         ("peek", _, None) => match entries.peek() {
             Some(item) => reply.pair(*item.key(), *item.value()),
             None => reply.word("none"),

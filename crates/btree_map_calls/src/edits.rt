@@ -1,6 +1,7 @@
 //! Calls by address that change a map.
 use crate::addresses::{map_address, map_node, same};
 use crate::menu::{Action, given, read_action, write};
+use crate::walks::put_lent;
 use btree_book::{Reply, number, pair, put_address, word};
 use btree_slab::generic::BTreeMap;
 use btree_slab::generic::map::{BTreeExt, BTreeExtMut};
@@ -139,7 +140,7 @@ fn get_mut_in<C: NodesMut<u64, u64>>(
         return reply.word("no node");
     }
     match map.get_mut_in(&key, id) {
-        Some(value) => reply.number(write(value, action)),
+        Some(value) => reply.number(write(value, Some(action))),
         None => reply.word("none"),
     }
 }
@@ -153,10 +154,7 @@ fn item_mut<C: NodesMut<u64, u64>>(
     if !map.is_valid(same(&addr)) {
         return reply.word("not valid");
     }
-    match map.item_mut(addr) {
-        Some((key, value)) => reply.pair(*key, write(value, action)),
-        None => reply.word("none"),
-    }
+    put_lent(map.item_mut(addr), Some(action), reply)
 }
 
 fn under<C: NodesMut<u64, u64>>(

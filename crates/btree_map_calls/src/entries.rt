@@ -35,7 +35,7 @@ fn show<C: NodesMut<u64, u64>>(
     }
 }
 
-// Does a step after which the entry is still there.
+// Does a step after which an entry is still there.
 fn step<C: NodesMut<u64, u64>>(
     entry: &mut OccupiedEntry<'_, u64, u64, C>,
     word: &str,
@@ -48,65 +48,71 @@ fn step<C: NodesMut<u64, u64>>(
             let old = entry.insert(value);
             reply.number(old)
         }
-        ("get_mut", Some(action)) => reply.number(write(entry.get_mut(), action)),
+        ("get_mut", action) => reply.number(write(entry.get_mut(), action)),
         _ => reply.word("?"),
     }
 }
 
-// Does the last step.
+// Does the last step of an entry.
 fn last_step<C: NodesMut<u64, u64>>(
     entry: OccupiedEntry<'_, u64, u64, C>,
     word: &str,
     reply: &mut Reply,
 ) -> Result<(), AllocError> {
-    match read_step(word) {
-        ("into_mut", Some(action)) => reply.number(write(entry.into_mut(), action)),
-        ("remove", None) => {
+    let (verb, action) = read_step(word);
+    match verb {
+        "key" => reply.number(*entry.key()),
+        "get" => reply.number(*entry.get()),
+        "into_mut" => reply.number(write(entry.into_mut(), action)),
+        "remove" => {
             let value = entry.remove();
             reply.number(value)
         }
-        ("remove_entry", None) => {
+        "remove_entry" => {
             let (key, value) = entry.remove_entry();
             reply.pair(key, value)
         }
-        _ => {
-            let mut entry = entry;
-            step(&mut entry, word, reply)
-        }
+        _ => reply.word("?"),
     }
 }
 
+// Does the steps of the entry of a key, if it is there.
 fn occupied<C: NodesMut<u64, u64>>(
-    entry: OccupiedEntry<'_, u64, u64, C>,
+    map: &mut Map<C>,
+    key: u64,
     steps: &str,
     reply: &mut Reply,
 ) -> Result<(), AllocError> {
-    let Some((first, last)) = steps.rsplit_once(' ') else {
-        return last_step(entry, steps, reply);
-    };
-    let mut entry = entry;
-    for word in first.split(' ') {
-        step(&mut entry, word, reply)?;
+    let (first, last) = steps.rsplit_once(' ').unwrap_or(("", steps));
+    match map.entry(key) {
+        Entry::Occupied(mut entry) => {
+            for word in first.split(' ') {
+                if word != "" {
+                    step(&mut entry, word, reply)?;
+                }
+            }
+            last_step(entry, last, reply)
+        }
+        Entry::Vacant(_) => reply.word("vacant"),
     }
-    last_step(entry, last, reply)
 }
 
-// Inserts at a vacant entry, or gives its key back.
+// Inserts at a vacant entry, and writes to the value, or gives the key back.
 fn vacant<C: NodesMut<u64, u64>>(
     entry: VacantEntry<'_, u64, u64, C>,
     steps: &str,
     reply: &mut Reply,
 ) -> Result<(), AllocError> {
     let (step, by) = word(steps);
-    match (read_step(step), read_action(by)) {
-        (("key", None), None) => reply.number(*entry.key()),
-        (("into_key", None), None) => {
+    match read_step(step) {
+        ("key", _) => reply.number(*entry.key()),
+        ("into_key", _) => {
             let key = entry.into_key();
             reply.number(key)
         }
-        (("insert", Some(Action::Set(value))), action) => match entry.insert(value) {
+        ("insert", Some(Action::Set(value))) => match entry.insert(value) {
             Ok(lent) => {
-                write(lent, action.unwrap_or(Action::Clear));
+                write(lent, read_action(by));
                 reply.number(*lent)
             }
             Err(refused) => reply.refused_pair(refused.cause, refused.key, refused.value),
@@ -120,7 +126,7 @@ fn or_insert<C: NodesMut<u64, u64>>(
     map: &mut Map<C>,
     verb: &str,
     (key, value): (u64, u64),
-    action: Action,
+    action: Option<Action>,
     reply: &mut Reply,
 ) -> Result<(), AllocError> {
     let (entry, mut action) = (map.entry(key), action);
@@ -130,7 +136,7 @@ fn or_insert<C: NodesMut<u64, u64>>(
         "or_insert_with_key" => entry.or_insert_with_key(|key| *key),
         "or_default" => entry.or_default(),
         _ => {
-            let before = mem::replace(&mut action, Action::Clear);
+            let before = mem::replace(&mut action, None);
             let entry = entry.and_modify(move |found| {
                 write(found, before);
             });
@@ -146,29 +152,11 @@ fn or_insert<C: NodesMut<u64, u64>>(
     }
 }
 
-// Does the steps of the entry of a key, if it is of the kind that is named.
-fn of_key<C: NodesMut<u64, u64>>(
-    map: &mut Map<C>,
-    verb: &str,
-    key: u64,
-    steps: &str,
-    reply: &mut Reply,
-) -> Result<bool, AllocError> {
-    match (verb, map.entry(key)) {
-        ("occupied", Entry::Occupied(entry)) => occupied(entry, steps, reply)?,
-        ("occupied", Entry::Vacant(_)) => reply.word("vacant")?,
-        ("vacant", Entry::Vacant(entry)) => vacant(entry, steps, reply)?,
-        ("vacant", Entry::Occupied(_)) => reply.word("occupied")?,
-        _ => return Ok(false),
-    }
-    Ok(true)
-}
-
-// Does the steps of the first entry, or the last one.
+// Does a step of the first entry, or of the last one.
 fn of_end<C: NodesMut<u64, u64>>(
     map: &mut Map<C>,
     verb: &str,
-    steps: &str,
+    step: &str,
     reply: &mut Reply,
 ) -> Result<(), AllocError> {
     let end = if verb == "first_entry" {
@@ -177,7 +165,7 @@ fn of_end<C: NodesMut<u64, u64>>(
         map.last_entry()
     };
     match end {
-        Some(entry) => occupied(entry, steps, reply),
+        Some(entry) => last_step(entry, step, reply),
         None => reply.word("none"),
     }
 }
@@ -201,15 +189,14 @@ pub(crate) fn serve_entries<C: NodesMut<u64, u64>>(
     match (verb, asked(first)) {
         ("first_entry" | "last_entry", _) => of_end(map, verb, rest, reply)?,
         ("entry", Some((key, _))) => show(map, key, reply)?,
-        ("occupied" | "vacant", Some((key, _))) => return of_key(map, verb, key, more, reply),
-        ("or_insert" | "or_insert_with" | "or_insert_with_key" | "or_default", Some(pair)) => {
-            let action = read_action(more).unwrap_or(Action::Clear);
-            or_insert(map, verb, pair, action, reply)?
-        }
-        ("and_modify", Some(pair)) => {
-            let action = read_action(more).unwrap_or(Action::Clear);
-            or_insert(map, verb, pair, action, reply)?
-        }
+        ("occupied", Some((key, _))) => occupied(map, key, more, reply)?,
+        ("vacant", Some((key, _))) => match map.entry(key) {
+            Entry::Vacant(entry) => vacant(entry, more, reply)?,
+            Entry::Occupied(_) => reply.word("occupied")?,
+        },
+        ("or_insert" | "or_insert_with" | "or_insert_with_key" | "or_default", Some(pair)) =>
+            or_insert(map, verb, pair, read_action(more), reply)?,
+        ("and_modify", Some(pair)) => or_insert(map, verb, pair, read_action(more), reply)?,
         _ => return Ok(false),
     }
     Ok(true)

@@ -59,7 +59,7 @@ fn get_mut<C: NodesMut<u64, u64>>(
     reply: &mut Reply,
 ) -> Result<(), AllocError> {
     match map.get_mut(&key) {
-        Some(value) => reply.number(write(value, action)),
+        Some(value) => reply.number(write(value, Some(action))),
         None => reply.word("none"),
     }
 }

@@ -49,10 +49,12 @@ pub fn given(action: Action, found: Option<u64>) -> Option<u64> {
     }
 }
 
-/// Writes what an action gives, if it gives a value. Returns the old one.
-pub(crate) fn write(value: &mut u64, action: Action) -> u64 {
+/// Writes what an action gives, if there is one and it gives a value. Returns the old value.
+pub(crate) fn write(value: &mut u64, action: Option<Action>) -> u64 {
     let old = *value;
-    *value = given(action, Some(old)).unwrap_or(old);
+    if let Some(action) = action {
+        *value = given(action, Some(old)).unwrap_or(old);
+    }
     old
 }
 

@@ -67,7 +67,8 @@ fn append<C: NodesMut<u64, u64>>(
         Ok(()) => reply.word("ok")?,
         Err(refused) => reply.refused_pair(refused.cause, refused.key, refused.value)?,
     }
-    put_left(&mut other.iter(), reply)
+    let mut left = other.iter();
+    put_left(&mut left, reply)
 }
 
 // Makes a map a clone of the other one.

@@ -51,6 +51,18 @@ pub(crate) fn put<T: Yielded>(item: Option<T>, reply: &mut Reply) -> Result<(), 
     }
 }
 
+/// Adds a pair that is lent, or `none`, and writes to its value if there is an action.
+pub(crate) fn put_lent(
+    lent: Option<(&u64, &mut u64)>,
+    action: Option<Action>,
+    reply: &mut Reply,
+) -> Result<(), AllocError> {
+    match lent {
+        Some((key, value)) => reply.pair(*key, write(value, action)),
+        None => reply.word("none"),
+    }
+}
+
 /// Takes items from both ends of an iterator.
 pub fn walk<I: DoubleEndedIterator + Drop>(
     items: I,
@@ -132,26 +144,16 @@ fn owned<C: CloneNodes<u64, u64> + Drop>(
 fn iter_mut<C: NodesMut<u64, u64>>(
     map: &mut Map<C>,
     ends: &str,
-    action: Action,
+    action: Option<Action>,
     reply: &mut Reply,
 ) -> Result<(), AllocError> {
     let mut pairs = map.iter_mut();
     for end in ends.as_bytes() {
-        let lent = match *end {
-            b'f' => pairs.next(),
-            b'b' => pairs.next_back(),
-            b'h' => {
-                reply.hint(pairs.size_hint())?;
-                continue;
-            }
-            _ => {
-                reply.left(pairs.len())?;
-                continue;
-            }
-        };
-        match lent {
-            Some((key, value)) => reply.pair(*key, write(value, action))?,
-            None => reply.word("none")?,
+        match *end {
+            b'f' => put_lent(pairs.next(), action, reply)?,
+            b'b' => put_lent(pairs.next_back(), action, reply)?,
+            b'h' => reply.hint(pairs.size_hint())?,
+            _ => reply.left(pairs.len())?,
         }
     }
     Ok(())
@@ -160,7 +162,7 @@ fn iter_mut<C: NodesMut<u64, u64>>(
 fn values_mut<C: NodesMut<u64, u64>>(
     map: &mut Map<C>,
     ends: &str,
-    action: Action,
+    action: Option<Action>,
     reply: &mut Reply,
 ) -> Result<(), AllocError> {
     let mut values = map.values_mut();
@@ -181,7 +183,7 @@ fn range_mut<C: NodesMut<u64, u64>>(
     map: &mut Map<C>,
     bounds: (Bound<&u64>, Bound<&u64>),
     ends: &str,
-    action: Action,
+    action: Option<Action>,
     reply: &mut Reply,
 ) -> Result<(), AllocError> {
     if !is_valid_range(bounds) {
@@ -189,17 +191,10 @@ fn range_mut<C: NodesMut<u64, u64>>(
     }
     let mut pairs = map.range_mut(bounds);
     for end in ends.as_bytes() {
-        let lent = match *end {
-            b'f' => pairs.next(),
-            b'b' => pairs.next_back(),
-            _ => {
-                reply.truth(pairs.is_empty())?;
-                continue;
-            }
-        };
-        match lent {
-            Some((key, value)) => reply.pair(*key, write(value, action))?,
-            None => reply.word("none")?,
+        match *end {
+            b'f' => put_lent(pairs.next(), action, reply)?,
+            b'b' => put_lent(pairs.next_back(), action, reply)?,
+            _ => reply.truth(pairs.is_empty())?,
         }
     }
     Ok(())
@@ -234,10 +229,7 @@ fn ranges<C: NodesMut<u64, u64>>(
     match (verb, read_action(by)) {
         ("is_valid_range", _) => reply.truth(is_valid_range(bounds))?,
         ("range", _) => range(map, bounds, ends, reply)?,
-        ("range_mut", action) => {
-            let action = action.unwrap_or(Action::Clear);
-            range_mut(map, bounds, ends, action, reply)?
-        }
+        ("range_mut", action) => range_mut(map, bounds, ends, action, reply)?,
         _ => return Ok(false),
     }
     Ok(true)
@@ -251,7 +243,7 @@ pub(crate) fn serve_walks<C: CloneNodes<u64, u64> + Drop>(
     reply: &mut Reply,
 ) -> Result<bool, AllocError> {
     let (ends, by) = word(rest);
-    let action = read_action(by).unwrap_or(Action::Clear);
+    let action = read_action(by);
     match verb {
         "iter" => walk_known(map.iter(), rest, reply)?,
         "keys" => walk_known(map.keys(), rest, reply)?,

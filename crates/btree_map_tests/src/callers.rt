@@ -161,15 +161,33 @@ fn each_caller_updates_at_an_address(rt: HostRuntime) {
     assert_same(&rt, (map.len(), map.get(&2).copied()), (2, None));
 }
 
-// Writes 77 at the address of a key of nine, by the item there. The whole content is then that of nine keys of which this one was inserted
-// with 77.
-fn write_item<C: NodesMut<u64, u64> + Drop>(
+// Writes 77 at the address of a key, by the item there.
+fn write_item<C: NodesMut<u64, u64>>(
+    rt: &impl Abort,
+    map: &mut BTreeMap<u64, u64, C>,
+    written: u64,
+) {
+    let Ok(addr) = map.address_of(&written) else {
+        panic!(rt; "absent");
+    };
+    match map.item_mut(addr) {
+        Some((key, value)) => {
+            assert_same(rt, (*key, *value), (written, written.wrapping_mul(10)));
+            *value = 77;
+        }
+        None => panic!(rt; "no item"),
+    }
+}
+
+// Writes 77 at a key of nine. The whole content is then that of nine keys of which this one was inserted with 77.
+fn write_to_nine<C: NodesMut<u64, u64> + Drop>(
     rt: &impl Abort,
     mut map: BTreeMap<u64, u64, C>,
     mut expected: BTreeMap<u64, u64, C>,
     written: u64,
     alloc: Global,
 ) -> Result<(), Fail> {
+    write_item(rt, &mut map, written);
     for key in 0..9u64 {
         let value = if key == written {
             77
@@ -178,20 +196,9 @@ fn write_item<C: NodesMut<u64, u64> + Drop>(
         };
         assert_true(rt, expected.insert(key, value).is_ok());
     }
-    let Ok(addr) = map.address_of(&written) else {
-        return Err(Fail::from("absent"));
-    };
-    let Some((key, value)) = map.item_mut(addr) else {
-        return Err(Fail::from("no item"));
-    };
-    assert_same(rt, (*key, *value), (written, written.wrapping_mul(10)));
-    *value = 77;
     let content = content_of(map.as_raw(), alloc)?;
-    assert_same(
-        rt,
-        content.as_str(),
-        content_of(expected.as_raw(), alloc)?.as_str(),
-    );
+    let same = content_of(expected.as_raw(), alloc)?;
+    assert_same(rt, content.as_str(), same.as_str());
     Ok(())
 }
 
@@ -200,7 +207,7 @@ fn write_item<C: NodesMut<u64, u64> + Drop>(
 fn writes_to_the_item_at_each_address(rt: HostRuntime) -> Result<(), Fail> {
     for written in 0..9 {
         let map = first_keys::<Store>(&rt, rt.alloc(), 9);
-        write_item(&rt, map, BTreeMap::new(rt.alloc()), written, rt.alloc())?;
+        write_to_nine(&rt, map, BTreeMap::new(rt.alloc()), written, rt.alloc())?;
     }
     Ok(())
 }

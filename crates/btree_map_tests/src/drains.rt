@@ -4,7 +4,7 @@ ghost use Rattle.std.specs.Fn.{CalledAt, TakesAt};
 ghost use Rattle.btree_set.specs.Drain.{CallableOnEach, Selects};
 
 use crate::asserts::{assert_same, assert_true};
-use crate::samples::first_keys;
+use crate::samples::{check_pairs, first_keys};
 use btree_item::{Item, Slots};
 use btree_map::BTreeMap;
 use btree_node::Node;
@@ -30,20 +30,19 @@ fn numbers_below<C: NodesMut<u64, ()>>(
     set
 }
 
-// Checks that a set has every second number from a first one on, up to a bound.
+// Checks that a set has every second number from a first one on, up to an end.
 fn check_every_second<C: NodesMut<u64, ()>>(
     rt: &impl Abort,
     set: &BTreeSet<u64, C>,
     first: u64,
-    bound: u64,
+    end: u64,
 ) {
-    let mut walk = set.iter();
     let mut number = first;
-    while number < bound {
-        assert_same(rt, walk.next().copied(), Some(number));
+    for element in set.iter() {
+        assert_same(rt, *element, number);
         number = number.wrapping_add(2);
     }
-    assert_true(rt, walk.next().is_none());
+    assert_same(rt, number, end);
 }
 
 // Finishes a drain. What is left follows from the contracts of the drain alone.
@@ -81,7 +80,7 @@ fn drain_both<C: NodesMut<u64, ()> + Drop, D: NodesMut<u64, ()> + Drop>(
     check_every_second(rt, &set, 0, 44);
     let mut set = numbers_below(rt, second, 44);
     drain_and_drop(&mut set, |number: &u64| *number % 2 == 0);
-    check_every_second(rt, &set, 1, 44);
+    check_every_second(rt, &set, 1, 45);
 }
 
 #[test]
@@ -98,7 +97,7 @@ fn retain_odd<C: NodesMut<u64, ()> + Drop>(rt: &impl Abort, set: BTreeSet<u64, C
         *number % 2 == 1
     });
     assert_same(rt, count, 44);
-    check_every_second(rt, &set, 1, 44);
+    check_every_second(rt, &set, 1, 45);
 }
 
 // Keeps the keys of nine that 3 divides. Each pair is asked about once.
@@ -109,12 +108,7 @@ fn retain_third<C: NodesMut<u64, u64> + Drop>(rt: &impl Abort, mut map: BTreeMap
         *key % 3 == 0
     });
     assert_same(rt, count, 9);
-    let mut keys = [0u64, 3, 6].into_iter();
-    for (key, value) in &map {
-        assert_same(rt, keys.next(), Some(*key));
-        assert_same(rt, *value, key.wrapping_mul(10));
-    }
-    assert_same(rt, (keys.len(), map.len()), (0, 3));
+    check_pairs(rt, &map, &[(0, 0), (3, 30), (6, 60)]);
 }
 
 #[test]

@@ -17,6 +17,15 @@ fn check_pair(rt: &impl Abort, pair: Option<(u64, Counted<'_>)>, key: u64) {
     }
 }
 
+// Checks that no pair is left, at either end.
+fn check_ended<V: Drop, C: NodesMut<u64, V> + Drop>(rt: &impl Abort, pairs: IntoIter<u64, V, C>) {
+    let mut pairs = pairs;
+    for _ in 0..2 {
+        assert_true(rt, pairs.next().is_none() && pairs.next_back().is_none());
+        assert_same(rt, (pairs.len(), pairs.size_hint()), (0, (0, Some(0))));
+    }
+}
+
 // Takes a hundred pairs, in each step from the front or from the back as it is that step's turn. Each key comes with its own value.
 fn take_in_turns<'a, C: NodesMut<u64, Counted<'a>> + Drop>(
     rt: &impl Abort,
@@ -38,11 +47,7 @@ fn take_in_turns<'a, C: NodesMut<u64, Counted<'a>> + Drop>(
         assert_same(rt, pairs.len() as u64, 99u64.wrapping_sub(step));
         assert_same(rt, drops.get(), step.wrapping_add(1));
     }
-    for _ in 0..2 {
-        assert_true(rt, pairs.next().is_none() && pairs.next_back().is_none());
-        assert_same(rt, (pairs.len(), pairs.size_hint()), (0, (0, Some(0))));
-    }
-    drop(pairs);
+    check_ended(rt, pairs);
     assert_same(rt, drops.get(), 100);
 }
 

@@ -9,6 +9,8 @@ use std::fmt::Debug;
 use std::process::Abort;
 use std::test::Fail;
 
+type Map = BTreeMap<u64, u64, SlabStore<Node<u64, u64>>>;
+
 // Returns what a value is in a text.
 fn shown<T: Debug>(alloc: Global, value: &T) -> Result<String, AllocError> {
     let mut text = String::new(alloc);
@@ -26,16 +28,17 @@ fn pair_of(entry: &OccupiedEntry<'_, u64, u64>) -> (u64, u64) {
     (*entry.key(), *entry.get())
 }
 
-// Checks an entry's text, and that of the entry in it.
+// Checks the text of a key's entry, and that of what is in it.
 fn check_entry(
     rt: &impl Abort,
     alloc: Global,
-    entry: Entry<'_, u64, u64>,
+    map: &mut Map,
     pair: (u64, Option<u64>),
     text: &str,
 ) -> Result<(), Fail> {
+    let entry = map.entry(pair.0);
     assert_same(rt, shown(alloc, &entry)?.as_str(), text);
-    match entry {
+    match map.entry(pair.0) {
         Entry::Vacant(vacant) => {
             assert_same(rt, (asked(&vacant), None), pair);
             assert_same(rt, shown(alloc, &vacant)?.as_str(), text);
@@ -51,13 +54,13 @@ fn check_entry(
 
 #[test]
 fn shows_entries(rt: HostRuntime) -> Result<(), Fail> {
-    let mut map: BTreeMap<u64, u64, SlabStore<Node<u64, u64>>> = BTreeMap::new(rt.alloc());
-    check_entry(&rt, rt.alloc(), map.entry(1), (1, None), "VacantEntry(1)")?;
+    let mut map: Map = BTreeMap::new(rt.alloc());
+    check_entry(&rt, rt.alloc(), &mut map, (1, None), "VacantEntry(1)")?;
     assert_same(&rt, map.insert(1, 2).ok(), Some(None));
     check_entry(
         &rt,
         rt.alloc(),
-        map.entry(1),
+        &mut map,
         (1, Some(2)),
         "OccupiedEntry { key: 1, value: 2 }",
     )

@@ -222,13 +222,8 @@ fn merges_take_the_stated_one(rt: HostRuntime) {
     );
 }
 
-// Inserts, replaces and appends elements that are equal to some of a set.
-fn insert_equal<C: NodesMut<Named, ()> + Drop>(
-    rt: &impl Abort,
-    set: BTreeSet<Named, C>,
-    other: BTreeSet<Named, C>,
-) {
-    let mut set = names(rt, set, &[1, 2], 'a');
+// Inserts and replaces an element that is equal to one of a set.
+fn insert_equal<C: NodesMut<Named, ()>>(rt: &impl Abort, set: &mut BTreeSet<Named, C>) {
     let second = Named {
         number: 2,
         name: 'b',
@@ -240,6 +235,16 @@ fn insert_equal<C: NodesMut<Named, ()> + Drop>(
         Err(_) => panic!(rt; "refused"),
     }
     assert_same(rt, parts(set.get(&second)), Some((2, 'b')));
+}
+
+// Does so, and appends a set of which an element is equal to one that is there.
+fn append_equal<C: NodesMut<Named, ()> + Drop>(
+    rt: &impl Abort,
+    set: BTreeSet<Named, C>,
+    other: BTreeSet<Named, C>,
+) {
+    let mut set = names(rt, set, &[1, 2], 'a');
+    insert_equal(rt, &mut set);
     let mut other = names(rt, other, &[1, 3], 'c');
     assert_true(rt, set.append(&mut other).is_ok());
     assert_same(rt, parts(set.first()), Some((1, 'a')));
@@ -248,5 +253,5 @@ fn insert_equal<C: NodesMut<Named, ()> + Drop>(
 
 #[test]
 fn an_equal_element_stays_unless_it_is_replaced(rt: HostRuntime) {
-    insert_equal::<SetStore>(&rt, BTreeSet::new(rt.alloc()), BTreeSet::new(rt.alloc()));
+    append_equal::<SetStore>(&rt, BTreeSet::new(rt.alloc()), BTreeSet::new(rt.alloc()));
 }

@@ -6,12 +6,13 @@ ghost use Rattle.btree_walk.specs.Bounds.{IsValidRange};
 ghost use Rattle.btree_map_tests.specs.Raised.{greater_between, greater_by};
 
 use crate::asserts::{assert_same, assert_true};
-use crate::samples::first_keys;
+use crate::samples::{check_pairs, first_keys};
 use btree_map::BTreeMap;
 use btree_node::Node;
 use btree_nodes::NodesMut;
 use btree_store::SlabStore;
 use btree_walk::is_valid_range;
+use std::fmt::Debug;
 use std::ops::Bound;
 use std::process::Abort;
 
@@ -79,25 +80,32 @@ fn adds_one_to_each_value(rt: HostRuntime) {
     check_values(&rt, &map, 2);
 }
 
-// Adds 100 to the values of the names from "B" up to "Cheryl", without the latter.
-fn add_to_names<C: NodesMut<&'static str, u64> + Drop>(rt: &impl Abort, origin: C::Origin) {
-    let mut map: BTreeMap<&'static str, u64, C> = BTreeMap::new(origin);
-    for name in ["Alice", "Bob", "Carol", "Cheryl"] {
-        assert_true(rt, map.insert(name, 0).is_ok());
+// Inserts keys with the value 0, and adds 100 to the values from one key up to another, without the latter.
+fn add_up_to<K: Ord + Copy + Debug + Drop, C: NodesMut<K, u64> + Drop>(
+    rt: &impl Abort,
+    mut map: BTreeMap<K, u64, C>,
+    start: K,
+    end: K,
+    expected: &[(K, u64)],
+) {
+    for (key, _) in expected {
+        assert_true(rt, map.insert(*key, 0).is_ok());
     }
-    let range = (Bound::Included(&"B"), Bound::Excluded(&"Cheryl"));
+    let range = (Bound::Included(&start), Bound::Excluded(&end));
     if !is_valid_range(range) {
         panic!(rt; "no such range");
     }
     add_to_range(&mut map, range, 100);
-    let mut expected = [("Alice", 0u64), ("Bob", 100), ("Carol", 100), ("Cheryl", 0)].into_iter();
-    for (name, value) in &map {
-        assert_same(rt, expected.next(), Some((*name, *value)));
-    }
-    assert_same(rt, (expected.len(), map.len()), (0, 4));
+    check_pairs(rt, &map, expected);
 }
 
 #[test]
 fn adds_to_the_names_from_b_to_cheryl(rt: HostRuntime) {
-    add_to_names::<SlabStore<Node<&'static str, u64>>>(&rt, rt.alloc());
+    add_up_to::<&'static str, SlabStore<Node<&'static str, u64>>>(
+        &rt,
+        BTreeMap::new(rt.alloc()),
+        "B",
+        "Cheryl",
+        &[("Alice", 0), ("Bob", 100), ("Carol", 100), ("Cheryl", 0)],
+    );
 }

@@ -29,8 +29,8 @@ fn counted<'a, C: NodesMut<Counted<'a>, ()>>(
     set
 }
 
-// Goes through each merge, and checks how many elements it yields and how many steps compare two elements.
-fn check_merges<'a, C: NodesMut<Counted<'a>, ()>, D: NodesMut<Counted<'a>, ()>>(
+// Goes through a union, and checks how many elements it yields and how many steps compare two elements.
+fn check_union<'a, C: NodesMut<Counted<'a>, ()>, D: NodesMut<Counted<'a>, ()>>(
     rt: &impl Abort,
     left: &BTreeSet<Counted<'a>, C>,
     right: &BTreeSet<Counted<'a>, D>,
@@ -41,22 +41,52 @@ fn check_merges<'a, C: NodesMut<Counted<'a>, ()>, D: NodesMut<Counted<'a>, ()>>(
     for _ in left.union(right) {
         yielded = yielded.wrapping_add(1);
     }
-    assert_same(rt, (yielded, compared.replace(0)), (13, 13));
-    yielded = 0;
+    assert_same(rt, (yielded, compared.get()), (13, 13));
+}
+
+// Does the same with an intersection.
+fn check_intersection<'a, C: NodesMut<Counted<'a>, ()>, D: NodesMut<Counted<'a>, ()>>(
+    rt: &impl Abort,
+    left: &BTreeSet<Counted<'a>, C>,
+    right: &BTreeSet<Counted<'a>, D>,
+    compared: &Cell<u32>,
+) {
+    let mut yielded = 0u32;
+    compared.set(0);
     for _ in left.intersection(right) {
         yielded = yielded.wrapping_add(1);
     }
-    assert_same(rt, (yielded, compared.replace(0)), (4, 13));
-    yielded = 0;
+    assert_same(rt, (yielded, compared.get()), (4, 13));
+}
+
+// Does the same with a difference.
+fn check_difference<'a, C: NodesMut<Counted<'a>, ()>, D: NodesMut<Counted<'a>, ()>>(
+    rt: &impl Abort,
+    left: &BTreeSet<Counted<'a>, C>,
+    right: &BTreeSet<Counted<'a>, D>,
+    compared: &Cell<u32>,
+) {
+    let mut yielded = 0u32;
+    compared.set(0);
     for _ in left.difference(right) {
         yielded = yielded.wrapping_add(1);
     }
-    assert_same(rt, (yielded, compared.replace(0)), (6, 13));
-    yielded = 0;
+    assert_same(rt, (yielded, compared.get()), (6, 13));
+}
+
+// Does the same with a symmetric difference.
+fn check_symmetric_difference<'a, C: NodesMut<Counted<'a>, ()>, D: NodesMut<Counted<'a>, ()>>(
+    rt: &impl Abort,
+    left: &BTreeSet<Counted<'a>, C>,
+    right: &BTreeSet<Counted<'a>, D>,
+    compared: &Cell<u32>,
+) {
+    let mut yielded = 0u32;
+    compared.set(0);
     for _ in left.symmetric_difference(right) {
         yielded = yielded.wrapping_add(1);
     }
-    assert_same(rt, (yielded, compared.replace(0)), (9, 13));
+    assert_same(rt, (yielded, compared.get()), (9, 13));
 }
 
 // A merge compares nothing before its first step. The tests end at the first element that decides: 0 is in both, 2 only in the first set, and 3
@@ -90,7 +120,10 @@ fn merge_counted<'a, C: NodesMut<Counted<'a>, ()> + Drop, D: NodesMut<Counted<'a
 ) {
     let left = counted(rt, left, compared, &[0, 2, 4, 6, 8, 10, 12, 14, 16, 18]);
     let right = counted(rt, right, compared, &[0, 3, 6, 9, 12, 15, 18]);
-    check_merges(rt, &left, &right, compared);
+    check_union(rt, &left, &right, compared);
+    check_intersection(rt, &left, &right, compared);
+    check_difference(rt, &left, &right, compared);
+    check_symmetric_difference(rt, &left, &right, compared);
     check_ends(rt, &left, &right, compared);
 }
 

@@ -1,15 +1,24 @@
 //! Maps whose keys are texts or letters: entries, and the titles of films.
 use crate::asserts::{assert_same, assert_same_in, assert_true};
-use btree_item::Refused;
+use crate::samples::check_pairs;
 use btree_map::BTreeMap;
 use btree_node::Node;
 use btree_nodes::NodesMut;
 use btree_store::SlabStore;
+use std::fmt::Debug;
 use std::process::Abort;
 
-// Adds to the value that an entry lends, and returns it.
-fn raised<K: Drop>(rt: &impl Abort, lent: Result<&mut u64, Refused<K, u64>>, more: u64) -> u64 {
-    match lent {
+type Names = BTreeMap<&'static str, u64, SlabStore<Node<&'static str, u64>>>;
+
+// Adds to the value of an entry, which is `start` if the key is absent, and returns it.
+fn raised<K: Ord + Drop, C: NodesMut<K, u64>>(
+    rt: &impl Abort,
+    map: &mut BTreeMap<K, u64, C>,
+    key: K,
+    start: u64,
+    more: u64,
+) -> u64 {
+    match map.entry(key).or_insert(start) {
         Ok(value) => {
             *value = value.wrapping_add(more);
             *value
@@ -18,94 +27,105 @@ fn raised<K: Drop>(rt: &impl Abort, lent: Result<&mut u64, Refused<K, u64>>, mor
     }
 }
 
-// Counts the calls of a name, and reads and raises the values of other names.
-fn name_values<C: NodesMut<&'static str, u64> + Drop>(rt: &impl Abort, origin: C::Origin) {
-    let mut map: BTreeMap<&'static str, u64, C> = BTreeMap::new(origin);
-    for calls in [42, 43] {
-        let entry = map
-            .entry("poneyland")
-            .and_modify(|n| *n = n.wrapping_add(1));
-        assert_same(rt, raised(rt, entry.or_insert(42), 0), calls);
+// Adds one to the value of a key, or inserts 42.
+fn called<K: Ord + Drop, C: NodesMut<K, u64>>(
+    rt: &impl Abort,
+    map: &mut BTreeMap<K, u64, C>,
+    key: K,
+) -> u64 {
+    match map
+        .entry(key)
+        .and_modify(|n| *n = n.wrapping_add(1))
+        .or_insert(42)
+    {
+        Ok(value) => *value,
+        Err(_) => panic!(rt; "refused"),
     }
-    assert_same(rt, raised(rt, map.entry("health").or_insert(100), 0), 100);
-    for _ in 0..2 {
-        let defence = map.entry("defence").or_insert_with(|| 42);
-        assert_same(rt, raised(rt, defence, 0), 42);
-    }
-    assert_same(rt, raised(rt, map.entry("attack").or_insert(100), 42), 142);
-    assert_same(rt, raised(rt, map.entry("attack").or_insert(7), 0), 142);
-    let mut expected = [
-        ("attack", 142u64),
-        ("defence", 42),
-        ("health", 100),
-        ("poneyland", 43),
-    ]
-    .into_iter();
-    for (name, value) in &map {
-        assert_same(rt, expected.next(), Some((*name, *value)));
-    }
-    assert_same(rt, (expected.len(), map.len()), (0, 4));
-}
-
-// Inserts the number of letters of a name, into an empty map.
-fn count_name<C: NodesMut<&'static str, u64> + Drop>(rt: &impl Abort, origin: C::Origin) {
-    let mut map: BTreeMap<&'static str, u64, C> = BTreeMap::new(origin);
-    let letters = map
-        .entry("poneyland")
-        .or_insert_with_key(|key| key.len() as u64);
-    assert_same(rt, raised(rt, letters, 0), 9);
 }
 
 #[test]
 fn inserts_values_of_names(rt: HostRuntime) {
-    name_values::<SlabStore<Node<&'static str, u64>>>(&rt, rt.alloc());
-    count_name::<SlabStore<Node<&'static str, u64>>>(&rt, rt.alloc());
-}
-
-// Counts the letters of a text: 2 s, 3 t, 1 u, and no y.
-fn count_letters<C: NodesMut<char, u64> + Drop>(rt: &impl Abort, origin: C::Origin) {
-    let mut map: BTreeMap<char, u64, C> = BTreeMap::new(origin);
-    for letter in "a short treatise on fungi".chars() {
-        assert_true(rt, raised(rt, map.entry(letter).or_insert(0), 1) > 0);
+    let mut map: Names = BTreeMap::new(rt.alloc());
+    for calls in [42, 43] {
+        assert_same(&rt, called(&rt, &mut map, "poneyland"), calls);
     }
-    for (letter, count) in [('s', Some(2)), ('t', Some(3)), ('u', Some(1)), ('y', None)] {
-        assert_same_in(rt, letter, map.get(&letter).copied(), count);
+    assert_same(&rt, raised(&rt, &mut map, "health", 100, 0), 100);
+    match map.entry("defence").or_insert_with(|| 42) {
+        Ok(value) => assert_same(&rt, *value, 42),
+        Err(_) => panic!(rt; "refused"),
     }
+    assert_same(&rt, raised(&rt, &mut map, "attack", 100, 42), 142);
+    assert_same(&rt, raised(&rt, &mut map, "defence", 7, 0), 42);
+    check_pairs(
+        &rt,
+        &map,
+        &[
+            ("attack", 142),
+            ("defence", 42),
+            ("health", 100),
+            ("poneyland", 43),
+        ],
+    );
 }
 
 #[test]
-fn counts_letters(rt: HostRuntime) {
-    count_letters::<SlabStore<Node<char, u64>>>(&rt, rt.alloc());
+fn inserts_the_number_of_letters_of_a_name(rt: HostRuntime) {
+    let mut map: Names = BTreeMap::new(rt.alloc());
+    match map
+        .entry("poneyland")
+        .or_insert_with_key(|key| key.len() as u64)
+    {
+        Ok(value) => assert_same(&rt, *value, 9),
+        Err(_) => panic!(rt; "refused"),
+    }
 }
 
-// Keeps the titles of films in order, each with a text.
-fn keep_titles<C: NodesMut<&'static str, &'static str> + Drop>(rt: &impl Abort, origin: C::Origin) {
-    let mut map: BTreeMap<&'static str, &'static str, C> = BTreeMap::new(origin);
-    for (title, text) in [
-        ("Office Space", "deals with a real office"),
-        ("Pulp Fiction", "a classic"),
-        ("The Godfather", "long"),
-        ("The Blues Brothers", "music"),
-    ] {
-        assert_true(rt, map.insert(title, text).is_ok());
+// 2 s, 3 t, 1 u, and no y.
+#[test]
+fn counts_letters(rt: HostRuntime) {
+    let mut map: BTreeMap<char, u64, SlabStore<Node<char, u64>>> = BTreeMap::new(rt.alloc());
+    for letter in "a short treatise on fungi".chars() {
+        assert_true(&rt, raised(&rt, &mut map, letter, 0, 1) > 0);
     }
-    assert_same(
-        rt,
-        (map.contains_key(&"Les Misérables"), map.len()),
-        (false, 4),
-    );
-    assert_same(rt, map.remove(&"The Blues Brothers"), Some("music"));
-    assert_same(rt, map.get(&"Up!").copied(), None);
-    assert_true(rt, map.contains_key(&"Office Space"));
-    assert_same(rt, map[&"Office Space"], "deals with a real office");
-    let mut titles = ["Office Space", "Pulp Fiction", "The Godfather"].into_iter();
-    for (title, _text) in &map {
-        assert_same(rt, titles.next(), Some(*title));
+    for (letter, count) in [('s', Some(2)), ('t', Some(3)), ('u', Some(1)), ('y', None)] {
+        assert_same_in(&rt, letter, map.get(&letter).copied(), count);
     }
-    assert_same(rt, titles.len(), 0);
+}
+
+// Inserts films, removes the last one, looks for titles that are not there, and loops over what is left.
+fn keep_films<T: Ord + Copy + Debug + Drop, C: NodesMut<T, T> + Drop>(
+    rt: &impl Abort,
+    mut map: BTreeMap<T, T, C>,
+    films: &[(T, T)],
+    last: (T, T),
+    absent: [T; 2],
+) {
+    for (title, text) in films {
+        assert_true(rt, map.insert(*title, *text).is_ok());
+    }
+    assert_true(rt, map.insert(last.0, last.1).is_ok());
+    let [missed, sought] = absent;
+    assert_true(rt, !map.contains_key(&missed));
+    assert_same(rt, map.remove(&last.0), Some(last.1));
+    assert_same(rt, map.get(&sought).copied(), None);
+    check_pairs(rt, &map, films);
+    for (title, text) in films {
+        assert_true(rt, map.contains_key(title));
+        assert_same(rt, map[title], *text);
+    }
 }
 
 #[test]
 fn keeps_titles_in_order(rt: HostRuntime) {
-    keep_titles::<SlabStore<Node<&'static str, &'static str>>>(&rt, rt.alloc());
+    keep_films::<&'static str, SlabStore<Node<&'static str, &'static str>>>(
+        &rt,
+        BTreeMap::new(rt.alloc()),
+        &[
+            ("Office Space", "deals with a real office"),
+            ("Pulp Fiction", "a classic"),
+            ("The Godfather", "long"),
+        ],
+        ("The Blues Brothers", "music"),
+        ["Les Misérables", "Up!"],
+    );
 }

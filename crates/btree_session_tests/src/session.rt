@@ -152,90 +152,87 @@ const READS: [Run<'static>; 6] = [
     },
 ];
 
-#[test]
-fn replies_are_written_before_more_is_read(rt: HostRuntime) -> Result<(), Fail> {
-    for (number, wanted) in READS.iter().enumerate() {
-        let flushed = Cell::new(0);
-        let mut session: Session<Store> = Session::new(rt.alloc());
-        let mut input = Pieces {
-            pieces: wanted.pieces,
-            next: 0,
-            flushed: &flushed,
-            seen: Vec::new(rt.alloc()),
-        };
-        let mut output = Slow {
-            written: Vec::new(rt.alloc()),
-            flushed: &flushed,
-            most: wanted.most,
-            flushes: wanted.flushes,
-        };
-        let result = drive(rt.alloc(), &mut session, &mut input, &mut output);
-        assert_same_in(&rt, number, result, wanted.end);
-        assert_same_in(&rt, number, output.written.as_slice(), wanted.written);
-        assert_same_in(&rt, number, input.seen.as_slice(), wanted.seen);
-        // A command that was run keeps its effect, whether its reply could be written or not.
-        assert_same_in(&rt, number, session.map().get(&1).copied(), Some(10));
-        if result != Err(Stop::Output) {
-            assert_same_in(&rt, number, flushed.get(), wanted.written.len());
-        }
-    }
-    Ok(())
-}
-
-// A read fails with this kind of error after a line and a half. Returns how the run ends.
-fn end_at<C: ClearNodes<u64, u64> + Drop>(
+// Drives an empty session over one run's input. A command that was run keeps its effect, whether its reply could be written or not.
+fn check_run<C: ClearNodes<u64, u64> + Drop>(
     rt: &impl Abort,
-    kind: ErrorKind,
+    wanted: &Run<'_>,
     origin: C::Origin,
     alloc: Global,
-) -> Result<(), Stop> {
+) {
     let flushed = Cell::new(0);
+    let mut session: Session<C> = Session::new(origin);
+    let mut input = Pieces {
+        pieces: wanted.pieces,
+        next: 0,
+        flushed: &flushed,
+        seen: Vec::new(alloc),
+    };
+    let mut output = Slow {
+        written: Vec::new(alloc),
+        flushed: &flushed,
+        most: wanted.most,
+        flushes: wanted.flushes,
+    };
+    let result = drive(alloc, &mut session, &mut input, &mut output);
+    assert_same_in(rt, wanted.written, result, wanted.end);
+    assert_same(rt, output.written.as_slice(), wanted.written);
+    assert_same_in(rt, wanted.written, input.seen.as_slice(), wanted.seen);
+    assert_same(rt, session.map().get(&1).copied(), Some(10));
+    if result != Err(Stop::Output) {
+        assert_same(rt, flushed.get(), wanted.written.len());
+    }
+}
+
+#[test]
+fn replies_are_written_before_more_is_read(rt: HostRuntime) {
+    for wanted in READS.iter() {
+        check_run::<Store>(&rt, wanted, rt.alloc(), rt.alloc());
+    }
+}
+
+// A read fails with this kind of error after a line and a half.
+fn check_failed_read<C: ClearNodes<u64, u64> + Drop>(
+    rt: &impl Abort,
+    kind: ErrorKind,
+    end: Stop,
+    origin: C::Origin,
+    alloc: Global,
+) {
     let pieces = [
         Piece::Bytes(b"insert 1 10\nget"),
         Piece::Fails(kind),
         Piece::Bytes(b" 1\n"),
     ];
-    let mut session: Session<C> = Session::new(origin);
-    let mut input = Pieces {
+    let wanted = Run {
         pieces: pieces.as_slice(),
-        next: 0,
-        flushed: &flushed,
-        seen: Vec::new(alloc),
+        most: 100,
+        flushes: true,
+        end: Err(end),
+        written: b"none\n",
+        seen: &[0, 5],
     };
-    let mut output = Vec::new(alloc);
-    let result = drive(alloc, &mut session, &mut input, &mut output);
-    assert_same(rt, output.as_slice(), b"none\n".as_slice());
-    assert_same(rt, session.map().get(&1).copied(), Some(10));
-    result
+    check_run::<C>(rt, &wanted, origin, alloc);
 }
 
 #[test]
 fn a_failed_read_is_the_end_of_input_or_of_memory(rt: HostRuntime) {
-    assert_same(
-        &rt,
-        end_at::<Store>(&rt, ErrorKind::OutOfMemory, rt.alloc(), rt.alloc()),
-        Err(Stop::Memory),
-    );
-    for kind in [
-        ErrorKind::NotFound,
-        ErrorKind::PermissionDenied,
-        ErrorKind::ConnectionReset,
-        ErrorKind::BrokenPipe,
-        ErrorKind::WouldBlock,
-        ErrorKind::InvalidInput,
-        ErrorKind::InvalidData,
-        ErrorKind::TimedOut,
-        ErrorKind::UnexpectedEof,
-        ErrorKind::StorageFull,
-        ErrorKind::QuotaExceeded,
-        ErrorKind::WriteZero,
-        ErrorKind::Other,
+    for (kind, end) in [
+        (ErrorKind::OutOfMemory, Stop::Memory),
+        (ErrorKind::NotFound, Stop::Input),
+        (ErrorKind::PermissionDenied, Stop::Input),
+        (ErrorKind::ConnectionReset, Stop::Input),
+        (ErrorKind::BrokenPipe, Stop::Input),
+        (ErrorKind::WouldBlock, Stop::Input),
+        (ErrorKind::InvalidInput, Stop::Input),
+        (ErrorKind::InvalidData, Stop::Input),
+        (ErrorKind::TimedOut, Stop::Input),
+        (ErrorKind::UnexpectedEof, Stop::Input),
+        (ErrorKind::StorageFull, Stop::Input),
+        (ErrorKind::QuotaExceeded, Stop::Input),
+        (ErrorKind::WriteZero, Stop::Input),
+        (ErrorKind::Other, Stop::Input),
     ] {
-        assert_same(
-            &rt,
-            end_at::<Store>(&rt, kind, rt.alloc(), rt.alloc()),
-            Err(Stop::Input),
-        );
+        check_failed_read::<Store>(&rt, kind, end, rt.alloc(), rt.alloc());
     }
 }
 
