@@ -11,7 +11,7 @@ const LINES: [&str; 26] = [
     "n, m: leaf [under PARENT] ITEMS, internal [under PARENT] CHILD ITEM CHILD ..: another node. PARENT, CHILD: a number. show: such a text",
     "n, m: parent item_count child_count first_child_id items iter branches children children_with_separators",
     "n, m: balance is_full is_overflowing is_underflowing; child_index CHILD; child_id child_id_opt separators INDEX",
-    "n, m: get offset_of kind_offset_of binary_search_min KEY: kind_offset_of is the call of the leaf or of the internal node itself",
+    "n, m: get offset_of kind_offset_of KEY: kind_offset_of is the call of the leaf or of the internal node itself",
     "n, m: get_mut find_mut insert_by_key KEY=VALUE; item remove leaf_remove OFFSET; item_mut replace OFFSET ITEM",
     "n, m: insert OFFSET ITEM [CHILD]; push_left push_right ITEM [CHILD]; pop_left pop_right remove_last remove_rightmost_leaf",
     "n, m: set_parent PARENT; validate PARENT MIN MAX: each may be none; merge LEFT RIGHT: the item between two children is taken out",

@@ -11,10 +11,10 @@ type Inserted = Result<Address, Refused<u64, u64>>;
 
 // Inserts an item into a tree without a root, if there are no nodes.
 fn insert_first<C: NodesMut<u64, u64>>(raw: &mut Raw<C>, item: Item<u64, u64>) -> Option<Inserted> {
-    if raw.is_valid(Address::nowhere()) && raw.node_count() == 0 {
-        return Some(raw.insert_exactly_at(Address::nowhere(), item, None));
+    if raw.root_id().is_some() || !raw.is_valid(Address::nowhere()) || raw.node_count() > 0 {
+        return None;
     }
-    None
+    Some(raw.insert_exactly_at(Address::nowhere(), item, None))
 }
 
 // Takes an item out of a leaf, and inserts it at the same address, if the tree is off by one there. So the contract is met.

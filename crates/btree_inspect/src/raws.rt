@@ -1,4 +1,9 @@
 //! Calls of a raw tree.
+ghost use Rattle.std.specs.Prelude.{IsTrue};
+ghost use Rattle.btree_node.specs.Node.{view_of};
+ghost use Rattle.btree_view.specs.View.{children_of};
+ghost use Rattle.btree_raw.specs.Raw.{AreUsed};
+
 use btree_book::{Reply, place};
 use btree_node_calls::{PlainNode, Raw, put_item, put_name, put_named, put_node_of};
 use btree_slab::generic::map::Cause;
@@ -20,9 +25,11 @@ pub(crate) fn put_node_at<C: NodesMut<u64, u64>>(
 }
 
 // Returns whether each child of a node is in use.
-fn are_used<C: NodesMut<u64, u64>>(raw: &Raw<C>, node: &PlainNode) -> bool {
-    for child in node.children() {
-        if !raw.has_node(child) {
+fn are_used<C: NodesMut<u64, u64>>(raw: &Raw<C>, node: &PlainNode) -> bool
+    ensures { IsTrue result → AreUsed raw.now.nodes (children_of (view_of node.now)) }
+{
+    for index in 0..node.child_count() {
+        if !raw.has_node(node.child_id(index)) {
             return false;
         }
     }

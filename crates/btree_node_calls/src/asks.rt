@@ -10,7 +10,6 @@ use crate::text::{PlainNode, put_item, put_node_text};
 use btree_book::{Reply, number, word};
 use btree_slab::generic::Node;
 use btree_slab::generic::node::{Balance, Offset};
-use btree_slab::utils::binary_search_min;
 use std::alloc::AllocError;
 
 /// Returns whether a node passes its own checks as a root, so that its keys ascend.
@@ -188,17 +187,6 @@ fn kind_offset_of(node: &PlainNode, key: u64, reply: &mut Reply) -> Result<(), A
     }
 }
 
-fn search_min(node: &PlainNode, key: u64, reply: &mut Reply) -> Result<(), AllocError> {
-    if !is_valid(node) {
-        return reply.word("not valid");
-    }
-    let found = match node {
-        Node::Leaf(leaf) => binary_search_min(leaf.items(), &key),
-        Node::Internal(node) => binary_search_min(node.branches(), &key),
-    };
-    put_number(reply, found)
-}
-
 /// Serves a call of a word alone. Returns whether the word is one.
 pub(crate) fn ask(node: &PlainNode, verb: &str, reply: &mut Reply) -> Result<bool, AllocError> {
     match verb {
@@ -243,7 +231,6 @@ pub(crate) fn ask_number(
         "get" => get(node, number, reply)?,
         "offset_of" => offset_of(node, number, reply)?,
         "kind_offset_of" => kind_offset_of(node, number, reply)?,
-        "binary_search_min" => search_min(node, number, reply)?,
         _ => return Ok(false),
     }
     Ok(true)

@@ -107,7 +107,7 @@ pub(crate) fn merge(
     if node.child_count() == 0 {
         return reply.word("not internal");
     }
-    if right >= node.child_count() || left + 1 != right {
+    if right >= node.child_count() || right <= left || right - left != 1 {
         return reply.word("no such children");
     }
     let (left, left_id, right_id, item, balance) = node.merge(left, right);
