@@ -87,6 +87,15 @@ fn entries_mut<C: NodesMut<u64, u64>>(
     Ok(())
 }
 
+// Adds a hint, if it is asked for.
+fn put_hint(
+    hint: (usize, Option<usize>),
+    is_shown: bool,
+    reply: &mut Reply,
+) -> Result<(), AllocError> {
+    if is_shown { reply.hint(hint) } else { Ok(()) }
+}
+
 // Takes so many pairs of a drain that writes to the values, and drops it.
 fn drain<C: NodesMut<u64, u64>>(
     map: &mut Map<C>,
@@ -102,14 +111,10 @@ fn drain<C: NodesMut<u64, u64>>(
         picks(pick, *key)
     });
     for _ in 0..count {
-        if shows_hints {
-            reply.hint(drain.size_hint())?;
-        }
+        put_hint(drain.size_hint(), shows_hints, reply)?;
         reply.found(drain.next())?;
     }
-    if shows_hints {
-        reply.hint(drain.size_hint())?;
-    }
+    put_hint(drain.size_hint(), shows_hints, reply)?;
     reply.word("dropped")
 }
 

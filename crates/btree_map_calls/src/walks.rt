@@ -63,6 +63,20 @@ pub(crate) fn put_lent(
     }
 }
 
+// Takes an item from one end of an iterator, or asks for the hint.
+fn take<I: DoubleEndedIterator>(items: &mut I, end: u8, reply: &mut Reply) -> Result<(), AllocError>
+where
+    I::Item: Yielded,
+    requires front { (state : I) → I.can_next state }
+    requires back { (state : I) → I.can_next_back state }
+{
+    match end {
+        b'f' => put(items.next(), reply),
+        b'b' => put(items.next_back(), reply),
+        _ => reply.hint(items.size_hint()),
+    }
+}
+
 /// Takes items from both ends of an iterator.
 pub fn walk<I: DoubleEndedIterator + Drop>(
     items: I,
@@ -76,11 +90,7 @@ where
 {
     let mut items = items;
     for end in ends.as_bytes() {
-        match *end {
-            b'f' => put(items.next(), reply)?,
-            b'b' => put(items.next_back(), reply)?,
-            _ => reply.hint(items.size_hint())?,
-        }
+        take(&mut items, *end, reply)?;
     }
     Ok(())
 }
@@ -98,11 +108,10 @@ where
 {
     let mut items = items;
     for end in ends.as_bytes() {
-        match *end {
-            b'f' => put(items.next(), reply)?,
-            b'b' => put(items.next_back(), reply)?,
-            b'h' => reply.hint(items.size_hint())?,
-            _ => reply.left(items.len())?,
+        if *end == b'l' {
+            reply.left(items.len())?;
+        } else {
+            take(&mut items, *end, reply)?;
         }
     }
     Ok(())
