@@ -1,6 +1,5 @@
 //! Cursors that insert and remove pairs, drains, and what keeps pairs.
-use crate::menu::{Action, Pick, Raise, picks, raised, read_pick, read_raise, read_step};
-use crate::walks::put_lent;
+use crate::menu::{Action, Pick, Raise, picks, raised, read_pick, read_raise, read_step, write};
 use btree_book::{Reply, number, word};
 use btree_slab::generic::BTreeMap;
 use btree_slab::generic::map::EntriesMut;
@@ -38,9 +37,18 @@ fn step<C: NodesMut<u64, u64>>(
     let (verb, action) = read_step(word);
     match (verb, number(verb), action) {
         (_, Some(key), Some(Action::Set(value))) => insert(entries, key, value, reply),
-        ("next", _, _) => put_lent(entries.next(), action, reply),
-        ("next_item", _, _) => put_lent(entries.next_item(), action, reply),
-        ("peek_mut", _, _) => put_lent(entries.peek_mut(), action, reply),
+        ("next", _, _) => match entries.next() {
+            Some((key, value)) => reply.pair(*key, write(value, action)),
+            None => reply.word("none"),
+        },
+        ("next_item", _, _) => match entries.next_item() {
+            Some((key, value)) => reply.pair(*key, write(value, action)),
+            None => reply.word("none"),
+        },
+        ("peek_mut", _, _) => match entries.peek_mut() {
+            Some((key, value)) => reply.pair(*key, write(value, action)),
+            None => reply.word("none"),
+        },
         ("peek", _, None) => match entries.peek() {
             Some(item) => reply.pair(*item.key(), *item.value()),
             None => reply.word("none"),
