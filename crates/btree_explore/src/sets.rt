@@ -136,11 +136,13 @@ fn finish<C: NodesMut<u64, ()>>(
 ) -> Result<(), AllocError> {
     let mut drain = DrainFilter::new(set, move |element: &u64| picks(pick, *element));
     for _ in 0..count {
-        reply.hint(drain.size_hint())?;
-        reply.value(drain.next())?;
+        let (hint, element) = (drain.size_hint(), drain.next());
+        reply.hint(hint)?;
+        reply.value(element)?;
     }
-    reply.hint(drain.size_hint())?;
+    let hint = drain.size_hint();
     drain.finish();
+    reply.hint(hint)?;
     reply.word("finished")
 }
 

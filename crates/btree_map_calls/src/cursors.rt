@@ -119,10 +119,13 @@ fn drain<C: NodesMut<u64, u64>>(
         picks(pick, *key)
     });
     for _ in 0..count {
-        put_hint(drain.size_hint(), shows_hints, reply)?;
-        reply.found(drain.next())?;
+        let (hint, pair) = (drain.size_hint(), drain.next());
+        put_hint(hint, shows_hints, reply)?;
+        reply.found(pair)?;
     }
-    put_hint(drain.size_hint(), shows_hints, reply)?;
+    let hint = drain.size_hint();
+    drop(drain);
+    put_hint(hint, shows_hints, reply)?;
     reply.word("dropped")
 }
 
