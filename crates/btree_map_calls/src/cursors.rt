@@ -95,21 +95,11 @@ fn entries_mut<C: NodesMut<u64, u64>>(
     Ok(())
 }
 
-// Adds a hint, if it is asked for.
-fn put_hint(
-    hint: (usize, Option<usize>),
-    is_shown: bool,
-    reply: &mut Reply,
-) -> Result<(), AllocError> {
-    if is_shown { reply.hint(hint) } else { Ok(()) }
-}
-
 // Takes so many pairs of a drain that writes to the values, and drops it.
 fn drain<C: NodesMut<u64, u64>>(
     map: &mut Map<C>,
     (pick, raise): (Pick, Raise),
     count: u64,
-    shows_hints: bool,
     reply: &mut Reply,
 ) -> Result<(), AllocError> {
     let mut calls = 0u64;
@@ -119,13 +109,26 @@ fn drain<C: NodesMut<u64, u64>>(
         picks(pick, *key)
     });
     for _ in 0..count {
-        let (hint, pair) = (drain.size_hint(), drain.next());
-        put_hint(hint, shows_hints, reply)?;
-        reply.found(pair)?;
+        reply.found(drain.next())?;
     }
-    let hint = drain.size_hint();
     drop(drain);
-    put_hint(hint, shows_hints, reply)?;
+    reply.word("dropped")
+}
+
+// Takes so many pairs of a drain, with the hint before the first and after each.
+fn drain_with_hints<C: NodesMut<u64, u64>>(
+    map: &mut Map<C>,
+    pick: Pick,
+    count: u64,
+    reply: &mut Reply,
+) -> Result<(), AllocError> {
+    let mut drain = map.drain_filter(move |key: &u64, _value: &mut u64| picks(pick, *key));
+    reply.hint(drain.size_hint())?;
+    for _ in 0..count {
+        reply.found(drain.next())?;
+        reply.hint(drain.size_hint())?;
+    }
+    drop(drain);
     reply.word("dropped")
 }
 
@@ -183,13 +186,9 @@ pub(crate) fn serve_cursors<C: NodesMut<u64, u64>>(
     let (count, by) = word(more);
     match (verb, number(count), read_raise(by), read_raise(more)) {
         ("retain", _, _, Some(raise)) => retain(map, (pick, raise), reply)?,
-        ("drain", Some(count), Some(raise), _) => drain(map, (pick, raise), count, false, reply)?,
-        ("drain", Some(count), None, _) if by == "hint" => drain(
-            map,
-            (pick, Raise::By(0)),
-            count,
-            true,
-            reply,
+        ("drain", Some(count), Some(raise), _) => drain(map, (pick, raise), count, reply)?,
+        ("drain", Some(count), None, _) if by == "hint" => drain_with_hints(
+            map, pick, count, reply,
         )?,
         ("finish", Some(count), Some(raise), _) => finish(map, (pick, raise), count, reply)?,
         _ => return Ok(false),
