@@ -178,8 +178,8 @@ fn is_kept<D: Desk>(
 
 /// Does a call as `a extend 44`, of the numbers below a count, on a new desk while the first growth of the memory is refused, then the second,
 /// and so on, until none is. After each refusal what came before the refused number has to be there, as if inserted one by one, and the
-/// others have to be left, and to be taken then. The reply is `kept` and that of the granted call, or `changed` and that of the call that did
-/// not keep this. Returns whether the words are such a call.
+/// others have to be left, and to be taken then. The reply is `kept` and that of the granted call, if one was refused before; or `changed` and
+/// that of the call that did not keep this. Returns whether the words are such a call.
 pub(crate) fn in_turn<D: Desk>(
     alloc: Global,
     memory: &Refusing<Global>,
@@ -202,7 +202,7 @@ pub(crate) fn in_turn<D: Desk>(
             Some(refused) => names_rest(alloc, said.as_str(), &call, refused)?
                 && is_kept(alloc, desk, &call, refused)?,
             None => {
-                reply.word("kept")?;
+                reply.word(if at > 1 { "kept" } else { "never refused" })?;
                 reply.word(said.as_str())?;
                 return Ok(said.as_str() != "");
             }

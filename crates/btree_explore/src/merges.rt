@@ -126,6 +126,12 @@ where
     put_left(&mut source, reply)
 }
 
+// Adds what is left of a set.
+fn put_rest<C: NodesMut<u64, ()>>(set: &Set<C>, reply: &mut Reply) -> Result<(), AllocError> {
+    let mut source = set.iter();
+    put_left(&mut source, reply)
+}
+
 fn append<C: NodesMut<u64, ()>>(
     set: &mut Set<C>,
     other: &mut Set<C>,
@@ -135,8 +141,7 @@ fn append<C: NodesMut<u64, ()>>(
         Ok(()) => reply.word("ok")?,
         Err(refused) => reply.refused_key(refused.cause, refused.key)?,
     }
-    let mut left = other.iter();
-    put_left(&mut left, reply)
+    put_rest(other, reply)
 }
 
 // Makes a set a clone of the other one.

@@ -127,7 +127,7 @@ fn drain<C: NodesMut<u64, ()>>(
     reply.word("dropped")
 }
 
-// Takes so many elements of a drain, with the hint before each and at the end, and finishes it.
+// Takes so many elements of a drain, with the hint before the first and after each, and finishes it.
 fn finish<C: NodesMut<u64, ()>>(
     set: &mut Set<C>,
     pick: Pick,
@@ -135,11 +135,11 @@ fn finish<C: NodesMut<u64, ()>>(
     reply: &mut Reply,
 ) -> Result<(), AllocError> {
     let mut drain = DrainFilter::new(set, move |element: &u64| picks(pick, *element));
-    for _ in 0..count {
-        reply.hint(drain.size_hint())?;
-        reply.value(drain.next())?;
-    }
     reply.hint(drain.size_hint())?;
+    for _ in 0..count {
+        reply.value(drain.next())?;
+        reply.hint(drain.size_hint())?;
+    }
     drain.finish();
     reply.word("finished")
 }

@@ -1,4 +1,6 @@
 //! Calls by address that change nothing.
+ghost use Rattle.std.specs.Prelude.{◌≡◌};
+
 use btree_book::{Reply, node, number, offset, put_address, put_node, word};
 use btree_slab::generic::BTreeMap;
 use btree_slab::generic::map::BTreeExt;
@@ -10,7 +12,9 @@ use std::alloc::AllocError;
 type Map<C> = BTreeMap<u64, u64, C>;
 
 /// Returns an address with the same node and offset.
-pub fn same(addr: &Address) -> Address {
+pub fn same(addr: &Address) -> Address
+    ensures { result ≡ addr.now }
+{
     Address::new(addr.id, addr.offset)
 }
 

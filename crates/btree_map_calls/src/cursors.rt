@@ -1,6 +1,5 @@
 //! Cursors that insert and remove pairs, drains, and what keeps pairs.
-use crate::menu::{Action, Pick, Raise, picks, raised, read_pick, read_raise, read_step};
-use crate::walks::put_lent;
+use crate::menu::{Action, Pick, Raise, picks, raised, read_pick, read_raise, read_step, write};
 use btree_book::{Reply, number, word};
 use btree_slab::generic::BTreeMap;
 use btree_slab::generic::map::EntriesMut;
@@ -38,9 +37,18 @@ fn step<C: NodesMut<u64, u64>>(
     let (verb, action) = read_step(word);
     match (verb, number(verb), action) {
         (_, Some(key), Some(Action::Set(value))) => insert(entries, key, value, reply),
-        ("next", _, _) => put_lent(entries.next(), action, reply),
-        ("next_item", _, _) => put_lent(entries.next_item(), action, reply),
-        ("peek_mut", _, _) => put_lent(entries.peek_mut(), action, reply),
+        ("next", _, _) => match entries.next() {
+            Some((key, value)) => reply.pair(*key, write(value, action)),
+            None => reply.word("none"),
+        },
+        ("next_item", _, _) => match entries.next_item() {
+            Some((key, value)) => reply.pair(*key, write(value, action)),
+            None => reply.word("none"),
+        },
+        ("peek_mut", _, _) => match entries.peek_mut() {
+            Some((key, value)) => reply.pair(*key, write(value, action)),
+            None => reply.word("none"),
+        },
         ("peek", _, None) => match entries.peek() {
             Some(item) => reply.pair(*item.key(), *item.value()),
             None => reply.word("none"),
@@ -92,7 +100,6 @@ fn drain<C: NodesMut<u64, u64>>(
     map: &mut Map<C>,
     (pick, raise): (Pick, Raise),
     count: u64,
-    shows_hints: bool,
     reply: &mut Reply,
 ) -> Result<(), AllocError> {
     let mut calls = 0u64;
@@ -102,14 +109,26 @@ fn drain<C: NodesMut<u64, u64>>(
         picks(pick, *key)
     });
     for _ in 0..count {
-        if shows_hints {
-            reply.hint(drain.size_hint())?;
-        }
         reply.found(drain.next())?;
     }
-    if shows_hints {
+    drop(drain);
+    reply.word("dropped")
+}
+
+// Takes so many pairs of a drain, with the hint before the first and after each.
+fn drain_with_hints<C: NodesMut<u64, u64>>(
+    map: &mut Map<C>,
+    pick: Pick,
+    count: u64,
+    reply: &mut Reply,
+) -> Result<(), AllocError> {
+    let mut drain = map.drain_filter(move |key: &u64, _value: &mut u64| picks(pick, *key));
+    reply.hint(drain.size_hint())?;
+    for _ in 0..count {
+        reply.found(drain.next())?;
         reply.hint(drain.size_hint())?;
     }
+    drop(drain);
     reply.word("dropped")
 }
 
@@ -167,13 +186,9 @@ pub(crate) fn serve_cursors<C: NodesMut<u64, u64>>(
     let (count, by) = word(more);
     match (verb, number(count), read_raise(by), read_raise(more)) {
         ("retain", _, _, Some(raise)) => retain(map, (pick, raise), reply)?,
-        ("drain", Some(count), Some(raise), _) => drain(map, (pick, raise), count, false, reply)?,
-        ("drain", Some(count), None, _) if by == "hint" => drain(
-            map,
-            (pick, Raise::By(0)),
-            count,
-            true,
-            reply,
+        ("drain", Some(count), Some(raise), _) => drain(map, (pick, raise), count, reply)?,
+        ("drain", Some(count), None, _) if by == "hint" => drain_with_hints(
+            map, pick, count, reply,
         )?,
         ("finish", Some(count), Some(raise), _) => finish(map, (pick, raise), count, reply)?,
         _ => return Ok(false),

@@ -1,7 +1,6 @@
 //! Calls by address that change a map.
 use crate::addresses::{map_address, map_node, same};
 use crate::menu::{Action, given, read_action, write};
-use crate::walks::put_lent;
 use btree_book::{Reply, number, pair, put_address, word};
 use btree_slab::generic::BTreeMap;
 use btree_slab::generic::map::{BTreeExt, BTreeExtMut};
@@ -154,7 +153,10 @@ fn item_mut<C: NodesMut<u64, u64>>(
     if !map.is_valid(same(&addr)) {
         return reply.word("not valid");
     }
-    put_lent(map.item_mut(addr), Some(action), reply)
+    match map.item_mut(addr) {
+        Some((key, value)) => reply.pair(*key, write(value, Some(action))),
+        None => reply.word("none"),
+    }
 }
 
 fn under<C: NodesMut<u64, u64>>(

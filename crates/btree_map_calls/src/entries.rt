@@ -2,7 +2,7 @@
 use crate::menu::{Action, read_action, read_step, write};
 use btree_book::{Reply, number, pair, put_address, word};
 use btree_slab::generic::BTreeMap;
-use btree_slab::generic::map::{BTreeExt, Entry, OccupiedEntry, VacantEntry};
+use btree_slab::generic::map::{BTreeExt, Entry, OccupiedEntry};
 use btree_slab::store::NodesMut;
 use std::alloc::AllocError;
 use std::mem;
@@ -53,29 +53,6 @@ fn step<C: NodesMut<u64, u64>>(
     }
 }
 
-// Does the last step of an entry.
-fn last_step<C: NodesMut<u64, u64>>(
-    entry: OccupiedEntry<'_, u64, u64, C>,
-    word: &str,
-    reply: &mut Reply,
-) -> Result<(), AllocError> {
-    let (verb, action) = read_step(word);
-    match verb {
-        "key" => reply.number(*entry.key()),
-        "get" => reply.number(*entry.get()),
-        "into_mut" => reply.number(write(entry.into_mut(), action)),
-        "remove" => {
-            let value = entry.remove();
-            reply.number(value)
-        }
-        "remove_entry" => {
-            let (key, value) = entry.remove_entry();
-            reply.pair(key, value)
-        }
-        _ => reply.word("?"),
-    }
-}
-
 // Does the steps of the entry of a key, if it is there.
 fn occupied<C: NodesMut<u64, u64>>(
     map: &mut Map<C>,
@@ -84,40 +61,62 @@ fn occupied<C: NodesMut<u64, u64>>(
     reply: &mut Reply,
 ) -> Result<(), AllocError> {
     let (first, last) = steps.rsplit_once(' ').unwrap_or(("", steps));
-    match map.entry(key) {
-        Entry::Occupied(mut entry) => {
-            for word in first.split(' ') {
-                if word != "" {
-                    step(&mut entry, word, reply)?;
-                }
-            }
-            last_step(entry, last, reply)
+    let Entry::Occupied(mut entry) = map.entry(key) else {
+        return reply.word("vacant");
+    };
+    for word in first.split(' ') {
+        if word != "" {
+            step(&mut entry, word, reply)?;
         }
-        Entry::Vacant(_) => reply.word("vacant"),
+    }
+    match read_step(last) {
+        ("into_mut", action) => reply.number(write(entry.into_mut(), action)),
+        ("remove", None) => {
+            let value = entry.remove();
+            reply.number(value)
+        }
+        ("remove_entry", None) => {
+            let (key, value) = entry.remove_entry();
+            reply.pair(key, value)
+        }
+        _ => step(&mut entry, last, reply),
     }
 }
 
-// Inserts at a vacant entry, and writes to the value, or gives the key back.
+// Reads the key of a vacant entry, or gets it back.
 fn vacant<C: NodesMut<u64, u64>>(
-    entry: VacantEntry<'_, u64, u64, C>,
-    steps: &str,
+    map: &mut Map<C>,
+    key: u64,
+    step: &str,
     reply: &mut Reply,
 ) -> Result<(), AllocError> {
-    let (step, by) = word(steps);
-    match read_step(step) {
-        ("key", _) => reply.number(*entry.key()),
-        ("into_key", _) => {
-            let key = entry.into_key();
-            reply.number(key)
+    let Entry::Vacant(entry) = map.entry(key) else {
+        return reply.word("occupied");
+    };
+    if step == "key" {
+        return reply.number(*entry.key());
+    }
+    let key = entry.into_key();
+    reply.number(key)
+}
+
+// Inserts at a vacant entry, and writes to the value.
+fn insert_vacant<C: NodesMut<u64, u64>>(
+    map: &mut Map<C>,
+    key: u64,
+    value: u64,
+    action: Option<Action>,
+    reply: &mut Reply,
+) -> Result<(), AllocError> {
+    let Entry::Vacant(entry) = map.entry(key) else {
+        return reply.word("occupied");
+    };
+    match entry.insert(value) {
+        Ok(lent) => {
+            write(lent, action);
+            reply.number(*lent)
         }
-        ("insert", Some(Action::Set(value))) => match entry.insert(value) {
-            Ok(lent) => {
-                write(lent, read_action(by));
-                reply.number(*lent)
-            }
-            Err(refused) => reply.refused_pair(refused.cause, refused.key, refused.value),
-        },
-        _ => reply.word("?"),
+        Err(refused) => reply.refused_pair(refused.cause, refused.key, refused.value),
     }
 }
 
@@ -152,7 +151,7 @@ fn or_insert<C: NodesMut<u64, u64>>(
     }
 }
 
-// Does a step of the first entry, or of the last one.
+// Reads the key or the value of the first entry, or of the last one, or removes it.
 fn of_end<C: NodesMut<u64, u64>>(
     map: &mut Map<C>,
     verb: &str,
@@ -164,9 +163,21 @@ fn of_end<C: NodesMut<u64, u64>>(
     } else {
         map.last_entry()
     };
-    match end {
-        Some(entry) => last_step(entry, step, reply),
-        None => reply.word("none"),
+    let Some(entry) = end else {
+        return reply.word("none");
+    };
+    match step {
+        "key" => reply.number(*entry.key()),
+        "get" => reply.number(*entry.get()),
+        "remove" => {
+            let value = entry.remove();
+            reply.number(value)
+        }
+        "remove_entry" => {
+            let (key, value) = entry.remove_entry();
+            reply.pair(key, value)
+        }
+        _ => reply.word("?"),
     }
 }
 
@@ -190,10 +201,20 @@ pub(crate) fn serve_entries<C: NodesMut<u64, u64>>(
         ("first_entry" | "last_entry", _) => of_end(map, verb, rest, reply)?,
         ("entry", Some((key, _))) => show(map, key, reply)?,
         ("occupied", Some((key, _))) => occupied(map, key, more, reply)?,
-        ("vacant", Some((key, _))) => match map.entry(key) {
-            Entry::Vacant(entry) => vacant(entry, more, reply)?,
-            Entry::Occupied(_) => reply.word("occupied")?,
-        },
+        ("vacant", Some((key, _))) => {
+            let (step, by) = word(more);
+            match read_step(step) {
+                ("key" | "into_key", None) => vacant(map, key, step, reply)?,
+                ("insert", Some(Action::Set(value))) => insert_vacant(
+                    map,
+                    key,
+                    value,
+                    read_action(by),
+                    reply,
+                )?,
+                _ => return Ok(false),
+            }
+        }
         ("or_insert" | "or_insert_with" | "or_insert_with_key" | "or_default", Some(pair)) =>
             or_insert(map, verb, pair, read_action(more), reply)?,
         ("and_modify", Some(pair)) => or_insert(map, verb, pair, read_action(more), reply)?,

@@ -58,6 +58,12 @@ where
     put_left(&mut source, reply)
 }
 
+// Adds what is left of a map.
+fn put_rest<C: NodesMut<u64, u64>>(map: &Map<C>, reply: &mut Reply) -> Result<(), AllocError> {
+    let mut source = map.iter();
+    put_left(&mut source, reply)
+}
+
 fn append<C: NodesMut<u64, u64>>(
     map: &mut Map<C>,
     other: &mut Map<C>,
@@ -67,8 +73,7 @@ fn append<C: NodesMut<u64, u64>>(
         Ok(()) => reply.word("ok")?,
         Err(refused) => reply.refused_pair(refused.cause, refused.key, refused.value)?,
     }
-    let mut left = other.iter();
-    put_left(&mut left, reply)
+    put_rest(other, reply)
 }
 
 // Makes a map a clone of the other one.

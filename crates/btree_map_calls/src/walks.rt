@@ -51,15 +51,17 @@ pub(crate) fn put<T: Yielded>(item: Option<T>, reply: &mut Reply) -> Result<(), 
     }
 }
 
-/// Adds a pair that is lent, or `none`, and writes to its value if there is an action.
-pub(crate) fn put_lent(
-    lent: Option<(&u64, &mut u64)>,
-    action: Option<Action>,
-    reply: &mut Reply,
-) -> Result<(), AllocError> {
-    match lent {
-        Some((key, value)) => reply.pair(*key, write(value, action)),
-        None => reply.word("none"),
+// Takes an item from one end of an iterator, or asks for the hint.
+fn take<I: DoubleEndedIterator>(items: &mut I, end: u8, reply: &mut Reply) -> Result<(), AllocError>
+where
+    I::Item: Yielded,
+    requires front { (state : I) → I.can_next state }
+    requires back { (state : I) → I.can_next_back state }
+{
+    match end {
+        b'f' => put(items.next(), reply),
+        b'b' => put(items.next_back(), reply),
+        _ => reply.hint(items.size_hint()),
     }
 }
 
@@ -76,11 +78,7 @@ where
 {
     let mut items = items;
     for end in ends.as_bytes() {
-        match *end {
-            b'f' => put(items.next(), reply)?,
-            b'b' => put(items.next_back(), reply)?,
-            _ => reply.hint(items.size_hint())?,
-        }
+        take(&mut items, *end, reply)?;
     }
     Ok(())
 }
@@ -98,11 +96,10 @@ where
 {
     let mut items = items;
     for end in ends.as_bytes() {
-        match *end {
-            b'f' => put(items.next(), reply)?,
-            b'b' => put(items.next_back(), reply)?,
-            b'h' => reply.hint(items.size_hint())?,
-            _ => reply.left(items.len())?,
+        if *end == b'l' {
+            reply.left(items.len())?;
+        } else {
+            take(&mut items, *end, reply)?;
         }
     }
     Ok(())
@@ -150,8 +147,14 @@ fn iter_mut<C: NodesMut<u64, u64>>(
     let mut pairs = map.iter_mut();
     for end in ends.as_bytes() {
         match *end {
-            b'f' => put_lent(pairs.next(), action, reply)?,
-            b'b' => put_lent(pairs.next_back(), action, reply)?,
+            b'f' => match pairs.next() {
+                Some((key, value)) => reply.pair(*key, write(value, action))?,
+                None => reply.word("none")?,
+            },
+            b'b' => match pairs.next_back() {
+                Some((key, value)) => reply.pair(*key, write(value, action))?,
+                None => reply.word("none")?,
+            },
             b'h' => reply.hint(pairs.size_hint())?,
             _ => reply.left(pairs.len())?,
         }
@@ -192,8 +195,14 @@ fn range_mut<C: NodesMut<u64, u64>>(
     let mut pairs = map.range_mut(bounds);
     for end in ends.as_bytes() {
         match *end {
-            b'f' => put_lent(pairs.next(), action, reply)?,
-            b'b' => put_lent(pairs.next_back(), action, reply)?,
+            b'f' => match pairs.next() {
+                Some((key, value)) => reply.pair(*key, write(value, action))?,
+                None => reply.word("none")?,
+            },
+            b'b' => match pairs.next_back() {
+                Some((key, value)) => reply.pair(*key, write(value, action))?,
+                None => reply.word("none")?,
+            },
             _ => reply.truth(pairs.is_empty())?,
         }
     }
