@@ -13,6 +13,9 @@ use btree_testing::Refusing;
 use std::alloc::{AllocError, Global};
 use std::io;
 
+// The numbers of nodes that are compared after a refusal.
+const NUMBERS: usize = 128;
+
 /// Two nodes in no tree, a raw tree with one of its nodes marked, a session, and a map that a cursor edits.
 #[derive(Drop)]
 struct Bench<C: ClearNodes<u64, u64> + Drop>
@@ -28,9 +31,6 @@ where
     s: Session<C>,
     c: Map<C>,
 }
-
-// The numbers of nodes that are compared.
-const NUMBERS: usize = 128;
 
 // Serves a call of a node. A child of a node that is built is named by its number, or as a node of the tree.
 fn serve_one<C: NodesMut<u64, u64>>(
@@ -125,6 +125,7 @@ where
 
     fn content(&self, reply: &mut Reply) -> Result<(), AllocError> {
         put_content(reply, &self.t)?;
+        reply.value(self.mark.map(|id| id as u64))?;
         put_content(reply, self.s.map().as_raw())?;
         put_content(reply, self.c.as_raw())?;
         put_node_text(reply, &self.n)?;

@@ -83,7 +83,7 @@ fn leads_back(asked: Spot, found: Spot) -> bool {
         && (asked.is_before || !found.is_before)
 }
 
-// What is done for each address: the node that is rebalanced, the text of the tree, its length, and whether the addresses are listed.
+/// What is done for each address: the node that is rebalanced, the text of the tree, its length, and whether the addresses are listed.
 #[derive(Clone, Copy)]
 pub(crate) struct Plan<'a> {
     pub(crate) node: &'a str,
@@ -167,7 +167,8 @@ fn follow_each<C: ClearNodes<u64, u64>>(
 }
 
 /// Builds the tree of a text anew for each of its addresses, and rebalances it with that address. The reply lists the addresses with those
-/// that were answered, or says how many there are, and how many nodes there were and are; or it says which one was not followed, the first being 0.
+/// that were answered, or says how many addresses there are, and how many nodes before and after; or it says which address was not followed,
+/// the first being 0.
 pub(crate) fn rebalance_everywhere<C: ClearNodes<u64, u64>>(
     raw: &mut Raw<C>,
     alloc: Global,
