@@ -37,9 +37,7 @@ where
     requires ends { IsFinite (I.remaining source.old) }
 {
     reply.word("left")?;
-    let first = source.next();
-    let mut is_more = first.is_some();
-    put(first, reply)?;
+    put(source.next(), reply)?;
     while let Some(item) = source.next() {
         item.put(reply)?;
     }
