@@ -3,7 +3,7 @@ use crate::addresses::{map_address, map_node, same};
 use crate::menu::{Action, given, read_action, write};
 use btree_book::{Reply, number, pair, put_address, word};
 use btree_slab::generic::BTreeMap;
-use btree_slab::generic::map::{BTreeExt, BTreeExtMut};
+use btree_slab::generic::map::{BTreeExt, BTreeExtMut, UpdateRefused};
 use btree_slab::generic::node::{Address, Item};
 use btree_slab::store::NodesMut;
 use std::alloc::AllocError;
@@ -124,7 +124,12 @@ fn update_in<C: NodesMut<u64, u64>>(
     }
     match map.update_in(id, key, |found| (given(action, found), found)) {
         Ok(found) => reply.value(found),
-        Err(refused) => reply.refused_key(refused.cause, refused.key),
+        Err(UpdateRefused { cause, key, action }) => {
+            reply.refused_key(cause, key)?;
+            let (given, _) = action(None);
+            reply.word("gives")?;
+            reply.value(given)
+        }
     }
 }
 

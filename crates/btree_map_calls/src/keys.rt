@@ -2,7 +2,7 @@
 use crate::menu::{Action, given, read_action, write};
 use btree_book::{Reply, draw, number, pair, shape, word};
 use btree_slab::generic::BTreeMap;
-use btree_slab::generic::map::BTreeExt;
+use btree_slab::generic::map::{BTreeExt, UpdateRefused};
 use btree_slab::store::{ClearNodes, CloneNodes, NodesMut};
 use std::alloc::AllocError;
 
@@ -40,6 +40,7 @@ fn replace<C: NodesMut<u64, u64>>(
     }
 }
 
+// Updates a value. A refused action comes back, and gives its value then.
 fn update<C: NodesMut<u64, u64>>(
     map: &mut Map<C>,
     key: u64,
@@ -48,7 +49,12 @@ fn update<C: NodesMut<u64, u64>>(
 ) -> Result<(), AllocError> {
     match map.update(key, |found| (given(action, found), found)) {
         Ok(found) => reply.value(found),
-        Err(refused) => reply.refused_key(refused.cause, refused.key),
+        Err(UpdateRefused { cause, key, action }) => {
+            reply.refused_key(cause, key)?;
+            let (given, _) = action(None);
+            reply.word("gives")?;
+            reply.value(given)
+        }
     }
 }
 
