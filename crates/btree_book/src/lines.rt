@@ -143,7 +143,7 @@ fn serve_call<P: Desk, Q: Desk>(
         Some(rest) => each(alloc, memory, desks, rest, &mut reply)?,
         None => call(alloc, memory, desks, words, &mut reply)?,
     };
-    if !is_call {
+    if !is_call || reply.is_unknown() {
         writeln!(text, "not a call (line {at})")?;
         return Ok(Some(Ending::NotACall(at)));
     }

@@ -9,6 +9,8 @@ pub struct Reply {
     text: String,
     // Whether a line has begun, and no word stands on it.
     is_at_start: bool,
+    // Whether a word of the call was not understood.
+    is_unknown: bool,
 }
 
 impl Reply {
@@ -17,6 +19,7 @@ impl Reply {
         Reply {
             text: String::new(alloc),
             is_at_start: true,
+            is_unknown: false,
         }
     }
 
@@ -37,6 +40,16 @@ impl Reply {
             self.text.push(' ')?;
         }
         self.glue(word)
+    }
+
+    /// Says that a word of the call was not understood, so that the line is no call.
+    pub fn unknown(&mut self) {
+        self.is_unknown = true;
+    }
+
+    /// Returns whether a word of the call was not understood.
+    pub(crate) fn is_unknown(&self) -> bool {
+        self.is_unknown
     }
 
     /// Adds a text with no space before it.

@@ -31,7 +31,7 @@ use Rattle.btree_shape.proofs.Removal.OtherItemInState.{ReplacedWell, replaced-w
 use Rattle.btree_shape.proofs.Trees.Stores.{len-views, writes_node, used-view, within-used}
 use Rattle.btree_shape.proofs.Trees.States.{is-tree, pairs-tree}
 use Rattle.btree_raw.specs.Raw.{with_node}
-use Rattle.btree_raw.proofs.StateLemmas.{same-len, same-refusals, same-root}
+use Rattle.btree_raw.proofs.StateLemmas.{same-len, same-kept, same-root}
 use Rattle.btree_edit.specs.Exchange.{IsExchanged, IsValueExchanged}
 use Rattle.btree_edit.specs.ValueWritten.{item_written, node_written, value_written}
 
@@ -288,7 +288,7 @@ module _ {K V : Type 0} (cmp : K → K → Ordering) (laws : IsTotalOrder cmp) (
           ap (option_and_then (item_in (node_map new a.id))) x.nodes.at
           ∙ (new-item x.nodes.offset ∙ get-set_same (items_of x.nodes.old) x.nodes.offset was is x.nodes.stood);
       keeps = record { root = same-root x.rest; len = same-len x.rest; nodes = as-many; valid = keeps-valid; places = keeps-place; others = others };
-      uncounted = same-refusals x.rest;
+      uncounted = same-kept x.rest;
     }
 
 module _ {K V : Type 0} (cmp : K → K → Ordering) (laws : IsTotalOrder cmp) (old new : TreeState K V) (a : Address) (k : K) (v w : V) (tree : IsBTree cmp old)

@@ -21,7 +21,7 @@ use Rattle.btree_shape.proofs.Splits.Insertion.{first-well}
 use Rattle.btree_shape.proofs.Trees.Stores.{len-views}
 use Rattle.btree_shape.proofs.Trees.States.{is-tree, pairs-tree}
 use Rattle.btree_raw.specs.Claimed.{EMPTY}
-use Rattle.btree_raw.proofs.StateLemmas.{nodes-of, same-refusals}
+use Rattle.btree_raw.proofs.StateLemmas.{nodes-of, same-kept}
 use Rattle.btree_edit.specs.Insert.{IsInserted, IsWithinStrain}
 
 module _ {K V : Type 0} (cmp : K → K → Ordering) (old mid put : TreeState K V) (root : ℕ) (empty : old.root ≡ None) (tree : IsBTree cmp old)
@@ -88,5 +88,5 @@ module _ {K V : Type 0} (cmp : K → K → Ordering) (old mid put : TreeState K 
         longer = omega arith;
         nodes = rw empty (omega arith);
         strain = is-within old_len new_len;
-        uncounted = same-refusals changes.rest ∙ ap (λ (s : TreeState K V). s.refusals) claimed;
+        uncounted = same-kept changes.rest ∙ ap (λ (s : TreeState K V). s.kept) claimed;
       }

@@ -270,7 +270,7 @@ module _ {K V : Type 0} (cmp : K → K → Ordering) (laws : IsTotalOrder cmp) (
           ∙ written-used node_at (node_map taken) leaf_id (leaf takes.parent takes.items) shorter takes.here takes.writes n)
 
       -- after the underflow is fixed
-      pub removed-from-internal : (new : TreeState K V) (b : Address) → mid.len + 1 ≡ old.len → mid.refusals ≡ old.refusals
+      pub removed-from-internal : (new : TreeState K V) (b : Address) → mid.len + 1 ≡ old.len → mid.kept ≡ old.kept
           → IsRebalanced mid new leaf_id cmp next b → IsRemoved old new cmp a inner.item b
       removed-from-internal new b len uncounted r =
           removed-by cmp old mid root well laws root-is.1 top leaf_id (suc before) a next inner.item off removed-inner.height_is

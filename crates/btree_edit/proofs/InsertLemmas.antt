@@ -53,7 +53,7 @@ module _ {K V : Type 0} (cmp : K → K → Ordering) (laws : IsTotalOrder cmp) (
 
   module _ (new : TreeState K V) (a : Address) (f : IsFoundAt cmp k old a) (was : V) (x : IsValueExchanged old new a cmp was w) where
     listed : slice_get xs f.place ≡ Some (x.key, was)
-    listed = placed-item cmp old (x.key, was) a tree f.place f.at x.had
+    listed = placed-item cmp old (x.key, was) a tree f.place f.here.has.at x.had
 
     is-found : found cmp k xs ≡ Some (x.key, was)
     is-found = sym (slice_get-from_Ok cmp laws k xs f.place tree.ascends f.is) ∙ listed
@@ -66,7 +66,7 @@ module _ {K V : Type 0} (cmp : K → K → Ordering) (laws : IsTotalOrder cmp) (
 
     pub exchanged-pairs : pairs_of new ≡ inserted cmp k w xs
     exchanged-pairs =
-        let same : x.exchanged.place ≡ f.place = one_place-well cmp laws (node_map old) xs old.len old.root tree a.id a.offset x.exchanged.place f.place x.exchanged.at f.at in
+        let same : x.exchanged.place ≡ f.place = one_place-well cmp laws (node_map old) xs old.len old.root tree a.id a.offset x.exchanged.place f.place x.exchanged.at f.here.has.at in
         let set_is = set-from_Ok cmp laws k w xs f.place (x.key, was) tree.ascends f.is listed in
         x.exchanged.pairs ∙ (rw same set_is ∙ sym (if-some (found cmp k xs) _ _ is-some))
 

@@ -36,8 +36,8 @@ module _ {K V : Type 0} (cmp : K → K → Ordering) (laws : IsTotalOrder cmp) (
   exchanges-at_key was w x =
       let y : IsValueExchanged s (key_written cmp k s w) a cmp was w = subst (λ n. IsValueExchanged s n a cmp was w) (written-at_key w) x in
       let same : y.exchanged.place ≡ f.place =
-      one_place-well cmp laws (node_map s) (pairs_of s) s.len s.root tree a.id a.offset y.exchanged.place f.place y.exchanged.at f.at in
-      let listed : slice_get (pairs_of s) f.place ≡ Some (y.key, was) = placed-item cmp s (y.key, was) a tree f.place f.at y.had in
+      one_place-well cmp laws (node_map s) (pairs_of s) s.len s.root tree a.id a.offset y.exchanged.place f.place y.exchanged.at f.here.has.at in
+      let listed : slice_get (pairs_of s) f.place ≡ Some (y.key, was) = placed-item cmp s (y.key, was) a tree f.place f.here.has.at y.had in
       record {
         pairs =
             y.exchanged.pairs

@@ -25,7 +25,7 @@ use Rattle.btree_shape.proofs.Trees.Stores.{used-view, len-views}
 use Rattle.btree_shape.proofs.Trees.States.{height_held, is-tree, pairs-tree}
 use Rattle.btree_raw.proofs.ClaimLemmas.{claims-low, claims-focus}
 use Rattle.btree_raw.proofs.UpwardLemmas.{upward-done, upward-left, upward-start}
-use Rattle.btree_raw.proofs.StateLemmas.{same-len, same-refusals, same-root}
+use Rattle.btree_raw.proofs.StateLemmas.{same-len, same-kept, same-root}
 use Rattle.btree_raw.specs.Claimed.{AreClaimed}
 use Rattle.btree_raw.specs.Steps.{AddsItem, AreSplit, CanAddItem, IsSplitting, SplitsUpward}
 use Rattle.btree_edit.specs.Insert.{IsGapFor, IsInserted, IsWithinStrain}
@@ -245,7 +245,7 @@ module _ {K V : Type 0} (cmp : K → K → Ordering) (laws : IsTotalOrder cmp) (
               longer = ap (λ n. n + 1) (s.len ∙ (same-len adds.rest ∙ same-len claimed.rest));
               nodes = omega arith;
               strain = is-within;
-              uncounted = s.uncounted ∙ (same-refusals adds.rest ∙ same-refusals claimed.rest);
+              uncounted = s.uncounted ∙ (same-kept adds.rest ∙ same-kept claimed.rest);
             }
 
 -- no node is claimed

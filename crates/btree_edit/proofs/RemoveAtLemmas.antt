@@ -1,7 +1,7 @@
 -- The steps of a removal at an address: what a node returned, and the tree in between.
-use Rattle.std.proofs.Common.{◌≡◌, ◌∙◌, ◌+◌, ◌-◌, ◌<◌, ◌≤◌, ◌^◌, ℕ, suc, List, length, Option, Some, None, Ok, Err, OnOk, OnErr, Result, IsTrue, refl, sym, ap, subst, option_map, option_and_then, slice_get, arith}
+use Rattle.std.proofs.Common.{◌≡◌, ◌∙◌, ◌+◌, ◌<◌, ◌≤◌, ◌^◌, ℕ, suc, inl, inr, List, length, Option, Some, None, Ok, Err, OnOk, OnErr, Result, IsTrue, refl, sym, ap, subst, option_map, option_and_then, slice_get, arith}
 use Rattle.std.proofs.lemmas.List.{length-map}
-use Rattle.std.proofs.lemmas.Option.{slice_get_within}
+use Rattle.std.proofs.lemmas.Option.{same_Some, slice_get_within}
 use Rattle.std.specs.Cmp.{IsTotalOrder}
 use Rattle.std.specs.FinMap as finite
 use Rattle.std.specs.List.{remove}
@@ -14,8 +14,9 @@ use Rattle.btree_view.specs.Removal.{removal_in}
 use Rattle.btree_view.specs.View.{View, leaf, internal, children_in, children_of, item_in, items_of, size_of}
 use Rattle.btree_view.proofs.RemovalLemmas.{child-from_removal, item-from_removal, no_item-from_removal}
 use Rattle.btree_shape.specs.Focus.Positions.{address_at, address_before}
+use Rattle.btree_shape.specs.Place.{IsLeaf}
 use Rattle.btree_shape.specs.Step.{WritesNode}
-use Rattle.btree_shape.specs.TreeState.{TreeState, IsBTree, IsOffByOneAt, IsPlaceIn, IsUsed, IsValidIn, item_of, node_map, pairs_of}
+use Rattle.btree_shape.specs.TreeState.{TreeState, IsBTree, IsLeafAddressIn, IsOffByOneAt, IsPlaceIn, IsUsed, IsValidIn, item_of, node_map, pairs_of}
 use Rattle.btree_shape.specs.WellFormed.{IsWellFormed}
 use Rattle.btree_shape.proofs.Trees.Stores.{item-some, writes_node}
 use Rattle.btree_raw.specs.Raw.{with_node}
@@ -25,7 +26,7 @@ use Rattle.btree_find.specs.Navigation.{AreBeside, LeadsToItem}
 use Rattle.btree_find.proofs.NextLemmas.{next-below}
 use Rattle.btree_find.proofs.PreviousLemmas.{below-used}
 use Rattle.btree_find.proofs.WalkLemmas.{occupied-below}
-use Rattle.btree_edit.specs.Remove.{HasChildBehind, IsInnerAt, IsRemoved, LeadsBehind}
+use Rattle.btree_edit.specs.Remove.{HasChildBehind, IsInnerAt, IsRemoved, LeadsBehind, RebalancesLeaf}
 use Rattle.btree_edit.proofs.InnerLemmas.{node-of}
 use Rattle.btree_edit.proofs.RemoveLemmas.{removed-from-leaf, taken-counted, taken-off, taken-room, taken-valid}
 
@@ -67,6 +68,17 @@ module _ {K V : Type 0} (s : TreeState K V) (a : Address) where
       let node : p.node ≡ leaf parent xs = (let e = p.here in cc) in
       let kind : IsTrue (is_internal (leaf parent xs)) = subst (λ v. IsTrue (is_internal v)) node p.kind in
       absurd (cc)
+
+  -- an item of an internal node is not one of a leaf
+  pub no-leaf : (root : ℕ) → s.root ≡ Some root → (left : ℕ) → IsInnerAt s a left → IsLeafAddressIn s a → ⊥
+  no-leaf root top left p at = elim at [
+    | inl in_leaf ↦ by p.node p.here p.kind in_leaf
+    | inr nowhere ↦ let none = nowhere.0 in absurd (cc)
+  ]
+    where
+      by : (v : View (K × V)) → node_map s a.id ≡ Some v → IsTrue (is_internal v) → IsLeaf (node_map s) (node_map s a.id) → ⊥
+      by (leaf parent xs) here kind in_leaf = absurd (cc)
+      by (internal parent first branches) here kind in_leaf = subst (IsLeaf (node_map s)) here in_leaf
 
 module _ {K V : Type 0} (old : TreeState K V) (a : Address) where
   -- the empty tree has no item
@@ -150,6 +162,24 @@ module _ {K V : Type 0} (old : TreeState K V) (a : Address) where
       pub leaf-enough : len + 1 ≡ old.len → 2 < size_of (view_of kept) → IsRemoved old mid cmp a x a
       leaf-enough shorter enough =
           leaf-removed mid a shorter
+          (enough-rebalanced cmp laws mid a.id leaf-off a leaf-valid leaf-room (subst (λ v. 2 < size_of v) shorter-is enough))
+
+      pub leaf-taken : (new : TreeState K V) (b : Address) → len + 1 ≡ old.len → IsRebalanced mid new a.id cmp a b
+          → RebalancesLeaf old new cmp a b
+      leaf-taken new b shorter r = record {
+        taken = mid;
+        writes = λ v at.
+            let same : view_of node ≡ v = same_Some (view_of node) v (sym here ∙ at) in
+            subst (λ w. WritesNode (node_map old) (node_map mid) a.id w) (taken ∙ ap (without_at a.offset) same)
+            (writes_node old.nodes (finite.insert old.nodes a.id kept) a.id kept refl);
+        rest = refl;
+        shorter = sym shorter;
+        rebalanced = r;
+      }
+
+      pub leaf-taken_enough : len + 1 ≡ old.len → 2 < size_of (view_of kept) → RebalancesLeaf old mid cmp a a
+      leaf-taken_enough shorter enough =
+          leaf-taken mid a shorter
           (enough-rebalanced cmp laws mid a.id leaf-off a leaf-valid leaf-room (subst (λ v. 2 < size_of v) shorter-is enough))
 
 module _ {K V : Type 0} (cmp : K → K → Ordering) (laws : IsTotalOrder cmp) (s : TreeState K V) (tree : IsBTree cmp s) where

@@ -27,7 +27,7 @@ module _ {K V : Type 0} (cmp : K → K → Ordering) (laws : IsTotalOrder cmp) (
   xs = pairs_of old
 
   place-is : r.place ≡ f.place
-  place-is = only cmp laws old tree a f.place r.place f.at r.at
+  place-is = only cmp laws old tree a f.place r.place f.here.has.at r.at
 
   pub entry-found : Some x ≡ found cmp k xs
   entry-found =

@@ -102,7 +102,7 @@ module _ {K V : Type 0} (cmp : K → K → Ordering) (laws : IsTotalOrder cmp) (
         removed-inner new b shorter r =
             subst (λ z. IsRemoved old new cmp a z b) removed-is
             (removed-from-internal cmp laws old tree small a left inner taken y leaf_id takes next behind mid (view_of kept)
-            put has top new b shorter (ap (λ (s : TreeState K V). s.refusals) takes.rest.rest) r)
+            put has top new b shorter (ap (λ (s : TreeState K V). s.kept) takes.rest.rest) r)
 
         same-node : (other : View (K × V)) → node_map old a.id ≡ Some other → inner.node ≡ other
         same-node other is = let e = inner.here in cc

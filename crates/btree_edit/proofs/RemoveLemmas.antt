@@ -68,7 +68,7 @@ module _ {K V : Type 0} (cmp : K → K → Ordering) (old mid : TreeState K V) (
       (as-many : map.len mid.nodes ≡ map.len old.nodes)
       (had : item_of old a ≡ Some x) (at : IsPlaceIn old a place) (listed : slice_get (pairs_of old) place ≡ Some x)
       (f-place : IsPlaceIn mid f place) (f-back : IsSome f.offset)
-      (new : TreeState K V) (b : Address) (len : mid.len + 1 ≡ old.len) (uncounted : mid.refusals ≡ old.refusals)
+      (new : TreeState K V) (b : Address) (len : mid.len + 1 ≡ old.len) (uncounted : mid.kept ≡ old.kept)
       (r : IsRebalanced mid new exempt cmp f b) where
     root-mid : mid.root ≡ Some root
     root-mid = top ∙ at-root
@@ -256,7 +256,7 @@ module _ {K V : Type 0} (cmp : K → K → Ordering) (laws : IsTotalOrder cmp) (
   had = ap (option_and_then (item_in (node_at a.id))) offset ∙ item-here
 
   -- after the underflow is fixed
-  pub removed-from-leaf : (new : TreeState K V) (b : Address) → mid.len + 1 ≡ old.len → mid.refusals ≡ old.refusals
+  pub removed-from-leaf : (new : TreeState K V) (b : Address) → mid.len + 1 ≡ old.len → mid.kept ≡ old.kept
       → IsRebalanced mid new a.id cmp a b → IsRemoved old new cmp a x b
   removed-from-leaf new b len uncounted r =
       removed-by cmp old mid root well laws at-root top a.id place a a x took

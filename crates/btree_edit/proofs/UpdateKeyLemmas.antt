@@ -1,22 +1,26 @@
 -- An update by key: at the address of a key that is there, and at the gap of one that is not.
-use Rattle.std.proofs.Common.{◌≡◌, ◌≢◌, ◌∙◌, ℕ, inl, inr, List, Option, Some, None, Result, Ok, Err, IfOk, IfSome, refl, sym, ap, subst, is_some, if◌then◌else◌, option_map}
+use Rattle.std.proofs.Common.{◌≡◌, ◌≢◌, ◌<◌, ◌∙◌, ◌^◌, ◌-◌, ℕ, inl, inr, List, [], ◌∷◌, Option, Some, None, Result, Ok, Err, IfOk, OnOk, IfSome, IsSome, refl, sym, ap, subst, is_some, if◌then◌else◌, option_map}
 use Rattle.std.specs.Cmp.{IsTotalOrder}
 use Rattle.std.specs.FinMap as finite
 use Rattle.std.specs.List.{insert, remove}
 use Rattle.std.specs.declared.cmp.Ordering.{Ordering}
+use Rattle.btree_store.specs.Content.{Content}
 use Rattle.btree_store.specs.ContentLaws.{remove-insert}
 use Rattle.btree_item.proofs.PairLemmas.{found-from_Err}
 use Rattle.btree_item.proofs.PairEdits.{before-from_KeyFits, found-from_KeyFits}
 use Rattle.btree_item.specs.Pairs.{before, found, found_value}
 use Rattle.btree_item.specs.declared.address.Address.{Address}
-use Rattle.btree_shape.specs.TreeState.{TreeState, IsBTree, IsUsed, item_of, node_map, pairs_of}
+use Rattle.btree_node.specs.declared.node.Node.{Node}
+use Rattle.btree_shape.specs.Need.{need}
+use Rattle.btree_shape.specs.TreeState.{TreeState, IsBTree, IsUsed, item_of, node_map, nodes_needed, pairs_of}
 use Rattle.btree_shape.proofs.Trees.Stores.{used-view}
-use Rattle.btree_raw.specs.Claimed.{EMPTY}
+use Rattle.btree_raw.specs.Claimed.{CanHoldMore, EMPTY}
 use Rattle.btree_raw.specs.Raw.{with_node}
 use Rattle.btree_find.specs.Answers.{IsAddressIn, IsAddressOf, IsFoundAt, IsGapAt, IsGapIn}
 use Rattle.btree_find.specs.Fits.{FitsIn, pairs_below}
+use Rattle.btree_find.proofs.FitsLemmas.{occupied-item}
 use Rattle.btree_find.proofs.SearchLemmas.{gap-at}
-use Rattle.btree_edit.specs.Insert.{IsGapFor}
+use Rattle.btree_edit.specs.Insert.{IsGapFor, IsGrantedIfAbsent}
 use Rattle.btree_edit.specs.Remove.{IsRemoved, RemovesByKey}
 use Rattle.btree_edit.specs.Update.{RunsAt, RunsAtGap, RunsByKey, UpdatesAt, UpdatesGap}
 use Rattle.btree_edit.proofs.InsertLemmas.{exchanged-by_key, exchanged-pairs, put-inserted_by_key}
@@ -42,7 +46,7 @@ same-place n m (Some x) none e = absurd (cc)
 pub record Updates {K V : Type 0} (cmp : K → K → Ordering) (old new : TreeState K V) (k : K) {T : Type 0} (post : Option V → Option V × T → Type 0) (answer : T) : Type 0 where
   pub tree : IsBTree cmp new
   pub runs : RunsByKey cmp old new post k answer
-  pub uncounted : new.refusals ≡ old.refusals
+  pub uncounted : new.kept ≡ old.kept
 
 module _ {K V : Type 0} (cmp : K → K → Ordering) (laws : IsTotalOrder cmp) (old new : TreeState K V) (well : IsBTree cmp old) (k : K) where
   abbrev xs : List (K × V)
@@ -111,7 +115,7 @@ module _ {K V : Type 0} (cmp : K → K → Ordering) (laws : IsTotalOrder cmp) (
           pairs = ap (λ (s : TreeState K V). pairs_of s) u ∙ sym (else-none (found cmp k xs) (remove xs (before cmp k xs)) xs nothing);
           by_key = record { present = λ x e. absurd (let f = nothing in cc); absent = λ none. u };
         };
-        uncounted = ap (λ (s : TreeState K V). s.refusals) u;
+        uncounted = ap (λ (s : TreeState K V). s.kept) u;
       }
       by-gap (Some w) is u =
           let same = same-place (before cmp k xs) gap.place (found cmp k xs) nothing gap.is in
@@ -133,6 +137,23 @@ module _ {K V : Type 0} (cmp : K → K → Ordering) (laws : IsTotalOrder cmp) (
 pub ok-each : {A B : Type 0} {P Q : A → Type 0} (r : Result A B) → ((x : A) → P x → Q x) → IfOk r P → IfOk r Q
 ok-each (Ok x) each p = each x p
 ok-each (Err e) each p = tt
+
+pub on_ok-each : {A B : Type 0} {P Q : Type 0} (r : Result A B) → (P → Q) → OnOk r P → OnOk r Q
+on_ok-each (Ok x) each p = each p
+on_ok-each (Err e) each p = tt
+
+module _ {K V : Type 0} (cmp : K → K → Ordering) (k : K) (s : TreeState K V) (CanHold : Content (Node K V) → Type 0) (a : Address) where
+  -- a key that is there needs no node
+  pub granted-found : IsFoundAt cmp k s a → IsGrantedIfAbsent cmp k s CanHold
+  granted-found f = λ none. absurd (by (item_of s a) (occupied-item s a f.here.occupied) (f.item ∙ none))
+    where
+      by : (o : Option (K × V)) → IsSome o → o ≡ None → ⊥
+      by None some none = absurd (cc)
+      by (Some x) some none = absurd (cc)
+
+  -- the nodes that were granted at the gap of a key
+  pub granted-gap : IsGapAt cmp k s a → CanHoldMore EMPTY CanHold s.nodes (nodes_needed s a.id) → IsGrantedIfAbsent cmp k s CanHold
+  granted-gap gap granted = λ none. record { gap = a; is_gap = gap; granted = granted }
 
 -- an action that is called with what is found at the key may be called with the value at its address
 pub callable-found : {K V : Type 0} (cmp : K → K → Ordering) (k : K) (s : TreeState K V) (a : Address) → IsFoundAt cmp k s a
@@ -179,3 +200,17 @@ pub one-freed : {K V : Type 0} (old mid new : TreeState K V) (id : ℕ) → mid 
 one-freed {K} {V} old mid new id claimed unused freed =
     let without : TreeState K V → TreeState K V = λ s. record s { nodes = finite.remove s.nodes id } in
     freed ∙ (ap without claimed ∙ (λ i. record old { nodes = remove-insert old.nodes id EMPTY unused i }))
+
+-- the one node of an empty tree was granted
+pub one-granted : {K V : Type 0} (old mid : TreeState K V) (CanHold : Content (Node K V) → Type 0) (leaf id : ℕ) → old.root ≡ None
+    → mid ≡ with_node old id EMPTY → finite.get old.nodes id ≡ None → id < 2 ^ 64 - 1 → CanHold mid.nodes → CanHoldMore EMPTY CanHold old.nodes (nodes_needed old leaf)
+one-granted {K} {V} old mid CanHold leaf id empty claimed unused low can = record {
+  ids = id ∷ [];
+  all = by old.root empty;
+  claims = (unused, low, tt);
+  can = subst CanHold (ap (λ (s : TreeState K V). s.nodes) claimed) can;
+}
+  where
+    by : (root : Option ℕ) → root ≡ None → 1 ≡ need (node_map old) root (finite.len old.nodes) leaf
+    by None is = refl
+    by (Some id) is = absurd (cc)

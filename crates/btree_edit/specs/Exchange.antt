@@ -27,7 +27,7 @@ module _ {K V : Type 0} (old new : TreeState K V) (a : Address) where
     pub pairs : pairs_of new ≡ set (pairs_of old) place x
     pub item : item_of new a ≡ Some x
     pub keeps : KeepsAddresses
-    pub uncounted : new.refusals ≡ old.refusals
+    pub uncounted : new.kept ≡ old.kept
 
   -- the same, where the key stays and only the value is replaced: `was` by `is`
   pub record IsValueExchanged (cmp : K → K → Ordering) (was is : V) : Type 0 where

@@ -4,7 +4,8 @@
 -- (`btree_raw`) is the other outcome. Then `InsertsByKey`, cited by `insert` of tree and map: for an absent key, exactly
 -- the needed nodes were allocated, at most one more than the tree had levels; for a key that is there,
 -- `ExchangesValueAt` (its value is replaced, and every address stays). `IsRefusedAtGap` is its refusal: only at the
--- greatest length, or if the store may refuse one of the needed nodes.
+-- greatest length, or if the store may refuse one of the needed nodes. `IsGrantedIfAbsent` is the other side: the store
+-- can hold the needed nodes beside those that it had.
 use Rattle.std.specs.Prelude.{◌≡◌, ℕ, ◌+◌, ◌≤◌, Some, None, IsSome}
 use Rattle.std.specs.FinMap as map
 use Rattle.std.specs.List.{insert}
@@ -15,6 +16,7 @@ use Rattle.btree_item.specs.declared.address.Address.{Address}
 use Rattle.btree_item.specs.declared.refused.Cause.{Cause}
 use Rattle.btree_node.specs.declared.node.Node.{Node}
 use Rattle.btree_shape.specs.TreeState.{TreeState, HasLevels, HasStrain, IsBTree, IsLeafAddressIn, IsPlaceIn, item_of, nodes_needed, pairs_of}
+use Rattle.btree_raw.specs.Claimed.{CanHoldMore, EMPTY}
 use Rattle.btree_raw.specs.Insertion.{IsRefused}
 use Rattle.btree_find.specs.Answers.{IsFoundAt, IsGapAt}
 use Rattle.btree_edit.specs.Exchange.{IsValueExchanged}
@@ -45,7 +47,18 @@ module _ {K V : Type 0} (cmp : K → K → Ordering) where
     pub longer : new.len ≡ old.len + 1
     pub nodes : map.len new.nodes ≡ map.len old.nodes + nodes_needed old a.id
     pub strain : IsWithinStrain old new
-    pub uncounted : new.refusals ≡ old.refusals
+    pub uncounted : new.kept ≡ old.kept
+
+module _ {K V : Type 0} (cmp : K → K → Ordering) (k : K) (old : TreeState K V) (CanHold : Content (Node K V) → Type 0) where
+  -- the store can hold the nodes that an insertion at the gap of the key needs
+  pub record IsGrantedAtGap : Type 0 where
+    pub gap : Address
+    pub is_gap : IsGapAt cmp k old gap
+    pub granted : CanHoldMore EMPTY CanHold old.nodes (nodes_needed old gap.id)
+
+  -- so it is for a key that is not there
+  abbrev pub IsGrantedIfAbsent : Type 0
+  IsGrantedIfAbsent = found cmp k (pairs_of old) ≡ None → IsGrantedAtGap
 
 module _ {K V : Type 0} (cmp : K → K → Ordering) (k : K) (old new : TreeState K V) where
   -- the item with the key has another value, and nothing else has changed: the stored key stays, and so does every

@@ -23,4 +23,4 @@ module _ {K V : Type 0} (cmp : K → K → Ordering) (k : K) where
     pub occupied : IsOccupiedIn new b
     pub item : item_of new b ≡ Some (k, value)
     pub by_key : InsertsByKey cmp k old new value
-    pub uncounted : new.refusals ≡ old.refusals
+    pub uncounted : new.kept ≡ old.kept

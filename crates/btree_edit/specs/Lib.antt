@@ -3,6 +3,7 @@ pub mod Insert
 pub mod InsertAbsent
 pub mod InsertAt
 pub mod KeyWritten
+pub mod Lent
 pub mod Remove
 pub mod Replace
 pub mod Update

@@ -1,17 +1,18 @@
 -- What a removal leaves of a tree. `IsRemoved` is the main word: with `valid`, `back` and `fits` it has all that
 -- `insert_at` requires to put the pair back, and `restores` says that this gives the old list. A removal may free nodes
--- and never allocates one. `ReplacesInner` says which item takes the place of one of an internal node. `RemovesByKey` is a
--- removal at the address of a key.
+-- and never allocates one. `TakesFromLeaf` says what is rebalanced after an item of a leaf was taken out, and
+-- `ReplacesInner` which item takes the place of one of an internal node. `RemovesByKey` is a removal at the address of a
+-- key.
 use Rattle.std.specs.Prelude.{◌≡◌, ℕ, suc, ◌+◌, ◌≤◌, slice_get, Some, IsSome, IsTrue}
 use Rattle.std.specs.FinMap as map
 use Rattle.std.specs.List.{insert, remove}
 use Rattle.std.specs.declared.cmp.Ordering.{Ordering}
 use Rattle.btree_item.specs.Pairs.{before}
 use Rattle.btree_item.specs.declared.address.Address.{Address}
-use Rattle.btree_view.specs.Edits.{is_internal, with_other_item_at}
+use Rattle.btree_view.specs.Edits.{is_internal, with_other_item_at, without_at}
 use Rattle.btree_view.specs.View.{View, children_in, children_of, items_of}
 use Rattle.btree_shape.specs.Step.{WritesNode}
-use Rattle.btree_shape.specs.TreeState.{TreeState, HasLevels, HasStrain, IsBTree, IsPlaceIn, IsValidIn, item_of, node_map, pairs_of}
+use Rattle.btree_shape.specs.TreeState.{TreeState, HasLevels, HasStrain, IsBTree, IsLeafAddressIn, IsPlaceIn, IsValidIn, item_of, node_map, pairs_of}
 use Rattle.btree_raw.specs.LastItem.{TakesLast}
 use Rattle.btree_raw.specs.Rebalance.{IsRebalanced}
 use Rattle.btree_find.specs.Answers.{IsFoundAt}
@@ -66,7 +67,21 @@ module _ {K V : Type 0} (old new : TreeState K V) where
     pub fits : FitsAt cmp x.0 new b
     pub shorter : old.len ≡ new.len + 1
     pub frees : FreesWithinStrain
-    pub uncounted : new.refusals ≡ old.refusals
+    pub uncounted : new.kept ≡ old.kept
+
+  -- the item at address a, in a leaf, was taken out; then the leaf was rebalanced, while address a was followed, which
+  -- is address b now
+  pub record RebalancesLeaf (cmp : K → K → Ordering) (a b : Address) : Type 0 where
+    pub taken : TreeState K V
+    pub writes : (node : View (K × V)) → node_map old a.id ≡ Some node
+        → WritesNode (node_map old) (node_map taken) a.id (without_at a.offset node)
+    pub rest : taken ≡ record old { nodes = taken.nodes; len = taken.len }
+    pub shorter : old.len ≡ taken.len + 1
+    pub rebalanced : IsRebalanced taken new a.id cmp a b
+
+  -- so it was if address a is in a leaf
+  abbrev pub TakesFromLeaf : (cmp : K → K → Ordering) (a b : Address) → Type 0
+  TakesFromLeaf cmp a b = IsLeafAddressIn old a → RebalancesLeaf cmp a b
 
   -- in an internal node, the last item under the child before address a took the place of the one there; then the leaf
   -- that it came from was rebalanced, while the address of the next item was followed, which is address b now

@@ -26,6 +26,7 @@ fn insert_first<K: Ord + Drop, V: Drop, C: NodesMut<K, V>>(
 ) -> Result<Address, Refused<K, V>>
     requires tree { IsBTree K.cmp tree.old }
     requires empty { tree.old.root ≡ None }
+    requires granted { tree.old.len < tree.old.kept.limit }
     ensures inserted { IfOk result (λ b. IsInserted K.cmp tree.old tree.new addr b item) }
     ensures returned { IfErr result (λ r. (r.key, r.value) ≡ item) }
     ensures refused { IfErr result (λ r. IsRefused C.MayRefuse addr.id tree.old tree.new r.cause) }
@@ -74,6 +75,7 @@ pub(crate) fn insert_and_split<K: Ord + Drop, V: Drop, C: NodesMut<K, V>>(
     requires some { tree.old.root ≢ None }
     requires gap { IsGapFor K.cmp item.0 tree.old addr }
     requires room { tree.old.len < usize.MAX }
+    requires granted { tree.old.len < tree.old.kept.limit }
     requires enough { count ≡ nodes_needed tree.old addr.id }
     requires few { count ≤ MAX_CLAIMS }
     ensures inserted { IfOk result (λ b. IsInserted K.cmp tree.old tree.new addr b item) }
@@ -97,6 +99,7 @@ fn insert_more<K: Ord + Drop, V: Drop, C: NodesMut<K, V>>(
     requires some { tree.old.root ≢ None }
     requires gap { IsGapFor K.cmp item.0 tree.old addr }
     requires room { tree.old.len < usize.MAX }
+    requires granted { tree.old.len < tree.old.kept.limit }
     ensures inserted { IfOk result (λ b. IsInserted K.cmp tree.old tree.new addr b item) }
     ensures returned { IfErr result (λ r. (r.key, r.value) ≡ item) }
     ensures refused { IfErr result (λ r. IsRefused C.MayRefuse addr.id tree.old tree.new r.cause) }
@@ -129,7 +132,7 @@ pub fn insert_at_gap<K: Ord + Drop, V: Drop, C: NodesMut<K, V>>(
     ensures refused { IfErr result (λ r. IsRefused C.MayRefuse addr.id tree.old tree.new r.cause) }
 {
     tree.tell_fits();
-    if tree.len() == usize::MAX {
+    if tree.limit() <= tree.len() {
         return Err(refused(Cause::Count, item));
     }
     match tree.root_id() {
@@ -169,7 +172,7 @@ pub fn insert<K: Ord + Drop, V: Drop, C: NodesMut<K, V>>(
     ensures old { IfOk result (λ old. old ≡ found_value K.cmp key (pairs_of tree.old)) }
     ensures inserted { OnOk result (pairs_of tree.new ≡ inserted K.cmp key value (pairs_of tree.old)) }
     ensures inserted_by_key { OnOk result (InsertsByKey K.cmp key tree.old tree.new value) }
-    ensures uncounted { OnOk result (tree.new.refusals ≡ tree.old.refusals) }
+    ensures uncounted { OnOk result (tree.new.kept ≡ tree.old.kept) }
 
     ensures returned { IfErr result (λ r. (r.key ≡ key) × (r.value ≡ value)) }
     ensures absent { OnErr result (found K.cmp key (pairs_of tree.old) ≡ None) }

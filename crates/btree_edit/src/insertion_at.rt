@@ -33,7 +33,7 @@ pub fn insert_at<K: Ord + Drop, V: Drop, C: NodesMut<K, V>>(
     let Some(_root) = tree.root_id() else {
         return insert_by_leaf(tree, addr, item);
     };
-    if tree.len() == usize::MAX {
+    if tree.limit() <= tree.len() {
         return insert_by_leaf(tree, addr, item);
     }
     match add_item_at_leaf(tree, addr.id, addr.offset.unwrap(), item) {
@@ -61,6 +61,7 @@ fn insert_at_full_leaf<K: Ord + Drop, V: Drop, C: NodesMut<K, V>>(
     requires back { IsSome addr.offset }
     requires fits { FitsAt K.cmp item.0 tree.old addr }
     requires room { tree.old.len < usize.MAX }
+    requires granted { tree.old.len < tree.old.kept.limit }
     requires full { IsFullLeaf (node_map tree.old) addr.id parent }
     ensures inserted { IfOk result (λ b. InsertsAt tree.old tree.new addr K.cmp b item) }
     ensures returned { IfErr result (λ r. (r.key, r.value) ≡ item) }

@@ -46,7 +46,7 @@ pub fn replace<K: Ord + Drop, V: Drop, C: NodesMut<K, V>>(
     ensures old { IfOk result (λ old. old ≡ found K.cmp key (pairs_of tree.old)) }
     ensures replaced { OnOk result (pairs_of tree.new ≡ replaced K.cmp key value (pairs_of tree.old)) }
     ensures replaced_by_key { OnOk result (ReplacesByKey K.cmp key tree.old tree.new value) }
-    ensures uncounted { OnOk result (tree.new.refusals ≡ tree.old.refusals) }
+    ensures uncounted { OnOk result (tree.new.kept ≡ tree.old.kept) }
 
     ensures returned { IfErr result (λ r. (r.key ≡ key) × (r.value ≡ value)) }
     ensures absent { OnErr result (found K.cmp key (pairs_of tree.old) ≡ None) }

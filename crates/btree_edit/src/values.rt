@@ -1,14 +1,14 @@
 //! Replacing a value, and writing to it.
 ghost use Rattle.std.specs.Prelude.{◌≡◌, IfSome, Some};
 ghost use Rattle.std.specs.Option.{option_copied_mut};
-ghost use Rattle.std.specs.Borrow.{Lends, LendsIf, sem};
+ghost use Rattle.std.specs.Borrow.{Lends, sem};
 ghost use Rattle.btree_item.specs.Pairs.{found_value};
 ghost use Rattle.btree_item.specs.contracts.item.Item.{the_row as item_row};
-ghost use Rattle.btree_raw.specs.contracts.raw.RawBTree.{the_row as raw_row};
 ghost use Rattle.btree_shape.specs.TreeState.{IsBTree, IsOccupiedIn, IsUsed, item_of, pairs_of};
 ghost use Rattle.btree_find.specs.Fits.{pairs_below};
 ghost use Rattle.btree_edit.specs.Exchange.{IsValueExchanged};
 ghost use Rattle.btree_edit.specs.KeyWritten.{ExchangesValue, key_written};
+ghost use Rattle.btree_edit.specs.Lent.{lends_at_key, lends_value};
 ghost use Rattle.btree_edit.specs.ValueWritten.{value_written};
 
 use btree_find::address_in;
@@ -50,11 +50,8 @@ pub fn pair_mut<'a, K: Ord + 'a, V: 'a, C: NodesMut<K, V>>(
 ) -> (&'a K, &'a mut V)
     requires tree { IsBTree K.cmp tree.old }
     requires occupied { IsOccupiedIn tree.old addr }
-    ensures* writes_back { sem 𝓛 (Lends
-        (raw_row K.row V.row C.row C.Origin.row
-        (record { MayRefuse = C.MayRefuse; Fits = C.Fits; written = C.written })
-        (record { content = C.content; refusals = C.refusals; CanHold = C.CanHold }))
-        V.row tree.entry result.1 (value_written tree.old addr)) }
+    ensures* writes_back { sem 𝓛 (lends_value
+        K.row V.row C.row C.Origin.row C.NodesMut tree.entry addr result.1) }
     ensures pair { item_of tree.old addr ≡ Some (result.0.now, result.1.now) }
     ensures exchanged { (w : V) →
         IsValueExchanged tree.old (value_written tree.old addr w) addr K.cmp result.1.now w }
@@ -73,11 +70,8 @@ fn value_mut<'a, K: Ord + 'a, V: 'a, C: NodesMut<K, V>>(
 ) -> &'a mut V
     requires tree { IsBTree K.cmp tree.old }
     requires occupied { IsOccupiedIn tree.old addr }
-    ensures* writes_back { sem 𝓛 (Lends
-        (raw_row K.row V.row C.row C.Origin.row
-        (record { MayRefuse = C.MayRefuse; Fits = C.Fits; written = C.written })
-        (record { content = C.content; refusals = C.refusals; CanHold = C.CanHold }))
-        V.row tree.entry result (value_written tree.old addr)) }
+    ensures* writes_back { sem 𝓛 (lends_value
+        K.row V.row C.row C.Origin.row C.NodesMut tree.entry addr result) }
     ensures exchanged { (w : V) →
         IsValueExchanged tree.old (value_written tree.old addr w) addr K.cmp result.now w }
 {
@@ -96,11 +90,8 @@ pub fn get_mut_in<'a, K: Ord + 'a, V: 'a, C: NodesMut<K, V>>(
 ) -> Option<&'a mut V>
     requires tree { IsBTree K.cmp tree.old }
     requires used { IsUsed tree.old top }
-    ensures* writes_back { sem 𝓛 (LendsIf
-        (raw_row K.row V.row C.row C.Origin.row
-        (record { MayRefuse = C.MayRefuse; Fits = C.Fits; written = C.written })
-        (record { content = C.content; refusals = C.refusals; CanHold = C.CanHold }))
-        V.row tree.entry result (key_written K.cmp key.now tree.old) tree.old) }
+    ensures* writes_back { sem 𝓛 (lends_at_key
+        K.row V.row C.row C.Origin.row C.NodesMut tree.entry K.cmp key.now result) }
     ensures value { option_copied_mut result ≡ found_value K.cmp key.now (pairs_below tree.old top) }
     ensures tree { (w : V) → IsBTree K.cmp (key_written K.cmp key.now tree.old w) }
     ensures exchanged { IfSome result (λ v. (w : V) →
@@ -118,11 +109,8 @@ pub fn get_mut<'a, K: Ord + 'a, V: 'a, C: NodesMut<K, V>>(
     key: &K,
 ) -> Option<&'a mut V>
     requires { IsBTree K.cmp tree.old }
-    ensures* writes_back { sem 𝓛 (LendsIf
-        (raw_row K.row V.row C.row C.Origin.row
-        (record { MayRefuse = C.MayRefuse; Fits = C.Fits; written = C.written })
-        (record { content = C.content; refusals = C.refusals; CanHold = C.CanHold }))
-        V.row tree.entry result (key_written K.cmp key.now tree.old) tree.old) }
+    ensures* writes_back { sem 𝓛 (lends_at_key
+        K.row V.row C.row C.Origin.row C.NodesMut tree.entry K.cmp key.now result) }
     ensures value { option_copied_mut result ≡ found_value K.cmp key.now (pairs_of tree.old) }
     ensures tree { (w : V) → IsBTree K.cmp (key_written K.cmp key.now tree.old w) }
     ensures exchanged { IfSome result (λ v. (w : V) →

@@ -140,7 +140,7 @@ module _ (s : TreeState ℕ ℕ) (start : ℕ) (apart : AreApart (pairs_of s)) w
   pub candidate-found : (a : Address) (found_at : Option Address) → IsFoundAt nat_cmp start s a → IsNormalized s a found_at
       → IsFirstCandidate s start found_at
   candidate-found a found_at f n =
-      let itself : found_at ≡ Some a = n.same f.occupied in
+      let itself : found_at ≡ Some a = n.same f.here.occupied in
       let item : IsItemAt s n.place (Some a) = subst (IsItemAt s n.place) itself n.item in
       let x = some-item n.place a item in
       let key : x.0.0 ≡ start = found-key start (pairs_of s) x.0 (sym f.item ∙ x.2) in

@@ -10,6 +10,8 @@ ghost use Rattle.btree_find.specs.Levels.{IsDense, TicksAtMost, TicksExactly};
 ghost use Rattle.btree_find.specs.Navigation.{IsLeafAddressFor, IsNext, IsNextOrBack, IsNormalized, IsPrevious};
 ghost use Rattle.btree_find.specs.Visits.{IsNextBack, IsPreviousFront};
 ghost use Rattle.btree_valid.specs.Faults.{AcceptsNode, BlamesIfErr, SuitsIfOk};
+ghost use Rattle.btree_valid.specs.Positions.{start_spot};
+ghost use Rattle.btree_valid.specs.Verdicts.{IsVerdictBelow};
 
 use btree_find::{
     address_in, address_of, address_of_counted, first_back_address, first_item_address, fits_at,
@@ -80,6 +82,7 @@ pub trait BTreeExt<K: Ord, V> {
     fn node_count(&self) -> usize
         ensures value { result ≡ map.len (state self.now).nodes }
         ensures dense { 3 * result ≤ length (pairs_of (state self.now)) + 2 }
+        ensures can_hold { Self.Nodes.CanHold (state self.now).nodes }
     {
         self.as_raw().node_count()
     }
@@ -274,6 +277,8 @@ pub trait BTreeExt<K: Ord, V> {
         ensures only { SuitsIfOk K.cmp (state self.now) id parent (option_copied min.entry) (option_copied max.entry) result }
         ensures blames { BlamesIfErr K.cmp (state self.now) id parent
             (option_copied min.entry) (option_copied max.entry) result }
+        ensures verdict { IsVerdictBelow K.cmp (state self.now).nodes
+            (start_spot id parent (option_copied min.entry) (option_copied max.entry)) result }
     {
         self.as_raw().validate_node(id, parent, min, max)
     }

@@ -7,10 +7,10 @@ ghost use Rattle.btree_item.specs.declared.address.Address.{Address};
 ghost use Rattle.btree_shape.specs.TreeState.{IsBTree, IsLeafAddressIn, IsOccupiedIn, IsUsed, IsValidIn, item_of, pairs_of};
 ghost use Rattle.btree_find.specs.Fits.{FitsAt, FitsIn, ReplacesAt, pairs_below};
 ghost use Rattle.btree_edit.specs.Exchange.{IsExchanged, IsValueExchanged};
-ghost use Rattle.btree_edit.specs.Insert.{IsRefusedAtGap};
+ghost use Rattle.btree_edit.specs.Insert.{IsGrantedIfAbsent, IsRefusedAtGap};
 ghost use Rattle.btree_edit.specs.InsertAt.{InsertsAt, IsRefusedAt};
 ghost use Rattle.btree_edit.specs.KeyWritten.{ExchangesValue, address_at_key};
-ghost use Rattle.btree_edit.specs.Remove.{IsInnerAt, IsRemoved, ReplacesInner};
+ghost use Rattle.btree_edit.specs.Remove.{IsInnerAt, IsRemoved, ReplacesInner, TakesFromLeaf};
 ghost use Rattle.btree_edit.specs.Update.{RunsAt, RunsByKey};
 
 use crate::ext::BTreeExt;
@@ -128,6 +128,8 @@ pub trait BTreeExtMut<K: Ord + Drop, V: Drop>: BTreeExt<K, V> {
         requires { IsValidIn (Self.state self.old) addr }
         ensures removed { IfSome result (λ r.
             IsRemoved (Self.state self.old) (Self.state self.new) K.cmp addr r.0 r.1) }
+        ensures leaf { IfSome result (λ r.
+            TakesFromLeaf (Self.state self.old) (Self.state self.new) K.cmp addr r.1) }
         ensures inner { IfSome result (λ r. (left : ℕ) → IsInnerAt (Self.state self.old) addr left →
             ReplacesInner (Self.state self.old) (Self.state self.new) K.cmp addr left r.1) }
         ensures vacant { IfNone result (item_of (Self.state self.old) addr ≡ None) }
@@ -164,7 +166,9 @@ pub trait BTreeExtMut<K: Ord + Drop, V: Drop>: BTreeExt<K, V> {
         ensures under { found K.cmp key (pairs_below (Self.state self.old) id) ≡
             found K.cmp key (pairs_of (Self.state self.old)) }
         ensures uncounted { OnOk result
-            ((Self.state self.new).refusals ≡ (Self.state self.old).refusals) }
+            ((Self.state self.new).kept ≡ (Self.state self.old).kept) }
+        ensures granted { OnOk result
+            (IsGrantedIfAbsent K.cmp key (Self.state self.old) Self.Nodes.CanHold) }
 
         ensures returned { IfErr result (λ r. (r.key ≡ key) × (r.action ≡ action)) }
         ensures absent { OnErr result (found K.cmp key (pairs_of (Self.state self.old)) ≡ None) }

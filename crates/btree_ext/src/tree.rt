@@ -1,7 +1,8 @@
 //! The tree, always well formed.
-ghost use Rattle.std.specs.Prelude.{◌≡◌, [], length, None, option_copied, IsSome, IfSome, IfNone, IfOk, OnOk, IfErr, OnErr};
+ghost use Rattle.std.specs.Prelude.{◌≡◌, ◌↔◌, [], length, None, Err, option_copied, IsOk, IsSome, IfSome, IfNone, IfOk, OnOk, IfErr, OnErr};
 ghost use Rattle.std.specs.FinMap as map;
 ghost use Rattle.btree_node.specs.contracts.node.Node.{the_row as node_row};
+ghost use Rattle.btree_valid.specs.Verdicts.{IsVerdict};
 
 use crate::ext::BTreeExt;
 use crate::ext_mut::BTreeExtMut;
@@ -10,7 +11,7 @@ use btree_edit::{
     remove_at, remove_entry, replace, replace_at, update, update_at, update_in,
 };
 use btree_find::get;
-use btree_item::{Address, Item, Refused, UpdateRefused};
+use btree_item::{Address, Fault, Item, Refused, UpdateRefused};
 use btree_nodes::{ClearNodes, CloneNodes, NodesMut};
 use btree_raw::RawBTree;
 use std::alloc::AllocError;
@@ -36,13 +37,13 @@ impl<K: Ord, V, C: NodesMut<K, V>> Model for Tree<K, V, C> {
 }
 
 impl<K: Ord, V, C: NodesMut<K, V>> Tree<K, V, C> {
-    ghost use Rattle.std.specs.Borrow.{LendsIf, sem};
+    ghost use Rattle.std.specs.Borrow.{sem};
     ghost use Rattle.std.specs.Mem.{FitsInMemory};
     ghost use Rattle.std.specs.Option.{option_copied_mut};
     ghost use Rattle.btree_item.specs.Pairs.{found_value};
-    ghost use Rattle.btree_shape.specs.TreeState.{IsBTree, pairs_of};
+    ghost use Rattle.btree_shape.specs.TreeState.{IsBTree, pairs_of, rootless, unlimited};
     ghost use Rattle.btree_edit.specs.KeyWritten.{ExchangesValue, key_written};
-    ghost use Rattle.btree_ext.specs.contracts.tree.Tree.{the_row};
+    ghost use Rattle.btree_ext.specs.Lent.{lends_at_key};
 
     /// Returns a tree without pairs, over an empty store made from `origin`. It allocates no memory.
     ///
@@ -50,10 +51,24 @@ impl<K: Ord, V, C: NodesMut<K, V>> Tree<K, V, C> {
     pub fn new(origin: C::Origin) -> Self
         requires { FitsInMemory (node_row K.row V.row) }
         ensures empty { pairs_of result ≡ [] }
-        ensures state { result ≡ record { nodes = map.empty; root = None; len = 0; refusals = 0 } }
+        ensures state { result ≡ rootless map.empty (unlimited 0) }
     {
         Tree {
             raw: RawBTree::new(origin),
+        }
+    }
+
+    /// Returns a tree without pairs, over an empty store; the store's `len` tells whether it is empty. It keeps its count of refusals.
+    ///
+    /// The contract requires that a node fits in memory, as that of `new`.
+    pub fn in_store(nodes: C) -> Self
+        requires fits { FitsInMemory (node_row K.row V.row) }
+        requires empty { map.len (C.content nodes) ≡ 0 }
+        ensures empty { pairs_of result ≡ [] }
+        ensures state { result ≡ rootless map.empty (unlimited (C.refusals nodes)) }
+    {
+        Tree {
+            raw: RawBTree::in_store(nodes),
         }
     }
 
@@ -83,12 +98,8 @@ impl<K: Ord, V, C: NodesMut<K, V>> Tree<K, V, C> {
     /// Returns the value at a key equal to the given one for writing, or `None`. What is written replaces the value, and nothing else
     /// changes: the stored key stays, and so does every address. It makes at most six comparisons at each level.
     pub fn get_mut(&mut self, key: &K) -> Option<&mut V>
-        ensures* writes_back { sem 𝓛 (LendsIf
-            (the_row K.row V.row C.row C.Origin.row
-            (record { cmp = K.cmp }) (record { eq = K.eq }) (record { partial_cmp = K.partial_cmp })
-            (record { MayRefuse = C.MayRefuse; Fits = C.Fits; written = C.written })
-            (record { content = C.content; refusals = C.refusals; CanHold = C.CanHold }))
-            V.row self.entry result (key_written K.cmp key.now self.old) self.old) }
+        ensures* writes_back { sem 𝓛 (lends_at_key
+            K.row V.row C.row C.Origin.row K.Ord C.NodesMut self.entry key.now result) }
         ensures value { option_copied_mut result ≡ found_value K.cmp key.now (pairs_of self.old) }
         ensures exchanged { IfSome result (λ v. (w : V) →
             ExchangesValue K.cmp key.now self.old (key_written K.cmp key.now self.old w) v.now w) }
@@ -104,12 +115,27 @@ impl<K: Ord, V, C: NodesMut<K, V>> Tree<K, V, C> {
         let Tree { raw } = self;
         raw
     }
+
+    /// Returns a raw tree as a tree, if it is well formed, and else as it was, with the fault that `validate` returns. It reads each node
+    /// of a well formed tree once, copies nothing and uses no memory but the stack.
+    pub fn from_raw(raw: RawBTree<K, V, C>) -> Result<Self, (RawBTree<K, V, C>, Fault)>
+        ensures exact { IsOk result ↔ IsBTree K.cmp raw }
+        ensures kept { IfOk result (λ tree. tree ≡ raw) }
+        ensures returned { IfErr result (λ refused. refused.0 ≡ raw) }
+        ensures verdict { IfErr result (λ refused.
+            IsVerdict K.cmp raw.nodes raw.root raw.len (Err refused.1)) }
+    {
+        match raw.validate() {
+            Ok(()) => Ok(Tree { raw }),
+            Err(fault) => Err((raw, fault)),
+        }
+    }
 }
 
 impl<K: Ord + Drop, V: Drop, C: NodesMut<K, V>> Tree<K, V, C> {
     ghost use Rattle.btree_item.specs.Pairs.{found, found_value, inserted};
     ghost use Rattle.btree_shape.specs.TreeState.{pairs_of};
-    ghost use Rattle.btree_edit.specs.Insert.{IsRefusedAtGap, InsertsByKey};
+    ghost use Rattle.btree_edit.specs.Insert.{InsertsByKey, IsGrantedIfAbsent, IsRefusedAtGap};
     ghost use Rattle.btree_edit.specs.InsertAbsent.{InsertsAbsent, IsGapOf};
     ghost use Rattle.btree_edit.specs.Remove.{RemovesByKey};
     ghost use Rattle.btree_edit.specs.Replace.{ReplacesByKey, replaced};
@@ -124,7 +150,7 @@ impl<K: Ord + Drop, V: Drop, C: NodesMut<K, V>> Tree<K, V, C> {
         ensures old { IfOk result (λ old. old ≡ found_value K.cmp key (pairs_of self.old)) }
         ensures inserted { OnOk result (pairs_of self.new ≡ inserted K.cmp key value (pairs_of self.old)) }
         ensures inserted_by_key { OnOk result (InsertsByKey K.cmp key self.old self.new value) }
-        ensures uncounted { OnOk result (self.new.refusals ≡ self.old.refusals) }
+        ensures uncounted { OnOk result (self.new.kept ≡ self.old.kept) }
 
         ensures returned { IfErr result (λ r. (r.key ≡ key) × (r.value ≡ value)) }
         ensures absent { OnErr result (found K.cmp key (pairs_of self.old) ≡ None) }
@@ -162,7 +188,7 @@ impl<K: Ord + Drop, V: Drop, C: NodesMut<K, V>> Tree<K, V, C> {
         ensures old { IfOk result (λ old. old ≡ found K.cmp key (pairs_of self.old)) }
         ensures replaced { OnOk result (pairs_of self.new ≡ replaced K.cmp key value (pairs_of self.old)) }
         ensures replaced_by_key { OnOk result (ReplacesByKey K.cmp key self.old self.new value) }
-        ensures uncounted { OnOk result (self.new.refusals ≡ self.old.refusals) }
+        ensures uncounted { OnOk result (self.new.kept ≡ self.old.kept) }
 
         ensures returned { IfErr result (λ r. (r.key ≡ key) × (r.value ≡ value)) }
         ensures absent { OnErr result (found K.cmp key (pairs_of self.old) ≡ None) }
@@ -199,7 +225,8 @@ impl<K: Ord + Drop, V: Drop, C: NodesMut<K, V>> Tree<K, V, C> {
     ) -> Result<T, UpdateRefused<K, F>>
         requires callable { F.pre action (found_value K.cmp key (pairs_of self.old)) }
         ensures updated { IfOk result (λ t. RunsByKey K.cmp self.old self.new (F.post action) key t) }
-        ensures uncounted { OnOk result (self.new.refusals ≡ self.old.refusals) }
+        ensures uncounted { OnOk result (self.new.kept ≡ self.old.kept) }
+        ensures granted { OnOk result (IsGrantedIfAbsent K.cmp key self.old C.CanHold) }
 
         ensures returned { IfErr result (λ r. (r.key ≡ key) × (r.action ≡ action)) }
         ensures absent { OnErr result (found K.cmp key (pairs_of self.old) ≡ None) }
@@ -211,19 +238,19 @@ impl<K: Ord + Drop, V: Drop, C: NodesMut<K, V>> Tree<K, V, C> {
 }
 
 impl<K: Ord, V, C: ClearNodes<K, V>> Tree<K, V, C> {
-    ghost use Rattle.btree_shape.specs.TreeState.{pairs_of};
+    ghost use Rattle.btree_shape.specs.TreeState.{pairs_of, rootless};
 
     /// Removes all pairs. The store has no node then, and the count of refusals stays.
     pub fn clear(&mut self)
         ensures empty { pairs_of self.new ≡ [] }
-        ensures state { self.new ≡ record { nodes = map.empty; root = None; len = 0; refusals = self.old.refusals } }
+        ensures state { self.new ≡ rootless map.empty self.old.kept }
     {
         self.raw.clear();
     }
 }
 
 impl<K: Ord + Clone, V: Clone, C: CloneNodes<K, V>> Tree<K, V, C> {
-    ghost use Rattle.btree_shape.specs.TreeState.{pairs_of};
+    ghost use Rattle.btree_shape.specs.TreeState.{pairs_of, unrefused};
 
     /// Returns a tree with clones of the keys and values, whose nodes have the same numbers. Its store has refused no node yet. It fails only if
     /// the clone of the store fails.
@@ -233,7 +260,7 @@ impl<K: Ord + Clone, V: Clone, C: CloneNodes<K, V>> Tree<K, V, C> {
         requires keys { (x copy : K) → K.is_clone x copy → copy ≡ x }
         requires values { (x copy : V) → V.is_clone x copy → copy ≡ x }
         ensures pairs { IfOk result (λ copy. pairs_of copy ≡ pairs_of self.now) }
-        ensures state { IfOk result (λ copy. copy ≡ record self.now { refusals = 0 }) }
+        ensures state { IfOk result (λ copy. copy ≡ unrefused self.now) }
         ensures may_fail { OnErr result (C.MayFail self.now.nodes) }
     {
         Ok(Tree {
@@ -256,7 +283,7 @@ impl<K: Ord + Drop, V: Drop, C: NodesMut<K, V>> BTreeExtMut<K, V> for Tree<K, V,
     ghost use Rattle.btree_item.specs.Pairs.{found, found_value};
     ghost use Rattle.btree_shape.specs.TreeState.{IsLeafAddressIn, IsUsed, IsValidIn, pairs_of};
     ghost use Rattle.btree_find.specs.Fits.{FitsAt, FitsIn, pairs_below};
-    ghost use Rattle.btree_edit.specs.Insert.{IsRefusedAtGap};
+    ghost use Rattle.btree_edit.specs.Insert.{IsGrantedIfAbsent, IsRefusedAtGap};
     ghost use Rattle.btree_edit.specs.InsertAt.{InsertsAt, IsRefusedAt};
     ghost use Rattle.btree_edit.specs.Update.{RunsByKey};
     ghost use Rattle.btree_edit.specs.ValueWritten.{value_written};
@@ -327,7 +354,8 @@ impl<K: Ord + Drop, V: Drop, C: NodesMut<K, V>> BTreeExtMut<K, V> for Tree<K, V,
         requires callable { F.pre action (found_value K.cmp key (pairs_of self.old)) }
         ensures updated { IfOk result (λ t. RunsByKey K.cmp self.old self.new (F.post action) key t) }
         ensures under { found K.cmp key (pairs_below self.old id) ≡ found K.cmp key (pairs_of self.old) }
-        ensures uncounted { OnOk result (self.new.refusals ≡ self.old.refusals) }
+        ensures uncounted { OnOk result (self.new.kept ≡ self.old.kept) }
+        ensures granted { OnOk result (IsGrantedIfAbsent K.cmp key self.old C.CanHold) }
 
         ensures returned { IfErr result (λ r. (r.key ≡ key) × (r.action ≡ action)) }
         ensures absent { OnErr result (found K.cmp key (pairs_of self.old) ≡ None) }

@@ -1,8 +1,10 @@
 -- A search by key in a well formed tree, step by step.
-use Rattle.std.proofs.Common.{◌≡◌, ◌≢◌, ◌+◌, ◌++◌, append_assoc, ℕ, ◌<◌, ◌≤◌, ◌^◌, ◌-◌, inl, List, Option, Some, None, inr, map, length-append, Ok, Err, IsSome, Result, refl, sym, ap, subst, ◌∙◌, length, is_some, option_map, option_and_then, slice_get, if◌then◌else◌, arith}
+use Rattle.std.proofs.Common.{◌≡◌, ◌≢◌, ◌+◌, ◌++◌, append_assoc, ℕ, ◌<◌, ◌≤◌, ◌^◌, ◌-◌, inl, List, Option, Some, None, inr, map, length-append, Ok, Err, IfSome, IsSome, Result, [], ◌∷◌, cond, refl, sym, ap, subst, ◌∙◌, length, is_some, option_map, option_and_then, slice_get, if◌then◌else◌, arith}
 use Rattle.std.proofs.lemmas.List.{length-map}
 use Rattle.std.specs.Cmp.{IsTotalOrder}
 use Rattle.std.specs.FinMap as nodes_map
+use Rattle.std.specs.Ordering.{is_eq}
+use Rattle.std.specs.declared.cmp.Ordering.TheVariants.{Less, Equal, Greater}
 use Rattle.std.specs.declared.cmp.Ordering.{Ordering}
 use Rattle.btree_item.specs.Pairs.{Ascends, KeyFits, found, found_value, place_of}
 use Rattle.btree_item.proofs.PairEdits.{KeyFits-before}
@@ -18,7 +20,7 @@ use Rattle.btree_shape.specs.Focus.Path.{items_after}
 use Rattle.btree_shape.specs.Focus.Positions.{address_before}
 use Rattle.btree_shape.specs.Focus.Search.{IsSearching, levels_below}
 use Rattle.btree_shape.specs.Focus.Subtree.{items_under}
-use Rattle.btree_shape.specs.TreeState.{TreeState, IsBTree, IsLeafAddressIn, IsPlaceIn, IsUsed, IsValidIn, node_map, pairs_of, pairs_under}
+use Rattle.btree_shape.specs.TreeState.{TreeState, IsBTree, IsLeafAddressIn, IsPlaceIn, IsUsed, IsValidIn, item_of, node_map, pairs_of, pairs_under}
 use Rattle.btree_shape.specs.WellFormed.{IsWellFormed}
 use Rattle.btree_shape.proofs.LookUp.Descent.{get-after, search-ascends, search-down}
 use Rattle.btree_shape.proofs.LookUp.Ends.{search-hit, search-miss}
@@ -34,6 +36,17 @@ use Rattle.btree_find.proofs.PlaceLemmas.{has-place, in-state, item-here}
 use Rattle.btree_find.proofs.ReplacesLemmas.{key-replaces}
 use Rattle.btree_find.proofs.UnderLemmas.{begins-here, fits-in_whole, place-in_whole}
 use Rattle.btree_shape.proofs.Trees.Stores.{used-view, most-few}
+
+-- the key of a pair that is found is equal
+pub found-equal : {K V : Type 0} (cmp : K → K → Ordering) (k : K) (xs : List (K × V)) → IfSome (found cmp k xs) (λ x. cmp x.0 k ≡ Equal)
+found-equal cmp k [] = tt
+found-equal {K} {V} cmp k (x ∷ xs) = by (cmp x.0 k) refl (found-equal cmp k xs)
+  where
+    by : (o : Ordering) → cmp x.0 k ≡ o → IfSome (found cmp k xs) (λ (y : K × V). cmp y.0 k ≡ Equal)
+        → IfSome (cond (is_eq o) (Some x) (found cmp k xs)) (λ (y : K × V). cmp y.0 k ≡ Equal)
+    by Less is rest = rest
+    by Equal is rest = is
+    by Greater is rest = rest
 
 -- what `placed` gives for a place among items
 pub placed-ok : (r : Result ℕ ℕ) (children : List ℕ) (offset : Option ℕ) → Ok offset ≡ placed r children → (o : ℕ) × (r ≡ Ok o) × (offset ≡ Some o)
@@ -170,6 +183,7 @@ module _ {K V : Type 0} (cmp : K → K → Ordering) (k : K) (laws : IsTotalOrde
           let here = item-here cmp laws s tree a (q.start + h.place) (item-at o place) at in
           let item : IsItemAddress s (q.start + h.place) a = here.here in
           let whole = whole-place h.place h.is in
+          let is-found : item_of s a ≡ found cmp k pairs = item.item ∙ slice_get-from_Ok cmp laws k pairs (q.start + h.place) tree.ascends whole in
           record {
             start = q.start;
             begins = q.begins;
@@ -178,12 +192,11 @@ module _ {K V : Type 0} (cmp : K → K → Ordering) (k : K) (laws : IsTotalOrde
             pair = h.item;
             item = item;
             found = record {
-              valid = item.valid;
               place = q.start + h.place;
               is = whole;
-              at = at;
-              occupied = item-at o place;
-              item = item.item ∙ slice_get-from_Ok cmp laws k pairs (q.start + h.place) tree.ascends whole;
+              here = item;
+              item = is-found;
+              same = subst (λ x. IfSome x (λ (y : K × V). cmp y.0 k ≡ Equal)) (sym is-found) (found-equal cmp k pairs);
               listed = sym here.listed;
               replaces = record {
                 occupied = item-at o place;

@@ -2,26 +2,26 @@
 -- `address_of` cites `IsAddressOf`. Insertion cites its two cases, `IsFoundAt` and `IsGapAt`. `address_in` cites
 -- `IsAddressIn`, the same for the pairs under a node: places in the whole list, counted from that of offset -1 of the
 -- node.
-use Rattle.std.specs.Prelude.{◌≡◌, ◌+◌, ℕ, slice_get, IsSome, Some, Result, Ok, Err}
+use Rattle.std.specs.Prelude.{◌≡◌, ◌+◌, ℕ, slice_get, IfSome, IsSome, Some, Result, Ok, Err}
+use Rattle.std.specs.declared.cmp.Ordering.TheVariants.{Equal}
 use Rattle.std.specs.declared.cmp.Ordering.{Ordering}
 use Rattle.btree_item.specs.Pairs.{found, place_of}
 use Rattle.btree_item.specs.declared.address.Address.{Address}
 use Rattle.btree_shape.specs.Focus.Positions.{address_before}
 use Rattle.btree_shape.specs.TreeAddresses.{item_addresses_of, leaf_backs_of}
-use Rattle.btree_shape.specs.TreeState.{TreeState, IsLeafAddressIn, IsOccupiedIn, IsPlaceIn, IsValidIn, item_of, pairs_of}
+use Rattle.btree_shape.specs.TreeState.{TreeState, IsLeafAddressIn, IsPlaceIn, IsValidIn, item_of, pairs_of}
 use Rattle.btree_find.specs.Ends.{IsLeafBackAt}
 use Rattle.btree_find.specs.Fits.{FitsAt, FitsIn, ReplacesAt, pairs_below}
 use Rattle.btree_find.specs.Navigation.{HasPlace, IsItemAddress}
 
 module _ {K V : Type 0} (cmp : K → K → Ordering) (k : K) (s : TreeState K V) where
-  -- an address at which the item with the key is; the key may replace the stored one there
+  -- the address of the item with the key, whose key is equal; the key may replace the stored one there
   pub record IsFoundAt (a : Address) : Type 0 where
-    pub valid : IsValidIn s a
     pub place : ℕ
     pub is : place_of cmp k (pairs_of s) ≡ Ok place
-    pub at : IsPlaceIn s a place
-    pub occupied : IsOccupiedIn s a
+    pub here : IsItemAddress s place a
     pub item : item_of s a ≡ found cmp k (pairs_of s)
+    pub same : IfSome (item_of s a) (λ x. cmp x.0 k ≡ Equal)
     pub listed : slice_get (item_addresses_of s) place ≡ Some a
     pub replaces : ReplacesAt cmp k s a
 

@@ -61,16 +61,10 @@ backwards previous list step (suc i) (suc most) within low =
     ∙ (ap (λ l. t.0 ∷ l) (ap (passed previous most) (step i t.0 t.1) ∙ later)
     ∙ sym (ap reverse (take-next list i t.0 t.1) ∙ reverse-append (take i list) (t.0 ∷ [])))
 
-module _ {K V : Type 0} (s : TreeState K V) (most : ℕ) (enough : length (pairs_of s) + map.len s.nodes ≤ most) where
-  -- each back address once, in order
-  pub visits-backs : (next : Address → Option Address) → ((a : Address) → IsValidIn s a → IsNextBack s a (next a))
-      → (first : Address) → IsFirstBack s first → s.root ≢ None → passed next most (Some first) ≡ backs_of s
-  visits-backs next step first begins some =
-      let addresses = begins.addresses in
-      let n = addresses.nodes in
-      let counted = addresses.backs.counted in
-      ap (passed next most) (start (first_back s) refl)
-      ∙ forwards next (backs_of s) (λ i a e. (step a (inl (addresses.backs.right i a e).0)).next i e) most (omega arith)
+module _ {K V : Type 0} (s : TreeState K V) where
+  -- in a tree with pairs the first back address is the first of their list
+  pub first-listed : (first : Address) → IsFirstBack s first → s.root ≢ None → Some first ≡ slice_get (backs_of s) 0
+  first-listed first begins some = start (first_back s) refl
     where
       rooted : (t : Option ℕ) → s.root ≡ t → (a : Address) × (first_back s ≡ Some a)
       rooted None e = absurd (some e)
@@ -82,21 +76,36 @@ module _ {K V : Type 0} (s : TreeState K V) (most : ℕ) (enough : length (pairs
           let l : first ≡ unwrap_or (first_back s) (address_at NOWHERE 0) = begins.leftmost in
           ap Some (l ∙ ap (λ o. unwrap_or o (address_at NOWHERE 0)) r.1) ∙ sym (begins.addresses.first ∙ r.1)
 
-  -- each front address once, backwards
-  pub visits-fronts : (previous : Address → Option Address)
-      → ((a : Address) → IsValidIn s a → IsPreviousFront s a (previous a))
-      → (last : Option Address) → IsLastItem s last → passed previous most last ≡ reverse (fronts_of s)
-  visits-fronts previous step last ends =
-      let addresses = ends.addresses in
-      let n = addresses.nodes in
-      let counted = addresses.fronts.counted in
-      ap (passed previous most) (ends.rightmost ∙ sym addresses.last)
-      ∙ (backwards previous (fronts_of s)
-      (λ i a e. (step a (inl (within (node_map s a.id) a.offset (addresses.fronts.right i a e)))).previous i e)
-      (length (fronts_of s)) most (omega arith) (omega arith)
-      ∙ ap reverse (take-all (fronts_of s)))
-    where
-      within : (v : Option (View (K × V))) (o : Option ℕ) → IsFront (node_map s) v o → IsWithin (node_map s) v o
-      within None o f = absurd f
-      within (Some v) None f = tt
-      within (Some v) (Some offset) f = omega (arith, f)
+  -- the address of the last item is the last of the list of front addresses
+  pub last-listed : (last : Option Address) → IsLastItem s last → last ≡ prior (fronts_of s) (length (fronts_of s))
+  last-listed last ends = ends.rightmost ∙ sym ends.addresses.last
+
+  module _ (most : ℕ) (enough : length (pairs_of s) + map.len s.nodes ≤ most) where
+    -- each back address once, in order
+    pub visits-backs : (next : Address → Option Address) → ((a : Address) → IsValidIn s a → IsNextBack s a (next a))
+        → (first : Address) → IsFirstBack s first → s.root ≢ None → passed next most (Some first) ≡ backs_of s
+    visits-backs next step first begins some =
+        let addresses = begins.addresses in
+        let n = addresses.nodes in
+        let counted = addresses.backs.counted in
+        ap (passed next most) (first-listed first begins some)
+        ∙ forwards next (backs_of s) (λ i a e. (step a (inl (addresses.backs.right i a e).0)).next i e) most (omega arith)
+
+    -- each front address once, backwards
+    pub visits-fronts : (previous : Address → Option Address)
+        → ((a : Address) → IsValidIn s a → IsPreviousFront s a (previous a))
+        → (last : Option Address) → IsLastItem s last → passed previous most last ≡ reverse (fronts_of s)
+    visits-fronts previous step last ends =
+        let addresses = ends.addresses in
+        let n = addresses.nodes in
+        let counted = addresses.fronts.counted in
+        ap (passed previous most) (last-listed last ends)
+        ∙ (backwards previous (fronts_of s)
+        (λ i a e. (step a (inl (within (node_map s a.id) a.offset (addresses.fronts.right i a e)))).previous i e)
+        (length (fronts_of s)) most (omega arith) (omega arith)
+        ∙ ap reverse (take-all (fronts_of s)))
+      where
+        within : (v : Option (View (K × V))) (o : Option ℕ) → IsFront (node_map s) v o → IsWithin (node_map s) v o
+        within None o f = absurd f
+        within (Some v) None f = tt
+        within (Some v) (Some offset) f = omega (arith, f)

@@ -2,7 +2,7 @@
 use crate::build::build_by_map;
 use crate::help::help;
 use crate::raw_calls::{put_built, serve_raw};
-use crate::session_calls::{Map, serve_cursor, serve_session};
+use crate::session_calls::{Map, list, serve_cursor, serve_session};
 use btree_book::{Desk, Desks, Ending, Reply, serve, word};
 use btree_node_calls::{PlainNode, Raw, empty_leaf, put_node_text, read_node, serve_node};
 use btree_slab::generic::BTreeMap;
@@ -11,7 +11,7 @@ use btree_slab::script::Session;
 use btree_slab::store::{ClearNodes, NodesMut};
 use btree_testing::Refusing;
 use std::alloc::{AllocError, Global};
-use std::io;
+use std::{io, mem};
 
 // The numbers of nodes that are compared after a refusal.
 const NUMBERS: usize = 128;
@@ -61,6 +61,26 @@ fn from_map<C: NodesMut<u64, u64> + Drop>(
     put_built(reply, is_built)
 }
 
+// Gives the raw tree to a map, and adds the map's list, or the fault for which it is refused. Afterwards the raw tree is the map's again.
+fn to_map<C: NodesMut<u64, u64> + Drop>(
+    raw: &mut Raw<C>,
+    origin: C::Origin,
+    reply: &mut Reply,
+) -> Result<bool, AllocError> {
+    let given = mem::replace(raw, RawBTree::new(origin));
+    match BTreeMap::from_raw(given) {
+        Ok(map) => {
+            list(&map, reply)?;
+            *raw = map.into_raw();
+        }
+        Err((back, fault)) => {
+            *raw = back;
+            reply.validity(Err(fault))?;
+        }
+    }
+    Ok(true)
+}
+
 fn set_up<C: ClearNodes<u64, u64> + Drop>(alloc: Global, origin: C::Origin) -> Bench<C>
 where
     C::Origin: Copy,
@@ -99,9 +119,10 @@ where
         match name {
             "n" => serve_one(&mut self.n, &mut self.m, &self.t, self.mark, rest, reply),
             "m" => serve_one(&mut self.m, &mut self.n, &self.t, self.mark, rest, reply),
-            "t" => match rest.strip_prefix("from_map ") {
-                Some(keys) => from_map(&mut self.t, self.origin, keys, reply),
-                None => serve_raw(&mut self.t, &mut self.mark, self.alloc, rest, reply),
+            "t" => match (rest, rest.strip_prefix("from_map ")) {
+                ("to_map", _) => to_map(&mut self.t, self.origin, reply),
+                (_, Some(keys)) => from_map(&mut self.t, self.origin, keys, reply),
+                _ => serve_raw(&mut self.t, &mut self.mark, self.alloc, rest, reply),
             },
             "s" => serve_session(&mut self.s, self.alloc, rest, reply),
             "c" => serve_cursor(&mut self.c, self.alloc, rest, reply),

@@ -2,7 +2,7 @@
 use btree_book::Reply;
 use std::alloc::AllocError;
 
-const LINES: [&str; 26] = [
+const LINES: [&str; 27] = [
     "what the lines may say, a line for each group",
     "new: all of it empty, over new stores. over slab, over refusing: the desk that the lines go to",
     "refuse N: the N-th growth of the refusing desk's memory from now on. insist CALL: each growth of the call refused in turn",
@@ -18,6 +18,7 @@ const LINES: [&str; 26] = [
     "n, m: split: the other node is the right part; append ITEM: with what the other node holds; clone: the other node is the copy",
     "NODE: T is the root, T02 a path to a node, M the marked one, unused one that is not there. ADDRESS: NODE:OFFSET or nowhere",
     "t: build ((0 1) 3 (4 5 6 7)): the keys in brackets; build [24]: the number of items of each leaf; from_map KEYS: the tree of a map",
+    "t: to_map: the list of a map of the tree, or the fault for which it is refused; the tree is there again then",
     "t: tower LEVELS: internal nodes, each the first child of the one above, whose other children are one leaf",
     "t: shape counts draw len nodes root_id validate clear marked; set_len N; set_root_id NODE, which may be none",
     "t: mark has_node node is_off_by_one release_node remove_rightmost_leaf_of NODE; set_parent NODE NODE, the parent may be none",

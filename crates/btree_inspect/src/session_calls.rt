@@ -10,7 +10,11 @@ use std::alloc::{AllocError, Global};
 /// A map.
 pub(crate) type Map<C> = BTreeMap<u64, u64, C>;
 
-fn list<C: NodesMut<u64, u64>>(map: &Map<C>, reply: &mut Reply) -> Result<(), AllocError> {
+/// Adds the list of a map.
+pub(crate) fn list<C: NodesMut<u64, u64>>(
+    map: &Map<C>,
+    reply: &mut Reply,
+) -> Result<(), AllocError> {
     if map.is_empty() {
         return reply.word("empty");
     }

@@ -657,6 +657,27 @@ impl<K: Drop, V: Drop> InternalNode<K, V> {
         self.item_count() > MIN_ITEMS
     }
 
+    /// Removes and returns the first item and the first child, however few items there are.
+    pub fn take_left(&mut self) -> (Item<K, V>, usize)
+        requires { 0 < length self.old.branches }
+        ensures { InternalPopsLeft self.old self.new result }
+    {
+        let first = self.first;
+        let Branch { item, child } = self.branches.remove(0);
+        self.first = child;
+        (item, first)
+    }
+
+    /// Removes and returns the last item, with the offset that it had, and the last child, however few items there are.
+    pub fn take_right(&mut self) -> (Offset, Item<K, V>, usize)
+        requires { 0 < length self.old.branches }
+        ensures offset { result.0 ≡ Some (length self.new.branches) }
+        ensures taken { InternalPopsRight self.old self.new result }
+    {
+        let Branch { item, child } = self.branches.pop().unwrap();
+        (offset_at(self.item_count()), item, child)
+    }
+
     /// Removes and returns the first item and the first child, if there are four items or more.
     pub fn pop_left(&mut self) -> Result<(Item<K, V>, usize), WouldUnderflow>
         ensures spare { IfOk result (λ _. HasSpare (view_of self.old)) }

@@ -388,6 +388,22 @@ impl<K: Drop, V: Drop> LeafNode<K, V> {
         self.item_count() > MIN_ITEMS
     }
 
+    /// Removes and returns the first item, however few there are.
+    pub fn take_left(&mut self) -> Item<K, V>
+        requires { 0 < length self.old.items }
+        ensures { view_of self.old ≡ pushed_left result None (view_of self.new) }
+    {
+        self.items.remove(0)
+    }
+
+    /// Removes and returns the last item, however few there are.
+    pub fn take_right(&mut self) -> Item<K, V>
+        requires { 0 < length self.old.items }
+        ensures { view_of self.old ≡ pushed_right result None (view_of self.new) }
+    {
+        self.items.pop().unwrap()
+    }
+
     /// Removes and returns the first item, if there are four or more.
     pub fn pop_left(&mut self) -> Result<Item<K, V>, WouldUnderflow>
         ensures spare { IfOk result (λ _. HasSpare (view_of self.old)) }

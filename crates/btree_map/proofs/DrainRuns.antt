@@ -151,9 +151,9 @@ module _ {F K V : Type 0} (Step : F → K → V → Bool → V → F → Type 0)
         pub same-lent : lent.map.ghost_name ≡ mid.map.ghost_name
         same-lent = ap (λ (c : EntriesMut K V C O g g' g'' s s'). c.map.ghost_name) first.written
 
-        pub uncounted-before : lent.map.now.refusals ≡ old.map.now.refusals
+        pub uncounted-before : lent.map.now.kept ≡ old.map.now.kept
         uncounted-before =
-            ap (λ (c : EntriesMut K V C O g g' g'' s s'). c.map.now.refusals) first.written
+            ap (λ (c : EntriesMut K V C O g g' g'' s s'). c.map.now.kept) first.written
             ∙ first.writes.writes.exchanged.exchanged.uncounted ∙ run.uncounted
 
         pub addresses-before : picked takes asked ≡ [] → item_addresses_of lent.map.now ≡ item_addresses_of old.map.now
@@ -179,7 +179,7 @@ module _ {F K V : Type 0} (Step : F → K → V → Bool → V → F → Type 0)
               ∙ ap (λ (l : List (K × V)). passed_of old ++ l)
               (ap (λ (l : List (K × V)). picked (not takes) asked ++ l) (sym (picked-same (not takes) x))
               ∙ sym (picked-more (not takes) asked ((not takes, x) ∷ [])));
-          uncounted = ap (λ t. t.refusals) passes.unchanged ∙ uncounted-before (not takes) first x _ passes.left;
+          uncounted = ap (λ t. t.kept) passes.unchanged ∙ uncounted-before (not takes) first x _ passes.left;
           addresses = λ none. ap item_addresses_of passes.unchanged
               ∙ addresses-before (not takes) first x _ passes.left
               (sym (append-nil _) ∙ ap (λ (l : List (K × V)). picked takes asked ++ l) (sym (picked-other takes x))

@@ -13,7 +13,7 @@ use Rattle.btree_store.specs.Content.{Content}
 use Rattle.btree_node.specs.declared.node.Node.{Node}
 use Rattle.btree_shape.specs.Place.{IsOccupied}
 use Rattle.btree_shape.specs.TreeAddresses.{item_addresses_of}
-use Rattle.btree_shape.specs.TreeState.{TreeState, IsBTree, IsOccupiedIn, IsValidIn, item_of, node_map, pairs_of}
+use Rattle.btree_shape.specs.TreeState.{IsBTree, IsOccupiedIn, IsValidIn, Kept, TreeState, item_of, node_map, pairs_of, refused_once}
 use Rattle.btree_shape.proofs.AddressLists.Whole.{addresses-tree}
 use Rattle.btree_find.specs.Ends.{IsLastValid}
 use Rattle.btree_find.specs.Fits.{FitsAt}
@@ -163,9 +163,9 @@ module _ {K V : Type 0} (cmp : K → K → Ordering) (laws : IsTotalOrder cmp) (
 
 -- ---- after a refusal
 module _ {K V : Type 0} (old new : TreeState K V) (gap : Address) (may_refuse : Content (Node K V) → Type 0) where
-  refused-by : {X : Type 0} (f : TreeState K V → X) (counts : (n : ℕ) → f (record old { refusals = n }) ≡ f old)
+  refused-by : {X : Type 0} (f : TreeState K V → X) (counts : (kept : Kept) → f (record old { kept = kept }) ≡ f old)
       → (leaf : ℕ) (cause : Cause) → IsRefused may_refuse leaf old new cause → f new ≡ f old
-  refused-by f counts leaf Store refused = ap f refused.0 ∙ counts (old.refusals + 1)
+  refused-by f counts leaf Store refused = ap f refused.0 ∙ counts (refused_once old.kept)
   refused-by f counts leaf Count refused = ap f refused.0
 
   module _ (cause : Cause) (r : IsRefusedAt old new gap may_refuse cause) where

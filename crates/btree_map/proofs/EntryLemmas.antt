@@ -41,7 +41,7 @@ module _ {K V : Type 0} (cmp : K → K → Ordering) (laws : IsTotalOrder cmp) (
 
   module _ (f : IsFoundAt cmp k s a) where
     pub found-occupied : IsSome (item_of s a)
-    found-occupied = occupied-item s a f.occupied
+    found-occupied = occupied-item s a f.here.occupied
 
     pub found-writes : (w : V) → list_written cmp s a w ≡ inserted cmp k w (pairs_of s)
     found-writes w = by (item_of s a) refl

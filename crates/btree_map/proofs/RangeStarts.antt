@@ -58,8 +58,8 @@ module _ {K V : Type 0} (cmp : K → K → Ordering) (laws : IsTotalOrder cmp) (
 
     pub found-after : (a : Address) (found : Option Address) → IsFoundAt cmp k s a → IsNext s a found → found ≡ slice_get list (from_place cmp (Excluded k) pairs)
     found-after a found x n =
-        (n.after x.occupied).listed
-        ∙ ap (λ m. slice_get list (suc m)) (sym (n.has.only x.place x.at))
+        (n.after x.here.occupied).listed
+        ∙ ap (λ m. slice_get list (suc m)) (sym (n.has.only x.place x.here.has.at))
         ∙ ap (slice_get list) (sym (past-found cmp laws k pairs x.place up x.is))
 
     pub gap-after : (gap : Address) (found : Option Address) → IsGapAt cmp k s gap → IsNormalized s gap found
@@ -84,7 +84,7 @@ module _ {K V : Type 0} (cmp : K → K → Ordering) (laws : IsTotalOrder cmp) (
     pub found-before : (a : Address) (found : Option Address) → IsFoundAt cmp k s a → IsPrevious s a found → found ≡ prior list (to_place cmp (Excluded k) pairs)
     found-before a found x p =
         before-listed s p.place found p.item
-        ∙ ap (prior list) (sym (p.has.only x.place x.at) ∙ sym (below-end cmp laws k pairs ∙ before-from_Ok cmp k pairs x.place x.is))
+        ∙ ap (prior list) (sym (p.has.only x.place x.here.has.at) ∙ sym (below-end cmp laws k pairs ∙ before-from_Ok cmp k pairs x.place x.is))
 
     pub gap-before : (gap : Address) (found : Option Address) → IsGapAt cmp k s gap → IsPrevious s gap found
         → found ≡ prior list (to_place cmp (Excluded k) pairs)

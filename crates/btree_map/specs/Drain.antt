@@ -47,7 +47,7 @@ module _ {F K V : Type 0} (Step : F → K → V → Bool → V → F → Type 0)
     pub last : F
     pub calls : Asks f (drop front (pairs_of old)) asked last
     pub pairs : pairs_of now ≡ take front (pairs_of old) ++ picked false asked
-    pub uncounted : now.refusals ≡ old.refusals
+    pub uncounted : now.kept ≡ old.kept
     pub addresses : picked true asked ≡ [] → item_addresses_of now ≡ item_addresses_of old
 
   -- from a map of which `front` pairs were passed to one of which `front'` were: calls at the next pairs, of which those
@@ -57,7 +57,7 @@ module _ {F K V : Type 0} (Step : F → K → V → Bool → V → F → Type 0)
     pub left : drop front (pairs_of old) ≡ here ++ drop front' (pairs_of new)
     pub calls : Asks f here asked f'
     pub passed : take front' (pairs_of new) ≡ take front (pairs_of old) ++ picked (not takes) asked
-    pub uncounted : new.refusals ≡ old.refusals
+    pub uncounted : new.kept ≡ old.kept
     pub addresses : picked takes asked ≡ [] → item_addresses_of new ≡ item_addresses_of old
 
   -- calls up to the first answer `takes`, whose pair was removed, or at all pairs that were left

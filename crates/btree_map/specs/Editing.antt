@@ -3,7 +3,7 @@
 -- there on, and together they are the list. `InsertsEntry` puts a pair at the end of the former, `RemovesEntry` takes the
 -- first of the latter away, and a pair that was lent is in `WritesPassed` the last one passed, in `WritesPeeked` still
 -- the first one left.
-use Rattle.std.proofs.Common.{◌≡◌, ◌≤◌, ◌∙◌, ℕ, ◌+◌, ◌-◌, List, [], ◌∷◌, ◌++◌, Some, arith, drop, length, min, slice_get, subst, sym, take, ap}
+use Rattle.std.proofs.Common.{◌≡◌, ◌≤◌, ◌∙◌, ℕ, ◌+◌, ◌-◌, List, [], ◌∷◌, ◌++◌, IsSome, Some, arith, drop, length, min, slice_get, subst, sym, take, ap}
 use Rattle.std.specs.declared.cmp.Ord as ord
 use Rattle.std.specs.declared.cmp.Ordering.{Ordering}
 use Rattle.std.specs.declared.cmp.Ordering.TheVariants.{Less}
@@ -15,6 +15,7 @@ use Rattle.btree_nodes.specs.declared.Nodes as nodes
 use Rattle.btree_nodes.specs.declared.NodesMut as nodes_mut
 use Rattle.btree_shape.specs.TreeAddresses.{item_addresses_of}
 use Rattle.btree_shape.specs.TreeState.{TreeState, IsBTree, pairs_of}
+use Rattle.btree_find.specs.Navigation.{HasPlace}
 use Rattle.btree_edit.specs.InsertAt.{InsertsAt, IsRefusedAt}
 use Rattle.btree_edit.specs.Remove.{IsRemoved}
 use Rattle.btree_edit.specs.ValueWritten.{value_written}
@@ -95,14 +96,16 @@ module _ {K V C O : Type 0} {g : ord.Ghosts K} {g' : eq.Ghosts K} {g'' : partial
       pub at : Address
       pub inserts : InsertsAt old.map.now new.map.now gap g.cmp at x
 
-    -- an insertion was refused: the cursor is where it was, and in the map, which is well formed, nothing but the count of
-    -- refusals has changed
+    -- an insertion at the place of the cursor was refused: the cursor is where it was, and in the map, which is well
+    -- formed, nothing but the count of refusals has changed
     pub record RefusesEntry (cause : Cause) : Type 0 where
       pub same_map : new.map.ghost_name ≡ old.map.ghost_name
       pub passed : passed_of new ≡ passed_of old
       pub left : left_of new ≡ left_of old
       pub tree : IsBTree g.cmp new.map.now
       pub gap : Address
+      pub has : HasPlace old.map.now gap old.front
+      pub back : IsSome gap.offset
       pub refused : IsRefusedAt old.map.now new.map.now gap s.MayRefuse cause
 
     -- the pair x, the first one left, is the last one passed now, and the map is unchanged

@@ -1,7 +1,7 @@
 -- What insertions of many pairs, one after another, leave of a list.
 -- Read `inserted_all` first: `extend`, `from_iter` and `append` cite it. `Extends` says how far an iterator was stepped,
 -- and `Moves` the same of the list that `append` takes pairs from. `IsRefusedInTurn` is the refusal of one of the pairs.
-use Rattle.std.specs.Prelude.{◌≡◌, ℕ, List, [], ◌∷◌, ◌++◌, Option, None, option_map}
+use Rattle.std.specs.Prelude.{◌≡◌, List, [], ◌∷◌, ◌++◌, Option, None, option_map}
 use Rattle.std.specs.Borrow.{Bor}
 use Rattle.std.specs.Iterator.{YieldsThen}
 use Rattle.std.specs.declared.cmp.Ordering.{Ordering}
@@ -9,7 +9,7 @@ use Rattle.btree_store.specs.Content.{Content}
 use Rattle.btree_item.specs.Pairs.{found, inserted}
 use Rattle.btree_item.specs.declared.refused.Cause.{Cause}
 use Rattle.btree_node.specs.declared.node.Node.{Node}
-use Rattle.btree_shape.specs.TreeState.{TreeState, pairs_of}
+use Rattle.btree_shape.specs.TreeState.{Kept, TreeState, pairs_of}
 use Rattle.btree_edit.specs.Insert.{IsRefusedAtGap}
 
 module _ {K V : Type 0} (cmp : K → K → Ordering) where
@@ -31,10 +31,10 @@ module _ {K V : Type 0} (cmp : K → K → Ordering) where
     pub split : other ≡ given ++ x ∷ rest
     pub pairs : new ≡ inserted_all old given
 
-  -- the insertion of an absent key was refused, when the store had counted `count` refusals; nothing has changed since
-  pub record IsRefusedInTurn (MayRefuse : Content (Node K V) → Type 0) (k : K) (count : ℕ) (new : TreeState K V) (cause : Cause) : Type 0 where
+  -- the insertion of an absent key was refused, in a map that kept the same as at the start; nothing has changed since
+  pub record IsRefusedInTurn (MayRefuse : Content (Node K V) → Type 0) (k : K) (kept : Kept) (new : TreeState K V) (cause : Cause) : Type 0 where
     pub before : TreeState K V
-    pub uncounted : before.refusals ≡ count
+    pub uncounted : before.kept ≡ kept
     pub absent : found cmp k (pairs_of before) ≡ None
     pub refused : IsRefusedAtGap cmp k before new MayRefuse cause
 

@@ -1,17 +1,41 @@
--- What the map is once a borrow of an entry's value ends.
-use Rattle.std.specs.Prelude.{◌≡◌, IfErr, Option, Result}
-use Rattle.std.specs.Borrow.{Fml, LendsSoOk, MutBor, RattleType, RestsIfNone}
+-- What the map is once a borrow of a value ends, that of a key or of an entry.
+use mir.Syntax.{named}
+use Rattle.std.specs.Prelude.{◌≡◌, [], IfErr, Option, Result}
+use Rattle.std.specs.BTreeMap.Lent.{OrdMembers}
+use Rattle.std.specs.Borrow.{Fml, Lends, LendsIf, LendsSoOk, MutBor, RattleType, RestsIfNone}
 use Rattle.std.specs.declared.cmp.Ord as ord
 use Rattle.std.specs.declared.cmp.PartialEq as eq
 use Rattle.std.specs.declared.cmp.PartialOrd as partial
 use Rattle.btree_item.specs.declared.refused.Refused.{Refused}
 use Rattle.btree_nodes.specs.declared.Nodes as nodes
 use Rattle.btree_nodes.specs.declared.NodesMut as nodes_mut
-use Rattle.btree_map.specs.Entry.{IsRefusedEntry, WritesEntry, entry_map}
+use Rattle.btree_edit.specs.Insert.{IsRefusedAtGap}
+use Rattle.btree_edit.specs.KeyWritten.{key_written}
+use Rattle.btree_edit.specs.ValueWritten.{value_written}
+use Rattle.btree_raw.specs.Lent.{StoreMembers}
+use Rattle.btree_map.specs.Entry.{IsRefusedEntry, WritesEntry, entry_map, with_entry_value}
 use Rattle.btree_map.specs.declared.entry.Entry.{Entry}
 use Rattle.btree_map.specs.declared.entry.OccupiedEntry.{OccupiedEntry}
+use Rattle.btree_map.specs.declared.entry.VacantEntry.{VacantEntry}
+use Rattle.btree_map.specs.Written.{IsInsertedWith}
 use Rattle.btree_shape.specs.TreeState.{TreeState}
+use Rattle.btree_map.specs.contracts.entry.OccupiedEntry.{the_row as occupied_row}
 use Rattle.btree_map.specs.contracts.map.BTreeMap.{the_row}
+
+-- the type of a map
+abbrev pub map_row : (K V C O : RattleType) → OrdMembers K.Denot → StoreMembers C.Denot K.Denot V.Denot → RattleType
+map_row K V C O g s =
+    the_row K V C O
+    (record { cmp = g.cmp })
+    (record { eq = g.eq })
+    (record { partial_cmp = g.partial_cmp })
+    (record { MayRefuse = s.MayRefuse; Fits = s.Fits; written = s.written })
+    (record { content = s.content; refusals = s.refusals; CanHold = s.CanHold })
+
+-- the last value behind the borrow is the one at the key; without one nothing has changed
+abbrev pub lends_at_key : (K V C O : RattleType) → OrdMembers K.Denot → StoreMembers C.Denot K.Denot V.Denot
+    → MutBor (TreeState K.Denot V.Denot) → K.Denot → Option (MutBor V.Denot) → Fml
+lends_at_key K V C O g s map k value = LendsIf (map_row K V C O g s) V map value (key_written g.cmp k map.now) map.now
 
 module _ (K V C O : RattleType) {g : ord.Ghosts K.Denot} {g' : eq.Ghosts K.Denot} {g'' : partial.Ghosts K.Denot}
     {s : nodes_mut.Ghosts C.Denot K.Denot V.Denot O.Denot} {s' : nodes.Ghosts C.Denot K.Denot V.Denot} where
@@ -23,3 +47,19 @@ module _ (K V C O : RattleType) {g : ord.Ghosts K.Denot} {g' : eq.Ghosts K.Denot
   -- an entry that is there has the map itself; without one nothing has changed
   abbrev pub rests_if_none : MutBor (TreeState K.Denot V.Denot) → Option (OccupiedEntry K.Denot V.Denot C.Denot O.Denot g g' g'' s s') → Fml
   rests_if_none map entry = RestsIfNone (the_row K V C O g g' g'' s s') map (λ e. e.map.ghost_name) entry (λ new. new ≡ map.now)
+
+  -- the last value behind the borrow is that of an entry that is there, and nothing else has changed
+  abbrev pub lends_occupied : OccupiedEntry K.Denot V.Denot C.Denot O.Denot g g' g'' s s' → MutBor V.Denot → Fml
+  lends_occupied e value = Lends (the_row K V C O g g' g'' s s') V e.map value (value_written e.map.now e.at)
+
+  -- the same where the entry is there still, as after `get_mut`
+  abbrev pub lends_in_entry : MutBor (OccupiedEntry K.Denot V.Denot C.Denot O.Denot g g' g'' s s') → MutBor V.Denot → Fml
+  lends_in_entry e value = Lends (occupied_row (record { mir = named 1; lft = [] }) K V C O g g' g'' s s') V e value (with_entry_value e.now)
+
+  -- the pair was inserted, and the last value behind the borrow is its value; a refused insertion has changed nothing
+  -- but the count of refusals
+  abbrev pub lends_inserted : VacantEntry K.Denot V.Denot C.Denot O.Denot g g' g'' s s' → V.Denot → Result (MutBor V.Denot) (Refused K.Denot V.Denot) → Fml
+  lends_inserted e value r =
+      LendsSoOk (the_row K V C O g g' g'' s s') V e.map r
+      (λ new w. IsInsertedWith g.cmp e.key e.map.now new value w)
+      (λ new. IfErr r (λ x. IsRefusedAtGap g.cmp e.key e.map.now new s.MayRefuse x.cause))

@@ -10,5 +10,6 @@ pub mod WrittenAddresses
 pub mod Cursor
 pub mod RangeCursor
 pub mod Editing
+pub mod CursorLent
 pub mod Drain
 pub mod DrainSteps

@@ -23,14 +23,14 @@ impl<K: Ord + Drop, V: Drop, C: NodesMut<K, V>> BTreeMap<K, V, C> {
         ensures swapped { pairs_of self.old ≡ [] → pairs_of other.old ≢ [] →
             (self.new ≡ other.old) × (other.new ≡ self.old) }
         ensures uncounted { OnOk result (pairs_of self.old ≢ [] →
-            self.new.refusals ≡ self.old.refusals) }
-        ensures other_uncounted { pairs_of self.old ≢ [] → other.new.refusals ≡ other.old.refusals }
+            self.new.kept ≡ self.old.kept) }
+        ensures other_uncounted { pairs_of self.old ≢ [] → other.new.kept ≡ other.old.kept }
 
         ensures stopped { IfErr result (λ r. Moves K.cmp (pairs_of self.old)
             (pairs_of other.old) (r.key, r.value) (pairs_of self.new) (pairs_of other.new)) }
         ensures had_pairs { OnErr result (pairs_of self.old ≢ []) }
         ensures cause { IfErr result (λ r.
-            IsRefusedInTurn K.cmp C.MayRefuse r.key self.old.refusals self.new r.cause) }
+            IsRefusedInTurn K.cmp C.MayRefuse r.key self.old.kept self.new r.cause) }
     {
         if other.is_empty() {
             return Ok(());

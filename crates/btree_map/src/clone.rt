@@ -1,6 +1,6 @@
 //! Clones of maps.
 ghost use Rattle.std.specs.Prelude.{◌≡◌, IfOk, OnErr};
-ghost use Rattle.btree_shape.specs.TreeState.{pairs_of};
+ghost use Rattle.btree_shape.specs.TreeState.{pairs_of, unrefused};
 
 use crate::BTreeMap;
 use btree_nodes::CloneNodes;
@@ -15,7 +15,7 @@ impl<K: Ord + Clone, V: Clone, C: CloneNodes<K, V>> BTreeMap<K, V, C> {
         requires keys { (x copy : K) → K.is_clone x copy → copy ≡ x }
         requires values { (x copy : V) → V.is_clone x copy → copy ≡ x }
         ensures pairs { IfOk result (λ copy. pairs_of copy ≡ pairs_of self.now) }
-        ensures state { IfOk result (λ copy. copy ≡ record self.now { refusals = 0 }) }
+        ensures state { IfOk result (λ copy. copy ≡ unrefused self.now) }
         ensures may_fail { OnErr result (C.MayFail self.now.nodes) }
     {
         Ok(BTreeMap {

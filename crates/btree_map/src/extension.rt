@@ -3,7 +3,7 @@ ghost use Rattle.std.specs.Prelude.{◌≡◌, [], IfErr, IfOk, None, OnErr, OnO
 ghost use Rattle.std.specs.Iterator.{IsFinite};
 ghost use Rattle.std.specs.Mem.{FitsInMemory};
 ghost use Rattle.btree_node.specs.contracts.node.Node.{the_row as node_row};
-ghost use Rattle.btree_shape.specs.TreeState.{pairs_of};
+ghost use Rattle.btree_shape.specs.TreeState.{pairs_of, unlimited};
 ghost use Rattle.btree_map.specs.Extension.{Extends, IsRefusedInTurn, copied_steps};
 
 use crate::BTreeMap;
@@ -23,12 +23,12 @@ impl<K: Ord + Drop, V: Drop, C: NodesMut<K, V>> BTreeMap<K, V, C> {
         requires ends { IsFinite (I.remaining source.old) }
         ensures extended { OnOk result (Extends K.cmp I.next_gives
             (pairs_of self.old) source.old None (pairs_of self.new) source.new) }
-        ensures uncounted { OnOk result (self.new.refusals ≡ self.old.refusals) }
+        ensures uncounted { OnOk result (self.new.kept ≡ self.old.kept) }
 
         ensures stopped { IfErr result (λ r. Extends K.cmp I.next_gives
             (pairs_of self.old) source.old (Some (r.key, r.value)) (pairs_of self.new) source.new) }
         ensures cause { IfErr result (λ r.
-            IsRefusedInTurn K.cmp C.MayRefuse r.key self.old.refusals self.new r.cause) }
+            IsRefusedInTurn K.cmp C.MayRefuse r.key self.old.kept self.new r.cause) }
         ensures may_go_on { OnErr result (I.can_next source.new) }
         ensures still_ends { OnErr result (IsFinite (I.remaining source.new)) }
     {
@@ -53,12 +53,12 @@ impl<K: Ord + Drop, V: Drop, C: NodesMut<K, V>> BTreeMap<K, V, C> {
         requires ends { IsFinite (I.remaining source.old) }
         ensures extended { OnOk result (Extends K.cmp (copied_steps I.next_gives)
             (pairs_of self.old) source.old None (pairs_of self.new) source.new) }
-        ensures uncounted { OnOk result (self.new.refusals ≡ self.old.refusals) }
+        ensures uncounted { OnOk result (self.new.kept ≡ self.old.kept) }
 
         ensures stopped { IfErr result (λ r. Extends K.cmp (copied_steps I.next_gives)
             (pairs_of self.old) source.old (Some (r.key, r.value)) (pairs_of self.new) source.new) }
         ensures cause { IfErr result (λ r.
-            IsRefusedInTurn K.cmp C.MayRefuse r.key self.old.refusals self.new r.cause) }
+            IsRefusedInTurn K.cmp C.MayRefuse r.key self.old.kept self.new r.cause) }
         ensures may_go_on { OnErr result (I.can_next source.new) }
         ensures still_ends { OnErr result (IsFinite (I.remaining source.new)) }
     {
@@ -85,12 +85,12 @@ impl<K: Ord + Drop, V: Drop, C: NodesMut<K, V>> BTreeMap<K, V, C> {
         requires ends { IsFinite (I.remaining source.old) }
         ensures extended { IfOk result (λ map. Extends K.cmp I.next_gives
             [] source.old None (pairs_of map) source.new) }
-        ensures uncounted { IfOk result (λ map. map.refusals ≡ 0) }
+        ensures uncounted { IfOk result (λ map. map.kept ≡ unlimited 0) }
 
         ensures stopped { IfErr result (λ e. Extends K.cmp I.next_gives
             [] source.old (Some (e.1.key, e.1.value)) (pairs_of e.0) source.new) }
         ensures cause { IfErr result (λ e.
-            IsRefusedInTurn K.cmp C.MayRefuse e.1.key 0 e.0 e.1.cause) }
+            IsRefusedInTurn K.cmp C.MayRefuse e.1.key (unlimited 0) e.0 e.1.cause) }
         ensures may_go_on { OnErr result (I.can_next source.new) }
         ensures still_ends { OnErr result (IsFinite (I.remaining source.new)) }
     {

@@ -70,13 +70,19 @@ fn step_with_number<C: NodesMut<u64, u64>>(
     match word.split_once(':') {
         Some(("fits", key)) => match number(key) {
             Some(key) => reply.truth(entries.fits(&key)),
-            None => reply.word("?"),
+            None => {
+                reply.unknown();
+                Ok(())
+            }
         },
         Some(("skip", count)) => {
             skip(entries, number(count).unwrap_or(0));
             Ok(())
         }
-        _ => reply.word("?"),
+        _ => {
+            reply.unknown();
+            Ok(())
+        }
     }
 }
 

@@ -49,7 +49,10 @@ fn step<C: NodesMut<u64, u64>>(
             reply.number(old)
         }
         ("get_mut", action) => reply.number(write(entry.get_mut(), action)),
-        _ => reply.word("?"),
+        _ => {
+            reply.unknown();
+            Ok(())
+        }
     }
 }
 
@@ -177,7 +180,10 @@ fn of_end<C: NodesMut<u64, u64>>(
             let (key, value) = entry.remove_entry();
             reply.pair(key, value)
         }
-        _ => reply.word("?"),
+        _ => {
+            reply.unknown();
+            Ok(())
+        }
     }
 }
 

@@ -124,6 +124,20 @@ fn into_raw<C: CloneNodes<u64, u64> + Drop>(
     reply.count(raw.node_count())
 }
 
+// Gives the nodes of a clone, takes them back as a map, and adds its list.
+fn from_raw<C: CloneNodes<u64, u64> + Drop>(
+    map: &Map<C>,
+    reply: &mut Reply,
+) -> Result<(), AllocError> {
+    let Ok(copy) = map.clone() else {
+        return reply.word("no memory");
+    };
+    match BTreeMap::from_raw(copy.into_raw()) {
+        Ok(map) => list(&map, reply),
+        Err((_, fault)) => reply.validity(Err(fault)),
+    }
+}
+
 fn ends<C: NodesMut<u64, u64>>(
     map: &mut Map<C>,
     verb: &str,
@@ -160,6 +174,7 @@ fn whole<C: ClearNodes<u64, u64> + CloneNodes<u64, u64> + Drop>(
         "draw" => draw(reply, map.as_raw())?,
         "validate" => reply.validity(map.validate())?,
         "into_raw" => into_raw(map, reply)?,
+        "from_raw" => from_raw(map, reply)?,
         "clear" => {
             map.clear();
             reply.word("ok")?

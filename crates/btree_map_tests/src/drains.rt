@@ -52,7 +52,7 @@ fn drain_and_finish<T: Ord + Drop, C: NodesMut<T, ()>, F: FnMut(&T) -> bool>(
 )
     requires { CallableOnEach (CalledAt F.FnMut) (TakesAt F.FnMut) f set.old.elements }
     ensures kept { Selects (CalledAt F.FnMut) false f set.old.elements set.new.elements }
-    ensures uncounted { set.new.refusals ≡ set.old.refusals }
+    ensures uncounted { set.new.kept ≡ set.old.kept }
 {
     set.drain_filter(f).finish();
 }
@@ -64,7 +64,7 @@ fn drain_and_drop<T: Ord + Drop, C: NodesMut<T, ()>, F: FnMut(&T) -> bool>(
 )
     requires { CallableOnEach (CalledAt F.FnMut) (TakesAt F.FnMut) f set.old.elements }
     ensures kept { Selects (CalledAt F.FnMut) false f set.old.elements set.new.elements }
-    ensures uncounted { set.new.refusals ≡ set.old.refusals }
+    ensures uncounted { set.new.kept ≡ set.old.kept }
 {
     let _drain = DrainFilter::new(set, f);
 }

@@ -24,7 +24,7 @@ type Map = BTreeMap<u64, u64, Store>;
 fn add_one<K: Ord + Drop, C: NodesMut<K, u64>>(map: &mut BTreeMap<K, u64, C>)
     ensures pairs { pairs_of map.new ≡ each (greater_by 1) (pairs_of map.old) }
     ensures addresses { item_addresses_of map.new ≡ item_addresses_of map.old }
-    ensures uncounted { map.new.refusals ≡ map.old.refusals }
+    ensures uncounted { map.new.kept ≡ map.old.kept }
 {
     let mut pairs = map.iter_mut();
     while pairs.len() > 0 {
@@ -54,7 +54,7 @@ fn add_to_range<K: Ord + Drop, C: NodesMut<K, u64>>(
     ensures pairs { pairs_of map.new ≡
         each (greater_between K.cmp range.entry more) (pairs_of map.old) }
     ensures addresses { item_addresses_of map.new ≡ item_addresses_of map.old }
-    ensures uncounted { map.new.refusals ≡ map.old.refusals }
+    ensures uncounted { map.new.kept ≡ map.old.kept }
 {
     let mut pairs = map.range_mut(range);
     while !pairs.is_empty() {

@@ -8,6 +8,8 @@ mod bounded;
 #[cfg(test)]
 mod callers;
 #[cfg(test)]
+mod counted;
+#[cfg(test)]
 mod drains;
 #[cfg(test)]
 mod dropped;
@@ -24,6 +26,8 @@ mod merges;
 mod names;
 #[cfg(test)]
 mod owner;
+#[cfg(test)]
+mod room;
 #[cfg(test)]
 mod samples;
 

@@ -427,6 +427,36 @@ impl<K: Drop, V: Drop> Node<K, V> {
         }
     }
 
+    /// Removes and returns the first item, and the first child of an internal node, however few items there are.
+    pub fn take_left(&mut self) -> (Item<K, V>, Option<usize>)
+        requires { 0 < size_of (view_of self.old) }
+        ensures child { HasChildFor result.1 (view_of self.old) }
+        ensures taken { PopsLeft (view_of self.old) (view_of self.new) result }
+    {
+        match self {
+            Node::Internal(node) => {
+                let (item, child) = node.take_left();
+                (item, Some(child))
+            }
+            Node::Leaf(leaf) => (leaf.take_left(), None),
+        }
+    }
+
+    /// Removes and returns the last item, and the last child of an internal node, however few items there are.
+    pub fn take_right(&mut self) -> (Item<K, V>, Option<usize>)
+        requires { 0 < size_of (view_of self.old) }
+        ensures child { HasChildFor result.1 (view_of self.old) }
+        ensures taken { view_of self.old ≡ pushed_right result.0 result.1 (view_of self.new) }
+    {
+        match self {
+            Node::Internal(node) => {
+                let (_, item, child) = node.take_right();
+                (item, Some(child))
+            }
+            Node::Leaf(leaf) => (leaf.take_right(), None),
+        }
+    }
+
     /// Removes and returns the first item, and the first child of an internal node, if there are four items or more.
     pub fn pop_left(&mut self) -> Result<(Item<K, V>, Option<usize>), WouldUnderflow>
         ensures spare { IfOk result (λ _. HasSpare (view_of self.old)) }

@@ -22,7 +22,7 @@ use Rattle.btree_shape.proofs.Trees.Stores.{len-views}
 use Rattle.btree_shape.specs.Need.{need}
 use Rattle.btree_shape.proofs.Trees.States.{is-tree-but-length, pairs-tree}
 use Rattle.btree_raw.specs.Claimed.{EMPTY}
-use Rattle.btree_raw.proofs.StateLemmas.{nodes-of, same-len, same-refusals}
+use Rattle.btree_raw.proofs.StateLemmas.{nodes-of, same-len, same-kept}
 use Rattle.btree_raw.specs.Insertion.{InsertsExactly, IsRefused, UsesNeeded}
 use Rattle.btree_raw.specs.Raw.{Refuses}
 
@@ -31,7 +31,7 @@ len-of {K} {V} e = ap (λ (s : TreeState K V). s.len) e
 
 -- the one node was refused
 pub only-refused : {K V : Type 0} (MayRefuse : Content (Node K V) → Type 0) (old new : TreeState K V) (id : ℕ) → old.root ≡ None
-    → Refuses old new → MayRefuse old.nodes → old.len < 2 ^ 64 - 1 → IsRefused MayRefuse id old new Store
+    → Refuses old new → MayRefuse old.nodes → old.len < old.kept.limit → IsRefused MayRefuse id old new Store
 only-refused MayRefuse old new id rootless refuses may room =
     let one : need (node_map old) old.root (map.len old.nodes) id ≡ 1 = ap (λ t. need (node_map old) t (map.len old.nodes) id) rootless in
     (refuses, record { ids = []; fewer = rw one (omega arith); claims = tt; may = may }, room)
@@ -85,7 +85,7 @@ module _ {K V : Type 0} (cmp : K → K → Ordering) (old mid put : TreeState K 
         valid = rw b_is (inl (subst (λ v. IsWithin (node_map new) v (Some 0)) (sym here) (omega arith)));
         item = rw b_is (ap (λ v. item_in v 0) here);
         longer = ap (λ n. n + 1) (same-len changes.rest ∙ mid_len);
-        uncounted = same-refusals changes.rest ∙ ap (λ (s : TreeState K V). s.refusals) claimed;
+        uncounted = same-kept changes.rest ∙ ap (λ (s : TreeState K V). s.kept) claimed;
         nodes = used-one-node;
         put = λ some. absurd (some rootless);
         first = λ none. record {

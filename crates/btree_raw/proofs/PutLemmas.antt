@@ -34,7 +34,7 @@ use Rattle.btree_raw.specs.Steps.{AddsItem, AreSplitAlike, CanAddItem, IsCountin
 use Rattle.btree_raw.proofs.AlikeLemmas.{need-alike}
 use Rattle.btree_raw.proofs.ClaimLemmas.{claims-focus}
 use Rattle.btree_raw.proofs.RebalanceLemmas.{counting, is-split, splitting}
-use Rattle.btree_raw.proofs.StateLemmas.{same-len, same-refusals, same-root, then, used-here, with_nodes}
+use Rattle.btree_raw.proofs.StateLemmas.{same-len, same-kept, same-root, then, used-here, with_nodes}
 
 not-less : (m n : ℕ) → n ≤ m → nat_lt m n ≡ false
 not-less m n full = by (nat_lt m n) refl
@@ -177,7 +177,7 @@ module _ {K V : Type 0} (cmp : K → K → Ordering) (laws : IsTotalOrder cmp) (
           valid = r.valid;
           item = r.item x put-item;
           longer = ap (λ n. n + 1) same;
-          uncounted = r.uncounted ∙ same-refusals puts.adds.rest;
+          uncounted = r.uncounted ∙ same-kept puts.adds.rest;
           nodes = put-nodes new b rooted off r needed;
           put = λ some. record {
             put = put;
@@ -295,7 +295,7 @@ module _ {K V : Type 0} (cmp : K → K → Ordering) (laws : IsTotalOrder cmp) (
       needed-is = sym (ap (λ t. need (node_map old) t (finite.len old.nodes) a.id) root-is)
 
       pub put-refused : (MayRefuse : Content (Node K V) → Type 0) (new : TreeState K V) (count : ℕ) → count ≡ nodes_for_splits old a.id → Refuses old new
-          → MayRefuseOneOf EMPTY MayRefuse old.nodes count → old.len < 2 ^ 64 - 1 → IsRefused MayRefuse a.id old new Store
+          → MayRefuseOneOf EMPTY MayRefuse old.nodes count → old.len < old.kept.limit → IsRefused MayRefuse a.id old new Store
       put-refused MayRefuse new count count_is refuses may room =
           (refuses, subst (λ n. MayRefuseOneOf EMPTY MayRefuse old.nodes n) (count_is ∙ needed-is) may, room)
 

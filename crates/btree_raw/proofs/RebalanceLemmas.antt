@@ -41,7 +41,7 @@ use Rattle.btree_raw.proofs.FixedLemmas.{fix-done, fix-start}
 use Rattle.btree_shape.proofs.Trees.States.{height_held, is-tree-but-length, pairs-tree}
 use Rattle.btree_shape.proofs.Trees.Stores.{used-view, len-views}
 use Rattle.btree_raw.proofs.ClaimLemmas.{claims-focus}
-use Rattle.btree_raw.proofs.StateLemmas.{same-len, same-refusals, same-root}
+use Rattle.btree_raw.proofs.StateLemmas.{same-len, same-kept, same-root}
 use Rattle.std.proofs.lemmas.Option.{slice_get_within}
 
 some-there : {X : Type 0} (o : Option X) → IsSome o → (x : X) × (o ≡ Some x)
@@ -143,7 +143,7 @@ module _ {K V : Type 0} (cmp : K → K → Ordering) (laws : IsTotalOrder cmp) (
     at-some : (place : ℕ) × IsAddressed (K × V) node_at o.root xs None a place
     at-some = place-of None tt
 
-    module _ (new : TreeState K V) (b : Address) (same_len : new.len ≡ old.len) (uncounted : new.refusals ≡ old.refusals)
+    module _ (new : TreeState K V) (b : Address) (same_len : new.len ≡ old.len) (uncounted : new.kept ≡ old.kept)
         (back : IsSome a.offset → IsSome b.offset) (allocated bound : ℕ) (e : Ends cmp node_at (node_map new) o.root xs a b new.root allocated bound) where
       same-pairs : pairs_of new ≡ xs
       same-pairs = pairs-tree cmp new (length xs) xs e.well
@@ -344,7 +344,7 @@ module _ {K V : Type 0} (cmp : K → K → Ordering) (laws : IsTotalOrder cmp) (
 
           pub is-split : (IsSome a.offset → IsSome b.offset) → IsRebalanced old new id cmp a b
           is-split back =
-              rebalanced new b (s.len ∙ same-len rest) (s.uncounted ∙ same-refusals rest) back (0 + length ids) strain split-ends
+              rebalanced new b (s.len ∙ same-len rest) (s.uncounted ∙ same-kept rest) back (0 + length ids) strain split-ends
               (λ full. record { more = (let m = more in omega arith); within_strain = (let p = split-ends.within_strain in omega arith) })
               (λ room. let t = same-node over.node room.node over.here room.here in let z = ap size_of t in let y = ap most_of t in let f = room.room in let g = over.over in absurd (omega arith))
               (λ room t same. let q = same-node over.node room.node over.here room.here in let z = ap size_of q in let y = ap most_of q in let f = room.room in let g = over.over in absurd (omega arith))

@@ -1,7 +1,7 @@
 -- Claims in a loop: one more, one freed, all freed.
 use Rattle.std.proofs.Common.{◌≡◌, ℕ, ◌+◌, ◌<◌, ◌^◌, ◌-◌, List, [], ◌∷◌, ◌++◌, IsSome, None, ap, sym, subst}
 use Rattle.std.specs.FinMap as map
-use Rattle.btree_shape.specs.TreeState.{TreeState}
+use Rattle.btree_shape.specs.TreeState.{TreeState, refused_once}
 use Rattle.btree_raw.specs.Claimed.{AreClaimed, EMPTY, IsClaimed}
 use Rattle.btree_raw.specs.Raw.{Refuses}
 use Rattle.btree_raw.proofs.ClaimLemmas.{claims-undone, one-more}
@@ -9,11 +9,11 @@ use Rattle.btree_raw.proofs.StateLemmas.{with_nodes}
 
 module _ {K V : Type 0} where
   abbrev counted : TreeState K V → TreeState K V
-  counted s = record s { refusals = s.refusals + 1 }
+  counted s = record s { kept = refused_once s.kept }
 
   -- a refusal is counted in the state that is left when the claims are freed
-  pub refused-claims : (base now mid : TreeState K V) (ids : List ℕ) → AreClaimed base now ids → Refuses now mid → AreClaimed (record base { refusals = base.refusals + 1 }) mid ids
-  refused-claims base now mid ids c r = subst (λ s. AreClaimed (record base { refusals = base.refusals + 1 }) s ids) (sym r) (record { claimed = c.claimed; rest = record { rest = ap counted c.rest.rest } })
+  pub refused-claims : (base now mid : TreeState K V) (ids : List ℕ) → AreClaimed base now ids → Refuses now mid → AreClaimed (record base { kept = refused_once base.kept }) mid ids
+  refused-claims base now mid ids c r = subst (λ s. AreClaimed (record base { kept = refused_once base.kept }) s ids) (sym r) (record { claimed = c.claimed; rest = record { rest = ap counted c.rest.rest } })
 
   pub more-claims : (base now mid : TreeState K V) (ids all : List ℕ) (id : ℕ) → AreClaimed base now ids → map.get now.nodes id ≡ None → id < 2 ^ 64 - 1
       → mid ≡ record now { nodes = map.insert now.nodes id EMPTY } → all ≡ ids ++ id ∷ [] → AreClaimed base mid all

@@ -7,7 +7,7 @@ use Rattle.btree_node.specs.declared.node.Node.{Node}
 use Rattle.btree_item.specs.declared.address.Address.{Address}
 use Rattle.btree_view.specs.View.{View, item_in}
 use Rattle.btree_shape.specs.Place.{IsOccupied}
-use Rattle.btree_shape.specs.TreeState.{TreeState, IsOccupiedIn, KeepsRest, item_of, node_map, views}
+use Rattle.btree_shape.specs.TreeState.{IsOccupiedIn, KeepsRest, Kept, TreeState, item_of, node_map, views}
 use Rattle.btree_shape.proofs.Trees.Numbers.{used-one}
 use Rattle.btree_shape.proofs.Trees.Stores.{used-view}
 
@@ -26,8 +26,8 @@ module _ {K V : Type 0} where
   pub same-len : {a b : TreeState K V} → KeepsRest a b → b.len ≡ a.len
   same-len {a} {b} p = let f : TreeState K V → ℕ = λ s. s.len in ap f p.rest
 
-  pub same-refusals : {a b : TreeState K V} → KeepsRest a b → b.refusals ≡ a.refusals
-  same-refusals {a} {b} p = let f : TreeState K V → ℕ = λ s. s.refusals in ap f p.rest
+  pub same-kept : {a b : TreeState K V} → KeepsRest a b → b.kept ≡ a.kept
+  same-kept {a} {b} p = let f : TreeState K V → Kept = λ s. s.kept in ap f p.rest
 
   pub nodes-of : {a b : TreeState K V} → a ≡ b → a.nodes ≡ b.nodes
   nodes-of e = let f : TreeState K V → Content (Node K V) = λ s. s.nodes in ap f e

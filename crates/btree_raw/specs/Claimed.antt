@@ -35,6 +35,13 @@ module _ {N : Type 0} (empty : N) where
     pub claims : AreClaims nodes ids
     pub may : MayRefuse (with_claims nodes ids)
 
+  -- `count` claims can be granted: the store can have a content with so many claims added
+  pub record CanHoldMore (CanHold : Content N → Type 0) (nodes : Content N) (count : ℕ) : Type 0 where
+    pub ids : List ℕ
+    pub all : length ids ≡ count
+    pub claims : AreClaims nodes ids
+    pub can : CanHold (with_claims nodes ids)
+
 -- these numbers were not used, and are those of empty leaves now; nothing else has changed
 pub record AreClaimed {K V : Type 0} (old new : TreeState K V) (ids : List ℕ) : Type 0 where
   pub claimed : IsClaimed EMPTY old.nodes new.nodes ids

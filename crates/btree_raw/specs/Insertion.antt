@@ -80,7 +80,7 @@ module _ {K V : Type 0} where
       pub valid : IsValidIn new b
       pub item : item_of new b ≡ Some x
       pub longer : new.len ≡ old.len + 1
-      pub uncounted : new.refusals ≡ old.refusals
+      pub uncounted : new.kept ≡ old.kept
       pub nodes : UsesNeeded old new a.id
       pub put : old.root ≢ None → IsPutAndRebalanced old new a b x child
       pub first : old.root ≡ None → IsOnlyItem new b x
@@ -90,5 +90,5 @@ module _ {K V : Type 0} where
 -- `Count`: there are as many pairs as can be counted
 abbrev pub IsRefused : {K V : Type 0} → (Content (Node K V) → Type 0) → (id : ℕ) → (old new : TreeState K V) → Cause → Type 0
 IsRefused MayRefuse id old new Store =
-    Refuses old new × MayRefuseOneOf EMPTY MayRefuse old.nodes (nodes_needed old id) × (old.len < 2 ^ 64 - 1)
-IsRefused MayRefuse id old new Count = (new ≡ old) × (old.len ≡ 2 ^ 64 - 1)
+    Refuses old new × MayRefuseOneOf EMPTY MayRefuse old.nodes (nodes_needed old id) × (old.len < old.kept.limit)
+IsRefused MayRefuse id old new Count = (new ≡ old) × (old.kept.limit ≤ old.len)

@@ -6,3 +6,4 @@ pub mod Raw
 pub mod Rebalance
 pub mod Insertion
 pub mod LastItem
+pub mod Lent

@@ -1,5 +1,5 @@
 -- What calls on a raw tree, a tree of any content, require and leave.
-use Rattle.std.specs.Prelude.{◌≡◌, ℕ, ◌+◌, ◌<◌, List, None, IsSome}
+use Rattle.std.specs.Prelude.{◌≡◌, ℕ, ◌<◌, List, None, IsSome}
 use Rattle.std.specs.FinMap as map
 use Rattle.btree_store.specs.Content.{Content}
 use Rattle.btree_node.specs.declared.node.Node.{Node}
@@ -8,7 +8,7 @@ use Rattle.btree_view.specs.View.{children_of}
 use Rattle.btree_shape.specs.Lists.{times_listed}
 use Rattle.btree_shape.specs.Step.{Reparents}
 use Rattle.btree_shape.specs.Place.{IsWithin}
-use Rattle.btree_shape.specs.TreeState.{TreeState, KeepsRest, node_map, views}
+use Rattle.btree_shape.specs.TreeState.{TreeState, KeepsRest, node_map, refused_once, views}
 use Rattle.btree_item.specs.declared.address.Address.{Address}
 
 module _ {K V : Type 0} where
@@ -22,7 +22,7 @@ module _ {K V : Type 0} where
 
   -- a refusal was counted; nothing else has changed
   abbrev pub Refuses : (old new : TreeState K V) → Type 0
-  Refuses old new = new ≡ record old { refusals = old.refusals + 1 }
+  Refuses old new = new ≡ record old { kept = refused_once old.kept }
 
   -- the address is in a node, from -1 to the number of its items
   abbrev pub IsWithinNode : TreeState K V → Address → Type 0

@@ -48,7 +48,7 @@ module _ {K V : Type 0} (old new : TreeState K V) (id : ℕ) where
     pub well : IsBTreeButLength cmp new
     pub pairs : pairs_of new ≡ pairs_of old
     pub len : new.len ≡ old.len
-    pub uncounted : new.refusals ≡ old.refusals
+    pub uncounted : new.kept ≡ old.kept
     pub valid : IsValidIn new b
     pub place : (place : ℕ) → IsPlaceIn old a place → IsPlaceIn new b place
     pub item : (x : K × V) → item_of old a ≡ Some x → item_of new b ≡ Some x

@@ -147,7 +147,7 @@ pub record SplitsUpward {K V : Type 0} (old new : TreeState K V) (id : ℕ) (spa
   pub split : AreSplit (node_map old) (node_map new) old.root new.root id spare a b
   pub used : (n : ℕ) → times_used (node_map new n) ≡ times_used (node_map old n)
   pub len : new.len ≡ old.len
-  pub uncounted : new.refusals ≡ old.refusals
+  pub uncounted : new.kept ≡ old.kept
 
 -- what is left of the cut of a node, if it was cut: its parent, how many items it kept, the median, and the node that has
 -- its right part

@@ -151,4 +151,4 @@ module _ {A : Type 0} (node_at : NodeMap A) where
 pub record FixesUnderflowUpward {K V : Type 0} (old new : TreeState K V) (id : ℕ) (a b : Address) : Type 0 where
   pub fixed : AreFixed (node_map old) (node_map new) old.root new.root id a b
   pub len : new.len ≡ old.len
-  pub uncounted : new.refusals ≡ old.refusals
+  pub uncounted : new.kept ≡ old.kept

@@ -1,8 +1,8 @@
 //! Nodes that are claimed from the store before a change, so that a refusal leaves the tree as it was.
-ghost use Rattle.std.specs.Prelude.{◌≡◌, ◌<◌, ◌≤◌, ◌∷◌, ◌++◌, [], length, None, IfSome, IfNone, IsTrue, false};
+ghost use Rattle.std.specs.Prelude.{◌≡◌, ◌<◌, ◌≤◌, ◌∷◌, ◌++◌, [], length, None, IfSome, IfNone, OnSome, IsTrue, false};
 ghost use Rattle.std.specs.FinMap as map;
 ghost use Rattle.btree_shape.specs.TreeState.{TreeState};
-ghost use Rattle.btree_raw.specs.Claimed.{AreClaimed, EMPTY, UndoesClaims, MayRefuseOneOf};
+ghost use Rattle.btree_raw.specs.Claimed.{AreClaimed, CanHoldMore, EMPTY, UndoesClaims, MayRefuseOneOf};
 ghost use Rattle.btree_raw.specs.Raw.{Refuses, with_node};
 
 use crate::raw::RawBTree;
@@ -40,6 +40,7 @@ pub fn claim_one<K: Drop, V: Drop, C: NodesMut<K, V>>(tree: &mut RawBTree<K, V, 
     ensures number { IfSome result (λ id. id < usize.MAX) }
     ensures unused { IfSome result (λ id. map.get tree.old.nodes id ≡ None) }
     ensures claimed { IfSome result (λ id. tree.new ≡ with_node tree.old id EMPTY) }
+    ensures can_hold { OnSome result (C.CanHold tree.new.nodes) }
     ensures refused { IfNone result (Refuses tree.old tree.new) }
     ensures may_refuse { IfNone result (C.MayRefuse tree.old.nodes) }
 {
@@ -58,6 +59,7 @@ pub fn claim<K: Drop, V: Drop, C: NodesMut<K, V>>(
     requires none { claims.old.items ≡ [] }
     ensures claimed { IsTrue result → AreClaimed tree.old tree.new claims.new.items }
     ensures count { IsTrue result → length claims.new.items ≡ count }
+    ensures can_hold { IsTrue result → CanHoldMore EMPTY C.CanHold tree.old.nodes count }
     ensures refused { result ≡ false → Refuses tree.old tree.new }
     ensures none_left { result ≡ false → claims.new.items ≡ [] }
     ensures may_refuse { result ≡ false →
@@ -72,6 +74,8 @@ pub fn claim<K: Drop, V: Drop, C: NodesMut<K, V>>(
             }
         }
     }
+    // For the prover: the store can have the content with the claims.
+    let _held = tree.node_count();
     true
 }
 

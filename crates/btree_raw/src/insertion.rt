@@ -33,6 +33,7 @@ fn insert_only<K: Ord + Drop, V: Drop, C: NodesMut<K, V>>(
     requires rootless { tree.old.root ≡ None }
     requires empty { map.len tree.old.nodes ≡ 0 }
     requires room { tree.old.len < usize.MAX }
+    requires granted { tree.old.len < tree.old.kept.limit }
     ensures inserted { IfOk result (λ b. InsertsExactly K.cmp tree.old tree.new addr b item child) }
     ensures returned { IfErr result (λ r. (r.key, r.value) ≡ item) }
     ensures refused { IfErr result (λ r. IsRefused C.MayRefuse addr.id tree.old tree.new r.cause) }
@@ -63,6 +64,7 @@ fn insert_and_split<K: Ord + Drop, V: Drop, C: NodesMut<K, V>>(
     requires parent { HasParent (node_map tree.old) addr.id parent }
     requires rooted { tree.old.root ≢ None }
     requires room { tree.old.len < usize.MAX }
+    requires granted { tree.old.len < tree.old.kept.limit }
     ensures inserted { IfOk result (λ b. InsertsExactly K.cmp tree.old tree.new addr b item child) }
     ensures returned { IfErr result (λ r. (r.key, r.value) ≡ item) }
     ensures refused { IfErr result (λ r. IsRefused C.MayRefuse addr.id tree.old tree.new r.cause) }
@@ -89,6 +91,7 @@ fn insert_in_tree<K: Ord + Drop, V: Drop, C: NodesMut<K, V>>(
     requires off_by_one { IsOffByOneWith K.cmp tree.old addr item child }
     requires rooted { tree.old.root ≢ None }
     requires room { tree.old.len < usize.MAX }
+    requires granted { tree.old.len < tree.old.kept.limit }
     ensures inserted { IfOk result (λ b. InsertsExactly K.cmp tree.old tree.new addr b item child) }
     ensures returned { IfErr result (λ r. (r.key, r.value) ≡ item) }
     ensures refused { IfErr result (λ r. IsRefused C.MayRefuse addr.id tree.old tree.new r.cause) }
@@ -130,7 +133,7 @@ impl<K: Ord + Drop, V: Drop, C: NodesMut<K, V>> RawBTree<K, V, C> {
         ensures refused { IfErr result (λ r. IsRefused C.MayRefuse addr.id self.old self.new r.cause) }
     {
         self.tell_fits();
-        if self.len() == usize::MAX {
+        if self.limit() <= self.len() {
             return Err(refused(Cause::Count, item));
         }
         match self.root_id() {

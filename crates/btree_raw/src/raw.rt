@@ -2,7 +2,7 @@
 ghost use Rattle.std.specs.Prelude.{◌≡◌, ◌↔◌, ℕ, ◌+◌, ◌<◌, Err, None, IsTrue, IsSome, Ok, Some, option_copied, IfOk, OnOk, IfErr, OnErr};
 ghost use Rattle.btree_item.specs.declared.fault.Fault.TheVariants.{NoNode};
 ghost use Rattle.std.specs.FinMap as map;
-ghost use Rattle.std.specs.Borrow.{Lends, sem};
+ghost use Rattle.std.specs.Borrow.{sem};
 ghost use Rattle.std.specs.Mem.{FitsInMemory};
 ghost use Rattle.btree_node.specs.Node.{view_of};
 ghost use Rattle.btree_node.specs.contracts.node.Node.{the_row as node_row};
@@ -23,6 +23,7 @@ pub struct RawBTree<K, V, C: NodesMut<K, V>> {
     store: C,
     root: Option<usize>,
     len: usize,
+    limit: usize,
     pairs: PhantomData<(K, V)>,
 }
 
@@ -34,29 +35,47 @@ impl<K, V, C: NodesMut<K, V>> Model for RawBTree<K, V, C> {
 
     ghost coded = { tree_code (Prim.hlevel codes) };
 
-    ghost view = { λ t. record { nodes = C.content t.store; root = t.root; len = t.len; refusals = C.refusals t.store } };
+    ghost view = { λ t. record { nodes = C.content t.store; root = t.root; len = t.len; kept = record { refusals = C.refusals t.store; limit = t.limit } } };
 
     ghost invariant = { λ _. C.Fits };
 }
 
 impl<K, V, C: NodesMut<K, V>> RawBTree<K, V, C> {
     ghost use Rattle.btree_view.specs.View.{children_of};
-    ghost use Rattle.btree_shape.specs.TreeState.{IsOccupiedIn, IsUsed, IsValidIn, item_of};
+    ghost use Rattle.btree_shape.specs.TreeState.{IsOccupiedIn, IsUsed, IsValidIn, item_of, rootless, unlimited};
     ghost use Rattle.btree_raw.specs.Raw.{AreUsed, GainsNode, Refuses, with_node};
-    ghost use Rattle.btree_raw.specs.contracts.raw.RawBTree.{the_row};
+    ghost use Rattle.btree_raw.specs.Lent.{lends_node};
 
     /// Returns a tree with no root, the length 0, and an empty store made from `origin`. It allocates no memory.
     ///
     /// The contract requires that a node fits in memory. The prover finds that by itself if the types of key and value are known.
     pub fn new(origin: C::Origin) -> Self
         requires { FitsInMemory (node_row K.row V.row) }
-        ensures { result ≡ record { nodes = map.empty; root = None; len = 0; refusals = 0 } }
+        ensures { result ≡ rootless map.empty (unlimited 0) }
     {
         C::note_fits();
         RawBTree {
             store: C::empty(origin),
             root: None,
             len: 0,
+            limit: usize::MAX,
+            pairs: PhantomData,
+        }
+    }
+
+    /// Returns a tree with no root and the length 0, over a store as it is.
+    ///
+    /// The contract requires that a node fits in memory, as that of `new`.
+    pub fn in_store(nodes: C) -> Self
+        requires { FitsInMemory (node_row K.row V.row) }
+        ensures { result ≡ rootless (C.content nodes) (unlimited (C.refusals nodes)) }
+    {
+        C::note_fits();
+        RawBTree {
+            store: nodes,
+            root: None,
+            len: 0,
+            limit: usize::MAX,
             pairs: PhantomData,
         }
     }
@@ -85,6 +104,13 @@ impl<K, V, C: NodesMut<K, V>> RawBTree<K, V, C> {
         self.len
     }
 
+    /// Returns the greatest length: the one that was last set, and `usize::MAX` at first.
+    pub fn limit(&self) -> usize
+        ensures { result ≡ self.now.kept.limit }
+    {
+        self.limit
+    }
+
     /// Returns the number of the root. There may be no node with this number.
     pub fn root_id(&self) -> Option<usize>
         ensures { result ≡ self.now.root }
@@ -92,9 +118,10 @@ impl<K, V, C: NodesMut<K, V>> RawBTree<K, V, C> {
         self.root
     }
 
-    /// Returns how many nodes the store has.
+    /// Returns how many nodes the store has. Its content is one that the store can have.
     pub fn node_count(&self) -> usize
-        ensures { result ≡ map.len self.now.nodes }
+        ensures value { result ≡ map.len self.now.nodes }
+        ensures can_hold { C.CanHold self.now.nodes }
     {
         self.store.len()
     }
@@ -148,6 +175,13 @@ impl<K, V, C: NodesMut<K, V>> RawBTree<K, V, C> {
         self.len = len;
     }
 
+    /// Sets the greatest length. Nothing else changes.
+    pub fn set_limit(&mut self, limit: usize)
+        ensures { self.new ≡ record self.old { kept = record self.old.kept { limit = limit } } }
+    {
+        self.limit = limit;
+    }
+
     /// Sets the number of the root. Nothing else changes.
     pub fn set_root_id(&mut self, id: Option<usize>)
         ensures { self.new ≡ record self.old { root = id } }
@@ -158,11 +192,8 @@ impl<K, V, C: NodesMut<K, V>> RawBTree<K, V, C> {
     /// Returns the node with a number that is used, for writing. `has_node` decides whether it is.
     pub fn node_mut(&mut self, id: usize) -> &mut Node<K, V>
         requires { IsUsed self.old id }
-        ensures* writes_back { sem 𝓛 (Lends
-            (the_row K.row V.row C.row C.Origin.row
-            (record { MayRefuse = C.MayRefuse; Fits = C.Fits; written = C.written })
-            (record { content = C.content; refusals = C.refusals; CanHold = C.CanHold }))
-            (node_row K.row V.row) self.entry result (with_node self.old id)) }
+        ensures* writes_back { sem 𝓛 (lends_node
+            K.row V.row C.row C.Origin.row C.NodesMut self.entry id result) }
         ensures value { Some result.now ≡ map.get self.old.nodes id }
     {
         match self.store.get_mut(id) {
@@ -185,6 +216,7 @@ impl<K, V, C: NodesMut<K, V>> RawBTree<K, V, C> {
         ensures number { IfOk result (λ id. id < usize.MAX) }
         ensures unused { IfOk result (λ id. map.get self.old.nodes id ≡ None) }
         ensures stored { IfOk result (λ id. self.new ≡ with_node self.old id node) }
+        ensures can_hold { OnOk result (C.CanHold self.new.nodes) }
         ensures returned { IfErr result (λ back. back ≡ node) }
         ensures refused { OnErr result (Refuses self.old self.new) }
         ensures may_refuse { OnErr result (C.MayRefuse self.old.nodes) }
@@ -215,6 +247,8 @@ impl<K, V, C: NodesMut<K, V>> RawBTree<K, V, C> {
 impl<K: Ord, V, C: NodesMut<K, V>> RawBTree<K, V, C> {
     ghost use Rattle.btree_shape.specs.TreeState.{IsBTree, IsOffByOneAt};
     ghost use Rattle.btree_valid.specs.Faults.{AcceptsRawNode, BlamesRawNode, SuitsRawNode};
+    ghost use Rattle.btree_valid.specs.Positions.{start_spot};
+    ghost use Rattle.btree_valid.specs.Verdicts.{IsVerdict, IsVerdictBelow};
 
     /// Returns whether the tree has a root and at most 32 levels, and is well formed except for its length and the number of items of node
     /// `id`: it may have one item too many or too few, and the root may also be empty. This is what `rebalance` requires of the tree.
@@ -235,7 +269,8 @@ impl<K: Ord, V, C: NodesMut<K, V>> RawBTree<K, V, C> {
     /// The root is on level 1, and a node on level 33 is `TooDeep`; nothing below it is read. It reads each node of a well formed tree
     /// once, copies nothing and uses no memory but the stack.
     pub fn validate(&self) -> Result<(), Fault>
-        ensures { result ≡ Ok tt ↔ IsBTree K.cmp self.now }
+        ensures exact { result ≡ Ok tt ↔ IsBTree K.cmp self.now }
+        ensures verdict { IsVerdict K.cmp self.now.nodes self.now.root self.now.len result }
     {
         self.tell_fits();
         validate(&self.store, self.root, self.len)
@@ -258,6 +293,8 @@ impl<K: Ord, V, C: NodesMut<K, V>> RawBTree<K, V, C> {
         ensures only { SuitsRawNode K.cmp self.now id parent (option_copied min.entry) (option_copied max.entry) result }
         ensures blames { BlamesRawNode K.cmp self.now id parent
             (option_copied min.entry) (option_copied max.entry) result }
+        ensures verdict { IsVerdictBelow K.cmp self.now.nodes
+            (start_spot id parent (option_copied min.entry) (option_copied max.entry)) result }
     {
         self.tell_fits();
         // For the prover alone: the length is a `usize`, so there are at most 32 levels.
@@ -267,9 +304,11 @@ impl<K: Ord, V, C: NodesMut<K, V>> RawBTree<K, V, C> {
 }
 
 impl<K, V, C: ClearNodes<K, V>> RawBTree<K, V, C> {
+    ghost use Rattle.btree_shape.specs.TreeState.{rootless};
+
     /// Drops every node. There is no root then, the length is 0, and the count of refusals stays.
     pub fn clear(&mut self)
-        ensures { self.new ≡ record { nodes = map.empty; root = None; len = 0; refusals = self.old.refusals } }
+        ensures { self.new ≡ rootless map.empty self.old.kept }
     {
         self.store.clear();
         self.root = None;
@@ -278,6 +317,8 @@ impl<K, V, C: ClearNodes<K, V>> RawBTree<K, V, C> {
 }
 
 impl<K: Clone, V: Clone, C: CloneNodes<K, V>> RawBTree<K, V, C> {
+    ghost use Rattle.btree_shape.specs.TreeState.{unrefused};
+
     /// Returns a tree with clones of the keys and values, whose nodes have the same numbers. Its store has refused no node yet. It fails only if
     /// the clone of the store fails.
     ///
@@ -285,13 +326,14 @@ impl<K: Clone, V: Clone, C: CloneNodes<K, V>> RawBTree<K, V, C> {
     pub fn clone(&self) -> Result<Self, AllocError>
         requires keys { (x copy : K) → K.is_clone x copy → copy ≡ x }
         requires values { (x copy : V) → V.is_clone x copy → copy ≡ x }
-        ensures state { IfOk result (λ copy. copy ≡ record self.now { refusals = 0 }) }
+        ensures state { IfOk result (λ copy. copy ≡ unrefused self.now) }
         ensures may_fail { OnErr result (C.MayFail self.now.nodes) }
     {
         Ok(RawBTree {
             store: self.store.try_clone()?,
             root: self.root,
             len: self.len,
+            limit: self.limit,
             pairs: PhantomData,
         })
     }

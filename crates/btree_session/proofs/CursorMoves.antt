@@ -1,5 +1,5 @@
 -- Steps of the machine of an editing cursor, by the contracts of the cursor.
-use Rattle.std.proofs.Common.{◌≡◌, ◌∙◌, ℕ, ◌+◌, List, [], ◌∷◌, Some, None, length, drop, slice_get, refl, sym, ap, arith}
+use Rattle.std.proofs.Common.{◌≡◌, ◌≤◌, ◌∙◌, ℕ, ◌+◌, List, [], ◌∷◌, Some, None, length, drop, slice_get, refl, sym, ap, subst, arith}
 use Rattle.std.proofs.lemmas.List.{length-drop, length-take}
 use Rattle.std.proofs.lemmas.Option.{same_Some}
 use Rattle.std.specs.Ordering.{nat_cmp}
@@ -61,7 +61,7 @@ module _ {C O : Type 0} {g' : eq.Ghosts ℕ} {g'' : partial.Ghosts ℕ} {s : nod
       move = (
         left_of (past_first c v),
         w.left,
-        λ i. record { passed = w.passed i; left = left_of (past_first c v); refusals = w.writes.exchanged.exchanged.uncounted i },
+        λ i. record { passed = w.passed i; left = left_of (past_first c v); kept = w.writes.exchanged.exchanged.uncounted i },
       );
       nodes = (or_nowhere c.first, w.writes);
     }
@@ -73,29 +73,29 @@ module _ {C O : Type 0} {g' : eq.Ghosts ℕ} {g'' : partial.Ghosts ℕ} {s : nod
   module _ (old new : EntriesMut ℕ ℕ C O by_number g' g'' s s') where
     pub removes-first : (x : ℕ × ℕ) → RemovesEntry old new x → IsCursorStep s.MayRefuse (spot_of old) Remove (Pair x.0 x.1) (spot_of new)
     removes-first x r = record {
-      move = (left_of new, r.left, λ i. record { passed = r.passed i; left = left_of new; refusals = r.removed.uncounted i });
+      move = (left_of new, r.left, λ i. record { passed = r.passed i; left = left_of new; kept = r.removed.uncounted i });
       nodes = (r.at, r.after, r.removed);
     }
 
     module _ (k v : ℕ) (fits : FitsBetween nat_cmp k (passed_of old) (left_of old)) where
       pub inserts-pair : InsertsEntry old new (k, v) → IsCursorStep s.MayRefuse (spot_of old) (Insert k v) Done (spot_of new)
       inserts-pair i = record {
-        move = (fits, λ j. record { passed = i.passed j; left = i.left j; refusals = i.inserts.inserted.uncounted j });
+        move = (fits, λ j. record { passed = i.passed j; left = i.left j; kept = i.inserts.inserted.uncounted j });
         nodes = (i.gap, i.at, i.inserts);
       }
 
       refused-state : (cause : Cause) (leaf : ℕ) → RefusesEntry old new cause → IsRefused s.MayRefuse leaf old.map.now new.map.now cause
           → IsRefusable (state_at (spot_of old)) cause × (state_at (spot_of new) ≡ after_refusal (state_at (spot_of old)) cause)
-      refused-state Store leaf r is = (tt, λ i. record { passed = r.passed i; left = r.left i; refusals = (ap (λ t. t.refusals) is.0) i })
+      refused-state Store leaf r is = (tt, λ i. record { passed = r.passed i; left = r.left i; kept = (ap (λ t. t.kept) is.0) i })
       refused-state Count leaf r is =
           let all = r.tree.counted in
           let same = ap (λ t. t.len) is.0 in
           let pairs = ap (λ t. length (pairs_of t)) is.0 in
           let long : length (passed_of old) + length (left_of old) ≡ length (pairs_of old.map.now) =
           omega (arith, length-take old.front (pairs_of old.map.now), length-drop old.front (pairs_of old.map.now)) in
-          (long ∙ sym pairs ∙ sym all ∙ same ∙ is.1, λ i. record { passed = r.passed i; left = r.left i; refusals = (ap (λ t. t.refusals) is.0) i })
+          (subst (λ n. old.map.now.kept.limit ≤ n) (sym same ∙ all ∙ pairs ∙ sym long) is.1, λ i. record { passed = r.passed i; left = r.left i; kept = (ap (λ t. t.kept) is.0) i })
 
       pub refuses-pair : (cause : Cause) → RefusesEntry old new cause → IsCursorStep s.MayRefuse (spot_of old) (Insert k v) (Refused cause) (spot_of new)
       refuses-pair cause r =
           let state = refused-state cause r.refused.leaf.id r r.refused.refused in
-          record { move = (fits, state.0, state.1); nodes = (r.gap, r.refused) }
+          record { move = (fits, state.0, state.1); nodes = (r.gap, r.has, r.refused) }

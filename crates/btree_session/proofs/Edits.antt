@@ -9,7 +9,7 @@ use Rattle.btree_item.specs.declared.address.Address.{Address}
 use Rattle.btree_item.specs.declared.refused.Cause.{Cause}
 use Rattle.btree_store.specs.Content.{Content}
 use Rattle.btree_node.specs.declared.node.Node.{Node}
-use Rattle.btree_shape.specs.TreeState.{TreeState, IsBTree, IsValidIn, item_of, pairs_of}
+use Rattle.btree_shape.specs.TreeState.{TreeState, IsBTree, IsValidIn, item_of, pairs_of, rootless}
 use Rattle.btree_find.specs.Fits.{FitsAt}
 use Rattle.btree_find.specs.Navigation.{HasPlace, IsNormalized}
 use Rattle.btree_find.proofs.FitsLemmas.{occupied-item}
@@ -39,9 +39,9 @@ module _ (may_refuse : Content (Node ℕ ℕ) → Type 0) (old new : TreeState �
         → IsStep may_refuse (before_with held) (Remove key) (Value value) (after_with None)
     remove-value key value finds stored removes =
         let pairs = removes.pairs in
-        let refusals = removes.removed.uncounted in
+        let kept = removes.removed.uncounted in
         a_step may_refuse (before_with held) (after_with None) (Remove key) (Value value) was.0 None was.1 refl
-        (sym finds, rw (pairs, refusals) refl) (stored, removes) new_tree
+        (sym finds, rw (pairs, kept) refl) (stored, removes) new_tree
 
     none_found : (o : Option (ℕ × ℕ)) → None ≡ option_map (λ x. x.1) o → o ≡ None
     none_found None is = refl
@@ -59,11 +59,11 @@ module _ (may_refuse : Content (Node ℕ ℕ) → Type 0) (old new : TreeState �
     remove-done key None finds removes same = remove-none key finds same
     remove-done key (Some value) finds removes same = remove-value key value finds removes.0 removes.1
 
-    pub clear-done : pairs_of new ≡ [] → new ≡ record { nodes = finite.empty; root = None; len = 0; refusals = old.refusals }
+    pub clear-done : pairs_of new ≡ [] → new ≡ rootless finite.empty old.kept
         → IsStep may_refuse (before_with held) Clear Done (after_with None)
     clear-done empty is =
-        let refusals : new.refusals ≡ old.refusals = ap (λ m. m.refusals) is in
-        a_step may_refuse (before_with held) (after_with None) Clear Done was.0 None was.1 refl (rw (empty, refusals) refl) is new_tree
+        let kept : new.kept ≡ old.kept = ap (λ m. m.kept) is in
+        a_step may_refuse (before_with held) (after_with None) Clear Done was.0 None was.1 refl (rw (empty, kept) refl) is new_tree
 
   module _ (held : Option Address) (a : Address) (is : held ≡ Some a) where
     -- ---- `put`
@@ -84,10 +84,10 @@ module _ (may_refuse : Content (Node ℕ ℕ) → Type 0) (old new : TreeState �
         put-done b inserts =
             let place = inserts.place in
             let pairs = inserts.pairs in
-            let refusals = inserts.inserted.uncounted in
+            let kept = inserts.inserted.uncounted in
             a_step may_refuse (before_with held) (after_with (Some b)) (Put key value) Done (Some place) (Some place)
             (rw is (place, refl, inserts.has)) (place, refl, inserts.there)
-            (place, refl, fits-there place inserts.has, rw (pairs, refusals) refl) (a, b, is, refl, inserts) new_tree
+            (place, refl, fits-there place inserts.has, rw (pairs, kept) refl) (a, b, is, refl, inserts) new_tree
 
         pub put-refused : (cause : Cause) → IsRefusedAt old new a may_refuse cause → IsStep may_refuse (before_with held) (Put key value) (Refused cause) (after_with held)
         put-refused cause refused =
@@ -117,10 +117,10 @@ module _ (may_refuse : Content (Node ℕ ℕ) → Type 0) (old new : TreeState �
         let same : place ≡ normal.place = normal.item.here.has.only place removed.at in
         let has : HasPlace old a place = subst (λ p. HasPlace old a p) (sym same) normal.has in
         let pairs = removed.pairs in
-        let refusals = removed.uncounted in
+        let kept = removed.uncounted in
         a_step may_refuse (before_with held) (after_with (Some b)) Take (Pair x.0 x.1) (Some place) (Some place)
         (rw is (place, refl, has)) (place, refl, has-place nat_cmp nat_cmp_total new removed.tree b place removed.there)
-        (place, refl, removed.listed, rw (pairs, refusals) refl) (a, at, b, is, normal, removed, refl) removed.tree
+        (place, refl, removed.listed, rw (pairs, kept) refl) (a, at, b, is, normal, removed, refl) removed.tree
 
   -- an item is at an address that `normalize` returns
   pub take-there : (a at : Address) → IsNormalized old a (Some at) → item_of old at ≡ None → ⊥

@@ -5,7 +5,7 @@ use Rattle.std.specs.Cmp.{nat_cmp_total}
 use Rattle.std.specs.Ordering.{nat_cmp}
 use Rattle.btree_item.specs.Pairs.{before, found}
 use Rattle.btree_item.specs.declared.address.Address.{Address}
-use Rattle.btree_item.proofs.PairLemmas.{before-from_Ok, before-from_Err, found-from_Err, slice_get-from_Ok}
+use Rattle.btree_item.proofs.PairLemmas.{before-from_Ok, before-from_Err, found-from_Err}
 use Rattle.btree_store.specs.Content.{Content}
 use Rattle.btree_node.specs.declared.node.Node.{Node}
 use Rattle.btree_shape.specs.TreeState.{TreeState, IsBTree, IsOccupiedIn, IsPlaceIn, item_of, node_map, pairs_of}
@@ -13,7 +13,7 @@ use Rattle.btree_shape.specs.Place.{IsOccupied}
 use Rattle.btree_find.specs.Answers.{IsFoundAt, IsGapAt}
 use Rattle.btree_find.specs.Navigation.{HasPlace, IsItemAddress, IsItemAt, IsItemBefore, IsNext, IsNormalized, IsPrevious}
 use Rattle.btree_find.proofs.FitsLemmas.{place-low}
-use Rattle.btree_find.proofs.PlaceLemmas.{has-place, item-here}
+use Rattle.btree_find.proofs.PlaceLemmas.{has-place}
 use Rattle.btree_session.specs.declared.command.Command.{Command}
 use Rattle.btree_session.specs.declared.command.Command.TheVariants.{Seek, Next, Prev}
 use Rattle.btree_session.specs.declared.command.Reply.{Reply}
@@ -60,10 +60,9 @@ module _ (may_refuse : Content (Node ℕ ℕ) → Type 0) (map : TreeState ℕ �
 
     pub seek-found : IsFoundAt nat_cmp key map a → (x : ℕ × ℕ) → Some x ≡ item_of map a → IsStep may_refuse (holding_at held) (Seek key) (Found x.1) (holding_at (Some a))
     seek-found there x item =
-        let here = item-here nat_cmp nat_cmp_total map tree a there.place there.occupied there.at in
-        let finds = sym (slice_get-from_Ok nat_cmp nat_cmp_total key pairs there.place tree.ascends there.is) ∙ sym here.here.item ∙ sym item in
+        let finds = sym there.item ∙ sym item in
         a_step may_refuse (holding_at held) (holding_at (Some a)) (Seek key) (Found x.1) p.0 (Some (before nat_cmp key pairs)) p.1
-        (at_before there.place there.at (before-from_Ok nat_cmp key pairs there.place there.is))
+        (at_before there.place there.here.has.at (before-from_Ok nat_cmp key pairs there.place there.is))
         (ap (option_map (λ x. x.1)) finds, refl) (a, there, refl, refl) tree
 
     pub seek-gap : IsGapAt nat_cmp key map a → IsStep may_refuse (holding_at held) (Seek key) Gap (holding_at (Some a))

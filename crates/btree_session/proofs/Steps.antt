@@ -1,5 +1,5 @@
 -- Steps of a session, by the contracts of its map.
-use Rattle.std.proofs.Common.{◌≡◌, ℕ, ◌+◌, List, Option, Some, None, refl, sym, ap, ◌∙◌, option_map, subst}
+use Rattle.std.proofs.Common.{◌≡◌, ◌≤◌, ℕ, List, Option, Some, None, refl, sym, ap, ◌∙◌, option_map, subst}
 use Rattle.std.specs.Cmp.{nat_cmp_total}
 use Rattle.std.specs.Ordering.{nat_cmp}
 use Rattle.std.specs.List.{insert}
@@ -9,7 +9,7 @@ use Rattle.btree_item.specs.declared.refused.Cause.{Cause}
 use Rattle.btree_item.specs.declared.refused.Cause.TheVariants.{Store, Count}
 use Rattle.btree_store.specs.Content.{Content}
 use Rattle.btree_node.specs.declared.node.Node.{Node}
-use Rattle.btree_shape.specs.TreeState.{TreeState, IsBTree, pairs_of}
+use Rattle.btree_shape.specs.TreeState.{Kept, TreeState, IsBTree, pairs_of, refused_once}
 use Rattle.btree_find.specs.Navigation.{HasPlace}
 use Rattle.btree_find.proofs.PlaceLemmas.{has-place, place-there}
 use Rattle.btree_raw.specs.Insertion.{IsRefused}
@@ -23,7 +23,7 @@ use Rattle.btree_session.specs.Machine.{SessionState, after_refusal, let_go, IsR
 
 -- the state of a session whose address has this place
 abbrev pub state_at : Held ℕ ℕ → Option ℕ → SessionState
-state_at s place = record { pairs = pairs_of s.map; place = place; refusals = s.map.refusals }
+state_at s place = record { pairs = pairs_of s.map; place = place; kept = s.map.kept }
 
 -- the address that is held in a well formed tree has a place
 pub held_place : (map : TreeState ℕ ℕ) (held : Option Address) → IsBTree nat_cmp map → HoldsBack map held → (place : Option ℕ) × IsHeldPlace map held place
@@ -35,18 +35,18 @@ held_place map (Some a) tree holds =
 pub here : (s : Held ℕ ℕ) → IsBTree nat_cmp s.map → HoldsBack s.map s.held → (place : Option ℕ) × IsHeldPlace s.map s.held place
 here s tree holds = held_place s.map s.held tree holds
 
--- ---- the held address where only the count of refusals changes
-has_place-kept : (map : TreeState ℕ ℕ) (refusals : ℕ) (a : Address) (place : ℕ) → HasPlace map a place → HasPlace (record map { refusals = refusals }) a place
-has_place-kept map refusals a place has = record { at = has.at; only = has.only }
+-- ---- the held address where only what is kept changes
+has_place-kept : (map : TreeState ℕ ℕ) (kept : Kept) (a : Address) (place : ℕ) → HasPlace map a place → HasPlace (record map { kept = kept }) a place
+has_place-kept map kept a place has = record { at = has.at; only = has.only }
 
-held_place-kept : (map : TreeState ℕ ℕ) (refusals : ℕ) (held : Option Address) (place : Option ℕ) → IsHeldPlace map held place → IsHeldPlace (record map { refusals = refusals }) held place
-held_place-kept map refusals None place is = is
-held_place-kept map refusals (Some a) place is = (is.0, is.1, has_place-kept map refusals a is.0 is.2)
+held_place-kept : (map : TreeState ℕ ℕ) (kept : Kept) (held : Option Address) (place : Option ℕ) → IsHeldPlace map held place → IsHeldPlace (record map { kept = kept }) held place
+held_place-kept map kept None place is = is
+held_place-kept map kept (Some a) place is = (is.0, is.1, has_place-kept map kept a is.0 is.2)
 
 module _ (may_refuse : Content (Node ℕ ℕ) → Type 0) (leaf : ℕ) (old new : TreeState ℕ ℕ) (held : Option Address) where
   -- after a refusal the address that is held has its place still
   pub held_place-refused : (cause : Cause) (place : Option ℕ) → IsRefused may_refuse leaf old new cause → IsHeldPlace old held place → IsHeldPlace new held place
-  held_place-refused Store place refused is = subst (λ m. IsHeldPlace m held place) (sym refused.0) (held_place-kept old (old.refusals + 1) held place is)
+  held_place-refused Store place refused is = subst (λ m. IsHeldPlace m held place) (sym refused.0) (held_place-kept old (refused_once old.kept) held place is)
   held_place-refused Count place refused is = subst (λ m. IsHeldPlace m held place) (sym refused.0) is
 
   pub state-refused : (cause : Cause) (place : Option ℕ) → IsRefused may_refuse leaf old new cause
@@ -57,7 +57,7 @@ module _ (may_refuse : Content (Node ℕ ℕ) → Type 0) (leaf : ℕ) (old new 
   pub refusable : (cause : Cause) (place : Option ℕ) → IsBTree nat_cmp old → IsRefused may_refuse leaf old new cause
       → IsRefusable (state_at (record { map = old; held = held }) place) cause
   refusable Store place tree refused = tt
-  refusable Count place tree refused = sym tree.counted ∙ refused.1
+  refusable Count place tree refused = subst (λ n. old.kept.limit ≤ n) tree.counted refused.1
 
 module _ (may_refuse : Content (Node ℕ ℕ) → Type 0) (old new : Held ℕ ℕ) where
   -- a step between states whose addresses have these places
@@ -67,8 +67,8 @@ module _ (may_refuse : Content (Node ℕ ℕ) → Type 0) (old new : Held ℕ �
   a_step command reply p q at there step nodes tree = record {
     before = state_at old p;
     after = state_at new q;
-    stands_before = record { pairs = refl; place = at; refusals = refl };
-    stands_after = record { pairs = refl; place = there; refusals = refl };
+    stands_before = record { pairs = refl; place = at; kept = refl };
+    stands_after = record { pairs = refl; place = there; kept = refl };
     step = step;
     nodes = nodes;
     tree = tree;
@@ -77,7 +77,7 @@ module _ (may_refuse : Content (Node ℕ ℕ) → Type 0) (old new : Held ℕ �
   module _ (was_tree : IsBTree nat_cmp old.map) (holds : HoldsBack old.map old.held) (tree : IsBTree nat_cmp new.map) where
     -- a pair is inserted, or its value replaced
     module _ (key value : ℕ) (pairs : pairs_of new.map ≡ inserted nat_cmp key value (pairs_of old.map)) (nodes : InsertsByKey nat_cmp key old.map new.map value)
-        (uncounted : new.map.refusals ≡ old.map.refusals) (none : new.held ≡ None) where
+        (uncounted : new.map.kept ≡ old.map.kept) (none : new.held ≡ None) where
       let_go-there : (list : List (ℕ × ℕ)) → pairs_of new.map ≡ list → state_at new None ≡ let_go (state_at old (here old was_tree holds).0) list
       let_go-there list is = rw (is, uncounted) refl
 

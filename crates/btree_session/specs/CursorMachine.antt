@@ -1,9 +1,9 @@
 -- An editing cursor as a machine: the replies that it may give to a step, and its state after each.
 -- Read `CursorMove` first (the reply and the state, over the list of the pairs that were passed and that of those that
 -- are left), then `Edits` (the map's nodes). `IsCursorStep` is both, and `RunsCursor`, which `run_cursor` cites, a list of
--- such steps with their replies appended to a vector. As in a session, only a refusal by the store changes the count of
--- refusals.
-use Rattle.std.specs.Prelude.{◌≡◌, ℕ, ◌+◌, ◌-◌, ◌^◌, List, [], ◌∷◌, ◌++◌, length, take, drop, Vec}
+-- such steps with their replies appended to a vector. As in a session, only a refusal by the store changes what is
+-- kept.
+use Rattle.std.specs.Prelude.{◌≡◌, ◌≤◌, ℕ, ◌+◌, List, [], ◌∷◌, ◌++◌, length, take, drop, Vec}
 use Rattle.std.specs.Ordering.{nat_cmp}
 use Rattle.std.specs.declared.cmp.Ord as ord
 use Rattle.std.specs.declared.cmp.PartialEq as eq
@@ -15,7 +15,8 @@ use Rattle.btree_store.specs.Content.{Content}
 use Rattle.btree_node.specs.declared.node.Node.{Node}
 use Rattle.btree_nodes.specs.declared.Nodes as nodes
 use Rattle.btree_nodes.specs.declared.NodesMut as nodes_mut
-use Rattle.btree_shape.specs.TreeState.{TreeState, pairs_of}
+use Rattle.btree_shape.specs.TreeState.{Kept, TreeState, pairs_of, refused_once}
+use Rattle.btree_find.specs.Navigation.{HasPlace}
 use Rattle.btree_edit.specs.InsertAt.{InsertsAt, IsRefusedAt}
 use Rattle.btree_edit.specs.Remove.{IsRemoved}
 use Rattle.btree_map.specs.Cursor.{WritesPlace}
@@ -27,21 +28,21 @@ use Rattle.btree_session.specs.declared.cursor.CursorStep.{CursorStep}
 use Rattle.btree_session.specs.declared.cursor.CursorStep.TheVariants.{Peek, Next, Insert, Remove}
 use Rattle.btree_session.specs.Run.{RunsBy}
 
--- the state of a cursor: the pairs that were passed, those that are left, and how often the store has refused
+-- the state of a cursor: the pairs that were passed, those that are left, and what the map keeps
 pub record CursorState : Type 0 where
   pub passed : List (ℕ × ℕ)
   pub left : List (ℕ × ℕ)
-  pub refusals : ℕ
+  pub kept : Kept
 
 -- the state after a refusal: unchanged except for the store's count of its own refusals
 abbrev pub after_refusal : CursorState → Cause → CursorState
-after_refusal old Store = record old { refusals = old.refusals + 1 }
+after_refusal old Store = record old { kept = refused_once old.kept }
 after_refusal old Count = old
 
 -- a pair can be refused for a cause; the store may always refuse
 abbrev pub IsRefusable : CursorState → Cause → Type 0
 IsRefusable old Store = Unit {0}
-IsRefusable old Count = length old.passed + length old.left ≡ 2 ^ 64 - 1
+IsRefusable old Count = old.kept.limit ≤ length old.passed + length old.left
 
 -- From `old`, the machine may give this reply to the step and go to `new`.
 abbrev pub CursorMove : CursorState → CursorStep → Reply → CursorState → Type 0
@@ -79,7 +80,7 @@ abbrev pub state_at : Spot → CursorState
 state_at spot = record {
   passed = take spot.front (pairs_of spot.map);
   left = drop spot.front (pairs_of spot.map);
-  refusals = spot.map.refusals;
+  kept = spot.map.kept;
 }
 
 -- over stores that may refuse a node in these contents
@@ -90,7 +91,7 @@ module _ (MayRefuse : Content (Node ℕ ℕ) → Type 0) where
   abbrev pub Edits : (old : Spot) → CursorStep → Reply → (new : Spot) → Type 0
   Edits old Next (Pair key value) new = (a : Address) × WritesPlace nat_cmp old.map new.map a old.front key value value
   Edits old (Insert key value) Done new = (gap : Address) × (at : Address) × InsertsAt old.map new.map gap nat_cmp at (key, value)
-  Edits old (Insert key value) (Refused cause) new = (gap : Address) × IsRefusedAt old.map new.map gap MayRefuse cause
+  Edits old (Insert key value) (Refused cause) new = (gap : Address) × HasPlace old.map gap old.front × IsRefusedAt old.map new.map gap MayRefuse cause
   Edits old Remove (Pair key value) new = (at : Address) × (after : Address) × IsRemoved old.map new.map nat_cmp at (key, value) after
   Edits old step reply new = new ≡ old
 

@@ -1,9 +1,10 @@
 -- A session as a machine: the replies that it may give to a command, and its state after each.
--- Only a refusal by the store changes the count of refusals. A refusal with the cause `Count` changes nothing at all.
+-- Only a refusal by the store changes what is kept, which is its count of refusals and the greatest number of pairs. A refusal
+-- with the cause `Count` changes nothing at all.
 -- Read `MachineStep` first (the reply and the state, over a list of pairs), then `Handles` (the nodes). `IsStep` is
 -- both, between the states that the session stands for (`StandsFor`), with a well formed tree after it. `IsRun` is a
 -- list of commands with a reply to each, and `Runs`, which `run` cites, the same with the replies appended to a vector.
-use Rattle.std.specs.Prelude.{◌≡◌, ℕ, suc, ◌+◌, ◌-◌, ◌^◌, List, [], length, insert, remove, slice_get, Option, Some, None, Vec}
+use Rattle.std.specs.Prelude.{◌≡◌, ◌≤◌, ℕ, suc, List, [], length, insert, remove, slice_get, Option, Some, None, Vec}
 use Rattle.std.specs.FinMap as finite
 use Rattle.std.specs.Ordering.{nat_cmp}
 use Rattle.btree_item.specs.Pairs.{KeyFits, found, found_value, before, with_value}
@@ -12,7 +13,7 @@ use Rattle.btree_item.specs.declared.refused.Cause.{Cause}
 use Rattle.btree_item.specs.declared.refused.Cause.TheVariants.{Store, Count}
 use Rattle.btree_store.specs.Content.{Content}
 use Rattle.btree_node.specs.declared.node.Node.{Node}
-use Rattle.btree_shape.specs.TreeState.{TreeState, IsBTree, IsOccupiedIn, pairs_of}
+use Rattle.btree_shape.specs.TreeState.{Kept, TreeState, IsBTree, IsOccupiedIn, pairs_of, refused_once, rootless}
 use Rattle.btree_find.specs.Answers.{IsFoundAt, IsGapAt}
 use Rattle.btree_find.specs.Navigation.{HasPlace, IsNormalized}
 use Rattle.btree_edit.specs.Insert.{IsRefusedAtGap, InsertsByKey}
@@ -25,20 +26,19 @@ use Rattle.btree_session.specs.declared.command.Reply.TheVariants.{Nothing, Valu
 use Rattle.btree_session.specs.Held.{Held}
 use Rattle.btree_session.specs.Run.{IsRunBy, RunsBy}
 
--- the state of a session: its pairs by ascending keys, the place that it holds, if any, and how often its store has
--- refused
+-- the state of a session: its pairs by ascending keys, the place that it holds, if any, and what its map keeps
 pub record SessionState : Type 0 where
   pub pairs : List (ℕ × ℕ)
   pub place : Option ℕ
-  pub refusals : ℕ
+  pub kept : Kept
 
 -- the state with these pairs, in which no place is held
 abbrev pub let_go : SessionState → List (ℕ × ℕ) → SessionState
-let_go old pairs = record { pairs = pairs; place = None; refusals = old.refusals }
+let_go old pairs = record { pairs = pairs; place = None; kept = old.kept }
 
 -- the state with these pairs, in which this place is held
 abbrev pub holding : SessionState → List (ℕ × ℕ) → (place : ℕ) → SessionState
-holding old pairs place = record { pairs = pairs; place = Some place; refusals = old.refusals }
+holding old pairs place = record { pairs = pairs; place = Some place; kept = old.kept }
 
 -- the place that is held becomes this one, where this pair is
 abbrev pub MovesTo : (old : SessionState) → (place : ℕ) → ℕ × ℕ → (new : SessionState) → Type 0
@@ -46,13 +46,13 @@ MovesTo old place pair new = (slice_get old.pairs place ≡ Some pair) × (new �
 
 -- the state after a refusal: unchanged except for the store's count of its own refusals
 abbrev pub after_refusal : SessionState → Cause → SessionState
-after_refusal old Store = record old { refusals = old.refusals + 1 }
+after_refusal old Store = record old { kept = refused_once old.kept }
 after_refusal old Count = old
 
 -- a new pair can be refused for a cause; the store may always refuse
 abbrev pub IsRefusable : SessionState → Cause → Type 0
 IsRefusable old Store = Unit {0}
-IsRefusable old Count = length old.pairs ≡ 2 ^ 64 - 1
+IsRefusable old Count = old.kept.limit ≤ length old.pairs
 
 -- the reply with a value, if there is one
 abbrev pub value_reply : Option ℕ → Reply
@@ -107,7 +107,7 @@ IsHeldPlace map (Some a) place = (p : ℕ) × (place ≡ Some p) × HasPlace map
 pub record StandsFor (session : Held ℕ ℕ) (state : SessionState) : Type 0 where
   pub pairs : state.pairs ≡ pairs_of session.map
   pub place : IsHeldPlace session.map session.held state.place
-  pub refusals : state.refusals ≡ session.map.refusals
+  pub kept : state.kept ≡ session.map.kept
 
 -- the address of an item is held, in an unchanged map
 abbrev pub HoldsItem : (old new : Held ℕ ℕ) → Type 0
@@ -127,7 +127,7 @@ module _ (MayRefuse : Content (Node ℕ ℕ) → Type 0) where
   Handles old (Insert key value) (Refused cause) new = IsRefusedAtGap nat_cmp key old.map new.map MayRefuse cause × (new.held ≡ old.held)
   Handles old (Remove key) (Value value) new = (stored : ℕ) × RemovesByKey old.map new.map nat_cmp key (stored, value)
   Handles old (Remove key) Nothing new = new.map ≡ old.map
-  Handles old Clear Done new = new.map ≡ record { nodes = finite.empty; root = None; len = 0; refusals = old.map.refusals }
+  Handles old Clear Done new = new.map ≡ rootless finite.empty old.map.kept
   Handles old (Seek key) (Found value) new = (a : Address) × IsFoundAt nat_cmp key old.map a × (new.held ≡ Some a) × (new.map ≡ old.map)
   Handles old (Seek key) Gap new = (a : Address) × IsGapAt nat_cmp key old.map a × (new.held ≡ Some a) × (new.map ≡ old.map)
   Handles old Next (Pair key value) new = HoldsItem old new

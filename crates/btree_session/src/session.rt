@@ -1,7 +1,7 @@
 //! A session: a map, and commands that are run on it.
 ghost use Rattle.std.specs.Prelude.{◌≡◌, [], Some, None, length, IsOk, OnOk, OnErr};
 ghost use Rattle.std.specs.FinMap as map;
-ghost use Rattle.btree_shape.specs.TreeState.{IsOccupiedIn, item_of, pairs_of};
+ghost use Rattle.btree_shape.specs.TreeState.{IsOccupiedIn, item_of, pairs_of, rootless, unlimited};
 ghost use Rattle.btree_session.specs.Machine.{IsStep, Runs, value_reply};
 ghost use Rattle.btree_session.specs.Text.{HasCapacityFor};
 
@@ -41,7 +41,7 @@ impl<C: NodesMut<u64, u64>> Session<C> {
     /// Returns a session over an empty map, with a store made from `origin`. It holds no address, and allocates no memory.
     pub fn new(origin: C::Origin) -> Self
         ensures empty { pairs_of result.map ≡ [] }
-        ensures state { result.map ≡ record { nodes = map.empty; root = None; len = 0; refusals = 0 } }
+        ensures state { result.map ≡ rootless map.empty (unlimited 0) }
         ensures held { result.held ≡ None }
     {
         SessionOver {

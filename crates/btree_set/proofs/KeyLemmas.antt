@@ -1,5 +1,5 @@
 -- The keys of a map's list, as the elements of a set.
-use Rattle.std.proofs.Common.{◌≡◌, ◌∙◌, ◌↔◌, ℕ, ◌+◌, Bool, true, false, not, cond, IsSome, IsTrue, List, [], ◌∷◌, Option, Some, None, is_some, option_map, if◌then◌else◌, IfNone, IfSome, ◌&&◌, length, set, refl, sym, ap}
+use Rattle.std.proofs.Common.{◌≡◌, ◌∙◌, ◌↔◌, ℕ, ◌+◌, Bool, true, false, not, cond, IsSome, IsTrue, List, [], ◌∷◌, Option, Some, None, is_some, option_map, if◌then◌else◌, IfNone, IfSome, ◌&&◌, length, set, refl, sym, ap, subst, ◌≤◌}
 use Rattle.std.proofs.lemmas.List.{map-append, map-set}
 use Rattle.std.proofs.lemmas.Map.{keys-set_value}
 use Rattle.std.proofs.lemmas.Map.Entries.{length-keys_of}
@@ -17,14 +17,14 @@ use Rattle.btree_store.specs.Content.{Content}
 use Rattle.btree_item.specs.declared.refused.Cause.{Cause}
 use Rattle.btree_item.specs.declared.refused.Cause.TheVariants.{Count, Store}
 use Rattle.btree_node.specs.declared.node.Node.{Node}
-use Rattle.btree_shape.specs.TreeState.{TreeState, pairs_of}
+use Rattle.btree_shape.specs.TreeState.{Kept, TreeState, pairs_of}
 use Rattle.btree_raw.specs.Insertion as raw
 use Rattle.btree_edit.specs.Insert.{IsRefusedAtGap}
 use Rattle.btree_edit.specs.Replace as replace
 use Rattle.btree_edit.specs.Remove.{RemovesByKey}
 use Rattle.btree_map.specs.Comparison.{pair_cmp, pair_eq, pair_partial_cmp}
 use Rattle.btree_map.specs.Extension as many
-use Rattle.btree_set.specs.Elements.{IsRefused, SetState, before, inserted, removed, replaced, set_of, stored}
+use Rattle.btree_set.specs.Elements.{IsRefused, LeavesElements, SetState, before, inserted, removed, replaced, set_of, stored}
 use Rattle.btree_set.specs.Extension.{IsRefusedInTurn, Moves, inserted_all}
 
 module _ {T V : Type 0} where
@@ -119,22 +119,22 @@ inserted_all-keys cmp xs (y ∷ ys) =
 module _ {T : Type 0} (M : Content (Node T (Unit {0})) → Type 0) where
   -- a refused insertion, as the set has it
   refused-set : (id : ℕ) (old new : TreeState T (Unit {0})) (cause : Cause) → raw.IsRefused M id old new cause → new.len ≡ length (pairs_of new)
-      → IsRefused (set_of old) (set_of new) cause
-  refused-set id old new Store is counted = (ap (λ (s : TreeState T (Unit {0})). keys_of (pairs_of s)) is.0, ap (λ (s : TreeState T (Unit {0})). s.refusals) is.0)
+      → LeavesElements (set_of old) (set_of new) cause
+  refused-set id old new Store is counted = (ap (λ (s : TreeState T (Unit {0})). keys_of (pairs_of s)) is.0, ap (λ (s : TreeState T (Unit {0})). s.kept) is.0)
   refused-set id old new Count is counted = (
     ap set_of is.0,
-    length-keys_of (pairs_of old) ∙ ap (λ (s : TreeState T (Unit {0})). length (pairs_of s)) (sym is.0) ∙ sym counted
-        ∙ ap (λ (s : TreeState T (Unit {0})). s.len) is.0 ∙ is.1,
+    subst (λ n. old.kept.limit ≤ n) (ap (λ (s : TreeState T (Unit {0})). s.len) (sym is.0) ∙ counted
+        ∙ ap (λ (s : TreeState T (Unit {0})). length (pairs_of s)) is.0 ∙ sym (length-keys_of (pairs_of old))) is.1,
   )
 
   module _ (cmp : T → T → Ordering) (k : T) where
     pub gap-refused : (old new : TreeState T (Unit {0})) (cause : Cause) → IsRefusedAtGap cmp k old new M cause → new.len ≡ length (pairs_of new)
-        → IsRefused (set_of old) (set_of new) cause
-    gap-refused old new cause is counted = refused-set is.gap.id old new cause is.refused counted
+        → IsRefused cmp M k (set_of old) (set_of new) cause
+    gap-refused old new cause is counted = record { leaves = refused-set is.gap.id old new cause is.refused counted; at_gap = is }
 
-    pub turn-refused : (count : ℕ) (new : TreeState T (Unit {0})) (cause : Cause) → many.IsRefusedInTurn cmp M k count new cause → new.len ≡ length (pairs_of new)
-        → IsRefusedInTurn cmp k count (set_of new) cause
-    turn-refused count new cause is counted = record {
+    pub turn-refused : (kept : Kept) (new : TreeState T (Unit {0})) (cause : Cause) → many.IsRefusedInTurn cmp M k kept new cause → new.len ≡ length (pairs_of new)
+        → IsRefusedInTurn cmp M k kept (set_of new) cause
+    turn-refused kept new cause is counted = record {
       before = set_of is.before;
       uncounted = is.uncounted;
       absent = absent-keys cmp k (pairs_of is.before) is.absent;
@@ -209,6 +209,6 @@ moves-keys cmp old other x new rest m = record {
 }
 
 -- a refused insertion leaves the elements
-pub refused-elements : {T : Type 0} (old new : SetState T) (cause : Cause) → IsRefused old new cause → new.elements ≡ old.elements
+pub refused-elements : {T : Type 0} (old new : SetState T) (cause : Cause) → LeavesElements old new cause → new.elements ≡ old.elements
 refused-elements old new Store is = is.0
 refused-elements old new Count is = ap (λ (s : SetState _). s.elements) is.0

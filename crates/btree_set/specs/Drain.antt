@@ -49,7 +49,7 @@ module _ {F T : Type 0} (Step : F → T → Bool → F → Type 0) where
     pub left : drop front old.elements ≡ here ++ drop front' new.elements
     pub calls : Asks f here asked f'
     pub passed : take front' new.elements ≡ take front old.elements ++ picked false asked
-    pub uncounted : new.refusals ≡ old.refusals
+    pub uncounted : new.kept ≡ old.kept
 
   -- calls up to the first element that is picked, which is removed, or at all that were left
   abbrev pub Yields : F → F → (old : SetState T) → (front : ℕ) → (new : SetState T) → (front' : ℕ) → Option T → Type 0
@@ -64,7 +64,7 @@ module _ {F T : Type 0} (Step : F → T → Bool → F → Type 0) where
     pub last : F
     pub calls : Asks f (drop front old.elements) asked last
     pub elements : now.elements ≡ take front old.elements ++ picked false asked
-    pub uncounted : now.refusals ≡ old.refusals
+    pub uncounted : now.kept ≡ old.kept
 
 module _ {T C F O : Type 0} (calls : Mut F (Bor T × Unit {0}) Bool) where
   -- the first address is that of the place, and the closure may be called at each element that is left

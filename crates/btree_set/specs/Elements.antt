@@ -1,11 +1,11 @@
--- A set as contracts see it: its elements in order, and how often its store has refused a node. Drains alone name the tree
--- behind the elements.
+-- A set as contracts see it: its elements in order, and what is kept beside them: how often its store has refused a node, and
+-- the greatest number of elements. Drains and refusals alone name the tree behind the elements.
 -- An element is in a set by the order: `stored` is the equal element that is there. Insertion and removal are at the
 -- place of the element, which is the number of smaller ones (`before`).
-use Rattle.std.specs.Prelude.{◌≡◌, ℕ, ◌+◌, ◌-◌, ◌^◌, List, Option, is_some, length, refl, set, if◌then◌else◌}
+use Rattle.std.specs.Prelude.{◌≡◌, ◌≤◌, ℕ, List, Option, is_some, length, refl, set, if◌then◌else◌}
 use Rattle.std.specs.BTreeMap.Range.{range_contains}
 use Rattle.std.specs.Borrow.{Bor}
-use Rattle.std.specs.Coded.{Coded, code_by, coded_ℕ, coded_list, coded×}
+use Rattle.std.specs.Coded.{Coded, code_by, coded_list, coded×}
 use Rattle.std.specs.List.{count_by, filter, find, insert, remove}
 use Rattle.std.specs.Map.{keys_of}
 use Rattle.std.specs.Ordering.{is_eq, is_lt}
@@ -15,26 +15,27 @@ use Rattle.btree_store.specs.Content.{Content}
 use Rattle.btree_item.specs.declared.refused.Cause.{Cause}
 use Rattle.btree_item.specs.declared.refused.Cause.TheVariants.{Store, Count}
 use Rattle.btree_node.specs.declared.node.Node.{Node}
-use Rattle.btree_shape.specs.TreeState.{TreeState, pairs_of, tree_code}
+use Rattle.btree_shape.specs.TreeState.{Kept, TreeState, coded_kept, pairs_of, refused_once, tree_code}
+use Rattle.btree_edit.specs.Insert.{IsRefusedAtGap}
 use Rattle.btree_walk.specs.Bounds.{bound_key}
 
 pub record SetState (T : Type 0) : Type 0 where
   pub elements : List T
-  pub refusals : ℕ
+  pub kept : Kept
   pub tree : TreeState T (Unit {0})
 
 abbrev pub set_code : {T : Type 0} → Coded T → Coded (Node T (Unit {0})) → Coded (SetState T)
 set_code {T} code nodes =
     code_by
-    (List T × (ℕ × TreeState T (Unit {0})))
-    (coded× (coded_list code) (coded× coded_ℕ (tree_code nodes)))
-    (λ s. (s.elements, (s.refusals, s.tree)))
-    (λ p. record { elements = p.0; refusals = p.1.0; tree = p.1.1 })
+    (List T × (Kept × TreeState T (Unit {0})))
+    (coded× (coded_list code) (coded× coded_kept (tree_code nodes)))
+    (λ s. (s.elements, (s.kept, s.tree)))
+    (λ p. record { elements = p.0; kept = p.1.0; tree = p.1.1 })
     (λ _. refl)
 
 -- the keys of a map without values
 abbrev pub set_of : {T : Type 0} → TreeState T (Unit {0}) → SetState T
-set_of map = record { elements = keys_of (pairs_of map); refusals = map.refusals; tree = map }
+set_of map = record { elements = keys_of (pairs_of map); kept = map.kept; tree = map }
 
 module _ {T : Type 0} (cmp : T → T → Ordering) where
   -- how many elements are below x
@@ -57,16 +58,15 @@ module _ {T : Type 0} (cmp : T → T → Ordering) where
   abbrev pub removed : T → List T → List T
   removed x xs = if is_some (stored x xs) then remove xs (before x xs) else xs
 
--- an element was refused: only the count of refusals has changed, by one, or there are as many elements as can be counted
-abbrev pub IsRefused : {T : Type 0} → (old new : SetState T) → Cause → Type 0
-IsRefused old new Store = (new.elements ≡ old.elements) × (new.refusals ≡ old.refusals + 1)
-IsRefused old new Count = (new ≡ old) × (length old.elements ≡ 2 ^ 64 - 1)
+-- only the count of refusals has changed, by one, or nothing has, and there are as many elements as there may be
+abbrev pub LeavesElements : {T : Type 0} → (old new : SetState T) → Cause → Type 0
+LeavesElements old new Store = (new.elements ≡ old.elements) × (new.kept ≡ refused_once old.kept)
+LeavesElements old new Count = (new ≡ old) × (old.kept.limit ≤ length old.elements)
 
--- a clone of the nodes of some tree with these elements may fail
-pub record MayFailOn {T : Type 0} (MayFail : Content (Node T (Unit {0})) → Type 0) (elements : List T) : Type 0 where
-  pub tree : TreeState T (Unit {0})
-  pub same : keys_of (pairs_of tree) ≡ elements
-  pub fails : MayFail tree.nodes
+-- the insertion of x was refused at its gap in the tree
+pub record IsRefused {T : Type 0} (cmp : T → T → Ordering) (MayRefuse : Content (Node T (Unit {0})) → Type 0) (x : T) (old new : SetState T) (cause : Cause) : Type 0 where
+  pub leaves : LeavesElements old new cause
+  pub at_gap : IsRefusedAtGap cmp x old.tree new.tree MayRefuse cause
 
 -- the elements of a list between the two bounds of a range
 abbrev pub elements_between : {T : Type 0} → (T → T → Ordering) → Bound (Bor T) × Bound (Bor T) → List T → List T

@@ -1,12 +1,15 @@
 -- What insertions of many elements, one after another, leave of a set.
 -- Read `inserted_all` first. `Extends` says how far an iterator was stepped, and `Moves` the same of the set that `append`
 -- takes elements from. `IsRefusedInTurn` is the refusal of one of the elements.
-use Rattle.std.specs.Prelude.{◌≡◌, ℕ, List, [], ◌∷◌, ◌++◌, Option, None}
+use Rattle.std.specs.Prelude.{◌≡◌, List, [], ◌∷◌, ◌++◌, Option, None}
 use Rattle.std.specs.Borrow.{Bor}
 use Rattle.std.specs.Iterator.{YieldsThen}
 use Rattle.std.specs.Option.{option_copied}
 use Rattle.std.specs.declared.cmp.Ordering.{Ordering}
 use Rattle.btree_item.specs.declared.refused.Cause.{Cause}
+use Rattle.btree_store.specs.Content.{Content}
+use Rattle.btree_node.specs.declared.node.Node.{Node}
+use Rattle.btree_shape.specs.TreeState.{Kept}
 use Rattle.btree_set.specs.Elements.{IsRefused, SetState, inserted, stored}
 
 module _ {T : Type 0} (cmp : T → T → Ordering) where
@@ -29,12 +32,12 @@ module _ {T : Type 0} (cmp : T → T → Ordering) where
     pub split : other ≡ given ++ x ∷ rest
     pub elements : new ≡ inserted_all old given
 
-  -- the insertion of a new element was refused, when the store had counted `count` refusals; nothing has changed since
-  pub record IsRefusedInTurn (x : T) (count : ℕ) (new : SetState T) (cause : Cause) : Type 0 where
+  -- the insertion of a new element was refused, in a set that kept the same as at the start; nothing has changed since
+  pub record IsRefusedInTurn (MayRefuse : Content (Node T (Unit {0})) → Type 0) (x : T) (kept : Kept) (new : SetState T) (cause : Cause) : Type 0 where
     pub before : SetState T
-    pub uncounted : before.refusals ≡ count
+    pub uncounted : before.kept ≡ kept
     pub absent : stored cmp x before.elements ≡ None
-    pub refused : IsRefused before new cause
+    pub refused : IsRefused cmp MayRefuse x before new cause
 
 -- the steps of an iterator that lends elements, as steps that give copies
 abbrev pub copied_steps : {S T : Type 0} → (S → Option (Bor T) → S → Type 0) → S → Option T → S → Type 0

@@ -4,7 +4,6 @@ ghost use Rattle.std.specs.Cmp.{on_equiv, on_per, on_po, on_total};
 ghost use Rattle.std.specs.Cmp.Lexicographic.{lists_agrees, lists_equiv, lists_per, lists_po, lists_ties, lists_total, pointwise, slice_cmp, slice_partial_cmp};
 ghost use Rattle.std.specs.List.{flat_map};
 ghost use Rattle.btree_map.specs.Comparison.{writes-same};
-ghost use Rattle.btree_set.specs.Elements.{MayFailOn};
 
 use crate::BTreeSet;
 use btree_nodes::{CloneNodes, NodesMut};
@@ -37,8 +36,8 @@ impl<T: Ord + Clone, C: CloneNodes<T, ()>> BTreeSet<T, C> {
     pub fn clone(&self) -> Result<Self, AllocError>
         requires { (x copy : T) → T.is_clone x copy → copy ≡ x }
         ensures elements { IfOk result (λ copy. copy.elements ≡ self.now.elements) }
-        ensures uncounted { IfOk result (λ copy. copy.refusals ≡ 0) }
-        ensures may_fail { OnErr result (MayFailOn C.MayFail self.now.elements) }
+        ensures uncounted { IfOk result (λ copy. copy.kept ≡ record self.now.kept { refusals = 0 }) }
+        ensures may_fail { OnErr result (C.MayFail self.now.tree.nodes) }
     {
         Ok(BTreeSet {
             map: self.map.clone()?,

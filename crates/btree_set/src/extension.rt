@@ -4,6 +4,7 @@ ghost use Rattle.std.specs.Iterator.{IsFinite};
 ghost use Rattle.std.specs.Mem.{FitsInMemory};
 ghost use denote.Plain.{Nothing as unit_row};
 ghost use Rattle.btree_node.specs.contracts.node.Node.{the_row as node_row};
+ghost use Rattle.btree_shape.specs.TreeState.{unlimited};
 ghost use Rattle.btree_set.specs.Extension.{Extends, IsRefusedInTurn, Moves, copied_steps, inserted_all};
 
 use crate::BTreeSet;
@@ -25,14 +26,14 @@ impl<T: Ord + Drop, C: NodesMut<T, ()>> BTreeSet<T, C> {
         ensures swapped { self.old.elements ≡ [] → other.old.elements ≢ [] →
             (self.new ≡ other.old) × (other.new ≡ self.old) }
         ensures uncounted { OnOk result (self.old.elements ≢ [] →
-            self.new.refusals ≡ self.old.refusals) }
-        ensures other_uncounted { self.old.elements ≢ [] → other.new.refusals ≡ other.old.refusals }
+            self.new.kept ≡ self.old.kept) }
+        ensures other_uncounted { self.old.elements ≢ [] → other.new.kept ≡ other.old.kept }
 
         ensures stopped { IfErr result (λ r. Moves T.cmp self.old.elements
             other.old.elements r.key self.new.elements other.new.elements) }
         ensures had_elements { OnErr result (self.old.elements ≢ []) }
         ensures cause { IfErr result (λ r.
-            IsRefusedInTurn T.cmp r.key self.old.refusals self.new r.cause) }
+            IsRefusedInTurn T.cmp C.MayRefuse r.key self.old.kept self.new r.cause) }
     {
         match self.map.append(&mut other.map) {
             Ok(()) => return Ok(()),
@@ -53,12 +54,12 @@ impl<T: Ord + Drop, C: NodesMut<T, ()>> BTreeSet<T, C> {
         requires ends { IsFinite (I.remaining source.old) }
         ensures extended { OnOk result (Extends T.cmp I.next_gives
             self.old.elements source.old None self.new.elements source.new) }
-        ensures uncounted { OnOk result (self.new.refusals ≡ self.old.refusals) }
+        ensures uncounted { OnOk result (self.new.kept ≡ self.old.kept) }
 
         ensures stopped { IfErr result (λ r. Extends T.cmp I.next_gives
             self.old.elements source.old (Some r.key) self.new.elements source.new) }
         ensures cause { IfErr result (λ r.
-            IsRefusedInTurn T.cmp r.key self.old.refusals self.new r.cause) }
+            IsRefusedInTurn T.cmp C.MayRefuse r.key self.old.kept self.new r.cause) }
         ensures may_go_on { OnErr result (I.can_next source.new) }
         ensures still_ends { OnErr result (IsFinite (I.remaining source.new)) }
     {
@@ -82,12 +83,12 @@ impl<T: Ord + Drop, C: NodesMut<T, ()>> BTreeSet<T, C> {
         requires ends { IsFinite (I.remaining source.old) }
         ensures extended { OnOk result (Extends T.cmp (copied_steps I.next_gives)
             self.old.elements source.old None self.new.elements source.new) }
-        ensures uncounted { OnOk result (self.new.refusals ≡ self.old.refusals) }
+        ensures uncounted { OnOk result (self.new.kept ≡ self.old.kept) }
 
         ensures stopped { IfErr result (λ r. Extends T.cmp (copied_steps I.next_gives)
             self.old.elements source.old (Some r.key) self.new.elements source.new) }
         ensures cause { IfErr result (λ r.
-            IsRefusedInTurn T.cmp r.key self.old.refusals self.new r.cause) }
+            IsRefusedInTurn T.cmp C.MayRefuse r.key self.old.kept self.new r.cause) }
         ensures may_go_on { OnErr result (I.can_next source.new) }
         ensures still_ends { OnErr result (IsFinite (I.remaining source.new)) }
     {
@@ -113,11 +114,12 @@ impl<T: Ord + Drop, C: NodesMut<T, ()>> BTreeSet<T, C> {
         requires ends { IsFinite (I.remaining source.old) }
         ensures extended { IfOk result (λ set. Extends T.cmp I.next_gives
             [] source.old None set.elements source.new) }
-        ensures uncounted { IfOk result (λ set. set.refusals ≡ 0) }
+        ensures uncounted { IfOk result (λ set. set.kept ≡ unlimited 0) }
 
         ensures stopped { IfErr result (λ e. Extends T.cmp I.next_gives
             [] source.old (Some e.1.key) e.0.elements source.new) }
-        ensures cause { IfErr result (λ e. IsRefusedInTurn T.cmp e.1.key 0 e.0 e.1.cause) }
+        ensures cause { IfErr result (λ e.
+            IsRefusedInTurn T.cmp C.MayRefuse e.1.key (unlimited 0) e.0 e.1.cause) }
         ensures may_go_on { OnErr result (I.can_next source.new) }
         ensures still_ends { OnErr result (IsFinite (I.remaining source.new)) }
     {

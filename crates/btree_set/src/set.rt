@@ -5,6 +5,7 @@ ghost use Rattle.std.specs.Mem.{FitsInMemory};
 ghost use denote.Plain.{Nothing as unit_row};
 ghost use Rattle.btree_node.specs.contracts.node.Node.{the_row as node_row};
 ghost use Rattle.std.specs.Option.{option_copied};
+ghost use Rattle.btree_shape.specs.TreeState.{unlimited};
 ghost use Rattle.btree_set.specs.Elements.{IsRefused, inserted, removed, replaced, stored};
 
 use btree_ext::BTreeExt;
@@ -37,7 +38,7 @@ impl<T: Ord, C: NodesMut<T, ()>> BTreeSet<T, C> {
     pub fn new(origin: C::Origin) -> Self
         requires { FitsInMemory (node_row T.row unit_row) }
         ensures empty { result.elements ≡ [] }
-        ensures uncounted { result.refusals ≡ 0 }
+        ensures uncounted { result.kept ≡ unlimited 0 }
     {
         BTreeSet {
             map: BTreeMap::new(origin),
@@ -104,11 +105,11 @@ impl<T: Ord + Drop, C: NodesMut<T, ()>> BTreeSet<T, C> {
     pub fn insert(&mut self, element: T) -> Result<bool, Refused<T, ()>>
         ensures new { IfOk result (λ new. IsTrue new ↔ (stored T.cmp element self.old.elements ≡ None)) }
         ensures inserted { OnOk result (self.new.elements ≡ inserted T.cmp element self.old.elements) }
-        ensures uncounted { OnOk result (self.new.refusals ≡ self.old.refusals) }
+        ensures uncounted { OnOk result (self.new.kept ≡ self.old.kept) }
 
         ensures returned { IfErr result (λ r. r.key ≡ element) }
         ensures absent { OnErr result (stored T.cmp element self.old.elements ≡ None) }
-        ensures cause { IfErr result (λ r. IsRefused self.old self.new r.cause) }
+        ensures cause { IfErr result (λ r. IsRefused T.cmp C.MayRefuse element self.old self.new r.cause) }
     {
         match self.map.insert(element, ()) {
             Ok(replaced) => return Ok(replaced.is_none()),
@@ -124,11 +125,11 @@ impl<T: Ord + Drop, C: NodesMut<T, ()>> BTreeSet<T, C> {
     pub fn replace(&mut self, element: T) -> Result<Option<T>, Refused<T, ()>>
         ensures old { IfOk result (λ old. old ≡ stored T.cmp element self.old.elements) }
         ensures replaced { OnOk result (self.new.elements ≡ replaced T.cmp element self.old.elements) }
-        ensures uncounted { OnOk result (self.new.refusals ≡ self.old.refusals) }
+        ensures uncounted { OnOk result (self.new.kept ≡ self.old.kept) }
 
         ensures returned { IfErr result (λ r. r.key ≡ element) }
         ensures absent { OnErr result (stored T.cmp element self.old.elements ≡ None) }
-        ensures cause { IfErr result (λ r. IsRefused self.old self.new r.cause) }
+        ensures cause { IfErr result (λ r. IsRefused T.cmp C.MayRefuse element self.old self.new r.cause) }
     {
         match self.map.replace(element, ()) {
             Ok(replaced) => return Ok(first_of(replaced)),
@@ -144,7 +145,7 @@ impl<T: Ord + Drop, C: NodesMut<T, ()>> BTreeSet<T, C> {
     pub fn remove(&mut self, element: &T) -> bool
         ensures there { IsTrue result ↔ IsSome (stored T.cmp element.now self.old.elements) }
         ensures removed { self.new.elements ≡ removed T.cmp element.now self.old.elements }
-        ensures uncounted { self.new.refusals ≡ self.old.refusals }
+        ensures uncounted { self.new.kept ≡ self.old.kept }
     {
         self.map.remove_entry(element).is_some()
     }
@@ -153,7 +154,7 @@ impl<T: Ord + Drop, C: NodesMut<T, ()>> BTreeSet<T, C> {
     pub fn take(&mut self, element: &T) -> Option<T>
         ensures element { result ≡ stored T.cmp element.now self.old.elements }
         ensures removed { self.new.elements ≡ removed T.cmp element.now self.old.elements }
-        ensures uncounted { self.new.refusals ≡ self.old.refusals }
+        ensures uncounted { self.new.kept ≡ self.old.kept }
     {
         first_of(self.map.remove_entry(element))
     }
@@ -161,7 +162,7 @@ impl<T: Ord + Drop, C: NodesMut<T, ()>> BTreeSet<T, C> {
     /// Removes the least element, and returns it. Returns `None`, and nothing changes, if there are no elements. It compares no elements.
     pub fn pop_first(&mut self) -> Option<T>
         ensures rest { YieldsFirst (λ set. set.elements) self.old result self.new }
-        ensures uncounted { self.new.refusals ≡ self.old.refusals }
+        ensures uncounted { self.new.kept ≡ self.old.kept }
     {
         first_of(self.map.pop_first())
     }
@@ -169,7 +170,7 @@ impl<T: Ord + Drop, C: NodesMut<T, ()>> BTreeSet<T, C> {
     /// Removes the greatest element, and returns it. Returns `None`, and nothing changes, if there are no elements. It compares no elements.
     pub fn pop_last(&mut self) -> Option<T>
         ensures rest { YieldsLast (λ set. set.elements) self.old result self.new }
-        ensures uncounted { self.new.refusals ≡ self.old.refusals }
+        ensures uncounted { self.new.kept ≡ self.old.kept }
     {
         first_of(self.map.pop_last())
     }
@@ -179,7 +180,7 @@ impl<T: Ord, C: ClearNodes<T, ()>> BTreeSet<T, C> {
     /// Removes all elements. The count of refusals stays.
     pub fn clear(&mut self)
         ensures empty { self.new.elements ≡ [] }
-        ensures uncounted { self.new.refusals ≡ self.old.refusals }
+        ensures uncounted { self.new.kept ≡ self.old.kept }
     {
         self.map.clear();
     }

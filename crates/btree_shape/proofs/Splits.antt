@@ -5,8 +5,8 @@
 -- `IsRepaired`, the tree is well formed and has the pair at its place. (After a rebalancing it is `fixed-well` in
 -- Underflow/OffByOne.)
 -- Order: a node in two parts (TwoParts), the tree with them (Trees), where its addresses go (CutPositions,
--- NodeAddresses, KeptPositions, TreeAddresses), the nodes needed (Need), the step (Upward), and insertions (Claims to
--- InsertionAddresses).
+-- NodeAddresses, KeptPositions, TreeAddresses), the nodes needed (Need) and their greatest number (Room), the step
+-- (Upward), and insertions (Claims to InsertionAddresses).
 pub mod TwoParts
 pub mod Trees
 pub mod CutPositions
@@ -14,6 +14,7 @@ pub mod NodeAddresses
 pub mod KeptPositions
 pub mod TreeAddresses
 pub mod Need
+pub mod Room
 pub mod Upward
 pub mod Claims
 pub mod Insertion

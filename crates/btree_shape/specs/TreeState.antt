@@ -2,7 +2,7 @@
 -- A contract says that nothing changes by an equation of two states. The bound on the levels is the number of nodes, so
 -- the list is right for every tree, whatever its length. Read `TreeState`, `pairs_of` and `IsBTree` first. The others
 -- are the words of `Place.antt`, `Need.antt` and `Strain.antt` for a state.
-use Rattle.std.specs.Prelude.{◌≡◌, ℕ, suc, List, [], length, Option, Some, None, IsSome, option_map, refl}
+use Rattle.std.specs.Prelude.{◌≡◌, ℕ, suc, ◌+◌, ◌-◌, ◌^◌, List, [], length, Option, Some, None, IsSome, option_map, refl}
 use Rattle.std.specs.Coded.{Coded, code_by, coded×, coded_ℕ, coded_option}
 use Rattle.std.specs.declared.cmp.Ordering.{Ordering}
 use Rattle.std.specs.FinMap as map
@@ -17,23 +17,53 @@ use Rattle.btree_shape.specs.Represents.{Represents, represented}
 use Rattle.btree_shape.specs.Strain.{IsStrain}
 use Rattle.btree_shape.specs.WellFormed.{IsOffByOne, IsWellFormed}
 
--- the nodes under their numbers, the root's number, the number of pairs, and how often the store refused a node
+-- what no edit changes but a refusal: how often the store refused a node, and the greatest number of pairs
+pub record Kept : Type 0 where
+  pub refusals : ℕ
+  pub limit : ℕ
+
+abbrev pub coded_kept : Coded Kept
+coded_kept =
+    code_by
+    (ℕ × ℕ)
+    (coded× coded_ℕ coded_ℕ)
+    (λ k. (k.refusals, k.limit))
+    (λ p. record { refusals = p.0; limit = p.1 })
+    (λ _. refl)
+
+-- what is kept after a refusal by the store
+abbrev pub refused_once : Kept → Kept
+refused_once kept = record kept { refusals = kept.refusals + 1 }
+
+-- what a tree keeps that may have as many pairs as can be counted
+abbrev pub unlimited : (refusals : ℕ) → Kept
+unlimited refusals = record { refusals = refusals; limit = 2 ^ 64 - 1 }
+
+-- the nodes under their numbers, the root's number, the number of pairs, and what is kept beside them
 pub record TreeState (K V : Type 0) : Type 0 where
   pub nodes : Content (Node K V)
   pub root : Option ℕ
   pub len : ℕ
-  pub refusals : ℕ
+  pub kept : Kept
 
 abbrev pub tree_code : {K V : Type 0} → Coded (Node K V) → Coded (TreeState K V)
 tree_code {K} {V} code =
     code_by
-    (Content (Node K V) × (Option ℕ × (ℕ × ℕ)))
-    (coded× (map.code coded_ℕ code) (coded× (coded_option coded_ℕ) (coded× coded_ℕ coded_ℕ)))
-    (λ s. (s.nodes, (s.root, (s.len, s.refusals))))
-    (λ p. record { nodes = p.0; root = p.1.0; len = p.1.1.0; refusals = p.1.1.1 })
+    (Content (Node K V) × (Option ℕ × (ℕ × Kept)))
+    (coded× (map.code coded_ℕ code) (coded× (coded_option coded_ℕ) (coded× coded_ℕ coded_kept)))
+    (λ s. (s.nodes, (s.root, (s.len, s.kept))))
+    (λ p. record { nodes = p.0; root = p.1.0; len = p.1.1.0; kept = p.1.1.1 })
     (λ _. refl)
 
 module _ {K V : Type 0} where
+  -- a tree without a root, and so without pairs
+  abbrev pub rootless : Content (Node K V) → Kept → TreeState K V
+  rootless nodes kept = record { nodes = nodes; root = None; len = 0; kept = kept }
+
+  -- the same tree over a store that has refused nothing yet
+  abbrev pub unrefused : TreeState K V → TreeState K V
+  unrefused s = record s { kept = record s.kept { refusals = 0 } }
+
   -- the nodes of a store as a map of nodes
   abbrev pub views : Content (Node K V) → NodeMap (K × V)
   views nodes id = option_map view_of (map.get nodes id)

@@ -1,7 +1,8 @@
-//! Tests of how often the calls of a tree compare keys.
+//! Tests of the calls of a tree: how often they compare keys, and how many addresses a visit passes.
 #![tactic(auto)]
 
 #[cfg(test)]
 mod asserts;
 #[cfg(test)]
 mod counted;
+pub mod visits;

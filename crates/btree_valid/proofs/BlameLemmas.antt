@@ -13,7 +13,8 @@ use Rattle.btree_shape.specs.Focus.Subtree.{Subtree, count_at, items_under, view
 use Rattle.btree_shape.specs.TreeState.{views}
 use Rattle.btree_shape.proofs.LookUp.KeyInList.{rises}
 use Rattle.btree_valid.specs.Faults.{Allows, AreBetween}
-use Rattle.btree_valid.specs.Spots.{BeginsAt, BlamesAt, CanMeet, IsAnswerFor, freed, nearest_of}
+use Rattle.btree_valid.specs.Positions.{nearest_of}
+use Rattle.btree_valid.specs.Spots.{BeginsAt, BlamesAt, CanMeet, IsAnswerFor, freed}
 use Rattle.btree_valid.specs.declared.faults.Met.{Met}
 use Rattle.btree_valid.specs.declared.faults.Spot.{Spot}
 use Rattle.btree_valid.proofs.FaultLemmas.{not-leaf, own-is}

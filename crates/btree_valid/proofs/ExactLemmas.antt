@@ -18,7 +18,8 @@ use Rattle.btree_shape.specs.TreeState.{views}
 use Rattle.btree_shape.proofs.LookUp.KeyInList.{Rises, ascends}
 use Rattle.btree_shape.proofs.Paths.Frames.{total-append}
 use Rattle.btree_valid.specs.Faults.{AreBetween}
-use Rattle.btree_valid.specs.Spots.{CanMeet, FindsAt, HasFoundPart, MeetsLeaf, Suits, WasMore, least_between, nearest_of}
+use Rattle.btree_valid.specs.Positions.{nearest_of}
+use Rattle.btree_valid.specs.Spots.{CanMeet, FindsAt, HasFoundPart, MeetsLeaf, Suits, WasMore, least_between}
 use Rattle.btree_valid.specs.declared.faults.Met.{Met}
 use Rattle.btree_valid.specs.declared.faults.Spot.{Spot}
 use Rattle.btree_valid.proofs.VerdictLemmas.{least-one}
@@ -131,6 +132,7 @@ module _ {K V : Type 0} (content : Content (Node K V)) (cmp : K → K → Orderi
     pub height : ℕ
     pub parts : List (Subtree (K × V) height)
     pub all : length parts ≡ index
+    pub some : 0 < index
     pub within : index ≤ length (children_of v)
     pub low : spot.level + suc height < 32
     pub can : CanMeet (spot.level + suc height) met
@@ -160,6 +162,7 @@ module _ {K V : Type 0} (content : Content (Node K V)) (cmp : K → K → Orderi
           height = h;
           parts = f.part ∷ [];
           all = omega arith;
+          some = omega arith;
           within = omega arith;
           low = let l = f.begins.low in omega arith;
           can = subst (λ d. CanMeet d met) deep (subst (λ l. IfSome l (λ first. first ≡ below.level + h)) counted.leaves f.can);
@@ -187,6 +190,7 @@ module _ {K V : Type 0} (content : Content (Node K V)) (cmp : K → K → Orderi
           height = h;
           parts = w.parts ++ f.part ∷ [];
           all = let l = length-append w.parts (f.part ∷ []) in omega arith;
+          some = omega arith;
           within = omega arith;
           low = w.low;
           can = w.can;

@@ -15,7 +15,8 @@ use Rattle.btree_shape.specs.Represents.{numbers_under}
 use Rattle.btree_shape.specs.TreeState.{views}
 use Rattle.btree_shape.proofs.Paths.Frames.{top-view}
 use Rattle.btree_shape.proofs.Trees.Sizes.{view-size}
-use Rattle.btree_valid.specs.Spots.{BeginsAt, CanMeet, HasMet, IsFewer, Meets, MeetsAt, Suits, nearest_of}
+use Rattle.btree_valid.specs.Positions.{nearest_of}
+use Rattle.btree_valid.specs.Spots.{BeginsAt, CanMeet, HasMet, IsFewer, Meets, MeetsAt, Suits}
 use Rattle.btree_valid.specs.declared.faults.Met.{Met}
 use Rattle.btree_valid.specs.declared.faults.Spot.{Spot}
 use Rattle.btree_valid.proofs.SuitsLemmas.{ChildAt, all-suit, child-at, items-total, numbers-total, numbers_in, parts-count, parts_under}

@@ -13,3 +13,6 @@ pub mod ExactLemmas
 pub mod TreeLemmas
 pub mod OnceLemmas
 pub mod OffByOneLemmas
+pub mod PartNames
+pub mod NameLemmas
+pub mod EndLemmas

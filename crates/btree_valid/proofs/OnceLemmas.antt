@@ -65,6 +65,26 @@ module _ {T : Type 0} where
             omega arith
       ]
 
+  -- used numbers, none twice, are at most as many as those of the content
+  pub listed-low : (ns : List ℕ) (m : Content T) → ((n : ℕ) → times_listed n ns ≤ times_used (get m n)) → length ns ≤ len m
+  listed-low [] m few = omega arith
+  listed-low (i ∷ ns) m few =
+      let u = used-at (get m i) (let f = few i in let s = one-self i in omega arith) in
+      let l = without-one m i u.0 u.1 in
+      let rest = listed-low ns (remove m i) (λ n. elim (same-or n i) [
+        | inl at ↦
+            let f = few n in
+            let s : one n i ≡ 1 = subst (λ z. one n z ≡ 1) at (one-self n) in
+            let w = used-low (get m n) in
+            omega arith
+        | inr other ↦
+            let g : times_used (get (remove m i) n) ≡ times_used (get m n) = ap times_used (get-remove_other m i n other) in
+            let f = few n in
+            let z = one-other n i other in
+            omega arith
+      ]) in
+      omega arith
+
 -- 1 if two keys are equal, else 0
 abbrev alike : Ordering → ℕ
 alike Less = 0

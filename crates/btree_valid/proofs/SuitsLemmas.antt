@@ -13,7 +13,8 @@ use Rattle.btree_shape.specs.Represents.{numbers_under}
 use Rattle.btree_shape.proofs.LookUp.KeyInList.{Rises, ascends, rises, rises-left, rises-right}
 use Rattle.btree_shape.proofs.Paths.Frames.{AllByRecursion-left, AllByRecursion-right}
 use Rattle.btree_valid.specs.Faults.{AreBetween}
-use Rattle.btree_valid.specs.Spots.{Suits, nearest_of}
+use Rattle.btree_valid.specs.Positions.{nearest_of}
+use Rattle.btree_valid.specs.Spots.{Suits}
 use Rattle.btree_valid.proofs.VerdictLemmas.{least-most}
 
 module _ {A : Type 0} (h : ℕ) where

@@ -18,7 +18,7 @@ use Rattle.btree_shape.specs.Focus.Search.{levels_below}
 use Rattle.btree_shape.specs.Focus.Subtree.{Holds, Subtree, count_at, id_of, items_under, most_at, times_under, view_at}
 use Rattle.btree_shape.specs.Lists.{times_listed}
 use Rattle.btree_shape.specs.Represents.{Represents, numbers_under, represented}
-use Rattle.btree_shape.specs.TreeState.{IsBTree, TreeState, node_map, pairs_under, views}
+use Rattle.btree_shape.specs.TreeState.{IsBTree, TreeState, node_map, pairs_under, views, unlimited}
 use Rattle.btree_shape.specs.WellFormed.{IsNearlySized, IsRooted, IsSized, IsWellFormed, least_allowed, times_used}
 use Rattle.btree_shape.proofs.LookUp.KeyInList.{rises}
 use Rattle.btree_shape.proofs.Paths.Frames.{one-other, top-view}
@@ -35,11 +35,11 @@ use Rattle.btree_valid.specs.Faults.{AreBetween, SuitsNode}
 use Rattle.btree_valid.specs.Spots.{FindsAt, FindsTree, Suits, least_between}
 use Rattle.btree_valid.specs.declared.faults.Met.{Met}
 use Rattle.btree_valid.specs.declared.faults.Spot.{Spot}
-use Rattle.btree_valid.proofs.OnceLemmas.{all-used, few}
+use Rattle.btree_valid.proofs.OnceLemmas.{all-used, few, listed-low}
 use Rattle.btree_valid.proofs.VerdictLemmas.{own-parent}
 
 -- a part that suits at a spot, with the parent and the separators there by other names
-retarget : {K V : Type 0} (cmp : K → K → Ordering) (node_at : NodeMap (K × V)) (h : ℕ) (t : Subtree (K × V) h) (min max a b : Option K) (parent p : Option ℕ) → min ≡ a → max ≡ b → parent ≡ p → Suits cmp min max node_at parent h t → Suits cmp a b node_at p h t
+pub retarget : {K V : Type 0} (cmp : K → K → Ordering) (node_at : NodeMap (K × V)) (h : ℕ) (t : Subtree (K × V) h) (min max a b : Option K) (parent p : Option ℕ) → min ≡ a → max ≡ b → parent ≡ p → Suits cmp min max node_at parent h t → Suits cmp a b node_at p h t
 retarget cmp node_at h t min max a b parent p near far up s =
     subst (λ z. Suits cmp a b node_at z h t) up (subst (λ z. Suits cmp a z node_at parent h t) far (subst (λ z. Suits cmp z max node_at parent h t) near s))
 
@@ -82,6 +82,16 @@ module _ {K V : Type 0} (content : Content (Node K V)) (cmp : K → K → Orderi
       | inr other ↦ let z = below-top n v other some at in let z0 = z.0 in let z1 = z.1 in let l = least-nearly root n in (omega arith, omega arith)
     ]
 
+    -- its numbers are at most as many as those of the store
+    pub numbers-low : length (numbers_under (views content) h (id_of (K × V) h t)) ≤ finite.len content
+    numbers-low =
+        let low = few cmp laws (views content) root root h t here s.holds (rises cmp (items_under (K × V) h t) s.ascends) nearly in
+        listed-low (numbers_under (views content) h (id_of (K × V) h t)) content (λ m.
+        let q = numbers-subtree (K × V) (views content) m h None t s.holds in
+        let l = low m in
+        let z = used-mapped view_of (finite.get content m) in
+        omega arith)
+
     module _ (count : finite.len content ≡ length (numbers_under (views content) h (id_of (K × V) h t))) where
       listed : (n : ℕ) → times_listed n (numbers_under (views content) h (id_of (K × V) h t)) ≡ times_under (K × V) h n t
       listed n = numbers-subtree (K × V) (views content) n h None t s.holds
@@ -123,7 +133,7 @@ module _ {K V : Type 0} (content : Content (Node K V)) (cmp : K → K → Orderi
       let here : id_of (K × V) h f.part ≡ root = f.begins.here ∙ id in
       let all_items : len ≡ length (items_under (K × V) h f.part) = (let e : Some len ≡ Some (length (items_under (K × V) h f.part) + 0) = sym items ∙ f.items 0 none in let g : len ≡ length (items_under (K × V) h f.part) + 0 = cc in omega arith) in
       let all_nodes : nodes ≡ length (numbers_under (views content) h (id_of (K × V) h f.part)) = (let e : Some nodes ≡ Some (length (numbers_under (views content) h (id_of (K × V) h f.part)) + 0) = sym left ∙ f.nodes 0 gone in let g : nodes ≡ length (numbers_under (views content) h (id_of (K × V) h f.part)) + 0 = cc in omega arith) in
-      is-tree cmp (record { nodes = content; root = Some root; len = len; refusals = 0 }) (items_under (K × V) h f.part) (record {
+      is-tree cmp (record { nodes = content; root = Some root; len = len; kept = unlimited 0 }) (items_under (K × V) h f.part) (record {
         ascends = suits.ascends;
         formed = rooted laws root h f.part here suits (sym count ∙ all_nodes);
         counted = all_items;

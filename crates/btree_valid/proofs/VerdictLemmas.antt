@@ -96,7 +96,7 @@ module _ {K V : Type 0} (cmp : K → K → Ordering) where
     ends None f = tt
     ends (Some k) f = key-at V cmp (λ y. cmp y k ≡ Less) (items_of own) _ (own-all V cmp (λ x. cmp x.0 k ≡ Less) h parent t f)
 
-    passes : (fault : Fault) → PassesCheck cmp parent min max (parent_of own) (most_of own) (keys_of (items_of own)) fault
+    pub passes : (fault : Fault) → PassesCheck cmp parent min max (parent_of own) (most_of own) (keys_of (items_of own)) fault
     passes WrongParent = own-parent V cmp h parent t
     passes Overflowing = let c = count in let m = view-most (K × V) h parent t in let f = s.filled.1 in omega arith
     passes Underflowing = λ no. let c = count in let l = least-three min max no in let f = s.filled.0 in omega arith

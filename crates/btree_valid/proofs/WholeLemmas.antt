@@ -14,7 +14,7 @@ use Rattle.btree_shape.specs.Focus.Path.{Path, items_after, items_before, least_
 use Rattle.btree_shape.specs.Focus.Search.{levels_below}
 use Rattle.btree_shape.specs.Focus.Subtree.{Holds, IsFilled, Subtree, count_at, id_of, items_under, view_at}
 use Rattle.btree_shape.specs.Represents.{numbers_under, represented}
-use Rattle.btree_shape.specs.TreeState.{IsBTree, TreeState, node_map, pairs_under, views}
+use Rattle.btree_shape.specs.TreeState.{IsBTree, TreeState, node_map, pairs_under, views, unlimited}
 use Rattle.btree_shape.specs.WellFormed.{IsRooted, IsSized, IsWellFormed}
 use Rattle.btree_shape.proofs.LookUp.KeyInList.{Rises, ascends, rises, rises-left, rises-right}
 use Rattle.btree_shape.proofs.Paths.Frames.{top-view}
@@ -39,7 +39,7 @@ module _ {K V : Type 0} (content : Content (Node K V)) (cmp : K → K → Orderi
   -- without a root nothing may come
   pub none-comes : (nodes : ℕ) → nodes ≡ finite.len content → (met : Met) → met.items ≡ Some len → met.nodes ≡ Some nodes → MeetsTree content cmp None len (Ok met)
   none-comes nodes count met items left w =
-      let few = few-nodes cmp (record { nodes = content; root = None; len = len; refusals = 0 }) w in
+      let few = few-nodes cmp (record { nodes = content; root = None; len = len; kept = unlimited 0 }) w in
       let none : len ≡ 0 = w.counted in
       let gone : nodes ≡ 0 = omega arith in
       (met, refl, items ∙ ap Some none, left ∙ ap Some gone)

@@ -16,7 +16,7 @@ use Rattle.btree_view.specs.Checks.{is_judged_as_root}
 use Rattle.btree_view.specs.View.{View, parent_of, size_of}
 use Rattle.btree_shape.specs.Focus.Search.{levels_below}
 use Rattle.btree_shape.specs.Represents.{represented}
-use Rattle.btree_shape.specs.TreeState.{TreeState, IsBTree, node_map}
+use Rattle.btree_shape.specs.TreeState.{TreeState, IsBTree, node_map, unlimited}
 
 -- the keys are between the separators, where these are given
 pub record AreBetween {K V : Type 0} (cmp : K → K → Ordering) (min max : Option K) (xs : List (K × V)) : Type 0 where
@@ -25,7 +25,7 @@ pub record AreBetween {K V : Type 0} (cmp : K → K → Ordering) (min max : Opt
 
 -- the nodes are exactly one well formed tree with this root and this length
 abbrev pub AreBTree : {K V : Type 0} → (cmp : K → K → Ordering) → Content (Node K V) → (root : Option ℕ) → (len : ℕ) → Type 0
-AreBTree cmp nodes root len = IsBTree cmp (record { nodes = nodes; root = root; len = len; refusals = 0 })
+AreBTree cmp nodes root len = IsBTree cmp (record { nodes = nodes; root = root; len = len; kept = unlimited 0 })
 
 -- how many levels are below a node
 abbrev pub depth_below : {K V : Type 0} → TreeState K V → ℕ → ℕ

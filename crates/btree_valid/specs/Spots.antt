@@ -27,11 +27,6 @@ IsFewer left count after = (n : ℕ) → left ≡ Some (count + n) → after ≡
 abbrev pub WasMore : (after : Option ℕ) → (count : ℕ) → (left : Option ℕ) → Type 0
 WasMore after count left = (n : ℕ) → after ≡ Some n → left ≡ Some (count + n)
 
--- the nearer separator, if there is one, and else the farther
-abbrev pub nearest_of : {K : Type 0} → (near far : Option K) → Option K
-nearest_of None far = far
-nearest_of (Some key) far = Some key
-
 -- the fewest items of a node between two separators, which is judged as the root without them
 abbrev pub least_between : {K : Type 0} → (min max : Option K) → ℕ
 least_between min max = if is_judged_as_root min max then 1 else MIN_ITEMS

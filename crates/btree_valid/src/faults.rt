@@ -1,15 +1,18 @@
 //! Checks the nodes of a store of any content, and finds the first fault.
-ghost use Rattle.std.specs.Prelude.{◌≡◌, ◌+◌, ◌<◌, None, IfOk, Some, Ok, Err, option_copied, slice_get};
+ghost use Rattle.std.specs.Prelude.{◌≡◌, ◌+◌, ◌<◌, None, IfErr, IfOk, Some, Ok, Err, option_copied, slice_get};
 ghost use Rattle.std.specs.FinMap as map;
 ghost use Rattle.std.specs.Mem.{FitsInMemory};
-ghost use Rattle.btree_item.specs.declared.fault.Fault.TheVariants.{NoNode};
+ghost use Rattle.btree_item.specs.declared.fault.Fault.TheVariants.{NoNode, NotBalanced};
 ghost use Rattle.btree_item.specs.declared.TheConstants.{MAX_LEVELS};
 ghost use Rattle.btree_node.specs.Node.{view_of};
 ghost use Rattle.btree_node.specs.contracts.node.Node.{the_row as node_row};
 ghost use Rattle.btree_view.specs.Separators.{separator_after, separator_before};
 ghost use Rattle.btree_view.specs.View.{children_of};
 ghost use Rattle.btree_valid.specs.Faults.{AcceptsAmong, AreBTree, BlamesAmong, SuitsAmong};
-ghost use Rattle.btree_valid.specs.Spots.{BlamesAt, CanMeet, FindsAt, FindsTree, IsFewer, MeetsAt, MeetsLeaf, MeetsTree, WasMore, nearest_of};
+ghost use Rattle.btree_valid.specs.Names.{NamesAt};
+ghost use Rattle.btree_valid.specs.Positions.{nearest_of, start_spot};
+ghost use Rattle.btree_valid.specs.Spots.{BlamesAt, CanMeet, FindsAt, FindsTree, IsFewer, MeetsAt, MeetsLeaf, MeetsTree, WasMore};
+ghost use Rattle.btree_valid.specs.Verdicts.{IsVerdict, IsVerdictBelow, NamesTree};
 
 use btree_item::{Fault, MAX_LEVELS};
 use btree_node::Node;
@@ -74,6 +77,7 @@ fn count_node(met: Met, items: usize) -> Met
 fn meet_leaf(met: Met, level: usize) -> Result<Met, Fault>
     ensures always { CanMeet level met → result ≡ Ok (record met { leaf_level = Some level }) }
     ensures only { IfOk result (MeetsLeaf level met) }
+    ensures fault { IfErr result (λ fault. (fault ≡ NotBalanced) × (CanMeet level met → ⊥)) }
 {
     match met.leaf_level {
         Some(first) => if first == level {
@@ -126,6 +130,7 @@ fn check_under<'a, K: Ord + 'a, V: 'a, C: Nodes<K, V>>(
     ensures only { FindsAt (C.content nodes.now) K.cmp spot.entry met result }
     ensures always { MeetsAt (C.content nodes.now) K.cmp spot.entry met result }
     ensures blames { BlamesAt (C.content nodes.now) K.cmp spot.entry met result }
+    ensures names { NamesAt (C.content nodes.now) K.cmp spot.entry met result }
 {
     let Some(node) = nodes.get(spot.id) else {
         return Err(Fault::NoNode);
@@ -157,6 +162,7 @@ fn check_root<K: Ord, V, C: Nodes<K, V>>(
     requires { FitsInMemory (node_row K.row V.row) }
     ensures always { MeetsTree (C.content nodes.now) K.cmp root len result }
     ensures only { FindsTree (C.content nodes.now) K.cmp root len result }
+    ensures names { NamesTree K.cmp (C.content nodes.now) root len result }
 {
     let start = Met {
         leaf_level: None,
@@ -188,6 +194,7 @@ pub fn validate<K: Ord, V, C: Nodes<K, V>>(
     requires { FitsInMemory (node_row K.row V.row) }
     ensures accepts { AreBTree K.cmp (C.content nodes.now) root len → result ≡ Ok tt }
     ensures only { result ≡ Ok tt → AreBTree K.cmp (C.content nodes.now) root len }
+    ensures verdict { IsVerdict K.cmp (C.content nodes.now) root len result }
 {
     let after = check_root(nodes, root, len)?;
     if after.items != Some(0) {
@@ -217,6 +224,8 @@ pub fn validate_node<K: Ord, V, C: Nodes<K, V>>(
     ensures only { SuitsAmong K.cmp (C.content nodes.now) id parent (option_copied min.entry) (option_copied max.entry) result }
     ensures blames { BlamesAmong K.cmp (C.content nodes.now) id parent
         (option_copied min.entry) (option_copied max.entry) result }
+    ensures verdict { IsVerdictBelow K.cmp (C.content nodes.now)
+        (start_spot id parent (option_copied min.entry) (option_copied max.entry)) result }
 {
     let start = Met {
         leaf_level: None,

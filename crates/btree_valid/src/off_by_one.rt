@@ -48,21 +48,24 @@ fn least_items(root: usize, exempt: usize, id: usize) -> usize
     if id == root { 1 } else { MIN_ITEMS }
 }
 
+// Returns how many items more than the most a node may have: node `exempt` may have one.
+fn excess(exempt: usize, id: usize) -> usize
+    ensures { result ≡ excess_allowed exempt id }
+{
+    if id == exempt {
+        return 1;
+    }
+    0
+}
+
 // Returns the most items of a node; node `exempt` may have one too many.
 fn most_items<K, V>(node: &Node<K, V>, exempt: usize, id: usize) -> usize
     ensures { result ≡ most_of (view_of node.now) + excess_allowed exempt id }
 {
+    let more = excess(exempt, id);
     match node {
-        Node::Leaf(_) => if id == exempt {
-            MAX_LEAF_ITEMS + 1
-        } else {
-            MAX_LEAF_ITEMS
-        },
-        Node::Internal(_) => if id == exempt {
-            MAX_INTERNAL_ITEMS + 1
-        } else {
-            MAX_INTERNAL_ITEMS
-        },
+        Node::Leaf(_) => return MAX_LEAF_ITEMS + more,
+        Node::Internal(_) => return MAX_INTERNAL_ITEMS + more,
     }
 }
 

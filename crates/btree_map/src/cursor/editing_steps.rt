@@ -1,12 +1,11 @@
 //! Where an editing cursor starts, and its steps.
-ghost use mir.Syntax.{named};
 ghost use Rattle.std.specs.Prelude.{◌≡◌, ◌↔◌, ◌<◌, ◌≤◌, ℕ, [], Some, IsSome, IsTrue, IfErr, IfNone, IfSome, OnOk, length, option_copied, slice_get};
-ghost use Rattle.std.specs.Borrow.{Lends, sem};
+ghost use Rattle.std.specs.Borrow.{sem};
 ghost use Rattle.btree_shape.specs.TreeAddresses.{item_addresses_of};
 ghost use Rattle.btree_shape.specs.TreeState.{IsValidIn, pairs_of};
 ghost use Rattle.btree_find.specs.Navigation.{HasPlace};
-ghost use Rattle.btree_map.specs.Editing.{FitsBetween, InsertsEntry, PassesEntry, RefusesEntry, RemovesEntry, WritesPassed, WritesPeeked, left_of, passed_of, past_first, with_first};
-ghost use Rattle.btree_map.specs.contracts.cursor.editing.EntriesMut.{the_row};
+ghost use Rattle.btree_map.specs.Editing.{FitsBetween, InsertsEntry, PassesEntry, RefusesEntry, RemovesEntry, WritesPassed, WritesPeeked, left_of, passed_of};
+ghost use Rattle.btree_map.specs.CursorLent.{lends_passed, lends_peeked};
 
 use crate::BTreeMap;
 use crate::cursor::EntriesMut;
@@ -161,12 +160,8 @@ impl<'a, K: Ord + Drop, V: Drop, C: NodesMut<K, V>> EntriesMut<'a, K, V, C> {
     /// A pair must be left: `size_hint` decides that. `next` returns `None` if there is none.
     pub fn next_pair(&mut self) -> (&K, &mut V)
         requires { 0 < length (left_of self.old) }
-        ensures* writes_back { sem 𝓛 (Lends
-            (the_row (record { mir = named 1; lft = [] }) K.row V.row C.row C.Origin.row
-            (record { cmp = K.cmp }) (record { eq = K.eq }) (record { partial_cmp = K.partial_cmp })
-            (record { MayRefuse = C.MayRefuse; Fits = C.Fits; written = C.written })
-            (record { content = C.content; refusals = C.refusals; CanHold = C.CanHold }))
-            V.row self.entry result.1 (past_first self.old)) }
+        ensures* writes_back { sem 𝓛 (lends_passed
+            K.row V.row C.row C.Origin.row self.entry result.1) }
         ensures pair { slice_get (left_of self.old) 0 ≡ Some (result.0.now, result.1.now) }
         ensures writes { (w : V) → WritesPassed self.old result.0.now result.1.now w }
     {
@@ -184,12 +179,8 @@ impl<'a, K: Ord + Drop, V: Drop, C: NodesMut<K, V>> EntriesMut<'a, K, V, C> {
     /// Returns the key of the first pair that is left, and its value for writing, as `next_pair` does, but does not pass it.
     pub fn peek_pair(&mut self) -> (&K, &mut V)
         requires { 0 < length (left_of self.old) }
-        ensures* writes_back { sem 𝓛 (Lends
-            (the_row (record { mir = named 1; lft = [] }) K.row V.row C.row C.Origin.row
-            (record { cmp = K.cmp }) (record { eq = K.eq }) (record { partial_cmp = K.partial_cmp })
-            (record { MayRefuse = C.MayRefuse; Fits = C.Fits; written = C.written })
-            (record { content = C.content; refusals = C.refusals; CanHold = C.CanHold }))
-            V.row self.entry result.1 (with_first self.old)) }
+        ensures* writes_back { sem 𝓛 (lends_peeked
+            K.row V.row C.row C.Origin.row self.entry result.1) }
         ensures pair { slice_get (left_of self.old) 0 ≡ Some (result.0.now, result.1.now) }
         ensures writes { (w : V) → WritesPeeked self.old result.0.now result.1.now w }
     {

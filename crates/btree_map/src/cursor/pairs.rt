@@ -1,12 +1,11 @@
 //! The steps of a cursor over pairs.
-ghost use mir.Syntax.{named};
 ghost use Rattle.std.specs.Prelude.{◌≡◌, ◌+◌, ◌-◌, ◌<◌, ℕ, [], Some, IfSome, IfNone, length, slice_get};
-ghost use Rattle.std.specs.Borrow.{Lends, sem};
+ghost use Rattle.std.specs.Borrow.{sem};
 ghost use Rattle.btree_shape.specs.TreeAddresses.{item_addresses_of};
 ghost use Rattle.btree_shape.specs.TreeState.{IsBTree, IsOccupiedIn, pairs_of};
 ghost use Rattle.btree_shape.specs.Visits.{prior};
-ghost use Rattle.btree_map.specs.Cursor.{WritesFirst, WritesLast, pairs_left, past_back, past_front};
-ghost use Rattle.btree_map.specs.contracts.cursor.IterMut.{the_row};
+ghost use Rattle.btree_map.specs.Cursor.{WritesFirst, WritesLast, pairs_left};
+ghost use Rattle.btree_map.specs.CursorLent.{lends_back, lends_front};
 
 use crate::BTreeMap;
 use crate::cursor::IterMut;
@@ -75,12 +74,8 @@ impl<'a, K: Ord + Drop, V: Drop, C: NodesMut<K, V>> IterMut<'a, K, V, C> {
     /// A pair must be left: `len` decides that. `next` returns `None` if there is none.
     pub fn next_pair(&mut self) -> (&K, &mut V)
         requires { self.old.front < self.old.back }
-        ensures* writes_back { sem 𝓛 (Lends
-            (the_row (record { mir = named 1; lft = [] }) K.row V.row C.row C.Origin.row
-            (record { cmp = K.cmp }) (record { eq = K.eq }) (record { partial_cmp = K.partial_cmp })
-            (record { MayRefuse = C.MayRefuse; Fits = C.Fits; written = C.written })
-            (record { content = C.content; refusals = C.refusals; CanHold = C.CanHold }))
-            V.row self.entry result.1 (past_front self.old)) }
+        ensures* writes_back { sem 𝓛 (lends_front
+            K.row V.row C.row C.Origin.row self.entry result.1) }
         ensures pair { slice_get (pairs_of self.old.map.now) self.old.front ≡
             Some (result.0.now, result.1.now) }
         ensures writes { (w : V) → WritesFirst self.old result.0.now result.1.now w }
@@ -96,12 +91,8 @@ impl<'a, K: Ord + Drop, V: Drop, C: NodesMut<K, V>> IterMut<'a, K, V, C> {
     /// Returns the key of the last pair that is left, and its value for writing, as `next_pair` does of the first one.
     pub fn next_back_pair(&mut self) -> (&K, &mut V)
         requires { self.old.front < self.old.back }
-        ensures* writes_back { sem 𝓛 (Lends
-            (the_row (record { mir = named 1; lft = [] }) K.row V.row C.row C.Origin.row
-            (record { cmp = K.cmp }) (record { eq = K.eq }) (record { partial_cmp = K.partial_cmp })
-            (record { MayRefuse = C.MayRefuse; Fits = C.Fits; written = C.written })
-            (record { content = C.content; refusals = C.refusals; CanHold = C.CanHold }))
-            V.row self.entry result.1 (past_back self.old)) }
+        ensures* writes_back { sem 𝓛 (lends_back
+            K.row V.row C.row C.Origin.row self.entry result.1) }
         ensures pair { slice_get (pairs_of self.old.map.now) (self.old.back - 1) ≡
             Some (result.0.now, result.1.now) }
         ensures writes { (w : V) → WritesLast self.old result.0.now result.1.now w }

@@ -1,10 +1,9 @@
 //! The steps of a cursor over a range.
-ghost use mir.Syntax.{named};
 ghost use Rattle.std.specs.Prelude.{◌≡◌, ◌-◌, ◌↔◌, [], Some, true, IfSome, IfNone, IsTrue, length, nat_lt, not, slice_get};
-ghost use Rattle.std.specs.Borrow.{Lends, sem};
+ghost use Rattle.std.specs.Borrow.{sem};
 ghost use Rattle.btree_shape.specs.TreeState.{pairs_of};
-ghost use Rattle.btree_map.specs.RangeCursor.{WritesFirstInRange, WritesLastInRange, past_first, past_last, range_back, range_front, range_left};
-ghost use Rattle.btree_map.specs.contracts.cursor.RangeMut.{the_row};
+ghost use Rattle.btree_map.specs.RangeCursor.{WritesFirstInRange, WritesLastInRange, range_back, range_front, range_left};
+ghost use Rattle.btree_map.specs.CursorLent.{lends_first_in_range, lends_last_in_range};
 
 use crate::cursor::RangeMut;
 use crate::cursor::pairs::{address_after, address_before};
@@ -33,12 +32,8 @@ impl<'a, K: Ord + Drop, V: Drop, C: NodesMut<K, V>> RangeMut<'a, K, V, C> {
     /// A pair must be left: `is_empty` decides that. `next` returns `None` if there is none.
     pub fn next_pair(&mut self) -> (&K, &mut V)
         requires { self.old.any_left ≡ true }
-        ensures* writes_back { sem 𝓛 (Lends
-            (the_row (record { mir = named 1; lft = [] }) K.row V.row C.row C.Origin.row
-            (record { cmp = K.cmp }) (record { eq = K.eq }) (record { partial_cmp = K.partial_cmp })
-            (record { MayRefuse = C.MayRefuse; Fits = C.Fits; written = C.written })
-            (record { content = C.content; refusals = C.refusals; CanHold = C.CanHold }))
-            V.row self.entry result.1 (past_first self.old)) }
+        ensures* writes_back { sem 𝓛 (lends_first_in_range
+            K.row V.row C.row C.Origin.row self.entry result.1) }
         ensures pair { slice_get (pairs_of self.old.map.now) (range_front self.old) ≡
             Some (result.0.now, result.1.now) }
         ensures writes { (w : V) → WritesFirstInRange self.old result.0.now result.1.now w }
@@ -54,12 +49,8 @@ impl<'a, K: Ord + Drop, V: Drop, C: NodesMut<K, V>> RangeMut<'a, K, V, C> {
     /// Returns the key of the last pair that is left, and its value for writing, as `next_pair` does of the first one.
     pub fn next_back_pair(&mut self) -> (&K, &mut V)
         requires { self.old.any_left ≡ true }
-        ensures* writes_back { sem 𝓛 (Lends
-            (the_row (record { mir = named 1; lft = [] }) K.row V.row C.row C.Origin.row
-            (record { cmp = K.cmp }) (record { eq = K.eq }) (record { partial_cmp = K.partial_cmp })
-            (record { MayRefuse = C.MayRefuse; Fits = C.Fits; written = C.written })
-            (record { content = C.content; refusals = C.refusals; CanHold = C.CanHold }))
-            V.row self.entry result.1 (past_last self.old)) }
+        ensures* writes_back { sem 𝓛 (lends_last_in_range
+            K.row V.row C.row C.Origin.row self.entry result.1) }
         ensures pair { slice_get (pairs_of self.old.map.now) (range_back self.old - 1) ≡
             Some (result.0.now, result.1.now) }
         ensures writes { (w : V) → WritesLastInRange self.old result.0.now result.1.now w }

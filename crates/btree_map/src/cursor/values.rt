@@ -1,9 +1,8 @@
 //! The steps of a cursor over values.
-ghost use mir.Syntax.{named};
 ghost use Rattle.std.specs.Prelude.{◌≡◌, ◌-◌, ◌<◌, [], Some, IfSome, IfNone, length, slice_get};
-ghost use Rattle.std.specs.Borrow.{Lends, sem};
-ghost use Rattle.btree_map.specs.Cursor.{WritesFirstValue, past_value, values_left};
-ghost use Rattle.btree_map.specs.contracts.cursor.ValuesMut.{the_row};
+ghost use Rattle.std.specs.Borrow.{sem};
+ghost use Rattle.btree_map.specs.Cursor.{WritesFirstValue, values_left};
+ghost use Rattle.btree_map.specs.CursorLent.{lends_first_value, lends_next_value};
 
 use crate::cursor::ValuesMut;
 use crate::cursor::pairs::address_after;
@@ -40,12 +39,8 @@ impl<'a, K: Ord + Drop, V: Drop, C: NodesMut<K, V>> ValuesMut<'a, K, V, C> {
     /// A value must be left: `len` decides that. `next` returns `None` if there is none.
     pub fn next_value(&mut self) -> &mut V
         requires { self.old.front < self.old.back }
-        ensures* writes_back { sem 𝓛 (Lends
-            (the_row (record { mir = named 1; lft = [] }) K.row V.row C.row C.Origin.row
-            (record { cmp = K.cmp }) (record { eq = K.eq }) (record { partial_cmp = K.partial_cmp })
-            (record { MayRefuse = C.MayRefuse; Fits = C.Fits; written = C.written })
-            (record { content = C.content; refusals = C.refusals; CanHold = C.CanHold }))
-            V.row self.entry result (past_value self.old)) }
+        ensures* writes_back { sem 𝓛 (lends_first_value
+            K.row V.row C.row C.Origin.row self.entry result) }
         ensures value { slice_get (values_left self.old) 0 ≡ Some result.now }
         ensures writes { (w : V) → WritesFirstValue self.old result.now w }
     {
@@ -58,11 +53,12 @@ impl<'a, K: Ord + Drop, V: Drop, C: NodesMut<K, V>> ValuesMut<'a, K, V, C> {
         value
     }
 
-    /// Returns the first value that is left for writing, or `None` if no value is left.
-    ///
-    /// The contract does not say what the map is after the value was written; that of `next_value` does.
+    /// Returns the first value that is left for writing, as `next_value` does, or `None` if no value is left.
     pub fn next(&mut self) -> Option<&mut V>
+        ensures* writes_back { sem 𝓛 (lends_next_value
+            K.row V.row C.row C.Origin.row self.entry result) }
         ensures value { IfSome result (λ v. slice_get (values_left self.old) 0 ≡ Some v.now) }
+        ensures writes { IfSome result (λ v. (w : V) → WritesFirstValue self.old v.now w) }
         ensures none { IfNone result (values_left self.old ≡ []) }
     {
         if self.len() == 0 {

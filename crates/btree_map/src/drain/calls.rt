@@ -101,7 +101,7 @@ impl<K: Ord + Drop, V: Drop, C: NodesMut<K, V>> BTreeMap<K, V, C> {
             (CalledAtPair F.FnMut) (TakesPair F.FnMut) f (pairs_of self.old) }
         ensures kept { Selects
             (CalledAtPair F.FnMut) true f (pairs_of self.old) (pairs_of self.new) }
-        ensures uncounted { self.new.refusals ≡ self.old.refusals }
+        ensures uncounted { self.new.kept ≡ self.old.kept }
         ensures addresses { KeepsAddresses self.old self.new }
     {
         self.retain_by(ByPair::new(f));
@@ -111,7 +111,7 @@ impl<K: Ord + Drop, V: Drop, C: NodesMut<K, V>> BTreeMap<K, V, C> {
     pub fn retain_by<P: PairTest<K, V>>(&mut self, test: P)
         requires { CallableOnEachPair P.step P.accepts test (pairs_of self.old) }
         ensures kept { Selects P.step true test (pairs_of self.old) (pairs_of self.new) }
-        ensures uncounted { self.new.refusals ≡ self.old.refusals }
+        ensures uncounted { self.new.kept ≡ self.old.kept }
         ensures addresses { KeepsAddresses self.old self.new }
     {
         let mut test = test;

@@ -1,13 +1,11 @@
 //! An entry whose key is there.
-ghost use mir.Syntax.{named};
-ghost use Rattle.std.specs.Prelude.{◌≡◌, [], IsSome, Some, option_map};
-ghost use Rattle.std.specs.Borrow.{Lends, sem};
+ghost use Rattle.std.specs.Prelude.{◌≡◌, IsSome, Some, option_map};
+ghost use Rattle.std.specs.Borrow.{sem};
 ghost use Rattle.btree_shape.specs.TreeState.{item_of};
 ghost use Rattle.btree_edit.specs.ValueWritten.{value_written};
 ghost use Rattle.btree_map.specs.Entry.{with_entry_value};
+ghost use Rattle.btree_map.specs.Lent.{lends_in_entry, lends_occupied};
 ghost use Rattle.btree_map.specs.Written.{RemovesAt, WritesValueAt};
-ghost use Rattle.btree_map.specs.contracts.entry.OccupiedEntry.{the_row as occupied_row};
-ghost use Rattle.btree_map.specs.contracts.map.BTreeMap.{the_row};
 
 use super::OccupiedEntry;
 use crate::BTreeMap;
@@ -63,12 +61,8 @@ impl<'a, K: Ord + Drop, V: Drop, C: NodesMut<K, V>> OccupiedEntry<'a, K, V, C> {
     /// Returns the value for writing. What is written replaces the value, and nothing else changes: the stored key stays, and so does every
     /// address. See `into_mut` for a value that outlives the entry.
     pub fn get_mut(&mut self) -> &mut V
-        ensures* writes_back { sem 𝓛 (Lends
-            (occupied_row (record { mir = named 1; lft = [] }) K.row V.row C.row C.Origin.row
-            (record { cmp = K.cmp }) (record { eq = K.eq }) (record { partial_cmp = K.partial_cmp })
-            (record { MayRefuse = C.MayRefuse; Fits = C.Fits; written = C.written })
-            (record { content = C.content; refusals = C.refusals; CanHold = C.CanHold }))
-            V.row self.entry result (with_entry_value self.old)) }
+        ensures* writes_back { sem 𝓛 (lends_in_entry
+            K.row V.row C.row C.Origin.row self.entry result) }
         ensures value { option_map (λ x. x.1) (item_of self.old.map.now self.old.at) ≡ Some result.now }
         ensures writes { (w : V) → WritesValueAt K.cmp self.old.map.now
             (value_written self.old.map.now self.old.at w) self.old.at result.now w }
@@ -90,12 +84,8 @@ impl<'a, K: Ord + Drop, V: Drop, C: NodesMut<K, V>> OccupiedEntry<'a, K, V, C> {
     /// Returns the value for writing, for as long as the map is lent. What is written replaces the value, and nothing else changes: the
     /// stored key stays, and so does every address.
     pub fn into_mut(self) -> &'a mut V
-        ensures* writes_back { sem 𝓛 (Lends
-            (the_row K.row V.row C.row C.Origin.row
-            (record { cmp = K.cmp }) (record { eq = K.eq }) (record { partial_cmp = K.partial_cmp })
-            (record { MayRefuse = C.MayRefuse; Fits = C.Fits; written = C.written })
-            (record { content = C.content; refusals = C.refusals; CanHold = C.CanHold }))
-            V.row self.entry.map result (value_written self.entry.map.now self.entry.at)) }
+        ensures* writes_back { sem 𝓛 (lends_occupied
+            K.row V.row C.row C.Origin.row self.entry result) }
         ensures value { option_map (λ x. x.1) (item_of self.entry.map.now self.entry.at) ≡ Some result.now }
         ensures writes { (w : V) → WritesValueAt K.cmp self.entry.map.now
             (value_written self.entry.map.now self.entry.at w) self.entry.at result.now w }

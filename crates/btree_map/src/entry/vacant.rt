@@ -1,9 +1,7 @@
 //! An entry whose key is not there.
 ghost use Rattle.std.specs.Prelude.{◌≡◌, IfErr, IfOk};
-ghost use Rattle.std.specs.Borrow.{LendsSoOk, sem};
-ghost use Rattle.btree_edit.specs.Insert.{IsRefusedAtGap};
-ghost use Rattle.btree_map.specs.Written.{IsInsertedWith};
-ghost use Rattle.btree_map.specs.contracts.map.BTreeMap.{the_row};
+ghost use Rattle.std.specs.Borrow.{sem};
+ghost use Rattle.btree_map.specs.Lent.{lends_inserted};
 
 use super::VacantEntry;
 use btree_ext::BTreeExtMut;
@@ -44,15 +42,8 @@ impl<'a, K: Ord + Drop, V: Drop, C: NodesMut<K, V>> VacantEntry<'a, K, V, C> {
     ///
     /// It uses the same nodes as an insertion by key, and returns the same errors, with key and value.
     pub fn insert(self, value: V) -> Result<&'a mut V, Refused<K, V>>
-        ensures* writes_back { sem 𝓛 (LendsSoOk
-            (the_row K.row V.row C.row C.Origin.row
-            (record { cmp = K.cmp }) (record { eq = K.eq }) (record { partial_cmp = K.partial_cmp })
-            (record { MayRefuse = C.MayRefuse; Fits = C.Fits; written = C.written })
-            (record { content = C.content; refusals = C.refusals; CanHold = C.CanHold }))
-            V.row self.entry.map result
-            (λ new w. IsInsertedWith K.cmp self.entry.key self.entry.map.now new value w)
-            (λ new. IfErr result (λ r.
-            IsRefusedAtGap K.cmp self.entry.key self.entry.map.now new C.MayRefuse r.cause))) }
+        ensures* writes_back { sem 𝓛 (lends_inserted
+            K.row V.row C.row C.Origin.row self.entry value result) }
         ensures value { IfOk result (λ v. v.now ≡ value) }
         ensures returned { IfErr result (λ r. (r.key ≡ self.entry.key) × (r.value ≡ value)) }
     {

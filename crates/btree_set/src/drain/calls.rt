@@ -97,7 +97,7 @@ impl<T: Ord + Drop, C: NodesMut<T, ()>> BTreeSet<T, C> {
     pub fn retain<F: FnMut(&T) -> bool>(&mut self, f: F)
         requires { CallableOnEach (CalledAt F.FnMut) (TakesAt F.FnMut) f self.old.elements }
         ensures kept { Selects (CalledAt F.FnMut) true f self.old.elements self.new.elements }
-        ensures uncounted { self.new.refusals ≡ self.old.refusals }
+        ensures uncounted { self.new.kept ≡ self.old.kept }
     {
         self.map.retain_by(ByKey::new(f));
     }

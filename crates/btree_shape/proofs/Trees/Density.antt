@@ -60,7 +60,7 @@ module _ (A : Type 0) where
   nodes_in zero t = 1
   nodes_in (suc h) t = suc (nodes_in h t.1 + total (λ b. nodes_in h b.1) t.2)
 
-  three-each : (h : ℕ) (bs : List (A × Subtree A h))
+  pub three-each : (h : ℕ) (bs : List (A × Subtree A h))
       → ((t : Subtree A h) → 3 ≤ count_at A h t → IsFilledBelow A h t → 3 * nodes_in h t ≤ length (items_under A h t))
       → AllByRecursion (λ b. IsFilled 3 h (count_at A h b.1) × IsFilledBelow A h b.1) bs
       → 3 * total (λ (b : A × Subtree A h). nodes_in h b.1) bs + length bs ≤ length (later_items A h bs)
@@ -71,7 +71,7 @@ module _ (A : Type 0) where
       let l = length-append (items_under A h b.1) (later_items A h bs) in
       omega arith
 
-  three-items : (h : ℕ) (t : Subtree A h) → 3 ≤ count_at A h t → IsFilledBelow A h t
+  pub three-items : (h : ℕ) (t : Subtree A h) → 3 ≤ count_at A h t → IsFilledBelow A h t
       → 3 * nodes_in h t ≤ length (items_under A h t)
   three-items zero t c d = omega arith
   three-items (suc h) t c d =

@@ -2,7 +2,7 @@ use Rattle.std.proofs.Common.{Some, None, refl, subst}
 use Rattle.btree_store.specs.ContentLaws.{get-insert_same}
 use Rattle.btree_raw.specs.Claimed.{EMPTY}
 use Rattle.btree_edit.proofs.FirstLemmas.{first-inserted}
-use Rattle.btree_edit.proofs.UpdateKeyLemmas.{one-freed}
+use Rattle.btree_edit.proofs.UpdateKeyLemmas.{one-freed, one-granted}
 use Rattle.btree_edit.proofs.updates.update_first.Goals as goal
 
 pub release_node-requires : goal.release_node-requires
@@ -32,3 +32,13 @@ returns-clause-updated g c = record {
         (record { id = c.in-Some.root; offset = Some 0 }) refl),
   );
 }
+
+pub returns-in_default-given-clause-granted : goal.returns-in_default-given-clause-granted
+returns-in_default-given-clause-granted g c =
+    one-granted c.args.tree.now c.claim_one.new.tree g.C.Nodes.CanHold c.args.gap.id c.in-Some.root c.requires.empty c.in-Some.ensures.claimed
+    c.in-Some.ensures.unused c.in-Some.ensures.number c.in-Some.ensures.can_hold
+
+pub returns-clause-granted : goal.returns-clause-granted
+returns-clause-granted g c =
+    one-granted c.args.tree.now c.claim_one.new.tree g.C.Nodes.CanHold c.args.gap.id c.in-Some.root c.requires.empty c.in-Some.ensures.claimed
+    c.in-Some.ensures.unused c.in-Some.ensures.number c.in-Some.ensures.can_hold

@@ -1,5 +1,5 @@
 use Rattle.std.proofs.Common.{◌≡◌, ◌∙◌, Some, None, false, sym, subst}
-use Rattle.btree_raw.specs.Claimed.{EMPTY, MayRefuseOneOf}
+use Rattle.btree_raw.specs.Claimed.{CanHoldMore, EMPTY, MayRefuseOneOf}
 use Rattle.btree_edit.specs.Insert.{IsGapFor, IsInserted}
 use Rattle.btree_edit.proofs.UpdateKeyLemmas.{gap-used}
 use Rattle.btree_edit.proofs.updates.update_more.Goals as goal
@@ -12,7 +12,7 @@ returns-then-not-claim-clause-refused g c =
     let none : c.claim.result ≡ false = (let e = c.if-not-claim.true in cc) in (
       c.claim.ensures.refused none,
       subst (λ n. MayRefuseOneOf EMPTY g.C.NodesMut.MayRefuse c.args.tree.now.nodes n) c.need-count.ensures.value (c.claim.ensures.may_refuse none),
-      c.requires.room,
+      c.requires.granted,
     )
 
 pub release-requires : goal.release-requires
@@ -55,3 +55,11 @@ returns-clause-updated g c = record {
         })),
   );
 }
+
+pub returns-in_default-clause-granted : goal.returns-in_default-clause-granted
+returns-in_default-clause-granted g c =
+    subst (λ n. CanHoldMore EMPTY g.C.Nodes.CanHold c.args.tree.now.nodes n) c.need-count.ensures.value (c.claim.ensures.can_hold c.if-not-claim.false)
+
+pub returns-clause-granted : goal.returns-clause-granted
+returns-clause-granted g c =
+    subst (λ n. CanHoldMore EMPTY g.C.Nodes.CanHold c.args.tree.now.nodes n) c.need-count.ensures.value (c.claim.ensures.can_hold c.if-not-claim.false)

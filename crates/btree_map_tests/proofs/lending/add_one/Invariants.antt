@@ -12,7 +12,7 @@ invariant-loop-pairs g l = record {
   front : l.pairs.front ≤ length (pairs_of l.fn.map);
   pairs : pairs_of l.pairs.map.now ≡ changed (greater_by 1) l.pairs.front (pairs_of l.fn.map);
   addresses : item_addresses_of l.pairs.map.now ≡ item_addresses_of l.fn.map;
-  uncounted : l.pairs.map.now.refusals ≡ l.fn.map.refusals;
+  uncounted : l.pairs.map.now.kept ≡ l.fn.map.kept;
 }
 
 abbrev pub decreases-loop-pairs : goal.decreases-loop-pairs

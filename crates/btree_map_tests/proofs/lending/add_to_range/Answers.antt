@@ -24,7 +24,7 @@ loop-pairs-init g c =
           (range_front it) (range_back it - range_front it) (pairs_of it.map.now) left
           ∙ ap (λ t. each (greater_between cmp range c.args.more) (pairs_of t)) same;
       addresses = ap item_addresses_of same;
-      uncounted = ap (λ t. t.refusals) same;
+      uncounted = ap (λ t. t.kept) same;
     }
 
 pub loop-pairs-preserved : goal.loop-pairs-preserved

@@ -13,7 +13,7 @@ invariant-loop-pairs g l = record {
   pairs : finished (greater_by l.fn.more) (range_front l.pairs) (range_back l.pairs) (pairs_of l.pairs.map.now)
       ≡ each (greater_between g.K.Ord.cmp l.fn.range l.fn.more) (pairs_of l.fn.map);
   addresses : item_addresses_of l.pairs.map.now ≡ item_addresses_of l.fn.map;
-  uncounted : l.pairs.map.now.refusals ≡ l.fn.map.refusals;
+  uncounted : l.pairs.map.now.kept ≡ l.fn.map.kept;
 }
 
 abbrev pub decreases-loop-pairs : goal.decreases-loop-pairs

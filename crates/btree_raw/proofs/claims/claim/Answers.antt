@@ -1,4 +1,4 @@
-use Rattle.std.proofs.Common.{◌∷◌, [], arith, length-append, rules}
+use Rattle.std.proofs.Common.{◌∷◌, [], arith, length-append, rules, subst}
 use Rattle.btree_raw.proofs.RefuseLemmas.{more-claims, refused-claims}
 use Rattle.btree_raw.proofs.claims.claim.Goals as goal
 use Rattle.std.proofs.lemmas.Grind.{common_steps}
@@ -50,4 +50,12 @@ pub returns-clause-none_left : goal.returns-clause-none_left
 returns-clause-none_left g c = search rules steps 200000
 
 pub returns-clause-may_refuse : goal.returns-clause-may_refuse
-returns-clause-may_refuse g c = search rules steps 200000
+returns-clause-may_refuse g c = λ no. absurd (cc)
+
+pub returns-clause-can_hold : goal.returns-clause-can_hold
+returns-clause-can_hold g c = λ yes. record {
+  ids = c.loop-index.claims.items;
+  all = let n = c.loop-index.invariant.counted in let least = c.loop-index.auto.index-end in let most = c.loop-index-test.false in omega arith;
+  claims = c.loop-index.invariant.held.claimed.claims;
+  can = subst g.C.Nodes.CanHold c.loop-index.invariant.held.claimed.after c.node_count-held.ensures.can_hold;
+}

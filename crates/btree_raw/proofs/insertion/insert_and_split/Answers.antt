@@ -39,7 +39,7 @@ returns-then-not-claim-clause-returned g c =
 
 pub returns-then-not-claim-clause-refused : goal.returns-then-not-claim-clause-refused
 returns-then-not-claim-clause-refused g c =
-    rw c.refused.ensures (put-refused g.K.Ord.cmp g.met.K.Ord.total c.args.tree.now c.args.addr c.args.item c.args.child c.requires.off_by_one c.requires.full g.C.NodesMut.MayRefuse c.claim.new.tree c.split_need_above-count.result c.split_need_above-count.ensures.value (c.claim.ensures.refused c.if-not-claim.true) (c.claim.ensures.may_refuse c.if-not-claim.true) c.requires.room)
+    rw c.refused.ensures (put-refused g.K.Ord.cmp g.met.K.Ord.total c.args.tree.now c.args.addr c.args.item c.args.child c.requires.off_by_one c.requires.full g.C.NodesMut.MayRefuse c.claim.new.tree c.split_need_above-count.result c.split_need_above-count.ensures.value (c.claim.ensures.refused c.if-not-claim.true) (c.claim.ensures.may_refuse c.if-not-claim.true) c.requires.granted)
 
 pub unwrap-index-requires : goal.unwrap-index-requires
 unwrap-index-requires g c =

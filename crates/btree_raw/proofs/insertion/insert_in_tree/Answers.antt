@@ -40,6 +40,10 @@ pub insert_and_split-requires-clause-room : goal.insert_and_split-requires-claus
 insert_and_split-requires-clause-room g c =
     c.requires.room
 
+pub insert_and_split-requires-clause-granted : goal.insert_and_split-requires-clause-granted
+insert_and_split-requires-clause-granted g c =
+    c.requires.granted
+
 pub returns-then-is_full-clause-inserted : goal.returns-then-is_full-clause-inserted
 returns-then-is_full-clause-inserted g c =
     subst (λ (t : TreeState _ _). IfOk c.insert_and_split.result

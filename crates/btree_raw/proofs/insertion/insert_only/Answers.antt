@@ -76,4 +76,4 @@ returns-in-None-clause-returned g c =
 pub returns-in-None-clause-refused : goal.returns-in-None-clause-refused
 returns-in-None-clause-refused g c =
     rw c.refused.ensures
-    (only-refused g.C.NodesMut.MayRefuse c.args.tree.now c.claim_one.new.tree c.args.addr.id c.requires.rootless c.in-None.ensures.refused c.in-None.ensures.may_refuse c.requires.room)
+    (only-refused g.C.NodesMut.MayRefuse c.args.tree.now c.claim_one.new.tree c.args.addr.id c.requires.rootless c.in-None.ensures.refused c.in-None.ensures.may_refuse c.requires.granted)

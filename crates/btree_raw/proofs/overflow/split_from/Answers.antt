@@ -3,7 +3,7 @@ use Rattle.btree_view.specs.View.{NodeMap}
 use Rattle.btree_shape.specs.TreeState.{node_map}
 use Rattle.btree_shape.specs.WellFormed.{times_used}
 use Rattle.btree_raw.specs.Steps.{AreSplit, MayCut}
-use Rattle.btree_raw.proofs.StateLemmas.{then, same-len, same-root, same-refusals}
+use Rattle.btree_raw.proofs.StateLemmas.{then, same-len, same-root, same-kept}
 use Rattle.btree_raw.proofs.UpwardLemmas.{ReachesCut, cut-length, reached-back, reached-cut, reached-grow_root, reached-next, reached-none-left, reached-number, reached-offset, reached-root, reached-root-left, reached-separator, reached-used, upward-done, upward-none-left, upward-start}
 use Rattle.btree_raw.proofs.overflow.split_from.Goals as goal
 
@@ -38,7 +38,7 @@ returns-in_default-parent-clause-split g c = λ begun spare is.
       split = reached-root (node_map begun) (node_map c.loop-next.tree) begun.root c.args.start c.loop-next.id spare c.loop-next.claims.items c.args.addr c.loop-next.at is.splitting c.in-Some.parent c.in-Some.kept c.in-Some.median c.in-Some.right (subst (λ o. ReachesCut (node_map begun) (node_map c.loop-next.tree) begun.root c.args.start c.loop-next.id spare c.loop-next.claims.items c.args.addr c.loop-next.at o) c.in-Some.is (c.loop-next.invariant begun spare is).reached) c.in_default-parent.is c.take_claim-root.new.claims.items c.take_claim-root.result c.take_claim-root.ensures (node_map c.grow_root.new.tree) c.grow_root.ensures.nodes;
       used = reached-used (node_map begun) (node_map c.loop-next.tree) begun.root c.args.start c.loop-next.id spare c.loop-next.claims.items c.args.addr c.loop-next.at is.splitting c.in-Some.parent c.in-Some.kept c.in-Some.median c.in-Some.right (subst (λ o. ReachesCut (node_map begun) (node_map c.loop-next.tree) begun.root c.args.start c.loop-next.id spare c.loop-next.claims.items c.args.addr c.loop-next.at o) c.in-Some.is (c.loop-next.invariant begun spare is).reached) c.in_default-parent.is c.take_claim-root.new.claims.items c.take_claim-root.result c.take_claim-root.ensures (node_map c.grow_root.new.tree) c.grow_root.ensures.nodes;
       len = same-len rest;
-      uncounted = same-refusals rest;
+      uncounted = same-kept rest;
     })
 
 pub returns-in_default-parent-clause-none_left : goal.returns-in_default-parent-clause-none_left
@@ -79,7 +79,7 @@ returns-clause-split g c = λ begun spare is.
           (upward-done _ (node_map begun) (c.loop-next.invariant begun spare is).reached.whole begun.root c.args.start c.loop-next.id spare (c.loop-next.invariant begun spare is).reached.before c.args.addr c.loop-next.at is.splitting (c.loop-next.invariant begun spare is).reached.up_to stays.0.node stays.0.here stays.0.room));
       used = subst (λ (m : NodeMap _). (n : ℕ) → times_used (m n) ≡ times_used (node_map begun n)) (sym stays.0.same) (c.loop-next.invariant begun spare is).reached.up_to.used;
       len = same-len (c.loop-next.invariant begun spare is).rest;
-      uncounted = same-refusals (c.loop-next.invariant begun spare is).rest;
+      uncounted = same-kept (c.loop-next.invariant begun spare is).rest;
     }
 
 pub returns-clause-none_left : goal.returns-clause-none_left

@@ -2,7 +2,7 @@ use Rattle.std.proofs.Common.{refl}
 use Rattle.btree_shape.specs.TreeState.{node_map}
 use Rattle.btree_shape.proofs.Trees.Stores.{used-view}
 use Rattle.btree_raw.proofs.FixedLemmas.{root-there, root-rests, can-release, released, emptied}
-use Rattle.btree_raw.proofs.StateLemmas.{same-len, same-refusals}
+use Rattle.btree_raw.proofs.StateLemmas.{same-len, same-kept}
 use Rattle.btree_raw.proofs.underflow.fix_root.Goals as goal
 
 pub returns-then-count-gt0-clause-fixed : goal.returns-then-count-gt0-clause-fixed
@@ -20,7 +20,7 @@ returns-in-Some-clause-fixed g c =
     (record {
       fixed = released (node_map c.args.tree.now) c.args.tree.now.root c.args.id c.args.addr c.requires.fixing c.requires.top c.args.count c.requires.count c.if-count-gt0.false c.in-Some.child c.in-Some.ensures.first (node_map c.shrink_root.new.tree) c.in-Some.ensures.shrinks.nodes c.in-Some.held c.in-Some.ensures.count;
       len = same-len c.in-Some.ensures.shrinks.rest;
-      uncounted = same-refusals c.in-Some.ensures.shrinks.rest;
+      uncounted = same-kept c.in-Some.ensures.shrinks.rest;
     })
 
 pub returns-in-None-clause-fixed : goal.returns-in-None-clause-fixed
@@ -29,5 +29,5 @@ returns-in-None-clause-fixed g c =
     (record {
       fixed = emptied (node_map c.args.tree.now) c.args.tree.now.root c.args.id c.args.addr c.requires.fixing c.requires.top c.args.count c.requires.count c.if-count-gt0.false c.in-None.ensures.leaf (node_map c.shrink_root.new.tree) c.in-None.ensures.removes.nodes;
       len = same-len c.in-None.ensures.removes.rest;
-      uncounted = same-refusals c.in-None.ensures.removes.rest;
+      uncounted = same-kept c.in-None.ensures.removes.rest;
     })

@@ -4,7 +4,7 @@ use Rattle.btree_shape.proofs.Trees.Stores.{used-view}
 use Rattle.btree_raw.specs.Underflow.{AreFixed}
 use Rattle.btree_raw.proofs.FetchedLemmas.{count-there, parent-there}
 use Rattle.btree_raw.proofs.FixedLemmas.{fix-start, still-followed, still-fixing, fix-used, fix-low, fix-enough, fix-here, fix-root, fix-above, fix-lower-of}
-use Rattle.btree_raw.proofs.StateLemmas.{same-len, same-refusals, same-root, then}
+use Rattle.btree_raw.proofs.StateLemmas.{same-len, same-kept, same-root, then}
 use Rattle.btree_raw.proofs.underflow.fix_underflow_upward.Goals as goal
 
 pub loop-held-init : goal.loop-held-init
@@ -19,7 +19,7 @@ pub returns-clause-fixed : goal.returns-clause-fixed
 returns-clause-fixed g c = record {
   fixed = rw (same-root c.loop-held.invariant.rest) (fix-enough (node_map c.args.tree.now) (node_map c.loop-held.tree) c.args.tree.now.root c.args.start c.loop-held.id c.args.addr c.loop-held.at c.requires.1.1.1.1.0.fixing c.loop-held.invariant.up_to c.loop-held.held c.loop-held.invariant.count (omega (arith, c.loop-held-test.false)));
   len = same-len c.loop-held.invariant.rest;
-  uncounted = same-refusals c.loop-held.invariant.rest;
+  uncounted = same-kept c.loop-held.invariant.rest;
 }
 
 pub returns-clause-back : goal.returns-clause-back
@@ -40,7 +40,7 @@ returns-in_default-clause-fixed g c =
       fixed = fix-root (node_map c.args.tree.now) (node_map c.loop-held.tree) c.args.tree.now.root c.args.start c.loop-held.id c.args.addr c.loop-held.at c.requires.1.1.1.1.0.fixing c.loop-held.invariant.up_to (node_map c.fix_root.new.tree) c.fix_root.new.tree.root c.fix_root.result
           (subst (λ r. AreFixed (node_map c.loop-held.tree) (node_map c.fix_root.new.tree) r c.fix_root.new.tree.root c.loop-held.id c.loop-held.at c.fix_root.result) (same-root c.loop-held.invariant.rest) c.fix_root.ensures.fixed.fixed);
       len = c.fix_root.ensures.fixed.len ∙ same-len c.loop-held.invariant.rest;
-      uncounted = c.fix_root.ensures.fixed.uncounted ∙ same-refusals c.loop-held.invariant.rest;
+      uncounted = c.fix_root.ensures.fixed.uncounted ∙ same-kept c.loop-held.invariant.rest;
     }
 
 pub returns-in_default-clause-back : goal.returns-in_default-clause-back
@@ -63,7 +63,7 @@ returns-then-not-up-clause-fixed g c = record {
   fixed = rw (same-root (then c.loop-held.invariant.rest c.fix_underflow_at-moved.ensures.rest)) (fix-here (node_map c.args.tree.now) (node_map c.loop-held.tree) c.args.tree.now.root c.args.start c.loop-held.id c.args.addr c.loop-held.at c.requires.1.1.1.1.0.fixing c.loop-held.invariant.up_to (node_map c.fix_underflow_at-moved.new.tree) c.fix_underflow_at-moved.result.0 (c.fix_underflow_at-moved.ensures.here c.if-not-up.true)
       c.in-Some.parent c.loop-held.held (c.loop-held.invariant.parent ∙ ap Some c.in-Some.is) c.loop-held.invariant.count (omega arith) (c.fix_underflow_at-moved.ensures.borrows c.if-not-up.true));
   len = same-len (then c.loop-held.invariant.rest c.fix_underflow_at-moved.ensures.rest);
-  uncounted = same-refusals (then c.loop-held.invariant.rest c.fix_underflow_at-moved.ensures.rest);
+  uncounted = same-kept (then c.loop-held.invariant.rest c.fix_underflow_at-moved.ensures.rest);
 }
 
 pub returns-then-not-up-clause-back : goal.returns-then-not-up-clause-back

@@ -6,6 +6,7 @@ use Rattle.btree_valid.specs.Spots.{freed}
 use Rattle.btree_valid.proofs.BlameLemmas.{child-blamed, end-blamed, leaf-blamed, next-met, start-met, too-deep, verdict-blamed}
 use Rattle.btree_valid.proofs.FaultLemmas.{child-next, child-ok, inner-end, inner-start, leaf-met, nothing-begins, past-end, verdict-ok}
 use Rattle.btree_valid.proofs.ExactLemmas.{done-all, done-next, leaf-found}
+use Rattle.btree_valid.proofs.NameLemmas.{names-child, names-deep, names-leaf, names-own, names-unused}
 use Rattle.btree_valid.proofs.faults.+check_under.Goals as goal
 
 pub returns-in_default-clause-always : goal.returns-in_default-clause-always
@@ -83,3 +84,28 @@ returns-in_err-passed-clause-blames g t c =
 
 pub returns-clause-blames : goal.returns-clause-blames
 returns-clause-blames g t c = end-blamed (g.C.Nodes.content c.args.nodes.now) g.K.Ord.cmp c.args.spot c.args.met (view_of c.in-Some.node.now) (ap (option_map view_of) (sym c.in-Some.ensures.value)) (ap is_some (sym c.child_id_opt.ensures) ∙ c.if-is_none.ensures) c.loop-index.index c.loop-index.passed c.loop-index.invariant.2 (omega (arith, c.loop-index-test.false, c.child_count-index-end.ensures.value))
+
+pub returns-in_default-clause-names : goal.returns-in_default-clause-names
+returns-in_default-clause-names g t c = names-unused (g.C.Nodes.content c.args.nodes.now) g.K.Ord.cmp c.args.spot c.args.met (ap (option_map view_of) (sym c.in_default.ensures.value))
+
+pub returns-in_err-validate-clause-names : goal.returns-in_err-validate-clause-names
+returns-in_err-validate-clause-names g t c =
+    let e = err_from_is_err_and c.from_residual.result c.from_residual.ensures.1 in
+    rw (e.1, e.2) (names-own (g.C.Nodes.content c.args.nodes.now) g.K.Ord.cmp c.args.spot c.args.met (view_of c.in-Some.node.now) (ap (option_map view_of) (sym c.in-Some.ensures.value)) c.validate.result c.validate.ensures c.in_err-validate.field-0.0 c.in_err-validate.was)
+
+pub returns-then-spot-ge-MAX_LEVELS-clause-names : goal.returns-then-spot-ge-MAX_LEVELS-clause-names
+returns-then-spot-ge-MAX_LEVELS-clause-names g t c = names-deep (g.C.Nodes.content c.args.nodes.now) g.K.Ord.cmp c.args.spot c.args.met (view_of c.in-Some.node.now) (ap (option_map view_of) (sym c.in-Some.ensures.value)) c.validate.result c.in_ok-validate.was c.validate.ensures (omega (arith, c.if-spot-ge-MAX_LEVELS.true))
+
+pub returns-then-is_none-clause-names : goal.returns-then-is_none-clause-names
+returns-then-is_none-clause-names g t c = names-leaf (g.C.Nodes.content c.args.nodes.now) g.K.Ord.cmp c.args.spot c.args.met (view_of c.in-Some.node.now) (ap (option_map view_of) (sym c.in-Some.ensures.value)) c.validate.result c.in_ok-validate.was c.validate.ensures (omega (arith, c.if-spot-ge-MAX_LEVELS.false)) (ap is_some (sym c.child_id_opt.ensures) ∙ c.if-is_none.ensures) c.count_node-counted.result c.count_node-counted.ensures.leaves c.meet_leaf.result c.meet_leaf.ensures.fault
+
+pub returns-in_default-child_id_opt-clause-names : goal.returns-in_default-child_id_opt-clause-names
+returns-in_default-child_id_opt-clause-names g t c = λ origin k. tt
+
+pub returns-in_err-passed-clause-names : goal.returns-in_err-passed-clause-names
+returns-in_err-passed-clause-names g t c =
+    let e = err_from_is_err_and c.from_residual-in_err-passed.result c.from_residual-in_err-passed.ensures.1 in
+    rw (e.1, e.2) (names-child (g.C.Nodes.content c.args.nodes.now) g.K.Ord.cmp c.args.spot c.args.met (view_of c.in-Some.node.now) (ap (option_map view_of) (sym c.in-Some.ensures.value)) c.validate.result c.in_ok-validate.was c.validate.ensures (omega (arith, c.if-spot-ge-MAX_LEVELS.false)) g.met.K.Ord.total (ap is_some (sym c.child_id_opt.ensures) ∙ c.if-is_none.ensures) c.loop-index.index c.loop-index.passed c.in-Some-child_id_opt.child c.in-Some-child_id_opt.ensures c.below.result c.below.ensures.level c.below.ensures.parent c.below.ensures.id c.below.ensures.min c.below.ensures.max c.loop-index.invariant.0 c.check_under.result c.check_under.ensures.names c.in_err-passed.field-0.0 c.in_err-passed.was)
+
+pub returns-clause-names : goal.returns-clause-names
+returns-clause-names g t c = λ origin k. tt

@@ -1,4 +1,6 @@
-use Rattle.std.proofs.Common.{◌≡◌, ◌∙◌, Some, ap, sym}
+use Rattle.std.proofs.Common.{◌≡◌, ◌∙◌, Some, ap, inl, inr, refl, subst, sym}
+use Rattle.std.proofs.lemmas.Result.{err_from_is_err_and}
+use Rattle.btree_valid.specs.Verdicts.{NamesTree}
 use Rattle.btree_valid.proofs.EnterLemmas.{parent-same, same-parent}
 use Rattle.btree_valid.proofs.faults.validate.Goals as goal
 
@@ -19,3 +21,23 @@ returns-then-ne-2-clause-accepts g c = λ tree.
 
 pub returns-clause-only : goal.returns-clause-only
 returns-clause-only g c = λ ok. c.in_ok-after.ensures.only (same-parent c.in_ok-after.after.items (Some 0) c.if-ne.ensures) (same-parent c.in_ok-after.after.nodes (Some 0) c.if-ne-2.ensures)
+
+pub returns-in_err-after-clause-verdict : goal.returns-in_err-after-clause-verdict
+returns-in_err-after-clause-verdict g c =
+    let e = err_from_is_err_and c.from_residual.result c.from_residual.ensures.1 in
+    rw (e.1, e.2) (inl (c.in_err-after.field-0.0, subst (NamesTree g.K.Ord.cmp (g.C.Nodes.content c.args.nodes.now) c.args.root c.args.len) c.in_err-after.was c.check_root.ensures.names, refl))
+
+pub returns-then-ne-clause-verdict : goal.returns-then-ne-clause-verdict
+returns-then-ne-clause-verdict g c =
+    let n = subst (NamesTree g.K.Ord.cmp (g.C.Nodes.content c.args.nodes.now) c.args.root c.args.len) c.in_ok-after.was c.check_root.ensures.names in
+    inr (n.none, inl (λ same. parent-same c.in_ok-after.after.items (Some 0) c.if-ne.ensures (n.all_items.1 same), refl))
+
+pub returns-then-ne-2-clause-verdict : goal.returns-then-ne-2-clause-verdict
+returns-then-ne-2-clause-verdict g c =
+    let n = subst (NamesTree g.K.Ord.cmp (g.C.Nodes.content c.args.nodes.now) c.args.root c.args.len) c.in_ok-after.was c.check_root.ensures.names in
+    inr (n.none, inr (n.all_items.0 (same-parent c.in_ok-after.after.items (Some 0) c.if-ne.ensures), inl (λ few. parent-same c.in_ok-after.after.nodes (Some 0) c.if-ne-2.ensures (n.all_nodes.1 few), refl)))
+
+pub returns-clause-verdict : goal.returns-clause-verdict
+returns-clause-verdict g c =
+    let n = subst (NamesTree g.K.Ord.cmp (g.C.Nodes.content c.args.nodes.now) c.args.root c.args.len) c.in_ok-after.was c.check_root.ensures.names in
+    inr (n.none, inr (n.all_items.0 (same-parent c.in_ok-after.after.items (Some 0) c.if-ne.ensures), inr (n.all_nodes.0 (same-parent c.in_ok-after.after.nodes (Some 0) c.if-ne-2.ensures), refl)))

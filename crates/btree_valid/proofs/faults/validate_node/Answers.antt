@@ -3,6 +3,7 @@ use Rattle.std.proofs.lemmas.Result.{err_from_is_err_and}
 use Rattle.std.specs.Option.{unwrap_or}
 use Rattle.btree_valid.specs.Spots.{BlamesAt}
 use Rattle.btree_valid.specs.declared.faults.Met.{Met}
+use Rattle.btree_valid.proofs.EndLemmas.{node-named, node-passed}
 use Rattle.btree_valid.proofs.TreeLemmas.{node-suits}
 use Rattle.btree_valid.proofs.WholeLemmas.{node-blamed, node-met}
 use Rattle.btree_valid.proofs.faults.validate_node.Goals as goal
@@ -31,3 +32,14 @@ returns-in_err-after-clause-blames g c =
     let e = err_from_is_err_and c.from_residual.result c.from_residual.ensures.1 in
     let start : Met = record { leaf_level = None; items = None; nodes = None } in
     rw (e.1, e.2) (λ tree same low formed. node-blamed g.K.Ord.cmp tree c.args.id c.args.parent _ _ (g.C.Nodes.content c.args.nodes.now) same low formed start refl _ refl refl refl refl refl c.in_err-after.field-0.0 (subst (BlamesAt (g.C.Nodes.content c.args.nodes.now) g.K.Ord.cmp _ start) c.in_err-after.was c.check_under.ensures.blames))
+
+pub returns-in_err-after-clause-verdict : goal.returns-in_err-after-clause-verdict
+returns-in_err-after-clause-verdict g c =
+    let e = err_from_is_err_and c.from_residual.result c.from_residual.ensures.1 in
+    let start : Met = record { leaf_level = None; items = None; nodes = None } in
+    rw (e.1, e.2) (node-named (g.C.Nodes.content c.args.nodes.now) g.K.Ord.cmp c.args.id c.args.parent _ _ start refl _ refl refl refl refl refl c.check_under.result c.check_under.ensures.names c.in_err-after.field-0.0 c.in_err-after.was)
+
+pub returns-clause-verdict : goal.returns-clause-verdict
+returns-clause-verdict g c =
+    let start : Met = record { leaf_level = None; items = None; nodes = None } in
+    node-passed (g.C.Nodes.content c.args.nodes.now) g.K.Ord.cmp c.args.id c.args.parent _ _ start refl _ refl refl refl refl refl c.in_ok-after.after c.in_ok-after.ensures.only _ c.unwrap_or.ensures

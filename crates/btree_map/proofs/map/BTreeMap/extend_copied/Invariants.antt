@@ -7,7 +7,7 @@ use Rattle.btree_map.proofs.map.BTreeMap.extend_copied.Given as goal
 abbrev pub invariant-loop-key : goal.invariant-loop-key
 invariant-loop-key g l =
     (g.I.Iterator.can_next l.source × IsFinite (g.I.Iterator.remaining l.source))
-    × (l.self.refusals ≡ l.fn.self.refusals)
+    × (l.self.kept ≡ l.fn.self.kept)
     × ((r : _) (n : _) (t : _) → Extends g.K.Ord.cmp (copied_steps g.I.Iterator.next_gives) (pairs_of l.self) l.source r n t
     → Extends g.K.Ord.cmp (copied_steps g.I.Iterator.next_gives) (pairs_of l.fn.self) l.fn.source r n t)
 

@@ -14,16 +14,16 @@ pub refused-requires : goal.refused-requires
 refused-requires g c κs =
     search rules steps 200000
 
-pub returns-then-len-eq18446744073709551615-clause-inserted : goal.returns-then-len-eq18446744073709551615-clause-inserted
-returns-then-len-eq18446744073709551615-clause-inserted g c =
+pub returns-then-limit-len-clause-inserted : goal.returns-then-limit-len-clause-inserted
+returns-then-limit-len-clause-inserted g c =
     search rules steps 200000
 
-pub returns-then-len-eq18446744073709551615-clause-returned : goal.returns-then-len-eq18446744073709551615-clause-returned
-returns-then-len-eq18446744073709551615-clause-returned g c =
+pub returns-then-limit-len-clause-returned : goal.returns-then-limit-len-clause-returned
+returns-then-limit-len-clause-returned g c =
     grind (arith, common_steps) steps 300000
 
-pub returns-then-len-eq18446744073709551615-clause-refused : goal.returns-then-len-eq18446744073709551615-clause-refused
-returns-then-len-eq18446744073709551615-clause-refused g c =
+pub returns-then-limit-len-clause-refused : goal.returns-then-limit-len-clause-refused
+returns-then-limit-len-clause-refused g c =
     grind (arith, common_steps) steps 300000
 
 pub root_id-requires : goal.root_id-requires

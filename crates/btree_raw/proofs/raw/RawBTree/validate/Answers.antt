@@ -1,4 +1,7 @@
 use Rattle.btree_raw.proofs.raw.RawBTree.validate.Goals as goal
 
-pub returns : goal.returns
-returns g c = rw (← c.self.view_is) (λ ok. c.validate.ensures.only ok, λ tree. c.validate.ensures.accepts tree)
+pub returns-clause-exact : goal.returns-clause-exact
+returns-clause-exact g c = rw (← c.self.view_is) (λ ok. c.validate.ensures.only ok, λ tree. c.validate.ensures.accepts tree)
+
+pub returns-clause-verdict : goal.returns-clause-verdict
+returns-clause-verdict g c = rw (← c.self.view_is) c.validate.ensures.verdict

@@ -9,3 +9,6 @@ returns-clause-only g c = rw (← c.self.view_is) (λ tree. c.validate_node.ensu
 
 pub returns-clause-blames : goal.returns-clause-blames
 returns-clause-blames g c = c.validate_node.ensures.blames c.args.self.now (ap (λ s. s.nodes) (sym c.self.view_is)) (omega (arith, ap (λ s. s.len) c.self.view_is, c.len-len.ensures, c.len-len.type_inv))
+
+pub returns-clause-verdict : goal.returns-clause-verdict
+returns-clause-verdict g c = rw (← c.self.view_is) c.validate_node.ensures.verdict

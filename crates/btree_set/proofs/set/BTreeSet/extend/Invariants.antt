@@ -6,7 +6,7 @@ use Rattle.btree_set.proofs.set.BTreeSet.extend.Given as goal
 abbrev pub invariant-loop-element : goal.invariant-loop-element
 invariant-loop-element g l =
     (g.I.Iterator.can_next l.source × IsFinite (g.I.Iterator.remaining l.source))
-    × (l.self.refusals ≡ l.fn.self.refusals)
+    × (l.self.kept ≡ l.fn.self.kept)
     × ((r : _) (n : _) (t : _) → Extends g.T.Ord.cmp g.I.Iterator.next_gives l.self.elements l.source r n t → Extends g.T.Ord.cmp g.I.Iterator.next_gives l.fn.self.elements l.fn.source r n t)
 
 abbrev pub decreases-loop-element : goal.decreases-loop-element

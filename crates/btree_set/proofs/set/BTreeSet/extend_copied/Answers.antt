@@ -21,7 +21,7 @@ returns-in-Err-clause-stopped g c =
     (c.loop-element.invariant.2 (Some c.in-Some.element.now) c.insert.new.self.elements c.next.new.self (record {
       given = [];
       yields = (_, refl, (_, c.in-Some.ensures.steps, refl));
-      elements = refused-elements c.loop-element.self c.insert.new.self c.in-Err.refused.cause c.in-Err.ensures.cause;
+      elements = refused-elements c.loop-element.self c.insert.new.self c.in-Err.refused.cause c.in-Err.ensures.cause.leaves;
     }))
 
 pub returns-in-Err-clause-cause : goal.returns-in-Err-clause-cause
@@ -29,7 +29,7 @@ returns-in-Err-clause-cause g c = record {
   before = c.loop-element.self;
   uncounted = c.loop-element.invariant.1;
   absent = rw c.in-Err.ensures.returned c.in-Err.ensures.absent;
-  refused = c.in-Err.ensures.cause;
+  refused = rw c.in-Err.ensures.returned c.in-Err.ensures.cause;
 }
 
 pub returns-clause-extended : goal.returns-clause-extended
