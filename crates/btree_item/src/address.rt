@@ -29,6 +29,16 @@ impl Address {
         }
     }
 
+    /// Returns the same address once more, so that a call that takes one leaves the caller its own.
+    pub fn copied(&self) -> Self
+        ensures { result ≡ self.now }
+    {
+        Address {
+            id: self.id,
+            offset: self.offset,
+        }
+    }
+
     /// Returns whether the address is that of no node, at whatever offset.
     pub fn is_nowhere(&self) -> bool
         ensures { IsTrue result ↔ (self.now.id ≡ usize.MAX) }

@@ -1,4 +1,10 @@
-//! Refusals of an insertion and of an update.
+//! Refusals of an insertion and of an update, and the errors that `?` makes of them.
+ghost use Rattle.std.specs.Prelude.{◌≡◌};
+ghost use Rattle.std.specs.IoError.{error_kind};
+ghost use Rattle.std.specs.declared.io.ErrorKind.TheVariants.{OutOfMemory};
+
+use std::alloc::AllocError;
+use std::io;
 
 /// Why an insertion was refused.
 #[derive(Clone, Copy, Debug, PartialEq, Eq)]
@@ -23,4 +29,20 @@ pub struct UpdateRefused<K, F> {
     pub cause: Cause,
     pub key: K,
     pub action: F,
+}
+
+/// A refused insertion as an error of memory, for `?`. The key and the value are dropped.
+impl<K: Drop, V: Drop> From<Refused<K, V>> for AllocError {
+    fn from(_refused: Refused<K, V>) -> AllocError {
+        AllocError
+    }
+}
+
+/// A refused insertion as an error of input and output, of the kind `OutOfMemory`. The key and the value are dropped.
+impl<K: Drop, V: Drop> From<Refused<K, V>> for io::Error {
+    ghost from_gives = { λ _ error. error_kind error ≡ OutOfMemory };
+
+    fn from(_refused: Refused<K, V>) -> io::Error {
+        io::Error::from(io::ErrorKind::OutOfMemory)
+    }
 }
