@@ -17,7 +17,7 @@ const LINES: [&str; 27] = [
     "n, m: set_parent PARENT; validate PARENT MIN MAX: each may be none; merge LEFT RIGHT: the item between two children is taken out",
     "n, m: split: the other node is the right part; append ITEM: with what the other node holds; clone: the other node is the copy",
     "NODE: T is the root, T02 a path to a node, M the marked one, unused one that is not there. ADDRESS: NODE:OFFSET or nowhere",
-    "t: build ((0 1) 3 (4 5 6 7)): the keys in brackets; build [24]: the number of items of each leaf; from_map KEYS: the tree of a map",
+    "t: build ((0 1) 3 (4 5 6 7)): the keys in brackets; build [24]: the number of items of each leaf; from_map KEYS: the tree of a map; a text that is no tree, or a refused node: not built",
     "t: to_map: the list of a map of the tree, or the fault for which it is refused; the tree is there again then",
     "t: tower LEVELS: internal nodes, each the first child of the one above, whose other children are one leaf",
     "t: shape counts draw len nodes root_id validate clear marked; set_len N; set_root_id NODE, which may be none",

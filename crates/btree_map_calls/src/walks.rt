@@ -61,7 +61,8 @@ where
     match end {
         b'f' => put(items.next(), reply),
         b'b' => put(items.next_back(), reply),
-        _ => reply.hint(items.size_hint()),
+        b'h' => reply.hint(items.size_hint()),
+        _ => Ok(reply.unknown()),
     }
 }
 
@@ -118,6 +119,14 @@ where
     Ok(())
 }
 
+// Says so of a range that was dropped at once.
+fn say_dropped(ends: &str, reply: &mut Reply) -> Result<(), AllocError> {
+    if ends == "" {
+        return reply.word("dropped");
+    }
+    Ok(())
+}
+
 // Walks a clone that is owned.
 fn owned<C: CloneNodes<u64, u64> + Drop>(
     map: &Map<C>,
@@ -156,7 +165,8 @@ fn iter_mut<C: NodesMut<u64, u64>>(
                 None => reply.word("none")?,
             },
             b'h' => reply.hint(pairs.size_hint())?,
-            _ => reply.left(pairs.len())?,
+            b'l' => reply.left(pairs.len())?,
+            _ => reply.unknown(),
         }
     }
     Ok(())
@@ -176,7 +186,8 @@ fn values_mut<C: NodesMut<u64, u64>>(
                 None => reply.word("none")?,
             },
             b'h' => reply.hint(values.size_hint())?,
-            _ => reply.left(values.len())?,
+            b'l' => reply.left(values.len())?,
+            _ => reply.unknown(),
         }
     }
     Ok(())
@@ -203,10 +214,11 @@ fn range_mut<C: NodesMut<u64, u64>>(
                 Some((key, value)) => reply.pair(*key, write(value, action))?,
                 None => reply.word("none")?,
             },
-            _ => reply.truth(pairs.is_empty())?,
+            b'e' => reply.truth(pairs.is_empty())?,
+            _ => reply.unknown(),
         }
     }
-    Ok(())
+    say_dropped(ends, reply)
 }
 
 fn range<C: NodesMut<u64, u64>>(
@@ -218,7 +230,8 @@ fn range<C: NodesMut<u64, u64>>(
     if !is_valid_range(bounds) {
         return reply.word("not valid");
     }
-    walk(map.range(bounds), ends, reply)
+    walk(map.range(bounds), ends, reply)?;
+    say_dropped(ends, reply)
 }
 
 // Does a call of a range.

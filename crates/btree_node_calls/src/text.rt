@@ -27,10 +27,11 @@ fn read_leaf(parent: Option<usize>, text: &str) -> Option<PlainNode> {
         return Some(Node::Leaf(LeafNode::empty(parent)));
     }
     let (first, rest) = word(text);
-    let mut leaf = LeafNode::new(parent, read_item(first)?);
+    let item = read_item(first)?;
     if rest == "" {
-        return Some(Node::Leaf(leaf));
+        return Some(Node::leaf(parent, item));
     }
+    let mut leaf = LeafNode::new(parent, item);
     for word in rest.split(' ') {
         let item = read_item(word)?;
         if leaf.item_count() >= 9 {
@@ -76,10 +77,12 @@ fn read_internal<C: NodesMut<u64, u64>>(
     let (right, rest) = word(rest);
     let left = named(raw, mark, left)?;
     let right = named(raw, mark, right)?;
-    let mut node = Internal::binary(parent, left, read_item(item)?, right);
-    if rest != "" {
-        read_branches(raw, mark, &mut node, rest)?;
+    let item = read_item(item)?;
+    if rest == "" {
+        return Some(Node::binary(parent, left, item, right));
     }
+    let mut node = Internal::binary(parent, left, item, right);
+    read_branches(raw, mark, &mut node, rest)?;
     Some(Node::Internal(node))
 }
 
