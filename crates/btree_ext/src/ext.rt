@@ -69,6 +69,17 @@ pub trait BTreeExt<K: Ord, V> {
         self.as_raw().item(addr)
     }
 
+    /// Returns the key and the value of the item at an address. An item must be there; `item` decides that.
+    fn pair_at(&self, addr: Address) -> (&K, &V)
+        requires { IsOccupiedIn (state self.now) addr }
+        ensures { item_of (state self.now) addr ≡ Some (result.0.now, result.1.now) }
+    {
+        let Some(item) = self.item(addr) else {
+            unreachable!()
+        };
+        (item.key(), item.value())
+    }
+
     /// Returns how many levels of nodes there are: 0 without pairs, and at most 32. It reads one node of each level.
     fn height(&self) -> usize
         ensures value { HasLevels (state self.now) result }

@@ -15,6 +15,7 @@ mod map;
 mod owned;
 mod pair_test;
 mod removal;
+mod shown;
 mod traits;
 
 pub use cursor::{EntriesMut, IterMut, RangeMut, ValuesMut};

@@ -10,6 +10,7 @@ mod extension;
 mod intersection;
 mod peeked;
 mod set;
+mod shown;
 mod symmetric_difference;
 mod union;
 

@@ -5,6 +5,9 @@
 
 use btree_store::SlabStore;
 
+pub use btree_ext::{BTreeExt, BTreeExtMut};
+pub use btree_item::Address;
+
 /// A map with its nodes in a slab, with memory from the global allocator.
 pub type BTreeMap<K, V> = generic::BTreeMap<K, V, SlabStore<generic::Node<K, V>>>;
 
@@ -24,6 +27,7 @@ pub mod generic {
         pub use btree_map::{
             BTreeMap, ByKey, ByPair, DrainFilter, EntriesMut, Entry, IntoIter, IntoKeys,
             IntoValues, IterMut, OccupiedEntry, PairTest, RangeMut, VacantEntry, ValuesMut,
+            run_out, seek_from,
         };
         pub use btree_raw::RawBTree;
         pub use btree_walk::{Iter, Keys, Range, Values, is_valid_range};
@@ -65,6 +69,6 @@ pub mod script {
 
 /// Lists of a fixed capacity, a search in one, and a counter of no bytes.
 pub mod utils {
-    pub use btree_item::{Slots, binary_search_min};
+    pub use btree_item::{Slots, SlotsIter, binary_search_min};
     pub use btree_steps::Steps;
 }
