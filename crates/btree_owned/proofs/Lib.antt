@@ -5,6 +5,7 @@ pub mod ChainLemmas
 pub mod LastLemmas
 pub mod CountLemmas
 pub mod StartLemmas
+pub mod StretchLemmas
 pub mod StepLemmas
 pub mod BackLemmas
 pub mod LeafLemmas

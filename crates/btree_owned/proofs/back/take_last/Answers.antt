@@ -22,9 +22,11 @@ returns-in-Some-clause-taken g c =
     (unwritten c.args.tree.now c.args.from c.node_mut-node.result.now c.node_mut-node.ensures.value) c.take_last_below.ensures.taken
 
 pub take_right-item-requires : goal.take_right-item-requires
-take_right-item-requires g c =
-    (c.tell_fits.ensures, last-room c.args.tree.now c.args.from c.args.from c.node_mut-node.result.now c.node_mut-node.ensures.value
-    (leaf-has-last c.args.tree.now c.args.from c.node_mut-node.result.now c.node_mut-node.ensures.value (sym c.child_id_opt.ensures ∙ c.in_default.is)) (λ h t d at. at) c.requires)
+take_right-item-requires g c = (
+  c.tell_fits.ensures,
+  last-room c.args.tree.now c.args.from c.args.from c.node_mut-node.result.now c.node_mut-node.ensures.value
+      (leaf-has-last c.args.tree.now c.args.from c.node_mut-node.result.now c.node_mut-node.ensures.value (sym c.child_id_opt.ensures ∙ c.in_default.is)) (λ h t d at. at) c.requires,
+)
 
 pub release_spent-top-requires : goal.release_spent-top-requires
 release_spent-top-requires g c =

@@ -1,4 +1,3 @@
-use Rattle.btree_node.specs.Node.{view_of}
 use Rattle.btree_shape.specs.TreeState.{node_map}
 use Rattle.btree_owned.proofs.StepLemmas.{used-of}
 use Rattle.btree_owned.proofs.BackLemmas.{last-climbs, last-room, last-taken}

@@ -1,4 +1,3 @@
-use Rattle.btree_node.specs.Node.{view_of}
 use Rattle.btree_shape.specs.TreeState.{node_map}
 use Rattle.btree_owned.proofs.StepLemmas.{first-climbs, first-room, first-taken, used-of}
 use Rattle.btree_owned.proofs.front.take_first_below.Goals as goal

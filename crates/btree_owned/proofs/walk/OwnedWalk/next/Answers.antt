@@ -1,5 +1,5 @@
 use Rattle.std.proofs.Common.{refl, arith, ◌∙◌, ap, ◌+◌, ◌-◌}
-use Rattle.btree_shape.specs.TreeState.{node_map, pairs_of}
+use Rattle.btree_shape.specs.TreeState.{node_map}
 use Rattle.btree_owned.proofs.LeavingLemmas.{front-stands, next-leaving, next-pair}
 use Rattle.btree_owned.proofs.walk.OwnedWalk.next.Goals as goal
 
