@@ -79,4 +79,11 @@ fn main() {
         let is_absent = |key: &u64| descending.insert(*key, *key).is_none();
         (1..=count as u64).rev().filter(is_absent).count() as u64
     });
+
+    let filled = || put.iter().zip(0..).map(|(key, index)| (*key, index)).collect::<BTreeMap<u64, u64>>();
+    let sum = |sum: u64, (key, value): (u64, u64)| sum.wrapping_add(key).wrapping_add(value);
+    let owned = filled();
+    phase("consume", || owned.into_iter().fold(0, sum));
+    let owned = filled();
+    phase("consume_back", || owned.into_iter().rev().fold(0, sum));
 }

@@ -1,5 +1,5 @@
-//! Times insertion, look-up, walks from both ends and removal in the kit's map and in this repository's map, and insertion in descending
-//! order, in this repository's map also at the address of the item before, and short ranges of it.
+//! Times insertion, look-up, walks from both ends, removal, and owning walks from both ends, in the kit's map and in this repository's map,
+//! and insertion in descending order, in this repository's map also at the address of the item before, and short ranges of it.
 //!
 //! Without an argument it runs over 1000 keys and prints the sum of each phase. With a number of keys as its argument it prints, for each
 //! phase, its name, the nanoseconds that it took, and its sum.
@@ -174,6 +174,25 @@ fn measure_descents(
     measure_descent_at(rt, is_timed, count)
 }
 
+// Both ends of an iterator that owns its map, each of a new one.
+fn measure_owned<T: Table>(
+    rt: &(impl Print + Clock),
+    is_timed: bool,
+    map: &str,
+    (table, other): (T, T),
+    keys: &Keys,
+) -> io::Result<()> {
+    let (mut table, mut other) = (table, other);
+    let _present = put_all(&mut table, keys.put.as_slice())?;
+    let since = Instant::now(rt)?;
+    let sum = table.into_sum();
+    report(rt, is_timed, (map, "consume"), since, sum)?;
+    let _present = put_all(&mut other, keys.put.as_slice())?;
+    let since = Instant::now(rt)?;
+    let sum = other.into_sum_back();
+    report(rt, is_timed, (map, "consume_back"), since, sum)
+}
+
 fn measure_both(
     rt: &(impl Print + Clock + AllocGlobal),
     count: usize,
@@ -185,7 +204,11 @@ fn measure_both(
     let mut ours = SlabMap::new(rt.alloc());
     measure(rt, is_timed, "btree_slab", &mut ours, &keys)?;
     measure_ranges(rt, is_timed, &keys)?;
-    measure_descents(rt, is_timed, count as u64)
+    measure_descents(rt, is_timed, count as u64)?;
+    let kit = (KitMap::new(rt.alloc()), KitMap::new(rt.alloc()));
+    measure_owned(rt, is_timed, "std", kit, &keys)?;
+    let ours = (SlabMap::new(rt.alloc()), SlabMap::new(rt.alloc()));
+    measure_owned(rt, is_timed, "btree_slab", ours, &keys)
 }
 
 // Returns the number of keys that the arguments give, and whether times are printed; `None` if they are something else.

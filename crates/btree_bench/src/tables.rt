@@ -1,4 +1,6 @@
 //! The maps that are measured.
+ghost use Rattle.std.specs.Iterator.{IsFinite};
+
 use btree_map::BTreeMap;
 use btree_node::Node;
 use btree_store::SlabStore;
@@ -27,6 +29,23 @@ pub trait Table {
 
     /// Removes a key, and returns its value, or `None`.
     fn take(&mut self, key: u64) -> Option<u64>;
+
+    /// Returns the sum of all keys and values, by an iterator that owns the map, from the front.
+    fn into_sum(self) -> u64;
+
+    /// Returns the same sum, from the back.
+    fn into_sum_back(self) -> u64;
+}
+
+fn sum_of<I: Iterator<Item = (u64, u64)> + Drop>(pairs: I) -> u64
+    requires can { I.can_next pairs }
+    requires ends { IsFinite (I.remaining pairs) }
+{
+    let mut sum = 0u64;
+    for (key, value) in pairs {
+        sum = sum.wrapping_add(key).wrapping_add(value);
+    }
+    sum
 }
 
 impl Table for KitMap {
@@ -56,6 +75,14 @@ impl Table for KitMap {
 
     fn take(&mut self, key: u64) -> Option<u64> {
         self.remove(&key)
+    }
+
+    fn into_sum(self) -> u64 {
+        sum_of(self.into_iter())
+    }
+
+    fn into_sum_back(self) -> u64 {
+        sum_of(self.into_iter().rev())
     }
 }
 
@@ -89,5 +116,13 @@ impl Table for SlabMap {
 
     fn take(&mut self, key: u64) -> Option<u64> {
         self.remove(&key)
+    }
+
+    fn into_sum(self) -> u64 {
+        sum_of(self.into_iter())
+    }
+
+    fn into_sum_back(self) -> u64 {
+        sum_of(self.into_iter().rev())
     }
 }

@@ -112,4 +112,10 @@ impl Reply {
         self.word("left")?;
         self.count(count)
     }
+
+    /// Adds how many nodes are held, as `nodes 3`.
+    pub fn nodes(&mut self, count: usize) -> Result<(), AllocError> {
+        self.word("nodes")?;
+        self.count(count)
+    }
 }

@@ -11,7 +11,7 @@ const LINES: [&str; 31] = [
     "KEY=VALUE is a pair. ADDRESS: nowhere, a path and an offset as T:0 or T02:-1, or of:KEY, that of a key or of its gap",
     "NODE: T is the root, T02 a path to a node, of:KEY that of an address, unused one that is not there",
     "WRITE: =VALUE or +NUMBER. ACTION: a WRITE, none, turn:VALUE or flip:VALUE. TEST: all, nothing, even, odd, KEY or KEY|KEY",
-    "ENDS: f and b take from the front and the back, h is the hint, l the number left, e whether a range is empty",
+    "ENDS: f and b take from the front and the back, h is the hint, l the number left, e whether a range is empty, n the nodes that into_iter holds",
     "a, b: len is_empty nodes height root list shape draw validate clear into_raw from_raw first_key_value last_key_value pop_first pop_last",
     "a, b: get contains_key get_key_value index remove remove_entry take KEY; insert replace KEY=VALUE; get_mut KEY WRITE; update KEY ACTION",
     "a, b: entry KEY; or_insert or_insert_with and_modify KEY=VALUE WRITE; or_insert_with_key or_default KEY WRITE",

@@ -127,6 +127,23 @@ fn say_dropped(ends: &str, reply: &mut Reply) -> Result<(), AllocError> {
     Ok(())
 }
 
+// Takes pairs from both ends of an iterator that owns its map; n asks for the number of nodes that it holds.
+fn walk_owned<C: NodesMut<u64, u64> + Drop>(
+    pairs: IntoIter<u64, u64, C>,
+    ends: &str,
+    reply: &mut Reply,
+) -> Result<(), AllocError> {
+    let mut pairs = pairs;
+    for end in ends.as_bytes() {
+        match *end {
+            b'n' => reply.nodes(pairs.node_count())?,
+            b'l' => reply.left(pairs.len())?,
+            _ => take(&mut pairs, *end, reply)?,
+        }
+    }
+    Ok(())
+}
+
 // Walks a clone that is owned.
 fn owned<C: CloneNodes<u64, u64> + Drop>(
     map: &Map<C>,
@@ -139,7 +156,7 @@ fn owned<C: CloneNodes<u64, u64> + Drop>(
         return Ok(true);
     };
     match verb {
-        "into_iter" => walk_known(IntoIter::new(copy), ends, reply)?,
+        "into_iter" => walk_owned(IntoIter::new(copy), ends, reply)?,
         "into_keys" => walk_known(copy.into_keys(), ends, reply)?,
         "into_values" => walk_known(copy.into_values(), ends, reply)?,
         _ => put_all(copy.into_iter(), reply)?,

@@ -63,37 +63,40 @@ fn gives_each_pair_once(rt: HostRuntime) {
     }
 }
 
-// Takes so many pairs from each end of a hundred, and drops the others.
+// Takes so many pairs of a hundred, in each step from the front or from the back as it is that step's turn, and drops the others.
 fn take_some<V: Drop, C: NodesMut<u64, V> + Drop>(
     rt: &impl Abort,
     map: BTreeMap<u64, V, C>,
     drops: &Cell<u64>,
-    from_front: u64,
-    from_back: u64,
+    turns: [bool; 2],
+    taken: u64,
 ) {
     let mut pairs = IntoIter::new(map);
-    for _ in 0..from_front {
-        drop(pairs.next());
+    for step in 0..taken {
+        if turns[(step % 2) as usize] {
+            drop(pairs.next());
+        } else {
+            drop(pairs.next_back());
+        }
     }
-    for _ in 0..from_back {
-        drop(pairs.next_back());
-    }
-    let taken = from_front.wrapping_add(from_back);
     assert_same(rt, drops.get(), taken);
     assert_same(rt, pairs.len() as u64, 100u64.wrapping_sub(taken));
+    assert_same(rt, pairs.node_count() == 0, taken == 100);
     drop(pairs);
     assert_same(rt, drops.get(), 100);
 }
 
-// Each row: how many are taken from the front, and from the back.
+// After each number of pairs, from the front, from the back and from both in turn.
 #[test]
 fn drops_what_is_left(rt: HostRuntime) {
-    for (from_front, from_back) in [(0, 0), (1, 0), (50, 0), (10, 10), (30, 30), (50, 50)] {
-        let drops = Cell::new(0u64);
-        let Some(map) = hundred(rt.alloc(), &drops) else {
-            panic!(rt; "no memory")
-        };
-        take_some(&rt, map, &drops, from_front, from_back);
+    for taken in 0..101u64 {
+        for turns in [[true, true], [false, false], [true, false]] {
+            let drops = Cell::new(0u64);
+            let Some(map) = hundred(rt.alloc(), &drops) else {
+                panic!(rt; "no memory")
+            };
+            take_some(&rt, map, &drops, turns, taken);
+        }
     }
 }
 

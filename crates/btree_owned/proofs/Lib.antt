@@ -1,0 +1,12 @@
+pub mod RestLemmas
+pub mod FirstLemmas
+pub mod ClimbLemmas
+pub mod ChainLemmas
+pub mod LastLemmas
+pub mod CountLemmas
+pub mod StartLemmas
+pub mod StretchLemmas
+pub mod StepLemmas
+pub mod BackLemmas
+pub mod LeafLemmas
+pub mod LeavingLemmas
