@@ -32,6 +32,7 @@ use Rattle.btree_shape.specs.Place.{item_at}
 use Rattle.btree_raw.specs.Claimed.{EMPTY, MayRefuseOneOf}
 use Rattle.btree_raw.specs.Steps.{IsCountingSplits}
 use Rattle.btree_raw.specs.Claimed.{AreClaimed}
+use Rattle.btree_raw.specs.OverflowSplit.{IsOverflowSplit}
 use Rattle.btree_raw.specs.Raw.{Refuses}
 use Rattle.btree_raw.specs.Rebalance.{FreesNodes, HasRoom, AllocatesForSplits, IsFit, IsRebalanced, IsRefusal, StaysAsIs}
 use Rattle.btree_raw.specs.Underflow.{AreFixed, IsFixingOf, FixesUnderflowUpward, IsRepairedOrEmpty}
@@ -150,8 +151,10 @@ module _ {K V : Type 0} (cmp : K → K → Ordering) (laws : IsTotalOrder cmp) (
 
       rebalanced : (Overflows node_at id → AllocatesForSplits old new id strain e.after) → ((room : HasRoom node_at id) → FreesNodes old new id room.node strain e.after)
           → (HasRoom node_at id → (t : ℕ) → old.root ≡ Some t → IsUnderflowFixed node_at (node_map new) t new.root id)
-          → (IsFit node_at old.root id → StaysAsIs old new a b) → IsRebalanced old new id cmp a b
-      rebalanced taken freed steps stays = record {
+          → (IsFit node_at old.root id → StaysAsIs old new a b)
+          → (Overflows node_at id → (t : ℕ) → old.root ≡ Some t → IsOverflowSplit node_at (node_map new) t new.root id)
+          → IsRebalanced old new id cmp a b
+      rebalanced taken freed steps stays cuts = record {
         well = is-tree-but-length cmp new xs e.well;
         pairs = same-pairs;
         len = same_len;
@@ -164,6 +167,7 @@ module _ {K V : Type 0} (cmp : K → K → Ordering) (laws : IsTotalOrder cmp) (
         back = back;
         settled = stays;
         fixed = steps;
+        split = cuts;
         before = strain;
         after = e.after;
         strain_before = subst (λ t. IsStrain node_at t strain) (sym o.at_root) (numbers, listed, refl);
@@ -266,6 +270,7 @@ module _ {K V : Type 0} (cmp : K → K → Ordering) (laws : IsTotalOrder cmp) (
             (record { freed = length m.removed; fewer = fewer; within = within; within_strain = (let p = ends.within_strain in omega arith) }))
             (λ room t same. m.steps t same)
             stays
+            (λ over t same. let s = same-node over.node fits.node over.here fits.here in let z = ap size_of s in let y = ap most_of s in let f = fits.room in let g = over.over in absurd (omega arith))
 
       -- with enough items nothing changes
       pub enough-rebalanced : 2 < size_of fits.node → IsRebalanced old old id cmp a a
@@ -352,3 +357,4 @@ module _ {K V : Type 0} (cmp : K → K → Ordering) (laws : IsTotalOrder cmp) (
               (λ room. let t = same-node over.node room.node over.here room.here in let z = ap size_of t in let y = ap most_of t in let f = room.room in let g = over.over in absurd (omega arith))
               (λ room t same. let q = same-node over.node room.node over.here room.here in let z = ap size_of q in let y = ap most_of q in let f = room.room in let g = over.over in absurd (omega arith))
               (λ fit. let q = same-node over.node fit.node over.here fit.here in let z = ap size_of q in let y = ap most_of q in let f = fit.sized.1 in let g = over.over in absurd (omega arith))
+              (λ full t same. record { spare = ids; claimed = node_map mid; claims = claims; splits = s.split.order t (same-root rest ∙ same) })

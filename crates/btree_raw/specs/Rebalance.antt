@@ -2,9 +2,9 @@
 -- Read `IsRebalanced` first: the tree is well formed except for its length, which stays, with the same list and no
 -- refusal counted. The returned address is valid, at the place and item of the old one; if there was nothing to
 -- rebalance (`IsFit`), it is the old one. Then its two bounds on nodes, both within the strain: `AllocatesForSplits` if
--- the node overflowed, else `FreesNodes`, by the steps of `IsUnderflowFixed`. `IsRefusal` is the other outcome, only if
--- the node overflows and the store may refuse one of the nodes of the splits. `rebalance` cites `IsRebalanced` and
--- `IsRefusal`.
+-- the node overflowed, by the cuts of `IsOverflowSplit`; else `FreesNodes`, by the steps of `IsUnderflowFixed`.
+-- `IsRefusal` is the other outcome, only if the node overflows and the store may refuse one of the nodes of the splits.
+-- `rebalance` cites `IsRebalanced` and `IsRefusal`.
 use Rattle.std.specs.Prelude.{◌≡◌, ℕ, ◌+◌, ◌≤◌, Option, Some, IsSome}
 use Rattle.std.specs.FinMap as map
 use Rattle.std.specs.declared.cmp.Ordering.{Ordering}
@@ -19,6 +19,7 @@ use Rattle.btree_shape.specs.Strain.{debt_of}
 use Rattle.btree_shape.specs.TreeState.{TreeState, HasLevels, HasStrain, IsBTreeButLength, IsPlaceIn, IsValidIn, item_of, node_map, nodes_for_splits, pairs_of}
 use Rattle.btree_shape.specs.WellFormed.{IsSized}
 use Rattle.btree_raw.specs.Claimed.{EMPTY, MayRefuseOneOf}
+use Rattle.btree_raw.specs.OverflowSplit.{IsOverflowSplit}
 use Rattle.btree_raw.specs.Raw.{Refuses}
 use Rattle.btree_raw.specs.Steps.{Overflows}
 
@@ -57,8 +58,9 @@ module _ {K V : Type 0} (old new : TreeState K V) (id : ℕ) where
     pub within_strain : freed + after ≤ before + debt_of node
 
   -- the tree is well formed except for its length, with the same pairs; address a became b, at the same place, and at
-  -- the same item if there was one; the nodes allocated or freed are within the strain; if node `id` does not overflow,
-  -- the steps are those of `IsUnderflowFixed`; and if it is fit, tree and address stay as they are
+  -- the same item if there was one; the nodes allocated or freed are within the strain; if node `id` overflows, the nodes
+  -- are cut as `IsOverflowSplit` says; if not, the steps are those of `IsUnderflowFixed`; and if it is fit, tree and
+  -- address stay as they are
   pub record IsRebalanced (cmp : K → K → Ordering) (a b : Address) : Type 0 where
     pub well : IsBTreeButLength cmp new
     pub pairs : pairs_of new ≡ pairs_of old
@@ -70,6 +72,7 @@ module _ {K V : Type 0} (old new : TreeState K V) (id : ℕ) where
     pub back : IsSome a.offset → IsSome b.offset
     pub settled : IsFit (node_map old) old.root id → StaysAsIs old new a b
     pub fixed : HasRoom (node_map old) id → (root : ℕ) → old.root ≡ Some root → IsUnderflowFixed (node_map old) (node_map new) root new.root id
+    pub split : Overflows (node_map old) id → (root : ℕ) → old.root ≡ Some root → IsOverflowSplit (node_map old) (node_map new) root new.root id
     pub before : ℕ
     pub after : ℕ
     pub strain_before : HasStrain old before
