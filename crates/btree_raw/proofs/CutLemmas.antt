@@ -10,7 +10,8 @@ use Rattle.btree_view.specs.View.{NodeMap, View, most_of, parent_of, size_of}
 use Rattle.btree_shape.specs.Step.{Splits}
 use Rattle.btree_shape.specs.TreeState.{views}
 use Rattle.btree_shape.proofs.Trees.Stores.{writes_node}
-use Rattle.btree_raw.specs.Steps.{CanCut, CutsAtMedian, CutsNode, HasCount, LeavesPart, Overflows, StaysWhole}
+use Rattle.btree_raw.specs.OverflowSplit.{CutsNode, StaysWhole}
+use Rattle.btree_raw.specs.Steps.{CanCut, CutsAtMedian, HasCount, LeavesPart, Overflows}
 use Rattle.btree_raw.proofs.StepLemmas.{halves}
 
 module _ {K V : Type 0} (nodes : Content (Node K V)) (id : ℕ) (node : Node K V) where

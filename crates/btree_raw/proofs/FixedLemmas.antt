@@ -11,13 +11,14 @@ use Rattle.btree_shape.specs.Need.{levels_above}
 use Rattle.btree_shape.specs.Lists.{times_listed}
 use Rattle.btree_shape.specs.Focus.Underflow.{MayUnderflowAt}
 use Rattle.btree_shape.specs.Step.{RemovesNode}
-use Rattle.btree_shape.specs.WellFormed.{times_used}
+use Rattle.btree_shape.specs.WellFormed.{least_of, times_used}
 use Rattle.btree_shape.proofs.Paths.Frames.{one-other, one-self}
 use Rattle.btree_shape.proofs.Underflow.Order.{underflow-apart, underflow-root}
 use Rattle.btree_shape.proofs.Trees.Numbers.{listed-append, same-or, used-mapped, used-one, used-there}
 use Rattle.btree_shape.proofs.Underflow.Upward.{underflow-done, underflow-done-root, underflow-node, underflow-used, to-child, to-nothing}
-use Rattle.btree_shape.proofs.Trees.Sizes.{least-low, least-root}
+use Rattle.btree_shape.proofs.Trees.Sizes.{least-low, least-other, least-root}
 use Rattle.btree_raw.specs.NodeSteps.{CanShrinkRoot}
+use Rattle.btree_raw.specs.Rebalance.{IsFit}
 use Rattle.btree_raw.specs.Underflow.{AreFixed, IsFollowed, IsFixing, PassesUnderflowUp, EndsUnderflow, IsRepairedOrEmpty}
 use Rattle.btree_raw.specs.Steps.{HasCount}
 use Rattle.btree_raw.proofs.BorrowLemmas.{followed-node, followed-under}
@@ -45,6 +46,20 @@ module _ {A : Type 0} where
   same-known : (node_at new : NodeMap A) (root : Option ℕ) (top : ℕ) (xs : List A) (expected : Option A) (b : Address) (place freed bound : ℕ) → root ≡ Some top
       → IsRepaired A new top xs expected b place freed bound → IsRepairedOrEmpty new root xs expected b place freed bound
   same-known node_at new root top xs expected b place freed bound is g = subst (λ r. IsRepairedOrEmpty new r xs expected b place freed bound) (sym is) g
+
+least-some : (root id : ℕ) → 0 < least_of root id
+least-some root id = elim (same-or id root) [
+  | inl e ↦ let l = least-root root id e in omega arith
+  | inr ne ↦ let l = least-other root id ne in omega arith
+]
+
+-- a fit node has an item
+pub fit-some : {A : Type 0} (node_at : NodeMap A) (root : Option ℕ) (id count : ℕ) → IsFit node_at root id → HasCount node_at id count → 0 < count
+fit-some node_at root id count fit counted =
+    let l = least-some fit.top id in
+    let e = size-at node_at id count fit.node fit.here counted in
+    let f = fit.sized.0 in
+    omega arith
 
 module _ {A : Type 0} (node_at : NodeMap A) (root : Option ℕ) (id : ℕ) (a : Address) (s : IsFixing node_at root id a)
     (top : option_map parent_of (node_at id) ≡ Some None) (count : ℕ) (counted : HasCount node_at id count) where
@@ -231,6 +246,16 @@ module _ {A : Type 0} (old now : NodeMap A) (root : Option ℕ) (start id : ℕ)
             few = omega arith;
             named = under;
           }
+
+  -- so it is not fit
+  pub short-unfit : (p count : ℕ) → option_map parent_of (now id) ≡ Some (Some p) → HasCount now id count → count ≤ 2 → IsFit now root id → ⊥
+  short-unfit p count under counted few fit =
+      let u = short-under p count under counted few fit.top fit.at_root in
+      let l = least-other fit.top id u.apart in
+      let z = ap size_in fit.here in
+      let e = fit.sized.0 in
+      let f = u.few in
+      omega arith
 
   -- no item too few
   pub fix-done : (v : View A) → now id ≡ Some v → 2 < size_of v → AreFixed old now root root start a b

@@ -32,8 +32,9 @@ use Rattle.btree_shape.specs.Place.{item_at}
 use Rattle.btree_raw.specs.Claimed.{EMPTY, MayRefuseOneOf}
 use Rattle.btree_raw.specs.Steps.{IsCountingSplits}
 use Rattle.btree_raw.specs.Claimed.{AreClaimed}
+use Rattle.btree_raw.specs.OverflowSplit.{IsOverflowSplit}
 use Rattle.btree_raw.specs.Raw.{Refuses}
-use Rattle.btree_raw.specs.Rebalance.{FreesNodes, HasRoom, AllocatesForSplits, IsRebalanced, IsRefusal}
+use Rattle.btree_raw.specs.Rebalance.{FreesNodes, HasRoom, AllocatesForSplits, IsFit, IsRebalanced, IsRefusal, StaysAsIs}
 use Rattle.btree_raw.specs.Underflow.{AreFixed, IsFixingOf, FixesUnderflowUpward, IsRepairedOrEmpty}
 use Rattle.btree_raw.specs.Steps.{IsSplitting, Overflows, SplitsUpward}
 use Rattle.btree_raw.proofs.LevelLemmas.{split_need-few}
@@ -150,8 +151,10 @@ module _ {K V : Type 0} (cmp : K → K → Ordering) (laws : IsTotalOrder cmp) (
 
       rebalanced : (Overflows node_at id → AllocatesForSplits old new id strain e.after) → ((room : HasRoom node_at id) → FreesNodes old new id room.node strain e.after)
           → (HasRoom node_at id → (t : ℕ) → old.root ≡ Some t → IsUnderflowFixed node_at (node_map new) t new.root id)
+          → (IsFit node_at old.root id → StaysAsIs old new a b)
+          → (Overflows node_at id → (t : ℕ) → old.root ≡ Some t → IsOverflowSplit node_at (node_map new) t new.root id)
           → IsRebalanced old new id cmp a b
-      rebalanced taken freed steps = record {
+      rebalanced taken freed steps stays cuts = record {
         well = is-tree-but-length cmp new xs e.well;
         pairs = same-pairs;
         len = same_len;
@@ -162,7 +165,9 @@ module _ {K V : Type 0} (cmp : K → K → Ordering) (laws : IsTotalOrder cmp) (
             (e.follow None q (record { valid = valid-root; at_place = subst (λ t. IsPlace node_at t xs a.id a.offset q) o.at_root at; item = tt })).at_place;
         item = λ x q. let p = place-of (Some x) q in (e.follow (Some x) p.0 p.1).item x refl;
         back = back;
+        settled = stays;
         fixed = steps;
+        split = cuts;
         before = strain;
         after = e.after;
         strain_before = subst (λ t. IsStrain node_at t strain) (sym o.at_root) (numbers, listed, refl);
@@ -256,14 +261,16 @@ module _ {K V : Type 0} (cmp : K → K → Ordering) (laws : IsTotalOrder cmp) (
             let w = within-root h.0 h.1 in
             omega arith
 
-        pub fixed : (IsSome a.offset → IsSome b.offset) → IsRebalanced old new id cmp a b
-        fixed back =
+        pub fixed : (IsSome a.offset → IsSome b.offset) → (IsFit node_at old.root id → StaysAsIs old new a b) → IsRebalanced old new id cmp a b
+        fixed back stays =
             rebalanced new b u.len u.uncounted back (0 + length m.removed) low-bound ends
             (λ over. let s = same-node over.node fits.node over.here fits.here in let z = ap size_of s in let y = ap most_of s in let f = fits.room in let g = over.over in absurd (omega arith))
             (λ room.
             subst (λ n. FreesNodes old new id n strain ends.after) (same-node fits.node room.node fits.here room.here)
             (record { freed = length m.removed; fewer = fewer; within = within; within_strain = (let p = ends.within_strain in omega arith) }))
             (λ room t same. m.steps t same)
+            stays
+            (λ over t same. let s = same-node over.node fits.node over.here fits.here in let z = ap size_of s in let y = ap most_of s in let f = fits.room in let g = over.over in absurd (omega arith))
 
       -- with enough items nothing changes
       pub enough-rebalanced : 2 < size_of fits.node → IsRebalanced old old id cmp a a
@@ -275,6 +282,7 @@ module _ {K V : Type 0} (cmp : K → K → Ordering) (laws : IsTotalOrder cmp) (
             uncounted = refl;
           })
           (λ is. is)
+          (λ fit. record { same_tree = refl; same_address = refl })
 
     -- an item too many
     module _ (over : Overflows node_at id) where
@@ -348,3 +356,5 @@ module _ {K V : Type 0} (cmp : K → K → Ordering) (laws : IsTotalOrder cmp) (
               (λ full. record { more = (let m = more in omega arith); within_strain = (let p = split-ends.within_strain in omega arith) })
               (λ room. let t = same-node over.node room.node over.here room.here in let z = ap size_of t in let y = ap most_of t in let f = room.room in let g = over.over in absurd (omega arith))
               (λ room t same. let q = same-node over.node room.node over.here room.here in let z = ap size_of q in let y = ap most_of q in let f = room.room in let g = over.over in absurd (omega arith))
+              (λ fit. let q = same-node over.node fit.node over.here fit.here in let z = ap size_of q in let y = ap most_of q in let f = fit.sized.1 in let g = over.over in absurd (omega arith))
+              (λ full t same. record { spare = ids; claimed = node_map mid; claims = claims; splits = s.split.order t (same-root rest ∙ same) })

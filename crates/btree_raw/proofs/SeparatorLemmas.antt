@@ -15,7 +15,8 @@ use Rattle.btree_view.specs.View.{View, leaf, internal, children_of, most_of, si
 use Rattle.btree_shape.specs.Lists.{times_listed}
 use Rattle.btree_shape.specs.TreeState.{views}
 use Rattle.btree_shape.proofs.Trees.Numbers.{same-or}
-use Rattle.btree_raw.specs.Steps.{AddsItem, CanAddSeparator, CanAddItem, AddsSeparator}
+use Rattle.btree_raw.specs.OverflowSplit.{AddsSeparator}
+use Rattle.btree_raw.specs.Steps.{AddsItem, CanAddSeparator, CanAddItem}
 use Rattle.btree_shape.proofs.Paths.Frames.{one-other}
 use Rattle.btree_shape.proofs.Places.Untouched.{other-test, same-test}
 

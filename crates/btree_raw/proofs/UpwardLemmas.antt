@@ -19,7 +19,8 @@ use Rattle.btree_shape.proofs.Paths.Frames.{one-self}
 use Rattle.btree_shape.proofs.Splits.Upward.{UpTo, child-apart, child-used, overflow-done, overflow-node, overflow-spare, overflow-used, new-root, root-spare, spare-apart, spare-used, to-parent}
 use Rattle.btree_shape.proofs.Trees.Numbers.{less-or, none-listed, same-or, times-has, used-low, used-mapped, used-one, zero-or}
 use Rattle.btree_shape.proofs.Trees.Sizes.{view-most, view-size}
-use Rattle.btree_raw.specs.Steps.{AddsSeparator, AreSplit, CanAddSeparator, CanCut, CanGrowRoot, CanSplitInto, Cut, HasCount, IsSplitting, MayCut, Overflows}
+use Rattle.btree_raw.specs.OverflowSplit.{AddsSeparator, CutsNode, OverflowSplit, goes_up, grows_root, rests}
+use Rattle.btree_raw.specs.Steps.{AreSplit, CanAddSeparator, CanCut, CanGrowRoot, CanSplitInto, Cut, HasCount, IsSplitting, MayCut, Overflows}
 use Rattle.btree_raw.proofs.SeparatorLemmas.{one-more}
 use Rattle.btree_raw.proofs.OffsetLemmas.{overflow-low}
 
@@ -72,13 +73,14 @@ grow_root-used node_at new i j r x s used n = elim (same-or n r) [
 
 module _ (A : Type 0) (old now : NodeMap A) (root : Option ℕ) (start id : ℕ) (spare rest : List ℕ) (a b : Address) where
   -- what held for the tree at the start holds at the node that the splits have reached, with as many nodes allocated as
-  -- numbers used
+  -- numbers used; and what the order of the cuts makes of the nodes from here on, it makes of those at the start
   pub record SplitUpTo : Type 0 where
     pub taken : ℕ
     pub counted : taken + length rest ≡ length spare
     pub next : (top : ℕ) (xs : List A) (expected : Option A) (place allocated bound : ℕ) → root ≡ Some top
         → MayOverflowAt A old top xs start spare expected a place allocated bound → MayOverflowAt A now top xs id rest expected b place (allocated + taken) bound
     pub used : (n : ℕ) → times_used (now n) ≡ times_used (old n)
+    pub order : (top : ℕ) → root ≡ Some top → (new : NodeMap A) (new_root : Option ℕ) → OverflowSplit top new new_root now id rest → OverflowSplit top new new_root old start spare
     pub back : IsSome a.offset → IsSome b.offset
     pub low : (n : ℕ) → 0 < times_listed n rest → n < 2 ^ 64 - 1
 
@@ -88,6 +90,7 @@ upward-start A node_at root start spare a low = record {
   counted = omega arith;
   next = λ top xs expected place allocated bound is g. let e : allocated ≡ allocated + 0 = omega arith in subst (λ n. MayOverflowAt A node_at top xs start spare expected a place n bound) e g;
   used = λ n. refl;
+  order = λ top is new new_root cuts. cuts;
   back = λ x. x;
   low = all-listed (λ n. n < 2 ^ 64 - 1) spare low;
 }
@@ -129,6 +132,8 @@ module _ (A : Type 0) (old now : NodeMap A) (root : Option ℕ) (start id : ℕ)
               subst (λ r. IsRepaired A now r xs expected b place (allocated + length spare) bound) same
               (subst (λ n. IsRepaired A now top xs expected b place (allocated + n) bound) t
               (overflow-done A now top xs id rest expected b place (allocated + c.taken) bound (c.next top xs expected place allocated bound is g) v e low));
+          order = λ top is. c.order top is now root
+              (rests now id rest (record { node = v; here = e; room = low; same = refl }) (nil_from_length rest z) is);
         }
 
     module _ (lt : most_of v < size_of v) where
@@ -167,6 +172,13 @@ module _ (A : Type 0) (old now : NodeMap A) (root : Option ℕ) (start id : ℕ)
           mid-used : (n : ℕ) → times_used (mid n) ≡ times_used (now n)
           mid-used n = split-used now mid id j x sp j-used n
 
+          v-over : IsOverflowing sp.node
+          v-over = let w = sp.here in let same : v ≡ sp.node = cc in subst (λ u. IsOverflowing u) same lt
+
+          -- the cut that was made
+          the-cut : (o : Option ℕ) → parent_of v ≡ o → CutsNode now mid id rest more o kept x j
+          the-cut o up = record { named = ap (option_map parent_of) e ∙ ap Some up; last = is; splits = sp; over = v-over; leaves = leaves }
+
           moved-back : (p k : ℕ) → IsSome b.offset → IsSome (moved_by_split id j p k kept b).offset
           moved-back p k is = some-back now (moved_by_split id j p k kept b).offset (split-back now id j p k kept b (back-some now b.offset is))
 
@@ -196,6 +208,7 @@ module _ (A : Type 0) (old now : NodeMap A) (root : Option ℕ) (start id : ℕ)
                   (subst (λ m. MayOverflowAt A new top xs p more expected (moved_by_split id j p k m b) place (suc (allocated + c.taken)) bound) kept-is
                   (t.next new k (subst (λ u. slice_get (children_of u) k ≡ Some id) same l.child) (subst (λ u. WritesNode mid new p (with_item k x (Some j) u)) same l.writes_node)));
               used = λ n. put-used mid new p l.node (with_item k x (Some j) l.node) l.here l.writes_node n ∙ (mid-used n ∙ c.used n);
+              order = λ top at last last_root cuts. c.order top at last last_root (goes_up now mid new id p kept j k x rest more (the-cut (Some p) up) l cuts);
               back = λ is. moved-back p k (c.back is);
               low = λ n some. c.low n (let q = ps.0 n in omega arith);
             }
@@ -259,6 +272,8 @@ module _ (A : Type 0) (old now : NodeMap A) (root : Option ℕ) (start id : ℕ)
                       let n : suc (suc (allocated + c.taken)) ≡ allocated + length spare = (let q1 = c.counted in let q2 = ps.1 in let q3 = alone in omega arith) in
                       subst (λ m. IsRepaired A new r xs expected (moved_by_split id j r 0 kept b) place m bound) n
                       (subst (λ m. IsRepaired A new r xs expected (moved_by_split id j r 0 m b) place (suc (suc (allocated + c.taken))) bound) kept-is t);
+                  order = λ top at. c.order top at new (Some r) (grows_root now mid id kept j r x rest
+                      (subst (λ l. CutsNode now mid id rest l None kept x j) (is2 ∙ ap (λ l. l ++ r ∷ []) upward-none-left-root) (the-cut None up)) ra refl);
                 }
 
                 pub upward-back-end : IsSome a.offset → IsSome (moved_by_split id j r 0 kept b).offset

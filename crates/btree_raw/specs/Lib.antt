@@ -1,4 +1,5 @@
 pub mod Claimed
+pub mod OverflowSplit
 pub mod Steps
 pub mod NodeSteps
 pub mod Underflow

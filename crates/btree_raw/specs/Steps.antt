@@ -2,11 +2,11 @@
 -- `CanAddItem` and the other words with `Can` are what calls require of the nodes. What a call leaves is here or in
 -- `Step.antt` of `btree_shape`. Read them in the order of a split: `CanAddItem` and `AddsItem` (an item is added);
 -- `Overflows` and `CutsAtMedian`, `CanReparent`, `CanSplitInto` (a node is split); `CanAddSeparator` and
--- `AddsSeparator` (the median goes to the parent); `CanGrowRoot` (or to a new root). Then the whole way upward:
--- `split_upward` requires `IsSplitting` and ensures `SplitsUpward`, so what held of the tree and of the followed
--- address at the start (`MayOverflowAt`) holds at the end (`IsRepaired`). `IsCountingSplits` is what `split_need`
--- requires, and the state of its loop. The words of `Rebalance.antt` cite `Overflows` too.
-use Rattle.std.specs.Prelude.{◌≡◌, ◌≢◌, ℕ, ◌+◌, ◌-◌, ◌^◌, ◌<◌, ◌≤◌, List, [], ◌∷◌, ◌++◌, All, length, slice_get, Option, Some, None, option_map, IsTrue, Bool, nat_lt}
+-- `AddsSeparator` of `OverflowSplit.antt` (the median goes to the parent); `CanGrowRoot` (or to a new root). Then the
+-- whole way upward: `split_upward` requires `IsSplitting` and ensures `SplitsUpward`, so what held of the tree and of
+-- the followed address at the start (`MayOverflowAt`) holds at the end (`IsRepaired`). `IsCountingSplits` is what
+-- `split_need` requires, and the state of its loop. The words of `Rebalance.antt` cite `Overflows` too.
+use Rattle.std.specs.Prelude.{◌≡◌, ◌≢◌, ℕ, ◌+◌, ◌-◌, ◌^◌, ◌<◌, ◌≤◌, List, [], ◌∷◌, ◌++◌, All, length, Option, Some, None, option_map, IsTrue, Bool, nat_lt}
 use Rattle.btree_item.specs.declared.TheConstants.{MAX_CLAIMS}
 use Rattle.btree_item.specs.declared.address.Address.{Address}
 use Rattle.btree_view.specs.View.{View, NodeMap, size_of, most_of, children_in, children_of, parent_of}
@@ -15,9 +15,10 @@ use Rattle.btree_shape.specs.Focus.Overflow.{MayOverflowAt, IsRepaired}
 use Rattle.btree_shape.specs.Focus.Need.{IsCountingUpward}
 use Rattle.btree_shape.specs.Need.{split_need}
 use Rattle.btree_shape.specs.Lists.{times_listed}
-use Rattle.btree_shape.specs.Step.{Becomes, Splits, WritesNode}
+use Rattle.btree_shape.specs.Step.{Becomes, WritesNode}
 use Rattle.btree_shape.specs.TreeState.{TreeState, Changes, node_map}
 use Rattle.btree_shape.specs.WellFormed.{times_used}
+use Rattle.btree_raw.specs.OverflowSplit.{AddsSeparator, CutsNode, OverflowSplit, StaysWhole}
 
 module _ {A : Type 0} (node_at : NodeMap A) where
   -- node `id` has room for an item at the index, and a child is given exactly if it is an internal node
@@ -60,13 +61,6 @@ module _ {A : Type 0} (node_at : NodeMap A) where
       pub parts : (node : View A) → node_at id ≡ Some node → IsSplit node median left right
       pub writes_node : WritesNode node_at new id left
 
-  -- node `id` has no item too many; nothing has changed
-  pub record StaysWhole (new : NodeMap A) (id : ℕ) : Type 0 where
-    pub node : View A
-    pub here : node_at id ≡ Some node
-    pub room : size_of node ≤ most_of node
-    pub same : new ≡ node_at
-
   -- node `id` overflows, and another node is there for its right part; the children of `id` are there, and none of them
   -- is one of these two
   pub record CanSplitInto (id right : ℕ) : Type 0 where
@@ -105,14 +99,6 @@ module _ {A : Type 0} (node_at : NodeMap A) where
     pub room : size_of node ≤ most_of node
     pub child : 0 < times_listed id (children_of node)
 
-  -- node `above` has the item at the index of its child `id`, and node `right` as the child after it; nothing else has
-  -- changed
-  pub record AddsSeparator (new : NodeMap A) (above id right index : ℕ) (x : A) : Type 0 where
-    pub node : View A
-    pub here : node_at above ≡ Some node
-    pub child : slice_get (children_of node) index ≡ Some id
-    pub writes_node : WritesNode node_at new above (with_item index x (Some right) node)
-
   -- node `id` of the tree with this root may have an item too many, `spare` has the numbers for the splits, and an
   -- address is followed
   pub record IsSplitting (root : Option ℕ) (id : ℕ) (spare : List ℕ) (a : Address) : Type 0 where
@@ -126,12 +112,14 @@ module _ {A : Type 0} (node_at : NodeMap A) where
     pub overflow : MayOverflowAt A node_at top xs id spare expected a place allocated bound
 
   -- the result of a split upward: whatever held of the tree and of address `a` holds of the tree under the new root and
-  -- of address `b`, no node overflows, and each of the numbers is that of a node
+  -- of address `b`, no node overflows, and each of the numbers is that of a node; the nodes are cut as `OverflowSplit`
+  -- says
   pub record AreSplit (new : NodeMap A) (root new_root : Option ℕ) (id : ℕ) (spare : List ℕ) (a b : Address) : Type 0 where
     pub top : ℕ
     pub at_root : new_root ≡ Some top
     pub repaired : (old_top : ℕ) (xs : List A) (expected : Option A) (place allocated bound : ℕ) → root ≡ Some old_top
         → MayOverflowAt A node_at old_top xs id spare expected a place allocated bound → IsRepaired A new top xs expected b place (allocated + length spare) bound
+    pub order : (old_top : ℕ) → root ≡ Some old_top → OverflowSplit old_top new new_root node_at id spare
 
 -- a node of `whole` was cut, and its right part is yet to be placed, at the last of the claimed numbers
 pub record LeavesPart {A : Type 0} (now : NodeMap A) (right : View A) (spare : List ℕ) : Type 0 where
@@ -156,18 +144,9 @@ Cut K V = Option (Option ℕ × ℕ × (K × V) × ℕ)
 
 module _ {K V : Type 0} where
   module _ (node_at new : NodeMap (K × V)) (id : ℕ) (spare rest : List ℕ) where
-    -- node `id` had an item too many and named this parent, and was split at the median; its right part went to the last
-    -- of the claimed numbers
-    pub record CutsNode (parent : Option ℕ) (kept : ℕ) (median : K × V) (right : ℕ) : Type 0 where
-      pub named : HasParent node_at id parent
-      pub last : spare ≡ rest ++ right ∷ []
-      pub splits : Splits node_at new id right median
-      pub over : IsOverflowing splits.node
-      pub leaves : HasCount new id kept
-
     -- node `id` was cut if it had an item too many; else no claimed number was used
     abbrev pub MayCut : Cut K V → Type 0
-    MayCut (Some cut) = CutsNode cut.0 cut.1 cut.2 cut.3
+    MayCut (Some cut) = CutsNode node_at new id spare rest cut.0 cut.1 cut.2 cut.3
     MayCut None = StaysWhole node_at new id × (rest ≡ spare)
 
   module _ (old : TreeState K V) where

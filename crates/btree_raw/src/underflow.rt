@@ -1,8 +1,9 @@
 //! Fixes of underflows, from a node upward.
-ghost use Rattle.std.specs.Prelude.{◌≡◌, ◌-◌, ℕ, ◌≤◌, IfSome, IsSome, Some, None, option_map, true, false};
+ghost use Rattle.std.specs.Prelude.{◌≡◌, ◌-◌, ℕ, ◌<◌, ◌≤◌, IfSome, IsSome, Some, None, option_map, true, false};
 ghost use Rattle.btree_view.specs.View.{parent_of};
 ghost use Rattle.btree_shape.specs.UnderflowFix.{Borrows, MergesNode};
 ghost use Rattle.btree_shape.specs.TreeState.{KeepsRest, node_map};
+ghost use Rattle.btree_raw.specs.Rebalance.{IsFit, StaysAsIs};
 ghost use Rattle.btree_raw.specs.Underflow.{AreAdjacent, BorrowsFromLeft, EndsHere, GoesUp, HasSiblings, IsChild, IsFollowed, IsFixing, IsFixingOf, Underflows, MergesWithLeft, FixesUnderflowUpward};
 ghost use Rattle.btree_raw.specs.Underflow as specs;
 ghost use Rattle.btree_raw.specs.Steps.{HasCount, HasParent};
@@ -128,6 +129,7 @@ fn fix_root<K: Drop, V: Drop, C: NodesMut<K, V>>(
     requires top { option_map parent_of (node_map tree.old id) ≡ Some None }
     requires count { HasCount (node_map tree.old) id count }
     ensures fixed { FixesUnderflowUpward tree.old tree.new id addr result }
+    ensures settled { 0 < count → StaysAsIs tree.old tree.new addr result }
     ensures back { IsSome addr.offset → IsSome result.offset }
 {
     if count > 0 {
@@ -146,7 +148,8 @@ fn fix_root<K: Drop, V: Drop, C: NodesMut<K, V>>(
 }
 
 /// Fixes the underflow of a node, which has `count` items and this parent, if it has too few; then of its parent, and so on upward, up to
-/// the root. Returns the new address of what was at `addr`. It needs no new node, so it cannot fail.
+/// the root. Returns the new address of what was at `addr`. It needs no new node, so it cannot fail. If the node has enough items, nothing
+/// changes, and it returns `addr`.
 ///
 /// The caller has just fetched the node, so it is not fetched again for its count and its parent.
 pub fn fix_underflow_upward<K: Drop, V: Drop, C: NodesMut<K, V>>(
@@ -161,6 +164,7 @@ pub fn fix_underflow_upward<K: Drop, V: Drop, C: NodesMut<K, V>>(
     requires count { HasCount (node_map tree.old) start count }
     requires parent { HasParent (node_map tree.old) start parent }
     ensures fixed { FixesUnderflowUpward tree.old tree.new start addr result }
+    ensures settled { IsFit (node_map tree.old) tree.old.root start → StaysAsIs tree.old tree.new addr result }
     ensures back { IsSome addr.offset → IsSome result.offset }
 {
     tree.tell_fits();

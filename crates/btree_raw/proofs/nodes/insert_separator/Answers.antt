@@ -5,7 +5,7 @@ use Rattle.btree_view.specs.Edits.{is_internal}
 use Rattle.btree_view.specs.View.{items_of}
 use Rattle.btree_shape.specs.TreeState.{Changes, node_map}
 use Rattle.btree_raw.specs.Raw.{with_node}
-use Rattle.btree_raw.specs.Steps.{AddsSeparator}
+use Rattle.btree_raw.specs.OverflowSplit.{AddsSeparator}
 use Rattle.btree_raw.proofs.CutLemmas.{cuts-node, here-after, over-after, part-after, stays-after}
 use Rattle.btree_raw.proofs.SeparatorLemmas.{above-used, child-there, index-few, can-add, inserts}
 use Rattle.btree_raw.proofs.StateLemmas.{then}

@@ -8,4 +8,4 @@ fix_underflow_upward-requires g c = λ κs out. (
 )
 
 pub returns : goal.returns
-returns g c = fixed g.K.Ord.cmp g.met.K.Ord.total c.args.tree.now c.args.id c.requires.off_by_one c.args.addr c.requires.valid c.requires.room c.fix_underflow_upward.new.tree c.fix_underflow_upward.result c.fix_underflow_upward.ensures.fixed c.fix_underflow_upward.ensures.back
+returns g c = fixed g.K.Ord.cmp g.met.K.Ord.total c.args.tree.now c.args.id c.requires.off_by_one c.args.addr c.requires.valid c.requires.room c.fix_underflow_upward.new.tree c.fix_underflow_upward.result c.fix_underflow_upward.ensures.fixed c.fix_underflow_upward.ensures.back c.fix_underflow_upward.ensures.settled

@@ -1,4 +1,4 @@
-use Rattle.std.proofs.Common.{refl}
+use Rattle.std.proofs.Common.{arith, refl}
 use Rattle.btree_shape.specs.TreeState.{node_map}
 use Rattle.btree_shape.proofs.Trees.Stores.{used-view}
 use Rattle.btree_raw.proofs.FixedLemmas.{root-there, root-rests, can-release, released, emptied}
@@ -7,6 +7,15 @@ use Rattle.btree_raw.proofs.underflow.fix_root.Goals as goal
 
 pub returns-then-count-gt0-clause-fixed : goal.returns-then-count-gt0-clause-fixed
 returns-then-count-gt0-clause-fixed g c = record { fixed = root-rests (node_map c.args.tree.now) c.args.tree.now.root c.args.id c.args.addr c.requires.fixing c.requires.top c.args.count c.requires.count c.if-count-gt0.true; len = refl; uncounted = refl }
+
+pub returns-then-count-gt0-clause-settled : goal.returns-then-count-gt0-clause-settled
+returns-then-count-gt0-clause-settled g c = λ some. record { same_tree = refl; same_address = refl }
+
+pub returns-in-Some-clause-settled : goal.returns-in-Some-clause-settled
+returns-in-Some-clause-settled g c = λ some. absurd (omega (arith, c.if-count-gt0.false))
+
+pub returns-in-None-clause-settled : goal.returns-in-None-clause-settled
+returns-in-None-clause-settled g c = λ some. absurd (omega (arith, c.if-count-gt0.false))
 
 pub shrink_root-requires-clause-used : goal.shrink_root-requires-clause-used
 shrink_root-requires-clause-used g c = used-view c.args.tree.now.nodes c.args.id (root-there (node_map c.args.tree.now) c.args.tree.now.root c.args.id c.args.addr c.requires.fixing c.requires.top c.args.count c.requires.count)

@@ -3,7 +3,7 @@ use Rattle.btree_shape.specs.TreeState.{node_map}
 use Rattle.btree_shape.proofs.Trees.Stores.{used-view}
 use Rattle.btree_raw.specs.Underflow.{AreFixed}
 use Rattle.btree_raw.proofs.FetchedLemmas.{count-there, parent-there}
-use Rattle.btree_raw.proofs.FixedLemmas.{fix-start, still-followed, still-fixing, fix-used, fix-low, fix-enough, fix-here, fix-root, fix-above, fix-lower-of}
+use Rattle.btree_raw.proofs.FixedLemmas.{fit-some, fix-start, short-unfit, still-followed, still-fixing, fix-used, fix-low, fix-enough, fix-here, fix-root, fix-above, fix-lower-of}
 use Rattle.btree_raw.proofs.StateLemmas.{same-len, same-kept, same-root, then}
 use Rattle.btree_raw.proofs.underflow.fix_underflow_upward.Goals as goal
 
@@ -13,6 +13,8 @@ loop-held-init g c = record {
   rest = record { rest = refl };
   count = c.requires.1.1.1.1.1.0;
   parent = c.requires.1.1.1.1.1.1;
+  stays = λ fit. record { same_tree = refl; same_address = refl };
+  fit = λ fit. fit;
 }
 
 pub returns-clause-fixed : goal.returns-clause-fixed
@@ -21,6 +23,9 @@ returns-clause-fixed g c = record {
   len = same-len c.loop-held.invariant.rest;
   uncounted = same-kept c.loop-held.invariant.rest;
 }
+
+pub returns-clause-settled : goal.returns-clause-settled
+returns-clause-settled g c = c.loop-held.invariant.stays
 
 pub returns-clause-back : goal.returns-clause-back
 returns-clause-back g c = c.loop-held.invariant.up_to.back
@@ -46,6 +51,12 @@ returns-in_default-clause-fixed g c =
 pub returns-in_default-clause-back : goal.returns-in_default-clause-back
 returns-in_default-clause-back g c = λ is. c.fix_root.ensures.back (c.loop-held.invariant.up_to.back is)
 
+pub returns-in_default-clause-settled : goal.returns-in_default-clause-settled
+returns-in_default-clause-settled g c = λ fit.
+    let before = c.loop-held.invariant.stays fit in
+    let last = c.fix_root.ensures.settled (fit-some (node_map c.loop-held.tree) c.args.tree.now.root c.loop-held.id c.loop-held.held (c.loop-held.invariant.fit fit) c.loop-held.invariant.count) in
+    record { same_tree = last.same_tree ∙ before.same_tree; same_address = last.same_address ∙ before.same_address }
+
 pub fix_underflow_at-moved-requires-clause-followed : goal.fix_underflow_at-moved-requires-clause-followed
 fix_underflow_at-moved-requires-clause-followed g c = still-followed (node_map c.args.tree.now) (node_map c.loop-held.tree) c.args.tree.now.root c.args.start c.loop-held.id c.args.addr c.loop-held.at c.requires.1.1.1.1.0.fixing c.loop-held.invariant.up_to
 
@@ -69,6 +80,11 @@ returns-then-not-up-clause-fixed g c = record {
 pub returns-then-not-up-clause-back : goal.returns-then-not-up-clause-back
 returns-then-not-up-clause-back g c = λ is. c.fix_underflow_at-moved.ensures.back (c.loop-held.invariant.up_to.back is)
 
+pub returns-then-not-up-clause-settled : goal.returns-then-not-up-clause-settled
+returns-then-not-up-clause-settled g c = λ fit.
+    absurd (short-unfit (node_map c.args.tree.now) (node_map c.loop-held.tree) c.args.tree.now.root c.args.start c.loop-held.id c.args.addr c.loop-held.at c.requires.1.1.1.1.0.fixing c.loop-held.invariant.up_to
+    c.in-Some.parent c.loop-held.held (c.loop-held.invariant.parent ∙ ap Some c.in-Some.is) c.loop-held.invariant.count (omega arith) (c.loop-held.invariant.fit fit))
+
 pub node-node-requires : goal.node-node-requires
 node-node-requires g c = (
   c.tell_fits.ensures,
@@ -86,4 +102,8 @@ loop-held-preserved g c = record {
   rest = then c.loop-held.invariant.rest c.fix_underflow_at-moved.ensures.rest;
   count = count-there c.fix_underflow_at-moved.new.tree.nodes c.in-Some.parent c.node-node.result.now c.node-node.ensures.value c.item_count-held.result c.item_count-held.ensures.value;
   parent = parent-there c.fix_underflow_at-moved.new.tree.nodes c.in-Some.parent c.node-node.result.now c.node-node.ensures.value c.parent-above.result c.parent-above.ensures.value;
+  stays = λ fit. absurd (short-unfit (node_map c.args.tree.now) (node_map c.loop-held.tree) c.args.tree.now.root c.args.start c.loop-held.id c.args.addr c.loop-held.at c.requires.1.1.1.1.0.fixing c.loop-held.invariant.up_to
+      c.in-Some.parent c.loop-held.held (c.loop-held.invariant.parent ∙ ap Some c.in-Some.is) c.loop-held.invariant.count (omega arith) (c.loop-held.invariant.fit fit));
+  fit = λ fit. absurd (short-unfit (node_map c.args.tree.now) (node_map c.loop-held.tree) c.args.tree.now.root c.args.start c.loop-held.id c.args.addr c.loop-held.at c.requires.1.1.1.1.0.fixing c.loop-held.invariant.up_to
+      c.in-Some.parent c.loop-held.held (c.loop-held.invariant.parent ∙ ap Some c.in-Some.is) c.loop-held.invariant.count (omega arith) (c.loop-held.invariant.fit fit));
 }

@@ -1,5 +1,6 @@
 use Rattle.btree_shape.specs.Need.{levels_above}
 use Rattle.btree_shape.specs.TreeState.{KeepsRest, node_map}
+use Rattle.btree_raw.specs.Rebalance.{IsFit, StaysAsIs}
 use Rattle.btree_raw.specs.Steps.{HasCount, HasParent}
 use Rattle.btree_raw.proofs.FixedLemmas.{FixedUpTo}
 use Rattle.btree_raw.proofs.underflow.fix_underflow_upward.Given as goal
@@ -10,6 +11,8 @@ invariant-loop-held g l = record {
   rest : KeepsRest l.fn.tree l.tree;
   count : HasCount (node_map l.tree) l.id l.held;
   parent : HasParent (node_map l.tree) l.id l.above;
+  stays : IsFit (node_map l.fn.tree) l.fn.tree.root l.start → StaysAsIs l.fn.tree l.tree l.fn.addr l.at;
+  fit : IsFit (node_map l.fn.tree) l.fn.tree.root l.start → IsFit (node_map l.tree) l.fn.tree.root l.id;
 }
 
 abbrev pub decreases-loop-held : goal.decreases-loop-held
