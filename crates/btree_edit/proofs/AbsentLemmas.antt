@@ -20,6 +20,7 @@ use Rattle.btree_find.proofs.SearchLemmas.{gap-at}
 use Rattle.btree_edit.specs.Insert.{IsGapFor, IsInserted, IsRefusedAtGap}
 use Rattle.btree_edit.specs.InsertAbsent.{InsertsAbsent, IsGapOf}
 use Rattle.btree_edit.proofs.InsertLemmas.{gap-for, put-inserted_by_key}
+use Rattle.btree_edit.proofs.RefusalLemmas.{refused-at-gap}
 
 back-some : {A : Type 0} (node_at : NodeMap A) (o : Option ℕ) → IsBack node_at o → IsSome o
 back-some node_at None is = absurd is
@@ -63,4 +64,4 @@ module _ {K V : Type 0} (cmp : K → K → Ordering) (laws : IsTotalOrder cmp) (
 
   pub refused-absent : {MayRefuse : Content (Node K V) → Type 0} (new : TreeState K V) (cause : Cause)
       → IsRefused MayRefuse a.id old new cause → IsRefusedAtGap cmp k old new MayRefuse cause
-  refused-absent new cause refused = record { gap = a; is_gap = gap-there; refused = refused }
+  refused-absent new cause refused = refused-at-gap cmp old tree new k a gap-there cause refused

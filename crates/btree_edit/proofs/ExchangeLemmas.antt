@@ -32,6 +32,8 @@ use Rattle.btree_shape.proofs.Trees.Stores.{len-views, writes_node, used-view, w
 use Rattle.btree_shape.proofs.Trees.States.{is-tree, pairs-tree}
 use Rattle.btree_raw.specs.Raw.{with_node}
 use Rattle.btree_raw.proofs.StateLemmas.{same-len, same-kept, same-root}
+use Rattle.btree_find.proofs.FitsLemmas.{item-occupied}
+use Rattle.btree_find.proofs.PlaceLemmas as places
 use Rattle.btree_edit.specs.Exchange.{IsExchanged, IsValueExchanged}
 use Rattle.btree_edit.specs.ValueWritten.{item_written, node_written, value_written}
 
@@ -282,7 +284,7 @@ module _ {K V : Type 0} (cmp : K → K → Ordering) (laws : IsTotalOrder cmp) (
     exchanged = record {
       tree = is-tree cmp new (set xs place is) new-well;
       place = place;
-      at = at-place;
+      here = (places.item-here cmp laws old tree a place (item-occupied old a (rw stood-at refl)) at-place).here;
       pairs = new-pairs;
       item =
           ap (option_and_then (item_in (node_map new a.id))) x.nodes.at
@@ -297,11 +299,9 @@ module _ {K V : Type 0} (cmp : K → K → Ordering) (laws : IsTotalOrder cmp) (
   value-exchanged =
       let at = place-on cmp laws old new a (k, v) (k, w) tree x in
       let keys = set-keys (pairs_of old) at.0 k v w (listed cmp laws old new a (k, v) (k, w) tree x) in
-      record {
-        key = k;
-        had = stood-at cmp laws old new a (k, v) (k, w) tree x;
-        exchanged = exchanged cmp laws old new a (k, v) (k, w) tree x (subst (λ l. IsStrictlySortedBy cmp l) (sym keys) tree.ascends);
-      }
+      let had = stood-at cmp laws old new a (k, v) (k, w) tree x in
+      let e = exchanged cmp laws old new a (k, v) (k, w) tree x (subst (λ l. IsStrictlySortedBy cmp l) (sym keys) tree.ascends) in
+      record { key = k; had = had; exchanged = e; listed = sym e.here.item ∙ had }
 
 -- a value written at an item: the tree afterwards
 module _ {K V : Type 0} (cmp : K → K → Ordering) (laws : IsTotalOrder cmp) (s : TreeState K V) (a : Address) (tree : IsBTree cmp s) (node : Node K V)

@@ -37,7 +37,7 @@ rooted s root e none = absurd (cc)
 module _ {K V : Type 0} (cmp : K → K → Ordering) (laws : IsTotalOrder cmp) (old : TreeState K V) (tree : IsBTree cmp old) (x : K × V)
     (a : Address) (fits : FitsAt cmp x.0 old a) (found : Address) (to : IsLeafAddressFor old a found) where
   leaf-place : IsPlaceIn old found fits.place
-  leaf-place = subst (λ p. IsPlaceIn old found p) (fits.has.only to.place to.has.at) to.at
+  leaf-place = subst (λ p. IsPlaceIn old found p) (fits.has.only to.place to.has.at) to.there.at
 
   -- the key fits at the address in a leaf, at the same place
   pub gap-at-leaf : IsSome a.offset → IsGapFor cmp x.0 old found

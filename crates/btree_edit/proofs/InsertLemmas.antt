@@ -1,17 +1,11 @@
 -- An insertion by key: at a key that is there, and at the gap of one that is not.
-use Rattle.std.proofs.Common.{◌≡◌, ℕ, List, Option, Some, None, Ok, Err, IsSome, refl, sym, ap, subst, ◌∙◌, inl, inr, is_some, if◌then◌else◌, slice_get, option_and_then, arith}
-use Rattle.std.proofs.lemmas.Option.{slice_get_within}
+use Rattle.std.proofs.Common.{◌≡◌, ℕ, List, Option, Some, None, Ok, Err, IsSome, refl, sym, ◌∙◌, is_some, if◌then◌else◌, slice_get, arith}
 use Rattle.std.specs.Cmp.{IsTotalOrder}
 use Rattle.std.specs.declared.cmp.Ordering.{Ordering}
-use Rattle.btree_item.proofs.PairEdits.{KeyFits-before}
 use Rattle.btree_item.proofs.PairLemmas.{set-from_Ok, slice_get-from_Ok}
-use Rattle.btree_item.specs.Pairs.{KeyFits, before, found, found_value, inserted}
+use Rattle.btree_item.specs.Pairs.{before, found, found_value, inserted}
 use Rattle.btree_item.specs.declared.address.Address.{Address}
-use Rattle.btree_view.specs.View.{View, item_in, items_of, size_of}
-use Rattle.btree_shape.specs.Place.{IsEnd, IsPlace, IsPlaceOf}
-use Rattle.btree_shape.specs.TreeState.{TreeState, IsBTree, IsPlaceIn, item_of, node_map, pairs_of}
-use Rattle.btree_shape.specs.WellFormed.{IsWellFormed}
-use Rattle.btree_shape.proofs.Places.OnePlace.{one_place-well}
+use Rattle.btree_shape.specs.TreeState.{TreeState, IsBTree, pairs_of}
 use Rattle.btree_find.specs.Answers.{IsFoundAt, IsGapAt}
 use Rattle.btree_edit.specs.Exchange.{IsValueExchanged}
 use Rattle.btree_edit.specs.Insert.{IsGapFor, IsInserted, InsertsByKey}
@@ -29,31 +23,13 @@ if-some : {X Y : Type 0} (o : Option X) (a b : Y) → IsSome o → (if is_some o
 if-some None a b some = absurd (cc)
 if-some (Some x) a b some = refl
 
-module _ {K V : Type 0} (cmp : K → K → Ordering) (s : TreeState K V) (x : K × V) (a : Address) where
-  not-end : (n : ℕ) (o : Option (View (K × V))) → item_in o n ≡ Some x → IsEnd (node_map s) o n → ⊥
-  not-end n None e end = absurd end
-  not-end n (Some v) e end = let l = slice_get_within (items_of v) n x e in let f : n ≡ size_of v = end in absurd (omega arith)
-
-  placed-under : (top : Option ℕ) → IsWellFormed cmp (node_map s) top s.len (pairs_of s) → (o : Option ℕ) (place : ℕ)
-      → IsPlace (node_map s) top (pairs_of s) a.id o place → option_and_then (item_in (node_map s a.id)) o ≡ Some x → slice_get (pairs_of s) place ≡ Some x
-  placed-under top w None place at e = absurd (cc)
-  placed-under None w (Some n) place at e = let none = w.formed.0 a.id in let f : item_in (node_map s a.id) n ≡ None = ap (λ v. item_in v n) none in absurd (cc)
-  placed-under (Some root) w (Some n) place at e = elim at [
-    | inl there ↦ subst (λ o. IsPlaceOf (node_map s) (pairs_of s) o place) e there
-    | inr end ↦ absurd (not-end n (node_map s a.id) e end.0)
-  ]
-
-  -- the item at an address is the one at its place in the list
-  pub placed-item : IsBTree cmp s → (place : ℕ) → IsPlaceIn s a place → item_of s a ≡ Some x → slice_get (pairs_of s) place ≡ Some x
-  placed-item tree place at e = placed-under s.root tree a.offset place at e
-
 module _ {K V : Type 0} (cmp : K → K → Ordering) (laws : IsTotalOrder cmp) (old : TreeState K V) (k : K) (w : V) (tree : IsBTree cmp old) where
   abbrev xs : List (K × V)
   xs = pairs_of old
 
   module _ (new : TreeState K V) (a : Address) (f : IsFoundAt cmp k old a) (was : V) (x : IsValueExchanged old new a cmp was w) where
     listed : slice_get xs f.place ≡ Some (x.key, was)
-    listed = placed-item cmp old (x.key, was) a tree f.place f.here.has.at x.had
+    listed = sym f.here.item ∙ x.had
 
     is-found : found cmp k xs ≡ Some (x.key, was)
     is-found = sym (slice_get-from_Ok cmp laws k xs f.place tree.ascends f.is) ∙ listed
@@ -66,7 +42,7 @@ module _ {K V : Type 0} (cmp : K → K → Ordering) (laws : IsTotalOrder cmp) (
 
     pub exchanged-pairs : pairs_of new ≡ inserted cmp k w xs
     exchanged-pairs =
-        let same : x.exchanged.place ≡ f.place = one_place-well cmp laws (node_map old) xs old.len old.root tree a.id a.offset x.exchanged.place f.place x.exchanged.at f.here.has.at in
+        let same : x.exchanged.place ≡ f.place = f.here.has.only x.exchanged.place x.exchanged.here.has.at in
         let set_is = set-from_Ok cmp laws k w xs f.place (x.key, was) tree.ascends f.is listed in
         x.exchanged.pairs ∙ (rw same set_is ∙ sym (if-some (found cmp k xs) _ _ is-some))
 
@@ -79,16 +55,16 @@ module _ {K V : Type 0} (cmp : K → K → Ordering) (laws : IsTotalOrder cmp) (
     }
 
   module _ (a : Address) (gap : IsGapAt cmp k old a) where
-    nothing : (found cmp k xs ≡ None) × (before cmp k xs ≡ gap.place)
-    nothing = err-none (before cmp k xs) (before cmp k xs) gap.place (found cmp k xs) gap.is
+    nothing : (found cmp k xs ≡ None) × (before cmp k xs ≡ gap.fits.place)
+    nothing = err-none (before cmp k xs) (before cmp k xs) gap.fits.place (found cmp k xs) gap.is
 
     pub gap-for : IsGapFor cmp k old a
     gap-for = record {
-      place = gap.place;
-      at = gap.at;
+      place = gap.fits.place;
+      at = gap.fits.has.at;
       in_leaf = gap.in_leaf;
       back = gap.back;
-      fits = subst (λ p. KeyFits cmp k p xs) nothing.1 (KeyFits-before cmp laws k xs tree.ascends nothing.0);
+      fits = gap.fits.fits;
     }
 
     pub absent : found cmp k xs ≡ None

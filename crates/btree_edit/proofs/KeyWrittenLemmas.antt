@@ -7,14 +7,12 @@ use Rattle.btree_item.proofs.PairLemmas.{before-from_Ok, set-from_Ok}
 use Rattle.btree_shape.specs.Focus.Positions.{address_at}
 use Rattle.btree_shape.specs.Place.{NOWHERE}
 use Rattle.btree_shape.specs.TreeAddresses.{item_addresses_of}
-use Rattle.btree_shape.specs.TreeState.{TreeState, IsBTree, node_map, pairs_of}
-use Rattle.btree_shape.proofs.Places.OnePlace.{one_place-well}
+use Rattle.btree_shape.specs.TreeState.{TreeState, IsBTree, pairs_of}
 use Rattle.btree_find.specs.Answers.{IsFoundAt}
 use Rattle.btree_edit.specs.Exchange.{IsValueExchanged}
 use Rattle.btree_edit.specs.KeyWritten.{ExchangesValue, address_at_key, key_written}
 use Rattle.btree_edit.specs.ValueWritten.{value_written}
 use Rattle.btree_edit.proofs.ExchangeLemmas.{written-tree}
-use Rattle.btree_edit.proofs.InsertLemmas.{placed-item}
 
 -- a value written at a key, or at none, leaves a well formed tree
 pub key_written-tree : {K V : Type 0} (cmp : K → K → Ordering) (laws : IsTotalOrder cmp) (k : K) (s : TreeState K V) → IsBTree cmp s → (w : V)
@@ -35,9 +33,8 @@ module _ {K V : Type 0} (cmp : K → K → Ordering) (laws : IsTotalOrder cmp) (
   pub exchanges-at_key : (was w : V) → IsValueExchanged s (value_written s a w) a cmp was w → ExchangesValue cmp k s (key_written cmp k s w) was w
   exchanges-at_key was w x =
       let y : IsValueExchanged s (key_written cmp k s w) a cmp was w = subst (λ n. IsValueExchanged s n a cmp was w) (written-at_key w) x in
-      let same : y.exchanged.place ≡ f.place =
-      one_place-well cmp laws (node_map s) (pairs_of s) s.len s.root tree a.id a.offset y.exchanged.place f.place y.exchanged.at f.here.has.at in
-      let listed : slice_get (pairs_of s) f.place ≡ Some (y.key, was) = placed-item cmp s (y.key, was) a tree f.place f.here.has.at y.had in
+      let same : y.exchanged.place ≡ f.place = f.here.has.only y.exchanged.place y.exchanged.here.has.at in
+      let listed : slice_get (pairs_of s) f.place ≡ Some (y.key, was) = sym f.here.item ∙ y.had in
       record {
         pairs =
             y.exchanged.pairs

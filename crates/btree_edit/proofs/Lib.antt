@@ -17,3 +17,4 @@ pub mod UpdateInnerLemmas
 pub mod UpdateKeyLemmas
 pub mod ReplaceByKeyLemmas
 pub mod AbsentLemmas
+pub mod RefusalLemmas

@@ -10,7 +10,6 @@ use Rattle.btree_view.specs.View.{item_in}
 use Rattle.btree_shape.specs.Place.{IsOccupied}
 use Rattle.btree_shape.specs.TreeState.{TreeState, IsBTree, IsOccupiedIn, item_of, node_map, pairs_of}
 use Rattle.btree_find.specs.Answers.{IsFoundAt}
-use Rattle.btree_find.proofs.PlaceLemmas.{only}
 use Rattle.btree_edit.specs.Remove.{IsRemoved, RemovesByKey}
 
 -- at an occupied address there is an item
@@ -27,7 +26,7 @@ module _ {K V : Type 0} (cmp : K → K → Ordering) (laws : IsTotalOrder cmp) (
   xs = pairs_of old
 
   place-is : r.place ≡ f.place
-  place-is = only cmp laws old tree a f.place r.place f.here.has.at r.at
+  place-is = f.here.has.only r.place r.has.at
 
   pub entry-found : Some x ≡ found cmp k xs
   entry-found =

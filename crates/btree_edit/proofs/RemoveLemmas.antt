@@ -70,6 +70,9 @@ module _ {K V : Type 0} (cmp : K → K → Ordering) (old mid : TreeState K V) (
       (f-place : IsPlaceIn mid f place) (f-back : IsSome f.offset)
       (new : TreeState K V) (b : Address) (len : mid.len + 1 ≡ old.len) (uncounted : mid.kept ≡ old.kept)
       (r : IsRebalanced mid new exempt cmp f b) where
+    old-tree : IsBTree cmp old
+    old-tree = subst (λ t. IsWellFormed cmp (node_map old) t old.len (pairs_of old)) (sym at-root) well
+
     root-mid : mid.root ≡ Some root
     root-mid = top ∙ at-root
 
@@ -146,12 +149,12 @@ module _ {K V : Type 0} (cmp : K → K → Ordering) (old mid : TreeState K V) (
           tree = new-tree;
           had = had;
           place = place;
-          at = at;
+          has = has-place cmp laws old old-tree a place at;
           listed = listed;
           pairs = new-pairs;
           restores = ap (λ l. insert l place x) new-pairs ∙ insert-remove (pairs_of old) place x listed;
           valid = r.valid;
-          there = r.place place f-place;
+          there = has-place cmp laws new new-tree b place (r.place place f-place);
           back = r.back f-back;
           fits = fits;
           shorter = omega arith;

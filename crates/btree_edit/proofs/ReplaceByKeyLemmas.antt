@@ -8,7 +8,6 @@ use Rattle.btree_item.specs.Pairs.{before, found}
 use Rattle.btree_item.specs.declared.address.Address.{Address}
 use Rattle.btree_shape.specs.TreeState.{TreeState, IsBTree, item_of, pairs_of}
 use Rattle.btree_find.specs.Answers.{IsFoundAt, IsGapAt}
-use Rattle.btree_find.proofs.PlaceLemmas.{only}
 use Rattle.btree_edit.specs.Exchange.{IsExchanged}
 use Rattle.btree_edit.specs.Insert.{IsInserted}
 use Rattle.btree_edit.specs.Replace.{ReplacesByKey, replaced}
@@ -41,7 +40,7 @@ module _ {K V : Type 0} (cmp : K → K → Ordering) (laws : IsTotalOrder cmp) (
 
     pub exchanged-pairs : pairs_of new ≡ replaced cmp k w xs
     exchanged-pairs =
-        let same : e.place ≡ before cmp k xs = only cmp laws old tree a f.place e.place f.here.has.at e.at ∙ sym (before-from_Ok cmp k xs f.place f.is) in
+        let same : e.place ≡ before cmp k xs = f.here.has.only e.place e.here.has.at ∙ sym (before-from_Ok cmp k xs f.place f.is) in
         e.pairs ∙ (ap (λ n. set xs n (k, w)) same ∙ sym (chosen (found cmp k xs) was _ _ (sym old-pair)))
 
     pub exchanged-by_key : ReplacesByKey cmp k old new w
@@ -59,8 +58,8 @@ module _ {K V : Type 0} (cmp : K → K → Ordering) (laws : IsTotalOrder cmp) (
 
     pub put-pairs : pairs_of new ≡ replaced cmp k w xs
     put-pairs =
-        (is.pairs gap.place gap.at).0
-        ∙ (ap (λ n. insert xs n (k, w)) (sym (before-from_Err cmp k xs gap.place gap.is)) ∙ sym (other (found cmp k xs) (set xs (before cmp k xs) (k, w)) (insert xs (before cmp k xs) (k, w)) none))
+        (is.pairs gap.fits.place gap.fits.has.at).0
+        ∙ (ap (λ n. insert xs n (k, w)) (sym (before-from_Err cmp k xs gap.fits.place gap.is)) ∙ sym (other (found cmp k xs) (set xs (before cmp k xs) (k, w)) (insert xs (before cmp k xs) (k, w)) none))
 
     pub put-by_key : ReplacesByKey cmp k old new w
     put-by_key = record {

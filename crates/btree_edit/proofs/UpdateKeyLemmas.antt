@@ -97,7 +97,7 @@ module _ {K V : Type 0} (cmp : K → K → Ordering) (laws : IsTotalOrder cmp) (
       nothing : found cmp k xs ≡ None
       nothing = found-none (found cmp k xs) gap.is
         where
-          found-none : (o : Option (K × V)) → (if is_some o then Ok (before cmp k xs) else Err (before cmp k xs)) ≡ Err gap.place → o ≡ None
+          found-none : (o : Option (K × V)) → (if is_some o then Ok (before cmp k xs) else Err (before cmp k xs)) ≡ Err gap.fits.place → o ≡ None
           found-none None e = refl
           found-none (Some x) e = absurd (cc)
 
@@ -118,13 +118,13 @@ module _ {K V : Type 0} (cmp : K → K → Ordering) (laws : IsTotalOrder cmp) (
         uncounted = ap (λ (s : TreeState K V). s.kept) u;
       }
       by-gap (Some w) is u =
-          let same = same-place (before cmp k xs) gap.place (found cmp k xs) nothing gap.is in
+          let same = same-place (before cmp k xs) gap.fits.place (found cmp k xs) nothing gap.is in
           record {
             tree = u.1.tree;
             runs = record {
               given = Some w;
               ran = gap-ran (Some w) is;
-              pairs = (u.1.pairs gap.place gap.at).0 ∙ ap (λ n. insert xs n (k, w)) (sym same) ∙ sym (else-none (found cmp k xs) _ (insert xs (before cmp k xs) (k, w)) nothing);
+              pairs = (u.1.pairs gap.fits.place gap.fits.has.at).0 ∙ ap (λ n. insert xs n (k, w)) (sym same) ∙ sym (else-none (found cmp k xs) _ (insert xs (before cmp k xs) (k, w)) nothing);
               by_key = put-inserted_by_key cmp laws old k w well a gap new u.0 u.1;
             };
             uncounted = u.1.uncounted;

@@ -2,11 +2,12 @@
 -- Read `KeepsAddresses` first: root, length and number of nodes stay, and so does every address, with its place.
 -- `IsExchanged` adds the new list, with another item at the place of the address. `IsValueExchanged`, where the key
 -- stays, is what `exchange` ensures; `insert` cites it for a key that is there, by `ExchangesValueAt` (`Insert.antt`).
-use Rattle.std.specs.Prelude.{◌≡◌, ◌≢◌, ℕ, Some, set}
+use Rattle.std.specs.Prelude.{◌≡◌, ◌≢◌, ℕ, Some, set, slice_get}
 use Rattle.std.specs.FinMap as map
 use Rattle.std.specs.declared.cmp.Ordering.{Ordering}
 use Rattle.btree_item.specs.declared.address.Address.{Address}
 use Rattle.btree_shape.specs.TreeState.{TreeState, IsBTree, IsPlaceIn, IsValidIn, item_of, pairs_of}
+use Rattle.btree_find.specs.Navigation.{IsItemAddress}
 
 module _ {K V : Type 0} (old new : TreeState K V) (a : Address) where
   -- every address stays valid, at the same place, and with the same item, or still without one; only address `a`
@@ -19,11 +20,12 @@ module _ {K V : Type 0} (old new : TreeState K V) (a : Address) where
     pub places : (b : Address) (place : ℕ) → IsPlaceIn old b place → IsPlaceIn new b place
     pub others : (b : Address) → b ≢ a → item_of new b ≡ item_of old b
 
-  -- the item at address `a` was replaced by x, also in the list, at the place of the address; every address stays
+  -- the item at address `a` was replaced by x, also in the list, at the place of the address, which had the item that
+  -- was there (`here`); every address stays
   pub record IsExchanged (cmp : K → K → Ordering) (x : K × V) : Type 0 where
     pub tree : IsBTree cmp new
     pub place : ℕ
-    pub at : IsPlaceIn old a place
+    pub here : IsItemAddress old place a
     pub pairs : pairs_of new ≡ set (pairs_of old) place x
     pub item : item_of new a ≡ Some x
     pub keeps : KeepsAddresses
@@ -34,3 +36,4 @@ module _ {K V : Type 0} (old new : TreeState K V) (a : Address) where
     pub key : K
     pub had : item_of old a ≡ Some (key, was)
     pub exchanged : IsExchanged cmp (key, is)
+    pub listed : slice_get (pairs_of old) exchanged.place ≡ Some (key, was)

@@ -4,9 +4,9 @@
 -- (`btree_raw`) is the other outcome. Then `InsertsByKey`, cited by `insert` of tree and map: for an absent key, exactly
 -- the needed nodes were allocated, at most one more than the tree had levels; for a key that is there,
 -- `ExchangesValueAt` (its value is replaced, and every address stays). `IsRefusedAtGap` is its refusal: only at the
--- greatest length, or if the store may refuse one of the needed nodes. `IsGrantedIfAbsent` is the other side: the store
--- can hold the needed nodes beside those that it had.
-use Rattle.std.specs.Prelude.{◌≡◌, ℕ, ◌+◌, ◌≤◌, Some, None, IsSome}
+-- greatest length, or if the store may refuse one of the needed nodes; `LeavesPairs` says of the list alone what it
+-- leaves. `IsGrantedIfAbsent` is the other side: the store can hold the needed nodes beside those that it had.
+use Rattle.std.specs.Prelude.{◌≡◌, ℕ, ◌+◌, ◌<◌, ◌≤◌, length, Some, None, IsSome}
 use Rattle.std.specs.FinMap as map
 use Rattle.std.specs.List.{insert}
 use Rattle.std.specs.declared.cmp.Ordering.{Ordering}
@@ -14,8 +14,9 @@ use Rattle.btree_store.specs.Content.{Content}
 use Rattle.btree_item.specs.Pairs.{KeyFits, found}
 use Rattle.btree_item.specs.declared.address.Address.{Address}
 use Rattle.btree_item.specs.declared.refused.Cause.{Cause}
+use Rattle.btree_item.specs.declared.refused.Cause.TheVariants.{Store, Count}
 use Rattle.btree_node.specs.declared.node.Node.{Node}
-use Rattle.btree_shape.specs.TreeState.{TreeState, HasLevels, HasStrain, IsBTree, IsLeafAddressIn, IsPlaceIn, item_of, nodes_needed, pairs_of}
+use Rattle.btree_shape.specs.TreeState.{TreeState, HasLevels, HasStrain, IsBTree, IsLeafAddressIn, IsPlaceIn, item_of, nodes_needed, pairs_of, refused_once}
 use Rattle.btree_raw.specs.Claimed.{CanHoldMore, EMPTY}
 use Rattle.btree_raw.specs.Insertion.{IsRefused}
 use Rattle.btree_find.specs.Answers.{IsFoundAt, IsGapAt}
@@ -28,6 +29,19 @@ pub record IsWithinStrain {K V : Type 0} (old new : TreeState K V) : Type 0 wher
   pub strain_before : HasStrain old before
   pub strain_after : HasStrain new after
   pub within_strain : map.len new.nodes + after ≤ map.len old.nodes + (before + 1)
+
+module _ {K V : Type 0} (old new : TreeState K V) where
+  -- with the cause `Store` one more refusal is counted, and one more pair could be; with the cause `Count` there are as
+  -- many pairs as can be counted
+  abbrev pub CountsRefusal : Cause → Type 0
+  CountsRefusal Store = (new.kept ≡ refused_once old.kept) × (length (pairs_of old) < old.kept.limit)
+  CountsRefusal Count = (new.kept ≡ old.kept) × (old.kept.limit ≤ length (pairs_of old))
+
+  -- what a refused insertion leaves, said of the list alone: every pair stays
+  pub record LeavesPairs (cause : Cause) : Type 0 where
+    pub pairs : pairs_of new ≡ pairs_of old
+    pub len : new.len ≡ old.len
+    pub counts : CountsRefusal cause
 
 module _ {K V : Type 0} (cmp : K → K → Ordering) where
   -- a back address in a leaf, or nowhere in the empty tree, with a place that the key fits
@@ -81,3 +95,4 @@ module _ {K V : Type 0} (cmp : K → K → Ordering) (k : K) (old new : TreeStat
     pub gap : Address
     pub is_gap : IsGapAt cmp k old gap
     pub refused : IsRefused MayRefuse gap.id old new cause
+    pub leaves : LeavesPairs old new cause

@@ -11,7 +11,7 @@ use Rattle.btree_node.specs.declared.node.Node.{Node}
 use Rattle.btree_shape.specs.TreeState.{TreeState, HasLevels, IsValidIn, pairs_of}
 use Rattle.btree_find.specs.Navigation.{HasPlace, IsLeafAddressFor}
 use Rattle.btree_raw.specs.Insertion.{IsRefused}
-use Rattle.btree_edit.specs.Insert.{IsInserted}
+use Rattle.btree_edit.specs.Insert.{IsInserted, LeavesPairs}
 
 module _ {K V : Type 0} (old new : TreeState K V) (a : Address) where
   -- the pair was inserted at the place of address a, by way of the leaf address there, and is at address b; to remove
@@ -34,3 +34,4 @@ module _ {K V : Type 0} (old new : TreeState K V) (a : Address) where
     pub leaf : Address
     pub leaf_for : IsLeafAddressFor old a leaf
     pub refused : IsRefused MayRefuse leaf.id old new cause
+    pub leaves : LeavesPairs old new cause

@@ -17,7 +17,7 @@ use Rattle.btree_raw.specs.LastItem.{TakesLast}
 use Rattle.btree_raw.specs.Rebalance.{IsRebalanced}
 use Rattle.btree_find.specs.Answers.{IsFoundAt}
 use Rattle.btree_find.specs.Fits.{FitsAt}
-use Rattle.btree_find.specs.Navigation.{IsItemAt}
+use Rattle.btree_find.specs.Navigation.{HasPlace, IsItemAt}
 
 module _ {K V : Type 0} (s : TreeState K V) where
   -- an item of an internal node is at the address, and `left` is the child before it
@@ -57,12 +57,12 @@ module _ {K V : Type 0} (old new : TreeState K V) where
     pub tree : IsBTree cmp new
     pub had : item_of old a ≡ Some x
     pub place : ℕ
-    pub at : IsPlaceIn old a place
+    pub has : HasPlace old a place
     pub listed : slice_get (pairs_of old) place ≡ Some x
     pub pairs : pairs_of new ≡ remove (pairs_of old) place
     pub restores : insert (pairs_of new) place x ≡ pairs_of old
     pub valid : IsValidIn new b
-    pub there : IsPlaceIn new b place
+    pub there : HasPlace new b place
     pub back : IsSome b.offset
     pub fits : FitsAt cmp x.0 new b
     pub shorter : old.len ≡ new.len + 1

@@ -38,6 +38,14 @@ pub trait BTreeExt<K: Ord, V> {
         ensures value { result.now ≡ state self.now }
         ensures well_formed { IsBTree K.cmp (state self.now) };
 
+    /// Gives the prover the fact that the tree is well formed. It does nothing at run time.
+    #[inline]
+    fn tell_well_formed(&self)
+        ensures well_formed { IsBTree K.cmp (state self.now) }
+    {
+        let _raw = self.as_raw();
+    }
+
     /// Returns the number of the root, or `None` if there are no pairs.
     fn root_id(&self) -> Option<usize>
         ensures value { result ≡ (state self.now).root }

@@ -29,7 +29,7 @@ module _ {K V : Type 0} (cmp : K → K → Ordering) (laws : IsTotalOrder cmp) (
         in_leaf = l;
         place = r.0;
         has = has-place cmp laws s tree a r.0 r.1;
-        at = r.1;
+        there = has-place cmp laws s tree a r.0 r.1;
         back = (λ o. o, λ o. o);
         same = λ _. refl;
       }
@@ -70,7 +70,7 @@ module _ {K V : Type 0} (cmp : K → K → Ordering) (laws : IsTotalOrder cmp) (
             in_leaf = inl e.is_leaf;
             place = r.0;
             has = has-place cmp laws s tree a r.0 r.1;
-            at = to;
+            there = has-place cmp laws s tree (address_at last.0 last.1) r.0 to;
             back = (λ o. refl, λ o. subst (λ t. IsSome t) (sym some) refl);
             same = λ l. absurd (inner l);
           })
@@ -88,7 +88,7 @@ module _ {K V : Type 0} (cmp : K → K → Ordering) (laws : IsTotalOrder cmp) (
         in_leaf = inl b.is_leaf;
         place = r.0;
         has = has-place cmp laws s tree a r.0 r.1;
-        at = to;
+        there = has-place cmp laws s tree (address_before first) r.0 to;
         back = (λ o. subst (λ t. IsSome t) none o, λ o. subst (λ t. IsSome t) (sym none) o);
         same = stays;
       })

@@ -95,12 +95,6 @@ module _ {K V : Type 0} (cmp : K → K → Ordering) (k : K) (laws : IsTotalOrde
   gap-at a place valid is at in_leaf back =
       record {
         valid = valid;
-        place = place;
-        is = is;
-        at = at;
-        in_leaf = in_leaf;
-        back = back;
-        listed = (leaf-back-at cmp laws s tree a place at in_leaf back).listed;
         fits = record {
           place = place;
           has = has-place cmp laws s tree a place at;
@@ -108,6 +102,10 @@ module _ {K V : Type 0} (cmp : K → K → Ordering) (k : K) (laws : IsTotalOrde
               subst (λ p. KeyFits cmp k p pairs) (before-from_Err cmp k pairs place is)
               (KeyFits-before cmp laws k pairs tree.ascends (found-from_Err cmp k pairs place is));
         };
+        is = is;
+        in_leaf = in_leaf;
+        back = back;
+        listed = (leaf-back-at cmp laws s tree a place at in_leaf back).listed;
       }
 
   -- the empty tree

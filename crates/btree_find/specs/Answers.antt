@@ -9,7 +9,7 @@ use Rattle.btree_item.specs.Pairs.{found, place_of}
 use Rattle.btree_item.specs.declared.address.Address.{Address}
 use Rattle.btree_shape.specs.Focus.Positions.{address_before}
 use Rattle.btree_shape.specs.TreeAddresses.{item_addresses_of, leaf_backs_of}
-use Rattle.btree_shape.specs.TreeState.{TreeState, IsLeafAddressIn, IsPlaceIn, IsValidIn, item_of, pairs_of}
+use Rattle.btree_shape.specs.TreeState.{TreeState, IsLeafAddressIn, IsValidIn, item_of, pairs_of}
 use Rattle.btree_find.specs.Ends.{IsLeafBackAt}
 use Rattle.btree_find.specs.Fits.{FitsAt, FitsIn, ReplacesAt, pairs_below}
 use Rattle.btree_find.specs.Navigation.{HasPlace, IsItemAddress}
@@ -25,17 +25,15 @@ module _ {K V : Type 0} (cmp : K → K → Ordering) (k : K) (s : TreeState K V)
     pub listed : slice_get (item_addresses_of s) place ≡ Some a
     pub replaces : ReplacesAt cmp k s a
 
-  -- a back address in a leaf whose place is the number of smaller keys, if no key is equal; so the key fits there, and
-  -- the record has all that an insertion there requires
+  -- a back address in a leaf whose place is the number of smaller keys, if no key is equal; so the key fits at this
+  -- place, and the record has all that an insertion there requires
   pub record IsGapAt (a : Address) : Type 0 where
     pub valid : IsValidIn s a
-    pub place : ℕ
-    pub is : place_of cmp k (pairs_of s) ≡ Err place
-    pub at : IsPlaceIn s a place
+    pub fits : FitsAt cmp k s a
+    pub is : place_of cmp k (pairs_of s) ≡ Err fits.place
     pub in_leaf : IsLeafAddressIn s a
     pub back : IsSome a.offset
-    pub listed : slice_get (leaf_backs_of s) place ≡ Some a
-    pub fits : FitsAt cmp k s a
+    pub listed : slice_get (leaf_backs_of s) fits.place ≡ Some a
 
   -- the address of a key that is there, or of the gap in which it would be inserted
   abbrev pub IsAddressOf : Result Address Address → Type 0

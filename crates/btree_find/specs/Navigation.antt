@@ -75,7 +75,7 @@ module _ {K V : Type 0} (s : TreeState K V) where
     pub in_leaf : IsLeafAddressIn s found
     pub place : ℕ
     pub has : HasPlace a place
-    pub at : IsPlaceIn s found place
+    pub there : HasPlace found place
     pub back : IsSome a.offset ↔ IsSome found.offset
     pub same : IsLeafAddressIn s a → found ≡ a
 

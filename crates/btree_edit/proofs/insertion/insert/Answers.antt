@@ -1,4 +1,5 @@
 use Rattle.btree_edit.proofs.InsertLemmas.{exchanged-by_key, exchanged-pairs, gap-for, old-value, put-inserted_by_key}
+use Rattle.btree_edit.proofs.RefusalLemmas.{refused-at-gap}
 use Rattle.btree_edit.proofs.insertion.insert.Goals as goal
 use Rattle.std.proofs.lemmas.Grind.{common_steps}
 use Rattle.std.proofs.Common.{arith, rules}
@@ -105,4 +106,6 @@ pub returns-in-Err-insert_at_gap-clause-absent : goal.returns-in-Err-insert_at_g
 returns-in-Err-insert_at_gap-clause-absent g c = grind (arith, common_steps) steps 1500000
 
 pub returns-in-Err-insert_at_gap-clause-cause : goal.returns-in-Err-insert_at_gap-clause-cause
-returns-in-Err-insert_at_gap-clause-cause g c = grind (arith, common_steps) steps 300000
+returns-in-Err-insert_at_gap-clause-cause g c =
+    refused-at-gap g.K.Ord.cmp c.args.tree.now c.requires.tree c.insert_at_gap.new.tree c.args.key c.in-Err.addr c.in-Err.ensures
+    c.in-Err-insert_at_gap.refused.cause c.in-Err-insert_at_gap.ensures.refused

@@ -2,6 +2,7 @@ use Rattle.std.proofs.Common.{inl}
 use Rattle.std.proofs.lemmas.Result.{IfErr-weaker, IfOk-weaker}
 use Rattle.btree_find.proofs.LeafLemmas.{leaf-same}
 use Rattle.btree_edit.proofs.InsertAtLemmas.{gap-at-leaf, inserts-at}
+use Rattle.btree_edit.proofs.RefusalLemmas.{refused-at}
 use Rattle.btree_edit.proofs.insertion_at.insert_at_full_leaf.Goals as goal
 
 pub need_above-count-requires-clause-full : goal.need_above-count-requires-clause-full
@@ -28,5 +29,5 @@ pub returns-clause-refused : goal.returns-clause-refused
 returns-clause-refused g c =
     let here = leaf-same g.K.Ord.cmp g.met.K.Ord.total c.args.tree.now c.requires.tree c.args.addr c.requires.valid (inl c.requires.full.leaf) in
     IfErr-weaker c.insert_and_split.result _ _
-    (λ r refused. record { leaf = c.args.addr; leaf_for = here; refused = refused })
+    (λ r. refused-at g.K.Ord.cmp c.args.tree.now c.requires.tree c.insert_and_split.new.tree c.args.addr c.args.addr here r.cause)
     c.insert_and_split.ensures.refused

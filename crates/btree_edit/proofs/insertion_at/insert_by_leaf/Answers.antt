@@ -1,5 +1,6 @@
 use Rattle.std.proofs.lemmas.Result.{IfErr-weaker, IfOk-weaker}
 use Rattle.btree_edit.proofs.InsertAtLemmas.{gap-at-leaf, inserts-at}
+use Rattle.btree_edit.proofs.RefusalLemmas.{refused-at}
 use Rattle.btree_edit.proofs.insertion_at.insert_by_leaf.Goals as goal
 
 pub insert_at_gap-requires-clause-gap : goal.insert_at_gap-requires-clause-gap
@@ -17,5 +18,6 @@ returns-clause-inserted g c =
 pub returns-clause-refused : goal.returns-clause-refused
 returns-clause-refused g c =
     IfErr-weaker c.insert_at_gap.result _ _
-    (λ r refused. record { leaf = c.leaf_address-leaf.result; leaf_for = c.leaf_address-leaf.ensures; refused = refused })
+    (λ r. refused-at g.K.Ord.cmp c.args.tree.now c.requires.tree c.insert_at_gap.new.tree c.args.addr
+    c.leaf_address-leaf.result c.leaf_address-leaf.ensures r.cause)
     c.insert_at_gap.ensures.refused

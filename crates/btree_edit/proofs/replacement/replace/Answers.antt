@@ -1,4 +1,5 @@
 use Rattle.btree_edit.proofs.ReplaceByKeyLemmas.{exchanged-by_key, exchanged-pairs, nothing-old, old-pair, put-by_key, put-pairs}
+use Rattle.btree_edit.proofs.RefusalLemmas.{refused-at-gap}
 use Rattle.btree_edit.proofs.replacement.replace.Goals as goal
 
 pub returns-in-Ok-clause-old : goal.returns-in-Ok-clause-old
@@ -30,3 +31,8 @@ pub returns-in-Ok-insert_at_gap-clause-replaced_by_key : goal.returns-in-Ok-inse
 returns-in-Ok-insert_at_gap-clause-replaced_by_key g c =
     put-by_key g.K.Ord.cmp g.met.K.Ord.total c.args.tree.now c.requires c.args.key c.args.value c.insert_at_gap.new.tree c.in-Err.addr c.in-Err.ensures
     c.in-Ok-insert_at_gap.field-0 (rw c.new.ensures at c.in-Ok-insert_at_gap.ensures.inserted)
+
+pub returns-in-Err-insert_at_gap-clause-cause : goal.returns-in-Err-insert_at_gap-clause-cause
+returns-in-Err-insert_at_gap-clause-cause g c =
+    refused-at-gap g.K.Ord.cmp c.args.tree.now c.requires c.insert_at_gap.new.tree c.args.key c.in-Err.addr c.in-Err.ensures
+    c.in-Err-insert_at_gap.refused.cause c.in-Err-insert_at_gap.ensures.refused

@@ -1,5 +1,7 @@
 use Rattle.std.proofs.Common.{rules, subst}
+use Rattle.std.proofs.lemmas.Result.{IfErr-weaker}
 use Rattle.btree_find.specs.Answers.{IsAddressOf}
+use Rattle.btree_edit.proofs.RefusalLemmas.{refused-at-gap}
 use Rattle.btree_edit.proofs.UpdateKeyLemmas.{callable-found, granted-found, granted-gap, ok-each, on_ok-each, updates-found, updates-gap}
 use Rattle.btree_edit.proofs.updates.update_at_or_gap.Goals as goal
 
@@ -26,3 +28,10 @@ pub returns-in-Err-clause-granted : goal.returns-in-Err-clause-granted
 returns-in-Err-clause-granted g c =
     on_ok-each c.update_absent.result (granted-gap g.K.Ord.cmp c.args.key c.args.tree.now g.C.Nodes.CanHold c.in-Err.gap
     (subst (λ r. IsAddressOf g.K.Ord.cmp c.args.key c.args.tree.now r) c.in-Err.is c.requires.at)) c.update_absent.ensures.granted
+
+pub returns-in-Err-clause-cause : goal.returns-in-Err-clause-cause
+returns-in-Err-clause-cause g c =
+    IfErr-weaker c.update_absent.result _ _
+    (λ r. refused-at-gap g.K.Ord.cmp c.args.tree.now c.requires.tree c.update_absent.new.tree c.args.key c.in-Err.gap
+    (subst (λ r. IsAddressOf g.K.Ord.cmp c.args.key c.args.tree.now r) c.in-Err.is c.requires.at) r.cause)
+    c.update_absent.ensures.refused
