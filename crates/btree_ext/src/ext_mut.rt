@@ -1,5 +1,5 @@
 //! Changes of a tree by addresses.
-ghost use Rattle.std.specs.Prelude.{◌≡◌, ℕ, Some, None, IsSome, IfSome, IfNone, IfOk, IfErr, OnErr, OnOk};
+ghost use Rattle.std.specs.Prelude.{◌≡◌, Some, None, IsSome, IfSome, IfNone, IfOk, IfErr, OnErr, OnOk};
 ghost use Rattle.std.specs.Borrow.{Lends, LendsIf, sem};
 ghost use Rattle.std.specs.Option.{option_copied_mut};
 ghost use Rattle.btree_item.specs.Pairs.{found, found_value};
@@ -9,9 +9,9 @@ ghost use Rattle.btree_find.specs.Fits.{FitsAt, FitsIn, ReplacesAt, pairs_below}
 ghost use Rattle.btree_edit.specs.Exchange.{IsExchanged, IsValueExchanged};
 ghost use Rattle.btree_edit.specs.Insert.{IsGrantedIfAbsent, IsRefusedAtGap};
 ghost use Rattle.btree_edit.specs.InsertAt.{InsertsAt, IsRefusedAt};
-ghost use Rattle.btree_edit.specs.KeyWritten.{ExchangesValue, address_at_key};
-ghost use Rattle.btree_edit.specs.Remove.{IsInnerAt, IsRemoved, ReplacesInner, TakesFromLeaf};
+ghost use Rattle.btree_edit.specs.Remove.{IsRemoved, TakesFromLeaf};
 ghost use Rattle.btree_edit.specs.Update.{RunsAt, RunsByKey};
+ghost use Rattle.btree_ext.specs.Changes.{ExchangesAtKey, ReplacesIfInner, with_value_at_key};
 
 use crate::ext::BTreeExt;
 use btree_item::{Address, Item, Refused, UpdateRefused};
@@ -59,13 +59,11 @@ pub trait BTreeExtMut<K: Ord + Drop, V: Drop>: BTreeExt<K, V> {
     fn get_mut_in(&mut self, key: &K, id: usize) -> Option<&mut V>
         requires { IsUsed (Self.state self.old) id }
         ensures* writes_back { sem 𝓛 (LendsIf Self.row V.row self.entry result
-            (with_value self.old (address_at_key K.cmp key.now (Self.state self.old))) self.old) }
+            (with_value_at_key K.cmp Self.state with_value key.now self.old) self.old) }
         ensures value { option_copied_mut result ≡
             found_value K.cmp key.now (pairs_below (Self.state self.old) id) }
-        ensures exchanged { IfSome result (λ v. (w : V) →
-            let at = address_at_key K.cmp key.now (Self.state self.old) in
-            ExchangesValue K.cmp key.now (Self.state self.old)
-            (Self.state (with_value self.old at w)) v.now w) };
+        ensures exchanged { IfSome result
+            (ExchangesAtKey K.cmp Self.state with_value key.now self.old) };
 
     /// Inserts a pair at the place of an address, before the item there, and returns the address of the pair. An address of an internal
     /// node stands for the one in a leaf at its place.
@@ -130,8 +128,8 @@ pub trait BTreeExtMut<K: Ord + Drop, V: Drop>: BTreeExt<K, V> {
             IsRemoved (Self.state self.old) (Self.state self.new) K.cmp addr r.0 r.1) }
         ensures leaf { IfSome result (λ r.
             TakesFromLeaf (Self.state self.old) (Self.state self.new) K.cmp addr r.1) }
-        ensures inner { IfSome result (λ r. (left : ℕ) → IsInnerAt (Self.state self.old) addr left →
-            ReplacesInner (Self.state self.old) (Self.state self.new) K.cmp addr left r.1) }
+        ensures inner { IfSome result (λ r.
+            ReplacesIfInner (Self.state self.old) (Self.state self.new) K.cmp addr r.1) }
         ensures vacant { IfNone result (item_of (Self.state self.old) addr ≡ None) }
         ensures unchanged { IfNone result (Self.state self.new ≡ Self.state self.old) };
 

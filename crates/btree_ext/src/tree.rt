@@ -42,7 +42,7 @@ impl<K: Ord, V, C: NodesMut<K, V>> Tree<K, V, C> {
     ghost use Rattle.std.specs.Option.{option_copied_mut};
     ghost use Rattle.btree_item.specs.Pairs.{found_value};
     ghost use Rattle.btree_shape.specs.TreeState.{IsBTree, pairs_of, rootless, unlimited};
-    ghost use Rattle.btree_edit.specs.KeyWritten.{ExchangesValue, key_written};
+    ghost use Rattle.btree_ext.specs.Changes.{ExchangesLent};
     ghost use Rattle.btree_ext.specs.Lent.{lends_at_key};
 
     /// Returns a tree without pairs, over an empty store made from `origin`. It allocates no memory.
@@ -101,8 +101,7 @@ impl<K: Ord, V, C: NodesMut<K, V>> Tree<K, V, C> {
         ensures* writes_back { sem 𝓛 (lends_at_key
             K.row V.row C.row C.Origin.row K.Ord C.NodesMut self.entry key.now result) }
         ensures value { option_copied_mut result ≡ found_value K.cmp key.now (pairs_of self.old) }
-        ensures exchanged { IfSome result (λ v. (w : V) →
-            ExchangesValue K.cmp key.now self.old (key_written K.cmp key.now self.old w) v.now w) }
+        ensures exchanged { IfSome result (ExchangesLent K.cmp key.now self.old) }
     {
         get_mut(&mut self.raw, key)
     }

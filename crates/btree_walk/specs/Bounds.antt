@@ -8,6 +8,7 @@ use Rattle.std.specs.Range.Bound.{bound_map}
 use Rattle.std.specs.declared.cmp.Ordering.{Ordering}
 use Rattle.std.specs.declared.ops.Bound.{Bound}
 use Rattle.std.specs.declared.ops.Bound.TheVariants.{Included, Excluded, Unbounded}
+use Rattle.btree_shape.specs.TreeState.{TreeState, pairs_of}
 
 -- a bound by the key that its reference leads to
 abbrev pub bound_key : {K : Type 0} → Bound (Bor K) → Bound K
@@ -30,3 +31,10 @@ IsValidRange cmp range = is_valid cmp (bound_key range.0) (bound_key range.1) �
 -- the pairs of a list whose keys are between the two bounds of a range
 abbrev pub pairs_between : {K V : Type 0} → (K → K → Ordering) → Bound (Bor K) × Bound (Bor K) → List (K × V) → List (K × V)
 pairs_between cmp range pairs = entries_between cmp (bound_key range.0) (bound_key range.1) pairs
+
+-- the pairs of a tree from a start bound on, and those up to an end bound
+abbrev pub pairs_from : {K V : Type 0} → (K → K → Ordering) → (start : Bound K) → TreeState K V → List (K × V)
+pairs_from cmp start tree = entries_between cmp start Unbounded (pairs_of tree)
+
+abbrev pub pairs_up_to : {K V : Type 0} → (K → K → Ordering) → (end : Bound K) → TreeState K V → List (K × V)
+pairs_up_to cmp end tree = entries_between cmp Unbounded end (pairs_of tree)

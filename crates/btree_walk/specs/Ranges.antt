@@ -60,6 +60,13 @@ module _ {K V : Type 0} where
   abbrev pub pair_now : Option (Bor K × Bor V) → Option (K × V)
   pair_now pair = option_map (λ p. (p.0.now, p.1.now)) pair
 
+  -- the pair is the first, or the last, of a list, and the others are left
+  abbrev pub GivesFirst : List (K × V) → Option (Bor K × Bor V) → (rest : List (K × V)) → Type 0
+  GivesFirst xs pair rest = IsFirstOf xs (pair_now pair) rest
+
+  abbrev pub GivesLast : List (K × V) → Option (Bor K × Bor V) → (rest : List (K × V)) → Type 0
+  GivesLast xs pair rest = IsLastOf xs (pair_now pair) rest
+
   -- what a forward walk has left
   abbrev pub ahead_of : TreeState K V → Front K V → List (K × V)
   ahead_of tree front = remaining_of tree front.leaf front.passed front.ancestors

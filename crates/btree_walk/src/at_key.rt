@@ -1,12 +1,11 @@
 //! Where a walk is that starts at a key.
 ghost use Rattle.std.specs.Prelude.{◌≡◌, ◌≤◌, []};
-ghost use Rattle.std.specs.BTreeMap.Range.{entries_between};
-ghost use Rattle.std.specs.declared.ops.Bound.TheVariants.{Included, Unbounded};
+ghost use Rattle.std.specs.declared.ops.Bound.TheVariants.{Included};
 ghost use Rattle.btree_item.specs.Pairs.{Ascends};
 ghost use Rattle.btree_node.specs.Node.{view_of};
-ghost use Rattle.btree_shape.specs.TreeState.{pairs_of};
 ghost use Rattle.btree_view.specs.View.{items_of, size_of};
 ghost use Rattle.btree_walk.specs.AtKey.{below_in, up_to_in};
+ghost use Rattle.btree_walk.specs.Bounds.{pairs_from, pairs_up_to};
 ghost use Rattle.btree_walk.specs.Preceding.{AreAncestorsBefore, HasKept, preceding_of};
 ghost use Rattle.btree_walk.specs.Rows.{AreAncestors, remaining_of};
 
@@ -38,7 +37,7 @@ pub(crate) fn start_from<'a, K: Ord + 'a, V: 'a, C: NodesMut<K, V> + 'a>(
     requires none { ancestors.old ≡ [] }
     ensures above { AreAncestors tree.now ancestors.new }
     ensures left { remaining_of tree.now result.0 result.1 ancestors.new ≡
-        entries_between K.cmp (Included key.now) Unbounded (pairs_of tree.now) }
+        pairs_from K.cmp (Included key.now) tree.now }
 {
     tree.tell_fits();
     // For the prover: the length is a `usize`, so there are at most `MAX_LEVELS` levels.
@@ -88,7 +87,7 @@ pub(crate) fn end_at<'a, K: Ord + 'a, V: 'a, C: NodesMut<K, V> + 'a>(
     ensures above { AreAncestorsBefore tree.now ancestors.new }
     ensures kept { HasKept result.0 result.1 }
     ensures left { preceding_of tree.now result.0 result.1 ancestors.new ≡
-        entries_between K.cmp Unbounded (Included key.now) (pairs_of tree.now) }
+        pairs_up_to K.cmp (Included key.now) tree.now }
 {
     tree.tell_fits();
     // For the prover: the length is a `usize`, so there are at most `MAX_LEVELS` levels.

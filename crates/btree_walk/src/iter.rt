@@ -2,7 +2,7 @@
 ghost use Rattle.std.specs.Prelude.{◌≡◌, Some, IfSome, length};
 ghost use Rattle.std.specs.Iterator.SizeHint.{IsWithinCount};
 ghost use Rattle.std.specs.Iterator.{YieldsFirstBy, YieldsLastBy, item_count, UpTo};
-ghost use Rattle.btree_walk.specs.Ranges.{IsBack, IsFirstOf, IsLastOf, behind_or_all, pair_now};
+ghost use Rattle.btree_walk.specs.Ranges.{GivesFirst, GivesLast, IsBack, behind_or_all};
 ghost use Rattle.btree_walk.specs.Rows.{AreAncestors, remaining_after, remaining_in_leaf, run_left};
 
 use crate::ancestors::{Ancestors, next_above, start};
@@ -45,7 +45,7 @@ pub(crate) fn run_from<'a, K, V>(
 // Passes the next item of a leaf and returns it.
 #[inline]
 fn next_in_run<'a, K, V>(run: &mut Option<SlotsIter<'a, Item<K, V>>>) -> Option<(&'a K, &'a V)>
-    ensures { IsFirstOf (run_left run.old) (pair_now result) (run_left run.new) }
+    ensures { GivesFirst (run_left run.old) result (run_left run.new) }
 {
     let Some(run) = run else {
         return None;
@@ -65,7 +65,7 @@ pub(crate) fn next_pair<'a, K: Ord + 'a, V: 'a, C: NodesMut<K, V> + 'a>(
 ) -> Option<(&'a K, &'a V)>
     requires { AreAncestors tree.now ancestors.old }
     ensures above { AreAncestors tree.now ancestors.new }
-    ensures first { IsFirstOf (remaining_after tree.now run.old ancestors.old) (pair_now result)
+    ensures first { GivesFirst (remaining_after tree.now run.old ancestors.old) result
         (remaining_after tree.now run.new ancestors.new) }
 {
     tree.tell_fits();
@@ -89,8 +89,8 @@ fn step_back<'a, K: Ord + 'a, V: 'a, C: NodesMut<K, V> + 'a>(
 ) -> Option<(&'a K, &'a V)>
     requires { IsBack tree.now back.old }
     ensures back { IsBack tree.now back.new }
-    ensures last { IsLastOf
-        (behind_or_all tree.now back.old) (pair_now result) (behind_or_all tree.now back.new) }
+    ensures last { GivesLast (behind_or_all tree.now back.old) result
+        (behind_or_all tree.now back.new) }
 {
     tree.tell_fits();
     if let Some(back) = back {

@@ -1,11 +1,10 @@
 //! A walk forward and a walk backward, each from a bound on the keys.
 ghost use Rattle.std.specs.Prelude.{◌≡◌, []};
-ghost use Rattle.std.specs.BTreeMap.Range.{entries_between};
-ghost use Rattle.std.specs.declared.ops.Bound.TheVariants.{Excluded, Included, Unbounded};
+ghost use Rattle.std.specs.declared.ops.Bound.TheVariants.{Excluded, Included};
 ghost use Rattle.btree_shape.specs.TreeState.{pairs_of};
-ghost use Rattle.btree_walk.specs.Bounds.{bound_key};
+ghost use Rattle.btree_walk.specs.Bounds.{bound_key, pairs_from, pairs_up_to};
 ghost use Rattle.btree_walk.specs.Preceding.{AreAncestorsBefore, AreFetched};
-ghost use Rattle.btree_walk.specs.Ranges.{IsFirstOf, IsLastOf, ahead_of, behind_of, pair_now};
+ghost use Rattle.btree_walk.specs.Ranges.{GivesFirst, GivesLast, ahead_of, behind_of};
 ghost use Rattle.btree_walk.specs.Rows.{AreAncestors, run_left};
 
 use crate::ancestors::{Ancestors, next_above, next_in_leaf, start};
@@ -61,8 +60,7 @@ impl<'a, K: Ord + 'a, V: 'a> Front<'a, K, V> {
     fn start_from<C: NodesMut<K, V> + 'a>(&mut self, tree: &'a Tree<K, V, C>, key: &K)
         requires none { self.old.ancestors ≡ [] }
         ensures above { AreAncestors tree.now self.new.ancestors }
-        ensures ahead { ahead_of tree.now self.new ≡
-            entries_between K.cmp (Included key.now) Unbounded (pairs_of tree.now) }
+        ensures ahead { ahead_of tree.now self.new ≡ pairs_from K.cmp (Included key.now) tree.now }
     {
         tree.tell_fits();
         let (leaf, passed) = start_from(tree, key, &mut self.ancestors);
@@ -77,7 +75,7 @@ impl<'a, K: Ord + 'a, V: 'a> Front<'a, K, V> {
     ) -> Option<(&'a K, &'a V)>
         requires above { AreAncestors tree.now self.old.ancestors }
         ensures above { AreAncestors tree.now self.new.ancestors }
-        ensures first { IsFirstOf (ahead_of tree.now self.old) (pair_now result) (ahead_of tree.now self.new) }
+        ensures first { GivesFirst (ahead_of tree.now self.old) result (ahead_of tree.now self.new) }
     {
         tree.tell_fits();
         if let Some(pair) = next_in_leaf(self.leaf, self.passed) {
@@ -102,9 +100,8 @@ impl<'a, K: Ord + 'a, V: 'a> Front<'a, K, V> {
     ) -> Option<(&'a K, &'a V)>
         requires none { self.old.ancestors ≡ [] }
         ensures above { AreAncestors tree.now self.new.ancestors }
-        ensures first { IsFirstOf
-            (entries_between K.cmp (Excluded key.now) Unbounded (pairs_of tree.now))
-            (pair_now result) (ahead_of tree.now self.new) }
+        ensures first { GivesFirst (pairs_from K.cmp (Excluded key.now) tree.now)
+            result (ahead_of tree.now self.new) }
     {
         // For the prover: the tree is well formed.
         let _root = tree.root_id();
@@ -126,9 +123,8 @@ impl<'a, K: Ord + 'a, V: 'a> Front<'a, K, V> {
     ) -> Option<(&'a K, &'a V)>
         requires none { self.old.ancestors ≡ [] }
         ensures above { AreAncestors tree.now self.new.ancestors }
-        ensures first { IsFirstOf
-            (entries_between K.cmp (bound_key bound.entry) Unbounded (pairs_of tree.now))
-            (pair_now result) (ahead_of tree.now self.new) }
+        ensures first { GivesFirst (pairs_from K.cmp (bound_key bound.entry) tree.now)
+            result (ahead_of tree.now self.new) }
     {
         match bound {
             Bound::Unbounded => {
@@ -176,8 +172,7 @@ impl<'a, K: Ord + 'a, V: 'a> Back<'a, K, V> {
         requires fetched { AreFetched tree.now self.old.fetched }
         ensures above { AreAncestorsBefore tree.now self.new.ancestors }
         ensures fetched { AreFetched tree.now self.new.fetched }
-        ensures behind { behind_of tree.now self.new ≡
-            entries_between K.cmp Unbounded (Included key.now) (pairs_of tree.now) }
+        ensures behind { behind_of tree.now self.new ≡ pairs_up_to K.cmp (Included key.now) tree.now }
     {
         tree.tell_fits();
         let (leaf, kept) = end_at(tree, key, &mut self.ancestors);
@@ -196,7 +191,7 @@ impl<'a, K: Ord + 'a, V: 'a> Back<'a, K, V> {
         requires passed { run_left self.old.run ≡ [] }
         ensures above { AreAncestorsBefore tree.now self.new.ancestors }
         ensures fetched { AreFetched tree.now self.new.fetched }
-        ensures last { IsLastOf (behind_of tree.now self.old) (pair_now result) (behind_of tree.now self.new) }
+        ensures last { GivesLast (behind_of tree.now self.old) result (behind_of tree.now self.new) }
     {
         tree.tell_fits();
         match previous_above(tree, &mut self.ancestors, &mut self.fetched) {
@@ -218,7 +213,7 @@ impl<'a, K: Ord + 'a, V: 'a> Back<'a, K, V> {
         requires fetched { AreFetched tree.now self.old.fetched }
         ensures above { AreAncestorsBefore tree.now self.new.ancestors }
         ensures fetched { AreFetched tree.now self.new.fetched }
-        ensures last { IsLastOf (behind_of tree.now self.old) (pair_now result) (behind_of tree.now self.new) }
+        ensures last { GivesLast (behind_of tree.now self.old) result (behind_of tree.now self.new) }
     {
         tree.tell_fits();
         if let Some(pair) = last_in_run(&mut self.run) {
@@ -237,9 +232,8 @@ impl<'a, K: Ord + 'a, V: 'a> Back<'a, K, V> {
         requires fetched { AreFetched tree.now self.old.fetched }
         ensures above { AreAncestorsBefore tree.now self.new.ancestors }
         ensures fetched { AreFetched tree.now self.new.fetched }
-        ensures last { IsLastOf
-            (entries_between K.cmp Unbounded (Excluded key.now) (pairs_of tree.now))
-            (pair_now result) (behind_of tree.now self.new) }
+        ensures last { GivesLast (pairs_up_to K.cmp (Excluded key.now) tree.now)
+            result (behind_of tree.now self.new) }
     {
         // For the prover: the tree is well formed.
         let _root = tree.root_id();
