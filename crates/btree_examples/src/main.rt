@@ -16,10 +16,9 @@ use crate::bookings::{book_and_cancel, count_overlaps, three_bookings};
 use crate::listing::next_page;
 use crate::sold_out::remove_sold_out;
 use crate::words::count_word;
-use btree_slab::generic::map::{BTreeExt, BTreeExtMut, Refused};
-use btree_slab::generic::node::Address;
-use btree_slab::{BTreeMap, BTreeSet};
-use std::alloc::{AllocError, Global};
+use btree_slab::generic::map::Refused;
+use btree_slab::{Address, BTreeExt, BTreeExtMut, BTreeMap, BTreeSet};
+use std::alloc::Global;
 use std::io;
 
 /// Sets how many of a part are in stock.
@@ -63,9 +62,7 @@ fn take_and_put_back(
 fn print_counts(rt: &impl Print, alloc: Global) -> io::Result<()> {
     let mut counts: BTreeMap<&'static str, u64> = BTreeMap::new(alloc);
     for word in ["to", "be", "or", "not", "to", "be"] {
-        let Ok(_) = count_word(&mut counts, word) else {
-            return Err(AllocError.into());
-        };
+        count_word(&mut counts, word)?;
     }
     for (word, count) in counts.iter() {
         rt.println(format_args!("{word}: {count}"))?;
@@ -77,15 +74,11 @@ fn print_counts(rt: &impl Print, alloc: Global) -> io::Result<()> {
 fn print_missing(rt: &impl Print, alloc: Global, stock: &BTreeMap<u32, u64>) -> io::Result<()> {
     let mut order: BTreeSet<u32> = BTreeSet::new(alloc);
     for part in [408, 1203, 2000] {
-        let Ok(_) = order.insert(part) else {
-            return Err(AllocError.into());
-        };
+        order.insert(part)?;
     }
     let mut parts: BTreeSet<u32> = BTreeSet::new(alloc);
     for (part, _) in stock.iter() {
-        let Ok(_) = parts.insert(*part) else {
-            return Err(AllocError.into());
-        };
+        parts.insert(*part)?;
     }
     for part in order.difference(&parts) {
         rt.println(format_args!("missing: {part}"))?;
@@ -96,9 +89,7 @@ fn print_missing(rt: &impl Print, alloc: Global, stock: &BTreeMap<u32, u64>) -> 
 fn main(rt: HostRuntime) -> io::Result<()> {
     let mut stock: BTreeMap<u32, u64> = BTreeMap::new(rt.alloc());
     for (part, count) in [(408, 20), (17, 350), (1203, 4), (17, 349)] {
-        let Ok(()) = set_stock(&mut stock, part, count) else {
-            return Err(AllocError.into());
-        };
+        set_stock(&mut stock, part, count)?;
     }
     rt.println(format_args!("parts: {}", stock.len()))?;
     rt.println(format_args!("part 408: {}", in_stock(&stock, 408)))?;
@@ -106,9 +97,7 @@ fn main(rt: HostRuntime) -> io::Result<()> {
     let Ok(part) = stock.address_of(&408) else {
         return Ok(());
     };
-    let Ok(counted) = take_and_put_back(&mut stock, part) else {
-        return Err(AllocError.into());
-    };
+    let counted = take_and_put_back(&mut stock, part)?;
     rt.println(format_args!("counted: {}", counted.unwrap_or(0)))?;
     for (part, count) in stock.iter() {
         rt.println(format_args!("{part} {count}"))?;
@@ -118,18 +107,12 @@ fn main(rt: HostRuntime) -> io::Result<()> {
     for part in page.iter() {
         rt.println(format_args!("after 17: {part}"))?;
     }
-    let Ok(()) = set_stock(&mut stock, 408, 0) else {
-        return Err(AllocError.into());
-    };
+    set_stock(&mut stock, 408, 0)?;
     remove_sold_out(&mut stock);
     rt.println(format_args!("not sold out: {}", stock.len()))?;
     print_missing(&rt, rt.alloc(), &stock)?;
-    let Ok(mut bookings) = three_bookings(rt.alloc()) else {
-        return Err(AllocError.into());
-    };
-    let Ok(free) = book_and_cancel(&mut bookings, 12, 14) else {
-        return Err(AllocError.into());
-    };
+    let mut bookings = three_bookings(rt.alloc())?;
+    let free = book_and_cancel(&mut bookings, 12, 14)?;
     rt.println(format_args!("12 is free: {free}"))?;
     for (start, end) in [(10, 14), (12, 14)] {
         let count = count_overlaps(&bookings, start, end);
