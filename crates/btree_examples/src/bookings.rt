@@ -27,7 +27,7 @@ fn first_candidate(bookings: &BTreeMap<u32, u32>, start: u32) -> Option<Address>
 {
     match bookings.address_of(&start) {
         Ok(addr) => bookings.normalize(addr),
-        Err(gap) => match bookings.previous_item_address(Address::new(gap.id, gap.offset)) {
+        Err(gap) => match bookings.previous_item_address(gap.copied()) {
             Some(previous) => Some(previous),
             None => bookings.normalize(gap),
         },
@@ -47,7 +47,7 @@ pub fn count_overlaps(bookings: &BTreeMap<u32, u32>, start: u32, end: u32) -> us
         let Some(addr) = next else {
             return count;
         };
-        let Some(booking) = bookings.item(Address::new(addr.id, addr.offset)) else {
+        let Some(booking) = bookings.item(addr.copied()) else {
             unreachable!()
         };
         if *booking.key() >= end {

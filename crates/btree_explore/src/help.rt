@@ -18,7 +18,7 @@ const LINES: [&str; 31] = [
     "a, b: occupied KEY STEPS: key get insert=VALUE get_mut=VALUE, the last into_mut=VALUE remove remove_entry; first_entry last_entry STEP",
     "a, b: vacant KEY STEP: key into_key insert=VALUE",
     "a, b: first_item_address last_item_address first_back_address last_valid_address visit_backs visit_fronts; address_of address_of_counted KEY",
-    "a, b: is_valid item normalize leaf_address next_item_address previous_item_address next_item_or_back_address ADDRESS",
+    "a, b: is_valid item pair_at normalize leaf_address next_item_address previous_item_address next_item_or_back_address ADDRESS",
     "a, b: next_back_address previous_front_address ADDRESS; fits_at replaces_at ADDRESS KEY",
     "a, b: has_node node NODE; get_in address_in key_fits_in NODE KEY; validate_node NODE PARENT LOW HIGH",
     "a, b: insert_at insert_exactly_at replace_at ADDRESS KEY=VALUE; remove_at ADDRESS; replace_value_at ADDRESS =VALUE",

@@ -1,6 +1,6 @@
 //! Calls that are done at each of many pairs, with what has to hold after each.
 use btree_book::{Reply, number, word};
-use btree_map_calls::{Action, given, pairs, same};
+use btree_map_calls::{Action, given, pairs};
 use btree_slab::generic::BTreeMap;
 use btree_slab::generic::map::{BTreeExt, BTreeExtMut, EntriesMut};
 use btree_slab::generic::node::Item;
@@ -115,17 +115,17 @@ fn put_back<C: NodesMut<u64, u64>>(map: &mut Map<C>, key: u64, value: u64) -> bo
     let Ok(addr) = map.address_of(&key) else {
         return false;
     };
-    let is_leaf = map.leaf_address(same(&addr)) == addr;
+    let is_leaf = map.leaf_address(addr.copied()) == addr;
     let Some((item, at)) = map.remove_at(addr) else {
         return false;
     };
-    if item.into_pair() != (key, value) || at.offset.is_before() || !map.is_valid(same(&at)) {
+    if item.into_pair() != (key, value) || at.offset.is_before() || !map.is_valid(at.copied()) {
         return false;
     }
-    if is_leaf && map.leaf_address(same(&at)) != at || map.validate().is_err() {
+    if is_leaf && map.leaf_address(at.copied()) != at || map.validate().is_err() {
         return false;
     }
-    if !map.fits_at(same(&at), &key) {
+    if !map.fits_at(at.copied(), &key) {
         return false;
     }
     map.insert_at(at, Item::new(key, value)).is_ok()
@@ -170,13 +170,13 @@ fn neighbours_of<C: NodesMut<u64, u64>>(map: &Map<C>, key: &u64) -> Option<u64> 
         return None;
     };
     let mut neighbours = 0u64;
-    if let Some(next) = map.next_item_address(same(&addr)) {
-        if next == addr || map.previous_item_address(next) != Some(same(&addr)) {
+    if let Some(next) = map.next_item_address(addr.copied()) {
+        if next == addr || map.previous_item_address(next) != Some(addr.copied()) {
             return None;
         }
         neighbours = neighbours.wrapping_add(1);
     }
-    if let Some(previous) = map.previous_item_address(same(&addr)) {
+    if let Some(previous) = map.previous_item_address(addr.copied()) {
         if previous == addr || map.next_item_address(previous) != Some(addr) {
             return None;
         }

@@ -1,6 +1,4 @@
 //! Calls by address that change nothing.
-ghost use Rattle.std.specs.Prelude.{◌≡◌};
-
 use btree_book::{Reply, node, number, offset, put_address, put_node, word};
 use btree_slab::generic::BTreeMap;
 use btree_slab::generic::map::BTreeExt;
@@ -10,13 +8,6 @@ use btree_slab::utils::Steps;
 use std::alloc::AllocError;
 
 type Map<C> = BTreeMap<u64, u64, C>;
-
-/// Returns an address with the same node and offset.
-pub fn same(addr: &Address) -> Address
-    ensures { result ≡ addr.now }
-{
-    Address::new(addr.id, addr.offset)
-}
 
 // Returns the address of a key, or of its gap.
 fn place_of<C: NodesMut<u64, u64>>(map: &Map<C>, key: u64) -> Address {
@@ -74,8 +65,8 @@ fn visit<C: NodesMut<u64, u64>>(
     is_forward: bool,
     reply: &mut Reply,
 ) -> Result<Option<Address>, AllocError> {
-    put_address(reply, map.as_raw(), Some(same(&addr)))?;
-    if !map.is_valid(same(&addr)) {
+    put_address(reply, map.as_raw(), Some(addr.copied()))?;
+    if !map.is_valid(addr.copied()) {
         return Ok(None);
     }
     if is_forward {
@@ -133,7 +124,7 @@ fn navigate<C: NodesMut<u64, u64>>(
     addr: Address,
     reply: &mut Reply,
 ) -> Result<bool, AllocError> {
-    if !map.is_valid(same(&addr)) {
+    if !map.is_valid(addr.copied()) {
         reply.word("not valid")?;
         return Ok(true);
     }
@@ -159,7 +150,7 @@ fn fitting<C: NodesMut<u64, u64>>(
     key: u64,
     reply: &mut Reply,
 ) -> Result<bool, AllocError> {
-    if !map.is_valid(same(&addr)) {
+    if !map.is_valid(addr.copied()) {
         reply.word("not valid")?;
         return Ok(true);
     }
@@ -190,6 +181,11 @@ fn by_address<C: NodesMut<u64, u64>>(
             Some(item) => reply.pair(*item.key(), *item.value())?,
             None => reply.word("none")?,
         },
+        "pair_at" if map.item(addr.copied()).is_none() => reply.word("not occupied")?,
+        "pair_at" => {
+            let (key, value) = map.pair_at(addr);
+            reply.pair(*key, *value)?
+        }
         _ => return navigate(map, verb, addr, reply),
     }
     Ok(true)
@@ -291,7 +287,7 @@ pub(crate) fn serve_addresses<C: NodesMut<u64, u64>>(
         }
         ("has_node" | "node" | "validate_node" | "get_in" | "address_in" | "key_fits_in", None) =>
             return by_node(map, verb, rest, reply),
-        ("is_valid" | "item" | "fits_at" | "replaces_at" | "leaf_address" | "normalize", None) =>
+        ("is_valid" | "item" | "pair_at" | "fits_at" | "replaces_at" | "leaf_address" | "normalize", None) =>
             return by_address(map, verb, rest, reply),
         _ if verb.ends_with("_address") && rest != "" => return by_address(map, verb, rest, reply),
         _ => return ends(map, verb, reply),

@@ -1,5 +1,5 @@
 //! Calls by address that change a map.
-use crate::addresses::{map_address, map_node, same};
+use crate::addresses::{map_address, map_node};
 use crate::menu::{Action, given, read_action, write};
 use btree_book::{Reply, number, pair, put_address, word};
 use btree_slab::generic::BTreeMap;
@@ -16,10 +16,10 @@ fn insert_at<C: NodesMut<u64, u64>>(
     (key, value): (u64, u64),
     reply: &mut Reply,
 ) -> Result<(), AllocError> {
-    if addr.offset.is_before() || !map.is_valid(same(&addr)) {
+    if addr.offset.is_before() || !map.is_valid(addr.copied()) {
         return reply.word("not valid");
     }
-    if !map.fits_at(same(&addr), &key) {
+    if !map.fits_at(addr.copied(), &key) {
         return reply.word("unfit");
     }
     match map.insert_at(addr, Item::new(key, value)) {
@@ -34,14 +34,14 @@ fn insert_exactly_at<C: NodesMut<u64, u64>>(
     (key, value): (u64, u64),
     reply: &mut Reply,
 ) -> Result<(), AllocError> {
-    if addr.offset.is_before() || !map.is_valid(same(&addr)) {
+    if addr.offset.is_before() || !map.is_valid(addr.copied()) {
         return reply.word("not valid");
     }
-    let leaf = map.leaf_address(same(&addr));
+    let leaf = map.leaf_address(addr.copied());
     if leaf != addr {
         return reply.word("not a leaf");
     }
-    if !map.fits_at(same(&addr), &key) {
+    if !map.fits_at(addr.copied(), &key) {
         return reply.word("unfit");
     }
     match map.insert_exactly_at(addr, Item::new(key, value)) {
@@ -56,10 +56,10 @@ fn replace_at<C: NodesMut<u64, u64>>(
     (key, value): (u64, u64),
     reply: &mut Reply,
 ) -> Result<(), AllocError> {
-    if !map.is_valid(same(&addr)) {
+    if !map.is_valid(addr.copied()) {
         return reply.word("not valid");
     }
-    if !map.replaces_at(same(&addr), &key) {
+    if !map.replaces_at(addr.copied(), &key) {
         return reply.word("unfit");
     }
     let (key, value) = map.replace_at(addr, key, value);
@@ -72,7 +72,7 @@ fn replace_value_at<C: NodesMut<u64, u64>>(
     value: u64,
     reply: &mut Reply,
 ) -> Result<(), AllocError> {
-    if map.item(same(&addr)).is_none() {
+    if map.item(addr.copied()).is_none() {
         return reply.word("not occupied");
     }
     let old = map.replace_value_at(addr, value);
@@ -84,7 +84,7 @@ fn remove_at<C: NodesMut<u64, u64>>(
     addr: Address,
     reply: &mut Reply,
 ) -> Result<(), AllocError> {
-    if !map.is_valid(same(&addr)) {
+    if !map.is_valid(addr.copied()) {
         return reply.word("not valid");
     }
     match map.remove_at(addr) {
@@ -102,7 +102,7 @@ fn update_at<C: NodesMut<u64, u64>>(
     action: Action,
     reply: &mut Reply,
 ) -> Result<(), AllocError> {
-    if map.item(same(&addr)).is_none() {
+    if map.item(addr.copied()).is_none() {
         return reply.word("not occupied");
     }
     let found = map.update_at(addr, |found| (given(action, Some(found)), found));
@@ -155,7 +155,7 @@ fn item_mut<C: NodesMut<u64, u64>>(
     action: Action,
     reply: &mut Reply,
 ) -> Result<(), AllocError> {
-    if !map.is_valid(same(&addr)) {
+    if !map.is_valid(addr.copied()) {
         return reply.word("not valid");
     }
     match map.item_mut(addr) {

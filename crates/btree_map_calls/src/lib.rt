@@ -12,7 +12,6 @@ mod menu;
 mod several;
 mod walks;
 
-pub use crate::addresses::same;
 pub use crate::lists::{numbers, pairs, put_left};
 pub use crate::maps::serve_map;
 pub use crate::menu::{Action, Pick, given, picks, read_pick};

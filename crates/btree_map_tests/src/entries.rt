@@ -1,8 +1,9 @@
-//! Entries as text, over the store that an entry has if none is named, and values of a type with a default.
+//! Entries, maps and sets as text, over the store that an entry has if none is named, and values of a type with a default.
 use crate::asserts::assert_same;
 use btree_map::{BTreeMap, Entry, OccupiedEntry, VacantEntry};
 use btree_node::Node;
 use btree_nodes::NodesMut;
+use btree_set::BTreeSet;
 use btree_store::SlabStore;
 use std::alloc::{AllocError, Global};
 use std::fmt::Debug;
@@ -64,6 +65,46 @@ fn shows_entries(rt: HostRuntime) -> Result<(), Fail> {
         (1, Some(2)),
         "OccupiedEntry { key: 1, value: 2 }",
     )
+}
+
+// Returns what a value is in a text of several lines.
+fn shown_in_lines<T: Debug>(alloc: Global, value: &T) -> Result<String, AllocError> {
+    let mut text = String::new(alloc);
+    write!(text, "{value:#?}")?;
+    Ok(text)
+}
+
+// The texts are those of the maps and sets of `std`.
+#[test]
+fn shows_maps(rt: HostRuntime) -> Result<(), Fail> {
+    let mut map: Map = BTreeMap::new(rt.alloc());
+    assert_same(&rt, shown(rt.alloc(), &map)?.as_str(), "{}");
+    for key in [2, 1] {
+        assert_same(&rt, map.insert(key, key).ok(), Some(None));
+    }
+    assert_same(&rt, shown(rt.alloc(), &map)?.as_str(), "{1: 1, 2: 2}");
+    assert_same(
+        &rt,
+        shown_in_lines(rt.alloc(), &map)?.as_str(),
+        "{\n    1: 1,\n    2: 2,\n}",
+    );
+    Ok(())
+}
+
+#[test]
+fn shows_sets(rt: HostRuntime) -> Result<(), Fail> {
+    let mut set: BTreeSet<u64, SlabStore<Node<u64, ()>>> = BTreeSet::new(rt.alloc());
+    assert_same(&rt, shown(rt.alloc(), &set)?.as_str(), "{}");
+    for element in [2, 1] {
+        assert_same(&rt, set.insert(element).ok(), Some(true));
+    }
+    assert_same(&rt, shown(rt.alloc(), &set)?.as_str(), "{1, 2}");
+    assert_same(
+        &rt,
+        shown_in_lines(rt.alloc(), &set)?.as_str(),
+        "{\n    1,\n    2,\n}",
+    );
+    Ok(())
 }
 
 // Inserts the default value at a key twice, and writes to it in between.
