@@ -85,11 +85,15 @@ module _ {K V : Type 0} (cmp : K → K → Ordering) (k : K) (old new : TreeStat
     pub found_at : IsFoundAt cmp k old at
     pub exchanged : IsValueExchanged old new at cmp was is
 
+  -- the pair was put at the gap of the key, and from there nodes were cut
+  abbrev pub SplitsAtGap : (value : V) (root : ℕ) → Type 0
+  SplitsAtGap value root = (a : Address) × IsGapAt cmp k old a × PutsAndSplits old new a (k, value) root
+
   -- which nodes an insertion of a value by key used: for an absent key those that were needed at its gap, at most one
   -- more than there were levels, and how nodes were split; for a present key none, and every address stays
   pub record InsertsByKey (value : V) : Type 0 where
     pub absent : found cmp k (pairs_of old) ≡ None → (a : Address) × IsGapAt cmp k old a × (map.len new.nodes ≡ map.len old.nodes + nodes_needed old a.id)
-    pub split : found cmp k (pairs_of old) ≡ None → (root : ℕ) → old.root ≡ Some root → (a : Address) × IsGapAt cmp k old a × PutsAndSplits old new a (k, value) root
+    pub split : found cmp k (pairs_of old) ≡ None → (root : ℕ) → old.root ≡ Some root → SplitsAtGap value root
     pub few : (levels : ℕ) → HasLevels old levels → map.len new.nodes ≤ map.len old.nodes + (levels + 1)
     pub within_strain : found cmp k (pairs_of old) ≡ None → IsWithinStrain old new
     pub present : IsSome (found cmp k (pairs_of old)) → (was : V) × ExchangesValueAt was value
