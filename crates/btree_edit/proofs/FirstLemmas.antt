@@ -87,6 +87,7 @@ module _ {K V : Type 0} (cmp : K → K → Ordering) (old mid put : TreeState K 
         item = rw b_is (ap (λ v. item_in v 0) here);
         longer = omega arith;
         nodes = rw empty (omega arith);
+        split = λ top at. absurd (let e = empty in cc);
         strain = is-within old_len new_len;
         uncounted = same-kept changes.rest ∙ ap (λ (s : TreeState K V). s.kept) claimed;
       }

@@ -49,6 +49,7 @@ module _ {K V : Type 0} (cmp : K → K → Ordering) (laws : IsTotalOrder cmp) (
     pub exchanged-by_key : InsertsByKey cmp k old new w
     exchanged-by_key = record {
       absent = λ none. absurd (not-both (found cmp k xs) is-some none);
+      split = λ none. absurd (not-both (found cmp k xs) is-some none);
       few = λ levels are. let e = x.exchanged.keeps.nodes in omega arith;
       within_strain = λ none. absurd (not-both (found cmp k xs) is-some none);
       present = λ some. (was, record { at = a; found_at = f; exchanged = x });
@@ -74,6 +75,7 @@ module _ {K V : Type 0} (cmp : K → K → Ordering) (laws : IsTotalOrder cmp) (
       pub put-inserted_by_key : InsertsByKey cmp k old new w
       put-inserted_by_key = record {
         absent = λ none. (a, gap, is.nodes);
+        split = λ none root at. (a, gap, is.split root at);
         few = λ levels are.
             let e = is.nodes in
             let n = need-levels cmp old tree a gap.in_leaf levels are in

@@ -244,6 +244,16 @@ module _ {K V : Type 0} (cmp : K → K → Ordering) (laws : IsTotalOrder cmp) (
               item = ap (option_and_then (item_in (node_map new b.id))) i.1 ∙ i.2;
               longer = ap (λ n. n + 1) (s.len ∙ (same-len adds.rest ∙ same-len claimed.rest));
               nodes = omega arith;
+              split = λ top at. record {
+                spare = ids;
+                claimed = node_map mid;
+                claims = claims;
+                index = index;
+                offset = sym offset;
+                put = node_map put;
+                adds = adds.nodes;
+                splits = s.split.order top (same-root adds.rest ∙ (same-root claimed.rest ∙ at));
+              };
               strain = is-within;
               uncounted = s.uncounted ∙ (same-kept adds.rest ∙ same-kept claimed.rest);
             }

@@ -1,12 +1,13 @@
 -- What an insertion leaves of a tree, and what a refused one leaves.
 -- Read `IsInserted` first, with its condition `IsGapFor`: an insertion of a pair at a gap, cited by `insert_at_gap`.
--- The number of new nodes is exactly `nodes_needed`, and they are within the strain (`IsWithinStrain`). `IsRefused`
--- (`btree_raw`) is the other outcome. Then `InsertsByKey`, cited by `insert` of tree and map: for an absent key, exactly
--- the needed nodes were allocated, at most one more than the tree had levels; for a key that is there,
--- `ExchangesValueAt` (its value is replaced, and every address stays). `IsRefusedAtGap` is its refusal: only at the
--- greatest length, or if the store may refuse one of the needed nodes; `LeavesPairs` says of the list alone what it
--- leaves. `IsGrantedIfAbsent` is the other side: the store can hold the needed nodes beside those that it had.
-use Rattle.std.specs.Prelude.{◌≡◌, ℕ, ◌+◌, ◌<◌, ◌≤◌, length, Some, None, IsSome}
+-- The number of new nodes is exactly `nodes_needed`, and they are within the strain (`IsWithinStrain`). Full nodes are
+-- cut in the order of `OverflowSplit` (`PutsAndSplits`). `IsRefused` (`btree_raw`) is the other outcome. Then
+-- `InsertsByKey`, cited by `insert` of tree and map: for an absent key, exactly the needed nodes were allocated, at
+-- most one more than the tree had levels; for a key that is there, `ExchangesValueAt` (its value is replaced, and every
+-- address stays). `IsRefusedAtGap` is its refusal: only at the greatest length, or if the store may refuse one of the
+-- needed nodes; `LeavesPairs` says of the list alone what it leaves. `IsGrantedIfAbsent` is the other side: the store
+-- can hold the needed nodes beside those that it had.
+use Rattle.std.specs.Prelude.{◌≡◌, ℕ, ◌+◌, ◌<◌, ◌≤◌, List, length, Some, None, IsSome}
 use Rattle.std.specs.FinMap as map
 use Rattle.std.specs.List.{insert}
 use Rattle.std.specs.declared.cmp.Ordering.{Ordering}
@@ -16,9 +17,13 @@ use Rattle.btree_item.specs.declared.address.Address.{Address}
 use Rattle.btree_item.specs.declared.refused.Cause.{Cause}
 use Rattle.btree_item.specs.declared.refused.Cause.TheVariants.{Store, Count}
 use Rattle.btree_node.specs.declared.node.Node.{Node}
-use Rattle.btree_shape.specs.TreeState.{TreeState, HasLevels, HasStrain, IsBTree, IsLeafAddressIn, IsPlaceIn, item_of, nodes_needed, pairs_of, refused_once}
+use Rattle.btree_view.specs.View.{NodeMap}
+use Rattle.btree_shape.specs.Step.{Claims}
+use Rattle.btree_shape.specs.TreeState.{TreeState, HasLevels, HasStrain, IsBTree, IsLeafAddressIn, IsPlaceIn, item_of, node_map, nodes_needed, pairs_of, refused_once}
 use Rattle.btree_raw.specs.Claimed.{CanHoldMore, EMPTY}
 use Rattle.btree_raw.specs.Insertion.{IsRefused}
+use Rattle.btree_raw.specs.OverflowSplit.{OverflowSplit}
+use Rattle.btree_raw.specs.Steps.{AddsItem}
 use Rattle.btree_find.specs.Answers.{IsFoundAt, IsGapAt}
 use Rattle.btree_edit.specs.Exchange.{IsValueExchanged}
 
@@ -43,6 +48,18 @@ module _ {K V : Type 0} (old new : TreeState K V) where
     pub len : new.len ≡ old.len
     pub counts : CountsRefusal cause
 
+-- numbers for new nodes were claimed, the pair was put at address a, in a leaf, and from there nodes were cut in the
+-- order of `OverflowSplit`
+pub record PutsAndSplits {K V : Type 0} (old new : TreeState K V) (a : Address) (x : K × V) (root : ℕ) : Type 0 where
+  pub spare : List ℕ
+  pub claimed : NodeMap (K × V)
+  pub claims : Claims (node_map old) claimed spare
+  pub index : ℕ
+  pub offset : a.offset ≡ Some index
+  pub put : NodeMap (K × V)
+  pub adds : AddsItem claimed put a.id index x None
+  pub splits : OverflowSplit root (node_map new) new.root put a.id spare
+
 module _ {K V : Type 0} (cmp : K → K → Ordering) where
   -- a back address in a leaf, or nowhere in the empty tree, with a place that the key fits
   pub record IsGapFor (k : K) (s : TreeState K V) (a : Address) : Type 0 where
@@ -60,6 +77,7 @@ module _ {K V : Type 0} (cmp : K → K → Ordering) where
     pub item : item_of new b ≡ Some x
     pub longer : new.len ≡ old.len + 1
     pub nodes : map.len new.nodes ≡ map.len old.nodes + nodes_needed old a.id
+    pub split : (root : ℕ) → old.root ≡ Some root → PutsAndSplits old new a x root
     pub strain : IsWithinStrain old new
     pub uncounted : new.kept ≡ old.kept
 
@@ -82,10 +100,15 @@ module _ {K V : Type 0} (cmp : K → K → Ordering) (k : K) (old new : TreeStat
     pub found_at : IsFoundAt cmp k old at
     pub exchanged : IsValueExchanged old new at cmp was is
 
-  -- how many nodes an insertion of a value by key used: for an absent key those that were needed at its gap, at most
-  -- one more than there were levels; for a present key none, and every address stays
+  -- the pair was put at the gap of the key, and from there nodes were cut
+  abbrev pub SplitsAtGap : (value : V) (root : ℕ) → Type 0
+  SplitsAtGap value root = (a : Address) × IsGapAt cmp k old a × PutsAndSplits old new a (k, value) root
+
+  -- which nodes an insertion of a value by key used: for an absent key those that were needed at its gap, at most one
+  -- more than there were levels, and how nodes were split; for a present key none, and every address stays
   pub record InsertsByKey (value : V) : Type 0 where
     pub absent : found cmp k (pairs_of old) ≡ None → (a : Address) × IsGapAt cmp k old a × (map.len new.nodes ≡ map.len old.nodes + nodes_needed old a.id)
+    pub split : found cmp k (pairs_of old) ≡ None → (root : ℕ) → old.root ≡ Some root → SplitsAtGap value root
     pub few : (levels : ℕ) → HasLevels old levels → map.len new.nodes ≤ map.len old.nodes + (levels + 1)
     pub within_strain : found cmp k (pairs_of old) ≡ None → IsWithinStrain old new
     pub present : IsSome (found cmp k (pairs_of old)) → (was : V) × ExchangesValueAt was value

@@ -72,10 +72,10 @@ pub fn rebalance_fetched<K: Ord + Drop, V: Drop, C: NodesMut<K, V>>(
 
 impl<K: Ord + Drop, V: Drop, C: NodesMut<K, V>> RawBTree<K, V, C> {
     /// Makes a tree that is off by one at node `id` well formed except for its length. A node that overflows is cut at its median, which
-    /// goes to its parent, and so on upward. A node that underflows borrows an item from its right sibling if that has more than three, otherwise from its left one if that has
-    /// more than three. Otherwise it is merged with the left one, or, if it is the first child, with the right one, and so on upward. If
-    /// the node has enough items and not too many, nothing changes, and it returns `addr`. At most as many nodes are freed as the tree had
-    /// levels. Returns the new address of what was at `addr`, at the same place and item.
+    /// goes to its parent, and so on upward. A node that underflows borrows an item from its right sibling if that has more than three,
+    /// otherwise from its left one if that has more than three. Otherwise it is merged with the left one, or, if it is the first child,
+    /// with the right one, and so on upward. If the node has enough items and not too many, nothing changes, and it returns `addr`. At most
+    /// as many nodes are freed as the tree had levels. Returns the new address of what was at `addr`, at the same place and item.
     ///
     /// It returns an error, and nothing but the count of refusals changes, only if the node overflows and the store refuses a node that a
     /// split needs.

@@ -1,4 +1,4 @@
-use Rattle.std.proofs.Common.{◌≡◌, ◌∙◌, ◌+◌, ◌-◌, ◌<◌, IsSome, Some, length, slice_get, refl, sym, ap, subst, arith}
+use Rattle.std.proofs.Common.{◌≡◌, ◌∙◌, ◌+◌, ◌-◌, ◌<◌, IsSome, Some, length, slice_get, refl, sym, ap, subst, arith, rules}
 use Rattle.btree_shape.specs.TreeState.{TreeState, IsBTree, IsOffByOneAt, IsValidIn, node_map}
 use Rattle.btree_node.specs.declared.node.Node.{Node}
 use Rattle.btree_node.specs.Node.{view_of}
@@ -12,6 +12,15 @@ use Rattle.btree_edit.specs.Remove.{HasChildBehind, IsInnerAt, IsRemoved, Rebala
 use Rattle.btree_edit.proofs.RemoveAtLemmas.{behind-within, has-behind, inner-by, leaf-counted, leaf-enough, leaf-here, leaf-off, leaf-removed, leaf-room, leaf-taken, leaf-taken_enough, leaf-valid, no-inner, no-leaf, on-err, on-ok, one-left, vacant-by, vacant-empty}
 use Rattle.btree_edit.proofs.RemoveInnerLemmas.{small-len}
 use Rattle.btree_edit.proofs.removal.remove_at.Goals as goal
+
+pub root_id-requires : goal.root_id-requires
+root_id-requires g c κs = search rules steps 200000
+
+pub tell_fits-requires : goal.tell_fits-requires
+tell_fits-requires g c κs = search rules steps 200000
+
+pub set_len-requires : goal.set_len-requires
+set_len-requires g c κs = search rules steps 200000
 
 pub returns-in_default-clause-vacant : goal.returns-in_default-clause-vacant
 returns-in_default-clause-vacant g c =
@@ -117,6 +126,9 @@ returns-then-count-ge-MIN_ITEMS-clause-removed g c =
     c.requires.tree (small-len c.args.tree.now c.len.result c.len.ensures c.len.type_inv) c.in-Some-Ok.item
     (ap Some (sym c.in-Some-Ok.field-0-is) ∙ c.in-Some-Ok.ensures.answer) c.leaf_remove.new.self (on-ok c.in-Some-Ok.field-0 c.in-Some-Ok.item c.in-Some-Ok.field-0-is c.in-Some-Ok.ensures.taken) (c.len.result - 1)
     (omega arith) (let e = c.item_count-count.ensures.value in let t = c.if-count-ge-MIN_ITEMS.true in omega arith))
+
+pub len-requires : goal.len-requires
+len-requires g c κs = search rules steps 200000
 
 pub returns-else-count-ge-MIN_ITEMS-clause-removed : goal.returns-else-count-ge-MIN_ITEMS-clause-removed
 returns-else-count-ge-MIN_ITEMS-clause-removed g c =
