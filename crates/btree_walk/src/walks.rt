@@ -106,8 +106,7 @@ impl<'a, K: Ord + 'a, V: 'a> Front<'a, K, V> {
             (entries_between K.cmp (Excluded key.now) Unbounded (pairs_of tree.now))
             (pair_now result) (ahead_of tree.now self.new) }
     {
-        // For the prover: the tree is well formed.
-        let _root = tree.root_id();
+        tree.tell_well_formed();
         self.start_from(tree, key);
         let Some(pair) = self.next(tree) else {
             return None;
@@ -241,8 +240,7 @@ impl<'a, K: Ord + 'a, V: 'a> Back<'a, K, V> {
             (entries_between K.cmp Unbounded (Excluded key.now) (pairs_of tree.now))
             (pair_now result) (behind_of tree.now self.new) }
     {
-        // For the prover: the tree is well formed.
-        let _root = tree.root_id();
+        tree.tell_well_formed();
         self.start_at(tree, key);
         let Some(pair) = self.next_back(tree) else {
             return None;
