@@ -59,8 +59,7 @@ fn last_left<'a, K: Ord + 'a, V: 'a, C: NodesMut<K, V> + 'a>(
     if is_left {
         return Some(last);
     }
-    // For the prover: the tree is well formed.
-    let _root = tree.root_id();
+    tree.tell_well_formed();
     if let Some(back) = back {
         return back.next_back(tree);
     }
@@ -117,8 +116,7 @@ impl<'a, K: Ord, V, C: NodesMut<K, V>> Range<'a, K, V, C> {
         tree.tell_fits();
         // For the prover: the iterator keeps the fact that a node fits in memory.
         C::note_fits();
-        // For the prover: the tree is well formed.
-        let _root = tree.root_id();
+        tree.tell_well_formed();
         let (start, end) = range;
         let mut front = Front::new();
         let first = front.first(tree, start);
@@ -150,9 +148,8 @@ impl<'a, K: Ord, V, C: NodesMut<K, V>> Iterator for Range<'a, K, V, C> {
         let Some(last) = self.last else {
             return None;
         };
-        // For the prover: a node fits in memory, and the tree is well formed.
         C::tell_fits();
-        let _root = self.tree.root_id();
+        self.tree.tell_well_formed();
         match first.0.cmp(last.0) {
             Ordering::Less => {
                 self.first = next_pair(self.tree, &mut self.run, &mut self.ancestors);
@@ -190,9 +187,8 @@ impl<'a, K: Ord, V, C: NodesMut<K, V>> DoubleEndedIterator for Range<'a, K, V, C
         let Some(last) = self.last else {
             return None;
         };
-        // For the prover: a node fits in memory, and the tree is well formed.
         C::tell_fits();
-        let _root = self.tree.root_id();
+        self.tree.tell_well_formed();
         let Some(last) = last_left(self.tree, &mut self.back, last, self.is_left) else {
             self.last = None;
             return None;

@@ -103,8 +103,7 @@ impl<'a, K: Ord + 'a, V: 'a> Front<'a, K, V> {
         ensures first { GivesFirst (pairs_from K.cmp (Excluded key.now) tree.now)
             result (ahead_of tree.now self.new) }
     {
-        // For the prover: the tree is well formed.
-        let _root = tree.root_id();
+        tree.tell_well_formed();
         self.start_from(tree, key);
         let Some(pair) = self.next(tree) else {
             return None;
@@ -235,8 +234,7 @@ impl<'a, K: Ord + 'a, V: 'a> Back<'a, K, V> {
         ensures last { GivesLast (pairs_up_to K.cmp (Excluded key.now) tree.now)
             result (behind_of tree.now self.new) }
     {
-        // For the prover: the tree is well formed.
-        let _root = tree.root_id();
+        tree.tell_well_formed();
         self.start_at(tree, key);
         let Some(pair) = self.next_back(tree) else {
             return None;

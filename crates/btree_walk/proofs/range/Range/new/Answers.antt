@@ -11,7 +11,7 @@ use Rattle.btree_walk.proofs.range.Range.new.Goals as goal
 pub last_from-last-requires : goal.last_from-last-requires
 last_from-last-requires g c =
     let pairs = pairs_of c.args.tree.now in
-    let up = rises g.K.Ord.cmp pairs c.root_id-root.ensures.well_formed.ascends in
+    let up = rises g.K.Ord.cmp pairs c.tell_well_formed.ensures.well_formed.ascends in
     let first = pair_now c.first-first.result in
     let ahead = ahead_of c.args.tree.now c.first-first.new.self in (
       omega arith,
@@ -27,7 +27,7 @@ run_from-requires g c = search fits-leaf
 pub invariant_of-result : goal.invariant_of-result
 invariant_of-result g c =
     let pairs = pairs_of c.args.tree.now in
-    let up = rises g.K.Ord.cmp pairs c.root_id-root.ensures.well_formed.ascends in
+    let up = rises g.K.Ord.cmp pairs c.tell_well_formed.ensures.well_formed.ascends in
     let lo = bound_key c.args.range.0 in
     let hi = bound_key c.args.range.1 in
     let first = pair_now c.first-first.result in
@@ -44,7 +44,7 @@ invariant_of-result g c =
 pub returns : goal.returns
 returns g c =
     let pairs = pairs_of c.args.tree.now in
-    let up = rises g.K.Ord.cmp pairs c.root_id-root.ensures.well_formed.ascends in
+    let up = rises g.K.Ord.cmp pairs c.tell_well_formed.ensures.well_formed.ascends in
     let first = pair_now c.first-first.result in
     let last = pair_now c.last_from-last.result in
     let run = ap (λ l. l ++ remaining_in_ancestors c.args.tree.now c.first-first.new.self.ancestors) c.run_from.ensures in

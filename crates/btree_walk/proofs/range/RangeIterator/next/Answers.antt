@@ -12,7 +12,7 @@ tell_fits-requires g c = c.self.invariant.0
 pub invariant_of-self : goal.invariant_of-self
 invariant_of-self g c =
     let it = c.self.inside in
-    let s = steps-front g.met.K.Ord.total (pairs_of it.tree.now) (rises g.K.Ord.cmp (pairs_of it.tree.now) c.root_id-root.ensures.well_formed.ascends)
+    let s = steps-front g.met.K.Ord.total (pairs_of it.tree.now) (rises g.K.Ord.cmp (pairs_of it.tree.now) c.tell_well_formed.ensures.well_formed.ascends)
     (pair_now it.first) (pair_now it.last) (remaining_after it.tree.now it.run it.ancestors) c.self.invariant.2 (c.in-Some.first.0.now, c.in-Some.first.1.now) (c.in-Some-last.last.0.now, c.in-Some-last.last.1.now)
     (ap pair_now c.in-Some.is) (ap pair_now c.in-Some-last.is) it.is_left
     (let compared = c.cmp.ensures in let is = c.in-Less.is in cc) (pair_now c.next_pair-self-inside.result) (remaining_after it.tree.now c.next_pair-self-inside.new.run c.next_pair-self-inside.new.ancestors) c.next_pair-self-inside.ensures.first in
@@ -21,7 +21,7 @@ invariant_of-self g c =
 pub returns-in-Less-clause-steps : goal.returns-in-Less-clause-steps
 returns-in-Less-clause-steps g c =
     let it = c.self.inside in
-    let s = steps-front g.met.K.Ord.total (pairs_of it.tree.now) (rises g.K.Ord.cmp (pairs_of it.tree.now) c.root_id-root.ensures.well_formed.ascends)
+    let s = steps-front g.met.K.Ord.total (pairs_of it.tree.now) (rises g.K.Ord.cmp (pairs_of it.tree.now) c.tell_well_formed.ensures.well_formed.ascends)
     (pair_now it.first) (pair_now it.last) (remaining_after it.tree.now it.run it.ancestors) c.self.invariant.2 (c.in-Some.first.0.now, c.in-Some.first.1.now) (c.in-Some-last.last.0.now, c.in-Some-last.last.1.now)
     (ap pair_now c.in-Some.is) (ap pair_now c.in-Some-last.is) it.is_left
     (let compared = c.cmp.ensures in let is = c.in-Less.is in cc) (pair_now c.next_pair-self-inside.result) (remaining_after it.tree.now c.next_pair-self-inside.new.run c.next_pair-self-inside.new.ancestors) c.next_pair-self-inside.ensures.first in
@@ -30,7 +30,7 @@ returns-in-Less-clause-steps g c =
 pub returns-in-Less-clause-goes : goal.returns-in-Less-clause-goes
 returns-in-Less-clause-goes g c =
     let it = c.self.inside in
-    let s = steps-front g.met.K.Ord.total (pairs_of it.tree.now) (rises g.K.Ord.cmp (pairs_of it.tree.now) c.root_id-root.ensures.well_formed.ascends)
+    let s = steps-front g.met.K.Ord.total (pairs_of it.tree.now) (rises g.K.Ord.cmp (pairs_of it.tree.now) c.tell_well_formed.ensures.well_formed.ascends)
     (pair_now it.first) (pair_now it.last) (remaining_after it.tree.now it.run it.ancestors) c.self.invariant.2 (c.in-Some.first.0.now, c.in-Some.first.1.now) (c.in-Some-last.last.0.now, c.in-Some-last.last.1.now)
     (ap pair_now c.in-Some.is) (ap pair_now c.in-Some-last.is) it.is_left
     (let compared = c.cmp.ensures in let is = c.in-Less.is in cc) (pair_now c.next_pair-self-inside.result) (remaining_after it.tree.now c.next_pair-self-inside.new.run c.next_pair-self-inside.new.ancestors) c.next_pair-self-inside.ensures.first in
@@ -41,7 +41,7 @@ pub returns-else-not-self-clause-steps : goal.returns-else-not-self-clause-steps
 returns-else-not-self-clause-steps g c =
     let it = c.self.inside in
     rw (← c.self.view_is)
-    (meets-front g.met.K.Ord.total (pairs_of it.tree.now) (rises g.K.Ord.cmp (pairs_of it.tree.now) c.root_id-root.ensures.well_formed.ascends)
+    (meets-front g.met.K.Ord.total (pairs_of it.tree.now) (rises g.K.Ord.cmp (pairs_of it.tree.now) c.tell_well_formed.ensures.well_formed.ascends)
     (pair_now it.first) (pair_now it.last) (remaining_after it.tree.now it.run it.ancestors) c.self.invariant.2 (c.in-Some.first.0.now, c.in-Some.first.1.now) (c.in-Some-last.last.0.now, c.in-Some-last.last.1.now)
     (ap pair_now c.in-Some.is) (ap pair_now c.in-Some-last.is) it.is_left
     (let compared = c.cmp.ensures in let is = c.in-Equal.is in cc) c.if-not-self.false
@@ -50,7 +50,7 @@ returns-else-not-self-clause-steps g c =
 pub returns-else-not-self-clause-goes : goal.returns-else-not-self-clause-goes
 returns-else-not-self-clause-goes g c =
     let it = c.self.inside in
-    let met = meets-front g.met.K.Ord.total (pairs_of it.tree.now) (rises g.K.Ord.cmp (pairs_of it.tree.now) c.root_id-root.ensures.well_formed.ascends)
+    let met = meets-front g.met.K.Ord.total (pairs_of it.tree.now) (rises g.K.Ord.cmp (pairs_of it.tree.now) c.tell_well_formed.ensures.well_formed.ascends)
     (pair_now it.first) (pair_now it.last) (remaining_after it.tree.now it.run it.ancestors) c.self.invariant.2 (c.in-Some.first.0.now, c.in-Some.first.1.now) (c.in-Some-last.last.0.now, c.in-Some-last.last.1.now)
     (ap pair_now c.in-Some.is) (ap pair_now c.in-Some-last.is) it.is_left
     (let compared = c.cmp.ensures in let is = c.in-Equal.is in cc) c.if-not-self.false in
@@ -61,7 +61,7 @@ returns-else-not-self-clause-goes g c =
 pub returns-then-not-self-clause-steps : goal.returns-then-not-self-clause-steps
 returns-then-not-self-clause-steps g c =
     let it = c.self.inside in
-    let none = meets-after g.met.K.Ord.total (pairs_of it.tree.now) (rises g.K.Ord.cmp (pairs_of it.tree.now) c.root_id-root.ensures.well_formed.ascends)
+    let none = meets-after g.met.K.Ord.total (pairs_of it.tree.now) (rises g.K.Ord.cmp (pairs_of it.tree.now) c.tell_well_formed.ensures.well_formed.ascends)
     (pair_now it.first) (pair_now it.last) (remaining_after it.tree.now it.run it.ancestors) c.self.invariant.2 (c.in-Some.first.0.now, c.in-Some.first.1.now) (c.in-Some-last.last.0.now, c.in-Some-last.last.1.now)
     (ap pair_now c.in-Some.is) (ap pair_now c.in-Some-last.is) it.is_left
     (let compared = c.cmp.ensures in let is = c.in-Equal.is in cc) c.if-not-self.true in
@@ -70,7 +70,7 @@ returns-then-not-self-clause-steps g c =
 pub returns-in-Greater-clause-steps : goal.returns-in-Greater-clause-steps
 returns-in-Greater-clause-steps g c =
     let it = c.self.inside in
-    let none = passes-front g.met.K.Ord.total (pairs_of it.tree.now) (rises g.K.Ord.cmp (pairs_of it.tree.now) c.root_id-root.ensures.well_formed.ascends)
+    let none = passes-front g.met.K.Ord.total (pairs_of it.tree.now) (rises g.K.Ord.cmp (pairs_of it.tree.now) c.tell_well_formed.ensures.well_formed.ascends)
     (pair_now it.first) (pair_now it.last) (remaining_after it.tree.now it.run it.ancestors) c.self.invariant.2 (c.in-Some.first.0.now, c.in-Some.first.1.now) (c.in-Some-last.last.0.now, c.in-Some-last.last.1.now)
     (ap pair_now c.in-Some.is) (ap pair_now c.in-Some-last.is) it.is_left
     (let compared = c.cmp.ensures in let is = c.in-Greater.is in cc) in

@@ -8,7 +8,7 @@ use Rattle.btree_walk.proofs.walks.Back.last_before.Goals as goal
 pub returns-in_default-clause-last : goal.returns-in_default-clause-last
 returns-in_default-clause-last g c =
     let pairs = pairs_of c.args.tree.now in
-    let up = rises g.K.Ord.cmp pairs c.root_id-root.ensures.well_formed.ascends in (
+    let up = rises g.K.Ord.cmp pairs c.tell_well_formed.ensures.well_formed.ascends in (
       before-none g.met.K.Ord.total c.args.key.now pairs up (sym c.start_at.ensures.behind ∙ c.in_default.ensures.last.0),
       c.in_default.ensures.last.1,
     )
@@ -16,7 +16,7 @@ returns-in_default-clause-last g c =
 pub returns-then-is_eq-clause-last : goal.returns-then-is_eq-clause-last
 returns-then-is_eq-clause-last g c =
     let pairs = pairs_of c.args.tree.now in
-    let up = rises g.K.Ord.cmp pairs c.root_id-root.ensures.well_formed.ascends in
+    let up = rises g.K.Ord.cmp pairs c.tell_well_formed.ensures.well_formed.ascends in
     let compared = c.cmp.ensures in
     let asked = c.is_eq.ensures in
     let yes = c.if-is_eq.true in
@@ -27,7 +27,7 @@ returns-then-is_eq-clause-last g c =
 pub returns-clause-last : goal.returns-clause-last
 returns-clause-last g c =
     let pairs = pairs_of c.args.tree.now in
-    let up = rises g.K.Ord.cmp pairs c.root_id-root.ensures.well_formed.ascends in
+    let up = rises g.K.Ord.cmp pairs c.tell_well_formed.ensures.well_formed.ascends in
     let compared = c.cmp.ensures in
     let asked = c.is_eq.ensures in
     let no = c.if-is_eq.false in

@@ -8,7 +8,7 @@ use Rattle.btree_walk.proofs.walks.Front.first_after.Goals as goal
 pub returns-in_default-clause-first : goal.returns-in_default-clause-first
 returns-in_default-clause-first g c =
     let pairs = pairs_of c.args.tree.now in
-    let up = rises g.K.Ord.cmp pairs c.root_id-root.ensures.well_formed.ascends in (
+    let up = rises g.K.Ord.cmp pairs c.tell_well_formed.ensures.well_formed.ascends in (
       after-none g.met.K.Ord.total c.args.key.now pairs up (sym c.start_from.ensures.ahead ∙ c.in_default.ensures.first.0),
       c.in_default.ensures.first.1,
     )
@@ -16,7 +16,7 @@ returns-in_default-clause-first g c =
 pub returns-then-is_eq-clause-first : goal.returns-then-is_eq-clause-first
 returns-then-is_eq-clause-first g c =
     let pairs = pairs_of c.args.tree.now in
-    let up = rises g.K.Ord.cmp pairs c.root_id-root.ensures.well_formed.ascends in
+    let up = rises g.K.Ord.cmp pairs c.tell_well_formed.ensures.well_formed.ascends in
     let compared = c.cmp.ensures in
     let asked = c.is_eq.ensures in
     let yes = c.if-is_eq.true in
@@ -27,7 +27,7 @@ returns-then-is_eq-clause-first g c =
 pub returns-clause-first : goal.returns-clause-first
 returns-clause-first g c =
     let pairs = pairs_of c.args.tree.now in
-    let up = rises g.K.Ord.cmp pairs c.root_id-root.ensures.well_formed.ascends in
+    let up = rises g.K.Ord.cmp pairs c.tell_well_formed.ensures.well_formed.ascends in
     let compared = c.cmp.ensures in
     let asked = c.is_eq.ensures in
     let no = c.if-is_eq.false in
