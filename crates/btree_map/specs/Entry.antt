@@ -1,6 +1,7 @@
 -- What a contract reads of an entry, and what the map is once the entry's value was written.
 -- `SetsValue` is the main word: the key was inserted with a value, or the value that was there was replaced.
 use Rattle.std.proofs.Common.{◌≡◌, ◌∙◌, ap, refl, is_some, IsSome, IfSome, List, Option, Some, None, Result, Ok, Err, option_map, option_and_then}
+use Rattle.std.specs.Prelude.{IsSomeAnd}
 use Rattle.std.specs.Borrow.{MutBor}
 use Rattle.std.specs.List.{insert}
 use Rattle.std.specs.declared.cmp.Ord as ord
@@ -57,6 +58,10 @@ module _ {K V C O : Type 0} {g : ord.Ghosts K} {g' : eq.Ghosts K} {g'' : partial
   abbrev pub asked_key : Entry K V C O g g' g'' s s' → Option K
   asked_key (Vacant e) = Some e.key
   asked_key (Occupied o) = None
+
+  -- the key that was asked for is not there, and this holds of it and a value
+  abbrev pub HoldsOfAsked : Entry K V C O g g' g'' s s' → (K → V → Type 0) → V → Type 0
+  HoldsOfAsked e Holds value = IsSomeAnd (asked_key e) (λ key. Holds key value)
 
   -- the key that was asked for, or the one that is there
   abbrev pub entry_key : Entry K V C O g g' g'' s s' → Option K

@@ -1,13 +1,15 @@
 -- What insertions of many pairs, one after another, leave of a list.
 -- Read `inserted_all` first: `extend`, `from_iter` and `append` cite it. `Extends` says how far an iterator was stepped,
 -- and `Moves` the same of the list that `append` takes pairs from. `IsRefusedInTurn` is the refusal of one of the pairs.
-use Rattle.std.specs.Prelude.{◌≡◌, List, [], ◌∷◌, ◌++◌, Option, None, option_map}
+-- The words after it say these of whole trees, and of a refused insertion.
+use Rattle.std.specs.Prelude.{◌≡◌, List, [], ◌∷◌, ◌++◌, Option, None, Some, option_map}
 use Rattle.std.specs.Borrow.{Bor}
 use Rattle.std.specs.Iterator.{YieldsThen}
 use Rattle.std.specs.declared.cmp.Ordering.{Ordering}
 use Rattle.btree_store.specs.Content.{Content}
 use Rattle.btree_item.specs.Pairs.{found, inserted}
 use Rattle.btree_item.specs.declared.refused.Cause.{Cause}
+use Rattle.btree_item.specs.declared.refused.Refused.{Refused}
 use Rattle.btree_node.specs.declared.node.Node.{Node}
 use Rattle.btree_shape.specs.TreeState.{Kept, TreeState, pairs_of}
 use Rattle.btree_edit.specs.Insert.{IsRefusedAtGap}
@@ -37,6 +39,30 @@ module _ {K V : Type 0} (cmp : K → K → Ordering) where
     pub uncounted : before.kept ≡ kept
     pub absent : found cmp k (pairs_of before) ≡ None
     pub refused : IsRefusedAtGap cmp k before new MayRefuse cause
+
+  module _ {S : Type 0} (steps : S → Option (K × V) → S → Type 0) where
+    -- all pairs of an iterator were inserted
+    abbrev pub Adds : (old : TreeState K V) → (source : S) → (new : TreeState K V) → (rest : S) → Type 0
+    Adds old source new rest = Extends steps (pairs_of old) source None (pairs_of new) rest
+
+    -- the pairs before a refused one were inserted
+    abbrev pub AddsUntil : (old : TreeState K V) → (source : S) → (new : TreeState K V) → (rest : S) → Refused K V → Type 0
+    AddsUntil old source new rest refused = Extends steps (pairs_of old) source (Some (refused.key, refused.value)) (pairs_of new) rest
+
+    -- the same of a map that began without pairs
+    abbrev pub Collects : (source rest : S) → (new : TreeState K V) → Type 0
+    Collects source rest new = Extends steps [] source None (pairs_of new) rest
+
+    abbrev pub CollectsUntil : (source rest : S) → TreeState K V × Refused K V → Type 0
+    CollectsUntil source rest stopped = Extends steps [] source (Some (stopped.1.key, stopped.1.value)) (pairs_of stopped.0) rest
+
+  -- the pairs of `other` before a refused one were inserted, and those after it are left
+  abbrev pub MovesUntil : (old other new rest : TreeState K V) → Refused K V → Type 0
+  MovesUntil old other new rest refused = Moves (pairs_of old) (pairs_of other) (refused.key, refused.value) (pairs_of new) (pairs_of rest)
+
+  -- the refused insertion was one of an absent key, with its cause
+  abbrev pub RefusesInTurn : (MayRefuse : Content (Node K V) → Type 0) → (kept : Kept) → (new : TreeState K V) → Refused K V → Type 0
+  RefusesInTurn MayRefuse kept new refused = IsRefusedInTurn MayRefuse refused.key kept new refused.cause
 
 -- the steps of an iterator that lends keys and values, as steps that give copies
 abbrev pub copied_steps : {S K V : Type 0} → (S → Option (Bor K × Bor V) → S → Type 0) → S → Option (K × V) → S → Type 0

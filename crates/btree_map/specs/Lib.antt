@@ -1,3 +1,4 @@
+pub mod Lists
 pub mod Comparison
 pub mod Entry
 pub mod Lent

@@ -1,11 +1,11 @@
--- A removal of the pair at a place of the list.
+-- A removal of the pair at a place of the list, and of a key of which only the value is returned.
 use Rattle.std.specs.Prelude.{◌≡◌, ℕ}
 use Rattle.std.specs.List.{remove}
 use Rattle.std.specs.declared.cmp.Ordering.{Ordering}
 use Rattle.btree_item.specs.declared.address.Address.{Address}
 use Rattle.btree_shape.specs.TreeState.{TreeState, pairs_of}
 use Rattle.btree_find.specs.Navigation.{IsItemAddress}
-use Rattle.btree_edit.specs.Remove.{IsRemoved}
+use Rattle.btree_edit.specs.Remove.{IsRemoved, RemovesByKey}
 
 -- the pair x at a place of the list was removed, at its address
 pub record RemovesPlace {K V : Type 0} (old new : TreeState K V) (cmp : K → K → Ordering) (place : ℕ) (x : K × V) : Type 0 where
@@ -14,3 +14,7 @@ pub record RemovesPlace {K V : Type 0} (old new : TreeState K V) (cmp : K → K 
   pub after : Address
   pub removed : IsRemoved old new cmp at x after
   pub pairs : pairs_of new ≡ remove (pairs_of old) place
+
+-- the pair of a stored key equal to k, and this value, was removed
+abbrev pub RemovesValueOf : {K V : Type 0} → (K → K → Ordering) → (k : K) → (old new : TreeState K V) → (value : V) → Type 0
+RemovesValueOf {K} cmp k old new value = (stored : K) × RemovesByKey old new cmp k (stored, value)

@@ -31,6 +31,10 @@ module _ {K V : Type 0} (cmp : K → K → Ordering) where
     abbrev pub RemovesAt : Address → K × V → Type 0
     RemovesAt a x = (after : Address) × IsRemoved old new cmp a x after
 
+  -- whatever is written at an address replaces the value that was lent
+  abbrev pub WritesLentAt : TreeState K V → Address → (lent : V) → Type 0
+  WritesLentAt s a lent = (w : V) → WritesValueAt s (value_written s a w) a lent w
+
   -- the key was inserted with a value, and w was written in its place then
   pub record IsInsertedWith (k : K) (old new : TreeState K V) (value w : V) : Type 0 where
     pub mid : TreeState K V

@@ -1,7 +1,7 @@
 //! Moving the pairs of one map into another.
 ghost use Rattle.std.specs.Prelude.{◌≡◌, ◌≢◌, [], IfErr, OnErr, OnOk};
 ghost use Rattle.btree_shape.specs.TreeState.{pairs_of};
-ghost use Rattle.btree_map.specs.Extension.{IsRefusedInTurn, Moves, inserted_all};
+ghost use Rattle.btree_map.specs.Extension.{MovesUntil, RefusesInTurn, inserted_all};
 
 use crate::BTreeMap;
 use btree_ext::BTreeExt;
@@ -26,11 +26,9 @@ impl<K: Ord + Drop, V: Drop, C: NodesMut<K, V>> BTreeMap<K, V, C> {
             self.new.kept ≡ self.old.kept) }
         ensures other_uncounted { pairs_of self.old ≢ [] → other.new.kept ≡ other.old.kept }
 
-        ensures stopped { IfErr result (λ r. Moves K.cmp (pairs_of self.old)
-            (pairs_of other.old) (r.key, r.value) (pairs_of self.new) (pairs_of other.new)) }
+        ensures stopped { IfErr result (MovesUntil K.cmp self.old other.old self.new other.new) }
         ensures had_pairs { OnErr result (pairs_of self.old ≢ []) }
-        ensures cause { IfErr result (λ r.
-            IsRefusedInTurn K.cmp C.MayRefuse r.key self.old.kept self.new r.cause) }
+        ensures cause { IfErr result (RefusesInTurn K.cmp C.MayRefuse self.old.kept self.new) }
     {
         if other.is_empty() {
             return Ok(());

@@ -3,6 +3,7 @@ ghost use Rattle.std.specs.Prelude.{◌≡◌, ◌++◌};
 ghost use Rattle.std.specs.List.{fold};
 ghost use Rattle.std.specs.Cmp.Lexicographic.{pointwise, slice_cmp, slice_partial_cmp};
 ghost use Rattle.btree_map.specs.Comparison.{hash_writes, pair_cmp, pair_eq, pair_partial_cmp};
+ghost use Rattle.btree_map.specs.Lists.{read_pair};
 
 use btree_nodes::NodesMut;
 use btree_walk::Iter;
@@ -11,14 +12,14 @@ use std::hash::{Hash, Hasher};
 
 fn is_same_pair<K: PartialEq, V: PartialEq>(left: (&K, &V), right: (&K, &V)) -> bool
     ensures { result ≡ pair_eq K.eq V.eq
-        (left.entry.0.now, left.entry.1.now) (right.entry.0.now, right.entry.1.now) }
+        (read_pair left.entry) (read_pair right.entry) }
 {
     left.0.eq(right.0) && left.1.eq(right.1)
 }
 
 fn compare_pairs<K: Ord, V: Ord>(left: (&K, &V), right: (&K, &V)) -> Ordering
     ensures { result ≡ pair_cmp K.cmp V.cmp
-        (left.entry.0.now, left.entry.1.now) (right.entry.0.now, right.entry.1.now) }
+        (read_pair left.entry) (read_pair right.entry) }
 {
     match left.0.cmp(right.0) {
         Ordering::Equal => left.1.cmp(right.1),
@@ -32,7 +33,7 @@ fn partial_compare_pairs<K: PartialOrd, V: PartialOrd>(
     right: (&K, &V),
 ) -> Option<Ordering>
     ensures { result ≡ pair_partial_cmp K.partial_cmp V.partial_cmp
-        (left.entry.0.now, left.entry.1.now) (right.entry.0.now, right.entry.1.now) }
+        (read_pair left.entry) (read_pair right.entry) }
 {
     match left.0.partial_cmp(right.0) {
         Some(found) => match found {

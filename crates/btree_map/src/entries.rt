@@ -1,11 +1,12 @@
 //! The search for an entry: by key, or at an end.
-ghost use Rattle.std.specs.Prelude.{◌≡◌, ◌-◌, IfSome, length, slice_get};
+ghost use Rattle.std.specs.Prelude.{◌≡◌, IfSome, slice_get};
 ghost use Rattle.std.specs.Borrow.{RestsIfNone, sem};
 ghost use Rattle.btree_item.specs.Pairs.{found, inserted};
 ghost use Rattle.btree_shape.specs.TreeState.{pairs_of};
 ghost use Rattle.btree_find.specs.Answers.{IsAddressOf};
 ghost use Rattle.btree_map.specs.Entry.{asked_key, entry_map, entry_pair, entry_search, list_with_value, pair_of_occupied};
 ghost use Rattle.btree_map.specs.Lent.{rests_if_none};
+ghost use Rattle.btree_map.specs.Lists.{last_of};
 
 use crate::BTreeMap;
 use crate::entry::{Entry, OccupiedEntry, VacantEntry};
@@ -59,8 +60,7 @@ impl<K: Ord, V, C: NodesMut<K, V>> BTreeMap<K, V, C> {
         ensures* rests { sem 𝓛 (rests_if_none K.row V.row C.row C.Origin.row self.entry result) }
         ensures same_map { IfSome result (λ e. e.map.ghost_name ≡ self.entry.ghost_name) }
         ensures unchanged { IfSome result (λ e. e.map.now ≡ self.old) }
-        ensures pair { pair_of_occupied result ≡
-            slice_get (pairs_of self.old) (length (pairs_of self.old) - 1) }
+        ensures pair { pair_of_occupied result ≡ last_of (pairs_of self.old) }
     {
         match self.last_item_address() {
             Some(last) => Some(OccupiedEntry {

@@ -1,10 +1,10 @@
 //! Insertion of the pairs that an iterator gives.
-ghost use Rattle.std.specs.Prelude.{◌≡◌, [], IfErr, IfOk, None, OnErr, OnOk, Some};
+ghost use Rattle.std.specs.Prelude.{◌≡◌, IfErr, IfOk, OnErr, OnOk};
 ghost use Rattle.std.specs.Iterator.{IsFinite};
 ghost use Rattle.std.specs.Mem.{FitsInMemory};
 ghost use Rattle.btree_node.specs.contracts.node.Node.{the_row as node_row};
-ghost use Rattle.btree_shape.specs.TreeState.{pairs_of, unlimited};
-ghost use Rattle.btree_map.specs.Extension.{Extends, IsRefusedInTurn, copied_steps};
+ghost use Rattle.btree_shape.specs.TreeState.{unlimited};
+ghost use Rattle.btree_map.specs.Extension.{Adds, AddsUntil, Collects, CollectsUntil, RefusesInTurn, copied_steps};
 
 use crate::BTreeMap;
 use btree_item::Refused;
@@ -21,14 +21,13 @@ impl<K: Ord + Drop, V: Drop, C: NodesMut<K, V>> BTreeMap<K, V, C> {
     ) -> Result<(), Refused<K, V>>
         requires can_step { I.can_next source.old }
         requires ends { IsFinite (I.remaining source.old) }
-        ensures extended { OnOk result (Extends K.cmp I.next_gives
-            (pairs_of self.old) source.old None (pairs_of self.new) source.new) }
+        ensures extended { OnOk result
+            (Adds K.cmp I.next_gives self.old source.old self.new source.new) }
         ensures uncounted { OnOk result (self.new.kept ≡ self.old.kept) }
 
-        ensures stopped { IfErr result (λ r. Extends K.cmp I.next_gives
-            (pairs_of self.old) source.old (Some (r.key, r.value)) (pairs_of self.new) source.new) }
-        ensures cause { IfErr result (λ r.
-            IsRefusedInTurn K.cmp C.MayRefuse r.key self.old.kept self.new r.cause) }
+        ensures stopped { IfErr result
+            (AddsUntil K.cmp I.next_gives self.old source.old self.new source.new) }
+        ensures cause { IfErr result (RefusesInTurn K.cmp C.MayRefuse self.old.kept self.new) }
         ensures may_go_on { OnErr result (I.can_next source.new) }
         ensures still_ends { OnErr result (IsFinite (I.remaining source.new)) }
     {
@@ -51,14 +50,13 @@ impl<K: Ord + Drop, V: Drop, C: NodesMut<K, V>> BTreeMap<K, V, C> {
         V: Copy + 'a,
         requires can_step { I.can_next source.old }
         requires ends { IsFinite (I.remaining source.old) }
-        ensures extended { OnOk result (Extends K.cmp (copied_steps I.next_gives)
-            (pairs_of self.old) source.old None (pairs_of self.new) source.new) }
+        ensures extended { OnOk result
+            (Adds K.cmp (copied_steps I.next_gives) self.old source.old self.new source.new) }
         ensures uncounted { OnOk result (self.new.kept ≡ self.old.kept) }
 
-        ensures stopped { IfErr result (λ r. Extends K.cmp (copied_steps I.next_gives)
-            (pairs_of self.old) source.old (Some (r.key, r.value)) (pairs_of self.new) source.new) }
-        ensures cause { IfErr result (λ r.
-            IsRefusedInTurn K.cmp C.MayRefuse r.key self.old.kept self.new r.cause) }
+        ensures stopped { IfErr result
+            (AddsUntil K.cmp (copied_steps I.next_gives) self.old source.old self.new source.new) }
+        ensures cause { IfErr result (RefusesInTurn K.cmp C.MayRefuse self.old.kept self.new) }
         ensures may_go_on { OnErr result (I.can_next source.new) }
         ensures still_ends { OnErr result (IsFinite (I.remaining source.new)) }
     {
@@ -83,14 +81,11 @@ impl<K: Ord + Drop, V: Drop, C: NodesMut<K, V>> BTreeMap<K, V, C> {
         requires fits { FitsInMemory (node_row K.row V.row) }
         requires can_step { I.can_next source.old }
         requires ends { IsFinite (I.remaining source.old) }
-        ensures extended { IfOk result (λ map. Extends K.cmp I.next_gives
-            [] source.old None (pairs_of map) source.new) }
+        ensures extended { IfOk result (Collects K.cmp I.next_gives source.old source.new) }
         ensures uncounted { IfOk result (λ map. map.kept ≡ unlimited 0) }
 
-        ensures stopped { IfErr result (λ e. Extends K.cmp I.next_gives
-            [] source.old (Some (e.1.key, e.1.value)) (pairs_of e.0) source.new) }
-        ensures cause { IfErr result (λ e.
-            IsRefusedInTurn K.cmp C.MayRefuse e.1.key (unlimited 0) e.0 e.1.cause) }
+        ensures stopped { IfErr result (CollectsUntil K.cmp I.next_gives source.old source.new) }
+        ensures cause { IfErr result (λ e. RefusesInTurn K.cmp C.MayRefuse (unlimited 0) e.0 e.1) }
         ensures may_go_on { OnErr result (I.can_next source.new) }
         ensures still_ends { OnErr result (IsFinite (I.remaining source.new)) }
     {

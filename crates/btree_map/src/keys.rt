@@ -1,7 +1,8 @@
 //! Look-up by key and at both ends.
-ghost use Rattle.std.specs.Prelude.{◌≡◌, ◌↔◌, ◌-◌, IsSome, IsTrue, Some, length, option_map, slice_get};
+ghost use Rattle.std.specs.Prelude.{◌≡◌, ◌↔◌, IsSome, IsTrue, Some, option_map, slice_get};
 ghost use Rattle.btree_item.specs.Pairs.{found, found_value};
 ghost use Rattle.btree_shape.specs.TreeState.{item_of, pairs_of};
+ghost use Rattle.btree_map.specs.Lists.{last_of};
 
 use crate::BTreeMap;
 use btree_ext::{BTreeExt, Tree};
@@ -49,8 +50,7 @@ impl<K: Ord, V, C: NodesMut<K, V>> BTreeMap<K, V, C> {
 
     /// Returns the last pair, or `None` if there are no pairs. It reads one node of each level, and compares no keys.
     pub fn last_key_value(&self) -> Option<(&K, &V)>
-        ensures { option_map (λ p. (p.0.now, p.1.now)) result ≡
-            slice_get (pairs_of self.now) (length (pairs_of self.now) - 1) }
+        ensures { option_map (λ p. (p.0.now, p.1.now)) result ≡ last_of (pairs_of self.now) }
     {
         match self.tree.last_item_address() {
             Some(addr) => pair_at(&self.tree, addr),

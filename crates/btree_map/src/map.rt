@@ -33,7 +33,7 @@ impl<K: Ord, V, C: NodesMut<K, V>> BTreeMap<K, V, C> {
     ghost use Rattle.btree_node.specs.contracts.node.Node.{the_row as node_row};
     ghost use Rattle.btree_item.specs.Pairs.{found_value};
     ghost use Rattle.btree_shape.specs.TreeState.{IsBTree, pairs_of, rootless, unlimited};
-    ghost use Rattle.btree_edit.specs.KeyWritten.{ExchangesValue, key_written};
+    ghost use Rattle.btree_ext.specs.Changes.{ExchangesLent};
     ghost use Rattle.btree_map.specs.Lent.{lends_at_key};
 
     /// Returns a map without pairs, over an empty store made from `origin`. It allocates no memory.
@@ -91,8 +91,7 @@ impl<K: Ord, V, C: NodesMut<K, V>> BTreeMap<K, V, C> {
         ensures* writes_back { sem 𝓛 (lends_at_key
             K.row V.row C.row C.Origin.row K.Ord C.NodesMut self.entry key.now result) }
         ensures value { option_copied_mut result ≡ found_value K.cmp key.now (pairs_of self.old) }
-        ensures exchanged { IfSome result (λ v. (w : V) →
-            ExchangesValue K.cmp key.now self.old (key_written K.cmp key.now self.old w) v.now w) }
+        ensures exchanged { IfSome result (ExchangesLent K.cmp key.now self.old) }
     {
         self.tree.get_mut(key)
     }
@@ -130,6 +129,7 @@ impl<K: Ord + Drop, V: Drop, C: NodesMut<K, V>> BTreeMap<K, V, C> {
     ghost use Rattle.btree_edit.specs.Remove.{RemovesByKey};
     ghost use Rattle.btree_edit.specs.Replace.{ReplacesByKey, replaced};
     ghost use Rattle.btree_edit.specs.Update.{RunsByKey};
+    ghost use Rattle.btree_map.specs.Removal.{RemovesValueOf};
 
     /// Inserts a pair, or replaces the value if the key is there: the stored key stays, and the given one is dropped.
     ///
@@ -190,8 +190,7 @@ impl<K: Ord + Drop, V: Drop, C: NodesMut<K, V>> BTreeMap<K, V, C> {
     /// It searches once: it makes at most six comparisons at each level. It frees at most as many nodes as the tree has levels and cannot fail.
     pub fn remove(&mut self, key: &K) -> Option<V>
         ensures value { result ≡ found_value K.cmp key.now (pairs_of self.old) }
-        ensures removed { IfSome result (λ value.
-            (stored : K) × RemovesByKey self.old self.new K.cmp key.now (stored, value)) }
+        ensures removed { IfSome result (RemovesValueOf K.cmp key.now self.old self.new) }
         ensures unchanged { IfNone result (self.new ≡ self.old) }
     {
         match self.tree.remove_entry(key) {

@@ -1,7 +1,8 @@
 //! Removal at both ends.
-ghost use Rattle.std.specs.Prelude.{◌≡◌, ◌-◌, IfNone, IfSome, length, slice_get};
+ghost use Rattle.std.specs.Prelude.{◌≡◌, IfNone, IfSome, slice_get};
 ghost use Rattle.std.specs.Iterator.{YieldsFirst, YieldsLast};
 ghost use Rattle.btree_shape.specs.TreeState.{pairs_of};
+ghost use Rattle.btree_map.specs.Lists.{last_of, last_place};
 ghost use Rattle.btree_map.specs.Removal.{RemovesPlace};
 
 use crate::BTreeMap;
@@ -31,10 +32,9 @@ impl<K: Ord + Drop, V: Drop, C: NodesMut<K, V>> BTreeMap<K, V, C> {
     ///
     /// It compares no keys. It frees at most as many nodes as the tree has levels and cannot fail.
     pub fn pop_last(&mut self) -> Option<(K, V)>
-        ensures pair { result ≡ slice_get (pairs_of self.old) (length (pairs_of self.old) - 1) }
+        ensures pair { result ≡ last_of (pairs_of self.old) }
         ensures rest { YieldsLast pairs_of self.old result self.new }
-        ensures removed { IfSome result (λ x.
-            RemovesPlace self.old self.new K.cmp (length (pairs_of self.old) - 1) x) }
+        ensures removed { IfSome result (RemovesPlace self.old self.new K.cmp (last_place self.old)) }
         ensures unchanged { IfNone result (self.new ≡ self.old) }
     {
         match self.tree.last_item_address() {

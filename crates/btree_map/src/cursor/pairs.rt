@@ -1,11 +1,11 @@
 //! The steps of a cursor over pairs.
-ghost use Rattle.std.specs.Prelude.{◌≡◌, ◌+◌, ◌-◌, ◌<◌, ℕ, [], Some, IfSome, IfNone, length, slice_get};
+ghost use Rattle.std.specs.Prelude.{◌≡◌, ◌-◌, ◌<◌, ℕ, [], Some, IfSome, IfNone, length, slice_get};
 ghost use Rattle.std.specs.Borrow.{sem};
 ghost use Rattle.btree_shape.specs.TreeAddresses.{item_addresses_of};
-ghost use Rattle.btree_shape.specs.TreeState.{IsBTree, IsOccupiedIn, pairs_of};
-ghost use Rattle.btree_shape.specs.Visits.{prior};
+ghost use Rattle.btree_shape.specs.TreeState.{IsBTree, IsOccupiedIn};
 ghost use Rattle.btree_map.specs.Cursor.{WritesFirst, WritesLast, pairs_left};
 ghost use Rattle.btree_map.specs.CursorLent.{lends_back, lends_front};
+ghost use Rattle.btree_map.specs.Lists.{IsAddressAfter, IsAddressBefore, LendsPairAt, last_of};
 
 use crate::BTreeMap;
 use crate::cursor::IterMut;
@@ -21,8 +21,7 @@ pub(crate) fn address_after<K: Ord, V, C: NodesMut<K, V>>(
     requires { (place : ℕ) × (slice_get (item_addresses_of map.now) place ≡ Some addr) }
     ensures tree { IsBTree K.cmp map.now }
     ensures occupied { IsOccupiedIn map.now addr }
-    ensures after { (place : ℕ) → slice_get (item_addresses_of map.now) place ≡ Some addr →
-        result ≡ slice_get (item_addresses_of map.now) (place + 1) }
+    ensures after { IsAddressAfter map.now addr result }
 {
     // For the prover: the tree is well formed.
     let _root = map.root_id();
@@ -37,8 +36,7 @@ pub(crate) fn address_before<K: Ord, V, C: NodesMut<K, V>>(
     requires { (place : ℕ) × (slice_get (item_addresses_of map.now) place ≡ Some addr) }
     ensures tree { IsBTree K.cmp map.now }
     ensures occupied { IsOccupiedIn map.now addr }
-    ensures before { (place : ℕ) → slice_get (item_addresses_of map.now) place ≡ Some addr →
-        result ≡ prior (item_addresses_of map.now) place }
+    ensures before { IsAddressBefore map.now addr result }
 {
     // For the prover: the tree is well formed.
     let _root = map.root_id();
@@ -76,8 +74,7 @@ impl<'a, K: Ord + Drop, V: Drop, C: NodesMut<K, V>> IterMut<'a, K, V, C> {
         requires { self.old.front < self.old.back }
         ensures* writes_back { sem 𝓛 (lends_front
             K.row V.row C.row C.Origin.row self.entry result.1) }
-        ensures pair { slice_get (pairs_of self.old.map.now) self.old.front ≡
-            Some (result.0.now, result.1.now) }
+        ensures pair { LendsPairAt self.old.map.now self.old.front result }
         ensures writes { (w : V) → WritesFirst self.old result.0.now result.1.now w }
     {
         let Some(at) = self.first else {
@@ -93,8 +90,7 @@ impl<'a, K: Ord + Drop, V: Drop, C: NodesMut<K, V>> IterMut<'a, K, V, C> {
         requires { self.old.front < self.old.back }
         ensures* writes_back { sem 𝓛 (lends_back
             K.row V.row C.row C.Origin.row self.entry result.1) }
-        ensures pair { slice_get (pairs_of self.old.map.now) (self.old.back - 1) ≡
-            Some (result.0.now, result.1.now) }
+        ensures pair { LendsPairAt self.old.map.now (self.old.back - 1) result }
         ensures writes { (w : V) → WritesLast self.old result.0.now result.1.now w }
     {
         let Some(at) = self.last else {
@@ -124,8 +120,7 @@ impl<'a, K: Ord + Drop, V: Drop, C: NodesMut<K, V>> IterMut<'a, K, V, C> {
     /// The contract does not say what the map is after the value was written; that of `next_back_pair` does.
     pub fn next_back(&mut self) -> Option<(&K, &mut V)>
         ensures pair { IfSome result (λ p.
-            slice_get (pairs_left self.old) (length (pairs_left self.old) - 1) ≡
-            Some (p.0.now, p.1.now)) }
+            last_of (pairs_left self.old) ≡ Some (p.0.now, p.1.now)) }
         ensures none { IfNone result (pairs_left self.old ≡ []) }
     {
         if self.len() == 0 {

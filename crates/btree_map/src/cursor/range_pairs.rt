@@ -1,9 +1,9 @@
 //! The steps of a cursor over a range.
-ghost use Rattle.std.specs.Prelude.{◌≡◌, ◌-◌, ◌↔◌, [], Some, true, IfSome, IfNone, IsTrue, length, nat_lt, not, slice_get};
+ghost use Rattle.std.specs.Prelude.{◌≡◌, ◌-◌, ◌↔◌, [], Some, true, IfSome, IfNone, IsTrue, nat_lt, not, slice_get};
 ghost use Rattle.std.specs.Borrow.{sem};
-ghost use Rattle.btree_shape.specs.TreeState.{pairs_of};
 ghost use Rattle.btree_map.specs.RangeCursor.{WritesFirstInRange, WritesLastInRange, range_back, range_front, range_left};
 ghost use Rattle.btree_map.specs.CursorLent.{lends_first_in_range, lends_last_in_range};
+ghost use Rattle.btree_map.specs.Lists.{LendsPairAt, last_of};
 
 use crate::cursor::RangeMut;
 use crate::cursor::pairs::{address_after, address_before};
@@ -34,8 +34,7 @@ impl<'a, K: Ord + Drop, V: Drop, C: NodesMut<K, V>> RangeMut<'a, K, V, C> {
         requires { self.old.any_left ≡ true }
         ensures* writes_back { sem 𝓛 (lends_first_in_range
             K.row V.row C.row C.Origin.row self.entry result.1) }
-        ensures pair { slice_get (pairs_of self.old.map.now) (range_front self.old) ≡
-            Some (result.0.now, result.1.now) }
+        ensures pair { LendsPairAt self.old.map.now (range_front self.old) result }
         ensures writes { (w : V) → WritesFirstInRange self.old result.0.now result.1.now w }
     {
         let Some(at) = self.first else {
@@ -51,8 +50,7 @@ impl<'a, K: Ord + Drop, V: Drop, C: NodesMut<K, V>> RangeMut<'a, K, V, C> {
         requires { self.old.any_left ≡ true }
         ensures* writes_back { sem 𝓛 (lends_last_in_range
             K.row V.row C.row C.Origin.row self.entry result.1) }
-        ensures pair { slice_get (pairs_of self.old.map.now) (range_back self.old - 1) ≡
-            Some (result.0.now, result.1.now) }
+        ensures pair { LendsPairAt self.old.map.now (range_back self.old - 1) result }
         ensures writes { (w : V) → WritesLastInRange self.old result.0.now result.1.now w }
     {
         let Some(at) = self.last else {
@@ -82,8 +80,7 @@ impl<'a, K: Ord + Drop, V: Drop, C: NodesMut<K, V>> RangeMut<'a, K, V, C> {
     /// The contract does not say what the map is after the value was written; that of `next_back_pair` does.
     pub fn next_back(&mut self) -> Option<(&K, &mut V)>
         ensures pair { IfSome result (λ p.
-            slice_get (range_left self.old) (length (range_left self.old) - 1) ≡
-            Some (p.0.now, p.1.now)) }
+            last_of (range_left self.old) ≡ Some (p.0.now, p.1.now)) }
         ensures none { IfNone result (range_left self.old ≡ []) }
     {
         if self.is_empty() {

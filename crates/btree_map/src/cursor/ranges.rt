@@ -1,11 +1,9 @@
 //! Where a cursor over a range starts.
-ghost use Rattle.std.specs.Prelude.{◌≡◌, nat_lt, slice_get};
-ghost use Rattle.btree_shape.specs.TreeAddresses.{item_addresses_of};
+ghost use Rattle.std.specs.Prelude.{◌≡◌, nat_lt};
 ghost use Rattle.btree_shape.specs.TreeState.{IsBTree, pairs_of};
-ghost use Rattle.btree_shape.specs.Visits.{prior};
 ghost use Rattle.btree_walk.specs.Bounds.{IsValidRange, bound_key, pairs_between};
 ghost use Rattle.btree_map.specs.RangeCursor.{range_left};
-ghost use Rattle.btree_map.specs.Spans.{from_place, index_after, index_of, to_place};
+ghost use Rattle.btree_map.specs.Spans.{IsFirstListed, IsLastListed, first_address, item_index, last_address, next_index};
 
 use crate::BTreeMap;
 use crate::cursor::RangeMut;
@@ -19,8 +17,7 @@ fn first_from<K: Ord, V, C: NodesMut<K, V>>(
     map: &BTreeMap<K, V, C>,
     start: Bound<&K>,
 ) -> Option<Address>
-    ensures { result ≡ slice_get (item_addresses_of map.now)
-        (from_place K.cmp (bound_key start.entry) (pairs_of map.now)) }
+    ensures { result ≡ first_address K.cmp (bound_key start.entry) map.now }
 {
     // For the prover: the tree is well formed.
     let _root = map.root_id();
@@ -42,8 +39,7 @@ fn last_up_to<K: Ord, V, C: NodesMut<K, V>>(
     map: &BTreeMap<K, V, C>,
     end: Bound<&K>,
 ) -> Option<Address>
-    ensures { result ≡ prior (item_addresses_of map.now)
-        (to_place K.cmp (bound_key end.entry) (pairs_of map.now)) }
+    ensures { result ≡ last_address K.cmp (bound_key end.entry) map.now }
 {
     // For the prover: the tree is well formed.
     let _root = map.root_id();
@@ -66,13 +62,10 @@ fn are_in_order<K: Ord, V, C: NodesMut<K, V>>(
     first: &Option<Address>,
     last: &Option<Address>,
 ) -> bool
-    requires first { first.now ≡ slice_get (item_addresses_of map.now)
-        (index_of (item_addresses_of map.now) first.now) }
-    requires last { last.now ≡ prior (item_addresses_of map.now)
-        (index_after (item_addresses_of map.now) last.now) }
+    requires first { IsFirstListed map.now first.now }
+    requires last { IsLastListed map.now last.now }
     ensures tree { IsBTree K.cmp map.now }
-    ensures value { result ≡ nat_lt (index_of (item_addresses_of map.now) first.now)
-        (index_after (item_addresses_of map.now) last.now) }
+    ensures value { result ≡ nat_lt (item_index map.now first.now) (next_index map.now last.now) }
 {
     // For the prover: the tree is well formed.
     let _root = map.root_id();

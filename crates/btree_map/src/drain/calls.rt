@@ -41,6 +41,7 @@ impl<'a, K: Ord + Drop, V: Drop, C: NodesMut<K, V>, F: FnMut(&K, &mut V) -> bool
     ghost use Rattle.std.specs.Iterator.SizeHint.{IsWithinCount};
     ghost use Rattle.std.specs.Iterator.{UpTo, at_most};
     ghost use Rattle.btree_map.specs.DrainSteps.{DrainsNext};
+    ghost use Rattle.btree_map.specs.Lists.{at_most_behind};
 
     type Item = (K, V);
 
@@ -62,9 +63,9 @@ impl<'a, K: Ord + Drop, V: Drop, C: NodesMut<K, V>, F: FnMut(&K, &mut V) -> bool
         ensures exact { result ≡
             (0, Some (length (drop self.now.front (pairs_of self.now.map.now)))) }
         ensures lower { IsWithinCount result.0
-            (at_most (length (drop self.now.front (pairs_of self.now.map.now)))) }
+            (at_most_behind self.now.front (pairs_of self.now.map.now)) }
         ensures upper { IfSome result.1
-            (UpTo (at_most (length (drop self.now.front (pairs_of self.now.map.now))))) }
+            (UpTo (at_most_behind self.now.front (pairs_of self.now.map.now))) }
     {
         (0, Some(self.map.len().saturating_sub(self.front)))
     }

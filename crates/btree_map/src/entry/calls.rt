@@ -1,9 +1,9 @@
 //! The value of an entry, inserted if it is not there.
-ghost use Rattle.std.specs.Prelude.{◌≡◌, None, Some, IfErr, IfOk, IsSomeAnd};
+ghost use Rattle.std.specs.Prelude.{◌≡◌, None, Some, IfErr, IfOk};
 ghost use Rattle.std.specs.Borrow.{Bor, LendsSoOk, sem};
 ghost use Rattle.std.specs.Fn.{FnOnceReturnsAt};
 ghost use Rattle.std.specs.Option.{UnwrapsOrElse};
-ghost use Rattle.btree_map.specs.Entry.{IsRefusedEntry, WritesEntry, asked_key, entry_address, entry_key, entry_map, entry_value};
+ghost use Rattle.btree_map.specs.Entry.{HoldsOfAsked, IsRefusedEntry, WritesEntry, asked_key, entry_address, entry_key, entry_map, entry_value};
 ghost use Rattle.btree_map.specs.Lent.{entry_lends};
 
 use super::Entry;
@@ -76,8 +76,8 @@ impl<'a, K: Ord + Drop, V: Drop, C: NodesMut<K, V>> Entry<'a, K, V, C> {
     ) -> Result<&'a mut V, Refused<K, V>>
         requires { (p : Bor K) → asked_key self ≡ Some p.now → F.pre default p }
         ensures* writes_back { sem 𝓛 (entry_lends K.row V.row C.row C.Origin.row self.entry result) }
-        ensures value { IfOk result (λ v. UnwrapsOrElse (entry_value self.entry) (λ w.
-            IsSomeAnd (asked_key self.entry) (λ k. FnOnceReturnsAt F.FnOnce default k w)) v.now) }
+        ensures value { IfOk result (λ v. UnwrapsOrElse (entry_value self.entry)
+            (HoldsOfAsked self.entry (FnOnceReturnsAt F.FnOnce default)) v.now) }
         ensures returned { IfErr result (λ r. (asked_key self.entry ≡ Some r.key)
             × FnOnceReturnsAt F.FnOnce default r.key r.value) }
     {

@@ -2,10 +2,9 @@
 ghost use Rattle.std.specs.Prelude.{◌≡◌, IsSome, Some, option_map};
 ghost use Rattle.std.specs.Borrow.{sem};
 ghost use Rattle.btree_shape.specs.TreeState.{item_of};
-ghost use Rattle.btree_edit.specs.ValueWritten.{value_written};
 ghost use Rattle.btree_map.specs.Entry.{with_entry_value};
 ghost use Rattle.btree_map.specs.Lent.{lends_in_entry, lends_occupied};
-ghost use Rattle.btree_map.specs.Written.{RemovesAt, WritesValueAt};
+ghost use Rattle.btree_map.specs.Written.{RemovesAt, WritesLentAt, WritesValueAt};
 
 use super::OccupiedEntry;
 use crate::BTreeMap;
@@ -64,8 +63,7 @@ impl<'a, K: Ord + Drop, V: Drop, C: NodesMut<K, V>> OccupiedEntry<'a, K, V, C> {
         ensures* writes_back { sem 𝓛 (lends_in_entry
             K.row V.row C.row C.Origin.row self.entry result) }
         ensures value { option_map (λ x. x.1) (item_of self.old.map.now self.old.at) ≡ Some result.now }
-        ensures writes { (w : V) → WritesValueAt K.cmp self.old.map.now
-            (value_written self.old.map.now self.old.at w) self.old.at result.now w }
+        ensures writes { WritesLentAt K.cmp self.old.map.now self.old.at result.now }
     {
         let at = self.at;
         let (_key, value) = self.map.pair_mut(at);
@@ -87,8 +85,7 @@ impl<'a, K: Ord + Drop, V: Drop, C: NodesMut<K, V>> OccupiedEntry<'a, K, V, C> {
         ensures* writes_back { sem 𝓛 (lends_occupied
             K.row V.row C.row C.Origin.row self.entry result) }
         ensures value { option_map (λ x. x.1) (item_of self.entry.map.now self.entry.at) ≡ Some result.now }
-        ensures writes { (w : V) → WritesValueAt K.cmp self.entry.map.now
-            (value_written self.entry.map.now self.entry.at w) self.entry.at result.now w }
+        ensures writes { WritesLentAt K.cmp self.entry.map.now self.entry.at result.now }
     {
         let OccupiedEntry { map, at } = self;
         let (_key, value) = map.pair_mut(at);
