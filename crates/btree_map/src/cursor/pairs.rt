@@ -24,8 +24,7 @@ pub(crate) fn address_after<K: Ord, V, C: NodesMut<K, V>>(
     ensures after { (place : ℕ) → slice_get (item_addresses_of map.now) place ≡ Some addr →
         result ≡ slice_get (item_addresses_of map.now) (place + 1) }
 {
-    // For the prover: the tree is well formed.
-    let _root = map.root_id();
+    map.tell_well_formed();
     map.next_item_address(addr)
 }
 
@@ -40,8 +39,7 @@ pub(crate) fn address_before<K: Ord, V, C: NodesMut<K, V>>(
     ensures before { (place : ℕ) → slice_get (item_addresses_of map.now) place ≡ Some addr →
         result ≡ prior (item_addresses_of map.now) place }
 {
-    // For the prover: the tree is well formed.
-    let _root = map.root_id();
+    map.tell_well_formed();
     map.previous_item_address(addr)
 }
 
@@ -51,8 +49,7 @@ impl<'a, K: Ord, V, C: NodesMut<K, V>> IterMut<'a, K, V, C> {
         ensures value { result ≡ self.now.back - self.now.front }
         ensures left { result ≡ length (pairs_left self.now) }
     {
-        // For the prover: the tree is well formed.
-        let _root = self.map.root_id();
+        self.map.tell_well_formed();
         self.back.saturating_sub(self.front)
     }
 

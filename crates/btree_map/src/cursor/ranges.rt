@@ -22,8 +22,7 @@ fn first_from<K: Ord, V, C: NodesMut<K, V>>(
     ensures { result ≡ slice_get (item_addresses_of map.now)
         (from_place K.cmp (bound_key start.entry) (pairs_of map.now)) }
 {
-    // For the prover: the tree is well formed.
-    let _root = map.root_id();
+    map.tell_well_formed();
     match start {
         Bound::Unbounded => return map.first_item_address(),
         Bound::Included(key) => match map.address_of(key) {
@@ -45,8 +44,7 @@ fn last_up_to<K: Ord, V, C: NodesMut<K, V>>(
     ensures { result ≡ prior (item_addresses_of map.now)
         (to_place K.cmp (bound_key end.entry) (pairs_of map.now)) }
 {
-    // For the prover: the tree is well formed.
-    let _root = map.root_id();
+    map.tell_well_formed();
     match end {
         Bound::Unbounded => return map.last_item_address(),
         Bound::Included(key) => match map.address_of(key) {
@@ -74,8 +72,7 @@ fn are_in_order<K: Ord, V, C: NodesMut<K, V>>(
     ensures value { result ≡ nat_lt (index_of (item_addresses_of map.now) first.now)
         (index_after (item_addresses_of map.now) last.now) }
 {
-    // For the prover: the tree is well formed.
-    let _root = map.root_id();
+    map.tell_well_formed();
     let Some(low) = *first else {
         return false;
     };
