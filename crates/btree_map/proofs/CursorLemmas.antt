@@ -5,10 +5,9 @@ use Rattle.std.specs.Cmp.{IsTotalOrder}
 use Rattle.std.specs.declared.cmp.Ordering.{Ordering}
 use Rattle.btree_item.specs.declared.address.Address.{Address}
 use Rattle.btree_shape.specs.TreeAddresses.{item_addresses_of}
-use Rattle.btree_shape.specs.TreeState.{TreeState, IsBTree, IsOccupiedIn, IsPlaceIn, IsValidIn, item_of, node_map, pairs_of}
+use Rattle.btree_shape.specs.TreeState.{TreeState, IsBTree, IsOccupiedIn, IsPlaceIn, IsValidIn, item_of, pairs_of}
 use Rattle.btree_shape.specs.Visits.{prior}
 use Rattle.btree_shape.proofs.AddressLists.Whole.{addresses-tree}
-use Rattle.btree_shape.proofs.Places.OnePlace.{one_place-well}
 use Rattle.btree_find.specs.Navigation.{IsItemBefore, IsNext, IsPrevious}
 use Rattle.btree_find.proofs.FitsLemmas.{occupied-item}
 use Rattle.btree_edit.specs.Exchange.{IsValueExchanged}
@@ -54,7 +53,7 @@ module _ {K V : Type 0} (cmp : K → K → Ordering) (laws : IsTotalOrder cmp) (
   pub listed-written : (k : K) (was w : V) → item_of s a ≡ Some (k, was) → IsValueExchanged s (value_written s a w) a cmp was w
       → WritesPlace cmp s (value_written s a w) a place k was w
   listed-written k was w here x =
-      let at : x.exchanged.place ≡ place = one_place-well cmp laws (node_map s) (pairs_of s) s.len s.root tree a.id a.offset x.exchanged.place place x.exchanged.at right.1 in
+      let at : x.exchanged.place ≡ place = sym (x.exchanged.here.has.only place right.1) in
       let key : x.key ≡ k = ap (λ (p : K × V). p.0) (same_Some (x.key, was) (k, was) (sym x.had ∙ here)) in
       record {
         listed = listed;

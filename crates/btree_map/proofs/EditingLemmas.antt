@@ -135,7 +135,7 @@ module _ {K V : Type 0} (cmp : K → K → Ordering) (laws : IsTotalOrder cmp) (
   -- ---- after a removal there
   module _ (at after : Address) (x : K × V) (r : IsRemoved old new cmp at x after) (listed : slice_get (item_addresses_of old) front ≡ Some at) where
     here : r.place ≡ front
-    here = only cmp laws old tree at front r.place ((addresses-tree cmp laws old tree).items.right front at listed).1 r.at
+    here = only cmp laws old tree at front r.place ((addresses-tree cmp laws old tree).items.right front at listed).1 r.has.at
 
     remove-pairs : pairs_of new ≡ remove (pairs_of old) front
     remove-pairs = r.pairs ∙ ap (remove (pairs_of old)) here
@@ -151,7 +151,7 @@ module _ {K V : Type 0} (cmp : K → K → Ordering) (laws : IsTotalOrder cmp) (
 
     pub remove-next : (found : Option Address) → IsNormalized new after found → found ≡ slice_get (item_addresses_of new) front
     remove-next found n =
-        let same : r.place ≡ n.place = n.has.only r.place r.there in
+        let same : r.place ≡ n.place = n.has.only r.place r.there.at in
         n.item.listed ∙ ap (slice_get (item_addresses_of new)) (sym same ∙ here)
 
     pub remove-within : front ≤ length (item_addresses_of new)
@@ -170,7 +170,7 @@ module _ {K V : Type 0} (old new : TreeState K V) (gap : Address) (may_refuse : 
 
   module _ (cause : Cause) (r : IsRefusedAt old new gap may_refuse cause) where
     pub refused-pairs : pairs_of new ≡ pairs_of old
-    refused-pairs = refused-by (λ s. pairs_of s) (λ n. refl) r.leaf.id cause r.refused
+    refused-pairs = r.leaves.pairs
 
     pub refused-addresses : item_addresses_of new ≡ item_addresses_of old
     refused-addresses = refused-by (λ s. item_addresses_of s) (λ n. refl) r.leaf.id cause r.refused

@@ -31,10 +31,10 @@ item-valid {K} {V} s a some = inl (by a.offset (item-occupied s a some))
 module _ {K V : Type 0} (cmp : K → K → Ordering) (laws : IsTotalOrder cmp) (s : TreeState K V) (k : K) (a : Address) where
   module _ (gap : IsGapAt cmp k s a) where
     pub gap-absent : found cmp k (pairs_of s) ≡ None
-    gap-absent = found-from_Err cmp k (pairs_of s) gap.place gap.is
+    gap-absent = found-from_Err cmp k (pairs_of s) gap.fits.place gap.is
 
     pub gap-stands : IsGapOf cmp k s a
-    gap-stands = ap (slice_get (leaf_backs_of s)) (before-from_Err cmp k (pairs_of s) gap.place gap.is) ∙ gap.listed
+    gap-stands = ap (slice_get (leaf_backs_of s)) (before-from_Err cmp k (pairs_of s) gap.fits.place gap.is) ∙ gap.listed
 
     pub gap-writes : (w : V) → insert (pairs_of s) (before cmp k (pairs_of s)) (k, w) ≡ inserted cmp k w (pairs_of s)
     gap-writes w = inserted-absent cmp laws k w (pairs_of s) gap-absent

@@ -1,26 +1,15 @@
 -- Insertions of many pairs.
-use Rattle.std.proofs.Common.{◌≡◌, ◌∙◌, ◌+◌, ◌++◌, ℕ, List, [], ◌∷◌, cond, Some, None, length, slice_get, refl, sym, ap, subst, arith, Ordering}
+use Rattle.std.proofs.Common.{◌≡◌, ◌∙◌, ◌+◌, ◌++◌, List, [], ◌∷◌, cond, Some, None, length, slice_get, refl, sym, ap, subst, arith, Ordering}
 use Rattle.std.specs.List.{AllByRecursion, insert, remove}
 use Rattle.std.specs.Map.{keys_of}
 use Rattle.std.specs.Ordering.{is_lt}
 use Rattle.std.specs.declared.cmp.Ordering.TheVariants.{Less}
 use Rattle.std.proofs.lemmas.Map.Keys.{sorted_head, sorted_tail}
-use Rattle.btree_store.specs.Content.{Content}
 use Rattle.btree_item.specs.Pairs.{Ascends, before, found, inserted}
-use Rattle.btree_item.specs.declared.refused.Cause.{Cause}
-use Rattle.btree_item.specs.declared.refused.Cause.TheVariants.{Count, Store}
 use Rattle.btree_item.proofs.KeyLemmas.{count_by-cons}
-use Rattle.btree_node.specs.declared.node.Node.{Node}
-use Rattle.btree_shape.specs.TreeState.{TreeState, pairs_of}
-use Rattle.btree_raw.specs.Insertion.{IsRefused}
 use Rattle.btree_map.specs.Extension.{inserted_all}
 
 module _ {K V : Type 0} where
-  -- a refused insertion leaves the list
-  pub refused-pairs : (M : Content (Node K V) → Type 0) (id : ℕ) (old new : TreeState K V) (cause : Cause) → IsRefused M id old new cause → pairs_of new ≡ pairs_of old
-  refused-pairs M id old new Store is = ap pairs_of is.0
-  refused-pairs M id old new Count is = ap pairs_of is.0
-
   -- the first pair, and the others
   pub first-and-rest : (xs ys : List (K × V)) (x : K × V) → Some x ≡ slice_get xs 0 → ys ≡ remove xs 0 → xs ≡ x ∷ ys
   first-and-rest [] ys x is rest = absurd (cc)

@@ -54,7 +54,7 @@ module _ {K V : Type 0} (cmp : K → K → Ordering) (laws : IsTotalOrder cmp) (
         → found ≡ slice_get list (from_place cmp (Included k) pairs)
     gap-first gap found x n =
         n.item.listed
-        ∙ ap (slice_get list) (sym (n.has.only x.place x.at) ∙ sym (below-place cmp laws k pairs ∙ before-from_Err cmp k pairs x.place x.is))
+        ∙ ap (slice_get list) (sym (n.has.only x.fits.place x.fits.has.at) ∙ sym (below-place cmp laws k pairs ∙ before-from_Err cmp k pairs x.fits.place x.is))
 
     pub found-after : (a : Address) (found : Option Address) → IsFoundAt cmp k s a → IsNext s a found → found ≡ slice_get list (from_place cmp (Excluded k) pairs)
     found-after a found x n =
@@ -65,10 +65,10 @@ module _ {K V : Type 0} (cmp : K → K → Ordering) (laws : IsTotalOrder cmp) (
     pub gap-after : (gap : Address) (found : Option Address) → IsGapAt cmp k s gap → IsNormalized s gap found
         → found ≡ slice_get list (from_place cmp (Excluded k) pairs)
     gap-after gap found x n =
-        let absent = found-from_Err cmp k pairs x.place x.is in
+        let absent = found-from_Err cmp k pairs x.fits.place x.is in
         n.item.listed
         ∙ ap (slice_get list)
-        (sym (n.has.only x.place x.at) ∙ sym (past-missing cmp laws k pairs up absent ∙ before-from_Err cmp k pairs x.place x.is))
+        (sym (n.has.only x.fits.place x.fits.has.at) ∙ sym (past-missing cmp laws k pairs up absent ∙ before-from_Err cmp k pairs x.fits.place x.is))
 
     pub found-last : (a : Address) → IsFoundAt cmp k s a → Some a ≡ prior list (to_place cmp (Included k) pairs)
     found-last a x = sym x.listed ∙ ap (prior list) (sym (up_to-found cmp laws k pairs x.place up x.is))
@@ -76,10 +76,10 @@ module _ {K V : Type 0} (cmp : K → K → Ordering) (laws : IsTotalOrder cmp) (
     pub gap-last : (gap : Address) (found : Option Address) → IsGapAt cmp k s gap → IsPrevious s gap found
         → found ≡ prior list (to_place cmp (Included k) pairs)
     gap-last gap found x p =
-        let absent = found-from_Err cmp k pairs x.place x.is in
+        let absent = found-from_Err cmp k pairs x.fits.place x.is in
         before-listed s p.place found p.item
         ∙ ap (prior list)
-        (sym (p.has.only x.place x.at) ∙ sym (up_to-missing cmp laws k pairs up absent ∙ before-from_Err cmp k pairs x.place x.is))
+        (sym (p.has.only x.fits.place x.fits.has.at) ∙ sym (up_to-missing cmp laws k pairs up absent ∙ before-from_Err cmp k pairs x.fits.place x.is))
 
     pub found-before : (a : Address) (found : Option Address) → IsFoundAt cmp k s a → IsPrevious s a found → found ≡ prior list (to_place cmp (Excluded k) pairs)
     found-before a found x p =
@@ -90,7 +90,7 @@ module _ {K V : Type 0} (cmp : K → K → Ordering) (laws : IsTotalOrder cmp) (
         → found ≡ prior list (to_place cmp (Excluded k) pairs)
     gap-before gap found x p =
         before-listed s p.place found p.item
-        ∙ ap (prior list) (sym (p.has.only x.place x.at) ∙ sym (below-end cmp laws k pairs ∙ before-from_Err cmp k pairs x.place x.is))
+        ∙ ap (prior list) (sym (p.has.only x.fits.place x.fits.has.at) ∙ sym (below-end cmp laws k pairs ∙ before-from_Err cmp k pairs x.fits.place x.is))
 
   -- the pairs from the first end up to the last one are those between the bounds
   module _ (lo hi : Bound K) (first last : Option Address) (first_is : first ≡ slice_get list (from_place cmp lo pairs))

@@ -70,7 +70,7 @@ module _ {K V : Type 0} (old : TreeState K V) where
   module _ (new : TreeState K V) (cmp : K → K → Ordering) (place : ℕ) (a b : Address) (x : K × V) (here : IsItemAddress old place a)
       (removed : IsRemoved old new cmp a x b) where
     same : removed.place ≡ place
-    same = here.has.only removed.place removed.at
+    same = here.has.only removed.place removed.has.at
 
     pub removed-pair : Some x ≡ slice_get (pairs_of old) place
     removed-pair = sym (subst (λ p. slice_get (pairs_of old) p ≡ Some x) same removed.listed)

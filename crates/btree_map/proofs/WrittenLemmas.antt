@@ -11,7 +11,6 @@ use Rattle.btree_edit.specs.Exchange.{IsValueExchanged}
 use Rattle.btree_edit.specs.InsertAbsent.{InsertsAbsent}
 use Rattle.btree_edit.specs.ValueWritten.{value_written}
 use Rattle.btree_edit.specs.WrittenLaws.{written-item}
-use Rattle.btree_edit.proofs.InsertLemmas.{placed-item}
 use Rattle.btree_map.specs.Written.{IsInsertedWith, WritesValueAt, list_written, with_value_of}
 use Rattle.btree_map.proofs.ListLemmas.{set-inserted, set-stored, with_value-twice}
 
@@ -20,7 +19,7 @@ module _ {K V : Type 0} (cmp : K → K → Ordering) (k : K) (old mid : TreeStat
   pub inserted-with : (was w : V) → IsValueExchanged mid (value_written mid b w) b cmp was w → IsInsertedWith cmp k old (value_written mid b w) value w
   inserted-with was w e =
       let place = before cmp k (pairs_of old) in
-      let same : e.exchanged.place ≡ place = inserted.there.only e.exchanged.place e.exchanged.at in
+      let same : e.exchanged.place ≡ place = inserted.there.only e.exchanged.place e.exchanged.here.has.at in
       let pair : (k, value) ≡ (e.key, was) = same_Some (k, value) (e.key, was) (sym inserted.item ∙ e.had) in
       let key : e.key ≡ k = ap (λ p. p.0) (sym pair) in
       record {
@@ -40,12 +39,11 @@ module _ {K V : Type 0} (cmp : K → K → Ordering) (k : K) (old mid : TreeStat
 module _ {K V : Type 0} (cmp : K → K → Ordering) (laws : IsTotalOrder cmp) (s : TreeState K V) (tree : IsBTree cmp s) (a : Address) where
   pub writes-value : (new : TreeState K V) (was w : V) → IsValueExchanged s new a cmp was w → WritesValueAt cmp s new a was w
   writes-value new was w x =
-      let listed = placed-item cmp s (x.key, was) a tree x.exchanged.place x.exchanged.at x.had in
       record {
         exchanged = x;
         pairs =
             x.exchanged.pairs
-            ∙ set-stored cmp laws w (pairs_of s) x.exchanged.place (x.key, was) tree.ascends listed
+            ∙ set-stored cmp laws w (pairs_of s) x.exchanged.place (x.key, was) tree.ascends x.listed
             ∙ sym (ap (λ o. with_value_of cmp o w (pairs_of s)) x.had);
       }
 

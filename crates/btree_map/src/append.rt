@@ -35,7 +35,7 @@ impl<K: Ord + Drop, V: Drop, C: NodesMut<K, V>> BTreeMap<K, V, C> {
         }
         if self.is_empty() {
             // For the prover: the tree is well formed, so its keys ascend.
-            let _root = other.root_id();
+            other.tell_well_formed();
             mem::swap(self, other);
             return Ok(());
         }

@@ -49,8 +49,7 @@ impl<'a, K: Ord, V, C: NodesMut<K, V>> EntriesMut<'a, K, V, C> {
     pub fn peek(&self) -> Option<&Item<K, V>>
         ensures { option_copied result ≡ slice_get (left_of self.now) 0 }
     {
-        // For the prover: the tree is well formed.
-        let _root = self.map.root_id();
+        self.map.tell_well_formed();
         let Some(at) = self.first else {
             return None;
         };
@@ -71,8 +70,7 @@ impl<'a, K: Ord, V, C: NodesMut<K, V>> EntriesMut<'a, K, V, C> {
         ensures back { IsSome result.offset }
         ensures has { HasPlace self.now.map.now result self.now.front }
     {
-        // For the prover: the tree is well formed.
-        let _root = self.map.root_id();
+        self.map.tell_well_formed();
         match self.first {
             Some(at) => at,
             None => self.map.last_valid_address(),
@@ -85,8 +83,7 @@ impl<'a, K: Ord, V, C: NodesMut<K, V>> EntriesMut<'a, K, V, C> {
         ensures { IsTrue result ↔
             FitsBetween K.cmp key.now (passed_of self.now) (left_of self.now) }
     {
-        // For the prover: the tree is well formed.
-        let _root = self.map.root_id();
+        self.map.tell_well_formed();
         self.map.fits_at(self.gap(), key)
     }
 }
@@ -102,8 +99,7 @@ impl<'a, K: Ord + Drop, V: Drop, C: NodesMut<K, V>> EntriesMut<'a, K, V, C> {
         ensures returned { IfErr result (λ r. (r.key ≡ key) × (r.value ≡ value)) }
         ensures refused { IfErr result (λ r. RefusesEntry self.old self.new r.cause) }
     {
-        // For the prover: the tree is well formed.
-        let _root = self.map.root_id();
+        self.map.tell_well_formed();
         let gap = self.gap();
         match self.map.insert_at(gap, Item::new(key, value)) {
             Ok(at) => {
@@ -114,7 +110,7 @@ impl<'a, K: Ord + Drop, V: Drop, C: NodesMut<K, V>> EntriesMut<'a, K, V, C> {
                 Ok(())
             }
             Err(refused) => {
-                let _root = self.map.root_id();
+                self.map.tell_well_formed();
                 Err(refused)
             }
         }
@@ -127,8 +123,7 @@ impl<'a, K: Ord + Drop, V: Drop, C: NodesMut<K, V>> EntriesMut<'a, K, V, C> {
         ensures none { IfNone result (left_of self.old ≡ []) }
         ensures unchanged { IfNone result (self.new ≡ self.old) }
     {
-        // For the prover: the tree is well formed.
-        let _root = self.map.root_id();
+        self.map.tell_well_formed();
         let Some(at) = self.first else {
             return None;
         };
@@ -144,8 +139,8 @@ impl<'a, K: Ord + Drop, V: Drop, C: NodesMut<K, V>> EntriesMut<'a, K, V, C> {
         requires { 0 < length (left_of self.old) }
         ensures { (x : K × V) × PassesEntry self.old self.new x }
     {
-        // For the prover: the tree is well formed, and its length is a `usize`.
-        let _root = self.map.root_id();
+        self.map.tell_well_formed();
+        // For the prover: the length is a `usize`.
         let _len = self.map.len();
         let Some(at) = self.first else {
             unreachable!();
@@ -165,8 +160,8 @@ impl<'a, K: Ord + Drop, V: Drop, C: NodesMut<K, V>> EntriesMut<'a, K, V, C> {
         ensures pair { slice_get (left_of self.old) 0 ≡ Some (result.0.now, result.1.now) }
         ensures writes { (w : V) → WritesPassed self.old result.0.now result.1.now w }
     {
-        // For the prover: the tree is well formed, and its length is a `usize`.
-        let _root = self.map.root_id();
+        self.map.tell_well_formed();
+        // For the prover: the length is a `usize`.
         let _len = self.map.len();
         let Some(at) = self.first else {
             unreachable!();
@@ -184,8 +179,7 @@ impl<'a, K: Ord + Drop, V: Drop, C: NodesMut<K, V>> EntriesMut<'a, K, V, C> {
         ensures pair { slice_get (left_of self.old) 0 ≡ Some (result.0.now, result.1.now) }
         ensures writes { (w : V) → WritesPeeked self.old result.0.now result.1.now w }
     {
-        // For the prover: the tree is well formed.
-        let _root = self.map.root_id();
+        self.map.tell_well_formed();
         let Some(at) = self.first else {
             unreachable!();
         };

@@ -23,8 +23,7 @@ pub(crate) fn address_after<K: Ord, V, C: NodesMut<K, V>>(
     ensures occupied { IsOccupiedIn map.now addr }
     ensures after { IsAddressAfter map.now addr result }
 {
-    // For the prover: the tree is well formed.
-    let _root = map.root_id();
+    map.tell_well_formed();
     map.next_item_address(addr)
 }
 
@@ -38,8 +37,7 @@ pub(crate) fn address_before<K: Ord, V, C: NodesMut<K, V>>(
     ensures occupied { IsOccupiedIn map.now addr }
     ensures before { IsAddressBefore map.now addr result }
 {
-    // For the prover: the tree is well formed.
-    let _root = map.root_id();
+    map.tell_well_formed();
     map.previous_item_address(addr)
 }
 
@@ -49,8 +47,7 @@ impl<'a, K: Ord, V, C: NodesMut<K, V>> IterMut<'a, K, V, C> {
         ensures value { result ≡ self.now.back - self.now.front }
         ensures left { result ≡ length (pairs_left self.now) }
     {
-        // For the prover: the tree is well formed.
-        let _root = self.map.root_id();
+        self.map.tell_well_formed();
         self.back.saturating_sub(self.front)
     }
 

@@ -18,8 +18,7 @@ impl<'a, K: Ord, V, C: NodesMut<K, V>> RangeMut<'a, K, V, C> {
         ensures places { result ≡ not (nat_lt (range_front self.now) (range_back self.now)) }
         ensures none { IsTrue result ↔ (range_left self.now ≡ []) }
     {
-        // For the prover: the tree is well formed.
-        let _root = self.map.root_id();
+        self.map.tell_well_formed();
         !self.any_left
     }
 }

@@ -19,8 +19,7 @@ fn first_from<K: Ord, V, C: NodesMut<K, V>>(
 ) -> Option<Address>
     ensures { result ≡ first_address K.cmp (bound_key start.entry) map.now }
 {
-    // For the prover: the tree is well formed.
-    let _root = map.root_id();
+    map.tell_well_formed();
     match start {
         Bound::Unbounded => return map.first_item_address(),
         Bound::Included(key) => match map.address_of(key) {
@@ -41,8 +40,7 @@ fn last_up_to<K: Ord, V, C: NodesMut<K, V>>(
 ) -> Option<Address>
     ensures { result ≡ last_address K.cmp (bound_key end.entry) map.now }
 {
-    // For the prover: the tree is well formed.
-    let _root = map.root_id();
+    map.tell_well_formed();
     match end {
         Bound::Unbounded => return map.last_item_address(),
         Bound::Included(key) => match map.address_of(key) {
@@ -67,8 +65,7 @@ fn are_in_order<K: Ord, V, C: NodesMut<K, V>>(
     ensures tree { IsBTree K.cmp map.now }
     ensures value { result ≡ nat_lt (item_index map.now first.now) (next_index map.now last.now) }
 {
-    // For the prover: the tree is well formed.
-    let _root = map.root_id();
+    map.tell_well_formed();
     let Some(low) = *first else {
         return false;
     };

@@ -16,8 +16,7 @@ impl<'a, K: Ord, V, C: NodesMut<K, V>> ValuesMut<'a, K, V, C> {
         ensures value { result ≡ self.now.back - self.now.front }
         ensures left { result ≡ length (values_left self.now) }
     {
-        // For the prover: the tree is well formed.
-        let _root = self.map.root_id();
+        self.map.tell_well_formed();
         self.back.saturating_sub(self.front)
     }
 

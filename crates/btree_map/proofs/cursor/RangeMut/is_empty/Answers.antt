@@ -9,5 +9,5 @@ returns-clause-places g c = ap not c.args.self.now.ordered
 pub returns-clause-none : goal.returns-clause-none
 returns-clause-none g c =
     let now = c.args.self.now in
-    let long = (addresses-tree g.K.Ord.cmp g.met.K.Ord.total now.map.now c.root_id-root.ensures.well_formed).items.counted in
+    let long = (addresses-tree g.K.Ord.cmp g.met.K.Ord.total now.map.now c.tell_well_formed.ensures.well_formed).items.counted in
     (none-left now, told-none now long)

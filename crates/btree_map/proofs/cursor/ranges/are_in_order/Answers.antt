@@ -13,7 +13,7 @@ unreachable-requires g c =
     let s = c.args.map.now in
     let list = item_addresses_of s in
     let listed = own-first list c.args.first.now c.in-Some.low c.in-Some.is c.requires.first in
-    let occupied = listed-occupied g.K.Ord.cmp g.met.K.Ord.total s c.root_id-root.ensures.well_formed c.in-Some.low (index_of list (Some c.in-Some.low)) listed in
+    let occupied = listed-occupied g.K.Ord.cmp g.met.K.Ord.total s c.tell_well_formed.ensures.well_formed c.in-Some.low (index_of list (Some c.in-Some.low)) listed in
     let no = subst (λ o. IsSome o) c.in_default-item.is (c.item.ensures.occupied.1 occupied) in
     absurd (cc)
 
@@ -22,7 +22,7 @@ unreachable-requires-in_default-item-2 g c =
     let s = c.args.map.now in
     let list = item_addresses_of s in
     let listed = own-last list c.args.last.now c.in-Some-last.high c.in-Some-last.is c.requires.last in
-    let occupied = listed-occupied g.K.Ord.cmp g.met.K.Ord.total s c.root_id-root.ensures.well_formed c.in-Some-last.high (index_of list (Some c.in-Some-last.high)) listed in
+    let occupied = listed-occupied g.K.Ord.cmp g.met.K.Ord.total s c.tell_well_formed.ensures.well_formed c.in-Some-last.high (index_of list (Some c.in-Some-last.high)) listed in
     let no = subst (λ o. IsSome o) c.in_default-item-2.is (c.item-2.ensures.occupied.1 occupied) in
     absurd (cc)
 
@@ -34,7 +34,7 @@ returns-clause-value g c =
     let high = c.in-Some-last.high in
     c.is_le.ensures
     ∙ ap is_le (c.cmp.ensures ∙ (λ i. g.K.Ord.cmp (c.key.ensures i) (c.key-2.ensures i)))
-    ∙ ends-ordered g.K.Ord.cmp g.met.K.Ord.total s c.root_id-root.ensures.well_formed low high c.in-Some-item.low.now c.in-Some-item-2.high.now
+    ∙ ends-ordered g.K.Ord.cmp g.met.K.Ord.total s c.tell_well_formed.ensures.well_formed low high c.in-Some-item.low.now c.in-Some-item-2.high.now
     (own-first list c.args.first.now low c.in-Some.is c.requires.first)
     (own-last list c.args.last.now high c.in-Some-last.is c.requires.last)
     (sym c.item.ensures.value ∙ ap option_copied c.in-Some-item.is)

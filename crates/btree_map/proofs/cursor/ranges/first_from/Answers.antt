@@ -9,32 +9,32 @@ use Rattle.btree_map.proofs.cursor.ranges.first_from.Goals as goal
 pub returns-in-Unbounded : goal.returns-in-Unbounded
 returns-in-Unbounded g c =
     let s = c.args.map.now in
-    whole-first g.K.Ord.cmp g.met.K.Ord.total s c.root_id-root.ensures.well_formed c.first_item_address.result c.first_item_address.ensures
+    whole-first g.K.Ord.cmp g.met.K.Ord.total s c.tell_well_formed.ensures.well_formed c.first_item_address.result c.first_item_address.ensures
     ∙ ap (λ b. slice_get (item_addresses_of s) (from_place g.K.Ord.cmp (bound_key b) (pairs_of s))) (sym c.in-Unbounded.is)
 
 pub returns-in-Ok : goal.returns-in-Ok
 returns-in-Ok g c =
     let s = c.args.map.now in
-    found-first g.K.Ord.cmp g.met.K.Ord.total s c.root_id-root.ensures.well_formed c.in-Included.key.now c.in-Ok.at c.in-Ok.ensures
+    found-first g.K.Ord.cmp g.met.K.Ord.total s c.tell_well_formed.ensures.well_formed c.in-Included.key.now c.in-Ok.at c.in-Ok.ensures
     ∙ ap (λ b. slice_get (item_addresses_of s) (from_place g.K.Ord.cmp (bound_key b) (pairs_of s))) (sym c.in-Included.is)
 
 pub returns-in-Err : goal.returns-in-Err
 returns-in-Err g c =
     let s = c.args.map.now in
-    gap-first g.K.Ord.cmp g.met.K.Ord.total s c.root_id-root.ensures.well_formed c.in-Included.key.now c.in-Err.gap c.normalize.result
+    gap-first g.K.Ord.cmp g.met.K.Ord.total s c.tell_well_formed.ensures.well_formed c.in-Included.key.now c.in-Err.gap c.normalize.result
     c.in-Err.ensures c.normalize.ensures
     ∙ ap (λ b. slice_get (item_addresses_of s) (from_place g.K.Ord.cmp (bound_key b) (pairs_of s))) (sym c.in-Included.is)
 
 pub returns-in-Ok-address_of : goal.returns-in-Ok-address_of
 returns-in-Ok-address_of g c =
     let s = c.args.map.now in
-    found-after g.K.Ord.cmp g.met.K.Ord.total s c.root_id-root.ensures.well_formed c.in-Excluded.key.now c.in-Ok-address_of.at
+    found-after g.K.Ord.cmp g.met.K.Ord.total s c.tell_well_formed.ensures.well_formed c.in-Excluded.key.now c.in-Ok-address_of.at
     c.next_item_address.result c.in-Ok-address_of.ensures c.next_item_address.ensures
     ∙ ap (λ b. slice_get (item_addresses_of s) (from_place g.K.Ord.cmp (bound_key b) (pairs_of s))) (sym c.in-Excluded.is)
 
 pub returns-in-Err-address_of : goal.returns-in-Err-address_of
 returns-in-Err-address_of g c =
     let s = c.args.map.now in
-    gap-after g.K.Ord.cmp g.met.K.Ord.total s c.root_id-root.ensures.well_formed c.in-Excluded.key.now c.in-Err-address_of.gap
+    gap-after g.K.Ord.cmp g.met.K.Ord.total s c.tell_well_formed.ensures.well_formed c.in-Excluded.key.now c.in-Err-address_of.gap
     c.normalize-in-Err-address_of.result c.in-Err-address_of.ensures c.normalize-in-Err-address_of.ensures
     ∙ ap (λ b. slice_get (item_addresses_of s) (from_place g.K.Ord.cmp (bound_key b) (pairs_of s))) (sym c.in-Excluded.is)

@@ -2,13 +2,13 @@ use Rattle.std.proofs.Common.{◌≡◌, ◌∙◌, ◌∷◌, [], ap, sym, rule
 use Rattle.btree_item.specs.Pairs.{inserted}
 use Rattle.btree_shape.specs.TreeState.{pairs_of}
 use Rattle.btree_map.specs.Extension.{inserted_all}
-use Rattle.btree_map.proofs.ExtensionLemmas.{all-into-none, first-and-rest, none-of, refused-pairs}
+use Rattle.btree_map.proofs.ExtensionLemmas.{all-into-none, first-and-rest, none-of}
 use Rattle.btree_map.proofs.map.BTreeMap.append.Goals as goal
 
 pub returns-then-is_empty-2-clause-appended : goal.returns-then-is_empty-2-clause-appended
 returns-then-is_empty-2-clause-appended g c =
     let empty : pairs_of c.args.self.now ≡ [] = search rules in
-    let all = all-into-none g.K.Ord.cmp (pairs_of c.args.other.now) c.root_id-root.ensures.well_formed.ascends in
+    let all = all-into-none g.K.Ord.cmp (pairs_of c.args.other.now) c.tell_well_formed.ensures.well_formed.ascends in
     ap pairs_of c.swap.ensures.x_after ∙ sym all ∙ sym (ap (λ l. inserted_all g.K.Ord.cmp l (pairs_of c.args.other.now)) empty)
 
 pub loop-key-preserved : goal.loop-key-preserved
@@ -37,7 +37,7 @@ returns-in-Err-clause-stopped g c =
     (c.loop-key.invariant.3 x (pairs_of c.insert.new.self) rest (record {
       given = [];
       split = first-and-rest (pairs_of c.loop-key.other) rest x c.in-Some.ensures.pair c.in-Some.ensures.removed.pairs;
-      pairs = refused-pairs g.C.NodesMut.MayRefuse cause.gap.id c.loop-key.self c.insert.new.self c.in-Err.refused.cause cause.refused;
+      pairs = cause.leaves.pairs;
     }))
 
 pub returns-in-Err-clause-cause : goal.returns-in-Err-clause-cause

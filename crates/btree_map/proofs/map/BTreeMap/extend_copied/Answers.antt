@@ -2,7 +2,6 @@ use Rattle.std.proofs.Common.{◌≡◌, ◌∙◌, ◌∷◌, [], None, Some, r
 use Rattle.btree_item.specs.Pairs.{inserted}
 use Rattle.btree_shape.specs.TreeState.{pairs_of}
 use Rattle.btree_map.specs.Extension.{inserted_all}
-use Rattle.btree_map.proofs.ExtensionLemmas.{refused-pairs}
 use Rattle.btree_map.proofs.map.BTreeMap.extend_copied.Goals as goal
 
 pub loop-key-preserved : goal.loop-key-preserved
@@ -25,7 +24,7 @@ returns-in-Err-clause-stopped g c =
     (c.loop-key.invariant.2 (Some (c.in-Some.key.now, c.in-Some.value.now)) (pairs_of c.insert.new.self) c.next.new.self (record {
       given = [];
       yields = (_, refl, (Some (c.in-Some.key, c.in-Some.value), c.in-Some.ensures.steps, refl));
-      pairs = refused-pairs g.C.NodesMut.MayRefuse cause.gap.id c.loop-key.self c.insert.new.self c.in-Err.refused.cause cause.refused;
+      pairs = cause.leaves.pairs;
     }))
 
 pub returns-in-Err-clause-cause : goal.returns-in-Err-clause-cause

@@ -11,13 +11,13 @@ use Rattle.btree_map.proofs.cursor.editing.EntriesMut.next_pair.Goals as goal
 pub unreachable-requires : goal.unreachable-requires
 unreachable-requires g c =
     let now = c.args.self.now in
-    left-some g.K.Ord.cmp g.met.K.Ord.total now.map.now c.root_id-root.ensures.well_formed now.first now.front now.first_stands c.in_default.is c.requires
+    left-some g.K.Ord.cmp g.met.K.Ord.total now.map.now c.tell_well_formed.ensures.well_formed now.first now.front now.first_stands c.in_default.is c.requires
 
 pub invariant_of-self-3 : goal.invariant_of-self-3
 invariant_of-self-3 g c =
     let now = c.args.self.now in
     let s = now.map.now in
-    let tree = c.root_id-root.ensures.well_formed in
+    let tree = c.tell_well_formed.ensures.well_formed in
     let within = at-within g.K.Ord.cmp g.met.K.Ord.total s tree now.first now.front now.first_stands c.in-Some.at c.in-Some.is in
     record {
       first_stands = stands-next g.K.Ord.cmp g.met.K.Ord.total s tree now.first c.in-Some.at c.in-Some.is now.front now.first_stands
@@ -29,7 +29,7 @@ pub invariant_of-self-lent : goal.invariant_of-self-lent
 invariant_of-self-lent g c w =
     let now = c.args.self.now in
     let s = now.map.now in
-    let tree = c.root_id-root.ensures.well_formed in
+    let tree = c.tell_well_formed.ensures.well_formed in
     let within = at-within g.K.Ord.cmp g.met.K.Ord.total s tree now.first now.front now.first_stands c.in-Some.at c.in-Some.is in (
       stays-first s c.in-Some.at w c.address_after-self.result (now.front + 1)
           (stands-next g.K.Ord.cmp g.met.K.Ord.total s tree now.first c.in-Some.at c.in-Some.is now.front now.first_stands
@@ -41,7 +41,7 @@ pub returns : goal.returns
 returns g c =
     let now = c.args.self.now in
     let s = now.map.now in
-    let tree = c.root_id-root.ensures.well_formed in
+    let tree = c.tell_well_formed.ensures.well_formed in
     let within = at-within g.K.Ord.cmp g.met.K.Ord.total s tree now.first now.front now.first_stands c.in-Some.at c.in-Some.is in
     let place = place-after now.front (length (item_addresses_of s)) within in
     let pair = stands-pair g.K.Ord.cmp g.met.K.Ord.total s tree now.first c.in-Some.at c.in-Some.is now.front now.first_stands _ c.pair_mut.ensures.pair in (

@@ -7,13 +7,13 @@ use Rattle.btree_map.proofs.cursor.editing.EntriesMut.pass.Goals as goal
 pub unreachable-requires : goal.unreachable-requires
 unreachable-requires g c =
     let now = c.args.self.now in
-    left-some g.K.Ord.cmp g.met.K.Ord.total now.map.now c.root_id-root.ensures.well_formed now.first now.front now.first_stands c.in_default.is c.requires
+    left-some g.K.Ord.cmp g.met.K.Ord.total now.map.now c.tell_well_formed.ensures.well_formed now.first now.front now.first_stands c.in_default.is c.requires
 
 pub invariant_of-self-3 : goal.invariant_of-self-3
 invariant_of-self-3 g c =
     let now = c.args.self.now in
     let s = now.map.now in
-    let tree = c.root_id-root.ensures.well_formed in
+    let tree = c.tell_well_formed.ensures.well_formed in
     let within = at-within g.K.Ord.cmp g.met.K.Ord.total s tree now.first now.front now.first_stands c.in-Some.at c.in-Some.is in
     record {
       first_stands = c.address_after-self.ensures.after now.front (sym now.first_stands ∙ c.in-Some.is);

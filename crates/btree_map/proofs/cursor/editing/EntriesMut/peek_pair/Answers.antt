@@ -10,12 +10,12 @@ use Rattle.btree_map.proofs.cursor.editing.EntriesMut.peek_pair.Goals as goal
 pub unreachable-requires : goal.unreachable-requires
 unreachable-requires g c =
     let now = c.args.self.now in
-    left-some g.K.Ord.cmp g.met.K.Ord.total now.map.now c.root_id-root.ensures.well_formed now.first now.front now.first_stands c.in_default.is c.requires
+    left-some g.K.Ord.cmp g.met.K.Ord.total now.map.now c.tell_well_formed.ensures.well_formed now.first now.front now.first_stands c.in_default.is c.requires
 
 pub pair_mut-requires : goal.pair_mut-requires
 pair_mut-requires g c =
     let now = c.args.self.now in
-    at-occupied g.K.Ord.cmp g.met.K.Ord.total now.map.now c.root_id-root.ensures.well_formed now.first now.front now.first_stands c.in-Some.at c.in-Some.is
+    at-occupied g.K.Ord.cmp g.met.K.Ord.total now.map.now c.tell_well_formed.ensures.well_formed now.first now.front now.first_stands c.in-Some.at c.in-Some.is
 
 pub invariant_of-self-lent : goal.invariant_of-self-lent
 invariant_of-self-lent g c w =
@@ -28,7 +28,7 @@ pub returns : goal.returns
 returns g c =
     let now = c.args.self.now in
     let s = now.map.now in
-    let tree = c.root_id-root.ensures.well_formed in
+    let tree = c.tell_well_formed.ensures.well_formed in
     let pair = stands-pair g.K.Ord.cmp g.met.K.Ord.total s tree now.first c.in-Some.at c.in-Some.is now.front now.first_stands _ c.pair_mut.ensures.pair in (
       (
         refl,
