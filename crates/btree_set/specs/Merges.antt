@@ -1,5 +1,7 @@
 -- The merges of two sets, by their lists of elements. Of two equal elements the union has the second list's, and the
 -- intersection the first list's.
+-- That each merge of two ascending lists ascends, and has the elements that its name says, is proved in
+-- `proofs/MergeLaws.antt`: `union-ascends`, `union-members`, and the same of the others.
 use Rattle.std.specs.Prelude.{Bool, true, false, not, ℕ, ◌+◌, ◌-◌, ◌^◌, nat_lt, max, min, List, Option, Some, None, is_some, if◌then◌else◌}
 use Rattle.std.specs.List.{filter}
 use Rattle.std.specs.Set.{sorted_merge}
