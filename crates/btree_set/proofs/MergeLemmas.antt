@@ -9,7 +9,7 @@ use Rattle.std.specs.declared.cmp.Ordering.{Ordering}
 use Rattle.std.specs.declared.cmp.Ordering.TheVariants.{Less, Equal, Greater}
 use Rattle.btree_set.specs.Merges.{difference, intersection, is_in}
 
-by-order : {P : Type 0} (o : Ordering) → (o ≡ Less → P) → (o ≡ Equal → P) → (o ≡ Greater → P) → P
+pub by-order : {P : Type 0} (o : Ordering) → (o ≡ Less → P) → (o ≡ Equal → P) → (o ≡ Greater → P) → P
 by-order Less a b c = a refl
 by-order Equal a b c = b refl
 by-order Greater a b c = c refl
@@ -42,26 +42,26 @@ all-map P Q f (x ∷ xs) all = (f x all.0, all-map P Q f xs all.1)
 
 module _ {T : Type 0} {cmp : T → T → Ordering} (laws : IsTotalOrder cmp) where
   -- each element of the list is above x
-  abbrev Above : T → List T → Type 0
+  abbrev pub Above : T → List T → Type 0
   Above x ys = AllByRecursion (λ y. cmp x y ≡ Less) ys
 
   reversed : (x y : T) → cmp x y ≡ Less → cmp y x ≡ Greater
   reversed x y less = laws.antisymm y x ∙ ap ordering_reverse less
 
-  turned : (x y : T) → cmp x y ≡ Greater → cmp y x ≡ Less
+  pub turned : (x y : T) → cmp x y ≡ Greater → cmp y x ≡ Less
   turned x y greater = laws.antisymm y x ∙ ap ordering_reverse greater
 
   apart : (x y : T) → cmp x y ≡ Less → is_eq (cmp y x) ≡ false
   apart x y less = ap is_eq (reversed x y less)
 
-  absent : (x : T) (ys : List T) → Above x ys → is_in cmp ys x ≡ false
+  pub absent : (x : T) (ys : List T) → Above x ys → is_in cmp ys x ≡ false
   absent x [] above = refl
   absent x (y ∷ ys) above = rw (apart x y above.0) (absent x ys above.1)
 
-  above-more : (x y : T) (ys : List T) → cmp x y ≡ Less → Above y ys → Above x (y ∷ ys)
+  pub above-more : (x y : T) (ys : List T) → cmp x y ≡ Less → Above y ys → Above x (y ∷ ys)
   above-more x y ys less above = (less, all-map (λ z. cmp y z ≡ Less) (λ z. cmp x z ≡ Less) (λ z more. laws.trans x y z less more) ys above)
 
-  above-equal : (x y : T) (ys : List T) → cmp x y ≡ Equal → Above y ys → Above x ys
+  pub above-equal : (x y : T) (ys : List T) → cmp x y ≡ Equal → Above y ys → Above x ys
   above-equal x y ys equal above = all-map (λ z. cmp y z ≡ Less) (λ z. cmp x z ≡ Less) (λ z more. laws.congr x y z equal ∙ more) ys above
 
   -- an element y below each of xs makes no difference to them
@@ -115,7 +115,7 @@ module _ {T : Type 0} {cmp : T → T → Ordering} (laws : IsTotalOrder cmp) whe
   difference-none [] = refl
   difference-none (x ∷ xs) = ap (λ l. x ∷ l) (difference-none xs)
 
-  rest-up : (x : T) (xs : List T) → IsStrictlySortedBy cmp (x ∷ xs) → IsStrictlySortedBy cmp xs
+  pub rest-up : (x : T) (xs : List T) → IsStrictlySortedBy cmp (x ∷ xs) → IsStrictlySortedBy cmp xs
   unfolding IsStrictlySortedBy
   rest-up x xs up = up.1
 

@@ -1,12 +1,14 @@
 -- What insertions of many elements, one after another, leave of a set.
 -- Read `inserted_all` first. `Extends` says how far an iterator was stepped, and `Moves` the same of the set that `append`
--- takes elements from. `IsRefusedInTurn` is the refusal of one of the elements.
-use Rattle.std.specs.Prelude.{◌≡◌, List, [], ◌∷◌, ◌++◌, Option, None}
+-- takes elements from. `IsRefusedInTurn` is the refusal of one of the elements. The words after it say these of whole
+-- sets, and of a refused insertion.
+use Rattle.std.specs.Prelude.{◌≡◌, List, [], ◌∷◌, ◌++◌, Option, None, Some}
 use Rattle.std.specs.Borrow.{Bor}
 use Rattle.std.specs.Iterator.{YieldsThen}
 use Rattle.std.specs.Option.{option_copied}
 use Rattle.std.specs.declared.cmp.Ordering.{Ordering}
 use Rattle.btree_item.specs.declared.refused.Cause.{Cause}
+use Rattle.btree_item.specs.declared.refused.Refused.{Refused}
 use Rattle.btree_store.specs.Content.{Content}
 use Rattle.btree_node.specs.declared.node.Node.{Node}
 use Rattle.btree_shape.specs.TreeState.{Kept}
@@ -38,6 +40,30 @@ module _ {T : Type 0} (cmp : T → T → Ordering) where
     pub uncounted : before.kept ≡ kept
     pub absent : stored cmp x before.elements ≡ None
     pub refused : IsRefused cmp MayRefuse x before new cause
+
+  module _ {S : Type 0} (steps : S → Option T → S → Type 0) where
+    -- all elements of an iterator were inserted
+    abbrev pub Adds : (old : SetState T) → (source : S) → (new : SetState T) → (rest : S) → Type 0
+    Adds old source new rest = Extends steps old.elements source None new.elements rest
+
+    -- the elements before a refused one were inserted
+    abbrev pub AddsUntil : (old : SetState T) → (source : S) → (new : SetState T) → (rest : S) → Refused T (Unit {0}) → Type 0
+    AddsUntil old source new rest refused = Extends steps old.elements source (Some refused.key) new.elements rest
+
+    -- the same of a set that began without elements
+    abbrev pub Collects : (source rest : S) → (new : SetState T) → Type 0
+    Collects source rest new = Extends steps [] source None new.elements rest
+
+    abbrev pub CollectsUntil : (source rest : S) → SetState T × Refused T (Unit {0}) → Type 0
+    CollectsUntil source rest stopped = Extends steps [] source (Some stopped.1.key) stopped.0.elements rest
+
+  -- the elements of `other` before a refused one were inserted, and those after it are left
+  abbrev pub MovesUntil : (old other new rest : SetState T) → Refused T (Unit {0}) → Type 0
+  MovesUntil old other new rest refused = Moves old.elements other.elements refused.key new.elements rest.elements
+
+  -- the refused insertion was one of a new element, with its cause
+  abbrev pub RefusesInTurn : (MayRefuse : Content (Node T (Unit {0})) → Type 0) → (kept : Kept) → (new : SetState T) → Refused T (Unit {0}) → Type 0
+  RefusesInTurn MayRefuse kept new refused = IsRefusedInTurn MayRefuse refused.key kept new refused.cause
 
 -- the steps of an iterator that lends elements, as steps that give copies
 abbrev pub copied_steps : {S T : Type 0} → (S → Option (Bor T) → S → Type 0) → S → Option T → S → Type 0

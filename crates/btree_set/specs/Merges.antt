@@ -1,6 +1,9 @@
 -- The merges of two sets, by their lists of elements. Of two equal elements the union has the second list's, and the
 -- intersection the first list's.
+-- That each merge of two ascending lists ascends, and has the elements that its name says, is proved in
+-- `proofs/MergeLaws.antt`: `union-ascends`, `union-members`, and the same of the others.
 use Rattle.std.specs.Prelude.{Bool, true, false, not, ℕ, ◌+◌, ◌-◌, ◌^◌, nat_lt, max, min, List, Option, Some, None, is_some, if◌then◌else◌}
+use Rattle.std.specs.Iterator.{Count, item_count}
 use Rattle.std.specs.List.{filter}
 use Rattle.std.specs.Set.{sorted_merge}
 use Rattle.std.specs.declared.cmp.Ordering.{Ordering}
@@ -26,6 +29,10 @@ module _ {T : Type 0} (cmp : T → T → Ordering) where
   -- the elements that exactly one of the lists has, in order
   abbrev pub symmetric_difference : (first second : List T) → List T
   symmetric_difference first second = sorted_merge cmp false second first
+
+-- how many elements a merge has still to yield, for what is left of its two lists
+abbrev pub count_of : {T : Type 0} → (List T → List T → List T) → (left : List T × List T) → Count
+count_of merge left = item_count (λ lists. merge lists.0 lists.1) left
 
 -- the two bounds of the number of elements that a merge of n and m elements yields
 abbrev pub checked_sum : (n m : ℕ) → Option ℕ

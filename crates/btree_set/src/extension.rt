@@ -1,11 +1,11 @@
 //! Insertion of many elements.
-ghost use Rattle.std.specs.Prelude.{◌≡◌, ◌≢◌, [], IfErr, IfOk, None, OnErr, OnOk, Some};
+ghost use Rattle.std.specs.Prelude.{◌≡◌, ◌≢◌, [], IfErr, IfOk, OnErr, OnOk};
 ghost use Rattle.std.specs.Iterator.{IsFinite};
 ghost use Rattle.std.specs.Mem.{FitsInMemory};
 ghost use denote.Plain.{Nothing as unit_row};
 ghost use Rattle.btree_node.specs.contracts.node.Node.{the_row as node_row};
 ghost use Rattle.btree_shape.specs.TreeState.{unlimited};
-ghost use Rattle.btree_set.specs.Extension.{Extends, IsRefusedInTurn, Moves, copied_steps, inserted_all};
+ghost use Rattle.btree_set.specs.Extension.{Adds, AddsUntil, Collects, CollectsUntil, MovesUntil, RefusesInTurn, copied_steps, inserted_all};
 
 use crate::BTreeSet;
 use btree_ext::BTreeExt;
@@ -29,11 +29,9 @@ impl<T: Ord + Drop, C: NodesMut<T, ()>> BTreeSet<T, C> {
             self.new.kept ≡ self.old.kept) }
         ensures other_uncounted { self.old.elements ≢ [] → other.new.kept ≡ other.old.kept }
 
-        ensures stopped { IfErr result (λ r. Moves T.cmp self.old.elements
-            other.old.elements r.key self.new.elements other.new.elements) }
+        ensures stopped { IfErr result (MovesUntil T.cmp self.old other.old self.new other.new) }
         ensures had_elements { OnErr result (self.old.elements ≢ []) }
-        ensures cause { IfErr result (λ r.
-            IsRefusedInTurn T.cmp C.MayRefuse r.key self.old.kept self.new r.cause) }
+        ensures cause { IfErr result (RefusesInTurn T.cmp C.MayRefuse self.old.kept self.new) }
     {
         match self.map.append(&mut other.map) {
             Ok(()) => return Ok(()),
@@ -52,14 +50,13 @@ impl<T: Ord + Drop, C: NodesMut<T, ()>> BTreeSet<T, C> {
     pub fn extend<I: Iterator<Item = T>>(&mut self, source: &mut I) -> Result<(), Refused<T, ()>>
         requires can_step { I.can_next source.old }
         requires ends { IsFinite (I.remaining source.old) }
-        ensures extended { OnOk result (Extends T.cmp I.next_gives
-            self.old.elements source.old None self.new.elements source.new) }
+        ensures extended { OnOk result
+            (Adds T.cmp I.next_gives self.old source.old self.new source.new) }
         ensures uncounted { OnOk result (self.new.kept ≡ self.old.kept) }
 
-        ensures stopped { IfErr result (λ r. Extends T.cmp I.next_gives
-            self.old.elements source.old (Some r.key) self.new.elements source.new) }
-        ensures cause { IfErr result (λ r.
-            IsRefusedInTurn T.cmp C.MayRefuse r.key self.old.kept self.new r.cause) }
+        ensures stopped { IfErr result
+            (AddsUntil T.cmp I.next_gives self.old source.old self.new source.new) }
+        ensures cause { IfErr result (RefusesInTurn T.cmp C.MayRefuse self.old.kept self.new) }
         ensures may_go_on { OnErr result (I.can_next source.new) }
         ensures still_ends { OnErr result (IsFinite (I.remaining source.new)) }
     {
@@ -81,14 +78,13 @@ impl<T: Ord + Drop, C: NodesMut<T, ()>> BTreeSet<T, C> {
         T: Copy + 'a,
         requires can_step { I.can_next source.old }
         requires ends { IsFinite (I.remaining source.old) }
-        ensures extended { OnOk result (Extends T.cmp (copied_steps I.next_gives)
-            self.old.elements source.old None self.new.elements source.new) }
+        ensures extended { OnOk result
+            (Adds T.cmp (copied_steps I.next_gives) self.old source.old self.new source.new) }
         ensures uncounted { OnOk result (self.new.kept ≡ self.old.kept) }
 
-        ensures stopped { IfErr result (λ r. Extends T.cmp (copied_steps I.next_gives)
-            self.old.elements source.old (Some r.key) self.new.elements source.new) }
-        ensures cause { IfErr result (λ r.
-            IsRefusedInTurn T.cmp C.MayRefuse r.key self.old.kept self.new r.cause) }
+        ensures stopped { IfErr result
+            (AddsUntil T.cmp (copied_steps I.next_gives) self.old source.old self.new source.new) }
+        ensures cause { IfErr result (RefusesInTurn T.cmp C.MayRefuse self.old.kept self.new) }
         ensures may_go_on { OnErr result (I.can_next source.new) }
         ensures still_ends { OnErr result (IsFinite (I.remaining source.new)) }
     {
@@ -112,14 +108,11 @@ impl<T: Ord + Drop, C: NodesMut<T, ()>> BTreeSet<T, C> {
         requires fits { FitsInMemory (node_row T.row unit_row) }
         requires can_step { I.can_next source.old }
         requires ends { IsFinite (I.remaining source.old) }
-        ensures extended { IfOk result (λ set. Extends T.cmp I.next_gives
-            [] source.old None set.elements source.new) }
+        ensures extended { IfOk result (Collects T.cmp I.next_gives source.old source.new) }
         ensures uncounted { IfOk result (λ set. set.kept ≡ unlimited 0) }
 
-        ensures stopped { IfErr result (λ e. Extends T.cmp I.next_gives
-            [] source.old (Some e.1.key) e.0.elements source.new) }
-        ensures cause { IfErr result (λ e.
-            IsRefusedInTurn T.cmp C.MayRefuse e.1.key (unlimited 0) e.0 e.1.cause) }
+        ensures stopped { IfErr result (CollectsUntil T.cmp I.next_gives source.old source.new) }
+        ensures cause { IfErr result (λ e. RefusesInTurn T.cmp C.MayRefuse (unlimited 0) e.0 e.1) }
         ensures may_go_on { OnErr result (I.can_next source.new) }
         ensures still_ends { OnErr result (IsFinite (I.remaining source.new)) }
     {

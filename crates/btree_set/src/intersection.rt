@@ -2,7 +2,7 @@
 ghost use Rattle.std.specs.Prelude.{◌≡◌, IfSome, length};
 ghost use Rattle.std.specs.Iterator.SizeHint.{IsWithinCount};
 ghost use Rattle.std.specs.Iterator.{YieldsFirstRef, item_count, UpTo};
-ghost use Rattle.btree_set.specs.Merges.{intersection, intersection_hint};
+ghost use Rattle.btree_set.specs.Merges.{count_of, intersection, intersection_hint};
 
 use crate::peeked::Peeked;
 use btree_nodes::NodesMut;
@@ -56,9 +56,9 @@ impl<'a, T: Ord, C: NodesMut<T, ()>, D: NodesMut<T, ()>> Iterator for Intersecti
     fn size_hint(&self) -> (usize, Option<usize>)
         ensures exact { result ≡ intersection_hint (length self.now.0) (length self.now.1) }
         ensures lower { IsWithinCount result.0
-            (item_count (λ left. intersection T.cmp left.0 left.1) self.now) }
+            (count_of (intersection T.cmp) self.now) }
         ensures upper { IfSome result.1
-            (UpTo (item_count (λ left. intersection T.cmp left.0 left.1) self.now)) }
+            (UpTo (count_of (intersection T.cmp) self.now)) }
     {
         let first = self.first.len();
         let second = self.second.len();

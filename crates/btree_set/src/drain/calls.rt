@@ -49,6 +49,7 @@ impl<'a, T: Ord + Drop, C: NodesMut<T, ()>, F: FnMut(&T) -> bool> Iterator
     ghost use Rattle.std.specs.Prelude.{Some, IfSome, drop, length};
     ghost use Rattle.std.specs.Iterator.SizeHint.{IsWithinCount};
     ghost use Rattle.std.specs.Iterator.{UpTo, at_most};
+    ghost use Rattle.btree_map.specs.Lists.{at_most_behind};
     ghost use Rattle.btree_set.specs.Drain.{DrainsNext};
 
     type Item = T;
@@ -71,9 +72,9 @@ impl<'a, T: Ord + Drop, C: NodesMut<T, ()>, F: FnMut(&T) -> bool> Iterator
         ensures exact { result ≡
             (0, Some (length (drop self.now.front self.now.set.now.elements))) }
         ensures lower { IsWithinCount result.0
-            (at_most (length (drop self.now.front self.now.set.now.elements))) }
+            (at_most_behind self.now.front self.now.set.now.elements) }
         ensures upper { IfSome result.1
-            (UpTo (at_most (length (drop self.now.front self.now.set.now.elements)))) }
+            (UpTo (at_most_behind self.now.front self.now.set.now.elements)) }
     {
         (0, Some(self.set.len().saturating_sub(self.front)))
     }
