@@ -69,9 +69,7 @@ fn find_spot<C: NodesMut<u64, u64>>(raw: &Raw<C>, addr: &Address) -> Spot {
     Spot {
         place: place(raw, addr.id, addr.offset),
         is_before: addr.offset.is_before(),
-        key: raw
-            .item(addr.copied())
-            .map(|item| *item.key()),
+        key: raw.item(addr.copied()).map(|item| *item.key()),
     }
 }
 

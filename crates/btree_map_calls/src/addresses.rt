@@ -287,8 +287,16 @@ pub(crate) fn serve_addresses<C: NodesMut<u64, u64>>(
         }
         ("has_node" | "node" | "validate_node" | "get_in" | "address_in" | "key_fits_in", None) =>
             return by_node(map, verb, rest, reply),
-        ("is_valid" | "item" | "pair_at" | "fits_at" | "replaces_at" | "leaf_address" | "normalize", None) =>
-            return by_address(map, verb, rest, reply),
+        (
+            "is_valid"
+            | "item"
+            | "pair_at"
+            | "fits_at"
+            | "replaces_at"
+            | "leaf_address"
+            | "normalize",
+            None,
+        ) => return by_address(map, verb, rest, reply),
         _ if verb.ends_with("_address") && rest != "" => return by_address(map, verb, rest, reply),
         _ => return ends(map, verb, reply),
     }

@@ -3,10 +3,9 @@
 //! This crate re-exports the public names of the crates below it.
 #![tactic(auto)]
 
-use btree_store::SlabStore;
-
 pub use btree_ext::{BTreeExt, BTreeExtMut};
 pub use btree_item::Address;
+use btree_store::SlabStore;
 
 /// A map with its nodes in a slab, with memory from the global allocator.
 pub type BTreeMap<K, V> = generic::BTreeMap<K, V, SlabStore<generic::Node<K, V>>>;
