@@ -1,5 +1,5 @@
 -- The keys of a map's list, as the elements of a set.
-use Rattle.std.proofs.Common.{◌≡◌, ◌∙◌, ◌↔◌, ℕ, ◌+◌, Bool, true, false, not, cond, IsSome, IsTrue, List, [], ◌∷◌, Option, Some, None, is_some, option_map, if◌then◌else◌, IfNone, IfSome, ◌&&◌, length, set, refl, sym, ap, subst, ◌≤◌}
+use Rattle.std.proofs.Common.{◌≡◌, ◌∙◌, ◌↔◌, ℕ, ◌+◌, Bool, true, false, not, cond, IsSome, IsTrue, List, [], ◌∷◌, Option, Some, None, is_some, option_map, if◌then◌else◌, IfNone, IfSome, ◌&&◌, set, refl, sym, ap, subst, ◌≤◌}
 use Rattle.std.proofs.lemmas.List.{map-append, map-set}
 use Rattle.std.proofs.lemmas.Map.{keys-set_value}
 use Rattle.std.proofs.lemmas.Map.Entries.{length-keys_of}
@@ -19,7 +19,7 @@ use Rattle.btree_item.specs.declared.refused.Cause.TheVariants.{Count, Store}
 use Rattle.btree_node.specs.declared.node.Node.{Node}
 use Rattle.btree_shape.specs.TreeState.{Kept, TreeState, pairs_of}
 use Rattle.btree_raw.specs.Insertion as raw
-use Rattle.btree_edit.specs.Insert.{IsRefusedAtGap}
+use Rattle.btree_edit.specs.Insert.{IsRefusedAtGap, LeavesPairs}
 use Rattle.btree_edit.specs.Replace as replace
 use Rattle.btree_edit.specs.Remove.{RemovesByKey}
 use Rattle.btree_map.specs.Comparison.{pair_cmp, pair_eq, pair_partial_cmp}
@@ -118,27 +118,26 @@ inserted_all-keys cmp xs (y ∷ ys) =
 
 module _ {T : Type 0} (M : Content (Node T (Unit {0})) → Type 0) where
   -- a refused insertion, as the set has it
-  refused-set : (id : ℕ) (old new : TreeState T (Unit {0})) (cause : Cause) → raw.IsRefused M id old new cause → new.len ≡ length (pairs_of new)
+  refused-set : (id : ℕ) (old new : TreeState T (Unit {0})) (cause : Cause) → raw.IsRefused M id old new cause → LeavesPairs old new cause
       → LeavesElements (set_of old) (set_of new) cause
-  refused-set id old new Store is counted = (ap (λ (s : TreeState T (Unit {0})). keys_of (pairs_of s)) is.0, ap (λ (s : TreeState T (Unit {0})). s.kept) is.0)
-  refused-set id old new Count is counted = (
+  refused-set id old new Store is leaves = (ap (λ l. keys_of l) leaves.pairs, leaves.counts.0)
+  refused-set id old new Count is leaves = (
     ap set_of is.0,
-    subst (λ n. old.kept.limit ≤ n) (ap (λ (s : TreeState T (Unit {0})). s.len) (sym is.0) ∙ counted
-        ∙ ap (λ (s : TreeState T (Unit {0})). length (pairs_of s)) is.0 ∙ sym (length-keys_of (pairs_of old))) is.1,
+    subst (λ n. old.kept.limit ≤ n) (sym (length-keys_of (pairs_of old))) leaves.counts.1,
   )
 
   module _ (cmp : T → T → Ordering) (k : T) where
-    pub gap-refused : (old new : TreeState T (Unit {0})) (cause : Cause) → IsRefusedAtGap cmp k old new M cause → new.len ≡ length (pairs_of new)
+    pub gap-refused : (old new : TreeState T (Unit {0})) (cause : Cause) → IsRefusedAtGap cmp k old new M cause
         → IsRefused cmp M k (set_of old) (set_of new) cause
-    gap-refused old new cause is counted = record { leaves = refused-set is.gap.id old new cause is.refused counted; at_gap = is }
+    gap-refused old new cause is = record { leaves = refused-set is.gap.id old new cause is.refused is.leaves; at_gap = is }
 
-    pub turn-refused : (kept : Kept) (new : TreeState T (Unit {0})) (cause : Cause) → many.IsRefusedInTurn cmp M k kept new cause → new.len ≡ length (pairs_of new)
+    pub turn-refused : (kept : Kept) (new : TreeState T (Unit {0})) (cause : Cause) → many.IsRefusedInTurn cmp M k kept new cause
         → IsRefusedInTurn cmp M k kept (set_of new) cause
-    turn-refused kept new cause is counted = record {
+    turn-refused kept new cause is = record {
       before = set_of is.before;
       uncounted = is.uncounted;
       absent = absent-keys cmp k (pairs_of is.before) is.absent;
-      refused = gap-refused is.before new cause is.refused counted;
+      refused = gap-refused is.before new cause is.refused;
     }
 
 -- the elements between two bounds

@@ -17,7 +17,7 @@ impl<T: Ord, C: NodesMut<T, ()>> BTreeSet<T, C> {
         ensures { result ≡ self.now.elements }
     {
         // For the prover: the tree is well formed, so its elements ascend.
-        let _root = self.map.root_id();
+        self.map.tell_well_formed();
         Peeked::new(self.map.keys())
     }
 

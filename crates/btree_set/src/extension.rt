@@ -8,7 +8,6 @@ ghost use Rattle.btree_shape.specs.TreeState.{unlimited};
 ghost use Rattle.btree_set.specs.Extension.{Adds, AddsUntil, Collects, CollectsUntil, MovesUntil, RefusesInTurn, copied_steps, inserted_all};
 
 use crate::BTreeSet;
-use btree_ext::BTreeExt;
 use btree_item::Refused;
 use btree_nodes::NodesMut;
 
@@ -35,11 +34,7 @@ impl<T: Ord + Drop, C: NodesMut<T, ()>> BTreeSet<T, C> {
     {
         match self.map.append(&mut other.map) {
             Ok(()) => return Ok(()),
-            Err(refused) => {
-                // For the prover: the tree is well formed, so its length is that of its list.
-                let _root = self.map.root_id();
-                return Err(refused);
-            }
+            Err(refused) => return Err(refused),
         }
     }
 

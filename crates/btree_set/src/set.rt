@@ -8,7 +8,6 @@ ghost use Rattle.std.specs.Option.{option_copied};
 ghost use Rattle.btree_shape.specs.TreeState.{unlimited};
 ghost use Rattle.btree_set.specs.Elements.{IsRefused, inserted, removed, replaced, stored};
 
-use btree_ext::BTreeExt;
 use btree_item::Refused;
 use btree_map::BTreeMap;
 use btree_nodes::{ClearNodes, NodesMut};
@@ -113,11 +112,7 @@ impl<T: Ord + Drop, C: NodesMut<T, ()>> BTreeSet<T, C> {
     {
         match self.map.insert(element, ()) {
             Ok(replaced) => return Ok(replaced.is_none()),
-            Err(refused) => {
-                // For the prover: the tree is well formed, so its length is that of its list.
-                let _root = self.map.root_id();
-                return Err(refused);
-            }
+            Err(refused) => return Err(refused),
         }
     }
 
@@ -133,11 +128,7 @@ impl<T: Ord + Drop, C: NodesMut<T, ()>> BTreeSet<T, C> {
     {
         match self.map.replace(element, ()) {
             Ok(replaced) => return Ok(first_of(replaced)),
-            Err(refused) => {
-                // For the prover: the tree is well formed, so its length is that of its list.
-                let _root = self.map.root_id();
-                return Err(refused);
-            }
+            Err(refused) => return Err(refused),
         }
     }
 

@@ -24,4 +24,4 @@ pub returns-in-Err-clause-stopped : goal.returns-in-Err-clause-stopped
 returns-in-Err-clause-stopped g c = rw (← c.self.view_is, ← c.other.view_is) (moves-keys g.T.Ord.cmp (pairs_of c.self.inside.map) (pairs_of c.other.inside.map) (c.in-Err.refused.key, c.in-Err.refused.value) (pairs_of c.append.new.self) (pairs_of c.append.new.other) c.in-Err.ensures.stopped)
 
 pub returns-in-Err-clause-cause : goal.returns-in-Err-clause-cause
-returns-in-Err-clause-cause g c = rw (← c.self.view_is) (turn-refused g.C.NodesMut.MayRefuse g.T.Ord.cmp c.in-Err.refused.key _ c.append.new.self c.in-Err.refused.cause c.in-Err.ensures.cause c.root_id-root.ensures.well_formed.counted)
+returns-in-Err-clause-cause g c = rw (← c.self.view_is) (turn-refused g.C.NodesMut.MayRefuse g.T.Ord.cmp c.in-Err.refused.key _ c.append.new.self c.in-Err.refused.cause c.in-Err.ensures.cause)

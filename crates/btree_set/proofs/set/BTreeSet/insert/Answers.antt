@@ -14,4 +14,4 @@ pub returns-in-Err-clause-absent : goal.returns-in-Err-clause-absent
 returns-in-Err-clause-absent g c = rw (← c.self.view_is) (absent-keys g.T.Ord.cmp c.args.element (pairs_of c.self.inside.map) c.in-Err.ensures.absent)
 
 pub returns-in-Err-clause-cause : goal.returns-in-Err-clause-cause
-returns-in-Err-clause-cause g c = rw (← c.self.view_is) (gap-refused g.C.NodesMut.MayRefuse g.T.Ord.cmp c.args.element c.self.inside.map c.insert.new.self c.in-Err.refused.cause c.in-Err.ensures.cause c.root_id-root.ensures.well_formed.counted)
+returns-in-Err-clause-cause g c = rw (← c.self.view_is) (gap-refused g.C.NodesMut.MayRefuse g.T.Ord.cmp c.args.element c.self.inside.map c.insert.new.self c.in-Err.refused.cause c.in-Err.ensures.cause)
