@@ -1,9 +1,11 @@
 -- Lines served one after another.
 use Rattle.std.proofs.Common.{◌≡◌, ℕ, ◌+◌, ◌<◌, List, [], ◌∷◌, ◌++◌, take, drop, length, add-one, Option, Some, None, IfSome, Result, Ok, Err, Bool, true, false, cond, inl, inr, refl, sym, ap, ◌∙◌, arith, append_assoc, append-nil, length-append}
-use Rattle.std.specs.Prelude.{position}
+use Rattle.std.specs.Prelude.{position, ◌==◌}
 use Rattle.std.proofs.lemmas.List.Quantifiers.{position-Some}
 use Rattle.std.specs.Io.BufRead.{take_through, drop_through, strip_last, DropsConsumable, DropsThrough}
 use Rattle.std.specs.Io.KnownBytes.{Appends, Keeps, IsAtEnd, append_known, prepend_known}
+use Rattle.std.specs.Io.Buffered.{reader_buffer, reader_capacity}
+use Rattle.std.specs.declared.io.buffered.BufReader.{BufReader}
 use Rattle.btree_session.specs.declared.line.Line.{Line}
 use Rattle.btree_session.specs.declared.line.Line.TheVariants.{Other}
 use Rattle.btree_session.specs.declared.script.Stop.{Stop}
@@ -12,7 +14,7 @@ use Rattle.btree_session.specs.Held.{Held}
 use Rattle.btree_session.specs.Line.{line_words, MeansLine}
 use Rattle.btree_store.specs.Content.{Content}
 use Rattle.btree_node.specs.declared.node.Node.{Node}
-use Rattle.btree_session.specs.Script.{is_newline, lines_of, MayStopAnywhere, Does, Drives, EndsAfter, ReadsLine, Serves, StopsAt, UnlessOutput}
+use Rattle.btree_session.specs.Script.{AreMostLines, DrivesBytes, HasNoLine, IfInput, MayStopAfter, input_of, is_newline, lines_of, MayStopAnywhere, Does, EndsAfter, ReadsLine, Serves, StopsAt, UnlessOutput}
 use Rattle.btree_session.proofs.Lines.{lines_of-cons, cut_at_newline}
 
 -- more lines are served
@@ -103,15 +105,16 @@ at_end None none = tt
 at_end (Some left) none = ap lines_of none
 
 -- the input has ended
-pub ended : {A : Type 0} (May : Content (Node ℕ ℕ) → Type 0) (old new : Held ℕ ℕ) (input before rest after : Option (List ℕ)) (number : ℕ) (x : A) →
-    Progress May old input before rest after new number → IsAtEnd rest → Drives May old input before (Ok x) after new
-ended May old new input before rest after number x so_far none =
+pub ended : {A R : Type 0} (remaining : R → Option (List ℕ)) (May : Content (Node ℕ ℕ) → Type 0) (old new : Held ℕ ℕ) (input before rest after : Option (List ℕ)) (number : ℕ) (x : A) →
+    Progress May old input before rest after new number → IsAtEnd rest → DrivesBytes May remaining old input before (Ok x) after new
+ended remaining May old new input before rest after number x so_far none =
     let all = these_lines input rest so_far.served [] so_far.known (at_end rest none) in
     record {
       lines = all.lines;
       known = all.known;
       served = so_far.served;
       ends = all.are ∙ append-nil so_far.served;
+      stops = tt;
       printed = so_far.printed;
       serves = so_far.serves;
       writes = so_far.writes;
@@ -132,44 +135,74 @@ anyway P (Err Input) p = p
 anyway P (Err Output) p = tt
 
 -- it stops between two lines
-pub stopped : {A : Type 0} (May : Content (Node ℕ ℕ) → Type 0) (old new : Held ℕ ℕ) (input before rest after : Option (List ℕ)) (number : ℕ) (stop : Stop) →
-    Progress May old input before rest after new number → MayStopAnywhere stop → Drives {A = A} May old input before (Err stop) after new
-stopped {A} May old new input before rest after number stop so_far anywhere =
+pub stopped : {A R : Type 0} (remaining : R → Option (List ℕ)) (May : Content (Node ℕ ℕ) → Type 0) (old new : Held ℕ ℕ) (input before rest after : Option (List ℕ)) (number : ℕ) (stop : Stop) →
+    (so_far : Progress May old input before rest after new number) → MayStopAnywhere stop
+    → IfInput {A = A} (Err stop) (IfSome input (λ text. MayStopAfter remaining text so_far.served)) → DrivesBytes {A = A} May remaining old input before (Err stop) after new
+stopped {A} remaining May old new input before rest after number stop so_far anywhere may =
     let all = some_lines input rest so_far.served so_far.known in
     record {
       lines = all.1.lines;
       known = all.1.known;
       served = so_far.served;
       ends = ends_anywhere A so_far.served all.1.lines stop anywhere (all.0, all.1.are);
+      stops = may;
       printed = so_far.printed;
       serves = so_far.serves;
       writes = anyway {A = A} (Appends before after so_far.printed) (Err stop) so_far.writes;
     }
 
 -- the writer fails
-pub failed : {A : Type 0} (May : Content (Node ℕ ℕ) → Type 0) (old new : Held ℕ ℕ) (input before rest between after : Option (List ℕ)) (number : ℕ) →
-    Progress May old input before rest between new number → Drives {A = A} May old input before (Err Output) after new
-failed May old new input before rest between after number so_far =
+pub failed : {A R : Type 0} (remaining : R → Option (List ℕ)) (May : Content (Node ℕ ℕ) → Type 0) (old new : Held ℕ ℕ) (input before rest between after : Option (List ℕ)) (number : ℕ) →
+    Progress May old input before rest between new number → DrivesBytes {A = A} May remaining old input before (Err Output) after new
+failed remaining May old new input before rest between after number so_far =
     let all = some_lines input rest so_far.served so_far.known in
     record {
       lines = all.1.lines;
       known = all.1.known;
       served = so_far.served;
       ends = (all.0, all.1.are);
+      stops = tt;
       printed = so_far.printed;
       serves = so_far.serves;
       writes = tt;
     }
 
+-- more is asked of a reader that has no line in its buffer
+asks : {R Z : Type 0} (remaining : R → Option (List ℕ)) (input : Option (List ℕ)) (reader : BufReader R Z) (served : List (List ℕ))
+    → IfSome input (λ text. (left : List ℕ) × (input_of remaining reader ≡ Some left) × (lines_of text ≡ served ++ lines_of left)) → HasNoLine reader
+    → IfSome input (λ text. MayStopAfter remaining text served)
+asks remaining None reader served known none = tt
+asks remaining (Some text) reader served known none = inr (
+  known.0,
+  known.2,
+  record {
+    reader = reader.inner;
+    ahead = reader_buffer reader;
+    no_line = none;
+    known = buffered (reader_capacity reader == 0) known.1;
+  },
+) where
+  buffered : (b : Bool) → cond b None (prepend_known (reader_buffer reader) (remaining reader.inner)) ≡ Some known.0 → prepend_known (reader_buffer reader) (remaining reader.inner) ≡ Some known.0
+  buffered true is = absurd (cc)
+  buffered false is = is
+
+-- no more lines are counted
+pub most : {R : Type 0} (remaining : R → Option (List ℕ)) (input : Option (List ℕ)) (served : List (List ℕ)) → AreMostLines served → IfSome input (λ text. MayStopAfter remaining text served)
+most remaining None served are = tt
+most remaining (Some text) served are = inl are
+
 -- it stops while it reads the next line
-pub between_lines : {A : Type 0} (May : Content (Node ℕ ℕ) → Type 0) (old new : Held ℕ ℕ) (input before rest between after : Option (List ℕ)) (number : ℕ) (stop : Stop) →
-    Progress May old input before rest between new number → MayStopAnywhere stop → UnlessOutput {A = A} (Err stop) (Keeps between after) → Drives {A = A} May old input before (Err stop) after new
-between_lines May old new input before rest between after number (NotACommand at) so_far anywhere keeps = absurd anywhere
-between_lines May old new input before rest between after number Memory so_far anywhere keeps =
-    stopped May old new input before rest after number Memory (written May old new input before rest between after number so_far keeps) tt
-between_lines May old new input before rest between after number Input so_far anywhere keeps =
-    stopped May old new input before rest after number Input (written May old new input before rest between after number so_far keeps) tt
-between_lines May old new input before rest between after number Output so_far anywhere keeps = failed May old new input before rest between after number so_far
+pub between_lines : {A R Z : Type 0} (remaining : R → Option (List ℕ)) (May : Content (Node ℕ ℕ) → Type 0) (old new : Held ℕ ℕ) (input before : Option (List ℕ)) (reader : BufReader R Z) (between after : Option (List ℕ)) (number : ℕ) (stop : Stop) →
+    Progress May old input before (input_of remaining reader) between new number → MayStopAnywhere stop → UnlessOutput {A = A} (Err stop) (Keeps between after)
+    → IfInput {A = A} (Err stop) (HasNoLine reader) → DrivesBytes {A = A} May remaining old input before (Err stop) after new
+unfolding written
+between_lines remaining May old new input before reader between after number (NotACommand at) so_far anywhere keeps none = absurd anywhere
+between_lines remaining May old new input before reader between after number Memory so_far anywhere keeps none =
+    stopped remaining May old new input before (input_of remaining reader) after number Memory (written May old new input before (input_of remaining reader) between after number so_far keeps) tt tt
+between_lines remaining May old new input before reader between after number Input so_far anywhere keeps none =
+    stopped remaining May old new input before (input_of remaining reader) after number Input (written May old new input before (input_of remaining reader) between after number so_far keeps) tt
+    (asks remaining input reader so_far.served so_far.known none)
+between_lines remaining May old new input before reader between after number Output so_far anywhere keeps none = failed remaining May old new input before (input_of remaining reader) between after number so_far
 
 first_line : (rest next : Option (List ℕ)) (said : Line) (reads : ReadsLine rest next said) → (more : List (List ℕ)) × IfSome rest (λ left. lines_of left ≡ reads.line ∷ more)
 first_line rest next said reads = at rest reads.some reads.first where
@@ -179,9 +212,9 @@ first_line rest next said reads = at rest reads.some reads.first where
   at (Some left) some first = (lines_of (drop_through 10 left), lines_of-cons left some ∙ ap (λ line. line ∷ lines_of (drop_through 10 left)) (sym first))
 
 -- the next line is not a command
-pub not_a_command : {A : Type 0} (May : Content (Node ℕ ℕ) → Type 0) (old new : Held ℕ ℕ) (input before rest next after : Option (List ℕ)) (number : ℕ) →
-    Progress May old input before rest after new number → ReadsLine rest next Other → Drives {A = A} May old input before (Err (NotACommand number)) after new
-not_a_command May old new input before rest next after number so_far reads =
+pub not_a_command : {A R : Type 0} (remaining : R → Option (List ℕ)) (May : Content (Node ℕ ℕ) → Type 0) (old new : Held ℕ ℕ) (input before rest next after : Option (List ℕ)) (number : ℕ) →
+    Progress May old input before rest after new number → ReadsLine rest next Other → DrivesBytes {A = A} May remaining old input before (Err (NotACommand number)) after new
+not_a_command remaining May old new input before rest next after number so_far reads =
     let first = first_line rest next Other reads in
     let all = these_lines input rest so_far.served (reads.line ∷ first.0) so_far.known first.1 in
     record {
@@ -189,18 +222,19 @@ not_a_command May old new input before rest next after number so_far reads =
       known = all.known;
       served = so_far.served;
       ends = (reads.line, first.0, all.are, reads.says, so_far.count);
+      stops = tt;
       printed = so_far.printed;
       serves = so_far.serves;
       writes = so_far.writes;
     }
 
 -- it stops at the next line
-pub at_line : {A : Type 0} (May : Content (Node ℕ ℕ) → Type 0) (old new : Held ℕ ℕ) (input before rest next after : Option (List ℕ)) (number : ℕ) (said : Line) (stop : Stop) →
+pub at_line : {A R : Type 0} (remaining : R → Option (List ℕ)) (May : Content (Node ℕ ℕ) → Type 0) (old new : Held ℕ ℕ) (input before rest next after : Option (List ℕ)) (number : ℕ) (said : Line) (stop : Stop) →
     Progress May old input before rest after new number → ReadsLine rest next said
-    → StopsAt said number stop → Drives {A = A} May old input before (Err stop) after new
-at_line May old new input before rest next after number said stop so_far reads cause = elim cause [
-  | inl memory ↦ rw memory (stopped May old new input before rest after number Memory so_far tt)
-  | inr other ↦ rw other.0 (not_a_command May old new input before rest next after number so_far (rw other.1 at reads))
+    → StopsAt said number stop → DrivesBytes {A = A} May remaining old input before (Err stop) after new
+at_line remaining May old new input before rest next after number said stop so_far reads cause = elim cause [
+  | inl memory ↦ rw memory (stopped remaining May old new input before rest after number Memory so_far tt tt)
+  | inr other ↦ rw other.0 (not_a_command remaining May old new input before rest next after number so_far (rw other.1 at reads))
 ]
 
 Appends-append : (before between after : Option (List ℕ)) (first second : List ℕ) → Appends before between first → Appends between after second → Appends before after (first ++ second)

@@ -100,6 +100,11 @@ module _ (MayRefuse : Content (Node ℕ ℕ) → Type 0) where
     pub move : CursorMove (state_at old) step reply (state_at new)
     pub nodes : Edits old step reply new
 
+  -- the same, for two cursors
+  abbrev pub Steps : {C O : Type 0} {g : ord.Ghosts ℕ} {g' : eq.Ghosts ℕ} {g'' : partial.Ghosts ℕ} {s : nodes_mut.Ghosts C ℕ ℕ O} {s' : nodes.Ghosts C ℕ ℕ}
+      → (old : EntriesMut ℕ ℕ C O g g' g'' s s') → CursorStep → Reply → (new : EntriesMut ℕ ℕ C O g g' g'' s s') → Type 0
+  Steps old step reply new = IsCursorStep (spot_of old) step reply (spot_of new)
+
   -- The steps were run one after another by a cursor over the old map, which began before its first pair, and their
   -- replies were appended to those that were there. The new map is the one behind the cursor at the end: its list is that
   -- of the pairs passed and then that of those left.

@@ -1,15 +1,16 @@
 -- What driving a session with lines of text does.
 -- A text is served to its end, or up to the first line that is neither a command nor a question, whose number, counted
--- from 1, is returned; if memory, the reader or the writer fails, a first part of the lines is served. The bytes of the
--- writer have grown by what was printed, unless the writer failed.
+-- from 1, is returned; if memory, the reader or the writer fails, a first part of the lines is served. The input stops
+-- only where the reader is asked for more. The bytes of the writer have grown by what was printed, unless the writer
+-- failed.
 -- Read `lines_of` first (the lines of a text), then `Does` (one line), `Serves` (lines, one after another) and
--- `Drives`, which `drive` cites: what was served up to where it ends (`EndsAfter`), and what was written
--- (`UnlessOutput`). The other words are for the private functions.
-use Rattle.std.specs.Prelude.{◌≡◌, ℕ, ◌+◌, ◌<◌, Bool, List, [], ◌∷◌, ◌++◌, length, Option, Some, Result, Ok, Err, IfSome, ⊤, ◌==◌, ◌⊎◌, Vec}
+-- `DrivesBytes`, which `drive` cites as `Drives`: what was served up to where it ends (`EndsAfter`), where the input
+-- may stop (`MayStopAfter`), and what was written (`UnlessOutput`). The other words are for the private functions.
+use Rattle.std.specs.Prelude.{◌≡◌, ℕ, ◌+◌, ◌-◌, ◌^◌, ◌<◌, ◌≤◌, Bool, List, [], ◌∷◌, ◌++◌, length, Option, None, Some, Result, Ok, Err, IfSome, position, ⊤, ◌==◌, ◌⊎◌, Vec}
 use Rattle.std.specs.List.{slice_split}
 use Rattle.std.specs.Io.BufRead.{take_through, drop_through, strip_last}
-use Rattle.std.specs.Io.Buffered.{reader_remaining}
-use Rattle.std.specs.Io.KnownBytes.{Appends, Keeps, append_known}
+use Rattle.std.specs.Io.Buffered.{reader_buffer, reader_remaining}
+use Rattle.std.specs.Io.KnownBytes.{Appends, Keeps, append_known, prepend_known}
 use Rattle.std.specs.declared.io.buffered.BufReader.{BufReader}
 use Rattle.btree_store.specs.Content.{Content}
 use Rattle.btree_node.specs.declared.node.Node.{Node}
@@ -52,6 +53,10 @@ pub record ReadsLine (old new : Option (List ℕ)) (said : Line) : Type 0 where
   pub some : IfSome old (λ text. 0 < length text)
   pub first : IfSome old (λ text. line ≡ strip_last 10 (take_through 10 text))
   pub rest : IfSome old (λ text. new ≡ Some (drop_through 10 text))
+
+-- no line ends among the bytes in a reader's buffer
+abbrev pub HasNoLine : {R A : Type 0} → BufReader R A → Type 0
+HasNoLine reader = position is_newline (reader_buffer reader) ≡ None
 
 -- for a reader with these bytes still to come
 module _ {R A : Type 0} (remaining : R → Option (List ℕ)) where
@@ -107,6 +112,30 @@ EndsAfter served all (Err Memory) = (rest : List (List ℕ)) × (all ≡ served 
 EndsAfter served all (Err Input) = (rest : List (List ℕ)) × (all ≡ served ++ rest)
 EndsAfter served all (Err Output) = (rest : List (List ℕ)) × (all ≡ served ++ rest)
 
+-- of the bytes that are left, the reader had given those ahead, in which no line ends, and it was asked for more
+pub record AsksForMore {R : Type 0} (remaining : R → Option (List ℕ)) (left : List ℕ) : Type 0 where
+  pub reader : R
+  pub ahead : List ℕ
+  pub no_line : position is_newline ahead ≡ None
+  pub known : prepend_known ahead (remaining reader) ≡ Some left
+
+-- so many lines were served that no number for the next one is left
+abbrev pub AreMostLines : List (List ℕ) → Type 0
+AreMostLines served = 2 ^ 64 - 2 ≤ length served
+
+-- after these lines of a text the input may stop: the reader is asked for more, or no number is left
+abbrev pub MayStopAfter : {R : Type 0} → (R → Option (List ℕ)) → (text : List ℕ) → (served : List (List ℕ)) → Type 0
+MayStopAfter remaining text served =
+    AreMostLines served ⊎ (left : List ℕ) × (lines_of text ≡ served ++ lines_of left) × AsksForMore remaining left
+
+-- this holds, if the input stopped
+abbrev pub IfInput : {A : Type 0} → Result A Stop → Type 0 → Type 0
+IfInput (Ok _) Holds = ⊤
+IfInput (Err (NotACommand number)) Holds = ⊤
+IfInput (Err Memory) Holds = ⊤
+IfInput (Err Input) Holds = Holds
+IfInput (Err Output) Holds = ⊤
+
 -- this holds, unless the writer failed
 abbrev pub UnlessOutput : {A : Type 0} → Result A Stop → Type 0 → Type 0
 UnlessOutput (Ok _) Holds = Holds
@@ -128,11 +157,23 @@ StopsAt said number stop = (stop ≡ Memory) ⊎ ((stop ≡ NotACommand number) 
 
 -- Lines of the input were served, and what they print was written. If the bytes of the input are known, the lines are
 -- theirs.
-pub record Drives {A : Type 0} (MayRefuse : Content (Node ℕ ℕ) → Type 0) (old : Held ℕ ℕ) (input before : Option (List ℕ)) (result : Result A Stop) (after : Option (List ℕ)) (new : Held ℕ ℕ) : Type 0 where
+pub record DrivesBytes {A R : Type 0} (MayRefuse : Content (Node ℕ ℕ) → Type 0) (remaining : R → Option (List ℕ)) (old : Held ℕ ℕ) (input before : Option (List ℕ)) (result : Result A Stop) (after : Option (List ℕ)) (new : Held ℕ ℕ) : Type 0 where
   pub lines : List (List ℕ)
   pub known : IfSome input (λ text. lines ≡ lines_of text)
   pub served : List (List ℕ)
   pub ends : EndsAfter served lines result
+  pub stops : IfInput result (IfSome input (λ text. MayStopAfter remaining text served))
   pub printed : List ℕ
   pub serves : Serves MayRefuse old served printed new
   pub writes : UnlessOutput result (Appends before after printed)
+
+module _ {A R W : Type 0} (MayRefuse : Content (Node ℕ ℕ) → Type 0) (remaining : R → Option (List ℕ)) (contents : W → Option (List ℕ)) where
+  -- the same of a reader and a writer
+  abbrev pub Drives : (old : Held ℕ ℕ) → (input : R) → (output : W) → Result A Stop → (new_output : W) → (new : Held ℕ ℕ) → Type 0
+  Drives old input output result new_output new =
+      DrivesBytes MayRefuse remaining old (remaining input) (contents output) result (contents new_output) new
+
+  -- the same of a reader with a buffer, and a writer with a text that is still to be written
+  abbrev pub DrivesBuffered : {B Z : Type 0} → (old : Held ℕ ℕ) → BufReader R B → W → Vec ℕ Z → Result A Stop → (new_output : W) → (more : Vec ℕ Z) → (new : Held ℕ ℕ) → Type 0
+  DrivesBuffered old reader output text result new_output more new =
+      DrivesBytes MayRefuse remaining old (input_of remaining reader) (output_of contents output text) result (output_of contents new_output more) new

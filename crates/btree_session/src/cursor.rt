@@ -1,6 +1,6 @@
 //! Steps of an editing cursor, run one after another.
 ghost use Rattle.std.specs.Prelude.{◌≡◌, [], Some, IsOk, OnErr, OnOk, length};
-ghost use Rattle.btree_session.specs.CursorMachine.{IsCursorStep, RunsCursor, spot_of};
+ghost use Rattle.btree_session.specs.CursorMachine.{RunsCursor, Steps};
 ghost use Rattle.btree_session.specs.Text.{HasCapacityFor};
 
 use crate::Reply;
@@ -22,8 +22,7 @@ pub enum CursorStep {
 }
 
 fn peek<C: NodesMut<u64, u64>>(entries: &EntriesMut<'_, u64, u64, C>) -> Reply
-    ensures { IsCursorStep C.MayRefuse
-        (spot_of entries.now) CursorStep.Peek result (spot_of entries.now) }
+    ensures { Steps C.MayRefuse entries.now CursorStep.Peek result entries.now }
 {
     match entries.peek() {
         Some(item) => Reply::Pair(*item.key(), *item.value()),
@@ -33,8 +32,7 @@ fn peek<C: NodesMut<u64, u64>>(entries: &EntriesMut<'_, u64, u64, C>) -> Reply
 
 fn next<C: NodesMut<u64, u64>>(entries: &mut EntriesMut<'_, u64, u64, C>) -> Reply
     ensures same_map { entries.new.map.ghost_name ≡ entries.old.map.ghost_name }
-    ensures step { IsCursorStep C.MayRefuse
-        (spot_of entries.old) CursorStep.Next result (spot_of entries.new) }
+    ensures step { Steps C.MayRefuse entries.old CursorStep.Next result entries.new }
 {
     if entries.size_hint().0 == 0 {
         return Reply::Nothing;
@@ -49,8 +47,7 @@ fn insert<C: NodesMut<u64, u64>>(
     value: u64,
 ) -> Reply
     ensures same_map { entries.new.map.ghost_name ≡ entries.old.map.ghost_name }
-    ensures step { IsCursorStep C.MayRefuse
-        (spot_of entries.old) (CursorStep.Insert key value) result (spot_of entries.new) }
+    ensures step { Steps C.MayRefuse entries.old (CursorStep.Insert key value) result entries.new }
 {
     if !entries.fits(&key) {
         return Reply::Unfit;
@@ -66,8 +63,7 @@ fn insert<C: NodesMut<u64, u64>>(
 
 fn remove<C: NodesMut<u64, u64>>(entries: &mut EntriesMut<'_, u64, u64, C>) -> Reply
     ensures same_map { entries.new.map.ghost_name ≡ entries.old.map.ghost_name }
-    ensures step { IsCursorStep C.MayRefuse
-        (spot_of entries.old) CursorStep.Remove result (spot_of entries.new) }
+    ensures step { Steps C.MayRefuse entries.old CursorStep.Remove result entries.new }
 {
     match entries.remove() {
         Some(item) => Reply::Pair(*item.key(), *item.value()),
@@ -81,8 +77,7 @@ fn take_step<C: NodesMut<u64, u64>>(
     step: CursorStep,
 ) -> Reply
     ensures same_map { entries.new.map.ghost_name ≡ entries.old.map.ghost_name }
-    ensures step { IsCursorStep C.MayRefuse
-        (spot_of entries.old) step result (spot_of entries.new) }
+    ensures step { Steps C.MayRefuse entries.old step result entries.new }
 {
     match step {
         CursorStep::Peek => peek(entries),

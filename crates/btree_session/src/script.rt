@@ -3,7 +3,7 @@ ghost use Rattle.std.specs.Prelude.{◌≡◌, ◌⊎◌, [], position, IfSome, 
 ghost use Rattle.std.specs.Io.KnownBytes.{IsAtEnd};
 ghost use Rattle.btree_session.specs.Line.{line_words, MeansLine};
 ghost use Rattle.btree_session.specs.Answer.{Answers};
-ghost use Rattle.btree_session.specs.Script.{is_newline, input_of, output_of, MayStopAnywhere, Drives, RunsCommand, Performs, StopsAt, TakesLine, UnlessOutput, WritesOut};
+ghost use Rattle.btree_session.specs.Script.{is_newline, input_of, Drives, DrivesBuffered, HasNoLine, IfInput, MayStopAnywhere, RunsCommand, Performs, StopsAt, TakesLine, UnlessOutput, WritesOut};
 
 use crate::line::{Line, parse, without_last};
 use crate::question::{Question, push_answer_line};
@@ -33,15 +33,15 @@ pub enum Stop {
 ///
 /// Except for nodes, it allocates memory for three buffers only: the reader's, one for a line that no single read gave whole, and one for
 /// the replies to the lines that were read at once. A reader's error of the kind `OutOfMemory` counts as refused memory. An input of
-/// `u64::MAX` lines or more ends like one that fails.
+/// `u64::MAX - 1` lines or more ends like one that fails.
 pub fn drive<C: ClearNodes<u64, u64>, R: Read, W: Write>(
     alloc: Global,
     session: &mut Session<C>,
     input: &mut R,
     output: &mut W,
 ) -> Result<(), Stop>
-    ensures { Drives C.MayRefuse session.old (R.remaining input.old) (W.contents output.old) result
-        (W.contents output.new) session.new }
+    ensures { Drives C.MayRefuse R.remaining W.contents
+        session.old input.old output.old result output.new session.new }
 {
     let Ok(mut reader) = BufReader::new(alloc, input) else {
         return Err(Stop::Memory);
@@ -60,9 +60,8 @@ fn serve<C: ClearNodes<u64, u64>, R: Read, W: Write>(
     output: &mut W,
     text: &mut Vec<u8>,
 ) -> Result<(), Stop>
-    ensures { Drives C.MayRefuse session.old (input_of R.remaining reader.old)
-        (output_of W.contents output.old text.old) result
-        (output_of W.contents output.new text.new) session.new }
+    ensures { DrivesBuffered C.MayRefuse R.remaining W.contents
+        session.old reader.old output.old text.old result output.new text.new session.new }
 {
     let mut line = Vec::new(alloc);
     for number in 1..u64::MAX {
@@ -88,6 +87,7 @@ fn next_line<R: Read, W: Write>(
     ensures text { UnlessOutput result
         (WritesOut W.contents output.old text.old output.new text.new) }
     ensures stop { IfErr result MayStopAnywhere }
+    ensures asked { IfInput result (HasNoLine reader.old) }
 {
     if let Some(said) = buffered_line(reader) {
         return Ok(Some(said));
@@ -100,6 +100,7 @@ fn next_line<R: Read, W: Write>(
 fn buffered_line<R: Read>(reader: &mut BufReader<R>) -> Option<Line>
     ensures line { IfSome result (TakesLine R.remaining reader.old reader.new) }
     ensures none { IfNone result (reader.new ≡ reader.old) }
+    ensures no_line { IfNone result (HasNoLine reader.old) }
 {
     let len = newline_place(reader.buffer())?;
     let (line, _) = reader.buffer().split_at(len);
