@@ -175,7 +175,7 @@ fn measure_descents(
 }
 
 // Both ends of an iterator that owns its map, each of a new one.
-fn measure_owned<T: Table>(
+fn measure_owned<T: Table + Drop>(
     rt: &(impl Print + Clock),
     is_timed: bool,
     map: &str,
