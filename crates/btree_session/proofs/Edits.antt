@@ -114,12 +114,12 @@ module _ (may_refuse : Content (Node ℕ ℕ) → Type 0) (old new : TreeState �
         → IsStep may_refuse (before_with held) Take (Pair x.0 x.1) (after_with (Some b))
     take-pair at normal x b removed =
         let place = removed.place in
-        let same : place ≡ normal.place = normal.item.here.has.only place removed.at in
+        let same : place ≡ normal.place = normal.item.here.has.only place removed.has.at in
         let has : HasPlace old a place = subst (λ p. HasPlace old a p) (sym same) normal.has in
         let pairs = removed.pairs in
         let kept = removed.uncounted in
         a_step may_refuse (before_with held) (after_with (Some b)) Take (Pair x.0 x.1) (Some place) (Some place)
-        (rw is (place, refl, has)) (place, refl, has-place nat_cmp nat_cmp_total new removed.tree b place removed.there)
+        (rw is (place, refl, has)) (place, refl, removed.there)
         (place, refl, removed.listed, rw (pairs, kept) refl) (a, at, b, is, normal, removed, refl) removed.tree
 
   -- an item is at an address that `normalize` returns

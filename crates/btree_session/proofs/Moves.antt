@@ -68,8 +68,8 @@ module _ (may_refuse : Content (Node ℕ ℕ) → Type 0) (map : TreeState ℕ �
     pub seek-gap : IsGapAt nat_cmp key map a → IsStep may_refuse (holding_at held) (Seek key) Gap (holding_at (Some a))
     seek-gap there =
         a_step may_refuse (holding_at held) (holding_at (Some a)) (Seek key) Gap p.0 (Some (before nat_cmp key pairs)) p.1
-        (at_before there.place there.at (before-from_Err nat_cmp key pairs there.place there.is))
-        (found-from_Err nat_cmp key pairs there.place there.is, refl) (a, there, refl, refl) tree
+        (at_before there.fits.place there.fits.has.at (before-from_Err nat_cmp key pairs there.fits.place there.is))
+        (found-from_Err nat_cmp key pairs there.fits.place there.is, refl) (a, there, refl, refl) tree
 
   -- an item is at the address
   module _ (place : ℕ) (a : Address) (there : IsItemAddress map place a) where

@@ -60,9 +60,9 @@ impl<C: NodesMut<u64, u64>> Session<C> {
     fn insert(&mut self, key: u64, value: u64) -> Reply
         ensures { IsStep C.MayRefuse self.old (Command.Insert key value) result self.new }
     {
-        let _root = self.map.root_id(); // for the prover alone: its contract says that the map is a well formed tree
+        self.map.tell_well_formed();
         let outcome = self.map.insert(key, value);
-        let _root = self.map.root_id();
+        self.map.tell_well_formed();
         match outcome {
             Ok(was) => {
                 self.held = None;
@@ -78,14 +78,14 @@ impl<C: NodesMut<u64, u64>> Session<C> {
     fn get(&self, key: u64) -> Reply
         ensures { IsStep C.MayRefuse self.now (Command.Get key) result self.now }
     {
-        let _root = self.map.root_id(); // for the prover alone: its contract says that the map is a well formed tree
+        self.map.tell_well_formed();
         reply_of(self.map.get(&key).copied())
     }
 
     fn seek(&mut self, key: u64) -> Reply
         ensures { IsStep C.MayRefuse self.old (Command.Seek key) result self.new }
     {
-        let _root = self.map.root_id(); // for the prover alone: its contract says that the map is a well formed tree
+        self.map.tell_well_formed();
         match self.map.address_of(&key) {
             Ok(addr) => {
                 let (_, value) = pair_at(&self.map, &addr);
@@ -102,7 +102,7 @@ impl<C: NodesMut<u64, u64>> Session<C> {
     fn next(&mut self) -> Reply
         ensures { IsStep C.MayRefuse self.old Command.Next result self.new }
     {
-        let _root = self.map.root_id(); // for the prover alone: its contract says that the map is a well formed tree
+        self.map.tell_well_formed();
         let Some(held) = self.held else {
             return Reply::NoPlace;
         };
@@ -120,7 +120,7 @@ impl<C: NodesMut<u64, u64>> Session<C> {
     fn prev(&mut self) -> Reply
         ensures { IsStep C.MayRefuse self.old Command.Prev result self.new }
     {
-        let _root = self.map.root_id(); // for the prover alone: its contract says that the map is a well formed tree
+        self.map.tell_well_formed();
         let Some(held) = self.held else {
             return Reply::NoPlace;
         };
@@ -135,9 +135,9 @@ impl<C: NodesMut<u64, u64>> Session<C> {
     fn remove(&mut self, key: u64) -> Reply
         ensures { IsStep C.MayRefuse self.old (Command.Remove key) result self.new }
     {
-        let _root = self.map.root_id(); // for the prover alone: its contract says that the map is a well formed tree
+        self.map.tell_well_formed();
         let value = self.map.remove(&key);
-        let _root = self.map.root_id();
+        self.map.tell_well_formed();
         self.held = None;
         reply_of(value)
     }
@@ -145,7 +145,7 @@ impl<C: NodesMut<u64, u64>> Session<C> {
     fn put(&mut self, key: u64, value: u64) -> Reply
         ensures { IsStep C.MayRefuse self.old (Command.Put key value) result self.new }
     {
-        let _root = self.map.root_id(); // for the prover alone: its contract says that the map is a well formed tree
+        self.map.tell_well_formed();
         let Some(held) = self.held else {
             return Reply::NoPlace;
         };
@@ -153,7 +153,7 @@ impl<C: NodesMut<u64, u64>> Session<C> {
             return Reply::Unfit;
         }
         let outcome = self.map.insert_at(held, Item::new(key, value));
-        let _root = self.map.root_id();
+        self.map.tell_well_formed();
         match outcome {
             Ok(addr) => {
                 self.held = Some(addr);
@@ -169,7 +169,7 @@ impl<C: NodesMut<u64, u64>> Session<C> {
     fn take(&mut self) -> Reply
         ensures { IsStep C.MayRefuse self.old Command.Take result self.new }
     {
-        let _root = self.map.root_id(); // for the prover alone: its contract says that the map is a well formed tree
+        self.map.tell_well_formed();
         let Some(held) = self.held else {
             return Reply::NoPlace;
         };
@@ -205,9 +205,9 @@ impl<C: ClearNodes<u64, u64>> Session<C> {
     fn clear(&mut self) -> Reply
         ensures { IsStep C.MayRefuse self.old Command.Clear result self.new }
     {
-        let _root = self.map.root_id(); // for the prover alone: its contract says that the map is a well formed tree
+        self.map.tell_well_formed();
         self.map.clear();
-        let _root = self.map.root_id();
+        self.map.tell_well_formed();
         self.held = None;
         Reply::Done
     }

@@ -117,8 +117,7 @@ fn promised_from<'a, C: NodesMut<Counted<'a>, u32>>(
     requires { IsUsed tree.now top }
     ensures { result ≡ comparisons_from (on (λ key. key.number) nat_cmp) key.now tree.now top }
 {
-    // For the prover: the tree is well formed.
-    let _root = tree.root_id();
+    tree.tell_well_formed();
     let mut id = top;
     let mut total = 0usize;
     loop {

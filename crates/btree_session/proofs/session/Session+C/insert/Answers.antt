@@ -6,11 +6,11 @@ pub returns-in-Ok : goal.returns-in-Ok
 returns-in-Ok g c =
     let done = c.in-Ok.ensures in
     rw (c.reply_of.ensures, ← c.self.view_is)
-    (insert-done g.C.NodesMut.MayRefuse _ _ c.root_id-root.ensures.well_formed c.self.invariant c.root_id-root-2.ensures.well_formed c.args.key c.args.value
+    (insert-done g.C.NodesMut.MayRefuse _ _ c.tell_well_formed.ensures.well_formed c.self.invariant c.tell_well_formed-2.ensures.well_formed c.args.key c.args.value
     done.inserted done.inserted_by_key done.uncounted refl _ done.old)
 
 pub returns-in-Err : goal.returns-in-Err
 returns-in-Err g c =
     rw (← c.self.view_is)
-    (insert-refused g.C.NodesMut.MayRefuse _ _ c.root_id-root.ensures.well_formed c.self.invariant c.root_id-root-2.ensures.well_formed c.args.key c.args.value
+    (insert-refused g.C.NodesMut.MayRefuse _ _ c.tell_well_formed.ensures.well_formed c.self.invariant c.tell_well_formed-2.ensures.well_formed c.args.key c.args.value
     refl c.in-Err.refused.cause c.in-Err.ensures.absent c.in-Err.ensures.cause)
