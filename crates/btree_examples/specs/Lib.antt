@@ -1,2 +1,3 @@
 pub mod Bookings
+pub mod Listing
 pub mod Stock

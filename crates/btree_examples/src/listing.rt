@@ -1,10 +1,6 @@
 //! A listing, page by page: a page is the beginning of the range after the last part of the page before.
-ghost use Rattle.std.specs.Prelude.{◌≡◌, ◌++◌, OnOk, take};
-ghost use Rattle.std.specs.BTreeMap.Range.{entries_between};
-ghost use Rattle.std.specs.Map.{keys_of};
-ghost use Rattle.std.specs.Ordering.{nat_cmp};
-ghost use Rattle.std.specs.declared.ops.Bound.TheVariants.{Excluded, Unbounded};
-ghost use Rattle.btree_shape.specs.TreeState.{pairs_of};
+ghost use Rattle.std.specs.Prelude.{◌≡◌, ◌++◌, OnOk};
+ghost use Rattle.btree_examples.specs.Listing.{page_after};
 
 use btree_slab::BTreeMap;
 use std::alloc::AllocError;
@@ -18,8 +14,7 @@ pub fn next_page(
     size: usize,
     page: &mut Vec<u32>,
 ) -> Result<(), AllocError>
-    ensures { OnOk result (page.new.items ≡ page.old.items ++ take size
-        (keys_of (entries_between nat_cmp (Excluded last) Unbounded (pairs_of listing.now)))) }
+    ensures { OnOk result (page.new.items ≡ page.old.items ++ page_after last size listing.now) }
 {
     let mut rest = listing.range((Bound::Excluded(&last), Bound::Unbounded));
     let mut left = size;

@@ -1,0 +1,11 @@
+-- A page of a listing.
+use Rattle.std.specs.Prelude.{ℕ, List, take}
+use Rattle.std.specs.BTreeMap.Range.{entries_between}
+use Rattle.std.specs.Map.{keys_of}
+use Rattle.std.specs.Ordering.{nat_cmp}
+use Rattle.std.specs.declared.ops.Bound.TheVariants.{Excluded, Unbounded}
+use Rattle.btree_shape.specs.TreeState.{TreeState, pairs_of}
+
+-- the first parts of a listing that come after one, at most `size` of them
+abbrev pub page_after : {V : Type 0} → (last size : ℕ) → TreeState ℕ V → List ℕ
+page_after last size listing = take size (keys_of (entries_between nat_cmp (Excluded last) Unbounded (pairs_of listing)))
