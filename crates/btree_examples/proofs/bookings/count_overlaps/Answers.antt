@@ -13,7 +13,7 @@ returns-then-key-end c =
     let s = c.args.bookings.now in
     let i = c.loop-step.invariant in
     let x = c.in-Some-item.booking.now in
-    let here = read-pair s c.args.start c.requires i.place c.loop-step.next c.in-Some.addr c.new.result i.item c.in-Some.is c.new.ensures x c.in-Some-item.ensures.value in
+    let here = read-pair s c.args.start c.requires i.place c.loop-step.next c.in-Some.addr c.copied.result i.item c.in-Some.is c.copied.ensures x c.in-Some-item.ensures.value in
     counted-all s c.args.start c.requires c.args.end c.loop-step.count i.place x here i.counted (omega (arith, c.key.ensures))
 
 pub loop-step-preserved : goal.loop-step-preserved
@@ -21,7 +21,7 @@ loop-step-preserved c =
     let s = c.args.bookings.now in
     let i = c.loop-step.invariant in
     let x = c.in-Some-item.booking.now in
-    let here = read-pair s c.args.start c.requires i.place c.loop-step.next c.in-Some.addr c.new.result i.item c.in-Some.is c.new.ensures x c.in-Some-item.ensures.value in
+    let here = read-pair s c.args.start c.requires i.place c.loop-step.next c.in-Some.addr c.copied.result i.item c.in-Some.is c.copied.ensures x c.in-Some-item.ensures.value in
     let item = next-item s c.args.start c.requires i.place c.loop-step.next c.next_item_address-next.result c.in-Some.addr i.item c.in-Some.is c.next_item_address-next.ensures in
     elim c.if-value-start.branch [
       | then-value-start w ↦ record {

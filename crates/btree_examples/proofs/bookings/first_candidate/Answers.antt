@@ -9,4 +9,4 @@ returns-in-Ok c = candidate-found c.args.bookings.now c.args.start c.requires c.
 pub returns-in-Some : goal.returns-in-Some
 returns-in-Some c =
     candidate-before c.args.bookings.now c.args.start c.requires c.in-Err.gap c.in-Some.previous c.in-Err.ensures
-    (subst (λ a. IsPrevious c.args.bookings.now a (Some c.in-Some.previous)) c.new.ensures c.in-Some.ensures)
+    (subst (λ a. IsPrevious c.args.bookings.now a (Some c.in-Some.previous)) c.copied.ensures c.in-Some.ensures)
