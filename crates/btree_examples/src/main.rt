@@ -86,37 +86,54 @@ fn print_missing(rt: &impl Print, alloc: Global, stock: &BTreeMap<u32, u64>) -> 
     Ok(())
 }
 
-fn main(rt: HostRuntime) -> io::Result<()> {
-    let mut stock: BTreeMap<u32, u64> = BTreeMap::new(rt.alloc());
+/// Fills a stock, and prints what is in it.
+fn print_stock(rt: &impl Print, stock: &mut BTreeMap<u32, u64>) -> io::Result<()> {
     for (part, count) in [(408, 20), (17, 350), (1203, 4), (17, 349)] {
-        set_stock(&mut stock, part, count)?;
+        set_stock(stock, part, count)?;
     }
     rt.println(format_args!("parts: {}", stock.len()))?;
-    rt.println(format_args!("part 408: {}", in_stock(&stock, 408)))?;
-    rt.println(format_args!("part 409: {}", in_stock(&stock, 409)))?;
+    rt.println(format_args!("part 408: {}", in_stock(stock, 408)))?;
+    rt.println(format_args!("part 409: {}", in_stock(stock, 409)))?;
     let Ok(part) = stock.address_of(&408) else {
         return Ok(());
     };
-    let counted = take_and_put_back(&mut stock, part)?;
+    let counted = take_and_put_back(stock, part)?;
     rt.println(format_args!("counted: {}", counted.unwrap_or(0)))?;
     for (part, count) in stock.iter() {
         rt.println(format_args!("{part} {count}"))?;
     }
-    let mut page = Vec::new(rt.alloc());
-    next_page(&stock, 17, 2, &mut page)?;
+    Ok(())
+}
+
+/// Prints a page of the parts, and how many are left once one is sold out.
+fn print_page(rt: &impl Print, alloc: Global, stock: &mut BTreeMap<u32, u64>) -> io::Result<()> {
+    let mut page = Vec::new(alloc);
+    next_page(stock, 17, 2, &mut page)?;
     for part in page.iter() {
         rt.println(format_args!("after 17: {part}"))?;
     }
-    set_stock(&mut stock, 408, 0)?;
-    remove_sold_out(&mut stock);
-    rt.println(format_args!("not sold out: {}", stock.len()))?;
-    print_missing(&rt, rt.alloc(), &stock)?;
-    let mut bookings = three_bookings(rt.alloc())?;
+    set_stock(stock, 408, 0)?;
+    remove_sold_out(stock);
+    rt.println(format_args!("not sold out: {}", stock.len()))
+}
+
+/// Prints how many bookings overlap a time.
+fn print_bookings(rt: &impl Print, alloc: Global) -> io::Result<()> {
+    let mut bookings = three_bookings(alloc)?;
     let free = book_and_cancel(&mut bookings, 12, 14)?;
     rt.println(format_args!("12 is free: {free}"))?;
     for (start, end) in [(10, 14), (12, 14)] {
         let count = count_overlaps(&bookings, start, end);
         rt.println(format_args!("bookings from {start} to {end}: {count}"))?;
     }
+    Ok(())
+}
+
+fn main(rt: HostRuntime) -> io::Result<()> {
+    let mut stock: BTreeMap<u32, u64> = BTreeMap::new(rt.alloc());
+    print_stock(&rt, &mut stock)?;
+    print_page(&rt, rt.alloc(), &mut stock)?;
+    print_missing(&rt, rt.alloc(), &stock)?;
+    print_bookings(&rt, rt.alloc())?;
     print_counts(&rt, rt.alloc())
 }
