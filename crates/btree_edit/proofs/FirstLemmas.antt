@@ -21,6 +21,7 @@ use Rattle.btree_shape.proofs.Splits.Insertion.{first-well}
 use Rattle.btree_shape.proofs.Trees.Stores.{len-views}
 use Rattle.btree_shape.proofs.Trees.States.{is-tree, pairs-tree}
 use Rattle.btree_raw.specs.Claimed.{EMPTY}
+use Rattle.btree_raw.specs.Limit.{IsBelowLimit}
 use Rattle.btree_raw.proofs.StateLemmas.{nodes-of, same-kept}
 use Rattle.btree_edit.specs.Insert.{IsInserted, IsWithinStrain}
 
@@ -70,12 +71,13 @@ module _ {K V : Type 0} (cmp : K → K → Ordering) (old mid put : TreeState K 
     within_strain = omega arith;
   }
 
-  pub first-inserted : IsInserted cmp old new a b x
-  first-inserted =
+  pub first-inserted : IsBelowLimit old → IsInserted cmp old new a b x
+  first-inserted below_limit =
       let old_len : map.len old.nodes ≡ 0 = len-views old.nodes [] (λ n. sym (ap times_used (no-nodes n))) in
       let new_len : map.len new.nodes ≡ 1 = len-views new.nodes (root ∷ []) used-new in
       let zero_len : old.len ≡ 0 = well.counted ∙ ap length well.formed.1 in
       record {
+        below_limit = below_limit;
         tree = is-tree cmp new (x ∷ []) first;
         pairs = λ place at.
             let at2 : IsPlace (node_map old) None (pairs_of old) a.id a.offset place = subst (λ t. IsPlace (node_map old) t (pairs_of old) a.id a.offset place) empty at in (

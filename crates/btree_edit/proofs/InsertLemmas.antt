@@ -48,6 +48,7 @@ module _ {K V : Type 0} (cmp : K → K → Ordering) (laws : IsTotalOrder cmp) (
 
     pub exchanged-by_key : InsertsByKey cmp k old new w
     exchanged-by_key = record {
+      below_limit = λ none. absurd (not-both (found cmp k xs) is-some none);
       absent = λ none. absurd (not-both (found cmp k xs) is-some none);
       split = λ none. absurd (not-both (found cmp k xs) is-some none);
       few = λ levels are. let e = x.exchanged.keeps.nodes in omega arith;
@@ -74,6 +75,7 @@ module _ {K V : Type 0} (cmp : K → K → Ordering) (laws : IsTotalOrder cmp) (
     module _ (new : TreeState K V) (b : Address) (is : IsInserted cmp old new a b (k, w)) where
       pub put-inserted_by_key : InsertsByKey cmp k old new w
       put-inserted_by_key = record {
+        below_limit = λ none. is.below_limit;
         absent = λ none. (a, gap, is.nodes);
         split = λ none root at. (a, gap, is.split root at);
         few = λ levels are.

@@ -18,3 +18,4 @@ pub mod UpdateKeyLemmas
 pub mod ReplaceByKeyLemmas
 pub mod AbsentLemmas
 pub mod RefusalLemmas
+pub mod LimitLemmas

@@ -28,6 +28,7 @@ use Rattle.btree_raw.proofs.UpwardLemmas.{upward-done, upward-left, upward-start
 use Rattle.btree_raw.proofs.StateLemmas.{same-len, same-kept, same-root}
 use Rattle.btree_raw.specs.Claimed.{AreClaimed}
 use Rattle.btree_raw.specs.Steps.{AddsItem, AreSplit, CanAddItem, IsSplitting, SplitsUpward}
+use Rattle.btree_raw.specs.Limit.{IsBelowLimit}
 use Rattle.btree_edit.specs.Insert.{IsGapFor, IsInserted, IsWithinStrain}
 
 module _ {K V : Type 0} where
@@ -224,8 +225,8 @@ module _ {K V : Type 0} (cmp : K → K → Ordering) (laws : IsTotalOrder cmp) (
               within_strain = omega arith;
             }
 
-        pub more-inserted : IsInserted cmp old ended a b (k, w)
-        more-inserted =
+        pub more-inserted : IsBelowLimit old → IsInserted cmp old ended a b (k, w)
+        more-inserted below_limit =
             let at = repaired-address (K × V) (node_map new) s.split.top (insert pairs gap.place (k, w)) (Some (k, w)) b gap.place (0 + length ids) bound repaired in
             let l1 = len-views new.nodes (numbers_under node_at well.formed.height root ++ ids) listed in
             let l2 = len-views old.nodes (numbers_under node_at well.formed.height root) was-listed in
@@ -235,6 +236,7 @@ module _ {K V : Type 0} (cmp : K → K → Ordering) (laws : IsTotalOrder cmp) (
             subst (λ l. IsPlace (node_map new) new.root l b.id b.offset gap.place) (sym end-pairs)
             (subst (λ t. IsPlace (node_map new) t (insert pairs gap.place (k, w)) b.id b.offset gap.place) (sym s.split.at_root) at.place) in
             record {
+              below_limit = below_limit;
               tree = is-tree cmp ended (insert pairs gap.place (k, w)) end-well;
               pairs = λ place has.
                   let same = one_place-well cmp laws node_at pairs old.len (Some root) well a.id a.offset gap.place place at-root (subst (λ t. IsPlace node_at t pairs a.id a.offset place) is has) in (

@@ -20,7 +20,7 @@ use Rattle.btree_find.specs.Answers.{IsAddressIn, IsAddressOf, IsFoundAt, IsGapA
 use Rattle.btree_find.specs.Fits.{FitsIn, pairs_below}
 use Rattle.btree_find.proofs.FitsLemmas.{occupied-item}
 use Rattle.btree_find.proofs.SearchLemmas.{gap-at}
-use Rattle.btree_edit.specs.Insert.{IsGapFor, IsGrantedIfAbsent}
+use Rattle.btree_edit.specs.Insert.{IsGapFor, IsGranted, IsGrantedIfAbsent}
 use Rattle.btree_edit.specs.Remove.{IsRemoved, RemovesByKey}
 use Rattle.btree_edit.specs.Update.{RunsAt, RunsAtGap, RunsByKey, UpdatesAt, UpdatesGap}
 use Rattle.btree_edit.proofs.InsertLemmas.{exchanged-by_key, exchanged-pairs, put-inserted_by_key}
@@ -152,7 +152,7 @@ module _ {K V : Type 0} (cmp : K → K → Ordering) (k : K) (s : TreeState K V)
       by (Some x) some none = absurd (cc)
 
   -- the nodes that were granted at the gap of a key
-  pub granted-gap : IsGapAt cmp k s a → CanHoldMore EMPTY CanHold s.nodes (nodes_needed s a.id) → IsGrantedIfAbsent cmp k s CanHold
+  pub granted-gap : IsGapAt cmp k s a → IsGranted CanHold a.id s → IsGrantedIfAbsent cmp k s CanHold
   granted-gap gap granted = λ none. record { gap = a; is_gap = gap; granted = granted }
 
 -- an action that is called with what is found at the key may be called with the value at its address

@@ -4,9 +4,9 @@
 -- cut in the order of `OverflowSplit` (`PutsAndSplits`). `IsRefused` (`btree_raw`) is the other outcome. Then
 -- `InsertsByKey`, cited by `insert` of tree and map: for an absent key, exactly the needed nodes were allocated, at
 -- most one more than the tree had levels; for a key that is there, `ExchangesValueAt` (its value is replaced, and every
--- address stays). `IsRefusedAtGap` is its refusal: only at the greatest length, or if the store may refuse one of the
--- needed nodes; `LeavesPairs` says of the list alone what it leaves. `IsGrantedIfAbsent` is the other side: the store
--- can hold the needed nodes beside those that it had.
+-- address stays). `IsRefusedAtGap` is its refusal: only if the length has reached its limit, or if the store may refuse
+-- one of the needed nodes; `LeavesPairs` says of the list alone what it leaves. `IsGrantedIfAbsent` is the other side:
+-- the store can hold the needed nodes beside those that it had, and the length is below its limit (`IsGranted`).
 use Rattle.std.specs.Prelude.{◌≡◌, ℕ, ◌+◌, ◌<◌, ◌≤◌, List, length, Some, None, IsSome}
 use Rattle.std.specs.FinMap as map
 use Rattle.std.specs.List.{insert}
@@ -22,6 +22,7 @@ use Rattle.btree_shape.specs.Step.{Claims}
 use Rattle.btree_shape.specs.TreeState.{TreeState, HasLevels, HasStrain, IsBTree, IsLeafAddressIn, IsPlaceIn, item_of, node_map, nodes_needed, pairs_of, refused_once}
 use Rattle.btree_raw.specs.Claimed.{CanHoldMore, EMPTY}
 use Rattle.btree_raw.specs.Insertion.{IsRefused}
+use Rattle.btree_raw.specs.Limit.{IsBelowLimit}
 use Rattle.btree_raw.specs.OverflowSplit.{OverflowSplit}
 use Rattle.btree_raw.specs.Steps.{AddsItem}
 use Rattle.btree_find.specs.Answers.{IsFoundAt, IsGapAt}
@@ -36,8 +37,8 @@ pub record IsWithinStrain {K V : Type 0} (old new : TreeState K V) : Type 0 wher
   pub within_strain : map.len new.nodes + after ≤ map.len old.nodes + (before + 1)
 
 module _ {K V : Type 0} (old new : TreeState K V) where
-  -- with the cause `Store` one more refusal is counted, and one more pair could be; with the cause `Count` there are as
-  -- many pairs as can be counted
+  -- with the cause `Store` one more refusal is counted, and the list is shorter than the limit; with the cause `Count` it
+  -- has reached the limit
   abbrev pub CountsRefusal : Cause → Type 0
   CountsRefusal Store = (new.kept ≡ refused_once old.kept) × (length (pairs_of old) < old.kept.limit)
   CountsRefusal Count = (new.kept ≡ old.kept) × (old.kept.limit ≤ length (pairs_of old))
@@ -72,6 +73,7 @@ module _ {K V : Type 0} (cmp : K → K → Ordering) where
   -- the pair was inserted at the place of address a, and is at address b; exactly the nodes that were needed were
   -- allocated
   pub record IsInserted (old new : TreeState K V) (a b : Address) (x : K × V) : Type 0 where
+    pub below_limit : IsBelowLimit old
     pub tree : IsBTree cmp new
     pub pairs : (place : ℕ) → IsPlaceIn old a place → (pairs_of new ≡ insert (pairs_of old) place x) × IsPlaceIn new b place
     pub item : item_of new b ≡ Some x
@@ -81,12 +83,16 @@ module _ {K V : Type 0} (cmp : K → K → Ordering) where
     pub strain : IsWithinStrain old new
     pub uncounted : new.kept ≡ old.kept
 
+-- the store can hold the nodes that an insertion at a node needs, and the length is below its limit
+abbrev pub IsGranted : {K V : Type 0} → (Content (Node K V) → Type 0) → (id : ℕ) → TreeState K V → Type 0
+IsGranted CanHold id s = CanHoldMore EMPTY CanHold s.nodes (nodes_needed s id) × IsBelowLimit s
+
 module _ {K V : Type 0} (cmp : K → K → Ordering) (k : K) (old : TreeState K V) (CanHold : Content (Node K V) → Type 0) where
-  -- the store can hold the nodes that an insertion at the gap of the key needs
+  -- an insertion at the gap of the key can be granted
   pub record IsGrantedAtGap : Type 0 where
     pub gap : Address
     pub is_gap : IsGapAt cmp k old gap
-    pub granted : CanHoldMore EMPTY CanHold old.nodes (nodes_needed old gap.id)
+    pub granted : IsGranted CanHold gap.id old
 
   -- so it is for a key that is not there
   abbrev pub IsGrantedIfAbsent : Type 0
@@ -107,6 +113,7 @@ module _ {K V : Type 0} (cmp : K → K → Ordering) (k : K) (old new : TreeStat
   -- which nodes an insertion of a value by key used: for an absent key those that were needed at its gap, at most one
   -- more than there were levels, and how nodes were split; for a present key none, and every address stays
   pub record InsertsByKey (value : V) : Type 0 where
+    pub below_limit : found cmp k (pairs_of old) ≡ None → IsBelowLimit old
     pub absent : found cmp k (pairs_of old) ≡ None → (a : Address) × IsGapAt cmp k old a × (map.len new.nodes ≡ map.len old.nodes + nodes_needed old a.id)
     pub split : found cmp k (pairs_of old) ≡ None → (root : ℕ) → old.root ≡ Some root → SplitsAtGap value root
     pub few : (levels : ℕ) → HasLevels old levels → map.len new.nodes ≤ map.len old.nodes + (levels + 1)

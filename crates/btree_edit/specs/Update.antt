@@ -9,6 +9,7 @@ use Rattle.btree_item.specs.Pairs.{before, found, found_value, inserted}
 use Rattle.btree_item.specs.declared.address.Address.{Address}
 use Rattle.btree_shape.specs.TreeState.{TreeState, IsBTree, item_of, nodes_needed, pairs_of}
 use Rattle.btree_raw.specs.Claimed.{AreClaimed}
+use Rattle.btree_raw.specs.Limit.{IsBelowLimit}
 use Rattle.btree_edit.specs.Exchange.{IsValueExchanged}
 use Rattle.btree_edit.specs.Insert.{InsertsByKey, IsGapFor, IsInserted}
 use Rattle.btree_edit.specs.Remove.{IsRemoved, RemovesByKey}
@@ -68,5 +69,6 @@ module _ {K V : Type 0} (cmp : K → K → Ordering) where
     pub some : base.root ≢ None
     pub gap : IsGapFor cmp k base a
     pub room : base.len < 2 ^ 64 - 1
+    pub below_limit : IsBelowLimit base
     pub claimed : AreClaimed base s ids
     pub enough : length ids ≡ nodes_needed base a.id

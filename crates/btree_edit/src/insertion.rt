@@ -4,6 +4,7 @@ ghost use Rattle.std.specs.Prelude.{OnOk, OnErr};
 ghost use Rattle.btree_item.specs.Pairs.{found, found_value, inserted};
 ghost use Rattle.btree_shape.specs.TreeState.{TreeState, IsBTree, nodes_needed, pairs_of};
 ghost use Rattle.btree_raw.specs.Insertion.{IsRefused};
+ghost use Rattle.btree_raw.specs.Limit.{IsWithinLimit};
 ghost use Rattle.btree_edit.specs.Insert.{IsGapFor, IsInserted, IsRefusedAtGap, InsertsByKey};
 ghost use Rattle.btree_edit.specs.InsertAbsent.{InsertsAbsent, IsGapOf};
 ghost use Rattle.btree_edit.specs.Update.{ClaimsNeeded};
@@ -118,8 +119,7 @@ fn insert_more<K: Ord + Drop, V: Drop, C: NodesMut<K, V>>(
 }
 
 /// Inserts a pair at the address of a gap that its key fits. Returns the address of the pair. It returns an error, with the pair, and
-/// nothing but the count of refusals changes, if the store refuses a node that is needed, or if there are as many pairs as can be
-/// counted.
+/// nothing but the count of refusals changes, if the store refuses a node that is needed, or if the length has reached its limit.
 pub fn insert_at_gap<K: Ord + Drop, V: Drop, C: NodesMut<K, V>>(
     tree: &mut RawBTree<K, V, C>,
     addr: Address,
@@ -130,6 +130,7 @@ pub fn insert_at_gap<K: Ord + Drop, V: Drop, C: NodesMut<K, V>>(
     ensures inserted { IfOk result (λ b. IsInserted K.cmp tree.old tree.new addr b item) }
     ensures returned { IfErr result (λ r. (r.key, r.value) ≡ item) }
     ensures refused { IfErr result (λ r. IsRefused C.MayRefuse addr.id tree.old tree.new r.cause) }
+    ensures bounded { IsWithinLimit tree.old → IsWithinLimit tree.new }
 {
     tree.tell_fits();
     if tree.limit() <= tree.len() {
@@ -156,6 +157,7 @@ pub fn insert_absent<K: Ord + Drop, V: Drop, C: NodesMut<K, V>>(
     ensures returned { IfErr result (λ r. (r.key ≡ key) × (r.value ≡ value)) }
     ensures cause { IfErr result (λ r.
         IsRefusedAtGap K.cmp key tree.old tree.new C.MayRefuse r.cause) }
+    ensures bounded { IsWithinLimit tree.old → IsWithinLimit tree.new }
 {
     insert_at_gap(tree, gap, Item::new(key, value))
 }
@@ -172,6 +174,7 @@ pub fn insert<K: Ord + Drop, V: Drop, C: NodesMut<K, V>>(
     ensures old { IfOk result (λ old. old ≡ found_value K.cmp key (pairs_of tree.old)) }
     ensures inserted { OnOk result (pairs_of tree.new ≡ inserted K.cmp key value (pairs_of tree.old)) }
     ensures inserted_by_key { OnOk result (InsertsByKey K.cmp key tree.old tree.new value) }
+    ensures bounded { IsWithinLimit tree.old → IsWithinLimit tree.new }
     ensures uncounted { OnOk result (tree.new.kept ≡ tree.old.kept) }
 
     ensures returned { IfErr result (λ r. (r.key ≡ key) × (r.value ≡ value)) }

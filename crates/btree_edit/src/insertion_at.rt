@@ -2,6 +2,7 @@
 ghost use Rattle.std.specs.Prelude.{◌≡◌, ◌≢◌, ◌<◌, None, IfOk, IfErr, IsSome};
 ghost use Rattle.btree_shape.specs.TreeState.{IsBTree, IsLeafAddressIn, IsValidIn, node_map};
 ghost use Rattle.btree_raw.specs.Insertion.{IsFullLeaf};
+ghost use Rattle.btree_raw.specs.Limit.{IsWithinLimit};
 ghost use Rattle.btree_find.specs.Fits.{FitsAt};
 ghost use Rattle.btree_edit.specs.InsertAt.{InsertsAt, IsRefusedAt};
 
@@ -13,8 +14,8 @@ use btree_raw::{RawBTree, add_item_at_leaf, need_above};
 
 /// Inserts a pair at the place of an address, which its key fits, before the item there. An address of an internal node stands for the
 /// one in a leaf at its place. Returns the address of the pair. It returns an error, with the pair, and nothing but the count of
-/// refusals changes, if the store refuses a node that is needed, or if there are as many pairs as can be counted. At an address in a leaf
-/// that is not full it fetches the leaf once.
+/// refusals changes, if the store refuses a node that is needed, or if the length has reached its limit. At an address in a leaf that is
+/// not full it fetches the leaf once.
 ///
 /// The address must be valid and not at -1. `RawBTree::is_valid` decides whether an address is valid.
 pub fn insert_at<K: Ord + Drop, V: Drop, C: NodesMut<K, V>>(
@@ -29,6 +30,7 @@ pub fn insert_at<K: Ord + Drop, V: Drop, C: NodesMut<K, V>>(
     ensures inserted { IfOk result (λ b. InsertsAt tree.old tree.new addr K.cmp b item) }
     ensures returned { IfErr result (λ r. (r.key, r.value) ≡ item) }
     ensures refused { IfErr result (λ r. IsRefusedAt tree.old tree.new addr C.MayRefuse r.cause) }
+    ensures bounded { IsWithinLimit tree.old → IsWithinLimit tree.new }
 {
     let Some(_root) = tree.root_id() else {
         return insert_by_leaf(tree, addr, item);
@@ -66,6 +68,7 @@ fn insert_at_full_leaf<K: Ord + Drop, V: Drop, C: NodesMut<K, V>>(
     ensures inserted { IfOk result (λ b. InsertsAt tree.old tree.new addr K.cmp b item) }
     ensures returned { IfErr result (λ r. (r.key, r.value) ≡ item) }
     ensures refused { IfErr result (λ r. IsRefusedAt tree.old tree.new addr C.MayRefuse r.cause) }
+    ensures bounded { IsWithinLimit tree.old → IsWithinLimit tree.new }
 {
     let count = need_above(tree, addr.id, parent);
     insert_and_split(tree, addr, item, count)
@@ -84,6 +87,7 @@ fn insert_by_leaf<K: Ord + Drop, V: Drop, C: NodesMut<K, V>>(
     ensures inserted { IfOk result (λ b. InsertsAt tree.old tree.new addr K.cmp b item) }
     ensures returned { IfErr result (λ r. (r.key, r.value) ≡ item) }
     ensures refused { IfErr result (λ r. IsRefusedAt tree.old tree.new addr C.MayRefuse r.cause) }
+    ensures bounded { IsWithinLimit tree.old → IsWithinLimit tree.new }
 {
     let leaf = leaf_address(tree, addr);
     insert_at_gap(tree, leaf, item)
@@ -106,6 +110,7 @@ pub fn insert_exactly_at<K: Ord + Drop, V: Drop, C: NodesMut<K, V>>(
     ensures inserted { IfOk result (λ b. InsertsAt tree.old tree.new addr K.cmp b item) }
     ensures returned { IfErr result (λ r. (r.key, r.value) ≡ item) }
     ensures refused { IfErr result (λ r. IsRefusedAt tree.old tree.new addr C.MayRefuse r.cause) }
+    ensures bounded { IsWithinLimit tree.old → IsWithinLimit tree.new }
 {
     insert_at_gap(tree, addr, item)
 }

@@ -2,6 +2,7 @@
 ghost use Rattle.std.specs.Prelude.{◌≡◌, ℕ, IfSome, IfNone, None};
 ghost use Rattle.btree_item.specs.Pairs.{found};
 ghost use Rattle.btree_shape.specs.TreeState.{IsBTree, IsValidIn, item_of, pairs_of};
+ghost use Rattle.btree_raw.specs.Limit.{IsWithinLimit};
 ghost use Rattle.btree_edit.specs.Remove.{HasChildBehind, IsInnerAt, IsRemoved, RemovesByKey, ReplacesInner, TakesFromLeaf};
 
 use btree_find::{address_of, first_item_beside};
@@ -27,6 +28,7 @@ pub fn remove_at<K: Ord + Drop, V: Drop, C: NodesMut<K, V>>(
         ReplacesInner tree.old tree.new K.cmp addr left r.1) }
     ensures vacant { IfNone result (item_of tree.old addr ≡ None) }
     ensures unchanged { IfNone result (tree.new ≡ tree.old) }
+    ensures bounded { IsWithinLimit tree.old → IsWithinLimit tree.new }
 {
     let Some(_root) = tree.root_id() else {
         return None;
@@ -62,6 +64,7 @@ pub fn remove_entry<K: Ord + Drop, V: Drop, C: NodesMut<K, V>>(
     ensures entry { result ≡ found K.cmp key.now (pairs_of tree.old) }
     ensures removed { IfSome result (λ x. RemovesByKey tree.old tree.new K.cmp key.now x) }
     ensures unchanged { IfNone result (tree.new ≡ tree.old) }
+    ensures bounded { IsWithinLimit tree.old → IsWithinLimit tree.new }
 {
     match address_of(tree, key) {
         Ok(addr) => match remove_at(tree, addr) {

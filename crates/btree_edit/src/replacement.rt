@@ -2,6 +2,7 @@
 ghost use Rattle.std.specs.Prelude.{◌≡◌, IfErr, IfOk, None, OnErr, OnOk, Some};
 ghost use Rattle.btree_item.specs.Pairs.{found};
 ghost use Rattle.btree_shape.specs.TreeState.{IsBTree, item_of, pairs_of};
+ghost use Rattle.btree_raw.specs.Limit.{IsWithinLimit};
 ghost use Rattle.btree_find.specs.Fits.{ReplacesAt};
 ghost use Rattle.btree_edit.specs.Exchange.{IsExchanged};
 ghost use Rattle.btree_edit.specs.Insert.{IsRefusedAtGap};
@@ -46,6 +47,7 @@ pub fn replace<K: Ord + Drop, V: Drop, C: NodesMut<K, V>>(
     ensures old { IfOk result (λ old. old ≡ found K.cmp key (pairs_of tree.old)) }
     ensures replaced { OnOk result (pairs_of tree.new ≡ replaced K.cmp key value (pairs_of tree.old)) }
     ensures replaced_by_key { OnOk result (ReplacesByKey K.cmp key tree.old tree.new value) }
+    ensures bounded { IsWithinLimit tree.old → IsWithinLimit tree.new }
     ensures uncounted { OnOk result (tree.new.kept ≡ tree.old.kept) }
 
     ensures returned { IfErr result (λ r. (r.key ≡ key) × (r.value ≡ value)) }

@@ -69,8 +69,8 @@ pub trait BTreeExtMut<K: Ord + Drop, V: Drop>: BTreeExt<K, V> {
     /// node stands for the one in a leaf at its place.
     ///
     /// The address must be valid and not at -1, and the key must fit at its place: `is_valid` and `fits_at` decide that. It returns an
-    /// error, with the pair, if the store refuses a node that is needed, or if there are `usize::MAX` pairs. Then nothing but the count
-    /// of refusals has changed.
+    /// error, with the pair, if the store refuses a node that is needed, or if the length has reached its limit. Then nothing but the
+    /// count of refusals has changed.
     fn insert_at(&mut self, addr: Address, item: Item<K, V>) -> Result<Address, Refused<K, V>>
         requires valid { IsValidIn (Self.state self.old) addr }
         requires back { IsSome addr.offset }
@@ -149,7 +149,7 @@ pub trait BTreeExtMut<K: Ord + Drop, V: Drop>: BTreeExt<K, V> {
     /// The node must be in use, and the key must lie strictly between its separators: `has_node` and `key_fits_in` decide that. It
     /// searches from that node down. For an absent key the nodes that an insertion needs are claimed before the call, and freed again if
     /// the action gives no value. It returns an error, with the key and the action, which was not called, if the store refuses one of
-    /// these nodes, or if there are `usize::MAX` pairs. Then nothing but the count of refusals has changed.
+    /// these nodes, or if the length has reached its limit. Then nothing but the count of refusals has changed.
     fn update_in<T, F: FnOnce(Option<V>) -> (Option<V>, T)>(
         &mut self,
         id: usize,

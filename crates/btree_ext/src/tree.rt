@@ -143,8 +143,8 @@ impl<K: Ord + Drop, V: Drop, C: NodesMut<K, V>> Tree<K, V, C> {
     /// Inserts a pair, or replaces the value if the key is there: the stored key stays, and the given one is dropped.
     ///
     /// For an absent key it uses one new node for each consecutive full node from the leaf upward, and one more if the last of them is
-    /// the root; for the first pair it uses one. It returns an error, with the pair, if the store refuses one of these nodes, or if there
-    /// are `usize::MAX` pairs.
+    /// the root; for the first pair it uses one. It returns an error, with the pair, if the store refuses one of these nodes, or if the
+    /// length has reached its limit: `usize::MAX`, unless a raw tree brought a lower one.
     pub fn insert(&mut self, key: K, value: V) -> Result<Option<V>, Refused<K, V>>
         ensures old { IfOk result (λ old. old ≡ found_value K.cmp key (pairs_of self.old)) }
         ensures inserted { OnOk result (pairs_of self.new ≡ inserted K.cmp key value (pairs_of self.old)) }
@@ -216,7 +216,7 @@ impl<K: Ord + Drop, V: Drop, C: NodesMut<K, V>> Tree<K, V, C> {
     ///
     /// It searches once. For an absent key the nodes that `insert` would use are claimed before the call, and freed again if the action gives
     /// no value. It returns an error, with the key and the action, which was not called, if the store refuses one of these nodes, or if
-    /// there are `usize::MAX` pairs. Then nothing but the count of refusals has changed.
+    /// the length has reached its limit. Then nothing but the count of refusals has changed.
     pub fn update<T, F: FnOnce(Option<V>) -> (Option<V>, T)>(
         &mut self,
         key: K,

@@ -24,6 +24,7 @@ use Rattle.btree_shape.proofs.Trees.States.{is-tree-but-length, pairs-tree}
 use Rattle.btree_raw.specs.Claimed.{EMPTY}
 use Rattle.btree_raw.proofs.StateLemmas.{nodes-of, same-len, same-kept}
 use Rattle.btree_raw.specs.Insertion.{InsertsExactly, IsRefused, UsesNeeded}
+use Rattle.btree_raw.specs.Limit.{IsBelowLimit}
 use Rattle.btree_raw.specs.Raw.{Refuses}
 
 pub len-of : {K V : Type 0} {a b : TreeState K V} → a ≡ b → a.len ≡ b.len
@@ -77,10 +78,11 @@ module _ {K V : Type 0} (cmp : K → K → Ordering) (old mid put : TreeState K 
         room = λ some not_full. absurd (some rootless);
       }
 
-  pub only-inserted : InsertsExactly cmp old new a b x child
-  only-inserted =
+  pub only-inserted : IsBelowLimit old → InsertsExactly cmp old new a b x child
+  only-inserted below_limit =
       let mid_len : mid.len ≡ old.len = ap (λ (s : TreeState K V). s.len) claimed in
       record {
+        below_limit = below_limit;
         tree = is-tree-but-length cmp new (x ∷ []) first;
         valid = rw b_is (inl (subst (λ v. IsWithin (node_map new) v (Some 0)) (sym here) (omega arith)));
         item = rw b_is (ap (λ v. item_in v 0) here);

@@ -28,6 +28,7 @@ use Rattle.btree_shape.proofs.Trees.States.{is-off}
 use Rattle.btree_shape.proofs.Trees.Stores.{len-views}
 use Rattle.btree_raw.specs.Claimed.{AreClaimed, EMPTY, MayRefuseOneOf}
 use Rattle.btree_raw.specs.Insertion.{InsertsExactly, IsFull, IsOffByOneWith, IsRefused, PutsItem, UsesNeeded}
+use Rattle.btree_raw.specs.Limit.{IsBelowLimit}
 use Rattle.btree_raw.specs.Raw.{Refuses}
 use Rattle.btree_raw.specs.Rebalance.{HasRoom, IsRebalanced}
 use Rattle.btree_raw.specs.Steps.{AddsItem, AreSplitAlike, CanAddItem, IsCountingSplits, IsSplitting, Overflows, SplitsUpward, split_key}
@@ -167,12 +168,13 @@ module _ {K V : Type 0} (cmp : K → K → Ordering) (laws : IsTotalOrder cmp) (
         }
 
     -- the rebalanced content with the item, and the length raised
-    pub put-inserted : (new : TreeState K V) (b : Address) → old.root ≢ None → IsOffByOneAt cmp put a.id → IsRebalanced put new a.id cmp a b
+    pub put-inserted : (new : TreeState K V) (b : Address) → old.root ≢ None → IsBelowLimit old → IsOffByOneAt cmp put a.id → IsRebalanced put new a.id cmp a b
         → (Overflows (node_map put) a.id → nodes_for_splits put a.id ≡ nodes_needed old a.id)
         → InsertsExactly cmp old (record new { len = new.len + 1 }) a b x child
-    put-inserted new b rooted off r needed =
+    put-inserted new b rooted below_limit off r needed =
         let same : new.len ≡ old.len = r.len ∙ same-len puts.adds.rest in
         record {
+          below_limit = below_limit;
           tree = r.well;
           valid = r.valid;
           item = r.item x put-item;
@@ -351,9 +353,9 @@ module _ {K V : Type 0} (cmp : K → K → Ordering) (laws : IsTotalOrder cmp) (
           pub put-splitting : IsSplitting (node_map last) last.root a.id ids a
           put-splitting = splitting cmp laws w.put a.id w.off a (put-valid w.put w.puts) over ids last put-claims rest (count ∙ sym same-need)
 
-          pub split-inserted : (new : TreeState K V) (b : Address) → old.root ≢ None → SplitsUpward last new a.id ids a b → (IsSome a.offset → IsSome b.offset)
+          pub split-inserted : (new : TreeState K V) (b : Address) → old.root ≢ None → IsBelowLimit old → SplitsUpward last new a.id ids a b → (IsSome a.offset → IsSome b.offset)
               → InsertsExactly cmp old (record new { len = new.len + 1 }) a b x child
-          split-inserted new b rooted s back =
-              put-inserted w.put w.puts new b rooted w.off
+          split-inserted new b rooted below_limit s back =
+              put-inserted w.put w.puts new b rooted below_limit w.off
               (is-split cmp laws w.put a.id w.off a (put-valid w.put w.puts) over ids last put-claims rest (count ∙ sym same-need) new b s back)
               (λ full. same-need ∙ needed-is)

@@ -2,7 +2,8 @@
 -- Read `PutsItem` first: the item is in the node, with the child after it. `insert_exactly_at` requires that the nodes
 -- are off by one then (`IsOffByOneWith`), or, without a root, that there is no node. `InsertsExactly` is what it leaves:
 -- with a root the rebalanced content with the item (`IsPutAndRebalanced`), else one node (`IsOnlyItem`); `UsesNeeded`
--- says how many nodes that took. `IsRefused` is the other outcome.
+-- says how many nodes that took. `IsRefused` is the other outcome. An insertion is granted only where the length is below
+-- its limit (`IsBelowLimit`).
 use Rattle.std.specs.Prelude.{◌≡◌, ◌≢◌, ℕ, ◌+◌, ◌-◌, ◌^◌, ◌<◌, ◌≤◌, [], ◌∷◌, Option, Some, None}
 use Rattle.std.specs.FinMap as map
 use Rattle.std.specs.declared.cmp.Ordering.{Ordering}
@@ -15,6 +16,7 @@ use Rattle.btree_view.specs.View.{View, NodeMap, most_of, size_of}
 use Rattle.btree_shape.specs.Place.{IsLeaf}
 use Rattle.btree_shape.specs.TreeState.{TreeState, Changes, IsBTreeButLength, IsOffByOneAt, IsPlaceIn, IsValidIn, item_of, node_map, nodes_for_splits, nodes_needed, pairs_of}
 use Rattle.btree_raw.specs.Claimed.{EMPTY, MayRefuseOneOf}
+use Rattle.btree_raw.specs.Limit.{IsBelowLimit}
 use Rattle.btree_raw.specs.Raw.{Refuses}
 use Rattle.btree_raw.specs.Rebalance.{IsRebalanced}
 use Rattle.btree_raw.specs.Steps.{AddsItem, CanAddItem, HasParent, Overflows}
@@ -76,6 +78,7 @@ module _ {K V : Type 0} where
 
     -- the item x was inserted at address a and is at address b, with the nodes that this needed and no others
     pub record InsertsExactly (old new : TreeState K V) (a b : Address) (x : K × V) (child : Option ℕ) : Type 0 where
+      pub below_limit : IsBelowLimit old
       pub tree : IsBTreeButLength cmp new
       pub valid : IsValidIn new b
       pub item : item_of new b ≡ Some x
@@ -86,9 +89,9 @@ module _ {K V : Type 0} where
       pub first : old.root ≡ None → IsOnlyItem new b x
 
 -- an insertion at a node was refused, and nothing else has changed. With the cause `Store`: the store refused a node
--- and counted the refusal; it may refuse one of the needed nodes, and one more pair can be counted. With the cause
--- `Count`: there are as many pairs as can be counted
+-- and counted the refusal; it may refuse one of the needed nodes, and the length is below its limit. With the cause
+-- `Count`: the length has reached its limit
 abbrev pub IsRefused : {K V : Type 0} → (Content (Node K V) → Type 0) → (id : ℕ) → (old new : TreeState K V) → Cause → Type 0
 IsRefused MayRefuse id old new Store =
-    Refuses old new × MayRefuseOneOf EMPTY MayRefuse old.nodes (nodes_needed old id) × (old.len < old.kept.limit)
+    Refuses old new × MayRefuseOneOf EMPTY MayRefuse old.nodes (nodes_needed old id) × IsBelowLimit old
 IsRefused MayRefuse id old new Count = (new ≡ old) × (old.kept.limit ≤ old.len)

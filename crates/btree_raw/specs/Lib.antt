@@ -7,4 +7,5 @@ pub mod Raw
 pub mod Rebalance
 pub mod Insertion
 pub mod LastItem
+pub mod Limit
 pub mod Lent

@@ -118,8 +118,8 @@ impl<K: Ord + Drop, V: Drop, C: NodesMut<K, V>> RawBTree<K, V, C> {
     /// With a root, the contract requires that the tree is off by one at the node once the item is there. To test that, put the item there
     /// by `node_mut`, ask `is_off_by_one`, and take it out again. Without a root it requires the address nowhere, no child and no nodes.
     ///
-    /// It returns an error, with the key and the value, if the length is `usize::MAX`, which is asked first, or if the store refuses a node
-    /// that a split needs. Then nothing but the count of refusals has changed. A node that is not full needs none.
+    /// It returns an error, with the key and the value, if the length has reached its limit, which is asked first, or if the store refuses
+    /// a node that a split needs. Then nothing but the count of refusals has changed. A node that is not full needs none.
     pub fn insert_exactly_at(
         &mut self,
         addr: Address,

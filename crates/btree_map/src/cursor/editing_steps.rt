@@ -92,7 +92,7 @@ impl<'a, K: Ord + Drop, V: Drop, C: NodesMut<K, V>> EntriesMut<'a, K, V, C> {
     /// Inserts a pair where the cursor is: it is the last one passed then, and what is left stays left. It compares no keys.
     ///
     /// The key must fit there; `fits` decides that. It uses the same nodes as an insertion by key, and returns an error, with the pair, if
-    /// the store refuses one of them, or if there are `usize::MAX` pairs.
+    /// the store refuses one of them, or if the length has reached its limit.
     pub fn insert(&mut self, key: K, value: V) -> Result<(), Refused<K, V>>
         requires { FitsBetween K.cmp key (passed_of self.old) (left_of self.old) }
         ensures inserted { OnOk result (InsertsEntry self.old self.new (key, value)) }

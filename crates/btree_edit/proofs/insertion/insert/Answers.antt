@@ -2,6 +2,7 @@ use Rattle.btree_edit.proofs.InsertLemmas.{exchanged-by_key, exchanged-pairs, ga
 use Rattle.btree_edit.proofs.RefusalLemmas.{refused-at-gap}
 use Rattle.btree_edit.proofs.insertion.insert.Goals as goal
 use Rattle.std.proofs.lemmas.Grind.{common_steps}
+use Rattle.btree_edit.proofs.LimitLemmas.{exchanged-within}
 use Rattle.std.proofs.Common.{arith, rules}
 
 pub insert_at_gap-requires-clause-gap : goal.insert_at_gap-requires-clause-gap
@@ -109,3 +110,7 @@ pub returns-in-Err-insert_at_gap-clause-cause : goal.returns-in-Err-insert_at_ga
 returns-in-Err-insert_at_gap-clause-cause g c =
     refused-at-gap g.K.Ord.cmp c.args.tree.now c.requires.tree c.insert_at_gap.new.tree c.args.key c.in-Err.addr c.in-Err.ensures
     c.in-Err-insert_at_gap.refused.cause c.in-Err-insert_at_gap.ensures.refused
+
+pub returns-in-Ok-clause-bounded : goal.returns-in-Ok-clause-bounded
+returns-in-Ok-clause-bounded g c =
+    exchanged-within g.K.Ord.cmp c.args.tree.now c.exchange.new.tree c.in-Ok.addr (c.exchange.ensures.key, c.args.value) c.exchange.ensures.exchanged

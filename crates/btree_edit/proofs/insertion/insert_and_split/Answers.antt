@@ -10,6 +10,7 @@ insert_claimed-requires g c = (
     some = c.requires.some;
     gap = c.requires.gap;
     room = c.requires.room;
+    below_limit = c.requires.granted;
     claimed = c.claim.ensures.claimed c.if-not-claim.false;
     enough = c.claim.ensures.count c.if-not-claim.false ∙ c.requires.enough;
   },
@@ -22,6 +23,7 @@ returns-clause-inserted g c =
       some = c.requires.some;
       gap = c.requires.gap;
       room = c.requires.room;
+      below_limit = c.requires.granted;
       claimed = c.claim.ensures.claimed c.if-not-claim.false;
       enough = c.claim.ensures.count c.if-not-claim.false ∙ c.requires.enough;
     })

@@ -1,5 +1,6 @@
 use Rattle.std.proofs.lemmas.Grind.{common_steps}
 use Rattle.std.proofs.Common.{arith, rules}
+use Rattle.btree_edit.proofs.LimitLemmas.{either-within, inserted-within, refused-within}
 use Rattle.btree_edit.proofs.insertion.insert_at_gap.Goals as goal
 
 pub tell_fits-requires : goal.tell_fits-requires
@@ -49,3 +50,15 @@ returns-in-Some-clause-returned g c = search rules steps 200000
 
 pub returns-in-Some-clause-refused : goal.returns-in-Some-clause-refused
 returns-in-Some-clause-refused g c = search rules steps 200000
+
+pub returns-in-None-clause-bounded : goal.returns-in-None-clause-bounded
+returns-in-None-clause-bounded g c =
+    either-within g.K.Ord.cmp c.args.tree.now c.insert_first.new.tree c.insert_first.result c.insert_first.ensures.inserted c.insert_first.ensures.refused
+    (λ b is within. inserted-within g.K.Ord.cmp c.args.tree.now c.insert_first.new.tree c.args.addr b c.args.item is)
+    (λ r is within. refused-within g.K.Ord.cmp c.args.tree.now c.insert_first.new.tree c.args.addr.id r.cause is within)
+
+pub returns-in-Some-clause-bounded : goal.returns-in-Some-clause-bounded
+returns-in-Some-clause-bounded g c =
+    either-within g.K.Ord.cmp c.args.tree.now c.insert_more.new.tree c.insert_more.result c.insert_more.ensures.inserted c.insert_more.ensures.refused
+    (λ b is within. inserted-within g.K.Ord.cmp c.args.tree.now c.insert_more.new.tree c.args.addr b c.args.item is)
+    (λ r is within. refused-within g.K.Ord.cmp c.args.tree.now c.insert_more.new.tree c.args.addr.id r.cause is within)

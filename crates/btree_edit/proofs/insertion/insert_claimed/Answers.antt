@@ -41,4 +41,4 @@ returns g c = λ base needed.
     rw (c.set_len.ensures, c.len.ensures)
     (more-inserted g.K.Ord.cmp g.met.K.Ord.total base needed.some needed.tree c.args.item.0 c.args.item.1 c.args.addr needed.gap
     c.args.claims.now.items c.args.tree.now needed.claimed needed.enough c.add_and_split-at.ensures.split.added c.unwrap-index.result (sym c.unwrap-index.ensures.value) c.add_and_split-at.ensures.split.adds
-    c.add_and_split-at.new.tree c.add_and_split-at.result c.add_and_split-at.ensures.split.splits)
+    c.add_and_split-at.new.tree c.add_and_split-at.result c.add_and_split-at.ensures.split.splits needed.below_limit)

@@ -10,7 +10,7 @@ returns-in-Some-clause-inserted g c =
     rw (c.set_len.ensures, c.set_root_id.ensures)
     (first-inserted g.K.Ord.cmp c.args.tree.now c.claim_one.new.tree c.put.new.tree c.in-Some.root c.requires.empty c.requires.tree
     c.leaf.result c.args.item c.in-Some.ensures.claimed c.put.ensures c.leaf.ensures c.args.addr c.new.result
-    (rw (← c.from.ensures) c.new.ensures))
+    (rw (← c.from.ensures) c.new.ensures) c.requires.granted)
 
 pub put-requires : goal.put-requires
 put-requires g c =

@@ -17,4 +17,5 @@ returns-in-Ok-clause-inserted g c =
     [] c.args.tree.now (none-claimed c.args.tree.now) enough c.add_item_in_room.new.tree c.unwrap.result (sym c.unwrap.ensures.value) c.in-Ok.ensures.added
     c.add_item_in_room.new.tree c.args.addr
     (unsplit g.K.Ord.cmp g.met.K.Ord.total c.args.tree.now c.requires.some c.requires.tree c.args.item.0 c.args.item.1 c.args.addr c.requires.gap
-    [] c.args.tree.now (none-claimed c.args.tree.now) enough c.add_item_in_room.new.tree c.unwrap.result (sym c.unwrap.ensures.value) c.in-Ok.ensures.added refl))
+    [] c.args.tree.now (none-claimed c.args.tree.now) enough c.add_item_in_room.new.tree c.unwrap.result (sym c.unwrap.ensures.value) c.in-Ok.ensures.added refl)
+    c.requires.granted)

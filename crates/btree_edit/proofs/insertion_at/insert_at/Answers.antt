@@ -4,6 +4,7 @@ use Rattle.btree_find.proofs.LeafLemmas.{leaf-same}
 use Rattle.btree_find.proofs.PlaceLemmas.{node-used, within-node}
 use Rattle.btree_edit.proofs.InsertAtLemmas.{can-leaf, gap-at-leaf, inserts-at, rooted}
 use Rattle.btree_edit.proofs.MoreLemmas.{leaf-used, more-inserted, none-claimed, unsplit}
+use Rattle.btree_edit.proofs.LimitLemmas.{inserted-within}
 use Rattle.btree_edit.proofs.insertion_at.insert_at.Goals as goal
 
 pub add_item_at_leaf-requires-clause-used : goal.add_item_at_leaf-requires-clause-used
@@ -25,4 +26,10 @@ returns-in-Ok-clause-inserted g c =
     [] c.args.tree.now (none-claimed c.args.tree.now) enough c.add_item_at_leaf.new.tree c.unwrap.result (sym c.unwrap.ensures.value) c.in-Ok.ensures.added
     c.add_item_at_leaf.new.tree c.args.addr
     (unsplit g.K.Ord.cmp g.met.K.Ord.total c.args.tree.now (rooted c.args.tree.now c.in-Some._root (sym c.root_id.ensures ∙ c.in-Some.is)) c.requires.tree c.args.item.0 c.args.item.1 c.args.addr (gap-at-leaf g.K.Ord.cmp g.met.K.Ord.total c.args.tree.now c.requires.tree c.args.item c.args.addr c.requires.fits c.args.addr (leaf-same g.K.Ord.cmp g.met.K.Ord.total c.args.tree.now c.requires.tree c.args.addr c.requires.valid (inl (can-leaf c.args.tree.now c.args.addr.id c.unwrap.result c.in-Ok.ensures.can))) c.requires.back)
-    [] c.args.tree.now (none-claimed c.args.tree.now) enough c.add_item_at_leaf.new.tree c.unwrap.result (sym c.unwrap.ensures.value) c.in-Ok.ensures.added refl)))
+    [] c.args.tree.now (none-claimed c.args.tree.now) enough c.add_item_at_leaf.new.tree c.unwrap.result (sym c.unwrap.ensures.value) c.in-Ok.ensures.added refl)
+    (let above = c.if-limit-len.false in let limit = c.limit.ensures in let len = c.len.ensures in omega arith)))
+
+pub returns-in-Ok-clause-bounded : goal.returns-in-Ok-clause-bounded
+returns-in-Ok-clause-bounded g c = λ within.
+    let inserts = returns-in-Ok-clause-inserted g c in
+    inserted-within g.K.Ord.cmp c.args.tree.now c.set_len.new.self inserts.leaf c.args.addr c.args.item inserts.inserted

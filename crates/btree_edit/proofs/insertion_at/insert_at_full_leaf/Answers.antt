@@ -3,6 +3,7 @@ use Rattle.std.proofs.lemmas.Result.{IfErr-weaker, IfOk-weaker}
 use Rattle.btree_find.proofs.LeafLemmas.{leaf-same}
 use Rattle.btree_edit.proofs.InsertAtLemmas.{gap-at-leaf, inserts-at}
 use Rattle.btree_edit.proofs.RefusalLemmas.{refused-at}
+use Rattle.btree_edit.proofs.LimitLemmas.{either-within, inserted-within, refused-within}
 use Rattle.btree_edit.proofs.insertion_at.insert_at_full_leaf.Goals as goal
 
 pub need_above-count-requires-clause-full : goal.need_above-count-requires-clause-full
@@ -31,3 +32,9 @@ returns-clause-refused g c =
     IfErr-weaker c.insert_and_split.result _ _
     (λ r. refused-at g.K.Ord.cmp c.args.tree.now c.requires.tree c.insert_and_split.new.tree c.args.addr c.args.addr here r.cause)
     c.insert_and_split.ensures.refused
+
+pub returns-clause-bounded : goal.returns-clause-bounded
+returns-clause-bounded g c =
+    either-within g.K.Ord.cmp c.args.tree.now c.insert_and_split.new.tree c.insert_and_split.result c.insert_and_split.ensures.inserted c.insert_and_split.ensures.refused
+    (λ b is within. inserted-within g.K.Ord.cmp c.args.tree.now c.insert_and_split.new.tree c.args.addr b c.args.item is)
+    (λ r is within. refused-within g.K.Ord.cmp c.args.tree.now c.insert_and_split.new.tree c.args.addr.id r.cause is within)

@@ -11,6 +11,7 @@ use Rattle.btree_raw.proofs.LastLemmas.{same-state}
 use Rattle.btree_edit.specs.Remove.{HasChildBehind, IsInnerAt, IsRemoved, RebalancesLeaf, ReplacesInner}
 use Rattle.btree_edit.proofs.RemoveAtLemmas.{behind-within, has-behind, inner-by, leaf-counted, leaf-enough, leaf-here, leaf-off, leaf-removed, leaf-room, leaf-taken, leaf-taken_enough, leaf-valid, no-inner, no-leaf, on-err, on-ok, one-left, vacant-by, vacant-empty}
 use Rattle.btree_edit.proofs.RemoveInnerLemmas.{small-len}
+use Rattle.btree_edit.proofs.LimitLemmas.{removed-within}
 use Rattle.btree_edit.proofs.removal.remove_at.Goals as goal
 
 pub root_id-requires : goal.root_id-requires
@@ -199,3 +200,15 @@ returns-else-count-ge-MIN_ITEMS-clause-leaf g c = λ at.
 pub returns-in-Some-Err-clause-leaf : goal.returns-in-Some-Err-clause-leaf
 returns-in-Some-Err-clause-leaf g c = λ at. absurd (no-leaf c.args.tree.now c.args.addr c.in-Some._root (sym c.root_id.ensures ∙ c.in-Some.is) c.in-Some-Err.left
     (inner-by c.args.tree.now c.args.addr c.node_mut-node.result.now c.node_mut-node.ensures.value c.in-Some-Err.left (ap Some (sym c.in-Some-Err.field-0-is) ∙ c.in-Some-Err.ensures.answer)) at)
+
+pub returns-then-count-ge-MIN_ITEMS-clause-bounded : goal.returns-then-count-ge-MIN_ITEMS-clause-bounded
+returns-then-count-ge-MIN_ITEMS-clause-bounded g c =
+    removed-within g.K.Ord.cmp c.args.tree.now c.set_len.new.self c.args.addr _ c.in-Some-Ok.item (returns-then-count-ge-MIN_ITEMS-clause-removed g c)
+
+pub returns-else-count-ge-MIN_ITEMS-clause-bounded : goal.returns-else-count-ge-MIN_ITEMS-clause-bounded
+returns-else-count-ge-MIN_ITEMS-clause-bounded g c =
+    removed-within g.K.Ord.cmp c.args.tree.now c.rebalance_fetched-at.new.tree c.args.addr _ c.in-Some-Ok.item (returns-else-count-ge-MIN_ITEMS-clause-removed g c)
+
+pub returns-in-Some-Err-clause-bounded : goal.returns-in-Some-Err-clause-bounded
+returns-in-Some-Err-clause-bounded g c =
+    removed-within g.K.Ord.cmp c.args.tree.now c.remove_inner.new.tree c.args.addr _ c.remove_inner.result.0 (returns-in-Some-Err-clause-removed g c)

@@ -1,5 +1,6 @@
 use Rattle.btree_edit.proofs.ReplaceByKeyLemmas.{exchanged-by_key, exchanged-pairs, nothing-old, old-pair, put-by_key, put-pairs}
 use Rattle.btree_edit.proofs.RefusalLemmas.{refused-at-gap}
+use Rattle.btree_edit.proofs.LimitLemmas.{exchanged-within}
 use Rattle.btree_edit.proofs.replacement.replace.Goals as goal
 
 pub returns-in-Ok-clause-old : goal.returns-in-Ok-clause-old
@@ -36,3 +37,7 @@ pub returns-in-Err-insert_at_gap-clause-cause : goal.returns-in-Err-insert_at_ga
 returns-in-Err-insert_at_gap-clause-cause g c =
     refused-at-gap g.K.Ord.cmp c.args.tree.now c.requires c.insert_at_gap.new.tree c.args.key c.in-Err.addr c.in-Err.ensures
     c.in-Err-insert_at_gap.refused.cause c.in-Err-insert_at_gap.ensures.refused
+
+pub returns-in-Ok-clause-bounded : goal.returns-in-Ok-clause-bounded
+returns-in-Ok-clause-bounded g c =
+    exchanged-within g.K.Ord.cmp c.args.tree.now c.replace_at.new.tree c.in-Ok.addr (c.args.key, c.args.value) c.replace_at.ensures.exchanged

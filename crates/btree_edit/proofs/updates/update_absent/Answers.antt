@@ -1,5 +1,6 @@
 use Rattle.std.proofs.lemmas.Grind.{common_steps}
 use Rattle.std.proofs.Common.{arith, rules}
+use Rattle.btree_edit.proofs.LimitLemmas.{either-within, ran-gap-within, refused-within}
 use Rattle.btree_edit.proofs.updates.update_absent.Goals as goal
 
 pub returns-then-limit-len-clause-updated :
@@ -19,3 +20,15 @@ update_more-requires-clause-some g c = grind (arith, common_steps) steps 300000
 
 pub update_more-requires-clause-room : goal.update_more-requires-clause-room
 update_more-requires-clause-room g c = grind (arith, common_steps) steps 300000
+
+pub returns-in-None-clause-bounded : goal.returns-in-None-clause-bounded
+returns-in-None-clause-bounded g c =
+    either-within g.K.Ord.cmp c.args.tree.now c.update_first.new.tree c.update_first.result c.update_first.ensures.updated c.update_first.ensures.refused
+    (λ t is within. ran-gap-within g.K.Ord.cmp c.args.tree.now c.update_first.new.tree (goal.F-post g c.args.action) c.args.key c.args.gap t is within)
+    (λ r is within. refused-within g.K.Ord.cmp c.args.tree.now c.update_first.new.tree c.args.gap.id r.cause is within)
+
+pub returns-in-Some-clause-bounded : goal.returns-in-Some-clause-bounded
+returns-in-Some-clause-bounded g c =
+    either-within g.K.Ord.cmp c.args.tree.now c.update_more.new.tree c.update_more.result c.update_more.ensures.updated c.update_more.ensures.refused
+    (λ t is within. ran-gap-within g.K.Ord.cmp c.args.tree.now c.update_more.new.tree (goal.F-post g c.args.action) c.args.key c.args.gap t is within)
+    (λ r is within. refused-within g.K.Ord.cmp c.args.tree.now c.update_more.new.tree c.args.gap.id r.cause is within)

@@ -3,6 +3,7 @@ use Rattle.std.proofs.lemmas.Result.{IfErr-weaker}
 use Rattle.btree_find.specs.Answers.{IsAddressOf}
 use Rattle.btree_edit.proofs.RefusalLemmas.{refused-at-gap}
 use Rattle.btree_edit.proofs.UpdateKeyLemmas.{callable-found, granted-found, granted-gap, ok-each, on_ok-each, updates-found, updates-gap}
+use Rattle.btree_edit.proofs.LimitLemmas.{ran-within}
 use Rattle.btree_edit.proofs.updates.update_at_or_gap.Goals as goal
 
 pub update_at-requires-clause-callable : goal.update_at-requires-clause-callable
@@ -35,3 +36,7 @@ returns-in-Err-clause-cause g c =
     (λ r. refused-at-gap g.K.Ord.cmp c.args.tree.now c.requires.tree c.update_absent.new.tree c.args.key c.in-Err.gap
     (subst (λ r. IsAddressOf g.K.Ord.cmp c.args.key c.args.tree.now r) c.in-Err.is c.requires.at) r.cause)
     c.update_absent.ensures.refused
+
+pub returns-in-Ok-clause-bounded : goal.returns-in-Ok-clause-bounded
+returns-in-Ok-clause-bounded g c =
+    ran-within g.K.Ord.cmp c.args.tree.now c.update_at.new.tree _ c.in-Ok.addr c.update_at.result c.update_at.ensures

@@ -29,16 +29,16 @@ returns-clause-updated g c = record {
     rw (c.set_len.ensures, c.set_root_id.ensures)
         (first-inserted g.K.Ord.cmp c.args.tree.now c.claim_one.new.tree c.put.new.tree c.in-Some.root c.requires.empty c.requires.tree
         c.leaf.result (c.args.key, c.in-Some-given.value) c.in-Some.ensures.claimed c.put.ensures (rw (← c.new.ensures) c.leaf.ensures) c.args.gap
-        (record { id = c.in-Some.root; offset = Some 0 }) refl),
+        (record { id = c.in-Some.root; offset = Some 0 }) refl c.requires.granted),
   );
 }
 
 pub returns-in_default-given-clause-granted : goal.returns-in_default-given-clause-granted
 returns-in_default-given-clause-granted g c =
-    one-granted c.args.tree.now c.claim_one.new.tree g.C.Nodes.CanHold c.args.gap.id c.in-Some.root c.requires.empty c.in-Some.ensures.claimed
-    c.in-Some.ensures.unused c.in-Some.ensures.number c.in-Some.ensures.can_hold
+    (one-granted c.args.tree.now c.claim_one.new.tree g.C.Nodes.CanHold c.args.gap.id c.in-Some.root c.requires.empty c.in-Some.ensures.claimed
+    c.in-Some.ensures.unused c.in-Some.ensures.number c.in-Some.ensures.can_hold, c.requires.granted)
 
 pub returns-clause-granted : goal.returns-clause-granted
 returns-clause-granted g c =
-    one-granted c.args.tree.now c.claim_one.new.tree g.C.Nodes.CanHold c.args.gap.id c.in-Some.root c.requires.empty c.in-Some.ensures.claimed
-    c.in-Some.ensures.unused c.in-Some.ensures.number c.in-Some.ensures.can_hold
+    (one-granted c.args.tree.now c.claim_one.new.tree g.C.Nodes.CanHold c.args.gap.id c.in-Some.root c.requires.empty c.in-Some.ensures.claimed
+    c.in-Some.ensures.unused c.in-Some.ensures.number c.in-Some.ensures.can_hold, c.requires.granted)

@@ -33,6 +33,7 @@ insert_claimed-at-requires g c = (
     some = c.requires.some;
     gap = subst (λ (q : g.row.K.Denot × g.row.V.Denot). IsGapFor g.K.Ord.cmp q.0 c.args.tree.now c.args.gap) (sym c.new.ensures) c.requires.gap;
     room = c.requires.room;
+    below_limit = c.requires.granted;
     claimed = c.claim.ensures.claimed c.if-not-claim.false;
     enough = c.claim.ensures.count c.if-not-claim.false ∙ c.need-count.ensures.value;
   },
@@ -50,6 +51,7 @@ returns-clause-updated g c = record {
           some = c.requires.some;
           gap = subst (λ (q : g.row.K.Denot × g.row.V.Denot). IsGapFor g.K.Ord.cmp q.0 c.args.tree.now c.args.gap) (sym c.new.ensures) c.requires.gap;
           room = c.requires.room;
+          below_limit = c.requires.granted;
           claimed = c.claim.ensures.claimed c.if-not-claim.false;
           enough = c.claim.ensures.count c.if-not-claim.false ∙ c.need-count.ensures.value;
         })),
@@ -57,9 +59,13 @@ returns-clause-updated g c = record {
 }
 
 pub returns-in_default-clause-granted : goal.returns-in_default-clause-granted
-returns-in_default-clause-granted g c =
-    subst (λ n. CanHoldMore EMPTY g.C.Nodes.CanHold c.args.tree.now.nodes n) c.need-count.ensures.value (c.claim.ensures.can_hold c.if-not-claim.false)
+returns-in_default-clause-granted g c = (
+  subst (λ n. CanHoldMore EMPTY g.C.Nodes.CanHold c.args.tree.now.nodes n) c.need-count.ensures.value (c.claim.ensures.can_hold c.if-not-claim.false),
+  c.requires.granted,
+)
 
 pub returns-clause-granted : goal.returns-clause-granted
-returns-clause-granted g c =
-    subst (λ n. CanHoldMore EMPTY g.C.Nodes.CanHold c.args.tree.now.nodes n) c.need-count.ensures.value (c.claim.ensures.can_hold c.if-not-claim.false)
+returns-clause-granted g c = (
+  subst (λ n. CanHoldMore EMPTY g.C.Nodes.CanHold c.args.tree.now.nodes n) c.need-count.ensures.value (c.claim.ensures.can_hold c.if-not-claim.false),
+  c.requires.granted,
+)

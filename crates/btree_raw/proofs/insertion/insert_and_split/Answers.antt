@@ -78,7 +78,7 @@ pub returns-clause-inserted : goal.returns-clause-inserted
 returns-clause-inserted g c =
     rw (c.set_len.ensures, c.len.ensures)
     (split-inserted g.K.Ord.cmp g.met.K.Ord.total c.args.tree.now c.args.addr c.args.item c.args.child c.requires.off_by_one c.requires.full c.claim.new.claims.items c.claim.new.tree (c.claim.ensures.claimed c.if-not-claim.false) (c.claim.ensures.count c.if-not-claim.false ∙ c.split_need_above-count.ensures.value)
-    c.add_and_split-at.ensures.split.added c.unwrap-index.result (sym c.unwrap-index.ensures.value) c.add_and_split-at.ensures.split.adds c.add_and_split-at.new.tree c.add_and_split-at.result c.requires.rooted c.add_and_split-at.ensures.split.splits c.add_and_split-at.ensures.back)
+    c.add_and_split-at.ensures.split.added c.unwrap-index.result (sym c.unwrap-index.ensures.value) c.add_and_split-at.ensures.split.adds c.add_and_split-at.new.tree c.add_and_split-at.result c.requires.rooted c.requires.granted c.add_and_split-at.ensures.split.splits c.add_and_split-at.ensures.back)
 
 pub returns-clause-returned : goal.returns-clause-returned
 returns-clause-returned g c =

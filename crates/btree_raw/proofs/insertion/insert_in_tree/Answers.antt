@@ -110,7 +110,7 @@ returns-clause-inserted g c =
     rw (c.set_len.ensures, c.len.ensures)
     (put-inserted g.K.Ord.cmp g.met.K.Ord.total c.args.tree.now c.args.addr c.args.item c.args.child (with_node c.args.tree.now c.args.addr.id c.insert.new.self)
     (these g.K.Ord.cmp g.met.K.Ord.total c.args.tree.now c.args.addr c.args.item c.args.child c.requires.off_by_one (with_node c.args.tree.now c.args.addr.id c.insert.new.self) c.unwrap-index.result (sym c.unwrap-index.ensures.value) (record { nodes = adds c.args.tree.now.nodes c.args.addr.id c.node_mut-node.result.now c.node_mut-node.ensures.value c.insert.new.self c.unwrap-index.result c.args.item c.args.child c.from.result c.from.ensures (can-add g.K.Ord.cmp g.met.K.Ord.total c.args.tree.now c.args.addr c.args.item c.args.child c.requires.off_by_one c.unwrap-index.result (sym c.unwrap-index.ensures.value)) c.insert.ensures; rest = record { rest = refl } }))
-    c.rebalance_fetched-at.new.tree c.rebalance_fetched-at.result c.requires.rooted
+    c.rebalance_fetched-at.new.tree c.rebalance_fetched-at.result c.requires.rooted c.requires.granted
     (put-off g.K.Ord.cmp g.met.K.Ord.total c.args.tree.now c.args.addr c.args.item c.args.child c.requires.off_by_one (with_node c.args.tree.now c.args.addr.id c.insert.new.self) c.unwrap-index.result (sym c.unwrap-index.ensures.value) (record { nodes = adds c.args.tree.now.nodes c.args.addr.id c.node_mut-node.result.now c.node_mut-node.ensures.value c.insert.new.self c.unwrap-index.result c.args.item c.args.child c.from.result c.from.ensures (can-add g.K.Ord.cmp g.met.K.Ord.total c.args.tree.now c.args.addr c.args.item c.args.child c.requires.off_by_one c.unwrap-index.result (sym c.unwrap-index.ensures.value)) c.insert.ensures; rest = record { rest = refl } }))
     c.rebalance_fetched-at.ensures
     (no-overflow g.K.Ord.cmp g.met.K.Ord.total c.args.tree.now c.args.addr c.args.item c.args.child (with_node c.args.tree.now c.args.addr.id c.insert.new.self)

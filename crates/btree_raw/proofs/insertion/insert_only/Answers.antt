@@ -55,7 +55,7 @@ returns-in-Some-clause-inserted g c =
     rw (c.set_len.ensures, c.len.ensures, c.set_root_id.ensures)
     (only-inserted g.K.Ord.cmp c.args.tree.now c.claim_one.new.tree c.put.new.tree c.in-Some.root c.requires.rootless c.requires.empty
     c.leaf.result c.args.item c.in-Some.ensures.claimed c.put.ensures c.leaf.ensures c.args.addr c.new.result c.args.child
-    (rw (← c.from.ensures) c.new.ensures))
+    (rw (← c.from.ensures) c.new.ensures) c.requires.granted)
 
 pub returns-in-Some-clause-returned : goal.returns-in-Some-clause-returned
 returns-in-Some-clause-returned g c =

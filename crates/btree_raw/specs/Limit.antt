@@ -1,0 +1,12 @@
+-- The limit of a tree's length: how many pairs there may be. Insertions keep a tree within it; a raw tree may be beyond.
+use Rattle.std.specs.Prelude.{ℕ, ◌<◌, ◌≤◌}
+use Rattle.btree_shape.specs.TreeState.{TreeState}
+
+module _ {K V : Type 0} (s : TreeState K V) where
+  -- there may be one more pair
+  abbrev pub IsBelowLimit : Type 0
+  IsBelowLimit = s.len < s.kept.limit
+
+  -- there are no more pairs than there may be
+  abbrev pub IsWithinLimit : Type 0
+  IsWithinLimit = s.len ≤ s.kept.limit
