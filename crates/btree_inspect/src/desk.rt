@@ -4,9 +4,12 @@ use crate::help::help;
 use crate::raw_calls::{put_built, serve_raw};
 use crate::session_calls::{Map, list, serve_cursor, serve_session};
 use btree_book::{Desk, Desks, Ending, Reply, serve, word};
-use btree_node_calls::{PlainNode, Raw, empty_leaf, put_node_text, read_node, serve_node};
+use btree_node_calls::{
+    PlainNode, Raw, empty_leaf, put_node_text, read_item, read_node, serve_node,
+};
 use btree_slab::generic::BTreeMap;
 use btree_slab::generic::map::{BTreeExt, RawBTree};
+use btree_slab::generic::node::Item;
 use btree_slab::script::Session;
 use btree_slab::store::{ClearNodes, NodesMut};
 use btree_testing::Refusing;
@@ -61,16 +64,34 @@ fn from_map<C: NodesMut<u64, u64> + Drop>(
     put_built(reply, is_built)
 }
 
-// Gives the raw tree to a map, and adds the map's list, or the fault for which it is refused. Afterwards the raw tree is the map's again.
+// Inserts a pair into a map, and adds the value that it replaces, or the refusal.
+fn insert<C: NodesMut<u64, u64>>(
+    map: &mut Map<C>,
+    item: Item<u64, u64>,
+    reply: &mut Reply,
+) -> Result<(), AllocError> {
+    let (key, value) = item.into_pair();
+    match map.insert(key, value) {
+        Ok(old) => reply.value(old),
+        Err(refused) => reply.refused_pair(refused.cause, refused.key, refused.value),
+    }
+}
+
+// Gives the raw tree to a map, and adds the map's list, what an insertion into the map returns, or the fault for which the tree is
+// refused. Afterwards the raw tree is the map's again.
 fn to_map<C: NodesMut<u64, u64> + Drop>(
     raw: &mut Raw<C>,
     origin: C::Origin,
+    item: Option<Item<u64, u64>>,
     reply: &mut Reply,
 ) -> Result<bool, AllocError> {
     let given = mem::replace(raw, RawBTree::new(origin));
     match BTreeMap::from_raw(given) {
-        Ok(map) => {
-            list(&map, reply)?;
+        Ok(mut map) => {
+            match item {
+                Some(item) => insert(&mut map, item, reply)?,
+                None => list(&map, reply)?,
+            }
             *raw = map.into_raw();
         }
         Err((back, fault)) => {
@@ -120,9 +141,15 @@ where
             "n" => serve_one(&mut self.n, &mut self.m, &self.t, self.mark, rest, reply),
             "m" => serve_one(&mut self.m, &mut self.n, &self.t, self.mark, rest, reply),
             "t" => match (rest, rest.strip_prefix("from_map ")) {
-                ("to_map", _) => to_map(&mut self.t, self.origin, reply),
+                ("to_map", _) => to_map(&mut self.t, self.origin, None, reply),
                 (_, Some(keys)) => from_map(&mut self.t, self.origin, keys, reply),
-                _ => serve_raw(&mut self.t, &mut self.mark, self.alloc, rest, reply),
+                _ => match rest.strip_prefix("to_map insert ") {
+                    Some(pair) => match read_item(pair) {
+                        Some(item) => to_map(&mut self.t, self.origin, Some(item), reply),
+                        None => Ok(false),
+                    },
+                    None => serve_raw(&mut self.t, &mut self.mark, self.alloc, rest, reply),
+                },
             },
             "s" => serve_session(&mut self.s, self.alloc, rest, reply),
             "c" => serve_cursor(&mut self.c, self.alloc, rest, reply),

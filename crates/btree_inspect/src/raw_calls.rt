@@ -38,6 +38,7 @@ fn ask<C: NodesMut<u64, u64>>(
         "counts" => put_counts(reply, raw)?,
         "draw" => draw(reply, raw)?,
         "len" => reply.count(raw.len())?,
+        "limit" => reply.count(raw.limit())?,
         "nodes" => reply.count(raw.node_count())?,
         "root_id" => match raw.root_id() {
             Some(root) => put_node(reply, raw, root)?,
@@ -75,6 +76,10 @@ fn serve_making<C: ClearNodes<u64, u64>>(
         }
         ("set_len", Some(len)) => {
             raw.set_len(len as usize);
+            put_built(reply, true)
+        }
+        ("set_limit", Some(limit)) => {
+            raw.set_limit(limit as usize);
             put_built(reply, true)
         }
         ("clear", _) if rest == "" => {
