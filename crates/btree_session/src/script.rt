@@ -13,6 +13,9 @@ use btree_nodes::{ClearNodes, NodesMut};
 use std::alloc::{AllocError, Global};
 use std::io::{BufRead, BufReader, ErrorKind, Read, Write};
 
+// The replies are written out once they have more bytes than this.
+const MOST_TEXT: usize = 8192;
+
 /// Why driving stopped before the end of the input.
 #[derive(Clone, Copy, Debug, PartialEq, Eq)]
 pub enum Stop {
@@ -28,12 +31,12 @@ pub enum Stop {
 
 /// Reads lines of text, runs the commands and answers the questions on them, and writes each reply on a line of its own.
 ///
-/// The replies so far are written and flushed at the end, before a stop, and before each read from the reader, which comes if its buffer
-/// has no complete line. Commands that were run keep their effect, however it ends.
+/// The replies so far are written and flushed at the end, before a stop, before each read from the reader, which comes if its buffer has
+/// no complete line, and once they have more than 8 KiB. Commands that were run keep their effect, however it ends.
 ///
 /// Except for nodes, it allocates memory for three buffers only: the reader's, one for a line that no single read gave whole, and one for
-/// the replies to the lines that were read at once. A reader's error of the kind `OutOfMemory` counts as refused memory. An input of
-/// `u64::MAX - 1` lines or more ends like one that fails.
+/// the replies that are not written yet, at most 8 KiB and one reply. A reader's error of the kind `OutOfMemory` counts as refused memory.
+/// An input of `u64::MAX - 1` lines or more ends like one that fails.
 pub fn drive<C: ClearNodes<u64, u64>, R: Read, W: Write>(
     alloc: Global,
     session: &mut Session<C>,
@@ -73,7 +76,8 @@ fn serve<C: ClearNodes<u64, u64>, R: Read, W: Write>(
     Err(Stop::Input)
 }
 
-/// Reads the next line, if there is one, and returns its meaning. Before it reads more input, it writes the text out.
+/// Reads the next line, if there is one, and returns its meaning. Before it reads more input, and if the text is long, it writes the text
+/// out.
 fn next_line<R: Read, W: Write>(
     reader: &mut BufReader<R>,
     line: &mut Vec<u8>,
@@ -90,6 +94,7 @@ fn next_line<R: Read, W: Write>(
     ensures asked { IfInput result (HasNoLine reader.old) }
 {
     if let Some(said) = buffered_line(reader) {
+        write_out_long(text, output)?;
         return Ok(Some(said));
     }
     write_out(text, output)?;
@@ -193,6 +198,17 @@ fn answer<C: NodesMut<u64, u64>>(
             Err(error)
         }
     }
+}
+
+/// Writes the text out if it has more bytes than `MOST_TEXT`.
+fn write_out_long<W: Write>(text: &mut Vec<u8>, output: &mut W) -> Result<(), Stop>
+    ensures ok { OnOk result (WritesOut W.contents output.old text.old output.new text.new) }
+    ensures err { IfErr result (λ stop. stop ≡ Stop.Output) }
+{
+    if text.len() > MOST_TEXT {
+        return write_out(text, output);
+    }
+    Ok(())
 }
 
 /// Writes the text out and empties it, whether the write succeeds or not.
