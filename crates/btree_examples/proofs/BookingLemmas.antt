@@ -1,20 +1,17 @@
 -- Bookings that overlap a time: none before the first candidate, and none from the first one on that begins too late.
-use Rattle.std.proofs.Common.{◌≡◌, ◌<◌, ◌≤◌, ◌+◌, ◌∙◌, ℕ, zero, suc, Bool, true, false, ◌&&◌, nat_lt, cond, List, [], ◌∷◌, take, drop, length, slice_get, Option, Some, None, option_and_then, refl, sym, ap, subst, arith}
+use Rattle.std.proofs.Common.{◌≡◌, ◌<◌, ◌≤◌, ◌+◌, ◌∙◌, ℕ, zero, suc, Bool, true, false, ◌&&◌, nat_lt, cond, List, [], ◌∷◌, take, drop, length, slice_get, Option, Some, None, refl, sym, ap, subst, arith}
 use Rattle.std.proofs.lemmas.Bool.{le-ltb, lt-ltb}
 use Rattle.std.proofs.lemmas.List.{take-append-drop}
 use Rattle.std.proofs.lemmas.List.Sums.{sum_by-append}
 use Rattle.std.specs.Cmp.{ranks}
 use Rattle.std.specs.List.{AllByRecursion, count_by}
-use Rattle.std.specs.Ordering.{MatchOrdering, is_eq, nat_cmp}
-use Rattle.std.specs.declared.cmp.Ordering.{Ordering}
-use Rattle.std.specs.declared.cmp.Ordering.TheVariants.{Equal, Greater, Less}
-use Rattle.btree_item.specs.Pairs.{found}
+use Rattle.std.specs.Ordering.{MatchOrdering, nat_cmp}
+use Rattle.std.specs.declared.cmp.Ordering.TheVariants.{Equal, Less}
 use Rattle.btree_item.specs.declared.address.Address.{Address}
-use Rattle.btree_view.specs.View.{item_in}
-use Rattle.btree_shape.specs.Place.{IsOccupied}
-use Rattle.btree_shape.specs.TreeState.{TreeState, item_of, node_map, pairs_of}
+use Rattle.btree_shape.specs.TreeState.{TreeState, pairs_of}
 use Rattle.btree_find.specs.Answers.{IsFoundAt, IsGapAt}
-use Rattle.btree_find.specs.Navigation.{IsItemAt, IsItemBefore, IsNext, IsNormalized, IsPrevious}
+use Rattle.btree_find.specs.CallerLaws.{found-equal, pair-there}
+use Rattle.btree_find.specs.Navigation.{IsItemAt, IsItemBefore, IsNormalized, IsPrevious}
 use Rattle.btree_item.proofs.KeyLemmas.{count_by-cons}
 use Rattle.btree_examples.specs.Bookings.{AreApart, IsFirstCandidate, overlaps}
 
@@ -98,24 +95,6 @@ below x y e = subst (λ o. MatchOrdering o (x < y) (x ≡ y) (y < x)) e (ranks x
 same : (x y : ℕ) → nat_cmp x y ≡ Equal → x ≡ y
 same x y e = subst (λ o. MatchOrdering o (x < y) (x ≡ y) (y < x)) e (ranks x y)
 
-equal-by : (o : Ordering) → is_eq o ≡ true → o ≡ Equal
-equal-by Less e = absurd (cc)
-equal-by Equal e = refl
-equal-by Greater e = absurd (cc)
-
--- the pair that is found has the key
-key-by : (b : Bool) (k : ℕ) (y : ℕ × ℕ) (ys : List (ℕ × ℕ)) (x : ℕ × ℕ) → is_eq (nat_cmp y.0 k) ≡ b → found nat_cmp k (y ∷ ys) ≡ Some x
-    → (found nat_cmp k ys ≡ Some x → x.0 ≡ k) → x.0 ≡ k
-key-by true k y ys x is e later =
-    let here : Some y ≡ Some x = rw is at e in
-    let is_x : y ≡ x = cc in
-    subst (λ (z : ℕ × ℕ). z.0 ≡ k) is_x (same y.0 k (equal-by (nat_cmp y.0 k) is))
-key-by false k y ys x is e later = later (rw is at e)
-
-found-key : (k : ℕ) (xs : List (ℕ × ℕ)) (x : ℕ × ℕ) → found nat_cmp k xs ≡ Some x → x.0 ≡ k
-found-key k [] x e = absurd (cc)
-found-key k (y ∷ ys) x e = key-by (is_eq (nat_cmp y.0 k)) k y ys x refl e (found-key k ys x)
-
 module _ (s : TreeState ℕ ℕ) (start : ℕ) (apart : AreApart (pairs_of s)) where
   candidate : (place : ℕ) (found_at : Option Address) → IsItemAt s place found_at → (x : ℕ × ℕ) → slice_get (pairs_of s) place ≡ Some x
       → x.0 ≤ start → IsFirstCandidate s start found_at
@@ -125,25 +104,14 @@ module _ (s : TreeState ℕ ℕ) (start : ℕ) (apart : AreApart (pairs_of s)) w
     none_before = λ end. none-before start end (pairs_of s) apart place x e low;
   }
 
-  some-item : (place : ℕ) (a : Address) → IsItemAt s place (Some a) → (x : ℕ × ℕ) × (slice_get (pairs_of s) place ≡ Some x) × (item_of s a ≡ Some x)
-  some-item place a item = by (item_of s a) refl
-    where
-      none : (o : Option ℕ) → IsOccupied (node_map s) a.id o → option_and_then (item_in (node_map s a.id)) o ≡ None → ⊥
-      none None occupied e = occupied
-      none (Some n) occupied e = let there = occupied.1 in absurd (cc)
-
-      by : (o : Option (ℕ × ℕ)) → item_of s a ≡ o → (x : ℕ × ℕ) × (slice_get (pairs_of s) place ≡ Some x) × (item_of s a ≡ Some x)
-      by None e = absurd (none a.offset item.here.occupied e)
-      by (Some x) e = (x, sym item.here.item ∙ e, e)
-
   -- a booking that begins at the time
   pub candidate-found : (a : Address) (found_at : Option Address) → IsFoundAt nat_cmp start s a → IsNormalized s a found_at
       → IsFirstCandidate s start found_at
   candidate-found a found_at f n =
       let itself : found_at ≡ Some a = n.same f.here.occupied in
       let item : IsItemAt s n.place (Some a) = subst (IsItemAt s n.place) itself n.item in
-      let x = some-item n.place a item in
-      let key : x.0.0 ≡ start = found-key start (pairs_of s) x.0 (sym f.item ∙ x.2) in
+      let x = pair-there s n.place a item.here in
+      let key : x.0.0 ≡ start = same x.0.0 start (found-equal nat_cmp start (pairs_of s) x.0 (sym f.item ∙ x.2)) in
       candidate n.place found_at n.item x.0 x.1 (omega arith)
 
   -- the booking before the time
@@ -154,7 +122,7 @@ module _ (s : TreeState ℕ ℕ) (start : ℕ) (apart : AreApart (pairs_of s)) w
       by : (place : ℕ) → p.place ≡ place → IsItemBefore s place (Some previous) → IsFirstCandidate s start (Some previous)
       by zero is before = absurd (cc)
       by (suc q) is before =
-          let x = some-item q previous before in
+          let x = pair-there s q previous before.here in
           let fits = g.fits in
           let there : fits.place ≡ suc q = p.has.only fits.place fits.has.at ∙ is in
           let low : x.0.0 < start = below x.0.0 start (fits.fits.above q x.0 (sym there) x.1) in
@@ -179,21 +147,6 @@ module _ (s : TreeState ℕ ℕ) (start : ℕ) (apart : AreApart (pairs_of s)) w
           let within = fits.fits.within in
           let past = before.past refl in
           absurd (omega arith)
-
-  -- the pair that was read at the next place
-  pub read-pair : (place : ℕ) (next : Option Address) (a b : Address) → IsItemAt s place next → next ≡ Some a → b ≡ a → (x : ℕ × ℕ)
-      → Some x ≡ item_of s b → slice_get (pairs_of s) place ≡ Some x
-  read-pair place next a b item is itself x read =
-      let there : IsItemAt s place (Some a) = subst (IsItemAt s place) is item in
-      sym there.here.item ∙ (ap (item_of s) (sym itself) ∙ sym read)
-
-  -- the item after the one at a place
-  pub next-item : (place : ℕ) (next found_at : Option Address) (a : Address) → IsItemAt s place next → next ≡ Some a → IsNext s a found_at
-      → IsItemAt s (suc place) found_at
-  next-item place next found_at a item is n =
-      let there : IsItemAt s place (Some a) = subst (IsItemAt s place) is item in
-      let itself : place ≡ n.place = n.has.only place there.here.has.at in
-      subst (λ q. IsItemAt s (suc q) found_at) (sym itself) (n.after there.here.occupied)
 
   module _ (end count place : ℕ) (x : ℕ × ℕ) (here : slice_get (pairs_of s) place ≡ Some x)
       (counted : count ≡ count_by (overlaps start end) (take place (pairs_of s))) where

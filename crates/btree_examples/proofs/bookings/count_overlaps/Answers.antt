@@ -1,5 +1,6 @@
 use Rattle.std.proofs.Common.{suc, sym, ◌∙◌, arith}
-use Rattle.btree_examples.proofs.BookingLemmas.{counted-all, counted-none, counted-one, next-item, read-pair}
+use Rattle.btree_find.specs.CallerLaws.{next-place, pair-read}
+use Rattle.btree_examples.proofs.BookingLemmas.{counted-all, counted-none, counted-one}
 use Rattle.btree_examples.proofs.bookings.count_overlaps.Goals as goal
 use Rattle.btree_examples.proofs.bookings.count_overlaps.Goals.{then-value-start, else-value-start}
 
@@ -13,7 +14,7 @@ returns-then-key-end c =
     let s = c.args.bookings.now in
     let i = c.loop-step.invariant in
     let x = c.in-Some-item.booking.now in
-    let here = read-pair s c.args.start c.requires i.place c.loop-step.next c.in-Some.addr c.copied.result i.item c.in-Some.is c.copied.ensures x c.in-Some-item.ensures.value in
+    let here = pair-read s i.place c.loop-step.next c.in-Some.addr c.copied.result i.item c.in-Some.is c.copied.ensures x c.in-Some-item.ensures.value in
     counted-all s c.args.start c.requires c.args.end c.loop-step.count i.place x here i.counted (omega (arith, c.key.ensures))
 
 pub loop-step-preserved : goal.loop-step-preserved
@@ -21,8 +22,8 @@ loop-step-preserved c =
     let s = c.args.bookings.now in
     let i = c.loop-step.invariant in
     let x = c.in-Some-item.booking.now in
-    let here = read-pair s c.args.start c.requires i.place c.loop-step.next c.in-Some.addr c.copied.result i.item c.in-Some.is c.copied.ensures x c.in-Some-item.ensures.value in
-    let item = next-item s c.args.start c.requires i.place c.loop-step.next c.next_item_address-next.result c.in-Some.addr i.item c.in-Some.is c.next_item_address-next.ensures in
+    let here = pair-read s i.place c.loop-step.next c.in-Some.addr c.copied.result i.item c.in-Some.is c.copied.ensures x c.in-Some-item.ensures.value in
+    let item = next-place s i.place c.loop-step.next c.next_item_address-next.result c.in-Some.addr i.item c.in-Some.is c.next_item_address-next.ensures in
     elim c.if-value-start.branch [
       | then-value-start w ↦ record {
         place = suc i.place;
