@@ -262,6 +262,57 @@ fn many_lines_are_served(rt: HostRuntime) -> Result<(), Fail> {
     drive_many::<Store>(&rt, rt.alloc(), rt.alloc())
 }
 
+// Counts the bytes that are written, and keeps the length of the longest write.
+#[derive(Drop)]
+struct Longest {
+    written: usize,
+    longest: usize,
+}
+
+impl Write for Longest {
+    fn write(&mut self, buf: &[u8]) -> io::Result<usize> {
+        self.written = self.written.saturating_add(buf.len());
+        self.longest = self.longest.max(buf.len());
+        Ok(buf.len())
+    }
+
+    fn flush(&mut self) -> io::Result<()> {
+        Ok(())
+    }
+}
+
+// Lists 300 pairs, 50 times, in lines that one read gives. Each reply has 2,400 bytes.
+fn drive_lists<C: ClearNodes<u64, u64> + Drop>(
+    rt: &impl Abort,
+    origin: C::Origin,
+    alloc: Global,
+) -> Result<(), Fail> {
+    let mut session: Session<C> = Session::new(origin);
+    let mut lines = String::new(alloc);
+    for key in 100..450u64 {
+        if key < 400 {
+            write!(lines, "insert {key} {key}\n")?;
+        } else {
+            lines.push_str("list\n")?;
+        }
+    }
+    let mut input = lines.as_bytes();
+    let mut output = Longest {
+        written: 0,
+        longest: 0,
+    };
+    let end = drive(alloc, &mut session, &mut input, &mut output);
+    assert_same(rt, end, Ok(()));
+    assert_same(rt, output.written, 300 * 5 + 50 * 2400);
+    assert_true(rt, output.longest <= 8192 + 2400);
+    Ok(())
+}
+
+#[test]
+fn replies_do_not_wait_for_a_read_once_they_are_long(rt: HostRuntime) -> Result<(), Fail> {
+    drive_lists::<Store>(&rt, rt.alloc(), rt.alloc())
+}
+
 // Refuses the room for the replies of a run after the first.
 fn refuse_room<C: ClearNodes<u64, u64> + Drop>(
     rt: &impl Abort,
