@@ -33,13 +33,13 @@ module _ {K V : Type 0} (cmp : K → K → Ordering) (old new : TreeState K V) w
       let limit = ap (λ (s : TreeState K V). s.kept.limit) same in
       omega arith
 
-  pub refused-within : {MayRefuse : Content (Node K V) → Type 0} (id : ℕ) (cause : Cause) → IsRefused MayRefuse id old new cause
+  pub refused-within : (MayRefuse : Content (Node K V) → Type 0) (id : ℕ) (cause : Cause) → IsRefused MayRefuse id old new cause
       → IsWithinLimit old → IsWithinLimit new
-  refused-within id Store r within =
+  refused-within MayRefuse id Store r within =
       let len = ap (λ (s : TreeState K V). s.len) r.0 in
       let limit = ap (λ (s : TreeState K V). s.kept.limit) r.0 in
       omega arith
-  refused-within id Count r within = unchanged-within r.0 within
+  refused-within MayRefuse id Count r within = unchanged-within r.0 within
 
   -- an update at an address
   pub ran-within : {T : Type 0} (post : V → Option V × T → Type 0) (a : Address) (answer : T) → RunsAt cmp old new post a answer

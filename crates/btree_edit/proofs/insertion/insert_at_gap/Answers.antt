@@ -55,10 +55,10 @@ pub returns-in-None-clause-bounded : goal.returns-in-None-clause-bounded
 returns-in-None-clause-bounded g c =
     either-within g.K.Ord.cmp c.args.tree.now c.insert_first.new.tree c.insert_first.result c.insert_first.ensures.inserted c.insert_first.ensures.refused
     (λ b is within. inserted-within g.K.Ord.cmp c.args.tree.now c.insert_first.new.tree c.args.addr b c.args.item is)
-    (λ r is within. refused-within g.K.Ord.cmp c.args.tree.now c.insert_first.new.tree c.args.addr.id r.cause is within)
+    (λ r is within. refused-within g.K.Ord.cmp c.args.tree.now c.insert_first.new.tree g.C.NodesMut.MayRefuse c.args.addr.id r.cause is within)
 
 pub returns-in-Some-clause-bounded : goal.returns-in-Some-clause-bounded
 returns-in-Some-clause-bounded g c =
     either-within g.K.Ord.cmp c.args.tree.now c.insert_more.new.tree c.insert_more.result c.insert_more.ensures.inserted c.insert_more.ensures.refused
     (λ b is within. inserted-within g.K.Ord.cmp c.args.tree.now c.insert_more.new.tree c.args.addr b c.args.item is)
-    (λ r is within. refused-within g.K.Ord.cmp c.args.tree.now c.insert_more.new.tree c.args.addr.id r.cause is within)
+    (λ r is within. refused-within g.K.Ord.cmp c.args.tree.now c.insert_more.new.tree g.C.NodesMut.MayRefuse c.args.addr.id r.cause is within)

@@ -1,4 +1,4 @@
-use Rattle.std.proofs.Common.{[], inl, refl, sym, ◌∙◌}
+use Rattle.std.proofs.Common.{[], inl, refl, sym, ◌∙◌, arith}
 use Rattle.btree_raw.proofs.NeedLemmas.{need-split_need}
 use Rattle.btree_find.proofs.LeafLemmas.{leaf-same}
 use Rattle.btree_find.proofs.PlaceLemmas.{node-used, within-node}

@@ -37,4 +37,4 @@ pub returns-clause-bounded : goal.returns-clause-bounded
 returns-clause-bounded g c =
     either-within g.K.Ord.cmp c.args.tree.now c.insert_and_split.new.tree c.insert_and_split.result c.insert_and_split.ensures.inserted c.insert_and_split.ensures.refused
     (λ b is within. inserted-within g.K.Ord.cmp c.args.tree.now c.insert_and_split.new.tree c.args.addr b c.args.item is)
-    (λ r is within. refused-within g.K.Ord.cmp c.args.tree.now c.insert_and_split.new.tree c.args.addr.id r.cause is within)
+    (λ r is within. refused-within g.K.Ord.cmp c.args.tree.now c.insert_and_split.new.tree g.C.NodesMut.MayRefuse c.args.addr.id r.cause is within)

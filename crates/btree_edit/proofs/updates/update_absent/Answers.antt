@@ -25,10 +25,10 @@ pub returns-in-None-clause-bounded : goal.returns-in-None-clause-bounded
 returns-in-None-clause-bounded g c =
     either-within g.K.Ord.cmp c.args.tree.now c.update_first.new.tree c.update_first.result c.update_first.ensures.updated c.update_first.ensures.refused
     (λ t is within. ran-gap-within g.K.Ord.cmp c.args.tree.now c.update_first.new.tree (goal.F-post g c.args.action) c.args.key c.args.gap t is within)
-    (λ r is within. refused-within g.K.Ord.cmp c.args.tree.now c.update_first.new.tree c.args.gap.id r.cause is within)
+    (λ r is within. refused-within g.K.Ord.cmp c.args.tree.now c.update_first.new.tree g.C.NodesMut.MayRefuse c.args.gap.id r.cause is within)
 
 pub returns-in-Some-clause-bounded : goal.returns-in-Some-clause-bounded
 returns-in-Some-clause-bounded g c =
     either-within g.K.Ord.cmp c.args.tree.now c.update_more.new.tree c.update_more.result c.update_more.ensures.updated c.update_more.ensures.refused
     (λ t is within. ran-gap-within g.K.Ord.cmp c.args.tree.now c.update_more.new.tree (goal.F-post g c.args.action) c.args.key c.args.gap t is within)
-    (λ r is within. refused-within g.K.Ord.cmp c.args.tree.now c.update_more.new.tree c.args.gap.id r.cause is within)
+    (λ r is within. refused-within g.K.Ord.cmp c.args.tree.now c.update_more.new.tree g.C.NodesMut.MayRefuse c.args.gap.id r.cause is within)
