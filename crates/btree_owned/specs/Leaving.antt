@@ -40,6 +40,12 @@ module _ {K V : Type 0} where
   abbrev pub nodes_left : Leaving K V → ℕ
   nodes_left s = nodes_of s.start s.start.root s.passed (s.passed + s.left)
 
+-- a walk over a tree as it is, of which no pair is taken yet
+pub record BeginsAt {K V : Type 0} (tree : TreeState K V) (s : Leaving K V) : Type 0 where
+  pub start : s.start ≡ tree
+  pub passed : s.passed ≡ 0
+  pub list : left_of s ≡ pairs_of tree
+
 -- what a step at the front does: to the pairs that are left, and to what `nodes_left` reads; without a pair it does nothing
 pub record TakesAtFront {K V : Type 0} (s : Leaving K V) (result : Option (K × V)) (t : Leaving K V) : Type 0 where
   pub yields : YieldsFirst left_of s result t
@@ -54,6 +60,7 @@ pub record TakesAtBack {K V : Type 0} (s : Leaving K V) (result : Option (K × V
   pub start : t.start ≡ s.start
   pub passed : t.passed ≡ s.passed
   pub left : t.left ≡ s.left - 1
+  pub none : IfNone result (t ≡ s)
 
 -- as many nodes of the start have an item at some of the places that are left as nodes of what is left
 pub record CountsOf (A : Type 0) (g : ℕ) (start : Subtree A g) (h : ℕ) (t : Subtree A h) (passed : ℕ) : Type 0 where

@@ -43,14 +43,20 @@ fn take_last_below<K: Drop, V: Drop, C: NodesMut<K, V>>(
 {
     tree.tell_fits();
     let id = last_node(tree, from);
-    let (item, _child) = tree.node_mut(id).take_right();
+    let last = tree.node_mut(id);
+    let (item, _child) = last.take_right();
+    if last.item_count() > 0 {
+        return (item, id);
+    }
     let top = release_spent(tree, id);
     (item, top)
 }
 
 /// Takes the last item, from a node that is at the back. Nodes in which nothing is left then are removed. Returns the item and the lowest
-/// node that is left of those above it, where the next step may begin. It fetches a leaf that keeps an item once; else each node once on
-/// the way down, and once on the way up.
+/// node that is left of those above it, where the next step may begin.
+///
+/// A step from a leaf that keeps an item fetches the leaf once. Any other step asks the store for a node at most three times on its way
+/// down, and at most three times on its way up.
 pub fn take_last<K: Drop, V: Drop, C: NodesMut<K, V>>(
     tree: &mut RawBTree<K, V, C>,
     from: usize,

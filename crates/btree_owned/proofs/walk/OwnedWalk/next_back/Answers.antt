@@ -21,4 +21,5 @@ returns g c = record {
   start = ap (λ v. v.start) c.self.view_is;
   passed = ap (λ v. v.passed) c.self.view_is;
   left = ap (λ v. v.left - 1) c.self.view_is;
+  none = tt;
 }
