@@ -76,6 +76,10 @@ module _ {T : Type 0} (places : ℕ) (slots : List (Option T)) where
   pub table-holds : (free : List ℕ) (fresh held : ℕ) → IsTable places slots free fresh held → len (content_from 0 slots) ≤ places
   table-holds free fresh held table = omega (arith, len-content slots, table.counted, table.total, table.within)
 
+  -- no place is free, so that each has a value
+  pub table-full : (free : List ℕ) (fresh held : ℕ) → length free ≡ 0 → places ≤ fresh → IsTable places slots free fresh held → len (content_from 0 slots) ≡ places
+  table-full free fresh held none last table = omega (arith, len-content slots, table.counted, table.total, table.within)
+
   -- no place was ever used
   pub table-new : length slots ≡ places → ((q : ℕ) → get_or slots q None ≡ None) → IsTable places slots [] 0 0
   table-new long none =

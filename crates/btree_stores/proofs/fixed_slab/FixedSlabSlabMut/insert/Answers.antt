@@ -1,7 +1,7 @@
 use Rattle.std.proofs.Common.{◌≡◌, ℕ, ◌<◌, IsSome, None, inl, inr, arith}
 use Rattle.std.proofs.lemmas.Bool.{cases_lt, false≢true}
 use Rattle.btree_store.specs.SlotLaws.{get-content, content-fill}
-use Rattle.btree_stores.proofs.TableLemmas.{table-low, table-vacant, table-refill, table-fresh, table-holds}
+use Rattle.btree_stores.proofs.TableLemmas.{table-low, table-vacant, table-refill, table-fresh, table-full, table-holds}
 use Rattle.btree_stores.proofs.fixed_slab.FixedSlabSlabMut.insert.Goals as goal
 
 -- a pop from an empty list
@@ -50,3 +50,7 @@ returns-in-Some-clause-can_hold g c =
 pub returns-else-self-clause-can_hold : goal.returns-else-self-clause-can_hold
 returns-else-self-clause-can_hold g c =
     rw c.fill-in-None.ensures (table-holds _ _ _ _ _ (table-fresh _ _ _ _ _ _ (omega (arith, c.self.invariant.within, c.if-self.false)) (no-more _ c.in-None.ensures.variant.1) c.self.invariant))
+
+pub returns-then-self-clause-may_refuse : goal.returns-then-self-clause-may_refuse
+returns-then-self-clause-may_refuse g c =
+    rw (← c.self.view_is) (table-full _ _ _ _ _ (no-more _ c.in-None.ensures.variant.1) (omega (arith, c.if-self.true)) c.self.invariant)
