@@ -35,6 +35,6 @@ AreNumbered slots = (slot : ℕ) → ODD_NUMBERS ≤ slot → slice_index_or slo
 abbrev pub HasOddNumbers : {T : Type 0} → Content T → Type 0
 HasOddNumbers content = (id : ℕ) → IsSome (get content id) → id % 2 ≡ 1
 
--- the slots with a value in that of an odd number
+-- the table with a value under an odd number
 abbrev pub with_odd_value : {T : Type 0} → Table T → ℕ → T → Table T
 with_odd_value table id value = with_value table (slot_of id) value

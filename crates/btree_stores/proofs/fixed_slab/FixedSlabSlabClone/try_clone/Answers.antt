@@ -3,11 +3,12 @@ use Rattle.std.specs.List.{each_same}
 use Rattle.btree_stores.proofs.SlotLemmas.{zip_same}
 use Rattle.btree_stores.proofs.fixed_slab.FixedSlabSlabClone.try_clone.Goals as goal
 
+-- options are equal if they are related as the cases of a clone are
 option_same : {X : Type 0} (R : Option X → Option X → Type 0) → ((y : X) → R None (Some y) → Some y ≡ None) → ((x : X) → R (Some x) None → None ≡ Some x) → ((x y : X) → R (Some x) (Some y) → y ≡ x) → (x y : Option X) → R x y → y ≡ x
-option_same R a b e None None h = refl
-option_same R a b e None (Some y) h = a y h
-option_same R a b e (Some x) None h = b x h
-option_same R a b e (Some x) (Some y) h = ap Some (e x y h)
+option_same R gained lost kept None None related = refl
+option_same R gained lost kept None (Some y) related = gained y related
+option_same R gained lost kept (Some x) None related = lost x related
+option_same R gained lost kept (Some x) (Some y) related = ap Some (kept x y related)
 
 pub invariant_of-result : goal.invariant_of-result
 invariant_of-result g c =
