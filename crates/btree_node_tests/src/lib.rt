@@ -10,6 +10,8 @@ mod items;
 #[cfg(test)]
 mod nodes;
 #[cfg(test)]
+mod other_stores;
+#[cfg(test)]
 mod refusing;
 #[cfg(test)]
 mod stores;

@@ -6,12 +6,23 @@
 pub use btree_ext::{BTreeExt, BTreeExtMut};
 pub use btree_item::Address;
 use btree_store::SlabStore;
+use btree_stores::FixedSlab;
 
 /// A map with its nodes in a slab, with memory from the global allocator.
 pub type BTreeMap<K, V> = generic::BTreeMap<K, V, SlabStore<generic::Node<K, V>>>;
 
 /// A set with its nodes in a slab, with memory from the global allocator.
 pub type BTreeSet<T> = generic::BTreeSet<T, SlabStore<generic::Node<T, ()>>>;
+
+/// A map with its nodes in `N` places inside itself, with no memory from an allocator. A move copies all of them.
+pub type FixedMap<K, V, const N: usize> = generic::BTreeMap<
+    K,
+    V,
+    FixedSlab<generic::Node<K, V>, N>,
+>;
+
+/// A set with its nodes in `N` places inside itself, with no memory from an allocator. A move copies all of them.
+pub type FixedSet<T, const N: usize> = generic::BTreeSet<T, FixedSlab<generic::Node<T, ()>, N>>;
 
 /// The types over any store of nodes.
 pub mod generic {
@@ -55,10 +66,11 @@ pub mod generic {
     }
 }
 
-/// The contracts of a store, for any values and for nodes, and one store.
+/// The contracts of a store, for any values and for nodes, and four stores.
 pub mod store {
     pub use btree_nodes::{ClearNodes, CloneNodes, Nodes, NodesMut};
     pub use btree_store::{Clear, Slab, SlabClone, SlabMut, SlabStore};
+    pub use btree_stores::{FixedSlab, Gate, OddSlab};
 }
 
 /// Sessions of commands over a map.
