@@ -19,6 +19,8 @@ mod entries;
 #[cfg(test)]
 mod equal;
 #[cfg(test)]
+mod fixed;
+#[cfg(test)]
 mod lending;
 #[cfg(test)]
 mod merges;
