@@ -1,4 +1,4 @@
-//! The stores besides the one in memory.
+//! A store that is full, one whose numbers are odd, and one that refuses one insertion.
 use crate::asserts::{assert_same, assert_same_in, assert_true, assert_true_in};
 use btree_node::{LeafNode, Node};
 use btree_nodes::ClearNodes;

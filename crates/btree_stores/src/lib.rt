@@ -1,7 +1,7 @@
-//! Stores besides the one in memory: one that takes no memory, one that picks its numbers, and one that refuses.
+//! More stores with the laws of `btree_store`.
 //!
-//! [`FixedSlab`] has a fixed number of places, [`OddSlab`] numbers its values by odd numbers that go down, and [`Gate`] refuses one
-//! insertion of another store. The last two show that a caller over any store needs no more than the contracts of `btree_store`.
+//! [`FixedSlab`] has a fixed number of places and takes no memory from an allocator. [`OddSlab`] uses odd numbers that go down, and
+//! [`Gate`] refuses one insertion of another store: with these a caller over any store can be tried.
 #![tactic(auto)]
 
 mod fixed_slab;
