@@ -1,10 +1,11 @@
-use Rattle.std.proofs.Common.{[], inl, refl, sym, ◌∙◌, arith}
+use Rattle.std.proofs.Common.{[], inl, refl, sym, ap, ◌∙◌, arith}
+use Rattle.btree_shape.specs.TreeState.{Kept}
 use Rattle.btree_raw.proofs.NeedLemmas.{need-split_need}
+use Rattle.btree_raw.proofs.StateLemmas.{same-kept, same-len}
 use Rattle.btree_find.proofs.LeafLemmas.{leaf-same}
 use Rattle.btree_find.proofs.PlaceLemmas.{node-used, within-node}
 use Rattle.btree_edit.proofs.InsertAtLemmas.{can-leaf, gap-at-leaf, inserts-at, rooted}
 use Rattle.btree_edit.proofs.MoreLemmas.{leaf-used, more-inserted, none-claimed, unsplit}
-use Rattle.btree_edit.proofs.LimitLemmas.{inserted-within}
 use Rattle.btree_edit.proofs.insertion_at.insert_at.Goals as goal
 
 pub add_item_at_leaf-requires-clause-used : goal.add_item_at_leaf-requires-clause-used
@@ -31,5 +32,9 @@ returns-in-Ok-clause-inserted g c =
 
 pub returns-in-Ok-clause-bounded : goal.returns-in-Ok-clause-bounded
 returns-in-Ok-clause-bounded g c = λ within.
-    let inserts = returns-in-Ok-clause-inserted g c in
-    inserted-within g.K.Ord.cmp c.args.tree.now c.set_len.new.self inserts.leaf c.args.addr c.args.item inserts.inserted
+    let low = c.if-limit-len.false in
+    let limit = c.limit.ensures in
+    let len = c.len.ensures in
+    let same = same-len c.in-Ok.ensures.added.rest in
+    let kept = ap (λ (k : Kept). k.limit) (same-kept c.in-Ok.ensures.added.rest) in
+    rw (c.set_len.ensures, c.len-in-Ok.ensures) (omega arith)

@@ -1,5 +1,5 @@
 use Rattle.std.proofs.Common.{◌≡◌, ◌∙◌, ◌+◌, ◌-◌, ◌<◌, IsSome, Some, length, slice_get, refl, sym, ap, subst, arith, rules}
-use Rattle.btree_shape.specs.TreeState.{TreeState, IsBTree, IsOffByOneAt, IsValidIn, node_map}
+use Rattle.btree_shape.specs.TreeState.{Kept, TreeState, IsBTree, IsOffByOneAt, IsValidIn, node_map}
 use Rattle.btree_node.specs.declared.node.Node.{Node}
 use Rattle.btree_node.specs.Node.{view_of}
 use Rattle.btree_view.specs.View.{children_of}
@@ -202,13 +202,17 @@ returns-in-Some-Err-clause-leaf g c = λ at. absurd (no-leaf c.args.tree.now c.a
     (inner-by c.args.tree.now c.args.addr c.node_mut-node.result.now c.node_mut-node.ensures.value c.in-Some-Err.left (ap Some (sym c.in-Some-Err.field-0-is) ∙ c.in-Some-Err.ensures.answer)) at)
 
 pub returns-then-count-ge-MIN_ITEMS-clause-bounded : goal.returns-then-count-ge-MIN_ITEMS-clause-bounded
-returns-then-count-ge-MIN_ITEMS-clause-bounded g c =
-    removed-within g.K.Ord.cmp c.args.tree.now c.set_len.new.self c.args.addr _ c.in-Some-Ok.item (returns-then-count-ge-MIN_ITEMS-clause-removed g c)
+returns-then-count-ge-MIN_ITEMS-clause-bounded g c = λ within. let len = c.len.ensures in rw c.set_len.ensures (omega arith)
 
 pub returns-else-count-ge-MIN_ITEMS-clause-bounded : goal.returns-else-count-ge-MIN_ITEMS-clause-bounded
-returns-else-count-ge-MIN_ITEMS-clause-bounded g c =
-    removed-within g.K.Ord.cmp c.args.tree.now c.rebalance_fetched-at.new.tree c.args.addr _ c.in-Some-Ok.item (returns-else-count-ge-MIN_ITEMS-clause-removed g c)
+returns-else-count-ge-MIN_ITEMS-clause-bounded g c = λ within.
+    let len = c.len.ensures in
+    let shorter = ap (λ (s : TreeState _ _). s.len) c.set_len.ensures in
+    let same = ap (λ (s : TreeState _ _). s.kept.limit) c.set_len.ensures in
+    let rebalanced = c.rebalance_fetched-at.ensures.len in
+    let limit = ap (λ (k : Kept). k.limit) c.rebalance_fetched-at.ensures.uncounted in
+    omega arith
 
 pub returns-in-Some-Err-clause-bounded : goal.returns-in-Some-Err-clause-bounded
 returns-in-Some-Err-clause-bounded g c =
-    removed-within g.K.Ord.cmp c.args.tree.now c.remove_inner.new.tree c.args.addr _ c.remove_inner.result.0 (returns-in-Some-Err-clause-removed g c)
+    removed-within g.K.Ord.cmp _ c.remove_inner.new.tree c.args.addr _ c.remove_inner.result.0 c.remove_inner.ensures.removed
