@@ -8,3 +8,4 @@ pub mod Rebalance
 pub mod Insertion
 pub mod LastItem
 pub mod Lent
+pub mod TreeSteps
