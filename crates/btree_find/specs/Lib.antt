@@ -5,3 +5,4 @@ pub mod Levels
 pub mod Navigation
 pub mod Visits
 pub mod VisitLaws
+pub mod Neighbours
