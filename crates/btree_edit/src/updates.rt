@@ -1,12 +1,12 @@
 //! Updates by key, by an action.
 ghost use Rattle.std.specs.Prelude.{◌≡◌, ◌≢◌, ◌<◌, IfErr, IfOk, None, OnErr, OnOk, Some};
 ghost use Rattle.btree_item.specs.Pairs.{found, found_value};
-ghost use Rattle.btree_shape.specs.TreeState.{IsBTree, IsUsed, nodes_needed, pairs_of};
-ghost use Rattle.btree_raw.specs.Claimed.{CanHoldMore, EMPTY};
+ghost use Rattle.btree_shape.specs.TreeState.{IsBTree, IsUsed, pairs_of};
 ghost use Rattle.btree_raw.specs.Insertion.{IsRefused};
 ghost use Rattle.btree_find.specs.Answers.{IsAddressOf};
-ghost use Rattle.btree_find.specs.Fits.{FitsIn, pairs_below};
+ghost use Rattle.btree_find.specs.Fits.{FitsIn};
 ghost use Rattle.btree_edit.specs.Insert.{IsGapFor, IsGrantedIfAbsent, IsRefusedAtGap};
+ghost use Rattle.btree_edit.specs.Outcomes.{CanHoldNeeded, FindsSameBelow};
 ghost use Rattle.btree_edit.specs.Update.{RunsAtGap, RunsByKey};
 
 use crate::insertion::insert_claimed;
@@ -34,7 +34,7 @@ where
     requires callable { F.pre action None }
     requires granted { tree.old.len < tree.old.kept.limit }
     ensures updated { IfOk result (λ t. RunsAtGap K.cmp tree.old tree.new (F.post action) key gap t) }
-    ensures granted { OnOk result (CanHoldMore EMPTY C.CanHold tree.old.nodes (nodes_needed tree.old gap.id)) }
+    ensures granted { OnOk result (CanHoldNeeded C.CanHold tree.old gap.id) }
     ensures returned { IfErr result (λ r. (r.key ≡ key) × (r.action ≡ action)) }
     ensures refused { IfErr result (λ r. IsRefused C.MayRefuse gap.id tree.old tree.new r.cause) }
 {
@@ -73,7 +73,7 @@ where
     requires granted { tree.old.len < tree.old.kept.limit }
     requires callable { F.pre action None }
     ensures updated { IfOk result (λ t. RunsAtGap K.cmp tree.old tree.new (F.post action) key gap t) }
-    ensures granted { OnOk result (CanHoldMore EMPTY C.CanHold tree.old.nodes (nodes_needed tree.old gap.id)) }
+    ensures granted { OnOk result (CanHoldNeeded C.CanHold tree.old gap.id) }
     ensures returned { IfErr result (λ r. (r.key ≡ key) × (r.action ≡ action)) }
     ensures refused { IfErr result (λ r. IsRefused C.MayRefuse gap.id tree.old tree.new r.cause) }
 {
@@ -109,7 +109,7 @@ where
     requires gap { IsGapFor K.cmp key tree.old gap }
     requires callable { F.pre action None }
     ensures updated { IfOk result (λ t. RunsAtGap K.cmp tree.old tree.new (F.post action) key gap t) }
-    ensures granted { OnOk result (CanHoldMore EMPTY C.CanHold tree.old.nodes (nodes_needed tree.old gap.id)) }
+    ensures granted { OnOk result (CanHoldNeeded C.CanHold tree.old gap.id) }
     ensures returned { IfErr result (λ r. (r.key ≡ key) × (r.action ≡ action)) }
     ensures refused { IfErr result (λ r. IsRefused C.MayRefuse gap.id tree.old tree.new r.cause) }
 {
@@ -211,7 +211,7 @@ where
     requires fits { FitsIn K.cmp key tree.old id }
     requires callable { F.pre action (found_value K.cmp key (pairs_of tree.old)) }
     ensures tree { IsBTree K.cmp tree.new }
-    ensures under { found K.cmp key (pairs_below tree.old id) ≡ found K.cmp key (pairs_of tree.old) }
+    ensures under { FindsSameBelow K.cmp key tree.old id }
     ensures updated { IfOk result (λ t. RunsByKey K.cmp tree.old tree.new (F.post action) key t) }
     ensures uncounted { OnOk result (tree.new.kept ≡ tree.old.kept) }
     ensures granted { OnOk result (IsGrantedIfAbsent K.cmp key tree.old C.CanHold) }
