@@ -9,3 +9,4 @@ pub mod Replace
 pub mod Update
 pub mod ValueWritten
 pub mod WrittenLaws
+pub mod Outcomes

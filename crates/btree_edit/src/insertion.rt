@@ -7,6 +7,7 @@ ghost use Rattle.btree_raw.specs.Insertion.{IsRefused};
 ghost use Rattle.btree_raw.specs.Limit.{IsWithinLimit};
 ghost use Rattle.btree_edit.specs.Insert.{IsGapFor, IsInserted, IsRefusedAtGap, InsertsByKey};
 ghost use Rattle.btree_edit.specs.InsertAbsent.{InsertsAbsent, IsGapOf};
+ghost use Rattle.btree_edit.specs.Outcomes.{InsertsClaimed};
 ghost use Rattle.btree_edit.specs.Update.{ClaimsNeeded};
 
 use crate::values::exchange;
@@ -53,8 +54,7 @@ pub(crate) fn insert_claimed<K: Ord + Drop, V: Drop, C: NodesMut<K, V>>(
 ) -> Address
     requires { (base : TreeState K V) ×
         ClaimsNeeded K.cmp item.0 base tree.old addr claims.old.items }
-    ensures { (base : TreeState K V) → ClaimsNeeded K.cmp item.0 base tree.old addr claims.old.items →
-        IsInserted K.cmp base tree.new addr result item }
+    ensures { InsertsClaimed K.cmp tree.old tree.new claims.old.items addr result item }
 {
     tree.tell_fits();
     let index = addr.offset.unwrap();

@@ -1,8 +1,9 @@
 //! Removal at an address, and by key.
-ghost use Rattle.std.specs.Prelude.{◌≡◌, ℕ, IfSome, IfNone, None};
+ghost use Rattle.std.specs.Prelude.{◌≡◌, IfSome, IfNone, None};
 ghost use Rattle.btree_item.specs.Pairs.{found};
 ghost use Rattle.btree_shape.specs.TreeState.{IsBTree, IsValidIn, item_of, pairs_of};
 ghost use Rattle.btree_raw.specs.Limit.{IsWithinLimit};
+ghost use Rattle.btree_edit.specs.Outcomes.{ReplacesIfInner};
 ghost use Rattle.btree_edit.specs.Remove.{HasChildBehind, IsInnerAt, IsRemoved, RemovesByKey, ReplacesInner, TakesFromLeaf};
 
 use btree_find::{address_of, first_item_beside};
@@ -24,8 +25,7 @@ pub fn remove_at<K: Ord + Drop, V: Drop, C: NodesMut<K, V>>(
     requires valid { IsValidIn tree.old addr }
     ensures removed { IfSome result (λ r. IsRemoved tree.old tree.new K.cmp addr r.0 r.1) }
     ensures leaf { IfSome result (λ r. TakesFromLeaf tree.old tree.new K.cmp addr r.1) }
-    ensures inner { IfSome result (λ r. (left : ℕ) → IsInnerAt tree.old addr left →
-        ReplacesInner tree.old tree.new K.cmp addr left r.1) }
+    ensures inner { IfSome result (λ r. ReplacesIfInner tree.old tree.new K.cmp addr r.1) }
     ensures vacant { IfNone result (item_of tree.old addr ≡ None) }
     ensures unchanged { IfNone result (tree.new ≡ tree.old) }
     ensures bounded { IsWithinLimit tree.old → IsWithinLimit tree.new }

@@ -5,8 +5,9 @@ ghost use Rattle.btree_shape.specs.TreeState.{IsBTree, IsUsed, pairs_of};
 ghost use Rattle.btree_raw.specs.Insertion.{IsRefused};
 ghost use Rattle.btree_raw.specs.Limit.{IsWithinLimit};
 ghost use Rattle.btree_find.specs.Answers.{IsAddressOf};
-ghost use Rattle.btree_find.specs.Fits.{FitsIn, pairs_below};
+ghost use Rattle.btree_find.specs.Fits.{FitsIn};
 ghost use Rattle.btree_edit.specs.Insert.{IsGapFor, IsGranted, IsGrantedIfAbsent, IsRefusedAtGap};
+ghost use Rattle.btree_edit.specs.Outcomes.{FindsSameBelow};
 ghost use Rattle.btree_edit.specs.Update.{RunsAtGap, RunsByKey};
 
 use crate::insertion::insert_claimed;
@@ -214,7 +215,7 @@ where
     requires fits { FitsIn K.cmp key tree.old id }
     requires callable { F.pre action (found_value K.cmp key (pairs_of tree.old)) }
     ensures tree { IsBTree K.cmp tree.new }
-    ensures under { found K.cmp key (pairs_below tree.old id) ≡ found K.cmp key (pairs_of tree.old) }
+    ensures under { FindsSameBelow K.cmp key tree.old id }
     ensures updated { IfOk result (λ t. RunsByKey K.cmp tree.old tree.new (F.post action) key t) }
     ensures bounded { IsWithinLimit tree.old → IsWithinLimit tree.new }
     ensures uncounted { OnOk result (tree.new.kept ≡ tree.old.kept) }

@@ -5,11 +5,10 @@ ghost use Rattle.std.specs.Borrow.{Lends, sem};
 ghost use Rattle.btree_item.specs.Pairs.{found_value};
 ghost use Rattle.btree_item.specs.contracts.item.Item.{the_row as item_row};
 ghost use Rattle.btree_shape.specs.TreeState.{IsBTree, IsOccupiedIn, IsUsed, item_of, pairs_of};
-ghost use Rattle.btree_find.specs.Fits.{pairs_below};
 ghost use Rattle.btree_edit.specs.Exchange.{IsValueExchanged};
-ghost use Rattle.btree_edit.specs.KeyWritten.{ExchangesValue, key_written};
+ghost use Rattle.btree_edit.specs.KeyWritten.{key_written};
 ghost use Rattle.btree_edit.specs.Lent.{lends_at_key, lends_value};
-ghost use Rattle.btree_edit.specs.ValueWritten.{value_written};
+ghost use Rattle.btree_edit.specs.Outcomes.{ExchangesLent, ExchangesLentAt, value_below};
 
 use btree_find::address_in;
 use btree_item::{Address, Item};
@@ -53,8 +52,7 @@ pub fn pair_mut<'a, K: Ord + 'a, V: 'a, C: NodesMut<K, V>>(
     ensures* writes_back { sem 𝓛 (lends_value
         K.row V.row C.row C.Origin.row C.NodesMut tree.entry addr result.1) }
     ensures pair { item_of tree.old addr ≡ Some (result.0.now, result.1.now) }
-    ensures exchanged { (w : V) →
-        IsValueExchanged tree.old (value_written tree.old addr w) addr K.cmp result.1.now w }
+    ensures exchanged { ExchangesLentAt K.cmp addr tree.old result.1 }
 {
     tree.tell_fits();
     match tree.node_mut(addr.id).item_mut(addr.offset) {
@@ -72,8 +70,7 @@ fn value_mut<'a, K: Ord + 'a, V: 'a, C: NodesMut<K, V>>(
     requires occupied { IsOccupiedIn tree.old addr }
     ensures* writes_back { sem 𝓛 (lends_value
         K.row V.row C.row C.Origin.row C.NodesMut tree.entry addr result) }
-    ensures exchanged { (w : V) →
-        IsValueExchanged tree.old (value_written tree.old addr w) addr K.cmp result.now w }
+    ensures exchanged { ExchangesLentAt K.cmp addr tree.old result }
 {
     let (_key, value) = pair_mut(tree, addr);
     value
@@ -92,10 +89,9 @@ pub fn get_mut_in<'a, K: Ord + 'a, V: 'a, C: NodesMut<K, V>>(
     requires used { IsUsed tree.old top }
     ensures* writes_back { sem 𝓛 (lends_at_key
         K.row V.row C.row C.Origin.row C.NodesMut tree.entry K.cmp key.now result) }
-    ensures value { option_copied_mut result ≡ found_value K.cmp key.now (pairs_below tree.old top) }
+    ensures value { option_copied_mut result ≡ value_below K.cmp key.now tree.old top }
     ensures tree { (w : V) → IsBTree K.cmp (key_written K.cmp key.now tree.old w) }
-    ensures exchanged { IfSome result (λ v. (w : V) →
-        ExchangesValue K.cmp key.now tree.old (key_written K.cmp key.now tree.old w) v.now w) }
+    ensures exchanged { IfSome result (ExchangesLent K.cmp key.now tree.old) }
 {
     match address_in(tree, top, key) {
         Ok(addr) => Some(value_mut(tree, addr)),
@@ -113,8 +109,7 @@ pub fn get_mut<'a, K: Ord + 'a, V: 'a, C: NodesMut<K, V>>(
         K.row V.row C.row C.Origin.row C.NodesMut tree.entry K.cmp key.now result) }
     ensures value { option_copied_mut result ≡ found_value K.cmp key.now (pairs_of tree.old) }
     ensures tree { (w : V) → IsBTree K.cmp (key_written K.cmp key.now tree.old w) }
-    ensures exchanged { IfSome result (λ v. (w : V) →
-        ExchangesValue K.cmp key.now tree.old (key_written K.cmp key.now tree.old w) v.now w) }
+    ensures exchanged { IfSome result (ExchangesLent K.cmp key.now tree.old) }
 {
     match tree.root_id() {
         Some(root) => get_mut_in(tree, key, root),

@@ -9,9 +9,7 @@ ghost use Rattle.btree_find.specs.Fits.{FitsAt, FitsIn, ReplacesAt, pairs_below}
 ghost use Rattle.btree_find.specs.Levels.{IsDense, TicksAtMost, TicksExactly};
 ghost use Rattle.btree_find.specs.Navigation.{IsLeafAddressFor, IsNext, IsNextOrBack, IsNormalized, IsPrevious};
 ghost use Rattle.btree_find.specs.Visits.{IsNextBack, IsPreviousFront};
-ghost use Rattle.btree_valid.specs.Faults.{AcceptsNode, BlamesIfErr, SuitsIfOk};
-ghost use Rattle.btree_valid.specs.Positions.{start_spot};
-ghost use Rattle.btree_valid.specs.Verdicts.{IsVerdictBelow};
+ghost use Rattle.btree_valid.specs.Faults.{AcceptsNode, BlamesIfErr, IsVerdictFor, SuitsIfOk};
 
 use btree_find::{
     address_in, address_of, address_of_counted, first_back_address, first_item_address, fits_at,
@@ -292,12 +290,10 @@ pub trait BTreeExt<K: Ord, V> {
         max: Option<&K>,
     ) -> Result<usize, Fault>
         requires { IsUsed (state self.now) id }
-        ensures accepts { AcceptsNode K.cmp (state self.now) id parent (option_copied min.entry) (option_copied max.entry) result }
-        ensures only { SuitsIfOk K.cmp (state self.now) id parent (option_copied min.entry) (option_copied max.entry) result }
-        ensures blames { BlamesIfErr K.cmp (state self.now) id parent
-            (option_copied min.entry) (option_copied max.entry) result }
-        ensures verdict { IsVerdictBelow K.cmp (state self.now).nodes
-            (start_spot id parent (option_copied min.entry) (option_copied max.entry)) result }
+        ensures accepts { AcceptsNode K.cmp (state self.now) id parent min.entry max.entry result }
+        ensures only { SuitsIfOk K.cmp (state self.now) id parent min.entry max.entry result }
+        ensures blames { BlamesIfErr K.cmp (state self.now) id parent min.entry max.entry result }
+        ensures verdict { IsVerdictFor K.cmp (state self.now).nodes id parent min.entry max.entry result }
     {
         self.as_raw().validate_node(id, parent, min, max)
     }

@@ -6,3 +6,4 @@ pub mod Navigation
 pub mod Visits
 pub mod VisitLaws
 pub mod CallerLaws
+pub mod Neighbours

@@ -1,8 +1,8 @@
 //! Whether a key fits at the place of an address, or in the place of the item there.
-ghost use Rattle.std.specs.Prelude.{◌≡◌, ◌↔◌, IfSome, IsTrue};
-ghost use Rattle.std.specs.declared.cmp.Ordering.TheVariants.{Less};
-ghost use Rattle.btree_shape.specs.TreeState.{IsBTree, IsUsed, IsValidIn, item_of};
+ghost use Rattle.std.specs.Prelude.{◌↔◌, IsTrue};
+ghost use Rattle.btree_shape.specs.TreeState.{IsBTree, IsUsed, IsValidIn};
 ghost use Rattle.btree_find.specs.Fits.{FitsAt, FitsIn, ReplacesAt};
+ghost use Rattle.btree_find.specs.Neighbours.{IsAboveItem, IsBelowItem};
 
 use crate::navigation::{next_item_address, normalize, previous_item_address};
 use btree_item::{Address, Offset};
@@ -16,7 +16,7 @@ fn is_above<K: Ord, V, C: NodesMut<K, V>>(
     before: Option<Address>,
     key: &K,
 ) -> bool
-    ensures { IsTrue result ↔ IfSome before (λ a. IfSome (item_of tree.now a) (λ x. K.cmp x.0 key.now ≡ Less)) }
+    ensures { IsTrue result ↔ IsAboveItem K.cmp key.now tree.now before }
 {
     let Some(addr) = before else {
         return true;
@@ -33,7 +33,7 @@ fn is_below<K: Ord, V, C: NodesMut<K, V>>(
     after: Option<Address>,
     key: &K,
 ) -> bool
-    ensures { IsTrue result ↔ IfSome after (λ a. IfSome (item_of tree.now a) (λ x. K.cmp key.now x.0 ≡ Less)) }
+    ensures { IsTrue result ↔ IsBelowItem K.cmp key.now tree.now after }
 {
     let Some(addr) = after else {
         return true;

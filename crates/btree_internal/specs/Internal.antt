@@ -1,5 +1,8 @@
 -- An internal node as contracts see it.
-use Rattle.std.specs.Prelude.{ℕ, List, Option, Some}
+use Rattle.std.specs.Prelude.{ℕ, List, length, map, Option, Some}
+use Rattle.std.specs.declared.cmp.Ordering.{Ordering}
+use Rattle.btree_item.specs.Comparisons.{comparisons}
+use Rattle.btree_item.specs.Pairs.{before}
 use Rattle.btree_item.specs.declared.item.Item.{Item}
 use Rattle.btree_view.specs.Edits.{PopsLeft, PopsRight}
 use Rattle.btree_view.specs.View.{View, internal}
@@ -31,3 +34,7 @@ gap_with_child gap = (gap.0, Some gap.1)
 -- a branch as its item and its child
 abbrev pub branch_pair : {K V : Type 0} → Branch K V → Item K V × ℕ
 branch_pair b = (b.item, b.child)
+
+-- how many keys a search in branches compares
+abbrev pub comparisons_in_branches : {K V : Type 0} → (K → K → Ordering) → K → List (Branch K V) → ℕ
+comparisons_in_branches cmp k branches = comparisons (length branches) (before cmp k (map (λ b. b.item) branches))

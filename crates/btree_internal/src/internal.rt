@@ -5,12 +5,12 @@ ghost use Rattle.std.specs.Cmp.Rules.{comparing};
 ghost use Rattle.std.specs.Ordering.{on};
 ghost use Rattle.std.specs.List.Sorted.{IsSearchInRange};
 ghost use Rattle.std.specs.Option.{option_copied, option_map};
-ghost use Rattle.btree_item.specs.Comparisons.{comparisons};
+ghost use Rattle.btree_item.specs.Comparisons.{TicksBy};
 ghost use Rattle.btree_item.specs.Pairs.{Ascends, before, found, place_of};
 ghost use Rattle.btree_view.specs.Edits.{balance_of, IsOverflowing, IsUnderflowing};
 ghost use Rattle.btree_view.specs.Kept.{kept_parent};
 ghost use Rattle.btree_view.specs.LookUp.{comparisons_in, IsIndexOfKey, look_up, offset_in, PointsInto, result_map, result_map_err};
-ghost use Rattle.btree_internal.specs.Internal.{branch_pair, gap_with_child, internal_view as view_of, InternalPopsLeft, InternalPopsRight};
+ghost use Rattle.btree_internal.specs.Internal.{branch_pair, comparisons_in_branches, gap_with_child, internal_view as view_of, InternalPopsLeft, InternalPopsRight};
 ghost use Rattle.btree_view.specs.Separators.{separator_after, separator_before};
 ghost use Rattle.btree_view.specs.View.{items_of, children_of, internal, item_at_offset, size_of, value_at_offset};
 
@@ -376,8 +376,7 @@ fn place<K: Ord, V>(
     ensures fits { length branches.now ≤ INTERNAL_SLOTS }
     ensures here { IfOk result (IsIndexOfKey K.cmp key.now (map (λ b. b.item) branches.now)) }
     ensures absent { OnErr result (found K.cmp key.now (map (λ b. b.item) branches.now) ≡ None) }
-    ensures counted { let smaller = before K.cmp key.now (map (λ b. b.item) branches.now) in
-        steps.new.count ≡ steps.old.count + comparisons (length branches.now) smaller }
+    ensures counted { TicksBy steps.old steps.new (comparisons_in_branches K.cmp key.now branches.now) }
     ensures ticks { steps.new.count ≤ steps.old.count + MAX_COMPARISONS }
 {
     search_counted(branches, key, steps)
@@ -407,8 +406,7 @@ impl<K: Ord, V> InternalNode<K, V> {
         ensures here { IfOk result (IsIndexOfKey K.cmp key.now (items_of (view_of self.now))) }
         ensures fits { length self.now.branches ≤ INTERNAL_SLOTS }
         ensures absent { OnErr result (found K.cmp key.now (items_of (view_of self.now)) ≡ None) }
-        ensures counted { steps.new.count ≡
-            steps.old.count + comparisons_in K.cmp key.now (view_of self.now) }
+        ensures counted { TicksBy steps.old steps.new (comparisons_in K.cmp key.now (view_of self.now)) }
         ensures ticks { steps.new.count ≤ steps.old.count + MAX_COMPARISONS }
     {
         place(&self.branches, key, steps)
@@ -460,8 +458,7 @@ impl<K: Ord, V> InternalNode<K, V> {
         requires { Ascends K.cmp (items_of (view_of self.now)) }
         ensures value { result_map_err gap_with_child result ≡ offset_in K.cmp key.now (view_of self.now) }
         ensures within { PointsInto (view_of self.now) result }
-        ensures counted { steps.new.count ≡
-            steps.old.count + comparisons_in K.cmp key.now (view_of self.now) }
+        ensures counted { TicksBy steps.old steps.new (comparisons_in K.cmp key.now (view_of self.now)) }
         ensures ticks { steps.new.count ≤ steps.old.count + MAX_COMPARISONS }
     {
         match self.find_counted(key, steps) {
@@ -472,7 +469,7 @@ impl<K: Ord, V> InternalNode<K, V> {
 }
 
 impl<K: Ord, V> InternalNode<K, V> {
-    ghost use Rattle.btree_view.specs.Checks.{IsNodeVerdict};
+    ghost use Rattle.btree_view.specs.Checks.{GivesNodeVerdict};
 
     /// Checks the parent, the number of items, and the keys, also against the nearest separators on both sides, and returns the fault of
     /// the first check that fails. A node with neither separator is judged as the root.
@@ -482,7 +479,7 @@ impl<K: Ord, V> InternalNode<K, V> {
         min: Option<&K>,
         max: Option<&K>,
     ) -> Result<(), Fault>
-        ensures { IsNodeVerdict K.cmp parent (option_copied min.entry) (option_copied max.entry) (view_of self.now) result }
+        ensures { GivesNodeVerdict K.cmp parent min.entry max.entry (view_of self.now) result }
     {
         check_node(
             &self.branches,
@@ -505,8 +502,8 @@ impl<K: Ord + Drop, V: Drop> InternalNode<K, V> {
     /// offset and the old value. If the key is not there, nothing changes.
     pub fn insert_by_key(&mut self, key: K, value: V) -> Result<(Offset, V), InsertionError<K, V>>
         requires { Ascends K.cmp (items_of (view_of self.old)) }
-        ensures offset { IfOk result (λ put. put.0 ≡ Some (before K.cmp key (items_of (view_of self.old)))) }
-        ensures answer { IfOk result (λ put. Some put.1 ≡ found_value K.cmp key (items_of (view_of self.old))) }
+        ensures offset { IfOk result (λ p. p.0 ≡ Some (before K.cmp key (items_of (view_of self.old)))) }
+        ensures answer { IfOk result (λ p. Some p.1 ≡ found_value K.cmp key (items_of (view_of self.old))) }
         ensures after { OnOk result (view_of self.new ≡ with_inserted K.cmp key value (view_of self.old)) }
         ensures absent { IfErr result (NamesChildFor K.cmp key value (view_of self.old)) }
         ensures kept { OnErr result (self.new ≡ self.old) }

@@ -1,8 +1,8 @@
 //! Searches in slots in the order of their keys.
 ghost use Rattle.std.specs.Prelude.{◌≡◌, ◌+◌, ◌<◌, ◌≤◌, Some, IfNone, IfSome, length, map, slice_get};
 ghost use Rattle.std.specs.List.Sorted.{IsSearchInRange, IsSorted, IsStrictlySortedBy};
-ghost use Rattle.btree_item.specs.Comparisons.{comparisons, comparisons_for_place};
-ghost use Rattle.btree_item.specs.Keys.{count_below, key_place, AllAbove, AllBelow, IsFirstNotBelow, IsLastAtMost, IsNotBelowAt};
+ghost use Rattle.btree_item.specs.Comparisons.{comparisons_for_place, comparisons_in_slots, TicksBy};
+ghost use Rattle.btree_item.specs.Keys.{key_place, AllAbove, AllBelow, IsFirstNotBelow, IsLastAtMost, IsNotBelowAt};
 
 use crate::{Keyed, LEAF_SLOTS, MAX_COMPARISONS, Slots};
 use btree_steps::Steps;
@@ -60,8 +60,7 @@ where
     T::Key: Ord,
     requires { IsStrictlySortedBy T.Key.cmp (map T.key_of slots.now) }
     ensures place { IsFirstNotBelow T.Key.cmp key.now result (map T.key_of slots.now) }
-    ensures counted { steps.new.count ≡
-        steps.old.count + comparisons_for_place (length slots.now) result }
+    ensures counted { TicksBy steps.old steps.new (comparisons_for_place (length slots.now) result) }
     ensures ticks { length slots.now ≤ LEAF_SLOTS →
         steps.new.count < steps.old.count + MAX_COMPARISONS }
 {
@@ -92,8 +91,8 @@ where
     ensures place { result ≡ key_place T.Key.cmp key.now (map T.key_of slots.now) }
     ensures within { IsSearchInRange result (length slots.now) }
     ensures fits { length slots.now ≤ N }
-    ensures counted { let smaller = count_below T.Key.cmp key.now (map T.key_of slots.now) in
-        steps.new.count ≡ steps.old.count + comparisons (length slots.now) smaller }
+    ensures counted { TicksBy steps.old steps.new
+        (comparisons_in_slots T.Key.cmp T.key_of key.now slots.now) }
     ensures ticks { length slots.now ≤ LEAF_SLOTS →
         steps.new.count ≤ steps.old.count + MAX_COMPARISONS }
 {

@@ -3,11 +3,11 @@ ghost use Rattle.std.specs.Prelude.{◌≡◌, ◌+◌, ◌<◌, ◌≤◌, ◌�
 ghost use Rattle.std.specs.Borrow.{sem};
 ghost use Rattle.std.specs.List.Sorted.{IsSearchInRange};
 ghost use Rattle.std.specs.Option.{option_and_then, option_copied, option_copied_mut};
-ghost use Rattle.btree_item.specs.Comparisons.{comparisons};
+ghost use Rattle.btree_item.specs.Comparisons.{TicksBy};
 ghost use Rattle.btree_item.specs.Pairs.{Ascends, before, found, found_value, inserted, place_of};
 ghost use Rattle.btree_leaf.specs.Leaf.{as_offset, leaf_view as view_of, LeafPopsRight};
 ghost use Rattle.btree_view.specs.Kept.{insert_at, kept_parent};
-ghost use Rattle.btree_view.specs.LookUp.{comparisons_in, IsIndexOfKey};
+ghost use Rattle.btree_view.specs.LookUp.{comparisons_among, comparisons_in, IsIndexOfKey};
 
 use btree_item::{
     Fault, Item, LEAF_MEDIAN, LEAF_SLOTS, MAX_COMPARISONS, MAX_LEAF_ITEMS, MIN_ITEMS, Offset,
@@ -164,8 +164,7 @@ fn place_counted<K: Ord, V>(
     ensures fits { length items.now ≤ LEAF_SLOTS }
     ensures here { IfOk result (IsIndexOfKey K.cmp key.now items.now) }
     ensures absent { OnErr result (found K.cmp key.now items.now ≡ None) }
-    ensures counted { steps.new.count ≡
-        steps.old.count + comparisons (length items.now) (before K.cmp key.now items.now) }
+    ensures counted { TicksBy steps.old steps.new (comparisons_among K.cmp key.now items.now) }
     ensures ticks { steps.new.count ≤ steps.old.count + MAX_COMPARISONS }
 {
     search_counted(items, key, steps)
@@ -243,8 +242,7 @@ impl<K: Ord, V> LeafNode<K, V> {
         ensures place { result ≡ place_of K.cmp key.now self.now.items }
         ensures within { IsSearchInRange result (length self.now.items) }
         ensures fits { length self.now.items ≤ LEAF_SLOTS }
-        ensures counted { steps.new.count ≡
-            steps.old.count + comparisons_in K.cmp key.now (view_of self.now) }
+        ensures counted { TicksBy steps.old steps.new (comparisons_in K.cmp key.now (view_of self.now)) }
         ensures ticks { steps.new.count ≤ steps.old.count + MAX_COMPARISONS }
     {
         place_counted(self.items(), key, steps)
@@ -252,7 +250,7 @@ impl<K: Ord, V> LeafNode<K, V> {
 }
 
 impl<K: Ord, V> LeafNode<K, V> {
-    ghost use Rattle.btree_view.specs.Checks.{IsNodeVerdict};
+    ghost use Rattle.btree_view.specs.Checks.{GivesNodeVerdict};
 
     /// Checks the parent, the number of items, and the keys, also against the nearest separators on both sides, and returns the fault of
     /// the first check that fails. A leaf with neither separator is judged as the root.
@@ -262,7 +260,7 @@ impl<K: Ord, V> LeafNode<K, V> {
         min: Option<&K>,
         max: Option<&K>,
     ) -> Result<(), Fault>
-        ensures { IsNodeVerdict K.cmp parent (option_copied min.entry) (option_copied max.entry) (view_of self.now) result }
+        ensures { GivesNodeVerdict K.cmp parent min.entry max.entry (view_of self.now) result }
     {
         check_node(&self.items, MAX_LEAF_ITEMS, self.parent(), parent, min, max)
     }

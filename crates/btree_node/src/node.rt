@@ -1,6 +1,7 @@
 //! A node of the tree.
 ghost use Rattle.std.specs.Prelude.{◌≡◌, ◌+◌, ◌<◌, ◌≤◌, ◌↔◌, ◌==◌, Some, None, IsTrue, IsSomeAnd, IfSome, OnSome, length, slice_get, position};
 ghost use Rattle.std.specs.Option.{option_copied};
+ghost use Rattle.btree_item.specs.Comparisons.{TicksBy};
 ghost use Rattle.btree_item.specs.Pairs.{Ascends};
 ghost use Rattle.btree_view.specs.Edits.{balance_of, HasChildFor, is_internal, IsOverflowing, IsSplit, IsUnderflowing, with_parent};
 ghost use Rattle.btree_view.specs.Kept.{kept_parent};
@@ -619,8 +620,7 @@ impl<K: Ord, V> Node<K, V> {
         requires { Ascends K.cmp (items_of (view_of self.now)) }
         ensures value { result ≡ offset_in K.cmp key.now (view_of self.now) }
         ensures within { PointsInto (view_of self.now) result }
-        ensures counted { steps.new.count ≡
-            steps.old.count + comparisons_in K.cmp key.now (view_of self.now) }
+        ensures counted { TicksBy steps.old steps.new (comparisons_in K.cmp key.now (view_of self.now)) }
         ensures ticks { steps.new.count ≤ steps.old.count + MAX_COMPARISONS }
     {
         match self {
@@ -637,7 +637,7 @@ impl<K: Ord, V> Node<K, V> {
 }
 
 impl<K: Ord, V> Node<K, V> {
-    ghost use Rattle.btree_view.specs.Checks.{IsNodeVerdict};
+    ghost use Rattle.btree_view.specs.Checks.{GivesNodeVerdict};
 
     /// Checks the parent, the number of items, and the keys, also against the nearest separators on both sides, and returns the fault of
     /// the first check that fails. A node with neither separator is judged as the root.
@@ -647,7 +647,7 @@ impl<K: Ord, V> Node<K, V> {
         min: Option<&K>,
         max: Option<&K>,
     ) -> Result<(), Fault>
-        ensures { IsNodeVerdict K.cmp parent (option_copied min.entry) (option_copied max.entry) (view_of self.now) result }
+        ensures { GivesNodeVerdict K.cmp parent min.entry max.entry (view_of self.now) result }
     {
         match self {
             Node::Internal(node) => node.validate(parent, min, max),
@@ -672,8 +672,8 @@ impl<K: Ord + Drop, V: Drop> Node<K, V> {
     ) -> Result<(Offset, Option<V>), InsertionError<K, V>>
         requires room { IsFalse (is_internal (view_of self.old)) → size_of (view_of self.old) ≤ most_of (view_of self.old) }
         requires ascends { Ascends K.cmp (items_of (view_of self.old)) }
-        ensures offset { IfOk result (λ put. put.0 ≡ Some (before K.cmp key (items_of (view_of self.old)))) }
-        ensures answer { IfOk result (λ put. put.1 ≡ found_value K.cmp key (items_of (view_of self.old))) }
+        ensures offset { IfOk result (λ p. p.0 ≡ Some (before K.cmp key (items_of (view_of self.old)))) }
+        ensures answer { IfOk result (λ p. p.1 ≡ found_value K.cmp key (items_of (view_of self.old))) }
         ensures after { OnOk result (view_of self.new ≡ with_inserted K.cmp key value (view_of self.old)) }
         ensures inner { OnErr result (IsTrue (is_internal (view_of self.old))) }
         ensures absent { IfErr result (NamesChildFor K.cmp key value (view_of self.old)) }

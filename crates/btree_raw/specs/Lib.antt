@@ -9,3 +9,4 @@ pub mod Insertion
 pub mod LastItem
 pub mod Limit
 pub mod Lent
+pub mod TreeSteps

@@ -2,9 +2,10 @@
 ghost use Rattle.std.specs.Prelude.{◌≡◌, ℕ, ◌<◌, ◌≤◌, IfNone, IfSome, IsSome, OnSome};
 ghost use Rattle.btree_shape.specs.TreeState.{Changes, node_map};
 ghost use Rattle.btree_shape.specs.UnderflowFix.{size_in};
-ghost use Rattle.btree_raw.specs.NodeSteps.{MergesSiblings, RotatesSiblingsLeft, RotatesSiblingsRight};
-ghost use Rattle.btree_raw.specs.Underflow.{AreAdjacent, GoesUpFromEither, FitTogether, Underflows, EndsUnderflow};
+ghost use Rattle.btree_raw.specs.NodeSteps.{MergesSiblings};
+ghost use Rattle.btree_raw.specs.Underflow.{AreAdjacent, GoesUpFromEither, FitTogether, Underflows};
 ghost use Rattle.btree_raw.specs.Steps.{HasCount};
+ghost use Rattle.btree_raw.specs.TreeSteps.{EndsUnderflowIn, RotatesLeftIn, RotatesRightIn};
 
 use crate::raw::RawBTree;
 use crate::rotate::{merge, rotate_left, rotate_right};
@@ -24,8 +25,8 @@ pub(crate) fn borrow_from_right<K: Drop, V: Drop, C: NodesMut<K, V>>(
     requires adjacent { AreAdjacent (node_map tree.old) siblings siblings.left addr }
     requires short { Underflows (node_map tree.old) siblings.left }
     requires count { HasCount (node_map tree.old) siblings.left count }
-    ensures rotates { OnSome result (Changes (λ a b. RotatesSiblingsLeft a b siblings) tree.old tree.new) }
-    ensures here { IfSome result (EndsUnderflow (node_map tree.old) (node_map tree.new) siblings.left addr) }
+    ensures rotates { OnSome result (RotatesLeftIn tree.old tree.new siblings) }
+    ensures here { IfSome result (EndsUnderflowIn tree.old tree.new siblings.left addr) }
     ensures back { IfSome result (λ b. IsSome addr.offset → IsSome b.offset) }
     ensures spare { OnSome result (MIN_ITEMS < size_in (node_map tree.old siblings.right)) }
     ensures none { IfNone result (size_in (node_map tree.old siblings.right) ≤ MIN_ITEMS) }
@@ -48,8 +49,8 @@ pub(crate) fn borrow_from_left<K: Drop, V: Drop, C: NodesMut<K, V>>(
     requires adjacent { AreAdjacent (node_map tree.old) siblings siblings.right addr }
     requires short { Underflows (node_map tree.old) siblings.right }
     requires low { IfSome addr.offset (λ n. n ≤ LEAF_SLOTS) }
-    ensures rotates { OnSome result (Changes (λ a b. RotatesSiblingsRight a b siblings) tree.old tree.new) }
-    ensures here { IfSome result (EndsUnderflow (node_map tree.old) (node_map tree.new) siblings.right addr) }
+    ensures rotates { OnSome result (RotatesRightIn tree.old tree.new siblings) }
+    ensures here { IfSome result (EndsUnderflowIn tree.old tree.new siblings.right addr) }
     ensures back { IfSome result (λ b. IsSome addr.offset → IsSome b.offset) }
     ensures spare { OnSome result (MIN_ITEMS < size_in (node_map tree.old siblings.left)) }
     ensures none { IfNone result (size_in (node_map tree.old siblings.left) ≤ MIN_ITEMS) }

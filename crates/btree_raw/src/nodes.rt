@@ -1,12 +1,11 @@
 //! Changes of single nodes.
-ghost use Rattle.std.specs.Prelude.{◌≡◌, ◌<◌, ◌≤◌, ◌∷◌, ◌++◌, [], None, Some, length, OnOk, IfErr, IfSome, IfNone, OnErr};
-ghost use Rattle.std.specs.FinMap as map;
-ghost use Rattle.btree_node.specs.declared.node.Node.{Node};
+ghost use Rattle.std.specs.Prelude.{◌≡◌, ◌<◌, ◌≤◌, ◌∷◌, ◌++◌, [], None, OnOk, IfErr, IfSome, IfNone, OnErr};
 ghost use Rattle.btree_node.specs.Node.{view_of};
-ghost use Rattle.btree_view.specs.View.{children_in, children_of, size_of};
-ghost use Rattle.btree_shape.specs.Step.{Reparents, Splits, WritesNode};
+ghost use Rattle.btree_view.specs.View.{children_in, children_of};
+ghost use Rattle.btree_shape.specs.Step.{Reparents, WritesNode};
 ghost use Rattle.btree_shape.specs.TreeState.{Changes, IsUsed, KeepsRest, node_map, nodes_for_splits};
-ghost use Rattle.btree_raw.specs.Steps.{AddsAndCuts, AddsItem, AddsSeparatorAndCuts, AreThere, CanAddItem, CanAddSeparator, CanCut, CanCutAbove, CanCutWith, CanReparent, HasCount, HasParent, LeavesPart, MayCut, Overflows, SetsParent};
+ghost use Rattle.btree_raw.specs.Steps.{AddsAndCuts, AddsItem, AddsSeparatorAndCuts, AreThere, CanAddItem, CanAddSeparator, CanCut, CanCutAbove, CanCutWith, CanReparent, HasParent, LeavesPart, Overflows, SetsParent};
+ghost use Rattle.btree_raw.specs.TreeSteps.{HasChildren, IsInsertionIndex, KeepsLeftPart, MayCutIn, PlacesPart};
 ghost use Rattle.btree_raw.specs.Insertion.{IsFull, IsFullLeaf};
 
 use crate::claims::{ClaimedIds, empty_leaf, take_claim};
@@ -77,16 +76,13 @@ pub fn add_item_at_leaf<K: Drop, V: Drop, C: NodesMut<K, V>>(
     item: Item<K, V>,
 ) -> Result<(), (Item<K, V>, Option<Option<usize>>)>
     requires used { IsUsed tree.old id }
-    requires within { (node : Node K V) → map.get tree.old.nodes id ≡ Some node
-        → index ≤ size_of (view_of node) }
+    requires within { IsInsertionIndex tree.old id index }
     ensures can { OnOk result (CanAddItem (node_map tree.old) id index None) }
     ensures added { OnOk result (Changes (λ a b. AddsItem a b id index item None) tree.old tree.new) }
     ensures enough { OnOk result (nodes_for_splits tree.old id ≡ 0) }
     ensures returned { IfErr result (λ back. back.0 ≡ item) }
-    ensures full { IfErr result (λ back.
-        IfSome back.1 (λ parent. IsFullLeaf (node_map tree.old) id parent)) }
-    ensures inner { IfErr result (λ back.
-        IfNone back.1 (0 < length (children_in (node_map tree.old id)))) }
+    ensures full { IfErr result (λ back. IfSome back.1 (IsFullLeaf (node_map tree.old) id)) }
+    ensures inner { IfErr result (λ back. IfNone back.1 (HasChildren (node_map tree.old) id)) }
     ensures unchanged { OnErr result (tree.new ≡ tree.old) }
 {
     tree.tell_fits();
@@ -114,10 +110,8 @@ fn place_part<K: Drop, V: Drop, C: NodesMut<K, V>>(
 ) -> usize
     requires left { LeavesPart (node_map tree.old) (view_of part) claims.old.items }
     ensures last { claims.old.items ≡ claims.new.items ++ result ∷ [] }
-    ensures splits { (left : LeavesPart (node_map tree.old) (view_of part) claims.old.items)
-        → Splits left.whole (node_map tree.new) left.id result left.median }
-    ensures leaves { (left : LeavesPart (node_map tree.old) (view_of part) claims.old.items)
-        → HasCount (node_map tree.new) left.id left.kept }
+    ensures splits { PlacesPart tree.old tree.new part claims.old.items result }
+    ensures leaves { KeepsLeftPart tree.old tree.new part claims.old.items }
     ensures rest { KeepsRest tree.old tree.new }
 {
     tree.tell_fits();
@@ -135,7 +129,7 @@ pub(crate) fn cut_node<K: Drop, V: Drop, C: NodesMut<K, V>>(
 ) -> Option<Cut<K, V>>
     requires used { IsUsed tree.old id }
     requires can { Overflows (node_map tree.old) id → CanCut (node_map tree.old) id claims.old.items }
-    ensures { Changes (λ a b. MayCut a b id claims.old.items claims.new.items result) tree.old tree.new }
+    ensures { MayCutIn tree.old tree.new id claims.old.items claims.new.items result }
 {
     tree.tell_fits();
     let node = tree.node_mut(id);

@@ -1,8 +1,9 @@
 //! Splits, from a node upward.
-ghost use Rattle.std.specs.Prelude.{◌≡◌, ◌<◌, [], ℕ, All, IsSome, List};
+ghost use Rattle.std.specs.Prelude.{◌≡◌, ◌<◌, [], All, IsSome};
 ghost use Rattle.btree_shape.specs.Step.{GrowsRoot};
-ghost use Rattle.btree_shape.specs.TreeState.{Changes, TreeState, node_map};
-ghost use Rattle.btree_raw.specs.Steps.{AddsAndSplits, CanAddItem, CanGrowRoot, IsCutFrom, IsSplitting, MaySplitWith, SplitsUpward};
+ghost use Rattle.btree_shape.specs.TreeState.{Changes, node_map};
+ghost use Rattle.btree_raw.specs.Steps.{AddsAndSplits, CanAddItem, CanGrowRoot, IsSplitting, MaySplitWith, SplitsUpward};
+ghost use Rattle.btree_raw.specs.TreeSteps.{IsCutFromSome, SplitsFromCut};
 
 use crate::claims::{ClaimedIds, take_claim};
 use crate::nodes::{Cut, add_and_cut, cut_node, insert_separator, put, set_parent};
@@ -39,11 +40,8 @@ fn split_from<K: Drop, V: Drop, C: NodesMut<K, V>>(
     addr: Address,
     claims: &mut ClaimedIds,
 ) -> Address
-    requires begun { (whole : TreeState K V) × (spare : List ℕ)
-        × IsCutFrom whole tree.old start cut spare claims.old.items addr }
-    ensures split { (whole : TreeState K V) (spare : List ℕ)
-        → IsCutFrom whole tree.old start cut spare claims.old.items addr
-        → SplitsUpward whole tree.new start spare addr result }
+    requires begun { IsCutFromSome tree.old start cut claims.old.items addr }
+    ensures split { SplitsFromCut tree.old tree.new start cut claims.old.items addr result }
     ensures none_left { claims.new.items ≡ [] }
     ensures back { IsSome addr.offset → IsSome result.offset }
 {

@@ -246,9 +246,8 @@ impl<K, V, C: NodesMut<K, V>> RawBTree<K, V, C> {
 
 impl<K: Ord, V, C: NodesMut<K, V>> RawBTree<K, V, C> {
     ghost use Rattle.btree_shape.specs.TreeState.{IsBTree, IsOffByOneAt};
-    ghost use Rattle.btree_valid.specs.Faults.{AcceptsRawNode, BlamesRawNode, SuitsRawNode};
-    ghost use Rattle.btree_valid.specs.Positions.{start_spot};
-    ghost use Rattle.btree_valid.specs.Verdicts.{IsVerdict, IsVerdictBelow};
+    ghost use Rattle.btree_valid.specs.Faults.{AcceptsRawNode, BlamesRawNode, IsVerdictFor, SuitsRawNode};
+    ghost use Rattle.btree_valid.specs.Verdicts.{IsVerdict};
 
     /// Returns whether the tree has a root and at most 32 levels, and is well formed except for its length and the number of items of node
     /// `id`: it may have one item too many or too few, and the root may also be empty. This is what `rebalance` requires of the tree.
@@ -289,12 +288,10 @@ impl<K: Ord, V, C: NodesMut<K, V>> RawBTree<K, V, C> {
         max: Option<&K>,
     ) -> Result<usize, Fault>
         ensures unused { map.get self.now.nodes id ≡ None → result ≡ Err NoNode }
-        ensures accepts { AcceptsRawNode K.cmp self.now id parent (option_copied min.entry) (option_copied max.entry) result }
-        ensures only { SuitsRawNode K.cmp self.now id parent (option_copied min.entry) (option_copied max.entry) result }
-        ensures blames { BlamesRawNode K.cmp self.now id parent
-            (option_copied min.entry) (option_copied max.entry) result }
-        ensures verdict { IsVerdictBelow K.cmp self.now.nodes
-            (start_spot id parent (option_copied min.entry) (option_copied max.entry)) result }
+        ensures accepts { AcceptsRawNode K.cmp self.now id parent min.entry max.entry result }
+        ensures only { SuitsRawNode K.cmp self.now id parent min.entry max.entry result }
+        ensures blames { BlamesRawNode K.cmp self.now id parent min.entry max.entry result }
+        ensures verdict { IsVerdictFor K.cmp self.now.nodes id parent min.entry max.entry result }
     {
         self.tell_fits();
         // For the prover alone: the length is a `usize`, so there are at most 32 levels.

@@ -1,8 +1,8 @@
 //! Removal of the last item under a node.
-ghost use Rattle.std.specs.Prelude.{◌<◌, ◌^◌, length};
-ghost use Rattle.btree_shape.specs.TreeState.{IsBTreeButLength, IsUsed, node_map, pairs_of};
-ghost use Rattle.btree_raw.specs.LastItem.{LosesItem, TakesLast};
+ghost use Rattle.btree_shape.specs.TreeState.{IsBTreeButLength, IsUsed, node_map};
+ghost use Rattle.btree_raw.specs.LastItem.{TakesLast};
 ghost use Rattle.btree_raw.specs.Steps.{HasCount, HasParent};
+ghost use Rattle.btree_raw.specs.TreeSteps.{LosesItemOfFew};
 
 use crate::raw::RawBTree;
 use btree_item::Item;
@@ -19,8 +19,7 @@ impl<K: Ord + Drop, V: Drop, C: NodesMut<K, V>> RawBTree<K, V, C> {
         requires tree { IsBTreeButLength K.cmp self.old }
         requires used { IsUsed self.old id }
         ensures taken { TakesLast self.old self.new id result.0 result.1 }
-        ensures tree { length (pairs_of self.old) < 2 ^ 64
-            → LosesItem K.cmp self.old self.new result.0 result.1 }
+        ensures tree { LosesItemOfFew self.old self.new K.cmp result.0 result.1 }
     {
         let (item, leaf, _count, _parent) = take_last_below(self, id);
         (item, leaf)
@@ -36,8 +35,7 @@ pub fn take_last_below<K: Ord + Drop, V: Drop, C: NodesMut<K, V>>(
     requires tree { IsBTreeButLength K.cmp tree.old }
     requires used { IsUsed tree.old id }
     ensures taken { TakesLast tree.old tree.new id result.0 result.1 }
-    ensures tree { length (pairs_of tree.old) < 2 ^ 64
-        → LosesItem K.cmp tree.old tree.new result.0 result.1 }
+    ensures tree { LosesItemOfFew tree.old tree.new K.cmp result.0 result.1 }
     ensures count { HasCount (node_map tree.new) result.1 result.2 }
     ensures parent { HasParent (node_map tree.new) result.1 result.3 }
 {

@@ -1,17 +1,17 @@
 //! The steps that fix an underflow.
-ghost use Rattle.std.specs.Prelude.{◌≡◌, ◌<◌, ◌≤◌, [], IfNone, IfOk, IfSome, None, OnErr, OnOk, Some, option_map};
+ghost use Rattle.std.specs.Prelude.{◌≡◌, ◌<◌, ◌≤◌, [], IfNone, IfOk, IfSome, None, OnErr, OnOk, Some};
 ghost use Rattle.std.specs.FinMap as map;
 ghost use Rattle.btree_node.specs.Node.{view_of};
 ghost use Rattle.btree_view.specs.Edits.{with_items};
 ghost use Rattle.btree_shape.specs.Lists.{as_list};
-ghost use Rattle.btree_shape.specs.Moved.{first_in};
 ghost use Rattle.btree_shape.specs.SiblingSteps.{ShrinksRoot};
 ghost use Rattle.btree_shape.specs.Step.{RemovesNode, Reparents};
 ghost use Rattle.btree_shape.specs.TreeState.{Changes, IsUsed, node_map};
 ghost use Rattle.btree_shape.specs.UnderflowFix.{size_in};
 ghost use Rattle.btree_raw.specs.Claimed.{EMPTY};
-ghost use Rattle.btree_raw.specs.NodeSteps.{MergesSiblings, RotatesSiblingsLeft, RotatesSiblingsRight, HasRoomFor, HasRoomForAll, HasSeparator, LosesFirst, LosesLast, ChangesSeparator, GainsFirst, GainsLast, GainsAll, LosesSeparator, ClearsParent, CanRotateLeft, CanRotateRight, CanMerge, CanShrinkToFirst, IsThere};
+ghost use Rattle.btree_raw.specs.NodeSteps.{MergesSiblings, HasRoomFor, HasRoomForAll, HasSeparator, LosesFirst, LosesLast, ChangesSeparator, GainsFirst, GainsLast, GainsAll, LosesSeparator, ClearsParent, CanRotateLeft, CanRotateRight, CanMerge, CanShrinkToFirst, IsThere};
 ghost use Rattle.btree_raw.specs.Steps.{HasCount};
+ghost use Rattle.btree_raw.specs.TreeSteps.{HasFirstChild, RotatesLeftIn, RotatesRightIn};
 
 use crate::claims::empty_leaf;
 use crate::nodes::{adopt, set_parent};
@@ -80,7 +80,7 @@ fn put_first<K: Drop, V: Drop, C: NodesMut<K, V>>(
 ) -> Option<usize>
     requires { HasRoomFor (node_map tree.old) id child }
     ensures gains { Changes (λ a b. GainsFirst a b id item child) tree.old tree.new }
-    ensures first { option_map first_in (node_map tree.old id) ≡ Some result }
+    ensures first { HasFirstChild (node_map tree.old) id result }
 {
     tree.tell_fits();
     let node = tree.node_mut(id);
@@ -187,9 +187,8 @@ pub(crate) fn rotate_left<K: Drop, V: Drop, C: NodesMut<K, V>>(
     siblings: Siblings,
 ) -> Result<Option<usize>, WouldUnderflow>
     requires { CanRotateLeft (node_map tree.old) siblings }
-    ensures rotates { OnOk result (Changes (λ a b. RotatesSiblingsLeft a b siblings) tree.old tree.new) }
-    ensures first { IfOk result (λ child.
-        option_map first_in (node_map tree.old siblings.right) ≡ Some child) }
+    ensures rotates { OnOk result (RotatesLeftIn tree.old tree.new siblings) }
+    ensures first { IfOk result (HasFirstChild (node_map tree.old) siblings.right) }
     ensures spare { OnOk result (MIN_ITEMS < size_in (node_map tree.old siblings.right)) }
     ensures short { OnErr result (size_in (node_map tree.old siblings.right) ≤ MIN_ITEMS) }
     ensures unchanged { OnErr result (tree.new ≡ tree.old) }
@@ -212,10 +211,9 @@ pub(crate) fn rotate_right<K: Drop, V: Drop, C: NodesMut<K, V>>(
     siblings: Siblings,
 ) -> Result<(usize, Option<usize>), WouldUnderflow>
     requires { CanRotateRight (node_map tree.old) siblings }
-    ensures rotates { OnOk result (Changes (λ a b. RotatesSiblingsRight a b siblings) tree.old tree.new) }
+    ensures rotates { OnOk result (RotatesRightIn tree.old tree.new siblings) }
     ensures count { IfOk result (λ r. HasCount (node_map tree.old) siblings.left r.0) }
-    ensures first { IfOk result (λ r.
-        option_map first_in (node_map tree.old siblings.right) ≡ Some r.1) }
+    ensures first { IfOk result (λ r. HasFirstChild (node_map tree.old) siblings.right r.1) }
     ensures spare { OnOk result (MIN_ITEMS < size_in (node_map tree.old siblings.left)) }
     ensures short { OnErr result (size_in (node_map tree.old siblings.left) ≤ MIN_ITEMS) }
     ensures unchanged { OnErr result (tree.new ≡ tree.old) }
@@ -240,7 +238,7 @@ pub(crate) fn merge<K: Drop, V: Drop, C: NodesMut<K, V>>(
     requires { CanMerge (node_map tree.old) siblings }
     ensures merges { Changes (λ a b. MergesSiblings a b siblings) tree.old tree.new }
     ensures count { HasCount (node_map tree.old) siblings.left result.0 }
-    ensures first { option_map first_in (node_map tree.old siblings.right) ≡ Some result.1 }
+    ensures first { HasFirstChild (node_map tree.old) siblings.right result.1 }
 {
     tree.tell_fits();
     tree.tell_numbers();
@@ -262,10 +260,10 @@ pub(crate) fn shrink_root<K: Drop, V: Drop, C: NodesMut<K, V>>(
     requires used { IsUsed tree.old root }
     requires can { CanShrinkToFirst (node_map tree.old) root }
     ensures shrinks { IfSome result (λ r. Changes (λ a b. ShrinksRoot a b root r.0) tree.old tree.new) }
-    ensures first { IfSome result (λ r. option_map first_in (node_map tree.old root) ≡ Some (Some r.0)) }
+    ensures first { IfSome result (λ r. HasFirstChild (node_map tree.old) root (Some r.0)) }
     ensures count { IfSome result (λ r. HasCount (node_map tree.old) r.0 r.1) }
     ensures few { IfSome result (λ r. r.1 ≤ LEAF_SLOTS) }
-    ensures leaf { IfNone result (option_map first_in (node_map tree.old root) ≡ Some None) }
+    ensures leaf { IfNone result (HasFirstChild (node_map tree.old) root None) }
     ensures removes { IfNone result (Changes (λ a b. RemovesNode a b root) tree.old tree.new) }
 {
     tree.tell_fits();

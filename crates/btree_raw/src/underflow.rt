@@ -3,10 +3,11 @@ ghost use Rattle.std.specs.Prelude.{◌≡◌, ◌-◌, ℕ, ◌<◌, ◌≤◌,
 ghost use Rattle.btree_view.specs.View.{parent_of};
 ghost use Rattle.btree_shape.specs.UnderflowFix.{Borrows, MergesNode};
 ghost use Rattle.btree_shape.specs.TreeState.{KeepsRest, node_map};
-ghost use Rattle.btree_raw.specs.Rebalance.{IsFit, StaysAsIs};
+ghost use Rattle.btree_raw.specs.Rebalance.{StaysAsIs};
 ghost use Rattle.btree_raw.specs.Underflow.{AreAdjacent, BorrowsFromLeft, EndsHere, GoesUp, HasSiblings, IsChild, IsFollowed, IsFixing, IsFixingOf, Underflows, MergesWithLeft, FixesUnderflowUpward};
 ghost use Rattle.btree_raw.specs.Underflow as specs;
 ghost use Rattle.btree_raw.specs.Steps.{HasCount, HasParent};
+ghost use Rattle.btree_raw.specs.TreeSteps.{StaysIfFit};
 
 use crate::borrow::{borrow_from_left, borrow_from_right, merge_siblings};
 use crate::raw::RawBTree;
@@ -164,7 +165,7 @@ pub fn fix_underflow_upward<K: Drop, V: Drop, C: NodesMut<K, V>>(
     requires count { HasCount (node_map tree.old) start count }
     requires parent { HasParent (node_map tree.old) start parent }
     ensures fixed { FixesUnderflowUpward tree.old tree.new start addr result }
-    ensures settled { IsFit (node_map tree.old) tree.old.root start → StaysAsIs tree.old tree.new addr result }
+    ensures settled { StaysIfFit tree.old tree.new start addr result }
     ensures back { IsSome addr.offset → IsSome result.offset }
 {
     tree.tell_fits();

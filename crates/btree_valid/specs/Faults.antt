@@ -2,7 +2,8 @@
 -- `validate` answers Ok on every tree that `AreBTree` holds of. `validate_node` compares a node with a parent and two
 -- separators that the caller gives, so it answers Ok if they suit the node (`SuitsNode`), with the node's depth, and else
 -- a fault of these arguments (`BlamesIfErr`).
-use Rattle.std.specs.Prelude.{◌≡◌, ⊤, ℕ, ◌^◌, ◌<◌, ◌≤◌, IsFalse, List, IfOk, IfErr, IfSome, Option, Some, None, Result, Ok}
+use Rattle.std.specs.Prelude.{◌≡◌, ⊤, ℕ, ◌^◌, ◌<◌, ◌≤◌, IsFalse, List, IfOk, IfErr, IfSome, Option, Some, None, option_copied, Result, Ok}
+use Rattle.std.specs.Borrow.{Bor}
 use Rattle.std.specs.FinMap as map
 use Rattle.std.specs.List.{AllByRecursion}
 use Rattle.std.specs.declared.cmp.Ordering.{Ordering}
@@ -17,6 +18,8 @@ use Rattle.btree_view.specs.View.{View, parent_of, size_of}
 use Rattle.btree_shape.specs.Focus.Search.{levels_below}
 use Rattle.btree_shape.specs.Represents.{represented}
 use Rattle.btree_shape.specs.TreeState.{TreeState, IsBTree, node_map, unlimited}
+use Rattle.btree_valid.specs.Positions.{start_spot}
+use Rattle.btree_valid.specs.Verdicts.{IsVerdictBelow}
 
 -- the keys are between the separators, where these are given
 pub record AreBetween {K V : Type 0} (cmp : K → K → Ordering) (min max : Option K) (xs : List (K × V)) : Type 0 where
@@ -41,27 +44,27 @@ module _ {K V : Type 0} (cmp : K → K → Ordering) where
     pub filled : IsFalse (is_judged_as_root min max) → MIN_ITEMS ≤ size_of node
     pub between : AreBetween cmp min max (represented (node_map s) (map.len s.nodes) id)
 
-  -- the answer is Ok with the depth of the node if the arguments suit it
-  abbrev pub AcceptsNode : (s : TreeState K V) (id : ℕ) (parent : Option ℕ) (min max : Option K) → Result ℕ Fault → Type 0
-  AcceptsNode s id parent min max answer = SuitsNode s id parent min max → answer ≡ Ok (depth_below s id)
+  -- the answer is Ok with the depth of the node if the arguments suit it; references lead to the separators
+  abbrev pub AcceptsNode : (s : TreeState K V) (id : ℕ) (parent : Option ℕ) (min max : Option (Bor K)) → Result ℕ Fault → Type 0
+  AcceptsNode s id parent min max answer = SuitsNode s id parent (option_copied min) (option_copied max) → answer ≡ Ok (depth_below s id)
 
   -- so it is in a well formed tree
-  abbrev pub AcceptsRawNode : (s : TreeState K V) (id : ℕ) (parent : Option ℕ) (min max : Option K) → Result ℕ Fault → Type 0
+  abbrev pub AcceptsRawNode : (s : TreeState K V) (id : ℕ) (parent : Option ℕ) (min max : Option (Bor K)) → Result ℕ Fault → Type 0
   AcceptsRawNode s id parent min max answer = IsBTree cmp s → AcceptsNode s id parent min max answer
 
   -- and in every well formed tree of these nodes
-  abbrev pub AcceptsAmong : Content (Node K V) → (id : ℕ) (parent : Option ℕ) (min max : Option K) → Result ℕ Fault → Type 0
+  abbrev pub AcceptsAmong : Content (Node K V) → (id : ℕ) (parent : Option ℕ) (min max : Option (Bor K)) → Result ℕ Fault → Type 0
   AcceptsAmong nodes id parent min max answer = (s : TreeState K V) → s.nodes ≡ nodes → s.len < 2 ^ 64 → AcceptsRawNode s id parent min max answer
 
   -- the answer is Ok only for arguments that suit the node
-  abbrev pub SuitsIfOk : (s : TreeState K V) (id : ℕ) (parent : Option ℕ) (min max : Option K) → Result ℕ Fault → Type 0
-  SuitsIfOk s id parent min max answer = IfOk answer (λ depth. SuitsNode s id parent min max)
+  abbrev pub SuitsIfOk : (s : TreeState K V) (id : ℕ) (parent : Option ℕ) (min max : Option (Bor K)) → Result ℕ Fault → Type 0
+  SuitsIfOk s id parent min max answer = IfOk answer (λ depth. SuitsNode s id parent (option_copied min) (option_copied max))
 
   -- so it is in a well formed tree, and in every one of these nodes
-  abbrev pub SuitsRawNode : (s : TreeState K V) (id : ℕ) (parent : Option ℕ) (min max : Option K) → Result ℕ Fault → Type 0
+  abbrev pub SuitsRawNode : (s : TreeState K V) (id : ℕ) (parent : Option ℕ) (min max : Option (Bor K)) → Result ℕ Fault → Type 0
   SuitsRawNode s id parent min max answer = IsBTree cmp s → SuitsIfOk s id parent min max answer
 
-  abbrev pub SuitsAmong : Content (Node K V) → (id : ℕ) (parent : Option ℕ) (min max : Option K) → Result ℕ Fault → Type 0
+  abbrev pub SuitsAmong : Content (Node K V) → (id : ℕ) (parent : Option ℕ) (min max : Option (Bor K)) → Result ℕ Fault → Type 0
   SuitsAmong nodes id parent min max answer = (s : TreeState K V) → s.nodes ≡ nodes → SuitsRawNode s id parent min max answer
 
   -- what the check of a fault asks of the arguments, for a node with this parent and so many items, and the pairs under it
@@ -80,13 +83,17 @@ module _ {K V : Type 0} (cmp : K → K → Ordering) where
   Allows own count xs parent min max Unreachable = ⊤
 
   -- an answered fault is one whose check the arguments do not pass: none but the first four above
-  abbrev pub BlamesIfErr : (s : TreeState K V) (id : ℕ) (parent : Option ℕ) (min max : Option K) → Result ℕ Fault → Type 0
+  abbrev pub BlamesIfErr : (s : TreeState K V) (id : ℕ) (parent : Option ℕ) (min max : Option (Bor K)) → Result ℕ Fault → Type 0
   BlamesIfErr s id parent min max answer = IfErr answer (λ fault. (node : View (K × V)) → node_map s id ≡ Some node
-      → Allows (parent_of node) (size_of node) (represented (node_map s) (map.len s.nodes) id) parent min max fault → ⊥)
+      → Allows (parent_of node) (size_of node) (represented (node_map s) (map.len s.nodes) id) parent (option_copied min) (option_copied max) fault → ⊥)
 
   -- so it is in a well formed tree, and in every one of these nodes
-  abbrev pub BlamesRawNode : (s : TreeState K V) (id : ℕ) (parent : Option ℕ) (min max : Option K) → Result ℕ Fault → Type 0
+  abbrev pub BlamesRawNode : (s : TreeState K V) (id : ℕ) (parent : Option ℕ) (min max : Option (Bor K)) → Result ℕ Fault → Type 0
   BlamesRawNode s id parent min max answer = IsBTree cmp s → BlamesIfErr s id parent min max answer
 
-  abbrev pub BlamesAmong : Content (Node K V) → (id : ℕ) (parent : Option ℕ) (min max : Option K) → Result ℕ Fault → Type 0
+  abbrev pub BlamesAmong : Content (Node K V) → (id : ℕ) (parent : Option ℕ) (min max : Option (Bor K)) → Result ℕ Fault → Type 0
   BlamesAmong nodes id parent min max answer = (s : TreeState K V) → s.nodes ≡ nodes → s.len < 2 ^ 64 → BlamesRawNode s id parent min max answer
+
+-- the result of `validate_node`, where references lead to the separators
+abbrev pub IsVerdictFor : {K V : Type 0} → (cmp : K → K → Ordering) → Content (Node K V) → (id : ℕ) (parent : Option ℕ) (min max : Option (Bor K)) → Result ℕ Fault → Type 0
+IsVerdictFor cmp nodes id parent min max answer = IsVerdictBelow cmp nodes (start_spot id parent (option_copied min) (option_copied max)) answer

@@ -4,6 +4,7 @@
 -- `Meets` says what the walk has met after the part. Only the private functions of `src/faults.rt` cite these words;
 -- the public calls cite `Faults.antt`.
 use Rattle.std.specs.Prelude.{◌≡◌, ℕ, ◌+◌, ◌<◌, if◌then◌else◌, length, IfOk, IfSome, Option, Some, None, Result, Ok, Err, option_copied}
+use Rattle.std.specs.Borrow.{Bor}
 use Rattle.std.specs.declared.cmp.Ordering.{Ordering}
 use Rattle.btree_item.specs.declared.TheConstants.{MAX_LEVELS, MIN_ITEMS}
 use Rattle.btree_item.specs.declared.fault.Fault.{Fault}
@@ -11,11 +12,13 @@ use Rattle.btree_item.specs.Pairs.{Ascends}
 use Rattle.btree_node.specs.declared.node.Node.{Node}
 use Rattle.btree_store.specs.Content.{Content}
 use Rattle.btree_view.specs.Checks.{is_judged_as_root}
-use Rattle.btree_view.specs.View.{NodeMap}
+use Rattle.btree_view.specs.Separators.{separator_after, separator_before}
+use Rattle.btree_view.specs.View.{NodeMap, View}
 use Rattle.btree_shape.specs.Focus.Subtree.{Holds, IsFilled, IsFilledBelow, Subtree, count_at, id_of, items_under}
 use Rattle.btree_shape.specs.Represents.{numbers_under}
 use Rattle.btree_shape.specs.TreeState.{views}
 use Rattle.btree_valid.specs.Faults.{Allows, AreBTree, AreBetween}
+use Rattle.btree_valid.specs.Positions.{nearest_of}
 use Rattle.btree_valid.specs.declared.faults.Met.{Met}
 use Rattle.btree_valid.specs.declared.faults.Spot.{Spot}
 
@@ -107,3 +110,10 @@ module _ {K V : Type 0} (content : Content (Node K V)) where
     -- without a fault and with nothing that may still come, the tree is well formed
     abbrev pub FindsTree : (root : Option ℕ) → (len : ℕ) → Result Met Fault → Type 0
     FindsTree root len answer = IfOk answer (λ after. after.items ≡ Some 0 → after.nodes ≡ Some 0 → AreBTree cmp content root len)
+
+-- the nearest separator on a side of the child at an index: that of the node if there is one, else the far one
+abbrev pub IsNearestBefore : {K V : Type 0} → View (K × V) → (index : ℕ) → (far nearest : Option (Bor K)) → Type 0
+IsNearestBefore node index far nearest = option_copied nearest ≡ nearest_of (separator_before node index) (option_copied far)
+
+abbrev pub IsNearestAfter : {K V : Type 0} → View (K × V) → (index : ℕ) → (far nearest : Option (Bor K)) → Type 0
+IsNearestAfter node index far nearest = option_copied nearest ≡ nearest_of (separator_after node index) (option_copied far)

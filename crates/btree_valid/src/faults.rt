@@ -6,13 +6,12 @@ ghost use Rattle.btree_item.specs.declared.fault.Fault.TheVariants.{NoNode, NotB
 ghost use Rattle.btree_item.specs.declared.TheConstants.{MAX_LEVELS};
 ghost use Rattle.btree_node.specs.Node.{view_of};
 ghost use Rattle.btree_node.specs.contracts.node.Node.{the_row as node_row};
-ghost use Rattle.btree_view.specs.Separators.{separator_after, separator_before};
 ghost use Rattle.btree_view.specs.View.{children_of};
-ghost use Rattle.btree_valid.specs.Faults.{AcceptsAmong, AreBTree, BlamesAmong, SuitsAmong};
+ghost use Rattle.btree_valid.specs.Faults.{AcceptsAmong, AreBTree, BlamesAmong, IsVerdictFor, SuitsAmong};
 ghost use Rattle.btree_valid.specs.Names.{NamesAt};
-ghost use Rattle.btree_valid.specs.Positions.{nearest_of, start_spot};
-ghost use Rattle.btree_valid.specs.Spots.{BlamesAt, CanMeet, FindsAt, FindsTree, IsFewer, MeetsAt, MeetsLeaf, MeetsTree, WasMore};
-ghost use Rattle.btree_valid.specs.Verdicts.{IsVerdict, IsVerdictBelow, NamesTree};
+ghost use Rattle.btree_valid.specs.Positions.{nearest_of};
+ghost use Rattle.btree_valid.specs.Spots.{BlamesAt, CanMeet, FindsAt, FindsTree, IsFewer, IsNearestAfter, IsNearestBefore, MeetsAt, MeetsLeaf, MeetsTree, WasMore};
+ghost use Rattle.btree_valid.specs.Verdicts.{IsVerdict, NamesTree};
 
 use btree_item::{Fault, MAX_LEVELS};
 use btree_node::Node;
@@ -106,8 +105,8 @@ fn below<'a, K, V>(
     ensures level { result.level ≡ spot.now.level + 1 }
     ensures parent { result.parent ≡ Some spot.now.id }
     ensures id { result.id ≡ child }
-    ensures min { option_copied result.min ≡ nearest_of (separator_before (view_of node.now) index) (option_copied spot.now.min) }
-    ensures max { option_copied result.max ≡ nearest_of (separator_after (view_of node.now) index) (option_copied spot.now.max) }
+    ensures min { IsNearestBefore (view_of node.now) index spot.now.min result.min }
+    ensures max { IsNearestAfter (view_of node.now) index spot.now.max result.max }
 {
     let (before, after) = node.separators(index);
     Spot {
@@ -220,12 +219,10 @@ pub fn validate_node<K: Ord, V, C: Nodes<K, V>>(
 ) -> Result<usize, Fault>
     requires { FitsInMemory (node_row K.row V.row) }
     ensures unused { map.get (C.content nodes.now) id ≡ None → result ≡ Err NoNode }
-    ensures accepts { AcceptsAmong K.cmp (C.content nodes.now) id parent (option_copied min.entry) (option_copied max.entry) result }
-    ensures only { SuitsAmong K.cmp (C.content nodes.now) id parent (option_copied min.entry) (option_copied max.entry) result }
-    ensures blames { BlamesAmong K.cmp (C.content nodes.now) id parent
-        (option_copied min.entry) (option_copied max.entry) result }
-    ensures verdict { IsVerdictBelow K.cmp (C.content nodes.now)
-        (start_spot id parent (option_copied min.entry) (option_copied max.entry)) result }
+    ensures accepts { AcceptsAmong K.cmp (C.content nodes.now) id parent min.entry max.entry result }
+    ensures only { SuitsAmong K.cmp (C.content nodes.now) id parent min.entry max.entry result }
+    ensures blames { BlamesAmong K.cmp (C.content nodes.now) id parent min.entry max.entry result }
+    ensures verdict { IsVerdictFor K.cmp (C.content nodes.now) id parent min.entry max.entry result }
 {
     let start = Met {
         leaf_level: None,

@@ -1,5 +1,6 @@
 -- The checks of one node, and which fault they answer.
-use Rattle.std.specs.Prelude.{◌≡◌, ◌⊎◌, ⊤, ℕ, ◌<◌, ◌≤◌, ◌-◌, Bool, true, false, IsFalse, IsTrue, IfSome, List, [], ◌∷◌, length, slice_get, Option, Some, None, Result, Ok, Err}
+use Rattle.std.specs.Prelude.{◌≡◌, ◌⊎◌, ⊤, ℕ, ◌<◌, ◌≤◌, ◌-◌, Bool, true, false, IsFalse, IsTrue, IfSome, List, [], ◌∷◌, length, slice_get, Option, Some, None, option_copied, Result, Ok, Err}
+use Rattle.std.specs.Borrow.{Bor}
 use Rattle.std.specs.List.Sorted.{IsStrictlySortedBy}
 use Rattle.std.specs.Map.{keys_of}
 use Rattle.std.specs.declared.cmp.Ordering.{Ordering}
@@ -57,3 +58,11 @@ module _ {K : Type 0} where
     -- the answer for a node
     abbrev pub IsNodeVerdict : {V : Type 0} → View (K × V) → Result ⊤ Fault → Type 0
     IsNodeVerdict node answer = IsKeysVerdict (parent_of node) (most_of node) (keys_of (items_of node)) answer
+
+module _ {K : Type 0} (cmp : K → K → Ordering) (parent : Option ℕ) (min max : Option (Bor K)) where
+  -- the same two answers, where references lead to the separators
+  abbrev pub GivesKeysVerdict : Option ℕ → ℕ → List K → Result ⊤ Fault → Type 0
+  GivesKeysVerdict own most keys answer = IsKeysVerdict cmp parent (option_copied min) (option_copied max) own most keys answer
+
+  abbrev pub GivesNodeVerdict : {V : Type 0} → View (K × V) → Result ⊤ Fault → Type 0
+  GivesNodeVerdict node answer = IsNodeVerdict cmp parent (option_copied min) (option_copied max) node answer

@@ -1,7 +1,7 @@
 -- What a look-up by key in one node returns: the key's index or value if it is there, else the child to go on in.
 -- Of a node's calls by key, `get` and `get_mut` cite `look_up`, `find_mut` cites `find_in`, and `offset_of` cites
 -- `offset_in` and `PointsInto`, and `offset_of_counted` cites `comparisons_in` as well.
-use Rattle.std.specs.Prelude.{◌≡◌, ℕ, ◌<◌, ◌≤◌, IsSomeAnd, List, Option, Some, None, Result, Ok, Err, slice_get}
+use Rattle.std.specs.Prelude.{◌≡◌, ℕ, ◌<◌, ◌≤◌, IsSomeAnd, List, Option, Some, None, Result, Ok, Err, length, slice_get}
 use Rattle.std.specs.Result.{result_map_both}
 use Rattle.std.specs.declared.cmp.Ordering.{Ordering}
 use Rattle.btree_item.specs.Comparisons.{comparisons}
@@ -53,6 +53,10 @@ module _ {K V : Type 0} (cmp : K → K → Ordering) (k : K) where
   -- Ok with the offset of the key; Err with the number of smaller keys and the child that may hold it
   abbrev pub offset_in : View (K × V) → Result (Option ℕ) (ℕ × Option ℕ)
   offset_in node = placed (place_of cmp k (items_of node)) (children_of node)
+
+  -- how many keys a search in a list of items compares
+  abbrev pub comparisons_among : List (K × V) → ℕ
+  comparisons_among xs = comparisons (length xs) (before cmp k xs)
 
   -- how many keys the look-up compares
   abbrev pub comparisons_in : View (K × V) → ℕ

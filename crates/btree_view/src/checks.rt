@@ -2,7 +2,7 @@
 ghost use Rattle.std.specs.Prelude.{◌≡◌, ◌≤◌, ◌<◌, ◌↔◌, IsFalse, IsTrue, length, map};
 ghost use Rattle.std.specs.List.Sorted.{IsStrictlySortedBy};
 ghost use Rattle.std.specs.Option.{option_copied};
-ghost use Rattle.btree_view.specs.Checks.{BeginsAbove, EndsBelow, IsKeysVerdict, is_judged_as_root};
+ghost use Rattle.btree_view.specs.Checks.{BeginsAbove, EndsBelow, GivesKeysVerdict, is_judged_as_root};
 
 use btree_item::{Fault, Keyed, MIN_ITEMS, Slots};
 
@@ -92,7 +92,8 @@ pub fn check_node<T: Keyed, const N: usize>(
 ) -> Result<(), Fault>
 where
     T::Key: Ord,
-    ensures { IsKeysVerdict T.Key.cmp parent (option_copied min.entry) (option_copied max.entry) own_parent most (map T.key_of slots.now) result }
+    ensures { GivesKeysVerdict T.Key.cmp parent min.entry max.entry
+        own_parent most (map T.key_of slots.now) result }
 {
     let count = slots.len();
     let is_root = is_root(min, max);

@@ -8,8 +8,8 @@ use crate::SlabMut;
 
 /// Adds one to the value under `id`, if there is one that is not the greatest, and returns whether it did.
 pub fn raise<S: SlabMut<u32>>(store: &mut S, id: usize) -> bool
-    ensures raised { (n : ℕ) → map.get (S.content store.old) id ≡ Some n → IsTrue result →
-        S.content store.new ≡ map.insert (S.content store.old) id (n + 1) }
+    ensures raised { IsTrue result → IfSome (map.get (S.content store.old) id) (λ n.
+        S.content store.new ≡ map.insert (S.content store.old) id (n + 1)) }
     ensures other { result ≡ false → S.content store.new ≡ S.content store.old }
     ensures when { MatchOption (map.get (S.content store.old) id) (result ≡ false) (λ n. IsTrue result ↔ (n < u32.MAX)) }
     ensures uncounted { S.refusals store.new ≡ S.refusals store.old }
