@@ -4,13 +4,9 @@ use Rattle.std.specs.declared.cmp.Ordering.{Ordering}
 use Rattle.btree_item.specs.declared.address.Address.{Address}
 use Rattle.btree_shape.specs.TreeState.{TreeState}
 use Rattle.btree_edit.specs.Exchange.{IsValueExchanged}
-use Rattle.btree_edit.specs.KeyWritten.{ExchangesValue, address_at_key, key_written}
+use Rattle.btree_edit.specs.KeyWritten.{ExchangesValue, address_at_key}
 
 module _ {K V : Type 0} (cmp : K → K → Ordering) where
-  -- whatever is written at a key replaces the value that was lent
-  abbrev pub ExchangesLent : (k : K) → TreeState K V → (lent : MutBor V) → Type 0
-  ExchangesLent k tree lent = (w : V) → ExchangesValue cmp k tree (key_written cmp k tree w) lent.now w
-
   -- for trees seen as `state`, in which `with_value` writes at an address
   module _ {S : Type 0} (state : S → TreeState K V) (with_value : S → Address → V → S) where
     -- whatever is written at an address replaces the value that was lent

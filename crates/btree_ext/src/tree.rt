@@ -42,7 +42,7 @@ impl<K: Ord, V, C: NodesMut<K, V>> Tree<K, V, C> {
     ghost use Rattle.std.specs.Option.{option_copied_mut};
     ghost use Rattle.btree_item.specs.Pairs.{found_value};
     ghost use Rattle.btree_shape.specs.TreeState.{IsBTree, pairs_of, rootless, unlimited};
-    ghost use Rattle.btree_ext.specs.Changes.{ExchangesLent};
+    ghost use Rattle.btree_edit.specs.Outcomes.{ExchangesLent};
     ghost use Rattle.btree_ext.specs.Lent.{lends_at_key};
 
     /// Returns a tree without pairs, over an empty store made from `origin`. It allocates no memory.
