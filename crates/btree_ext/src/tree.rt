@@ -42,7 +42,7 @@ impl<K: Ord, V, C: NodesMut<K, V>> Tree<K, V, C> {
     ghost use Rattle.std.specs.Option.{option_copied_mut};
     ghost use Rattle.btree_item.specs.Pairs.{found_value};
     ghost use Rattle.btree_shape.specs.TreeState.{IsBTree, pairs_of, rootless, unlimited};
-    ghost use Rattle.btree_ext.specs.Changes.{ExchangesLent};
+    ghost use Rattle.btree_edit.specs.Outcomes.{ExchangesLent};
     ghost use Rattle.btree_ext.specs.Lent.{lends_at_key};
 
     /// Returns a tree without pairs, over an empty store made from `origin`. It allocates no memory.
@@ -120,9 +120,8 @@ impl<K: Ord, V, C: NodesMut<K, V>> Tree<K, V, C> {
     pub fn from_raw(raw: RawBTree<K, V, C>) -> Result<Self, (RawBTree<K, V, C>, Fault)>
         ensures exact { IsOk result ↔ IsBTree K.cmp raw }
         ensures kept { IfOk result (λ tree. tree ≡ raw) }
-        ensures returned { IfErr result (λ refused. refused.0 ≡ raw) }
-        ensures verdict { IfErr result (λ refused.
-            IsVerdict K.cmp raw.nodes raw.root raw.len (Err refused.1)) }
+        ensures returned { IfErr result (λ r. r.0 ≡ raw) }
+        ensures verdict { IfErr result (λ r. IsVerdict K.cmp raw.nodes raw.root raw.len (Err r.1)) }
     {
         match raw.validate() {
             Ok(()) => Ok(Tree { raw }),

@@ -2,7 +2,7 @@
 -- value that the call left, and `picked` are those with one answer. `AsksFirst` is one call at the first pair that a cursor
 -- has left, and `RunsTest` what was done after several: pairs with the answer `takes` were removed, the others passed.
 -- `Yields` is a step of a drain, and `Ends` and `RunsOut` are its end.
-use Rattle.std.specs.Prelude.{◌≡◌, ℕ, Bool, true, false, not, List, [], ◌∷◌, ◌++◌, drop, length, take, Option, MatchOption}
+use Rattle.std.specs.Prelude.{◌≡◌, ℕ, Bool, true, false, not, List, [], ◌∷◌, ◌++◌, drop, length, take, slice_get, Option, Some, MatchOption}
 use Rattle.std.specs.declared.cmp.Ord as ord
 use Rattle.std.specs.declared.cmp.PartialEq as eq
 use Rattle.std.specs.declared.cmp.PartialOrd as partial
@@ -80,3 +80,14 @@ module _ {F K V : Type 0} (Step : F → K → V → Bool → V → F → Type 0)
       pub step : Step f key was answer is f'
       pub writes : WritesPeeked old key was is
       pub written : new ≡ with_first old is
+
+    -- the steps of `Yields` and `Ends`, of a cursor
+    abbrev pub YieldsIn : (f f' : F) → (old new : EntriesMut K V C O g g' g'' s s') → Option (K × V) → Type 0
+    YieldsIn f f' old new result = Yields true f f' old.map.now old.front new.map.now new.front result
+
+    abbrev pub EndsIn : (takes : Bool) → (f f' : F) → (old new : EntriesMut K V C O g g' g'' s s') → Type 0
+    EndsIn takes f f' old new = Ends takes f f' old.map.now old.front new.map.now new.front
+
+-- a test may be called at the first of these pairs
+abbrev pub AcceptsFirst : {F K V : Type 0} → (Accepts : F → K → V → Type 0) → F → List (K × V) → Type 0
+AcceptsFirst {K = K} {V = V} Accepts f pairs = (k : K) (v : V) → slice_get pairs 0 ≡ Some (k, v) → Accepts f k v

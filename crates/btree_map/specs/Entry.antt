@@ -10,6 +10,7 @@ use Rattle.std.specs.declared.cmp.PartialOrd as partial
 use Rattle.btree_item.specs.Pairs.{before}
 use Rattle.btree_item.specs.declared.address.Address.{Address}
 use Rattle.btree_item.specs.declared.refused.Cause.{Cause}
+use Rattle.btree_item.specs.declared.refused.Refused.{Refused}
 use Rattle.btree_nodes.specs.declared.Nodes as nodes
 use Rattle.btree_nodes.specs.declared.NodesMut as nodes_mut
 use Rattle.btree_shape.specs.TreeState.{TreeState, item_of, pairs_of}
@@ -104,3 +105,7 @@ module _ {K V C O : Type 0} {g : ord.Ghosts K} {g' : eq.Ghosts K} {g'' : partial
     at = o.at;
     occupied = occupied-written o.map.now o.at w o.occupied;
   }
+
+-- an error has the key that was asked for, and a value of which this holds
+abbrev pub ReturnsAsked : {K V : Type 0} → (asked : Option K) → (Holds : V → Type 0) → Refused K V → Type 0
+ReturnsAsked asked Holds error = (asked ≡ Some error.key) × Holds error.value

@@ -2,7 +2,7 @@
 -- Read `inserted_all` first: `extend`, `from_iter` and `append` cite it. `Extends` says how far an iterator was stepped,
 -- and `Moves` the same of the list that `append` takes pairs from. `IsRefusedInTurn` is the refusal of one of the pairs.
 -- The words after it say these of whole trees, and of a refused insertion.
-use Rattle.std.specs.Prelude.{◌≡◌, List, [], ◌∷◌, ◌++◌, Option, None, Some, option_map}
+use Rattle.std.specs.Prelude.{◌≡◌, ◌≢◌, List, [], ◌∷◌, ◌++◌, Option, None, Some, option_map}
 use Rattle.std.specs.Borrow.{Bor}
 use Rattle.std.specs.Iterator.{YieldsThen}
 use Rattle.std.specs.declared.cmp.Ordering.{Ordering}
@@ -56,6 +56,10 @@ module _ {K V : Type 0} (cmp : K → K → Ordering) where
     abbrev pub CollectsUntil : (source rest : S) → TreeState K V × Refused K V → Type 0
     CollectsUntil source rest stopped = Extends steps [] source (Some (stopped.1.key, stopped.1.value)) (pairs_of stopped.0) rest
 
+  -- all pairs of `other` were inserted
+  abbrev pub AddsAll : (old other new : TreeState K V) → Type 0
+  AddsAll old other new = pairs_of new ≡ inserted_all (pairs_of old) (pairs_of other)
+
   -- the pairs of `other` before a refused one were inserted, and those after it are left
   abbrev pub MovesUntil : (old other new rest : TreeState K V) → Refused K V → Type 0
   MovesUntil old other new rest refused = Moves (pairs_of old) (pairs_of other) (refused.key, refused.value) (pairs_of new) (pairs_of rest)
@@ -63,6 +67,10 @@ module _ {K V : Type 0} (cmp : K → K → Ordering) where
   -- the refused insertion was one of an absent key, with its cause
   abbrev pub RefusesInTurn : (MayRefuse : Content (Node K V) → Type 0) → (kept : Kept) → (new : TreeState K V) → Refused K V → Type 0
   RefusesInTurn MayRefuse kept new refused = IsRefusedInTurn MayRefuse refused.key kept new refused.cause
+
+-- the two are swapped if the first has no pairs and the other has some
+abbrev pub SwapsIntoEmpty : {K V : Type 0} → (old other new rest : TreeState K V) → Type 0
+SwapsIntoEmpty old other new rest = pairs_of old ≡ [] → pairs_of other ≢ [] → (new ≡ other) × (rest ≡ old)
 
 -- the steps of an iterator that lends keys and values, as steps that give copies
 abbrev pub copied_steps : {S K V : Type 0} → (S → Option (Bor K × Bor V) → S → Type 0) → S → Option (K × V) → S → Type 0

@@ -31,6 +31,10 @@ module _ {K V : Type 0} (cmp : K → K → Ordering) where
     abbrev pub RemovesAt : Address → K × V → Type 0
     RemovesAt a x = (after : Address) × IsRemoved old new cmp a x after
 
+    -- the pair at an address, which has this value, was removed
+    abbrev pub RemovesValueAt : Address → V → Type 0
+    RemovesValueAt a value = (key : K) × RemovesAt a (key, value)
+
   -- whatever is written at an address replaces the value that was lent
   abbrev pub WritesLentAt : TreeState K V → Address → (lent : V) → Type 0
   WritesLentAt s a lent = (w : V) → WritesValueAt s (value_written s a w) a lent w

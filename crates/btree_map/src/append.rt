@@ -1,7 +1,7 @@
 //! Moving the pairs of one map into another.
 ghost use Rattle.std.specs.Prelude.{◌≡◌, ◌≢◌, [], IfErr, OnErr, OnOk};
 ghost use Rattle.btree_shape.specs.TreeState.{pairs_of};
-ghost use Rattle.btree_map.specs.Extension.{MovesUntil, RefusesInTurn, inserted_all};
+ghost use Rattle.btree_map.specs.Extension.{AddsAll, MovesUntil, RefusesInTurn, SwapsIntoEmpty};
 
 use crate::BTreeMap;
 use btree_ext::BTreeExt;
@@ -16,12 +16,10 @@ impl<K: Ord + Drop, V: Drop, C: NodesMut<K, V>> BTreeMap<K, V, C> {
     /// `insert` inserts them. The first one that is refused is returned: those before it are in this map, and those after it are still in
     /// `other`.
     pub fn append(&mut self, other: &mut Self) -> Result<(), Refused<K, V>>
-        ensures appended { OnOk result (pairs_of self.new ≡
-            inserted_all K.cmp (pairs_of self.old) (pairs_of other.old)) }
+        ensures appended { OnOk result (AddsAll K.cmp self.old other.old self.new) }
         ensures emptied { OnOk result (pairs_of other.new ≡ []) }
         ensures unchanged { pairs_of other.old ≡ [] → (self.new ≡ self.old) × (other.new ≡ other.old) }
-        ensures swapped { pairs_of self.old ≡ [] → pairs_of other.old ≢ [] →
-            (self.new ≡ other.old) × (other.new ≡ self.old) }
+        ensures swapped { SwapsIntoEmpty self.old other.old self.new other.new }
         ensures uncounted { OnOk result (pairs_of self.old ≢ [] →
             self.new.kept ≡ self.old.kept) }
         ensures other_uncounted { pairs_of self.old ≢ [] → other.new.kept ≡ other.old.kept }

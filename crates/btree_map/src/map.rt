@@ -33,7 +33,7 @@ impl<K: Ord, V, C: NodesMut<K, V>> BTreeMap<K, V, C> {
     ghost use Rattle.btree_node.specs.contracts.node.Node.{the_row as node_row};
     ghost use Rattle.btree_item.specs.Pairs.{found_value};
     ghost use Rattle.btree_shape.specs.TreeState.{IsBTree, pairs_of, rootless, unlimited};
-    ghost use Rattle.btree_ext.specs.Changes.{ExchangesLent};
+    ghost use Rattle.btree_edit.specs.Outcomes.{ExchangesLent};
     ghost use Rattle.btree_map.specs.Lent.{lends_at_key};
 
     /// Returns a map without pairs, over an empty store made from `origin`. It allocates no memory.
@@ -110,9 +110,8 @@ impl<K: Ord, V, C: NodesMut<K, V>> BTreeMap<K, V, C> {
     pub fn from_raw(raw: RawBTree<K, V, C>) -> Result<Self, (RawBTree<K, V, C>, Fault)>
         ensures exact { IsOk result ↔ IsBTree K.cmp raw }
         ensures kept { IfOk result (λ map. map ≡ raw) }
-        ensures returned { IfErr result (λ refused. refused.0 ≡ raw) }
-        ensures verdict { IfErr result (λ refused.
-            IsVerdict K.cmp raw.nodes raw.root raw.len (Err refused.1)) }
+        ensures returned { IfErr result (λ r. r.0 ≡ raw) }
+        ensures verdict { IfErr result (λ r. IsVerdict K.cmp raw.nodes raw.root raw.len (Err r.1)) }
     {
         match Tree::from_raw(raw) {
             Ok(tree) => Ok(BTreeMap { tree }),

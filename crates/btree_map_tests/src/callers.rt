@@ -2,12 +2,12 @@
 ghost use Rattle.std.specs.Prelude.{◌≡◌, ℕ, ◌+◌, ◌%◌, ◌^◌, [], IfErr, IfOk, IsTrue, None, OnErr, OnOk, false, is_some};
 ghost use Rattle.std.specs.Iterator.{IsFinite};
 ghost use Rattle.std.specs.Ordering.{nat_cmp};
-ghost use Rattle.btree_item.specs.Pairs.{found, found_value, inserted, with_value};
+ghost use Rattle.btree_item.specs.Pairs.{found, found_value, inserted};
 ghost use Rattle.btree_shape.specs.TreeState.{IsOccupiedIn, pairs_of};
 ghost use Rattle.btree_edit.specs.Exchange.{IsValueExchanged};
-ghost use Rattle.btree_edit.specs.Remove.{IsRemoved};
-ghost use Rattle.btree_edit.specs.Update.{updated};
-ghost use Rattle.btree_map.specs.Extension.{Moves, inserted_all};
+ghost use Rattle.btree_edit.specs.Outcomes.{WritesAtKey};
+ghost use Rattle.btree_edit.specs.Update.{UpdatesAt, updated};
+ghost use Rattle.btree_map.specs.Extension.{AddsAll, MovesUntil};
 
 use crate::asserts::{assert_same, assert_true};
 use crate::samples::first_keys;
@@ -30,7 +30,7 @@ type Map = BTreeMap<u64, u64, Store>;
 // Writes a value over the one that is there, by an entry. Returns whether the key is there.
 fn overwrite(map: &mut Map, key: u64, value: u64) -> bool
     ensures there { result ≡ is_some (found nat_cmp key (pairs_of map.old)) }
-    ensures written { IsTrue result → pairs_of map.new ≡ with_value nat_cmp key value (pairs_of map.old) }
+    ensures written { IsTrue result → WritesAtKey nat_cmp key value map.old map.new }
     ensures absent { result ≡ false → map.new ≡ map.old }
 {
     match map.entry(key) {
@@ -44,7 +44,7 @@ fn overwrite(map: &mut Map, key: u64, value: u64) -> bool
 
 // Does the same by an entry that is kept.
 fn overwrite_kept(map: &mut Map, key: u64, value: u64) -> bool
-    ensures written { IsTrue result → pairs_of map.new ≡ with_value nat_cmp key value (pairs_of map.old) }
+    ensures written { IsTrue result → WritesAtKey nat_cmp key value map.old map.new }
     ensures absent { result ≡ false → map.new ≡ map.old }
 {
     match map.entry(key) {
@@ -59,7 +59,7 @@ fn overwrite_kept(map: &mut Map, key: u64, value: u64) -> bool
 
 // Does the same without an entry.
 fn write(map: &mut Map, key: u64, value: u64) -> bool
-    ensures written { IsTrue result → pairs_of map.new ≡ with_value nat_cmp key value (pairs_of map.old) }
+    ensures written { IsTrue result → WritesAtKey nat_cmp key value map.old map.new }
     ensures absent { result ≡ false → map.new ≡ map.old }
 {
     match map.get_mut(&key) {
@@ -126,7 +126,7 @@ fn set_at(map: &mut Map, addr: Address, value: u64) -> u64
 // Removes the pair at an address by an update. Returns its value.
 fn unset_at(map: &mut Map, addr: Address) -> u64
     requires { IsOccupiedIn map.old addr }
-    ensures { (key : ℕ) × (after : Address) × IsRemoved map.old map.new nat_cmp addr (key, result) after }
+    ensures { (key : ℕ) × UpdatesAt nat_cmp map.old map.new addr (key, result) None }
 {
     map.update_at(addr, |old| (None, old))
 }
@@ -214,11 +214,9 @@ fn writes_to_the_item_at_each_address(rt: HostRuntime) -> Result<(), Fail> {
 
 // Moves the pairs of one map into another.
 fn join(map: &mut Map, other: &mut Map) -> Result<(), Refused<u64, u64>>
-    ensures joined { OnOk result (pairs_of map.new ≡
-        inserted_all nat_cmp (pairs_of map.old) (pairs_of other.old)) }
+    ensures joined { OnOk result (AddsAll nat_cmp map.old other.old map.new) }
     ensures emptied { OnOk result (pairs_of other.new ≡ []) }
-    ensures stopped { IfErr result (λ r. Moves nat_cmp (pairs_of map.old)
-        (pairs_of other.old) (r.key, r.value) (pairs_of map.new) (pairs_of other.new)) }
+    ensures stopped { IfErr result (MovesUntil nat_cmp map.old other.old map.new other.new) }
 {
     map.append(other)
 }

@@ -82,3 +82,11 @@ module _ {T C F O : Type 0} (calls : Mut F (Bor T × Unit {0}) Bool) where
   -- the end
   abbrev pub LetsGo : (old : DrainFilter T C F O) → (now : SetState T) → Type 0
   LetsGo old now = RunsOut (CalledAt calls) old.test old.front old.set.now now
+
+-- the closure may be called at each element of a set from place `front` on
+abbrev pub CallableFrom : {T F : Type 0} → (calls : Mut F (Bor T × Unit {0}) Bool) → F → (front : ℕ) → SetState T → Type 0
+CallableFrom calls f front set = CallableOnEach (CalledAt calls) (TakesAt calls) f (drop front set.elements)
+
+-- a step, by the calls of a closure
+abbrev pub YieldsBy : {T F : Type 0} → (calls : Mut F (Bor T × Unit {0}) Bool) → (f f' : F) → (old : SetState T) → (front : ℕ) → (new : SetState T) → (front' : ℕ) → Option T → Type 0
+YieldsBy calls f f' old front new front' result = Yields (CalledAt calls) f f' old front new front' result

@@ -2,7 +2,7 @@
 -- Read `inserted_all` first. `Extends` says how far an iterator was stepped, and `Moves` the same of the set that `append`
 -- takes elements from. `IsRefusedInTurn` is the refusal of one of the elements. The words after it say these of whole
 -- sets, and of a refused insertion.
-use Rattle.std.specs.Prelude.{◌≡◌, List, [], ◌∷◌, ◌++◌, Option, None, Some}
+use Rattle.std.specs.Prelude.{◌≡◌, ◌≢◌, List, [], ◌∷◌, ◌++◌, Option, None, Some}
 use Rattle.std.specs.Borrow.{Bor}
 use Rattle.std.specs.Iterator.{YieldsThen}
 use Rattle.std.specs.Option.{option_copied}
@@ -57,6 +57,10 @@ module _ {T : Type 0} (cmp : T → T → Ordering) where
     abbrev pub CollectsUntil : (source rest : S) → SetState T × Refused T (Unit {0}) → Type 0
     CollectsUntil source rest stopped = Extends steps [] source (Some stopped.1.key) stopped.0.elements rest
 
+  -- all elements of `other` were inserted
+  abbrev pub AddsAll : (old other new : SetState T) → Type 0
+  AddsAll old other new = new.elements ≡ inserted_all old.elements other.elements
+
   -- the elements of `other` before a refused one were inserted, and those after it are left
   abbrev pub MovesUntil : (old other new rest : SetState T) → Refused T (Unit {0}) → Type 0
   MovesUntil old other new rest refused = Moves old.elements other.elements refused.key new.elements rest.elements
@@ -64,6 +68,10 @@ module _ {T : Type 0} (cmp : T → T → Ordering) where
   -- the refused insertion was one of a new element, with its cause
   abbrev pub RefusesInTurn : (MayRefuse : Content (Node T (Unit {0})) → Type 0) → (kept : Kept) → (new : SetState T) → Refused T (Unit {0}) → Type 0
   RefusesInTurn MayRefuse kept new refused = IsRefusedInTurn MayRefuse refused.key kept new refused.cause
+
+-- the two are swapped if the first has no elements and the other has some
+abbrev pub SwapsIntoEmpty : {T : Type 0} → (old other new rest : SetState T) → Type 0
+SwapsIntoEmpty old other new rest = old.elements ≡ [] → other.elements ≢ [] → (new ≡ other) × (rest ≡ old)
 
 -- the steps of an iterator that lends elements, as steps that give copies
 abbrev pub copied_steps : {S T : Type 0} → (S → Option (Bor T) → S → Type 0) → S → Option T → S → Type 0

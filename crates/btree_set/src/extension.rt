@@ -5,7 +5,7 @@ ghost use Rattle.std.specs.Mem.{FitsInMemory};
 ghost use denote.Plain.{Nothing as unit_row};
 ghost use Rattle.btree_node.specs.contracts.node.Node.{the_row as node_row};
 ghost use Rattle.btree_shape.specs.TreeState.{unlimited};
-ghost use Rattle.btree_set.specs.Extension.{Adds, AddsUntil, Collects, CollectsUntil, MovesUntil, RefusesInTurn, copied_steps, inserted_all};
+ghost use Rattle.btree_set.specs.Extension.{Adds, AddsAll, AddsUntil, Collects, CollectsUntil, MovesUntil, RefusesInTurn, SwapsIntoEmpty, copied_steps};
 
 use crate::BTreeSet;
 use btree_item::Refused;
@@ -18,12 +18,10 @@ impl<T: Ord + Drop, C: NodesMut<T, ()>> BTreeSet<T, C> {
     /// as `insert` inserts them. The first one that is refused is returned: those before it are in this set, and those after it are still
     /// in `other`.
     pub fn append(&mut self, other: &mut Self) -> Result<(), Refused<T, ()>>
-        ensures appended { OnOk result (self.new.elements ≡
-            inserted_all T.cmp self.old.elements other.old.elements) }
+        ensures appended { OnOk result (AddsAll T.cmp self.old other.old self.new) }
         ensures emptied { OnOk result (other.new.elements ≡ []) }
         ensures unchanged { other.old.elements ≡ [] → (self.new ≡ self.old) × (other.new ≡ other.old) }
-        ensures swapped { self.old.elements ≡ [] → other.old.elements ≢ [] →
-            (self.new ≡ other.old) × (other.new ≡ self.old) }
+        ensures swapped { SwapsIntoEmpty self.old other.old self.new other.new }
         ensures uncounted { OnOk result (self.old.elements ≢ [] →
             self.new.kept ≡ self.old.kept) }
         ensures other_uncounted { self.old.elements ≢ [] → other.new.kept ≡ other.old.kept }

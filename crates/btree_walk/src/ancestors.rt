@@ -2,7 +2,8 @@
 ghost use Rattle.std.specs.Prelude.{◌≡◌, ◌-◌, ◌<◌, ◌++◌, [], ◌∷◌, Some, OnSome, length, slice_get, take};
 ghost use Rattle.std.specs.Option.{option_copied};
 ghost use Rattle.btree_shape.specs.TreeState.{pairs_of};
-ghost use Rattle.btree_walk.specs.Rows.{AreAncestors, IsBelow, IsNextAbove, IsNextIn, remaining_at, remaining_of};
+ghost use Rattle.btree_walk.specs.Given.{KeepsLeft};
+ghost use Rattle.btree_walk.specs.Rows.{AreAncestors, IsBelow, IsNextAbove, IsNextIn, remaining_of};
 
 use btree_ext::{BTreeExt, Tree};
 use btree_item::{LEAF_SLOTS, MAX_LEVELS, Slots};
@@ -123,7 +124,7 @@ fn descend<'a, K: Ord + 'a, V: 'a, C: NodesMut<K, V> + 'a>(
     requires above { AreAncestors tree.now ancestors.old }
     requires below { IsBelow tree.now ancestors.old top }
     ensures above { AreAncestors tree.now ancestors.new }
-    ensures left { remaining_at tree.now top ancestors.old ≡ remaining_of tree.now (Some result) 0 ancestors.new }
+    ensures left { KeepsLeft tree.now top ancestors.old (Some result) 0 ancestors.new }
 {
     tree.tell_fits();
     let mut id = top;

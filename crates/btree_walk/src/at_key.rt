@@ -5,9 +5,9 @@ ghost use Rattle.btree_item.specs.Pairs.{Ascends};
 ghost use Rattle.btree_node.specs.Node.{view_of};
 ghost use Rattle.btree_view.specs.View.{items_of, size_of};
 ghost use Rattle.btree_walk.specs.AtKey.{below_in, up_to_in};
-ghost use Rattle.btree_walk.specs.Bounds.{pairs_from, pairs_up_to};
-ghost use Rattle.btree_walk.specs.Preceding.{AreAncestorsBefore, HasKept, preceding_of};
-ghost use Rattle.btree_walk.specs.Rows.{AreAncestors, remaining_of};
+ghost use Rattle.btree_walk.specs.Given.{HasLeftFrom, HasLeftUpTo};
+ghost use Rattle.btree_walk.specs.Preceding.{AreAncestorsBefore, HasKept};
+ghost use Rattle.btree_walk.specs.Rows.{AreAncestors};
 
 use crate::ancestors::{Ancestor, Ancestors};
 use btree_ext::{BTreeExt, Tree};
@@ -36,8 +36,7 @@ pub(crate) fn start_from<'a, K: Ord + 'a, V: 'a, C: NodesMut<K, V> + 'a>(
 ) -> (Option<&'a LeafNode<K, V>>, usize)
     requires none { ancestors.old ≡ [] }
     ensures above { AreAncestors tree.now ancestors.new }
-    ensures left { remaining_of tree.now result.0 result.1 ancestors.new ≡
-        pairs_from K.cmp (Included key.now) tree.now }
+    ensures left { HasLeftFrom tree.now K.cmp (Included key.now) result.0 result.1 ancestors.new }
 {
     tree.tell_fits();
     // For the prover: the length is a `usize`, so there are at most `MAX_LEVELS` levels.
@@ -86,8 +85,7 @@ pub(crate) fn end_at<'a, K: Ord + 'a, V: 'a, C: NodesMut<K, V> + 'a>(
     requires none { ancestors.old ≡ [] }
     ensures above { AreAncestorsBefore tree.now ancestors.new }
     ensures kept { HasKept result.0 result.1 }
-    ensures left { preceding_of tree.now result.0 result.1 ancestors.new ≡
-        pairs_up_to K.cmp (Included key.now) tree.now }
+    ensures left { HasLeftUpTo tree.now K.cmp (Included key.now) result.0 result.1 ancestors.new }
 {
     tree.tell_fits();
     // For the prover: the length is a `usize`, so there are at most `MAX_LEVELS` levels.

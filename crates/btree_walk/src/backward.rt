@@ -2,7 +2,8 @@
 ghost use Rattle.std.specs.Prelude.{◌≡◌, ◌<◌, [], Some, OnSome};
 ghost use Rattle.btree_node.specs.Node.{view_of};
 ghost use Rattle.btree_shape.specs.TreeState.{pairs_of};
-ghost use Rattle.btree_walk.specs.Preceding.{AreAncestorsBefore, AreFetched, EndsAt, HasKept, HasKeptAbove, IsBelowBefore, IsPreviousAbove, kept_in_leaf, preceding_at, preceding_of};
+ghost use Rattle.btree_walk.specs.Given.{KeepsLeftBefore};
+ghost use Rattle.btree_walk.specs.Preceding.{AreAncestorsBefore, AreFetched, EndsAt, HasKept, HasKeptAbove, IsBelowBefore, IsPreviousAbove, kept_in_leaf, preceding_of};
 ghost use Rattle.btree_walk.specs.Ranges.{IsLastOf, pair_now};
 ghost use Rattle.btree_walk.specs.Rows.{run_left};
 
@@ -81,8 +82,7 @@ fn descend_last<'a, K: Ord + 'a, V: 'a, C: NodesMut<K, V> + 'a>(
     ensures above { AreAncestorsBefore tree.now ancestors.new }
     ensures fetched { AreFetched tree.now fetched.new }
     ensures kept { HasKept (Some result.0) result.1 }
-    ensures left { preceding_at tree.now top ancestors.old ≡
-        preceding_of tree.now (Some result.0) result.1 ancestors.new }
+    ensures left { KeepsLeftBefore tree.now top ancestors.old (Some result.0) result.1 ancestors.new }
 {
     tree.tell_fits();
     let mut id = top;

@@ -2,8 +2,9 @@
 ghost use Rattle.std.specs.Prelude.{◌≡◌, Some, IfSome, length};
 ghost use Rattle.std.specs.Iterator.SizeHint.{IsWithinCount};
 ghost use Rattle.std.specs.Iterator.{YieldsFirstBy, YieldsLastBy, item_count, UpTo};
-ghost use Rattle.btree_walk.specs.Ranges.{GivesFirst, GivesLast, IsBack, behind_or_all};
-ghost use Rattle.btree_walk.specs.Rows.{AreAncestors, remaining_after, remaining_in_leaf, run_left};
+ghost use Rattle.btree_walk.specs.Given.{GivesNext, GivesPrevious};
+ghost use Rattle.btree_walk.specs.Ranges.{GivesFirst, IsBack};
+ghost use Rattle.btree_walk.specs.Rows.{AreAncestors, remaining_in_leaf, run_left};
 
 use crate::ancestors::{Ancestors, next_above, start};
 use crate::walks::Back;
@@ -65,8 +66,7 @@ pub(crate) fn next_pair<'a, K: Ord + 'a, V: 'a, C: NodesMut<K, V> + 'a>(
 ) -> Option<(&'a K, &'a V)>
     requires { AreAncestors tree.now ancestors.old }
     ensures above { AreAncestors tree.now ancestors.new }
-    ensures first { GivesFirst (remaining_after tree.now run.old ancestors.old) result
-        (remaining_after tree.now run.new ancestors.new) }
+    ensures first { GivesNext tree.now run.old ancestors.old result run.new ancestors.new }
 {
     tree.tell_fits();
     if let Some(pair) = next_in_run(run) {
@@ -89,8 +89,7 @@ fn step_back<'a, K: Ord + 'a, V: 'a, C: NodesMut<K, V> + 'a>(
 ) -> Option<(&'a K, &'a V)>
     requires { IsBack tree.now back.old }
     ensures back { IsBack tree.now back.new }
-    ensures last { GivesLast (behind_or_all tree.now back.old) result
-        (behind_or_all tree.now back.new) }
+    ensures last { GivesPrevious tree.now back.old result back.new }
 {
     tree.tell_fits();
     if let Some(back) = back {

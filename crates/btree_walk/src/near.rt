@@ -3,8 +3,8 @@ ghost use Rattle.std.specs.Prelude.{◌≡◌, Some};
 ghost use Rattle.std.specs.BTreeMap.Range.{is_past_end};
 ghost use Rattle.btree_item.specs.Pairs.{Ascends};
 ghost use Rattle.btree_walk.specs.Bounds.{bound_key};
-ghost use Rattle.btree_walk.specs.Near.{AreSomewhere, CutsLeaf, CutsRow, IsLastBelow, IsLastWithin, IsSomewhere, branch_now, child_in, list_below, list_under};
-ghost use Rattle.btree_walk.specs.Ranges.{pair_now};
+ghost use Rattle.btree_walk.specs.Given.{GivesLastWithin};
+ghost use Rattle.btree_walk.specs.Near.{AreSomewhere, CutsLeaf, CutsRow, IsLastBelow, IsSomewhere, branch_now, child_in, list_below, list_under};
 ghost use Rattle.btree_walk.specs.Rows.{AreAncestors, remaining_of};
 
 use crate::ancestors::{Ancestors, next_in_leaf};
@@ -73,7 +73,7 @@ fn last_under<'a, K: Ord + 'a, V: 'a, C: NodesMut<K, V> + 'a>(
 ) -> Option<(&'a K, &'a V)>
     requires under { IsSomewhere tree.now top }
     requires rises { Ascends K.cmp (list_under tree.now top) }
-    ensures { IsLastWithin K.cmp (bound_key end.entry) (list_under tree.now top) (pair_now result) }
+    ensures { GivesLastWithin K.cmp end.entry (list_under tree.now top) result }
 {
     tree.tell_fits();
     let mut last = None;
@@ -122,8 +122,8 @@ pub(crate) fn last_within<'a, K: Ord + 'a, V: 'a, C: NodesMut<K, V> + 'a>(
 ) -> Option<(&'a K, &'a V)>
     requires above { AreAncestors tree.now ancestors.now }
     requires rises { Ascends K.cmp (remaining_of tree.now leaf passed ancestors.now) }
-    ensures { IsLastWithin K.cmp (bound_key end.entry)
-        (remaining_of tree.now leaf.entry passed ancestors.now) (pair_now result) }
+    ensures { GivesLastWithin K.cmp end.entry
+        (remaining_of tree.now leaf.entry passed ancestors.now) result }
 {
     tree.tell_fits();
     let (last, stops) = last_of_leaf(leaf, passed, end);

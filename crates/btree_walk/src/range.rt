@@ -4,9 +4,9 @@ ghost use Rattle.std.specs.Iterator.SizeHint.{IsWithinCount};
 ghost use Rattle.std.specs.Iterator.{YieldsFirstBy, YieldsLastBy, item_count, UpTo};
 ghost use Rattle.btree_item.specs.Pairs.{Ascends};
 ghost use Rattle.btree_shape.specs.TreeState.{pairs_of};
-ghost use Rattle.btree_walk.specs.Bounds.{IsValidRange, bound_key, pairs_between};
-ghost use Rattle.btree_walk.specs.Near.{IsLastWithin};
-ghost use Rattle.btree_walk.specs.Ranges.{AreLeftSame, IsBack, IsBehind, ahead_of, behind_in, from_first, pair_now};
+ghost use Rattle.btree_walk.specs.Bounds.{IsValidRange, pairs_between};
+ghost use Rattle.btree_walk.specs.Given.{GivesLastWithin, IsBehindIn, LeavesSame, ahead_from};
+ghost use Rattle.btree_walk.specs.Ranges.{IsBack};
 ghost use Rattle.btree_walk.specs.Rows.{AreAncestors};
 
 use crate::ancestors::Ancestors;
@@ -29,9 +29,8 @@ fn last_from<'a, K: Ord + 'a, V: 'a, C: NodesMut<K, V> + 'a>(
     end: Bound<&K>,
 ) -> Option<(&'a K, &'a V)>
     requires above { AreAncestors tree.now front.now.ancestors }
-    requires rises { Ascends K.cmp (from_first (pair_now first) (ahead_of tree.now front.now)) }
-    ensures { IsLastWithin K.cmp (bound_key end.entry)
-        (from_first (pair_now first.entry) (ahead_of tree.now front.now)) (pair_now result) }
+    requires rises { Ascends K.cmp (ahead_from tree.now first front.now) }
+    ensures { GivesLastWithin K.cmp end.entry (ahead_from tree.now first.entry front.now) result }
 {
     tree.tell_fits();
     let Some(pair) = first else {
@@ -51,10 +50,10 @@ fn last_left<'a, K: Ord + 'a, V: 'a, C: NodesMut<K, V> + 'a>(
     is_left: bool,
 ) -> Option<(&'a K, &'a V)>
     requires back { IsBack tree.now back.old }
-    requires behind { IsBehind (pairs_of tree.now) (pair_now (Some last)) (behind_in tree.now back.old) }
+    requires behind { IsBehindIn tree.now (Some last) back.old }
     ensures back { IsBack tree.now back.new }
-    ensures behind { IsBehind (pairs_of tree.now) (pair_now result) (behind_in tree.now back.new) }
-    ensures same { AreLeftSame K.cmp (pairs_of tree.now) (pair_now (Some last.entry)) is_left (pair_now result) true }
+    ensures behind { IsBehindIn tree.now result back.new }
+    ensures same { LeavesSame tree.now K.cmp (Some last.entry) is_left result }
 {
     if is_left {
         return Some(last);

@@ -3,6 +3,7 @@ ghost use Rattle.std.specs.Prelude.{◌≡◌, []};
 ghost use Rattle.std.specs.declared.ops.Bound.TheVariants.{Excluded, Included};
 ghost use Rattle.btree_shape.specs.TreeState.{pairs_of};
 ghost use Rattle.btree_walk.specs.Bounds.{bound_key, pairs_from, pairs_up_to};
+ghost use Rattle.btree_walk.specs.Given.{GivesFirstFrom, GivesLastUpTo};
 ghost use Rattle.btree_walk.specs.Preceding.{AreAncestorsBefore, AreFetched};
 ghost use Rattle.btree_walk.specs.Ranges.{GivesFirst, GivesLast, ahead_of, behind_of};
 ghost use Rattle.btree_walk.specs.Rows.{AreAncestors, run_left};
@@ -100,8 +101,7 @@ impl<'a, K: Ord + 'a, V: 'a> Front<'a, K, V> {
     ) -> Option<(&'a K, &'a V)>
         requires none { self.old.ancestors ≡ [] }
         ensures above { AreAncestors tree.now self.new.ancestors }
-        ensures first { GivesFirst (pairs_from K.cmp (Excluded key.now) tree.now)
-            result (ahead_of tree.now self.new) }
+        ensures first { GivesFirstFrom tree.now K.cmp (Excluded key.now) result self.new }
     {
         tree.tell_well_formed();
         self.start_from(tree, key);
@@ -122,8 +122,7 @@ impl<'a, K: Ord + 'a, V: 'a> Front<'a, K, V> {
     ) -> Option<(&'a K, &'a V)>
         requires none { self.old.ancestors ≡ [] }
         ensures above { AreAncestors tree.now self.new.ancestors }
-        ensures first { GivesFirst (pairs_from K.cmp (bound_key bound.entry) tree.now)
-            result (ahead_of tree.now self.new) }
+        ensures first { GivesFirstFrom tree.now K.cmp (bound_key bound.entry) result self.new }
     {
         match bound {
             Bound::Unbounded => {
@@ -231,8 +230,7 @@ impl<'a, K: Ord + 'a, V: 'a> Back<'a, K, V> {
         requires fetched { AreFetched tree.now self.old.fetched }
         ensures above { AreAncestorsBefore tree.now self.new.ancestors }
         ensures fetched { AreFetched tree.now self.new.fetched }
-        ensures last { GivesLast (pairs_up_to K.cmp (Excluded key.now) tree.now)
-            result (behind_of tree.now self.new) }
+        ensures last { GivesLastUpTo tree.now K.cmp (Excluded key.now) result self.new }
     {
         tree.tell_well_formed();
         self.start_at(tree, key);

@@ -3,7 +3,7 @@ ghost use Rattle.std.specs.Prelude.{◌≡◌, ◌<◌, ◌≤◌, Some, drop, l
 ghost use Rattle.std.specs.Map.Calls.{CallableOnEachPair};
 ghost use Rattle.btree_shape.specs.TreeAddresses.{item_addresses_of};
 ghost use Rattle.btree_shape.specs.TreeState.{pairs_of};
-ghost use Rattle.btree_map.specs.Drain.{AsksFirst, Ends, RunsOut, Yields};
+ghost use Rattle.btree_map.specs.Drain.{AcceptsFirst, AsksFirst, EndsIn, RunsOut, Yields, YieldsIn};
 ghost use Rattle.btree_map.specs.Editing.{left_of};
 
 use crate::BTreeMap;
@@ -18,8 +18,7 @@ fn ask<K: Ord + Drop, V: Drop, C: NodesMut<K, V>, P: PairTest<K, V>>(
     test: &mut P,
 ) -> bool
     requires left { 0 < length (left_of entries.old) }
-    requires accepts { (k : K) (v : V) → slice_get (left_of entries.old) 0 ≡ Some (k, v) →
-        P.accepts test.old k v }
+    requires accepts { AcceptsFirst P.accepts test.old (left_of entries.old) }
     ensures { AsksFirst P.step test.old test.new entries.old entries.new result }
 {
     let (key, value) = entries.peek_pair();
@@ -35,8 +34,7 @@ fn seek<K: Ord + Drop, V: Drop, C: NodesMut<K, V>, P: PairTest<K, V>>(
     ensures first { result.0 ≡ entries.new.first }
     ensures front { result.1 ≡ entries.new.front }
     ensures same_map { entries.new.map.ghost_name ≡ entries.old.map.ghost_name }
-    ensures yields { Yields P.step true test.old test.new
-        entries.old.map.now entries.old.front entries.new.map.now entries.new.front result.2 }
+    ensures yields { YieldsIn P.step test.old test.new entries.old entries.new result.2 }
     ensures callable { CallableOnEachPair P.step P.accepts test.new (left_of entries.new) }
 {
     while entries.size_hint().0 > 0 {
@@ -59,8 +57,7 @@ pub(crate) fn run_rest<'a, 'b, 'c, K: Ord + Drop, V: Drop, C: NodesMut<K, V>, P:
 )
     requires { CallableOnEachPair P.step P.accepts test.old (left_of entries.old) }
     ensures same_map { entries.new.map.ghost_name ≡ entries.old.map.ghost_name }
-    ensures ends { Ends P.step takes test.old test.new
-        entries.old.map.now entries.old.front entries.new.map.now entries.new.front }
+    ensures ends { EndsIn P.step takes test.old test.new entries.old entries.new }
 {
     while entries.size_hint().0 > 0 {
         if ask(entries, test) == takes {

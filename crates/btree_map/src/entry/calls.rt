@@ -3,7 +3,7 @@ ghost use Rattle.std.specs.Prelude.{◌≡◌, None, Some, IfErr, IfOk};
 ghost use Rattle.std.specs.Borrow.{Bor, LendsSoOk, sem};
 ghost use Rattle.std.specs.Fn.{FnOnceReturnsAt};
 ghost use Rattle.std.specs.Option.{UnwrapsOrElse};
-ghost use Rattle.btree_map.specs.Entry.{HoldsOfAsked, IsRefusedEntry, WritesEntry, asked_key, entry_address, entry_key, entry_map, entry_value};
+ghost use Rattle.btree_map.specs.Entry.{HoldsOfAsked, IsRefusedEntry, ReturnsAsked, WritesEntry, asked_key, entry_address, entry_key, entry_map, entry_value};
 ghost use Rattle.btree_map.specs.Lent.{entry_lends};
 
 use super::Entry;
@@ -42,8 +42,7 @@ impl<'a, K: Ord + Drop, V: Drop, C: NodesMut<K, V>> Entry<'a, K, V, C> {
         ensures* writes_back { sem 𝓛 (entry_lends K.row V.row C.row C.Origin.row self.entry result) }
         ensures value { IfOk result (λ v.
             UnwrapsOrElse (entry_value self.entry) (λ w. w ≡ default) v.now) }
-        ensures returned { IfErr result (λ r.
-            (asked_key self.entry ≡ Some r.key) × (r.value ≡ default)) }
+        ensures returned { IfErr result (ReturnsAsked (asked_key self.entry) (λ w. w ≡ default)) }
     {
         match self {
             Entry::Vacant(vacant) => vacant.insert(default),
@@ -60,8 +59,7 @@ impl<'a, K: Ord + Drop, V: Drop, C: NodesMut<K, V>> Entry<'a, K, V, C> {
         ensures* writes_back { sem 𝓛 (entry_lends K.row V.row C.row C.Origin.row self.entry result) }
         ensures value { IfOk result (λ v.
             UnwrapsOrElse (entry_value self.entry) (F.post default) v.now) }
-        ensures returned { IfErr result (λ r.
-            (asked_key self.entry ≡ Some r.key) × F.post default r.value) }
+        ensures returned { IfErr result (ReturnsAsked (asked_key self.entry) (F.post default)) }
     {
         match self {
             Entry::Vacant(entry) => entry.insert(default()),
@@ -78,8 +76,8 @@ impl<'a, K: Ord + Drop, V: Drop, C: NodesMut<K, V>> Entry<'a, K, V, C> {
         ensures* writes_back { sem 𝓛 (entry_lends K.row V.row C.row C.Origin.row self.entry result) }
         ensures value { IfOk result (λ v. UnwrapsOrElse (entry_value self.entry)
             (HoldsOfAsked self.entry (FnOnceReturnsAt F.FnOnce default)) v.now) }
-        ensures returned { IfErr result (λ r. (asked_key self.entry ≡ Some r.key)
-            × FnOnceReturnsAt F.FnOnce default r.key r.value) }
+        ensures returned { IfErr result (λ r.
+            ReturnsAsked (asked_key self.entry) (FnOnceReturnsAt F.FnOnce default r.key) r) }
     {
         match self {
             Entry::Vacant(entry) => {

@@ -4,7 +4,7 @@ ghost use Rattle.std.specs.Borrow.{sem};
 ghost use Rattle.btree_shape.specs.TreeState.{item_of};
 ghost use Rattle.btree_map.specs.Entry.{with_entry_value};
 ghost use Rattle.btree_map.specs.Lent.{lends_in_entry, lends_occupied};
-ghost use Rattle.btree_map.specs.Written.{RemovesAt, WritesLentAt, WritesValueAt};
+ghost use Rattle.btree_map.specs.Written.{RemovesAt, RemovesValueAt, WritesLentAt, WritesValueAt};
 
 use super::OccupiedEntry;
 use crate::BTreeMap;
@@ -94,8 +94,7 @@ impl<'a, K: Ord + Drop, V: Drop, C: NodesMut<K, V>> OccupiedEntry<'a, K, V, C> {
 
     /// Removes the pair, and returns its value. The stored key is dropped. It frees at most as many nodes as the map has levels.
     pub fn remove(self) -> V
-        ensures { (key : K) × RemovesAt K.cmp self.entry.map.now self.exit.0.now
-            self.entry.at (key, result) }
+        ensures { RemovesValueAt K.cmp self.entry.map.now self.exit.0.now self.entry.at result }
     {
         let (_key, value) = self.remove_entry();
         value

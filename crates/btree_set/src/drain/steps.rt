@@ -1,8 +1,8 @@
 //! How a drain asks: the steps of the map's drain, on a set.
-ghost use Rattle.std.specs.Prelude.{◌≡◌, ◌≤◌, drop, length, slice_get};
-ghost use Rattle.std.specs.Fn.{CalledAt, TakesAt};
+ghost use Rattle.std.specs.Prelude.{◌≡◌, ◌≤◌, length, slice_get};
+ghost use Rattle.std.specs.Fn.{CalledAt};
 ghost use Rattle.btree_shape.specs.TreeAddresses.{item_addresses_of};
-ghost use Rattle.btree_set.specs.Drain.{CallableOnEach, RunsOut, Yields};
+ghost use Rattle.btree_set.specs.Drain.{CallableFrom, RunsOut, YieldsBy};
 
 use crate::BTreeSet;
 use crate::set::first_of;
@@ -19,14 +19,11 @@ pub(crate) fn seek<T: Ord + Drop, C: NodesMut<T, ()>, F: FnMut(&T) -> bool>(
 ) -> (Option<Address>, usize, Option<T>)
     requires stands { first ≡ slice_get (item_addresses_of set.old.tree) front }
     requires within { front ≤ length (item_addresses_of set.old.tree) }
-    requires callable { CallableOnEach (CalledAt F.FnMut) (TakesAt F.FnMut)
-        test.old (drop front set.old.elements) }
+    requires callable { CallableFrom F.FnMut test.old front set.old }
     ensures stands { result.0 ≡ slice_get (item_addresses_of set.new.tree) result.1 }
     ensures within { result.1 ≤ length (item_addresses_of set.new.tree) }
-    ensures callable { CallableOnEach (CalledAt F.FnMut) (TakesAt F.FnMut)
-        test.new (drop result.1 set.new.elements) }
-    ensures yields { Yields (CalledAt F.FnMut) test.old test.new
-        set.old front set.new result.1 result.2 }
+    ensures callable { CallableFrom F.FnMut test.new result.1 set.new }
+    ensures yields { YieldsBy F.FnMut test.old test.new set.old front set.new result.1 result.2 }
 {
     let (first, front, pair) = seek_from(&mut set.map, first, front, test);
     (first, front, first_of(pair))
@@ -41,8 +38,7 @@ pub(crate) fn run_rest<T: Ord + Drop, C: NodesMut<T, ()>, F: FnMut(&T) -> bool>(
 )
     requires stands { first ≡ slice_get (item_addresses_of set.old.tree) front }
     requires within { front ≤ length (item_addresses_of set.old.tree) }
-    requires callable { CallableOnEach (CalledAt F.FnMut) (TakesAt F.FnMut)
-        test.old (drop front set.old.elements) }
+    requires callable { CallableFrom F.FnMut test.old front set.old }
     ensures { RunsOut (CalledAt F.FnMut) test.old front set.old set.new }
 {
     run_out(&mut set.map, first, front, test);
