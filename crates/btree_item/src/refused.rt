@@ -11,7 +11,7 @@ use std::io;
 pub enum Cause {
     /// The store had no room for a node.
     Store,
-    /// The map holds as many pairs as it can count.
+    /// The length has reached its limit.
     Count,
 }
 

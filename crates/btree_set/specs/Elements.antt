@@ -1,5 +1,5 @@
--- A set as contracts see it: its elements in order, and what is kept beside them: how often its store has refused a node, and
--- the greatest number of elements. Drains and refusals alone name the tree behind the elements.
+-- A set as contracts see it: its elements in order, and what is kept beside them: how often its store has refused a
+-- node, and the greatest number of elements. Drains, refusals and a failed clone alone name the tree behind the elements.
 -- An element is in a set by the order: `stored` is the equal element that is there. Insertion and removal are at the
 -- place of the element, which is the number of smaller ones (`before`).
 use Rattle.std.specs.Prelude.{◌≡◌, ◌≤◌, ℕ, List, Option, is_some, length, refl, set, if◌then◌else◌}

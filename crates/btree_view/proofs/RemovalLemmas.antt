@@ -1,5 +1,5 @@
--- What a removal from a leaf returns, by what is at the offset; and what the result says of the node, which the removal
--- from a tree will cite.
+-- What a removal from a leaf returns, by what is at the offset; and what the result says of the node, which removals
+-- from a tree cite.
 use Rattle.std.proofs.Common.{◌≡◌, ◌<◌, ◌≤◌, ◌∷◌, [], ℕ, zero, suc, List, Option, Some, None, Ok, Err, length, map, refl, sym, ap, ◌∙◌, arith}
 use Rattle.std.specs.Option.{option_map}
 use Rattle.std.specs.Prelude.{slice_get, IsSome, IsTrue}

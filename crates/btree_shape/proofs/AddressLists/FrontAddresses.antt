@@ -1,4 +1,4 @@
--- The list of the front addresses of a tree: each is in it once, and in order. Navigation and cursors will cite it.
+-- The list of the front addresses of a tree: each is in it once, and in order.
 use Rattle.std.proofs.Common.{◌≡◌, ◌≤◌, ◌∷◌, ◌+◌, ◌∙◌, [], ℕ, zero, suc, inl, inr, true, List, length, Option, Some, None, refl, sym, ap, subst, arith, length-append}
 use Rattle.std.proofs.lemmas.Option.{slice_get_cases, slice_get_within}
 use Rattle.std.specs.Prelude.{slice_get, is_some}

@@ -1,5 +1,4 @@
--- The list of the back addresses in the leaves of a tree: each is at the index that is its place. Navigation and
--- cursors will cite it.
+-- The list of the back addresses in the leaves of a tree: each is at the index that is its place.
 use Rattle.std.proofs.Common.{◌≡◌, ◌≤◌, ◌∙◌, ◌∷◌, [], ℕ, zero, suc, inl, inr, true, false, Bool, List, length, Option, Some, None, refl, sym, ap, subst, arith}
 use Rattle.std.proofs.lemmas.Option.{slice_get_cases}
 use Rattle.std.specs.List.{AllByRecursion}

@@ -1,5 +1,5 @@
 -- The leftmost and the rightmost leaf under a node and under its children; and more levels change neither these nor the
--- lists. Walks from both ends will cite it.
+-- lists. Walks from both ends cite it.
 use Rattle.std.proofs.Common.{◌≡◌, ◌<◌, ◌∷◌, ◌∙◌, [], ℕ, zero, suc, List, length, map, Option, Some, None, refl, sym, ap, subst, arith}
 use Rattle.std.specs.List.{AllByRecursion}
 use Rattle.std.specs.Prelude.{slice_get}

@@ -1,4 +1,4 @@
--- The functions that give the next address agree with the lists. Navigation and cursors will cite it.
+-- The functions that give the next address agree with the lists.
 use Rattle.std.proofs.Common.{◌≡◌, ◌≢◌, ◌<◌, ◌≤◌, ◌∷◌, ◌∙◌, [], ℕ, zero, suc, inl, inr, true, false, List, length, map, Option, Some, None, refl, sym, ap, subst, arith, option_map, ◌⊎◌}
 use Rattle.std.proofs.lemmas.Bool.Decides.{nat_tests}
 use Rattle.std.proofs.lemmas.List.{length-map}

@@ -1,5 +1,5 @@
 -- A well formed tree, and one that is off by one at a node, has the lists of its addresses, in the order that the rules
--- give. Navigation and cursors will cite it.
+-- give. Navigation and cursors cite it.
 use Rattle.std.proofs.Common.{◌≡◌, ℕ, suc, List, length, Option, Some, None, refl, sym, subst}
 use Rattle.std.specs.Cmp.{IsTotalOrder}
 use Rattle.std.specs.FinMap as finite

@@ -1,5 +1,5 @@
 -- An item removed from an internal node of a well formed tree: the item before it, which is in a leaf, is removed there
--- and replaces it. The tree is off by one at that leaf. Removal will cite it.
+-- and replaces it. The tree is off by one at that leaf. Removal cites it.
 use Rattle.std.proofs.Common.{◌≡◌, ◌≢◌, ◌<◌, ◌≤◌, ◌⊎◌, ◌∙◌, ◌+◌, ℕ, suc, inl, inr, List, set, Option, Some, sym, ap, subst, arith}
 use Rattle.std.proofs.lemmas.Option.{slice_get_within}
 use Rattle.std.specs.Cmp.{IsTotalOrder}

@@ -1,5 +1,5 @@
 -- The addresses of a tree when an item is inserted into a leaf: those before it keep their places, and its own is then
--- the item's. Edits by address will cite what nothing cites yet.
+-- the item's.
 use Rattle.std.proofs.Common.{◌≡◌, ◌<◌, ◌≤◌, ◌++◌, ◌∷◌, [], ◌∙◌, ◌+◌, ℕ, zero, suc, inl, inr, List, length, Option, Some, None, refl, sym, ap, subst, arith, append_assoc}
 use Rattle.std.specs.Cmp.{IsTotalOrder}
 use Rattle.std.specs.List.{insert}
