@@ -34,11 +34,15 @@ returns-clause-updated g c = record {
 }
 
 pub returns-in_default-given-clause-granted : goal.returns-in_default-given-clause-granted
-returns-in_default-given-clause-granted g c =
-    (one-granted c.args.tree.now c.claim_one.new.tree g.C.Nodes.CanHold c.args.gap.id c.in-Some.root c.requires.empty c.in-Some.ensures.claimed
-    c.in-Some.ensures.unused c.in-Some.ensures.number c.in-Some.ensures.can_hold, c.requires.granted)
+returns-in_default-given-clause-granted g c = (
+  one-granted c.args.tree.now c.claim_one.new.tree g.C.Nodes.CanHold c.args.gap.id c.in-Some.root c.requires.empty c.in-Some.ensures.claimed
+      c.in-Some.ensures.unused c.in-Some.ensures.number c.in-Some.ensures.can_hold,
+  c.requires.granted,
+)
 
 pub returns-clause-granted : goal.returns-clause-granted
-returns-clause-granted g c =
-    (one-granted c.args.tree.now c.claim_one.new.tree g.C.Nodes.CanHold c.args.gap.id c.in-Some.root c.requires.empty c.in-Some.ensures.claimed
-    c.in-Some.ensures.unused c.in-Some.ensures.number c.in-Some.ensures.can_hold, c.requires.granted)
+returns-clause-granted g c = (
+  one-granted c.args.tree.now c.claim_one.new.tree g.C.Nodes.CanHold c.args.gap.id c.in-Some.root c.requires.empty c.in-Some.ensures.claimed
+      c.in-Some.ensures.unused c.in-Some.ensures.number c.in-Some.ensures.can_hold,
+  c.requires.granted,
+)
