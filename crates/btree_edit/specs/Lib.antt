@@ -1,3 +1,4 @@
+pub mod ByKey
 pub mod Exchange
 pub mod Insert
 pub mod InsertAbsent

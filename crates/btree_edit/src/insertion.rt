@@ -1,11 +1,11 @@
 //! Insertion.
 ghost use Rattle.std.specs.Prelude.{◌≡◌, ◌≢◌, ◌<◌, ◌≤◌, None, IfOk, IfErr};
-ghost use Rattle.std.specs.Prelude.{OnOk, OnErr};
-ghost use Rattle.btree_item.specs.Pairs.{found, found_value, inserted};
+ghost use Rattle.btree_item.specs.Pairs.{found};
 ghost use Rattle.btree_shape.specs.TreeState.{TreeState, IsBTree, nodes_needed, pairs_of};
 ghost use Rattle.btree_raw.specs.Insertion.{IsRefused};
 ghost use Rattle.btree_raw.specs.Limit.{IsWithinLimit};
-ghost use Rattle.btree_edit.specs.Insert.{IsGapFor, IsInserted, IsRefusedAtGap, InsertsByKey};
+ghost use Rattle.btree_edit.specs.ByKey.{InsertOutcome};
+ghost use Rattle.btree_edit.specs.Insert.{IsGapFor, IsInserted, IsRefusedAtGap};
 ghost use Rattle.btree_edit.specs.InsertAbsent.{InsertsAbsent, IsGapOf};
 ghost use Rattle.btree_edit.specs.Outcomes.{InsertsClaimed};
 ghost use Rattle.btree_edit.specs.Update.{ClaimsNeeded};
@@ -171,16 +171,8 @@ pub fn insert<K: Ord + Drop, V: Drop, C: NodesMut<K, V>>(
 ) -> Result<Option<V>, Refused<K, V>>
     requires tree { IsBTree K.cmp tree.old }
     ensures tree { IsBTree K.cmp tree.new }
-    ensures old { IfOk result (λ old. old ≡ found_value K.cmp key (pairs_of tree.old)) }
-    ensures inserted { OnOk result (pairs_of tree.new ≡ inserted K.cmp key value (pairs_of tree.old)) }
-    ensures inserted_by_key { OnOk result (InsertsByKey K.cmp key tree.old tree.new value) }
+    ensures outcome { InsertOutcome K.cmp key tree.old tree.new C.MayRefuse value result }
     ensures bounded { IsWithinLimit tree.old → IsWithinLimit tree.new }
-    ensures uncounted { OnOk result (tree.new.kept ≡ tree.old.kept) }
-
-    ensures returned { IfErr result (λ r. (r.key ≡ key) × (r.value ≡ value)) }
-    ensures absent { OnErr result (found K.cmp key (pairs_of tree.old) ≡ None) }
-    ensures cause { IfErr result (λ r.
-        IsRefusedAtGap K.cmp key tree.old tree.new C.MayRefuse r.cause) }
 {
     match address_of(tree, &key) {
         Ok(addr) => Ok(Some(exchange(tree, addr, value))),

@@ -1,12 +1,10 @@
 //! Replacing key and value.
-ghost use Rattle.std.specs.Prelude.{◌≡◌, IfErr, IfOk, None, OnErr, OnOk, Some};
-ghost use Rattle.btree_item.specs.Pairs.{found};
+ghost use Rattle.std.specs.Prelude.{◌≡◌, Some};
 ghost use Rattle.btree_shape.specs.TreeState.{IsBTree, item_of, pairs_of};
 ghost use Rattle.btree_raw.specs.Limit.{IsWithinLimit};
 ghost use Rattle.btree_find.specs.Fits.{ReplacesAt};
+ghost use Rattle.btree_edit.specs.ByKey.{ReplaceOutcome};
 ghost use Rattle.btree_edit.specs.Exchange.{IsExchanged};
-ghost use Rattle.btree_edit.specs.Insert.{IsRefusedAtGap};
-ghost use Rattle.btree_edit.specs.Replace.{ReplacesByKey, replaced};
 
 use crate::insertion::insert_at_gap;
 use btree_find::address_of;
@@ -44,16 +42,8 @@ pub fn replace<K: Ord + Drop, V: Drop, C: NodesMut<K, V>>(
 ) -> Result<Option<(K, V)>, Refused<K, V>>
     requires { IsBTree K.cmp tree.old }
     ensures tree { IsBTree K.cmp tree.new }
-    ensures old { IfOk result (λ old. old ≡ found K.cmp key (pairs_of tree.old)) }
-    ensures replaced { OnOk result (pairs_of tree.new ≡ replaced K.cmp key value (pairs_of tree.old)) }
-    ensures replaced_by_key { OnOk result (ReplacesByKey K.cmp key tree.old tree.new value) }
+    ensures outcome { ReplaceOutcome K.cmp key tree.old tree.new C.MayRefuse value result }
     ensures bounded { IsWithinLimit tree.old → IsWithinLimit tree.new }
-    ensures uncounted { OnOk result (tree.new.kept ≡ tree.old.kept) }
-
-    ensures returned { IfErr result (λ r. (r.key ≡ key) × (r.value ≡ value)) }
-    ensures absent { OnErr result (found K.cmp key (pairs_of tree.old) ≡ None) }
-    ensures cause { IfErr result (λ r.
-        IsRefusedAtGap K.cmp key tree.old tree.new C.MayRefuse r.cause) }
 {
     match address_of(tree, &key) {
         Ok(addr) => Ok(Some(replace_at(tree, addr, key, value))),

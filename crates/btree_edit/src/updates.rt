@@ -6,6 +6,7 @@ ghost use Rattle.btree_raw.specs.Insertion.{IsRefused};
 ghost use Rattle.btree_raw.specs.Limit.{IsWithinLimit};
 ghost use Rattle.btree_find.specs.Answers.{IsAddressOf};
 ghost use Rattle.btree_find.specs.Fits.{FitsIn};
+ghost use Rattle.btree_edit.specs.ByKey.{UpdateOutcome};
 ghost use Rattle.btree_edit.specs.Insert.{IsGapFor, IsGranted, IsGrantedIfAbsent, IsRefusedAtGap};
 ghost use Rattle.btree_edit.specs.Outcomes.{FindsSameBelow};
 ghost use Rattle.btree_edit.specs.Update.{RunsAtGap, RunsByKey};
@@ -182,15 +183,9 @@ where
     requires tree { IsBTree K.cmp tree.old }
     requires callable { F.pre action (found_value K.cmp key (pairs_of tree.old)) }
     ensures tree { IsBTree K.cmp tree.new }
-    ensures updated { IfOk result (λ t. RunsByKey K.cmp tree.old tree.new (F.post action) key t) }
+    ensures outcome { UpdateOutcome K.cmp key tree.old tree.new
+        C.MayRefuse C.CanHold (F.post action) action result }
     ensures bounded { IsWithinLimit tree.old → IsWithinLimit tree.new }
-    ensures uncounted { OnOk result (tree.new.kept ≡ tree.old.kept) }
-    ensures granted { OnOk result (IsGrantedIfAbsent K.cmp key tree.old C.CanHold) }
-
-    ensures returned { IfErr result (λ r. (r.key ≡ key) × (r.action ≡ action)) }
-    ensures absent { OnErr result (found K.cmp key (pairs_of tree.old) ≡ None) }
-    ensures cause { IfErr result (λ r.
-        IsRefusedAtGap K.cmp key tree.old tree.new C.MayRefuse r.cause) }
 {
     let at = address_of(tree, &key);
     update_at_or_gap(tree, at, key, action)
@@ -216,15 +211,9 @@ where
     requires callable { F.pre action (found_value K.cmp key (pairs_of tree.old)) }
     ensures tree { IsBTree K.cmp tree.new }
     ensures under { FindsSameBelow K.cmp key tree.old id }
-    ensures updated { IfOk result (λ t. RunsByKey K.cmp tree.old tree.new (F.post action) key t) }
+    ensures outcome { UpdateOutcome K.cmp key tree.old tree.new
+        C.MayRefuse C.CanHold (F.post action) action result }
     ensures bounded { IsWithinLimit tree.old → IsWithinLimit tree.new }
-    ensures uncounted { OnOk result (tree.new.kept ≡ tree.old.kept) }
-    ensures granted { OnOk result (IsGrantedIfAbsent K.cmp key tree.old C.CanHold) }
-
-    ensures returned { IfErr result (λ r. (r.key ≡ key) × (r.action ≡ action)) }
-    ensures absent { OnErr result (found K.cmp key (pairs_of tree.old) ≡ None) }
-    ensures cause { IfErr result (λ r.
-        IsRefusedAtGap K.cmp key tree.old tree.new C.MayRefuse r.cause) }
 {
     let at = address_in(tree, id, &key);
     update_at_or_gap(tree, at, key, action)

@@ -131,13 +131,12 @@ impl<K: Ord, V, C: NodesMut<K, V>> Tree<K, V, C> {
 }
 
 impl<K: Ord + Drop, V: Drop, C: NodesMut<K, V>> Tree<K, V, C> {
-    ghost use Rattle.btree_item.specs.Pairs.{found, found_value, inserted};
+    ghost use Rattle.btree_item.specs.Pairs.{found, found_value};
     ghost use Rattle.btree_shape.specs.TreeState.{pairs_of};
-    ghost use Rattle.btree_edit.specs.Insert.{InsertsByKey, IsGrantedIfAbsent, IsRefusedAtGap};
+    ghost use Rattle.btree_edit.specs.ByKey.{InsertOutcome, ReplaceOutcome, UpdateOutcome};
+    ghost use Rattle.btree_edit.specs.Insert.{IsRefusedAtGap};
     ghost use Rattle.btree_edit.specs.InsertAbsent.{InsertsAbsent, IsGapOf};
     ghost use Rattle.btree_edit.specs.Remove.{RemovesByKey};
-    ghost use Rattle.btree_edit.specs.Replace.{ReplacesByKey, replaced};
-    ghost use Rattle.btree_edit.specs.Update.{RunsByKey};
 
     /// Inserts a pair, or replaces the value if the key is there: the stored key stays, and the given one is dropped.
     ///
@@ -145,15 +144,7 @@ impl<K: Ord + Drop, V: Drop, C: NodesMut<K, V>> Tree<K, V, C> {
     /// the root; for the first pair it uses one. It returns an error, with the pair, if the store refuses one of these nodes, or if the
     /// length has reached its limit: `usize::MAX`, unless a raw tree brought a lower one.
     pub fn insert(&mut self, key: K, value: V) -> Result<Option<V>, Refused<K, V>>
-        ensures old { IfOk result (λ old. old ≡ found_value K.cmp key (pairs_of self.old)) }
-        ensures inserted { OnOk result (pairs_of self.new ≡ inserted K.cmp key value (pairs_of self.old)) }
-        ensures inserted_by_key { OnOk result (InsertsByKey K.cmp key self.old self.new value) }
-        ensures uncounted { OnOk result (self.new.kept ≡ self.old.kept) }
-
-        ensures returned { IfErr result (λ r. (r.key ≡ key) × (r.value ≡ value)) }
-        ensures absent { OnErr result (found K.cmp key (pairs_of self.old) ≡ None) }
-        ensures cause { IfErr result (λ r.
-            IsRefusedAtGap K.cmp key self.old self.new C.MayRefuse r.cause) }
+        ensures { InsertOutcome K.cmp key self.old self.new C.MayRefuse value result }
     {
         insert(&mut self.raw, key, value)
     }
@@ -183,15 +174,7 @@ impl<K: Ord + Drop, V: Drop, C: NodesMut<K, V>> Tree<K, V, C> {
     /// It searches once. For an absent key it does the same as `insert`, and returns the same errors; for a key that is there it changes one
     /// node and cannot fail.
     pub fn replace(&mut self, key: K, value: V) -> Result<Option<(K, V)>, Refused<K, V>>
-        ensures old { IfOk result (λ old. old ≡ found K.cmp key (pairs_of self.old)) }
-        ensures replaced { OnOk result (pairs_of self.new ≡ replaced K.cmp key value (pairs_of self.old)) }
-        ensures replaced_by_key { OnOk result (ReplacesByKey K.cmp key self.old self.new value) }
-        ensures uncounted { OnOk result (self.new.kept ≡ self.old.kept) }
-
-        ensures returned { IfErr result (λ r. (r.key ≡ key) × (r.value ≡ value)) }
-        ensures absent { OnErr result (found K.cmp key (pairs_of self.old) ≡ None) }
-        ensures cause { IfErr result (λ r.
-            IsRefusedAtGap K.cmp key self.old self.new C.MayRefuse r.cause) }
+        ensures { ReplaceOutcome K.cmp key self.old self.new C.MayRefuse value result }
     {
         replace(&mut self.raw, key, value)
     }
@@ -222,14 +205,8 @@ impl<K: Ord + Drop, V: Drop, C: NodesMut<K, V>> Tree<K, V, C> {
         action: F,
     ) -> Result<T, UpdateRefused<K, F>>
         requires callable { F.pre action (found_value K.cmp key (pairs_of self.old)) }
-        ensures updated { IfOk result (λ t. RunsByKey K.cmp self.old self.new (F.post action) key t) }
-        ensures uncounted { OnOk result (self.new.kept ≡ self.old.kept) }
-        ensures granted { OnOk result (IsGrantedIfAbsent K.cmp key self.old C.CanHold) }
-
-        ensures returned { IfErr result (λ r. (r.key ≡ key) × (r.action ≡ action)) }
-        ensures absent { OnErr result (found K.cmp key (pairs_of self.old) ≡ None) }
-        ensures cause { IfErr result (λ r.
-            IsRefusedAtGap K.cmp key self.old self.new C.MayRefuse r.cause) }
+        ensures { UpdateOutcome K.cmp key self.old self.new
+            C.MayRefuse C.CanHold (F.post action) action result }
     {
         update(&mut self.raw, key, action)
     }

@@ -9,19 +9,6 @@ pub insert_at_gap-requires-clause-gap : goal.insert_at_gap-requires-clause-gap
 insert_at_gap-requires-clause-gap g c =
     rw c.new.ensures (gap-for g.K.Ord.cmp g.met.K.Ord.total c.args.tree.now c.args.key c.args.value c.requires.tree c.in-Err.addr c.in-Err.ensures)
 
-pub returns-in-Ok-clause-old : goal.returns-in-Ok-clause-old
-returns-in-Ok-clause-old g c =
-    old-value g.K.Ord.cmp g.met.K.Ord.total c.args.tree.now c.args.key c.args.value c.requires.tree c.exchange.new.tree c.in-Ok.addr c.in-Ok.ensures c.exchange.result c.exchange.ensures
-
-pub returns-in-Ok-clause-inserted : goal.returns-in-Ok-clause-inserted
-returns-in-Ok-clause-inserted g c =
-    exchanged-pairs g.K.Ord.cmp g.met.K.Ord.total c.args.tree.now c.args.key c.args.value c.requires.tree c.exchange.new.tree c.in-Ok.addr c.in-Ok.ensures c.exchange.result c.exchange.ensures
-
-pub returns-in-Ok-insert_at_gap-clause-inserted_by_key : goal.returns-in-Ok-insert_at_gap-clause-inserted_by_key
-returns-in-Ok-insert_at_gap-clause-inserted_by_key g c =
-    put-inserted_by_key g.K.Ord.cmp g.met.K.Ord.total c.args.tree.now c.args.key c.args.value c.requires.tree c.in-Err.addr c.in-Err.ensures c.insert_at_gap.new.tree
-    c.in-Ok-insert_at_gap.field-0 (rw c.new.ensures at c.in-Ok-insert_at_gap.ensures.inserted)
-
 pub address_of-requires : goal.address_of-requires
 address_of-requires g c = search rules steps 200000
 
@@ -43,73 +30,47 @@ insert_at_gap-requires-clause-tree g c = search rules steps 200000
 pub returns-in-Ok-clause-tree : goal.returns-in-Ok-clause-tree
 returns-in-Ok-clause-tree g c = search rules steps 200000
 
-pub returns-in-Ok-clause-inserted_by_key : goal.returns-in-Ok-clause-inserted_by_key
-returns-in-Ok-clause-inserted_by_key g c =
-    exchanged-by_key g.K.Ord.cmp g.met.K.Ord.total c.args.tree.now c.args.key c.args.value c.requires.tree c.exchange.new.tree
-    c.in-Ok.addr c.in-Ok.ensures c.exchange.result c.exchange.ensures
-
-pub returns-in-Ok-clause-uncounted : goal.returns-in-Ok-clause-uncounted
-returns-in-Ok-clause-uncounted g c = search rules steps 200000
-
-pub returns-in-Ok-clause-returned : goal.returns-in-Ok-clause-returned
-returns-in-Ok-clause-returned g c = search rules steps 200000
-
-pub returns-in-Ok-clause-absent : goal.returns-in-Ok-clause-absent
-returns-in-Ok-clause-absent g c = search rules steps 200000
-
-pub returns-in-Ok-clause-cause : goal.returns-in-Ok-clause-cause
-returns-in-Ok-clause-cause g c = search rules steps 200000
-
 pub returns-in-Ok-insert_at_gap-clause-tree : goal.returns-in-Ok-insert_at_gap-clause-tree
 returns-in-Ok-insert_at_gap-clause-tree g c = grind (arith, common_steps) steps 300000
-
-pub returns-in-Ok-insert_at_gap-clause-old : goal.returns-in-Ok-insert_at_gap-clause-old
-returns-in-Ok-insert_at_gap-clause-old g c = grind (arith, common_steps) steps 1500000
-
-pub returns-in-Ok-insert_at_gap-clause-inserted : goal.returns-in-Ok-insert_at_gap-clause-inserted
-returns-in-Ok-insert_at_gap-clause-inserted g c = grind (arith, common_steps) steps 1500000
-
-pub returns-in-Ok-insert_at_gap-clause-uncounted :
-    goal.returns-in-Ok-insert_at_gap-clause-uncounted
-returns-in-Ok-insert_at_gap-clause-uncounted g c = search rules steps 200000
-
-pub returns-in-Ok-insert_at_gap-clause-returned : goal.returns-in-Ok-insert_at_gap-clause-returned
-returns-in-Ok-insert_at_gap-clause-returned g c = search rules steps 200000
-
-pub returns-in-Ok-insert_at_gap-clause-absent : goal.returns-in-Ok-insert_at_gap-clause-absent
-returns-in-Ok-insert_at_gap-clause-absent g c = search rules steps 200000
-
-pub returns-in-Ok-insert_at_gap-clause-cause : goal.returns-in-Ok-insert_at_gap-clause-cause
-returns-in-Ok-insert_at_gap-clause-cause g c = search rules steps 200000
 
 pub returns-in-Err-insert_at_gap-clause-tree : goal.returns-in-Err-insert_at_gap-clause-tree
 returns-in-Err-insert_at_gap-clause-tree g c = grind (arith, common_steps) steps 300000
 
-pub returns-in-Err-insert_at_gap-clause-old : goal.returns-in-Err-insert_at_gap-clause-old
-returns-in-Err-insert_at_gap-clause-old g c = search rules steps 200000
+pub returns-in-Ok-clause-outcome : goal.returns-in-Ok-clause-outcome
+returns-in-Ok-clause-outcome g c = record {
+  was = old-value g.K.Ord.cmp g.met.K.Ord.total c.args.tree.now c.args.key c.args.value c.requires.tree c.exchange.new.tree c.in-Ok.addr c.in-Ok.ensures c.exchange.result c.exchange.ensures;
+  inserted = exchanged-pairs g.K.Ord.cmp g.met.K.Ord.total c.args.tree.now c.args.key c.args.value c.requires.tree c.exchange.new.tree c.in-Ok.addr c.in-Ok.ensures c.exchange.result c.exchange.ensures;
+  by_key = exchanged-by_key g.K.Ord.cmp g.met.K.Ord.total c.args.tree.now c.args.key c.args.value c.requires.tree c.exchange.new.tree
+      c.in-Ok.addr c.in-Ok.ensures c.exchange.result c.exchange.ensures;
+  uncounted = search rules steps 200000;
+  returned = tt;
+  absent = tt;
+  cause = tt;
+}
 
-pub returns-in-Err-insert_at_gap-clause-inserted :
-    goal.returns-in-Err-insert_at_gap-clause-inserted
-returns-in-Err-insert_at_gap-clause-inserted g c = search rules steps 200000
+pub returns-in-Ok-insert_at_gap-clause-outcome : goal.returns-in-Ok-insert_at_gap-clause-outcome
+returns-in-Ok-insert_at_gap-clause-outcome g c = record {
+  was = grind (arith, common_steps) steps 1500000;
+  inserted = grind (arith, common_steps) steps 1500000;
+  by_key = put-inserted_by_key g.K.Ord.cmp g.met.K.Ord.total c.args.tree.now c.args.key c.args.value c.requires.tree c.in-Err.addr c.in-Err.ensures c.insert_at_gap.new.tree
+      c.in-Ok-insert_at_gap.field-0 (rw c.new.ensures at c.in-Ok-insert_at_gap.ensures.inserted);
+  uncounted = search rules steps 200000;
+  returned = tt;
+  absent = tt;
+  cause = tt;
+}
 
-pub returns-in-Err-insert_at_gap-clause-inserted_by_key : goal.returns-in-Err-insert_at_gap-clause-inserted_by_key
-returns-in-Err-insert_at_gap-clause-inserted_by_key g c = search rules steps 200000
-
-pub returns-in-Err-insert_at_gap-clause-uncounted :
-    goal.returns-in-Err-insert_at_gap-clause-uncounted
-returns-in-Err-insert_at_gap-clause-uncounted g c = search rules steps 200000
-
-pub returns-in-Err-insert_at_gap-clause-returned :
-    goal.returns-in-Err-insert_at_gap-clause-returned
-returns-in-Err-insert_at_gap-clause-returned g c = grind (arith, common_steps) steps 300000
-
-pub returns-in-Err-insert_at_gap-clause-absent : goal.returns-in-Err-insert_at_gap-clause-absent
-returns-in-Err-insert_at_gap-clause-absent g c = grind (arith, common_steps) steps 1500000
-
-pub returns-in-Err-insert_at_gap-clause-cause : goal.returns-in-Err-insert_at_gap-clause-cause
-returns-in-Err-insert_at_gap-clause-cause g c =
-    refused-at-gap g.K.Ord.cmp c.args.tree.now c.requires.tree c.insert_at_gap.new.tree c.args.key c.in-Err.addr c.in-Err.ensures
-    c.in-Err-insert_at_gap.refused.cause c.in-Err-insert_at_gap.ensures.refused
+pub returns-in-Err-insert_at_gap-clause-outcome : goal.returns-in-Err-insert_at_gap-clause-outcome
+returns-in-Err-insert_at_gap-clause-outcome g c = record {
+  was = tt;
+  inserted = tt;
+  by_key = tt;
+  uncounted = tt;
+  returned = grind (arith, common_steps) steps 300000;
+  absent = grind (arith, common_steps) steps 1500000;
+  cause = refused-at-gap g.K.Ord.cmp c.args.tree.now c.requires.tree c.insert_at_gap.new.tree c.args.key c.in-Err.addr c.in-Err.ensures
+      c.in-Err-insert_at_gap.refused.cause c.in-Err-insert_at_gap.ensures.refused;
+}
 
 pub returns-in-Ok-clause-bounded : goal.returns-in-Ok-clause-bounded
 returns-in-Ok-clause-bounded g c =
