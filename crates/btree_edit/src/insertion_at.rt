@@ -10,7 +10,7 @@ use crate::insertion::{insert_and_split, insert_at_gap};
 use btree_find::leaf_address;
 use btree_item::{Address, Item, Refused};
 use btree_nodes::NodesMut;
-use btree_raw::{RawBTree, add_item_at_leaf, need_above};
+use btree_raw::{NotAdded, RawBTree, add_item_at_leaf, need_above};
 
 /// Inserts a pair at the place of an address, which its key fits, before the item there. An address of an internal node stands for the
 /// one in a leaf at its place. Returns the address of the pair. It returns an error, with the pair, and nothing but the count of
@@ -43,10 +43,8 @@ pub fn insert_at<K: Ord + Drop, V: Drop, C: NodesMut<K, V>>(
             tree.set_len(tree.len() + 1);
             Ok(addr)
         }
-        Err((item, full)) => match full {
-            Some(parent) => insert_at_full_leaf(tree, addr, item, parent),
-            None => insert_by_leaf(tree, addr, item),
-        },
+        Err(NotAdded::Full(item, parent)) => insert_at_full_leaf(tree, addr, item, parent),
+        Err(NotAdded::Inner(item)) => insert_by_leaf(tree, addr, item),
     }
 }
 

@@ -20,7 +20,8 @@ use Rattle.btree_shape.proofs.Splits.Upward.{UpTo, child-apart, child-used, over
 use Rattle.btree_shape.proofs.Trees.Numbers.{less-or, none-listed, same-or, times-has, used-low, used-mapped, used-one, zero-or}
 use Rattle.btree_shape.proofs.Trees.Sizes.{view-most, view-size}
 use Rattle.btree_raw.specs.OverflowSplit.{AddsSeparator, CutsNode, OverflowSplit, goes_up, grows_root, rests}
-use Rattle.btree_raw.specs.Steps.{AreSplit, CanAddSeparator, CanCut, CanGrowRoot, CanSplitInto, Cut, HasCount, IsSplitting, MayCut, Overflows}
+use Rattle.btree_raw.specs.declared.nodes.Cut.{Cut}
+use Rattle.btree_raw.specs.Steps.{AreSplit, CanAddSeparator, CanCut, CanGrowRoot, CanSplitInto, HasCount, IsSplitting, MayCut, Overflows}
 use Rattle.btree_raw.proofs.SeparatorLemmas.{one-more}
 use Rattle.btree_raw.proofs.OffsetLemmas.{overflow-low}
 
@@ -299,14 +300,14 @@ can-cut A old now root start id spare rest a b s c over = record {
 }
 
 -- a cut uses one claimed number
-pub cut-length : {K V : Type 0} (node_at new : NodeMap (K × V)) (id : ℕ) (spare rest : List ℕ) (cut : Cut K V) → MayCut node_at new id spare rest cut
+pub cut-length : {K V : Type 0} (node_at new : NodeMap (K × V)) (id : ℕ) (spare rest : List ℕ) (cut : Option (Cut K V)) → MayCut node_at new id spare rest cut
     → length rest + (if is_some cut then 1 else 0) ≤ length spare
 cut-length node_at new id spare rest (Some cut) may =
-    let n = ap length may.last in let m = length-append rest (cut.3 ∷ []) in omega arith
+    let n = ap length may.last in let m = length-append rest (cut.right ∷ []) in omega arith
 cut-length node_at new id spare rest None may = let n = ap length may.1 in omega arith
 
 -- the state of the splits at a node that was cut, if it had an item too many
-module _ {K V : Type 0} (old now : NodeMap (K × V)) (root : Option ℕ) (start id : ℕ) (spare rest : List ℕ) (a b : Address) (cut : Cut K V) where
+module _ {K V : Type 0} (old now : NodeMap (K × V)) (root : Option ℕ) (start id : ℕ) (spare rest : List ℕ) (a b : Address) (cut : Option (Cut K V)) where
   -- the splits have reached a node, which then was cut
   pub record ReachesCut : Type 0 where
     pub whole : NodeMap (K × V)
@@ -316,65 +317,65 @@ module _ {K V : Type 0} (old now : NodeMap (K × V)) (root : Option ℕ) (start 
 
 -- the splits go on from a node that was cut
 module _ {K V : Type 0} (old now : NodeMap (K × V)) (root : Option ℕ) (start id : ℕ) (spare rest : List ℕ) (a b : Address) (s : IsSplitting old root start spare a)
-    (parent : Option ℕ) (kept : ℕ) (median : K × V) (right : ℕ) (r : ReachesCut old now root start id spare rest a b (Some (parent, kept, median, right))) where
-  named : parent_of r.cuts.splits.node ≡ parent
-  named = let q : Some (parent_of r.cuts.splits.node) ≡ Some parent = sym (ap (option_map parent_of) r.cuts.splits.here) ∙ r.cuts.named in cc
+    (cut : Cut K V) (r : ReachesCut old now root start id spare rest a b (Some cut)) where
+  named : parent_of r.cuts.splits.node ≡ cut.parent
+  named = let q : Some (parent_of r.cuts.splits.node) ≡ Some cut.parent = sym (ap (option_map parent_of) r.cuts.splits.here) ∙ r.cuts.named in cc
 
   pub reached-offset : IfSome b.offset (λ n. n + 1 < 2 ^ 64 - 1)
   reached-offset = upward-offset (K × V) old r.whole root start id spare r.before a b s r.up_to
 
   -- below another node
-  module _ (above : ℕ) (is : parent ≡ Some above) where
+  module _ (above : ℕ) (is : cut.parent ≡ Some above) where
     pub reached-separator : CanAddSeparator now above id
     reached-separator =
-        upward-insert_separator (K × V) old r.whole root start id spare r.before a b s r.up_to r.cuts.splits.node r.cuts.splits.here r.cuts.over rest right
-        r.cuts.last now median kept r.cuts.splits r.cuts.leaves above (named ∙ is)
+        upward-insert_separator (K × V) old r.whole root start id spare r.before a b s r.up_to r.cuts.splits.node r.cuts.splits.here r.cuts.over rest cut.right
+        r.cuts.last now cut.median cut.kept r.cuts.splits r.cuts.leaves above (named ∙ is)
 
-    pub reached-next : (new : NodeMap (K × V)) (k : ℕ) → AddsSeparator now new above id right k median
-        → SplitUpTo (K × V) old new root start above spare rest a (moved_by_split id right above k kept b)
+    pub reached-next : (new : NodeMap (K × V)) (k : ℕ) → AddsSeparator now new above id cut.right k cut.median
+        → SplitUpTo (K × V) old new root start above spare rest a (moved_by_split id cut.right above k cut.kept b)
     reached-next =
-        upward-next (K × V) old r.whole root start id spare r.before a b s r.up_to r.cuts.splits.node r.cuts.splits.here r.cuts.over rest right
-        r.cuts.last now median kept r.cuts.splits r.cuts.leaves above (named ∙ is)
+        upward-next (K × V) old r.whole root start id spare r.before a b s r.up_to r.cuts.splits.node r.cuts.splits.here r.cuts.over rest cut.right
+        r.cuts.last now cut.median cut.kept r.cuts.splits r.cuts.leaves above (named ∙ is)
 
-    pub reached-cut : (new : NodeMap (K × V)) (k : ℕ) → AddsSeparator now new above id right k median → Overflows new above → CanCut new above rest
+    pub reached-cut : (new : NodeMap (K × V)) (k : ℕ) → AddsSeparator now new above id cut.right k cut.median → Overflows new above → CanCut new above rest
     reached-cut new k adds over =
-        can-cut (K × V) old new root start above spare rest a (moved_by_split id right above k kept b) s (reached-next new k adds) over
+        can-cut (K × V) old new root start above spare rest a (moved_by_split id cut.right above k cut.kept b) s (reached-next new k adds) over
 
   -- at the root
-  module _ (is : parent ≡ None) where
+  module _ (is : cut.parent ≡ None) where
     pub reached-root-left : 0 < length rest
     reached-root-left =
-        upward-left-root (K × V) old r.whole root start id spare r.before a b s r.up_to r.cuts.splits.node r.cuts.splits.here r.cuts.over rest right
-        r.cuts.last now median kept r.cuts.splits r.cuts.leaves (named ∙ is)
+        upward-left-root (K × V) old r.whole root start id spare r.before a b s r.up_to r.cuts.splits.node r.cuts.splits.here r.cuts.over rest cut.right
+        r.cuts.last now cut.median cut.kept r.cuts.splits r.cuts.leaves (named ∙ is)
 
     module _ (more : List ℕ) (top : ℕ) (last : rest ≡ more ++ top ∷ []) where
       pub reached-none-left : more ≡ []
       reached-none-left =
-          upward-none-left-root (K × V) old r.whole root start id spare r.before a b s r.up_to r.cuts.splits.node r.cuts.splits.here r.cuts.over rest right
-          r.cuts.last now median kept r.cuts.splits r.cuts.leaves (named ∙ is) more top last
+          upward-none-left-root (K × V) old r.whole root start id spare r.before a b s r.up_to r.cuts.splits.node r.cuts.splits.here r.cuts.over rest cut.right
+          r.cuts.last now cut.median cut.kept r.cuts.splits r.cuts.leaves (named ∙ is) more top last
 
       pub reached-number : top < 2 ^ 64 - 1
       reached-number =
-          upward-number (K × V) old r.whole root start id spare r.before a b s r.up_to r.cuts.splits.node r.cuts.splits.here r.cuts.over rest right
-          r.cuts.last now median kept r.cuts.splits r.cuts.leaves (named ∙ is) more top last
+          upward-number (K × V) old r.whole root start id spare r.before a b s r.up_to r.cuts.splits.node r.cuts.splits.here r.cuts.over rest cut.right
+          r.cuts.last now cut.median cut.kept r.cuts.splits r.cuts.leaves (named ∙ is) more top last
 
-      pub reached-grow_root : CanGrowRoot now id right top
+      pub reached-grow_root : CanGrowRoot now id cut.right top
       reached-grow_root =
-          upward-grow_root (K × V) old r.whole root start id spare r.before a b s r.up_to r.cuts.splits.node r.cuts.splits.here r.cuts.over rest right
-          r.cuts.last now median kept r.cuts.splits r.cuts.leaves (named ∙ is) more top last
+          upward-grow_root (K × V) old r.whole root start id spare r.before a b s r.up_to r.cuts.splits.node r.cuts.splits.here r.cuts.over rest cut.right
+          r.cuts.last now cut.median cut.kept r.cuts.splits r.cuts.leaves (named ∙ is) more top last
 
-      module _ (new : NodeMap (K × V)) (grows : GrowsRoot now new id right top median) where
+      module _ (new : NodeMap (K × V)) (grows : GrowsRoot now new id cut.right top cut.median) where
         pub reached-used : (n : ℕ) → times_used (new n) ≡ times_used (old n)
         reached-used =
-            upward-used-end (K × V) old r.whole root start id spare r.before a b s r.up_to r.cuts.splits.node r.cuts.splits.here r.cuts.over rest right
-            r.cuts.last now median kept r.cuts.splits r.cuts.leaves (named ∙ is) more top last new grows
+            upward-used-end (K × V) old r.whole root start id spare r.before a b s r.up_to r.cuts.splits.node r.cuts.splits.here r.cuts.over rest cut.right
+            r.cuts.last now cut.median cut.kept r.cuts.splits r.cuts.leaves (named ∙ is) more top last new grows
 
-        pub reached-root : AreSplit old new root (Some top) start spare a (moved_by_split id right top 0 kept b)
+        pub reached-root : AreSplit old new root (Some top) start spare a (moved_by_split id cut.right top 0 cut.kept b)
         reached-root =
-            upward-root (K × V) old r.whole root start id spare r.before a b s r.up_to r.cuts.splits.node r.cuts.splits.here r.cuts.over rest right
-            r.cuts.last now median kept r.cuts.splits r.cuts.leaves (named ∙ is) more top last new grows
+            upward-root (K × V) old r.whole root start id spare r.before a b s r.up_to r.cuts.splits.node r.cuts.splits.here r.cuts.over rest cut.right
+            r.cuts.last now cut.median cut.kept r.cuts.splits r.cuts.leaves (named ∙ is) more top last new grows
 
-        pub reached-back : IsSome a.offset → IsSome (moved_by_split id right top 0 kept b).offset
+        pub reached-back : IsSome a.offset → IsSome (moved_by_split id cut.right top 0 cut.kept b).offset
         reached-back =
-            upward-back-end (K × V) old r.whole root start id spare r.before a b s r.up_to r.cuts.splits.node r.cuts.splits.here r.cuts.over rest right
-            r.cuts.last now median kept r.cuts.splits r.cuts.leaves (named ∙ is) more top last new grows
+            upward-back-end (K × V) old r.whole root start id spare r.before a b s r.up_to r.cuts.splits.node r.cuts.splits.here r.cuts.over rest cut.right
+            r.cuts.last now cut.median cut.kept r.cuts.splits r.cuts.leaves (named ∙ is) more top last new grows

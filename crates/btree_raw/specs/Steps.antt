@@ -18,6 +18,7 @@ use Rattle.btree_shape.specs.Lists.{times_listed}
 use Rattle.btree_shape.specs.Step.{Becomes, WritesNode}
 use Rattle.btree_shape.specs.TreeState.{TreeState, Changes, node_map}
 use Rattle.btree_shape.specs.WellFormed.{times_used}
+use Rattle.btree_raw.specs.declared.nodes.Cut.{Cut}
 use Rattle.btree_raw.specs.OverflowSplit.{AddsSeparator, CutsNode, OverflowSplit, StaysWhole}
 
 module _ {A : Type 0} (node_at : NodeMap A) where
@@ -137,16 +138,11 @@ pub record SplitsUpward {K V : Type 0} (old new : TreeState K V) (id : ℕ) (spa
   pub len : new.len ≡ old.len
   pub uncounted : new.kept ≡ old.kept
 
--- what is left of the cut of a node, if it was cut: its parent, how many items it kept, the median, and the node that has
--- its right part
-abbrev pub Cut : (K V : Type 0) → Type 0
-Cut K V = Option (Option ℕ × ℕ × (K × V) × ℕ)
-
 module _ {K V : Type 0} where
   module _ (node_at new : NodeMap (K × V)) (id : ℕ) (spare rest : List ℕ) where
     -- node `id` was cut if it had an item too many; else no claimed number was used
-    abbrev pub MayCut : Cut K V → Type 0
-    MayCut (Some cut) = CutsNode node_at new id spare rest cut.0 cut.1 cut.2 cut.3
+    abbrev pub MayCut : Option (Cut K V) → Type 0
+    MayCut (Some cut) = CutsNode node_at new id spare rest cut.parent cut.kept cut.median cut.right
     MayCut None = StaysWhole node_at new id × (rest ≡ spare)
 
   module _ (old : TreeState K V) where
@@ -162,7 +158,7 @@ module _ {K V : Type 0} where
 
   module _ (old new : TreeState K V) (id index : ℕ) (x : K × V) (child : Option ℕ) where
     -- an item was added to node `id`, which gave `added`, and the node was cut if it then had an item too many
-    pub record AddsAndCuts (spare rest : List ℕ) (cut : Cut K V) : Type 0 where
+    pub record AddsAndCuts (spare rest : List ℕ) (cut : Option (Cut K V)) : Type 0 where
       pub added : TreeState K V
       pub adds : Changes (λ a b. AddsItem a b id index x child) old added
       pub cuts : Changes (λ a b. MayCut a b id spare rest cut) added new
@@ -175,7 +171,7 @@ module _ {K V : Type 0} where
 
   -- node `above` has the item at the index of its child `id`, and node `right` as the child after it, which gave
   -- `added`, and was cut if it then had an item too many
-  pub record AddsSeparatorAndCuts (old new : TreeState K V) (above id right index : ℕ) (x : K × V) (spare rest : List ℕ) (cut : Cut K V) : Type 0 where
+  pub record AddsSeparatorAndCuts (old new : TreeState K V) (above id right index : ℕ) (x : K × V) (spare rest : List ℕ) (cut : Option (Cut K V)) : Type 0 where
     pub added : TreeState K V
     pub adds : Changes (λ a b. AddsSeparator a b above id right index x) old added
     pub cuts : Changes (λ a b. MayCut a b above spare rest cut) added new
@@ -186,7 +182,7 @@ module _ {K V : Type 0} where
       → IsSplitting (node_map added) added.root id spare a
 
   -- splits may go upward from node `id` of `whole`, which then was cut if it had an item too many
-  pub record IsCutFrom (whole now : TreeState K V) (id : ℕ) (cut : Cut K V) (spare rest : List ℕ) (a : Address) : Type 0 where
+  pub record IsCutFrom (whole now : TreeState K V) (id : ℕ) (cut : Option (Cut K V)) (spare rest : List ℕ) (a : Address) : Type 0 where
     pub splitting : IsSplitting (node_map whole) whole.root id spare a
     pub low : All (λ n. n < 2 ^ 64 - 1) spare
     pub cuts : Changes (λ a b. MayCut a b id spare rest cut) whole now

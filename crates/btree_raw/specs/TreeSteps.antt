@@ -15,7 +15,11 @@ use Rattle.btree_shape.specs.TreeState.{TreeState, Changes, node_map, pairs_of}
 use Rattle.btree_raw.specs.LastItem.{LosesItem}
 use Rattle.btree_raw.specs.NodeSteps.{RotatesSiblingsLeft, RotatesSiblingsRight}
 use Rattle.btree_raw.specs.Rebalance.{IsFit, StaysAsIs}
-use Rattle.btree_raw.specs.Steps.{Cut, HasCount, IsCutFrom, LeavesPart, MayCut, SplitsUpward}
+use Rattle.btree_raw.specs.declared.nodes.Cut.{Cut}
+use Rattle.btree_raw.specs.declared.nodes.NotAdded.TheVariants.{Full, Inner}
+use Rattle.btree_raw.specs.declared.nodes.NotAdded.{NotAdded}
+use Rattle.btree_raw.specs.Insertion.{IsFullLeaf}
+use Rattle.btree_raw.specs.Steps.{HasCount, IsCutFrom, LeavesPart, MayCut, SplitsUpward}
 use Rattle.btree_raw.specs.Underflow.{EndsUnderflow}
 
 module _ {A : Type 0} (node_at : NodeMap A) (id : ℕ) where
@@ -31,17 +35,22 @@ module _ {A : Type 0} (node_at : NodeMap A) (id : ℕ) where
 abbrev pub IsInsertionIndex : {K V : Type 0} → TreeState K V → (id index : ℕ) → Type 0
 IsInsertionIndex {K} {V} tree id index = (node : Node K V) → map.get tree.nodes id ≡ Some node → index ≤ size_of (view_of node)
 
+-- the item came back, since node `id` is a full leaf with this parent, or an internal node
+abbrev pub IsNotAdded : {K V : Type 0} → TreeState K V → (id : ℕ) → K × V → NotAdded K V → Type 0
+IsNotAdded tree id x (Full back parent) = (back ≡ x) × IsFullLeaf (node_map tree) id parent
+IsNotAdded tree id x (Inner back) = (back ≡ x) × HasChildren (node_map tree) id
+
 -- splits may go upward from node `id`, which was cut, of some tree and with some claimed numbers
-abbrev pub IsCutFromSome : {K V : Type 0} → (now : TreeState K V) (id : ℕ) (cut : Cut K V) (rest : List ℕ) (a : Address) → Type 0
+abbrev pub IsCutFromSome : {K V : Type 0} → (now : TreeState K V) (id : ℕ) (cut : Option (Cut K V)) (rest : List ℕ) (a : Address) → Type 0
 IsCutFromSome {K} {V} now id cut rest a = (whole : TreeState K V) × (spare : List ℕ) × IsCutFrom whole now id cut spare rest a
 
 module _ {K V : Type 0} (old new : TreeState K V) where
   -- whatever tree node `id` was cut from, that tree was split upward
-  abbrev pub SplitsFromCut : (id : ℕ) (cut : Cut K V) (rest : List ℕ) (a b : Address) → Type 0
+  abbrev pub SplitsFromCut : (id : ℕ) (cut : Option (Cut K V)) (rest : List ℕ) (a b : Address) → Type 0
   SplitsFromCut id cut rest a b = (whole : TreeState K V) (spare : List ℕ) → IsCutFrom whole old id cut spare rest a → SplitsUpward whole new id spare a b
 
   -- node `id` was cut if it had an item too many, and nothing else has changed
-  abbrev pub MayCutIn : (id : ℕ) (spare rest : List ℕ) → Cut K V → Type 0
+  abbrev pub MayCutIn : (id : ℕ) (spare rest : List ℕ) → Option (Cut K V) → Type 0
   MayCutIn id spare rest cut = Changes (λ a b. MayCut a b id spare rest cut) old new
 
   -- the right part of a node that was cut was placed under this number, so that the node is split

@@ -16,7 +16,7 @@ mod underflow;
 pub use claims::{ClaimedIds, claim, claim_one, release};
 pub use count::{need, need_above, split_need};
 pub use insertion::refused;
-pub use nodes::{add_item_at_leaf, add_item_in_room, put};
+pub use nodes::{NotAdded, add_item_at_leaf, add_item_in_room, put};
 pub use overflow::{add_and_split, split_upward};
 pub use raw::RawBTree;
 pub use rebalance::{rebalance_fetched, rebalance_underflow};

@@ -5,8 +5,8 @@ ghost use Rattle.btree_view.specs.View.{children_in, children_of};
 ghost use Rattle.btree_shape.specs.Step.{Reparents, WritesNode};
 ghost use Rattle.btree_shape.specs.TreeState.{Changes, IsUsed, KeepsRest, node_map, nodes_for_splits};
 ghost use Rattle.btree_raw.specs.Steps.{AddsAndCuts, AddsItem, AddsSeparatorAndCuts, AreThere, CanAddItem, CanAddSeparator, CanCut, CanCutAbove, CanCutWith, CanReparent, HasParent, LeavesPart, Overflows, SetsParent};
-ghost use Rattle.btree_raw.specs.TreeSteps.{HasChildren, IsInsertionIndex, KeepsLeftPart, MayCutIn, PlacesPart};
-ghost use Rattle.btree_raw.specs.Insertion.{IsFull, IsFullLeaf};
+ghost use Rattle.btree_raw.specs.TreeSteps.{IsInsertionIndex, IsNotAdded, KeepsLeftPart, MayCutIn, PlacesPart};
+ghost use Rattle.btree_raw.specs.Insertion.{IsFull};
 
 use crate::claims::{ClaimedIds, empty_leaf, take_claim};
 use crate::raw::RawBTree;
@@ -67,39 +67,52 @@ pub fn add_item_in_room<K: Drop, V: Drop, C: NodesMut<K, V>>(
     Ok(())
 }
 
-/// Inserts an item into a node at an index, if the node is a leaf that is not full. Otherwise it returns the item, and nothing changes: with
-/// the leaf's parent if the node is a full leaf, and with `None` if it is an internal node. It fetches the node once.
+/// Why an item was not inserted at a leaf, and the item, which the caller gets back.
+#[derive(Drop)]
+pub enum NotAdded<K, V> {
+    /// The node is a full leaf, with this parent.
+    Full(Item<K, V>, Option<usize>),
+    /// The node is an internal node.
+    Inner(Item<K, V>),
+}
+
+/// Inserts an item into a node at an index, if the node is a leaf that is not full. Otherwise it returns the item, and nothing changes. It
+/// fetches the node once.
 pub fn add_item_at_leaf<K: Drop, V: Drop, C: NodesMut<K, V>>(
     tree: &mut RawBTree<K, V, C>,
     id: usize,
     index: usize,
     item: Item<K, V>,
-) -> Result<(), (Item<K, V>, Option<Option<usize>>)>
+) -> Result<(), NotAdded<K, V>>
     requires used { IsUsed tree.old id }
     requires within { IsInsertionIndex tree.old id index }
     ensures can { OnOk result (CanAddItem (node_map tree.old) id index None) }
     ensures added { OnOk result (Changes (λ a b. AddsItem a b id index item None) tree.old tree.new) }
     ensures enough { OnOk result (nodes_for_splits tree.old id ≡ 0) }
-    ensures returned { IfErr result (λ back. back.0 ≡ item) }
-    ensures full { IfErr result (λ back. IfSome back.1 (IsFullLeaf (node_map tree.old) id)) }
-    ensures inner { IfErr result (λ back. IfNone back.1 (HasChildren (node_map tree.old) id)) }
+    ensures not_added { IfErr result (IsNotAdded tree.old id item) }
     ensures unchanged { OnErr result (tree.new ≡ tree.old) }
 {
     tree.tell_fits();
     let node = tree.node_mut(id);
     if node.child_count() > 0 {
-        return Err((item, None));
+        return Err(NotAdded::Inner(item));
     }
     if node.is_full() {
         let parent = node.parent();
-        return Err((item, Some(parent)));
+        return Err(NotAdded::Full(item, parent));
     }
     node.insert(Offset::from(index), item, None);
     Ok(())
 }
 
 // What is left of the cut of a node: its parent, how many items it kept, the median, and the number of the node that has its right part.
-pub(crate) type Cut<K, V> = (Option<usize>, usize, Item<K, V>, usize);
+#[derive(Drop)]
+pub(crate) struct Cut<K, V> {
+    pub(crate) parent: Option<usize>,
+    pub(crate) kept: usize,
+    pub(crate) median: Item<K, V>,
+    pub(crate) right: usize,
+}
 
 // Puts the right part of a node that was cut at the last claimed number. Returns that number.
 #[inline(always)]
@@ -139,7 +152,13 @@ pub(crate) fn cut_node<K: Drop, V: Drop, C: NodesMut<K, V>>(
     let parent = node.parent();
     let mut part = empty_leaf();
     let (kept, median) = node.split_into(&mut part);
-    Some((parent, kept, median, place_part(tree, part, claims)))
+    let right = place_part(tree, part, claims);
+    Some(Cut {
+        parent,
+        kept,
+        median,
+        right,
+    })
 }
 
 // Inserts an item into a node at an index, and a child after it if one is given. Then it cuts the node as `cut_node` does. It fetches the
@@ -166,7 +185,13 @@ pub(crate) fn add_and_cut<K: Drop, V: Drop, C: NodesMut<K, V>>(
     let parent = node.parent();
     let mut part = empty_leaf();
     let (kept, median) = node.split_into(&mut part);
-    Some((parent, kept, median, place_part(tree, part, claims)))
+    let right = place_part(tree, part, claims);
+    Some(Cut {
+        parent,
+        kept,
+        median,
+        right,
+    })
 }
 
 // Inserts a median and a new child into a node, after the child `id`. Then it cuts the node as `cut_node` does. Returns the index of `id`,
@@ -194,10 +219,16 @@ pub(crate) fn insert_separator<K: Drop, V: Drop, C: NodesMut<K, V>>(
     }
     let parent = node.parent();
     let mut part = empty_leaf();
-    let (kept, middle) = node.split_into(&mut part);
+    let (kept, median) = node.split_into(&mut part);
+    let right = place_part(tree, part, claims);
     (
         index,
-        Some((parent, kept, middle, place_part(tree, part, claims))),
+        Some(Cut {
+            parent,
+            kept,
+            median,
+            right,
+        }),
     )
 }
 

@@ -49,15 +49,15 @@ fn split_from<K: Drop, V: Drop, C: NodesMut<K, V>>(
     let mut id = start;
     let mut at = addr;
     let mut next = cut;
-    while let Some((parent, kept, median, right)) = next {
-        let Some(above) = parent else {
+    while let Some(cut) = next {
+        let Some(above) = cut.parent else {
             let root = take_claim(claims);
-            grow_root(tree, id, median, right, root);
+            grow_root(tree, id, cut.median, cut.right, root);
             tree.set_root_id(Some(root));
-            return moved_by_split(at, id, right, root, 0, kept);
+            return moved_by_split(at, id, cut.right, root, 0, cut.kept);
         };
-        let (index, up) = insert_separator(tree, above, id, median, right, claims);
-        at = moved_by_split(at, id, right, above, index, kept);
+        let (index, up) = insert_separator(tree, above, id, cut.median, cut.right, claims);
+        at = moved_by_split(at, id, cut.right, above, index, cut.kept);
         id = above;
         next = up;
     }

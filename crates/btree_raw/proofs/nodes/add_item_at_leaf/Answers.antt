@@ -35,23 +35,28 @@ returns-clause-enough g c =
 pub parent-parent-requires : goal.parent-parent-requires
 parent-parent-requires g c = c.tell_fits.ensures
 
-pub returns-then-is_full-clause-full : goal.returns-then-is_full-clause-full
-returns-then-is_full-clause-full g c = record {
-  full = record {
-    node = view_of c.node_mut-node.result.now;
-    here = ap (option_map view_of) (sym c.node_mut-node.ensures.value);
-    full = is-full c.node_mut-node.result.now c.if-is_full.ensures;
-  };
-  leaf = leaf-there c.args.tree.now.nodes c.args.id c.node_mut-node.result.now c.node_mut-node.ensures.value c.child_count.result c.child_count.ensures.value c.if-child_count-gt0.false;
-  named = parent-there c.args.tree.now.nodes c.args.id c.node_mut-node.result.now (sym c.node_mut-node.ensures.value) c.parent-parent.result
-      c.parent-parent.ensures.value;
-}
+pub returns-then-is_full-clause-not_added : goal.returns-then-is_full-clause-not_added
+returns-then-is_full-clause-not_added g c = (
+  refl,
+  record {
+    full = record {
+      node = view_of c.node_mut-node.result.now;
+      here = ap (option_map view_of) (sym c.node_mut-node.ensures.value);
+      full = is-full c.node_mut-node.result.now c.if-is_full.ensures;
+    };
+    leaf = leaf-there c.args.tree.now.nodes c.args.id c.node_mut-node.result.now c.node_mut-node.ensures.value c.child_count.result c.child_count.ensures.value c.if-child_count-gt0.false;
+    named = parent-there c.args.tree.now.nodes c.args.id c.node_mut-node.result.now (sym c.node_mut-node.ensures.value) c.parent-parent.result
+        c.parent-parent.ensures.value;
+  },
+)
 
 pub returns-then-is_full-clause-unchanged : goal.returns-then-is_full-clause-unchanged
 returns-then-is_full-clause-unchanged g c =
     same-state c.args.tree.now c.args.id c.node_mut-node.result.now c.node_mut-node.result.now c.node_mut-node.ensures.value refl
 
-pub returns-then-child_count-gt0-clause-inner : goal.returns-then-child_count-gt0-clause-inner
-returns-then-child_count-gt0-clause-inner g c =
-    children-there c.args.tree.now.nodes c.args.id c.node_mut-node.result.now c.node_mut-node.ensures.value c.child_count.result c.child_count.ensures.value
-    c.if-child_count-gt0.true
+pub returns-then-child_count-gt0-clause-not_added : goal.returns-then-child_count-gt0-clause-not_added
+returns-then-child_count-gt0-clause-not_added g c = (
+  refl,
+  children-there c.args.tree.now.nodes c.args.id c.node_mut-node.result.now c.node_mut-node.ensures.value c.child_count.result c.child_count.ensures.value
+      c.if-child_count-gt0.true,
+)

@@ -19,43 +19,43 @@ loop-next-init g c = λ begun spare is. record {
 }
 
 pub take_claim-root-requires : goal.take_claim-root-requires
-take_claim-root-requires g c = reached-root-left (node_map c.requires.begun.0) (node_map c.loop-next.tree) c.requires.begun.0.root c.args.start c.loop-next.id c.requires.begun.1 c.loop-next.claims.items c.args.addr c.loop-next.at c.requires.begun.2.splitting c.in-Some.parent c.in-Some.kept c.in-Some.median c.in-Some.right (subst (λ o. ReachesCut (node_map c.requires.begun.0) (node_map c.loop-next.tree) c.requires.begun.0.root c.args.start c.loop-next.id c.requires.begun.1 c.loop-next.claims.items c.args.addr c.loop-next.at o) c.in-Some.is (c.loop-next.invariant c.requires.begun.0 c.requires.begun.1 c.requires.begun.2).reached) c.in_default-parent.is
+take_claim-root-requires g c = reached-root-left (node_map c.requires.begun.0) (node_map c.loop-next.tree) c.requires.begun.0.root c.args.start c.loop-next.id c.requires.begun.1 c.loop-next.claims.items c.args.addr c.loop-next.at c.requires.begun.2.splitting c.in-Some.cut (subst (λ o. ReachesCut (node_map c.requires.begun.0) (node_map c.loop-next.tree) c.requires.begun.0.root c.args.start c.loop-next.id c.requires.begun.1 c.loop-next.claims.items c.args.addr c.loop-next.at o) c.in-Some.is (c.loop-next.invariant c.requires.begun.0 c.requires.begun.1 c.requires.begun.2).reached) c.in_default-parent.is
 
 pub grow_root-requires-clause-can : goal.grow_root-requires-clause-can
-grow_root-requires-clause-can g c = reached-grow_root (node_map c.requires.begun.0) (node_map c.loop-next.tree) c.requires.begun.0.root c.args.start c.loop-next.id c.requires.begun.1 c.loop-next.claims.items c.args.addr c.loop-next.at c.requires.begun.2.splitting c.in-Some.parent c.in-Some.kept c.in-Some.median c.in-Some.right (subst (λ o. ReachesCut (node_map c.requires.begun.0) (node_map c.loop-next.tree) c.requires.begun.0.root c.args.start c.loop-next.id c.requires.begun.1 c.loop-next.claims.items c.args.addr c.loop-next.at o) c.in-Some.is (c.loop-next.invariant c.requires.begun.0 c.requires.begun.1 c.requires.begun.2).reached) c.in_default-parent.is c.take_claim-root.new.claims.items c.take_claim-root.result c.take_claim-root.ensures
+grow_root-requires-clause-can g c = reached-grow_root (node_map c.requires.begun.0) (node_map c.loop-next.tree) c.requires.begun.0.root c.args.start c.loop-next.id c.requires.begun.1 c.loop-next.claims.items c.args.addr c.loop-next.at c.requires.begun.2.splitting c.in-Some.cut (subst (λ o. ReachesCut (node_map c.requires.begun.0) (node_map c.loop-next.tree) c.requires.begun.0.root c.args.start c.loop-next.id c.requires.begun.1 c.loop-next.claims.items c.args.addr c.loop-next.at o) c.in-Some.is (c.loop-next.invariant c.requires.begun.0 c.requires.begun.1 c.requires.begun.2).reached) c.in_default-parent.is c.take_claim-root.new.claims.items c.take_claim-root.result c.take_claim-root.ensures
 
 pub grow_root-requires-clause-number : goal.grow_root-requires-clause-number
-grow_root-requires-clause-number g c = reached-number (node_map c.requires.begun.0) (node_map c.loop-next.tree) c.requires.begun.0.root c.args.start c.loop-next.id c.requires.begun.1 c.loop-next.claims.items c.args.addr c.loop-next.at c.requires.begun.2.splitting c.in-Some.parent c.in-Some.kept c.in-Some.median c.in-Some.right (subst (λ o. ReachesCut (node_map c.requires.begun.0) (node_map c.loop-next.tree) c.requires.begun.0.root c.args.start c.loop-next.id c.requires.begun.1 c.loop-next.claims.items c.args.addr c.loop-next.at o) c.in-Some.is (c.loop-next.invariant c.requires.begun.0 c.requires.begun.1 c.requires.begun.2).reached) c.in_default-parent.is c.take_claim-root.new.claims.items c.take_claim-root.result c.take_claim-root.ensures
+grow_root-requires-clause-number g c = reached-number (node_map c.requires.begun.0) (node_map c.loop-next.tree) c.requires.begun.0.root c.args.start c.loop-next.id c.requires.begun.1 c.loop-next.claims.items c.args.addr c.loop-next.at c.requires.begun.2.splitting c.in-Some.cut (subst (λ o. ReachesCut (node_map c.requires.begun.0) (node_map c.loop-next.tree) c.requires.begun.0.root c.args.start c.loop-next.id c.requires.begun.1 c.loop-next.claims.items c.args.addr c.loop-next.at o) c.in-Some.is (c.loop-next.invariant c.requires.begun.0 c.requires.begun.1 c.requires.begun.2).reached) c.in_default-parent.is c.take_claim-root.new.claims.items c.take_claim-root.result c.take_claim-root.ensures
 
 pub moved_by_split-requires-clause-offset : goal.moved_by_split-requires-clause-offset
-moved_by_split-requires-clause-offset g c = reached-offset (node_map c.requires.begun.0) (node_map c.loop-next.tree) c.requires.begun.0.root c.args.start c.loop-next.id c.requires.begun.1 c.loop-next.claims.items c.args.addr c.loop-next.at c.requires.begun.2.splitting c.in-Some.parent c.in-Some.kept c.in-Some.median c.in-Some.right (subst (λ o. ReachesCut (node_map c.requires.begun.0) (node_map c.loop-next.tree) c.requires.begun.0.root c.args.start c.loop-next.id c.requires.begun.1 c.loop-next.claims.items c.args.addr c.loop-next.at o) c.in-Some.is (c.loop-next.invariant c.requires.begun.0 c.requires.begun.1 c.requires.begun.2).reached)
+moved_by_split-requires-clause-offset g c = reached-offset (node_map c.requires.begun.0) (node_map c.loop-next.tree) c.requires.begun.0.root c.args.start c.loop-next.id c.requires.begun.1 c.loop-next.claims.items c.args.addr c.loop-next.at c.requires.begun.2.splitting c.in-Some.cut (subst (λ o. ReachesCut (node_map c.requires.begun.0) (node_map c.loop-next.tree) c.requires.begun.0.root c.args.start c.loop-next.id c.requires.begun.1 c.loop-next.claims.items c.args.addr c.loop-next.at o) c.in-Some.is (c.loop-next.invariant c.requires.begun.0 c.requires.begun.1 c.requires.begun.2).reached)
 
 pub returns-in_default-parent-clause-split : goal.returns-in_default-parent-clause-split
 returns-in_default-parent-clause-split g c = λ begun spare is.
     let rest = then (c.loop-next.invariant begun spare is).rest c.grow_root.ensures.rest in
     rw (c.set_root_id.ensures, c.moved_by_split.ensures)
     (record {
-      split = reached-root (node_map begun) (node_map c.loop-next.tree) begun.root c.args.start c.loop-next.id spare c.loop-next.claims.items c.args.addr c.loop-next.at is.splitting c.in-Some.parent c.in-Some.kept c.in-Some.median c.in-Some.right (subst (λ o. ReachesCut (node_map begun) (node_map c.loop-next.tree) begun.root c.args.start c.loop-next.id spare c.loop-next.claims.items c.args.addr c.loop-next.at o) c.in-Some.is (c.loop-next.invariant begun spare is).reached) c.in_default-parent.is c.take_claim-root.new.claims.items c.take_claim-root.result c.take_claim-root.ensures (node_map c.grow_root.new.tree) c.grow_root.ensures.nodes;
-      used = reached-used (node_map begun) (node_map c.loop-next.tree) begun.root c.args.start c.loop-next.id spare c.loop-next.claims.items c.args.addr c.loop-next.at is.splitting c.in-Some.parent c.in-Some.kept c.in-Some.median c.in-Some.right (subst (λ o. ReachesCut (node_map begun) (node_map c.loop-next.tree) begun.root c.args.start c.loop-next.id spare c.loop-next.claims.items c.args.addr c.loop-next.at o) c.in-Some.is (c.loop-next.invariant begun spare is).reached) c.in_default-parent.is c.take_claim-root.new.claims.items c.take_claim-root.result c.take_claim-root.ensures (node_map c.grow_root.new.tree) c.grow_root.ensures.nodes;
+      split = reached-root (node_map begun) (node_map c.loop-next.tree) begun.root c.args.start c.loop-next.id spare c.loop-next.claims.items c.args.addr c.loop-next.at is.splitting c.in-Some.cut (subst (λ o. ReachesCut (node_map begun) (node_map c.loop-next.tree) begun.root c.args.start c.loop-next.id spare c.loop-next.claims.items c.args.addr c.loop-next.at o) c.in-Some.is (c.loop-next.invariant begun spare is).reached) c.in_default-parent.is c.take_claim-root.new.claims.items c.take_claim-root.result c.take_claim-root.ensures (node_map c.grow_root.new.tree) c.grow_root.ensures.nodes;
+      used = reached-used (node_map begun) (node_map c.loop-next.tree) begun.root c.args.start c.loop-next.id spare c.loop-next.claims.items c.args.addr c.loop-next.at is.splitting c.in-Some.cut (subst (λ o. ReachesCut (node_map begun) (node_map c.loop-next.tree) begun.root c.args.start c.loop-next.id spare c.loop-next.claims.items c.args.addr c.loop-next.at o) c.in-Some.is (c.loop-next.invariant begun spare is).reached) c.in_default-parent.is c.take_claim-root.new.claims.items c.take_claim-root.result c.take_claim-root.ensures (node_map c.grow_root.new.tree) c.grow_root.ensures.nodes;
       len = same-len rest;
       uncounted = same-kept rest;
     })
 
 pub returns-in_default-parent-clause-none_left : goal.returns-in_default-parent-clause-none_left
-returns-in_default-parent-clause-none_left g c = reached-none-left (node_map c.requires.begun.0) (node_map c.loop-next.tree) c.requires.begun.0.root c.args.start c.loop-next.id c.requires.begun.1 c.loop-next.claims.items c.args.addr c.loop-next.at c.requires.begun.2.splitting c.in-Some.parent c.in-Some.kept c.in-Some.median c.in-Some.right (subst (λ o. ReachesCut (node_map c.requires.begun.0) (node_map c.loop-next.tree) c.requires.begun.0.root c.args.start c.loop-next.id c.requires.begun.1 c.loop-next.claims.items c.args.addr c.loop-next.at o) c.in-Some.is (c.loop-next.invariant c.requires.begun.0 c.requires.begun.1 c.requires.begun.2).reached) c.in_default-parent.is c.take_claim-root.new.claims.items c.take_claim-root.result c.take_claim-root.ensures
+returns-in_default-parent-clause-none_left g c = reached-none-left (node_map c.requires.begun.0) (node_map c.loop-next.tree) c.requires.begun.0.root c.args.start c.loop-next.id c.requires.begun.1 c.loop-next.claims.items c.args.addr c.loop-next.at c.requires.begun.2.splitting c.in-Some.cut (subst (λ o. ReachesCut (node_map c.requires.begun.0) (node_map c.loop-next.tree) c.requires.begun.0.root c.args.start c.loop-next.id c.requires.begun.1 c.loop-next.claims.items c.args.addr c.loop-next.at o) c.in-Some.is (c.loop-next.invariant c.requires.begun.0 c.requires.begun.1 c.requires.begun.2).reached) c.in_default-parent.is c.take_claim-root.new.claims.items c.take_claim-root.result c.take_claim-root.ensures
 
 pub returns-in_default-parent-clause-back : goal.returns-in_default-parent-clause-back
-returns-in_default-parent-clause-back g c = rw c.moved_by_split.ensures (reached-back (node_map c.requires.begun.0) (node_map c.loop-next.tree) c.requires.begun.0.root c.args.start c.loop-next.id c.requires.begun.1 c.loop-next.claims.items c.args.addr c.loop-next.at c.requires.begun.2.splitting c.in-Some.parent c.in-Some.kept c.in-Some.median c.in-Some.right (subst (λ o. ReachesCut (node_map c.requires.begun.0) (node_map c.loop-next.tree) c.requires.begun.0.root c.args.start c.loop-next.id c.requires.begun.1 c.loop-next.claims.items c.args.addr c.loop-next.at o) c.in-Some.is (c.loop-next.invariant c.requires.begun.0 c.requires.begun.1 c.requires.begun.2).reached) c.in_default-parent.is c.take_claim-root.new.claims.items c.take_claim-root.result c.take_claim-root.ensures (node_map c.grow_root.new.tree) c.grow_root.ensures.nodes)
+returns-in_default-parent-clause-back g c = rw c.moved_by_split.ensures (reached-back (node_map c.requires.begun.0) (node_map c.loop-next.tree) c.requires.begun.0.root c.args.start c.loop-next.id c.requires.begun.1 c.loop-next.claims.items c.args.addr c.loop-next.at c.requires.begun.2.splitting c.in-Some.cut (subst (λ o. ReachesCut (node_map c.requires.begun.0) (node_map c.loop-next.tree) c.requires.begun.0.root c.args.start c.loop-next.id c.requires.begun.1 c.loop-next.claims.items c.args.addr c.loop-next.at o) c.in-Some.is (c.loop-next.invariant c.requires.begun.0 c.requires.begun.1 c.requires.begun.2).reached) c.in_default-parent.is c.take_claim-root.new.claims.items c.take_claim-root.result c.take_claim-root.ensures (node_map c.grow_root.new.tree) c.grow_root.ensures.nodes)
 
 pub insert_separator-index-requires-clause-can : goal.insert_separator-index-requires-clause-can
-insert_separator-index-requires-clause-can g c = reached-separator (node_map c.requires.begun.0) (node_map c.loop-next.tree) c.requires.begun.0.root c.args.start c.loop-next.id c.requires.begun.1 c.loop-next.claims.items c.args.addr c.loop-next.at c.requires.begun.2.splitting c.in-Some.parent c.in-Some.kept c.in-Some.median c.in-Some.right (subst (λ o. ReachesCut (node_map c.requires.begun.0) (node_map c.loop-next.tree) c.requires.begun.0.root c.args.start c.loop-next.id c.requires.begun.1 c.loop-next.claims.items c.args.addr c.loop-next.at o) c.in-Some.is (c.loop-next.invariant c.requires.begun.0 c.requires.begun.1 c.requires.begun.2).reached) c.in-Some-parent.above c.in-Some-parent.is
+insert_separator-index-requires-clause-can g c = reached-separator (node_map c.requires.begun.0) (node_map c.loop-next.tree) c.requires.begun.0.root c.args.start c.loop-next.id c.requires.begun.1 c.loop-next.claims.items c.args.addr c.loop-next.at c.requires.begun.2.splitting c.in-Some.cut (subst (λ o. ReachesCut (node_map c.requires.begun.0) (node_map c.loop-next.tree) c.requires.begun.0.root c.args.start c.loop-next.id c.requires.begun.1 c.loop-next.claims.items c.args.addr c.loop-next.at o) c.in-Some.is (c.loop-next.invariant c.requires.begun.0 c.requires.begun.1 c.requires.begun.2).reached) c.in-Some-parent.above c.in-Some-parent.is
 
 pub insert_separator-index-requires-clause-can_cut : goal.insert_separator-index-requires-clause-can_cut
 insert_separator-index-requires-clause-can_cut g c = λ added k adds.
-    reached-cut (node_map c.requires.begun.0) (node_map c.loop-next.tree) c.requires.begun.0.root c.args.start c.loop-next.id c.requires.begun.1 c.loop-next.claims.items c.args.addr c.loop-next.at c.requires.begun.2.splitting c.in-Some.parent c.in-Some.kept c.in-Some.median c.in-Some.right (subst (λ o. ReachesCut (node_map c.requires.begun.0) (node_map c.loop-next.tree) c.requires.begun.0.root c.args.start c.loop-next.id c.requires.begun.1 c.loop-next.claims.items c.args.addr c.loop-next.at o) c.in-Some.is (c.loop-next.invariant c.requires.begun.0 c.requires.begun.1 c.requires.begun.2).reached) c.in-Some-parent.above c.in-Some-parent.is (node_map added) k adds.nodes
+    reached-cut (node_map c.requires.begun.0) (node_map c.loop-next.tree) c.requires.begun.0.root c.args.start c.loop-next.id c.requires.begun.1 c.loop-next.claims.items c.args.addr c.loop-next.at c.requires.begun.2.splitting c.in-Some.cut (subst (λ o. ReachesCut (node_map c.requires.begun.0) (node_map c.loop-next.tree) c.requires.begun.0.root c.args.start c.loop-next.id c.requires.begun.1 c.loop-next.claims.items c.args.addr c.loop-next.at o) c.in-Some.is (c.loop-next.invariant c.requires.begun.0 c.requires.begun.1 c.requires.begun.2).reached) c.in-Some-parent.above c.in-Some-parent.is (node_map added) k adds.nodes
 
 pub moved_by_split-at-requires-clause-offset : goal.moved_by_split-at-requires-clause-offset
-moved_by_split-at-requires-clause-offset g c = reached-offset (node_map c.requires.begun.0) (node_map c.loop-next.tree) c.requires.begun.0.root c.args.start c.loop-next.id c.requires.begun.1 c.loop-next.claims.items c.args.addr c.loop-next.at c.requires.begun.2.splitting c.in-Some.parent c.in-Some.kept c.in-Some.median c.in-Some.right (subst (λ o. ReachesCut (node_map c.requires.begun.0) (node_map c.loop-next.tree) c.requires.begun.0.root c.args.start c.loop-next.id c.requires.begun.1 c.loop-next.claims.items c.args.addr c.loop-next.at o) c.in-Some.is (c.loop-next.invariant c.requires.begun.0 c.requires.begun.1 c.requires.begun.2).reached)
+moved_by_split-at-requires-clause-offset g c = reached-offset (node_map c.requires.begun.0) (node_map c.loop-next.tree) c.requires.begun.0.root c.args.start c.loop-next.id c.requires.begun.1 c.loop-next.claims.items c.args.addr c.loop-next.at c.requires.begun.2.splitting c.in-Some.cut (subst (λ o. ReachesCut (node_map c.requires.begun.0) (node_map c.loop-next.tree) c.requires.begun.0.root c.args.start c.loop-next.id c.requires.begun.1 c.loop-next.claims.items c.args.addr c.loop-next.at o) c.in-Some.is (c.loop-next.invariant c.requires.begun.0 c.requires.begun.1 c.requires.begun.2).reached)
 
 pub loop-next-preserved : goal.loop-next-preserved
 loop-next-preserved g c = λ begun spare is. record {
@@ -63,7 +63,7 @@ loop-next-preserved g c = λ begun spare is. record {
     whole = node_map c.insert_separator-index.ensures.adds.added;
     before = c.loop-next.claims.items;
     up_to = rw c.moved_by_split-at.ensures
-        (reached-next (node_map begun) (node_map c.loop-next.tree) begun.root c.args.start c.loop-next.id spare c.loop-next.claims.items c.args.addr c.loop-next.at is.splitting c.in-Some.parent c.in-Some.kept c.in-Some.median c.in-Some.right (subst (λ o. ReachesCut (node_map begun) (node_map c.loop-next.tree) begun.root c.args.start c.loop-next.id spare c.loop-next.claims.items c.args.addr c.loop-next.at o) c.in-Some.is (c.loop-next.invariant begun spare is).reached) c.in-Some-parent.above c.in-Some-parent.is (node_map c.insert_separator-index.ensures.adds.added) c.insert_separator-index.result.0 c.insert_separator-index.ensures.adds.adds.nodes);
+        (reached-next (node_map begun) (node_map c.loop-next.tree) begun.root c.args.start c.loop-next.id spare c.loop-next.claims.items c.args.addr c.loop-next.at is.splitting c.in-Some.cut (subst (λ o. ReachesCut (node_map begun) (node_map c.loop-next.tree) begun.root c.args.start c.loop-next.id spare c.loop-next.claims.items c.args.addr c.loop-next.at o) c.in-Some.is (c.loop-next.invariant begun spare is).reached) c.in-Some-parent.above c.in-Some-parent.is (node_map c.insert_separator-index.ensures.adds.added) c.insert_separator-index.result.0 c.insert_separator-index.ensures.adds.adds.nodes);
     cuts = c.insert_separator-index.ensures.adds.cuts.nodes;
   };
   rest = then (then (c.loop-next.invariant begun spare is).rest c.insert_separator-index.ensures.adds.adds.rest) c.insert_separator-index.ensures.adds.cuts.rest;
