@@ -1,9 +1,7 @@
 -- Insertion before the first item of a map.
-use Rattle.std.proofs.Common.{◌≡◌, ◌<◌, ◌≤◌, ◌∙◌, ℕ, List, [], ◌∷◌, length, slice_get, Some, refl, sym, ap, subst, arith}
-use Rattle.std.specs.Cmp.{nat_cmp_is}
+use Rattle.std.proofs.Common.{◌≡◌, ◌<◌, ◌≤◌, ◌∙◌, ℕ, List, [], ◌∷◌, length, slice_get, Some, refl, ap, subst, arith}
 use Rattle.std.specs.List.{insert}
 use Rattle.std.specs.Ordering.{nat_cmp}
-use Rattle.std.specs.declared.cmp.Ordering.TheVariants.{Less}
 use Rattle.btree_item.specs.declared.address.Address.{Address}
 use Rattle.btree_shape.specs.TreeState.{TreeState, pairs_of}
 use Rattle.btree_find.specs.Fits.{FitsAt}
@@ -14,21 +12,6 @@ use Rattle.btree_bench.specs.Begins.{BeginsAt}
 insert-first : (xs : List (ℕ × ℕ)) (x : ℕ × ℕ) → slice_get (insert xs 0 x) 0 ≡ Some x
 insert-first [] x = refl
 insert-first (y ∷ xs) x = refl
-
--- a smaller key fits at the first item
-pub fits-first : (s : TreeState ℕ ℕ) (a : Address) (first key : ℕ) → BeginsAt s a first → key < first → FitsAt nat_cmp key s a
-fits-first s a first key b low = record {
-  place = 0;
-  has = b.has;
-  fits = record {
-    within = omega arith;
-    above = λ q x is e. absurd (cc);
-    below = λ x e.
-        let same : Some x ≡ Some (first, b.value) = sym e ∙ b.first in
-        let is : x ≡ (first, b.value) = cc in
-        subst (λ n. nat_cmp key n ≡ Less) (sym (ap (λ p. p.0) is)) (sym (nat_cmp_is key first Less low));
-  };
-}
 
 module _ (old new : TreeState ℕ ℕ) (a b : Address) (key value : ℕ) (r : InsertsAt old new a nat_cmp b (key, value)) where
   begins : r.place ≡ 0 → BeginsAt new b key

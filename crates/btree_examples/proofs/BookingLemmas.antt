@@ -1,5 +1,5 @@
 -- Bookings that overlap a time: none before the first candidate, and none from the first one on that begins too late.
-use Rattle.std.proofs.Common.{◌≡◌, ◌<◌, ◌≤◌, ◌+◌, ◌∙◌, ℕ, zero, suc, Bool, true, false, ◌&&◌, nat_lt, cond, List, [], ◌∷◌, take, drop, length, slice_get, Option, Some, None, refl, sym, ap, subst, arith}
+use Rattle.std.proofs.Common.{◌≡◌, ◌<◌, ◌≤◌, ◌+◌, ◌∙◌, ℕ, zero, suc, Bool, true, false, ◌&&◌, nat_lt, cond, List, [], ◌∷◌, take, drop, length, slice_get, Option, Some, refl, sym, ap, subst, arith}
 use Rattle.std.proofs.lemmas.Bool.{le-ltb, lt-ltb}
 use Rattle.std.proofs.lemmas.List.{take-append-drop}
 use Rattle.std.proofs.lemmas.List.Sums.{sum_by-append}
@@ -128,26 +128,6 @@ module _ (s : TreeState ℕ ℕ) (start : ℕ) (apart : AreApart (pairs_of s)) w
           let low : x.0.0 < start = below x.0.0 start (fits.fits.above q x.0 (sym there) x.1) in
           candidate q (Some previous) before x.0 x.1 (omega arith)
 
-  -- without one, the first booking
-  pub candidate-first : (gap : Address) (found_at : Option Address) → IsGapAt nat_cmp start s gap → IsPrevious s gap None
-      → IsNormalized s gap found_at → IsFirstCandidate s start found_at
-  candidate-first gap found_at g p n = by p.place refl p.item
-    where
-      by : (place : ℕ) → p.place ≡ place → IsItemBefore s place None → IsFirstCandidate s start found_at
-      by zero is before =
-          let first : n.place ≡ 0 = p.has.only n.place n.has.at ∙ is in
-          record {
-            place = n.place;
-            item = n.item;
-            none_before = λ end. ap (λ q. count_by (overlaps start end) (take q (pairs_of s))) first;
-          }
-      by (suc q) is before =
-          let fits = g.fits in
-          let there : fits.place ≡ suc q = p.has.only fits.place fits.has.at ∙ is in
-          let within = fits.fits.within in
-          let past = before.past refl in
-          absurd (omega arith)
-
   module _ (end count place : ℕ) (x : ℕ × ℕ) (here : slice_get (pairs_of s) place ≡ Some x)
       (counted : count ≡ count_by (overlaps start end) (take place (pairs_of s))) where
     pub counted-one : x.0 < end → start < x.1 → count + 1 ≡ count_by (overlaps start end) (take (suc place) (pairs_of s))
@@ -166,8 +146,3 @@ module _ (s : TreeState ℕ ℕ) (start : ℕ) (apart : AreApart (pairs_of s)) w
     pub counted-all : end ≤ x.0 → count ≡ count_by (overlaps start end) (pairs_of s)
     counted-all late_start =
         counted ∙ sym (count-all (overlaps start end) (pairs_of s) place (none-after start end (pairs_of s) apart place x here late_start))
-
-  -- the bookings before a place past the last one are all
-  pub counted-past : (end count place : ℕ) → count ≡ count_by (overlaps start end) (take place (pairs_of s)) → length (pairs_of s) ≤ place
-      → count ≡ count_by (overlaps start end) (pairs_of s)
-  counted-past end count place counted past = counted ∙ ap (count_by (overlaps start end)) (take-past (pairs_of s) place past)

@@ -1,5 +1,5 @@
 -- A list that is filtered from its start on: the elements that were passed, and the rest.
-use Rattle.std.proofs.Common.{◌≡◌, ◌∙◌, ℕ, zero, suc, Bool, true, false, cond, not, ◌==◌, List, [], ◌∷◌, ◌++◌, Some, None, drop, filter, slice_get, take, refl, sym, ap, subst, append_assoc, ne_eqb}
+use Rattle.std.proofs.Common.{◌≡◌, ◌∙◌, ℕ, zero, suc, Bool, true, cond, not, ◌==◌, List, [], ◌∷◌, ◌++◌, Some, None, drop, filter, slice_get, take, refl, sym, ap, subst, append_assoc, ne_eqb}
 use Rattle.std.proofs.lemmas.Option.{same_Some}
 use Rattle.btree_examples.specs.Stock.{is_in_stock}
 
@@ -24,9 +24,6 @@ module _ {X : Type 0} (keep : X → Bool) (all : List X) where
         append_assoc passed (x ∷ []) (filter keep left)
         ∙ ap (λ b. passed ++ cond b (x ∷ filter keep left) (filter keep left)) (sym is)
         ∙ so_far
-
-    pub keeps-removed : keep x ≡ false → Keeps passed left
-    keeps-removed is = ap (λ b. passed ++ cond b (x ∷ filter keep left) (filter keep left)) (sym is) ∙ so_far
 
   -- at the end they are the whole list
   pub keeps-all : (n : ℕ) (xs : List X) → Keeps (take n xs) (drop n xs) → None ≡ slice_get (drop n xs) 0 → xs ≡ filter keep all

@@ -1,5 +1,5 @@
 -- A search by key in a well formed tree, step by step.
-use Rattle.std.proofs.Common.{◌≡◌, ◌≢◌, ◌+◌, ◌++◌, append_assoc, ℕ, ◌<◌, ◌≤◌, ◌^◌, ◌-◌, inl, List, Option, Some, None, inr, map, length-append, Ok, Err, IfSome, IsSome, Result, [], ◌∷◌, cond, refl, sym, ap, subst, ◌∙◌, length, is_some, option_map, option_and_then, slice_get, if◌then◌else◌, arith}
+use Rattle.std.proofs.Common.{◌≡◌, ◌≢◌, ◌+◌, ◌++◌, append_assoc, ℕ, ◌<◌, ◌≤◌, ◌^◌, ◌-◌, inl, List, Option, Some, None, inr, map, length-append, Ok, Err, IfSome, IsSome, Result, [], ◌∷◌, cond, refl, sym, ap, subst, ◌∙◌, length, option_map, option_and_then, slice_get, if◌then◌else◌, arith}
 use Rattle.std.proofs.lemmas.List.{length-map}
 use Rattle.std.specs.Cmp.{IsTotalOrder}
 use Rattle.std.specs.FinMap as nodes_map
@@ -69,10 +69,6 @@ regroup xs ys zs ws = simp append_assoc
 
 small : (index : ℕ) → index ≤ 9 → index_offset index ≡ Some index
 small index few = let ne : index ≢ 2 ^ 64 - 1 = λ e. omega arith in grind arith
-
-absent-at : {X Y : Type 0} (f : X → Y) (n m p : ℕ) (o : Option X) → (if is_some o then Ok n else Err m) ≡ Err p → None ≡ option_map f o
-absent-at f n m p None e = refl
-absent-at f n m p (Some x) e = absurd (cc)
 
 -- a search among the pairs under node `top` has reached node `id`
 pub record Searches {K V : Type 0} (cmp : K → K → Ordering) (k : K) (s : TreeState K V) (top id : ℕ) : Type 0 where

@@ -9,7 +9,7 @@ use Rattle.btree_nodes.specs.declared.Nodes as nodes
 use Rattle.btree_nodes.specs.declared.NodesMut as nodes_mut
 use Rattle.btree_shape.specs.TreeAddresses.{item_addresses_of}
 use Rattle.btree_shape.specs.TreeState.{TreeState, pairs_of}
-use Rattle.btree_map.specs.Drain.{Asks, AsksFirst, Ends, KeepsAddresses, RunsOut, RunsTest, Selects, if_same, picked}
+use Rattle.btree_map.specs.Drain.{Asks, AsksFirst, Ends, KeepsAddresses, RunsOut, RunsTest, if_same, picked}
 use Rattle.btree_map.specs.Editing.{PassesEntry, RemovesEntry, left_of, passed_of}
 use Rattle.btree_map.specs.declared.cursor.editing.EntriesMut.{EntriesMut}
 
@@ -240,11 +240,6 @@ module _ {F K V : Type 0} (Step : F → K → V → Bool → V → F → Type 0)
       uncounted = run.uncounted;
       addresses = run.addresses;
     }
-
-  pub selects : (f f' : F) (old new : TreeState K V) (front' : ℕ) → Ends Step false f f' old 0 new front' → Selects Step true f (pairs_of old) (pairs_of new)
-  selects f f' old new front' (asked, run, none) =
-      let none-left = run.left ∙ ap (λ (l : List (K × V)). run.here ++ l) none ∙ append-nil run.here in
-      (asked, f', subst (λ (l : List (K × V)). Asks Step f l asked f') (sym none-left) run.calls, sym (all-left f f' old 0 new front' none) ∙ run.passed)
 
   pub keeps-addresses : (f f' : F) (old new : TreeState K V) (front' : ℕ) → Ends Step false f f' old 0 new front' → KeepsAddresses old new
   keeps-addresses f f' old new front' (asked, run, none) all =

@@ -7,22 +7,17 @@ use Rattle.std.specs.List.{insert, remove}
 use Rattle.std.specs.declared.cmp.Ordering.{Ordering}
 use Rattle.btree_item.specs.Pairs.{KeyFits}
 use Rattle.btree_item.specs.declared.address.Address.{Address}
-use Rattle.btree_item.specs.declared.refused.Cause.{Cause}
-use Rattle.btree_item.specs.declared.refused.Cause.TheVariants.{Store, Count}
-use Rattle.btree_store.specs.Content.{Content}
-use Rattle.btree_node.specs.declared.node.Node.{Node}
 use Rattle.btree_shape.specs.Place.{IsOccupied}
 use Rattle.btree_shape.specs.TreeAddresses.{item_addresses_of}
-use Rattle.btree_shape.specs.TreeState.{IsBTree, IsOccupiedIn, IsValidIn, Kept, TreeState, item_of, node_map, pairs_of, refused_once}
+use Rattle.btree_shape.specs.TreeState.{IsBTree, IsOccupiedIn, IsValidIn, TreeState, item_of, node_map, pairs_of}
 use Rattle.btree_shape.proofs.AddressLists.Whole.{addresses-tree}
 use Rattle.btree_find.specs.Ends.{IsLastValid}
 use Rattle.btree_find.specs.Fits.{FitsAt}
 use Rattle.btree_find.specs.Navigation.{HasPlace, IsNext, IsNormalized}
 use Rattle.btree_find.proofs.FitsLemmas.{item-occupied, occupied-item}
 use Rattle.btree_find.proofs.PlaceLemmas.{has-place, only}
-use Rattle.btree_edit.specs.InsertAt.{InsertsAt, IsRefusedAt}
+use Rattle.btree_edit.specs.InsertAt.{InsertsAt}
 use Rattle.btree_edit.specs.Remove.{IsRemoved}
-use Rattle.btree_raw.specs.Insertion.{IsRefused}
 use Rattle.btree_map.specs.Editing.{FitsBetween}
 use Rattle.btree_map.proofs.CursorLemmas.{get_none, listed-item, listed-occupied, listed-valid}
 use Rattle.btree_map.proofs.EditingLists.{between-fits, drop-first, drop-past, fits-between, insert-drop, insert-take, remove-drop, remove-take}
@@ -160,17 +155,3 @@ module _ {K V : Type 0} (cmp : K → K → Ordering) (laws : IsTotalOrder cmp) (
         let fewer = r.shorter in
         let some = slice_get_within (item_addresses_of old) front at listed in
         omega (arith, counted cmp laws old tree, counted cmp laws new t, some, fewer, tree.counted, t.counted)
-
--- ---- after a refusal
-module _ {K V : Type 0} (old new : TreeState K V) (gap : Address) (may_refuse : Content (Node K V) → Type 0) where
-  refused-by : {X : Type 0} (f : TreeState K V → X) (counts : (kept : Kept) → f (record old { kept = kept }) ≡ f old)
-      → (leaf : ℕ) (cause : Cause) → IsRefused may_refuse leaf old new cause → f new ≡ f old
-  refused-by f counts leaf Store refused = ap f refused.0 ∙ counts (refused_once old.kept)
-  refused-by f counts leaf Count refused = ap f refused.0
-
-  module _ (cause : Cause) (r : IsRefusedAt old new gap may_refuse cause) where
-    pub refused-pairs : pairs_of new ≡ pairs_of old
-    refused-pairs = r.leaves.pairs
-
-    pub refused-addresses : item_addresses_of new ≡ item_addresses_of old
-    refused-addresses = refused-by (λ s. item_addresses_of s) (λ n. refl) r.leaf.id cause r.refused

@@ -1,20 +1,16 @@
 -- What a search by key returned, as an entry keeps it.
-use Rattle.std.proofs.Common.{◌≡◌, ◌∙◌, ℕ, Option, Some, None, IsSome, refl, sym, ap, inl, slice_get}
+use Rattle.std.proofs.Common.{◌≡◌, ◌∙◌, ℕ, Option, Some, None, IsSome, refl, sym, ap, inl}
 use Rattle.std.specs.Cmp.{IsTotalOrder}
-use Rattle.std.specs.List.{insert}
 use Rattle.std.specs.declared.cmp.Ordering.{Ordering}
-use Rattle.btree_item.specs.Pairs.{before, found, inserted}
-use Rattle.btree_item.proofs.PairLemmas.{before-from_Err, found-from_Err}
+use Rattle.btree_item.specs.Pairs.{inserted}
 use Rattle.btree_item.specs.declared.address.Address.{Address}
 use Rattle.btree_shape.specs.Place.{IsOccupied, IsWithin}
-use Rattle.btree_shape.specs.TreeAddresses.{leaf_backs_of}
 use Rattle.btree_shape.specs.TreeState.{TreeState, IsValidIn, item_of, node_map, pairs_of}
 use Rattle.btree_shape.proofs.Places.Words.{item-within}
-use Rattle.btree_find.specs.Answers.{IsFoundAt, IsGapAt}
+use Rattle.btree_find.specs.Answers.{IsFoundAt}
 use Rattle.btree_find.proofs.FitsLemmas.{item-occupied, occupied-item}
-use Rattle.btree_edit.specs.InsertAbsent.{IsGapOf}
 use Rattle.btree_map.specs.Written.{list_written, with_value_of}
-use Rattle.btree_map.proofs.ListLemmas.{inserted-absent, inserted-present}
+use Rattle.btree_map.proofs.ListLemmas.{inserted-present}
 
 some-none : {X : Type 0} (o : Option X) → IsSome o → o ≡ None → ⊥
 some-none None some none = absurd (cc)
@@ -29,16 +25,6 @@ item-valid {K} {V} s a some = inl (by a.offset (item-occupied s a some))
     by (Some n) is = item-within (node_map s) n is.0 (node_map s a.id) is.1
 
 module _ {K V : Type 0} (cmp : K → K → Ordering) (laws : IsTotalOrder cmp) (s : TreeState K V) (k : K) (a : Address) where
-  module _ (gap : IsGapAt cmp k s a) where
-    pub gap-absent : found cmp k (pairs_of s) ≡ None
-    gap-absent = found-from_Err cmp k (pairs_of s) gap.fits.place gap.is
-
-    pub gap-stands : IsGapOf cmp k s a
-    gap-stands = ap (slice_get (leaf_backs_of s)) (before-from_Err cmp k (pairs_of s) gap.fits.place gap.is) ∙ gap.listed
-
-    pub gap-writes : (w : V) → insert (pairs_of s) (before cmp k (pairs_of s)) (k, w) ≡ inserted cmp k w (pairs_of s)
-    gap-writes w = inserted-absent cmp laws k w (pairs_of s) gap-absent
-
   module _ (f : IsFoundAt cmp k s a) where
     pub found-occupied : IsSome (item_of s a)
     found-occupied = occupied-item s a f.here.occupied

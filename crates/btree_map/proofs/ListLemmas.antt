@@ -7,7 +7,7 @@ use Rattle.std.specs.Map.{keys_of, lookup_entry, set_value}
 use Rattle.std.specs.Ordering.{is_eq}
 use Rattle.std.specs.declared.cmp.Ordering.{Ordering}
 use Rattle.std.specs.declared.cmp.Ordering.TheVariants.{Less, Equal}
-use Rattle.btree_item.specs.Pairs.{Ascends, before, found, inserted, with_value}
+use Rattle.btree_item.specs.Pairs.{Ascends, found, inserted, with_value}
 
 pub set-inserted : {X : Type 0} (xs : List X) (n : ℕ) (x y : X) → n ≤ length xs → set (insert xs n x) n y ≡ insert xs n y
 set-inserted [] zero x y low = refl
@@ -76,6 +76,3 @@ other (Some y) a b is = absurd (cc)
 module _ {K V : Type 0} (cmp : K → K → Ordering) (laws : IsTotalOrder cmp) (k : K) (w : V) (xs : List (K × V)) where
   pub inserted-present : (p : K × V) → found cmp k xs ≡ Some p → with_value cmp p.0 w xs ≡ inserted cmp k w xs
   inserted-present p is = with_value-equal cmp laws w k p xs is ∙ sym (chosen (found cmp k xs) p _ _ is)
-
-  pub inserted-absent : found cmp k xs ≡ None → insert xs (before cmp k xs) (k, w) ≡ inserted cmp k w xs
-  inserted-absent none = sym (other (found cmp k xs) (with_value cmp k w xs) (insert xs (before cmp k xs) (k, w)) none)

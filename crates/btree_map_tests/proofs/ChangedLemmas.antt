@@ -12,11 +12,6 @@ module _ {X : Type 0} (f : X → X) where
   changed-all [] = refl
   changed-all (x ∷ xs) = ap (λ l. f x ∷ l) (changed-all xs)
 
-  pub changed-length : (n : ℕ) (xs : List X) → length (changed n xs) ≡ length xs
-  changed-length zero xs = refl
-  changed-length (suc n) [] = refl
-  changed-length (suc n) (x ∷ xs) = let same = changed-length n xs in omega arith
-
   step : (n : ℕ) (xs : List X) (x : X) → slice_get (changed n xs) n ≡ Some x → set (changed n xs) n (f x) ≡ changed (suc n) xs
   step zero [] x here = absurd (cc)
   step zero (y ∷ ys) x here = ap (λ z. f z ∷ ys) (sym (same_Some y x here))

@@ -4,12 +4,12 @@ use Rattle.std.specs.FinMap as map
 use Rattle.btree_store.specs.Content.{Content}
 use Rattle.btree_item.specs.Offset.{index_offset}
 use Rattle.btree_node.specs.declared.node.Node.{Node}
-use Rattle.btree_view.specs.Edits.{HasChildFor, is_internal, IsOverflowing, IsSplit, with_item, with_item_at}
+use Rattle.btree_view.specs.Edits.{HasChildFor, is_internal, IsSplit, with_item, with_item_at}
 use Rattle.btree_node.specs.Node.{view_of}
 use Rattle.btree_view.specs.View.{View, NodeMap, leaf, internal, children_in, children_of, most_of, size_of}
 use Rattle.btree_shape.specs.Place.{IsLeaf}
 use Rattle.btree_shape.specs.TreeState.{views}
-use Rattle.btree_raw.specs.Steps.{AddsItem, CanAddItem, Overflows, CutsAtMedian, HasCount}
+use Rattle.btree_raw.specs.Steps.{AddsItem, CanAddItem, CutsAtMedian, HasCount}
 use Rattle.btree_shape.proofs.Places.Untouched.{other-test}
 use Rattle.btree_shape.proofs.Trees.Stores.{most-few, writes_node, view-at}
 
@@ -68,9 +68,6 @@ module _ {K V : Type 0} where
         let index-is : o ≡ Some index = index-at index o (omega (arith, can.room, can.within, most-few can.node)) e in
         let added : view_of new ≡ with_item index x child (view_of node) = is ∙ ap (λ p. with_item_at p x child (view_of node)) index-is in
         record { here = w.here ∙ (ap Some added ∙ sym (ap (option_map (with_item index x child)) here)); others = w.others }
-
-    pub split-over : Overflows (views nodes) id → IsOverflowing (view_of node)
-    split-over can = rw (view-at nodes id node can.node at can.here) can.over
 
     pub halves : (new : Content (Node K V)) (left right : Node K V) (count : ℕ) (median : K × V) → count ≡ size_of (view_of left) → IsSplit (view_of node) median (view_of left) (view_of right)
         → new ≡ map.insert nodes id left → CutsAtMedian (views nodes) (views new) id count median (view_of right)

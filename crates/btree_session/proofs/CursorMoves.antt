@@ -28,10 +28,6 @@ module _ {X : Type 0} where
   first-none [] e = refl
   first-none (y ∷ ys) e = absurd (cc)
 
-  pub none-long : (xs : List X) → length xs ≡ 0 → xs ≡ []
-  none-long [] e = refl
-  none-long (y ∷ ys) e = absurd (omega arith)
-
 -- the cursor's keys are numbers, in their order
 abbrev by_number : ord.Ghosts ℕ
 by_number = record { cmp = nat_cmp }
@@ -42,9 +38,6 @@ module _ {C O : Type 0} {g' : eq.Ghosts ℕ} {g'' : partial.Ghosts ℕ} {s : nod
     module _ (none : left_of c ≡ []) where
       pub peeks-none : IsCursorStep s.MayRefuse (spot_of c) Peek Nothing (spot_of c)
       peeks-none = record { move = (none, refl); nodes = refl }
-
-      pub passes-none : IsCursorStep s.MayRefuse (spot_of c) Next Nothing (spot_of c)
-      passes-none = record { move = (none, refl); nodes = refl }
 
       pub removes-none : IsCursorStep s.MayRefuse (spot_of c) Remove Nothing (spot_of c)
       removes-none = record { move = (none, refl); nodes = refl }

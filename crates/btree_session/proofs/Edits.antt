@@ -9,10 +9,9 @@ use Rattle.btree_item.specs.declared.address.Address.{Address}
 use Rattle.btree_item.specs.declared.refused.Cause.{Cause}
 use Rattle.btree_store.specs.Content.{Content}
 use Rattle.btree_node.specs.declared.node.Node.{Node}
-use Rattle.btree_shape.specs.TreeState.{TreeState, IsBTree, IsValidIn, item_of, pairs_of, rootless}
+use Rattle.btree_shape.specs.TreeState.{TreeState, IsBTree, IsValidIn, pairs_of, rootless}
 use Rattle.btree_find.specs.Fits.{FitsAt}
 use Rattle.btree_find.specs.Navigation.{HasPlace, IsNormalized}
-use Rattle.btree_find.proofs.FitsLemmas.{occupied-item}
 use Rattle.btree_find.proofs.PlaceLemmas.{has-place, place-there}
 use Rattle.btree_edit.specs.InsertAt.{InsertsAt, IsRefusedAt}
 use Rattle.btree_edit.specs.Remove.{IsRemoved, RemovesByKey}
@@ -121,10 +120,6 @@ module _ (may_refuse : Content (Node ℕ ℕ) → Type 0) (old new : TreeState �
         a_step may_refuse (before_with held) (after_with (Some b)) Take (Pair x.0 x.1) (Some place) (Some place)
         (rw is (place, refl, has)) (place, refl, removed.there)
         (place, refl, removed.listed, rw (pairs, kept) refl) (a, at, b, is, normal, removed, refl) removed.tree
-
-  -- an item is at an address that `normalize` returns
-  pub take-there : (a at : Address) → IsNormalized old a (Some at) → item_of old at ≡ None → ⊥
-  take-there a at normal vacant = let some = occupied-item old at normal.item.here.occupied in absurd (cc)
 
   -- ---- no place is held
   module _ (held : Option Address) (none : held ≡ None) where

@@ -140,9 +140,6 @@ module _ (may_refuse : Content (Node ℕ ℕ) → Type 0) (map : TreeState ℕ �
         a_step may_refuse (holding_at (Some held)) (holding_at (Some b)) Prev (Pair x.0 x.1) (Some is.place) (Some there.0) (is.place, refl, is.has)
         (held_item there.0 b there.2) (there.0, ap (λ n. Some n) there.1, (listed there.0 b there.2 x item, refl)) (b, refl, there.2.occupied, refl) tree
 
-    pub prev-back : (b : Address) → IsPrevious map held (Some b) → IsBackIn map b
-    prev-back b is = let there = prev-some-by is.place b is.item in item-back map there.0 b there.2
-
   -- ---- no place is held
   module _ (held : Option Address) (none : held ≡ None) where
     pub next-nowhere : IsStep may_refuse (holding_at held) Next NoPlace (holding_at held)

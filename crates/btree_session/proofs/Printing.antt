@@ -11,7 +11,7 @@ use Rattle.btree_node.specs.Node.{view_of}
 use Rattle.btree_view.specs.View.{NodeMap}
 use Rattle.btree_internal.specs.declared.internal.Branch.{Branch}
 use Rattle.btree_node.specs.declared.node.Node.{Node}
-use Rattle.btree_node.specs.declared.node.Node.TheVariants.{Leaf, Internal}
+use Rattle.btree_node.specs.declared.node.Node.TheVariants.{Internal}
 use Rattle.btree_shape.specs.TreeState.{views}
 use Rattle.btree_session.specs.Answer.{pair_text, list_text, bracketed, shape_in, shape_under}
 use Rattle.btree_session.specs.Text.{Grows}
@@ -110,18 +110,12 @@ shape_under-suc node_at (suc levels) id some =
     let less : levels ≡ suc levels - 1 = omega arith in ap (λ n. shape_in (shape_under node_at n) (node_at id)) less
 
 module _ (nodes : Content (Node ℕ ℕ)) (levels id : ℕ) where
-  pub no_levels : levels ≡ 0 → shape_under (views nodes) levels id ≡ []
-  no_levels none = ap (λ n. shape_under (views nodes) n id) none
 
   pub no_node : finite.get nodes id ≡ None → shape_under (views nodes) levels id ≡ []
   no_node none = at levels where
     at : (levels : ℕ) → shape_under (views nodes) levels id ≡ []
     at zero = refl
     at (suc levels) = ap (λ node. shape_in (shape_under (views nodes) levels) (option_map view_of node)) none
-
-  pub at_leaf : (leaf : LeafParts ℕ ℕ) → 0 < levels → finite.get nodes id ≡ Some (Leaf leaf)
-      → shape_under (views nodes) levels id ≡ bracketed (map (λ pair. decimal pair.0) leaf.items)
-  at_leaf leaf some here = shape_under-suc (views nodes) levels id some ∙ ap (λ node. shape_in (shape_under (views nodes) (levels - 1)) (option_map view_of node)) here
 
   pub at_internal : (node : InternalParts ℕ ℕ) (bs : List (Branch ℕ ℕ)) → 0 < levels → finite.get nodes id ≡ Some (Internal node) → map branch_pair bs ≡ node.branches
       → shape_under (views nodes) levels id ≡ (40 ∷ []) ++ (shape_under (views nodes) (levels - 1) node.first ++ branches_text (views nodes) (levels - 1) bs) ++ 41 ∷ []

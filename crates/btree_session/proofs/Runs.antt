@@ -1,6 +1,6 @@
 -- Runs of a machine, one after another.
-use Rattle.std.proofs.Common.{◌≡◌, ℕ, ◌+◌, ◌<◌, ◌≤◌, List, [], ◌∷◌, ◌++◌, take, length, get_or, refl, sym, ap, ◌∙◌, append_assoc, append-nil}
-use Rattle.std.proofs.lemmas.List.{take_more, take_all}
+use Rattle.std.proofs.Common.{◌≡◌, ℕ, ◌+◌, ◌<◌, ◌≤◌, List, [], ◌∷◌, ◌++◌, take, length, get_or, refl, ap, ◌∙◌, append_assoc}
+use Rattle.std.proofs.lemmas.List.{take_more}
 use Rattle.btree_session.specs.declared.command.Reply.{Reply}
 use Rattle.btree_session.specs.Run.{IsRunBy}
 
@@ -17,9 +17,6 @@ module _ {S X : Type 0} (Step : S → X → Reply → S → Type 0) where
   abbrev pub HasAnswered : S → List X → List Reply → List Reply → S → Type 0
   HasAnswered old commands before after new = (given : List Reply) × (after ≡ before ++ given) × IsRunBy Step old commands given new
 
-  pub none_answered : (old : S) (before : List Reply) → HasAnswered old [] before before old
-  none_answered old before = ([], sym (append-nil before), refl)
-
   -- the next command is answered too
   pub one_more : (old mid new : S) (commands : List X) (i : ℕ) (d : X) (before between after : List Reply) (reply : Reply)
       → HasAnswered old (take i commands) before between mid → i < length commands → Step mid (get_or commands i d) reply new → after ≡ between ++ reply ∷ []
@@ -30,8 +27,3 @@ module _ {S X : Type 0} (Step : S → X → Reply → S → Type 0) where
         more ∙ ap (λ replies. replies ++ reply ∷ []) so_far.1 ∙ append_assoc before so_far.0 (reply ∷ []),
         IsRunBy-append old mid new (take i commands) (get_or commands i d ∷ []) so_far.0 (reply ∷ []) so_far.2 (new, step, refl),
       )
-
-  -- at the end all are
-  pub all_answered : (old new : S) (commands : List X) (i : ℕ) (before after : List Reply)
-      → HasAnswered old (take i commands) before after new → length commands ≤ i → HasAnswered old commands before after new
-  all_answered old new commands i before after so_far all = rw take_all at so_far

@@ -83,14 +83,6 @@ module _ {T V : Type 0} where
   pub keys-none : (xs : List (T × V)) → (xs ≡ []) ↔ (keys_of xs ≡ [])
   keys-none xs = (λ e. ap keys_of e, none-keys xs)
 
-  is-none : (o : Option (T × V)) → option_map (λ p. p.0) o ≡ None → o ≡ None
-  is-none None e = refl
-  is-none (Some x) e = absurd (cc)
-
-  none-is : (o : Option (T × V)) → is_some o ≡ false → o ≡ None
-  none-is None e = refl
-  none-is (Some x) e = absurd (cc)
-
   module _ (cmp : T → T → Ordering) (k : T) (xs : List (T × V)) where
     pub absent-keys : pairs.found cmp k xs ≡ None → stored cmp k (keys_of xs) ≡ None
     absent-keys none = stored-keys cmp k xs ∙ ap (option_map (λ p. p.0)) none

@@ -1,5 +1,5 @@
 -- The elements that an iterator shows before it gives them.
-use Rattle.std.proofs.Common.{◌≡◌, ◌∙◌, ◌^◌, ◌<◌, [], List, Option, None, Some, IfNone, drop, length, option_copied, refl, sym, arith}
+use Rattle.std.proofs.Common.{◌≡◌, ◌∙◌, ◌^◌, ◌<◌, [], List, Option, None, Some, IfNone, length, option_copied, sym, arith}
 use Rattle.std.specs.Borrow.{Bor}
 use Rattle.std.specs.Iterator.{YieldsFirstRef}
 use Rattle.std.specs.List.{cons_option}
@@ -33,11 +33,3 @@ module _ {T : Type 0} where
     rw (rest-is rest new r steps) (sorted-rest cmp (option_copied head) rest up),
     rw (rest-is rest new r steps) (shorter (option_copied head) rest few),
   )
-
-  pub head-none : (rest : List T) (head : Option (Bor T)) → head ≡ None → IfNone head (rest ≡ []) → cons_option (option_copied head) rest ≡ []
-  head-none rest None is empty = empty
-  head-none rest (Some x) is empty = absurd (cc)
-
-  pub rest-drop : (head : Option (Bor T)) (rest : List T) → IfNone head (rest ≡ []) → rest ≡ drop 1 (cons_option (option_copied head) rest)
-  rest-drop None rest empty = rw empty refl
-  rest-drop (Some x) rest empty = refl

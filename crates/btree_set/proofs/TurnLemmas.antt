@@ -56,9 +56,6 @@ module _ {T : Type 0} where
       pub union-less : cmp y x ≡ Less → union cmp first second ≡ y ∷ union cmp first vs
       union-less less = rw (e, f) (merge-less cmp true y x vs us less)
 
-      pub union-equal : cmp y x ≡ Equal → union cmp first second ≡ y ∷ union cmp us vs
-      union-equal equal = rw (e, f) (merge-equal cmp true y x vs us equal)
-
       pub union-greater : cmp y x ≡ Greater → union cmp first second ≡ x ∷ union cmp us second
       union-greater greater = rw (e, f) (merge-greater cmp true y x vs us greater)
 

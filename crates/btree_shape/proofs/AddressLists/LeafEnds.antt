@@ -1,20 +1,17 @@
 -- The leftmost and the rightmost leaf under a node and under its children; and more levels change neither these nor the
 -- lists. Walks from both ends cite it.
-use Rattle.std.proofs.Common.{◌≡◌, ◌<◌, ◌∷◌, ◌∙◌, [], ℕ, zero, suc, List, length, map, Option, Some, None, refl, sym, ap, subst, arith}
+use Rattle.std.proofs.Common.{◌≡◌, ◌<◌, ◌∷◌, ◌∙◌, [], ℕ, zero, suc, List, length, map, Option, Some, refl, sym, ap, subst, arith}
 use Rattle.std.specs.List.{AllByRecursion}
 use Rattle.std.specs.Prelude.{slice_get}
-use Rattle.btree_view.specs.View.{NodeMap, View, leaf, internal}
-use Rattle.btree_shape.specs.Addresses.{backs_under, first_leaf, first_leaf_in, fronts_under, item_addresses_under, last_child, last_leaf, last_leaf_in, leaf_backs_under}
+use Rattle.btree_view.specs.View.{NodeMap, leaf, internal}
+use Rattle.btree_shape.specs.Addresses.{first_leaf, first_leaf_in, last_child, last_leaf, last_leaf_in}
 use Rattle.btree_shape.specs.AddressLaws.{IsPlaced}
 use Rattle.btree_shape.specs.Focus.Subtree.{Holds, Subtree, id_of, view_at}
 use Rattle.btree_shape.specs.Focus.Path.{parent_above}
-use Rattle.btree_shape.specs.WellFormed.{IsRooted}
-use Rattle.btree_shape.proofs.AddressLists.OfPositions.{back-positions, front-positions, item-positions, leaf-back-positions}
 use Rattle.btree_shape.proofs.AddressLists.Neighbours.{no-higher}
 use Rattle.btree_shape.proofs.Trees.Numbers.{used-there}
 use Rattle.btree_shape.proofs.AddressLists.OnePlaceEach.{as-subtree}
 use Rattle.btree_shape.proofs.Paths.FromRoot.{node-rooted}
-use Rattle.btree_shape.proofs.Trees.Subtrees.{subtree-of}
 
 module _ (A : Type 0) (node_at : NodeMap A) where
   -- what holds for the number of each subtree holds for that of the last child
@@ -50,22 +47,6 @@ module _ (A : Type 0) (node_at : NodeMap A) where
   -- the leftmost and the rightmost leaf are leaves
   abbrev IsLeafAt : ℕ → Type 0
   IsLeafAt id = (parent : Option ℕ) × (items : List A) × (node_at id ≡ Some (leaf parent items))
-
-  first-leaf-at : (h n : ℕ) (p : Option ℕ) (t : Subtree A h) → h < n → Holds A node_at h p t → IsLeafAt (first_leaf node_at n (id_of A h t))
-  first-leaf-at h zero p t l d = absurd (omega arith)
-  first-leaf-at zero (suc n) p t l d =
-      subst (λ i. IsLeafAt i) (sym (ap (first_leaf_in (first_leaf node_at n) t.0) d)) (p, t.1, d)
-  first-leaf-at (suc h) (suc n) p t l d =
-      subst (λ i. IsLeafAt i) (sym (ap (first_leaf_in (first_leaf node_at n) t.0) d.0))
-      (first-leaf-at h n (Some t.0) t.1 (omega arith) d.1)
-
-  last-leaf-at : (h n : ℕ) (p : Option ℕ) (t : Subtree A h) → h < n → Holds A node_at h p t → IsLeafAt (last_leaf node_at n (id_of A h t))
-  last-leaf-at h zero p t l d = absurd (omega arith)
-  last-leaf-at zero (suc n) p t l d =
-      subst (λ i. IsLeafAt i) (sym (ap (last_leaf_in (last_leaf node_at n) t.0) d)) (p, t.1, d)
-  last-leaf-at (suc h) (suc n) p t l d =
-      subst (λ i. IsLeafAt i) (sym (ap (last_leaf_in (last_leaf node_at n) t.0) d.0))
-      (at-last (λ i. IsLeafAt (last_leaf node_at n i)) h (Some t.0) (λ u e. last-leaf-at h n (Some t.0) u (omega arith) e) t.1 d.1 t.2 d.2)
 
   first-down : (h n : ℕ) (p : Option ℕ) (t : Subtree A h) → h < n → Holds A node_at h p t → (parent : Option ℕ) (first : ℕ)
       (branches : List (A × ℕ)) → node_at (id_of A h t) ≡ Some (internal parent first branches)
@@ -133,48 +114,3 @@ module _ {A : Type 0} (node_at : NodeMap A) (levels root : ℕ) (xs : List A) (p
         subst (λ i. last_leaf node_at levels i ≡ last_leaf node_at levels (last_child first branches)) n.here
         (last-down A node_at n.height levels (parent_above n.path) n.subtree (omega arith) n.focused.inner parent first branches
         (ap node_at n.here ∙ e))
-
-  -- and they are leaves
-  module _ (node : View A) (e : node_at id ≡ Some node) where
-    pub first-leaf-is : (parent : Option ℕ) × (items : List A) × (node_at (first_leaf node_at levels id) ≡ Some (leaf parent items))
-    first-leaf-is =
-        let n = node-rooted A node_at (λ id node. Unit {0}) root xs p.rooted id (used-there node_at id node e) in
-        let l = no-higher node_at levels root xs p (as-subtree node_at levels root xs p) n.height n.path n.subtree n.focused in
-        let k = p.low in
-        subst (λ i. (parent : Option ℕ) × (items : List A) × (node_at (first_leaf node_at levels i) ≡ Some (leaf parent items))) n.here
-        (first-leaf-at A node_at n.height levels (parent_above n.path) n.subtree (omega arith) n.focused.inner)
-
-    pub last-leaf-is : (parent : Option ℕ) × (items : List A) × (node_at (last_leaf node_at levels id) ≡ Some (leaf parent items))
-    last-leaf-is =
-        let n = node-rooted A node_at (λ id node. Unit {0}) root xs p.rooted id (used-there node_at id node e) in
-        let l = no-higher node_at levels root xs p (as-subtree node_at levels root xs p) n.height n.path n.subtree n.focused in
-        let k = p.low in
-        subst (λ i. (parent : Option ℕ) × (items : List A) × (node_at (last_leaf node_at levels i) ≡ Some (leaf parent items))) n.here
-        (last-leaf-at A node_at n.height levels (parent_above n.path) n.subtree (omega arith) n.focused.inner)
-
--- the lists are the same for any number of levels above the height
-module _ {A : Type 0} (is_right : (id : ℕ) → View A → Type 0) (node_at : NodeMap A) (root : ℕ) (xs : List A) (r : IsRooted is_right node_at root xs)
-    (m n : ℕ) (l : r.height < m) (k : r.height < n) where
-  pub item-levels : item_addresses_under node_at m (Some root) ≡ item_addresses_under node_at n (Some root)
-  item-levels =
-      let s = subtree-of A node_at r.height None root xs r.represents in
-      subst (λ i. item_addresses_under node_at m (Some i) ≡ item_addresses_under node_at n (Some i)) s.here
-      (item-positions node_at r.height m None s.subtree l s.holds ∙ sym (item-positions node_at r.height n None s.subtree k s.holds))
-
-  pub leaf-back-levels : leaf_backs_under node_at m (Some root) ≡ leaf_backs_under node_at n (Some root)
-  leaf-back-levels =
-      let s = subtree-of A node_at r.height None root xs r.represents in
-      subst (λ i. leaf_backs_under node_at m (Some i) ≡ leaf_backs_under node_at n (Some i)) s.here
-      (leaf-back-positions node_at r.height m None s.subtree l s.holds ∙ sym (leaf-back-positions node_at r.height n None s.subtree k s.holds))
-
-  pub back-levels : backs_under node_at m (Some root) ≡ backs_under node_at n (Some root)
-  back-levels =
-      let s = subtree-of A node_at r.height None root xs r.represents in
-      subst (λ i. backs_under node_at m (Some i) ≡ backs_under node_at n (Some i)) s.here
-      (back-positions node_at r.height m None s.subtree l s.holds ∙ sym (back-positions node_at r.height n None s.subtree k s.holds))
-
-  pub front-levels : fronts_under node_at m (Some root) ≡ fronts_under node_at n (Some root)
-  front-levels =
-      let s = subtree-of A node_at r.height None root xs r.represents in
-      subst (λ i. fronts_under node_at m (Some i) ≡ fronts_under node_at n (Some i)) s.here
-      (front-positions node_at r.height m None s.subtree l s.holds ∙ sym (front-positions node_at r.height n None s.subtree k s.holds))

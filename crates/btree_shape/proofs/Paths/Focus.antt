@@ -1,9 +1,9 @@
 -- The focus moves from a node to its parent and to a child: the tree stays the same.
-use Rattle.std.proofs.Common.{◌≡◌, ◌++◌, ◌∷◌, [], ◌∙◌, ℕ, suc, List, sym, ap, subst, arith, append_assoc, append-nil}
+use Rattle.std.proofs.Common.{◌≡◌, ◌++◌, ◌∷◌, [], ◌∙◌, ℕ, suc, List, sym, ap, subst, arith, append_assoc}
 use Rattle.btree_view.specs.View.{NodeMap}
 use Rattle.btree_shape.specs.Focus.Subtree.{IsFilled, IsFilledBelow, Subtree, count_at, items_under}
-use Rattle.btree_shape.specs.Focus.Path.{Path, Frame, HoldsAbove, SiblingsFilled, after_in, at_branch, at_first, before_in, fill, frame_count, items_after, items_before, least_at, parent_above, root_above, top, under}
-use Rattle.btree_shape.specs.Focus.Focus.{IsTree, IsFocus}
+use Rattle.btree_shape.specs.Focus.Path.{Path, Frame, HoldsAbove, SiblingsFilled, after_in, at_branch, at_first, before_in, fill, frame_count, items_after, items_before, least_at, parent_above, root_above, under}
+use Rattle.btree_shape.specs.Focus.Focus.{IsFocus}
 use Rattle.btree_shape.proofs.Paths.Frames.{AllByRecursion-left, AllByRecursion-right, fill-count, fill-filled, fill-holds, fill-id, fill-items, fill-times, open-holds}
 
 module _ (A : Type 0) where
@@ -66,16 +66,3 @@ module _ (A : Type 0) where
           },
           b.sized,
         )
-
-  module _ (node_at : NodeMap A) (root : ℕ) (xs : List A) where
-    pub from-tree : (t : IsTree A node_at root xs) → IsFocus A node_at [] root xs t.height top t.subtree
-    from-tree t =
-        record {
-          above = tt;
-          inner = t.holds;
-          once = λ n. omega (arith, t.once n);
-          filled = tt;
-          below = t.below;
-          list = sym t.represents ∙ sym (append-nil (items_under A t.height t.subtree));
-          root_is = t.at_root;
-        }

@@ -42,9 +42,6 @@ module _ (A : Type 0) where
   times_in-is h n (at_first i back) = refl
   times_in-is h n (at_branch i first front x back) = refl
 
-  pub id_of_view : (h : ℕ) (t : Subtree A (suc h)) → id_of A (suc h) t ≡ t.0
-  id_of_view h t = refl
-
   pub top-view : (node_at : NodeMap A) (h : ℕ) (p : Option ℕ) (t : Subtree A h) → Holds A node_at h p t
       → node_at (id_of A h t) ≡ Some (view_at A h p t)
   top-view node_at zero p t d = d

@@ -8,7 +8,7 @@ use Rattle.btree_shape.specs.Focus.Subtree.{Holds, IsFilled, IsFilledBelow, Subt
 use Rattle.btree_shape.specs.Represents.{Represents, numbers_under}
 use Rattle.btree_shape.specs.Focus.Path.{Path, AreFilled, Frame, HoldsAbove, frame_id, frame_view, least_at, parent_above, root_above, times_above, times_in_siblings, top, under}
 use Rattle.btree_shape.specs.WellFormed.{IsNearlySized, IsRooted, IsSized, excess_allowed, least_allowed, least_of, times_used}
-use Rattle.btree_shape.specs.Focus.Focus.{IsUnsizedFocus, IsTree, IsFocus}
+use Rattle.btree_shape.specs.Focus.Focus.{IsUnsizedFocus, IsFocus}
 use Rattle.btree_shape.proofs.Paths.Frames.{one-other, one-self, one-zero, times_in-is, top-view}
 use Rattle.btree_shape.proofs.Trees.Numbers.{numbers-subtree, same-or, times-has, used-low, used-one, zero-or}
 use Rattle.btree_shape.proofs.Trees.Sizes.{above-sized, below-filled, below-middle, frame-most, frame-size, frames-filled, least-low, least-other, least-root, root-there, view-most, view-size}
@@ -345,18 +345,3 @@ module _ (A : Type 0) (node_at : NodeMap A) where
               below = w.below;
               represents = sym (w.list ∙ append-nil (items_under A h t));
             }
-
-    pub rooted-tree : IsRooted (IsSized root) node_at root xs → IsTree A node_at root xs
-    rooted-tree r =
-        let t = rooted-subtree r in
-        record {
-          height = r.height;
-          subtree = t.subtree;
-          at_root = t.at_root;
-          holds = t.holds;
-          once = t.once;
-          sized =
-              t.sized;
-          below = t.below;
-          represents = t.represents;
-        }

@@ -3,7 +3,7 @@ use Rattle.std.proofs.Common.{◌+◌, ◌-◌, ◌==◌, if◌then◌else◌, �
 use Rattle.std.specs.Prelude.{nat_lt}
 use Rattle.btree_item.specs.declared.address.Address.{Address}
 use Rattle.btree_view.specs.View.{NodeMap}
-use Rattle.btree_shape.specs.Moved.{at_separator, select_by_order, left_after_lending, right_after_merge, root_after_shrinking, right_after_lending, right_after_borrowing, node_after_split, moved_by_merge, moved_by_shrink_root, moved_by_rotate_left, moved_by_rotate_right, moved_by_split, parent_after_merge, parent_after_split}
+use Rattle.btree_shape.specs.Moved.{at_separator, select_by_order, left_after_lending, right_after_merge, right_after_lending, right_after_borrowing, node_after_split, moved_by_merge, moved_by_rotate_left, moved_by_rotate_right, moved_by_split, parent_after_merge, parent_after_split}
 use Rattle.btree_shape.specs.Place.{IsBack}
 use Rattle.btree_shape.specs.Focus.Positions.{address_at}
 
@@ -83,11 +83,3 @@ module _ {A : Type 0} (node_at : NodeMap A) where
           same-back v.id j (right_after_merge i n c v.offset) (if v.id == p then (parent_after_merge i p s n v.offset) else v)
           (back-in-merged v.offset h)
           (same-back v.id p (parent_after_merge i p s n v.offset) v (back-over-merged v.offset h) h)
-
-  back-in-released : (child count : ℕ) (o : Option ℕ) → IsBack node_at o → Back (root_after_shrinking child count o)
-  back-in-released child count None h = absurd h
-  back-in-released child count (Some o) h = tt
-
-  pub release-back : (root child count : ℕ) (v : Address) → Back v → Back (moved_by_shrink_root root child count v)
-  release-back root child count v h =
-      same-back v.id root (root_after_shrinking child count v.offset) v (back-in-released child count v.offset h) h

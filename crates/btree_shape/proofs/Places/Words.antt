@@ -1,20 +1,17 @@
 -- The positions of a tree by a focus agree with the public definitions for addresses and places. Edits by address will
 -- cite what nothing cites yet.
 use Rattle.std.proofs.Common.{◌≡◌, ◌<◌, ◌≤◌, ◌∷◌, [], ◌∙◌, ℕ, zero, suc, inl, inr, List, length, Option, Some, None, refl, arith, option_and_then}
-use Rattle.std.specs.Cmp.{IsTotalOrder}
 use Rattle.std.specs.Prelude.{slice_get}
-use Rattle.std.specs.declared.cmp.Ordering.{Ordering}
 use Rattle.btree_item.specs.declared.address.Address.{Address}
 use Rattle.btree_view.specs.View.{NodeMap, View, item_in, items_of}
 use Rattle.btree_shape.specs.Focus.TreePositions.{IsAddressed}
-use Rattle.btree_shape.specs.Place.{IsPlace, IsValid, IsWithin, item_at}
+use Rattle.btree_shape.specs.Place.{IsPlace, IsValid, IsWithin}
 use Rattle.btree_shape.specs.Focus.Subtree.{Subtree}
-use Rattle.btree_shape.specs.Focus.Positions.{IsExpected, IsAt, Position, address_at, all_positions}
+use Rattle.btree_shape.specs.Focus.Positions.{IsExpected, IsAt, all_positions}
 use Rattle.btree_shape.specs.Focus.Path.{Path}
-use Rattle.btree_shape.specs.WellFormed.{IsWellFormed, times_used}
-use Rattle.btree_shape.specs.Focus.Focus.{IsFocus, HasFocus}
-use Rattle.btree_shape.proofs.Places.OfTree.{on-whole, focus-on, well-on, whole-addressed, whole-on}
-use Rattle.btree_shape.proofs.Paths.UnsizedFocus.{focus-unsized}
+use Rattle.btree_shape.specs.WellFormed.{times_used}
+use Rattle.btree_shape.specs.Focus.Focus.{IsFocus}
+use Rattle.btree_shape.proofs.Places.OfTree.{whole-addressed, whole-on}
 use Rattle.btree_shape.proofs.Trees.Stores.{within-used}
 
 module _ {A : Type 0} (node_at : NodeMap A) where
@@ -63,49 +60,3 @@ module _ (A : Type 0) (node_at : NodeMap A) (root : ℕ) (xs : List A) where
       → (expected : Option A) (a : Address) (p : ℕ) → IsAt expected a (all_positions A h c t) p → AddressIn expected a p
   address-in h c t w expected a p i = addressed-in expected a p
       (whole-addressed A node_at [] root xs expected a p h c t w (whole-on A node_at [] root xs expected a p h c t w i))
-
-  -- and each address of the tree is at a position
-  pub record HasPositionAt (ts : List (Position A)) (expected : Option A) (a : Address) : Type 0 where
-    pub place : ℕ
-    pub there : IsAt expected a ts place
-    pub is : IsPlace node_at (Some root) xs a.id a.offset place
-
-  module _ (s : List ℕ) (h : ℕ) (c : Path A h) (t : Subtree A h) (w : IsFocus A node_at s root xs h c t) where
-    positions-at : (s2 : List ℕ) (expected : Option A) (a : Address) → HasFocus A node_at s2 root xs a.id
-        → IsWithin node_at (node_at a.id) a.offset → IsExpected expected (item_at node_at a)
-        → HasPositionAt (all_positions A h c t) expected a
-    positions-at s2 expected a n l m =
-        let r =
-        focus-on A node_at root xs expected a s2 n.height n.path n.subtree n.here
-        (focus-unsized A node_at s2 root xs n.height n.path n.subtree n.whole) l m in
-        record {
-          place = r.place;
-          there = on-whole A node_at s root xs expected a r.place h c t w r.on;
-          is = (whole-addressed A node_at s root xs expected a r.place h c t w r.on).at_place;
-        }
-
-    -- by any focus, if the tree has a focus at the address's node too
-    pub positions-address : (s2 : List ℕ) (a : Address) → HasFocus A node_at s2 root xs a.id → IsWithin node_at (node_at a.id) a.offset
-        → HasPositionAt (all_positions A h c t) None a
-    positions-address s2 a n l = positions-at s2 None a n l tt
-
-    pub positions-item : (s2 : List ℕ) (id o : ℕ) (x : A) → HasFocus A node_at s2 root xs id → item_in (node_at id) o ≡ Some x
-        → HasPositionAt (all_positions A h c t) (Some x) (address_at id o)
-    positions-item s2 id o x n got = positions-at s2 (Some x) (address_at id o) n (item-within node_at o x (node_at id) got) got
-
--- if the keys ascend, the place is the one that the address has
-module _ {K V : Type 0} (cmp : K → K → Ordering) (laws : IsTotalOrder cmp) (node_at : NodeMap (K × V)) (root len : ℕ)
-    (xs : List (K × V)) (well : IsWellFormed cmp node_at (Some root) len xs)
-    (h : ℕ) (c : Path (K × V) h) (t : Subtree (K × V) h) (w : IsFocus (K × V) node_at [] root xs h c t) where
-  pub positions-place : (a : Address) (p : ℕ) → IsWithin node_at (node_at a.id) a.offset
-      → IsPlace node_at (Some root) xs a.id a.offset p → IsAt None a (all_positions (K × V) h c t) p
-  positions-place a p l i =
-      on-whole (K × V) node_at [] root xs None a p h c t w
-      (well-on cmp laws node_at root xs None a p len well (record { valid = inl l; at_place = i; item = tt }))
-
-  pub positions-place-item : (id o : ℕ) (x : K × V) (p : ℕ) → item_in (node_at id) o ≡ Some x
-      → IsPlace node_at (Some root) xs id (Some o) p → IsAt (Some x) (address_at id o) (all_positions (K × V) h c t) p
-  positions-place-item id o x p got i =
-      on-whole (K × V) node_at [] root xs (Some x) (address_at id o) p h c t w
-      (well-on cmp laws node_at root xs (Some x) (address_at id o) p len well
-      (record { valid = inl (item-within node_at o x (node_at id) got); at_place = i; item = got }))

@@ -11,7 +11,7 @@ use Rattle.btree_item.specs.declared.address.Address.{Address}
 use Rattle.btree_view.specs.View.{NodeMap, leaf}
 use Rattle.btree_shape.specs.Moved.{moved_by_take}
 use Rattle.btree_shape.specs.Focus.Node.{IsExemptNode}
-use Rattle.btree_shape.specs.Focus.TreePositions.{IsAtBefore, HasPositionBefore, HasPosition}
+use Rattle.btree_shape.specs.Focus.TreePositions.{HasPosition}
 use Rattle.btree_shape.specs.Place.{IsPlace}
 use Rattle.btree_shape.specs.Focus.Subtree.{IsFilled, Subtree, count_at, id_of}
 use Rattle.btree_shape.specs.Focus.Underflow.{debt}
@@ -30,9 +30,9 @@ use Rattle.btree_shape.proofs.Paths.Used.{full-no}
 use Rattle.btree_shape.proofs.Places.NodePlaces.{hole-place}
 use Rattle.btree_shape.proofs.Trees.Numbers.{used-low, used-one}
 use Rattle.btree_shape.proofs.Paths.Levels.{levels-rooted}
-use Rattle.btree_shape.proofs.Places.OfTree.{on-whole, root-positions, whole-on}
+use Rattle.btree_shape.proofs.Places.OfTree.{on-whole, whole-on}
 use Rattle.btree_shape.proofs.Places.OnePlace.{one_place-well}
-use Rattle.btree_shape.proofs.Splits.InsertionAddresses.{at-before, smaller-before}
+use Rattle.btree_shape.proofs.Splits.InsertionAddresses.{smaller-before}
 use Rattle.btree_shape.proofs.Paths.FromRoot.{node-at, rooted-off}
 use Rattle.btree_shape.proofs.LookUp.KeyInList.{Rises, ascends, rises}
 use Rattle.btree_shape.proofs.Paths.UnsizedFocus.{focus-unsized}
@@ -223,22 +223,6 @@ module _ {K V : Type 0} (cmp : K → K → Ordering) (laws : IsTotalOrder cmp) (
       whole-on Pair new [] root (remove xs place) expected b q 0 s.path (id, s.left ++ s.right) s.now
       (take-before Pair s.path id s.left x s.right expected b q
       (smaller-before Pair s.path id s.left x (x ∷ s.right) expected b q m (omega arith)))
-
-  -- so does each address that occurs before the item's
-  pub take-keeps-before : (expected : Option Pair) (b : Address) (q : ℕ) → HasPositionBefore Pair node_at root expected b (address_at id o) q
-      → HasPosition Pair new root expected b q
-  take-keeps-before expected b q on =
-      let s = seat in
-      let t =
-      root-positions Pair node_at [] root xs 0 s.path (id, s.left ++ x ∷ s.right)
-      (focus-unsized Pair node_at [] root xs 0 s.path (id, s.left ++ x ∷ s.right) s.old) on.height on.subtree on.at_root
-      on.holds in
-      let a : IsAtBefore expected b (address_at id (length s.left)) (all_positions Pair 0 s.path (id, s.left ++ x ∷ s.right)) q =
-      subst (λ n. IsAtBefore expected b (address_at id n) (all_positions Pair 0 s.path (id, s.left ++ x ∷ s.right)) q) (sym s.count)
-      (subst (λ z. IsAtBefore expected b (address_at id o) z q) (sym t) on.there) in
-      whole-on Pair new [] root (remove xs place) expected b q 0 s.path (id, s.left ++ s.right) s.now
-      (take-before Pair s.path id s.left x s.right expected b q
-      (at-before Pair s.path id s.left x (x ∷ s.right) expected b q a))
 
   -- an address at a greater place has one less, with its item, at its new address
   pub take-later : (expected : Option Pair) (b : Address) (q : ℕ) → place ≤ q → HasPosition Pair node_at root expected b (suc q)

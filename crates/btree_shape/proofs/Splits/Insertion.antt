@@ -40,11 +40,6 @@ use Rattle.btree_shape.proofs.Strain.Sums.{strain-rooted}
 use Rattle.btree_shape.proofs.Strain.Splits.{own-more}
 use Rattle.btree_shape.proofs.Places.TreePlaces.{item-in}
 
-pub insert-parts : {X : Type 0} (l r : List X) (o : ℕ) (x : X) → o ≡ length l → insert (l ++ r) o x ≡ l ++ x ∷ r
-insert-parts l r o x e =
-    let z : o - o ≡ 0 = omega arith in
-    insert-append_right l r o o x (sym e) (omega arith) ∙ ap (λ k. l ++ insert r k x) z
-
 insert-between : {X : Type 0} (front ys back : List X) (o : ℕ) (x : X) → o ≤ length ys
     → insert (front ++ (ys ++ back)) (length front + o) x ≡ front ++ (insert ys o x ++ back)
 insert-between front ys back o x low =

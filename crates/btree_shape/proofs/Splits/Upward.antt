@@ -1,16 +1,16 @@
 -- One step of a split upward: from a node with an item too many to its parent, or to a new root.
 use Rattle.std.proofs.Common.{◌≡◌, ◌≢◌, ◌<◌, ◌≤◌, ◌++◌, ◌∷◌, [], ◌∙◌, ◌+◌, ℕ, zero, suc, List, length, map, Option, Some, None, refl, sym, ap, subst, arith}
 use Rattle.std.proofs.lemmas.List.{map-append}
-use Rattle.std.specs.Prelude.{IsTrue, option_map, slice_get}
+use Rattle.std.specs.Prelude.{IsTrue, slice_get}
 use Rattle.btree_item.specs.declared.address.Address.{Address}
-use Rattle.btree_view.specs.Edits.{IsSplit, is_internal, with_item, with_parent}
+use Rattle.btree_view.specs.Edits.{IsSplit, is_internal, with_item}
 use Rattle.btree_view.specs.View.{NodeMap, View, children_of, internal, leaf, most_of, parent_of, size_of}
 use Rattle.btree_shape.specs.Focus.Overflow.{MayOverflowAt, IsRepaired}
 use Rattle.btree_shape.specs.Moved.{moved_by_split}
 use Rattle.btree_shape.specs.Focus.Need.{path_need}
 use Rattle.btree_shape.specs.Lists.{one, times_listed}
 use Rattle.btree_shape.specs.Focus.Subtree.{Subtree, count_at, id_of, most_at, times_under, view_at}
-use Rattle.btree_shape.specs.Step.{Reparents, WritesNode, GrowsRoot, Splits}
+use Rattle.btree_shape.specs.Step.{WritesNode, GrowsRoot, Splits}
 use Rattle.btree_shape.specs.Focus.Strain.{strain_of}
 use Rattle.btree_shape.specs.Focus.Positions.{IsAt, all_positions}
 use Rattle.btree_shape.specs.Focus.Path.{Path, Frame, at_branch, at_first, fill_two, frame_count, frame_id, frame_index, frame_view, parent_above, top, under}
@@ -52,23 +52,6 @@ module _ (A : Type 0) where
   path_need-some : {h : ℕ} (c : Path A h) → 0 < path_need c
   path_need-some top = omega arith
   path_need-some (under f c) = omega arith
-
-  -- how code splits node i: it writes the left part, writes the right part at j, and sets the parent of j's children
-  pub splits-made : (node_at mid two new : NodeMap A) (i j : ℕ) (median : A) (v left right : View A) → node_at i ≡ Some v
-      → IsSplit v median left right → j ≢ i
-      → times_listed i (children_of right) ≡ 0 → times_listed j (children_of right) ≡ 0
-      → WritesNode node_at mid i left → WritesNode mid two j right → Reparents two new j (children_of right) → Splits node_at new i j median
-  splits-made node_at mid two new i j median v left right e s apart no-i no-j a b d = record {
-    node = v;
-    left = left;
-    right = right;
-    here = e;
-    parts = s;
-    at_left = d.kept i no-i ∙ (b.others i (λ q. apart (sym q)) ∙ a.here);
-    at_right = d.kept j no-j ∙ b.here;
-    moved = λ n ni nj m. d.moved n m ∙ ap (option_map (with_parent (Some j))) (b.others n nj ∙ a.others n ni);
-    kept = λ n ni nj z. d.kept n z ∙ (b.others n nj ∙ a.others n ni);
-  }
 
   -- the children of the right part were the node's
   pub right-children : (n : ℕ) (v left right : View A) (median : A) → IsSplit v median left right

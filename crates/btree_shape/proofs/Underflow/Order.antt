@@ -5,7 +5,7 @@ use Rattle.std.proofs.lemmas.Option.{same_Some}
 use Rattle.btree_item.specs.declared.address.Address.{Address}
 use Rattle.btree_view.specs.View.{NodeMap, View, parent_of}
 use Rattle.btree_shape.specs.SiblingSteps.{RotatesLeft}
-use Rattle.btree_shape.specs.UnderflowFix.{Borrows, CanSpare, UnderflowsUnder, MergesNode, NoneSpares, child_at, from_left, from_right, size_in, with_left, with_right}
+use Rattle.btree_shape.specs.UnderflowFix.{Borrows, CanSpare, UnderflowsUnder, NoneSpares, child_at, from_left, from_right, size_in}
 use Rattle.btree_shape.specs.Need.{levels_above}
 use Rattle.btree_shape.specs.Focus.Search.{levels_below}
 use Rattle.btree_shape.specs.Focus.Subtree.{Subtree, id_of, view_at}
@@ -123,17 +123,6 @@ module _ {A : Type 0} (new : NodeMap A) (root : ℕ) (new_root : Option ℕ) whe
     rotated p up (from_left k left at none lends step) =
         let ki : suc k ≡ index = only (suc k) (subst (λ q. child_at node_at q (suc k) ≡ Some id) up at) in
         absurd (clash k ki (subst (λ q. NoneSpares node_at q (suc (suc k))) up none))
-
-    unjoined : (mid : NodeMap A) (p : ℕ) → p ≡ parent → MergesNode node_at mid p id → ⊥
-    unjoined mid p up (with_left k left at none there few step) =
-        clash k (only (suc k) (subst (λ q. child_at node_at q (suc k) ≡ Some id) up at))
-        (subst (λ q. NoneSpares node_at q (suc (suc k))) up none)
-    unjoined mid p up (with_right r at there few step) =
-        let ki : 0 ≡ index = only 0 (subst (λ q. child_at node_at q 0 ≡ Some id) up at) in
-        let n : NoneSpares node_at parent (suc index) =
-        subst (λ i. NoneSpares node_at parent (suc i)) ki (subst (λ q. NoneSpares node_at q 1) up few) in
-        let m : size_in (node_at right) ≤ 3 = subst (λ o. IfSome o (λ i. size_in (node_at i) ≤ 3)) spare.0 n in
-        let l = spare.1 in omega arith
 
   same-parent : (node_at : NodeMap A) (id p q : ℕ) → UnderflowsUnder node_at root p id → UnderflowsUnder node_at root q id → p ≡ q
   same-parent node_at id p q s t = let a = s.named in let b = t.named in cc

@@ -22,22 +22,6 @@ IsAtBefore expected a c (mark b item ∷ later) place =
     (b ≢ c) × (((a ≡ b) × (place ≡ 0) × IsExpected expected item) ⊎ IsAtBefore expected a c later place)
 IsAtBefore expected a c (over ∷ later) place = (rest : ℕ) × (place ≡ suc rest) × IsAtBefore expected a c later rest
 
--- the same among the positions of the tree under a root
-pub record HasPositionBefore (A : Type 0) (node_at : NodeMap A) (root : ℕ) (expected : Option A) (a c : Address) (place : ℕ) : Type 0 where
-  pub height : ℕ
-  pub subtree : Subtree A height
-  pub at_root : id_of A height subtree ≡ root
-  pub holds : Holds A node_at height None subtree
-  pub there : IsAtBefore expected a c (positions A height subtree) place
-
--- from the tree under a root to that under another, `moved` sends each address to one at the same place, and at the
--- same item if there is one
-abbrev pub KeepsPlaces : (A : Type 0) → (node_at : NodeMap A) → (root : ℕ) → (new : NodeMap A) → (new_root : ℕ)
-    → (Address → Address) → Type 0
-KeepsPlaces A node_at root new new_root moved =
-    (expected : Option A) (a : Address) (place : ℕ)
-    → HasPosition A node_at root expected a place → HasPosition A new new_root expected (moved a) place
-
 -- in the public terms: the address is valid and has this place in the list, and the item `expected` is at it if one is
 -- expected
 pub record IsAddressed (A : Type 0) (node_at : NodeMap A) (root : ℕ) (xs : List A) (expected : Option A) (a : Address)
