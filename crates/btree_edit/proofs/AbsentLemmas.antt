@@ -1,5 +1,5 @@
 -- An insertion of an absent key at the address of its gap.
-use Rattle.std.proofs.Common.{◌≡◌, ℕ, Option, Some, None, Err, IsSome, refl, is_some, if◌then◌else◌, Ok}
+use Rattle.std.proofs.Common.{◌≡◌, ℕ, Option, Some, None, Err, refl, is_some, if◌then◌else◌, Ok}
 use Rattle.std.specs.Cmp.{IsTotalOrder}
 use Rattle.std.specs.declared.cmp.Ordering.{Ordering}
 use Rattle.btree_item.specs.Pairs.{before, found}
@@ -7,9 +7,8 @@ use Rattle.btree_item.specs.declared.address.Address.{Address}
 use Rattle.btree_item.specs.declared.refused.Cause.{Cause}
 use Rattle.btree_node.specs.declared.node.Node.{Node}
 use Rattle.btree_raw.specs.Insertion.{IsRefused}
+use Rattle.btree_raw.proofs.UpwardLemmas.{some-back}
 use Rattle.btree_store.specs.Content.{Content}
-use Rattle.btree_view.specs.View.{NodeMap}
-use Rattle.btree_shape.specs.Place.{IsBack}
 use Rattle.btree_shape.specs.TreeAddresses.{HasAddresses}
 use Rattle.btree_shape.specs.TreeState.{TreeState, IsBTree, IsPlaceIn, node_map, pairs_of}
 use Rattle.btree_shape.proofs.AddressLists.Whole.{addresses-tree}
@@ -21,10 +20,6 @@ use Rattle.btree_edit.specs.Insert.{IsGapFor, IsInserted, IsRefusedAtGap}
 use Rattle.btree_edit.specs.InsertAbsent.{InsertsAbsent, IsGapOf}
 use Rattle.btree_edit.proofs.InsertLemmas.{gap-for, put-inserted_by_key}
 use Rattle.btree_edit.proofs.RefusalLemmas.{refused-at-gap}
-
-back-some : {A : Type 0} (node_at : NodeMap A) (o : Option ℕ) → IsBack node_at o → IsSome o
-back-some node_at None is = absurd is
-back-some node_at (Some n) is = refl
 
 placed-gap : {X : Type 0} (o : Option X) (n : ℕ) → o ≡ None → (if is_some o then Ok n else Err n) ≡ Err n
 placed-gap None n none = refl
@@ -44,7 +39,7 @@ module _ {K V : Type 0} (cmp : K → K → Ordering) (laws : IsTotalOrder cmp) (
   pub gap-there : IsGapAt cmp k old a
   gap-there =
       let r = addresses.leaf_backs.right place a gap in
-      gap-at cmp k laws old tree a place r.0 (placed-gap (found cmp k (pairs_of old)) place none) r.3 r.1 (back-some (node_map old) a.offset r.2)
+      gap-at cmp k laws old tree a place r.0 (placed-gap (found cmp k (pairs_of old)) place none) r.3 r.1 (some-back (node_map old) a.offset r.2)
 
   pub gap-for-absent : IsGapFor cmp k old a
   gap-for-absent = gap-for cmp laws old k w tree a gap-there

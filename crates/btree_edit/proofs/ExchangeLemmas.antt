@@ -36,6 +36,7 @@ use Rattle.btree_find.proofs.FitsLemmas.{item-occupied}
 use Rattle.btree_find.proofs.PlaceLemmas as places
 use Rattle.btree_edit.specs.Exchange.{IsExchanged, IsValueExchanged}
 use Rattle.btree_edit.specs.ValueWritten.{item_written, node_written, value_written}
+use Rattle.btree_edit.specs.WrittenLaws.{set-here}
 
 -- another item is at the address, in a node that is otherwise unchanged; no other node has changed
 pub record ExchangesAt {A : Type 0} (node_at new : NodeMap A) (a : Address) (was is : A) : Type 0 where
@@ -47,12 +48,6 @@ pub record ExchangesAt {A : Type 0} (node_at new : NodeMap A) (a : Address) (was
   pub node : View A
   pub items : HasItems old node (set (items_of old) offset is)
   pub writes_node : WritesNode node_at new a.id node
-
--- an item set at an index, and the others
-get-set_same : {X : Type 0} (xs : List X) (n : ℕ) (x y : X) → slice_get xs n ≡ Some x → slice_get (set xs n y) n ≡ Some y
-get-set_same [] n x y e = absurd (cc)
-get-set_same (z ∷ xs) zero x y e = refl
-get-set_same (z ∷ xs) (suc n) x y e = get-set_same xs n x y e
 
 get-set_other : {X : Type 0} (xs : List X) (n m : ℕ) (y : X) → m ≢ n → slice_get (set xs n y) m ≡ slice_get xs m
 get-set_other [] n m y ne = refl
@@ -288,7 +283,7 @@ module _ {K V : Type 0} (cmp : K → K → Ordering) (laws : IsTotalOrder cmp) (
       pairs = new-pairs;
       item =
           ap (option_and_then (item_in (node_map new a.id))) x.nodes.at
-          ∙ (new-item x.nodes.offset ∙ get-set_same (items_of x.nodes.old) x.nodes.offset was is x.nodes.stood);
+          ∙ (new-item x.nodes.offset ∙ set-here (items_of x.nodes.old) x.nodes.offset was is x.nodes.stood);
       keeps = record { root = same-root x.rest; len = same-len x.rest; nodes = as-many; valid = keeps-valid; places = keeps-place; others = others };
       uncounted = same-kept x.rest;
     }

@@ -6,6 +6,7 @@ use Rattle.btree_item.proofs.PairLemmas.{set-from_Ok, slice_get-from_Ok}
 use Rattle.btree_item.specs.Pairs.{before, found, found_value, inserted}
 use Rattle.btree_item.specs.declared.address.Address.{Address}
 use Rattle.btree_shape.specs.TreeState.{TreeState, IsBTree, pairs_of}
+use Rattle.btree_shape.proofs.Options.{some-none}
 use Rattle.btree_find.specs.Answers.{IsFoundAt, IsGapAt}
 use Rattle.btree_edit.specs.Exchange.{IsValueExchanged}
 use Rattle.btree_edit.specs.Insert.{IsGapFor, IsInserted, InsertsByKey}
@@ -14,10 +15,6 @@ use Rattle.btree_edit.proofs.LevelLemmas.{need-levels}
 err-none : {X : Type 0} (n m i : ℕ) (o : Option X) → (if is_some o then Ok n else Err m) ≡ Err i → (o ≡ None) × (m ≡ i)
 err-none n m i None e = (refl, cc)
 err-none n m i (Some x) e = absurd (cc)
-
-not-both : {X : Type 0} (o : Option X) → IsSome o → o ≡ None → ⊥
-not-both None some none = absurd (cc)
-not-both (Some x) some none = absurd (cc)
 
 if-some : {X Y : Type 0} (o : Option X) (a b : Y) → IsSome o → (if is_some o then a else b) ≡ a
 if-some None a b some = absurd (cc)
@@ -48,11 +45,11 @@ module _ {K V : Type 0} (cmp : K → K → Ordering) (laws : IsTotalOrder cmp) (
 
     pub exchanged-by_key : InsertsByKey cmp k old new w
     exchanged-by_key = record {
-      below_limit = λ none. absurd (not-both (found cmp k xs) is-some none);
-      absent = λ none. absurd (not-both (found cmp k xs) is-some none);
-      split = λ none. absurd (not-both (found cmp k xs) is-some none);
+      below_limit = λ none. absurd (some-none (found cmp k xs) is-some none);
+      absent = λ none. absurd (some-none (found cmp k xs) is-some none);
+      split = λ none. absurd (some-none (found cmp k xs) is-some none);
       few = λ levels are. let e = x.exchanged.keeps.nodes in omega arith;
-      within_strain = λ none. absurd (not-both (found cmp k xs) is-some none);
+      within_strain = λ none. absurd (some-none (found cmp k xs) is-some none);
       present = λ some. (was, record { at = a; found_at = f; exchanged = x });
     }
 
@@ -83,5 +80,5 @@ module _ {K V : Type 0} (cmp : K → K → Ordering) (laws : IsTotalOrder cmp) (
             let n = need-levels cmp old tree a gap.in_leaf levels are in
             omega arith;
         within_strain = λ none. is.strain;
-        present = λ some. absurd (not-both (found cmp k xs) some absent);
+        present = λ some. absurd (some-none (found cmp k xs) some absent);
       }

@@ -1,6 +1,5 @@
 -- The steps of a removal at an address: what a node returned, and the tree in between.
 use Rattle.std.proofs.Common.{◌≡◌, ◌∙◌, ◌+◌, ◌<◌, ◌≤◌, ◌^◌, ℕ, suc, inl, inr, List, length, Option, Some, None, Ok, Err, OnOk, OnErr, Result, IsTrue, refl, sym, ap, subst, option_map, option_and_then, slice_get, arith}
-use Rattle.std.proofs.lemmas.List.{length-map}
 use Rattle.std.proofs.lemmas.Option.{same_Some, slice_get_within}
 use Rattle.std.specs.Cmp.{IsTotalOrder}
 use Rattle.std.specs.FinMap as finite
@@ -19,6 +18,7 @@ use Rattle.btree_shape.specs.Step.{WritesNode}
 use Rattle.btree_shape.specs.TreeState.{TreeState, IsBTree, IsLeafAddressIn, IsOffByOneAt, IsPlaceIn, IsUsed, IsValidIn, item_of, node_map, pairs_of}
 use Rattle.btree_shape.specs.WellFormed.{IsWellFormed}
 use Rattle.btree_shape.proofs.Trees.Stores.{item-some, writes_node}
+use Rattle.btree_shape.proofs.Paths.SiblingNumbers.{children-count}
 use Rattle.btree_raw.specs.Raw.{with_node}
 use Rattle.btree_raw.specs.Rebalance.{HasRoom, IsRebalanced}
 use Rattle.btree_raw.proofs.RebalanceLemmas.{enough-rebalanced}
@@ -29,14 +29,6 @@ use Rattle.btree_find.proofs.WalkLemmas.{occupied-below}
 use Rattle.btree_edit.specs.Remove.{HasChildBehind, IsInnerAt, IsRemoved, LeadsBehind, RebalancesLeaf}
 use Rattle.btree_edit.proofs.InnerLemmas.{node-of}
 use Rattle.btree_edit.proofs.RemoveLemmas.{removed-from-leaf, taken-counted, taken-off, taken-room, taken-valid}
-
--- an internal node has one child more than items
-pub children-more : {A : Type 0} (v : View A) → IsTrue (is_internal v) → length (children_of v) ≡ suc (size_of v)
-children-more (leaf parent items) kind = absurd (cc)
-children-more {A} (internal parent first branches) kind =
-    let a = length-map {A = A × ℕ} {B = A} branches (λ b. b.0) in
-    let b = length-map {A = A × ℕ} {B = ℕ} branches (λ b. b.1) in
-    omega arith
 
 some-same : (m n : ℕ) → Some m ≡ Some n → m ≡ n
 some-same m n e = cc
@@ -206,7 +198,7 @@ module _ {K V : Type 0} (cmp : K → K → Ordering) (laws : IsTotalOrder cmp) (
       behind-within index e =
           let f = inner.offset in
           let same : index ≡ inner.index = cc in
-          let more = children-more (view_of node) (subst (λ v. IsTrue (is_internal v)) (sym view-is) inner.kind) in
+          let more = children-count (view_of node) (subst (λ v. IsTrue (is_internal v)) (sym view-is) inner.kind) in
           let l = low in
           omega arith
 

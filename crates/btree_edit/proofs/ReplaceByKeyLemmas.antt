@@ -1,5 +1,5 @@
 -- A replacement by key: at a key that is there, and at the gap of one that is not.
-use Rattle.std.proofs.Common.{◌≡◌, ◌∙◌, List, Option, Some, None, IsSome, refl, sym, ap, is_some, set, if◌then◌else◌}
+use Rattle.std.proofs.Common.{◌≡◌, ◌∙◌, List, Option, Some, None, sym, ap, set, if◌then◌else◌}
 use Rattle.std.specs.Cmp.{IsTotalOrder}
 use Rattle.std.specs.List.{insert}
 use Rattle.std.specs.declared.cmp.Ordering.{Ordering}
@@ -7,27 +7,16 @@ use Rattle.btree_item.proofs.PairLemmas.{before-from_Err, before-from_Ok}
 use Rattle.btree_item.specs.Pairs.{before, found}
 use Rattle.btree_item.specs.declared.address.Address.{Address}
 use Rattle.btree_shape.specs.TreeState.{TreeState, IsBTree, item_of, pairs_of}
+use Rattle.btree_shape.proofs.Options.{else-none, some-none, then-some}
 use Rattle.btree_find.specs.Answers.{IsFoundAt, IsGapAt}
 use Rattle.btree_edit.specs.Exchange.{IsExchanged}
 use Rattle.btree_edit.specs.Insert.{IsInserted}
 use Rattle.btree_edit.specs.Replace.{ReplacesByKey, replaced}
 use Rattle.btree_edit.proofs.InsertLemmas.{absent, put-inserted_by_key}
 
-chosen : {X Y : Type 0} (o : Option X) (x : X) (a b : Y) → o ≡ Some x → (if is_some o then a else b) ≡ a
-chosen None x a b is = absurd (cc)
-chosen (Some y) x a b is = refl
-
-other : {X Y : Type 0} (o : Option X) (a b : Y) → o ≡ None → (if is_some o then a else b) ≡ b
-other None a b is = refl
-other (Some y) a b is = absurd (cc)
-
 not-both : {X : Type 0} (o : Option X) (x : X) → o ≡ Some x → o ≡ None → ⊥
 not-both None x some none = absurd (cc)
 not-both (Some y) x some none = absurd (cc)
-
-is-some-not : {X : Type 0} (o : Option X) → IsSome o → o ≡ None → ⊥
-is-some-not None some none = absurd (cc)
-is-some-not (Some y) some none = absurd (cc)
 
 module _ {K V : Type 0} (cmp : K → K → Ordering) (laws : IsTotalOrder cmp) (old : TreeState K V) (tree : IsBTree cmp old) (k : K) (w : V)
     (new : TreeState K V) where
@@ -41,7 +30,7 @@ module _ {K V : Type 0} (cmp : K → K → Ordering) (laws : IsTotalOrder cmp) (
     pub exchanged-pairs : pairs_of new ≡ replaced cmp k w xs
     exchanged-pairs =
         let same : e.place ≡ before cmp k xs = f.here.has.only e.place e.here.has.at ∙ sym (before-from_Ok cmp k xs f.place f.is) in
-        e.pairs ∙ (ap (λ n. set xs n (k, w)) same ∙ sym (chosen (found cmp k xs) was _ _ (sym old-pair)))
+        e.pairs ∙ (ap (λ n. set xs n (k, w)) same ∙ sym (then-some (found cmp k xs) was _ _ (sym old-pair)))
 
     pub exchanged-by_key : ReplacesByKey cmp k old new w
     exchanged-by_key = record {
@@ -59,10 +48,10 @@ module _ {K V : Type 0} (cmp : K → K → Ordering) (laws : IsTotalOrder cmp) (
     pub put-pairs : pairs_of new ≡ replaced cmp k w xs
     put-pairs =
         (is.pairs gap.fits.place gap.fits.has.at).0
-        ∙ (ap (λ n. insert xs n (k, w)) (sym (before-from_Err cmp k xs gap.fits.place gap.is)) ∙ sym (other (found cmp k xs) (set xs (before cmp k xs) (k, w)) (insert xs (before cmp k xs) (k, w)) none))
+        ∙ (ap (λ n. insert xs n (k, w)) (sym (before-from_Err cmp k xs gap.fits.place gap.is)) ∙ sym (else-none (found cmp k xs) (set xs (before cmp k xs) (k, w)) (insert xs (before cmp k xs) (k, w)) none))
 
     pub put-by_key : ReplacesByKey cmp k old new w
     put-by_key = record {
       absent = λ n. put-inserted_by_key cmp laws old k w tree a gap new b is;
-      present = λ some. absurd (is-some-not (found cmp k xs) some none);
+      present = λ some. absurd (some-none (found cmp k xs) some none);
     }

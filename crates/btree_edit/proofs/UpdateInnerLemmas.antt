@@ -24,17 +24,13 @@ use Rattle.btree_edit.proofs.InnerLemmas.{apart, node-of, other-items, well}
 use Rattle.btree_edit.proofs.RemoveInnerLemmas.{kept-is, removed-is}
 use Rattle.btree_edit.proofs.RemoveLemmas.{remove-shorter}
 use Rattle.btree_edit.proofs.UpdateLeafLemmas.{same-node}
+use Rattle.btree_edit.specs.WrittenLaws.{set-here}
 
 -- an item set twice at an index, and what is there
 set-set : {X : Type 0} (xs : List X) (n : ℕ) (x y : X) → set (set xs n x) n y ≡ set xs n y
 set-set [] n x y = refl
 set-set (z ∷ xs) zero x y = refl
 set-set (z ∷ xs) (suc n) x y = ap (λ l. z ∷ l) (set-set xs n x y)
-
-get-set : {X : Type 0} (xs : List X) (n : ℕ) (x y : X) → slice_get xs n ≡ Some x → slice_get (set xs n y) n ≡ Some y
-get-set [] n x y e = absurd (cc)
-get-set (z ∷ xs) zero x y e = refl
-get-set (z ∷ xs) (suc n) x y e = get-set xs n x y e
 
 -- the last item, removed and put back
 back-last : {X : Type 0} (xs : List X) (n : ℕ) (x : X) → length xs ≡ suc n → slice_get xs n ≡ Some x → remove xs n ++ x ∷ [] ≡ xs
@@ -83,7 +79,7 @@ module _ {K V : Type 0} (cmp : K → K → Ordering) (laws : IsTotalOrder cmp) (
         ∙ kept-is cmp laws old tree small a left inner taken y leaf_id takes node at x answer kept after 0
 
     item-there : slice_get (items_of held) index ≡ Some y
-    item-there = ap (λ l. slice_get l index) held-has.items_are ∙ get-set items index inner.item y inner.stands
+    item-there = ap (λ l. slice_get l index) held-has.items_are ∙ set-here items index inner.item y inner.stands
 
     pub held-internal : IsTrue (is_internal (view_of still))
     held-internal =

@@ -14,6 +14,7 @@ use Rattle.btree_node.specs.declared.node.Node.{Node}
 use Rattle.btree_shape.specs.Need.{need}
 use Rattle.btree_shape.specs.TreeState.{TreeState, IsBTree, IsUsed, item_of, node_map, nodes_needed, pairs_of}
 use Rattle.btree_shape.proofs.Trees.Stores.{used-view}
+use Rattle.btree_shape.proofs.Options.{else-none, then-some}
 use Rattle.btree_raw.specs.Claimed.{CanHoldMore, EMPTY}
 use Rattle.btree_raw.specs.Raw.{with_node}
 use Rattle.btree_find.specs.Answers.{IsAddressIn, IsAddressOf, IsFoundAt, IsGapAt, IsGapIn}
@@ -26,14 +27,6 @@ use Rattle.btree_edit.specs.Update.{RunsAt, RunsAtGap, RunsByKey, UpdatesAt, Upd
 use Rattle.btree_edit.proofs.InsertLemmas.{exchanged-by_key, exchanged-pairs, put-inserted_by_key}
 use Rattle.btree_edit.proofs.LevelLemmas.{leaf-used}
 use Rattle.btree_edit.proofs.RemoveByKeyLemmas.{removed-by-key}
-
-then-some : {X Y : Type 0} (o : Option X) (x : X) (a b : Y) → o ≡ Some x → (if is_some o then a else b) ≡ a
-then-some None x a b e = absurd (cc)
-then-some (Some y) x a b e = refl
-
-else-none : {X Y : Type 0} (o : Option X) (a b : Y) → o ≡ None → (if is_some o then a else b) ≡ b
-else-none None a b e = refl
-else-none (Some y) a b e = absurd (cc)
 
 gap-place : {X : Type 0} (o : Option X) (n m : ℕ) → o ≡ None → n ≡ m → (if is_some o then Ok n else Err n) ≡ Err m
 gap-place o n m none same = else-none o (Ok n) (Err n) none ∙ ap Err same

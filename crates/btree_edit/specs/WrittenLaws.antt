@@ -10,7 +10,7 @@ use Rattle.btree_view.specs.View.{item_at_offset, item_in, items_of}
 use Rattle.btree_shape.specs.TreeState.{TreeState, item_of}
 use Rattle.btree_edit.specs.ValueWritten.{item_written, node_written, value_written}
 
-set-here : {X : Type 0} (xs : List X) (n : ℕ) (x y : X) → slice_get xs n ≡ Some x → slice_get (set xs n y) n ≡ Some y
+pub set-here : {X : Type 0} (xs : List X) (n : ℕ) (x y : X) → slice_get xs n ≡ Some x → slice_get (set xs n y) n ≡ Some y
 set-here [] n x y e = absurd (cc)
 set-here (z ∷ xs) zero x y e = refl
 set-here (z ∷ xs) (suc n) x y e = set-here xs n x y e

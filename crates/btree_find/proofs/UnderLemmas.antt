@@ -1,5 +1,5 @@
 -- The pairs under a node of a well formed tree: where they begin and end in the list.
-use Rattle.std.proofs.Common.{[], ◌∷◌, ◌++◌, append_assoc, ◌∙◌, ◌≡◌, ◌+◌, ◌<◌, ℕ, zero, suc, inl, inr, List, length, slice_get, length-append, Option, Some, None, Ok, Err, IsSome, refl, sym, ap, subst, arith, option_map}
+use Rattle.std.proofs.Common.{[], ◌∷◌, ◌++◌, append_assoc, ◌∙◌, ◌≡◌, ◌+◌, ◌<◌, ℕ, zero, suc, inl, inr, List, length, slice_get, length-append, Some, None, Ok, Err, refl, sym, ap, subst, arith, option_map}
 use Rattle.std.proofs.lemmas.Bool.Decides.{leb_tells}
 use Rattle.std.specs.Cmp.{IsTotalOrder}
 use Rattle.std.specs.FinMap as finite
@@ -30,6 +30,7 @@ use Rattle.btree_shape.proofs.Trees.Represented.{represented-is}
 use Rattle.btree_shape.proofs.Trees.States.{height_held}
 use Rattle.btree_shape.proofs.Trees.Subtrees.{represents-of}
 use Rattle.btree_shape.proofs.Trees.ValidPlaces.{place-valid}
+use Rattle.btree_shape.proofs.Options.{some-of}
 use Rattle.btree_find.specs.Fits.{pairs_below}
 use Rattle.btree_find.specs.Navigation.{HasPlace}
 use Rattle.btree_find.proofs.PlaceLemmas.{has-place, in-state, root-there}
@@ -109,10 +110,6 @@ module _ {K V : Type 0} (cmp : K → K → Ordering) (laws : IsTotalOrder cmp) (
             last x (subst (λ n. slice_get xs (length front + n) ≡ Some x) same at)
         | inr low ↦ inside.below x (sym (there index low.1) ∙ at)
       ]
-
-some-of : {X : Type 0} (o : Option X) → IsSome o → (x : X) × (o ≡ Some x)
-some-of None is = absurd (cc)
-some-of (Some x) is = (x, refl)
 
 module _ {K V : Type 0} (cmp : K → K → Ordering) (laws : IsTotalOrder cmp) (s : TreeState K V) (tree : IsBTree cmp s)
     (id : ℕ) (used : IsUsed s id) where

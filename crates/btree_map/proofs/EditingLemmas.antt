@@ -11,6 +11,7 @@ use Rattle.btree_shape.specs.Place.{IsOccupied}
 use Rattle.btree_shape.specs.TreeAddresses.{item_addresses_of}
 use Rattle.btree_shape.specs.TreeState.{IsBTree, IsOccupiedIn, IsValidIn, TreeState, item_of, node_map, pairs_of}
 use Rattle.btree_shape.proofs.AddressLists.Whole.{addresses-tree}
+use Rattle.btree_shape.proofs.Options.{some-none}
 use Rattle.btree_find.specs.Ends.{IsLastValid}
 use Rattle.btree_find.specs.Fits.{FitsAt}
 use Rattle.btree_find.specs.Navigation.{HasPlace, IsNext, IsNormalized}
@@ -21,10 +22,6 @@ use Rattle.btree_edit.specs.Remove.{IsRemoved}
 use Rattle.btree_map.specs.Editing.{FitsBetween}
 use Rattle.btree_map.proofs.CursorLemmas.{get_none, listed-item, listed-occupied, listed-valid}
 use Rattle.btree_map.proofs.EditingLists.{between-fits, drop-first, drop-past, fits-between, insert-drop, insert-take, remove-drop, remove-take}
-
-some-none : {X : Type 0} (o : Option X) → IsSome o → o ≡ None → ⊥
-some-none None some none = absurd (cc)
-some-none (Some x) some none = absurd (cc)
 
 occupied-back : {K V : Type 0} (s : TreeState K V) (a : Address) → IsOccupiedIn s a → IsSome a.offset
 occupied-back s a is = by a.offset is

@@ -7,14 +7,11 @@ use Rattle.btree_item.specs.declared.address.Address.{Address}
 use Rattle.btree_shape.specs.Place.{IsOccupied, IsWithin}
 use Rattle.btree_shape.specs.TreeState.{TreeState, IsValidIn, item_of, node_map, pairs_of}
 use Rattle.btree_shape.proofs.Places.Words.{item-within}
+use Rattle.btree_shape.proofs.Options.{some-none}
 use Rattle.btree_find.specs.Answers.{IsFoundAt}
 use Rattle.btree_find.proofs.FitsLemmas.{item-occupied, occupied-item}
 use Rattle.btree_map.specs.Written.{list_written, with_value_of}
 use Rattle.btree_map.proofs.ListLemmas.{inserted-present}
-
-some-none : {X : Type 0} (o : Option X) → IsSome o → o ≡ None → ⊥
-some-none None some none = absurd (cc)
-some-none (Some x) some none = absurd (cc)
 
 -- an address at which an item is, is valid
 pub item-valid : {K V : Type 0} (s : TreeState K V) (a : Address) → IsSome (item_of s a) → IsValidIn s a

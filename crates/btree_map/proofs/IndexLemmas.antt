@@ -50,7 +50,6 @@ shifted m n some = elim (cases_Bool (nat_lt m (n - 1))) [
 ]
 
 module _ (list : List Address) where
-
   pub back-low : (last : Option Address) → last ≡ prior list (index_after list last) → index_after list last ≤ length list
   back-low None stands = omega arith
   back-low (Some a) stands = let within = slice_get_within list (index_of list (Some a)) a (sym stands) in omega arith

@@ -1,5 +1,5 @@
 -- A list of pairs with another value at a key: at its place, at an equal key, twice, and at a key that was inserted.
-use Rattle.std.proofs.Common.{◌≡◌, ◌∙◌, ◌∷◌, [], ◌≤◌, ℕ, zero, suc, Bool, true, false, cond, List, Option, Some, None, length, set, slice_get, is_some, if◌then◌else◌, refl, sym, ap, arith}
+use Rattle.std.proofs.Common.{◌≡◌, ◌∙◌, ◌∷◌, [], ◌≤◌, ℕ, zero, suc, Bool, true, false, cond, List, Some, length, set, slice_get, if◌then◌else◌, refl, sym, ap, arith}
 use Rattle.std.proofs.lemmas.Map.Keys.{sorted_head, sorted_tail}
 use Rattle.std.specs.Cmp.{IsTotalOrder, Equal-is, alike_right, tied_itself}
 use Rattle.std.specs.List.{AllByRecursion, insert}
@@ -8,6 +8,7 @@ use Rattle.std.specs.Ordering.{is_eq}
 use Rattle.std.specs.declared.cmp.Ordering.{Ordering}
 use Rattle.std.specs.declared.cmp.Ordering.TheVariants.{Less, Equal}
 use Rattle.btree_item.specs.Pairs.{Ascends, found, inserted, with_value}
+use Rattle.btree_shape.proofs.Options.{then-some}
 
 pub set-inserted : {X : Type 0} (xs : List X) (n : ℕ) (x y : X) → n ≤ length xs → set (insert xs n x) n y ≡ insert xs n y
 set-inserted [] zero x y low = refl
@@ -65,14 +66,6 @@ module _ {K V : Type 0} (cmp : K → K → Ordering) (laws : IsTotalOrder cmp) (
   pub with_value-twice : (k : K) (v : V) (xs : List (K × V)) → with_value cmp k w (with_value cmp k v xs) ≡ with_value cmp k w xs
   with_value-twice k v xs = set-twice (λ q. is_eq (cmp q k)) v w xs
 
-chosen : {X Y : Type 0} (o : Option X) (x : X) (a b : Y) → o ≡ Some x → (if is_some o then a else b) ≡ a
-chosen None x a b is = absurd (cc)
-chosen (Some y) x a b is = refl
-
-other : {X Y : Type 0} (o : Option X) (a b : Y) → o ≡ None → (if is_some o then a else b) ≡ b
-other None a b is = refl
-other (Some y) a b is = absurd (cc)
-
 module _ {K V : Type 0} (cmp : K → K → Ordering) (laws : IsTotalOrder cmp) (k : K) (w : V) (xs : List (K × V)) where
   pub inserted-present : (p : K × V) → found cmp k xs ≡ Some p → with_value cmp p.0 w xs ≡ inserted cmp k w xs
-  inserted-present p is = with_value-equal cmp laws w k p xs is ∙ sym (chosen (found cmp k xs) p _ _ is)
+  inserted-present p is = with_value-equal cmp laws w k p xs is ∙ sym (then-some (found cmp k xs) p _ _ is)

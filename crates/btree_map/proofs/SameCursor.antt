@@ -17,10 +17,10 @@ use Rattle.btree_map.specs.declared.cursor.ValuesMut.{ValuesMut}
 use denote.Struct.Props.{props}
 use mathlib.Core.HLevel.{is_prop→PathP}
 
-address-prop : (a b : Option Address) → IsProp (a ≡ b)
+pub address-prop : (a b : Option Address) → IsProp (a ≡ b)
 address-prop a b = hlevel props
 
-low-prop : (m n : ℕ) → IsProp (m ≤ n)
+pub low-prop : (m n : ℕ) → IsProp (m ≤ n)
 low-prop m n = hlevel props
 
 told-prop : (a b : Bool) → IsProp (a ≡ b)

@@ -10,14 +10,8 @@ use Rattle.btree_nodes.specs.declared.NodesMut as nodes_mut
 use Rattle.btree_shape.specs.TreeAddresses.{item_addresses_of}
 use Rattle.btree_shape.specs.TreeState.{TreeState}
 use Rattle.btree_map.specs.declared.cursor.editing.EntriesMut.{EntriesMut}
-use denote.Struct.Props.{props}
+use Rattle.btree_map.proofs.SameCursor.{address-prop, low-prop}
 use mathlib.Core.HLevel.{is_prop→PathP}
-
-address-prop : (a b : Option Address) → IsProp (a ≡ b)
-address-prop a b = hlevel props
-
-low-prop : (m n : ℕ) → IsProp (m ≤ n)
-low-prop m n = hlevel props
 
 module _ {K V C O : Type 0} {g : ord.Ghosts K} {g' : eq.Ghosts K} {g'' : partial.Ghosts K} {s : nodes_mut.Ghosts C K V O} {s' : nodes.Ghosts C K V} where
   pub same_editing : (map : MutBor (TreeState K V)) (old new : TreeState K V) (first first' : Option Address) (front front' : ℕ)

@@ -41,13 +41,10 @@ use Rattle.btree_raw.proofs.LevelLemmas.{split_need-few}
 use Rattle.btree_raw.proofs.FixedLemmas.{fix-done, fix-start}
 use Rattle.btree_shape.proofs.Trees.States.{height_held, is-tree-but-length, pairs-tree}
 use Rattle.btree_shape.proofs.Trees.Stores.{used-view, len-views}
+use Rattle.btree_shape.proofs.Options.{some-of}
 use Rattle.btree_raw.proofs.ClaimLemmas.{claims-focus}
 use Rattle.btree_raw.proofs.StateLemmas.{same-len, same-kept, same-root}
 use Rattle.std.proofs.lemmas.Option.{slice_get_within}
-
-some-there : {X : Type 0} (o : Option X) → IsSome o → (x : X) × (o ≡ Some x)
-some-there None is = absurd (cc)
-some-there (Some x) is = (x, refl)
 
 module _ {A : Type 0} where
   -- the numbers of nodes, with those that were allocated or freed
@@ -127,7 +124,7 @@ module _ {K V : Type 0} (cmp : K → K → Ordering) (laws : IsTotalOrder cmp) (
   listed n = o.off.rooted.once n
 
   pub off-node : (v : View (K × V)) × (node_at id ≡ Some v)
-  off-node = some-there (node_at id) o.off.used
+  off-node = some-of (node_at id) o.off.used
 
   pub off-used : IsUsed old id
   off-used = used-view old.nodes id (rw off-node.1 (omega arith))

@@ -22,9 +22,9 @@ use Rattle.btree_shape.proofs.Trees.Numbers.{same-or}
 use Rattle.btree_shape.specs.TreeState.{views}
 use Rattle.btree_raw.specs.NodeSteps.{CanShrinkRoot, ChangesSeparator, ClearsParent, GainsAll, GainsFirst, GainsLast, HasSeparator, HasRoomFor, HasRoomForAll, LosesSeparator, LosesFirst, LosesLast}
 use Rattle.btree_raw.specs.Steps.{HasCount, SetsParent}
-use Rattle.btree_shape.proofs.Places.Untouched.{other-test}
 use Rattle.btree_shape.proofs.Trees.Stores.{most-few, writes_node, view-at}
 use Rattle.btree_raw.proofs.SeparatorLemmas.{one-more}
+use Rattle.btree_raw.proofs.StepLemmas.{index-at}
 use Rattle.btree_internal.proofs.BranchLemmas.{map_remove}
 
 -- the items and children of the new node
@@ -107,10 +107,6 @@ first-at {K} {V} nodes id node o at is = ap (λ n. option_map first_in (option_m
     first (leaf p xs) = refl
     first (internal p u bs) = refl
 
--- a small index is an offset
-pub index-is : (index : ℕ) (o : Option ℕ) → index < 2 ^ 64 - 1 → o ≡ index_offset index → o ≡ Some index
-index-is index o low e = e ∙ rw (other-test index (2 ^ 64 - 1) (omega arith)) refl
-
 module _ {K V : Type 0} (nodes : Content (Node K V)) (id : ℕ) (node : Node K V) (at : Some node ≡ nodes_map.get nodes id) where
   pub here-at : views nodes id ≡ Some (view_of node)
   here-at = ap (option_map view_of) (sym at)
@@ -129,7 +125,7 @@ module _ {K V : Type 0} (nodes : Content (Node K V)) (id : ℕ) (node : Node K V
     small = omega (arith, can.within, can.most, most-few can.node)
 
     pub expects-between : (o : Option ℕ) → o ≡ index_offset index → IsTrue (is_internal (view_of node)) × IsSomeAnd o (λ i. i < size_of (view_of node))
-    expects-between o e = rw (same, index-is index o small e) (can.inner, can.within)
+    expects-between o e = rw (same, index-at index o small e) (can.inner, can.within)
 
     pub next-small : index + 1 ≤ 2 ^ 64 - 1
     next-small = omega (arith, small)
@@ -141,7 +137,7 @@ module _ {K V : Type 0} (nodes : Content (Node K V)) (id : ℕ) (node : Node K V
         → Some old ≡ option_and_then (slice_get (items_of (view_of node))) o → view_of after ≡ with_other_item_at o x (view_of node)
         → new ≡ nodes_map.insert nodes id after → ChangesSeparator (views nodes) (views new) id index old x
     changes-item new after o e old x answer is made =
-        let so : o ≡ Some index = index-is index o small e in
+        let so : o ≡ Some index = index-at index o small e in
         let p = writes_node nodes new id after made in
         record {
           node = view_of node;

@@ -17,7 +17,7 @@ use Rattle.btree_shape.proofs.Trees.Stores.{most-few, writes_node, view-at}
 index-small : (n index : ℕ) (o : Option ℕ) → index < 2 ^ 64 - 1 → index ≤ n → o ≡ index_offset index → IsSomeAnd o (λ i. i ≤ n)
 index-small n index o low within e = rw (e, other-test index (2 ^ 64 - 1) (omega arith)) within
 
-index-at : (index : ℕ) (o : Option ℕ) → index < 2 ^ 64 - 1 → o ≡ index_offset index → o ≡ Some index
+pub index-at : (index : ℕ) (o : Option ℕ) → index < 2 ^ 64 - 1 → o ≡ index_offset index → o ≡ Some index
 index-at index o low e = rw (e, other-test index (2 ^ 64 - 1) (omega arith)) refl
 
 -- how many items a node has

@@ -24,6 +24,7 @@ use Rattle.btree_raw.proofs.SeparatorLemmas.{has-index, index-is}
 use Rattle.btree_raw.proofs.StepLemmas.{size-at}
 use Rattle.btree_shape.proofs.Underflow.Adjacent.{AdjacentSteps}
 use Rattle.btree_shape.proofs.Trees.Numbers.{used-there, same-node}
+use Rattle.btree_shape.proofs.Options.{none-some}
 use Rattle.btree_raw.proofs.BorrowLemmas.{followed-node, followed-under, pair}
 use Rattle.std.proofs.lemmas.Option.{slice_get_within, slice_get-get_or}
 
@@ -39,10 +40,6 @@ get-none (x ∷ xs) (suc i) e = let r = get-none xs i e in omega arith
 
 get-some : (xs : List ℕ) (i : ℕ) → i < length xs → IsSome (slice_get xs i)
 get-some xs i lt = rw (slice_get-get_or xs i 0 lt) refl
-
-none-some : {X : Type 0} (o : Option X) → o ≡ None → IsSome o → ⊥
-none-some None e is = absurd (cc)
-none-some (Some n) e is = absurd (cc)
 
 module _ {A : Type 0} (node_at : NodeMap A) where
   child-here : (parent index : ℕ) (node : View A) (o : Option ℕ) → node_at parent ≡ Some node → slice_get (children_of node) index ≡ o

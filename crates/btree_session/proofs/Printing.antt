@@ -110,7 +110,6 @@ shape_under-suc node_at (suc levels) id some =
     let less : levels ≡ suc levels - 1 = omega arith in ap (λ n. shape_in (shape_under node_at n) (node_at id)) less
 
 module _ (nodes : Content (Node ℕ ℕ)) (levels id : ℕ) where
-
   pub no_node : finite.get nodes id ≡ None → shape_under (views nodes) levels id ≡ []
   no_node none = at levels where
     at : (levels : ℕ) → shape_under (views nodes) levels id ≡ []

@@ -10,7 +10,6 @@ use Rattle.btree_set.specs.Drain.{Asks, CallableOnEach, RunsOut, RunsTest, Selec
 use Rattle.btree_set.specs.Elements.{SetState, set_of}
 
 module _ {T : Type 0} where
-
   same-head : {x y : T} {xs ys : List T} → x ∷ xs ≡ y ∷ ys → x ≡ y
   same-head e = cc
 

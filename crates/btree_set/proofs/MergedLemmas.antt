@@ -8,9 +8,10 @@ use Rattle.std.specs.List.Sorted.{IsStrictlySortedBy}
 use Rattle.std.specs.Ordering.{is_eq}
 use Rattle.std.specs.Set.{sorted_merge}
 use Rattle.std.specs.declared.cmp.Ordering.{Ordering}
-use Rattle.std.specs.declared.cmp.Ordering.TheVariants.{Less, Equal, Greater}
+use Rattle.std.specs.declared.cmp.Ordering.TheVariants.{Less, Equal}
 use Rattle.btree_set.specs.Merges.{is_in}
 use Rattle.btree_set.proofs.MergeLemmas.{above-equal, above-more, absent, by-order, merge-equal, merge-greater, merge-less, rest-up, turned}
+use Rattle.btree_find.specs.CallerLaws.{equal-by}
 
 module _ {T : Type 0} (cmp : T → T → Ordering) where
   -- whether x is in a list, by its first element
@@ -97,15 +98,10 @@ and-false : (a : Bool) → (a && false) ≡ false
 and-false true = refl
 and-false false = refl
 
-is-equal : (o : Ordering) → is_eq o ≡ true → o ≡ Equal
-is-equal Less e = absurd (cc)
-is-equal Equal e = refl
-is-equal Greater e = absurd (cc)
-
 module _ {T : Type 0} {cmp : T → T → Ordering} (laws : IsTotalOrder cmp) where
   -- what is equal to x is in no list whose elements are above x
   none-equal : (x : T) (ys : List T) (q : T) → AllByRecursion (λ y. cmp x y ≡ Less) ys → is_eq (cmp x q) ≡ true → is_in cmp ys q ≡ false
-  none-equal x ys q above same = absent laws q ys (above-equal laws q x ys (tied_back laws x q (is-equal (cmp x q) same)) above)
+  none-equal x ys q above same = absent laws q ys (above-equal laws q x ys (tied_back laws x q (equal-by (cmp x q) same)) above)
 
   -- a merge ascends
   module _ (both : Bool) where
@@ -176,7 +172,7 @@ module _ {T : Type 0} {cmp : T → T → Ordering} (laws : IsTotalOrder cmp) whe
   pub in-alike : (x q : T) (ys : List T) → is_eq (cmp x q) ≡ true → is_in cmp ys x ≡ is_in cmp ys q
   in-alike x q [] same = refl
   in-alike x q (y ∷ ys) same =
-      rw (in-first cmp y ys x, in-first cmp y ys q, alike_right laws x q y (is-equal (cmp x q) same), in-alike x q ys same) refl
+      rw (in-first cmp y ys x, in-first cmp y ys q, alike_right laws x q y (equal-by (cmp x q) same), in-alike x q ys same) refl
 
   -- the elements that pass a test which does not tell equal ones apart
   pub in-filter : (p : T → Bool) (q : T) → ((x : T) → is_eq (cmp x q) ≡ true → p x ≡ p q) → (xs : List T)

@@ -1,3 +1,4 @@
+pub mod Options
 pub mod Trees
 pub mod Paths
 pub mod LookUp

@@ -10,6 +10,7 @@ use Rattle.btree_view.specs.View.{NodeMap, View, children_of, items_of, most_of,
 use Rattle.std.specs.Map.{keys_of}
 use Rattle.btree_shape.specs.Focus.Subtree.{Subtree, id_of, view_at}
 use Rattle.btree_shape.proofs.Paths.Frames.{top-view}
+use Rattle.btree_shape.proofs.Options.{none-some}
 use Rattle.btree_valid.specs.Positions.{IsFirstFaultAmong, IsFirstLeaf, IsLeafAt, IsMetBelow, IsVerdictAt, Leads, PassesAt, PassesOwn, Precedes, Spotted, nearest_of, step_down}
 use Rattle.btree_valid.specs.PositionLaws.{ok-or-err}
 use Rattle.btree_valid.specs.Spots.{Suits}
@@ -39,9 +40,6 @@ none-failed P each (x ∷ xs) = inr (each x, none-failed P each xs)
 some-node : {X : Type 0} (o : Option X) (x : X) → o ≡ Some x → IsSome o
 some-node o x e = subst IsSome (sym e) refl
 
-no-node : {X : Type 0} (o : Option X) → o ≡ None → IsSome o → ⊥
-no-node o e some = let none = subst IsSome e some in cc
-
 none-at : (ns : List ℕ) (index child : ℕ) → ns ≡ [] → slice_get ns index ≡ Some child → ⊥
 none-at [] index child e f = cc
 none-at (n ∷ ns) index child e f = cc
@@ -55,7 +53,7 @@ module _ {K V : Type 0} (cmp : K → K → Ordering) (node_at : NodeMap (K × V)
 
   -- the checks of a position by those of its node
   pub unused-fails : node_at at.id ≡ None → Verdict (Err NoNode)
-  unused-fails none = inl (no-node (node_at at.id) none, refl)
+  unused-fails none = inl (none-some (node_at at.id) none, refl)
 
   module _ (v : View (K × V)) (there : node_at at.id ≡ Some v) where
     own : (answer : Result ⊤ Fault) → IsNodeVerdict cmp at.parent at.min at.max v answer → FirstFailed (PassesAt cmp node_at IsFirstDepth at) node_faults answer

@@ -10,8 +10,9 @@ use Rattle.std.specs.declared.cmp.Ordering.{Ordering}
 use Rattle.std.specs.declared.cmp.Ordering.TheVariants.{Equal, Greater, Less}
 use Rattle.std.specs.declared.ops.Bound.{Bound}
 use Rattle.std.specs.declared.ops.Bound.TheVariants.{Included, Excluded, Unbounded}
-use Rattle.btree_shape.proofs.LookUp.KeyInList.{Rises, rises-left, rises-right}
+use Rattle.btree_shape.proofs.LookUp.KeyInList.{Rises, reversed, reversed-back, rises-left, rises-right}
 use Rattle.btree_shape.proofs.Paths.Frames.{AllByRecursion-right}
+use Rattle.btree_find.specs.CallerLaws.{equal-by}
 
 module _ {A : Type 0} where
   -- what holds of each element implies another
@@ -203,18 +204,6 @@ ge-other Less e n = absurd (cc)
 ge-other Equal e n = absurd (cc)
 ge-other Greater e n = refl
 
-eq-equal : (o : Ordering) → is_eq o ≡ true → o ≡ Equal
-eq-equal Less e = absurd (cc)
-eq-equal Equal e = refl
-eq-equal Greater e = absurd (cc)
-
-module _ {K : Type 0} {cmp : K → K → Ordering} (laws : IsTotalOrder cmp) where
-  turned : (x y : K) → cmp x y ≡ Less → cmp y x ≡ Greater
-  turned x y e = let r = laws.antisymm y x in rw e at r
-
-  turned-back : (x y : K) → cmp x y ≡ Greater → cmp y x ≡ Less
-  turned-back x y e = let r = laws.antisymm y x in rw e at r
-
 -- an excluded key is left out of what is at it and after it, or before it
 module _ {K V : Type 0} {cmp : K → K → Ordering} (laws : IsTotalOrder cmp) (k : K) (xs : List (K × V)) (up : Rises cmp xs) where
   abbrev after : K × V → Bool
@@ -261,7 +250,7 @@ module _ {K V : Type 0} {cmp : K → K → Ordering} (laws : IsTotalOrder cmp) (
     -- the first one has the key
     pub after-key : is_eq (cmp k x.0) ≡ true → entries_between cmp (Excluded k) Unbounded xs ≡ rest
     after-key e =
-        let same = eq-equal (cmp k x.0) e in
+        let same = equal-by (cmp k x.0) e in
         let here : after x ≡ false = ap (λ o. is_lt o && true) same in
         after-of ∙ ap (filter after) inside
         ∙ filter-later after (x ∷ []) rest (here, tt)
@@ -290,11 +279,11 @@ module _ {K V : Type 0} {cmp : K → K → Ordering} (laws : IsTotalOrder cmp) (
     -- the last one has the key
     pub before-key : is_eq (cmp k x.0) ≡ true → entries_between cmp Unbounded (Excluded k) xs ≡ rest
     before-key e =
-        let same = eq-equal (cmp k x.0) e in
+        let same = equal-by (cmp k x.0) e in
         let here : before x ≡ false = ap (λ o. not (is_le o)) same in
         before-of ∙ ap (filter before) inside-end
         ∙ filter-earlier before rest (x ∷ [])
-        (all-so (λ y. cmp y.0 x.0 ≡ Less) (λ y. before y ≡ true) (λ y less. ap (λ o. not (is_le o)) (laws.congr k x.0 y.0 same ∙ turned laws y.0 x.0 less)) rest rest-low)
+        (all-so (λ y. cmp y.0 x.0 ≡ Less) (λ y. before y ≡ true) (λ y less. ap (λ o. not (is_le o)) (laws.congr k x.0 y.0 same ∙ reversed laws y.0 x.0 less)) rest rest-low)
         (here, tt)
 
     -- the last one has another key
@@ -302,7 +291,7 @@ module _ {K V : Type 0} {cmp : K → K → Ordering} (laws : IsTotalOrder cmp) (
     before-other e =
         let pass = AllByRecursion-right (λ y. is_lt (cmp k y.0) ≡ false) rest (x ∷ []) (subst (λ l. AllByRecursion (λ y. is_lt (cmp k y.0) ≡ false) l) inside-end (end-cut laws (Included k) xs up).pass) in
         let high = ge-other (cmp k x.0) pass.0 e in
-        let test = λ (y : K × V) (less : cmp y.0 x.0 ≡ Less). ap (λ o. not (is_le o)) (turned laws y.0 k (laws.trans y.0 x.0 k less (turned-back laws k x.0 high))) in
+        let test = λ (y : K × V) (less : cmp y.0 x.0 ≡ Less). ap (λ o. not (is_le o)) (reversed laws y.0 k (laws.trans y.0 x.0 k less (reversed-back laws k x.0 high))) in
         before-of ∙ ap (filter before) inside-end
         ∙ filter-append before rest (x ∷ [])
         ∙ ap (λ l. l ++ filter before (x ∷ [])) (filter-all before rest (all-so (λ y. cmp y.0 x.0 ≡ Less) (λ y. before y ≡ true) test rest rest-low))

@@ -9,7 +9,7 @@ use Rattle.std.specs.declared.cmp.Ordering.{Ordering}
 use Rattle.std.specs.declared.cmp.Ordering.TheVariants.{Equal, Greater, Less}
 use Rattle.std.specs.declared.ops.Bound.{Bound}
 use Rattle.std.specs.declared.ops.Bound.TheVariants.{Excluded, Unbounded}
-use Rattle.btree_shape.proofs.LookUp.KeyInList.{Rises, rises-right}
+use Rattle.btree_shape.proofs.LookUp.KeyInList.{Rises, reversed, reversed-back, rises-right}
 use Rattle.btree_shape.proofs.Paths.Frames.{AllByRecursion-append, AllByRecursion-right}
 use Rattle.btree_walk.specs.Near.{IsLast}
 use Rattle.btree_walk.specs.Ranges.{AreLeftSame, IsAhead, IsBehind, IsFirstOf, IsLastOf, bound_at, from_first, left_until}
@@ -62,19 +62,13 @@ module _ {A : Type 0} where
   behind-parts all y (Some behind) is = (behind, is.0, is.1)
 
 module _ {K : Type 0} {cmp : K → K → Ordering} (laws : IsTotalOrder cmp) where
-  reversed : (x y : K) → cmp x y ≡ Less → cmp y x ≡ Greater
-  reversed x y e = let r = laws.antisymm y x in rw e at r
-
-  reversed-back : (x y : K) → cmp x y ≡ Greater → cmp y x ≡ Less
-  reversed-back x y e = let r = laws.antisymm y x in rw e at r
-
   same-back : (x y : K) → cmp x y ≡ Equal → cmp y x ≡ Equal
   same-back x y e = let r = laws.antisymm y x in rw e at r
 
   -- a bound at a key, and keys below it, above it and at it
   pub bound-below : (k q : K) (is_left : Bool) → cmp q k ≡ Less → is_past_end cmp (bound_at k is_left) q ≡ false
-  bound-below k q true e = rw (reversed q k e) refl
-  bound-below k q false e = rw (reversed q k e) refl
+  bound-below k q true e = rw (reversed laws q k e) refl
+  bound-below k q false e = rw (reversed laws q k e) refl
 
   pub bound-above : (k q : K) (is_left : Bool) → cmp k q ≡ Less → is_past_end cmp (bound_at k is_left) q ≡ true
   bound-above k q true e = rw e refl

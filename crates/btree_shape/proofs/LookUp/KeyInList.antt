@@ -55,10 +55,10 @@ equal-none : (o : Ordering) → o ≡ Equal → cond (is_lt o) 1 0 ≡ zero
 equal-none o e = rw e refl
 
 module _ {K : Type 0} {cmp : K → K → Ordering} (laws : IsTotalOrder cmp) where
-  reversed : (x y : K) → cmp x y ≡ Less → cmp y x ≡ Greater
+  pub reversed : (x y : K) → cmp x y ≡ Less → cmp y x ≡ Greater
   reversed x y e = let r = laws.antisymm y x in rw e at r
 
-  reversed-back : (x y : K) → cmp x y ≡ Greater → cmp y x ≡ Less
+  pub reversed-back : (x y : K) → cmp x y ≡ Greater → cmp y x ≡ Less
   reversed-back x y e = let r = laws.antisymm y x in rw e at r
 
 module _ {K V : Type 0} (cmp : K → K → Ordering) (k : K) where

@@ -70,7 +70,7 @@ least-room : {A : Type 0} {height : ℕ} (c : Path A height) → least_at c + ro
 least-room top = refl
 least-room (under f c) = refl
 
-most-seven : (h : ℕ) → 7 ≤ most_at h
+pub most-seven : (h : ℕ) → 7 ≤ most_at h
 most-seven zero = omega arith
 most-seven (suc h) = omega arith
 

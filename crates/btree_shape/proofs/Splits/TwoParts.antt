@@ -165,7 +165,6 @@ module _ (A : Type 0) where
 
     module _ (h i j : ℕ) (p : Option ℕ) (first : Subtree A h) (left : List (A × Subtree A h)) (x : A) (u : Subtree A h)
         (rest : List (A × Subtree A h)) where
-
       pub split-parts : ((n : ℕ) → times_under A (suc h) n (i, first, left ++ (x, u) ∷ rest) + one n j ≤ 1)
           → new i ≡ Some (internal p (id_of A h first) (map (λ b. (b.0, id_of A h b.1)) left))
           → new j ≡ Some (internal p (id_of A h u) (map (λ b. (b.0, id_of A h b.1)) rest))

@@ -32,6 +32,7 @@ use Rattle.btree_shape.proofs.Trees.Sizes.{view-most, view-parent, view-size}
 use Rattle.btree_shape.proofs.Splits.Trees.{fill_two-count, fill_two-id}
 use Rattle.btree_shape.proofs.Splits.TwoParts.{join, times-top}
 use Rattle.btree_shape.proofs.Underflow.Items.{kind-is, turned}
+use Rattle.btree_shape.proofs.Splits.Room.{most-seven}
 
 module _ (A : Type 0) (node_at : NodeMap A) (root : ℕ) (xs : List A) (expected : Option A) (a : Address) (place freed bound : ℕ) where
   -- children `left` and `right` of node `parent`, with its item at `index` between them; one of them may have an item
@@ -80,10 +81,6 @@ first-child (leaf p xs) None rest k e = refl
 first-child (leaf p xs) (Some n) rest k e = absurd (cc)
 first-child (internal p u bs) None rest k e = absurd (cc)
 first-child (internal p u bs) (Some n) rest k e = ap Some (cons-parts {X = ℕ} (sym e)).0
-
-pub most-some : (h : ℕ) → 7 ≤ most_at h
-most-some zero = omega arith
-most-some (suc h) = omega arith
 
 module _ (A : Type 0) where
   first-of-view : (h : ℕ) (p : Option ℕ) (t : Subtree A h) → first_in (view_at A h p t) ≡ first_of A h t
@@ -165,7 +162,7 @@ module _ (A : Type 0) where
           let nr = n.right_count in
           let ls = low-size in
           let hs = high-size in
-          let m = most-some h in
+          let m = most-seven h in
           let w =
           pair-whole A new root xs h f c t.new_a t.up t.new_b t.pair (omega arith, omega arith)
           (omega arith, omega arith) in
@@ -200,7 +197,7 @@ module _ (A : Type 0) where
           let nr = n.right_count in
           let ls = low-size in
           let hs = high-size in
-          let m = most-some h in
+          let m = most-seven h in
           let w =
           pair-whole A new root xs h f c t.new_a t.up t.new_b t.pair (omega arith, omega arith)
           (omega arith, omega arith) in
@@ -231,7 +228,7 @@ module _ (A : Type 0) where
       joined new mg few =
           let ls = low-size in
           let hs = high-size in
-          let m = most-some h in
+          let m = most-seven h in
           let t : Subtree A (suc h) = fill f (join A h l x r) in
           let n = fill-count A h f (join A h l x r) in
           let ow : debt c (count_at A (suc h) t) ≡ debt c (frame_count f) = ap (debt c) n in
@@ -307,7 +304,7 @@ module _ (A : Type 0) where
       lower-parent new mg few =
           let ls = low-size in
           let hs = high-size in
-          let m = most-some h in
+          let m = most-seven h in
           let t : Subtree A (suc h) = fill f (join A h l x r) in
           let w = merged A node_at new root xs h f c l x r p mg (omega arith, omega arith) in
           let id-is = fill-id A h f (join A h l x r) in

@@ -19,7 +19,7 @@ use Rattle.btree_shape.specs.Focus.Strain.{strain_of}
 use Rattle.btree_shape.specs.Strain.{strain_under}
 use Rattle.btree_shape.specs.Focus.Path.{Path, depth, least_at, parent_above, top, under}
 use Rattle.btree_shape.specs.WellFormed.{IsFormed, IsNearlySized, IsOffByOne, IsWellFormed, times_used}
-use Rattle.btree_shape.proofs.Underflow.Adjacent.{most-some}
+use Rattle.btree_shape.proofs.Splits.Room.{most-seven}
 use Rattle.btree_shape.proofs.Splits.Claims.{claimed}
 use Rattle.btree_shape.proofs.Paths.Frames.{top-view}
 use Rattle.btree_shape.proofs.Places.OfTree.{off-on, on-whole}
@@ -139,7 +139,7 @@ module _ {K V : Type 0} (cmp : K → K → Ordering) (laws : IsTotalOrder cmp) (
           whole = claimed (K × V) node_at mid spare root xs node.focus.height node.focus.path node.focus.subtree cl
               node.focus.whole;
         };
-        low = (let l = least node.focus.height node.focus.path in let k = most-some node.focus.height in omega arith);
+        low = (let l = least node.focus.height node.focus.path in let k = most-seven node.focus.height in omega arith);
         high = hi;
         enough = λ full. enough ∙ (c2 ∙ f);
         none = λ few. absurd (omega arith);
