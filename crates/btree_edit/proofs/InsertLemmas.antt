@@ -25,11 +25,11 @@ module _ {K V : Type 0} (cmp : K → K → Ordering) (laws : IsTotalOrder cmp) (
   xs = pairs_of old
 
   module _ (new : TreeState K V) (a : Address) (f : IsFoundAt cmp k old a) (was : V) (x : IsValueExchanged old new a cmp was w) where
-    listed : slice_get xs f.place ≡ Some (x.key, was)
+    listed : slice_get xs f.replaces.place ≡ Some (x.key, was)
     listed = sym f.here.item ∙ x.had
 
     is-found : found cmp k xs ≡ Some (x.key, was)
-    is-found = sym (slice_get-from_Ok cmp laws k xs f.place tree.ascends f.is) ∙ listed
+    is-found = sym (slice_get-from_Ok cmp laws k xs f.replaces.place tree.ascends f.is) ∙ listed
 
     is-some : IsSome (found cmp k xs)
     is-some = rw is-found refl
@@ -39,8 +39,8 @@ module _ {K V : Type 0} (cmp : K → K → Ordering) (laws : IsTotalOrder cmp) (
 
     pub exchanged-pairs : pairs_of new ≡ inserted cmp k w xs
     exchanged-pairs =
-        let same : x.exchanged.place ≡ f.place = f.here.has.only x.exchanged.place x.exchanged.here.has.at in
-        let set_is = set-from_Ok cmp laws k w xs f.place (x.key, was) tree.ascends f.is listed in
+        let same : x.exchanged.place ≡ f.replaces.place = f.here.has.only x.exchanged.place x.exchanged.here.has.at in
+        let set_is = set-from_Ok cmp laws k w xs f.replaces.place (x.key, was) tree.ascends f.is listed in
         x.exchanged.pairs ∙ (rw same set_is ∙ sym (if-some (found cmp k xs) _ _ is-some))
 
     pub exchanged-by_key : InsertsByKey cmp k old new w

@@ -24,7 +24,7 @@ module _ {K V : Type 0} (cmp : K → K → Ordering) (laws : IsTotalOrder cmp) (
   -- the address that was found is the one that the key's place has
   pub at-key : address_at_key cmp k s ≡ a
   at-key =
-      ap (λ n. unwrap_or (slice_get (item_addresses_of s) n) (address_at NOWHERE 0)) (before-from_Ok cmp k (pairs_of s) f.place f.is)
+      ap (λ n. unwrap_or (slice_get (item_addresses_of s) n) (address_at NOWHERE 0)) (before-from_Ok cmp k (pairs_of s) f.replaces.place f.is)
       ∙ ap (λ o. unwrap_or o (address_at NOWHERE 0)) f.listed
 
   pub written-at_key : (w : V) → value_written s a w ≡ key_written cmp k s w
@@ -33,11 +33,11 @@ module _ {K V : Type 0} (cmp : K → K → Ordering) (laws : IsTotalOrder cmp) (
   pub exchanges-at_key : (was w : V) → IsValueExchanged s (value_written s a w) a cmp was w → ExchangesValue cmp k s (key_written cmp k s w) was w
   exchanges-at_key was w x =
       let y : IsValueExchanged s (key_written cmp k s w) a cmp was w = subst (λ n. IsValueExchanged s n a cmp was w) (written-at_key w) x in
-      let same : y.exchanged.place ≡ f.place = f.here.has.only y.exchanged.place y.exchanged.here.has.at in
-      let listed : slice_get (pairs_of s) f.place ≡ Some (y.key, was) = sym f.here.item ∙ y.had in
+      let same : y.exchanged.place ≡ f.replaces.place = f.here.has.only y.exchanged.place y.exchanged.here.has.at in
+      let listed : slice_get (pairs_of s) f.replaces.place ≡ Some (y.key, was) = sym f.here.item ∙ y.had in
       record {
         pairs =
             y.exchanged.pairs
-            ∙ rw same (set-from_Ok cmp laws k w (pairs_of s) f.place (y.key, was) tree.ascends f.is listed);
+            ∙ rw same (set-from_Ok cmp laws k w (pairs_of s) f.replaces.place (y.key, was) tree.ascends f.is listed);
         exchanges = record { at = a; found_at = f; exchanged = y };
       }

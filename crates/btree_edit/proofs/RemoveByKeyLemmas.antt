@@ -25,12 +25,12 @@ module _ {K V : Type 0} (cmp : K → K → Ordering) (laws : IsTotalOrder cmp) (
   abbrev xs : List (K × V)
   xs = pairs_of old
 
-  place-is : r.place ≡ f.place
+  place-is : r.place ≡ f.replaces.place
   place-is = f.here.has.only r.place r.has.at
 
   pub entry-found : Some x ≡ found cmp k xs
   entry-found =
-      sym (subst (λ p. slice_get xs p ≡ Some x) place-is r.listed) ∙ slice_get-from_Ok cmp laws k xs f.place tree.ascends f.is
+      sym (subst (λ p. slice_get xs p ≡ Some x) place-is r.listed) ∙ slice_get-from_Ok cmp laws k xs f.replaces.place tree.ascends f.is
 
   pub removed-by-key : RemovesByKey old new cmp k x
   removed-by-key = record {
@@ -38,5 +38,5 @@ module _ {K V : Type 0} (cmp : K → K → Ordering) (laws : IsTotalOrder cmp) (
     found_at = f;
     after = b;
     removed = r;
-    pairs = r.pairs ∙ ap (remove xs) (place-is ∙ sym (before-from_Ok cmp k xs f.place f.is));
+    pairs = r.pairs ∙ ap (remove xs) (place-is ∙ sym (before-from_Ok cmp k xs f.replaces.place f.is));
   }

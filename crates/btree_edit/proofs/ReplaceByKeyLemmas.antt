@@ -29,7 +29,7 @@ module _ {K V : Type 0} (cmp : K → K → Ordering) (laws : IsTotalOrder cmp) (
 
     pub exchanged-pairs : pairs_of new ≡ replaced cmp k w xs
     exchanged-pairs =
-        let same : e.place ≡ before cmp k xs = f.here.has.only e.place e.here.has.at ∙ sym (before-from_Ok cmp k xs f.place f.is) in
+        let same : e.place ≡ before cmp k xs = f.here.has.only e.place e.here.has.at ∙ sym (before-from_Ok cmp k xs f.replaces.place f.is) in
         e.pairs ∙ (ap (λ n. set xs n (k, w)) same ∙ sym (then-some (found cmp k xs) was _ _ (sym old-pair)))
 
     pub exchanged-by_key : ReplacesByKey cmp k old new w

@@ -186,18 +186,17 @@ module _ {K V : Type 0} (cmp : K → K → Ordering) (k : K) (laws : IsTotalOrde
             pair = h.item;
             item = item;
             found = record {
-              place = q.start + h.place;
-              is = whole;
-              here = item;
-              item = is-found;
-              same = subst (λ x. IfSome x (λ (y : K × V). cmp y.0 k ≡ Equal)) (sym is-found) (found-equal cmp k pairs);
-              listed = sym here.listed;
               replaces = record {
                 occupied = item-at o place;
                 place = q.start + h.place;
                 has = item.has;
                 replaces = key-replaces cmp k laws pairs (q.start + h.place) tree.ascends whole;
               };
+              is = whole;
+              here = item;
+              item = is-found;
+              same = subst (λ x. IfSome x (λ (y : K × V). cmp y.0 k ≡ Equal)) (sym is-found) (found-equal cmp k pairs);
+              listed = sym here.listed;
             };
           }
 

@@ -17,13 +17,12 @@ use Rattle.btree_find.specs.Navigation.{HasPlace, IsItemAddress}
 module _ {K V : Type 0} (cmp : K → K → Ordering) (k : K) (s : TreeState K V) where
   -- the address of the item with the key, whose key is equal; the key may replace the stored one there
   pub record IsFoundAt (a : Address) : Type 0 where
-    pub place : ℕ
-    pub is : place_of cmp k (pairs_of s) ≡ Ok place
-    pub here : IsItemAddress s place a
+    pub replaces : ReplacesAt cmp k s a
+    pub is : place_of cmp k (pairs_of s) ≡ Ok replaces.place
+    pub here : IsItemAddress s replaces.place a
     pub item : item_of s a ≡ found cmp k (pairs_of s)
     pub same : IfSome (item_of s a) (λ x. cmp x.0 k ≡ Equal)
-    pub listed : slice_get (item_addresses_of s) place ≡ Some a
-    pub replaces : ReplacesAt cmp k s a
+    pub listed : slice_get (item_addresses_of s) replaces.place ≡ Some a
 
   -- a back address in a leaf whose place is the number of smaller keys, if no key is equal; so the key fits at this
   -- place, and the record has all that an insertion there requires

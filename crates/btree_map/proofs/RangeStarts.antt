@@ -48,7 +48,7 @@ module _ {K V : Type 0} (cmp : K → K → Ordering) (laws : IsTotalOrder cmp) (
   -- at a key that is there, or at the gap where it would be
   module _ (k : K) where
     pub found-first : (a : Address) → IsFoundAt cmp k s a → Some a ≡ slice_get list (from_place cmp (Included k) pairs)
-    found-first a x = sym x.listed ∙ ap (slice_get list) (sym (below-place cmp laws k pairs ∙ before-from_Ok cmp k pairs x.place x.is))
+    found-first a x = sym x.listed ∙ ap (slice_get list) (sym (below-place cmp laws k pairs ∙ before-from_Ok cmp k pairs x.replaces.place x.is))
 
     pub gap-first : (gap : Address) (found : Option Address) → IsGapAt cmp k s gap → IsNormalized s gap found
         → found ≡ slice_get list (from_place cmp (Included k) pairs)
@@ -59,8 +59,8 @@ module _ {K V : Type 0} (cmp : K → K → Ordering) (laws : IsTotalOrder cmp) (
     pub found-after : (a : Address) (found : Option Address) → IsFoundAt cmp k s a → IsNext s a found → found ≡ slice_get list (from_place cmp (Excluded k) pairs)
     found-after a found x n =
         (n.after x.here.occupied).listed
-        ∙ ap (λ m. slice_get list (suc m)) (sym (n.has.only x.place x.here.has.at))
-        ∙ ap (slice_get list) (sym (past-found cmp laws k pairs x.place up x.is))
+        ∙ ap (λ m. slice_get list (suc m)) (sym (n.has.only x.replaces.place x.here.has.at))
+        ∙ ap (slice_get list) (sym (past-found cmp laws k pairs x.replaces.place up x.is))
 
     pub gap-after : (gap : Address) (found : Option Address) → IsGapAt cmp k s gap → IsNormalized s gap found
         → found ≡ slice_get list (from_place cmp (Excluded k) pairs)
@@ -71,7 +71,7 @@ module _ {K V : Type 0} (cmp : K → K → Ordering) (laws : IsTotalOrder cmp) (
         (sym (n.has.only x.fits.place x.fits.has.at) ∙ sym (past-missing cmp laws k pairs up absent ∙ before-from_Err cmp k pairs x.fits.place x.is))
 
     pub found-last : (a : Address) → IsFoundAt cmp k s a → Some a ≡ prior list (to_place cmp (Included k) pairs)
-    found-last a x = sym x.listed ∙ ap (prior list) (sym (up_to-found cmp laws k pairs x.place up x.is))
+    found-last a x = sym x.listed ∙ ap (prior list) (sym (up_to-found cmp laws k pairs x.replaces.place up x.is))
 
     pub gap-last : (gap : Address) (found : Option Address) → IsGapAt cmp k s gap → IsPrevious s gap found
         → found ≡ prior list (to_place cmp (Included k) pairs)
@@ -84,7 +84,7 @@ module _ {K V : Type 0} (cmp : K → K → Ordering) (laws : IsTotalOrder cmp) (
     pub found-before : (a : Address) (found : Option Address) → IsFoundAt cmp k s a → IsPrevious s a found → found ≡ prior list (to_place cmp (Excluded k) pairs)
     found-before a found x p =
         before-listed s p.place found p.item
-        ∙ ap (prior list) (sym (p.has.only x.place x.here.has.at) ∙ sym (below-end cmp laws k pairs ∙ before-from_Ok cmp k pairs x.place x.is))
+        ∙ ap (prior list) (sym (p.has.only x.replaces.place x.here.has.at) ∙ sym (below-end cmp laws k pairs ∙ before-from_Ok cmp k pairs x.replaces.place x.is))
 
     pub gap-before : (gap : Address) (found : Option Address) → IsGapAt cmp k s gap → IsPrevious s gap found
         → found ≡ prior list (to_place cmp (Excluded k) pairs)

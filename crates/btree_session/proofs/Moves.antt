@@ -62,7 +62,7 @@ module _ (may_refuse : Content (Node ℕ ℕ) → Type 0) (map : TreeState ℕ �
     seek-found there x item =
         let finds = sym there.item ∙ sym item in
         a_step may_refuse (holding_at held) (holding_at (Some a)) (Seek key) (Found x.1) p.0 (Some (before nat_cmp key pairs)) p.1
-        (at_before there.place there.here.has.at (before-from_Ok nat_cmp key pairs there.place there.is))
+        (at_before there.replaces.place there.here.has.at (before-from_Ok nat_cmp key pairs there.replaces.place there.is))
         (ap (option_map (λ x. x.1)) finds, refl) (a, there, refl, refl) tree
 
     pub seek-gap : IsGapAt nat_cmp key map a → IsStep may_refuse (holding_at held) (Seek key) Gap (holding_at (Some a))
