@@ -2,6 +2,7 @@ pub mod EntryLemmas
 pub mod ListLemmas
 pub mod RemovalLemmas
 pub mod ExtensionLemmas
+pub mod AscendingLemmas
 pub mod SameEntry
 pub mod WrittenLemmas
 pub mod CursorLemmas

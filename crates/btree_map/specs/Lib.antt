@@ -3,6 +3,7 @@ pub mod Comparison
 pub mod Entry
 pub mod Lent
 pub mod Removal
+pub mod Ascending
 pub mod Extension
 pub mod Written
 pub mod Spans

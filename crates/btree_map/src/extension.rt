@@ -1,16 +1,68 @@
 //! Insertion of the pairs that an iterator gives.
-ghost use Rattle.std.specs.Prelude.{◌≡◌, IfErr, IfOk, OnErr, OnOk};
+ghost use Rattle.std.specs.Prelude.{◌≡◌, IfErr, IfOk, IfSome, IsTrue, None, OnErr, OnOk};
 ghost use Rattle.std.specs.Iterator.{IsFinite};
 ghost use Rattle.std.specs.Mem.{FitsInMemory};
 ghost use Rattle.btree_node.specs.contracts.node.Node.{the_row as node_row};
-ghost use Rattle.btree_shape.specs.TreeState.{unlimited};
+ghost use Rattle.btree_item.specs.Pairs.{found, inserted};
+ghost use Rattle.btree_shape.specs.TreeState.{pairs_of, unlimited};
+ghost use Rattle.btree_edit.specs.Insert.{IsRefusedAtGap};
+ghost use Rattle.btree_map.specs.Ascending.{IsAboveLast, IsLastPair};
 ghost use Rattle.btree_map.specs.Extension.{Adds, AddsUntil, Collects, CollectsUntil, RefusesInTurn, copied_steps};
 
 use crate::BTreeMap;
-use btree_item::Refused;
+use btree_ext::BTreeExt;
+use btree_item::{Address, Refused};
 use btree_nodes::NodesMut;
+use std::cmp::Ordering;
 
 impl<K: Ord + Drop, V: Drop, C: NodesMut<K, V>> BTreeMap<K, V, C> {
+    // Returns whether a key is greater than that of the last pair, whose address is given. Without an address it compares no key, and returns
+    // whether there are no pairs.
+    fn is_above(&self, last: Option<Address>, key: &K) -> bool
+        requires { IfSome last (IsLastPair self.now) }
+        ensures { IsTrue result → IsAboveLast K.cmp key.now (pairs_of self.now) }
+    {
+        match last {
+            Some(at) => self.pair_at(at).0.cmp(key) == Ordering::Less,
+            None => self.is_empty(),
+        }
+    }
+
+    // Inserts a pair as `insert` does, but first compares its key with that of the last pair, and if it is greater compares no other. Returns
+    // the address of the last pair, if the pair is the last one now.
+    fn insert_in_order(
+        &mut self,
+        last: Option<Address>,
+        key: K,
+        value: V,
+    ) -> Result<Option<Address>, Refused<K, V>>
+        requires { IfSome last (IsLastPair self.old) }
+        ensures inserted { OnOk result (pairs_of self.new ≡ inserted K.cmp key value (pairs_of self.old)) }
+        ensures last { IfOk result (λ at. IfSome at (IsLastPair self.new)) }
+        ensures uncounted { OnOk result (self.new.kept ≡ self.old.kept) }
+
+        ensures returned { IfErr result (λ r. (r.key ≡ key) × (r.value ≡ value)) }
+        ensures absent { OnErr result (found K.cmp key (pairs_of self.old) ≡ None) }
+        ensures cause { IfErr result (λ r.
+            IsRefusedAtGap K.cmp key self.old self.new C.MayRefuse r.cause) }
+    {
+        if self.is_above(last, &key) {
+            self.tell_well_formed();
+            let end = self.last_valid_address();
+            return match self.insert_absent(end, key, value) {
+                Ok(at) => Ok(Some(at)),
+                Err(refused) => Err(refused),
+            };
+        }
+        match self.insert(key, value) {
+            Ok(replaced) => {
+                drop(replaced);
+                Ok(None)
+            }
+            Err(refused) => Err(refused),
+        }
+    }
+
     /// Inserts the pairs that `source` gives, in order, as `insert` does. Returns the first pair that is refused: those before it are in
     /// the map, and those after it are still in `source`.
     ///
@@ -31,9 +83,10 @@ impl<K: Ord + Drop, V: Drop, C: NodesMut<K, V>> BTreeMap<K, V, C> {
         ensures may_go_on { OnErr result (I.can_next source.new) }
         ensures still_ends { OnErr result (IsFinite (I.remaining source.new)) }
     {
+        let mut last = self.last_item_address();
         while let Some((key, value)) = source.next() {
-            match self.insert(key, value) {
-                Ok(replaced) => drop(replaced),
+            match self.insert_in_order(last, key, value) {
+                Ok(at) => last = at,
                 Err(refused) => return Err(refused),
             }
         }
@@ -60,9 +113,10 @@ impl<K: Ord + Drop, V: Drop, C: NodesMut<K, V>> BTreeMap<K, V, C> {
         ensures may_go_on { OnErr result (I.can_next source.new) }
         ensures still_ends { OnErr result (IsFinite (I.remaining source.new)) }
     {
+        let mut last = self.last_item_address();
         while let Some((key, value)) = source.next() {
-            match self.insert(*key, *value) {
-                Ok(replaced) => drop(replaced),
+            match self.insert_in_order(last, *key, *value) {
+                Ok(at) => last = at,
                 Err(refused) => return Err(refused),
             }
         }

@@ -2,15 +2,17 @@ use Rattle.std.proofs.Common.{◌≡◌, ◌∙◌, ◌∷◌, [], None, Some, r
 use Rattle.btree_item.specs.Pairs.{inserted}
 use Rattle.btree_shape.specs.TreeState.{pairs_of}
 use Rattle.btree_map.specs.Extension.{inserted_all}
+use Rattle.btree_map.proofs.AscendingLemmas.{last-pair}
 use Rattle.btree_map.proofs.map.BTreeMap.extend.Goals as goal
 
 pub loop-key-preserved : goal.loop-key-preserved
 loop-key-preserved g c =
     let next = c.in-Some.ensures.goes.on c.loop-key.invariant.0.1 in
-    let is : pairs_of c.insert.new.self ≡ inserted g.K.Ord.cmp c.in-Some.key c.in-Some.value (pairs_of c.loop-key.self) = c.in-Ok.ensures.inserted in (
+    let is : pairs_of c.insert_in_order.new.self ≡ inserted g.K.Ord.cmp c.in-Some.key c.in-Some.value (pairs_of c.loop-key.self) = c.in-Ok.ensures.inserted in (
       (next.0, next.1),
       c.in-Ok.ensures.uncounted ∙ c.loop-key.invariant.1,
-      λ r n t h. c.loop-key.invariant.2 r n t (record {
+      c.in-Ok.ensures.last,
+      λ r n t h. c.loop-key.invariant.3 r n t (record {
         given = (c.in-Some.key, c.in-Some.value) ∷ h.given;
         yields = (h.yields.0, (_, c.in-Some.ensures.steps, h.yields.1), h.yields.2);
         pairs = h.pairs ∙ ap (λ l. inserted_all g.K.Ord.cmp l h.given) is;
@@ -21,7 +23,7 @@ pub returns-in-Err-clause-stopped : goal.returns-in-Err-clause-stopped
 returns-in-Err-clause-stopped g c =
     let cause = c.in-Err.ensures.cause in
     rw (c.in-Err.ensures.returned.0, c.in-Err.ensures.returned.1)
-    (c.loop-key.invariant.2 (Some (c.in-Some.key, c.in-Some.value)) (pairs_of c.insert.new.self) c.next.new.self (record {
+    (c.loop-key.invariant.3 (Some (c.in-Some.key, c.in-Some.value)) (pairs_of c.insert_in_order.new.self) c.next.new.self (record {
       given = [];
       yields = (_, refl, c.in-Some.ensures.steps);
       pairs = cause.leaves.pairs;
@@ -38,5 +40,13 @@ returns-in-Err-clause-cause g c =
 
 pub returns-clause-extended : goal.returns-clause-extended
 returns-clause-extended g c =
-    c.loop-key.invariant.2 None (pairs_of c.loop-key.self) c.next.new.self
+    c.loop-key.invariant.3 None (pairs_of c.loop-key.self) c.next.new.self
     (record { given = []; yields = (_, refl, c.in_default.ensures.steps); pairs = refl })
+
+pub loop-key-init : goal.loop-key-init
+loop-key-init g c = (
+  (c.requires.can_step, c.requires.ends),
+  refl,
+  last-pair c.args.self.now _ c.last_item_address-last.result refl c.last_item_address-last.ensures.item,
+  λ r n t h. h,
+)

@@ -1,6 +1,7 @@
-use Rattle.std.proofs.Common.{◌≡◌}
+use Rattle.std.proofs.Common.{◌≡◌, IfSome}
 use Rattle.std.specs.Iterator.{IsFinite, size}
 use Rattle.btree_shape.specs.TreeState.{pairs_of}
+use Rattle.btree_map.specs.Ascending.{IsLastPair}
 use Rattle.btree_map.specs.Extension.{Extends, copied_steps}
 use Rattle.btree_map.proofs.map.BTreeMap.extend_copied.Given as goal
 
@@ -8,6 +9,7 @@ abbrev pub invariant-loop-key : goal.invariant-loop-key
 invariant-loop-key g l =
     (g.I.Iterator.can_next l.source × IsFinite (g.I.Iterator.remaining l.source))
     × (l.self.kept ≡ l.fn.self.kept)
+    × IfSome l.last (IsLastPair l.self)
     × ((r : _) (n : _) (t : _) → Extends g.K.Ord.cmp (copied_steps g.I.Iterator.next_gives) (pairs_of l.self) l.source r n t
     → Extends g.K.Ord.cmp (copied_steps g.I.Iterator.next_gives) (pairs_of l.fn.self) l.fn.source r n t)
 

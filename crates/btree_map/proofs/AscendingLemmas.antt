@@ -1,0 +1,67 @@
+-- Insertions at the end of a map.
+use Rattle.std.proofs.Common.{◌≡◌, ◌≤◌, ◌∙◌, ◌-◌, ℕ, zero, suc, List, [], ◌∷◌, Option, Some, None, IfSome, IsSome, refl, sym, ap, subst, arith, is_some, if◌then◌else◌, length, slice_get}
+use Rattle.std.proofs.lemmas.List.Edits.{length-insert}
+use Rattle.std.proofs.lemmas.Option.{slice_get_within}
+use Rattle.std.specs.Cmp.{IsTotalOrder}
+use Rattle.std.specs.List.{insert}
+use Rattle.std.specs.declared.cmp.Ordering.{Ordering}
+use Rattle.btree_item.specs.Pairs.{Ascends, KeyFits, before, found, inserted}
+use Rattle.btree_item.proofs.PairEdits.{before-from_KeyFits, found-from_KeyFits, slice_get-insert}
+use Rattle.btree_item.specs.declared.address.Address.{Address}
+use Rattle.btree_shape.specs.TreeState.{TreeState, pairs_of}
+use Rattle.btree_find.specs.Navigation.{IsItemBefore}
+use Rattle.btree_edit.specs.InsertAbsent.{InsertsAbsent}
+use Rattle.btree_map.specs.Ascending.{IsAboveLast, IsLastPair}
+use Rattle.btree_map.proofs.EntryLemmas.{item-valid}
+
+module _ {K V : Type 0} (cmp : K → K → Ordering) (laws : IsTotalOrder cmp) (k : K) (xs : List (K × V)) (up : Ascends cmp xs) (above : IsAboveLast cmp k xs) where
+  fits-end : KeyFits cmp k (length xs) xs
+  fits-end = record {
+    within = omega arith;
+    above = λ q x is at. let same : q ≡ length xs - 1 = omega arith in above x (subst (λ n. slice_get xs n ≡ Some x) same at);
+    below = λ x at. let low = slice_get_within xs (length xs) x at in absurd (omega arith);
+  }
+
+  -- the key is not there, and its gap is the end
+  pub above-absent : found cmp k xs ≡ None
+  above-absent = found-from_KeyFits cmp laws k (length xs) xs up fits-end
+
+  pub above-end : before cmp k xs ≡ length xs
+  above-end = before-from_KeyFits cmp laws k (length xs) xs up fits-end
+
+  absent-inserted : (o : Option (K × V)) (p q : List (K × V)) → o ≡ None → q ≡ (if is_some o then p else q)
+  absent-inserted None p q is = refl
+  absent-inserted (Some x) p q is = absurd (cc)
+
+  -- a pair that was inserted there is the last one
+  module _ (old new : TreeState K V) (old_is : pairs_of old ≡ xs) (w : V) (b : Address) (is : InsertsAbsent cmp k old new w b) where
+    there : pairs_of new ≡ insert xs (before cmp k xs) (k, w)
+    there = is.pairs ∙ ap (λ l. insert l (before cmp k l) (k, w)) old_is
+
+    pub end-inserted : pairs_of new ≡ inserted cmp k w xs
+    end-inserted = there ∙ absent-inserted (found cmp k xs) _ _ above-absent
+
+    pub end-last : IsLastPair new b
+    end-last =
+        let p = before cmp k xs in
+        let within : p ≤ length xs = (let e = above-end in omega arith) in
+        let longer = length-insert xs p (k, w) within in
+        let size = ap length there in
+        record {
+          place = before cmp k (pairs_of old);
+          last = (let e = above-end in let f = ap (λ l. before cmp k l) old_is in omega arith);
+          here = record {
+            valid = item-valid new b (subst IsSome (sym is.item) refl);
+            occupied = is.occupied;
+            has = is.there;
+            item = is.item ∙ sym (ap (λ l. slice_get l (before cmp k (pairs_of old))) is.pairs ∙ slice_get-insert (pairs_of old) (before cmp k (pairs_of old)) (k, w)
+                (let e = above-end in let f = ap (λ l. before cmp k l) old_is in let g = ap length old_is in omega arith));
+          };
+        }
+
+-- the last item is the last pair
+pub last-pair : {K V : Type 0} (s : TreeState K V) (n : ℕ) (found : Option Address) → n ≡ length (pairs_of s) → IsItemBefore s n found → IfSome found (IsLastPair s)
+last-pair s zero None is at = tt
+last-pair s zero (Some a) is at = absurd (cc)
+last-pair s (suc n) None is at = tt
+last-pair s (suc n) (Some a) is at = record { place = n; last = is; here = at.here }

@@ -1,0 +1,17 @@
+-- The end of a map, where the pairs of an ascending source go.
+use Rattle.std.specs.Prelude.{◌≡◌, ◌-◌, ℕ, suc, List, Some, length, slice_get}
+use Rattle.std.specs.declared.cmp.Ordering.{Ordering}
+use Rattle.std.specs.declared.cmp.Ordering.TheVariants.{Less}
+use Rattle.btree_item.specs.declared.address.Address.{Address}
+use Rattle.btree_shape.specs.TreeState.{TreeState, pairs_of}
+use Rattle.btree_find.specs.Navigation.{IsItemAddress}
+
+-- the address of the last pair
+pub record IsLastPair {K V : Type 0} (s : TreeState K V) (a : Address) : Type 0 where
+  pub place : ℕ
+  pub last : suc place ≡ length (pairs_of s)
+  pub here : IsItemAddress s place a
+
+-- the key is greater than that of the last pair, if there is one
+abbrev pub IsAboveLast : {K V : Type 0} → (K → K → Ordering) → K → List (K × V) → Type 0
+IsAboveLast {K} {V} cmp k xs = (x : K × V) → slice_get xs (length xs - 1) ≡ Some x → cmp x.0 k ≡ Less
