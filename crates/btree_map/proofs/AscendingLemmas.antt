@@ -1,20 +1,24 @@
 -- Insertions at the end of a map.
-use Rattle.std.proofs.Common.{◌≡◌, ◌≤◌, ◌∙◌, ◌-◌, ℕ, zero, suc, List, [], ◌∷◌, Option, Some, None, IfSome, IsSome, refl, sym, ap, subst, arith, is_some, if◌then◌else◌, length, slice_get}
+use Rattle.std.proofs.Common.{◌≡◌, ◌≤◌, ◌∙◌, ◌-◌, ℕ, zero, suc, List, [], ◌∷◌, Option, Some, None, IfSome, IsSome, refl, sym, ap, subst, arith, if◌then◌else◌, length, slice_get}
 use Rattle.std.proofs.lemmas.List.Edits.{length-insert}
 use Rattle.std.proofs.lemmas.Option.{slice_get_within}
 use Rattle.std.specs.Cmp.{IsTotalOrder}
-use Rattle.std.specs.List.{insert}
 use Rattle.std.specs.declared.cmp.Ordering.{Ordering}
 use Rattle.btree_item.specs.Pairs.{Ascends, KeyFits, before, found, inserted}
 use Rattle.btree_item.proofs.PairEdits.{before-from_KeyFits, found-from_KeyFits, slice_get-insert}
 use Rattle.btree_item.specs.declared.address.Address.{Address}
 use Rattle.btree_shape.specs.TreeState.{TreeState, pairs_of}
+use Rattle.btree_shape.proofs.Options.{else-none}
 use Rattle.btree_find.specs.Navigation.{IsItemBefore}
 use Rattle.btree_edit.specs.InsertAbsent.{InsertsAbsent}
 use Rattle.btree_map.specs.Ascending.{IsAboveLast, IsLastPair}
 use Rattle.btree_map.proofs.EntryLemmas.{item-valid}
 
-module _ {K V : Type 0} (cmp : K → K → Ordering) (laws : IsTotalOrder cmp) (k : K) (xs : List (K × V)) (up : Ascends cmp xs) (above : IsAboveLast cmp k xs) where
+module _ {K V : Type 0} (cmp : K → K → Ordering) (laws : IsTotalOrder cmp) (k : K) (s : TreeState K V) (up : Ascends cmp (pairs_of s))
+    (above : IsAboveLast cmp k (pairs_of s)) where
+  abbrev xs : List (K × V)
+  xs = pairs_of s
+
   fits-end : KeyFits cmp k (length xs) xs
   fits-end = record {
     within = omega arith;
@@ -29,33 +33,26 @@ module _ {K V : Type 0} (cmp : K → K → Ordering) (laws : IsTotalOrder cmp) (
   pub above-end : before cmp k xs ≡ length xs
   above-end = before-from_KeyFits cmp laws k (length xs) xs up fits-end
 
-  absent-inserted : (o : Option (K × V)) (p q : List (K × V)) → o ≡ None → q ≡ (if is_some o then p else q)
-  absent-inserted None p q is = refl
-  absent-inserted (Some x) p q is = absurd (cc)
-
   -- a pair that was inserted there is the last one
-  module _ (old new : TreeState K V) (old_is : pairs_of old ≡ xs) (w : V) (b : Address) (is : InsertsAbsent cmp k old new w b) where
-    there : pairs_of new ≡ insert xs (before cmp k xs) (k, w)
-    there = is.pairs ∙ ap (λ l. insert l (before cmp k l) (k, w)) old_is
-
+  module _ (new : TreeState K V) (w : V) (b : Address) (is : InsertsAbsent cmp k s new w b) where
     pub end-inserted : pairs_of new ≡ inserted cmp k w xs
-    end-inserted = there ∙ absent-inserted (found cmp k xs) _ _ above-absent
+    end-inserted = is.pairs ∙ sym (else-none (found cmp k xs) _ _ above-absent)
 
     pub end-last : IsLastPair new b
     end-last =
         let p = before cmp k xs in
-        let within : p ≤ length xs = (let e = above-end in omega arith) in
+        let end = above-end in
+        let within : p ≤ length xs = omega arith in
         let longer = length-insert xs p (k, w) within in
-        let size = ap length there in
+        let size = ap length is.pairs in
         record {
-          place = before cmp k (pairs_of old);
-          last = (let e = above-end in let f = ap (λ l. before cmp k l) old_is in omega arith);
+          place = p;
+          last = omega arith;
           here = record {
             valid = item-valid new b (subst IsSome (sym is.item) refl);
             occupied = is.occupied;
             has = is.there;
-            item = is.item ∙ sym (ap (λ l. slice_get l (before cmp k (pairs_of old))) is.pairs ∙ slice_get-insert (pairs_of old) (before cmp k (pairs_of old)) (k, w)
-                (let e = above-end in let f = ap (λ l. before cmp k l) old_is in let g = ap length old_is in omega arith));
+            item = is.item ∙ sym (ap (λ l. slice_get l p) is.pairs ∙ slice_get-insert xs p (k, w) within);
           };
         }
 

@@ -66,6 +66,8 @@ impl<K: Ord + Drop, V: Drop, C: NodesMut<K, V>> BTreeMap<K, V, C> {
     /// Inserts the pairs that `source` gives, in order, as `insert` does. Returns the first pair that is refused: those before it are in
     /// the map, and those after it are still in `source`.
     ///
+    /// From the start on, as long as each key is greater than all keys in the map, it compares it with one of them.
+    ///
     /// The contract requires that `source` ends.
     pub fn extend<I: Iterator<Item = (K, V)>>(
         &mut self,
