@@ -4,8 +4,8 @@
 usage: bench/compare.py COUNT.. [--rounds N]
 
 Run it at the top of the repository, with `rt`, `rustc` and Python 3. A time is in nanoseconds for each key, the least of the
-rounds; behind it stands its ratio to the kit's std map in the same rounds: that of `descend_at`, which is a phase of one map alone, is to
-`descend`, and that of `range_ten` to a look-up. It fails where two maps give different sums.
+rounds; behind it stands its ratio to the kit's std map in the same rounds: those of `descend_at`, `ascend` and `ascend_all`, which are phases of
+one map alone, are to `descend`, and that of `range_ten` to a look-up. It fails where two maps give different sums.
 """
 import argparse
 import os
@@ -13,10 +13,10 @@ import subprocess
 import sys
 import tempfile
 
-PHASES = ["insert", "get_present", "get_absent", "iterate", "iterate_back", "range_ten", "remove", "descend", "descend_at", "consume", "consume_back"]
+PHASES = ["insert", "get_present", "get_absent", "iterate", "iterate_back", "range_ten", "remove", "descend", "descend_at", "ascend", "ascend_all", "consume", "consume_back"]
 
 # The phase of the kit's std map to which a phase is compared that is not measured there.
-COMPARED = {"range_ten": "get_present", "descend_at": "descend"}
+COMPARED = {"range_ten": "get_present", "descend_at": "descend", "ascend": "descend", "ascend_all": "descend"}
 
 
 def lines_of(command):

@@ -1,15 +1,18 @@
 //! Times insertion, look-up, walks from both ends, removal, and owning walks from both ends, in the kit's map and in this repository's map,
-//! and insertion in descending order, in this repository's map also at the address of the item before, and short ranges of it.
+//! and insertion in descending order, in this repository's map also at the address of the item before, in ascending order, and short ranges
+//! of it.
 //!
 //! Without an argument it runs over 1000 keys and prints the sum of each phase. With a number of keys as its argument it prints, for each
 //! phase, its name, the nanoseconds that it took, and its sum.
 #![tactic(auto)]
 
+mod ascent;
 mod descent;
 mod random;
 mod ranges;
 mod tables;
 
+use crate::ascent::{ascend, ascend_all};
 use crate::descent::{descend, descend_at};
 use crate::random::{Numbers, drawn, shuffle};
 use crate::ranges::sum_ranges;
@@ -174,6 +177,24 @@ fn measure_descents(
     measure_descent_at(rt, is_timed, count)
 }
 
+// The pairs of a map inserted into a new one, in order.
+fn measure_ascents(
+    rt: &(impl Print + Clock + AllocGlobal),
+    is_timed: bool,
+    keys: &Keys,
+) -> io::Result<()> {
+    let mut from = SlabMap::new(rt.alloc());
+    let _present = put_all(&mut from, keys.put.as_slice())?;
+    let mut ours = SlabMap::new(rt.alloc());
+    let since = Instant::now(rt)?;
+    let len = ascend(&mut ours, &from)? as u64;
+    report(rt, is_timed, ("btree_slab", "ascend"), since, len)?;
+    let mut ours = SlabMap::new(rt.alloc());
+    let since = Instant::now(rt)?;
+    let len = ascend_all(&mut ours, &from)? as u64;
+    report(rt, is_timed, ("btree_slab", "ascend_all"), since, len)
+}
+
 // Both ends of an iterator that owns its map, each of a new one.
 fn measure_owned<T: Table + Drop>(
     rt: &(impl Print + Clock),
@@ -205,6 +226,7 @@ fn measure_both(
     measure(rt, is_timed, "btree_slab", &mut ours, &keys)?;
     measure_ranges(rt, is_timed, &keys)?;
     measure_descents(rt, is_timed, count as u64)?;
+    measure_ascents(rt, is_timed, &keys)?;
     let kit = (KitMap::new(rt.alloc()), KitMap::new(rt.alloc()));
     measure_owned(rt, is_timed, "std", kit, &keys)?;
     let ours = (SlabMap::new(rt.alloc()), SlabMap::new(rt.alloc()));

@@ -1,0 +1,17 @@
+//! Insertion in ascending order, each pair by its key, and all by one call.
+use crate::tables::SlabMap;
+use std::alloc::AllocError;
+
+/// Inserts the pairs of a map into another one, each by its key. Returns how many there are then.
+pub fn ascend(map: &mut SlabMap, from: &SlabMap) -> Result<usize, AllocError> {
+    for (key, value) in from.iter() {
+        map.insert(*key, *value)?;
+    }
+    Ok(map.len())
+}
+
+/// Does the same by `extend_copied`.
+pub fn ascend_all(map: &mut SlabMap, from: &SlabMap) -> Result<usize, AllocError> {
+    map.extend_copied(&mut from.iter())?;
+    Ok(map.len())
+}
