@@ -4,6 +4,7 @@ use btree_ext::BTreeExt;
 use btree_node::Node;
 use btree_nodes::ClearNodes;
 use btree_session::{Session, drive};
+use btree_store::SlabMut;
 use btree_stores::{FixedSlab, OddSlab};
 use std::alloc::Global;
 use std::process::Abort;
@@ -43,15 +44,18 @@ fn check_lines<C: ClearNodes<u64, u64>>(
     assert_same(rt, output.as_slice(), replies.as_bytes());
 }
 
-// Of 44 insertions, all but the last are taken, or none if there is no place.
+// Drives insertions over a session in a store that is there. As many as given are taken, and the next one has the other replies.
 fn fill_table<C: ClearNodes<u64, u64> + Drop>(
     rt: &impl Abort,
-    origin: C::Origin,
+    nodes: C,
     taken: u64,
     rest: &str,
     alloc: Global,
 ) -> Result<(), Fail> {
-    let mut session: Session<C> = Session::new(origin);
+    if nodes.len() != 0 {
+        panic!(rt; "the store is not empty");
+    }
+    let mut session: Session<C> = Session::in_store(nodes);
     let (mut lines, mut replies) = (String::new(alloc), String::new(alloc));
     push_insertions(&mut lines, &mut replies, taken)?;
     write!(lines, "insert {taken} 0\nnodes\nlen\n")?;
@@ -62,10 +66,10 @@ fn fill_table<C: ClearNodes<u64, u64> + Drop>(
 
 #[test]
 fn a_full_table_refuses_a_line(rt: HostRuntime) -> Result<(), Fail> {
-    let rest = "refused store\n9\n43\n";
-    fill_table::<FixedSlab<Node<u64, u64>, 11>>(&rt, (), 43, rest, rt.alloc())?;
-    let rest = "refused store\n0\n0\n";
-    fill_table::<FixedSlab<Node<u64, u64>, 0>>(&rt, (), 0, rest, rt.alloc())
+    let eleven: FixedSlab<Node<u64, u64>, 11> = SlabMut::empty(());
+    fill_table(&rt, eleven, 43, "refused store\n9\n43\n", rt.alloc())?;
+    let none: FixedSlab<Node<u64, u64>, 0> = SlabMut::empty(());
+    fill_table(&rt, none, 0, "refused store\n0\n0\n", rt.alloc())
 }
 
 // Checks that the number of each node is odd.
