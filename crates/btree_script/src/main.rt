@@ -18,10 +18,10 @@ use std::process::ExitCode;
 use std::rt::Env;
 use std::{fmt, io, str};
 
-// The most bytes of an argument.
+// The most bytes of an argument that the program has.
 const LONGEST_WORD: usize = 5;
 
-// The most nodes in a table.
+// How many nodes a table has places for.
 const TABLE_NODES: usize = 11;
 
 /// How a run ended that did not reach the end of its input.
@@ -90,10 +90,10 @@ fn serve<C: ClearNodes<u64, u64> + Drop>(
 }
 
 fn run(rt: &(impl Env + Input + Print + AllocGlobal)) -> Result<(), Ending> {
-    let Some(setup) = read_arguments(rt) else {
+    let Some(asked) = read_arguments(rt) else {
         return Err(Ending::WrongArguments);
     };
-    let result = if setup.table {
+    let result = if asked.table {
         serve::<FixedSlab<Node<u64, u64>, TABLE_NODES>>(rt, ())
     } else {
         serve::<SlabStore<Node<u64, u64>>>(rt, rt.alloc())

@@ -1,7 +1,7 @@
 ghost use Rattle.std.specs.Io.{WritesAtMost};
 
 use crate::{Ending, read_arguments};
-use btree_session::Setup;
+use btree_session::{Setup, setup};
 use std::env::{Env, FillError};
 use std::test::Fail;
 
@@ -54,6 +54,21 @@ fn takes_one_argument(rt: HostRuntime) {
         &["btree_script", "-", "commands.txt"],
     ] {
         assert_eq!(rt; asked(words), None);
+    }
+}
+
+#[test]
+fn only_table_is_a_setup(rt: HostRuntime) {
+    assert_eq!(rt; setup(&[]), Some(Setup { table: false }));
+    assert_eq!(rt; setup(&["table"]), Some(Setup { table: true }));
+    for words in [
+        ["tables"].as_slice(),
+        &["tabl"],
+        &[""],
+        &["table", "table"],
+        &["table", ""],
+    ] {
+        assert_eq!(rt; setup(words), None);
     }
 }
 
