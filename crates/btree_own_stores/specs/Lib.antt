@@ -1,3 +1,2 @@
 pub mod Lends
 pub mod OnePlaceLaws
-pub mod VecLaws
