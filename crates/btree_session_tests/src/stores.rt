@@ -1,6 +1,7 @@
 //! Lines over a table of nodes, and over a store with odd numbers.
-use crate::asserts::{assert_same, assert_true_in};
+use crate::asserts::{assert_same, assert_true, assert_true_in};
 use btree_ext::BTreeExt;
+use btree_item::Address;
 use btree_node::Node;
 use btree_nodes::ClearNodes;
 use btree_session::{Session, drive};
@@ -81,6 +82,7 @@ fn check_numbers<C: ClearNodes<u64, u64>>(rt: &impl Abort, session: &Session<C>)
             panic!(rt; "an address is missing");
         };
         assert_true_in(rt, at.id, at.id % 2 == 1);
+        assert_true(rt, map.is_valid(Address::new(at.id, at.offset)));
         next = map.next_back_address(at);
     }
     assert_same(rt, next, None);
