@@ -1,9 +1,9 @@
-//! Calls that keep what came before a refused element, while each growth of the memory is refused in turn.
+//! Calls that keep what came before a refused element, while each node and each growth of the memory is refused in turn.
 use btree_book::{Desk, Reply, number, word};
 use btree_testing::Refusing;
 use std::alloc::{AllocError, Global};
 
-// The most growths of one call that are refused in turn.
+// The most nodes and growths of one call that are refused in turn.
 const MOST: u64 = 4096;
 
 // A call of the numbers below a count: of a map with pairs of a number and ten times it, of a set with numbers.
@@ -176,7 +176,7 @@ fn is_kept<D: Desk>(
     Ok(stopped.as_str() == plain.as_str() && whole.as_str() == content(alloc, desk)?.as_str())
 }
 
-/// Does a call as `a extend 44`, of the numbers below a count, on a new desk while the first growth of the memory is refused, then the second,
+/// Does a call as `a extend 44`, of the numbers below a count, on a new desk while the first node or growth is refused, then the second,
 /// and so on, until none is. After each refusal what came before the refused number has to be there, as if inserted one by one, and the
 /// others have to be left, and to be taken then. The reply is `kept` and that of the granted call, if one was refused before; or `changed` and
 /// that of the call that did not keep this. Returns whether the words are such a call.

@@ -12,7 +12,7 @@ use crate::desk::serve_stores;
 use btree_book::Ending;
 use btree_slab::generic::Node;
 use btree_slab::store::SlabStore;
-use btree_testing::Refusing;
+use btree_testing::{Refusing, RefusingStore};
 use std::alloc::Global;
 use std::env::FillError;
 use std::process::ExitCode;
@@ -32,9 +32,14 @@ fn run(rt: &(impl Env + Input + Print + AllocGlobal)) -> Result<(), Ending> {
     serve_stores::<
         SlabStore<Node<u64, u64>>,
         SlabStore<Node<u64, ()>>,
-        SlabStore<Node<u64, u64>, &Refusing<Global>>,
-        SlabStore<Node<u64, ()>, &Refusing<Global>>,
-    >(rt, &memory, (rt.alloc(), rt.alloc()), (&memory, &memory))
+        RefusingStore<'_, SlabStore<Node<u64, u64>, &Refusing<Global>>>,
+        RefusingStore<'_, SlabStore<Node<u64, ()>, &Refusing<Global>>>,
+    >(
+        rt,
+        &memory,
+        (rt.alloc(), rt.alloc()),
+        ((&memory, &memory), (&memory, &memory)),
+    )
 }
 
 fn main(rt: HostRuntime) -> ExitCode {

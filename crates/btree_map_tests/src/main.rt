@@ -21,11 +21,15 @@ mod equal;
 #[cfg(test)]
 mod fixed;
 #[cfg(test)]
+mod gates;
+#[cfg(test)]
 mod lending;
 #[cfg(test)]
 mod merges;
 #[cfg(test)]
 mod names;
+#[cfg(test)]
+mod own;
 #[cfg(test)]
 mod owner;
 #[cfg(test)]

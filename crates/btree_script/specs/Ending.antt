@@ -14,7 +14,7 @@ status_of (Stopped Output) = 3
 
 -- the line on standard error
 abbrev pub text_of : Ending → List ℕ
-text_of WrongArguments = codes "usage: btree_script"
+text_of WrongArguments = codes "usage: btree_script [table]"
 text_of (Stopped (NotACommand number)) = codes "line " ++ decimal number ++ codes ": not a command"
 text_of (Stopped Memory) = codes "out of memory"
 text_of (Stopped Input) = codes "input failed"

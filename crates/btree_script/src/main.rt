@@ -1,4 +1,5 @@
-//! Reads commands from standard input, one a line, and prints a reply to each.
+//! Reads commands from standard input, one a line, and prints a reply to each. With the argument `table`, the nodes of its map are in a
+//! table of fixed size.
 #![tactic(auto)]
 
 #[cfg(test)]
@@ -8,17 +9,25 @@ ghost use Rattle.std.specs.Prelude.{◌≡◌, Some};
 ghost use Rattle.btree_script.specs.Ending.{status_of, text_of};
 
 use btree_node::Node;
-use btree_session::{Session, Stop, drive};
+use btree_nodes::ClearNodes;
+use btree_session::{Session, Setup, Stop, drive, setup};
 use btree_store::SlabStore;
+use btree_stores::FixedSlab;
 use std::env::FillError;
 use std::process::ExitCode;
 use std::rt::Env;
-use std::{fmt, io};
+use std::{fmt, io, str};
+
+// The most bytes of an argument that the program has.
+const LONGEST_WORD: usize = 5;
+
+// How many nodes a table has places for.
+const TABLE_NODES: usize = 11;
 
 /// How a run ended that did not reach the end of its input.
 #[derive(Clone, Copy, Debug, PartialEq, Eq)]
 pub enum Ending {
-    /// There were arguments.
+    /// There were arguments that the program does not have.
     WrongArguments,
     /// A line or a failure stopped it.
     Stopped(Stop),
@@ -42,7 +51,7 @@ impl fmt::Display for Ending {
 
     fn fmt<W: fmt::Write>(&self, f: &mut fmt::Formatter<W>) -> fmt::Result {
         match self {
-            Ending::WrongArguments => write!(f, "usage: btree_script"),
+            Ending::WrongArguments => write!(f, "usage: btree_script [table]"),
             Ending::Stopped(Stop::NotACommand(number)) => {
                 write!(f, "line {number}: not a command")
             }
@@ -53,19 +62,43 @@ impl fmt::Display for Ending {
     }
 }
 
-// Takes no arguments; one that cannot be read is an argument too.
-fn check_arguments(rt: &impl Env) -> Result<(), Ending> {
-    match rt.arg(1, &mut []) {
-        Err(FillError::NotPresent) => Ok(()),
-        _ => Err(Ending::WrongArguments),
+// Returns what the arguments ask for, if it can read them.
+fn read_arguments(rt: &impl Env) -> Option<Setup> {
+    let mut buffer = [0; LONGEST_WORD];
+    let len = match rt.arg(1, &mut buffer) {
+        Ok(len) => len,
+        Err(FillError::NotPresent) => return setup(&[]),
+        Err(FillError::TooLong) => return None,
+    };
+    let Err(FillError::NotPresent) = rt.arg(2, &mut []) else {
+        return None;
+    };
+    match str::from_utf8(buffer.get(..len)?) {
+        Ok(word) => setup(&[word]),
+        Err(_) => None,
     }
 }
 
-fn run(rt: &(impl Env + Input + Print + AllocGlobal)) -> Result<(), Ending> {
-    check_arguments(rt)?;
-    let mut session: Session<SlabStore<Node<u64, u64>>> = Session::new(rt.alloc());
+// Serves the lines of standard input, over a store from this origin.
+fn serve<C: ClearNodes<u64, u64> + Drop>(
+    rt: &(impl Input + Print + AllocGlobal),
+    origin: C::Origin,
+) -> Result<(), Stop> {
+    let mut session: Session<C> = Session::new(origin);
     let (mut input, mut output) = (rt.reader(), io::writer(rt));
-    drive(rt.alloc(), &mut session, &mut input, &mut output).map_err(Ending::Stopped)
+    drive(rt.alloc(), &mut session, &mut input, &mut output)
+}
+
+fn run(rt: &(impl Env + Input + Print + AllocGlobal)) -> Result<(), Ending> {
+    let Some(asked) = read_arguments(rt) else {
+        return Err(Ending::WrongArguments);
+    };
+    let result = if asked.table {
+        serve::<FixedSlab<Node<u64, u64>, TABLE_NODES>>(rt, ())
+    } else {
+        serve::<SlabStore<Node<u64, u64>>>(rt, rt.alloc())
+    };
+    result.map_err(Ending::Stopped)
 }
 
 fn main(rt: HostRuntime) -> ExitCode {

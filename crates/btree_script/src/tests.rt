@@ -1,6 +1,7 @@
 ghost use Rattle.std.specs.Io.{WritesAtMost};
 
-use crate::{Ending, check_arguments};
+use crate::{Ending, read_arguments};
+use btree_session::{Setup, setup};
 use std::env::{Env, FillError};
 use std::test::Fail;
 
@@ -31,26 +32,53 @@ impl Env for Words<'_> {
     }
 }
 
-fn ending_of(words: &[&str]) -> Option<Ending> {
-    check_arguments(&Words { words }).err()
+fn asked(words: &[&str]) -> Option<Setup> {
+    read_arguments(&Words { words })
 }
 
 #[test]
-fn takes_no_argument(rt: HostRuntime) -> Result<(), Fail> {
-    assert_eq!(rt; ending_of(&["btree_script"]), None);
+fn takes_one_argument(rt: HostRuntime) {
+    assert_eq!(rt; asked(&["btree_script"]), Some(Setup { table: false }));
+    assert_eq!(rt;
+        asked(&["btree_script", "table"]),
+        Some(Setup { table: true })
+    );
     for words in [
-        ["btree_script", "table"].as_slice(),
+        ["btree_script", "tables"].as_slice(),
+        &["btree_script", "tabl"],
+        &["btree_script", "Table"],
         &["btree_script", ""],
+        &["btree_script", "table", ""],
+        &["btree_script", "", "table"],
+        &["btree_script", "table", "table"],
         &["btree_script", "-", "commands.txt"],
     ] {
-        let Some(ending) = ending_of(words) else {
-            return Err(Fail::from("taken"));
-        };
-        assert_eq!(rt;
-            format!(in rt.alloc(); "{ending}")?.as_str(),
-            "usage: btree_script"
-        );
-        assert_eq!(rt; ending.status(), 1);
+        assert_eq!(rt; asked(words), None);
     }
+}
+
+#[test]
+fn only_table_is_a_setup(rt: HostRuntime) {
+    assert_eq!(rt; setup(&[]), Some(Setup { table: false }));
+    assert_eq!(rt; setup(&["table"]), Some(Setup { table: true }));
+    for words in [
+        ["tables"].as_slice(),
+        &["tabl"],
+        &[""],
+        &["table", "table"],
+        &["table", ""],
+    ] {
+        assert_eq!(rt; setup(words), None);
+    }
+}
+
+#[test]
+fn says_which_arguments_there_are(rt: HostRuntime) -> Result<(), Fail> {
+    let ending = Ending::WrongArguments;
+    assert_eq!(rt;
+        format!(in rt.alloc(); "{ending}")?.as_str(),
+        "usage: btree_script [table]"
+    );
+    assert_eq!(rt; ending.status(), 1);
     Ok(())
 }

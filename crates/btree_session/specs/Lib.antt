@@ -6,3 +6,4 @@ pub mod Machine
 pub mod CursorMachine
 pub mod Answer
 pub mod Script
+pub mod Arguments

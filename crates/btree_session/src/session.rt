@@ -50,6 +50,20 @@ impl<C: NodesMut<u64, u64>> Session<C> {
         }
     }
 
+    /// Returns a session over an empty map in an empty store; the store's `len` tells whether it is empty. It holds no address, and keeps
+    /// the store's count of refusals.
+    pub fn in_store(nodes: C) -> Self
+        requires { map.len (C.content nodes) ≡ 0 }
+        ensures empty { pairs_of result.map ≡ [] }
+        ensures state { result.map ≡ rootless map.empty (unlimited (C.refusals nodes)) }
+        ensures held { result.held ≡ None }
+    {
+        SessionOver {
+            map: BTreeMap::in_store(nodes),
+            held: None,
+        }
+    }
+
     /// Returns the map after the commands so far.
     pub fn map(&self) -> &BTreeMap<u64, u64, C>
         ensures { result.now ≡ self.now.map }

@@ -11,6 +11,13 @@ pub(crate) fn assert_true(rt: &impl Abort, is: bool)
     assert!(rt; is);
 }
 
+/// Stops the test unless `is` holds. The message has the case, and names the caller's line.
+pub(crate) fn assert_true_in<N: Debug + Drop>(rt: &impl Abort, case: N, is: bool)
+    ensures { is ≡ true }
+{
+    assert!(rt; is, "{case:?}");
+}
+
 /// Stops the test unless two values are equal. The message has both, and names the caller's line.
 pub(crate) fn assert_same<T: PartialEq + Debug + Drop>(rt: &impl Abort, left: T, right: T) {
     assert_eq!(rt; left, right);

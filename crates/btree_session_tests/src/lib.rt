@@ -9,3 +9,5 @@ mod cursor;
 mod lines;
 #[cfg(test)]
 mod session;
+#[cfg(test)]
+mod stores;

@@ -1,6 +1,7 @@
 //! The set.
 ghost use Rattle.std.specs.Prelude.{◌≡◌, ◌↔◌, ◌-◌, [], IfErr, IfOk, IsSome, IsTrue, None, OnErr, OnOk, length, option_map, slice_get};
 ghost use Rattle.std.specs.Iterator.{YieldsFirst, YieldsLast};
+ghost use Rattle.std.specs.FinMap as map;
 ghost use Rattle.std.specs.Mem.{FitsInMemory};
 ghost use denote.Plain.{Nothing as unit_row};
 ghost use Rattle.btree_node.specs.contracts.node.Node.{the_row as node_row};
@@ -41,6 +42,20 @@ impl<T: Ord, C: NodesMut<T, ()>> BTreeSet<T, C> {
     {
         BTreeSet {
             map: BTreeMap::new(origin),
+        }
+    }
+
+    /// Returns a set without elements, over an empty store; the store's `len` tells whether it is empty. It keeps its count of refusals.
+    ///
+    /// The contract requires that a node fits in memory, as that of `new`.
+    pub fn in_store(nodes: C) -> Self
+        requires fits { FitsInMemory (node_row T.row unit_row) }
+        requires empty { map.len (C.content nodes) ≡ 0 }
+        ensures empty { result.elements ≡ [] }
+        ensures kept { result.kept ≡ unlimited (C.refusals nodes) }
+    {
+        BTreeSet {
+            map: BTreeMap::in_store(nodes),
         }
     }
 

@@ -73,9 +73,11 @@ pub mod store {
     pub use btree_stores::{FixedSlab, Gate, OddSlab};
 }
 
-/// Sessions of commands over a map.
+/// Sessions of commands over a map, and the arguments of the program.
 pub mod script {
-    pub use btree_session::{Command, CursorStep, Reply, Session, Stop, drive, run, run_cursor};
+    pub use btree_session::{
+        Command, CursorStep, Reply, Session, Setup, Stop, drive, run, run_cursor, setup,
+    };
 }
 
 /// Lists of a fixed capacity, a search in one, and a counter of no bytes.

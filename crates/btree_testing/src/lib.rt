@@ -1,5 +1,5 @@
-//! What tests use: an allocator that refuses one chosen allocation, a key that counts how often it is compared, how often a search
-//! promises to compare one, a hundred listed pairs, and the whole content of a tree as text.
+//! What tests use: an allocator that refuses one chosen allocation, a store that refuses one chosen insertion, a key that counts how often
+//! it is compared, how often a search promises to compare one, a hundred listed pairs, and the whole content of a tree as text.
 #![tactic(auto)]
 
 mod content;
@@ -7,9 +7,11 @@ mod counted;
 mod pairs;
 mod promised;
 mod refusing;
+mod store;
 
 pub use crate::content::content_of;
 pub use crate::counted::Counted;
 pub use crate::pairs::listed_pairs;
 pub use crate::promised::{COMPARISONS, promised_comparisons};
 pub use crate::refusing::Refusing;
+pub use crate::store::RefusingStore;

@@ -30,6 +30,11 @@ impl<B: Allocator> Refusing<B> {
     pub fn refuses(&self) -> u64 {
         self.at.get()
     }
+
+    /// Counts one allocation, and returns whether it is the one to refuse.
+    pub(crate) fn counts(&self) -> bool {
+        count_down(&self.at)
+    }
 }
 
 impl<B: Allocator> Drop for Refusing<B> {

@@ -1,0 +1,110 @@
+//! A store over a `Vec`.
+#![tactic(auto, using(btree_store::specs::SlotLaws::growing_slots))]
+
+ghost use Rattle.std.specs.Prelude.{◌≡◌, Some, IsSome};
+ghost use Rattle.std.specs.Borrow.{sem};
+ghost use Rattle.btree_store.specs.Content.{content_from};
+ghost use Rattle.btree_own_stores.specs.Lends.{lends_filled};
+
+use btree_steps::Steps;
+use btree_store::{Slab, SlabMut};
+use std::alloc::{Allocator, Global};
+
+/// A store over a `Vec`, in memory from an allocator. It uses each number once, counted from 0, and refuses a value only if the vector
+/// cannot grow.
+///
+/// Each call takes constant time, except `len`, which counts the values, and an `insert` that has to make room. The place of a removed value
+/// stays empty, so the vector grows with each insertion.
+#[derive(Drop)]
+pub struct VecStore<T, A: Allocator = Global> {
+    slots: Vec<Option<T>, A>,
+    refused: Steps,
+}
+
+// The value in a slot that has one, for writing.
+fn filled_mut<T>(slot: &mut Option<T>) -> &mut T
+    requires { IsSome slot.old }
+    ensures* writes_back { sem 𝓛 (lends_filled T.row slot.entry result) }
+    ensures value { slot.old ≡ Some result.now }
+{
+    match slot {
+        Some(value) => value,
+        None => unreachable!(),
+    }
+}
+
+impl<T, A: Allocator> Slab<T> for VecStore<T, A> {
+    ghost content = { λ store. content_from 0 store.slots.items };
+
+    ghost refusals = { λ store. store.refused.count };
+
+    ghost CanHold = { λ _. Unit {0} };
+
+    fn len(&self) -> usize {
+        self.slots.iter().filter(|slot| slot.is_some()).count()
+    }
+
+    fn get(&self, id: usize) -> Option<&T> {
+        match self.slots.get(id) {
+            Some(slot) => slot.as_ref(),
+            None => None,
+        }
+    }
+}
+
+impl<T, A: Allocator> SlabMut<T> for VecStore<T, A> {
+    ghost use Rattle.std.proofs.Common.{refl};
+    ghost use Rattle.std.specs.Mem.{FitsInMemory};
+    ghost use Rattle.std.specs.Vec.{with_item};
+    ghost use Rattle.btree_store.specs.SlotLaws.{content-written};
+
+    type Origin = A;
+
+    ghost MayRefuse = { λ _. Unit {0} };
+
+    ghost Fits = { FitsInMemory T.row };
+
+    ghost written = { λ store id value. record store { slots = with_item store.slots id (Some value) } };
+
+    ghost content_written = { λ store id value used. content-written store.slots.items id value used };
+
+    ghost refusals_written = { λ store id value. refl };
+
+    fn note_fits() {}
+
+    fn tell_fits() {}
+
+    fn empty(origin: A) -> Self {
+        VecStore {
+            slots: Vec::new(origin),
+            refused: Steps::new(),
+        }
+    }
+
+    fn get_mut(&mut self, id: usize) -> Option<&mut T> {
+        if id >= self.slots.len() {
+            return None;
+        }
+        if self.slots[id].is_none() {
+            return None;
+        }
+        Some(filled_mut(&mut self.slots[id]))
+    }
+
+    fn insert(&mut self, value: T) -> Result<usize, T> {
+        let id = self.slots.len();
+        if self.slots.reserve(1).is_err() {
+            self.refused.tick();
+            return Err(value);
+        }
+        self.slots.push_reserved(Some(value));
+        Ok(id)
+    }
+
+    fn remove(&mut self, id: usize) -> T {
+        match self.slots[id].take() {
+            Some(value) => value,
+            None => unreachable!(),
+        }
+    }
+}
