@@ -1,2 +1,3 @@
+pub mod GrowingSlots
 pub mod Lends
 pub mod OnePlaceLaws

@@ -1,5 +1,5 @@
 -- What a `OnePlace` contains, and the laws of it that its calls need. Each comes from a law of slots, at a list of one.
-use Rattle.std.proofs.Common.{◌≡◌, ◌≢◌, ◌<◌, ℕ, zero, suc, [], ◌∷◌, Option, Some, None, IsSome, refl, sym, arith}
+use Rattle.std.proofs.Common.{◌≡◌, ◌≢◌, ◌<◌, ℕ, zero, suc, [], ◌∷◌, Option, Some, None, IsSome, refl, arith}
 use Rattle.std.specs.FinMap.{get, insert, remove, len}
 use Rattle.btree_store.specs.Content.{Content, content_from}
 use Rattle.btree_store.specs.SlotLaws.{content-empty, content-fill, content-written, get-content, len-content, used_within}

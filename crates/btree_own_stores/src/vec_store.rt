@@ -1,5 +1,5 @@
 //! A store over a `Vec`.
-#![tactic(auto, using(btree_store::specs::SlotLaws::growing_slots))]
+#![tactic(auto, using(crate::specs::GrowingSlots::growing_slots))]
 
 ghost use Rattle.std.specs.Prelude.{◌≡◌, Some, IsSome};
 ghost use Rattle.std.specs.Borrow.{sem};

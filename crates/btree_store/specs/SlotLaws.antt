@@ -1,6 +1,6 @@
 -- Laws of the content of a list of slots, for stores that are such a list.
-use Rattle.std.proofs.Common.{◌≡◌, ◌≢◌, ℕ, ◌+◌, ◌<◌, ◌≤◌, cond, List, [], ◌∷◌, ◌++◌, length, get_or, set, Option, Some, None, is_some, IsSome, count_by, refl, sym, ap, ◌∙◌, arith, zero, suc}
-use Rattle.std.proofs.lemmas.List.{get_or-set_same, get_or-set_other, get_or_past, get_or_push}
+use Rattle.std.proofs.Common.{◌≡◌, ◌≢◌, ℕ, ◌+◌, ◌<◌, cond, List, [], ◌∷◌, length, get_or, set, Option, Some, None, is_some, IsSome, count_by, sym, ap, ◌∙◌, arith, zero, suc}
+use Rattle.std.proofs.lemmas.List.{get_or-set_same, get_or-set_other, get_or_past}
 use Rattle.std.proofs.lemmas.List.Sums.{sum_by-cons}
 use Rattle.std.specs.Ordering.{nat_cmp}
 use Rattle.std.specs.FinMap.{get, insert, remove, len, get-empty, len-empty}
@@ -60,11 +60,9 @@ module _ {T : Type 0} where
   pub used_within : (slots : List (Option T)) (k : ℕ) → IsSome (get (content_from 0 slots) k) → k < length slots
   used_within slots k used = some_within slots k (rw (get-content slots k) at used)
 
-  -- a slot is filled
   pub content-fill : (slots : List (Option T)) (k : ℕ) (v : T) → k < length slots → content_from 0 (set slots k (Some v)) ≡ insert (content_from 0 slots) k v
   content-fill slots k v within = content-insert slots (set slots k (Some v)) k v (get_or-set_same slots k (Some v) None within) (λ q differs. get_or-set_other slots k q (Some v) None differs)
 
-  -- a slot is emptied
   pub content-empty : (slots : List (Option T)) (k : ℕ) → k < length slots → content_from 0 (set slots k None) ≡ remove (content_from 0 slots) k
   content-empty slots k within = content-remove slots (set slots k None) k (get_or-set_same slots k None None within) (λ q differs. get_or-set_other slots k q None None differs)
 
@@ -72,22 +70,5 @@ module _ {T : Type 0} where
   pub content-written : (slots : List (Option T)) (k : ℕ) (v : T) → IsSome (get (content_from 0 slots) k) → content_from 0 (set slots k (Some v)) ≡ insert (content_from 0 slots) k v
   content-written slots k v used = content-fill slots k v (used_within slots k used)
 
-  -- no number after the last slot is used
-  pub get-past : (slots : List (Option T)) (k : ℕ) → length slots ≤ k → get (content_from 0 slots) k ≡ None
-  get-past slots k past = get-content slots k ∙ get_or_past slots k None past
-
-  other_slots : (slots : List (Option T)) (v : T) (q : ℕ) → q ≢ length slots → get_or (slots ++ Some v ∷ []) q None ≡ get_or slots q None
-  other_slots [] v zero differs = absurd (differs refl)
-  other_slots [] v (suc q) differs = refl
-  other_slots (slot ∷ rest) v zero differs = refl
-  other_slots (slot ∷ rest) v (suc q) differs = other_slots rest v q (λ same. differs (ap suc same))
-
-  -- a slot more at the end, with a value
-  pub content-push : (slots : List (Option T)) (v : T) → content_from 0 (slots ++ Some v ∷ []) ≡ insert (content_from 0 slots) (length slots) v
-  content-push slots v = content-insert slots (slots ++ Some v ∷ []) (length slots) v (get_or_push slots (Some v) None (length slots) refl) (other_slots slots v)
-
 -- what a store over slots needs to know of its content
 pub ruleset slots = (get-content, len-content, content-fill, content-empty)
-
--- the same for slots that grow at their end
-pub ruleset growing_slots = (get-content, len-content, content-empty, used_within, get-past, content-push)
