@@ -1,6 +1,4 @@
-use Rattle.std.proofs.Common.{refl, subst}
-use Rattle.std.specs.Ordering.{nat_cmp}
-use Rattle.btree_edit.specs.Exchange.{IsExchanged}
+use Rattle.std.proofs.Common.{refl}
 use Rattle.btree_range_set.proofs.JoinLemmas.{joining-done, joining-fits, joining-more}
 use Rattle.btree_range_set.proofs.edits.join.Goals as goal
 
@@ -18,4 +16,4 @@ returns g c =
     let l = c.loop-map.invariant in
     joining-done c.args.map.now c.loop-map.map c.replace_at.new.self c.loop-map.at c.args.start c.args.end l
     _ (rw c.copied.ensures at c.pair_at.ensures) (c.loop-map-test.ensures.apart refl l.can.place l.can.item.has)
-    (subst (λ last. IsExchanged c.loop-map.map c.replace_at.new.self c.loop-map.at nat_cmp (c.args.start, last)) c.max-last.ensures c.replace_at.ensures.exchanged)
+    (rw c.max-last.ensures at c.replace_at.ensures.exchanged)

@@ -16,7 +16,7 @@ pub returns-then-number-end-clause-around : goal.returns-then-number-end-clause-
 returns-then-number-end-clause-around g c =
     let s = c.args.map.now in
     let f = c.in-Err.ensures.fits in
-    around-before s c.args.number c.in-Err.gap f.place f.has f.fits c.in-Some.before _ c.in-Some.ensures c.pair_at-2.ensures c.if-number-end.true
+    around-before s c.args.number c.in-Err.gap f.place f.has f.fits c.in-Some.before _ c.in-Some.ensures c.pair_at-2.ensures (omega (arith, c.if-number-end.true))
 
 pub returns-clause-none : goal.returns-clause-none
 returns-clause-none g c =

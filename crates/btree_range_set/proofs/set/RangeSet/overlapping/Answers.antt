@@ -1,4 +1,4 @@
-use Rattle.std.proofs.Common.{◌≡◌, ◌∙◌, ap}
+use Rattle.std.proofs.Common.{◌≡◌, ◌∙◌, ap, arith}
 use Rattle.std.specs.BTreeMap.Range.{entries_between}
 use Rattle.std.specs.Ordering.{nat_cmp}
 use Rattle.std.specs.declared.ops.Bound.TheVariants.{Excluded, Included}
@@ -13,7 +13,7 @@ returns-then-end-start-clause-ranges g c =
     let xs = pairs_of c.self.inside.map in
     let start = c.args.start in
     let end = c.args.end in
-    c.range.ensures ∙ meeting-empty xs c.self.invariant start end c.if-end-start.true ∙ ap (λ s. ranges_meeting start end s.ranges) c.self.view_is
+    c.range.ensures ∙ meeting-empty xs c.self.invariant start end (omega (arith, c.if-end-start.true)) ∙ ap (λ s. ranges_meeting start end s.ranges) c.self.view_is
 
 pub returns-clause-ranges : goal.returns-clause-ranges
 returns-clause-ranges g c =
