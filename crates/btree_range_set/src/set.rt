@@ -37,7 +37,7 @@ impl<C: NodesMut<u64, u64>> RangeSet<C> {
     /// Returns a set without numbers, over an empty store made from `origin`. It allocates no memory.
     pub fn new(origin: C::Origin) -> Self
         ensures empty { result.ranges ≡ [] }
-        ensures kept { result.kept ≡ unlimited 0 }
+        ensures uncounted { result.kept ≡ unlimited 0 }
     {
         RangeSet {
             map: BTreeMap::new(origin),
