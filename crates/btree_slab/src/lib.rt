@@ -24,6 +24,9 @@ pub type FixedMap<K, V, const N: usize> = generic::BTreeMap<
 /// A set with its nodes in `N` places inside itself, with no memory from an allocator. A move copies all of them.
 pub type FixedSet<T, const N: usize> = generic::BTreeSet<T, FixedSlab<generic::Node<T, ()>, N>>;
 
+/// A set of numbers as disjoint ranges, with its nodes in a slab, with memory from the global allocator.
+pub type RangeSet = range_set::RangeSet<SlabStore<generic::Node<u64, u64>>>;
+
 /// The types over any store of nodes.
 pub mod generic {
     pub use btree_map::BTreeMap;
@@ -78,6 +81,11 @@ pub mod script {
     pub use btree_session::{
         Command, CursorStep, Reply, Session, Setup, Stop, drive, run, run_cursor, setup,
     };
+}
+
+/// Sets of numbers as disjoint ranges over a map, and their iterators.
+pub mod range_set {
+    pub use btree_range_set::{Gaps, Iter, Overlapping, RangeSet};
 }
 
 /// Lists of a fixed capacity, a search in one, and a counter of no bytes.

@@ -1,0 +1,11 @@
+pub mod ClearLemmas
+pub mod CutLemmas
+pub mod GapLemmas
+pub mod JoinLemmas
+pub mod LimitLemmas
+pub mod ListLemmas
+pub mod MeetLemmas
+pub mod PlaceLemmas
+pub mod RangeLaws
+pub mod RunLemmas
+pub mod StepLemmas

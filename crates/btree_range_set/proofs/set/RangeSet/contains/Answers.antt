@@ -1,0 +1,9 @@
+use Rattle.std.proofs.Common.{◌∙◌}
+use Rattle.btree_shape.specs.TreeState.{pairs_of}
+use Rattle.btree_range_set.proofs.PlaceLemmas.{around-told}
+use Rattle.btree_range_set.proofs.set.RangeSet.contains.Goals as goal
+
+pub returns : goal.returns
+returns g c =
+    let found = c.range_around.ensures in
+    c.is_some.ensures ∙ rw (← c.self.view_is) (around-told (pairs_of c.self.inside.map) c.args.number c.range_around.result found.around found.none)

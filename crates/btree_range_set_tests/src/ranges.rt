@@ -1,0 +1,149 @@
+//! Ranges that are joined, cut and refused.
+use crate::asserts::{assert_same, assert_true};
+use btree_item::{Cause, Refused};
+use btree_node::Node;
+use btree_nodes::{ClearNodes, NodesMut};
+use btree_range_set::RangeSet;
+use btree_store::SlabStore;
+use btree_stores::FixedSlab;
+use std::process::Abort;
+
+// Passes the next range of an iterator, and returns it.
+fn step<I: Iterator<Item = (u64, u64)>>(ranges: &mut I) -> Option<(u64, u64)>
+    requires { (state : I) → I.can_next state }
+{
+    ranges.next()
+}
+
+// Checks that an iterator gives exactly these ranges.
+fn check_listed<I: Iterator<Item = (u64, u64)> + Drop>(
+    rt: &impl Abort,
+    ranges: I,
+    expected: &[(u64, u64)],
+)
+    requires { (state : I) → I.can_next state }
+{
+    let mut ranges = ranges;
+    for range in expected.iter() {
+        assert_same(rt, step(&mut ranges), Some(*range));
+    }
+    assert_same(rt, step(&mut ranges), None);
+}
+
+// Checks the ranges of a set, from both ends, and how many there are.
+fn check_ranges<C: NodesMut<u64, u64>>(
+    rt: &impl Abort,
+    set: &RangeSet<C>,
+    expected: &[(u64, u64)],
+) {
+    check_listed(rt, set.iter(), expected);
+    assert_same(rt, set.len(), expected.len());
+    assert_same(rt, set.is_empty(), expected.is_empty());
+    assert_same(rt, set.iter().next_back(), expected.last().copied());
+}
+
+// Checks that a call was refused for the store, with its numbers.
+fn check_refused(rt: &impl Abort, outcome: Result<(), Refused<u64, u64>>, start: u64, end: u64) {
+    match outcome {
+        Ok(()) => panic!(rt; "not refused"),
+        Err(refused) => {
+            assert_same(rt, refused.cause, Cause::Store);
+            assert_same(rt, (refused.key, refused.value), (start, end));
+        }
+    }
+}
+
+// The range between two joins them, and what is removed over the middle cuts them.
+fn join_and_cut<C: ClearNodes<u64, u64> + Drop>(rt: &impl Abort, origin: C::Origin) {
+    let mut set: RangeSet<C> = RangeSet::new(origin);
+    check_ranges(rt, &set, &[]);
+    check_listed(rt, set.gaps(3, 9), &[(3, 9)]);
+    assert_true(rt, set.insert(1, 3).is_ok());
+    assert_true(rt, set.insert(5, 7).is_ok());
+    assert_true(rt, set.insert(3, 5).is_ok());
+    check_ranges(rt, &set, &[(1, 7)]);
+    assert_true(rt, set.remove(2, 4).is_ok());
+    check_ranges(rt, &set, &[(1, 2), (4, 7)]);
+    for (number, is) in [(0, false), (1, true), (2, false), (6, true), (7, false)] {
+        assert_same(rt, set.contains(number), is);
+    }
+    assert_true(rt, set.insert(5, 5).is_ok());
+    assert_true(rt, set.insert(3, 2).is_ok());
+    assert_true(rt, set.remove(6, 2).is_ok());
+    check_ranges(rt, &set, &[(1, 2), (4, 7)]);
+    set.clear();
+    check_ranges(rt, &set, &[]);
+}
+
+// The greatest number is never in a set, and its neighbour may be.
+fn hold_the_greatest<C: NodesMut<u64, u64> + Drop>(rt: &impl Abort, origin: C::Origin) {
+    let mut set: RangeSet<C> = RangeSet::new(origin);
+    assert_true(rt, set.insert(5, u64::MAX).is_ok());
+    assert_true(rt, set.insert(0, 5).is_ok());
+    check_ranges(rt, &set, &[(0, u64::MAX)]);
+    assert_true(rt, set.contains(u64::MAX - 1));
+    assert_true(rt, !set.contains(u64::MAX));
+    assert_true(rt, set.remove(0, u64::MAX).is_ok());
+    check_ranges(rt, &set, &[]);
+}
+
+#[test]
+fn joins_and_cuts(rt: HostRuntime) {
+    join_and_cut::<SlabStore<Node<u64, u64>>>(&rt, rt.alloc());
+    hold_the_greatest::<SlabStore<Node<u64, u64>>>(&rt, rt.alloc());
+}
+
+// Returns the ranges from 10i up to 10i + 5, for i from 0 to 7.
+fn eight_ranges<C: NodesMut<u64, u64> + Drop>(rt: &impl Abort, origin: C::Origin) -> RangeSet<C> {
+    let mut set: RangeSet<C> = RangeSet::new(origin);
+    for i in 0..8 {
+        assert_true(rt, set.insert(10 * i, 10 * i + 5).is_ok());
+    }
+    set
+}
+
+// The ranges that overlap some numbers, and the gaps between them.
+fn look_around<C: NodesMut<u64, u64> + Drop>(rt: &impl Abort, origin: C::Origin) {
+    let set: RangeSet<C> = eight_ranges(rt, origin);
+    check_listed(rt, set.overlapping(12, 31), &[(10, 15), (20, 25), (30, 35)]);
+    check_listed(rt, set.overlapping(15, 30), &[(20, 25)]);
+    check_listed(rt, set.overlapping(5, 10), &[]);
+    check_listed(rt, set.overlapping(12, 12), &[]);
+    check_listed(rt, set.overlapping(31, 12), &[]);
+    check_listed(rt, set.gaps(12, 31), &[(15, 20), (25, 30)]);
+    check_listed(
+        rt,
+        set.gaps(7, 37),
+        &[(7, 10), (15, 20), (25, 30), (35, 37)],
+    );
+    check_listed(rt, set.gaps(11, 14), &[]);
+    check_listed(rt, set.gaps(76, 80), &[(76, 80)]);
+    check_listed(rt, set.gaps(8, 6), &[]);
+}
+
+#[test]
+fn lists_overlaps_and_gaps(rt: HostRuntime) {
+    look_around::<SlabStore<Node<u64, u64>>>(&rt, rt.alloc());
+}
+
+// Eight ranges fill one node: a ninth is refused, and what joins or shortens is not.
+fn fill_a_node<C: NodesMut<u64, u64> + Drop>(rt: &impl Abort, origin: C::Origin) {
+    let mut set: RangeSet<C> = eight_ranges(rt, origin);
+    check_refused(rt, set.remove(32, 33), 32, 33);
+    check_listed(rt, set.overlapping(20, 50), &[(20, 25), (30, 35), (40, 45)]);
+    assert_same(rt, set.len(), 8);
+    assert_true(rt, set.remove(30, 32).is_ok());
+    check_listed(rt, set.overlapping(20, 50), &[(20, 25), (32, 35), (40, 45)]);
+    assert_true(rt, set.insert(5, 10).is_ok());
+    assert_same(rt, set.len(), 7);
+    check_listed(rt, set.overlapping(0, 30), &[(0, 15), (20, 25)]);
+    assert_true(rt, set.remove(33, 34).is_ok());
+    check_listed(rt, set.overlapping(30, 40), &[(32, 33), (34, 35)]);
+    assert_same(rt, set.len(), 8);
+    check_refused(rt, set.insert(100, 101), 100, 101);
+}
+
+#[test]
+fn refuses_what_needs_a_node(rt: HostRuntime) {
+    fill_a_node::<FixedSlab<Node<u64, u64>, 1>>(&rt, ());
+}
