@@ -25,13 +25,13 @@ from-less x y is = ranked x y Less (sym is)
 module _ (s : TreeState ℕ ℕ) where
   -- ---- an address that a search found
   module _ (k : ℕ) (a : Address) (f : IsFoundAt nat_cmp k s a) where
-    pub found-range : (x : ℕ × ℕ) × (slice_get (pairs_of s) f.place ≡ Some x) × (item_of s a ≡ Some x) × (x.0 ≡ k)
+    pub found-range : (x : ℕ × ℕ) × (slice_get (pairs_of s) f.replaces.place ≡ Some x) × (item_of s a ≡ Some x) × (x.0 ≡ k)
     found-range =
-        let there = pair-there s f.place a f.here in
+        let there = pair-there s f.replaces.place a f.here in
         let equal = subst (λ o. IfSome o (λ x. nat_cmp x.0 k ≡ Equal)) there.2 f.same in
         (there.0, there.1, there.2, ranked there.0.0 k Equal (sym equal))
 
-    pub found-item-at : IsItemAt s f.place (Some a)
+    pub found-item-at : IsItemAt s f.replaces.place (Some a)
     found-item-at = record { listed = sym f.listed; here = f.here; past = λ none. absurd (cc) }
 
   -- ---- the items beside an address
@@ -101,9 +101,9 @@ pub around-found : (s : TreeState ℕ ℕ) (n : ℕ) (a : Address) (x : ℕ × �
 around-found s n a x f read runs =
     let r = found-range s n a f in
     let same : r.0 ≡ x = same_Some _ _ (sym r.2 ∙ read) in
-    let some = run-at 0 (pairs_of s) f.place r.0 runs r.1 in
+    let some = run-at 0 (pairs_of s) f.replaces.place r.0 runs r.1 in
     subst (IsRangeAround (pairs_of s) n) same
-    (record { index = f.place; listed = r.1; inside = within-from r.0 n (omega (arith, r.3)) (omega (arith, r.3, some.1)) })
+    (record { index = f.replaces.place; listed = r.1; inside = within-from r.0 n (omega (arith, r.3)) (omega (arith, r.3, some.1)) })
 
 module _ (s : TreeState ℕ ℕ) (n : ℕ) (gap : Address) (place : ℕ) (has : HasPlace s gap place) (fits : KeyFits nat_cmp n place (pairs_of s)) where
   pub around-before : (b : Address) (x : ℕ × ℕ) → IsPrevious s gap (Some b) → item_of s b ≡ Some x → n < x.1 → IsRangeAround (pairs_of s) n x
