@@ -1,3 +1,4 @@
+mod BlockLemmas
 pub mod BookingLemmas
 mod PageLemmas
 mod StockLemmas

@@ -1,3 +1,4 @@
+pub mod Blocks
 pub mod Bookings
 pub mod Listing
 pub mod Stock

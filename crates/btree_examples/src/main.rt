@@ -1,5 +1,5 @@
 //! Maps in use: a stock of parts, by part number, a listing of them by pages (`listing.rt`), bookings of a room (`bookings.rt`), and a
-//! count of words (`words.rt`).
+//! count of words (`words.rt`). A set of ranges in use: reserved blocks (`reserved.rt`).
 #![tactic(auto)]
 
 ghost use Rattle.std.specs.Prelude.{◌≡◌, ◌+◌, OnOk, OnErr, unwrap_or};
@@ -9,15 +9,17 @@ ghost use Rattle.btree_shape.specs.TreeState.{IsValidIn, pairs_of};
 
 mod bookings;
 mod listing;
+mod reserved;
 mod sold_out;
 mod words;
 
 use crate::bookings::{book_and_cancel, count_overlaps, three_bookings};
 use crate::listing::next_page;
+use crate::reserved::reserve;
 use crate::sold_out::remove_sold_out;
 use crate::words::count_word;
 use btree_slab::generic::map::Refused;
-use btree_slab::{Address, BTreeExt, BTreeExtMut, BTreeMap, BTreeSet};
+use btree_slab::{Address, BTreeExt, BTreeExtMut, BTreeMap, BTreeSet, RangeSet};
 use std::alloc::Global;
 use std::io;
 
@@ -56,6 +58,23 @@ fn take_and_put_back(
     let count = *item.value();
     stock.insert_at(place, item)?;
     Ok(Some(count))
+}
+
+/// Prints where blocks are reserved, of 32, and which are free then.
+fn print_blocks(rt: &impl Print, alloc: Global) -> io::Result<()> {
+    let mut reserved: RangeSet = RangeSet::new(alloc);
+    reserved.insert(0, 14)?;
+    reserved.remove(2, 8)?;
+    for size in [7, 5, 12] {
+        match reserve(&mut reserved, size, 32)? {
+            Some(start) => rt.println(format_args!("{size} blocks: from {start}"))?,
+            None => rt.println(format_args!("{size} blocks: no room"))?,
+        }
+    }
+    for (start, end) in reserved.gaps(0, 32) {
+        rt.println(format_args!("free: {start} to {end}"))?;
+    }
+    Ok(())
 }
 
 /// Prints how often each of a few words occurs.
@@ -135,5 +154,6 @@ fn main(rt: HostRuntime) -> io::Result<()> {
     print_page(&rt, rt.alloc(), &mut stock)?;
     print_missing(&rt, rt.alloc(), &stock)?;
     print_bookings(&rt, rt.alloc())?;
+    print_blocks(&rt, rt.alloc())?;
     print_counts(&rt, rt.alloc())
 }
