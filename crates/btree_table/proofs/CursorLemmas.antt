@@ -1,0 +1,31 @@
+-- An editing cursor after an insertion: it has the same map, whose list is what was passed and what is left.
+use Rattle.std.proofs.Common.{◌≡◌, ◌∙◌, List, [], ◌∷◌, ◌++◌, IfErr, OnErr, OnOk, Result, Ok, Err, sym}
+use Rattle.std.specs.declared.cmp.Ord as ord
+use Rattle.std.specs.declared.cmp.PartialEq as eq
+use Rattle.std.specs.declared.cmp.PartialOrd as partial
+use Rattle.btree_item.specs.declared.refused.Cause.{Cause}
+use Rattle.btree_nodes.specs.declared.Nodes as nodes
+use Rattle.btree_nodes.specs.declared.NodesMut as nodes_mut
+use Rattle.btree_shape.specs.TreeState.{pairs_of}
+use Rattle.btree_map.specs.Editing.{InsertsEntry, RefusesEntry, left_of, passed_of}
+use Rattle.btree_map.specs.declared.cursor.editing.EntriesMut.{EntriesMut}
+use Rattle.btree_table.specs.CursorLaws.{whole}
+
+module _ {K V C O : Type 0} {g : ord.Ghosts K} {g' : eq.Ghosts K} {g'' : partial.Ghosts K} {s : nodes_mut.Ghosts C K V O} {s' : nodes.Ghosts C K V}
+    (old new : EntriesMut K V C O g g' g'' s s') where
+  pub same-map : {X E : Type 0} (cause_of : E → Cause) (x : K × V) (result : Result X E) → OnOk result (InsertsEntry old new x)
+      → IfErr result (λ e. RefusesEntry old new (cause_of e)) → new.map.ghost_name ≡ old.map.ghost_name
+  same-map cause_of x (Ok y) inserted refused = inserted.same_map
+  same-map cause_of x (Err e) inserted refused = refused.same_map
+
+  list-of : pairs_of new.map.now ≡ passed_of new ++ left_of new
+  list-of = sym (whole new.front (pairs_of new.map.now))
+
+  -- a pair put before all others
+  pub first-inserted : (x : K × V) → passed_of old ≡ [] → InsertsEntry old new x → pairs_of new.map.now ≡ x ∷ left_of old
+  first-inserted x none i = list-of ∙ (λ j. i.passed j ++ i.left j) ∙ (λ j. (none j ++ x ∷ []) ++ left_of old)
+
+  pub none-inserted : {X E : Type 0} (cause_of : E → Cause) (result : Result X E) → IfErr result (λ e. RefusesEntry old new (cause_of e))
+      → OnErr result (pairs_of new.map.now ≡ passed_of old ++ left_of old)
+  none-inserted cause_of (Ok y) refused = tt
+  none-inserted cause_of (Err e) refused = list-of ∙ (λ j. refused.passed j ++ refused.left j)

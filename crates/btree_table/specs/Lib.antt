@@ -1,0 +1,4 @@
+pub mod Capacity
+pub mod CapacityLaws
+pub mod CursorLaws
+pub mod EntryLaws
