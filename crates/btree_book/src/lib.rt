@@ -18,5 +18,6 @@ pub use crate::calls::Desk;
 pub use crate::drawing::{draw, shape};
 pub use crate::lines::{Desks, Ending, serve};
 pub use crate::places::{address, node, offset, place, put_address, put_node};
+pub use crate::repeats::nth;
 pub use crate::text::Reply;
 pub use crate::words::{high, low, number, pair, two_numbers, word};

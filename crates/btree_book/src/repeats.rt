@@ -35,8 +35,9 @@ fn call_all<P: Desk, Q: Desk>(
     Ok(true)
 }
 
-// Returns the number that comes at an index: from the last one down, or each so far after the one before, modulo their number.
-fn nth(index: u64, count: u64, step: &str) -> Option<u64> {
+/// Returns the number that comes at an index, of the numbers below a count: from the last one down, or each so far after the one before,
+/// modulo their number. It returns `None` if the step is neither `down` nor a number.
+pub fn nth(index: u64, count: u64, step: &str) -> Option<u64> {
     if count == 0 {
         return None;
     }

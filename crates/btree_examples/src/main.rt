@@ -1,5 +1,5 @@
-//! Maps in use: a stock of parts, by part number, a listing of them by pages (`listing.rt`), bookings of a room (`bookings.rt`), and a
-//! count of words (`words.rt`). A set of ranges in use: reserved blocks (`reserved.rt`).
+//! Maps in use: a stock of parts, by part number, a listing of them by pages (`listing.rt`), bookings of a room (`bookings.rt`), a count
+//! of words (`words.rt`), and one of visits in a fixed table (`visits.rt`). A set of ranges in use: reserved blocks (`reserved.rt`).
 #![tactic(auto)]
 
 ghost use Rattle.std.specs.Prelude.{◌≡◌, ◌+◌, OnOk, OnErr, unwrap_or};
@@ -11,15 +11,17 @@ mod bookings;
 mod listing;
 mod reserved;
 mod sold_out;
+mod visits;
 mod words;
 
 use crate::bookings::{book_and_cancel, count_overlaps, three_bookings};
 use crate::listing::next_page;
 use crate::reserved::reserve;
 use crate::sold_out::remove_sold_out;
+use crate::visits::count_visit;
 use crate::words::count_word;
 use btree_slab::generic::map::Refused;
-use btree_slab::{Address, BTreeExt, BTreeExtMut, BTreeMap, BTreeSet, RangeSet};
+use btree_slab::{Address, BTreeExt, BTreeExtMut, BTreeMap, BTreeSet, FixedMap, RangeSet};
 use std::alloc::Global;
 use std::io;
 
@@ -85,6 +87,18 @@ fn print_counts(rt: &impl Print, alloc: Global) -> io::Result<()> {
     }
     for (word, count) in counts.iter() {
         rt.println(format_args!("{word}: {count}"))?;
+    }
+    Ok(())
+}
+
+/// Prints how often each of a few doors was used. The nodes are in a table of two, which takes at least six doors.
+fn print_visits(rt: &impl Print) -> io::Result<()> {
+    let mut visits: FixedMap<u32, u64, 2> = FixedMap::new(());
+    for door in [3, 1, 3, 2, 3] {
+        count_visit(&mut visits, door)?;
+    }
+    for (door, count) in visits.iter() {
+        rt.println(format_args!("door {door}: {count}"))?;
     }
     Ok(())
 }
@@ -155,5 +169,6 @@ fn main(rt: HostRuntime) -> io::Result<()> {
     print_missing(&rt, rt.alloc(), &stock)?;
     print_bookings(&rt, rt.alloc())?;
     print_blocks(&rt, rt.alloc())?;
-    print_counts(&rt, rt.alloc())
+    print_counts(&rt, rt.alloc())?;
+    print_visits(&rt)
 }

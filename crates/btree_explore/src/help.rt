@@ -2,7 +2,7 @@
 use btree_book::Reply;
 use std::alloc::AllocError;
 
-const LINES: [&str; 31] = [
+const LINES: [&str; 32] = [
     "what the lines may say, a line for each group",
     "new: empty maps and sets over new stores. over slab, over refusing: the desk that the lines go to",
     "refuse N: on the refusing desk, the N-th node or growth of memory from now on. insist CALL: each one of the call refused in turn",
@@ -29,6 +29,7 @@ const LINES: [&str; 31] = [
     "a, b: drain finish TEST N WRITE; retain TEST WRITE: N pairs are taken; +calls adds how often the test was called; drain TEST N hint",
     "a, b: fill COUNT STEP; insert_each insert_gaps update_each put_back_each PAIRS; remove_each START STEP PAIRS: whether all was right",
     "a, b: neighbours; meets N: whether an iterator gives those of fill, N from the front; cut PLACE N: a cursor those of the other map",
+    "a, b: moves COUNT STEP STEP: the keys below COUNT inserted and removed, whether no more nodes moved than there were calls",
     "a, b: extend from_iter PAIRS; append clone extend_copied equals compare same_hash plain_hash same_nodes: with the other map",
     "p, q: len is_empty list clear first last pop_first pop_last; insert replace contains get remove take ELEMENT",
     "p, q: iter into_iter ENDS; into_loop; range LOW HIGH ENDS; drain finish TEST N; retain TEST",

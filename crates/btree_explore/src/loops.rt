@@ -1,5 +1,5 @@
 //! Calls that are done at each of many pairs, with what has to hold after each.
-use btree_book::{Reply, number, word};
+use btree_book::{Reply, nth, number, word};
 use btree_map_calls::{Action, given, pairs};
 use btree_slab::generic::BTreeMap;
 use btree_slab::generic::map::{BTreeExt, BTreeExtMut, EntriesMut};
@@ -251,6 +251,72 @@ fn cut<C: NodesMut<u64, u64>>(map: &mut Map<C>, other: &Map<C>, place: u64, coun
     entries.size_hint() == (0, Some(0)) && entries.remove().is_none() && entries.next().is_none()
 }
 
+// How many calls there were, by how many nodes a map became larger or smaller in all of them together, and how many it has.
+#[derive(Drop)]
+struct Moved {
+    calls: u64,
+    moved: u64,
+    nodes: usize,
+}
+
+impl Moved {
+    // Counts one more call, after which there are so many nodes. Returns whether no more nodes moved than there were calls.
+    fn count(&mut self, nodes: usize) -> bool {
+        self.calls = self.calls.wrapping_add(1);
+        self.moved = self.moved.wrapping_add(self.nodes.abs_diff(nodes) as u64);
+        self.nodes = nodes;
+        self.moved <= self.calls
+    }
+}
+
+// Inserts the keys below a count in an order. Returns whether all were taken, and no more nodes moved than there were calls.
+fn move_in<C: NodesMut<u64, u64>>(
+    map: &mut Map<C>,
+    moved: &mut Moved,
+    count: u64,
+    step: &str,
+) -> Option<bool> {
+    for index in 0..count {
+        let key = nth(index, count, step)?;
+        if map.insert(key, key).is_err() || !moved.count(map.node_count()) {
+            return Some(false);
+        }
+    }
+    Some(true)
+}
+
+// Removes the same keys in an order.
+fn move_out<C: NodesMut<u64, u64>>(
+    map: &mut Map<C>,
+    moved: &mut Moved,
+    count: u64,
+    step: &str,
+) -> Option<bool> {
+    for index in 0..count {
+        let key = nth(index, count, step)?;
+        if map.remove(&key).is_none() || !moved.count(map.node_count()) {
+            return Some(false);
+        }
+    }
+    Some(true)
+}
+
+// Inserts the keys below a count in one order into an empty map, and removes them in another one. Returns whether that was done, and after each
+// call no more nodes had moved than there were calls.
+fn moves<C: NodesMut<u64, u64>>(
+    map: &mut Map<C>,
+    count: u64,
+    first: &str,
+    second: &str,
+) -> Option<bool> {
+    let mut moved = Moved {
+        calls: 0,
+        moved: 0,
+        nodes: map.node_count(),
+    };
+    Some(move_in(map, &mut moved, count, first)? && move_out(map, &mut moved, count, second)?)
+}
+
 // Does a loop over a list of pairs, of which one has two more words in front.
 fn over_pairs<C: ClearNodes<u64, u64>>(
     alloc: Global,
@@ -291,6 +357,7 @@ pub(crate) fn serve_loops<C: ClearNodes<u64, u64>>(
         }
         ("cut", Some(place), Some(count)) => Some(cut(map, other, place, count)),
         ("meets", Some(place), None) => Some(meets(map, place)),
+        ("moves", Some(count), _) => moves(map, count, second, more),
         (_, start, step) => {
             let words = if verb == "remove_each" { more } else { rest };
             match pairs(alloc, words)? {

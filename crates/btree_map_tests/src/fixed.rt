@@ -1,13 +1,15 @@
 //! Maps over a fixed table of nodes.
-use crate::asserts::assert_same;
-use crate::samples::check_pairs;
+use crate::asserts::{assert_same, assert_same_in, assert_true};
+use crate::samples::{check_pairs, first_keys};
 use btree_ext::BTreeExt;
 use btree_item::Cause;
 use btree_map::BTreeMap;
 use btree_node::Node;
-use btree_nodes::NodesMut;
+use btree_nodes::{CloneNodes, NodesMut};
 use btree_stores::FixedSlab;
 use std::process::Abort;
+
+type Table<const N: usize> = FixedSlab<Node<u64, u64>, N>;
 
 /// Inserts the keys from 0 on. Those below `taken` are taken, on so many nodes, and the next one comes back.
 pub(crate) fn check_table<C: NodesMut<u64, u64> + Drop>(
@@ -33,10 +35,115 @@ pub(crate) fn check_table<C: NodesMut<u64, u64> + Drop>(
 
 #[test]
 fn a_table_takes_what_its_nodes_hold(rt: HostRuntime) {
-    check_table::<FixedSlab<Node<u64, u64>, 0>>(&rt, (), 0, 0);
-    check_table::<FixedSlab<Node<u64, u64>, 1>>(&rt, (), 8, 1);
-    check_table::<FixedSlab<Node<u64, u64>, 2>>(&rt, (), 8, 1);
-    check_table::<FixedSlab<Node<u64, u64>, 11>>(&rt, (), 43, 9);
+    check_table::<Table<0>>(&rt, (), 0, 0);
+    check_table::<Table<1>>(&rt, (), 8, 1);
+    check_table::<Table<2>>(&rt, (), 8, 1);
+    check_table::<Table<11>>(&rt, (), 43, 9);
+}
+
+// Appends three pairs to a map of eight keys on one node, which has no place for another. The first one replaces a value, and the second
+// one comes back.
+fn append_to_one<C: NodesMut<u64, u64> + Drop>(
+    rt: &impl Abort,
+    mut map: BTreeMap<u64, u64, C>,
+    mut other: BTreeMap<u64, u64, C>,
+) {
+    for pair in [(3, 31), (8, 81), (9, 91)] {
+        assert_true(rt, other.insert(pair.0, pair.1).is_ok());
+    }
+    match map.append(&mut other) {
+        Ok(()) => panic!(rt; "not refused"),
+        Err(refused) => {
+            assert_same(rt, refused.cause, Cause::Store);
+            assert_same(rt, (refused.key, refused.value), (8, 81));
+        }
+    }
+    let (a, b, c) = ((0, 0), (1, 10), (2, 20));
+    let (d, e, f) = ((3, 31), (4, 40), (5, 50));
+    check_pairs(rt, &map, &[a, b, c, d, e, f, (6, 60), (7, 70)]);
+    check_pairs(rt, &other, &[(9, 91)]);
+}
+
+// Updates an absent key of such a map, which is refused, and then one that is there.
+fn update_in_one<C: NodesMut<u64, u64> + Drop>(rt: &impl Abort, mut map: BTreeMap<u64, u64, C>) {
+    match map.update(8, |old| (Some(80), old.is_none())) {
+        Ok(_) => panic!(rt; "not refused"),
+        Err(refused) => {
+            assert_same(rt, (refused.key, refused.cause), (8, Cause::Store));
+            let action = refused.action;
+            assert_same(rt, action(None), (Some(80), true));
+        }
+    }
+    assert_same(rt, map.len(), 8);
+    assert_same(rt, map.update(3, |_| (None, 7u64)).ok(), Some(7));
+    assert_same(rt, (map.len(), map.get(&3).copied()), (7, None));
+}
+
+#[test]
+fn a_table_of_one_node_hands_back(rt: HostRuntime) {
+    append_to_one::<Table<1>>(&rt, first_keys(&rt, (), 8), BTreeMap::new(()));
+    update_in_one::<Table<1>>(&rt, first_keys(&rt, (), 8));
+}
+
+fn clone_table<C: CloneNodes<u64, u64> + Drop>(rt: &impl Abort, map: BTreeMap<u64, u64, C>) {
+    match map.clone() {
+        Ok(copy) => {
+            assert_true(rt, copy == map);
+            assert_same(rt, (copy.len(), copy.node_count()), (43, 9));
+        }
+        Err(_) => panic!(rt; "no clone"),
+    }
+}
+
+#[test]
+fn a_table_is_cloned(rt: HostRuntime) {
+    clone_table::<Table<11>>(&rt, first_keys(&rt, (), 43));
+}
+
+// Inserts three keys for each node of a table, below 100 and each so far after the one before.
+fn fill_by<C: NodesMut<u64, u64> + Drop>(
+    rt: &impl Abort,
+    mut map: BTreeMap<u64, u64, C>,
+    nodes: u64,
+    (first, step): (u64, u64),
+) {
+    let (mut key, most) = (first, nodes.wrapping_mul(3));
+    for count in 0..most {
+        assert_same_in(
+            rt,
+            (nodes, step, count),
+            map.insert(key, count).ok(),
+            Some(None),
+        );
+        key = key.wrapping_add(step) % 100;
+    }
+    assert_same(rt, map.len() as u64, most);
+}
+
+// In ascending and in descending order, and in steps of seven.
+fn fill_thrice<C: NodesMut<u64, u64> + Drop>(rt: &impl Abort, origin: C::Origin, nodes: u64)
+where
+    C::Origin: Copy,
+{
+    for order in [(0, 1), (99, 99), (0, 7)] {
+        fill_by::<C>(rt, BTreeMap::new(origin), nodes, order);
+    }
+}
+
+#[test]
+fn a_table_takes_three_pairs_for_each_node(rt: HostRuntime) {
+    fill_thrice::<Table<1>>(&rt, (), 1);
+    fill_thrice::<Table<2>>(&rt, (), 2);
+    fill_thrice::<Table<3>>(&rt, (), 3);
+    fill_thrice::<Table<4>>(&rt, (), 4);
+    fill_thrice::<Table<5>>(&rt, (), 5);
+    fill_thrice::<Table<6>>(&rt, (), 6);
+    fill_thrice::<Table<7>>(&rt, (), 7);
+    fill_thrice::<Table<8>>(&rt, (), 8);
+    fill_thrice::<Table<9>>(&rt, (), 9);
+    fill_thrice::<Table<10>>(&rt, (), 10);
+    fill_thrice::<Table<11>>(&rt, (), 11);
+    fill_thrice::<Table<12>>(&rt, (), 12);
 }
 
 // Makes a map of nine pairs in a table of one node: eight are in the map, and the ninth comes back.

@@ -7,19 +7,13 @@ pub use btree_ext::{BTreeExt, BTreeExtMut};
 pub use btree_item::Address;
 use btree_store::SlabStore;
 use btree_stores::FixedSlab;
+pub use btree_table::FixedMap;
 
 /// A map with its nodes in a slab, with memory from the global allocator.
 pub type BTreeMap<K, V> = generic::BTreeMap<K, V, SlabStore<generic::Node<K, V>>>;
 
 /// A set with its nodes in a slab, with memory from the global allocator.
 pub type BTreeSet<T> = generic::BTreeSet<T, SlabStore<generic::Node<T, ()>>>;
-
-/// A map with its nodes in `N` places inside itself, with no memory from an allocator. A move copies all of them.
-pub type FixedMap<K, V, const N: usize> = generic::BTreeMap<
-    K,
-    V,
-    FixedSlab<generic::Node<K, V>, N>,
->;
 
 /// A set with its nodes in `N` places inside itself, with no memory from an allocator. A move copies all of them.
 pub type FixedSet<T, const N: usize> = generic::BTreeSet<T, FixedSlab<generic::Node<T, ()>, N>>;
@@ -74,6 +68,15 @@ pub mod store {
     pub use btree_nodes::{ClearNodes, CloneNodes, Nodes, NodesMut};
     pub use btree_store::{Clear, Slab, SlabClone, SlabMut, SlabStore};
     pub use btree_stores::{FixedSlab, Gate, OddSlab};
+}
+
+/// Calls over a fixed table of nodes, whose contracts say exactly when they are refused, and calls over any store that are not refused.
+pub mod table {
+    pub use btree_table::{
+        FixedMap, insert, insert_at, insert_at_with_room, insert_exactly_at, insert_first,
+        insert_present, insert_vacant, insert_with_room, or_insert, replace, replace_present,
+        update, update_in, update_present, update_with_room,
+    };
 }
 
 /// Sessions of commands over a map, and the arguments of the program.
