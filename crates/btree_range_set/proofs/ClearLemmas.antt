@@ -136,9 +136,9 @@ module _ (old s : TreeState ℕ ℕ) (a : Address) (start end : ℕ) (l : IsClea
 pub clear-found : (s : TreeState ℕ ℕ) (start : ℕ) (a : Address) → IsFoundAt nat_cmp start s a → AreRuns (pairs_of s) → CanClear s (Some a) start
 clear-found s start a f runs =
     let r = found-range s start a f in
-    let within = slice_get_within (pairs_of s) f.place r.0 r.1 in
+    let within = slice_get_within (pairs_of s) f.replaces.place r.0 r.1 in
     record {
-      place = f.place;
+      place = f.replaces.place;
       within = omega (arith, within);
       item = found-item-at s start a f;
       ends = λ q x next at. let apart = next-apart 0 (pairs_of s) q x r.0 runs at (ap (slice_get (pairs_of s)) next ∙ r.1) in omega (arith, apart, r.3);

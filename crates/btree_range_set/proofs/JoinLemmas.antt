@@ -113,7 +113,7 @@ pub join-found : (s : TreeState ℕ ℕ) (start end : ℕ) (a : Address) → IsF
 join-found s start end a f runs some =
     let r = found-range s start a f in
     record {
-      place = f.place;
+      place = f.replaces.place;
       range = r.0;
       item = f.here;
       listed = r.1;
