@@ -2,4 +2,3 @@ pub mod Blocks
 pub mod Bookings
 pub mod Listing
 pub mod Stock
-pub mod Visits
