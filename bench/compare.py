@@ -13,7 +13,7 @@ import subprocess
 import sys
 import tempfile
 
-PHASES = ["insert", "get_present", "get_absent", "iterate", "iterate_back", "range_ten", "remove", "descend", "descend_at", "ascend", "ascend_all", "consume", "consume_back"]
+PHASES = ["insert", "get_present", "get_absent", "iterate", "iterate_back", "range_ten", "remove", "descend", "descend_at", "ascend", "ascend_all", "consume", "consume_back", "range_set"]
 
 # The phase of the kit's std map to which a phase is compared that is not measured there.
 COMPARED = {"range_ten": "get_present", "descend_at": "descend", "ascend": "descend", "ascend_all": "descend"}

@@ -3,9 +3,11 @@ ghost use Rattle.std.specs.Prelude.{◌≡◌, ◌<◌, [], IfOk};
 ghost use Rattle.btree_shape.specs.TreeState.{pairs_of};
 ghost use Rattle.btree_bench.specs.Begins.{BeginsAt};
 
-use crate::tables::{SlabMap, Table};
+use crate::tables::Table;
 use btree_ext::{BTreeExt, BTreeExtMut};
 use btree_item::{Address, Item};
+use btree_map::BTreeMap;
+use btree_nodes::NodesMut;
 use std::alloc::AllocError;
 
 /// Inserts the keys from `count` down to 1, by key. Returns how many were not there.
@@ -22,7 +24,12 @@ pub fn descend(table: &mut impl Table, count: u64) -> Result<u64, AllocError> {
 }
 
 // Inserts a pair before the first item, whose address is known. Returns the address of the pair.
-fn put_before(map: &mut SlabMap, at: Address, key: u64, first: u64) -> Result<Address, AllocError>
+fn put_before<C: NodesMut<u64, u64>>(
+    map: &mut BTreeMap<u64, u64, C>,
+    at: Address,
+    key: u64,
+    first: u64,
+) -> Result<Address, AllocError>
     requires begins { BeginsAt map.old at first }
     requires below { key < first }
     ensures { IfOk result (λ b. BeginsAt map.new b key) }
@@ -34,7 +41,10 @@ fn put_before(map: &mut SlabMap, at: Address, key: u64, first: u64) -> Result<Ad
 }
 
 // Inserts a pair into the empty map. Returns its address.
-fn put_first(map: &mut SlabMap, key: u64) -> Result<Address, AllocError>
+fn put_first<C: NodesMut<u64, u64>>(
+    map: &mut BTreeMap<u64, u64, C>,
+    key: u64,
+) -> Result<Address, AllocError>
     requires { pairs_of map.old ≡ [] }
     ensures { IfOk result (λ b. BeginsAt map.new b key) }
 {
@@ -49,7 +59,10 @@ fn put_first(map: &mut SlabMap, key: u64) -> Result<Address, AllocError>
 
 /// Inserts the keys from `count` down to 1 into the empty map: the first by key, and each other at the address of the one before it. Returns
 /// how many there are then.
-pub fn descend_at(map: &mut SlabMap, count: u64) -> Result<usize, AllocError>
+pub fn descend_at<C: NodesMut<u64, u64>>(
+    map: &mut BTreeMap<u64, u64, C>,
+    count: u64,
+) -> Result<usize, AllocError>
     requires { pairs_of map.old ≡ [] }
 {
     if count == 0 {

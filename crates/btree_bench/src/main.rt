@@ -1,6 +1,6 @@
-//! Times insertion, look-up, walks from both ends, removal, and owning walks from both ends, in the kit's map and in this repository's map,
-//! and insertion in descending order, in this repository's map also at the address of the item before, in ascending order, and short ranges
-//! of it.
+//! Times the kit's map and this repository's map: insertion, look-up, walks from both ends, removal, insertion in descending order, owning
+//! walks from both ends, and sets of ranges over both maps. Of this repository's map alone, it times short ranges, insertion at the address
+//! of the item before, and insertion in ascending order.
 //!
 //! Without an argument it runs over 1000 keys and prints the sum of each phase. With a number of keys as its argument it prints, for each
 //! phase, its name, the nanoseconds that it took, and its sum.
@@ -10,13 +10,18 @@ mod ascent;
 mod descent;
 mod random;
 mod ranges;
+mod spans;
 mod tables;
 
 use crate::ascent::{ascend, ascend_all};
 use crate::descent::{descend, descend_at};
 use crate::random::{Numbers, drawn, shuffle};
 use crate::ranges::sum_ranges;
-use crate::tables::{KitMap, SlabMap, Table};
+use crate::spans::{KitSpans, Spans, add_and_subtract};
+use crate::tables::{KitMap, SlabMap, SlabNodes, Table};
+use btree_map::BTreeMap;
+use btree_nodes::NodesMut;
+use btree_range_set::RangeSet;
 use std::alloc::{AllocError, Global};
 use std::env::Env;
 use std::process::ExitCode;
@@ -133,12 +138,13 @@ fn measure_descent(
     report(rt, is_timed, (map, "descend"), since, absent)
 }
 
-fn measure_descent_at(
-    rt: &(impl Print + Clock + AllocGlobal),
+fn measure_descent_at<C: NodesMut<u64, u64> + Drop>(
+    rt: &(impl Print + Clock),
     is_timed: bool,
+    origin: C::Origin,
     count: u64,
 ) -> io::Result<()> {
-    let mut ours = SlabMap::new(rt.alloc());
+    let mut ours: BTreeMap<u64, u64, C> = BTreeMap::new(origin);
     let since = Instant::now(rt)?;
     let len = descend_at(&mut ours, count)?;
     report(
@@ -151,12 +157,13 @@ fn measure_descent_at(
 }
 
 // From each key on, a range that has about ten pairs.
-fn measure_ranges(
-    rt: &(impl Print + Clock + AllocGlobal),
+fn measure_ranges<C: NodesMut<u64, u64> + Drop>(
+    rt: &(impl Print + Clock),
     is_timed: bool,
+    origin: C::Origin,
     keys: &Keys,
 ) -> io::Result<()> {
-    let mut ours = SlabMap::new(rt.alloc());
+    let mut ours: BTreeMap<u64, u64, C> = BTreeMap::new(origin);
     let _present = put_all(&mut ours, keys.put.as_slice())?;
     let width = (u64::MAX / (keys.put.len() as u64).max(1)).saturating_mul(9);
     let since = Instant::now(rt)?;
@@ -164,32 +171,23 @@ fn measure_ranges(
     report(rt, is_timed, ("btree_slab", "range_ten"), since, sum)
 }
 
-// Each phase with a new map, so that all of them touch fresh memory.
-fn measure_descents(
-    rt: &(impl Print + Clock + AllocGlobal),
-    is_timed: bool,
-    count: u64,
-) -> io::Result<()> {
-    let mut kit = KitMap::new(rt.alloc());
-    measure_descent(rt, is_timed, "std", &mut kit, count)?;
-    let mut ours = SlabMap::new(rt.alloc());
-    measure_descent(rt, is_timed, "btree_slab", &mut ours, count)?;
-    measure_descent_at(rt, is_timed, count)
-}
-
 // The pairs of a map inserted into a new one, in order.
-fn measure_ascents(
-    rt: &(impl Print + Clock + AllocGlobal),
+fn measure_ascents<C: NodesMut<u64, u64> + Drop>(
+    rt: &(impl Print + Clock),
     is_timed: bool,
+    origin: C::Origin,
     keys: &Keys,
-) -> io::Result<()> {
-    let mut from = SlabMap::new(rt.alloc());
+) -> io::Result<()>
+where
+    C::Origin: Copy,
+{
+    let mut from: BTreeMap<u64, u64, C> = BTreeMap::new(origin);
     let _present = put_all(&mut from, keys.put.as_slice())?;
-    let mut ours = SlabMap::new(rt.alloc());
+    let mut ours: BTreeMap<u64, u64, C> = BTreeMap::new(origin);
     let since = Instant::now(rt)?;
     let len = ascend(&mut ours, &from)? as u64;
     report(rt, is_timed, ("btree_slab", "ascend"), since, len)?;
-    let mut ours = SlabMap::new(rt.alloc());
+    let mut ours: BTreeMap<u64, u64, C> = BTreeMap::new(origin);
     let since = Instant::now(rt)?;
     let len = ascend_all(&mut ours, &from)? as u64;
     report(rt, is_timed, ("btree_slab", "ascend_all"), since, len)
@@ -214,23 +212,47 @@ fn measure_owned<T: Table + Drop>(
     report(rt, is_timed, (map, "consume_back"), since, sum)
 }
 
+// The widths of all ranges together are those of all numbers.
+fn measure_spans(
+    rt: &(impl Print + Clock),
+    is_timed: bool,
+    map: &str,
+    set: &mut impl Spans,
+    keys: &Keys,
+) -> io::Result<()> {
+    let width = u64::MAX / (keys.put.len() as u64).max(1);
+    let since = Instant::now(rt)?;
+    let count = add_and_subtract(set, keys.put.as_slice(), width)? as u64;
+    report(rt, is_timed, (map, "range_set"), since, count)
+}
+
+// Each phase with a new map, so that all of them touch fresh memory.
 fn measure_both(
     rt: &(impl Print + Clock + AllocGlobal),
     count: usize,
     is_timed: bool,
 ) -> io::Result<()> {
-    let keys = make_keys(count, rt.alloc())?;
-    let mut kit = KitMap::new(rt.alloc());
+    let alloc = rt.alloc();
+    let keys = make_keys(count, alloc)?;
+    let mut kit = KitMap::new(alloc);
     measure(rt, is_timed, "std", &mut kit, &keys)?;
-    let mut ours = SlabMap::new(rt.alloc());
+    let mut ours = SlabMap::new(alloc);
     measure(rt, is_timed, "btree_slab", &mut ours, &keys)?;
-    measure_ranges(rt, is_timed, &keys)?;
-    measure_descents(rt, is_timed, count as u64)?;
-    measure_ascents(rt, is_timed, &keys)?;
-    let kit = (KitMap::new(rt.alloc()), KitMap::new(rt.alloc()));
+    measure_ranges::<SlabNodes>(rt, is_timed, alloc, &keys)?;
+    let mut kit = KitMap::new(alloc);
+    measure_descent(rt, is_timed, "std", &mut kit, count as u64)?;
+    let mut ours = SlabMap::new(alloc);
+    measure_descent(rt, is_timed, "btree_slab", &mut ours, count as u64)?;
+    measure_descent_at::<SlabNodes>(rt, is_timed, alloc, count as u64)?;
+    measure_ascents::<SlabNodes>(rt, is_timed, alloc, &keys)?;
+    let kit = (KitMap::new(alloc), KitMap::new(alloc));
     measure_owned(rt, is_timed, "std", kit, &keys)?;
-    let ours = (SlabMap::new(rt.alloc()), SlabMap::new(rt.alloc()));
-    measure_owned(rt, is_timed, "btree_slab", ours, &keys)
+    let ours = (SlabMap::new(alloc), SlabMap::new(alloc));
+    measure_owned(rt, is_timed, "btree_slab", ours, &keys)?;
+    let mut kit = KitSpans::in_map(KitMap::new(alloc));
+    measure_spans(rt, is_timed, "std", &mut kit, &keys)?;
+    let mut ours: RangeSet<SlabNodes> = RangeSet::new(alloc);
+    measure_spans(rt, is_timed, "btree_slab", &mut ours, &keys)
 }
 
 // Returns the number of keys that the arguments give, and whether times are printed; `None` if they are something else.

@@ -3,12 +3,16 @@ ghost use Rattle.std.specs.Iterator.{IsFinite};
 
 use btree_map::BTreeMap;
 use btree_node::Node;
+use btree_nodes::NodesMut;
 use btree_store::SlabStore;
 use std::alloc::AllocError;
 use std::collections;
 
+/// The nodes of a map, in a slab.
+pub type SlabNodes = SlabStore<Node<u64, u64>>;
+
 /// The map of this repository, in a slab.
-pub type SlabMap = BTreeMap<u64, u64, SlabStore<Node<u64, u64>>>;
+pub type SlabMap = BTreeMap<u64, u64, SlabNodes>;
 
 /// The map of the kit's std.
 pub type KitMap = collections::BTreeMap<u64, u64>;
@@ -86,7 +90,7 @@ impl Table for KitMap {
     }
 }
 
-impl Table for SlabMap {
+impl<C: NodesMut<u64, u64> + Drop> Table for BTreeMap<u64, u64, C> {
     fn put(&mut self, key: u64, value: u64) -> Result<bool, AllocError> {
         match self.insert(key, value) {
             Ok(old) => Ok(old.is_some()),
