@@ -7,9 +7,18 @@ use Rattle.btree_item.specs.declared.address.Address.{Address}
 use Rattle.btree_item.specs.declared.refused.Cause.{Cause}
 use Rattle.btree_shape.specs.TreeState.{TreeState, IsValidIn, pairs_of}
 use Rattle.btree_find.specs.Navigation.{HasPlace, IsItemAddress, IsItemAt}
-use Rattle.btree_range_set.specs.Places.{EndsBefore, StartsFrom}
+use Rattle.btree_range_set.specs.Places.{EndsBefore, StartsAfter, StartsBy, StartsFrom}
 use Rattle.btree_range_set.specs.Ranges.{AreRuns, IsDifference, IsUnion}
 use Rattle.btree_range_set.specs.State.{GrowsWithinLimit, IsRefused, ranges_of}
+
+module _ (s : TreeState ℕ ℕ) (a : Address) (n : ℕ) where
+  -- there is a range after the one at an address, and it starts at a number or below it
+  abbrev pub NextStartsBy : Type 0
+  NextStartsBy = (place : ℕ) → HasPlace s a place → StartsBy (pairs_of s) (suc place) n
+
+  -- if there is a range after it, it starts above the number
+  abbrev pub NextStartsAfter : Type 0
+  NextStartsAfter = (place : ℕ) → HasPlace s a place → StartsAfter (pairs_of s) (suc place) n
 
 module _ (old new : TreeState ℕ ℕ) where
   -- the range at a place was removed, and this is the address of the one after it

@@ -1,10 +1,10 @@
 //! The steps of a set of ranges on its map, by addresses.
-ghost use Rattle.std.specs.Prelude.{◌≡◌, ◌<◌, ℕ, suc, IfErr, IfNone, IfSome, IsFalse, IsTrue, OnErr, OnOk, false};
+ghost use Rattle.std.specs.Prelude.{◌≡◌, ◌<◌, ℕ, IfErr, IfNone, IfSome, IsFalse, IsTrue, OnErr, OnOk, false};
 ghost use Rattle.btree_shape.specs.TreeState.{IsOccupiedIn, IsValidIn, pairs_of};
 ghost use Rattle.btree_find.specs.Navigation.{HasPlace};
-ghost use Rattle.btree_range_set.specs.Places.{IsRangeAround, StartsAfter, StartsBy};
+ghost use Rattle.btree_range_set.specs.Places.{IsRangeAround};
 ghost use Rattle.btree_range_set.specs.Ranges.{AreRuns, CutsOne, JoinsNone, has_number};
-ghost use Rattle.btree_range_set.specs.Steps.{CanClear, CanCut, CanJoin, Clears, IsRefusedIn, Joins, TakesRange};
+ghost use Rattle.btree_range_set.specs.Steps.{CanClear, CanCut, CanJoin, Clears, IsRefusedIn, Joins, NextStartsAfter, NextStartsBy, TakesRange};
 
 use btree_ext::{BTreeExt, BTreeExtMut};
 use btree_item::{Address, Item, Refused};
@@ -56,10 +56,8 @@ fn take_range<C: NodesMut<u64, u64>>(
 fn touches_next<C: NodesMut<u64, u64>>(map: &BTreeMap<u64, u64, C>, at: &Address, end: u64) -> bool
     requires valid { IsValidIn map.now at.now }
     requires occupied { IsOccupiedIn map.now at.now }
-    ensures touches { IsTrue result → (place : ℕ) → HasPlace map.now at.now place →
-        StartsBy (pairs_of map.now) (suc place) end }
-    ensures apart { IsFalse result → (place : ℕ) → HasPlace map.now at.now place →
-        StartsAfter (pairs_of map.now) (suc place) end }
+    ensures touches { IsTrue result → NextStartsBy map.now at.now end }
+    ensures apart { IsFalse result → NextStartsAfter map.now at.now end }
 {
     let Some(next) = map.next_item_address(at.copied()) else {
         return false;
