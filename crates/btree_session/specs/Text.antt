@@ -1,5 +1,5 @@
 -- The printed text of a reply, and vectors and texts that grow.
--- `reply_text` is the text of a reply, as in the table in README.md; `Display` of `Reply` prints it. `line_of` is the
+-- `reply_text` is the text of a reply, as in the table in docs/PROGRAM.md; `Display` of `Reply` prints it. `line_of` is the
 -- same on a line of its own. `Pushes` and `Grows` say what was appended to a vector or a text; `run` cites `Pushes` by
 -- `Runs` (`Machine.antt`), and `HasCapacityFor` for the vector of replies. `as_line` is for the answers to questions
 -- too (`Answer.antt`).
