@@ -1,5 +1,5 @@
 #!/usr/bin/env python3
-"""Runs the kit's benchmark and Rust's in turn, and prints a table of the least times.
+"""Runs the kit's benchmark and Rust's in turn, and prints a table of the least times, and a chart.
 
 usage: bench/compare.py COUNT.. [--rounds N]
 
@@ -51,6 +51,15 @@ def print_table(count, least):
         print(f"| {table} | {' | '.join(cells)} |")
 
 
+def print_chart(least):
+    """A bar for each phase of this repository's map: how many times as long it takes as the kit's std map, at four signs for each time."""
+    print()
+    for phase in PHASES:
+        nanos, kit = least.get(("btree_slab", phase)), least["std", COMPARED.get(phase, phase)]
+        if nanos is not None:
+            print(f"    {phase:<13}{nanos / kit:5.2f} {'#' * round(4 * nanos / kit)}")
+
+
 def main():
     parser = argparse.ArgumentParser(description=__doc__)
     parser.add_argument("counts", nargs="+", type=int)
@@ -62,7 +71,9 @@ def main():
         rust = os.path.join(folder, "std_map")
         subprocess.run(["rustc", "-C", "opt-level=3", "-o", rust, "bench/std_map.rs"], check=True)
         for count in given.counts:
-            print_table(count, measure(count, given.rounds, os.path.join(crate, "out", "btree_bench"), rust))
+            least = measure(count, given.rounds, os.path.join(crate, "out", "btree_bench"), rust)
+            print_table(count, least)
+            print_chart(least)
 
 
 if __name__ == "__main__":
