@@ -2,3 +2,4 @@ pub mod Blocks
 pub mod Bookings
 pub mod Listing
 pub mod Stock
+pub mod Visits
