@@ -1,5 +1,6 @@
 //! Maps in use: a stock of parts, by part number, a listing of them by pages (`listing.rt`), bookings of a room (`bookings.rt`), a count
-//! of words (`words.rt`), and one of visits in a fixed table (`visits.rt`). A set of ranges in use: reserved blocks (`reserved.rt`).
+//! of words (`words.rt`), one of visits in a fixed table (`visits.rt`), and one read from a copy of its nodes (`copies.rt`). A set of
+//! ranges in use: reserved blocks (`reserved.rt`).
 #![tactic(auto)]
 
 ghost use Rattle.std.specs.Prelude.{◌≡◌, ◌+◌, OnOk, OnErr, unwrap_or};
@@ -8,6 +9,7 @@ ghost use Rattle.btree_item.specs.Pairs.{found_value, inserted};
 ghost use Rattle.btree_shape.specs.TreeState.{IsValidIn, pairs_of};
 
 mod bookings;
+mod copies;
 mod listing;
 mod reserved;
 mod sold_out;
@@ -15,6 +17,7 @@ mod visits;
 mod words;
 
 use crate::bookings::{book_and_cancel, count_overlaps, three_bookings};
+use crate::copies::{is_readable, read_copy};
 use crate::listing::next_page;
 use crate::reserved::reserve;
 use crate::sold_out::remove_sold_out;
@@ -103,6 +106,17 @@ fn print_visits(rt: &impl Print) -> io::Result<()> {
     Ok(())
 }
 
+/// Prints what is read of a stock of which the first copy has a wrong length.
+fn print_copies(rt: &impl Print, stock: BTreeMap<u32, u64>) -> io::Result<()> {
+    let mut first = stock.clone()?.into_raw();
+    first.set_len(7);
+    rt.println(format_args!("the first copy can be read: {}", is_readable(&first)))?;
+    match read_copy(first, stock.into_raw()) {
+        Ok(read) => rt.println(format_args!("parts in the second copy: {}", read.len())),
+        Err((_copy, fault)) => rt.println(format_args!("no copy is whole: {fault:?}")),
+    }
+}
+
 /// Prints the parts of an order that are not in stock.
 fn print_missing(rt: &impl Print, alloc: Global, stock: &BTreeMap<u32, u64>) -> io::Result<()> {
     let mut order: BTreeSet<u32> = BTreeSet::new(alloc);
@@ -170,5 +184,6 @@ fn main(rt: HostRuntime) -> io::Result<()> {
     print_bookings(&rt, rt.alloc())?;
     print_blocks(&rt, rt.alloc())?;
     print_counts(&rt, rt.alloc())?;
-    print_visits(&rt)
+    print_visits(&rt)?;
+    print_copies(&rt, stock)
 }

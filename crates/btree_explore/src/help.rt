@@ -31,7 +31,7 @@ const LINES: [&str; 32] = [
     "a, b: neighbours; meets N: whether an iterator gives those of fill, N from the front; cut PLACE N: a cursor those of the other map",
     "a, b: moves COUNT STEP STEP: the keys below COUNT inserted and removed, whether no more nodes moved than there were calls",
     "a, b: extend from_iter PAIRS; append clone extend_copied equals compare same_hash plain_hash same_nodes: with the other map",
-    "p, q: len is_empty list clear first last pop_first pop_last; insert replace contains get remove take ELEMENT",
+    "p, q: len is_empty nodes list clear first last pop_first pop_last; insert replace contains get remove take ELEMENT",
     "p, q: iter into_iter ENDS; into_loop; range LOW HIGH ENDS; drain finish TEST N; retain TEST",
     "p, q: extend from_iter ELEMENTS; append clone extend_copied equals compare same_hash plain_hash: with the other set",
     "p, q: union intersection difference symmetric_difference is_disjoint is_subset is_superset: with the other set",

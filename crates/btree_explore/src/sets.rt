@@ -77,6 +77,7 @@ fn whole<C: ClearNodes<u64, ()>>(
     match verb {
         "len" => reply.count(set.len())?,
         "is_empty" => reply.truth(set.is_empty())?,
+        "nodes" => reply.count(set.node_count())?,
         "list" => put_set(set, reply)?,
         "clear" => {
             set.clear();

@@ -1,5 +1,6 @@
 -- A set as contracts see it: its elements in order, and what is kept beside them: how often its store has refused a
--- node, and the greatest number of elements. Drains, refusals and a failed clone alone name the tree behind the elements.
+-- node, and the greatest number of elements. Only drains, a failed clone, and what says how many nodes an insertion uses
+-- name the tree behind the elements; `IsInTree` leads from the one to the other.
 -- An element is in a set by the order: `stored` is the equal element that is there. Insertion and removal are at the
 -- place of the element, which is the number of smaller ones (`before`).
 use Rattle.std.specs.Prelude.{◌≡◌, ◌≤◌, ℕ, List, Option, is_some, length, refl, set, if◌then◌else◌}
@@ -15,7 +16,7 @@ use Rattle.btree_store.specs.Content.{Content}
 use Rattle.btree_item.specs.declared.refused.Cause.{Cause}
 use Rattle.btree_item.specs.declared.refused.Cause.TheVariants.{Store, Count}
 use Rattle.btree_node.specs.declared.node.Node.{Node}
-use Rattle.btree_shape.specs.TreeState.{Kept, TreeState, coded_kept, pairs_of, refused_once, tree_code}
+use Rattle.btree_shape.specs.TreeState.{IsBTree, Kept, TreeState, coded_kept, pairs_of, refused_once, tree_code}
 use Rattle.btree_edit.specs.Insert.{IsRefusedAtGap}
 use Rattle.btree_walk.specs.Bounds.{bound_key}
 
@@ -38,6 +39,11 @@ abbrev pub set_of : {T : Type 0} → TreeState T (Unit {0}) → SetState T
 set_of map = record { elements = keys_of (pairs_of map); kept = map.kept; tree = map }
 
 module _ {T : Type 0} (cmp : T → T → Ordering) where
+  -- the elements, and what is kept beside them, are those of the tree, which is well formed
+  pub record IsInTree (s : SetState T) : Type 0 where
+    pub same : s ≡ set_of s.tree
+    pub tree : IsBTree cmp s.tree
+
   -- how many elements are below x
   abbrev pub before : T → List T → ℕ
   before x xs = count_by (λ y. is_lt (cmp y x)) xs

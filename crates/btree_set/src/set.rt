@@ -1,5 +1,5 @@
 //! The set.
-ghost use Rattle.std.specs.Prelude.{◌≡◌, ◌↔◌, ◌-◌, [], IfErr, IfOk, IsSome, IsTrue, None, OnErr, OnOk, length, option_map, slice_get};
+ghost use Rattle.std.specs.Prelude.{◌≡◌, ◌↔◌, ◌*◌, ◌+◌, ◌-◌, ◌≤◌, [], IfErr, IfOk, IsSome, IsTrue, None, OnErr, OnOk, length, option_map, slice_get};
 ghost use Rattle.std.specs.Iterator.{YieldsFirst, YieldsLast};
 ghost use Rattle.std.specs.FinMap as map;
 ghost use Rattle.std.specs.Mem.{FitsInMemory};
@@ -7,8 +7,11 @@ ghost use denote.Plain.{Nothing as unit_row};
 ghost use Rattle.btree_node.specs.contracts.node.Node.{the_row as node_row};
 ghost use Rattle.std.specs.Option.{option_copied};
 ghost use Rattle.btree_shape.specs.TreeState.{unlimited};
-ghost use Rattle.btree_set.specs.Elements.{IsRefused, inserted, removed, replaced, stored};
+ghost use Rattle.btree_edit.specs.Insert.{InsertsByKey};
+ghost use Rattle.btree_edit.specs.Replace.{ReplacesByKey};
+ghost use Rattle.btree_set.specs.Elements.{IsInTree, IsRefused, inserted, removed, replaced, stored};
 
+use btree_ext::BTreeExt;
 use btree_item::Refused;
 use btree_map::BTreeMap;
 use btree_nodes::{ClearNodes, NodesMut};
@@ -73,6 +76,17 @@ impl<T: Ord, C: NodesMut<T, ()>> BTreeSet<T, C> {
         self.map.is_empty()
     }
 
+    /// Returns how many nodes there are: at most (n+2)/3 for n elements.
+    pub fn node_count(&self) -> usize
+        ensures value { result ≡ map.len self.now.tree.nodes }
+        ensures dense { 3 * result ≤ length self.now.elements + 2 }
+        ensures in_tree { IsInTree T.cmp self.now }
+        ensures can_hold { C.CanHold self.now.tree.nodes }
+    {
+        self.map.tell_well_formed();
+        self.map.node_count()
+    }
+
     /// Returns whether an element is equal to the given one. It makes at most six comparisons at each level.
     pub fn contains(&self, element: &T) -> bool
         ensures { IsTrue result ↔ IsSome (stored T.cmp element.now self.now.elements) }
@@ -119,6 +133,7 @@ impl<T: Ord + Drop, C: NodesMut<T, ()>> BTreeSet<T, C> {
     pub fn insert(&mut self, element: T) -> Result<bool, Refused<T, ()>>
         ensures new { IfOk result (λ new. IsTrue new ↔ (stored T.cmp element self.old.elements ≡ None)) }
         ensures inserted { OnOk result (self.new.elements ≡ inserted T.cmp element self.old.elements) }
+        ensures nodes { OnOk result (InsertsByKey T.cmp element self.old.tree self.new.tree tt) }
         ensures uncounted { OnOk result (self.new.kept ≡ self.old.kept) }
 
         ensures returned { IfErr result (λ r. r.key ≡ element) }
@@ -135,6 +150,7 @@ impl<T: Ord + Drop, C: NodesMut<T, ()>> BTreeSet<T, C> {
     pub fn replace(&mut self, element: T) -> Result<Option<T>, Refused<T, ()>>
         ensures old { IfOk result (λ old. old ≡ stored T.cmp element self.old.elements) }
         ensures replaced { OnOk result (self.new.elements ≡ replaced T.cmp element self.old.elements) }
+        ensures nodes { OnOk result (ReplacesByKey T.cmp element self.old.tree self.new.tree tt) }
         ensures uncounted { OnOk result (self.new.kept ≡ self.old.kept) }
 
         ensures returned { IfErr result (λ r. r.key ≡ element) }

@@ -6,17 +6,13 @@
 pub use btree_ext::{BTreeExt, BTreeExtMut};
 pub use btree_item::Address;
 use btree_store::SlabStore;
-use btree_stores::FixedSlab;
-pub use btree_table::FixedMap;
+pub use btree_table::{FixedMap, FixedSet};
 
 /// A map with its nodes in a slab, with memory from the global allocator.
 pub type BTreeMap<K, V> = generic::BTreeMap<K, V, SlabStore<generic::Node<K, V>>>;
 
 /// A set with its nodes in a slab, with memory from the global allocator.
 pub type BTreeSet<T> = generic::BTreeSet<T, SlabStore<generic::Node<T, ()>>>;
-
-/// A set with its nodes in `N` places inside itself, with no memory from an allocator. A move copies all of them.
-pub type FixedSet<T, const N: usize> = generic::BTreeSet<T, FixedSlab<generic::Node<T, ()>, N>>;
 
 /// A set of numbers as disjoint ranges, with its nodes in a slab, with memory from the global allocator.
 pub type RangeSet = range_set::RangeSet<SlabStore<generic::Node<u64, u64>>>;
@@ -73,9 +69,10 @@ pub mod store {
 /// Calls over a fixed table of nodes, whose contracts say exactly when they are refused, and calls over any store that are not refused.
 pub mod table {
     pub use btree_table::{
-        FixedMap, insert, insert_at, insert_at_with_room, insert_exactly_at, insert_first,
-        insert_present, insert_vacant, insert_with_room, or_insert, replace, replace_present,
-        update, update_in, update_present, update_with_room,
+        FixedMap, FixedSet, insert, insert_at, insert_at_with_room, insert_element,
+        insert_exactly_at, insert_first, insert_present, insert_vacant, insert_with_room,
+        or_insert, replace, replace_element, replace_present, update, update_in, update_present,
+        update_with_room,
     };
 }
 

@@ -2,7 +2,8 @@
 -- Read `ExceedsCapacity` first: the nodes that are held and those that an insertion at a leaf needs are more than that.
 -- By `RefusesExactly` an insertion by key is refused exactly then; `RefusesExactlyAt` says so of one at an address, and
 -- `RefusesExactlyAtPlace` of one at a place, as a cursor's. `TakesFew` is what follows for a map of few pairs. The laws of
--- these words are in `CapacityLaws.antt`; their premises are clauses of the calls.
+-- these words are in `CapacityLaws.antt`; their premises are clauses of the calls. `RefusesElementExactly` and
+-- `TakesFewElements` are the same words for a set; their laws are in `SetLaws.antt`.
 use Rattle.std.specs.Prelude.{◌≡◌, ◌<◌, ◌≤◌, ◌+◌, ◌*◌, ◌↔◌, ℕ, None, Result, IsErr, IsOk, length}
 use Rattle.std.specs.FinMap as map
 use Rattle.std.specs.declared.cmp.Ordering.{Ordering}
@@ -15,6 +16,7 @@ use Rattle.btree_find.specs.Answers.{IsGapAt}
 use Rattle.btree_find.specs.Ends.{IsLeafBackAt}
 use Rattle.btree_find.specs.Navigation.{IsLeafAddressFor}
 use Rattle.btree_map.specs.Written.{IsInsertedWith}
+use Rattle.btree_set.specs.Elements.{SetState, stored}
 
 module _ {T : Type 0} (capacity : ℕ) (content : Content T) where
   -- the table is full
@@ -85,3 +87,12 @@ module _ {K V : Type 0} where
 -- in its place since
 abbrev pub InsertsByEntry : {K V : Type 0} → (K → K → Ordering) → K → (old new : TreeState K V) → Type 0
 InsertsByEntry {K} {V} cmp k old new = found cmp k (pairs_of old) ≡ None → (given : V) × ((w : V) × IsInsertedWith cmp k old new given w)
+
+-- below its limit, a set refuses an element that is not there exactly if the nodes for its gap do not fit
+abbrev pub RefusesElementExactly : {T X E : Type 0} → (T → T → Ordering) → T → SetState T → (capacity : ℕ) → Result X E → Type 0
+RefusesElementExactly cmp x s capacity result =
+    stored cmp x s.elements ≡ None → length s.elements < s.kept.limit → FailsAtGap s.tree capacity result cmp x
+
+-- an insertion that leaves a set of few elements is taken
+abbrev pub TakesFewElements : {T X E : Type 0} → SetState T → (capacity : ℕ) → Result X E → Type 0
+TakesFewElements s capacity result = TakesBeside capacity result (length s.elements) s.kept.limit

@@ -2,3 +2,4 @@ pub mod Capacity
 pub mod CapacityLaws
 pub mod CursorLaws
 pub mod EntryLaws
+pub mod SetLaws

@@ -1,8 +1,8 @@
-//! Maps over a fixed table of nodes: an insertion is refused exactly if the nodes that it needs do not fit.
+//! Maps and sets over a fixed table of nodes: an insertion is refused exactly if the nodes that it needs do not fit.
 //!
 //! Each function does what the call does that it names, and its contract says so. What it adds is the clause `exact`: below its limit,
-//! the map refuses an absent key exactly if the nodes that it holds and those that the insertion needs are more than `N`. So it takes
-//! every pair up to the 3N-th (`few`), and it holds at most `N` nodes (`held`).
+//! a map or a set refuses an absent key exactly if the nodes that it holds and those that the insertion needs are more than `N`. So it
+//! takes every one up to the 3N-th (`few`), and it holds at most `N` nodes (`held`).
 #![tactic(auto)]
 
 mod entries;
@@ -10,15 +10,21 @@ mod keys;
 mod places;
 mod present;
 mod room;
+mod sets;
 
 use btree_map::BTreeMap;
 use btree_node::Node;
+use btree_set::BTreeSet;
 use btree_stores::FixedSlab;
 pub use entries::{insert_vacant, or_insert};
 pub use keys::{insert, replace, update, update_in};
 pub use places::{insert_at, insert_exactly_at, insert_first};
 pub use present::{insert_present, replace_present, update_present};
 pub use room::{insert_at_with_room, insert_with_room, update_with_room};
+pub use sets::{insert_element, replace_element};
 
 /// A map with its nodes in `N` places inside itself, with no memory from an allocator. A move copies all of them.
 pub type FixedMap<K, V, const N: usize> = BTreeMap<K, V, FixedSlab<Node<K, V>, N>>;
+
+/// A set with its nodes in `N` places inside itself, with no memory from an allocator. A move copies all of them.
+pub type FixedSet<T, const N: usize> = BTreeSet<T, FixedSlab<Node<T, ()>, N>>;

@@ -15,3 +15,6 @@ returns-in-Err-clause-absent g c = rw (← c.self.view_is) (absent-keys g.T.Ord.
 
 pub returns-in-Err-clause-cause : goal.returns-in-Err-clause-cause
 returns-in-Err-clause-cause g c = rw (← c.self.view_is) (gap-refused g.C.NodesMut.MayRefuse g.T.Ord.cmp c.args.element c.self.inside.map c.replace.new.self c.in-Err.refused.cause c.in-Err.ensures.cause)
+
+pub returns-in-Ok-clause-nodes : goal.returns-in-Ok-clause-nodes
+returns-in-Ok-clause-nodes g c = rw (← c.self.view_is) c.in-Ok.ensures.replaced_by_key
