@@ -1,11 +1,13 @@
 //! Maps over stores of one's own.
-use crate::asserts::{assert_same, assert_true};
+use crate::asserts::{assert_same, assert_true, assert_true_in};
 use crate::fixed::check_table;
 use crate::samples::first_keys;
 use btree_ext::BTreeExt;
 use btree_node::Node;
 use btree_nodes::NodesMut;
 use btree_own_stores::{OnePlace, VecStore};
+use btree_store::SlabMut;
+use btree_stores::OddSlab;
 use std::process::Abort;
 
 #[test]
@@ -30,4 +32,20 @@ fn fill_and_empty<C: NodesMut<u64, u64> + Drop>(rt: &impl Abort, origin: C::Orig
 #[test]
 fn a_vec_holds_nodes(rt: HostRuntime) {
     fill_and_empty::<VecStore<Node<u64, u64>>>(&rt, rt.alloc());
+}
+
+// Puts many values into a store, which refuses none.
+fn take_each<S: SlabMut<u32> + Drop>(rt: &impl Abort, origin: S::Origin) {
+    S::note_fits();
+    let mut store = S::empty(origin);
+    for value in 0..4096 {
+        assert_true_in(rt, value, store.insert(value).is_ok());
+    }
+    assert_same(rt, store.len(), 4096);
+}
+
+#[test]
+fn a_store_that_grows_takes_each_value(rt: HostRuntime) {
+    take_each::<VecStore<u32>>(&rt, rt.alloc());
+    take_each::<OddSlab<u32>>(&rt, rt.alloc());
 }

@@ -1,9 +1,13 @@
 -- Laws of slots that grow at their end, beside those of `SlotLaws` of `btree_store`.
-use Rattle.std.proofs.Common.{◌≡◌, ◌≢◌, ℕ, ◌≤◌, List, [], ◌∷◌, ◌++◌, length, get_or, Option, Some, None, refl, ap, ◌∙◌, zero, suc}
+use Rattle.std.proofs.Common.{◌≡◌, ◌≢◌, ℕ, ◌≤◌, List, [], ◌∷◌, ◌++◌, length, get_or, Option, Some, None, Vec, refl, ap, ◌∙◌, zero, suc}
 use Rattle.std.proofs.lemmas.List.{get_or_past, get_or_push}
 use Rattle.std.specs.FinMap.{get, insert}
-use Rattle.btree_store.specs.Content.{content_from}
+use Rattle.btree_store.specs.Content.{Content, content_from}
 use Rattle.btree_store.specs.SlotLaws.{content-empty, content-insert, get-content, len-content, used_within}
+
+-- the values in a vector of slots, each under the number of its slot
+abbrev pub content_of : {T Z : Type 0} → Vec (Option T) Z → Content T
+content_of slots = content_from 0 slots.items
 
 module _ {T : Type 0} where
   -- no number after the last slot is used

@@ -1,9 +1,11 @@
 //! A store over a `Vec`.
 #![tactic(auto, using(crate::specs::GrowingSlots::growing_slots))]
 
-ghost use Rattle.std.specs.Prelude.{◌≡◌, Some, IsSome};
+ghost use Rattle.std.specs.Prelude.{◌≡◌, ◌+◌, ◌<◌, ◌≤◌, Some, None, IsSome, IfOk, IfErr, OnOk, OnErr, vec_capacity, vec_len};
 ghost use Rattle.std.specs.Borrow.{sem};
-ghost use Rattle.btree_store.specs.Content.{content_from};
+ghost use Rattle.std.specs.FinMap as map;
+ghost use Rattle.btree_store.specs.Content.{Gains};
+ghost use Rattle.btree_own_stores.specs.GrowingSlots.{content_of};
 ghost use Rattle.btree_own_stores.specs.Lends.{lends_filled};
 
 use btree_steps::Steps;
@@ -34,7 +36,7 @@ fn filled_mut<T>(slot: &mut Option<T>) -> &mut T
 }
 
 impl<T, A: Allocator> Slab<T> for VecStore<T, A> {
-    ghost content = { λ store. content_from 0 store.slots.items };
+    ghost content = { λ store. content_of store.slots };
 
     ghost refusals = { λ store. store.refused.count };
 
@@ -91,7 +93,18 @@ impl<T, A: Allocator> SlabMut<T> for VecStore<T, A> {
         Some(filled_mut(&mut self.slots[id]))
     }
 
-    fn insert(&mut self, value: T) -> Result<usize, T> {
+    // The clauses are those of the trait, and one on when a value is refused.
+    fn insert(&mut self, value: T) -> Result<usize, T>
+        ensures number { IfOk result (λ id. id < usize.MAX) }
+        ensures unused { IfOk result (λ id. map.get (content_of self.old.slots) id ≡ None) }
+        ensures stored { IfOk result (Gains (content_of self.old.slots) (content_of self.new.slots) value) }
+        ensures uncounted { OnOk result (self.new.refused.count ≡ self.old.refused.count) }
+
+        ensures returned { IfErr result (λ back. back ≡ value) }
+        ensures unchanged { OnErr result (content_of self.new.slots ≡ content_of self.old.slots) }
+        ensures counted { OnErr result (self.new.refused.count ≡ self.old.refused.count + 1) }
+        ensures full { OnErr result (vec_capacity self.old.slots ≤ vec_len self.old.slots) }
+    {
         let id = self.slots.len();
         if self.slots.reserve(1).is_err() {
             self.refused.tick();

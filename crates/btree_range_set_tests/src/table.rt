@@ -1,5 +1,5 @@
 //! Lists of two hundred calls, against a table of truth values.
-use crate::asserts::assert_same;
+use crate::asserts::{assert_same, assert_true};
 use btree_item::{Cause, Refused};
 use btree_node::Node;
 use btree_nodes::NodesMut;
@@ -109,11 +109,12 @@ fn gated_set(alloc: Global, refuses_at: usize) -> RangeSet<Gate<SlabStore<Node<u
     RangeSet::in_store(Gate::over(nodes, refuses_at))
 }
 
-// Runs a list with each allocation refused in turn, until a run needs fewer.
+// Runs a list with each allocation refused in turn, the first one at least, until a run needs fewer.
 fn agree_behind_gates(rt: &impl Abort, alloc: Global, list: u64) -> Result<(), Fail> {
     for refuses_at in 1..200 {
         let refusals = run(rt, gated_set(alloc, refuses_at), list);
         if refusals == 0 {
+            assert_true(rt, refuses_at > 1);
             return Ok(());
         }
         assert_same(rt, refusals, 1);

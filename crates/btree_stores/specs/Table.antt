@@ -1,6 +1,8 @@
 -- What a contract sees of a store over a list of slots, and how a `FixedSlab` keeps its places.
-use Rattle.std.specs.Prelude.{◌≡◌, ◌≢◌, ℕ, ◌+◌, ◌<◌, ◌≤◌, List, length, Option, Some, None, is_some, count_by, slice_index, slice_index_or, slice_set, refl}
+use Rattle.std.specs.Prelude.{◌≡◌, ◌≢◌, ℕ, ◌+◌, ◌<◌, ◌≤◌, List, length, Option, Some, None, IfSome, is_some, count_by, slice_index, slice_index_or, slice_set, refl}
 use Rattle.std.specs.Coded.{Coded, code_by, coded×, coded_ℕ, coded_list, coded_option}
+use Rattle.std.specs.FinMap.{get}
+use Rattle.btree_store.specs.Content.{Content}
 
 -- the value or nothing in each slot, and how often a value was refused
 pub record Table (T : Type 0) : Type 0 where
@@ -30,3 +32,7 @@ pub record IsTable {T : Type 0} (places : ℕ) (slots : List (Option T)) (free :
   pub vacant : (j : ℕ) → j < length free → slice_index_or slots (slice_index free j) None ≡ None
   pub apart : (i j : ℕ) → i < j → j < length free → slice_index free i ≢ slice_index free j
   pub beyond : (place : ℕ) → fresh ≤ place → slice_index_or slots place None ≡ None
+
+-- not every value is one whose clone is infallible
+abbrev pub HasFallible : {T : Type 0} → (is_infallible : T → Type 0) → Content T → Type 0
+HasFallible is_infallible content = ¬ ((id : ℕ) → IfSome (get content id) is_infallible)

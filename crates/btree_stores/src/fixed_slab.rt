@@ -178,7 +178,9 @@ impl<T: Drop, const N: usize> Clear<T> for FixedSlab<T, N> {
 }
 
 impl<T: Clone, const N: usize> SlabClone<T> for FixedSlab<T, N> {
-    ghost MayFail = { λ _. Unit {0} };
+    ghost use Rattle.btree_stores.specs.Table.{HasFallible};
+
+    ghost MayFail = { HasFallible T.is_infallible };
 
     fn try_clone(&self) -> Result<Self, AllocError> {
         Ok(FixedSlab {

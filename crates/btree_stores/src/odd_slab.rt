@@ -2,7 +2,9 @@
 #![tactic(auto, using(crate::specs::OddLaws::odds))]
 
 ghost use Rattle.std.specs.Prelude.{◌≡◌, ℕ, ◌+◌, ◌<◌, IfOk, IfErr, OnOk, OnErr, IsSome, Some, None, IfSome, IfNone, option_copied};
-ghost use Rattle.btree_stores.specs.Odd.{IsNumberOf, odd_content_from};
+ghost use Rattle.std.specs.FinMap as map;
+ghost use Rattle.btree_store.specs.Content.{Gains};
+ghost use Rattle.btree_stores.specs.Odd.{HasOddNumbers, IsNumberOf, LacksNumber, odd_content};
 
 use btree_steps::Steps;
 use btree_store::{Clear, Slab, SlabMut, SlabStore};
@@ -17,18 +19,19 @@ const COUNT: usize = usize::MAX / 2;
 #[derive(Drop)]
 pub struct OddSlab<T, A: Allocator = Global> {
     inner: SlabStore<T, A>,
+    // For the prover alone: the last number of the inner store for which no odd number was left, and 0 before that.
+    given_back: usize,
     refused: Steps,
 }
 
 impl<T, A: Allocator> Model for OddSlab<T, A> {
-    ghost use Rattle.btree_stores.specs.Table.{Table, table_code};
-    ghost use Rattle.btree_stores.specs.Odd.{AreNumbered};
+    ghost use Rattle.btree_stores.specs.Odd.{AreNumbered, Numbered, numbered_code};
 
-    ghost Value = { Table T };
+    ghost Value = { Numbered T };
 
-    ghost coded = { table_code T.code };
+    ghost coded = { numbered_code T.code };
 
-    ghost view = { λ store. record { slots = store.inner.slab.slots; refused = store.refused.count } };
+    ghost view = { λ store. record { slots = store.inner.slab.slots; inside = store.inner.refused.count; given_back = store.given_back; refused = store.refused.count } };
 
     ghost invariant = { λ store. AreNumbered store.inner.slab.slots };
 }
@@ -45,9 +48,7 @@ fn slot_under(id: usize) -> Option<usize>
 }
 
 impl<T, A: Allocator> Slab<T> for OddSlab<T, A> {
-    ghost use Rattle.btree_stores.specs.Odd.{HasOddNumbers};
-
-    ghost content = { λ store. odd_content_from 0 store.slots };
+    ghost content = { odd_content };
 
     ghost refusals = { λ store. store.refused };
 
@@ -90,6 +91,7 @@ impl<T, A: Allocator> SlabMut<T> for OddSlab<T, A> {
     fn empty(origin: A) -> Self {
         OddSlab {
             inner: SlabStore::empty(origin),
+            given_back: 0,
             refused: Steps::new(),
         }
     }
@@ -104,11 +106,24 @@ impl<T, A: Allocator> SlabMut<T> for OddSlab<T, A> {
         }
     }
 
-    fn insert(&mut self, value: T) -> Result<usize, T> {
+    // The clauses are those of the trait, and one on when a value is refused.
+    fn insert(&mut self, value: T) -> Result<usize, T>
+        ensures number { IfOk result (λ id. id < usize.MAX) }
+        ensures unused { IfOk result (λ id. map.get (odd_content self.old) id ≡ None) }
+        ensures stored { IfOk result (Gains (odd_content self.old) (odd_content self.new) value) }
+        ensures can_hold { OnOk result (HasOddNumbers (odd_content self.new)) }
+        ensures uncounted { OnOk result (self.new.refused ≡ self.old.refused) }
+
+        ensures returned { IfErr result (λ back. back ≡ value) }
+        ensures unchanged { OnErr result (odd_content self.new ≡ odd_content self.old) }
+        ensures counted { OnErr result (self.new.refused ≡ self.old.refused + 1) }
+        ensures lacks_number { OnErr result (LacksNumber self.old self.new) }
+    {
         match self.inner.insert(value) {
             Ok(slot) => {
                 if slot >= COUNT {
                     let back = self.inner.remove(slot);
+                    self.given_back = slot;
                     self.refused.tick();
                     return Err(back);
                 }
