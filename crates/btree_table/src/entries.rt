@@ -5,7 +5,7 @@ ghost use Rattle.btree_shape.specs.TreeState.{pairs_of};
 ghost use Rattle.btree_edit.specs.Insert.{IsRefusedAtGap};
 ghost use Rattle.btree_table.specs.Capacity.{HoldsAll, HoldsAtMost, InsertsByEntry, RefusesExactly, TakesFew};
 
-use crate::FixedMap;
+use crate::{FixedMap, tell_held};
 use btree_ext::BTreeExt;
 use btree_item::Refused;
 use btree_map::{BTreeMap, Entry};
@@ -55,7 +55,7 @@ pub fn insert_vacant<K: Ord + Drop, V: Drop, const N: usize>(
 {
     map.tell_well_formed();
     let result = insert_by_vacant(map, key, value);
-    let _count = map.node_count();
+    tell_held(map);
     result
 }
 
@@ -99,6 +99,6 @@ pub fn or_insert<K: Ord + Drop, V: Drop, const N: usize>(
 {
     map.tell_well_formed();
     let result = insert_by_entry(map, key, default);
-    let _count = map.node_count();
+    tell_held(map);
     result
 }

@@ -8,7 +8,7 @@ ghost use Rattle.btree_edit.specs.Replace.{replaced};
 ghost use Rattle.btree_edit.specs.Update.{RunsByKey};
 ghost use Rattle.btree_table.specs.Capacity.{HoldsAll, HoldsAtMost, RefusesExactly, TakesFew};
 
-use crate::FixedMap;
+use crate::{FixedMap, tell_held};
 use btree_ext::{BTreeExt, BTreeExtMut};
 use btree_item::{Refused, UpdateRefused};
 
@@ -32,7 +32,7 @@ pub fn insert<K: Ord + Drop, V: Drop, const N: usize>(
 {
     map.tell_well_formed();
     let result = map.insert(key, value);
-    let _count = map.node_count();
+    tell_held(map);
     result
 }
 
@@ -56,7 +56,7 @@ pub fn replace<K: Ord + Drop, V: Drop, const N: usize>(
 {
     map.tell_well_formed();
     let result = map.replace(key, value);
-    let _count = map.node_count();
+    tell_held(map);
     result
 }
 
@@ -81,7 +81,7 @@ pub fn update<K: Ord + Drop, V: Drop, T, F: FnOnce(Option<V>) -> (Option<V>, T),
 {
     map.tell_well_formed();
     let result = map.update(key, action);
-    let _count = map.node_count();
+    tell_held(map);
     result
 }
 
@@ -109,6 +109,6 @@ pub fn update_in<K: Ord + Drop, V: Drop, T, F: FnOnce(Option<V>) -> (Option<V>, 
 {
     map.tell_well_formed();
     let result = map.update_in(id, key, action);
-    let _count = map.node_count();
+    tell_held(map);
     result
 }

@@ -5,6 +5,8 @@
 //! takes every one up to the 3N-th (`few`), and it holds at most `N` nodes (`held`).
 #![tactic(auto)]
 
+ghost use Rattle.btree_table.specs.Capacity.{HoldsAtMost};
+
 mod entries;
 mod keys;
 mod places;
@@ -12,6 +14,7 @@ mod present;
 mod room;
 mod sets;
 
+use btree_ext::BTreeExt;
 use btree_map::BTreeMap;
 use btree_node::Node;
 use btree_set::BTreeSet;
@@ -28,3 +31,10 @@ pub type FixedMap<K, V, const N: usize> = BTreeMap<K, V, FixedSlab<Node<K, V>, N
 
 /// A set with its nodes in `N` places inside itself, with no memory from an allocator. A move copies all of them.
 pub type FixedSet<T, const N: usize> = BTreeSet<T, FixedSlab<Node<T, ()>, N>>;
+
+// Gives the prover the fact that the table holds its nodes. It reads one number.
+fn tell_held<K: Ord, V, const N: usize>(map: &FixedMap<K, V, N>)
+    ensures { HoldsAtMost N map.now.nodes }
+{
+    let _count = map.node_count();
+}

@@ -6,7 +6,7 @@ ghost use Rattle.btree_edit.specs.InsertAt.{InsertsAt, IsRefusedAt};
 ghost use Rattle.btree_map.specs.Editing.{FitsBetween};
 ghost use Rattle.btree_table.specs.Capacity.{HoldsAll, HoldsAtMost, RefusesExactlyAt, RefusesExactlyAtPlace, TakesFew};
 
-use crate::FixedMap;
+use crate::{FixedMap, tell_held};
 use btree_ext::{BTreeExt, BTreeExtMut};
 use btree_item::{Address, Item, Refused};
 
@@ -31,7 +31,7 @@ pub fn insert_at<K: Ord + Drop, V: Drop, const N: usize>(
 {
     map.tell_well_formed();
     let result = map.insert_at(addr, item);
-    let _count = map.node_count();
+    tell_held(map);
     result
 }
 
@@ -58,7 +58,7 @@ pub fn insert_exactly_at<K: Ord + Drop, V: Drop, const N: usize>(
 {
     map.tell_well_formed();
     let result = map.insert_exactly_at(addr, item);
-    let _count = map.node_count();
+    tell_held(map);
     result
 }
 
@@ -83,6 +83,6 @@ pub fn insert_first<K: Ord + Drop, V: Drop, const N: usize>(
     map.tell_well_formed();
     let mut entries = map.entries_mut();
     let result = entries.insert(key, value);
-    let _count = map.node_count();
+    tell_held(map);
     result
 }

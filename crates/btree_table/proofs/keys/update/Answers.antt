@@ -8,4 +8,4 @@ pub returns-clause-few : goal.returns-clause-few
 returns-clause-few g c = taken _ _ _ _ _ (λ e. e.cause) c.tell_well_formed.ensures.well_formed _ c.update-result.ensures.cause
 
 pub returns-clause-held : goal.returns-clause-held
-returns-clause-held g c = c.node_count-count.ensures.can_hold
+returns-clause-held g c = c.tell_held.ensures

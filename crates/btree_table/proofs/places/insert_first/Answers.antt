@@ -17,7 +17,7 @@ returns-clause-exact g c =
     let same = same-map c.entries_mut-entries.result c.insert-result.new.self (λ e. e.cause) _ c.insert-result.result c.insert-result.ensures.inserted c.insert-result.ensures.refused in
     let final = c.map-1.given.1 (sym (same ∙ c.entries_mut-entries.ensures.same_map)) in
     let tree = subst (IsBTree g.K.Ord.cmp) (sym c.entries_mut-entries.ensures.unchanged) c.tell_well_formed.ensures.well_formed in
-    let held = subst (λ (t : TreeState _ _). map.len t.nodes ≤ g.row.N) final c.node_count-count.ensures.can_hold in
+    let held = subst (λ (t : TreeState _ _). map.len t.nodes ≤ g.row.N) final c.tell_held.ensures in
     let exact = cursor-exact c.entries_mut-entries.result c.insert-result.new.self g.row.N (λ e. e.cause) g.met.K.Ord.total tree refl _ c.insert-result.result
     c.insert-result.ensures.inserted c.insert-result.ensures.refused held in
     subst (λ (t : TreeState _ _). RefusesExactlyAtPlace t 0 g.row.N c.insert-result.result) k.unchanged
@@ -31,7 +31,7 @@ returns-clause-few g c =
     subst (λ (t : TreeState _ _). TakesFew t g.row.N c.insert-result.result) c.entries_mut-entries.ensures.unchanged few
 
 pub returns-clause-held : goal.returns-clause-held
-returns-clause-held g c = c.node_count-count.ensures.can_hold
+returns-clause-held g c = c.tell_held.ensures
 
 pub returns-clause-inserted : goal.returns-clause-inserted
 returns-clause-inserted g c =
