@@ -8,7 +8,7 @@ use std::cell::Cell;
 /// A value that knows its key, and counts how many of its kind are dropped.
 pub(crate) struct Counted<'a> {
     pub key: u64,
-    drops: &'a Cell<u64>,
+    pub drops: &'a Cell<u64>,
 }
 
 impl<'a> Drop for Counted<'a> {

@@ -138,6 +138,52 @@ fn an_equal_key_stays_when_pairs_are_added(rt: HostRuntime) {
     make_map::<MapStore>(&rt, rt.alloc());
 }
 
+// Writes to the value of a key by its entry, and updates it.
+fn change_equal<C: NodesMut<Named, u64>>(rt: &impl Abort, map: &mut BTreeMap<Named, u64, C>) {
+    let second = Named {
+        number: 1,
+        name: 'b',
+    };
+    match map.entry(second).or_insert(7) {
+        Ok(value) => *value = value.wrapping_add(1),
+        Err(_) => panic!(rt; "refused"),
+    }
+    assert_same(rt, stored(map, 1), Some(('a', 2)));
+    assert_same(
+        rt,
+        map.update(second, |old| (Some(3), old)).ok(),
+        Some(Some(2)),
+    );
+    assert_same(rt, stored(map, 1), Some(('a', 3)));
+}
+
+// Does so with a key that is equal to the one of a map, adds pairs with equal keys, and removes the stored one.
+fn reach_equal<C: NodesMut<Named, u64> + Drop>(rt: &impl Abort, mut map: BTreeMap<Named, u64, C>) {
+    assert_same(rt, put(rt, &mut map, 1, 'a', 1), None);
+    change_equal(rt, &mut map);
+    let names = [(1, 'c', 4), (2, 'b', 5), (2, 'c', 6)];
+    let mut source = names
+        .iter()
+        .map(|&(number, name, value)| (Named { number, name }, value));
+    assert_true(rt, map.extend(&mut source).is_ok());
+    assert_same(rt, stored(&map, 1), Some(('a', 4)));
+    assert_same(rt, stored(&map, 2), Some(('b', 6)));
+    let asked = Named {
+        number: 1,
+        name: 'd',
+    };
+    match map.remove_entry(&asked) {
+        Some((key, value)) => assert_same(rt, (key.name, value), ('a', 4)),
+        None => panic!(rt; "not removed"),
+    }
+    assert_same(rt, map.len(), 1);
+}
+
+#[test]
+fn an_equal_key_stays_when_it_is_reached(rt: HostRuntime) {
+    reach_equal::<MapStore>(&rt, BTreeMap::new(rt.alloc()));
+}
+
 // Inserts the numbers, each with the name, into a set that is empty, and returns it.
 fn names<C: NodesMut<Named, ()>>(
     rt: &impl Abort,
@@ -254,4 +300,41 @@ fn append_equal<C: NodesMut<Named, ()> + Drop>(
 #[test]
 fn an_equal_element_stays_unless_it_is_replaced(rt: HostRuntime) {
     append_equal::<SetStore>(&rt, BTreeSet::new(rt.alloc()), BTreeSet::new(rt.alloc()));
+}
+
+// Adds elements of which some are equal to those of a set, and takes and removes others by equal ones.
+fn take_equal<C: NodesMut<Named, ()> + Drop>(rt: &impl Abort, set: BTreeSet<Named, C>) {
+    let mut set = names(rt, set, &[1, 2, 3], 'a');
+    let more = [(1, 'b'), (4, 'b'), (4, 'c')];
+    let mut source = more.iter().map(|&(number, name)| Named { number, name });
+    assert_true(rt, set.extend(&mut source).is_ok());
+    assert_same(rt, parts(set.first()), Some((1, 'a')));
+    assert_same(rt, parts(set.last()), Some((4, 'b')));
+    let asked = Named {
+        number: 2,
+        name: 'd',
+    };
+    assert_true(rt, set.contains(&asked));
+    assert_same(rt, parts(set.take(&asked).as_ref()), Some((2, 'a')));
+    assert_true(rt, !set.remove(&asked));
+    assert_same(rt, set.len(), 3);
+}
+
+// Makes a set of three elements, of which the first and the last one are equal.
+fn make_set<C: NodesMut<Named, ()> + Drop>(rt: &impl Abort, origin: C::Origin) {
+    let names = [(1, 'a'), (2, 'b'), (1, 'c')];
+    let mut source = names.iter().map(|&(number, name)| Named { number, name });
+    match BTreeSet::<Named, C>::from_iter(origin, &mut source) {
+        Ok(set) => {
+            assert_same(rt, parts(set.first()), Some((1, 'a')));
+            assert_same(rt, set.len(), 2);
+        }
+        Err(_) => panic!(rt; "refused"),
+    }
+}
+
+#[test]
+fn an_equal_element_stays_when_others_are_added(rt: HostRuntime) {
+    take_equal::<SetStore>(&rt, BTreeSet::new(rt.alloc()));
+    make_set::<SetStore>(&rt, rt.alloc());
 }

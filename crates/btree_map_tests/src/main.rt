@@ -33,6 +33,8 @@ mod own;
 #[cfg(test)]
 mod owner;
 #[cfg(test)]
+mod released;
+#[cfg(test)]
 mod room;
 #[cfg(test)]
 mod samples;
