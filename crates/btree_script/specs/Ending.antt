@@ -1,5 +1,5 @@
 -- The exit status and the message of a run that did not reach the end of its input.
-use Rattle.std.specs.Prelude.{ℕ, List, ◌++◌, codes, decimal}
+use Rattle.std.specs.Prelude.{ℕ, List, ◌++◌, Result, Ok, Err, codes, decimal}
 use Rattle.btree_session.specs.declared.script.Stop.TheVariants.{NotACommand, Memory, Input, Output}
 use Rattle.btree_script.specs.declared.Ending.{Ending}
 use Rattle.btree_script.specs.declared.Ending.TheVariants.{WrongArguments, Stopped}
@@ -11,6 +11,11 @@ status_of (Stopped (NotACommand number)) = 1
 status_of (Stopped Memory) = 2
 status_of (Stopped Input) = 3
 status_of (Stopped Output) = 3
+
+-- that of a run, which is 0 if it reached the end
+abbrev pub status_after : {A : Type 0} → Result A Ending → ℕ
+status_after (Ok _) = 0
+status_after (Err ending) = status_of ending
 
 -- the line on standard error
 abbrev pub text_of : Ending → List ℕ

@@ -5,15 +5,19 @@
 #[cfg(test)]
 mod tests;
 
-ghost use Rattle.std.specs.Prelude.{◌≡◌, Some};
-ghost use Rattle.btree_script.specs.Ending.{status_of, text_of};
+ghost use Rattle.std.specs.Prelude.{◌≡◌, Some, IsTrue};
+ghost use Rattle.std.specs.Process.{exit_status};
+ghost use Rattle.btree_script.specs.Ending.{status_after, status_of, text_of};
+ghost use Rattle.btree_script.specs.Serving.{ServesAnew, ServesTable};
 
 use btree_node::Node;
 use btree_nodes::ClearNodes;
 use btree_session::{Session, Setup, Stop, drive, setup};
 use btree_store::SlabStore;
 use btree_stores::FixedSlab;
+use std::alloc::Global;
 use std::env::FillError;
+use std::io::{Read, Write};
 use std::process::ExitCode;
 use std::rt::Env;
 use std::{fmt, io, str};
@@ -79,33 +83,64 @@ fn read_arguments(rt: &impl Env) -> Option<Setup> {
     }
 }
 
-// Serves the lines of standard input, over a store from this origin.
-fn serve<C: ClearNodes<u64, u64> + Drop>(
-    rt: &(impl Input + Print + AllocGlobal),
+// Serves the lines of a reader, over a store from this origin.
+fn serve<C: ClearNodes<u64, u64> + Drop, R: Read, W: Write>(
     origin: C::Origin,
-) -> Result<(), Stop> {
+    alloc: Global,
+    input: &mut R,
+    output: &mut W,
+) -> Result<(), Stop>
+    ensures { ServesAnew C.MayRefuse R.remaining W.contents
+        input.old output.old result output.new }
+{
     let mut session: Session<C> = Session::new(origin);
-    let (mut input, mut output) = (rt.reader(), io::writer(rt));
-    drive(rt.alloc(), &mut session, &mut input, &mut output)
+    drive(alloc, &mut session, input, output)
 }
 
-fn run(rt: &(impl Env + Input + Print + AllocGlobal)) -> Result<(), Ending> {
-    let Some(asked) = read_arguments(rt) else {
+// Serves the lines of a reader, over a table if that was asked for.
+fn serve_asked<R: Read, W: Write>(
+    asked: Setup,
+    alloc: Global,
+    input: &mut R,
+    output: &mut W,
+) -> Result<(), Stop>
+    ensures { IsTrue asked.table → ServesTable R.remaining W.contents
+        input.old output.old result output.new }
+{
+    if asked.table {
+        serve::<FixedSlab<Node<u64, u64>, TABLE_NODES>, R, W>((), alloc, input, output)
+    } else {
+        serve::<SlabStore<Node<u64, u64>>, R, W>(alloc, alloc, input, output)
+    }
+}
+
+// Serves the lines of a reader as the arguments ask.
+fn run<R: Read, W: Write>(
+    arguments: &impl Env,
+    alloc: Global,
+    input: &mut R,
+    output: &mut W,
+) -> Result<(), Ending> {
+    let Some(asked) = read_arguments(arguments) else {
         return Err(Ending::WrongArguments);
     };
-    let result = if asked.table {
-        serve::<FixedSlab<Node<u64, u64>, TABLE_NODES>>(rt, ())
-    } else {
-        serve::<SlabStore<Node<u64, u64>>>(rt, rt.alloc())
-    };
-    result.map_err(Ending::Stopped)
+    serve_asked(asked, alloc, input, output).map_err(Ending::Stopped)
 }
 
-fn main(rt: HostRuntime) -> ExitCode {
-    let Err(ending) = run(&rt) else {
+// Prints how a run ended, unless it reached the end of its input, and returns its exit code.
+fn report(rt: &impl Eprint, end: Result<(), Ending>) -> ExitCode
+    ensures { exit_status result ≡ status_after end }
+{
+    let Err(ending) = end else {
         return ExitCode::SUCCESS;
     };
     // If standard error fails too, the status alone shows how the run ended.
     let _ = rt.eprintln(ending);
     ExitCode::from(ending.status())
+}
+
+fn main(rt: HostRuntime) -> ExitCode {
+    let (mut input, mut output) = (rt.reader(), io::writer(&rt));
+    let end = run(&rt, rt.alloc(), &mut input, &mut output);
+    report(&rt, end)
 }

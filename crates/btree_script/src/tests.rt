@@ -1,8 +1,10 @@
 ghost use Rattle.std.specs.Io.{WritesAtMost};
 
-use crate::{Ending, read_arguments};
+use crate::{Ending, read_arguments, run};
 use btree_session::{Setup, setup};
+use std::alloc::Global;
 use std::env::{Env, FillError};
+use std::process::Abort;
 use std::test::Fail;
 
 // A program's name, and the arguments after it.
@@ -81,4 +83,42 @@ fn says_which_arguments_there_are(rt: HostRuntime) -> Result<(), Fail> {
     );
     assert_eq!(rt; ending.status(), 1);
     Ok(())
+}
+
+// Inserts the keys from 0 to 43 in a run with these arguments, of which as many as given are taken, and asks for the rest.
+fn check_run(
+    rt: &impl Abort,
+    words: &[&str],
+    taken: usize,
+    rest: &str,
+    alloc: Global,
+) -> Result<(), Fail> {
+    let (mut lines, mut replies) = (String::new(alloc), String::new(alloc));
+    for key in 0..44 {
+        write!(lines, "insert {key} {key}\n")?;
+    }
+    lines.push_str("nodes\nlen\n")?;
+    for _ in 0..taken {
+        replies.push_str("none\n")?;
+    }
+    replies.push_str(rest)?;
+    let (mut input, mut output) = (lines.as_bytes(), Vec::new(alloc));
+    let end = run(&Words { words }, alloc, &mut input, &mut output);
+    assert_eq!(rt; end, Ok(()));
+    assert_eq!(rt; output.as_slice(), replies.as_bytes());
+    Ok(())
+}
+
+// A table refuses the last key, which needs three nodes beside the nine that are there.
+#[test]
+fn serves_a_table_if_asked(rt: HostRuntime) -> Result<(), Fail> {
+    let alloc = rt.alloc();
+    check_run(
+        &rt,
+        &["btree_script", "table"],
+        43,
+        "refused store\n9\n43\n",
+        alloc,
+    )?;
+    check_run(&rt, &["btree_script"], 44, "12\n44\n", alloc)
 }
