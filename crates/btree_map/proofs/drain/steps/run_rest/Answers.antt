@@ -36,8 +36,7 @@ loop-entries-preserved g c =
 pub returns-clause-ends : goal.returns-clause-ends
 returns-clause-ends g c =
     let now = c.loop-entries.invariant in
-    let size = ap (λ p. p.0) c.size_hint.ensures in
-    (now.asked, now.run, none-left _ (omega (arith, size)))
+    (now.asked, now.run, c.is_empty.ensures.none.0 refl)
 
 pub returns-clause-same_map : goal.returns-clause-same_map
 returns-clause-same_map g c = c.loop-entries.invariant.same_map

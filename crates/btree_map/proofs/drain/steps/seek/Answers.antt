@@ -45,8 +45,7 @@ loop-entries-preserved g c =
 pub returns-clause-yields : goal.returns-clause-yields
 returns-clause-yields g c =
     let now = c.loop-entries.invariant in
-    let size = ap (λ p. p.0) c.size_hint.ensures in
-    (now.asked, now.none, (now.run, none-left _ (omega (arith, size))))
+    (now.asked, now.none, (now.run, c.is_empty.ensures.none.0 refl))
 
 pub returns-then-ask-clause-same_map : goal.returns-then-ask-clause-same_map
 returns-then-ask-clause-same_map g c =
