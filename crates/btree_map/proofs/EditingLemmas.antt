@@ -1,6 +1,6 @@
 -- The place of an editing cursor: the item there, an address for an insertion there, and the address of the next item
 -- after each edit.
-use Rattle.std.proofs.Common.{◌≡◌, ◌↔◌, ◌∙◌, ℕ, suc, ◌+◌, ◌<◌, ◌≤◌, Bool, true, false, List, [], ◌∷◌, ◌++◌, Option, Some, None, IsSome, is_none, is_some, length, length-drop, take, drop, refl, sym, ap, slice_get, subst, arith}
+use Rattle.std.proofs.Common.{◌≡◌, ◌↔◌, ◌∙◌, ℕ, suc, ◌+◌, ◌<◌, ◌≤◌, Bool, true, false, not, List, [], ◌∷◌, ◌++◌, Option, Some, None, IsSome, is_none, is_some, length, length-drop, take, drop, refl, sym, ap, slice_get, subst, arith}
 use Rattle.std.proofs.lemmas.Option.{slice_get_within}
 use Rattle.std.specs.Cmp.{IsTotalOrder}
 use Rattle.std.specs.List.{insert, remove}
@@ -24,12 +24,16 @@ use Rattle.btree_map.proofs.CursorLemmas.{get_none, listed-item, listed-occupied
 use Rattle.btree_map.proofs.EditingLists.{between-fits, drop-first, drop-past, fits-between, insert-drop, insert-take, remove-drop, remove-take}
 
 none-there : (first : Option Address) → is_none first ≡ true → first ≡ None
-none-there None yes = refl
-none-there (Some a) yes = absurd (cc)
+none-there None told = refl
+none-there (Some a) told = absurd (cc)
 
 some-there : (first : Option Address) → is_none first ≡ false → (at : Address) × (first ≡ Some at)
-some-there None no = absurd (cc)
-some-there (Some a) no = (a, refl)
+some-there None told = absurd (cc)
+some-there (Some a) told = (a, refl)
+
+pub none-is : (told : Bool) (first : Option Address) → is_some first ≡ not told → told ≡ is_none first
+none-is true first is = sym (ap not is)
+none-is false first is = sym (ap not is)
 
 none-told : (first : Option Address) → ((at : Address) → first ≡ Some at → ⊥) → is_none first ≡ true
 none-told None gone = refl
@@ -74,13 +78,13 @@ module _ {K V : Type 0} (cmp : K → K → Ordering) (laws : IsTotalOrder cmp) (
     module _ (told : Bool) (is : told ≡ is_none first) where
       pub none-left : (told ≡ true) ↔ (drop front (pairs_of s) ≡ [])
       none-left = (
-        λ yes. past-empty (none-there first (sym is ∙ yes)),
+        λ all. past-empty (none-there first (sym is ∙ all)),
         λ empty. is ∙ none-told first (λ at here. let some = at-some at here in let gone = ap length empty in omega arith),
       )
 
       pub some-left : (told ≡ false) ↔ (0 < length (drop front (pairs_of s)))
       some-left = (
-        λ no. let there = some-there first (sym is ∙ no) in at-some there.0 there.1,
+        λ more. let there = some-there first (sym is ∙ more) in at-some there.0 there.1,
         λ some. is ∙ some-told first (λ none. left-some none some),
       )
 

@@ -29,6 +29,7 @@ impl<K: Ord, V, C: NodesMut<K, V>> BTreeMap<K, V, C> {
         ensures passed { passed_of result ≡ [] }
         ensures left { left_of result ≡ pairs_of self.old }
     {
+        self.tell_well_formed();
         let first = self.first_item_address();
         EntriesMut {
             map: self,

@@ -18,16 +18,23 @@ invariant_of-result g c =
       counted = known-one 0 _ (sym place);
     }
 
-pub returns : goal.returns
-returns g c =
+pub returns-clause-front : goal.returns-clause-front
+returns-clause-front g c =
     let s = c.args.self.now in
-    let list = item_addresses_of s in
-    let listed = c.first_item_address-first.ensures.item.listed in
-    let place = index-is list (once g.K.Ord.cmp g.met.K.Ord.total s c.tell_well_formed.ensures.well_formed) 0 c.first_item_address-first.result listed (omega arith) in
-    record {
-      same_map = ?;
-      unchanged = ?;
-      front = place;
-      passed = ap (λ n. take n (pairs_of s)) place;
-      left = ap (λ n. drop n (pairs_of s)) place;
-    }
+    let place = index-is (item_addresses_of s) (once g.K.Ord.cmp g.met.K.Ord.total s c.tell_well_formed.ensures.well_formed) 0 c.first_item_address-first.result
+    c.first_item_address-first.ensures.item.listed (omega arith) in
+    place
+
+pub returns-clause-passed : goal.returns-clause-passed
+returns-clause-passed g c =
+    let s = c.args.self.now in
+    let place = index-is (item_addresses_of s) (once g.K.Ord.cmp g.met.K.Ord.total s c.tell_well_formed.ensures.well_formed) 0 c.first_item_address-first.result
+    c.first_item_address-first.ensures.item.listed (omega arith) in
+    ap (λ n. take n (pairs_of s)) place
+
+pub returns-clause-left : goal.returns-clause-left
+returns-clause-left g c =
+    let s = c.args.self.now in
+    let place = index-is (item_addresses_of s) (once g.K.Ord.cmp g.met.K.Ord.total s c.tell_well_formed.ensures.well_formed) 0 c.first_item_address-first.result
+    c.first_item_address-first.ensures.item.listed (omega arith) in
+    ap (λ n. drop n (pairs_of s)) place
