@@ -1,7 +1,7 @@
-use Rattle.std.proofs.Common.{◌≡◌, ◌∙◌, ◌+◌, ap, arith, length, sym}
+use Rattle.std.proofs.Common.{◌≡◌, ◌+◌, ap, arith, length}
 use Rattle.btree_shape.specs.TreeAddresses.{item_addresses_of}
 use Rattle.btree_map.specs.Spans.{item_index}
-use Rattle.btree_map.proofs.EditingLemmas.{at-within, counted}
+use Rattle.btree_map.proofs.EditingLemmas.{at-listed, at-within, counted}
 use Rattle.btree_map.proofs.IndexLemmas.{index-is}
 use Rattle.btree_map.proofs.RangeStarts.{once}
 use Rattle.btree_map.proofs.RangeSteps.{stands-first}
@@ -22,7 +22,7 @@ loop-next-smaller g c =
     let tree = c.tell_well_formed.ensures.well_formed in
     let list = item_addresses_of s in
     let within = at-within g.K.Ord.cmp g.met.K.Ord.total s tree l.next (item_index s l.next) l.invariant.stands c.in-Some.at c.in-Some.is in
-    let after = c.address_after-next.ensures.after (item_index s l.next) (sym l.invariant.stands ∙ c.in-Some.is) in
+    let after = c.address_after-next.ensures.after (item_index s l.next) (at-listed g.K.Ord.cmp g.met.K.Ord.total s tree l.next (item_index s l.next) l.invariant.stands c.in-Some.at c.in-Some.is) in
     let place : item_index s c.address_after-next.result ≡ item_index s l.next + 1 =
     index-is list (once g.K.Ord.cmp g.met.K.Ord.total s tree) (item_index s l.next + 1) c.address_after-next.result after (omega (arith, within)) in
     omega (arith, within, place)
@@ -34,7 +34,7 @@ loop-next-preserved g c =
     let tree = c.tell_well_formed.ensures.well_formed in
     let list = item_addresses_of s in
     let within = at-within g.K.Ord.cmp g.met.K.Ord.total s tree l.next (item_index s l.next) l.invariant.stands c.in-Some.at c.in-Some.is in
-    let after = c.address_after-next.ensures.after (item_index s l.next) (sym l.invariant.stands ∙ c.in-Some.is) in
+    let after = c.address_after-next.ensures.after (item_index s l.next) (at-listed g.K.Ord.cmp g.met.K.Ord.total s tree l.next (item_index s l.next) l.invariant.stands c.in-Some.at c.in-Some.is) in
     let place : item_index s c.address_after-next.result ≡ item_index s l.next + 1 =
     index-is list (once g.K.Ord.cmp g.met.K.Ord.total s tree) (item_index s l.next + 1) c.address_after-next.result after (omega (arith, within)) in
     record {
