@@ -11,6 +11,7 @@ use std::cell::Cell;
 use std::process::Abort;
 
 type Store<'a> = SlabStore<Node<Counted<'a>, u32>>;
+
 type Map<'a, C> = BTreeMap<Counted<'a>, u32, C>;
 
 // Asks for a key in three ways, each of which compares at most `most` keys.
@@ -131,7 +132,8 @@ fn extends_in<'a, C: NodesMut<Counted<'a>, u32> + Drop>(
     rt: &impl Abort,
     compared: &'a Cell<u32>,
     origin: C::Origin,
-) where
+)
+where
     C::Origin: Copy,
 {
     let low: Map<'a, C> = numbers(rt, compared, origin, (0, 44));
@@ -146,7 +148,11 @@ fn extends_in<'a, C: NodesMut<Counted<'a>, u32> + Drop>(
     let first = inserts(compared, &mut map, 30).unwrap_or(0);
     let second = inserts(compared, &mut map, 31).unwrap_or(0);
     let sum = first.wrapping_add(second);
-    assert_same(rt, copies(compared, &mut map, &two), Some(sum.wrapping_add(1)));
+    assert_same(
+        rt,
+        copies(compared, &mut map, &two),
+        Some(sum.wrapping_add(1)),
+    );
 }
 
 #[test]

@@ -42,7 +42,11 @@ fn seek<K: Ord + Drop, V: Drop, C: NodesMut<K, V>, P: PairTest<K, V>>(
             let Some(item) = entries.remove() else {
                 unreachable!();
             };
-            return (entries.first, entries.count_passed(), Some(item.into_pair()));
+            return (
+                entries.first,
+                entries.count_passed(),
+                Some(item.into_pair()),
+            );
         }
         entries.pass();
     }
