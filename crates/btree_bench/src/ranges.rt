@@ -17,11 +17,7 @@ pub fn sum_ranges<C: NodesMut<u64, u64>>(
     sum
 }
 
-fn sum_range<C: NodesMut<u64, u64>>(
-    map: &BTreeMap<u64, u64, C>,
-    start: &u64,
-    end: &u64,
-) -> u64 {
+fn sum_range<C: NodesMut<u64, u64>>(map: &BTreeMap<u64, u64, C>, start: &u64, end: &u64) -> u64 {
     let bounds = (Bound::Included(start), Bound::Included(end));
     if !is_valid_range((Bound::Included(start), Bound::Included(end))) {
         return 0;
