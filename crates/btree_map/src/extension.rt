@@ -16,8 +16,8 @@ use btree_nodes::NodesMut;
 use std::cmp::Ordering;
 
 impl<K: Ord + Drop, V: Drop, C: NodesMut<K, V>> BTreeMap<K, V, C> {
-    // Returns whether a key is greater than that of the last pair, whose address is given. Without an address it compares no key, and returns
-    // whether there are no pairs.
+    // Returns `true` only if a key is greater than that of the last pair, or if there are no pairs. It compares the key with that of the last
+    // pair, if its address is given, and no other.
     fn is_above(&self, last: Option<Address>, key: &K) -> bool
         requires { IfSome last (IsLastPair self.now) }
         ensures { IsTrue result → IsAboveLast K.cmp key.now (pairs_of self.now) }
@@ -28,8 +28,8 @@ impl<K: Ord + Drop, V: Drop, C: NodesMut<K, V>> BTreeMap<K, V, C> {
         }
     }
 
-    // Inserts a pair as `insert` does, but first compares its key with that of the last pair, and if it is greater compares no other. Returns
-    // the address of the last pair, if the pair is the last one now.
+    // Inserts a pair as `insert` does, but first compares its key with that of the last pair, if the address of that is given, and if it is
+    // greater compares no other. Returns the address of the last pair, if that is known now.
     fn insert_in_order(
         &mut self,
         last: Option<Address>,
@@ -66,7 +66,9 @@ impl<K: Ord + Drop, V: Drop, C: NodesMut<K, V>> BTreeMap<K, V, C> {
     /// Inserts the pairs that `source` gives, in order, as `insert` does. Returns the first pair that is refused: those before it are in
     /// the map, and those after it are still in `source`.
     ///
-    /// From the start on, as long as each key is greater than all keys in the map, it compares it with one of them.
+    /// From the start on, as long as each key is greater than all keys in the map, it compares it with the last one alone; each pair still
+    /// goes from the root to the last leaf. The first key that is not greater costs one comparison more than `insert`, and from there on each
+    /// pair costs what `insert` costs.
     ///
     /// The contract requires that `source` ends.
     pub fn extend<I: Iterator<Item = (K, V)>>(
