@@ -146,7 +146,7 @@ fn print_page(rt: &impl Print, alloc: Global, stock: &mut BTreeMap<u32, u64>) ->
         rt.println(format_args!("after 17: {part}"))?;
     }
     set_stock(stock, 408, 0)?;
-    remove_sold_out(stock);
+    remove_sold_out(stock, &17);
     rt.println(format_args!("not sold out: {}", stock.len()))
 }
 

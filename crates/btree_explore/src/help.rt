@@ -2,7 +2,7 @@
 use btree_book::Reply;
 use std::alloc::AllocError;
 
-const LINES: [&str; 32] = [
+const LINES: [&str; 33] = [
     "what the lines may say, a line for each group",
     "new: empty maps and sets over new stores. over slab, over refusing: the desk that the lines go to",
     "refuse N: on the refusing desk, the N-th node or growth of memory from now on. insist CALL: each one of the call refused in turn",
@@ -25,7 +25,8 @@ const LINES: [&str; 32] = [
     "a, b: item_mut ADDRESS WRITE; update_at ADDRESS ACTION; get_mut_in NODE KEY WRITE; update_in NODE KEY ACTION",
     "a, b: iter keys values into_iter into_keys into_values ENDS; iter_mut values_mut ENDS WRITE; loop into_loop",
     "a, b: range LOW HIGH ENDS; range_mut LOW HIGH ENDS WRITE; is_valid_range LOW HIGH: [3 (3 and 3] 3) are bounds, .. is none",
-    "a, b: entries_mut STEPS: peek peek_mut next next_item remove hint KEY=VALUE fits:KEY skip:N, where the lent ones take a WRITE as next+1",
+    "a, b: entries_mut STEPS: peek peek_mut next next_item remove hint empty KEY=VALUE fits:KEY skip:N, where the lent ones take a WRITE as next+1",
+    "a, b: entries_mut_from LOW STEPS: the same from a bound on; address_from LOW: where it starts",
     "a, b: drain finish TEST N WRITE; retain TEST WRITE: N pairs are taken; +calls adds how often the test was called; drain TEST N hint",
     "a, b: fill COUNT STEP; insert_each insert_gaps update_each put_back_each PAIRS; remove_each START STEP PAIRS: whether all was right",
     "a, b: neighbours; meets N: whether an iterator gives those of fill, N from the front; cut PLACE N: a cursor those of the other map",

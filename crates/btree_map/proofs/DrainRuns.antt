@@ -10,7 +10,7 @@ use Rattle.btree_nodes.specs.declared.NodesMut as nodes_mut
 use Rattle.btree_shape.specs.TreeAddresses.{item_addresses_of}
 use Rattle.btree_shape.specs.TreeState.{TreeState, pairs_of}
 use Rattle.btree_map.specs.Drain.{Asks, AsksFirst, Ends, KeepsAddresses, RunsOut, RunsTest, if_same, picked}
-use Rattle.btree_map.specs.Editing.{PassesEntry, RemovesEntry, left_of, passed_of}
+use Rattle.btree_map.specs.Editing.{PassesEntry, RemovesEntry, entry_front, left_of, passed_of}
 use Rattle.btree_map.specs.declared.cursor.editing.EntriesMut.{EntriesMut}
 
 pub same-answer : (a b : Bool) → beq a b ≡ true → a ≡ b
@@ -116,7 +116,7 @@ module _ {F K V : Type 0} (Step : F → K → V → Bool → V → F → Type 0)
 
   module _ {C O : Type 0} {g : ord.Ghosts K} {g' : eq.Ghosts K} {g'' : partial.Ghosts K} {s : nodes_mut.Ghosts C K V O} {s' : nodes.Ghosts C K V} where
     module _ (takes : Bool) (f f1 f2 : F) (old mid lent : EntriesMut K V C O g g' g'' s s') (asked : List (Bool × (K × V)))
-        (run : RunsTest Step takes f f1 old.map.now old.front mid.map.now mid.front asked) where
+        (run : RunsTest Step takes f f1 old.map.now (entry_front old) mid.map.now (entry_front mid) asked) where
       -- the pair that was asked, and what is left behind it
       module _ (b : Bool) (first : AsksFirst Step f1 f2 mid lent b) (x : K × V) (rest : List (K × V)) (left : left_of lent ≡ x ∷ rest) where
         written : left_of lent ≡ (first.key, first.is) ∷ first.writes.rest
@@ -167,7 +167,7 @@ module _ {F K V : Type 0} (Step : F → K → V → Bool → V → F → Type 0)
             (still-callable f1 f2 (left_of mid) first.key first.was first.is b first.writes.rest can first.writes.left first.step)
 
       module _ (new : EntriesMut K V C O g g' g'' s s') (x : K × V) where
-        pub runs-passed : AsksFirst Step f1 f2 mid lent (not takes) → PassesEntry lent new x → RunsTest Step takes f f2 old.map.now old.front new.map.now new.front (asked ++ (not takes, x) ∷ [])
+        pub runs-passed : AsksFirst Step f1 f2 mid lent (not takes) → PassesEntry lent new x → RunsTest Step takes f f2 old.map.now (entry_front old) new.map.now (entry_front new) (asked ++ (not takes, x) ∷ [])
         runs-passed first passes = record {
           here = _;
           left = left-more (not takes) first x _ passes.left;
@@ -186,7 +186,7 @@ module _ {F K V : Type 0} (Step : F → K → V → Bool → V → F → Type 0)
               ∙ sym (picked-more takes asked ((not takes, x) ∷ [])) ∙ none);
         }
 
-        pub runs-taken : AsksFirst Step f1 f2 mid lent takes → RemovesEntry lent new x → RunsTest Step takes f f2 old.map.now old.front new.map.now new.front (asked ++ (takes, x) ∷ [])
+        pub runs-taken : AsksFirst Step f1 f2 mid lent takes → RemovesEntry lent new x → RunsTest Step takes f f2 old.map.now (entry_front old) new.map.now (entry_front new) (asked ++ (takes, x) ∷ [])
         runs-taken first removes = record {
           here = _;
           left = left-more takes first x _ removes.left;
@@ -210,14 +210,14 @@ module _ {F K V : Type 0} (Step : F → K → V → Bool → V → F → Type 0)
       pub asked : List (Bool × (K × V))
       pub none : picked true asked ≡ []
       pub same_map : new.map.ghost_name ≡ old.map.ghost_name
-      pub run : RunsTest Step true f f' old.map.now old.front new.map.now new.front asked
+      pub run : RunsTest Step true f f' old.map.now (entry_front old) new.map.now (entry_front new) asked
       pub callable : CallableOnEachPair Step Accepts f' (left_of new)
 
     -- calls at the first pairs that were left, and more may follow
     pub record IsRunning (Accepts : F → K → V → Type 0) (takes : Bool) (f f' : F) (old new : EntriesMut K V C O g g' g'' s s') : Type 0 where
       pub asked : List (Bool × (K × V))
       pub same_map : new.map.ghost_name ≡ old.map.ghost_name
-      pub run : RunsTest Step takes f f' old.map.now old.front new.map.now new.front asked
+      pub run : RunsTest Step takes f f' old.map.now (entry_front old) new.map.now (entry_front new) asked
       pub callable : CallableOnEachPair Step Accepts f' (left_of new)
 
   -- a run to the end is all that a drain does

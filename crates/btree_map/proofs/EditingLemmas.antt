@@ -1,6 +1,6 @@
 -- The place of an editing cursor: the item there, an address for an insertion there, and the address of the next item
 -- after each edit.
-use Rattle.std.proofs.Common.{◌≡◌, ◌∙◌, ℕ, suc, ◌+◌, ◌<◌, ◌≤◌, List, [], ◌∷◌, ◌++◌, Option, Some, None, IsSome, is_some, length, take, drop, refl, sym, ap, slice_get, subst, arith}
+use Rattle.std.proofs.Common.{◌≡◌, ◌↔◌, ◌∙◌, ℕ, suc, ◌+◌, ◌<◌, ◌≤◌, Bool, true, false, not, List, [], ◌∷◌, ◌++◌, Option, Some, None, IsSome, is_none, is_some, length, length-drop, take, drop, refl, sym, ap, slice_get, subst, arith}
 use Rattle.std.proofs.lemmas.Option.{slice_get_within}
 use Rattle.std.specs.Cmp.{IsTotalOrder}
 use Rattle.std.specs.List.{insert, remove}
@@ -22,6 +22,26 @@ use Rattle.btree_edit.specs.Remove.{IsRemoved}
 use Rattle.btree_map.specs.Editing.{FitsBetween}
 use Rattle.btree_map.proofs.CursorLemmas.{get_none, listed-item, listed-occupied, listed-valid}
 use Rattle.btree_map.proofs.EditingLists.{between-fits, drop-first, drop-past, fits-between, insert-drop, insert-take, remove-drop, remove-take}
+
+none-there : (first : Option Address) → is_none first ≡ true → first ≡ None
+none-there None told = refl
+none-there (Some a) told = absurd (cc)
+
+some-there : (first : Option Address) → is_none first ≡ false → (at : Address) × (first ≡ Some at)
+some-there None told = absurd (cc)
+some-there (Some a) told = (a, refl)
+
+pub none-is : (told : Bool) (first : Option Address) → is_some first ≡ not told → told ≡ is_none first
+none-is true first is = sym (ap not is)
+none-is false first is = sym (ap not is)
+
+none-told : (first : Option Address) → ((at : Address) → first ≡ Some at → ⊥) → is_none first ≡ true
+none-told None gone = refl
+none-told (Some a) gone = absurd (gone a refl)
+
+some-told : (first : Option Address) → (first ≡ None → ⊥) → is_none first ≡ false
+some-told None there = absurd (there refl)
+some-told (Some a) there = refl
 
 occupied-back : {K V : Type 0} (s : TreeState K V) (a : Address) → IsOccupiedIn s a → IsSome a.offset
 occupied-back s a is = by a.offset is
@@ -46,8 +66,27 @@ module _ {K V : Type 0} (cmp : K → K → Ordering) (laws : IsTotalOrder cmp) (
     pub past-first : first ≡ None → None ≡ slice_get (drop front (pairs_of s)) 0
     past-first none = ap (λ (l : List (K × V)). slice_get l 0) (sym (past-empty none))
 
+    at-some : (at : Address) → first ≡ Some at → 0 < length (drop front (pairs_of s))
+    at-some at is =
+        let within = slice_get_within (item_addresses_of s) front at (sym stands ∙ is) in
+        omega (arith, within, counted, length-drop front (pairs_of s))
+
     pub left-some : first ≡ None → 0 < length (drop front (pairs_of s)) → ⊥
     left-some none some = let e = ap length (past-empty none) in omega arith
+
+    -- whether the address is there says whether something is left
+    module _ (told : Bool) (is : told ≡ is_none first) where
+      pub none-left : (told ≡ true) ↔ (drop front (pairs_of s) ≡ [])
+      none-left = (
+        λ all. past-empty (none-there first (sym is ∙ all)),
+        λ empty. is ∙ none-told first (λ at here. let some = at-some at here in let gone = ap length empty in omega arith),
+      )
+
+      pub some-left : (told ≡ false) ↔ (0 < length (drop front (pairs_of s)))
+      some-left = (
+        λ more. let there = some-there first (sym is ∙ more) in at-some there.0 there.1,
+        λ some. is ∙ some-told first (λ none. left-some none some),
+      )
 
     module _ (at : Address) (is : first ≡ Some at) where
       pub at-listed : slice_get (item_addresses_of s) front ≡ Some at

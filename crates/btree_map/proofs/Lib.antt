@@ -17,4 +17,5 @@ pub mod EditingLists
 pub mod EditingLemmas
 pub mod SameEditing
 pub mod EditingSteps
+pub mod KnownLemmas
 pub mod DrainRuns

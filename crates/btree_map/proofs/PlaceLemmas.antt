@@ -2,11 +2,11 @@
 use Rattle.std.proofs.Common.{◌≡◌, ◌∙◌, ℕ, zero, suc, ◌+◌, ◌-◌, ◌<◌, Bool, true, false, not, cond, List, [], ◌∷◌, ◌++◌, Result, Ok, Err, if◌then◌else◌, length, take, drop, length-append, slice_get, nat_lt, is_some, inl, inr, Option, Some, None, refl, sym, ap, arith}
 use Rattle.std.proofs.lemmas.Bool.{cases_Bool, cases_eq, le-ltb, lt-ltb, ltb-false, ltb-true}
 use Rattle.std.proofs.lemmas.Option.{same_Some}
-use Rattle.std.proofs.lemmas.List.{drop_at}
+use Rattle.std.proofs.lemmas.List.{drop_at, take_at}
 use Rattle.std.proofs.lemmas.List.Sums.{length-filter, sum_by-cons}
 use Rattle.std.specs.BTreeMap.Range.{entries_between, is_from_start, range_contains}
 use Rattle.std.specs.Cmp.{IsTotalOrder, tied_itself}
-use Rattle.std.specs.List.{AllByRecursion, count_by}
+use Rattle.std.specs.List.{AllByRecursion, count_by, filter}
 use Rattle.std.specs.Ordering.{is_eq, is_le, is_lt, ordering_reverse}
 use Rattle.std.specs.declared.cmp.Ordering.{Ordering}
 use Rattle.std.specs.declared.cmp.Ordering.TheVariants.{Equal, Greater, Less}
@@ -15,7 +15,7 @@ use Rattle.std.specs.declared.ops.Bound.TheVariants.{Included, Excluded, Unbound
 use Rattle.btree_item.specs.Pairs.{before, found, place_of}
 use Rattle.btree_item.proofs.PairLemmas.{before-from_Ok}
 use Rattle.btree_shape.proofs.LookUp.KeyInList.{Rises}
-use Rattle.btree_walk.proofs.BoundLemmas.{all-so, between-take, from-start, start-cut}
+use Rattle.btree_walk.proofs.BoundLemmas.{all-so, between-take, filter-earlier, from-start, start-cut}
 use Rattle.btree_map.specs.Spans.{from_place, to_place}
 
 module _ {X : Type 0} where
@@ -203,16 +203,36 @@ module _ {X : Type 0} (p : X → Bool) where
       let r = count-split xs ys pass.1 fail in
       omega arith
 
-module _ {K V : Type 0} {cmp : K → K → Ordering} (laws : IsTotalOrder cmp) (xs : List (K × V)) (up : Rises cmp xs) (lo hi : Bound K) where
+module _ {K V : Type 0} {cmp : K → K → Ordering} (laws : IsTotalOrder cmp) (xs : List (K × V)) (up : Rises cmp xs) (lo : Bound K) where
+  abbrev is_before : K × V → Bool
+  is_before x = not (is_from_start cmp lo x.0)
+
+  outside-so : AllByRecursion (λ x. is_before x ≡ true) (start-cut laws lo xs up).outside
+  outside-so = let c = start-cut laws lo xs up in all-so (λ x. is_from_start cmp lo x.0 ≡ false) (λ x. is_before x ≡ true) (λ x e. ap not e) c.outside c.out
+
+  inside-so : AllByRecursion (λ x. is_before x ≡ false) (start-cut laws lo xs up).inside
+  inside-so = let c = start-cut laws lo xs up in all-so (λ x. is_from_start cmp lo x.0 ≡ true) (λ x. is_before x ≡ false) (λ x e. ap not e) c.inside c.pass
+
   pub from-count : from_place cmp lo xs ≡ length (start-cut laws lo xs up).outside
   from-count =
       let c = start-cut laws lo xs up in
-      let p : K × V → Bool = λ x. not (is_from_start cmp lo x.0) in
-      ap (count_by p) c.is
-      ∙ count-split p c.outside c.inside
-      (all-so (λ x. is_from_start cmp lo x.0 ≡ false) (λ x. p x ≡ true) (λ x e. ap not e) c.outside c.out)
-      (all-so (λ x. is_from_start cmp lo x.0 ≡ true) (λ x. p x ≡ false) (λ x e. ap not e) c.inside c.pass)
+      ap (count_by is_before) c.is ∙ count-split is_before c.outside c.inside outside-so inside-so
 
+  -- the pairs from the place of a start bound on, and those before it
+  pub drop-from : drop (from_place cmp lo xs) xs ≡ entries_between cmp lo Unbounded xs
+  drop-from =
+      let c = start-cut laws lo xs up in
+      let n = from_place cmp lo xs in
+      ap (drop n) c.is ∙ drop_at c.outside c.inside n (sym from-count) ∙ sym (from-start laws xs up lo)
+
+  pub take-from : take (from_place cmp lo xs) xs ≡ filter is_before xs
+  take-from =
+      let c = start-cut laws lo xs up in
+      let n = from_place cmp lo xs in
+      ap (take n) c.is ∙ take_at c.outside c.inside n (sym from-count)
+      ∙ sym (ap (filter is_before) c.is ∙ filter-earlier is_before c.outside c.inside outside-so inside-so)
+
+module _ {K V : Type 0} {cmp : K → K → Ordering} (laws : IsTotalOrder cmp) (xs : List (K × V)) (up : Rises cmp xs) (lo hi : Bound K) where
   -- the pairs between two bounds are those from one place up to another
   pub between-places : entries_between cmp lo hi xs ≡ take (to_place cmp hi xs - from_place cmp lo xs) (drop (from_place cmp lo xs) xs)
   between-places =
@@ -220,10 +240,9 @@ module _ {K V : Type 0} {cmp : K → K → Ordering} (laws : IsTotalOrder cmp) (
       let n = from_place cmp lo xs in
       let from = entries_between cmp lo Unbounded xs in
       let until = entries_between cmp Unbounded hi xs in
-      let rest : drop n xs ≡ from =
-      ap (drop n) c.is ∙ drop_at c.outside c.inside n (sym from-count) ∙ sym (from-start laws xs up lo) in
+      let rest : drop n xs ≡ from = drop-from laws xs up lo in
       let long = ap length c.is ∙ length-append c.outside c.inside in
-      let out = from-count in
+      let out = from-count laws xs up lo in
       let inn = ap length (from-start laws xs up lo) in
       let end = length-filter (λ x. range_contains cmp Unbounded hi x.0) xs in
       let size : length until + length from - length xs ≡ to_place cmp hi xs - n = omega arith in

@@ -1,4 +1,4 @@
--- Where a cursor over a range starts: the addresses of its two ends, by the bounds.
+-- Where a cursor starts that has bounds: the addresses of its ends, and the pairs from and up to them.
 use Rattle.std.proofs.Common.{◌≡◌, ◌∙◌, suc, ◌-◌, List, Option, Some, drop, length, nat_lt, not, slice_get, sym, take, ap, arith}
 use Rattle.std.proofs.lemmas.List.Sums.{count_by-le-length}
 use Rattle.std.specs.BTreeMap.Range.{entries_between, is_from_start, is_past_end}
@@ -18,10 +18,11 @@ use Rattle.btree_shape.specs.Visits.{prior}
 use Rattle.btree_find.specs.Answers.{IsFoundAt, IsGapAt}
 use Rattle.btree_find.specs.Ends.{IsFirstItem, IsLastItem}
 use Rattle.btree_find.specs.Navigation.{IsNext, IsNormalized, IsPrevious}
-use Rattle.btree_map.specs.Spans.{from_place, index_after, index_of, to_place}
+use Rattle.btree_walk.specs.Bounds.{pairs_from}
+use Rattle.btree_map.specs.Spans.{from_place, index_after, index_of, pairs_before, to_place}
 use Rattle.btree_map.proofs.CursorLemmas.{before-listed, listed-item}
 use Rattle.btree_map.proofs.IndexLemmas.{IsOnce, after-is, index-is}
-use Rattle.btree_map.proofs.PlaceLemmas.{below-end, below-place, between-places, count-all, count-none, order-of, past-found, past-missing, up_to-found, up_to-missing}
+use Rattle.btree_map.proofs.PlaceLemmas.{below-end, below-place, between-places, count-all, count-none, drop-from, order-of, past-found, past-missing, take-from, up_to-found, up_to-missing}
 
 module _ {K V : Type 0} (cmp : K → K → Ordering) (laws : IsTotalOrder cmp) (s : TreeState K V) (tree : IsBTree cmp s) where
   abbrev list : List Address
@@ -92,15 +93,28 @@ module _ {K V : Type 0} (cmp : K → K → Ordering) (laws : IsTotalOrder cmp) (
         before-listed s p.place found p.item
         ∙ ap (prior list) (sym (p.has.only x.fits.place x.fits.has.at) ∙ sym (below-end cmp laws k pairs ∙ before-from_Err cmp k pairs x.fits.place x.is))
 
+  -- the first end stands at its place, before which are the pairs before the bound
+  module _ (lo : Bound K) (first : Option Address) (first_is : first ≡ slice_get list (from_place cmp lo pairs)) where
+    pub from-index : index_of list first ≡ from_place cmp lo pairs
+    from-index =
+        let long = (addresses-tree cmp laws s tree).items.counted in
+        let low = count_by-le-length (λ (x : K × V). not (is_from_start cmp lo x.0)) pairs in
+        index-is list once (from_place cmp lo pairs) first first_is (omega arith)
+
+    pub before-first : take (index_of list first) pairs ≡ pairs_before cmp lo s
+    before-first = ap (λ n. take n pairs) from-index ∙ take-from laws pairs up lo
+
+    pub from-first : drop (index_of list first) pairs ≡ pairs_from cmp lo s
+    from-first = ap (λ n. drop n pairs) from-index ∙ drop-from laws pairs up lo
+
   -- the pairs from the first end up to the last one are those between the bounds
   module _ (lo hi : Bound K) (first last : Option Address) (first_is : first ≡ slice_get list (from_place cmp lo pairs))
       (last_is : last ≡ prior list (to_place cmp hi pairs)) where
     pub between-ends : take (index_after list last - index_of list first) (drop (index_of list first) pairs) ≡ entries_between cmp lo hi pairs
     between-ends =
         let long = (addresses-tree cmp laws s tree).items.counted in
-        let low = count_by-le-length (λ (x : K × V). not (is_from_start cmp lo x.0)) pairs in
         let high = count_by-le-length (λ (x : K × V). not (is_past_end cmp hi x.0)) pairs in
-        let front : index_of list first ≡ from_place cmp lo pairs = index-is list once (from_place cmp lo pairs) first first_is (omega arith) in
+        let front : index_of list first ≡ from_place cmp lo pairs = from-index lo first first_is in
         let back : index_after list last ≡ to_place cmp hi pairs = after-is list once (to_place cmp hi pairs) last last_is (omega arith) in
         (λ i. take (back i - front i) (drop (front i) pairs)) ∙ sym (between-places laws pairs up lo hi)
 

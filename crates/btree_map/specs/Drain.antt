@@ -10,7 +10,7 @@ use Rattle.btree_nodes.specs.declared.Nodes as nodes
 use Rattle.btree_nodes.specs.declared.NodesMut as nodes_mut
 use Rattle.btree_shape.specs.TreeAddresses.{item_addresses_of}
 use Rattle.btree_shape.specs.TreeState.{TreeState, pairs_of}
-use Rattle.btree_map.specs.Editing.{WritesPeeked, with_first}
+use Rattle.btree_map.specs.Editing.{WritesPeeked, entry_front, with_first}
 use Rattle.btree_map.specs.declared.cursor.editing.EntriesMut.{EntriesMut}
 
 module _ {K V : Type 0} where
@@ -83,10 +83,10 @@ module _ {F K V : Type 0} (Step : F → K → V → Bool → V → F → Type 0)
 
     -- the steps of `Yields` and `Ends`, of a cursor
     abbrev pub YieldsIn : (f f' : F) → (old new : EntriesMut K V C O g g' g'' s s') → Option (K × V) → Type 0
-    YieldsIn f f' old new result = Yields true f f' old.map.now old.front new.map.now new.front result
+    YieldsIn f f' old new result = Yields true f f' old.map.now (entry_front old) new.map.now (entry_front new) result
 
     abbrev pub EndsIn : (takes : Bool) → (f f' : F) → (old new : EntriesMut K V C O g g' g'' s s') → Type 0
-    EndsIn takes f f' old new = Ends takes f f' old.map.now old.front new.map.now new.front
+    EndsIn takes f f' old new = Ends takes f f' old.map.now (entry_front old) new.map.now (entry_front new)
 
 -- a test may be called at the first of these pairs
 abbrev pub AcceptsFirst : {F K V : Type 0} → (Accepts : F → K → V → Type 0) → F → List (K × V) → Type 0

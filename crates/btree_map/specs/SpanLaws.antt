@@ -1,6 +1,7 @@
--- The address at an index of a list, and the one before an index, are at their own indices.
-use Rattle.std.proofs.Common.{◌≡◌, ◌∙◌, ℕ, zero, suc, ◌+◌, Bool, true, false, not, cond, ◌&&◌, List, [], ◌∷◌, length, slice_get, Option, Some, None, nat_eq, arith, refl, sym, ap, inl, inr}
+-- The address at an index of a list, and the one before an index, are at their own indices, which are within the list.
+use Rattle.std.proofs.Common.{◌≡◌, ◌≤◌, ◌∙◌, ℕ, zero, suc, ◌+◌, Bool, true, false, not, cond, ◌&&◌, List, [], ◌∷◌, length, slice_get, Option, Some, None, nat_eq, arith, refl, sym, ap, inl, inr}
 use Rattle.std.proofs.lemmas.Bool.Decides.{eqb_tells}
+use Rattle.std.proofs.lemmas.List.Sums.{prefix_len-le-length}
 use Rattle.std.proofs.lemmas.Option.{same_Some, slice_get_past}
 use Rattle.std.specs.List.{position_or_len}
 use Rattle.std.specs.Option.{option_eq}
@@ -58,6 +59,10 @@ at-own (x ∷ xs) n a here = by (λ m later. at-own xs m a later) (is_same a x) 
         ap (λ t. slice_get (x ∷ xs) (cond (not t) (1 + position_or_len (is_same a) xs) 0)) is
         ∙ ap (slice_get (x ∷ xs)) one
         ∙ further n here
+
+pub index-within : (list : List Address) (found : Option Address) → index_of list found ≤ length list
+index-within list None = omega arith
+index-within list (Some a) = prefix_len-le-length (λ x. not (is_same a x)) list
 
 -- an element of a list, as far as it has one, is at its own index
 pub at-index : (list : List Address) (n : ℕ) → slice_get list n ≡ slice_get list (index_of list (slice_get list n))

@@ -4,7 +4,7 @@
 -- last one. `from_place` and `to_place` say the same by the bounds of the range.
 use Rattle.std.specs.Prelude.{◌≡◌, ℕ, suc, Bool, not, ◌&&◌, List, length, Option, Some, None, nat_eq, slice_get}
 use Rattle.std.specs.BTreeMap.Range.{is_from_start, is_past_end}
-use Rattle.std.specs.List.{count_by, position_or_len}
+use Rattle.std.specs.List.{count_by, filter, position_or_len}
 use Rattle.std.specs.Option.{option_eq}
 use Rattle.std.specs.declared.cmp.Ordering.{Ordering}
 use Rattle.std.specs.declared.ops.Bound.{Bound}
@@ -35,6 +35,10 @@ module _ {K V : Type 0} (cmp : K → K → Ordering) where
   -- how many pairs are not past an end bound
   abbrev pub to_place : Bound K → List (K × V) → ℕ
   to_place hi xs = count_by (λ x. not (is_past_end cmp hi x.0)) xs
+
+  -- the pairs of a tree before a start bound
+  abbrev pub pairs_before : Bound K → TreeState K V → List (K × V)
+  pairs_before lo s = filter (λ x. not (is_from_start cmp lo x.0)) (pairs_of s)
 
   -- the address of the first pair of a tree that is not before a start bound, and of the last one that is not past an
   -- end bound

@@ -4,6 +4,7 @@ ghost use Rattle.btree_shape.specs.TreeAddresses.{item_addresses_of};
 ghost use Rattle.btree_shape.specs.Visits.{prior};
 ghost use Rattle.btree_map.specs.Spans.{index_after, index_of};
 
+mod counts;
 mod editing;
 mod editing_steps;
 mod pairs;

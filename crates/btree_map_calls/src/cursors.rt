@@ -1,10 +1,11 @@
 //! Cursors that insert and remove pairs, drains, and what keeps pairs.
 use crate::menu::{Action, Pick, Raise, picks, raised, read_pick, read_raise, read_step, write};
-use btree_book::{Reply, number, word};
+use btree_book::{Reply, low, number, put_address, word};
 use btree_slab::generic::BTreeMap;
-use btree_slab::generic::map::EntriesMut;
+use btree_slab::generic::map::{BTreeExt, EntriesMut};
 use btree_slab::store::NodesMut;
 use std::alloc::AllocError;
+use std::ops::Bound;
 
 type Map<C> = BTreeMap<u64, u64, C>;
 
@@ -58,6 +59,7 @@ fn step<C: NodesMut<u64, u64>>(
             reply.found(removed)
         }
         ("hint", _, None) => reply.hint(entries.size_hint()),
+        ("empty", _, None) => reply.truth(entries.is_empty()),
         _ => step_with_number(entries, verb, reply),
     }
 }
@@ -86,19 +88,49 @@ fn step_with_number<C: NodesMut<u64, u64>>(
     }
 }
 
-fn entries_mut<C: NodesMut<u64, u64>>(
-    map: &mut Map<C>,
-    steps: &str,
+// Takes the steps of a cursor.
+fn steps<C: NodesMut<u64, u64>>(
+    entries: &mut EntriesMut<'_, u64, u64, C>,
+    words: &str,
     reply: &mut Reply,
 ) -> Result<(), AllocError> {
-    let mut entries = map.entries_mut();
-    if steps == "" {
+    if words == "" {
         return reply.word("dropped");
     }
-    for word in steps.split(' ') {
-        step(&mut entries, word, reply)?;
+    for word in words.split(' ') {
+        step(entries, word, reply)?;
     }
     Ok(())
+}
+
+// Adds the address where a cursor stands that starts at a bound.
+fn address_from<C: NodesMut<u64, u64>>(
+    map: &mut Map<C>,
+    start: Bound<&u64>,
+    reply: &mut Reply,
+) -> Result<(), AllocError> {
+    let entries = map.entries_mut_from(start);
+    let at = entries.address();
+    put_address(reply, map.as_raw(), at)
+}
+
+// Does a call of a cursor that starts at a bound.
+fn from_bound<C: NodesMut<u64, u64>>(
+    map: &mut Map<C>,
+    verb: &str,
+    words: &str,
+    reply: &mut Reply,
+) -> Result<bool, AllocError> {
+    let (start, rest) = word(words);
+    let Some(start) = low(start) else {
+        return Ok(false);
+    };
+    match verb {
+        "entries_mut_from" => steps(&mut map.entries_mut_from(start.as_ref()), rest, reply)?,
+        "address_from" => address_from(map, start.as_ref(), reply)?,
+        _ => return Ok(false),
+    }
+    Ok(true)
 }
 
 // Takes so many pairs of a drain that writes to the values, and drops it.
@@ -182,7 +214,10 @@ pub(crate) fn serve_cursors<C: NodesMut<u64, u64>>(
     reply: &mut Reply,
 ) -> Result<bool, AllocError> {
     if verb == "entries_mut" {
-        entries_mut(map, rest, reply)?;
+        steps(&mut map.entries_mut(), rest, reply)?;
+        return Ok(true);
+    }
+    if from_bound(map, verb, rest, reply)? {
         return Ok(true);
     }
     let (first, more) = word(rest);

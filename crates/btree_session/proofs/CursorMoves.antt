@@ -13,7 +13,7 @@ use Rattle.btree_nodes.specs.declared.NodesMut as nodes_mut
 use Rattle.btree_raw.specs.Insertion.{IsRefused}
 use Rattle.btree_shape.specs.TreeState.{pairs_of}
 use Rattle.btree_map.specs.Cursor.{or_nowhere}
-use Rattle.btree_map.specs.Editing.{FitsBetween, InsertsEntry, RefusesEntry, RemovesEntry, WritesPassed, left_of, passed_of, past_first}
+use Rattle.btree_map.specs.Editing.{FitsBetween, InsertsEntry, RefusesEntry, RemovesEntry, WritesPassed, entry_front, left_of, passed_of, past_first}
 use Rattle.btree_map.specs.declared.cursor.editing.EntriesMut.{EntriesMut}
 use Rattle.btree_session.specs.declared.command.Reply.TheVariants.{Nothing, Pair, Done, Unfit, Refused}
 use Rattle.btree_session.specs.declared.cursor.CursorStep.TheVariants.{Peek, Next, Insert, Remove}
@@ -85,7 +85,7 @@ module _ {C O : Type 0} {g' : eq.Ghosts ℕ} {g'' : partial.Ghosts ℕ} {s : nod
           let same = ap (λ t. t.len) is.0 in
           let pairs = ap (λ t. length (pairs_of t)) is.0 in
           let long : length (passed_of old) + length (left_of old) ≡ length (pairs_of old.map.now) =
-          omega (arith, length-take old.front (pairs_of old.map.now), length-drop old.front (pairs_of old.map.now)) in
+          omega (arith, length-take (entry_front old) (pairs_of old.map.now), length-drop (entry_front old) (pairs_of old.map.now)) in
           (subst (λ n. old.map.now.kept.limit ≤ n) (sym same ∙ all ∙ pairs ∙ sym long) is.1, λ i. record { passed = r.passed i; left = r.left i; kept = (ap (λ t. t.kept) is.0) i })
 
       pub refuses-pair : (cause : Cause) → RefusesEntry old new cause → IsCursorStep s.MayRefuse (spot_of old) (Insert k v) (Refused cause) (spot_of new)

@@ -20,7 +20,7 @@ use Rattle.btree_find.specs.Navigation.{HasPlace}
 use Rattle.btree_edit.specs.InsertAt.{InsertsAt, IsRefusedAt}
 use Rattle.btree_edit.specs.Remove.{IsRemoved}
 use Rattle.btree_map.specs.Cursor.{WritesPlace}
-use Rattle.btree_map.specs.Editing.{FitsBetween}
+use Rattle.btree_map.specs.Editing.{FitsBetween, entry_front}
 use Rattle.btree_map.specs.declared.cursor.editing.EntriesMut.{EntriesMut}
 use Rattle.btree_session.specs.declared.command.Reply.{Reply}
 use Rattle.btree_session.specs.declared.command.Reply.TheVariants.{Nothing, Pair, Done, Unfit, Refused}
@@ -73,7 +73,7 @@ pub record Spot : Type 0 where
 module _ {C O : Type 0} {g : ord.Ghosts ℕ} {g' : eq.Ghosts ℕ} {g'' : partial.Ghosts ℕ} {s : nodes_mut.Ghosts C ℕ ℕ O} {s' : nodes.Ghosts C ℕ ℕ} where
   -- where a cursor is
   abbrev pub spot_of : EntriesMut ℕ ℕ C O g g' g'' s s' → Spot
-  spot_of c = record { map = c.map.now; front = c.front }
+  spot_of c = record { map = c.map.now; front = entry_front c }
 
 -- the state of the machine that the cursor stands for there
 abbrev pub state_at : Spot → CursorState

@@ -34,7 +34,7 @@ fn next<C: NodesMut<u64, u64>>(entries: &mut EntriesMut<'_, u64, u64, C>) -> Rep
     ensures same_map { entries.new.map.ghost_name ≡ entries.old.map.ghost_name }
     ensures step { Steps C.MayRefuse entries.old CursorStep.Next result entries.new }
 {
-    if entries.size_hint().0 == 0 {
+    if entries.is_empty() {
         return Reply::Nothing;
     }
     let (key, value) = entries.next_pair();

@@ -7,7 +7,7 @@ use Rattle.btree_item.specs.declared.refused.Cause.{Cause}
 use Rattle.btree_nodes.specs.declared.Nodes as nodes
 use Rattle.btree_nodes.specs.declared.NodesMut as nodes_mut
 use Rattle.btree_shape.specs.TreeState.{pairs_of}
-use Rattle.btree_map.specs.Editing.{InsertsEntry, RefusesEntry, left_of, passed_of}
+use Rattle.btree_map.specs.Editing.{InsertsEntry, RefusesEntry, entry_front, left_of, passed_of}
 use Rattle.btree_map.specs.declared.cursor.editing.EntriesMut.{EntriesMut}
 use Rattle.btree_table.specs.CursorLaws.{whole}
 
@@ -19,7 +19,7 @@ module _ {K V C O : Type 0} {g : ord.Ghosts K} {g' : eq.Ghosts K} {g'' : partial
   same-map cause_of x (Err e) inserted refused = refused.same_map
 
   list-of : pairs_of new.map.now ≡ passed_of new ++ left_of new
-  list-of = sym (whole new.front (pairs_of new.map.now))
+  list-of = sym (whole (entry_front new) (pairs_of new.map.now))
 
   -- a pair put before all others
   pub first-inserted : (x : K × V) → passed_of old ≡ [] → InsertsEntry old new x → pairs_of new.map.now ≡ x ∷ left_of old

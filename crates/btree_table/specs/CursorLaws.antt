@@ -25,7 +25,8 @@ use Rattle.btree_find.specs.Navigation.{HasPlace}
 use Rattle.btree_find.proofs.EndsLemmas.{leaf-back-at}
 use Rattle.btree_find.proofs.PlaceLemmas.{empty-by}
 use Rattle.btree_edit.specs.InsertAt.{InsertsAt, IsRefusedAt}
-use Rattle.btree_map.specs.Editing.{InsertsEntry, RefusesEntry, left_of, passed_of}
+use Rattle.btree_map.specs.Editing.{InsertsEntry, RefusesEntry, entry_front, left_of, passed_of}
+use Rattle.btree_map.specs.SpanLaws.{index-within}
 use Rattle.btree_map.specs.declared.cursor.editing.EntriesMut.{EntriesMut}
 use Rattle.btree_table.specs.Capacity.{HoldsAll, RefusesExactlyAtPlace, TakesFew}
 use Rattle.btree_table.specs.CapacityLaws.{leaf-back, refused-exceeds, taken-at}
@@ -86,22 +87,22 @@ module _ {K V C O : Type 0} {g : ord.Ghosts K} {g' : eq.Ghosts K} {g'' : partial
     (laws : IsTotalOrder g.cmp) (tree : IsBTree g.cmp old.map.now) (table : s.MayRefuse ≡ HoldsAll capacity) where
   -- an insertion by the cursor was done at its place
   module _ (x : K × V) (i : InsertsEntry old new x) where
-    front-within : old.front ≤ length (pairs_of old.map.now)
+    front-within : entry_front old ≤ length (pairs_of old.map.now)
     front-within =
-        let low = old.within in
+        let low = index-within (item_addresses_of old.map.now) old.first in
         let counted = (addresses-tree g.cmp laws old.map.now tree).items.counted in
         omega arith
 
-    cut-there : insert (pairs_of old.map.now) i.inserts.place x ≡ insert (pairs_of old.map.now) old.front x
+    cut-there : insert (pairs_of old.map.now) i.inserts.place x ≡ insert (pairs_of old.map.now) (entry_front old) x
     cut-there =
         sym i.inserts.pairs
-        ∙ sym (whole new.front (pairs_of new.map.now))
+        ∙ sym (whole (entry_front new) (pairs_of new.map.now))
         ∙ (λ j. i.passed j ++ i.left j)
-        ∙ between-parts old.front (pairs_of old.map.now) x front-within
+        ∙ between-parts (entry_front old) (pairs_of old.map.now) x front-within
 
-    at-front : i.inserts.place ≡ old.front
+    at-front : i.inserts.place ≡ entry_front old
     at-front =
-        one-place g.cmp laws (pairs_of old.map.now) x i.inserts.place old.front
+        one-place g.cmp laws (pairs_of old.map.now) x i.inserts.place (entry_front old)
         (place-within g.cmp laws old.map.now new.map.now tree i.gap i.at x i.inserts) front-within
         (subst (Ascends g.cmp) i.inserts.pairs i.inserts.inserted.tree.ascends) cut-there
 
@@ -114,7 +115,7 @@ module _ {K V C O : Type 0} {g : ord.Ghosts K} {g' : eq.Ghosts K} {g'' : partial
       subst (λ (may_refuse : Content (Node K V) → Type 0). IsRefusedAt old.map.now new.map.now r.gap may_refuse cause) table r.refused
 
   pub cursor-exact : {X : Type 0} (x : K × V) (result : Result X E) → OnOk result (InsertsEntry old new x) → RefusedCursor result
-      → map.len new.map.now.nodes ≤ capacity → RefusesExactlyAtPlace old.map.now old.front capacity result
+      → map.len new.map.now.nodes ≤ capacity → RefusesExactlyAtPlace old.map.now (entry_front old) capacity result
   cursor-exact x (Ok y) inserted refused held = λ below. record {
     leaf = inserted.inserts.leaf;
     is_leaf = subst (λ n. IsLeafBackAt old.map.now n inserted.inserts.leaf) (at-front x inserted)
@@ -125,7 +126,7 @@ module _ {K V C O : Type 0} {g : ord.Ghosts K} {g' : eq.Ghosts K} {g'' : partial
       let r = refused-at (cause_of e) refused in
       record {
         leaf = r.leaf;
-        is_leaf = leaf-back g.cmp laws old.map.now tree refused.gap refused.back r.leaf r.leaf_for old.front refused.has;
+        is_leaf = leaf-back g.cmp laws old.map.now tree refused.gap refused.back r.leaf r.leaf_for (entry_front old) refused.has;
         exactly = (λ err. refused-exceeds old.map.now new.map.now capacity r.leaf.id (cause_of e) r.refused below, λ exceeds. refl);
       }
 

@@ -1,6 +1,7 @@
 //! The type of the editing cursor.
-ghost use Rattle.std.specs.Prelude.{◌≡◌, ◌≤◌, length, slice_get};
-ghost use Rattle.btree_shape.specs.TreeAddresses.{item_addresses_of};
+ghost use Rattle.std.specs.Prelude.{◌≡◌};
+ghost use Rattle.std.specs.Option.{ForSome};
+ghost use Rattle.btree_map.specs.Spans.{IsFirstListed, item_index};
 
 use crate::BTreeMap;
 use btree_item::Address;
@@ -13,9 +14,10 @@ use btree_nodes::NodesMut;
 #[derive(Drop)]
 pub struct EntriesMut<'a, K: Ord, V, C: NodesMut<K, V>> {
     pub(crate) map: &'a mut BTreeMap<K, V, C>,
-    // The address of the item at place `front`: so many pairs have been passed.
+    // The address of the first item that is left.
     pub(crate) first: Option<Address>,
-    pub(crate) front: usize,
-    ghost first_stands: { first ≡ slice_get (item_addresses_of map.now) front },
-    ghost within: { front ≤ length (item_addresses_of map.now) },
+    // How many pairs have been passed, if that is known.
+    pub(crate) known: Option<usize>,
+    ghost first_stands: { IsFirstListed map.now first },
+    ghost counted: { ForSome known (λ n. n ≡ item_index map.now first) },
 }

@@ -1,18 +1,23 @@
 //! Where an editing cursor starts, and its steps.
-ghost use Rattle.std.specs.Prelude.{◌≡◌, ◌↔◌, ◌<◌, ◌≤◌, ℕ, [], Some, IsSome, IsTrue, IfErr, IfNone, IfSome, OnOk, length, option_copied, slice_get};
+ghost use Rattle.std.specs.Prelude.{◌≡◌, ◌↔◌, ◌<◌, ◌≤◌, ℕ, [], Some, IsFalse, IsSome, IsTrue, IfErr, IfNone, IfSome, OnOk, length, option_copied, slice_get};
 ghost use Rattle.std.specs.Borrow.{sem};
 ghost use Rattle.btree_shape.specs.TreeAddresses.{item_addresses_of};
 ghost use Rattle.btree_shape.specs.TreeState.{IsValidIn, pairs_of};
 ghost use Rattle.btree_find.specs.Navigation.{HasPlace};
-ghost use Rattle.btree_map.specs.Editing.{FitsBetween, InsertsEntry, PassesEntry, RefusesEntry, RemovesEntry, WritesPassed, WritesPeeked, left_of, passed_of};
+ghost use Rattle.btree_walk.specs.Bounds.{bound_key, pairs_from};
+ghost use Rattle.btree_map.specs.Editing.{FitsBetween, InsertsEntry, PassesEntry, RefusesEntry, RemovesEntry, WritesPassed, WritesPeeked, entry_front, left_of, passed_of};
 ghost use Rattle.btree_map.specs.CursorLent.{lends_passed, lends_peeked};
+ghost use Rattle.btree_map.specs.Spans.{pairs_before};
 
 use crate::BTreeMap;
 use crate::cursor::EntriesMut;
+use crate::cursor::counts::{count_from, one_more};
 use crate::cursor::pairs::address_after;
+use crate::cursor::ranges::first_from;
 use btree_ext::{BTreeExt, BTreeExtMut};
 use btree_item::{Address, Item, Refused};
 use btree_nodes::NodesMut;
+use std::ops::Bound;
 
 impl<K: Ord, V, C: NodesMut<K, V>> BTreeMap<K, V, C> {
     /// Returns a cursor that inserts and removes pairs where it is, and lends values for writing. It starts before the first pair. It reads
@@ -20,15 +25,34 @@ impl<K: Ord, V, C: NodesMut<K, V>> BTreeMap<K, V, C> {
     pub fn entries_mut(&mut self) -> EntriesMut<'_, K, V, C>
         ensures same_map { result.map.ghost_name ≡ self.entry.ghost_name }
         ensures unchanged { result.map.now ≡ self.old }
-        ensures front { result.front ≡ 0 }
+        ensures front { entry_front result ≡ 0 }
         ensures passed { passed_of result ≡ [] }
         ensures left { left_of result ≡ pairs_of self.old }
     {
+        self.tell_well_formed();
         let first = self.first_item_address();
         EntriesMut {
             map: self,
             first,
-            front: 0,
+            known: Some(0),
+        }
+    }
+
+    /// Returns a cursor as `entries_mut` does. It starts before the first pair that the bound lets in, as the start of a range.
+    ///
+    /// It makes no more comparisons than a look-up, reads at most two nodes of each level, and allocates no memory.
+    pub fn entries_mut_from(&mut self, start: Bound<&K>) -> EntriesMut<'_, K, V, C>
+        ensures same_map { result.map.ghost_name ≡ self.entry.ghost_name }
+        ensures unchanged { result.map.now ≡ self.old }
+        ensures passed { passed_of result ≡ pairs_before K.cmp (bound_key start.entry) self.old }
+        ensures left { left_of result ≡ pairs_from K.cmp (bound_key start.entry) self.old }
+    {
+        self.tell_well_formed();
+        let first = first_from(self, start);
+        EntriesMut {
+            map: self,
+            first,
+            known: None,
         }
     }
 }
@@ -40,9 +64,14 @@ impl<'a, K: Ord, V, C: NodesMut<K, V>> EntriesMut<'a, K, V, C> {
         requires within { front ≤ length (item_addresses_of map.old) }
         ensures same_map { result.map.ghost_name ≡ map.entry.ghost_name }
         ensures unchanged { result.map.now ≡ map.old }
-        ensures front { result.front ≡ front }
+        ensures front { entry_front result ≡ front }
     {
-        EntriesMut { map, first, front }
+        map.tell_well_formed();
+        EntriesMut {
+            map,
+            first,
+            known: Some(front),
+        }
     }
 
     /// Returns the first item that is left, or `None` if none is.
@@ -56,11 +85,51 @@ impl<'a, K: Ord, V, C: NodesMut<K, V>> EntriesMut<'a, K, V, C> {
         self.map.item(at)
     }
 
+    /// Returns the address of the first item that is left, or `None` if none is.
+    pub fn address(&self) -> Option<Address>
+        ensures { result ≡
+            slice_get (item_addresses_of self.now.map.now) (length (passed_of self.now)) }
+    {
+        self.map.tell_well_formed();
+        self.first
+    }
+
+    /// Returns whether no pair is left. It reads no node.
+    pub fn is_empty(&self) -> bool
+        ensures none { IsTrue result ↔ (left_of self.now ≡ []) }
+        ensures some { IsFalse result ↔ (0 < length (left_of self.now)) }
+    {
+        self.map.tell_well_formed();
+        self.first.is_none()
+    }
+
+    // Returns how many pairs are left.
+    fn count_left(&self) -> usize
+        ensures { result ≡ length (left_of self.now) }
+    {
+        self.map.tell_well_formed();
+        let Some(passed) = self.known else {
+            return count_from(self.map, self.first);
+        };
+        self.map.len().saturating_sub(passed)
+    }
+
+    // Returns how many pairs have been passed.
+    pub(crate) fn count_passed(&self) -> usize
+        ensures { result ≡ entry_front self.now }
+    {
+        self.map.tell_well_formed();
+        self.map.len().saturating_sub(self.count_left())
+    }
+
     /// Returns how many pairs are left, as both bounds.
+    ///
+    /// A cursor of `entries_mut` reads no node for it. One that started at a bound counts them, so it reads all nodes that it would read on
+    /// its way to the end: `is_empty` tells without that whether any is left.
     pub fn size_hint(&self) -> (usize, Option<usize>)
         ensures { result ≡ (length (left_of self.now), Some (length (left_of self.now))) }
     {
-        let left = self.map.len().saturating_sub(self.front);
+        let left = self.count_left();
         (left, Some(left))
     }
 
@@ -68,7 +137,7 @@ impl<'a, K: Ord, V, C: NodesMut<K, V>> EntriesMut<'a, K, V, C> {
     fn gap(&self) -> Address
         ensures valid { IsValidIn self.now.map.now result }
         ensures back { IsSome result.offset }
-        ensures has { HasPlace self.now.map.now result self.now.front }
+        ensures has { HasPlace self.now.map.now result (entry_front self.now) }
     {
         self.map.tell_well_formed();
         match self.first {
@@ -106,7 +175,7 @@ impl<'a, K: Ord + Drop, V: Drop, C: NodesMut<K, V>> EntriesMut<'a, K, V, C> {
                 // For the prover: the length is a `usize`.
                 let _len = self.map.len();
                 self.first = self.map.next_item_address(at);
-                self.front += 1;
+                self.known = one_more(self.known);
                 Ok(())
             }
             Err(refused) => {
@@ -146,13 +215,13 @@ impl<'a, K: Ord + Drop, V: Drop, C: NodesMut<K, V>> EntriesMut<'a, K, V, C> {
             unreachable!();
         };
         self.first = address_after(self.map, at);
-        self.front += 1;
+        self.known = one_more(self.known);
     }
 
     /// Passes the first pair that is left, and returns its key, and its value for writing. What is written replaces the value, and nothing
     /// else changes: the key stays, and so does every address. It reads at most one node of each level, needs no new node and cannot fail.
     ///
-    /// A pair must be left: `size_hint` decides that. `next` returns `None` if there is none.
+    /// A pair must be left: `is_empty` decides that. `next` returns `None` if there is none.
     pub fn next_pair(&mut self) -> (&K, &mut V)
         requires { 0 < length (left_of self.old) }
         ensures* writes_back { sem 𝓛 (lends_passed
@@ -167,7 +236,7 @@ impl<'a, K: Ord + Drop, V: Drop, C: NodesMut<K, V>> EntriesMut<'a, K, V, C> {
             unreachable!();
         };
         self.first = address_after(self.map, Address::new(at.id, at.offset));
-        self.front += 1;
+        self.known = one_more(self.known);
         self.map.pair_mut(at)
     }
 
@@ -194,7 +263,7 @@ impl<'a, K: Ord + Drop, V: Drop, C: NodesMut<K, V>> EntriesMut<'a, K, V, C> {
             slice_get (left_of self.old) 0 ≡ Some (p.0.now, p.1.now)) }
         ensures none { IfNone result (left_of self.old ≡ []) }
     {
-        if self.size_hint().0 == 0 {
+        if self.is_empty() {
             return None;
         }
         Some(self.next_pair())
@@ -217,7 +286,7 @@ impl<'a, K: Ord + Drop, V: Drop, C: NodesMut<K, V>> EntriesMut<'a, K, V, C> {
             slice_get (left_of self.old) 0 ≡ Some (p.0.now, p.1.now)) }
         ensures none { IfNone result (left_of self.old ≡ []) }
     {
-        if self.size_hint().0 == 0 {
+        if self.is_empty() {
             return None;
         }
         Some(self.peek_pair())

@@ -13,7 +13,7 @@ use btree_nodes::NodesMut;
 use std::ops::Bound;
 
 // Returns the address of the first item that is not before a start bound.
-fn first_from<K: Ord, V, C: NodesMut<K, V>>(
+pub(crate) fn first_from<K: Ord, V, C: NodesMut<K, V>>(
     map: &BTreeMap<K, V, C>,
     start: Bound<&K>,
 ) -> Option<Address>

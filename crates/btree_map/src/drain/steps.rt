@@ -4,7 +4,7 @@ ghost use Rattle.std.specs.Map.Calls.{CallableOnEachPair};
 ghost use Rattle.btree_shape.specs.TreeAddresses.{item_addresses_of};
 ghost use Rattle.btree_shape.specs.TreeState.{pairs_of};
 ghost use Rattle.btree_map.specs.Drain.{AcceptsFirst, AsksFirst, EndsIn, RunsOut, Yields, YieldsIn};
-ghost use Rattle.btree_map.specs.Editing.{left_of};
+ghost use Rattle.btree_map.specs.Editing.{entry_front, left_of};
 
 use crate::BTreeMap;
 use crate::cursor::EntriesMut;
@@ -32,21 +32,25 @@ fn seek<K: Ord + Drop, V: Drop, C: NodesMut<K, V>, P: PairTest<K, V>>(
 ) -> (Option<Address>, usize, Option<(K, V)>)
     requires { CallableOnEachPair P.step P.accepts test.old (left_of entries.old) }
     ensures first { result.0 ≡ entries.new.first }
-    ensures front { result.1 ≡ entries.new.front }
+    ensures front { result.1 ≡ entry_front entries.new }
     ensures same_map { entries.new.map.ghost_name ≡ entries.old.map.ghost_name }
     ensures yields { YieldsIn P.step test.old test.new entries.old entries.new result.2 }
     ensures callable { CallableOnEachPair P.step P.accepts test.new (left_of entries.new) }
 {
-    while entries.size_hint().0 > 0 {
+    while !entries.is_empty() {
         if ask(entries, test) {
             let Some(item) = entries.remove() else {
                 unreachable!();
             };
-            return (entries.first, entries.front, Some(item.into_pair()));
+            return (
+                entries.first,
+                entries.count_passed(),
+                Some(item.into_pair()),
+            );
         }
         entries.pass();
     }
-    (entries.first, entries.front, None)
+    (entries.first, entries.count_passed(), None)
 }
 
 // Asks at all pairs that are left, and removes those with the answer `takes`. The others are passed.
@@ -59,7 +63,7 @@ pub(crate) fn run_rest<'a, 'b, 'c, K: Ord + Drop, V: Drop, C: NodesMut<K, V>, P:
     ensures same_map { entries.new.map.ghost_name ≡ entries.old.map.ghost_name }
     ensures ends { EndsIn P.step takes test.old test.new entries.old entries.new }
 {
-    while entries.size_hint().0 > 0 {
+    while !entries.is_empty() {
         if ask(entries, test) == takes {
             let Some(_) = entries.remove() else {
                 unreachable!();

@@ -1,5 +1,4 @@
-use Rattle.std.proofs.Common.{◌≡◌, length}
-use Rattle.btree_shape.specs.TreeState.{pairs_of}
+use Rattle.std.proofs.Common.{◌≡◌, ◌++◌, filter, length}
 use Rattle.btree_map.specs.Editing.{left_of, passed_of}
 use Rattle.btree_examples.specs.Stock.{is_in_stock}
 use Rattle.btree_examples.proofs.StockLemmas.{Keeps}
@@ -8,7 +7,7 @@ use Rattle.btree_examples.proofs.sold_out.remove_sold_out.Given as goal
 abbrev pub invariant-loop-part : goal.invariant-loop-part
 invariant-loop-part g l = record {
   same_map : l.parts.map.ghost_name ≡ l.initial.parts.map.ghost_name;
-  kept : Keeps is_in_stock (pairs_of l.fn.stock) (passed_of l.parts) (left_of l.parts);
+  kept : Keeps is_in_stock (passed_of l.initial.parts ++ filter is_in_stock (left_of l.initial.parts)) (passed_of l.parts) (left_of l.parts);
 }
 
 abbrev pub decreases-loop-part : goal.decreases-loop-part

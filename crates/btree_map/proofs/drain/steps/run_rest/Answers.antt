@@ -1,5 +1,5 @@
-use Rattle.std.proofs.Common.{◌∙◌, ◌++◌, ◌∷◌, [], not, arith, ap, refl}
-use Rattle.btree_map.proofs.DrainRuns.{first-accepts, head-is, none-left, runs-start, runs-passed, runs-taken, runs-callable, same-answer, same-lent, other-answer}
+use Rattle.std.proofs.Common.{◌∙◌, ◌++◌, ◌∷◌, [], not, refl, rules}
+use Rattle.btree_map.proofs.DrainRuns.{first-accepts, head-is, runs-start, runs-passed, runs-taken, runs-callable, same-answer, same-lent, other-answer}
 use Rattle.btree_map.proofs.drain.steps.run_rest.Goals as goal
 
 pub loop-entries-init : goal.loop-entries-init
@@ -36,8 +36,7 @@ loop-entries-preserved g c =
 pub returns-clause-ends : goal.returns-clause-ends
 returns-clause-ends g c =
     let now = c.loop-entries.invariant in
-    let size = ap (λ p. p.0) c.size_hint.ensures in
-    (now.asked, now.run, none-left _ (omega (arith, size)))
+    (now.asked, now.run, c.is_empty.ensures.none.0 (search rules))
 
 pub returns-clause-same_map : goal.returns-clause-same_map
 returns-clause-same_map g c = c.loop-entries.invariant.same_map

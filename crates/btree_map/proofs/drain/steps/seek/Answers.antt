@@ -1,6 +1,6 @@
-use Rattle.std.proofs.Common.{◌∙◌, ◌++◌, ◌∷◌, [], arith, ap, false, refl}
+use Rattle.std.proofs.Common.{◌∙◌, ◌++◌, ◌∷◌, [], false, refl, rules}
 use Rattle.btree_map.specs.Editing.{left_of}
-use Rattle.btree_map.proofs.DrainRuns.{first-accepts, head-is, none-left, runs-start, runs-passed, runs-taken, runs-callable, still-none, fewer-left, same-lent}
+use Rattle.btree_map.proofs.DrainRuns.{first-accepts, head-is, runs-start, runs-passed, runs-taken, runs-callable, still-none, fewer-left, same-lent}
 use Rattle.btree_map.proofs.drain.steps.seek.Goals as goal
 
 pub loop-entries-init : goal.loop-entries-init
@@ -45,8 +45,7 @@ loop-entries-preserved g c =
 pub returns-clause-yields : goal.returns-clause-yields
 returns-clause-yields g c =
     let now = c.loop-entries.invariant in
-    let size = ap (λ p. p.0) c.size_hint.ensures in
-    (now.asked, now.none, (now.run, none-left _ (omega (arith, size))))
+    (now.asked, now.none, (now.run, c.is_empty.ensures.none.0 (search rules)))
 
 pub returns-then-ask-clause-same_map : goal.returns-then-ask-clause-same_map
 returns-then-ask-clause-same_map g c =

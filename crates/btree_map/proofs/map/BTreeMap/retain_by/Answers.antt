@@ -1,10 +1,15 @@
-use Rattle.std.proofs.Common.{◌∙◌, subst, sym}
-use Rattle.btree_map.specs.Drain.{KeepsAddresses}
+use Rattle.std.proofs.Common.{◌∙◌, false, subst, sym}
+use Rattle.btree_map.specs.Drain.{Ends, KeepsAddresses}
+use Rattle.btree_map.specs.Editing.{entry_front}
 use Rattle.btree_map.proofs.DrainRuns.{keeps-addresses}
 use Rattle.btree_map.proofs.map.BTreeMap.retain_by.Goals as goal
 
 pub returns-clause-addresses : goal.returns-clause-addresses
 returns-clause-addresses g c =
+    let step = g.P.PairTest.step in
+    let start = c.entries_mut-entries.result in
+    let end = c.run_rest.new.entries in
     let final = c.self-1.given.1 (sym (c.run_rest.ensures.same_map ∙ c.entries_mut-entries.ensures.same_map)) in
-    let ends = rw (c.entries_mut-entries.ensures.unchanged, c.entries_mut-entries.ensures.front) at c.run_rest.ensures.ends in
+    let from = subst (λ n. Ends step false c.args.test c.run_rest.new.test start.map.now n end.map.now (entry_front end)) c.entries_mut-entries.ensures.front c.run_rest.ensures.ends in
+    let ends = subst (λ s. Ends step false c.args.test c.run_rest.new.test s 0 end.map.now (entry_front end)) c.entries_mut-entries.ensures.unchanged from in
     subst (λ now. KeepsAddresses c.args.self.now now) (sym final) (keeps-addresses _ _ _ _ _ _ ends)

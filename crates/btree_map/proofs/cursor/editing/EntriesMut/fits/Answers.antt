@@ -1,10 +1,13 @@
+use Rattle.btree_shape.specs.TreeAddresses.{item_addresses_of}
+use Rattle.btree_map.specs.Editing.{entry_front}
+use Rattle.btree_map.specs.SpanLaws.{index-within}
 use Rattle.btree_map.proofs.EditingLemmas.{at-fits, fits-at}
 use Rattle.btree_map.proofs.cursor.editing.EntriesMut.fits.Goals as goal
 
 pub returns : goal.returns
 returns g c =
     let now = c.args.self.now in (
-      λ fits. at-fits g.K.Ord.cmp g.met.K.Ord.total now.map.now c.tell_well_formed.ensures.well_formed c.args.key.now c.gap.result now.front c.gap.ensures.has now.within (c.fits_at.ensures.0 fits),
+      λ fits. at-fits g.K.Ord.cmp g.met.K.Ord.total now.map.now c.tell_well_formed.ensures.well_formed c.args.key.now c.gap.result (entry_front now) c.gap.ensures.has (index-within (item_addresses_of now.map.now) now.first) (c.fits_at.ensures.0 fits),
       λ between. c.fits_at.ensures.1
-          (fits-at g.K.Ord.cmp g.met.K.Ord.total now.map.now c.tell_well_formed.ensures.well_formed c.args.key.now c.gap.result now.front c.gap.ensures.has now.within between),
+          (fits-at g.K.Ord.cmp g.met.K.Ord.total now.map.now c.tell_well_formed.ensures.well_formed c.args.key.now c.gap.result (entry_front now) c.gap.ensures.has (index-within (item_addresses_of now.map.now) now.first) between),
     )

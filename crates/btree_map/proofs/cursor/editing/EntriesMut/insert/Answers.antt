@@ -1,37 +1,66 @@
-use Rattle.std.proofs.Common.{refl, arith}
+use Rattle.std.proofs.Common.{◌≡◌, ◌∙◌, ◌+◌, arith, refl, take, drop, ap}
+use Rattle.btree_shape.specs.TreeAddresses.{item_addresses_of}
+use Rattle.btree_shape.specs.TreeState.{pairs_of}
+use Rattle.btree_map.specs.Editing.{entry_front}
+use Rattle.btree_map.specs.SpanLaws.{index-within}
+use Rattle.btree_map.specs.Spans.{item_index}
 use Rattle.btree_map.proofs.EditingLemmas.{counted, insert-left, insert-next, insert-passed, insert-within}
+use Rattle.btree_map.proofs.IndexLemmas.{index-is}
+use Rattle.btree_map.proofs.KnownLemmas.{known-below, known-more}
+use Rattle.btree_map.proofs.RangeStarts.{once}
+use Rattle.btree_map.proofs.RangeSteps.{stands-first}
 use Rattle.btree_map.proofs.cursor.editing.EntriesMut.insert.Goals as goal
 
-pub overflow_add-self : goal.overflow_add-self
-overflow_add-self g c =
+pub one_more-self-requires : goal.one_more-self-requires
+one_more-self-requires g c =
     let now = c.args.self.now in
     let i = c.in-Ok.ensures.inserted in
-    omega (
+    let low = index-within (item_addresses_of now.map.now) now.first in
+    let more = insert-within g.K.Ord.cmp g.met.K.Ord.total now.map.now c.insert_at.new.self c.tell_well_formed.ensures.well_formed (entry_front now) c.gap-gap.result c.in-Ok.at _ i c.gap-gap.ensures.has low in
+    known-below now.known (entry_front now) _ now.counted (omega (
       arith,
-      insert-within g.K.Ord.cmp g.met.K.Ord.total now.map.now c.insert_at.new.self c.tell_well_formed.ensures.well_formed now.front c.gap-gap.result c.in-Ok.at _ i c.gap-gap.ensures.has now.within,
+      more,
       counted g.K.Ord.cmp g.met.K.Ord.total c.insert_at.new.self i.inserted.tree,
       c.len-len.ensures,
       c.len-len.type_inv,
-    )
+    ))
 
 pub invariant_of-self-in-Ok : goal.invariant_of-self-in-Ok
 invariant_of-self-in-Ok g c =
     let now = c.args.self.now in
+    let new = c.insert_at.new.self in
+    let list = item_addresses_of new in
     let i = c.in-Ok.ensures.inserted in
+    let tree = c.tell_well_formed.ensures.well_formed in
+    let low = index-within (item_addresses_of now.map.now) now.first in
+    let next = insert-next g.K.Ord.cmp g.met.K.Ord.total now.map.now new tree (entry_front now) c.gap-gap.result c.in-Ok.at _ i c.gap-gap.ensures.has low
+    c.next_item_address-self.result c.next_item_address-self.ensures in
+    let more = insert-within g.K.Ord.cmp g.met.K.Ord.total now.map.now new tree (entry_front now) c.gap-gap.result c.in-Ok.at _ i c.gap-gap.ensures.has low in
+    let place = index-is list (once g.K.Ord.cmp g.met.K.Ord.total new i.inserted.tree) (entry_front now + 1) c.next_item_address-self.result next more in
     record {
-      first_stands = insert-next g.K.Ord.cmp g.met.K.Ord.total now.map.now c.insert_at.new.self c.tell_well_formed.ensures.well_formed now.front c.gap-gap.result c.in-Ok.at _ i c.gap-gap.ensures.has now.within
-          c.next_item_address-self.result c.next_item_address-self.ensures;
-      within = insert-within g.K.Ord.cmp g.met.K.Ord.total now.map.now c.insert_at.new.self c.tell_well_formed.ensures.well_formed now.front c.gap-gap.result c.in-Ok.at _ i c.gap-gap.ensures.has now.within;
+      first_stands = stands-first list c.next_item_address-self.result (entry_front now + 1) next;
+      counted = known-more now.known c.one_more-self.result (entry_front now) _ now.counted place c.one_more-self.ensures;
     }
 
 pub returns-in-Ok-clause-inserted : goal.returns-in-Ok-clause-inserted
 returns-in-Ok-clause-inserted g c =
     let now = c.args.self.now in
+    let new = c.insert_at.new.self in
+    let list = item_addresses_of new in
     let i = rw c.new.ensures at c.in-Ok.ensures.inserted in
+    let tree = c.tell_well_formed.ensures.well_formed in
+    let low = index-within (item_addresses_of now.map.now) now.first in
+    let next = insert-next g.K.Ord.cmp g.met.K.Ord.total now.map.now new tree (entry_front now) c.gap-gap.result c.in-Ok.at _ i c.gap-gap.ensures.has low
+    c.next_item_address-self.result c.next_item_address-self.ensures in
+    let more = insert-within g.K.Ord.cmp g.met.K.Ord.total now.map.now new tree (entry_front now) c.gap-gap.result c.in-Ok.at _ i c.gap-gap.ensures.has low in
+    let place : item_index new c.next_item_address-self.result ≡ entry_front now + 1 =
+    index-is list (once g.K.Ord.cmp g.met.K.Ord.total new i.inserted.tree) (entry_front now + 1) c.next_item_address-self.result next more in
     record {
       same_map = refl;
-      passed = insert-passed g.K.Ord.cmp g.met.K.Ord.total now.map.now c.insert_at.new.self c.tell_well_formed.ensures.well_formed now.front c.gap-gap.result c.in-Ok.at _ i c.gap-gap.ensures.has now.within;
-      left = insert-left g.K.Ord.cmp g.met.K.Ord.total now.map.now c.insert_at.new.self c.tell_well_formed.ensures.well_formed now.front c.gap-gap.result c.in-Ok.at _ i c.gap-gap.ensures.has now.within;
+      passed = ap (λ n. take n (pairs_of new)) place
+          ∙ insert-passed g.K.Ord.cmp g.met.K.Ord.total now.map.now new tree (entry_front now) c.gap-gap.result c.in-Ok.at _ i c.gap-gap.ensures.has low;
+      left = ap (λ n. drop n (pairs_of new)) place
+          ∙ insert-left g.K.Ord.cmp g.met.K.Ord.total now.map.now new tree (entry_front now) c.gap-gap.result c.in-Ok.at _ i c.gap-gap.ensures.has low;
       gap = c.gap-gap.result;
       at = c.in-Ok.at;
       inserts = i;

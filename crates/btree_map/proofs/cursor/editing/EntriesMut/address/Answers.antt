@@ -1,0 +1,20 @@
+use Rattle.std.proofs.Common.{◌≡◌, ◌∙◌, ap, arith, length, length-take, slice_get}
+use Rattle.btree_shape.specs.TreeAddresses.{item_addresses_of}
+use Rattle.btree_shape.specs.TreeState.{pairs_of}
+use Rattle.btree_map.specs.Editing.{entry_front, passed_of}
+use Rattle.btree_map.specs.SpanLaws.{index-within}
+use Rattle.btree_map.proofs.EditingLemmas.{counted}
+use Rattle.btree_map.proofs.cursor.editing.EntriesMut.address.Goals as goal
+
+pub returns : goal.returns
+returns g c =
+    let now = c.args.self.now in
+    let list = item_addresses_of now.map.now in
+    let place : entry_front now ≡ length (passed_of now) =
+    omega (
+      arith,
+      counted g.K.Ord.cmp g.met.K.Ord.total now.map.now c.tell_well_formed.ensures.well_formed,
+      index-within list now.first,
+      length-take (entry_front now) (pairs_of now.map.now),
+    ) in
+    now.first_stands ∙ ap (slice_get list) place

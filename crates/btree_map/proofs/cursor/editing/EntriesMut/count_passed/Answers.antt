@@ -1,0 +1,20 @@
+use Rattle.std.proofs.Common.{arith, length-drop}
+use Rattle.btree_shape.specs.TreeAddresses.{item_addresses_of}
+use Rattle.btree_shape.specs.TreeState.{pairs_of}
+use Rattle.btree_map.specs.Editing.{entry_front}
+use Rattle.btree_map.specs.SpanLaws.{index-within}
+use Rattle.btree_map.proofs.EditingLemmas.{counted}
+use Rattle.btree_map.proofs.cursor.editing.EntriesMut.count_passed.Goals as goal
+
+pub returns : goal.returns
+returns g c =
+    let now = c.args.self.now in
+    omega (
+      arith,
+      c.len.ensures,
+      c.count_left.ensures,
+      c.saturating_sub.ensures,
+      counted g.K.Ord.cmp g.met.K.Ord.total now.map.now c.tell_well_formed.ensures.well_formed,
+      index-within (item_addresses_of now.map.now) now.first,
+      length-drop (entry_front now) (pairs_of now.map.now),
+    )
