@@ -1,8 +1,4 @@
-<<<<<<< HEAD
 use Rattle.std.proofs.Common.{◌∙◌, ap, arith, drop, sym, take}
-=======
-use Rattle.std.proofs.Common.{ap, arith, drop, sym, take}
->>>>>>> 2b99f8f77c48bf8e5d3d794388c7fa4741851509
 use Rattle.btree_shape.specs.TreeAddresses.{item_addresses_of}
 use Rattle.btree_shape.specs.TreeState.{pairs_of}
 use Rattle.btree_map.proofs.IndexLemmas.{index-is}

@@ -1,13 +1,8 @@
 use Rattle.std.proofs.Common.{arith, length-drop}
-<<<<<<< HEAD
 use Rattle.btree_shape.specs.TreeAddresses.{item_addresses_of}
 use Rattle.btree_shape.specs.TreeState.{pairs_of}
 use Rattle.btree_map.specs.Editing.{entry_front}
 use Rattle.btree_map.specs.SpanLaws.{index-within}
-=======
-use Rattle.btree_shape.specs.TreeState.{pairs_of}
-use Rattle.btree_map.specs.Editing.{entry_front}
->>>>>>> 2b99f8f77c48bf8e5d3d794388c7fa4741851509
 use Rattle.btree_map.proofs.cursor.editing.EntriesMut.count_left.Goals as goal
 
 pub returns-in_default : goal.returns-in_default
