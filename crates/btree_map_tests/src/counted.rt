@@ -1,6 +1,5 @@
-//! Calls by key search once: at most six comparisons at each level, by keys that count them. An extension by ascending pairs compares each
-//! with the last one alone.
-use crate::asserts::{assert_same, assert_same_in, assert_true_in};
+//! Calls by key search once: at most six comparisons at each level, by keys that count them.
+use crate::asserts::{assert_same_in, assert_true_in};
 use btree_ext::BTreeExt;
 use btree_map::{BTreeMap, Entry};
 use btree_node::Node;
@@ -11,8 +10,6 @@ use std::cell::Cell;
 use std::process::Abort;
 
 type Store<'a> = SlabStore<Node<Counted<'a>, u32>>;
-
-type Map<'a, C> = BTreeMap<Counted<'a>, u32, C>;
 
 // Asks for a key in three ways, each of which compares at most `most` keys.
 fn ask<'a, C: NodesMut<Counted<'a>, u32>>(
@@ -67,96 +64,4 @@ fn asks_in<'a, C: NodesMut<Counted<'a>, u32> + Drop>(
 fn a_key_is_sought_once(rt: HostRuntime) {
     let compared = Cell::new(0u32);
     asks_in::<Store<'_>>(&rt, &compared, rt.alloc());
-}
-
-// A map of the numbers from one up to another.
-fn numbers<'a, C: NodesMut<Counted<'a>, u32> + Drop>(
-    rt: &impl Abort,
-    compared: &'a Cell<u32>,
-    origin: C::Origin,
-    (start, end): (u32, u32),
-) -> Map<'a, C> {
-    let mut map: Map<'a, C> = BTreeMap::new(origin);
-    for number in start..end {
-        let replaced = map.insert(Counted { number, compared }, number).ok();
-        assert_same_in(rt, number, replaced, Some(None));
-    }
-    map
-}
-
-// Extends a map by copies of another one's pairs. Returns how many comparisons it made, or `None` if a pair was refused.
-fn copies<'a, C: NodesMut<Counted<'a>, u32>>(
-    compared: &'a Cell<u32>,
-    map: &mut Map<'a, C>,
-    from: &Map<'a, C>,
-) -> Option<u32> {
-    compared.set(0);
-    if map.extend_copied(&mut from.iter()).is_err() {
-        return None;
-    }
-    Some(compared.get())
-}
-
-// The same by the pairs of a map, which it takes.
-fn moves<'a, C: NodesMut<Counted<'a>, u32> + Drop>(
-    compared: &'a Cell<u32>,
-    map: &mut Map<'a, C>,
-    from: Map<'a, C>,
-) -> Option<u32> {
-    compared.set(0);
-    let mut source = from.into_iter();
-    let is_refused = map.extend(&mut source).is_err();
-    drop(source);
-    if is_refused {
-        return None;
-    }
-    Some(compared.get())
-}
-
-// The same by one insertion, of a number that is there.
-fn inserts<'a, C: NodesMut<Counted<'a>, u32>>(
-    compared: &'a Cell<u32>,
-    map: &mut Map<'a, C>,
-    number: u32,
-) -> Option<u32> {
-    compared.set(0);
-    if map.insert(Counted { number, compared }, number).is_err() {
-        return None;
-    }
-    Some(compared.get())
-}
-
-// 44 pairs into an empty map make 43 comparisons, the next 44 one each. Of two that are not above the last one, the first makes one more than
-// an insertion, and the other as many as an insertion.
-fn extends_in<'a, C: NodesMut<Counted<'a>, u32> + Drop>(
-    rt: &impl Abort,
-    compared: &'a Cell<u32>,
-    origin: C::Origin,
-)
-where
-    C::Origin: Copy,
-{
-    let low: Map<'a, C> = numbers(rt, compared, origin, (0, 44));
-    let high: Map<'a, C> = numbers(rt, compared, origin, (44, 88));
-    let two: Map<'a, C> = numbers(rt, compared, origin, (30, 32));
-    let mut map: Map<'a, C> = BTreeMap::new(origin);
-    assert_same(rt, copies(compared, &mut map, &low), Some(43));
-    assert_same(rt, copies(compared, &mut map, &high), Some(44));
-    let mut other: Map<'a, C> = BTreeMap::new(origin);
-    assert_same(rt, moves(compared, &mut other, low), Some(43));
-    assert_same(rt, moves(compared, &mut other, high), Some(44));
-    let first = inserts(compared, &mut map, 30).unwrap_or(0);
-    let second = inserts(compared, &mut map, 31).unwrap_or(0);
-    let sum = first.wrapping_add(second);
-    assert_same(
-        rt,
-        copies(compared, &mut map, &two),
-        Some(sum.wrapping_add(1)),
-    );
-}
-
-#[test]
-fn ascending_keys_are_compared_once(rt: HostRuntime) {
-    let compared = Cell::new(0u32);
-    extends_in::<Store<'_>>(&rt, &compared, rt.alloc());
 }

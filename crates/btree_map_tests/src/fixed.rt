@@ -33,16 +33,12 @@ pub(crate) fn check_table<C: NodesMut<u64, u64> + Drop>(
     assert_same(rt, map.node_count(), nodes);
 }
 
-fn check_places<const N: usize>(rt: &impl Abort, taken: u64, nodes: usize) {
-    check_table::<Table<N>>(rt, (), taken, nodes);
-}
-
 #[test]
 fn a_table_takes_what_its_nodes_hold(rt: HostRuntime) {
-    check_places::<0>(&rt, 0, 0);
-    check_places::<1>(&rt, 8, 1);
-    check_places::<2>(&rt, 8, 1);
-    check_places::<11>(&rt, 43, 9);
+    check_table::<Table<0>>(&rt, (), 0, 0);
+    check_table::<Table<1>>(&rt, (), 8, 1);
+    check_table::<Table<2>>(&rt, (), 8, 1);
+    check_table::<Table<11>>(&rt, (), 43, 9);
 }
 
 // Appends three pairs to a map of eight keys on one node, which has no place for another. The first one replaces a value, and the second
@@ -125,26 +121,29 @@ fn fill_by<C: NodesMut<u64, u64> + Drop>(
 }
 
 // In ascending and in descending order, and in steps of seven.
-fn fill_thrice<const N: usize>(rt: &impl Abort) {
+fn fill_thrice<C: NodesMut<u64, u64> + Drop>(rt: &impl Abort, origin: C::Origin, nodes: u64)
+where
+    C::Origin: Copy,
+{
     for order in [(0, 1), (99, 99), (0, 7)] {
-        fill_by::<Table<N>>(rt, BTreeMap::new(()), N as u64, order);
+        fill_by::<C>(rt, BTreeMap::new(origin), nodes, order);
     }
 }
 
 #[test]
 fn a_table_takes_three_pairs_for_each_node(rt: HostRuntime) {
-    fill_thrice::<1>(&rt);
-    fill_thrice::<2>(&rt);
-    fill_thrice::<3>(&rt);
-    fill_thrice::<4>(&rt);
-    fill_thrice::<5>(&rt);
-    fill_thrice::<6>(&rt);
-    fill_thrice::<7>(&rt);
-    fill_thrice::<8>(&rt);
-    fill_thrice::<9>(&rt);
-    fill_thrice::<10>(&rt);
-    fill_thrice::<11>(&rt);
-    fill_thrice::<12>(&rt);
+    fill_thrice::<Table<1>>(&rt, (), 1);
+    fill_thrice::<Table<2>>(&rt, (), 2);
+    fill_thrice::<Table<3>>(&rt, (), 3);
+    fill_thrice::<Table<4>>(&rt, (), 4);
+    fill_thrice::<Table<5>>(&rt, (), 5);
+    fill_thrice::<Table<6>>(&rt, (), 6);
+    fill_thrice::<Table<7>>(&rt, (), 7);
+    fill_thrice::<Table<8>>(&rt, (), 8);
+    fill_thrice::<Table<9>>(&rt, (), 9);
+    fill_thrice::<Table<10>>(&rt, (), 10);
+    fill_thrice::<Table<11>>(&rt, (), 11);
+    fill_thrice::<Table<12>>(&rt, (), 12);
 }
 
 // Makes a map of nine pairs in a table of one node: eight are in the map, and the ninth comes back.
