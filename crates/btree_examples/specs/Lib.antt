@@ -1,6 +1,7 @@
 pub mod Blocks
 pub mod Bookings
 pub mod Copies
+pub mod Index
 pub mod Listing
 pub mod Reading
 pub mod ReadLaws
