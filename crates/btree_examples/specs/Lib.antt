@@ -2,7 +2,5 @@ pub mod Blocks
 pub mod Bookings
 pub mod Copies
 pub mod Listing
-pub mod Reading
-pub mod ReadLaws
 pub mod Stock
 pub mod Visits

@@ -1,8 +1,8 @@
 //! Trees in nodes that another program wrote: of two copies the second is read if the first has a fault.
-ghost use Rattle.std.specs.Prelude.{◌≡◌, Err, IfErr, IfOk, IsTrue, OnErr};
-ghost use Rattle.btree_valid.specs.Verdicts.{IsVerdict};
+ghost use Rattle.std.specs.Prelude.{◌≡◌, ◌↔◌, Err, IfErr, IfOk, IsTrue, OnErr};
+ghost use Rattle.btree_valid.specs.Reading.{IsReadable, PassesPositions};
+ghost use Rattle.btree_valid.specs.Verdicts.{HasNoFaultUnder, IsVerdict};
 ghost use Rattle.btree_examples.specs.Copies.{HaveFaults, ReadsCopy};
-ghost use Rattle.btree_examples.specs.Reading.{IsReadable, PassesPositions};
 
 use btree_slab::generic::map::{BTreeMap, Fault, RawBTree};
 use btree_slab::store::NodesMut;
@@ -27,7 +27,7 @@ pub fn read_copy<K: Ord + Drop, V: Drop, C: NodesMut<K, V> + Drop>(
 
 // Returns whether a fault is one of the whole tree: a wrong length, or other nodes beside those of the tree.
 fn is_of_whole(fault: Fault) -> bool
-    ensures { IsTrue result → PassesPositions (Err fault) }
+    ensures { IsTrue result ↔ PassesPositions (Err fault) }
 {
     match fault {
         Fault::WrongLength | Fault::Unreachable => true,
@@ -37,7 +37,8 @@ fn is_of_whole(fault: Fault) -> bool
 
 /// Returns whether a copy can be read down from its root, each node once: it has no fault, or only one of the whole tree.
 pub fn is_readable<K: Ord, V, C: NodesMut<K, V>>(raw: &RawBTree<K, V, C>) -> bool
-    ensures { IsTrue result → IsReadable K.cmp raw.now.nodes raw.now.root }
+    ensures faults { IsTrue result ↔ HasNoFaultUnder K.cmp raw.now.nodes raw.now.root }
+    ensures read { IsTrue result → IsReadable K.cmp raw.now.nodes raw.now.root }
 {
     match raw.validate() {
         Ok(()) => true,

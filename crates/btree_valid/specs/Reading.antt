@@ -1,4 +1,4 @@
--- What a reader may rest on in raw content of which `validate` names no position. The laws are in `ReadLaws.antt`.
+-- What a reader may rest on in raw content of which `validate` names no position. The laws are in `proofs/ReadLaws.antt`.
 use Rattle.std.specs.Prelude.{◌≡◌, ◌≤◌, ⊤, ℕ, Option, Result, Ok, Err}
 use Rattle.std.specs.FinMap as finite
 use Rattle.std.specs.declared.cmp.Ordering.{Ordering}
