@@ -66,7 +66,8 @@ module _ {K : Type 0} (cmp : K → K → Ordering) where
     Less-from_apart Equal k q is not_below apart = absurd (cc)
     Less-from_apart Greater k q is not_below apart = o.antisymm k q ∙ ap ordering_reverse is
 
-    all_above : (k x : K) (keys : List K) → cmp k x ≡ Less → AllByRecursion (λ y. cmp x y ≡ Less) keys → AllByRecursion (λ y. cmp k y ≡ Less) keys
+    -- a key below another is below all that are above that one
+    pub all_above : (k x : K) (keys : List K) → cmp k x ≡ Less → AllByRecursion (λ y. cmp x y ≡ Less) keys → AllByRecursion (λ y. cmp k y ≡ Less) keys
     all_above k x [] less all = tt
     all_above k x (y ∷ keys) less all = (o.trans k x y less all.0, all_above k x keys less all.1)
 

@@ -53,7 +53,8 @@ module _ {T : Type 0} where
   pub content-remove : (old new : List (Option T)) (k : ℕ) → get_or new k None ≡ None → ((q : ℕ) → q ≢ k → get_or new q None ≡ get_or old q None) → content_from 0 new ≡ remove (content_from 0 old) k
   content-remove old new k at others = is_remove _ _ k (get-content new k ∙ at) (λ q differs. get-content new q ∙ others q differs ∙ sym (get-content old q))
 
-  some_within : (slots : List (Option T)) (k : ℕ) → IsSome (get_or slots k None) → k < length slots
+  -- a slot with a value is in the list
+  pub some_within : (slots : List (Option T)) (k : ℕ) → IsSome (get_or slots k None) → k < length slots
   some_within slots k used = grind (arith, get_or_past)
 
   -- a used number is the index of a slot

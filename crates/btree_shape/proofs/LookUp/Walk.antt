@@ -1,25 +1,10 @@
 -- A walk through a tree: down to a first leaf, and on to the next item above.
-use Rattle.std.proofs.Common.{◌≡◌, ℕ, zero, suc, ◌+◌, ◌<◌, List, [], ◌∷◌, ◌++◌, length, map, drop, slice_get, Option, Some, None, refl, sym, ap, ◌∙◌, arith, append_assoc, append-nil}
+use Rattle.std.proofs.Common.{◌≡◌, ℕ, zero, suc, ◌+◌, ◌<◌, List, [], ◌∷◌, ◌++◌, length, map, Option, Some, refl, sym, ap, ◌∙◌, arith, append_assoc, append-nil}
 use Rattle.std.specs.List.{flat_map, AllByRecursion}
 use Rattle.btree_view.specs.View.{leaf, internal, NodeMap}
 use Rattle.btree_shape.specs.Represents.{Represents, represented}
 use Rattle.btree_shape.specs.Remaining.{remaining_in, remaining_above, IsUnder, AreRows}
 use Rattle.btree_shape.proofs.Trees.Represented.{represented-is}
-
--- the next item of a list, at an index
-pub rest-next : {X : Type 0} (xs : List X) (i : ℕ) (x : X) → slice_get xs i ≡ Some x → drop i xs ≡ x ∷ drop (i + 1) xs
-rest-next {X = X} xs i x e = let s : i + 1 ≡ suc i = omega arith in rw s (at xs i e)
-  where
-    at : (ys : List X) (n : ℕ) → slice_get ys n ≡ Some x → drop n ys ≡ x ∷ drop (suc n) ys
-    at [] n h = absurd (cc)
-    at (y ∷ ys) zero h = let same : y ≡ x = cc in rw same refl
-    at (y ∷ ys) (suc n) h = at ys n h
-
-pub rest-none : {X : Type 0} (xs : List X) (i : ℕ) → slice_get xs i ≡ None → drop i xs ≡ []
-rest-none [] zero e = refl
-rest-none [] (suc i) e = refl
-rest-none (x ∷ xs) zero e = absurd (cc)
-rest-none (x ∷ xs) (suc i) e = rest-none xs i e
 
 module _ {A : Type 0} (node_at : NodeMap A) (levels : ℕ) where
   -- of the rows, the last one added is passed first

@@ -1,5 +1,5 @@
 -- A frame filled with a child, and trees in stores that agree at the tree's numbers.
-use Rattle.std.proofs.Common.{◌≡◌, ◌≢◌, ◌<◌, ◌++◌, ◌∷◌, [], ◌∙◌, ◌+◌, ℕ, zero, suc, List, Option, Some, refl, sym, ap, arith, append_assoc, length-append}
+use Rattle.std.proofs.Common.{◌≡◌, ◌≢◌, ◌<◌, ◌++◌, ◌∷◌, [], ◌∙◌, ◌+◌, ℕ, zero, suc, List, length, Option, Some, refl, sym, ap, arith, append_assoc, length-append}
 use Rattle.std.proofs.lemmas.Bool.Decides.{nat_tests}
 use Rattle.std.proofs.lemmas.Grind.{flat_map-append}
 use Rattle.std.proofs.lemmas.List.{map-append}
@@ -24,6 +24,12 @@ pub AllByRecursion-right : {X : Type 0} (P : X → Type 0) (xs ys : List X) → 
 AllByRecursion-right P [] ys a = a
 AllByRecursion-right P (x ∷ xs) ys a = AllByRecursion-right P xs ys a.1
 
+-- ones, summed over a list
+pub total-ones : {X : Type 0} (xs : List X) → total (λ (x : X). 1) xs ≡ length xs
+total-ones [] = refl
+total-ones (x ∷ xs) = omega (arith, total-ones xs)
+
+-- the sum over two lists, one after the other
 pub total-append : {X : Type 0} (f : X → ℕ) (xs ys : List X) → total f (xs ++ ys) ≡ total f xs + total f ys
 total-append f [] ys = omega arith
 total-append f (x ∷ xs) ys = omega (arith, total-append f xs ys)
