@@ -84,6 +84,7 @@ module _ {K V : Type 0} (cmp : K → K → Ordering) (laws : IsTotalOrder cmp) (
       child-below : slice_get (children_in (node_map s id)) offset ≡ Some child
       child-below = ap (λ v. slice_get (children_in v) offset) focus ∙ sym below
 
+      -- the number of a child is used
       pub below-used : IsUsed s child
       below-used =
           let r = root-there cmp laws s tree id (view_of node) focus in
@@ -104,6 +105,7 @@ module _ {K V : Type 0} (cmp : K → K → Ordering) (laws : IsTotalOrder cmp) (
                 (in-tree cmp laws s tree r.0 r.1 id (Some offset) place i)),
           )
 
+      -- the item before that of an internal node is the last one under the child before it
       pub before-below : (last : ℕ × ℕ) → EndsInLeaf s child last → (a : Address) (o : ℕ) → last.1 ≡ suc o → a ≡ address_at last.0 o
           → LeadsBefore s (address_at id offset) (Some a)
       before-below last e a o more same place i =

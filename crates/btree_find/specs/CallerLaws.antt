@@ -11,6 +11,7 @@ use Rattle.btree_shape.specs.Place.{IsOccupied}
 use Rattle.btree_shape.specs.TreeState.{TreeState, IsOccupiedIn, item_of, node_map, pairs_of}
 use Rattle.btree_find.specs.Navigation.{IsItemAddress, IsItemAt, IsNext}
 
+-- the ordering that `is_eq` is true of is `Equal`
 pub equal-by : (o : Ordering) → is_eq o ≡ true → o ≡ Equal
 equal-by Less e = absurd (cc)
 equal-by Equal e = refl

@@ -14,11 +14,11 @@ pub at_least : (most count size : ℕ) → count ≡ size → (IsTrue (leb most 
 at_least most count size counted =
     ((λ t. let q : most ≤ count = grind (arith, nat_tests) in omega arith), (λ low. let q : most ≤ count = omega arith in grind (arith, nat_tests)))
 
--- the rest of a list from an index on
+-- the rest of a list from an index on begins with the element there
 pub drop-next : {X : Type 0} (xs : List X) (i : ℕ) (x : X) → slice_get xs i ≡ Some x → drop i xs ≡ x ∷ drop (i + 1) xs
 drop-next xs i x at = drop_more xs i x (slice_get_within xs i x at) ∙ ap (λ y. y ∷ drop (i + 1) xs) (get_or_from_slice_get xs i x x at)
 
--- and at the end of the list
+-- past the end of a list nothing is left
 pub drop-none : {X : Type 0} (xs : List X) (i : ℕ) → slice_get xs i ≡ None → drop i xs ≡ []
 drop-none [] zero none = refl
 drop-none [] (suc i) none = refl

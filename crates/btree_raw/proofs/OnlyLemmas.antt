@@ -36,9 +36,9 @@ only-refused MayRefuse old new id rootless refuses may room =
     let one : need (node_map old) old.root (map.len old.nodes) id ≡ 1 = ap (λ t. need (node_map old) t (map.len old.nodes) id) rootless in
     (refuses, record { ids = []; fewer = rw one (omega arith); claims = tt; may = may }, room)
 
--- a leaf that was claimed where no node was is the only node
 module _ {K V : Type 0} (old mid put : TreeState K V) (root : ℕ) (node : Node K V) (x : K × V) (claimed : mid ≡ record old { nodes = map.insert old.nodes root EMPTY })
     (changes : Changes (λ p q. WritesNode p q root (view_of node)) mid put) (is : view_of node ≡ leaf None (x ∷ [])) where
+  -- a leaf that was claimed where no node was is the only node
   pub only-leaf : ((n : ℕ) → node_map old n ≡ None) → IsOneLeaf (node_map put) root (x ∷ [])
   only-leaf none = record {
     here = changes.nodes.here ∙ ap Some is;

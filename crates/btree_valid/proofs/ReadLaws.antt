@@ -37,7 +37,7 @@ module _ {K V : Type 0} (cmp : K → K → Ordering) (nodes : Content (Node K V)
     readable None none = none-readable cmp laws nodes
     readable (Some root) none = root-readable cmp laws nodes root none
 
-    -- so it is where `validate` answers Ok, or a fault of the whole tree
+    -- so the content is readable where `validate` answers Ok, or a fault of the whole tree
     pub readable-after : (root : Option ℕ) (len : ℕ) (answer : Result ⊤ Fault) → PassesPositions answer → IsVerdict cmp nodes root len answer → IsReadable cmp nodes root
     readable-after root len answer passes verdict = readable root ((no-fault-after root len answer verdict).0 passes)
 

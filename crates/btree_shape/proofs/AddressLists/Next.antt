@@ -58,7 +58,7 @@ low-or o n l = elim (less-or o n) [
   | inr b ↦ elim b [ inl e ↦ inr e | inr m ↦ absurd (omega arith) ]
 ]
 
--- the address before an index of a list
+-- the address before an index of a list is the one that comes before it
 pub came-before : (list : List Address) (i : ℕ) (a : Address) → ComesBefore list i a → prior list i ≡ Some a
 came-before list i a c = ap (prior list) c.is ∙ c.at
 

@@ -80,6 +80,7 @@ module _ {K V : Type 0} (cmp : K → K → Ordering) (laws : IsTotalOrder cmp) (
   pub addresses-formed : (len : ℕ) → IsWellFormed cmp (node_map s) s.root len (pairs_of s) → HasAddresses s
   addresses-formed len w = addresses-placed s (placed-under s.root len (pairs_of s) w)
 
+  -- a well formed tree has the four lists of its addresses, with their laws
   pub addresses-tree : IsBTree cmp s → HasAddresses s
   addresses-tree w = addresses-formed s.len w
 

@@ -12,6 +12,7 @@ module _ {A : Type 0} (node_at : NodeMap A) (levels : ℕ) where
   remaining-push [] row = sym (append-nil (remaining_in node_at levels row))
   remaining-push (r ∷ rows) row = ap (λ l. l ++ remaining_in node_at levels r) (remaining-push rows row) ∙ append_assoc (remaining_in node_at levels row) (remaining_above node_at levels rows) (remaining_in node_at levels r)
 
+  -- a row whose children are one level further down may follow the rows of a walk
   pub rows-push : (depth : ℕ) (rows : List (List (A × ℕ))) (row : List (A × ℕ)) → AreRows node_at levels depth rows
       → AllByRecursion (λ (b : A × ℕ). IsUnder node_at levels (suc (depth + length rows)) b.1) row → AreRows node_at levels depth (rows ++ row ∷ [])
   rows-push depth [] row are all = let z : depth + 0 ≡ depth = omega arith in (rw (sym z) all, tt)
@@ -21,6 +22,7 @@ module _ {A : Type 0} (node_at : NodeMap A) (levels : ℕ) where
     pub above : AreRows node_at levels depth rows
     pub under : AllByRecursion (λ (b : A × ℕ). IsUnder node_at levels (suc (depth + length rows)) b.1) row
 
+  -- the rows of a walk without the last one are the rows of a walk
   pub rows-pop : (depth : ℕ) (rows : List (List (A × ℕ))) (row : List (A × ℕ)) → AreRows node_at levels depth (rows ++ row ∷ []) → Lowest depth rows row
   rows-pop depth [] row are = let z : depth + 0 ≡ depth = omega arith in record { above = tt; under = rw z are.0 }
   rows-pop depth (r ∷ rows) row are =
@@ -57,6 +59,7 @@ module _ {A : Type 0} (node_at : NodeMap A) (levels : ℕ) where
         let later = node_positions-left rest all.1 in
         rw (here, later) refl
 
+  -- what is under an internal node is what is under its first child and in its row
   pub under-internal : (depth id : ℕ) (p : Option ℕ) (first : ℕ) (row : List (A × ℕ)) → IsUnder node_at levels depth id → node_at id ≡ Some (internal p first row) → Inside depth id first row
   under-internal depth id p first row u e = at u.height u.parent u.list u.low u.room u.represents
     where

@@ -37,6 +37,6 @@ module _ {A : Type 0} (node_at : NodeMap A) (root : ℕ) (xs : List A) where
   }
 
 module _ {A : Type 0} (node_at : NodeMap A) (root : ℕ) (x : A) where
-  -- the place of its only item is 0
+  -- the only item of a tree has the place 0
   pub only-place : IsOneLeaf node_at root (x ∷ []) → IsPlace node_at (Some root) (x ∷ []) root (Some 0) 0
   only-place one = inl (subst (λ o. IsPlaceOf node_at (x ∷ []) o 0) (sym (ap (λ v. item_in v 0) one.here)) refl)
