@@ -1,7 +1,8 @@
 //! Trees in nodes that another program wrote: of two copies the second is read if the first has a fault.
 ghost use Rattle.std.specs.Prelude.{◌≡◌, ◌↔◌, Err, IfErr, IfOk, IsTrue, OnErr};
+ghost use Rattle.btree_valid.specs.Faults.{IsRawVerdict};
 ghost use Rattle.btree_valid.specs.Reading.{IsReadable, PassesPositions};
-ghost use Rattle.btree_valid.specs.Verdicts.{HasNoFaultUnder, IsVerdict};
+ghost use Rattle.btree_valid.specs.Verdicts.{HasNoFaultUnder};
 ghost use Rattle.btree_examples.specs.Copies.{HaveFaults, ReadsCopy};
 
 use btree_slab::generic::map::{BTreeMap, Fault, RawBTree};
@@ -16,8 +17,7 @@ pub fn read_copy<K: Ord + Drop, V: Drop, C: NodesMut<K, V> + Drop>(
     ensures read { IfOk result (ReadsCopy K.cmp first second) }
     ensures both { OnErr result (HaveFaults K.cmp first second) }
     ensures returned { IfErr result (λ r. r.0 ≡ second) }
-    ensures fault { IfErr result (λ r.
-        IsVerdict K.cmp second.nodes second.root second.len (Err r.1)) }
+    ensures fault { IfErr result (λ r. IsRawVerdict K.cmp second (Err r.1)) }
 {
     match BTreeMap::from_raw(first) {
         Ok(map) => Ok(map),
@@ -25,12 +25,12 @@ pub fn read_copy<K: Ord + Drop, V: Drop, C: NodesMut<K, V> + Drop>(
     }
 }
 
-// Returns whether a fault is one of the whole tree: a wrong length, or other nodes beside those of the tree.
+// Returns whether a fault is one of the whole tree: a wrong length, one over the limit, or other nodes beside those of the tree.
 fn is_of_whole(fault: Fault) -> bool
     ensures { IsTrue result ↔ PassesPositions (Err fault) }
 {
     match fault {
-        Fault::WrongLength | Fault::Unreachable => true,
+        Fault::WrongLength | Fault::Unreachable | Fault::OverLimit => true,
         _ => false,
     }
 }

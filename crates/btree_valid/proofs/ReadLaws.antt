@@ -24,12 +24,12 @@ passes-end P (fault ∷ later) answer all (inr passed) = passes-end P later answ
 
 module _ {K V : Type 0} (cmp : K → K → Ordering) (nodes : Content (Node K V)) where
   -- no check at a position fails exactly if `validate` answers Ok, or a fault of the whole tree
-  pub no-fault-after : (root : Option ℕ) (len : ℕ) (answer : Result ⊤ Fault) → IsVerdict cmp nodes root len answer → PassesPositions answer ↔ HasNoFaultUnder cmp nodes root
-  no-fault-after root len answer (inl f) = (
+  pub no-fault-after : (root : Option ℕ) (len limit : ℕ) (answer : Result ⊤ Fault) → IsVerdict cmp nodes root len limit answer → PassesPositions answer ↔ HasNoFaultUnder cmp nodes root
+  no-fault-after root len limit answer (inl f) = (
     λ passes. absurd (no-position-fault f.0 (subst PassesPositions f.2 passes) (PassesAt cmp (views nodes) (IsLeafDepth (views nodes) (IsMetUnder (views nodes) root)) f.1.at) f.1.fails),
     λ none. absurd (no-fault (views nodes) (IsMetUnder (views nodes) root) (met-once-under (views nodes) root) cmp (IsLeafDepth (views nodes) (IsMetUnder (views nodes) root)) none f.0 f.1),
   )
-  no-fault-after root len answer (inr f) = (λ passes. f.0, λ none. passes-end (PassesEnd cmp nodes root len) end_faults answer (tt, (tt, tt)) f.1)
+  no-fault-after root len limit answer (inr f) = (λ passes. f.0, λ none. passes-end (PassesEnd cmp nodes root len limit) end_faults answer (tt, (tt, (tt, tt))) f.1)
 
   module _ (laws : IsTotalOrder cmp) where
     -- where no check at a position fails, no number is met twice, and the items met are the list
@@ -38,8 +38,8 @@ module _ {K V : Type 0} (cmp : K → K → Ordering) (nodes : Content (Node K V)
     readable (Some root) none = root-readable cmp laws nodes root none
 
     -- so the content is readable where `validate` answers Ok, or a fault of the whole tree
-    pub readable-after : (root : Option ℕ) (len : ℕ) (answer : Result ⊤ Fault) → PassesPositions answer → IsVerdict cmp nodes root len answer → IsReadable cmp nodes root
-    readable-after root len answer passes verdict = readable root ((no-fault-after root len answer verdict).0 passes)
+    pub readable-after : (root : Option ℕ) (len limit : ℕ) (answer : Result ⊤ Fault) → PassesPositions answer → IsVerdict cmp nodes root len limit answer → IsReadable cmp nodes root
+    readable-after root len limit answer passes verdict = readable root ((no-fault-after root len limit answer verdict).0 passes)
 
   -- there, two ways to one number are the same way
   pub one-way : (root : Option ℕ) (way other : List ℕ) (a b : Spotted K) → IsReadable cmp nodes root → IsMetUnder (views nodes) root way a → IsMetUnder (views nodes) root other b

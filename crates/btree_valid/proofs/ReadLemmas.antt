@@ -12,7 +12,7 @@ use Rattle.btree_store.specs.Content.{Content}
 use Rattle.btree_item.proofs.PairEdits.{Ascends-none}
 use Rattle.btree_item.specs.Pairs.{Ascends}
 use Rattle.btree_item.specs.declared.fault.Fault.{Fault}
-use Rattle.btree_item.specs.declared.fault.Fault.TheVariants.{NoNode, WrongParent, Overflowing, Underflowing, EmptyRoot, Unsorted, BelowSeparator, AboveSeparator, TooDeep, NotBalanced, WrongLength, Unreachable}
+use Rattle.btree_item.specs.declared.fault.Fault.TheVariants.{NoNode, WrongParent, Overflowing, Underflowing, EmptyRoot, Unsorted, BelowSeparator, AboveSeparator, TooDeep, NotBalanced, WrongLength, Unreachable, OverLimit}
 use Rattle.btree_node.specs.declared.node.Node.{Node}
 use Rattle.btree_view.specs.Checks.{FirstFailed, IsNodeVerdict, node_faults}
 use Rattle.btree_view.specs.View.{NodeMap, View, children_of, internal, items_of, leaf}
@@ -60,6 +60,7 @@ unanswered P (one ∷ later) fault none (inr f) = unanswered P later fault none.
 pub no-position-fault : (fault : Fault) → PassesPositions (Err fault) → (P : Fault → Type 0) → FirstFailed P position_faults (Err fault) → ⊥
 no-position-fault WrongLength end P f = unanswered P position_faults WrongLength (λ e. cc, (λ e. cc, (λ e. cc, (λ e. cc, (λ e. cc, (λ e. cc, (λ e. cc, (λ e. cc, (λ e. cc, (λ e. cc, tt)))))))))) f
 no-position-fault Unreachable end P f = unanswered P position_faults Unreachable (λ e. cc, (λ e. cc, (λ e. cc, (λ e. cc, (λ e. cc, (λ e. cc, (λ e. cc, (λ e. cc, (λ e. cc, (λ e. cc, tt)))))))))) f
+no-position-fault OverLimit end P f = unanswered P position_faults OverLimit (λ e. cc, (λ e. cc, (λ e. cc, (λ e. cc, (λ e. cc, (λ e. cc, (λ e. cc, (λ e. cc, (λ e. cc, (λ e. cc, tt)))))))))) f
 no-position-fault NoNode end P f = end
 no-position-fault WrongParent end P f = end
 no-position-fault Overflowing end P f = end
