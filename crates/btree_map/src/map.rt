@@ -129,8 +129,8 @@ impl<K: Ord, V, C: NodesMut<K, V>> BTreeMap<K, V, C> {
         tree.into_raw()
     }
 
-    /// Returns a raw tree as a map, if it is well formed and within its limit, and else as it was, with the fault that `validate` returns. It reads each node
-    /// of a well formed tree once, copies nothing and uses no memory but the stack.
+    /// Returns a raw tree as a map, if it is well formed and within its limit, and else as it was, with the fault that `validate` returns.
+    /// It reads each node of a well formed tree once, copies nothing and uses no memory but the stack.
     pub fn from_raw(raw: RawBTree<K, V, C>) -> Result<Self, (RawBTree<K, V, C>, Fault)>
         ensures exact { IsOk result ↔ IsBTreeWithinLimit raw K.cmp }
         ensures kept { IfOk result (λ map. map ≡ raw) }
