@@ -1,28 +1,27 @@
 -- The first pair of a tree.
-use Rattle.std.proofs.Common.{◌≡◌, ◌≢◌, ℕ, inl, inr, [], ◌∷◌, length, Some, None, refl, sym, ap, subst, ◌∙◌, option_map, arith}
+use Rattle.std.proofs.Common.{◌≡◌, ℕ, [], ◌∷◌, length, Some, None, refl, sym, ap, subst, ◌∙◌, arith}
 use Rattle.std.specs.FinMap as map
 use Rattle.std.specs.List.{insert}
 use Rattle.std.specs.declared.cmp.Ordering.{Ordering}
-use Rattle.btree_store.specs.ContentLaws.{get-insert_other}
 use Rattle.btree_item.specs.declared.address.Address.{Address}
 use Rattle.btree_node.specs.declared.node.Node.{Node}
 use Rattle.btree_node.specs.Node.{view_of}
 use Rattle.btree_view.specs.View.{leaf, item_in}
-use Rattle.btree_shape.specs.Place.{IsPlace, IsPlaceOf}
-use Rattle.btree_shape.specs.Lists.{one, times_listed}
+use Rattle.btree_shape.specs.Place.{IsPlace}
+use Rattle.btree_shape.specs.Lists.{times_listed}
 use Rattle.btree_shape.specs.Step.{WritesNode}
 use Rattle.btree_shape.specs.Strain.{IsStrain, strain_under}
 use Rattle.btree_shape.specs.TreeState.{TreeState, Changes, IsBTree, node_map, pairs_of}
 use Rattle.btree_shape.specs.WellFormed.{IsWellFormed, times_used}
-use Rattle.btree_shape.proofs.Paths.Frames.{one-self, one-other}
 use Rattle.btree_shape.proofs.Paths.Used.{full-yes}
-use Rattle.btree_shape.proofs.Trees.Numbers.{same-or}
 use Rattle.btree_shape.proofs.Splits.Insertion.{first-well}
+use Rattle.btree_shape.proofs.Trees.OneLeaf.{IsOneLeaf, once_here, only-place}
 use Rattle.btree_shape.proofs.Trees.Stores.{len-views}
 use Rattle.btree_shape.proofs.Trees.States.{is-tree, pairs-tree}
 use Rattle.btree_raw.specs.Claimed.{EMPTY}
 use Rattle.btree_raw.specs.Limit.{IsBelowLimit}
-use Rattle.btree_raw.proofs.StateLemmas.{nodes-of, same-kept}
+use Rattle.btree_raw.proofs.OnlyLemmas.{only-leaf}
+use Rattle.btree_raw.proofs.StateLemmas.{same-kept}
 use Rattle.btree_edit.specs.Insert.{IsInserted, IsWithinStrain}
 
 module _ {K V : Type 0} (cmp : K → K → Ordering) (old mid put : TreeState K V) (root : ℕ) (empty : old.root ≡ None) (tree : IsBTree cmp old)
@@ -38,29 +37,20 @@ module _ {K V : Type 0} (cmp : K → K → Ordering) (old mid put : TreeState K 
   no-nodes : (n : ℕ) → node_map old n ≡ None
   no-nodes = well.formed.0
 
-  here : node_map new root ≡ Some (leaf None (x ∷ []))
-  here = changes.nodes.here ∙ ap Some is
-
-  alone : (n : ℕ) → n ≢ root → node_map new n ≡ None
-  alone n differs = changes.nodes.others n differs ∙ (ap (option_map view_of) (ap (λ m. map.get m n) (nodes-of claimed) ∙ get-insert_other old.nodes root EMPTY n differs) ∙ no-nodes n)
+  one-leaf : IsOneLeaf (node_map new) root (x ∷ [])
+  one-leaf = only-leaf old mid put root node x claimed changes is no-nodes
 
   first : IsWellFormed cmp (node_map new) (Some root) 1 (x ∷ [])
-  first = first-well cmp (node_map new) root x here alone
+  first = first-well cmp (node_map new) root x one-leaf.here one-leaf.alone
 
   pairs-new : pairs_of new ≡ x ∷ []
   pairs-new = pairs-tree cmp new 1 (x ∷ []) first
 
   used-new : (n : ℕ) → times_listed n (root ∷ []) ≡ times_used (node_map new n)
-  used-new n = elim (same-or n root) [
-    | inl same ↦ let u : times_used (node_map new n) ≡ 1 = ap (λ i. times_used (node_map new i)) same ∙ ap times_used here in let s = one-self n in let t : one n root ≡ 1 = ap (one n) (sym same) ∙ s in omega arith
-    | inr differs ↦ let u : times_used (node_map new n) ≡ 0 = ap times_used (alone n differs) in let s = one-other n root differs in omega arith
-  ]
-
-  place-new : IsPlace (node_map new) (Some root) (x ∷ []) root (Some 0) 0
-  place-new = inl (subst (λ o. IsPlaceOf (node_map new) (x ∷ []) o 0) (sym (ap (λ v. item_in v 0) here)) refl)
+  used-new n = once_here (node_map new) root (x ∷ []) n one-leaf
 
   calm : strain_under (node_map new) root (root ∷ []) ≡ 0
-  calm = rw here (let s = full-yes root root 0 3 refl in omega arith)
+  calm = rw one-leaf.here (let s = full-yes root root 0 3 refl in omega arith)
 
   is-within : map.len old.nodes ≡ 0 → map.len new.nodes ≡ 1 → IsWithinStrain old new
   is-within old_len new_len = record {
@@ -84,9 +74,9 @@ module _ {K V : Type 0} (cmp : K → K → Ordering) (old mid put : TreeState K 
               pairs-new ∙ sym (ap (λ p. insert (pairs_of old) p x) at2.1 ∙ ap (λ l. insert l 0 x) well.formed.1),
               subst (λ (c : Address). IsPlace (node_map new) (Some root) (pairs_of new) c.id c.offset place) (sym b_is)
                   (subst (λ l. IsPlace (node_map new) (Some root) l root (Some 0) place) (sym pairs-new)
-                  (subst (λ p. IsPlace (node_map new) (Some root) (x ∷ []) root (Some 0) p) (sym at2.1) place-new)),
+                  (subst (λ p. IsPlace (node_map new) (Some root) (x ∷ []) root (Some 0) p) (sym at2.1) (only-place (node_map new) root x one-leaf))),
             );
-        item = rw b_is (ap (λ v. item_in v 0) here);
+        item = rw b_is (ap (λ v. item_in v 0) one-leaf.here);
         longer = omega arith;
         nodes = rw empty (omega arith);
         split = λ top at. absurd (let e = empty in cc);

@@ -1,24 +1,14 @@
 -- A removal by key: at the address of a key that is there.
-use Rattle.std.proofs.Common.{◌≡◌, ◌∙◌, ℕ, List, Option, Some, None, sym, subst, ap, option_and_then, slice_get}
+use Rattle.std.proofs.Common.{◌≡◌, ◌∙◌, List, Some, sym, subst, ap, slice_get}
 use Rattle.std.specs.Cmp.{IsTotalOrder}
 use Rattle.std.specs.List.{remove}
 use Rattle.std.specs.declared.cmp.Ordering.{Ordering}
 use Rattle.btree_item.specs.Pairs.{found}
 use Rattle.btree_item.specs.declared.address.Address.{Address}
 use Rattle.btree_item.proofs.PairLemmas.{before-from_Ok, slice_get-from_Ok}
-use Rattle.btree_view.specs.View.{item_in}
-use Rattle.btree_shape.specs.Place.{IsOccupied}
-use Rattle.btree_shape.specs.TreeState.{TreeState, IsBTree, IsOccupiedIn, item_of, node_map, pairs_of}
+use Rattle.btree_shape.specs.TreeState.{TreeState, IsBTree, pairs_of}
 use Rattle.btree_find.specs.Answers.{IsFoundAt}
 use Rattle.btree_edit.specs.Remove.{IsRemoved, RemovesByKey}
-
--- at an occupied address there is an item
-pub not-vacant : {K V : Type 0} (s : TreeState K V) (a : Address) → IsOccupiedIn s a → item_of s a ≡ None → ⊥
-not-vacant {K} {V} s a = by a.offset
-  where
-    by : (o : Option ℕ) → IsOccupied (node_map s) a.id o → option_and_then (item_in (node_map s a.id)) o ≡ None → ⊥
-    by None is none = is
-    by (Some n) is none = let e = is.1 in absurd (cc)
 
 module _ {K V : Type 0} (cmp : K → K → Ordering) (laws : IsTotalOrder cmp) (old : TreeState K V) (tree : IsBTree cmp old) (k : K)
     (a : Address) (f : IsFoundAt cmp k old a) (new : TreeState K V) (x : K × V) (b : Address) (r : IsRemoved old new cmp a x b) where

@@ -35,5 +35,6 @@ module _ {K V : Type 0} (cmp : K → K → Ordering) (s : TreeState K V) where
     | inr nowhere ↦ let none = nowhere.0 in absurd (cc)
   ]
 
+  -- three times the nodes and those that an insertion needs are at most the length and three
   pub room-needed : IsBTree cmp s → (a : Address) → IsLeafAddressIn s a → 3 * (map.len s.nodes + nodes_needed s a.id) ≤ s.len + 3
   room-needed tree a at = room-under s.root tree a.id a.offset at

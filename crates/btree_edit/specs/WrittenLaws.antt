@@ -33,6 +33,7 @@ module _ {K V : Type 0} (w : V) where
   in-node node None = refl
   in-node node (Some n) = in-some node n (slice_get (items_of (view_of node)) n) refl
 
+  -- after a write of a value the item at the address has that value
   pub written-item : (s : TreeState K V) (a : Address) → item_of (value_written s a w) a ≡ option_map valued (item_of s a)
   written-item s a = by (map.get s.nodes a.id) refl
     where

@@ -3,7 +3,5 @@ pub mod Bookings
 pub mod Copies
 pub mod Index
 pub mod Listing
-pub mod Reading
-pub mod ReadLaws
 pub mod Stock
 pub mod Visits

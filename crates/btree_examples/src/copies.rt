@@ -1,8 +1,9 @@
 //! Trees in nodes that another program wrote: of two copies the second is read if the first has a fault.
-ghost use Rattle.std.specs.Prelude.{◌≡◌, Err, IfErr, IfOk, IsTrue, OnErr};
-ghost use Rattle.btree_valid.specs.Verdicts.{IsVerdict};
+ghost use Rattle.std.specs.Prelude.{◌≡◌, ◌↔◌, Err, IfErr, IfOk, IsTrue, OnErr};
+ghost use Rattle.btree_valid.specs.Faults.{IsRawVerdict};
+ghost use Rattle.btree_valid.specs.Reading.{IsReadable, PassesPositions};
+ghost use Rattle.btree_valid.specs.Verdicts.{HasNoFaultUnder};
 ghost use Rattle.btree_examples.specs.Copies.{HaveFaults, ReadsCopy};
-ghost use Rattle.btree_examples.specs.Reading.{IsReadable, PassesPositions};
 
 use btree_slab::generic::map::{BTreeMap, Fault, RawBTree};
 use btree_slab::store::NodesMut;
@@ -16,8 +17,7 @@ pub fn read_copy<K: Ord + Drop, V: Drop, C: NodesMut<K, V> + Drop>(
     ensures read { IfOk result (ReadsCopy K.cmp first second) }
     ensures both { OnErr result (HaveFaults K.cmp first second) }
     ensures returned { IfErr result (λ r. r.0 ≡ second) }
-    ensures fault { IfErr result (λ r.
-        IsVerdict K.cmp second.nodes second.root second.len (Err r.1)) }
+    ensures fault { IfErr result (λ r. IsRawVerdict K.cmp second (Err r.1)) }
 {
     match BTreeMap::from_raw(first) {
         Ok(map) => Ok(map),
@@ -25,19 +25,20 @@ pub fn read_copy<K: Ord + Drop, V: Drop, C: NodesMut<K, V> + Drop>(
     }
 }
 
-// Returns whether a fault is one of the whole tree: a wrong length, or other nodes beside those of the tree.
+// Returns whether a fault is one of the whole tree: a wrong length, one over the limit, or other nodes beside those of the tree.
 fn is_of_whole(fault: Fault) -> bool
-    ensures { IsTrue result → PassesPositions (Err fault) }
+    ensures { IsTrue result ↔ PassesPositions (Err fault) }
 {
     match fault {
-        Fault::WrongLength | Fault::Unreachable => true,
+        Fault::WrongLength | Fault::Unreachable | Fault::OverLimit => true,
         _ => false,
     }
 }
 
 /// Returns whether a copy can be read down from its root, each node once: it has no fault, or only one of the whole tree.
 pub fn is_readable<K: Ord, V, C: NodesMut<K, V>>(raw: &RawBTree<K, V, C>) -> bool
-    ensures { IsTrue result → IsReadable K.cmp raw.now.nodes raw.now.root }
+    ensures faults { IsTrue result ↔ HasNoFaultUnder K.cmp raw.now.nodes raw.now.root }
+    ensures read { IsTrue result → IsReadable K.cmp raw.now.nodes raw.now.root }
 {
     match raw.validate() {
         Ok(()) => true,

@@ -3,6 +3,7 @@ ghost use Rattle.std.specs.Prelude.{◌≡◌, ◌↔◌, ◌*◌, ◌+◌, ◌�
 ghost use Rattle.std.specs.FinMap as map;
 ghost use Rattle.btree_shape.specs.TreeState.{TreeState, HasLevels, IsBTree, IsOccupiedIn, IsUsed, IsValidIn, item_of, pairs_of};
 ghost use Rattle.btree_item.specs.Pairs.{found_value};
+ghost use Rattle.btree_raw.specs.Limit.{IsWithinLimit};
 ghost use Rattle.btree_find.specs.Answers.{IsAddressIn, IsAddressOf};
 ghost use Rattle.btree_find.specs.Ends.{IsFirstBack, IsFirstItem, IsLastItem, IsLastValid};
 ghost use Rattle.btree_find.specs.Fits.{FitsAt, FitsIn, ReplacesAt, pairs_below};
@@ -34,12 +35,14 @@ pub trait BTreeExt<K: Ord, V> {
     /// Returns the tree as nodes in a store, the number of a root, and a length.
     fn as_raw(&self) -> &RawBTree<K, V, Self::Nodes>
         ensures value { result.now ≡ state self.now }
-        ensures well_formed { IsBTree K.cmp (state self.now) };
+        ensures well_formed { IsBTree K.cmp (state self.now) }
+        ensures within { IsWithinLimit (state self.now) };
 
-    /// Gives the prover the fact that the tree is well formed. It does nothing at run time.
+    /// Gives the prover the facts that the tree is well formed and within its limit. It does nothing at run time.
     #[inline]
     fn tell_well_formed(&self)
         ensures well_formed { IsBTree K.cmp (state self.now) }
+        ensures within { IsWithinLimit (state self.now) }
     {
         let _raw = self.as_raw();
     }

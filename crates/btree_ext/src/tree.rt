@@ -1,8 +1,9 @@
 //! The tree, always well formed.
-ghost use Rattle.std.specs.Prelude.{◌≡◌, ◌↔◌, [], length, None, Err, option_copied, IsOk, IsSome, IfSome, IfNone, IfOk, OnOk, IfErr, OnErr};
+ghost use Rattle.std.specs.Prelude.{◌≡◌, ◌≤◌, ◌↔◌, [], length, None, Err, option_copied, IsOk, IsSome, IfSome, IfNone, IfOk, OnOk, IfErr, OnErr};
 ghost use Rattle.std.specs.FinMap as map;
 ghost use Rattle.btree_node.specs.contracts.node.Node.{the_row as node_row};
-ghost use Rattle.btree_valid.specs.Verdicts.{IsVerdict};
+ghost use Rattle.btree_valid.specs.Faults.{IsRawVerdict};
+ghost use Rattle.btree_raw.specs.Limit.{IsBTreeWithinLimit, IsWithinLimit};
 
 use crate::ext::BTreeExt;
 use crate::ext_mut::BTreeExtMut;
@@ -16,6 +17,7 @@ use btree_nodes::{ClearNodes, CloneNodes, NodesMut};
 use btree_raw::RawBTree;
 use std::alloc::AllocError;
 use std::marker::Model;
+use std::mem;
 
 /// A well formed tree of nodes in a store. Its pairs are always a list in the order of the keys.
 #[derive(Drop)]
@@ -25,7 +27,8 @@ pub struct Tree<K: Ord, V, C: NodesMut<K, V>> {
 
 impl<K: Ord, V, C: NodesMut<K, V>> Model for Tree<K, V, C> {
     ghost use Rattle.std.specs.Coded.{codes};
-    ghost use Rattle.btree_shape.specs.TreeState.{TreeState, IsBTree, tree_code};
+    ghost use Rattle.btree_shape.specs.TreeState.{TreeState, tree_code};
+    ghost use Rattle.btree_raw.specs.Limit.{IsBTreeWithinLimit};
 
     ghost Value = { TreeState K V };
 
@@ -33,7 +36,7 @@ impl<K: Ord, V, C: NodesMut<K, V>> Model for Tree<K, V, C> {
 
     ghost view = { λ t. t.raw };
 
-    ghost invariant = { λ t. IsBTree K.cmp t.raw };
+    ghost invariant = { λ t. IsBTreeWithinLimit t.raw K.cmp };
 }
 
 impl<K: Ord, V, C: NodesMut<K, V>> Tree<K, V, C> {
@@ -41,7 +44,7 @@ impl<K: Ord, V, C: NodesMut<K, V>> Tree<K, V, C> {
     ghost use Rattle.std.specs.Mem.{FitsInMemory};
     ghost use Rattle.std.specs.Option.{option_copied_mut};
     ghost use Rattle.btree_item.specs.Pairs.{found_value};
-    ghost use Rattle.btree_shape.specs.TreeState.{IsBTree, pairs_of, rootless, unlimited};
+    ghost use Rattle.btree_shape.specs.TreeState.{IsBTree, limited_to, pairs_of, rootless, unlimited, with_limit};
     ghost use Rattle.btree_edit.specs.Outcomes.{ExchangesLent};
     ghost use Rattle.btree_ext.specs.Lent.{lends_at_key};
 
@@ -58,7 +61,21 @@ impl<K: Ord, V, C: NodesMut<K, V>> Tree<K, V, C> {
         }
     }
 
-    /// Returns a tree without pairs, over an empty store; the store's `len` tells whether it is empty. It keeps its count of refusals.
+    /// Returns a tree without pairs that has at most `limit`, over an empty store made from `origin`. It allocates no memory.
+    ///
+    /// The contract requires that a node fits in memory, as that of `new`.
+    pub fn with_limit(origin: C::Origin, limit: usize) -> Self
+        requires { FitsInMemory (node_row K.row V.row) }
+        ensures empty { pairs_of result ≡ [] }
+        ensures state { result ≡ rootless map.empty (limited_to limit) }
+    {
+        let mut raw = RawBTree::new(origin);
+        raw.set_limit(limit);
+        Tree { raw }
+    }
+
+    /// Returns a tree without pairs, over an empty store; the store's `len` tells whether it is empty. It keeps its count of refusals,
+    /// and allocates no memory.
     ///
     /// The contract requires that a node fits in memory, as that of `new`.
     pub fn in_store(nodes: C) -> Self
@@ -87,6 +104,26 @@ impl<K: Ord, V, C: NodesMut<K, V>> Tree<K, V, C> {
         self.raw.len()
     }
 
+    /// Returns how many pairs there may be.
+    pub fn limit(&self) -> usize
+        ensures { result ≡ self.now.kept.limit }
+    {
+        self.raw.limit()
+    }
+
+    /// Exchanges the pairs of two trees, with their stores. Each keeps its limit, which must not be below the length of the other.
+    pub fn swap(&mut self, other: &mut Self)
+        requires fits { length (pairs_of other.old) ≤ self.old.kept.limit }
+        requires other_fits { length (pairs_of self.old) ≤ other.old.kept.limit }
+        ensures swapped { self.new ≡ with_limit other.old self.old.kept.limit }
+        ensures other_swapped { other.new ≡ with_limit self.old other.old.kept.limit }
+    {
+        let (limit, other_limit) = (self.raw.limit(), other.raw.limit());
+        mem::swap(&mut self.raw, &mut other.raw);
+        self.raw.set_limit(limit);
+        other.raw.set_limit(other_limit);
+    }
+
     /// Returns the value at a key equal to the given one, or `None`. It makes at most six comparisons at each level, copies nothing and
     /// allocates no memory.
     pub fn get(&self, key: &K) -> Option<&V>
@@ -110,18 +147,19 @@ impl<K: Ord, V, C: NodesMut<K, V>> Tree<K, V, C> {
     pub fn into_raw(self) -> RawBTree<K, V, C>
         ensures value { result ≡ self }
         ensures well_formed { IsBTree K.cmp result }
+        ensures within { IsWithinLimit result }
     {
         let Tree { raw } = self;
         raw
     }
 
-    /// Returns a raw tree as a tree, if it is well formed, and else as it was, with the fault that `validate` returns. It reads each node
-    /// of a well formed tree once, copies nothing and uses no memory but the stack.
+    /// Returns a raw tree as a tree, if it is well formed and within its limit, and else as it was, with the fault that `validate` returns.
+    /// It reads each node of a well formed tree once, copies nothing and uses no memory but the stack.
     pub fn from_raw(raw: RawBTree<K, V, C>) -> Result<Self, (RawBTree<K, V, C>, Fault)>
-        ensures exact { IsOk result ↔ IsBTree K.cmp raw }
+        ensures exact { IsOk result ↔ IsBTreeWithinLimit raw K.cmp }
         ensures kept { IfOk result (λ tree. tree ≡ raw) }
         ensures returned { IfErr result (λ r. r.0 ≡ raw) }
-        ensures verdict { IfErr result (λ r. IsVerdict K.cmp raw.nodes raw.root raw.len (Err r.1)) }
+        ensures verdict { IfErr result (λ r. IsRawVerdict K.cmp raw (Err r.1)) }
     {
         match raw.validate() {
             Ok(()) => Ok(Tree { raw }),

@@ -48,6 +48,7 @@ module _ {K V : Type 0} (cmp : K → K → Ordering) (k : K) where
       pub enough : levels_below (node_map s) (length (pairs_of s)) id < levels
       pub counted : new + comparisons_below cmp k (node_map s) levels id ≡ old + comparisons_from cmp k s top
 
+    -- before a search nothing is counted
     pub counts-begin : (old : ℕ) → Counts top old old
     counts-begin old = record { levels = levels_from s top; enough = omega arith; counted = refl }
 
@@ -71,12 +72,15 @@ module _ {K V : Type 0} (cmp : K → K → Ordering) (k : K) where
           let z = none (comparisons_below cmp k (node_map s) m) in
           omega (arith, o, z, counted, ticks)
 
+      -- at a hit the count is that of the whole search
       pub counts-hit : (offset : Option ℕ) → Ok offset ≡ offset_in cmp k (view_of node) → next ≡ old + comparisons_from cmp k s top
       counts-hit offset e = ends-by (λ below. after-hit below (view_of node) offset e) c.levels c.enough c.counted
 
+      -- at a miss in a leaf the count is that of the whole search
       pub counts-miss : (index : ℕ) → Err (index, None) ≡ offset_in cmp k (view_of node) → next ≡ old + comparisons_from cmp k s top
       counts-miss index e = ends-by (λ below. after-miss below (view_of node) index e) c.levels c.enough c.counted
 
+      -- at a child the search goes on with what was counted
       pub counts-down : (index child : ℕ) → Err (index, Some child) ≡ offset_in cmp k (view_of node)
           → levels_below (node_map s) (length (pairs_of s)) child < levels_below (node_map s) (length (pairs_of s)) id
           → Counts child old next

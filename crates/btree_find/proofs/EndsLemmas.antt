@@ -33,6 +33,7 @@ module _ {K V : Type 0} (cmp : K → K → Ordering) (laws : IsTotalOrder cmp) (
   back-by None is = absurd (cc)
   back-by (Some n) is = tt
 
+  -- an address of a leaf with an offset is the leaf's back address at its place
   pub leaf-back-at : (a : Address) (place : ℕ) → IsPlaceIn s a place → IsLeafAddressIn s a → IsSome a.offset → IsLeafBackAt s place a
   leaf-back-at a place at in_leaf back =
       let valid : IsValidIn s a = place-valid (node_map s) s.root (pairs_of s) a.id a.offset place at in

@@ -27,6 +27,7 @@ module _ {A : Type 0} (node_at : NodeMap A) (xs : List A) where
   low-item None place at = absurd at
   low-item (Some x) place at = let w = slice_get_within xs place x at in omega arith
 
+  -- no place is past the end of the list
   pub place-low : (root : Option ℕ) (id : ℕ) (offset : Option ℕ) (place : ℕ) → IsPlace node_at root xs id offset place → place ≤ length xs
   place-low None id offset place at = let z = at.1 in omega arith
   place-low (Some root) id None place at = let l = low-subtree id at.0 place at.1 in omega arith
@@ -45,6 +46,7 @@ module _ {K V : Type 0} (s : TreeState K V) where
       by None is = absurd is
       by (Some n) is = rw is.1 refl
 
+  -- an address with an item is occupied
   pub item-occupied : (a : Address) → IsSome (item_of s a) → IsOccupiedIn s a
   item-occupied a = by a.offset
     where

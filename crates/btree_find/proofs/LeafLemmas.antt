@@ -20,7 +20,7 @@ use Rattle.btree_find.proofs.WalkLemmas.{not-leaf}
 
 module _ {K V : Type 0} (cmp : K → K → Ordering) (laws : IsTotalOrder cmp) (s : TreeState K V) (tree : IsBTree cmp s)
     (a : Address) (valid : IsValidIn s a) where
-  -- an address in a leaf stays
+  -- an address in a leaf is its own address in a leaf
   pub leaf-same : IsLeafAddressIn s a → IsLeafAddressFor s a a
   leaf-same l =
       let r = place-there cmp laws s tree a valid in

@@ -4,6 +4,7 @@ pub mod SearchLemmas
 pub mod HeightLemmas
 pub mod PlaceLemmas
 pub mod UnderLemmas
+pub mod ParentLemmas
 pub mod WalkLemmas
 pub mod NextLemmas
 pub mod PreviousLemmas

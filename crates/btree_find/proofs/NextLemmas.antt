@@ -50,6 +50,7 @@ module _ {K V : Type 0} (cmp : K → K → Ordering) (laws : IsTotalOrder cmp) (
             let c = child-places (node_map s) (finite.len s.nodes) r.0 (pairs_of s) (placed cmp laws s tree r.0 r.1) id (suc offset) child after-child in
             used-of cmp laws s tree child c.node c.here
 
+        -- the item after an item of an internal node is the first one under the child after it
         pub next-below : (found : Option Address) → LeadsToItem s (address_before child) found → LeadsToNext s (address_at id offset) found
         next-below found leads place i =
             let r = root-there cmp laws s tree id (view_of node) here in

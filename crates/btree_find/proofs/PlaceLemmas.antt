@@ -38,6 +38,7 @@ module _ {K V : Type 0} (cmp : K → K → Ordering) (laws : IsTotalOrder cmp) (
   pub only : (a : Address) (place other : ℕ) → IsPlaceIn s a place → IsPlaceIn s a other → other ≡ place
   only a place other i j = one_place-well cmp laws node_at pairs s.len s.root tree a.id a.offset other place j i
 
+  -- a place of an address is its only one
   pub has-place : (a : Address) (place : ℕ) → IsPlaceIn s a place → HasPlace s a place
   has-place a place i = record { at = i; only = λ other j. only a place other i j }
 
@@ -64,6 +65,7 @@ module _ {K V : Type 0} (cmp : K → K → Ordering) (laws : IsTotalOrder cmp) (
 
   -- a node is used only if there is a root
   module _ (id : ℕ) (v : View (K × V)) (at : node_at id ≡ Some v) where
+    -- a tree with a node has a root
     pub root-there : (root : ℕ) × (s.root ≡ Some root)
     root-there = raw.root-there cmp laws s but-length id v at
 
@@ -74,6 +76,7 @@ module _ {K V : Type 0} (cmp : K → K → Ordering) (laws : IsTotalOrder cmp) (
     pub placed : IsPlaced node_at (finite.len s.nodes) root pairs
     placed = raw.placed cmp laws s but-length root is
 
+    -- a place in the state is one in the tree with its root
     pub in-tree : (id : ℕ) (o : Option ℕ) (place : ℕ) → IsPlace node_at s.root pairs id o place → IsPlace node_at (Some root) pairs id o place
     in-tree id o place i = subst (λ t. IsPlace node_at t pairs id o place) is i
 
@@ -98,12 +101,13 @@ module _ {K V : Type 0} (cmp : K → K → Ordering) (laws : IsTotalOrder cmp) (
     pub in-node : (a : Address) → IsValidIn s a → (node : View (K × V)) × (node_at a.id ≡ Some node) × IsWithin node_at (Some node) a.offset
     in-node a valid = within-some a.offset (node_at a.id) (valid-by a valid)
 
+    -- the number of a valid address is used
     pub node-used : (a : Address) → IsValidIn s a → IsUsed s a.id
     node-used a valid =
         let n = in-node a valid in
         used-view s.nodes a.id (let u = used-one (node_at a.id) n.0 n.1 in omega arith)
 
-    -- a valid offset of a node that is known
+    -- a valid offset is within its node
     pub within-node : (a : Address) → IsValidIn s a → (node : Node K V) → finite.get s.nodes a.id ≡ Some node → (o : ℕ) → a.offset ≡ Some o
         → o ≤ size_of (view_of node)
     within-node a valid node at o e =
@@ -132,6 +136,7 @@ module _ {K V : Type 0} (cmp : K → K → Ordering) (laws : IsTotalOrder cmp) (
 
   -- a valid address has a place
   module _ (a : Address) (valid : IsValidIn s a) where
+    -- in an empty tree the only valid address is nowhere
     pub empty-by : s.root ≡ None → IsValid node_at s.root a.id a.offset → IsNowhere node_at None a.id a.offset
     empty-by e (inl w) =
         let t : IsWellFormed cmp node_at None s.len pairs = subst (λ t. IsWellFormed cmp node_at t s.len pairs) e tree in
@@ -146,6 +151,7 @@ module _ {K V : Type 0} (cmp : K → K → Ordering) (laws : IsTotalOrder cmp) (
     place-by None e = (0, empty-place e)
     place-by (Some root) e = place-in-tree root e a valid
 
+    -- a valid address has a place
     pub place-there : (place : ℕ) × IsPlaceIn s a place
     place-there = place-by s.root refl
 

@@ -1,5 +1,5 @@
 -- From an address to the item before its place: down to the rightmost leaf, or up past the first children.
-use Rattle.std.proofs.Common.{◌≡◌, ◌==◌, ◌<◌, ◌≤◌, ◌∙◌, ℕ, suc, List, length, Option, Some, None, IsSome, refl, sym, ap, subst, arith, option_map, slice_get}
+use Rattle.std.proofs.Common.{◌≡◌, ◌==◌, ◌<◌, ◌≤◌, ◌∙◌, ℕ, suc, List, length, Option, Some, None, refl, sym, ap, subst, arith, option_map, slice_get}
 use Rattle.std.specs.Cmp.{IsTotalOrder}
 use Rattle.std.specs.FinMap as finite
 use Rattle.std.specs.List.{position}
@@ -7,21 +7,18 @@ use Rattle.std.specs.declared.cmp.Ordering.{Ordering}
 use Rattle.btree_item.specs.declared.address.Address.{Address}
 use Rattle.btree_node.specs.declared.node.Node.{Node}
 use Rattle.btree_node.specs.Node.{view_of}
-use Rattle.btree_view.specs.View.{View, leaf, children_in, children_of, parent_of, size_of}
+use Rattle.btree_view.specs.View.{leaf, children_in, children_of, parent_of, size_of}
 use Rattle.btree_shape.specs.Focus.Positions.{address_at, address_before}
 use Rattle.btree_shape.specs.Need.{levels_above}
 use Rattle.btree_shape.specs.Place.{IsPlace}
 use Rattle.btree_shape.specs.TreeState.{TreeState, IsBTree, IsPlaceIn, IsUsed, IsValidIn, node_map, pairs_of}
-use Rattle.btree_shape.specs.WellFormed.{times_used}
-use Rattle.btree_shape.proofs.Paths.Parents.{get-times}
 use Rattle.btree_shape.proofs.Places.ChildPlaces.{child-places, down-to-end, up-from-first, up-to-item}
-use Rattle.btree_shape.proofs.Places.InNode.{index-in-parent, leaf-back, leaf-start, root-start}
-use Rattle.btree_shape.proofs.Trees.Stores.{used-view}
-use Rattle.btree_raw.proofs.SeparatorLemmas.{has-index, index-is}
+use Rattle.btree_shape.proofs.Places.InNode.{leaf-back, leaf-start, root-start}
 use Rattle.btree_raw.specs.LastItem.{EndsInLeaf}
 use Rattle.btree_raw.proofs.LastLemmas.{size_at}
 use Rattle.btree_raw.proofs.PlacedLemmas.{leaf-without}
 use Rattle.btree_find.specs.Navigation.{IsItemBefore, IsPrevious, LeadsBefore}
+use Rattle.btree_find.proofs.ParentLemmas.{child-there}
 use Rattle.btree_find.proofs.PlaceLemmas.{empty-place, few-items, has-place, in-state, in-tree, item-here, place-there, placed, root-there, some-items}
 use Rattle.btree_find.proofs.WalkLemmas.{leaf-focus, occupied-below, used-of}
 
@@ -87,6 +84,7 @@ module _ {K V : Type 0} (cmp : K → K → Ordering) (laws : IsTotalOrder cmp) (
       child-below : slice_get (children_in (node_map s id)) offset ≡ Some child
       child-below = ap (λ v. slice_get (children_in v) offset) focus ∙ sym below
 
+      -- the number of a child is used
       pub below-used : IsUsed s child
       below-used =
           let r = root-there cmp laws s tree id (view_of node) focus in
@@ -107,6 +105,7 @@ module _ {K V : Type 0} (cmp : K → K → Ordering) (laws : IsTotalOrder cmp) (
                 (in-tree cmp laws s tree r.0 r.1 id (Some offset) place i)),
           )
 
+      -- the item before that of an internal node is the last one under the child before it
       pub before-below : (last : ℕ × ℕ) → EndsInLeaf s child last → (a : Address) (o : ℕ) → last.1 ≡ suc o → a ≡ address_at last.0 o
           → LeadsBefore s (address_at id offset) (Some a)
       before-below last e a o more same place i =
@@ -158,41 +157,19 @@ module _ {K V : Type 0} (cmp : K → K → Ordering) (laws : IsTotalOrder cmp) (
         subst (λ k. IsItemBefore s k None) (sym z) refl
 
     module _ (parent : ℕ) (up : parent_of (view_of node) ≡ Some parent) where
-      parent-index : (index : ℕ) × (slice_get (children_in (node_map s parent)) index ≡ Some id)
-      parent-index =
-          let r = root-there cmp laws s tree id (view_of node) at-node in
-          index-in-parent (node_map s) levels r.0 (pairs_of s) (placed cmp laws s tree r.0 r.1) id (view_of node) at-node parent up
-
-      children-used : (v : Option (View (K × V))) (index : ℕ) → slice_get (children_in v) index ≡ Some id → 0 < times_used v
-      children-used None index e = absurd (cc)
-      children-used (Some v) index e = omega arith
-
-      pub above-used : IsUsed s parent
-      above-used = let i = parent-index in used-view s.nodes parent (children-used (node_map s parent) i.0 i.1)
-
       module _ (above : Node K V) (at : finite.get s.nodes parent ≡ Some above) where
         above-focus : node_map s parent ≡ Some (view_of above)
         above-focus = ap (option_map view_of) at
 
         module _ (o : Option ℕ) (is : o ≡ position (λ child. child == id) (children_of (view_of above))) where
-          pub index-some : IsSome o
-          index-some =
-              let i = parent-index in
-              has-index id (children_of (view_of above)) o
-              (get-times (children_of (view_of above)) i.0 id (subst (λ v. slice_get (children_in v) i.0 ≡ Some id) above-focus i.1)) is
-
           module _ (index : ℕ) (found : o ≡ Some index) where
-            pub child-there : slice_get (children_in (node_map s parent)) index ≡ Some id
-            child-there =
-                let i = index-is id index (children_of (view_of above)) (sym is ∙ found) in
-                ap (λ v. slice_get (children_in v) index) above-focus ∙ i.1
-
             pub before-item : (i : ℕ) → index ≡ suc i → index ≤ size_of (view_of above) → (a : Address) → a ≡ address_at parent i
                 → LeadsBefore s (address_before start) (Some a)
             before-item i more low a same place there =
+                let below = child-there cmp laws s tree id node d.here parent up above at o is index found in
                 let r = root-there cmp laws s tree id (view_of node) at-node in
                 let p = placed cmp laws s tree r.0 r.1 in
-                let b = up-to-item (node_map s) levels r.0 (pairs_of s) p parent index id child-there i more place
+                let b = up-to-item (node_map s) levels r.0 (pairs_of s) p parent index id below i more place
                 (in-tree cmp laws s tree r.0 r.1 id None place (d.leads place there)) in
                 subst (λ z. IsItemBefore s place (Some z)) (sym same)
                 (subst (λ k. IsItemBefore s k (Some (address_at parent i))) (sym b.1)
@@ -201,21 +178,23 @@ module _ {K V : Type 0} (cmp : K → K → Ordering) (laws : IsTotalOrder cmp) (
 
             pub before-next : index ≡ 0 → ClimbsBefore s start parent above
             before-next z =
+                let below = child-there cmp laws s tree id node d.here parent up above at o is index found in
                 let r = root-there cmp laws s tree id (view_of node) at-node in
                 let p = placed cmp laws s tree r.0 r.1 in
                 record {
                   here = at;
                   leads = λ place i.
                       in-state cmp laws s tree r.0 r.1 parent None place
-                      (up-from-first (node_map s) levels r.0 (pairs_of s) p parent index id child-there z place
+                      (up-from-first (node_map s) levels r.0 (pairs_of s) p parent index id below z place
                       (in-tree cmp laws s tree r.0 r.1 id None place (d.leads place i)));
                 }
 
             pub before-smaller : levels_above (node_map s) levels parent < levels_above (node_map s) levels id
             before-smaller =
+                let below = child-there cmp laws s tree id node d.here parent up above at o is index found in
                 let r = root-there cmp laws s tree id (view_of node) at-node in
                 let p = placed cmp laws s tree r.0 r.1 in
-                (child-places (node_map s) levels r.0 (pairs_of s) p parent index id child-there).higher
+                (child-places (node_map s) levels r.0 (pairs_of s) p parent index id below).higher
 
   -- a valid address
   module _ (a : Address) (valid : IsValidIn s a) where

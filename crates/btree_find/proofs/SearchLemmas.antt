@@ -1,5 +1,5 @@
 -- A search by key in a well formed tree, step by step.
-use Rattle.std.proofs.Common.{◌≡◌, ◌≢◌, ◌+◌, ◌++◌, append_assoc, ℕ, ◌<◌, ◌≤◌, ◌^◌, ◌-◌, inl, List, Option, Some, None, inr, map, length-append, Ok, Err, IfSome, IsSome, Result, [], ◌∷◌, cond, refl, sym, ap, subst, ◌∙◌, length, option_map, option_and_then, slice_get, if◌then◌else◌, arith}
+use Rattle.std.proofs.Common.{◌≡◌, ◌≢◌, ◌+◌, ◌++◌, append_assoc, ℕ, ◌<◌, ◌≤◌, ◌^◌, ◌-◌, inl, List, Option, Some, None, inr, map, length-append, Ok, Err, IfSome, IsSome, Result, [], ◌∷◌, cond, refl, sym, ap, subst, ◌∙◌, length, option_map, option_and_then, slice_get, arith}
 use Rattle.std.proofs.lemmas.List.{length-map}
 use Rattle.std.specs.Cmp.{IsTotalOrder}
 use Rattle.std.specs.FinMap as nodes_map
@@ -48,7 +48,7 @@ found-equal {K} {V} cmp k (x ∷ xs) = by (cmp x.0 k) refl (found-equal cmp k xs
     by Equal is rest = is
     by Greater is rest = rest
 
--- what `placed` gives for a place among items
+-- a search of a node that gives an offset has found the key there
 pub placed-ok : (r : Result ℕ ℕ) (children : List ℕ) (offset : Option ℕ) → Ok offset ≡ placed r children → (o : ℕ) × (r ≡ Ok o) × (offset ≡ Some o)
 placed-ok (Ok i) children offset e = (i, refl, cc)
 placed-ok (Err i) children offset e = absurd (cc)
@@ -85,7 +85,7 @@ module _ {K V : Type 0} (cmp : K → K → Ordering) (k : K) (laws : IsTotalOrde
   abbrev pairs : List (K × V)
   pairs = pairs_of s
 
-  -- a gap in a leaf
+  -- an offset of a leaf at the place of an absent key is the key's gap
   pub gap-at : (a : Address) (place : ℕ) → IsValidIn s a → place_of cmp k pairs ≡ Err place → IsPlaceIn s a place → IsLeafAddressIn s a
       → IsSome a.offset → IsGapAt cmp k s a
   gap-at a place valid is at in_leaf back =
@@ -114,6 +114,7 @@ module _ {K V : Type 0} (cmp : K → K → Ordering) (k : K) (laws : IsTotalOrde
   up : Rises cmp pairs
   up = rises cmp pairs tree.ascends
 
+  -- a search begins at the node itself
   pub search-begins : (top : ℕ) → IsUsed s top → Searches cmp k s top top
   search-begins top used =
       let b = begins-here cmp laws s tree top used k in
@@ -126,6 +127,7 @@ module _ {K V : Type 0} (cmp : K → K → Ordering) (k : K) (laws : IsTotalOrde
     well : IsWellFormed cmp node_at (Some q.root) s.len pairs
     well = subst (λ t. IsWellFormed cmp node_at t s.len pairs) q.is tree
 
+    -- the node that a search comes to is there
     pub node-used : IsSome (nodes_map.get s.nodes id)
     node-used = used-view s.nodes id (focus-used (K × V) node_at q.root pairs id q.searching.node)
 
@@ -133,6 +135,7 @@ module _ {K V : Type 0} (cmp : K → K → Ordering) (k : K) (laws : IsTotalOrde
       here : node_at id ≡ Some (view_of node)
       here = ap (option_map view_of) at
 
+      -- the items of the node that a search comes to are in order
       pub node-ascends : Ascends cmp (items_of (view_of node))
       node-ascends = search-ascends cmp k laws node_at q.root pairs up within q.start id q.searching (view_of node) here
 

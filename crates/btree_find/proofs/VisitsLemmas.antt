@@ -1,5 +1,5 @@
 -- One step of a visit of the back or of the front addresses, by the laws of their lists.
-use Rattle.std.proofs.Common.{◌≡◌, ◌<◌, ◌≤◌, ◌∙◌, ◌+◌, ℕ, zero, suc, inl, List, length, Option, Some, None, IfSome, IsSome, refl, sym, ap, subst, arith, option_map, slice_get}
+use Rattle.std.proofs.Common.{◌≡◌, ◌<◌, ◌≤◌, ◌∙◌, ◌+◌, ℕ, zero, suc, inl, length, Option, Some, None, IfSome, IsSome, refl, sym, ap, subst, arith, option_map, slice_get}
 use Rattle.std.proofs.lemmas.Option.{slice_get_past}
 use Rattle.std.specs.Cmp.{IsTotalOrder}
 use Rattle.std.specs.FinMap as finite
@@ -17,8 +17,10 @@ use Rattle.btree_shape.specs.TreeState.{TreeState, IsBTree, IsValidIn, node_map,
 use Rattle.btree_shape.specs.Visits.{ComesBefore, VisitsBacks, VisitsFronts, prior}
 use Rattle.btree_shape.specs.WellFormed.{IsWellFormed}
 use Rattle.btree_shape.proofs.AddressLists.BackVisits.{backs-visited}
+use Rattle.btree_shape.proofs.AddressLists.FrontAddresses.{front-within}
 use Rattle.btree_shape.proofs.AddressLists.FrontVisits.{fronts-visited}
 use Rattle.btree_shape.proofs.AddressLists.LeafEnds.{last-leaf-down, last-leaf-self}
+use Rattle.btree_shape.proofs.AddressLists.Next.{came-before}
 use Rattle.btree_shape.proofs.AddressLists.Whole.{addresses-tree}
 use Rattle.btree_raw.specs.LastItem.{EndsInLeaf}
 use Rattle.btree_raw.proofs.LastLemmas.{internal-last}
@@ -32,10 +34,6 @@ use Rattle.btree_find.proofs.WalkLemmas.{leaf-focus}
 end-slot : {A : Type 0} (id n : ℕ) (v : Option (View A)) → option_map size_of v ≡ Some n → slot_before id n ≡ last_item_in id v
 end-slot id n None e = absurd (cc)
 end-slot id n (Some v) e = let same : size_of v ≡ n = cc in rw same refl
-
--- the index before one of a list
-prior-is : (list : List Address) (i : ℕ) (a : Address) → ComesBefore list i a → prior list i ≡ Some a
-prior-is list i a c = subst (λ n. prior list n ≡ Some a) (sym c.is) c.at
 
 module _ {K V : Type 0} (cmp : K → K → Ordering) (laws : IsTotalOrder cmp) (s : TreeState K V) (tree : IsBTree cmp s) where
   abbrev levels : ℕ
@@ -60,13 +58,8 @@ module _ {K V : Type 0} (cmp : K → K → Ordering) (laws : IsTotalOrder cmp) (
   listed-some j None e = tt
   listed-some j (Some b) e = some-by b.offset (addresses.backs.right j b e).1
 
-  within-by : (v : Option (View (K × V))) (o : Option ℕ) → IsFront (node_map s) v o → IsWithin (node_map s) v o
-  within-by None o f = absurd f
-  within-by (Some node) None f = tt
-  within-by (Some node) (Some n) f = omega arith
-
   front-valid : (b : Address) → IsFront (node_map s) (node_map s b.id) b.offset → IsValidIn s b
-  front-valid b f = inl (within-by (node_map s b.id) b.offset f)
+  front-valid b f = inl (front-within (node_map s) (node_map s b.id) b.offset f)
 
   slot-by : (node : View (K × V)) (id n : ℕ) → n ≤ size_of node → IsFront (node_map s) (Some node) (slot_before id n).offset
   slot-by node id zero low = tt
@@ -157,7 +150,7 @@ module _ {K V : Type 0} (cmp : K → K → Ordering) (laws : IsTotalOrder cmp) (
       previous-by x front law last =
           record {
             listed = addresses.fronts.each (address_at id offset);
-            previous = λ i g. sym (prior-is (fronts_of s) i x (law i g));
+            previous = λ i g. sym (came-before (fronts_of s) i x (law i g));
             end = λ o e is.
                 let same : offset ≡ o = cc in
                 let size : o ≡ size_of (view_of node) = subst (λ v. IsEnd (node_map s) v o) here is in
@@ -226,7 +219,7 @@ module _ {K V : Type 0} (cmp : K → K → Ordering) (laws : IsTotalOrder cmp) (
     front-up parent index child above focus low x same =
         above-by (Some x)
         (subst (λ b. IsFront (node_map s) (node_map s b.id) b.offset) (sym same) (slot-front parent index (view_of above) (ap (option_map view_of) focus) low))
-        (λ i g. sym (prior-is (fronts_of s) i x (subst (λ b. ComesBefore (fronts_of s) i b) (sym same) (front-law.up i id parent index child g))))
+        (λ i g. sym (came-before (fronts_of s) i x (subst (λ b. ComesBefore (fronts_of s) i b) (sym same) (front-law.up i id parent index child g))))
 
   module _ (a : Address) (valid : IsValidIn s a) where
     -- from -1 of a node

@@ -1,5 +1,5 @@
 -- The walks of navigation, step by step: down to an end leaf, and up to an item.
-use Rattle.std.proofs.Common.{◌≡◌, ◌≢◌, ◌==◌, ◌<◌, ◌≤◌, ◌∙◌, ◌^◌, ◌-◌, ℕ, inl, inr, List, length, Option, Some, None, IsSome, refl, sym, ap, subst, arith, option_map, slice_get}
+use Rattle.std.proofs.Common.{◌≡◌, ◌≢◌, ◌==◌, ◌<◌, ◌≤◌, ◌∙◌, ◌^◌, ◌-◌, ℕ, inl, inr, List, length, Option, Some, None, refl, sym, ap, subst, arith, option_map, slice_get}
 use Rattle.std.proofs.lemmas.List.{length-map}
 use Rattle.std.specs.Cmp.{IsTotalOrder}
 use Rattle.std.specs.FinMap as finite
@@ -16,16 +16,14 @@ use Rattle.btree_shape.specs.Focus.Search.{levels_below}
 use Rattle.btree_shape.specs.Need.{levels_above}
 use Rattle.btree_shape.specs.Place.{IsLeaf, IsOccupied}
 use Rattle.btree_shape.specs.TreeState.{TreeState, IsBTree, IsPlaceIn, IsUsed, node_map, pairs_of}
-use Rattle.btree_shape.specs.WellFormed.{times_used}
 use Rattle.btree_shape.proofs.AddressLists.LeafEnds.{first-leaf-down, first-leaf-self}
-use Rattle.btree_shape.proofs.Paths.Parents.{get-times}
 use Rattle.btree_shape.proofs.Places.ChildPlaces.{child-places, up-from-end, down-to-first}
 use Rattle.btree_shape.proofs.Places.HasPlace.{low_or_end}
-use Rattle.btree_shape.proofs.Places.InNode.{index-in-parent, leaf-first, root-end}
+use Rattle.btree_shape.proofs.Places.InNode.{leaf-first, root-end}
 use Rattle.btree_shape.proofs.Trees.Numbers.{used-one}
 use Rattle.btree_shape.proofs.Trees.Stores.{used-view}
-use Rattle.btree_raw.proofs.SeparatorLemmas.{has-index, index-is}
 use Rattle.btree_find.specs.Navigation.{BeginsInLeaf, IsItemAt, LeadsToItem}
+use Rattle.btree_find.proofs.ParentLemmas.{child-there}
 use Rattle.btree_find.proofs.PlaceLemmas.{in-state, in-tree, item-here, no-item, placed, root-there, some-items}
 
 -- a leaf has no first child
@@ -179,37 +177,12 @@ module _ {K V : Type 0} (cmp : K → K → Ordering) (laws : IsTotalOrder cmp) (
           no-item cmp laws s tree place (omega arith)
 
       module _ (parent : ℕ) (up : parent_of (view_of node) ≡ Some parent) where
-        parent-index : (index : ℕ) × (slice_get (children_in (node_map s parent)) index ≡ Some id)
-        parent-index =
-            let r = root-there cmp laws s tree id (view_of node) focus in
-            index-in-parent (node_map s) levels r.0 (pairs_of s) (placed cmp laws s tree r.0 r.1) id (view_of node) focus parent up
-
-        children-used : (v : Option (View (K × V))) (index : ℕ) → slice_get (children_in v) index ≡ Some id → 0 < times_used v
-        children-used None index e = absurd (cc)
-        children-used (Some v) index e = omega arith
-
-        pub parent-used : IsUsed s parent
-        parent-used = let i = parent-index in used-view s.nodes parent (children-used (node_map s parent) i.0 i.1)
-
         module _ (above : Node K V) (at : finite.get s.nodes parent ≡ Some above) where
-          above-focus : node_map s parent ≡ Some (view_of above)
-          above-focus = ap (option_map view_of) at
-
           module _ (o : Option ℕ) (is : o ≡ position (λ child. child == id) (children_of (view_of above))) where
-            pub index-there : IsSome o
-            index-there =
-                let i = parent-index in
-                has-index id (children_of (view_of above)) o
-                (get-times (children_of (view_of above)) i.0 id (subst (λ v. slice_get (children_in v) i.0 ≡ Some id) above-focus i.1)) is
-
             module _ (index : ℕ) (found : o ≡ Some index) where
-              child-there : slice_get (children_in (node_map s parent)) index ≡ Some id
-              child-there =
-                  let i = index-is id index (children_of (view_of above)) (sym is ∙ found) in
-                  ap (λ v. slice_get (children_in v) index) above-focus ∙ i.1
-
               pub climb-next : index ≤ size_of (view_of above) → Climbs s start start_offset parent index above
               climb-next low =
+                  let below = child-there cmp laws s tree id node d.here parent up above at o is index found in
                   let r = root-there cmp laws s tree id (view_of node) focus in
                   let p = placed cmp laws s tree r.0 r.1 in
                   record {
@@ -217,12 +190,13 @@ module _ {K V : Type 0} (cmp : K → K → Ordering) (laws : IsTotalOrder cmp) (
                     within = low;
                     leads = λ place i.
                         in-state cmp laws s tree r.0 r.1 parent (Some index) place
-                        (up-from-end (node_map s) levels r.0 (pairs_of s) p parent index id child-there (view_of node) focus place
+                        (up-from-end (node_map s) levels r.0 (pairs_of s) p parent index id below (view_of node) focus place
                         (in-tree cmp laws s tree r.0 r.1 id (Some (size_of (view_of node))) place (end-place r.0 r.1 place i)));
                   }
 
               pub climb-smaller : levels_above (node_map s) levels parent < levels_above (node_map s) levels id
               climb-smaller =
+                  let below = child-there cmp laws s tree id node d.here parent up above at o is index found in
                   let r = root-there cmp laws s tree id (view_of node) focus in
                   let p = placed cmp laws s tree r.0 r.1 in
-                  (child-places (node_map s) levels r.0 (pairs_of s) p parent index id child-there).higher
+                  (child-places (node_map s) levels r.0 (pairs_of s) p parent index id below).higher

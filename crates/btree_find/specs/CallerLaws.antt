@@ -8,9 +8,10 @@ use Rattle.btree_item.specs.Pairs.{found}
 use Rattle.btree_item.specs.declared.address.Address.{Address}
 use Rattle.btree_view.specs.View.{item_in}
 use Rattle.btree_shape.specs.Place.{IsOccupied}
-use Rattle.btree_shape.specs.TreeState.{TreeState, item_of, node_map, pairs_of}
+use Rattle.btree_shape.specs.TreeState.{TreeState, IsOccupiedIn, item_of, node_map, pairs_of}
 use Rattle.btree_find.specs.Navigation.{IsItemAddress, IsItemAt, IsNext}
 
+-- the ordering that `is_eq` is true of is `Equal`
 pub equal-by : (o : Ordering) → is_eq o ≡ true → o ≡ Equal
 equal-by Less e = absurd (cc)
 equal-by Equal e = refl
@@ -31,17 +32,21 @@ module _ {K V : Type 0} (cmp : K → K → Ordering) (k : K) where
   found-equal (y ∷ ys) x e = equal-first (is_eq (cmp y.0 k)) y ys x refl e (found-equal ys x)
 
 module _ {K V : Type 0} (s : TreeState K V) where
+  -- at an occupied address there is an item
+  pub not-vacant : (a : Address) → IsOccupiedIn s a → item_of s a ≡ None → ⊥
+  not-vacant a = by a.offset
+    where
+      by : (o : Option ℕ) → IsOccupied (node_map s) a.id o → option_and_then (item_in (node_map s a.id)) o ≡ None → ⊥
+      by None is none = is
+      by (Some n) is none = let e = is.1 in absurd (cc)
+
   -- the pair at the address of an item, which the list has at its place
   pub pair-there : (place : ℕ) (a : Address) → IsItemAddress s place a
       → (x : K × V) × (slice_get (pairs_of s) place ≡ Some x) × (item_of s a ≡ Some x)
   pair-there place a here = by (item_of s a) refl
     where
-      none : (o : Option ℕ) → IsOccupied (node_map s) a.id o → option_and_then (item_in (node_map s a.id)) o ≡ None → ⊥
-      none None occupied e = occupied
-      none (Some n) occupied e = let there = occupied.1 in absurd (cc)
-
       by : (o : Option (K × V)) → item_of s a ≡ o → (x : K × V) × (slice_get (pairs_of s) place ≡ Some x) × (item_of s a ≡ Some x)
-      by None e = absurd (none a.offset here.occupied e)
+      by None e = absurd (not-vacant a here.occupied e)
       by (Some x) e = (x, sym here.item ∙ e, e)
 
   -- the pair that was read at the address of the item at a place is the list's pair there

@@ -6,13 +6,12 @@ use Rattle.std.proofs.Common.{◌≡◌, ◌≢◌, ◌≤◌, ◌+◌, ◌∙�
 use Rattle.std.proofs.lemmas.List.{reverse-append}
 use Rattle.std.specs.FinMap as map
 use Rattle.btree_item.specs.declared.address.Address.{Address}
-use Rattle.btree_shape.specs.AddressLaws.{IsFront}
 use Rattle.btree_shape.specs.Focus.Positions.{address_at}
-use Rattle.btree_shape.specs.Place.{IsWithin, NOWHERE}
+use Rattle.btree_shape.specs.Place.{NOWHERE}
 use Rattle.btree_shape.specs.TreeAddresses.{backs_of, first_back, fronts_of}
 use Rattle.btree_shape.specs.TreeState.{TreeState, IsValidIn, node_map, pairs_of}
 use Rattle.btree_shape.specs.Visits.{prior}
-use Rattle.btree_view.specs.View.{View}
+use Rattle.btree_shape.proofs.AddressLists.FrontAddresses.{front-within}
 use Rattle.btree_find.specs.Ends.{IsFirstBack, IsLastItem}
 use Rattle.btree_find.specs.Visits.{IsNextBack, IsPreviousFront}
 
@@ -101,11 +100,6 @@ module _ {K V : Type 0} (s : TreeState K V) where
         let counted = addresses.fronts.counted in
         ap (passed previous most) (last-listed last ends)
         ∙ (backwards previous (fronts_of s)
-        (λ i a e. (step a (inl (within (node_map s a.id) a.offset (addresses.fronts.right i a e)))).previous i e)
+        (λ i a e. (step a (inl (front-within (node_map s) (node_map s a.id) a.offset (addresses.fronts.right i a e)))).previous i e)
         (length (fronts_of s)) most (omega arith) (omega arith)
         ∙ ap reverse (take-all (fronts_of s)))
-      where
-        within : (v : Option (View (K × V))) (o : Option ℕ) → IsFront (node_map s) v o → IsWithin (node_map s) v o
-        within None o f = absurd f
-        within (Some v) None f = tt
-        within (Some v) (Some offset) f = omega (arith, f)

@@ -10,9 +10,11 @@ use Rattle.btree_view.specs.LookUp.{look_up}
 use Rattle.btree_view.specs.View.{View, items_of, children_of}
 
 module _ {K V : Type 0} (cmp : K → K → Ordering) (k : K) (node : View (K × V)) where
+  -- a look-up in a node ends at an item with the key
   pub look_up-Ok : (item : K × V) → found cmp k (items_of node) ≡ Some item → look_up cmp k node ≡ Ok (Some item.1)
   look_up-Ok item finds = rw finds refl
 
+  -- without such an item it goes on at the child after all items below the key
   pub look_up-Err : (i id : ℕ) → found cmp k (items_of node) ≡ None → before cmp k (items_of node) ≡ i → slice_get (children_of node) i ≡ Some id → look_up cmp k node ≡ Err id
   look_up-Err i id absent count child =
       let at : slice_get (children_of node) (before cmp k (items_of node)) ≡ Some id = ap (slice_get (children_of node)) count ∙ child in

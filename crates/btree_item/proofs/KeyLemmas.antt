@@ -12,6 +12,7 @@ use Rattle.std.proofs.lemmas.Map.Keys.{sorted_head, sorted_tail}
 use Rattle.std.proofs.lemmas.List.Sums.{sum_by-cons}
 use Rattle.btree_item.specs.Keys.{count_below, has_key, key_place, AllBelow, IsNotBelowAt, IsFirstNotBelow}
 
+-- the ordering that `is_lt` is true of is `Less`
 pub Less-from_is_lt : (c : Ordering) → is_lt c ≡ true → c ≡ Less
 Less-from_is_lt Less h = refl
 Less-from_is_lt Equal h = absurd (cc)
@@ -26,6 +27,7 @@ or_true true = refl
 or_true false = refl
 
 module _ {X : Type 0} (test : X → Bool) where
+  -- of a first element and others, those that pass a test are counted one by one
   pub count_by-cons : (x : X) (xs : List X) → count_by test (x ∷ xs) ≡ cond (test x) 1 0 + count_by test xs
   count_by-cons x xs = sum_by-cons (λ y. cond (test y) 1 0) x xs
 

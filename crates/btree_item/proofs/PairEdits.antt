@@ -32,6 +32,7 @@ module _ {X : Type 0} where
   remove-insert [] (suc p) x within = absurd (omega arith)
   remove-insert (y ∷ xs) (suc p) x within = ap (λ l. y ∷ l) (remove-insert xs p x (omega arith))
 
+  -- the inserted element is at the place where it was inserted
   pub slice_get-insert : (xs : List X) (p : ℕ) (x : X) → p ≤ length xs → slice_get (insert xs p x) p ≡ Some x
   slice_get-insert xs zero x within = refl
   slice_get-insert [] (suc p) x within = absurd (omega arith)
@@ -42,13 +43,14 @@ module _ {X : Type 0} where
   AllByRecursion-insert P [] (suc p) x all here = (here, tt)
   AllByRecursion-insert P (y ∷ xs) (suc p) x all here = (all.0, AllByRecursion-insert P xs p x all.1 here)
 
+-- the keys after an insertion are the keys before with one more, at the same place
 pub keys_of-insert : {K V : Type 0} (xs : List (K × V)) (p : ℕ) (x : K × V) → keys_of (insert xs p x) ≡ insert (keys_of xs) p x.0
 keys_of-insert xs zero x = refl
 keys_of-insert [] (suc p) x = refl
 keys_of-insert (y ∷ xs) (suc p) x = ap (λ l. y.0 ∷ l) (keys_of-insert xs p x)
 
 module _ {K : Type 0} (cmp : K → K → Ordering) where
-  -- `Ascends` of no pairs
+  -- no pairs are in order
   pub Ascends-none : IsStrictlySortedBy cmp []
   unfolding IsStrictlySortedBy
   Ascends-none = tt
@@ -66,7 +68,8 @@ module _ {K : Type 0} (cmp : K → K → Ordering) where
     Less-from_apart Equal k q is not_below apart = absurd (cc)
     Less-from_apart Greater k q is not_below apart = o.antisymm k q ∙ ap ordering_reverse is
 
-    all_above : (k x : K) (keys : List K) → cmp k x ≡ Less → AllByRecursion (λ y. cmp x y ≡ Less) keys → AllByRecursion (λ y. cmp k y ≡ Less) keys
+    -- a key below another is below all that are above that one
+    pub all_above : (k x : K) (keys : List K) → cmp k x ≡ Less → AllByRecursion (λ y. cmp x y ≡ Less) keys → AllByRecursion (λ y. cmp k y ≡ Less) keys
     all_above k x [] less all = tt
     all_above k x (y ∷ keys) less all = (o.trans k x y less all.0, all_above k x keys less all.1)
 
@@ -84,9 +87,11 @@ module _ {K : Type 0} (cmp : K → K → Ordering) where
         (IsStrictlySortedBy-insert k p keys (sorted_tail cmp x keys up) (omega arith) rest above)
 
 module _ {K V : Type 0} (cmp : K → K → Ordering) where
+  -- a single pair is in order
   pub Ascends-one : (x : K × V) → Ascends cmp (x ∷ [])
   Ascends-one x = sorted_cons cmp x.0 [] tt (Ascends-none cmp)
 
+  -- at most as many pairs are below a key as there are
   pub before-le-length : (k : K) (xs : List (K × V)) → before cmp k xs ≤ length xs
   before-le-length k xs = count_by-le-length (λ x. is_lt (cmp x.0 k)) xs
 

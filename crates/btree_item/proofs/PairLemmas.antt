@@ -25,6 +25,7 @@ Err-cases false n i h = (refl, cc)
 
 module _ {K V : Type 0} (cmp : K → K → Ordering) where
   -- ---- the same for the keys as for the pairs
+  -- as many keys are below a key as pairs are before it
   pub count_below-keys_of : (k : K) (xs : List (K × V)) → count_below cmp k (keys_of xs) ≡ before cmp k xs
   count_below-keys_of k [] = refl
   count_below-keys_of k (x ∷ xs) =
@@ -40,6 +41,7 @@ module _ {K V : Type 0} (cmp : K → K → Ordering) where
   has_key-keys_of k [] = refl
   has_key-keys_of k (x ∷ xs) = has_key-by (is_eq (cmp x.0 k)) k x xs refl (has_key-keys_of k xs)
 
+  -- a key has the same place among the keys as among the pairs
   pub key_place-keys_of : (k : K) (xs : List (K × V)) → key_place cmp k (keys_of xs) ≡ place_of cmp k xs
   key_place-keys_of k xs =
       let has = has_key-keys_of k xs in
@@ -47,15 +49,19 @@ module _ {K V : Type 0} (cmp : K → K → Ordering) where
       rw (has, count) refl
 
   -- ---- what a place means
+  -- where a key is found, the pairs before it are as many as its place says
   pub before-from_Ok : (k : K) (xs : List (K × V)) (i : ℕ) → place_of cmp k xs ≡ Ok i → before cmp k xs ≡ i
   before-from_Ok k xs i place = (Ok-cases (is_some (found cmp k xs)) (before cmp k xs) i place).1
 
+  -- a key that is not found belongs after all pairs before it
   pub before-from_Err : (k : K) (xs : List (K × V)) (i : ℕ) → place_of cmp k xs ≡ Err i → before cmp k xs ≡ i
   before-from_Err k xs i place = (Err-cases (is_some (found cmp k xs)) (before cmp k xs) i place).1
 
+  -- a key without a place is that of no pair
   pub found-from_Err : (k : K) (xs : List (K × V)) (i : ℕ) → place_of cmp k xs ≡ Err i → found cmp k xs ≡ None
   found-from_Err k xs i place = None-from_is_some (found cmp k xs) (Err-cases (is_some (found cmp k xs)) (before cmp k xs) i place).0
 
+  -- an insertion of an absent key adds a pair at the place where it belongs
   pub inserted-from_Err : (k : K) (w : V) (xs : List (K × V)) (i : ℕ) → place_of cmp k xs ≡ Err i → inserted cmp k w xs ≡ insert xs i (k, w)
   inserted-from_Err k w xs i place =
       let cases = Err-cases (is_some (found cmp k xs)) (before cmp k xs) i place in
@@ -126,24 +132,28 @@ module _ {K V : Type 0} (cmp : K → K → Ordering) where
     found_by (Some p) k xs i is up place =
         ap (slice_get xs) (sym (before-from_Ok k xs i place)) ∙ slice_get-before k p xs up is
 
+    -- the pair at the place of a key is the pair with that key
     pub slice_get-from_Ok : (k : K) (xs : List (K × V)) (i : ℕ) → Ascends cmp xs → place_of cmp k xs ≡ Ok i → slice_get xs i ≡ found cmp k xs
     slice_get-from_Ok k xs i up place = found_by (found cmp k xs) k xs i refl up place
 
+    -- to set the value at the place of a key is to replace the value of the key
     pub set-from_Ok : (k : K) (w : V) (xs : List (K × V)) (i : ℕ) (p : K × V) → Ascends cmp xs → place_of cmp k xs ≡ Ok i → slice_get xs i ≡ Some p → set xs i (p.0, w) ≡ with_value cmp k w xs
     set-from_Ok k w xs i p up place at =
         let finds = sym (slice_get-from_Ok k xs i up place) ∙ at in
         ap (λ n. set xs n (p.0, w)) (sym (before-from_Ok k xs i place)) ∙ set-before k w p xs up finds
 
+    -- an insertion of a present key sets the value at its place
     pub inserted-from_Ok : (k : K) (w : V) (xs : List (K × V)) (i : ℕ) (p : K × V) → Ascends cmp xs → place_of cmp k xs ≡ Ok i → slice_get xs i ≡ Some p → inserted cmp k w xs ≡ set xs i (p.0, w)
     inserted-from_Ok k w xs i p up place at =
         let present = (Ok-cases (is_some (found cmp k xs)) (before cmp k xs) i place).0 in
         rw present (sym (set-from_Ok k w xs i p up place at))
 
-    -- the result of a search, in terms of the pairs
+    -- at the place where a search finds a key is the pair with that key
     pub slice_get-from_place : (k : K) (xs : List (K × V)) (r : Result ℕ ℕ) → Ascends cmp xs → r ≡ place_of cmp k xs → IfOk r (λ i. slice_get xs i ≡ found cmp k xs)
     slice_get-from_place k xs (Ok i) up place = slice_get-from_Ok k xs i up (sym place)
     slice_get-from_place k xs (Err i) up place = tt
 
+  -- a search that ends without a hit is for a key of no pair
   pub found-from_place : (k : K) (xs : List (K × V)) (r : Result ℕ ℕ) → r ≡ place_of cmp k xs → OnErr r (found cmp k xs ≡ None)
   found-from_place k xs (Ok i) place = tt
   found-from_place k xs (Err i) place = found-from_Err k xs i (sym place)

@@ -27,4 +27,6 @@ pub enum Fault {
     WrongLength,
     /// The store holds a node that is not in the tree.
     Unreachable,
+    /// The length is greater than its limit.
+    OverLimit,
 }

@@ -4,6 +4,7 @@ use Rattle.std.proofs.lemmas.Option.{slice_get_past}
 use Rattle.std.specs.List.{remove}
 use Rattle.std.specs.declared.cmp.Ordering.{Ordering}
 use Rattle.btree_item.specs.declared.address.Address.{Address}
+use Rattle.btree_node.proofs.RoomLemmas.{none-last}
 use Rattle.btree_shape.specs.TreeState.{TreeState, pairs_of}
 use Rattle.btree_find.specs.Ends.{IsFirstItem, IsLastItem}
 use Rattle.btree_find.specs.Navigation.{IsItemAddress, IsItemBefore}
@@ -25,15 +26,6 @@ last-rest (y ∷ z ∷ zs) x e =
 first-empty : {X : Type 0} (xs : List X) → None ≡ slice_get xs 0 → xs ≡ []
 first-empty [] e = refl
 first-empty (y ∷ ys) e = absurd (cc)
-
-last-empty : {X : Type 0} (xs : List X) → None ≡ slice_get xs (length xs - 1) → xs ≡ []
-last-empty [] e = refl
-last-empty (y ∷ []) e = absurd (cc)
-last-empty (y ∷ z ∷ zs) e =
-    let less : length (y ∷ z ∷ zs) - 1 ≡ suc (length (z ∷ zs) - 1) = omega arith in
-    let at : None ≡ slice_get (y ∷ z ∷ zs) (suc (length (z ∷ zs) - 1)) = subst (λ n. None ≡ slice_get (y ∷ z ∷ zs) n) less e in
-    let none : z ∷ zs ≡ [] = last-empty (z ∷ zs) at in
-    absurd (cc)
 
 module _ {K V : Type 0} (old : TreeState K V) where
   -- without a first pair, or a last one, there are no pairs
@@ -61,7 +53,7 @@ module _ {K V : Type 0} (old : TreeState K V) where
       subst (λ (p : ℕ). IsItemAddress old p a) last is.here
 
   pub no-last : IsLastItem old None → pairs_of old ≡ []
-  no-last is = last-empty (pairs_of old) (last-none is)
+  no-last is = none-last (pairs_of old) (last-none is)
 
   pub last-some : (a : Address) → IsLastItem old (Some a) → IsItemAddress old (length (pairs_of old) - 1) a
   last-some a is = before-some (length (pairs_of old)) a is.item

@@ -2,7 +2,7 @@
 -- Read `inserted_all` first: `extend`, `from_iter` and `append` cite it. `Extends` says how far an iterator was stepped,
 -- and `Moves` the same of the list that `append` takes pairs from. `IsRefusedInTurn` is the refusal of one of the pairs.
 -- The words after it say these of whole trees, and of a refused insertion.
-use Rattle.std.specs.Prelude.{◌≡◌, ◌≢◌, List, [], ◌∷◌, ◌++◌, Option, None, Some, option_map}
+use Rattle.std.specs.Prelude.{◌≡◌, ◌≢◌, ◌≤◌, ⊥, List, [], ◌∷◌, ◌++◌, length, Option, None, Some, option_map}
 use Rattle.std.specs.Borrow.{Bor}
 use Rattle.std.specs.Iterator.{YieldsThen}
 use Rattle.std.specs.declared.cmp.Ordering.{Ordering}
@@ -11,7 +11,7 @@ use Rattle.btree_item.specs.Pairs.{found, inserted}
 use Rattle.btree_item.specs.declared.refused.Cause.{Cause}
 use Rattle.btree_item.specs.declared.refused.Refused.{Refused}
 use Rattle.btree_node.specs.declared.node.Node.{Node}
-use Rattle.btree_shape.specs.TreeState.{Kept, TreeState, pairs_of}
+use Rattle.btree_shape.specs.TreeState.{Kept, TreeState, pairs_of, with_limit}
 use Rattle.btree_edit.specs.Insert.{IsRefusedAtGap}
 
 module _ {K V : Type 0} (cmp : K → K → Ordering) where
@@ -68,9 +68,18 @@ module _ {K V : Type 0} (cmp : K → K → Ordering) where
   abbrev pub RefusesInTurn : (MayRefuse : Content (Node K V) → Type 0) → (kept : Kept) → (new : TreeState K V) → Refused K V → Type 0
   RefusesInTurn MayRefuse kept new refused = IsRefusedInTurn MayRefuse refused.key kept new refused.cause
 
--- the two are swapped if the first has no pairs and the other has some
-abbrev pub SwapsIntoEmpty : {K V : Type 0} → (old other new rest : TreeState K V) → Type 0
-SwapsIntoEmpty old other new rest = pairs_of old ≡ [] → pairs_of other ≢ [] → (new ≡ other) × (rest ≡ old)
+module _ {K V : Type 0} (old other : TreeState K V) where
+  -- the first has no pairs, and those of the other are within its limit
+  abbrev pub HasRoomForAll : Type 0
+  HasRoomForAll = (pairs_of old ≡ []) × (length (pairs_of other) ≤ old.kept.limit)
+
+  -- else the pairs are moved one at a time
+  abbrev pub MovesEach : Type 0
+  MovesEach = HasRoomForAll → ⊥
+
+  -- then all but the limits is exchanged, if the other has pairs
+  abbrev pub SwapsIntoEmpty : (new rest : TreeState K V) → Type 0
+  SwapsIntoEmpty new rest = HasRoomForAll → pairs_of other ≢ [] → (new ≡ with_limit other old.kept.limit) × (rest ≡ with_limit old other.kept.limit)
 
 -- the steps of an iterator that lends keys and values, as steps that give copies
 abbrev pub copied_steps : {S K V : Type 0} → (S → Option (Bor K × Bor V) → S → Type 0) → S → Option (K × V) → S → Type 0

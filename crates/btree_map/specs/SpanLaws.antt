@@ -60,6 +60,7 @@ at-own (x ∷ xs) n a here = by (λ m later. at-own xs m a later) (is_same a x) 
         ∙ ap (slice_get (x ∷ xs)) one
         ∙ further n here
 
+-- the index of an address is within the list
 pub index-within : (list : List Address) (found : Option Address) → index_of list found ≤ length list
 index-within list None = omega arith
 index-within list (Some a) = prefix_len-le-length (λ x. not (is_same a x)) list

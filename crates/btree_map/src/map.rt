@@ -1,7 +1,8 @@
 //! The map.
 ghost use Rattle.std.specs.Prelude.{◌≡◌, ◌↔◌, [], length, Err, IsOk, IsTrue, IsSome, IfSome, IfNone, IfOk, IfErr, OnOk, OnErr, None, option_copied};
 ghost use Rattle.std.specs.FinMap as map;
-ghost use Rattle.btree_valid.specs.Verdicts.{IsVerdict};
+ghost use Rattle.btree_valid.specs.Faults.{IsRawVerdict};
+ghost use Rattle.btree_raw.specs.Limit.{IsBTreeWithinLimit, IsWithinLimit};
 
 use btree_ext::{BTreeExt, BTreeExtMut, Tree};
 use btree_item::{Address, Fault, Item, Refused, UpdateRefused};
@@ -32,7 +33,7 @@ impl<K: Ord, V, C: NodesMut<K, V>> BTreeMap<K, V, C> {
     ghost use Rattle.std.specs.Option.{option_copied_mut};
     ghost use Rattle.btree_node.specs.contracts.node.Node.{the_row as node_row};
     ghost use Rattle.btree_item.specs.Pairs.{found_value};
-    ghost use Rattle.btree_shape.specs.TreeState.{IsBTree, pairs_of, rootless, unlimited};
+    ghost use Rattle.btree_shape.specs.TreeState.{IsBTree, limited_to, pairs_of, rootless, unlimited};
     ghost use Rattle.btree_edit.specs.Outcomes.{ExchangesLent};
     ghost use Rattle.btree_map.specs.Lent.{lends_at_key};
 
@@ -49,7 +50,22 @@ impl<K: Ord, V, C: NodesMut<K, V>> BTreeMap<K, V, C> {
         }
     }
 
-    /// Returns a map without pairs, over an empty store; the store's `len` tells whether it is empty. It keeps its count of refusals.
+    /// Returns a map without pairs that has at most `limit`, over an empty store made from `origin`. It allocates no memory. With the limit 0
+    /// every absent key is refused.
+    ///
+    /// The contract requires that a node fits in memory, as that of `new`.
+    pub fn with_limit(origin: C::Origin, limit: usize) -> Self
+        requires { FitsInMemory (node_row K.row V.row) }
+        ensures empty { pairs_of result ≡ [] }
+        ensures state { result ≡ rootless map.empty (limited_to limit) }
+    {
+        BTreeMap {
+            tree: Tree::with_limit(origin, limit),
+        }
+    }
+
+    /// Returns a map without pairs, over an empty store; the store's `len` tells whether it is empty. It keeps its count of refusals,
+    /// and allocates no memory.
     ///
     /// The contract requires that a node fits in memory, as that of `new`.
     pub fn in_store(nodes: C) -> Self
@@ -68,6 +84,13 @@ impl<K: Ord, V, C: NodesMut<K, V>> BTreeMap<K, V, C> {
         ensures { result ≡ length (pairs_of self.now) }
     {
         self.tree.len()
+    }
+
+    /// Returns how many pairs there may be: `usize::MAX`, unless the map was made with another limit.
+    pub fn limit(&self) -> usize
+        ensures { result ≡ self.now.kept.limit }
+    {
+        self.tree.limit()
     }
 
     /// Returns whether there are no pairs.
@@ -100,18 +123,19 @@ impl<K: Ord, V, C: NodesMut<K, V>> BTreeMap<K, V, C> {
     pub fn into_raw(self) -> RawBTree<K, V, C>
         ensures value { result ≡ self }
         ensures well_formed { IsBTree K.cmp result }
+        ensures within { IsWithinLimit result }
     {
         let BTreeMap { tree } = self;
         tree.into_raw()
     }
 
-    /// Returns a raw tree as a map, if it is well formed, and else as it was, with the fault that `validate` returns. It reads each node
-    /// of a well formed tree once, copies nothing and uses no memory but the stack.
+    /// Returns a raw tree as a map, if it is well formed and within its limit, and else as it was, with the fault that `validate` returns.
+    /// It reads each node of a well formed tree once, copies nothing and uses no memory but the stack.
     pub fn from_raw(raw: RawBTree<K, V, C>) -> Result<Self, (RawBTree<K, V, C>, Fault)>
-        ensures exact { IsOk result ↔ IsBTree K.cmp raw }
+        ensures exact { IsOk result ↔ IsBTreeWithinLimit raw K.cmp }
         ensures kept { IfOk result (λ map. map ≡ raw) }
         ensures returned { IfErr result (λ r. r.0 ≡ raw) }
-        ensures verdict { IfErr result (λ r. IsVerdict K.cmp raw.nodes raw.root raw.len (Err r.1)) }
+        ensures verdict { IfErr result (λ r. IsRawVerdict K.cmp raw (Err r.1)) }
     {
         match Tree::from_raw(raw) {
             Ok(tree) => Ok(BTreeMap { tree }),

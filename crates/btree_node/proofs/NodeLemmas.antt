@@ -52,14 +52,18 @@ module _ {A : Type 0} where
 
 -- a write to an item: the kind, the parent and the children stay
 module _ {K V : Type 0} (node : Node K V) (i : ℕ) (x : K × V) where
+  -- a node whose item was exchanged is of the same kind
   pub item_at-kind : is_internal (view_of (node_with_item_at (Some i) node x)) ≡ is_internal (view_of node)
   item_at-kind = ap is_internal (item_at-view node i x) ∙ with_items-kind (set (items_of (view_of node)) i x) (view_of node)
 
+  -- an exchange of an item keeps the node's parent
   pub item_at-parent : parent_of (view_of (node_with_item_at (Some i) node x)) ≡ parent_of (view_of node)
   item_at-parent = ap parent_of (item_at-view node i x) ∙ with_items-parent (set (items_of (view_of node)) i x) (view_of node)
 
+  -- an exchange of an item changes the items at its index alone
   pub item_at-items : items_of (view_of (node_with_item_at (Some i) node x)) ≡ set (items_of (view_of node)) i x
   item_at-items = ap items_of (item_at-view node i x) ∙ set-items (view_of node) i x
 
+  -- an exchange of an item keeps the node's children
   pub item_at-children : children_of (view_of (node_with_item_at (Some i) node x)) ≡ children_of (view_of node)
   item_at-children = ap children_of (item_at-view node i x) ∙ set-children (view_of node) i x

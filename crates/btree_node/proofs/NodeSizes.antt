@@ -9,9 +9,11 @@ use Rattle.btree_internal.specs.contracts.internal.Branch.{the_row as branch_row
 use Rattle.btree_internal.specs.contracts.internal.InternalNode.{the_row as internal_row}
 use Rattle.btree_leaf.specs.contracts.leaf.LeafNode.{the_row as leaf_row}
 
+-- where a node's size is allowed, so is that of an internal node
 pub fits-internal : (k v : RattleType) → size (layout (node_row (param 0 k) (param 1 v))) < 2 ^ 63 → size (layout (internal_row (param 0 k) (param 1 v))) < 2 ^ 63
 fits-internal k v fits = omega arith
 
+-- where a node's size is allowed, so is that of a leaf
 pub fits-leaf : (k v : RattleType) → size (layout (node_row (param 0 k) (param 1 v))) < 2 ^ 63 → size (layout (leaf_row (param 0 k) (param 1 v))) < 2 ^ 63
 fits-leaf k v fits = omega arith
 

@@ -1,7 +1,7 @@
 //! The set.
 ghost use Rattle.std.specs.Prelude.{◌≡◌, ◌↔◌, [], IfErr, IsTrue, OnErr, OnOk, length};
 ghost use Rattle.std.specs.FinMap as map;
-ghost use Rattle.btree_shape.specs.TreeState.{unlimited};
+ghost use Rattle.btree_shape.specs.TreeState.{limited_to, unlimited};
 ghost use Rattle.btree_range_set.specs.Ranges.{CutsOne, IsDifference, IsUnion, JoinsNone, has_number};
 ghost use Rattle.btree_range_set.specs.State.{GrowsWithinLimit, IsRefused};
 
@@ -44,7 +44,18 @@ impl<C: NodesMut<u64, u64>> RangeSet<C> {
         }
     }
 
-    /// Returns a set without numbers, over an empty store; the store's `len` tells whether it is empty. It keeps its count of refusals.
+    /// Returns a set without numbers that has at most `limit` ranges, over an empty store made from `origin`. It allocates no memory.
+    pub fn with_limit(origin: C::Origin, limit: usize) -> Self
+        ensures empty { result.ranges ≡ [] }
+        ensures uncounted { result.kept ≡ limited_to limit }
+    {
+        RangeSet {
+            map: BTreeMap::with_limit(origin, limit),
+        }
+    }
+
+    /// Returns a set without numbers, over an empty store; the store's `len` tells whether it is empty. It keeps its count of refusals,
+    /// and allocates no memory.
     pub fn in_store(nodes: C) -> Self
         requires { map.len (C.content nodes) ≡ 0 }
         ensures empty { result.ranges ≡ [] }
@@ -80,7 +91,7 @@ impl<C: NodesMut<u64, u64>> RangeSet<C> {
     /// nothing changes.
     ///
     /// If a range meets or touches these numbers, it needs no new node and cannot fail. Otherwise it returns an error, with `start` and
-    /// `end`, if the store refuses a node that is needed, or if the number of ranges has reached its limit, `usize::MAX`.
+    /// `end`, if the store refuses a node that is needed, or if the number of ranges has reached its limit.
     pub fn insert(&mut self, start: u64, end: u64) -> Result<(), Refused<u64, u64>>
         ensures united { OnOk result (IsUnion self.old.ranges start end self.new.ranges) }
         ensures uncounted { OnOk result (self.new.kept ≡ self.old.kept) }
@@ -99,7 +110,7 @@ impl<C: NodesMut<u64, u64>> RangeSet<C> {
     /// Removes the numbers from `start` up to `end`, which is not removed. If `start` is at least `end`, nothing changes.
     ///
     /// It fails only if the numbers are inside one range, which then would become two: it returns an error, with `start` and `end`, if the
-    /// store refuses a node that is needed, or if the number of ranges has reached its limit, `usize::MAX`.
+    /// store refuses a node that is needed, or if the number of ranges has reached its limit.
     pub fn remove(&mut self, start: u64, end: u64) -> Result<(), Refused<u64, u64>>
         ensures without { OnOk result (IsDifference self.old.ranges start end self.new.ranges) }
         ensures uncounted { OnOk result (self.new.kept ≡ self.old.kept) }

@@ -50,7 +50,7 @@ module _ {N : Type 0} (empty : N) where
   }
 
 module _ {K V : Type 0} where
-  -- claims in a map of nodes
+  -- claims in a store are claims among its views
   pub claims-focus : (nodes : Content (Node K V)) (ids : List ℕ) → AreClaims EMPTY nodes ids → Claims (views nodes) (views (with_claims EMPTY nodes ids)) ids
   claims-focus nodes [] a = record { counted = λ n. omega arith; kept = λ n none. refl }
   claims-focus nodes (id ∷ ids) a =
@@ -78,6 +78,7 @@ module _ {K V : Type 0} where
         ];
       }
 
+  -- claimed numbers are below the number that stands for nowhere
   pub claims-low : (nodes : Content (Node K V)) (ids : List ℕ) → AreClaims EMPTY nodes ids → All (λ id. id < 2 ^ 64 - 1) ids
   claims-low nodes [] a k d low = absurd (omega arith)
   claims-low nodes (id ∷ ids) a zero d low = a.1

@@ -20,9 +20,11 @@ module _ {K V : Type 0} (nodes : Content (Node K V)) (id : ℕ) (node : Node K V
   written : views (map.insert nodes id node) id ≡ Some (view_of node)
   written = (writes_node nodes (map.insert nodes id node) id node refl).here
 
+  -- a node that was written has the number of items that was counted in it
   pub count-written : (count : ℕ) → count ≡ size_of (view_of node) → HasCount (views (map.insert nodes id node)) id count
   count-written count e = ap (option_map size_of) written ∙ ap Some (sym e)
 
+  -- a node that was written has the parent that was read in it
   pub parent-written : (parent : Option ℕ) → parent ≡ parent_of (view_of node) → HasParent (views (map.insert nodes id node)) id parent
   parent-written parent e = ap (option_map parent_of) written ∙ ap Some (sym e)
 

@@ -31,7 +31,7 @@ use Rattle.btree_raw.specs.Raw.{with_node}
 use Rattle.btree_raw.proofs.PlacedLemmas.{in-state, in-tree, leaf-without, placed, root-there, some-items, used-of, well}
 use Rattle.btree_raw.proofs.StateLemmas.{same-root}
 
--- the last child of an internal node
+-- a node with a child past its last item is internal, and the child is its last one
 pub internal-last : {A : Type 0} (v : View A) (count child : ℕ) → count ≡ size_of v → Some child ≡ slice_get (children_of v) count
     → (parent : Option ℕ) × (first : ℕ) × (branches : List (A × ℕ)) × (v ≡ internal parent first branches) × (last_child first branches ≡ child)
 internal-last (leaf parent items) count child is e = absurd (cc)
@@ -60,6 +60,7 @@ module _ {K V : Type 0} (s : TreeState K V) where
     pub ends : (place size last : ℕ) → size_at start ≡ Some size → size_at id ≡ Some last
         → IsPlaceIn s (address_at start size) place → IsPlaceIn s (address_at id last) place
 
+  -- the way to the last leaf begins at the node itself
   pub right-start : (id : ℕ) → IsUsed s id → DescendsRight id id
   right-start id used =
       record {
@@ -84,6 +85,7 @@ module _ {K V : Type 0} (cmp : K → K → Ordering) (laws : IsTotalOrder cmp) (
       last-child : slice_get (children_in (node_map s id)) count ≡ Some child
       last-child = ap (λ v. slice_get (children_in v) count) here ∙ sym after
 
+      -- the way to the last leaf goes on at the last child
       pub right-next : DescendsRight s start child
       right-next =
           let r = root-there cmp laws s tree id (view_of node) here in
@@ -103,12 +105,14 @@ module _ {K V : Type 0} (cmp : K → K → Ordering) (laws : IsTotalOrder cmp) (
                 (in-tree cmp laws s tree r.0 r.1 id (Some count) place (d.ends place size count e sized i))));
           }
 
+      -- with each step there is a level less below
       pub right-smaller : levels_below (node_map s) levels child < levels_below (node_map s) levels id
       right-smaller =
           let r = root-there cmp laws s tree id (view_of node) here in
           let p = placed cmp laws s tree r.0 r.1 in
           (child-places (node_map s) levels r.0 (pairs_of s) p id count child last-child).lower
 
+    -- the way to the last leaf ends at a node without children, past its last item
     pub right-end : None ≡ slice_get (children_of (view_of node)) count → EndsInLeaf s start (id, count)
     right-end none =
         let l = leaf-without (view_of node) count (omega arith) (sym none) in

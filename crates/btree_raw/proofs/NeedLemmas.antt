@@ -91,6 +91,7 @@ module _ (A : Type 0) where
             let q = less-no (frame_count f) 7 0 (path_need c) full in omega arith
       ]
 
+  -- an insertion needs at most two nodes more than there are levels above
   pub path_need_from-few : (h : ℕ) (c : Path A h) (n : ℕ) → path_need_from c n ≤ depth c + 2
   path_need_from-few h c n = elim (less-or n (most_at h)) [
     | inl low ↦ let q = less-yes n (most_at h) 0 (path_need c) low in omega arith
@@ -120,7 +121,7 @@ module _ {K V : Type 0} (cmp : K → K → Ordering) (s : TreeState K V) (start 
     first : (number : ℕ) → s.root ≡ Some number → IsNode (K × V) sight number listed start
     first number is = node-at (K × V) sight number listed (rooted number is) start start-used
 
-    -- there is a root, since a node is used
+    -- where a node is used, the splits from it need as many nodes as an insertion
     pub need-split_need : nodes_for_splits s start ≡ nodes_needed s start
     need-split_need = let r = root-is s.root sound.formed in sym (ap (λ t. need sight t (map.len s.nodes) start) r.1)
 

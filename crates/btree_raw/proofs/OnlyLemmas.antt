@@ -1,5 +1,5 @@
 -- The only item of a tree without nodes.
-use Rattle.std.proofs.Common.{◌≡◌, ◌≢◌, ◌+◌, ℕ, inl, inr, [], ◌∷◌, Option, Some, None, refl, sym, ap, subst, ◌∙◌, ◌<◌, ◌-◌, ◌^◌, option_map, arith}
+use Rattle.std.proofs.Common.{◌≡◌, ◌+◌, ℕ, inl, [], ◌∷◌, Option, Some, None, sym, ap, subst, ◌∙◌, ◌<◌, ◌-◌, option_map, arith}
 use Rattle.std.specs.FinMap as map
 use Rattle.std.specs.Ordering.{nat_cmp}
 use Rattle.btree_item.specs.declared.refused.Cause.TheVariants.{Store}
@@ -10,14 +10,13 @@ use Rattle.btree_item.specs.declared.address.Address.{Address}
 use Rattle.btree_node.specs.declared.node.Node.{Node}
 use Rattle.btree_node.specs.Node.{view_of}
 use Rattle.btree_view.specs.View.{leaf, item_in}
-use Rattle.btree_shape.specs.Place.{IsPlace, IsPlaceOf, IsWithin}
-use Rattle.btree_shape.specs.Lists.{one, times_listed}
+use Rattle.btree_shape.specs.Place.{IsPlace, IsWithin}
+use Rattle.btree_shape.specs.Lists.{one}
 use Rattle.btree_shape.specs.Step.{WritesNode}
 use Rattle.btree_shape.specs.TreeState.{TreeState, Changes, node_map, pairs_of}
-use Rattle.btree_shape.specs.WellFormed.{IsWellFormed, times_used}
-use Rattle.btree_shape.proofs.Paths.Frames.{one-self, one-other}
-use Rattle.btree_shape.proofs.Trees.Numbers.{same-or}
+use Rattle.btree_shape.specs.WellFormed.{IsWellFormed}
 use Rattle.btree_shape.proofs.Splits.Insertion.{first-well}
+use Rattle.btree_shape.proofs.Trees.OneLeaf.{IsOneLeaf, once_here, only-place}
 use Rattle.btree_shape.proofs.Trees.Stores.{len-views}
 use Rattle.btree_shape.specs.Need.{need}
 use Rattle.btree_shape.proofs.Trees.States.{is-tree-but-length, pairs-tree}
@@ -37,6 +36,17 @@ only-refused MayRefuse old new id rootless refuses may room =
     let one : need (node_map old) old.root (map.len old.nodes) id ≡ 1 = ap (λ t. need (node_map old) t (map.len old.nodes) id) rootless in
     (refuses, record { ids = []; fewer = rw one (omega arith); claims = tt; may = may }, room)
 
+module _ {K V : Type 0} (old mid put : TreeState K V) (root : ℕ) (node : Node K V) (x : K × V) (claimed : mid ≡ record old { nodes = map.insert old.nodes root EMPTY })
+    (changes : Changes (λ p q. WritesNode p q root (view_of node)) mid put) (is : view_of node ≡ leaf None (x ∷ [])) where
+  -- a leaf that was claimed where no node was is the only node
+  pub only-leaf : ((n : ℕ) → node_map old n ≡ None) → IsOneLeaf (node_map put) root (x ∷ [])
+  only-leaf none = record {
+    here = changes.nodes.here ∙ ap Some is;
+    alone = λ n differs.
+        changes.nodes.others n differs
+        ∙ (ap (option_map view_of) (ap (λ m. map.get m n) (nodes-of claimed) ∙ get-insert_other old.nodes root EMPTY n differs) ∙ none n);
+  }
+
 module _ {K V : Type 0} (cmp : K → K → Ordering) (old mid put : TreeState K V) (root : ℕ) (rootless : old.root ≡ None) (empty : map.len old.nodes ≡ 0)
     (node : Node K V) (x : K × V) (claimed : mid ≡ record old { nodes = map.insert old.nodes root EMPTY }) (changes : Changes (λ p q. WritesNode p q root (view_of node)) mid put)
     (is : view_of node ≡ leaf None (x ∷ [])) (a b : Address) (child : Option ℕ) (b_is : b ≡ record { id = root; offset = Some 0 }) where
@@ -47,31 +57,19 @@ module _ {K V : Type 0} (cmp : K → K → Ordering) (old mid put : TreeState K 
   no-nodes : (n : ℕ) → node_map old n ≡ None
   no-nodes n = ap (λ (m : Content (Node K V)). option_map view_of (map.get m n)) (map.empty_of_len old.nodes empty) ∙ ap (option_map view_of) (map.get-empty nat_cmp n)
 
-  here : node_map new root ≡ Some (leaf None (x ∷ []))
-  here = changes.nodes.here ∙ ap Some is
-
-  alone : (n : ℕ) → n ≢ root → node_map new n ≡ None
-  alone n differs = changes.nodes.others n differs ∙ (ap (option_map view_of) (ap (λ m. map.get m n) (nodes-of claimed) ∙ get-insert_other old.nodes root EMPTY n differs) ∙ no-nodes n)
+  one-leaf : IsOneLeaf (node_map new) root (x ∷ [])
+  one-leaf = only-leaf old mid put root node x claimed changes is no-nodes
 
   first : IsWellFormed cmp (node_map new) (Some root) 1 (x ∷ [])
-  first = first-well cmp (node_map new) root x here alone
+  first = first-well cmp (node_map new) root x one-leaf.here one-leaf.alone
 
   pairs-new : pairs_of new ≡ x ∷ []
   pairs-new = pairs-tree cmp new 1 (x ∷ []) first
 
-  used-new : (n : ℕ) → times_listed n (root ∷ []) ≡ times_used (node_map new n)
-  used-new n = elim (same-or n root) [
-    | inl same ↦ let u : times_used (node_map new n) ≡ 1 = ap (λ i. times_used (node_map new i)) same ∙ ap times_used here in let s = one-self n in let t : one n root ≡ 1 = ap (one n) (sym same) ∙ s in omega arith
-    | inr differs ↦ let u : times_used (node_map new n) ≡ 0 = ap times_used (alone n differs) in let s = one-other n root differs in omega arith
-  ]
-
-  place-new : IsPlace (node_map new) (Some root) (x ∷ []) root (Some 0) 0
-  place-new = inl (subst (λ o. IsPlaceOf (node_map new) (x ∷ []) o 0) (sym (ap (λ v. item_in v 0) here)) refl)
-
   used-one-node : UsesNeeded old new a.id
   used-one-node =
       let one : need (node_map old) old.root (map.len old.nodes) a.id ≡ 1 = ap (λ t. need (node_map old) t (map.len old.nodes) a.id) rootless in
-      let count : map.len new.nodes ≡ 1 = len-views new.nodes (root ∷ []) used-new in
+      let count : map.len new.nodes ≡ 1 = len-views new.nodes (root ∷ []) (λ n. once_here (node_map new) root (x ∷ []) n one-leaf) in
       record {
         full = λ full. let f = full.here in let none = no-nodes a.id in absurd (cc);
         first = λ none. omega arith;
@@ -84,8 +82,8 @@ module _ {K V : Type 0} (cmp : K → K → Ordering) (old mid put : TreeState K 
       record {
         below_limit = below_limit;
         tree = is-tree-but-length cmp new (x ∷ []) first;
-        valid = rw b_is (inl (subst (λ v. IsWithin (node_map new) v (Some 0)) (sym here) (omega arith)));
-        item = rw b_is (ap (λ v. item_in v 0) here);
+        valid = rw b_is (inl (subst (λ v. IsWithin (node_map new) v (Some 0)) (sym one-leaf.here) (omega arith)));
+        item = rw b_is (ap (λ v. item_in v 0) one-leaf.here);
         longer = ap (λ n. n + 1) (same-len changes.rest ∙ mid_len);
         uncounted = same-kept changes.rest ∙ ap (λ (s : TreeState K V). s.kept) claimed;
         nodes = used-one-node;
@@ -93,7 +91,7 @@ module _ {K V : Type 0} (cmp : K → K → Ordering) (old mid put : TreeState K 
         first = λ none. record {
           pairs = pairs-new;
           place = subst (λ (c : Address). IsPlace (node_map new) (Some root) (pairs_of new) c.id c.offset 0) (sym b_is)
-              (subst (λ l. IsPlace (node_map new) (Some root) l root (Some 0) 0) (sym pairs-new) place-new);
-          nodes = len-views new.nodes (root ∷ []) used-new;
+              (subst (λ l. IsPlace (node_map new) (Some root) l root (Some 0) 0) (sym pairs-new) (only-place (node_map new) root x one-leaf));
+          nodes = len-views new.nodes (root ∷ []) (λ n. once_here (node_map new) root (x ∷ []) n one-leaf);
         };
       }

@@ -15,7 +15,7 @@ use Rattle.btree_shape.proofs.Trees.Sizes.{least-other, least-root}
 use Rattle.btree_shape.proofs.Trees.States.{height_held}
 use Rattle.btree_shape.proofs.Trees.Stores.{used-view}
 
--- the length of a well formed tree is that of its list
+-- a well formed tree is one whatever its length says
 pub but-length : {K V : Type 0} (cmp : K → K → Ordering) (s : TreeState K V) → IsBTree cmp s → IsBTreeButLength cmp s
 but-length cmp s tree = record { ascends = tree.ascends; formed = tree.formed; counted = refl }
 

@@ -104,7 +104,7 @@ module _ {K V : Type 0} (cmp : K → K → Ordering) (s : TreeState K V) (a : Ad
         let e = full-yes a.id a.id 1 0 refl in
         omega arith
 
-    -- an item and the child after it
+    -- a tree is off by one where an item, and the child after it, were taken out of a node
     pub put-back-at : IsOffByOneWith cmp now a x child
     put-back-at = record {
       put = s;
@@ -129,7 +129,7 @@ module _ {K V : Type 0} (cmp : K → K → Ordering) (s : TreeState K V) (a : Ad
       off = off;
     }
 
-  -- an item of a leaf, as `leaf_remove` returns it
+  -- a tree is off by one where `leaf_remove` took an item out of a leaf
   pub put-back : Some (Ok x) ≡ removal_in a.offset (view_of node) → IsOffByOneWith cmp (with_node s a.id kept) a x None
   put-back is =
       let l = item-from_removal (view_of node) a.offset x is in

@@ -269,7 +269,7 @@ module _ {K V : Type 0} (cmp : K → K → Ordering) (laws : IsTotalOrder cmp) (
             stays
             (λ over t same. let s = same-node over.node fits.node over.here fits.here in let z = ap size_of s in let y = ap most_of s in let f = fits.room in let g = over.over in absurd (omega arith))
 
-      -- with enough items nothing changes
+      -- where the node has enough items nothing changes
       pub enough-rebalanced : 2 < size_of fits.node → IsRebalanced old old id cmp a a
       enough-rebalanced enough =
           fixed old a

@@ -30,9 +30,11 @@ index-from id n (x ∷ ids) some = elim (same-or x id) [
   | inr ne ↦ rw (other-test x id ne) (index-from id (n + 1) ids (omega (arith, one-other id x (λ e. ne (sym e)))))
 ]
 
+-- the search for a listed number finds an index
 pub has-index : (id : ℕ) (ids : List ℕ) (o : Option ℕ) → 0 < times_listed id ids → o ≡ position (λ child. child == id) ids → IsSome o
 has-index id ids o some is = rw (is ∙ position_from-zero (λ child. child == id) ids) (index-from id 0 ids some)
 
+-- an index that the search finds is that of the number
 pub index-is : (id i : ℕ) (ids : List ℕ) → position (λ child. child == id) ids ≡ Some i → (i < length ids) × (slice_get ids i ≡ Some id)
 index-is id i ids is =
     let p = position-Some (λ child. child == id) ids i id is in

@@ -70,6 +70,7 @@ module _ {A : Type 0} where
   as-many : (bs : List (A × ℕ)) (i : ℕ) (x : A) → length (map {B = ℕ} (λ b. b.1) bs) ≡ length (set (map {B = A} (λ b. b.0) bs) i x)
   as-many bs i x = length-map bs (λ b. b.1) ∙ sym (length-set (map (λ b. b.0) bs) i x ∙ length-map bs (λ b. b.0))
 
+  -- a node remade with another item has that item in its list, and the same children
   pub remade-other : (i : ℕ) (x : A) (v : View A) → IsRemade v (with_other_item i x v) (set (items_of v) i x) (children_of v)
   remade-other i x (leaf p xs) = record { kind = refl; parent = refl; items_are = refl; children_are = refl }
   remade-other i x (internal p u bs) = record {

@@ -20,12 +20,15 @@ module _ {K V : Type 0} where
   pub then : {a b d : TreeState K V} → KeepsRest a b → KeepsRest b d → KeepsRest a d
   then {a} {b} {d} p q = record { rest = q.rest ∙ ap (with_nodes d.nodes) p.rest }
 
+  -- an edit of nodes keeps the root
   pub same-root : {a b : TreeState K V} → KeepsRest a b → b.root ≡ a.root
   same-root {a} {b} p = let f : TreeState K V → Option ℕ = λ s. s.root in ap f p.rest
 
+  -- an edit of nodes keeps the length
   pub same-len : {a b : TreeState K V} → KeepsRest a b → b.len ≡ a.len
   same-len {a} {b} p = let f : TreeState K V → ℕ = λ s. s.len in ap f p.rest
 
+  -- an edit of nodes keeps what is kept beside the tree
   pub same-kept : {a b : TreeState K V} → KeepsRest a b → b.kept ≡ a.kept
   same-kept {a} {b} p = let f : TreeState K V → Kept = λ s. s.kept in ap f p.rest
 

@@ -20,7 +20,7 @@ index-small n index o low within e = rw (e, other-test index (2 ^ 64 - 1) (omega
 pub index-at : (index : ℕ) (o : Option ℕ) → index < 2 ^ 64 - 1 → o ≡ index_offset index → o ≡ Some index
 index-at index o low e = rw (e, other-test index (2 ^ 64 - 1) (omega arith)) refl
 
--- how many items a node has
+-- a node has as many items as were counted in it
 pub size-at : {A : Type 0} (node_at : NodeMap A) (id count : ℕ) (v : View A) → node_at id ≡ Some v → HasCount node_at id count → size_of v ≡ count
 size-at node_at id count v e l = let q : Some (size_of v) ≡ Some count = sym (ap (option_map size_of) e) ∙ l in cc
 

@@ -37,6 +37,7 @@ pub back-some : {A : Type 0} (node_at : NodeMap A) (o : Option ℕ) → IsSome o
 back-some node_at None is = absurd (cc)
 back-some node_at (Some o) is = tt
 
+-- the offset of a back address is one of an item or past the end
 pub some-back : {A : Type 0} (node_at : NodeMap A) (o : Option ℕ) → IsBack node_at o → IsSome o
 some-back node_at None is = absurd is
 some-back node_at (Some o) is = refl
@@ -85,6 +86,7 @@ module _ (A : Type 0) (old now : NodeMap A) (root : Option ℕ) (start id : ℕ)
     pub back : IsSome a.offset → IsSome b.offset
     pub low : (n : ℕ) → 0 < times_listed n rest → n < 2 ^ 64 - 1
 
+-- before the first split nothing has moved
 pub upward-start : (A : Type 0) (node_at : NodeMap A) (root : Option ℕ) (start : ℕ) (spare : List ℕ) (a : Address) → All (λ n. n < 2 ^ 64 - 1) spare → SplitUpTo A node_at node_at root start start spare spare a a
 upward-start A node_at root start spare a low = record {
   taken = 0;
@@ -120,6 +122,7 @@ module _ (A : Type 0) (old now : NodeMap A) (root : Option ℕ) (start id : ℕ)
     pub upward-none-left : size_of v ≤ most_of v → rest ≡ []
     upward-none-left low = nil_from_length rest (none-left low)
 
+    -- the splits are done where a node has room
     pub upward-done : size_of v ≤ most_of v → AreSplit old now root root start spare a b
     upward-done low =
         let z = none-left low in
@@ -138,6 +141,7 @@ module _ (A : Type 0) (old now : NodeMap A) (root : Option ℕ) (start id : ℕ)
         }
 
     module _ (lt : most_of v < size_of v) where
+      -- a node without room has a claimed number left for its split
       pub upward-left : 0 < length rest
       upward-left = overflow-spare A now s.top s.xs id rest s.expected b s.place (s.allocated + c.taken) s.bound here v e lt
 

@@ -63,7 +63,7 @@ impl<K, V, C: NodesMut<K, V>> RawBTree<K, V, C> {
         }
     }
 
-    /// Returns a tree with no root and the length 0, over a store as it is.
+    /// Returns a tree with no root and the length 0, over a store as it is. It allocates no memory.
     ///
     /// The contract requires that a node fits in memory, as that of `new`.
     pub fn in_store(nodes: C) -> Self
@@ -245,9 +245,9 @@ impl<K, V, C: NodesMut<K, V>> RawBTree<K, V, C> {
 }
 
 impl<K: Ord, V, C: NodesMut<K, V>> RawBTree<K, V, C> {
-    ghost use Rattle.btree_shape.specs.TreeState.{IsBTree, IsOffByOneAt};
-    ghost use Rattle.btree_valid.specs.Faults.{AcceptsRawNode, BlamesRawNode, IsVerdictFor, SuitsRawNode};
-    ghost use Rattle.btree_valid.specs.Verdicts.{IsVerdict};
+    ghost use Rattle.btree_shape.specs.TreeState.{IsOffByOneAt};
+    ghost use Rattle.btree_valid.specs.Faults.{AcceptsRawNode, BlamesRawNode, IsRawVerdict, IsVerdictFor, SuitsRawNode};
+    ghost use Rattle.btree_raw.specs.Limit.{IsBTreeWithinLimit};
 
     /// Returns whether the tree has a root and at most 32 levels, and is well formed except for its length and the number of items of node
     /// `id`: it may have one item too many or too few, and the root may also be empty. This is what `rebalance` requires of the tree.
@@ -263,16 +263,17 @@ impl<K: Ord, V, C: NodesMut<K, V>> RawBTree<K, V, C> {
         }
     }
 
-    /// Checks that the nodes are exactly one well formed tree under the root, with this length, and returns the first fault in preorder.
+    /// Checks that the nodes are exactly one well formed tree under the root, with this length, which is not above its limit. Returns the
+    /// first fault in preorder; that of the limit is asked last.
     ///
     /// The root is on level 1, and a node on level 33 is `TooDeep`; nothing below it is read. It reads each node of a well formed tree
     /// once, copies nothing and uses no memory but the stack.
     pub fn validate(&self) -> Result<(), Fault>
-        ensures exact { result ≡ Ok tt ↔ IsBTree K.cmp self.now }
-        ensures verdict { IsVerdict K.cmp self.now.nodes self.now.root self.now.len result }
+        ensures exact { result ≡ Ok tt ↔ IsBTreeWithinLimit self.now K.cmp }
+        ensures verdict { IsRawVerdict K.cmp self.now result }
     {
         self.tell_fits();
-        validate(&self.store, self.root, self.len)
+        validate(&self.store, self.root, self.len, self.limit)
     }
 
     /// Checks a node and all below it against a parent and the nearest separators on both sides, and returns how many levels are below the

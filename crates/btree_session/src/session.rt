@@ -1,7 +1,7 @@
 //! A session: a map, and commands that are run on it.
 ghost use Rattle.std.specs.Prelude.{◌≡◌, [], Some, None, length, IsOk, OnOk, OnErr};
 ghost use Rattle.std.specs.FinMap as map;
-ghost use Rattle.btree_shape.specs.TreeState.{IsOccupiedIn, item_of, pairs_of, rootless, unlimited};
+ghost use Rattle.btree_shape.specs.TreeState.{IsOccupiedIn, item_of, limited_to, pairs_of, rootless, unlimited};
 ghost use Rattle.btree_session.specs.Machine.{IsStep, Runs, value_reply};
 ghost use Rattle.btree_session.specs.Text.{HasCapacityFor};
 
@@ -50,8 +50,21 @@ impl<C: NodesMut<u64, u64>> Session<C> {
         }
     }
 
-    /// Returns a session over an empty map in an empty store; the store's `len` tells whether it is empty. It holds no address, and keeps
-    /// the store's count of refusals.
+    /// Returns a session over an empty map that has at most `limit` pairs, with a store made from `origin`. It holds no address, and
+    /// allocates no memory.
+    pub fn with_limit(origin: C::Origin, limit: usize) -> Self
+        ensures empty { pairs_of result.map ≡ [] }
+        ensures state { result.map ≡ rootless map.empty (limited_to limit) }
+        ensures held { result.held ≡ None }
+    {
+        SessionOver {
+            map: BTreeMap::with_limit(origin, limit),
+            held: None,
+        }
+    }
+
+    /// Returns a session over an empty map in an empty store; the store's `len` tells whether it is empty. It holds no address, keeps
+    /// the store's count of refusals, and allocates no memory.
     pub fn in_store(nodes: C) -> Self
         requires { map.len (C.content nodes) ≡ 0 }
         ensures empty { pairs_of result.map ≡ [] }

@@ -21,15 +21,12 @@ module _ {T : Type 0} where
   length-append (x ∷ xs) ys = let l = length-append xs ys in omega (arith, l)
 
 module _ {F T : Type 0} (Step : F → T → Bool → F → Type 0) where
+  no-cons : {x : Bool × T} {xs : List (Bool × T)} → x ∷ xs ≡ [] → ⊥
+  no-cons e = cc
+
   some-asked : (f f' : F) (xs : List T) (before : List (Bool × T)) (a : Bool × T) → Asks Step f xs (before ++ a ∷ []) f' → 0 < length xs
   some-asked f f' [] [] a run = absurd (no-cons run.0)
-    where
-      no-cons : {x : Bool × T} {xs : List (Bool × T)} → x ∷ xs ≡ [] → ⊥
-      no-cons e = cc
   some-asked f f' [] (b ∷ before) a run = absurd (no-cons run.0)
-    where
-      no-cons : {x : Bool × T} {xs : List (Bool × T)} → x ∷ xs ≡ [] → ⊥
-      no-cons e = cc
   some-asked f f' (x ∷ xs) before a run = omega arith
 
   -- fewer elements are left after one was removed

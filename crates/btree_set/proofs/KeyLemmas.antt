@@ -47,6 +47,7 @@ module _ {T V : Type 0} where
   some-map (Some x) = refl
 
   module _ (cmp : T → T → Ordering) (k : T) (xs : List (T × V)) where
+    -- the stored element equal to a key is the key of the pair found by it
     pub stored-keys : stored cmp k (keys_of xs) ≡ option_map (λ p. p.0) (pairs.found cmp k xs)
     stored-keys = find-keys (λ q. is_eq (cmp q k)) xs
 

@@ -16,7 +16,7 @@ use Rattle.btree_store.specs.Content.{Content}
 use Rattle.btree_item.specs.declared.refused.Cause.{Cause}
 use Rattle.btree_item.specs.declared.refused.Cause.TheVariants.{Store, Count}
 use Rattle.btree_node.specs.declared.node.Node.{Node}
-use Rattle.btree_shape.specs.TreeState.{IsBTree, Kept, TreeState, coded_kept, pairs_of, refused_once, tree_code}
+use Rattle.btree_shape.specs.TreeState.{IsBTree, Kept, TreeState, coded_kept, pairs_of, refused_once, tree_code, with_limit}
 use Rattle.btree_edit.specs.Insert.{IsRefusedAtGap}
 use Rattle.btree_walk.specs.Bounds.{bound_key}
 
@@ -37,6 +37,10 @@ set_code {T} code nodes =
 -- the keys of a map without values
 abbrev pub set_of : {T : Type 0} → TreeState T (Unit {0}) → SetState T
 set_of map = record { elements = keys_of (pairs_of map); kept = map.kept; tree = map }
+
+-- the same set with another limit
+abbrev pub set_with_limit : {T : Type 0} → SetState T → ℕ → SetState T
+set_with_limit s limit = record s { kept = record s.kept { limit = limit }; tree = with_limit s.tree limit }
 
 module _ {T : Type 0} (cmp : T → T → Ordering) where
   -- the elements, and what is kept beside them, are those of the tree, which is well formed

@@ -69,9 +69,19 @@ module _ {T : Type 0} (cmp : T → T → Ordering) where
   abbrev pub RefusesInTurn : (MayRefuse : Content (Node T (Unit {0})) → Type 0) → (kept : Kept) → (new : SetState T) → Refused T (Unit {0}) → Type 0
   RefusesInTurn MayRefuse kept new refused = IsRefusedInTurn MayRefuse refused.key kept new refused.cause
 
--- the two are swapped if the first has no elements and the other has some
-abbrev pub SwapsIntoEmpty : {T : Type 0} → (old other new rest : SetState T) → Type 0
-SwapsIntoEmpty old other new rest = old.elements ≡ [] → other.elements ≢ [] → (new ≡ other) × (rest ≡ old)
+module _ {T : Type 0} (old other : SetState T) where
+  -- the first has no elements, and those of the other are within its limit
+  abbrev pub HasRoomForAll : Type 0
+  HasRoomForAll = (old.elements ≡ []) × (length other.elements ≤ old.kept.limit)
+
+  -- else the elements are moved one at a time
+  abbrev pub MovesEach : Type 0
+  MovesEach = HasRoomForAll → ⊥
+
+  -- then all but the limits is exchanged, if the other has elements
+  abbrev pub SwapsIntoEmpty : (new rest : SetState T) → Type 0
+  SwapsIntoEmpty new rest =
+      HasRoomForAll → other.elements ≢ [] → (new ≡ set_with_limit other old.kept.limit) × (rest ≡ set_with_limit old other.kept.limit)
 
 -- the steps of an iterator that lends elements, as steps that give copies
 abbrev pub copied_steps : {S T : Type 0} → (S → Option (Bor T) → S → Type 0) → S → Option T → S → Type 0

@@ -5,7 +5,7 @@ ghost use Rattle.std.specs.Mem.{FitsInMemory};
 ghost use denote.Plain.{Nothing as unit_row};
 ghost use Rattle.btree_node.specs.contracts.node.Node.{the_row as node_row};
 ghost use Rattle.btree_shape.specs.TreeState.{unlimited};
-ghost use Rattle.btree_set.specs.Extension.{Adds, AddsAll, AddsUntil, Collects, CollectsUntil, MovesUntil, RefusesInTurn, SwapsIntoEmpty, copied_steps};
+ghost use Rattle.btree_set.specs.Extension.{Adds, AddsAll, AddsUntil, Collects, CollectsUntil, MovesEach, MovesUntil, RefusesInTurn, SwapsIntoEmpty, copied_steps};
 
 use crate::BTreeSet;
 use btree_item::Refused;
@@ -22,12 +22,12 @@ impl<T: Ord + Drop, C: NodesMut<T, ()>> BTreeSet<T, C> {
         ensures emptied { OnOk result (other.new.elements ≡ []) }
         ensures unchanged { other.old.elements ≡ [] → (self.new ≡ self.old) × (other.new ≡ other.old) }
         ensures swapped { SwapsIntoEmpty self.old other.old self.new other.new }
-        ensures uncounted { OnOk result (self.old.elements ≢ [] →
+        ensures uncounted { OnOk result (MovesEach self.old other.old →
             self.new.kept ≡ self.old.kept) }
-        ensures other_uncounted { self.old.elements ≢ [] → other.new.kept ≡ other.old.kept }
+        ensures other_uncounted { MovesEach self.old other.old → other.new.kept ≡ other.old.kept }
 
         ensures stopped { IfErr result (MovesUntil T.cmp self.old other.old self.new other.new) }
-        ensures had_elements { OnErr result (self.old.elements ≢ []) }
+        ensures moved_each { OnErr result (MovesEach self.old other.old) }
         ensures cause { IfErr result (RefusesInTurn T.cmp C.MayRefuse self.old.kept self.new) }
     {
         match self.map.append(&mut other.map) {

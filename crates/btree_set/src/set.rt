@@ -6,7 +6,7 @@ ghost use Rattle.std.specs.Mem.{FitsInMemory};
 ghost use denote.Plain.{Nothing as unit_row};
 ghost use Rattle.btree_node.specs.contracts.node.Node.{the_row as node_row};
 ghost use Rattle.std.specs.Option.{option_copied};
-ghost use Rattle.btree_shape.specs.TreeState.{unlimited};
+ghost use Rattle.btree_shape.specs.TreeState.{limited_to, unlimited};
 ghost use Rattle.btree_edit.specs.Insert.{InsertsByKey};
 ghost use Rattle.btree_edit.specs.Replace.{ReplacesByKey};
 ghost use Rattle.btree_set.specs.Elements.{IsInTree, IsRefused, inserted, removed, replaced, stored};
@@ -48,7 +48,22 @@ impl<T: Ord, C: NodesMut<T, ()>> BTreeSet<T, C> {
         }
     }
 
-    /// Returns a set without elements, over an empty store; the store's `len` tells whether it is empty. It keeps its count of refusals.
+    /// Returns a set without elements that has at most `limit`, over an empty store made from `origin`. It allocates no memory. With the
+    /// limit 0 every new element is refused.
+    ///
+    /// The contract requires that a node fits in memory, as that of `new`.
+    pub fn with_limit(origin: C::Origin, limit: usize) -> Self
+        requires { FitsInMemory (node_row T.row unit_row) }
+        ensures empty { result.elements ≡ [] }
+        ensures uncounted { result.kept ≡ limited_to limit }
+    {
+        BTreeSet {
+            map: BTreeMap::with_limit(origin, limit),
+        }
+    }
+
+    /// Returns a set without elements, over an empty store; the store's `len` tells whether it is empty. It keeps its count of refusals,
+    /// and allocates no memory.
     ///
     /// The contract requires that a node fits in memory, as that of `new`.
     pub fn in_store(nodes: C) -> Self
@@ -67,6 +82,13 @@ impl<T: Ord, C: NodesMut<T, ()>> BTreeSet<T, C> {
         ensures { result ≡ length self.now.elements }
     {
         self.map.len()
+    }
+
+    /// Returns how many elements there may be: `usize::MAX`, unless the set was made with another limit.
+    pub fn limit(&self) -> usize
+        ensures { result ≡ self.now.kept.limit }
+    {
+        self.map.limit()
     }
 
     /// Returns whether there are no elements.

@@ -39,6 +39,10 @@ refused_once kept = record kept { refusals = kept.refusals + 1 }
 abbrev pub unlimited : (refusals : ℕ) → Kept
 unlimited refusals = record { refusals = refusals; limit = 2 ^ 64 - 1 }
 
+-- what a tree with a limit keeps that has refused nothing yet
+abbrev pub limited_to : (limit : ℕ) → Kept
+limited_to limit = record { refusals = 0; limit = limit }
+
 -- the nodes under their numbers, the root's number, the number of pairs, and what is kept beside them
 pub record TreeState (K V : Type 0) : Type 0 where
   pub nodes : Content (Node K V)
@@ -63,6 +67,10 @@ module _ {K V : Type 0} where
   -- the same tree over a store that has refused nothing yet
   abbrev pub unrefused : TreeState K V → TreeState K V
   unrefused s = record s { kept = record s.kept { refusals = 0 } }
+
+  -- the same tree with another limit
+  abbrev pub with_limit : TreeState K V → ℕ → TreeState K V
+  with_limit s limit = record s { kept = record s.kept { limit = limit } }
 
   -- the nodes of a store as a map of nodes
   abbrev pub views : Content (Node K V) → NodeMap (K × V)

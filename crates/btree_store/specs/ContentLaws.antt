@@ -13,15 +13,19 @@ tied_other : (q k : ℕ) → q ≢ k → eq_by_cmp nat_cmp q k ≡ false
 tied_other q k differs = unsigned_tied q k ∙ grind arith
 
 module _ {T : Type 0} where
+  -- a number has the value that was inserted under it
   pub get-insert_same : (m : Content T) (k : ℕ) (v : T) → get (insert m k v) k ≡ Some v
   get-insert_same m k v = rw (get-insert nat_cmp_total m k v k, tied_same k) refl
 
+  -- every other number keeps its value at an insertion
   pub get-insert_other : (m : Content T) (k : ℕ) (v : T) (q : ℕ) → q ≢ k → get (insert m k v) q ≡ get m q
   get-insert_other m k v q differs = rw (get-insert nat_cmp_total m k v q, tied_other q k differs) refl
 
+  -- a number that was removed has no value
   pub get-remove_same : (m : Content T) (k : ℕ) → get (remove m k) k ≡ None
   get-remove_same m k = rw (get-remove nat_cmp_total m k k, tied_same k) refl
 
+  -- every other number keeps its value at a removal
   pub get-remove_other : (m : Content T) (k q : ℕ) → q ≢ k → get (remove m k) q ≡ get m q
   get-remove_other m k q differs = rw (get-remove nat_cmp_total m k q, tied_other q k differs) refl
 

@@ -45,7 +45,7 @@ module _ {T : Type 0} where
   pub len-content : (slots : List (Option T)) → len (content_from 0 slots) ≡ count_by is_some slots
   len-content slots = len_from 0 slots
 
-  -- one slot has this value, and the others are unchanged
+  -- a slot that gets a value, where no other slot changes, inserts it under its number
   pub content-insert : (old new : List (Option T)) (k : ℕ) (v : T) → get_or new k None ≡ Some v → ((q : ℕ) → q ≢ k → get_or new q None ≡ get_or old q None) → content_from 0 new ≡ insert (content_from 0 old) k v
   content-insert old new k v at others = is_insert _ _ k v (get-content new k ∙ at) (λ q differs. get-content new q ∙ others q differs ∙ sym (get-content old q))
 
@@ -53,20 +53,23 @@ module _ {T : Type 0} where
   pub content-remove : (old new : List (Option T)) (k : ℕ) → get_or new k None ≡ None → ((q : ℕ) → q ≢ k → get_or new q None ≡ get_or old q None) → content_from 0 new ≡ remove (content_from 0 old) k
   content-remove old new k at others = is_remove _ _ k (get-content new k ∙ at) (λ q differs. get-content new q ∙ others q differs ∙ sym (get-content old q))
 
-  some_within : (slots : List (Option T)) (k : ℕ) → IsSome (get_or slots k None) → k < length slots
+  -- a slot with a value is in the list
+  pub some_within : (slots : List (Option T)) (k : ℕ) → IsSome (get_or slots k None) → k < length slots
   some_within slots k used = grind (arith, get_or_past)
 
   -- a used number is the index of a slot
   pub used_within : (slots : List (Option T)) (k : ℕ) → IsSome (get (content_from 0 slots) k) → k < length slots
   used_within slots k used = some_within slots k (rw (get-content slots k) at used)
 
+  -- to fill a slot inserts its value under the slot's number
   pub content-fill : (slots : List (Option T)) (k : ℕ) (v : T) → k < length slots → content_from 0 (set slots k (Some v)) ≡ insert (content_from 0 slots) k v
   content-fill slots k v within = content-insert slots (set slots k (Some v)) k v (get_or-set_same slots k (Some v) None within) (λ q differs. get_or-set_other slots k q (Some v) None differs)
 
+  -- to empty a slot removes its number
   pub content-empty : (slots : List (Option T)) (k : ℕ) → k < length slots → content_from 0 (set slots k None) ≡ remove (content_from 0 slots) k
   content-empty slots k within = content-remove slots (set slots k None) k (get_or-set_same slots k None None within) (λ q differs. get_or-set_other slots k q None None differs)
 
-  -- a write to a used slot
+  -- a write to a used slot inserts the value under its number
   pub content-written : (slots : List (Option T)) (k : ℕ) (v : T) → IsSome (get (content_from 0 slots) k) → content_from 0 (set slots k (Some v)) ≡ insert (content_from 0 slots) k v
   content-written slots k v used = content-fill slots k v (used_within slots k used)
 

@@ -19,6 +19,6 @@ module _ {T E : Type 0} (places : ℕ) (old new : Content T) (value : T) where
   refused-full (Ok id) may_refuse refused = absurd (false≢true refused)
   refused-full (Err back) may_refuse refused = may_refuse
 
-  -- and no other store does
+  -- a store of so many places refuses exactly if they are all used
   pub refuses-exactly : (result : Result ℕ E) → IfOk result (λ id. get old id ≡ None) → IfOk result (Gains old new value) → OnOk result (len new ≤ places) → OnErr result (len old ≡ places) → IsErr result ↔ (len old ≡ places)
   refuses-exactly result unused stored can_hold may_refuse = (refused-full result may_refuse, full-refuses result unused stored can_hold)

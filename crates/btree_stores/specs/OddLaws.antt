@@ -1,14 +1,14 @@
 -- Laws of the content of slots under odd numbers, from those of the content of the same slots (`SlotLaws` of `btree_store`).
 use Rattle.std.proofs.Common.{◌≡◌, ◌≢◌, ℕ, ◌+◌, ◌<◌, ◌≤◌, false, cond, List, [], ◌∷◌, length, get_or, set, Option, Some, None, is_some, IsSome, count_by, refl, sym, ap, subst, ◌∙◌, inl, inr, arith, zero, suc}
 use Rattle.std.proofs.lemmas.Bool.{cases_eq, cases_lt, lt-ltb, le-ltb, false≢true}
-use Rattle.std.proofs.lemmas.List.{get_or-set_other, get_or_past}
+use Rattle.std.proofs.lemmas.List.{get_or-set_other}
 use Rattle.std.proofs.lemmas.List.Sums.{sum_by-cons}
 use Rattle.std.specs.Ordering.{nat_cmp}
 use Rattle.std.specs.Cmp.{nat_cmp_total}
 use Rattle.std.specs.FinMap.{get, insert, remove, empty, len, get-empty, len-empty, len-insert, contains_key}
 use Rattle.btree_store.specs.Content.{content_from}
 use Rattle.btree_store.specs.ContentLaws.{get-insert_same, get-insert_other, get-remove_same, get-remove_other, same_content, is_insert, is_remove, remove-insert}
-use Rattle.btree_store.specs.SlotLaws.{get-content, content-fill, len-content}
+use Rattle.btree_store.specs.SlotLaws.{get-content, content-fill, len-content, some_within}
 use Rattle.btree_stores.specs.Odd.{ODD_NUMBERS, odd_number, slot_of, IsNumberOf, odd_content_from, AreNumbered, HasOddNumbers}
 
 -- the slot of any number has an odd number
@@ -94,10 +94,6 @@ module _ {T : Type 0} where
       (λ m low differs.
       get-odd new m low ∙ sym (get-content new m) ∙ ap (λ content. get content m) is ∙ get-remove_other (content_from 0 old) k m (λ same. differs (ap odd_number same)) ∙ get-content old m ∙ sym (get-odd old m low))
       (λ q none differs. get-other new q none ∙ sym (get-other old q none)))
-
-  -- a slot with a value is in the list
-  some_within : (slots : List (Option T)) (k : ℕ) → IsSome (get_or slots k None) → k < length slots
-  some_within slots k h = grind (arith, get_or_past)
 
   -- a number that is used is the number of its slot
   pub odd-used : (slots : List (Option T)) (q : ℕ) → IsSome (get (odd_content_from 0 slots) q) → odd_number (slot_of q) ≡ q

@@ -3,7 +3,7 @@ use Rattle.std.proofs.Common.{◌≡◌, ◌≤◌, ◌<◌, ◌∙◌, ◌+◌,
 use Rattle.std.specs.Prelude.{⊤, IfSome}
 use Rattle.std.specs.declared.cmp.Ordering.{Ordering}
 use Rattle.btree_item.specs.declared.fault.Fault.{Fault}
-use Rattle.btree_item.specs.declared.fault.Fault.TheVariants.{NoNode, WrongParent, Overflowing, Underflowing, EmptyRoot, Unsorted, BelowSeparator, AboveSeparator, TooDeep, NotBalanced, WrongLength, Unreachable}
+use Rattle.btree_item.specs.declared.fault.Fault.TheVariants.{NoNode, WrongParent, Overflowing, Underflowing, EmptyRoot, Unsorted, BelowSeparator, AboveSeparator, TooDeep, NotBalanced, WrongLength, Unreachable, OverLimit}
 use Rattle.btree_node.specs.declared.node.Node.{Node}
 use Rattle.btree_store.specs.Content.{Content}
 use Rattle.btree_view.specs.Checks.{IsNodeVerdict}
@@ -135,6 +135,7 @@ module _ {K V : Type 0} (content : Content (Node K V)) (cmp : K → K → Orderi
           by NotBalanced err a = child-fault NotBalanced err None None any-child tt
           by WrongLength err a = child-fault WrongLength err None None any-child tt
           by Unreachable err a = child-fault Unreachable err None None any-child tt
+          by OverLimit err a = child-fault OverLimit err None None any-child tt
 
         -- the fault of a child
         pub child-blamed : (fault : Fault) → answer ≡ Err fault → BlamesAt content cmp spot met (Err fault)

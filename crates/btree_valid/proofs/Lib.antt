@@ -16,3 +16,6 @@ pub mod OffByOneLemmas
 pub mod PartNames
 pub mod NameLemmas
 pub mod EndLemmas
+mod ReadLemmas
+mod WayLemmas
+pub mod ReadLaws

@@ -7,7 +7,7 @@ use Rattle.std.specs.Prelude.{⊤, IfSome, IsFalse, Result, Ok, Err, slice_get}
 use Rattle.std.specs.declared.cmp.Ordering.{Ordering}
 use Rattle.std.specs.declared.cmp.Ordering.TheVariants.{Less}
 use Rattle.btree_item.specs.declared.fault.Fault.{Fault}
-use Rattle.btree_item.specs.declared.fault.Fault.TheVariants.{NoNode, WrongParent, Overflowing, Underflowing, EmptyRoot, Unsorted, BelowSeparator, AboveSeparator, TooDeep, NotBalanced, WrongLength, Unreachable}
+use Rattle.btree_item.specs.declared.fault.Fault.TheVariants.{NoNode, WrongParent, Overflowing, Underflowing, EmptyRoot, Unsorted, BelowSeparator, AboveSeparator, TooDeep, NotBalanced, WrongLength, Unreachable, OverLimit}
 use Rattle.btree_view.specs.Checks.{BeginsAbove, EndsBelow, FirstFailed, IsNodeVerdict, PassesCheck, is_judged_as_root, node_faults}
 use Rattle.btree_view.specs.View.{NodeMap, View, items_of, most_of, parent_of}
 use Rattle.btree_shape.specs.Focus.Subtree.{Subtree, count_at, id_of, items_under, later_items, view_at}
@@ -109,6 +109,7 @@ module _ {K V : Type 0} (cmp : K → K → Ordering) where
     passes NotBalanced = tt
     passes WrongLength = tt
     passes Unreachable = tt
+    passes OverLimit = tt
 
     -- so the answer for the root of a part that suits is Ok
     pub own-passes : (v : View (K × V)) → v ≡ own → (answer : Result ⊤ Fault) → IsNodeVerdict cmp parent min max v answer → answer ≡ Ok tt
@@ -128,6 +129,7 @@ module _ {K V : Type 0} (cmp : K → K → Ordering) where
       allowed NotBalanced a = tt
       allowed WrongLength a = tt
       allowed Unreachable a = tt
+      allowed OverLimit a = tt
 
       -- so a fault of the root of a part is one of other arguments
       pub own-blamed : (v : View (K × V)) → v ≡ own → (answer : Result ⊤ Fault) → IsNodeVerdict cmp asked low high v answer → (fault : Fault) → answer ≡ Err fault

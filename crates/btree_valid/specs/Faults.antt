@@ -10,7 +10,7 @@ use Rattle.std.specs.declared.cmp.Ordering.{Ordering}
 use Rattle.std.specs.declared.cmp.Ordering.TheVariants.{Less}
 use Rattle.btree_item.specs.declared.TheConstants.{MIN_ITEMS}
 use Rattle.btree_item.specs.declared.fault.Fault.{Fault}
-use Rattle.btree_item.specs.declared.fault.Fault.TheVariants.{NoNode, WrongParent, Overflowing, Underflowing, EmptyRoot, Unsorted, BelowSeparator, AboveSeparator, TooDeep, NotBalanced, WrongLength, Unreachable}
+use Rattle.btree_item.specs.declared.fault.Fault.TheVariants.{NoNode, WrongParent, Overflowing, Underflowing, EmptyRoot, Unsorted, BelowSeparator, AboveSeparator, TooDeep, NotBalanced, WrongLength, Unreachable, OverLimit}
 use Rattle.btree_node.specs.declared.node.Node.{Node}
 use Rattle.btree_store.specs.Content.{Content}
 use Rattle.btree_view.specs.Checks.{is_judged_as_root}
@@ -19,7 +19,7 @@ use Rattle.btree_shape.specs.Focus.Search.{levels_below}
 use Rattle.btree_shape.specs.Represents.{represented}
 use Rattle.btree_shape.specs.TreeState.{TreeState, IsBTree, node_map, unlimited}
 use Rattle.btree_valid.specs.Positions.{start_spot}
-use Rattle.btree_valid.specs.Verdicts.{IsVerdictBelow}
+use Rattle.btree_valid.specs.Verdicts.{IsVerdict, IsVerdictBelow}
 
 -- the keys are between the separators, where these are given
 pub record AreBetween {K V : Type 0} (cmp : K → K → Ordering) (min max : Option K) (xs : List (K × V)) : Type 0 where
@@ -81,6 +81,7 @@ module _ {K V : Type 0} (cmp : K → K → Ordering) where
   Allows own count xs parent min max NotBalanced = ⊤
   Allows own count xs parent min max WrongLength = ⊤
   Allows own count xs parent min max Unreachable = ⊤
+  Allows own count xs parent min max OverLimit = ⊤
 
   -- an answered fault is one whose check the arguments do not pass: none but the first four above
   abbrev pub BlamesIfErr : (s : TreeState K V) (id : ℕ) (parent : Option ℕ) (min max : Option (Bor K)) → Result ℕ Fault → Type 0
@@ -93,6 +94,10 @@ module _ {K V : Type 0} (cmp : K → K → Ordering) where
 
   abbrev pub BlamesAmong : Content (Node K V) → (id : ℕ) (parent : Option ℕ) (min max : Option (Bor K)) → Result ℕ Fault → Type 0
   BlamesAmong nodes id parent min max answer = (s : TreeState K V) → s.nodes ≡ nodes → s.len < 2 ^ 64 → BlamesRawNode s id parent min max answer
+
+-- the result of `validate` on a raw tree
+abbrev pub IsRawVerdict : {K V : Type 0} → (cmp : K → K → Ordering) → TreeState K V → Result ⊤ Fault → Type 0
+IsRawVerdict cmp s answer = IsVerdict cmp s.nodes s.root s.len s.kept.limit answer
 
 -- the result of `validate_node`, where references lead to the separators
 abbrev pub IsVerdictFor : {K V : Type 0} → (cmp : K → K → Ordering) → Content (Node K V) → (id : ℕ) (parent : Option ℕ) (min max : Option (Bor K)) → Result ℕ Fault → Type 0

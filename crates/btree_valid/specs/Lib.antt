@@ -7,3 +7,4 @@ pub mod Names
 pub mod Verdicts
 pub mod Faults
 pub mod Spots
+pub mod Reading

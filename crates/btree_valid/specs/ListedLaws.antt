@@ -11,7 +11,7 @@ use Rattle.btree_valid.specs.Positions.{IsMetUnder, Leads, Spotted, root_spot, s
 use Rattle.btree_valid.specs.Verdicts.{numbers_met}
 use Rattle.std.specs.Prelude.{◌↔◌}
 
-listed-append : (n : ℕ) (xs ys : List ℕ) → times_listed n (xs ++ ys) ≡ times_listed n xs + times_listed n ys
+pub listed-append : (n : ℕ) (xs ys : List ℕ) → times_listed n (xs ++ ys) ≡ times_listed n xs + times_listed n ys
 listed-append n xs ys = total-append (λ id. one n id) xs ys
 
 module _ {K V : Type 0} (node_at : NodeMap (K × V)) where
@@ -86,7 +86,7 @@ module _ {K V : Type 0} (node_at : NodeMap (K × V)) where
     | inr other ↦ deeper height from n (λ to s. listed-met height to n s) (node_at from.id) refl some (one-other n from.id other)
   ]
 
-  leads-depth : (from : Spotted K) (way : List ℕ) (to : Spotted K) → Leads node_at from way to → to.depth ≡ from.depth + length way
+  pub leads-depth : (from : Spotted K) (way : List ℕ) (to : Spotted K) → Leads node_at from way to → to.depth ≡ from.depth + length way
   leads-depth from [] to l = let e : from.depth ≡ to.depth = ap (λ s. s.depth) l in omega arith
   leads-depth from (i ∷ way) to l = let d = leads-depth (step_down from l.0 i l.1) way to l.4 in omega arith
 

@@ -181,7 +181,8 @@ fn check_root<K: Ord, V, C: Nodes<K, V>>(
     check_under(nodes, spot, start)
 }
 
-/// Checks that the nodes are exactly one well formed tree under the root, with this length, and returns the first fault in preorder.
+/// Checks that the nodes are exactly one well formed tree under the root, with this length, which is not above its limit. Returns the first
+/// fault in preorder; that of the limit is asked last.
 ///
 /// The root is on level 1, and a node on level 33 is `TooDeep`; nothing below it is read. It copies nothing and uses no memory but the
 /// stack.
@@ -189,11 +190,13 @@ pub fn validate<K: Ord, V, C: Nodes<K, V>>(
     nodes: &C,
     root: Option<usize>,
     len: usize,
+    limit: usize,
 ) -> Result<(), Fault>
     requires { FitsInMemory (node_row K.row V.row) }
-    ensures accepts { AreBTree K.cmp (C.content nodes.now) root len → result ≡ Ok tt }
+    ensures accepts { AreBTree K.cmp (C.content nodes.now) root len → len ≤ limit → result ≡ Ok tt }
     ensures only { result ≡ Ok tt → AreBTree K.cmp (C.content nodes.now) root len }
-    ensures verdict { IsVerdict K.cmp (C.content nodes.now) root len result }
+    ensures limited { result ≡ Ok tt → len ≤ limit }
+    ensures verdict { IsVerdict K.cmp (C.content nodes.now) root len limit result }
 {
     let after = check_root(nodes, root, len)?;
     if after.items != Some(0) {
@@ -201,6 +204,9 @@ pub fn validate<K: Ord, V, C: Nodes<K, V>>(
     }
     if after.nodes != Some(0) {
         return Err(Fault::Unreachable);
+    }
+    if limit < len {
+        return Err(Fault::OverLimit);
     }
     Ok(())
 }

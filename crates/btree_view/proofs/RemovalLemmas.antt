@@ -15,16 +15,19 @@ mapped None y is = absurd (cc)
 mapped (Some x) y is = refl
 
 module _ {A : Type 0} where
+  -- of a leaf the item at the offset is removed itself
   pub removal-leaf : (parent : Option ℕ) (xs : List A) (offset : Option ℕ) (x : A) → Some x ≡ item_at_offset (leaf parent xs) offset → Some (Ok x) ≡ removal_in offset (leaf parent xs)
   removal-leaf parent xs None x is = absurd (cc)
   removal-leaf parent xs (Some i) x is = ap (option_map Ok) is
 
   module _ (node : View A) (offset : Option ℕ) (i : ℕ) (at : Some i ≡ offset) where
+    -- at an offset past the items nothing is removed
     pub removal-past : size_of node ≤ i → None ≡ removal_in offset node
     removal-past past =
         sym (ap (option_map (λ x. item_or_child x (slice_get (children_of node) i))) (slice_get_past (items_of node) i past))
         ∙ ap (λ o. removal_in o node) at
 
+    -- of an internal node the child before the item is where the removal goes on
     pub removal-internal : (id : ℕ) → i < size_of node → slice_get (children_of node) i ≡ Some id → Some (Err id) ≡ removal_in offset node
     removal-internal id within child =
         sym (ap (λ c. option_map (λ x. item_or_child x c) (slice_get (items_of node) i)) child
@@ -52,11 +55,11 @@ module _ {A : Type 0} where
   child-from_mapped id (Some y) None is = absurd (cc)
   child-from_mapped id (Some y) (Some k) is = (y, refl, cc)
 
-  -- nothing is returned: there is no item at the offset
+  -- where a removal returns nothing, there is no item at the offset
   pub no_item-from_removal : (node : View A) (offset : Option ℕ) → None ≡ removal_in offset node → item_at_offset node offset ≡ None
   no_item-from_removal node offset is = none-from_mapped (λ x. item_or_child x (child_before_offset node offset)) (item_at_offset node offset) is
 
-  -- an item is returned: it is at that offset of a leaf
+  -- where a removal returns an item, it is at that offset of a leaf
   pub item-from_removal : (node : View A) (offset : Option ℕ) (x : A) → Some (Ok x) ≡ removal_in offset node
       → (parent : Option ℕ) × (xs : List A) × (i : ℕ) × (node ≡ leaf parent xs) × (offset ≡ Some i) × (slice_get xs i ≡ Some x)
   item-from_removal node None x is = absurd (cc)
@@ -66,7 +69,7 @@ module _ {A : Type 0} where
       let children = length-map branches (λ b. b.1) in
       absurd (no_item-internal (map (λ b. b.0) branches) (first ∷ map (λ b. b.1) branches) i x (omega (arith, items, children)) is)
 
-  -- a child is returned: it is before an item of an internal node
+  -- where a removal returns a child, it is before an item of an internal node
   pub child-from_removal : (node : View A) (offset : Option ℕ) (id : ℕ) → Some (Err id) ≡ removal_in offset node
       → (i : ℕ) × (x : A) × (offset ≡ Some i) × IsTrue (is_internal node) × (slice_get (items_of node) i ≡ Some x)
       × (slice_get (children_of node) i ≡ Some id)

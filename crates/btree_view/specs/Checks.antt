@@ -7,7 +7,7 @@ use Rattle.std.specs.declared.cmp.Ordering.{Ordering}
 use Rattle.std.specs.declared.cmp.Ordering.TheVariants.{Less}
 use Rattle.btree_item.specs.declared.TheConstants.{MIN_ITEMS}
 use Rattle.btree_item.specs.declared.fault.Fault.{Fault}
-use Rattle.btree_item.specs.declared.fault.Fault.TheVariants.{NoNode, WrongParent, Overflowing, Underflowing, EmptyRoot, Unsorted, BelowSeparator, AboveSeparator, TooDeep, NotBalanced, WrongLength, Unreachable}
+use Rattle.btree_item.specs.declared.fault.Fault.TheVariants.{NoNode, WrongParent, Overflowing, Underflowing, EmptyRoot, Unsorted, BelowSeparator, AboveSeparator, TooDeep, NotBalanced, WrongLength, Unreachable, OverLimit}
 use Rattle.btree_view.specs.View.{View, items_of, most_of, parent_of}
 
 -- the answer to checks that are done in order: the fault of the first that fails, or Ok
@@ -50,6 +50,7 @@ module _ {K : Type 0} where
     PassesCheck own most keys NotBalanced = ⊤
     PassesCheck own most keys WrongLength = ⊤
     PassesCheck own most keys Unreachable = ⊤
+    PassesCheck own most keys OverLimit = ⊤
 
     -- the answer for keys that a node has, with its parent and the most items it may have
     abbrev pub IsKeysVerdict : Option ℕ → ℕ → List K → Result ⊤ Fault → Type 0

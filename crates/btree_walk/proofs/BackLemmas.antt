@@ -14,7 +14,8 @@ use Rattle.btree_shape.specs.Remaining.{IsUnder}
 use Rattle.btree_shape.proofs.LookUp.Walk.{under-leaf}
 use Rattle.btree_walk.specs.declared.ancestors.Ancestor.{Ancestor}
 use Rattle.btree_walk.specs.Preceding.{AreRowsBefore, EndsAt, branches_before, preceding_above, preceding_in, row_before, rows_before, with_child_before}
-use Rattle.btree_walk.proofs.RowLemmas.{all-more, before-get, before-length, before-pop, before-push, get-within, inside-before, none-last, preceding-more, preceding-push, split-last, take-more}
+use Rattle.btree_node.proofs.RoomLemmas.{none-last}
+use Rattle.btree_walk.proofs.RowLemmas.{all-more, before-get, before-length, before-pop, before-push, get-within, inside-before, preceding-more, preceding-push, split-last, take-more}
 
 module _ {A : Type 0} where
   -- nothing is passed yet
@@ -82,9 +83,6 @@ module _ {K V : Type 0} (nodes : Content (Node K V)) (len : ℕ) where
   module _ (start : List (K × V)) (ancestors : List (Ancestor K V)) (id : ℕ) (d : IsDownBack start ancestors id) where
     pub back-room : length ancestors < 32
     back-room = let l = d.under.room in let m = length-map ancestors (row_of {K = K} {V = V}) in omega arith
-
-    pub back-smaller : (f : Ancestor K V) (new : List (Ancestor K V)) → new ≡ ancestors ++ f ∷ [] → 32 - length new < 32 - length ancestors
-    back-smaller f new is = let room = back-room in let more = ap length is in let one = length_push ancestors f in omega arith
 
     module _ (node : Node K V) (here : finite.get nodes id ≡ Some node) where
       focus : views nodes id ≡ Some (view_of node)

@@ -15,7 +15,7 @@ use Rattle.btree_shape.proofs.Paths.Frames.{AllByRecursion-right}
 use Rattle.btree_find.specs.CallerLaws.{equal-by}
 
 module _ {A : Type 0} where
-  -- what holds of each element implies another
+  -- what holds of each element holds as any weaker fact too
   pub all-so : (P Q : A → Type 0) → ((x : A) → P x → Q x) → (xs : List A) → AllByRecursion P xs → AllByRecursion Q xs
   all-so P Q so [] all = tt
   all-so P Q so (x ∷ xs) all = (so x all.0, all-so P Q so xs all.1)
@@ -32,7 +32,7 @@ module _ {A : Type 0} where
   pub filter-later : (test : A → Bool) (xs ys : List A) → AllByRecursion (λ x. test x ≡ false) xs → AllByRecursion (λ x. test x ≡ true) ys → filter test (xs ++ ys) ≡ ys
   filter-later test xs ys fail pass = filter-append test xs ys ∙ ap (λ l. l ++ filter test ys) (filter-none test xs fail) ∙ filter-all test ys pass
 
-  -- those that pass come first
+  -- a list whose passing elements come first is filtered to these
   pub filter-earlier : (test : A → Bool) (xs ys : List A) → AllByRecursion (λ x. test x ≡ true) xs → AllByRecursion (λ x. test x ≡ false) ys → filter test (xs ++ ys) ≡ xs
   filter-earlier test xs ys pass fail =
       filter-append test xs ys ∙ ap (λ l. l ++ filter test ys) (filter-all test xs pass) ∙ ap (λ l. xs ++ l) (filter-none test ys fail) ∙ append-nil xs
@@ -106,6 +106,7 @@ module _ {K V : Type 0} {cmp : K → K → Ordering} (laws : IsTotalOrder cmp) w
     pub out : AllByRecursion (λ x. is_from_start cmp lo x.0 ≡ false) outside
     pub pass : AllByRecursion (λ x. is_from_start cmp lo x.0 ≡ true) inside
 
+  -- a bound cuts an ascending list into what is outside and what is inside
   pub start-cut : (lo : Bound K) (xs : List (K × V)) → Rises cmp xs → StartCut lo xs
   start-cut lo [] up = record { outside = []; inside = []; is = refl; out = tt; pass = tt }
   start-cut lo (x ∷ xs) up = by (is_from_start cmp lo x.0) refl (start-cut lo xs up.1)

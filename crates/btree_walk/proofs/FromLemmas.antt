@@ -74,9 +74,6 @@ module _ {K V : Type 0} (cmp : K → K → Ordering) (k : K) (laws : IsTotalOrde
     pub from-room : length ancestors < 32
     from-room = let l = d.under.room in let m = length-map ancestors (row_of {K = K} {V = V}) in omega arith
 
-    pub from-smaller : (f : Ancestor K V) (new : List (Ancestor K V)) → new ≡ ancestors ++ f ∷ [] → 32 - length new < 32 - length ancestors
-    from-smaller f new is = let room = from-room in let more = ap length is in let one = length_push ancestors f in omega arith
-
     inner-rises : Rises cmp (represented (views nodes) len id)
     inner-rises =
         rises-left cmp (represented (views nodes) len id) above

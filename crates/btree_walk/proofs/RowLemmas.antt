@@ -16,6 +16,10 @@ take-more [] n x e = absurd (cc)
 take-more (y ∷ ys) zero x e = let same : y ≡ x = cc in rw same refl
 take-more (y ∷ ys) (suc n) x e = ap (λ l. y ∷ l) (take-more ys n x e)
 
+-- an ancestor more leaves fewer levels to go
+pub pushed-smaller : {X : Type 0} (xs : List X) (x : X) (new : List X) → length xs < 32 → new ≡ xs ++ x ∷ [] → 32 - length new < 32 - length xs
+pushed-smaller xs x new room is = let more = ap length is in let one = length_push xs x in omega arith
+
 -- a list that ends in an element, without it
 pub take-less : {X : Type 0} (xs : List X) (n : ℕ) (others : List X) (x : X) → take (suc n) xs ≡ others ++ x ∷ [] → suc n ≤ length xs → others ≡ take n xs
 take-less [] n others x e low = absurd (omega arith)
@@ -68,15 +72,6 @@ split-last (y ∷ z ∷ zs) x e =
     let less : length (y ∷ z ∷ zs) - 1 ≡ suc (length (z ∷ zs) - 1) = omega arith in
     let at : Some x ≡ slice_get (y ∷ z ∷ zs) (suc (length (z ∷ zs) - 1)) = subst (λ n. Some x ≡ slice_get (y ∷ z ∷ zs) n) less e in
     rw less (ap (λ l. y ∷ l) (split-last (z ∷ zs) x at))
-
-pub none-last : {X : Type 0} (xs : List X) → None ≡ slice_get xs (length xs - 1) → xs ≡ []
-none-last [] e = refl
-none-last (y ∷ []) e = absurd (cc)
-none-last (y ∷ z ∷ zs) e =
-    let less : length (y ∷ z ∷ zs) - 1 ≡ suc (length (z ∷ zs) - 1) = omega arith in
-    let at : None ≡ slice_get (y ∷ z ∷ zs) (suc (length (z ∷ zs) - 1)) = subst (λ n. None ≡ slice_get (y ∷ z ∷ zs) n) less e in
-    let none : z ∷ zs ≡ [] = none-last (z ∷ zs) at in
-    absurd (cc)
 
 module _ {A : Type 0} where
   pub before-length : (child : ℕ) (bs : List (A × ℕ)) → length (with_child_before child bs) ≡ length bs

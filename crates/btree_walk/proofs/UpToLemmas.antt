@@ -114,9 +114,6 @@ module _ {K V : Type 0} (cmp : K → K → Ordering) (k : K) (laws : IsTotalOrde
     pub up_to-room : length ancestors < 32
     up_to-room = let l = d.under.room in let m = length-map ancestors (row_of {K = K} {V = V}) in omega arith
 
-    pub up_to-smaller : (f : Ancestor K V) (new : List (Ancestor K V)) → new ≡ ancestors ++ f ∷ [] → 32 - length new < 32 - length ancestors
-    up_to-smaller f new is = let room = up_to-room in let more = ap length is in let one = length_push ancestors f in omega arith
-
     inner-rises : Rises cmp (represented (views nodes) len id)
     inner-rises =
         rises-right cmp above (represented (views nodes) len id)

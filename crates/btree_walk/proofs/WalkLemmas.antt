@@ -12,8 +12,9 @@ use Rattle.btree_shape.specs.TreeState.{views}
 use Rattle.btree_shape.specs.Remaining.{remaining_above, remaining_in, IsUnder, AreRows}
 use Rattle.btree_shape.proofs.LookUp.Walk.{remaining-push, rows-push, rows-pop, under-leaf, under-internal}
 use Rattle.btree_walk.specs.declared.ancestors.Ancestor.{Ancestor}
+use Rattle.btree_node.proofs.RoomLemmas.{none-last}
 use Rattle.btree_walk.specs.Rows.{rows_of}
-use Rattle.btree_walk.proofs.RowLemmas.{none-last, split-last}
+use Rattle.btree_walk.proofs.RowLemmas.{split-last}
 
 module _ {K V : Type 0} where
   abbrev pub row_of : Ancestor K V → List ((K × V) × ℕ)
@@ -49,9 +50,6 @@ module _ {K V : Type 0} (nodes : Content (Node K V)) (len : ℕ) where
   module _ (start : List (K × V)) (ancestors : List (Ancestor K V)) (id : ℕ) (d : IsDown start ancestors id) where
     pub down-room : length ancestors < 32
     down-room = let l = d.under.room in let m = length-map ancestors (row_of {K = K} {V = V}) in omega arith
-
-    pub down-smaller : (f : Ancestor K V) (new : List (Ancestor K V)) → new ≡ ancestors ++ f ∷ [] → 32 - length new < 32 - length ancestors
-    down-smaller f new is = let room = down-room in let more = ap length is in let one = length_push ancestors f in omega arith
 
     module _ (node : Node K V) (here : map.get nodes id ≡ Some node) where
       focus : views nodes id ≡ Some (view_of node)

@@ -15,6 +15,7 @@ use Rattle.btree_shape.proofs.Trees.Density.{nodes_in}
 use Rattle.btree_shape.proofs.Places.HasPlace.{has_place}
 use Rattle.btree_shape.proofs.AddressLists.Kept.{kept, kept-append}
 use Rattle.btree_shape.proofs.AddressLists.KeptOrder.{branch-sum, kept-order, numbers-counted, numbers-once, valid-within}
+use Rattle.btree_shape.proofs.Paths.Frames.{total-ones}
 use Rattle.btree_shape.proofs.Trees.Numbers.{used-some}
 use Rattle.btree_shape.proofs.AddressLists.OnePlaceEach.{addressed-kept, kept-addressed, ticks_of, as-subtree}
 use Rattle.btree_shape.proofs.Trees.Stores.{within-used}
@@ -30,16 +31,12 @@ module _ {A : Type 0} where
       let r = node_positions-length key below id (suc offset) xs in
       omega arith
 
-  singles : (xs : List A) → total (λ (x : A). 1) xs ≡ length xs
-  singles [] = refl
-  singles (x ∷ xs) = omega (arith, singles xs)
-
 module _ (A : Type 0) where
   -- as many as items and nodes
   back-length : (h : ℕ) (t : Subtree A h) → length (kept keep_back (positions A h t)) ≡ length (items_under A h t) + nodes_in A h t
   back-length zero t =
       let r = node_positions-length {A = A} {X = A} (λ x. x) (λ x. []) t.0 0 t.1 in
-      let s = singles t.1 in
+      let s = total-ones t.1 in
       omega arith
   back-length (suc h) t =
       let e = ap length (kept-append keep_back (positions A h t.1) (positions_from (branch_key A h) (branch_positions A h) t.0 0 t.2)) in

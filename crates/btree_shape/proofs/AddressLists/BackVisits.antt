@@ -107,7 +107,7 @@ module _ {A : Type 0} (node_at : NodeMap A) (levels root : ℕ) (xs : List A) (p
         (subst (λ o. Ends (address_at (id_of A n.height n.subtree) o) all) (sym o)
         (top-end n.height n.path n.subtree n.focused node (ap node_at n.here ∙ e) none))
 
-  -- the law of the order, for each tree whose addresses have one place each
+  -- in the list of back addresses each is followed by the one that a step leads to
   pub backs-visited : VisitsBacks node_at levels root (backs_under node_at levels (Some root))
   backs-visited =
       let t = as-subtree node_at levels root xs p in

@@ -16,6 +16,7 @@ use Rattle.btree_shape.proofs.Trees.Density.{nodes_in}
 use Rattle.btree_shape.proofs.Places.HasPlace.{has_place}
 use Rattle.btree_shape.proofs.AddressLists.Kept.{IndexOf, kept, kept-append}
 use Rattle.btree_shape.proofs.AddressLists.KeptOrder.{branch-sum, kept-order, numbers-counted, numbers-once, valid-within}
+use Rattle.btree_shape.proofs.Paths.Frames.{total-ones}
 use Rattle.btree_shape.proofs.Trees.Numbers.{used-some}
 use Rattle.btree_shape.proofs.AddressLists.OnePlaceEach.{AsSubtree, addressed-kept, kept-addressed, ticks_of, as-subtree}
 use Rattle.btree_shape.proofs.Trees.Stores.{within-used}
@@ -31,16 +32,12 @@ module _ {A : Type 0} where
       let r = node_positions-length key below id (suc offset) xs in
       omega arith
 
-  singles : (xs : List A) → total (λ (x : A). 1) xs ≡ length xs
-  singles [] = refl
-  singles (x ∷ xs) = omega (arith, singles xs)
-
 module _ (A : Type 0) where
   -- as many as items and nodes
   front-length : (h : ℕ) (t : Subtree A h) → length (kept keep_front (positions A h t)) ≡ length (items_under A h t) + nodes_in A h t
   front-length zero t =
       let r = node_positions-length {A = A} {X = A} (λ x. x) (λ x. []) t.0 0 t.1 in
-      let s = singles t.1 in
+      let s = total-ones t.1 in
       omega arith
   front-length (suc h) t =
       let e = ap length (kept-append keep_front (positions A h t.1) (positions_from (branch_key A h) (branch_positions A h) t.0 0 t.2)) in
@@ -61,7 +58,8 @@ module _ {A : Type 0} (node_at : NodeMap A) where
   item-front None o x e = absurd (cc)
   item-front (Some v) o x e = slice_get_within (items_of v) o x e
 
-  front-within : (v : Option (View A)) (offset : Option ℕ) → IsFront node_at v offset → IsWithin node_at v offset
+  -- an address that is a front is within its node
+  pub front-within : (v : Option (View A)) (offset : Option ℕ) → IsFront node_at v offset → IsWithin node_at v offset
   front-within None offset l = l
   front-within (Some v) None l = tt
   front-within (Some v) (Some o) l = omega arith

@@ -100,7 +100,7 @@ module _ {A : Type 0} (node_at : NodeMap A) (levels root : ℕ) (xs : List A) (p
       → IsFront node_at v (Some offset) → offset < length items
   in-leaf v parent items offset e l = subst (λ w. IsFront node_at w (Some offset)) e l
 
-  -- the law of the order, for each tree whose addresses have one place each
+  -- in the list of front addresses each comes after the one that a step back leads to
   pub fronts-visited : VisitsFronts node_at levels root (fronts_under node_at levels (Some root))
   fronts-visited =
       let t = as-subtree node_at levels root xs p in

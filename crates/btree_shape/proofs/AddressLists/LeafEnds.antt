@@ -89,14 +89,17 @@ module _ {A : Type 0} (node_at : NodeMap A) (levels root : ℕ) (xs : List A) (p
     last-self-by zero l = absurd (omega arith)
     last-self-by (suc n) l = ap (last_leaf_in (last_leaf node_at n) id) e
 
+    -- the first leaf under a leaf is that leaf
     pub first-leaf-self : first_leaf node_at levels id ≡ id
     first-leaf-self = first-self-by levels (let l = p.low in omega arith)
 
+    -- the last leaf under a leaf is that leaf
     pub last-leaf-self : last_leaf node_at levels id ≡ id
     last-leaf-self = last-self-by levels (let l = p.low in omega arith)
 
   -- in an internal node they are those of the first child and of the last one
   module _ (parent : Option ℕ) (first : ℕ) (branches : List (A × ℕ)) (e : node_at id ≡ Some (internal parent first branches)) where
+    -- the first leaf under an internal node is that under its first child
     pub first-leaf-down : first_leaf node_at levels id ≡ first_leaf node_at levels first
     first-leaf-down =
         let n = node-rooted A node_at (λ id node. Unit {0}) root xs p.rooted id (used-there node_at id (internal parent first branches) e) in
@@ -106,6 +109,7 @@ module _ {A : Type 0} (node_at : NodeMap A) (levels root : ℕ) (xs : List A) (p
         (first-down A node_at n.height levels (parent_above n.path) n.subtree (omega arith) n.focused.inner parent first branches
         (ap node_at n.here ∙ e))
 
+    -- the last leaf under an internal node is that under its last child
     pub last-leaf-down : last_leaf node_at levels id ≡ last_leaf node_at levels (last_child first branches)
     last-leaf-down =
         let n = node-rooted A node_at (λ id node. Unit {0}) root xs p.rooted id (used-there node_at id (internal parent first branches) e) in

@@ -58,6 +58,10 @@ low-or o n l = elim (less-or o n) [
   | inr b ↦ elim b [ inl e ↦ inr e | inr m ↦ absurd (omega arith) ]
 ]
 
+-- the address before an index of a list is the one that comes before it
+pub came-before : (list : List Address) (i : ℕ) (a : Address) → ComesBefore list i a → prior list i ≡ Some a
+came-before list i a c = ap (prior list) c.is ∙ c.at
+
 module _ {A : Type 0} (node_at : NodeMap A) (levels root : ℕ) (xs : List A) (p : IsPlaced node_at levels root xs) where
   -- a node with a parent is one of the parent's children
   parent-focus : (h : ℕ) (c : Path A h) (u : Subtree A h) → IsUnsizedFocus A node_at [] root xs h c u → (node : View A) (parent : ℕ)
@@ -144,9 +148,6 @@ module _ {A : Type 0} (node_at : NodeMap A) (levels root : ℕ) (xs : List A) (p
 
   front-law : VisitsFronts node_at levels root front_list
   front-law = fronts-visited node_at levels root xs p
-
-  pub came-before : (list : List Address) (i : ℕ) (a : Address) → ComesBefore list i a → prior list i ≡ Some a
-  came-before list i a c = ap (prior list) c.is ∙ c.at
 
   front-out : (i id : ℕ) (node : View A) → node_at id ≡ Some node → slice_get front_list i ≡ Some (address_before id)
       → (parent : Option ℕ) → parent_of node ≡ parent → prior front_list i ≡ in_parent node_at slot_before id parent

@@ -35,7 +35,7 @@ module _ {A : Type 0} (node_at : NodeMap A) (levels : ℕ) (xs : List A) where
   last-under None p = refl
   last-under (Some root) p =
       let fronts : List Address = fronts_under node_at levels (Some root) in
-      came-before node_at levels root xs p fronts (length fronts) (last_item node_at levels root) (fronts-visited node_at levels root xs p).last
+      came-before fronts (length fronts) (last_item node_at levels root) (fronts-visited node_at levels root xs p).last
 
   next-under : (root : Option ℕ) → IsPlacedUnder node_at levels root xs → (i : ℕ) (a : Address)
       → slice_get (backs_under node_at levels root) i ≡ Some a
@@ -80,6 +80,7 @@ module _ {K V : Type 0} (cmp : K → K → Ordering) (laws : IsTotalOrder cmp) (
   pub addresses-formed : (len : ℕ) → IsWellFormed cmp (node_map s) s.root len (pairs_of s) → HasAddresses s
   addresses-formed len w = addresses-placed s (placed-under s.root len (pairs_of s) w)
 
+  -- a well formed tree has the four lists of its addresses, with their laws
   pub addresses-tree : IsBTree cmp s → HasAddresses s
   addresses-tree w = addresses-formed s.len w
 

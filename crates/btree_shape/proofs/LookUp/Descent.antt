@@ -30,6 +30,7 @@ pub record MapParts {X Y : Type 0} (f : X → Y) (xs : List X) (ys zs : List Y) 
 pub cons-parts : {X : Type 0} {x y : X} {xs ys : List X} → x ∷ xs ≡ y ∷ ys → (x ≡ y) × (xs ≡ ys)
 cons-parts e = (cc, cc)
 
+-- where a mapped list has two parts, so has the list itself
 pub map-parts : {X Y : Type 0} (f : X → Y) (xs : List X) (ys zs : List Y) → map f xs ≡ ys ++ zs → MapParts f xs ys zs
 map-parts f xs [] zs e = record { left = []; right = xs; is = refl; first = refl; second = e }
 map-parts f [] (y ∷ ys) zs e = absurd (cc)
@@ -50,6 +51,7 @@ pub snoc : {X : Type 0} (x : X) (xs : List X) → (front : List X) × (last : X)
 snoc x [] = ([], x, refl)
 snoc x (y ∷ ys) = let r = snoc y ys in (x ∷ r.0, r.1, ap (λ l. x ∷ l) r.2)
 
+-- the element after a front of known length is at that length
 pub get-after : {X : Type 0} (front : List X) (x : X) (back : List X) (n : ℕ) → n ≡ length front
     → slice_get (front ++ x ∷ back) n ≡ Some x
 get-after [] x back zero e = refl
@@ -117,6 +119,7 @@ module _ {K V : Type 0} (cmp : K → K → Ordering) where
         rises-left cmp (items_under A h t) (items_after c)
         (rises-right cmp (items_before c) (items_under A h t ++ items_after c) (subst (λ l. Rises cmp l) w.list up))
 
+    -- the items of a node that a search comes to are in order
     pub search-ascends : (id : ℕ) → IsSearching cmp k node_at root xs within start id → (v : View A) → node_at id ≡ Some v
         → Ascends cmp (items_of v)
     search-ascends id s v e = at s.node.focus.height s.node.focus.path s.node.focus.subtree s.node.focus.here s.node.focus.whole
@@ -259,7 +262,7 @@ module _ {K V : Type 0} (cmp : K → K → Ordering) where
         let e7 : id_of A h u ≡ child = cc in
         subst (λ z. Down t.0 z) e7 d
 
-    -- the key is not in the node: the search goes on at the child at that index
+    -- if the key is not in the node, the search goes on at the child at its place
     pub search-down : (id : ℕ) → IsSearching cmp k node_at root xs within start id → (v : View A) → node_at id ≡ Some v → (o : ℕ)
         → place_of cmp k (items_of v) ≡ Err o
         → (child : ℕ) → slice_get (children_of v) o ≡ Some child → Down id child

@@ -119,6 +119,7 @@ module _ {K V : Type 0} (cmp : K → K → Ordering) (k : K) (laws : IsTotalOrde
         item = p.1 ∙ sym here;
       }
 
+  -- a search that ends at an item has found the key, at the item's place
   pub search-hit : (id : ℕ) → IsSearching cmp k node_at root xs within start id → (v : View A) → node_at id ≡ Some v → (o : ℕ)
       → place_of cmp k (items_of v) ≡ Ok o → Hit id o
   search-hit id s v e o place = at s.node.focus.height s.node.focus.path s.node.focus.subtree s.node.focus.here
@@ -159,6 +160,7 @@ module _ {K V : Type 0} (cmp : K → K → Ordering) (k : K) (laws : IsTotalOrde
               (sym (length-map left (λ (b : A × Subtree A h). b.0)) ∙ (ap length e1 ∙ n)) (ap (side cmp k) e3 ∙ l)
               (got ∙ ap Some (sym e3))
 
+  -- a search that ends between the items of a leaf has found where an absent key belongs
   pub search-miss : (id : ℕ) → IsSearching cmp k node_at root xs within start id → (p : Option ℕ) (ys : List A)
       → node_at id ≡ Some (leaf p ys) → (o : ℕ) → place_of cmp k ys ≡ Err o → Miss id o
   search-miss id s p ys e o place = at s.node.focus.height s.node.focus.path s.node.focus.subtree s.node.focus.here

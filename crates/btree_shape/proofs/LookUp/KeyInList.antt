@@ -37,10 +37,12 @@ module _ {K V : Type 0} (cmp : K → K → Ordering) where
   ascends [] up = tt
   ascends (x ∷ xs) up = (below-keys x.0 xs up.0, ascends xs up.1)
 
+  -- the front of an ascending list ascends
   pub rises-left : (xs ys : List (K × V)) → Rises (xs ++ ys) → Rises xs
   rises-left [] ys up = tt
   rises-left (x ∷ xs) ys up = (AllByRecursion-left (λ y. cmp x.0 y.0 ≡ Less) xs ys up.0, rises-left xs ys up.1)
 
+  -- the back of an ascending list ascends
   pub rises-right : (xs ys : List (K × V)) → Rises (xs ++ ys) → Rises ys
   rises-right [] ys up = up
   rises-right (x ∷ xs) ys up = rises-right xs ys up.1
@@ -58,6 +60,7 @@ module _ {K : Type 0} {cmp : K → K → Ordering} (laws : IsTotalOrder cmp) whe
   pub reversed : (x y : K) → cmp x y ≡ Less → cmp y x ≡ Greater
   reversed x y e = let r = laws.antisymm y x in rw e at r
 
+  -- if one key is greater than another, the other is less than it
   pub reversed-back : (x y : K) → cmp x y ≡ Greater → cmp y x ≡ Less
   reversed-back x y e = let r = laws.antisymm y x in rw e at r
 
@@ -114,7 +117,7 @@ module _ {K V : Type 0} (cmp : K → K → Ordering) (k : K) where
   found-low [] ys low = refl
   found-low (x ∷ front) ys low = rw low.0 (found-low front ys low.1)
 
-  -- the parts give the place and the pair
+  -- a list in two parts around the pair with the key gives its place and the pair
   pub place-hit : (xs : List (K × V)) (i : ℕ) (s : IsSearched xs (Ok i))
       → (place_of cmp k xs ≡ Ok i) × (found cmp k xs ≡ Some s.1)
   place-hit xs i s =
@@ -143,6 +146,7 @@ module _ {K V : Type 0} (cmp : K → K → Ordering) (k : K) where
   searched-place xs (Err i) s = (place-miss xs i s).0
 
   module _ (laws : IsTotalOrder cmp) where
+    -- if a pair is below a key, so are all pairs before it
     pub below-pivot : (xs : List (K × V)) (x : K × V) (ys : List (K × V)) → Rises cmp (xs ++ x ∷ ys) → side x ≡ Less
         → AreBelow xs
     below-pivot [] x ys a l = tt
@@ -151,6 +155,7 @@ module _ {K V : Type 0} (cmp : K → K → Ordering) (k : K) where
       below-pivot xs x ys a.1 l,
     )
 
+    -- all pairs before the one with an equal key are below the key
     pub equal-front : (xs : List (K × V)) (x : K × V) (ys : List (K × V)) → Rises cmp (xs ++ x ∷ ys) → side x ≡ Equal
         → AreBelow xs
     equal-front [] x ys a l = tt
@@ -159,6 +164,7 @@ module _ {K V : Type 0} (cmp : K → K → Ordering) (k : K) where
       equal-front xs x ys a.1 l,
     )
 
+    -- all pairs after the one with an equal key are above the key
     pub equal-back : (x : K × V) (ys : List (K × V)) → AllByRecursion (λ y. cmp x.0 y.0 ≡ Less) ys → side x ≡ Equal
         → AreAbove ys
     equal-back x [] a l = tt
@@ -172,6 +178,7 @@ module _ {K V : Type 0} (cmp : K → K → Ordering) (k : K) where
       above-all x ys a.1 g,
     )
 
+    -- if a pair is above a key, so are all pairs after it
     pub above-pivot : (x : K × V) (ys : List (K × V)) → Rises cmp (x ∷ ys) → side x ≡ Greater → AreAbove (x ∷ ys)
     above-pivot x ys a g = (g, above-all x ys a.0 g)
 

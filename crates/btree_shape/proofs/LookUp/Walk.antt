@@ -1,25 +1,10 @@
 -- A walk through a tree: down to a first leaf, and on to the next item above.
-use Rattle.std.proofs.Common.{◌≡◌, ℕ, zero, suc, ◌+◌, ◌<◌, List, [], ◌∷◌, ◌++◌, length, map, drop, slice_get, Option, Some, None, refl, sym, ap, ◌∙◌, arith, append_assoc, append-nil}
+use Rattle.std.proofs.Common.{◌≡◌, ℕ, zero, suc, ◌+◌, ◌<◌, List, [], ◌∷◌, ◌++◌, length, map, Option, Some, refl, sym, ap, ◌∙◌, arith, append_assoc, append-nil}
 use Rattle.std.specs.List.{flat_map, AllByRecursion}
 use Rattle.btree_view.specs.View.{leaf, internal, NodeMap}
 use Rattle.btree_shape.specs.Represents.{Represents, represented}
 use Rattle.btree_shape.specs.Remaining.{remaining_in, remaining_above, IsUnder, AreRows}
 use Rattle.btree_shape.proofs.Trees.Represented.{represented-is}
-
--- the next item of a list, at an index
-pub rest-next : {X : Type 0} (xs : List X) (i : ℕ) (x : X) → slice_get xs i ≡ Some x → drop i xs ≡ x ∷ drop (i + 1) xs
-rest-next {X = X} xs i x e = let s : i + 1 ≡ suc i = omega arith in rw s (at xs i e)
-  where
-    at : (ys : List X) (n : ℕ) → slice_get ys n ≡ Some x → drop n ys ≡ x ∷ drop (suc n) ys
-    at [] n h = absurd (cc)
-    at (y ∷ ys) zero h = let same : y ≡ x = cc in rw same refl
-    at (y ∷ ys) (suc n) h = at ys n h
-
-pub rest-none : {X : Type 0} (xs : List X) (i : ℕ) → slice_get xs i ≡ None → drop i xs ≡ []
-rest-none [] zero e = refl
-rest-none [] (suc i) e = refl
-rest-none (x ∷ xs) zero e = absurd (cc)
-rest-none (x ∷ xs) (suc i) e = rest-none xs i e
 
 module _ {A : Type 0} (node_at : NodeMap A) (levels : ℕ) where
   -- of the rows, the last one added is passed first
@@ -27,6 +12,7 @@ module _ {A : Type 0} (node_at : NodeMap A) (levels : ℕ) where
   remaining-push [] row = sym (append-nil (remaining_in node_at levels row))
   remaining-push (r ∷ rows) row = ap (λ l. l ++ remaining_in node_at levels r) (remaining-push rows row) ∙ append_assoc (remaining_in node_at levels row) (remaining_above node_at levels rows) (remaining_in node_at levels r)
 
+  -- a row whose children are one level further down may follow the rows of a walk
   pub rows-push : (depth : ℕ) (rows : List (List (A × ℕ))) (row : List (A × ℕ)) → AreRows node_at levels depth rows
       → AllByRecursion (λ (b : A × ℕ). IsUnder node_at levels (suc (depth + length rows)) b.1) row → AreRows node_at levels depth (rows ++ row ∷ [])
   rows-push depth [] row are all = let z : depth + 0 ≡ depth = omega arith in (rw (sym z) all, tt)
@@ -36,6 +22,7 @@ module _ {A : Type 0} (node_at : NodeMap A) (levels : ℕ) where
     pub above : AreRows node_at levels depth rows
     pub under : AllByRecursion (λ (b : A × ℕ). IsUnder node_at levels (suc (depth + length rows)) b.1) row
 
+  -- the rows of a walk without the last one are the rows of a walk
   pub rows-pop : (depth : ℕ) (rows : List (List (A × ℕ))) (row : List (A × ℕ)) → AreRows node_at levels depth (rows ++ row ∷ []) → Lowest depth rows row
   rows-pop depth [] row are = let z : depth + 0 ≡ depth = omega arith in record { above = tt; under = rw z are.0 }
   rows-pop depth (r ∷ rows) row are =
@@ -72,6 +59,7 @@ module _ {A : Type 0} (node_at : NodeMap A) (levels : ℕ) where
         let later = node_positions-left rest all.1 in
         rw (here, later) refl
 
+  -- what is under an internal node is what is under its first child and in its row
   pub under-internal : (depth id : ℕ) (p : Option ℕ) (first : ℕ) (row : List (A × ℕ)) → IsUnder node_at levels depth id → node_at id ≡ Some (internal p first row) → Inside depth id first row
   under-internal depth id p first row u e = at u.height u.parent u.list u.low u.room u.represents
     where

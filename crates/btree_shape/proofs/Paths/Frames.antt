@@ -1,5 +1,5 @@
 -- A frame filled with a child, and trees in stores that agree at the tree's numbers.
-use Rattle.std.proofs.Common.{◌≡◌, ◌≢◌, ◌<◌, ◌++◌, ◌∷◌, [], ◌∙◌, ◌+◌, ℕ, zero, suc, List, Option, Some, refl, sym, ap, arith, append_assoc, length-append}
+use Rattle.std.proofs.Common.{◌≡◌, ◌≢◌, ◌<◌, ◌++◌, ◌∷◌, [], ◌∙◌, ◌+◌, ℕ, zero, suc, List, length, Option, Some, refl, sym, ap, arith, append_assoc, length-append}
 use Rattle.std.proofs.lemmas.Bool.Decides.{nat_tests}
 use Rattle.std.proofs.lemmas.Grind.{flat_map-append}
 use Rattle.std.proofs.lemmas.List.{map-append}
@@ -9,31 +9,43 @@ use Rattle.btree_shape.specs.Lists.{one, total}
 use Rattle.btree_shape.specs.Focus.Subtree.{Holds, IsFilled, IsFilledBelow, Subtree, count_at, id_of, items_under, times_under, view_at}
 use Rattle.btree_shape.specs.Focus.Path.{Path, Frame, HoldsAbove, SiblingsFilled, SiblingsHold, after_in, at_branch, at_first, before_in, fill, frame_count, frame_id, frame_view, times_above, times_in_siblings, times_in, top, under}
 
+-- what holds of all elements of two lists holds of those of both together
 pub AllByRecursion-append : {X : Type 0} (P : X → Type 0) (xs ys : List X) → AllByRecursion P xs → AllByRecursion P ys
     → AllByRecursion P (xs ++ ys)
 AllByRecursion-append P [] ys a b = b
 AllByRecursion-append P (x ∷ xs) ys a b = (a.0, AllByRecursion-append P xs ys a.1 b)
 
+-- what holds of all elements of a list holds of those of its front
 pub AllByRecursion-left : {X : Type 0} (P : X → Type 0) (xs ys : List X) → AllByRecursion P (xs ++ ys)
     → AllByRecursion P xs
 AllByRecursion-left P [] ys a = tt
 AllByRecursion-left P (x ∷ xs) ys a = (a.0, AllByRecursion-left P xs ys a.1)
 
+-- what holds of all elements of a list holds of those of its back
 pub AllByRecursion-right : {X : Type 0} (P : X → Type 0) (xs ys : List X) → AllByRecursion P (xs ++ ys)
     → AllByRecursion P ys
 AllByRecursion-right P [] ys a = a
 AllByRecursion-right P (x ∷ xs) ys a = AllByRecursion-right P xs ys a.1
 
+-- ones, summed over a list
+pub total-ones : {X : Type 0} (xs : List X) → total (λ (x : X). 1) xs ≡ length xs
+total-ones [] = refl
+total-ones (x ∷ xs) = omega (arith, total-ones xs)
+
+-- the sum over two lists is the sum of their sums
 pub total-append : {X : Type 0} (f : X → ℕ) (xs ys : List X) → total f (xs ++ ys) ≡ total f xs + total f ys
 total-append f [] ys = omega arith
 total-append f (x ∷ xs) ys = omega (arith, total-append f xs ys)
 
+-- a number equals itself, so it counts one
 pub one-self : (n : ℕ) → one n n ≡ 1
 one-self n = grind (arith, nat_tests)
 
+-- two different numbers count none
 pub one-other : (n i : ℕ) → n ≢ i → one n i ≡ 0
 one-other n i h = grind (arith, nat_tests)
 
+-- numbers that count none are different
 pub one-zero : (n i : ℕ) → one n i ≡ 0 → n ≢ i
 one-zero n i e s = grind (arith, nat_tests)
 
@@ -42,6 +54,7 @@ module _ (A : Type 0) where
   times_in-is h n (at_first i back) = refl
   times_in-is h n (at_branch i first front x back) = refl
 
+  -- the root of a subtree is stored as the subtree shows it
   pub top-view : (node_at : NodeMap A) (h : ℕ) (p : Option ℕ) (t : Subtree A h) → Holds A node_at h p t
       → node_at (id_of A h t) ≡ Some (view_at A h p t)
   top-view node_at zero p t d = d
@@ -63,6 +76,7 @@ module _ (A : Type 0) where
   fill-id h (at_first i back) t = refl
   fill-id h (at_branch i first front x back) t = refl
 
+  -- a frame has as many items whichever child fills it
   pub fill-count : (h : ℕ) (f : Frame A h) (t : Subtree A h) → count_at A (suc h) (fill f t) ≡ frame_count f
   fill-count h (at_first i back) t = refl
   fill-count h (at_branch i first front x back) t = length-append front ((x, t) ∷ back)

@@ -316,6 +316,7 @@ module _ (A : Type 0) (node_at : NodeMap A) where
       pub below : IsFilledBelow A height subtree
       pub represents : items_under A height subtree ≡ xs
 
+    -- a tree with a root is one subtree
     pub rooted-subtree : (r : IsRooted (IsSized root) node_at root xs) → HasSubtree r.height
     unfolding unsized-rooted
     rooted-subtree r = at r.height s.subtree s.focused

@@ -23,6 +23,7 @@ module _ (A : Type 0) (node_at : NodeMap A) (root : ℕ) (xs : List A) where
       subst (λ n. Levels n) (let q : depth c + suc h ≡ suc (depth c) + h = omega arith in q)
       (levels (suc h) c (fill f t) (unsized-up A node_at [] root xs h f c t s))
 
+  -- the depth of a focus and the height of its subtree make the height of the tree
   pub levels-rooted : (is_right : (id : ℕ) → View A → Type 0) (r : IsRooted is_right node_at root xs) (h : ℕ) (c : Path A h)
       (t : Subtree A h) → IsUnsizedFocus A node_at [] root xs h c t → depth c + h ≡ r.height
   levels-rooted is_right r h c t s =

@@ -18,6 +18,7 @@ pub ids-append : {A : Type 0} (front back : List (A × ℕ)) → map {B = ℕ} (
     (λ b. b.1) front ++ map {B = ℕ} (λ b. b.1) back
 ids-append front back = map-append (λ b. b.1) front back
 
+-- a number at an index of a list is listed
 pub get-times : (ns : List ℕ) (k n : ℕ) → slice_get ns k ≡ Some n → 0 < times_listed n ns
 get-times [] k n e = absurd (cc)
 get-times (m ∷ ns) zero n e =

@@ -22,6 +22,7 @@ use Rattle.btree_shape.proofs.Trees.Sizes.{frame-size}
 use Rattle.btree_shape.proofs.Strain.Splits.{strain-close}
 use Rattle.btree_shape.proofs.Underflow.Items.{children_at, children_at-is}
 
+-- an internal node has one child more than items
 pub children-count : {A : Type 0} (v : View A) → IsTrue (is_internal v) → length (children_of v) ≡ suc (size_of v)
 children-count (leaf p xs) i = absurd (cc)
 children-count {A} (internal p u bs) i = ap suc (same bs)

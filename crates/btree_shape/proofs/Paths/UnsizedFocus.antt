@@ -9,6 +9,7 @@ use Rattle.btree_shape.proofs.Trees.Numbers.{pick, same-or, zero-or}
 use Rattle.btree_shape.proofs.Paths.Focus.{regroup}
 
 module _ (A : Type 0) where
+  -- a focus is one of a tree whose sizes are not asked for
   pub focus-unsized : (node_at : NodeMap A) (spare : List ℕ) (root : ℕ) (xs : List A) (h : ℕ) (c : Path A h) (t : Subtree A h)
       → IsFocus A node_at spare root xs h c t → IsUnsizedFocus A node_at spare root xs h c t
   focus-unsized node_at spare root xs h c t w = record {

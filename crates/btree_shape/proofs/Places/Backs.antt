@@ -32,6 +32,7 @@ module _ {A : Type 0} (node_at : NodeMap A) where
     back-over-split None h = absurd h
     back-over-split (Some o) h = by-all Back (nat_lt o s) (address_at p o) (address_at p (o + 1)) tt tt
 
+    -- a back address stays one where a split moves it
     pub split-back : (v : Address) → Back v → Back (moved_by_split i j p s n v)
     split-back v h =
         same-back v.id i (node_after_split i j p s n v.offset) (if v.id == p then (parent_after_split p s v.offset) else v)
@@ -48,6 +49,7 @@ module _ {A : Type 0} (node_at : NodeMap A) where
       back-right-giver (Some zero) h = tt
       back-right-giver (Some (suc o)) h = tt
 
+      -- a back address stays one where a rotation to the left moves it
       pub rotate-left-back : (v : Address) → Back v → Back (moved_by_rotate_left i j p s n c v)
       rotate-left-back v h =
           same-back v.id j (right_after_lending j p s c v.offset)
@@ -62,6 +64,7 @@ module _ {A : Type 0} (node_at : NodeMap A) where
       back-right-taker None h = absurd h
       back-right-taker (Some o) h = tt
 
+      -- a back address stays one where a rotation to the right moves it
       pub rotate-right-back : (v : Address) → Back v → Back (moved_by_rotate_right i j p s n c v)
       rotate-right-back v h =
           let rest : Address = if v.id == p then (at_separator p s (address_at j 0) v.offset) else v in
@@ -78,6 +81,7 @@ module _ {A : Type 0} (node_at : NodeMap A) where
       back-over-merged None h = absurd h
       back-over-merged (Some o) h = by-order Back o s (address_at p o) (address_at i n) (address_at p (o - 1)) tt tt tt
 
+      -- a back address stays one where a merge moves it
       pub merge-back : (v : Address) → Back v → Back (moved_by_merge i j p s n c v)
       merge-back v h =
           same-back v.id j (right_after_merge i n c v.offset) (if v.id == p then (parent_after_merge i p s n v.offset) else v)

@@ -185,6 +185,7 @@ module _ {A : Type 0} (node_at : NodeMap A) (levels root : ℕ) (xs : List A) wh
             higher = levels-up;
           }
 
+    -- a child is a node of the tree, one level below its parent
     pub child-places : (id index child : ℕ) → slice_get (children_in (node_at id)) index ≡ Some child → ChildPlaces id index child
     child-places id index child e =
         let c = child-at A node_at root xs (λ id node. Unit {0}) p.rooted id index child e in
@@ -198,6 +199,7 @@ module _ {A : Type 0} (node_at : NodeMap A) (levels root : ℕ) (xs : List A) wh
       places : ChildPlaces id index child
       places = child-places id index child e
 
+      -- the place past the end of a child is that of its index in the parent
       pub up-from-end : (node : View A) → node_at child ≡ Some node → (q : ℕ) → HasPlaceAt child (Some (size_of node)) q → HasPlaceAt id (Some index) q
       up-from-end node at q i =
           let here = places.here in
@@ -205,6 +207,7 @@ module _ {A : Type 0} (node_at : NodeMap A) (levels root : ℕ) (xs : List A) wh
           let ends : HasPlaceAt child (Some (size_of node)) places.after = subst (λ v. HasPlaceAt child (Some (size_of v)) places.after) same places.ends in
           subst (λ n. HasPlaceAt id (Some index) n) (p.one child (Some (size_of node)) places.after q ends i) places.at_index
 
+      -- the place of an index in a node is that past the end of the child there
       pub down-to-end : (node : View A) → node_at child ≡ Some node → (q : ℕ) → HasPlaceAt id (Some index) q → HasPlaceAt child (Some (size_of node)) q
       down-to-end node at q i =
           let here = places.here in
@@ -212,12 +215,15 @@ module _ {A : Type 0} (node_at : NodeMap A) (levels root : ℕ) (xs : List A) wh
           subst (λ n. HasPlaceAt child (Some (size_of node)) n) (p.one id (Some index) places.after q places.at_index i)
           (subst (λ v. HasPlaceAt child (Some (size_of v)) places.after) same places.ends)
 
+      -- the place before a first child is the place before its parent
       pub up-from-first : index ≡ 0 → (q : ℕ) → HasPlaceAt child None q → HasPlaceAt id None q
       up-from-first z q i = subst (λ n. HasPlaceAt id None n) (p.one child None places.before q places.starts i) (places.at_first z)
 
+      -- the place before a node is the place before its first child
       pub down-to-first : index ≡ 0 → (q : ℕ) → HasPlaceAt id None q → HasPlaceAt child None q
       down-to-first z q i = subst (λ n. HasPlaceAt child None n) (p.one id None places.before q (places.at_first z) i) places.starts
 
+      -- the place before any other child is right after that of the item before it
       pub up-to-item : (i : ℕ) → index ≡ suc i → (q : ℕ) → HasPlaceAt child None q
           → (place : ℕ) × (q ≡ suc place) × HasPlaceAt id (Some i) place
       up-to-item i z q s =
@@ -225,6 +231,7 @@ module _ {A : Type 0} (node_at : NodeMap A) (levels root : ℕ) (xs : List A) wh
           let same = p.one child None places.before q places.starts s in
           (r.0, sym same ∙ r.1, r.2)
 
+      -- right after the place of an item is the place before the child after it
       pub down-from-item : (i : ℕ) → index ≡ suc i → (q : ℕ) → HasPlaceAt id (Some i) q → HasPlaceAt child None (suc q)
       down-from-item i z q s =
           let r = places.after_item i z in

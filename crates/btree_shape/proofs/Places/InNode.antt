@@ -47,18 +47,21 @@ module _ {A : Type 0} (node_at : NodeMap A) (levels root : ℕ) (xs : List A) wh
       leaf-places : LeafPlaces id items
       leaf-places = let n = at-node id (leaf parent items) e in leaf-by n.height n.path n.subtree n.here n.focused
 
+      -- the place before a leaf is that of its first item
       pub leaf-first : (q : ℕ) → HasPlaceAt node_at levels root xs id None q → HasPlaceAt node_at levels root xs id (Some 0) q
       leaf-first q i =
           let l = leaf-places in
           let same : l.start + 0 ≡ q = let s = p.one id None l.start q l.before i in omega arith in
           subst (λ n. HasPlaceAt node_at levels root xs id (Some 0) n) same (l.at 0 (omega arith))
 
+      -- the place of a leaf's first item is that before the leaf
       pub leaf-start : (q : ℕ) → HasPlaceAt node_at levels root xs id (Some 0) q → HasPlaceAt node_at levels root xs id None q
       leaf-start q i =
           let l = leaf-places in
           let same : l.start ≡ q = let s = p.one id (Some 0) (l.start + 0) q (l.at 0 (omega arith)) i in omega arith in
           subst (λ n. HasPlaceAt node_at levels root xs id None n) same l.before
 
+      -- in a leaf the next item has the next place
       pub leaf-along : (o : ℕ) → o < length items → (q : ℕ) → HasPlaceAt node_at levels root xs id (Some o) q
           → HasPlaceAt node_at levels root xs id (Some (suc o)) (suc q)
       leaf-along o low q i =
@@ -67,6 +70,7 @@ module _ {A : Type 0} (node_at : NodeMap A) (levels root : ℕ) (xs : List A) wh
           let same : l.start + suc o ≡ suc q = omega arith in
           subst (λ n. HasPlaceAt node_at levels root xs id (Some (suc o)) n) same (l.at (suc o) (omega arith))
 
+      -- in a leaf the item before has the place before
       pub leaf-back : (o : ℕ) → o < length items → (q : ℕ) → HasPlaceAt node_at levels root xs id (Some (suc o)) q
           → (place : ℕ) × (q ≡ suc place) × HasPlaceAt node_at levels root xs id (Some o) place
       leaf-back o low q i =
@@ -102,9 +106,11 @@ module _ {A : Type 0} (node_at : NodeMap A) (levels root : ℕ) (xs : List A) wh
         ends-by : HasPlaceAt node_at levels root xs id (Some (size_of node)) (length xs) × HasPlaceAt node_at levels root xs id None 0
         ends-by = let n = at-node id node e in end-by n.height n.path n.subtree n.here n.focused
 
+        -- the place past the end of the root is that past the end of the list
         pub root-end : (q : ℕ) → HasPlaceAt node_at levels root xs id (Some (size_of node)) q → q ≡ length xs
         root-end q i = p.one id (Some (size_of node)) q (length xs) i ends-by.0
 
+        -- the place before the root is 0
         pub root-start : (q : ℕ) → HasPlaceAt node_at levels root xs id None q → q ≡ 0
         root-start q i = p.one id None q 0 i ends-by.1
 
@@ -131,6 +137,7 @@ module _ {A : Type 0} (node_at : NodeMap A) (levels root : ℕ) (xs : List A) wh
                 ∙ (index-here A h (parent_above c) f (id_of A h t) ∙ ap (λ i. Some i) here)),
           )
 
+      -- a node with a parent is one of the parent's children
       pub index-in-parent : (parent : ℕ) → parent_of node ≡ Some parent
           → (index : ℕ) × (slice_get (children_in (node_at parent)) index ≡ Some id)
       index-in-parent parent up = let n = at-node id node e in index-by parent up n.height n.path n.subtree n.here n.focused

@@ -33,6 +33,7 @@ module _ {A : Type 0} where
     pub is : u ≡ passed ts + rest
     pub there : IsAt o a ss rest
 
+  -- an address among two lists of positions is in the first, or later in the second
   pub in-cases : (o : Option A) (a : Address) (ts ss : List (Position A)) (u : ℕ) → IsAt o a (ts ++ ss) u
       → IsAt o a ts u ⊎ Later o a ts ss u
   in-cases o a [] ss u i = inr (record { rest = u; is = omega arith; there = i })

@@ -75,6 +75,7 @@ module _ (A : Type 0) (node_at : NodeMap A) where
     whole-addressed h c t w i = unsized-addressed h c t (focus-unsized A node_at spare root xs h c t w) i
 
   module _ (root : ℕ) (xs : List A) (expected : Option A) (a : Address) where
+    -- an address at a position of the tree is in it, with the position's place
     pub positions-addressed : (is_right : (id : ℕ) → View A → Type 0) (place : ℕ) → IsRooted is_right node_at root xs
         → HasPosition A node_at root expected a place → IsAddressed A node_at root xs expected a place
     positions-addressed is_right place r i =
@@ -116,6 +117,7 @@ module _ (A : Type 0) (node_at : NodeMap A) where
             on-at (Some o) same (length (items_before c) + items_upto A h t o)
             (hole-in A expected h c t (Some o) (omega arith) m2)
 
+    -- a valid address has a position, with the item that it is said to have
     pub valid-on : (is_right : (id : ℕ) → View A → Type 0) → IsRooted is_right node_at root xs
         → IsValid node_at (Some root) a.id a.offset → IsExpected expected (item_at node_at a) → HasPositionOf
     valid-on is_right r (inr none) m = let e = none.0 in absurd (cc)

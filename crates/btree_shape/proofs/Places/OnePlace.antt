@@ -44,7 +44,7 @@ fewer : (root id n : ℕ) → least_of root id ≤ n → least_allowed root root
 fewer root id n h = elim (cases_eq id root) [ inl same ↦ grind (arith, nat_tests) | inr differs ↦ grind (arith, nat_tests) ]
 
 module _ {K V : Type 0} (cmp : K → K → Ordering) (o : IsTotalOrder cmp) (node_at : NodeMap (K × V)) (xs : List (K × V)) (len : ℕ) where
-  -- the same for a well formed tree
+  -- in a well formed tree an address has one place
   pub one_place-well : (root : Option ℕ) → IsWellFormed cmp node_at root len xs → (id : ℕ) (offset : Option ℕ) (p q : ℕ) → IsPlace node_at root xs id offset p → IsPlace node_at root xs id offset q → p ≡ q
   one_place-well None w id offset p q s t = s.1 ∙ sym t.1
   one_place-well (Some root) w id offset p q s t =

@@ -12,6 +12,7 @@ module _ (A : Type 0) (node_at : NodeMap A) (root : ℕ) (xs : List A) (expected
   repaired-on g = whole-on A node_at [] root xs expected a place g.node.focus.height g.node.focus.path g.node.focus.subtree
       g.node.focus.whole g.there
 
+  -- after a repair the moved address has the same place
   pub repaired-addressed : IsRepaired A node_at root xs expected a place allocated bound → IsAddressed A node_at root xs expected a place
   repaired-addressed g =
       whole-addressed A node_at [] root xs expected a place g.node.focus.height g.node.focus.path g.node.focus.subtree

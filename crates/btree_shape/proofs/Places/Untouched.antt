@@ -19,9 +19,11 @@ lt-test n m h = grind (arith, nat_tests)
 ge-test : (n m : ℕ) → m ≤ n → nat_lt n m ≡ false
 ge-test n m h = grind (arith, nat_tests)
 
+-- the test of two equal numbers is true
 pub same-test : (n m : ℕ) → n ≡ m → (n == m) ≡ true
 same-test n m h = grind (arith, nat_tests)
 
+-- the test of two different numbers is false
 pub other-test : (n m : ℕ) → n ≢ m → (n == m) ≡ false
 other-test n m h = grind (arith, nat_tests)
 

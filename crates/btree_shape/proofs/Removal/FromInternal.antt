@@ -77,7 +77,7 @@ module _ {K V : Type 0} (cmp : K → K → Ordering) (laws : IsTotalOrder cmp) (
       (positions-addressed Pair mid root (remove xs before) (Some x) (address_at n k) (IsNearlySized root leaf_id) before
       took.rooted on-mid).at_place
 
-  -- it was the item at that place of the list
+  -- the item that is removed from an internal node was at its place of the list
   pub inner-item : slice_get xs (suc before) ≡ Some x
   inner-item = place-item node_at root xs n k x v here item (suc before) at_place
 
@@ -107,6 +107,7 @@ module _ {K V : Type 0} (cmp : K → K → Ordering) (laws : IsTotalOrder cmp) (
     pub later : (expected : Option Pair) (b : Address) (q : ℕ) → suc before ≤ q → b.id ≢ leaf_id → b ≢ address_at n k
         → HasPosition Pair node_at root expected b (suc q) → HasPosition Pair new root expected b q
 
+  -- an item of an internal node is removed by the one before it, which takes its place
   pub inner-removed : RemovedInner (remove xs (suc before))
   inner-removed =
       let e = exchanged in

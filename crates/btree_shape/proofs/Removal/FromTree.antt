@@ -58,6 +58,7 @@ module _ {K V : Type 0} (cmp : K → K → Ordering) where
   rises-without [] x b up = up.1
   rises-without (y ∷ f) x b up = (all-without (λ z. cmp y.0 z.0 ≡ Less) f x b up.0, rises-without f x b up.1)
 
+  -- pairs in order stay in order when one is removed
   pub Ascends-remove : (xs : List (K × V)) (p : ℕ) (x : K × V) → slice_get xs p ≡ Some x → Ascends cmp xs
       → Ascends cmp (remove xs p)
   Ascends-remove xs p x at up =
@@ -129,7 +130,7 @@ module _ {K V : Type 0} (cmp : K → K → Ordering) (laws : IsTotalOrder cmp) (
             sized = subst (λ n. IsFilled (least_at c) 0 n) (ap length (items ∙ s.2)) z;
           }
 
-  -- it was the item at that place of the list
+  -- the item that is taken from a leaf was at its place of the list
   pub take-item : slice_get xs place ≡ Some x
   take-item =
       let s = seat in
@@ -167,7 +168,7 @@ module _ {K V : Type 0} (cmp : K → K → Ordering) (laws : IsTotalOrder cmp) (
       (focus-unsized Pair new [] root (remove xs place) 0 s.path (id, s.left ++ s.right) s.now) in
       omega arith
 
-  -- the tree is off by one at the leaf
+  -- after an item was taken the tree is off by one at the leaf
   pub take-off : IsOffByOne cmp new root id (remove xs place)
   take-off =
       let h = same-height rooted in
@@ -178,14 +179,14 @@ module _ {K V : Type 0} (cmp : K → K → Ordering) (laws : IsTotalOrder cmp) (
         used = rw put.here refl;
       }
 
-  -- it is as high as before
+  -- after an item was taken the tree is as high as before
   pub take-height : take-off.rooted.height ≡ well.formed.height
   take-height = same-height take-off.rooted
 
   shorter-count : (s : Seat) → length (remove ys o) ≡ length (s.left ++ s.right)
   shorter-count s = ap length (ap (λ z. remove z o) s.parts ∙ remove-seam s.left x s.right o s.count)
 
-  -- its strain and what it then owes have grown by at most one
+  -- after an item was taken, strain and what the leaf owes are at most one more
   pub take-within : strain_under new root (numbers_under new take-off.rooted.height root) + debt_of (leaf p (remove ys o))
       ≤ suc (strain_under node_at root (numbers_under node_at well.formed.height root))
   take-within =
@@ -239,7 +240,7 @@ module _ {K V : Type 0} (cmp : K → K → Ordering) (laws : IsTotalOrder cmp) (
       whole-on Pair new [] root (remove xs place) expected (moved_by_take id o b) q 0 s.path (id, s.left ++ s.right) s.now
       (subst (λ n. IsAt expected (moved_by_take id n b) (all_positions Pair 0 s.path (id, s.left ++ s.right)) q) s.count r)
 
-  -- and the item's own address keeps the place
+  -- after an item was taken its own address keeps the place
   pub take-address : HasPosition Pair new root None (address_at id o) place
   take-address =
       let s = seat in

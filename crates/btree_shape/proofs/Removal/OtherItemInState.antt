@@ -88,6 +88,7 @@ module _ {K V : Type 0} (cmp : K → K → Ordering) (laws : IsTotalOrder cmp) (
       pub tree : IsWellFormed cmp new (Some root) len ys
       pub stays : Stays
 
+    -- a tree in which one item was exchanged is well formed, with the list so changed
     pub replaced-well : ReplacedWell (set xs place y)
     replaced-well =
         let r =

@@ -9,6 +9,7 @@ use Rattle.btree_shape.specs.Focus.Focus.{IsFocus}
 use Rattle.btree_shape.proofs.Paths.Frames.{above-same, holds-same}
 use Rattle.btree_shape.proofs.Trees.Numbers.{listed-append, used-low}
 
+-- one number more among the spare ones is listed once more
 pub push-spare : (spare rest : List ℕ) (j : ℕ) → spare ≡ rest ++ j ∷ []
     → ((n : ℕ) → times_listed n spare ≡ one n j + times_listed n rest) × (length spare ≡ suc (length rest))
 push-spare spare rest j is = (

@@ -145,13 +145,16 @@ module _ (A : Type 0) where
   -- the end of the splits, in the public terms
   module _ (new : NodeMap A) (root : ℕ) (xs : List A) (expected : Option A) (a : Address) (place allocated bound : ℕ)
       (g : IsRepaired A new root xs expected a place allocated bound) where
+    -- a repaired tree is sized, with the same list
     pub repaired-rooted : IsRooted (IsSized root) new root xs
     repaired-rooted = rooted-node A new root xs g.id g.node
 
+    -- in a repaired tree the moved address has the same place
     pub repaired-address : AddressIn A new root xs expected a place
     repaired-address = address-in A new root xs g.node.focus.height g.node.focus.path g.node.focus.subtree g.node.focus.whole
         expected a place g.there
 
+    -- what a repaired tree has allocated and its strain are within the bound
     pub repaired-within : allocated + strain_under new root (numbers_under new repaired-rooted.height root) ≤ bound
     repaired-within =
         let e =
@@ -163,6 +166,7 @@ module _ (A : Type 0) where
 -- an item inserted into a leaf of a well formed tree, at an address whose place is known
 module _ {K V : Type 0} (cmp : K → K → Ordering) (laws : IsTotalOrder cmp) (node_at : NodeMap (K × V)) (root len : ℕ)
     (xs : List (K × V)) (well : IsWellFormed cmp node_at (Some root) len xs) where
+  -- an item put into a leaf leaves a tree in which that leaf alone may overflow
   pub leaf-overflow : (mid new : NodeMap (K × V)) (id : ℕ) (p : Option ℕ) (ys : List (K × V)) (o place : ℕ) (x : K × V)
       (spare : List ℕ)
       → node_at id ≡ Some (leaf p ys) → o ≤ length ys
@@ -186,7 +190,7 @@ module _ {K V : Type 0} (cmp : K → K → Ordering) (laws : IsTotalOrder cmp) (
       (subst (λ s. MayOverflowAt (K × V) new root (insert xs r.place x) id spare (Some x) (address_at id o) r.place 0 (suc s)) st
       r.grows)
 
-  -- and the tree after the splits
+  -- after the splits the tree is well formed, with one item more in its list
   pub repaired-well : (k : K) (w : V) (place : ℕ) → KeyFits cmp k place xs
       → (new : NodeMap (K × V)) (r : ℕ) (expected : Option (K × V)) (a : Address) (allocated bound : ℕ)
       → IsRepaired (K × V) new r (insert xs place (k, w)) expected a place allocated bound
@@ -199,7 +203,7 @@ module _ {K V : Type 0} (cmp : K → K → Ordering) (laws : IsTotalOrder cmp) (
         counted = ap (λ n. n + 1) counted ∙ sym (length-insert xs place (k, w) fits.within);
       }
 
--- the first item of an empty tree: a root leaf
+-- a leaf with the first item is a well formed tree
 pub first-well : {K V : Type 0} (cmp : K → K → Ordering) (new : NodeMap (K × V)) (r : ℕ) (x : K × V)
     → new r ≡ Some (leaf None (x ∷ [])) → ((n : ℕ) → n ≢ r → new n ≡ None)
     → IsWellFormed cmp new (Some r) 1 (x ∷ [])

@@ -41,7 +41,7 @@ module _ (A : Type 0) where
       let r = split_need-path_need node_at h n c (id_of A h t) (omega arith) a in
       rw (v, s, l, p, r) refl
 
-  -- from a node of a well formed tree
+  -- the nodes that splits need from a node on are those counted along its path
   pub split_need-node : (node_at : NodeMap A) (root : ℕ) (xs : List A) (id : ℕ) (n : IsNode A node_at root xs id) (most : ℕ) → depth n.focus.path < most
       → split_need node_at most id ≡ path_need_from n.focus.path (count_at A n.focus.height n.focus.subtree)
   split_need-node node_at root xs id n most deep =
@@ -50,6 +50,7 @@ module _ (A : Type 0) where
       (split_need-is node_at n.focus.height most n.focus.path n.focus.subtree deep w.above w.inner)
 
   module _ (node_at : NodeMap A) (root : ℕ) (xs : List A) (most : ℕ) where
+    -- the count of nodes for splits begins with what the leaf needs
     pub upward-start : (h : ℕ) (c : Path A h) (t : Subtree A h) → IsUnsizedFocus A node_at [] root xs h c t → depth c < most → IsCountingUpward A node_at root xs most (id_of A h t) 0 (split_need node_at most (id_of A h t))
     upward-start h c t s r =
         let e = split_need-is node_at h most c t r s.above s.inner in
@@ -68,6 +69,7 @@ module _ (A : Type 0) where
       upward-view = subst (λ z. node_at z ≡ Some (view_at A s.height (parent_above s.path) s.subtree)) s.here
           (top-view A node_at s.height (parent_above s.path) s.subtree s.focused.inner)
 
+      -- the number at which the count goes on is used
       pub upward-used : 0 < times_used (node_at id)
       upward-used =
           let u = used-one (node_at id) (view_at A s.height (parent_above s.path) s.subtree) upward-view in omega arith
@@ -82,7 +84,7 @@ module _ (A : Type 0) where
         most-is : most_of v ≡ most_at s.height
         most-is = ap most_of v-is ∙ view-most A s.height (parent_above s.path) s.subtree
 
-        -- a node with room: all are counted
+        -- at a node with room all are counted
         pub upward-done : size_of v < most_of v → counted ≡ all
         upward-done lt =
             let z0 = size-is in

@@ -127,7 +127,7 @@ module _ (A : Type 0) (node_at : NodeMap A) (root : ℕ) (xs : List A) (count : 
             omega arith
       ]
 
-  -- an item put into a node of a well formed tree
+  -- three times the nodes, with those for splits from any node, are at most the length and three
   pub need-room : (id : ℕ) (n : IsNode A node_at root xs id) (most : ℕ) → depth n.focus.path < most
       → 3 * (count + split_need node_at most id) ≤ length xs + 3
   need-room id n most deep =

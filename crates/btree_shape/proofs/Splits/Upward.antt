@@ -70,10 +70,12 @@ module _ (A : Type 0) where
   module _ (node_at : NodeMap A) (root : ℕ) (xs : List A) (id : ℕ) (spare : List ℕ) (expected : Option A) (a : Address)
       (place allocated bound : ℕ)
       (g : MayOverflowAt A node_at root xs id spare expected a place allocated bound) where
+    -- the node that may overflow is stored as the focus shows it
     pub overflow-node : node_at id ≡ Some (view_at A g.focus.height (parent_above g.focus.path) g.focus.subtree)
     overflow-node = subst (λ n. node_at n ≡ Some (view_at A g.focus.height (parent_above g.focus.path) g.focus.subtree)) g.focus.here
         (top-view A node_at g.focus.height (parent_above g.focus.path) g.focus.subtree g.focus.whole.inner)
 
+    -- the number of the node that may overflow is used
     pub overflow-used : 0 < times_used (node_at id)
     overflow-used =
         let u = used-one (node_at id) (view_at A g.focus.height (parent_above g.focus.path) g.focus.subtree) overflow-node in
@@ -89,7 +91,7 @@ module _ (A : Type 0) where
       most-is : most_of v ≡ most_at g.focus.height
       most-is = ap most_of view-is ∙ view-most A g.focus.height (parent_above g.focus.path) g.focus.subtree
 
-      -- no item too many: the splits end, and no number is left
+      -- with no item too many the splits end, and no number is left
       pub overflow-done : size_of v ≤ most_of v → IsRepaired A node_at root xs expected a place allocated bound
       overflow-done low =
           let s = size-is in
@@ -110,7 +112,7 @@ module _ (A : Type 0) where
       pub overflow-over : most_of v < size_of v → count_at A g.focus.height g.focus.subtree ≡ suc (most_at g.focus.height)
       overflow-over lt = let s = size-is in let l = most-is in let u = g.high in omega arith
 
-      -- an item too many: there is a number for the right part
+      -- with an item too many there is a number for the right part
       pub overflow-spare : most_of v < size_of v → 0 < length spare
       overflow-spare lt = let n = g.enough (overflow-over lt) in let p = path_need-some g.focus.path in omega arith
 
@@ -127,17 +129,18 @@ module _ (A : Type 0) where
         tops n = subst (λ m. one n m ≤ times_under A g.focus.height n g.focus.subtree) g.focus.here
             (times-has A g.focus.height n g.focus.subtree)
 
-        -- it is used, and is not the node's own
+        -- the number for the right part is used
         pub spare-used : 0 < times_used (node_at j)
         spare-used = let o = whole.once j in let s = one-self j in omega arith
 
+        -- a spare number is not that of the node that is split
         pub spare-apart : j ≢ id
         spare-apart same =
             let s = sums j in
             let u = one-self j in
             let q = tops j in let i : one j id ≡ 1 = subst (λ m. one j m ≡ 1) same (one-self j) in omega arith
 
-        -- the children of the node are used, and none of them is the node or that number
+        -- the children of a node that may overflow are used
         pub child-used : (n : ℕ) → 0 < times_listed n (children_of v) → 0 < times_used (node_at n)
         child-used n m =
             let b = children-below g.focus.height n (parent_above g.focus.path) g.focus.subtree in
@@ -148,6 +151,7 @@ module _ (A : Type 0) where
             let o = whole.once n in
             omega arith
 
+        -- a split node has neither its own number nor the spare one as a child
         pub child-apart : (times_listed id (children_of v) ≡ 0) × (times_listed j (children_of v) ≡ 0)
         child-apart = (none id (let s = one-self id in let q = one-here id in omega arith), none j (one-there j))
           where
@@ -208,6 +212,7 @@ module _ (A : Type 0) where
                 → MayOverflowAt A new root xs p rest expected (moved_by_split id j p k (size_of sp.left) a) place
                 (suc allocated) bound
 
+          -- the two parts of a split node are handed to its parent
           pub to-parent : (p : ℕ) → parent_of v ≡ Some p → UpTo p
           to-parent p up = at g.focus.height g.focus.path g.focus.subtree g.focus.here whole made long
               (ap parent_of (sym view-is) ∙ up) g.there g.within_strain kept-is joined
@@ -303,7 +308,7 @@ module _ (A : Type 0) where
                         within_strain = omega arith;
                       }
 
-          -- the node is the root: one number is left, which is that of the new root
+          -- at the root one number is left, which is that of the new root
           pub root-spare : parent_of v ≡ None → (id ≡ root) × (length rest ≡ 1)
           root-spare up = at g.focus.height g.focus.path g.focus.subtree g.focus.here whole long
               (ap parent_of (sym view-is) ∙ up)
@@ -314,6 +319,7 @@ module _ (A : Type 0) where
               at h top t here w n q = (sym here ∙ w.root_is, omega arith)
               at h (under f c) t here w n q = let e = view-parent A h (Some (frame_id f)) t in absurd (cc)
 
+          -- the two parts of a split root are handed to a new root, which ends the repair
           pub new-root : parent_of v ≡ None → (r : ℕ) → ((n : ℕ) → times_listed n rest ≡ one n r) → (new : NodeMap A)
               → GrowsRoot mid new id j r x
               → IsRepaired A new r xs expected (moved_by_split id j r 0 (size_of sp.left) a) place (suc (suc allocated)) bound

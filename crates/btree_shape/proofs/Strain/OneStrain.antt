@@ -34,6 +34,7 @@ same-total f (x ∷ ns) ms each =
     let g = ap (total f) parts in
     omega arith
 
+-- a tree has one strain
 pub one-strain : {A : Type 0} (node_at : NodeMap A) (root : Option ℕ) (s t : ℕ) → IsStrain node_at root s → IsStrain node_at root t → s ≡ t
 one-strain node_at None s t a b = a ∙ sym b
 one-strain node_at (Some root) s t a b =

@@ -7,6 +7,7 @@ use Rattle.btree_shape.specs.Focus.Path.{Path, items_after, items_before, least_
 use Rattle.btree_shape.specs.Focus.Focus.{IsFocus}
 
 module _ (A : Type 0) where
+  -- the levels below a node are the height of its subtree
   pub levels-is : (node_at : NodeMap A) (h n : ℕ) (p : Option ℕ) (t : Subtree A h) → h ≤ n → Holds A node_at h p t
       → levels_below node_at n (id_of A h t) ≡ h
   levels-is node_at zero zero p t le d = refl
@@ -24,6 +25,7 @@ module _ (A : Type 0) where
   high-enough zero t pos b = pos
   high-enough (suc h) t pos b = some-items h t.1 t.2 pos (high-enough h t.1 (omega (arith, b.0.0)) b.1)
 
+  -- a node on a path has at least one item
   pub low-enough : (h : ℕ) (c : Path A h) → 1 ≤ least_at c
   low-enough h top = omega arith
   low-enough h (under f c) = omega arith

@@ -8,6 +8,7 @@ use Rattle.btree_shape.specs.Represents.{numbers_under}
 use Rattle.btree_shape.specs.WellFormed.{times_used}
 use Rattle.btree_shape.proofs.Paths.Frames.{one-self, total-append}
 
+-- of two numbers one is less, or they are equal
 pub less-or : (m n : ℕ) → (m < n) ⊎ ((m ≡ n) ⊎ (n < m))
 less-or zero zero = inr (inl refl)
 less-or zero (suc n) = inl (omega arith)
@@ -19,18 +20,22 @@ less-or (suc m) (suc n) =
           (elim b [ inl e ↦ inl (ap suc e) | inr g ↦ inr (omega arith) ])
     ]
 
+-- two numbers are equal or different
 pub same-or : (m n : ℕ) → (m ≡ n) ⊎ (m ≢ n)
 same-or m n = elim (less-or m n)
     [ inl a ↦ inr (λ e. omega arith) | inr b ↦ elim b [ inl e ↦ inl e | inr g ↦ inr (λ e. omega arith) ] ]
 
+-- a number is zero or more
 pub zero-or : (n : ℕ) → (n ≡ 0) ⊎ (0 < n)
 zero-or zero = inl refl
 zero-or (suc n) = inr (omega arith)
 
+-- a number is used at most once
 pub used-low : {X : Type 0} (o : Option X) → times_used o ≤ 1
 used-low None = omega arith
 used-low (Some x) = omega arith
 
+-- a number that is not used has no node
 pub used-none : {X : Type 0} (o : Option X) → times_used o ≡ 0 → o ≡ None
 used-none None e = refl
 used-none (Some x) e = absurd (omega arith)
@@ -39,19 +44,24 @@ pub used-some : {X : Type 0} (o : Option X) → 0 < times_used o → (x : X) × 
 used-some None e = absurd (omega arith)
 used-some (Some x) e = (x, refl)
 
+-- a number is used whichever view of its node is taken
 pub used-mapped : {X Y : Type 0} (f : X → Y) (o : Option X) → times_used (option_map f o) ≡ times_used o
 used-mapped f None = refl
 used-mapped f (Some x) = refl
 
+-- a number with a node is used
 pub used-there : {A : Type 0} (node_at : NodeMap A) (n : ℕ) (v : View A) → node_at n ≡ Some v → 0 < times_used (node_at n)
 used-there node_at n v e = rw e (omega arith)
 
+-- a used number whose node did not change is still used
 pub used-same : {A : Type 0} (node_at new : NodeMap A) (n : ℕ) → new n ≡ node_at n → 0 < times_used (node_at n) → 0 < times_used (new n)
 used-same node_at new n e u = rw e u
 
+-- a number has one node
 pub same-node : {A : Type 0} (node_at : NodeMap A) (id : ℕ) (v w : View A) → node_at id ≡ Some v → node_at id ≡ Some w → v ≡ w
 same-node node_at id v w e f = cc
 
+-- a number with a node is used once
 pub used-one : {X : Type 0} (o : Option X) (x : X) → o ≡ Some x → times_used o ≡ 1
 used-one None x e = absurd (cc)
 used-one (Some y) x e = refl
@@ -79,10 +89,12 @@ pick f (x ∷ xs) p =
       | inr q ↦ record { front = []; found = x; back = xs; is = refl; some = q }
     ]
 
+-- nothing is listed in an empty list
 pub none-listed : (ns : List ℕ) → length ns ≡ 0 → (n : ℕ) → times_listed n ns ≡ 0
 none-listed [] none n = refl
 none-listed (m ∷ ns) none n = absurd (omega arith)
 
+-- a number is listed in two lists together as often as in each
 pub listed-append : (n : ℕ) (ns ms : List ℕ) → times_listed n (ns ++ ms) ≡ times_listed n ns + times_listed n ms
 listed-append n ns ms = total-append (λ i. one n i) ns ms
 

@@ -15,7 +15,7 @@ module _ {A : Type 0} (node_at : NodeMap A) where
       let later = represented-rest height levels parent each rest all.1 in
       rw (here, later) refl
 
-  -- with one level more than the height, the function gives the list of the relation
+  -- with one level more than the height, the nodes represent the list of the tree
   pub represented-is : (height levels : ℕ) (parent : Option ℕ) (id : ℕ) (xs : List A) → height < levels → Represents node_at height parent id xs → represented node_at levels id ≡ xs
   represented-is height zero parent id xs low h = absurd (omega arith)
   represented-is zero (suc levels) parent id xs low h = rw h refl

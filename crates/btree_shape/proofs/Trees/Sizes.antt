@@ -10,16 +10,20 @@ use Rattle.btree_shape.specs.WellFormed.{IsSized, least_of}
 use Rattle.btree_shape.proofs.Paths.Frames.{one-other, one-self, times_in-is, top-view}
 use Rattle.btree_shape.proofs.Trees.Numbers.{same-or, zero-or}
 
+-- no node needs more than three items
 pub least-low : (root id : ℕ) → least_of root id ≤ 3
 least-low root id = elim (same-or id root) [ inl e ↦ grind (arith, nat_tests) | inr e ↦ grind (arith, nat_tests) ]
 
+-- the root needs one item
 pub least-root : (root id : ℕ) → id ≡ root → least_of root id ≡ 1
 least-root root id e = grind (arith, nat_tests)
 
+-- any other node needs three items
 pub least-other : (root id : ℕ) → id ≢ root → least_of root id ≡ 3
 least-other root id e = grind (arith, nat_tests)
 
 module _ (A : Type 0) where
+  -- a subtree's root has the parent that is given to it
   pub view-parent : (h : ℕ) (p : Option ℕ) (t : Subtree A h) → parent_of (view_at A h p t) ≡ p
   view-parent zero p t = refl
   view-parent (suc h) p t = refl
@@ -29,10 +33,12 @@ module _ (A : Type 0) where
   branch-sizes h [] = refl
   branch-sizes h (b ∷ bs) = ap suc (branch-sizes h bs)
 
+  -- a subtree's root has as many items as the subtree counts there
   pub view-size : (h : ℕ) (p : Option ℕ) (t : Subtree A h) → size_of (view_at A h p t) ≡ count_at A h t
   view-size zero p t = refl
   view-size (suc h) p t = branch-sizes h t.2
 
+  -- a subtree's root may have as many items as its height allows
   pub view-most : (h : ℕ) (p : Option ℕ) (t : Subtree A h) → most_of (view_at A h p t) ≡ most_at h
   view-most zero p t = refl
   view-most (suc h) p t = refl
@@ -165,6 +171,7 @@ module _ (A : Type 0) where
               ]
         ]
 
+    -- each node below the root of a filled subtree has at least three items
     pub below-middle : (h : ℕ) (p : Option ℕ) (t : Subtree A h) → Holds A node_at h p t → IsFilledBelow A h t → (n : ℕ)
         → one n (id_of A h t) ≡ 0 → 0 < times_under A h n t → IsMiddle n
     below-middle zero p t d z n away q = absurd (omega arith)

@@ -44,21 +44,23 @@ module _ {K V : Type 0} (cmp : K → K → Ordering) where
   pairs-formed s None len xs w = sym w.formed.1
   pairs-formed s (Some root) len xs w = pairs-rooted s _ root xs w.formed
 
-  -- the list of a well formed tree
+  -- the list of a well formed tree is the list of its state
   pub pairs-tree : (s : TreeState K V) (len : ℕ) (xs : List (K × V)) → IsWellFormed cmp (node_map s) s.root len xs → pairs_of s ≡ xs
   pairs-tree s len xs w = pairs-formed s s.root len xs w
 
-  -- so it is well formed with its own list
+  -- a state of well formed nodes is a well formed tree with its own list
   pub is-tree : (s : TreeState K V) (xs : List (K × V)) → IsWellFormed cmp (node_map s) s.root s.len xs → IsBTree cmp s
   is-tree s xs w = subst (λ ys. IsWellFormed cmp (node_map s) s.root s.len ys) (sym (pairs-tree s s.len xs w)) w
 
+  -- well formed nodes are a well formed tree whatever its length says
   pub is-tree-but-length : (s : TreeState K V) (xs : List (K × V)) → IsWellFormed cmp (node_map s) s.root (length xs) xs → IsBTreeButLength cmp s
   is-tree-but-length s xs w = subst (λ ys. IsWellFormed cmp (node_map s) s.root (length ys) ys) (sym (pairs-tree s (length xs) xs w)) w
 
-  -- the list of a tree that is off by one at a node
+  -- the list of a tree that is off by one at a node is the list of its state
   pub pairs-off : (s : TreeState K V) (root id : ℕ) (xs : List (K × V)) → s.root ≡ Some root → IsOffByOne cmp (node_map s) root id xs → pairs_of s ≡ xs
   pairs-off s root id xs at o = ap (λ top. pairs_under (node_map s) top (finite.len s.nodes)) at ∙ pairs-rooted s _ root xs o.rooted
 
+  -- a state of well formed nodes but one is off by one at that node
   pub is-off : (s : TreeState K V) (root id : ℕ) (xs : List (K × V)) → s.root ≡ Some root → IsOffByOne cmp (node_map s) root id xs → IsOffByOneAt cmp s id
   is-off s root id xs at o = record {
     root = root;
@@ -74,7 +76,7 @@ module _ {K V : Type 0} where
       at None e = refl
       at (Some x) e = absurd (cc)
 
-  -- the empty tree
+  -- the empty tree is well formed
   pub empty-tree : (cmp : K → K → Ordering) (s : TreeState K V) → s.nodes ≡ finite.empty → s.root ≡ None → s.len ≡ 0 → IsBTree cmp s
   empty-tree cmp s none root len = is-tree cmp s [] (record {
     ascends = Ascends-none cmp;
@@ -86,6 +88,6 @@ module _ {K V : Type 0} where
   few-formed cmp s None len xs w = let e = unused s.nodes w.formed.0 in let z = finite.len-empty nat_cmp (Node K V) in rw (e, z) (omega arith)
   few-formed cmp s (Some root) len xs w = few-used view_of s.nodes root xs w.formed
 
-  -- at most a third of the number of pairs plus two
+  -- the nodes of a tree are at most a third of the number of its pairs plus two
   pub few-nodes : (cmp : K → K → Ordering) (s : TreeState K V) → IsBTree cmp s → 3 * finite.len s.nodes ≤ length (pairs_of s) + 2
   few-nodes cmp s w = few-formed cmp s s.root s.len (pairs_of s) w

@@ -27,6 +27,7 @@ module _ (A : Type 0) where
   later-again h [] = refl
   later-again h (b ∷ bs) = ap (λ z. (b.0 ∷ items_under A h b.1) ++ z) (later-again h bs)
 
+  -- a subtree that the nodes hold represents its items
   pub represents-of : (node_at : NodeMap A) (h : ℕ) (p : Option ℕ) (t : Subtree A h) → Holds A node_at h p t
       → Represents node_at h p (id_of A h t) (items_under A h t)
   represents-of node_at zero p t d = d
@@ -69,6 +70,7 @@ module _ (A : Type 0) (node_at : NodeMap A) where
         list = ap (λ z. (b.0 ∷ z) ++ later_items A h r.shapes) s.list ∙ ap (λ z. (b.0 ∷ b.2) ++ z) r.list;
       }
 
+  -- nodes that represent a list hold a subtree with these items
   pub subtree-of : (h : ℕ) (p : Option ℕ) (i : ℕ) (xs : List A) → Represents node_at h p i xs → RepresentedSubtree A node_at h p i xs
   subtree-of zero p i xs s = record { subtree = (i, xs); here = refl; holds = s; list = refl }
   subtree-of (suc h) p i xs s =

@@ -29,7 +29,7 @@ module _ {A : Type 0} (node_at one_look two three new : NodeMap A) (parent left 
     not-right : times_listed right children ≡ 0
     not-right = none-of children right (λ n m. (away n m).2)
 
-    -- a rotation to the left: the right node first, then the parent, then the left node
+    -- the writes of a rotation to the left, one after the other, are that rotation
     pub left-written : WritesNode node_at one_look right new_high → WritesNode one_look two parent new_top → WritesNode two three left new_low
         → Writes node_at new parent left right top low high new_top new_low new_high children adopter
     left-written a b c =
@@ -47,7 +47,7 @@ module _ {A : Type 0} (node_at one_look two three new : NodeMap A) (parent left 
           kept = λ n np nl nr z. reparents.kept n z ∙ still n np nl nr;
         }
 
-    -- a rotation to the right: the left node first, then the parent, then the right node
+    -- the writes of a rotation to the right, one after the other, are that rotation
     pub right-written : WritesNode node_at one_look left new_low → WritesNode one_look two parent new_top → WritesNode two three right new_high
         → Writes node_at new parent left right top low high new_top new_low new_high children adopter
     right-written a b c =
@@ -73,6 +73,7 @@ module _ {A : Type 0} (node_at one_look two three new : NodeMap A) (parent left 
       (top_is : IsRemade top new_top (remove (items_of top) index)
       (remove (children_of top) (suc index)))
       (low_is : IsRemade low new_low (items_of low ++ down ∷ items_of high) (children_of low ++ children_of high)) where
+    -- the writes of a merge, one after the other, are a merge
     pub merge-written : WritesNode node_at one_look parent new_top → RemovesNode one_look two right
         → Reparents two three left (children_of high) → WritesNode three new left new_low → Merges node_at new parent index left right
     merge-written a b reparents c =

@@ -100,7 +100,7 @@ module _ {K V : Type 0} (cmp : K → K → Ordering) (laws : IsTotalOrder cmp) (
         within_strain = omega arith;
       }
 
-  -- the nodes that its splits need, counted from it upward
+  -- at the node that is off by one begins the count of the nodes that its splits need
   pub off-need : (most : ℕ) → w.rooted.height < most
       → IsCountingUpward (K × V) node_at root xs most exempt 0 (split_need node_at most exempt)
   off-need most lt =
@@ -152,7 +152,7 @@ module _ {K V : Type 0} (cmp : K → K → Ordering) (laws : IsTotalOrder cmp) (
       least h top = omega arith
       least h (under f c) = omega arith
 
-  -- at the end the tree is well formed with the same list
+  -- at the end of the splits or of a fix the tree is well formed with the same list
   pub fixed-well : (new : NodeMap (K × V)) (r : ℕ) (expected : Option (K × V)) (a : Address) (place freed bound : ℕ)
       → IsRepaired (K × V) new r xs expected a place freed bound → IsWellFormed cmp new (Some r) (length xs) xs
   fixed-well new r expected a place freed bound g = record {
@@ -161,6 +161,6 @@ module _ {K V : Type 0} (cmp : K → K → Ordering) (laws : IsTotalOrder cmp) (
     counted = refl;
   }
 
-  -- or it is empty
+  -- or the tree is empty, and well formed
   pub emptied-well : (new : NodeMap (K × V)) → IsFormed new None xs → IsWellFormed cmp new None (length xs) xs
   emptied-well new f = record { ascends = w.ascends; formed = f; counted = refl }

@@ -78,7 +78,7 @@ module _ (A : Type 0) (node_at : NodeMap A) (root : ℕ) (xs : List A) (id : ℕ
         at h top t here w q = sym here ∙ w.root_is
         at h (under f c) t here w q = let p = view-parent A h (Some (frame_id f)) t in absurd (cc)
 
-    -- and one with a parent is not
+    -- a node with a parent is not the root
     pub underflow-apart : (p : ℕ) → parent_of v ≡ Some p → id ≢ root
     underflow-apart p up same =
         at g.focus.height g.focus.path g.focus.subtree g.focus.here g.focus.whole (ap parent_of (sym view-is) ∙ up)

@@ -37,6 +37,7 @@ module _ (A : Type 0) (node_at : NodeMap A) (root : ℕ) (xs : List A) (id : ℕ
       subst (λ n. node_at n ≡ Some (view_at A g.focus.height (parent_above g.focus.path) g.focus.subtree)) g.focus.here
       (top-view A node_at g.focus.height (parent_above g.focus.path) g.focus.subtree g.focus.whole.inner)
 
+  -- the number of the node that may have too few items is used
   pub underflow-used : 0 < times_used (node_at id)
   underflow-used =
       let u = used-one (node_at id) (view_at A g.focus.height (parent_above g.focus.path) g.focus.subtree) underflow-node in
@@ -60,7 +61,7 @@ module _ (A : Type 0) (node_at : NodeMap A) (root : ℕ) (xs : List A) (id : ℕ
           within_strain = omega arith;
         }
 
-    -- no item too few: the fix ends
+    -- with no item too few the fix ends
     pub underflow-done : 3 ≤ size_of v → IsRepaired A node_at root xs expected a place freed bound
     underflow-done enough = at-rest (let s = size-is in let l = low g.focus.height g.focus.path in omega arith)
       where
@@ -68,6 +69,7 @@ module _ (A : Type 0) (node_at : NodeMap A) (root : ℕ) (xs : List A) (id : ℕ
         low h top = omega arith
         low h (under f c) = omega arith
 
+    -- a root that has an item ends the repair
     pub underflow-done-root : parent_of v ≡ None → 0 < size_of v → IsRepaired A node_at root xs expected a place freed bound
     underflow-done-root up some =
         at-rest (let s = size-is in let l = low g.focus.height g.focus.path g.focus.subtree
@@ -93,6 +95,7 @@ module _ (A : Type 0) (node_at : NodeMap A) (root : ℕ) (xs : List A) (id : ℕ
       pub before : (k i : ℕ) → slice_get (children_of node) k ≡ Some i → slice_get (children_of node) (suc k) ≡ Some id
           → AdjacentSteps A node_at root xs expected a place freed bound p k i id
 
+    -- a node with a parent stands beside a sibling, for a rotation or a merge
     pub to-over : (p : ℕ) → parent_of v ≡ Some p → Over p
     to-over p up =
         at g.focus.height g.focus.path g.focus.subtree g.focus.here g.focus.whole (ap parent_of (sym view-is) ∙ up) g.there
@@ -137,6 +140,7 @@ module _ (A : Type 0) (node_at : NodeMap A) (root : ℕ) (xs : List A) (id : ℕ
       pub next : (new : NodeMap A) → ShrinksRoot node_at new id child
           → IsRepaired A new child xs expected (moved_by_shrink_root id child (size_of node) a) place (suc freed) bound
 
+    -- a root without items has one child, which becomes the root
     pub to-child : parent_of v ≡ None → size_of v ≡ 0 → IsTrue (is_internal v) → OnlyChild
     to-child up none inner =
         at g.focus.height g.focus.path g.focus.subtree g.focus.here g.focus.whole view-is g.there g.within_strain
@@ -203,6 +207,7 @@ module _ (A : Type 0) (node_at : NodeMap A) (root : ℕ) (xs : List A) (id : ℕ
       pub at_place : IsPlace new None xs (moved_by_emptying a).id (moved_by_emptying a).offset place
       pub within_strain : suc freed ≤ bound
 
+    -- a root without items and children is removed, and the tree is empty
     pub to-nothing : parent_of v ≡ None → size_of v ≡ 0 → is_internal v ≡ false → (new : NodeMap A) → RemovesNode node_at new id
         → Emptied new
     to-nothing up none leafy new lo =

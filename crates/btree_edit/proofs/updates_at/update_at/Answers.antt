@@ -12,7 +12,7 @@ use Rattle.btree_edit.specs.Remove.{HasChildBehind, IsInnerAt, IsRemoved}
 use Rattle.btree_edit.specs.Update.{RunsAt}
 use Rattle.btree_edit.proofs.ExchangeLemmas.{occupied-used}
 use Rattle.btree_edit.proofs.RemoveAtLemmas.{behind-within, has-behind, inner-by, leaf-counted, leaf-enough, leaf-off, leaf-removed, leaf-room, leaf-valid, on-err, on-ok, vacant-by}
-use Rattle.btree_edit.proofs.RemoveByKeyLemmas.{not-vacant}
+use Rattle.btree_find.specs.CallerLaws.{not-vacant}
 use Rattle.btree_edit.proofs.RemoveInnerLemmas.{small-len}
 use Rattle.btree_edit.proofs.UpdateLeafLemmas.{leaf-exchanged, still-leaf, still-room, still-used, still-within, taken-had}
 use Rattle.btree_edit.proofs.updates_at.update_at.Goals as goal

@@ -2,7 +2,8 @@ use Rattle.std.proofs.Common.{◌∙◌, ◌<◌, ◌-◌, arith, length, subst,
 use Rattle.std.specs.Prelude.{IfSome}
 use Rattle.btree_node.specs.Node.{view_of}
 use Rattle.btree_view.specs.View.{children_of}
-use Rattle.btree_find.proofs.PreviousLemmas.{above-used, before-item, before-next, before-none, before-smaller, index-some}
+use Rattle.btree_find.proofs.ParentLemmas.{index-there, parent-used}
+use Rattle.btree_find.proofs.PreviousLemmas.{before-item, before-next, before-none, before-smaller}
 use Rattle.btree_find.proofs.WalkLemmas.{address-is, children-few}
 use Rattle.btree_find.proofs.navigation.item_before.Goals as goal
 
@@ -16,13 +17,13 @@ pub returns-in_default : goal.returns-in_default
 returns-in_default g c = before-none g.K.Ord.cmp g.met.K.Ord.total c.args.tree.now c.requires.tree c.args.start_id c.loop-parent.id c.loop-parent.node.now c.loop-parent.invariant (sym c.parent.ensures.value ∙ c.in_default.is)
 
 pub node-node-requires : goal.node-node-requires
-node-node-requires g c = (c.tell_fits.ensures, above-used g.K.Ord.cmp g.met.K.Ord.total c.args.tree.now c.requires.tree c.args.start_id c.loop-parent.id c.loop-parent.node.now c.loop-parent.invariant c.in-Some.parent (sym c.parent.ensures.value ∙ c.in-Some.is))
+node-node-requires g c = (c.tell_fits.ensures, parent-used g.K.Ord.cmp g.met.K.Ord.total c.args.tree.now c.requires.tree c.loop-parent.id c.loop-parent.node.now c.loop-parent.invariant.here c.in-Some.parent (sym c.parent.ensures.value ∙ c.in-Some.is))
 
 pub child_index-requires : goal.child_index-requires
 child_index-requires g c = c.tell_fits.ensures
 
 pub unwrap-index-requires : goal.unwrap-index-requires
-unwrap-index-requires g c = index-some g.K.Ord.cmp g.met.K.Ord.total c.args.tree.now c.requires.tree c.args.start_id c.loop-parent.id c.loop-parent.node.now c.loop-parent.invariant c.in-Some.parent (sym c.parent.ensures.value ∙ c.in-Some.is) c.node-node.result.now c.node-node.ensures.value c.child_index.result c.child_index.ensures.value
+unwrap-index-requires g c = index-there g.K.Ord.cmp g.met.K.Ord.total c.args.tree.now c.requires.tree c.loop-parent.id c.loop-parent.node.now c.loop-parent.invariant.here c.in-Some.parent (sym c.parent.ensures.value ∙ c.in-Some.is) c.node-node.result.now c.node-node.ensures.value c.child_index.result c.child_index.ensures.value
 
 pub returns-then-index-gt0 : goal.returns-then-index-gt0
 returns-then-index-gt0 g c =

@@ -2,7 +2,8 @@ use Rattle.std.proofs.Common.{◌∙◌, ◌<◌, arith, length, subst, sym}
 use Rattle.std.specs.Prelude.{IfSome}
 use Rattle.btree_view.specs.View.{children_of}
 use Rattle.btree_node.specs.Node.{view_of}
-use Rattle.btree_find.proofs.WalkLemmas.{address-is, children-few, climb-item, climb-next, climb-none, climb-smaller, index-there, parent-used}
+use Rattle.btree_find.proofs.ParentLemmas.{index-there, parent-used}
+use Rattle.btree_find.proofs.WalkLemmas.{address-is, children-few, climb-item, climb-next, climb-none, climb-smaller}
 use Rattle.btree_find.proofs.navigation.item_from.Goals as goal
 
 pub loop-offset-init : goal.loop-offset-init
@@ -26,13 +27,13 @@ pub returns-in_default : goal.returns-in_default
 returns-in_default g c = climb-none g.K.Ord.cmp g.met.K.Ord.total c.args.tree.now c.requires.tree c.args.start_id c.args.start_offset c.loop-offset.id c.loop-offset.offset c.loop-offset.node.now c.loop-offset.invariant (let n = c.item_count.ensures.value in let l = c.if-offset-item_count.false in omega arith) (sym c.parent.ensures.value ∙ c.in_default.is)
 
 pub node-node-requires : goal.node-node-requires
-node-node-requires g c = (c.tell_fits.ensures, parent-used g.K.Ord.cmp g.met.K.Ord.total c.args.tree.now c.requires.tree c.args.start_id c.args.start_offset c.loop-offset.id c.loop-offset.offset c.loop-offset.node.now c.loop-offset.invariant (let n = c.item_count.ensures.value in let l = c.if-offset-item_count.false in omega arith) c.in-Some.parent (sym c.parent.ensures.value ∙ c.in-Some.is))
+node-node-requires g c = (c.tell_fits.ensures, parent-used g.K.Ord.cmp g.met.K.Ord.total c.args.tree.now c.requires.tree c.loop-offset.id c.loop-offset.node.now c.loop-offset.invariant.here c.in-Some.parent (sym c.parent.ensures.value ∙ c.in-Some.is))
 
 pub child_index-requires : goal.child_index-requires
 child_index-requires g c = c.tell_fits.ensures
 
 pub unwrap-offset-requires : goal.unwrap-offset-requires
-unwrap-offset-requires g c = index-there g.K.Ord.cmp g.met.K.Ord.total c.args.tree.now c.requires.tree c.args.start_id c.args.start_offset c.loop-offset.id c.loop-offset.offset c.loop-offset.node.now c.loop-offset.invariant (let n = c.item_count.ensures.value in let l = c.if-offset-item_count.false in omega arith) c.in-Some.parent (sym c.parent.ensures.value ∙ c.in-Some.is) c.node-node.result.now c.node-node.ensures.value c.child_index.result c.child_index.ensures.value
+unwrap-offset-requires g c = index-there g.K.Ord.cmp g.met.K.Ord.total c.args.tree.now c.requires.tree c.loop-offset.id c.loop-offset.node.now c.loop-offset.invariant.here c.in-Some.parent (sym c.parent.ensures.value ∙ c.in-Some.is) c.node-node.result.now c.node-node.ensures.value c.child_index.result c.child_index.ensures.value
 
 pub loop-offset-smaller : goal.loop-offset-smaller
 loop-offset-smaller g c = climb-smaller g.K.Ord.cmp g.met.K.Ord.total c.args.tree.now c.requires.tree c.args.start_id c.args.start_offset c.loop-offset.id c.loop-offset.offset c.loop-offset.node.now c.loop-offset.invariant (let n = c.item_count.ensures.value in let l = c.if-offset-item_count.false in omega arith) c.in-Some.parent (sym c.parent.ensures.value ∙ c.in-Some.is) c.node-node.result.now c.node-node.ensures.value c.child_index.result c.child_index.ensures.value c.unwrap-offset.result c.unwrap-offset.ensures

@@ -3,7 +3,8 @@ use Rattle.std.specs.Prelude.{IfSome}
 use Rattle.btree_node.specs.Node.{view_of}
 use Rattle.btree_view.specs.View.{children_of}
 use Rattle.btree_find.proofs.VisitsLemmas.{back-along, back-down, back-last, back-up, size-few}
-use Rattle.btree_find.proofs.PreviousLemmas.{above-used, below-used, child-there, index-some}
+use Rattle.btree_find.proofs.ParentLemmas.{child-there, index-there, parent-used}
+use Rattle.btree_find.proofs.PreviousLemmas.{below-used}
 use Rattle.btree_find.proofs.WalkLemmas.{address-is, children-few}
 use Rattle.btree_find.proofs.visits.back_after.Goals as goal
 
@@ -28,10 +29,10 @@ returns-in_default-parent g c =
     back-last g.K.Ord.cmp g.met.K.Ord.total c.args.tree.now c.requires.tree c.args.id c.args.node.now c.requires.node c.args.offset c.requires.within (let n = c.item_count-count.ensures.value in let l = c.if-offset-count.false in omega arith) (sym c.parent.ensures.value ∙ c.in_default-parent.is)
 
 pub node-requires : goal.node-requires
-node-requires g c = (c.tell_fits.ensures, above-used g.K.Ord.cmp g.met.K.Ord.total c.args.tree.now c.requires.tree c.args.id c.args.id c.args.node.now (record { here = c.requires.node; leads = λ place i. i }) c.in-Some-parent.parent (sym c.parent.ensures.value ∙ c.in-Some-parent.is))
+node-requires g c = (c.tell_fits.ensures, parent-used g.K.Ord.cmp g.met.K.Ord.total c.args.tree.now c.requires.tree c.args.id c.args.node.now c.requires.node c.in-Some-parent.parent (sym c.parent.ensures.value ∙ c.in-Some-parent.is))
 
 pub unwrap-index-requires : goal.unwrap-index-requires
-unwrap-index-requires g c = index-some g.K.Ord.cmp g.met.K.Ord.total c.args.tree.now c.requires.tree c.args.id c.args.id c.args.node.now (record { here = c.requires.node; leads = λ place i. i }) c.in-Some-parent.parent (sym c.parent.ensures.value ∙ c.in-Some-parent.is) c.node.result.now c.node.ensures.value c.child_index.result c.child_index.ensures.value
+unwrap-index-requires g c = index-there g.K.Ord.cmp g.met.K.Ord.total c.args.tree.now c.requires.tree c.args.id c.args.node.now c.requires.node c.in-Some-parent.parent (sym c.parent.ensures.value ∙ c.in-Some-parent.is) c.node.result.now c.node.ensures.value c.child_index.result c.child_index.ensures.value
 
 pub returns : goal.returns
 returns g c =
@@ -39,5 +40,5 @@ returns g c =
     let at = children-few (view_of c.node.result.now) c.unwrap-index.result low in
     let few = size-few g.K.Ord.cmp g.met.K.Ord.total c.args.tree.now c.requires.tree c.in-Some-parent.parent c.node.result.now c.node.ensures.value in
     back-up g.K.Ord.cmp g.met.K.Ord.total c.args.tree.now c.requires.tree c.args.id c.args.node.now c.requires.node c.args.offset c.requires.within (let n = c.item_count-count.ensures.value in let l = c.if-offset-count.false in omega arith) c.in-Some-parent.parent c.unwrap-index.result
-    (child-there g.K.Ord.cmp g.met.K.Ord.total c.args.tree.now c.requires.tree c.args.id c.args.id c.args.node.now (record { here = c.requires.node; leads = λ place i. i }) c.in-Some-parent.parent (sym c.parent.ensures.value ∙ c.in-Some-parent.is) c.node.result.now c.node.ensures.value c.child_index.result c.child_index.ensures.value c.unwrap-index.result c.unwrap-index.ensures) c.new-2.result
+    (child-there g.K.Ord.cmp g.met.K.Ord.total c.args.tree.now c.requires.tree c.args.id c.args.node.now c.requires.node c.in-Some-parent.parent (sym c.parent.ensures.value ∙ c.in-Some-parent.is) c.node.result.now c.node.ensures.value c.child_index.result c.child_index.ensures.value c.unwrap-index.result c.unwrap-index.ensures) c.new-2.result
     (address-is c.new-2.result c.in-Some-parent.parent c.unwrap-index.result c.from-2.result (omega arith) c.from-2.ensures c.new-2.ensures)

@@ -5,16 +5,16 @@ use Rattle.btree_valid.proofs.EnterLemmas.{parent-same, same-parent}
 use Rattle.btree_valid.proofs.faults.validate.Goals as goal
 
 pub returns-in_err-after-clause-accepts : goal.returns-in_err-after-clause-accepts
-returns-in_err-after-clause-accepts g c = λ tree. let m = c.check_root.ensures.always tree in let ok = m.1 in let err = c.in_err-after.was in absurd (cc)
+returns-in_err-after-clause-accepts g c = λ tree low. let m = c.check_root.ensures.always tree in let ok = m.1 in let err = c.in_err-after.was in absurd (cc)
 
 pub returns-then-ne-clause-accepts : goal.returns-then-ne-clause-accepts
-returns-then-ne-clause-accepts g c = λ tree.
+returns-then-ne-clause-accepts g c = λ tree low.
     let m = c.check_root.ensures.always tree in
     let same : m.0 ≡ c.in_ok-after.after = (let ok = m.1 in let was = c.in_ok-after.was in cc) in
     absurd (parent-same c.in_ok-after.after.items (Some 0) c.if-ne.ensures (ap (λ after. after.items) (sym same) ∙ m.2))
 
 pub returns-then-ne-2-clause-accepts : goal.returns-then-ne-2-clause-accepts
-returns-then-ne-2-clause-accepts g c = λ tree.
+returns-then-ne-2-clause-accepts g c = λ tree low.
     let m = c.check_root.ensures.always tree in
     let same : m.0 ≡ c.in_ok-after.after = (let ok = m.1 in let was = c.in_ok-after.was in cc) in
     absurd (parent-same c.in_ok-after.after.nodes (Some 0) c.if-ne-2.ensures (ap (λ after. after.nodes) (sym same) ∙ m.3))
@@ -37,7 +37,16 @@ returns-then-ne-2-clause-verdict g c =
     let n = subst (NamesTree g.K.Ord.cmp (g.C.Nodes.content c.args.nodes.now) c.args.root c.args.len) c.in_ok-after.was c.check_root.ensures.names in
     inr (n.none, inr (n.all_items.0 (same-parent c.in_ok-after.after.items (Some 0) c.if-ne.ensures), inl (λ few. parent-same c.in_ok-after.after.nodes (Some 0) c.if-ne-2.ensures (n.all_nodes.1 few), refl)))
 
+pub returns-then-lt-clause-verdict : goal.returns-then-lt-clause-verdict
+returns-then-lt-clause-verdict g c =
+    let n = subst (NamesTree g.K.Ord.cmp (g.C.Nodes.content c.args.nodes.now) c.args.root c.args.len) c.in_ok-after.was c.check_root.ensures.names in
+    let over = c.if-lt.ensures in
+    inr (n.none, inr (n.all_items.0 (same-parent c.in_ok-after.after.items (Some 0) c.if-ne.ensures),
+    inr (n.all_nodes.0 (same-parent c.in_ok-after.after.nodes (Some 0) c.if-ne-2.ensures), inl (λ low. omega arith, refl))))
+
 pub returns-clause-verdict : goal.returns-clause-verdict
 returns-clause-verdict g c =
     let n = subst (NamesTree g.K.Ord.cmp (g.C.Nodes.content c.args.nodes.now) c.args.root c.args.len) c.in_ok-after.was c.check_root.ensures.names in
-    inr (n.none, inr (n.all_items.0 (same-parent c.in_ok-after.after.items (Some 0) c.if-ne.ensures), inr (n.all_nodes.0 (same-parent c.in_ok-after.after.nodes (Some 0) c.if-ne-2.ensures), refl)))
+    let low = c.if-lt.ensures in
+    inr (n.none, inr (n.all_items.0 (same-parent c.in_ok-after.after.items (Some 0) c.if-ne.ensures),
+    inr (n.all_nodes.0 (same-parent c.in_ok-after.after.nodes (Some 0) c.if-ne-2.ensures), inr (omega arith, refl))))

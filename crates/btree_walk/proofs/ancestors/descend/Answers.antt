@@ -2,7 +2,8 @@ use Rattle.std.proofs.Common.{refl, arith, ap}
 use Rattle.std.specs.FinMap as map
 use Rattle.btree_node.specs.Node.{view_of}
 use Rattle.btree_node.proofs.NodeSizes.{fits-internal}
-use Rattle.btree_walk.proofs.WalkLemmas.{under-used, down-room, down-smaller, down-leaf, down-internal}
+use Rattle.btree_walk.proofs.WalkLemmas.{under-used, down-room, down-leaf, down-internal}
+use Rattle.btree_walk.proofs.RowLemmas.{pushed-smaller}
 use Rattle.btree_walk.proofs.ancestors.descend.Goals as goal
 
 pub loop-leaf-init : goal.loop-leaf-init
@@ -15,7 +16,8 @@ pub push-requires : goal.push-requires
 push-requires g c = (omega arith, down-room c.args.tree.now.nodes (map.len c.args.tree.now.nodes) _ c.loop-leaf.ancestors c.loop-leaf.id c.loop-leaf.invariant)
 
 pub loop-leaf-smaller : goal.loop-leaf-smaller
-loop-leaf-smaller g c = down-smaller c.args.tree.now.nodes (map.len c.args.tree.now.nodes) _ c.loop-leaf.ancestors c.loop-leaf.id c.loop-leaf.invariant _ c.push.new.self c.push.ensures
+loop-leaf-smaller g c = pushed-smaller c.loop-leaf.ancestors _ c.push.new.self
+    (down-room c.args.tree.now.nodes (map.len c.args.tree.now.nodes) _ c.loop-leaf.ancestors c.loop-leaf.id c.loop-leaf.invariant) c.push.ensures
 
 pub loop-leaf-preserved : goal.loop-leaf-preserved
 loop-leaf-preserved g c =

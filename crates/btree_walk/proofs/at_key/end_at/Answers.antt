@@ -7,8 +7,9 @@ use Rattle.btree_shape.specs.WellFormed.{IsWellFormed}
 use Rattle.btree_shape.proofs.LookUp.KeyInList.{rises}
 use Rattle.btree_walk.specs.Preceding.{preceding_above, rows_before}
 use Rattle.btree_walk.proofs.IterLemmas.{root-under}
-use Rattle.btree_walk.proofs.UpToLemmas.{row-kept, up_to-ascends, up_to-down, up_to-found, up_to-leaf, up_to-room, up_to-smaller}
+use Rattle.btree_walk.proofs.UpToLemmas.{row-kept, up_to-ascends, up_to-down, up_to-found, up_to-leaf, up_to-room}
 use Rattle.btree_walk.proofs.WalkLemmas.{under-used}
+use Rattle.btree_walk.proofs.RowLemmas.{pushed-smaller}
 use Rattle.btree_walk.proofs.at_key.end_at.Goals as goal
 
 pub loop-leaf-init : goal.loop-leaf-init
@@ -60,8 +61,9 @@ push-requires g c = (
 )
 
 pub loop-leaf-smaller : goal.loop-leaf-smaller
-loop-leaf-smaller g c = up_to-smaller g.K.Ord.cmp c.args.key.now g.met.K.Ord.total c.args.tree.now.nodes (map.len c.args.tree.now.nodes) (pairs_of c.args.tree.now)
-    (rises g.K.Ord.cmp (pairs_of c.args.tree.now) c.in-Some.ensures.well_formed.ascends) c.loop-leaf.ancestors c.loop-leaf.id c.loop-leaf.invariant _ c.push.new.self c.push.ensures
+loop-leaf-smaller g c = pushed-smaller c.loop-leaf.ancestors _ c.push.new.self
+    (up_to-room g.K.Ord.cmp c.args.key.now g.met.K.Ord.total c.args.tree.now.nodes (map.len c.args.tree.now.nodes) (pairs_of c.args.tree.now)
+    (rises g.K.Ord.cmp (pairs_of c.args.tree.now) c.in-Some.ensures.well_formed.ascends) c.loop-leaf.ancestors c.loop-leaf.id c.loop-leaf.invariant) c.push.ensures
 
 pub loop-leaf-preserved : goal.loop-leaf-preserved
 loop-leaf-preserved g c = up_to-down g.K.Ord.cmp c.args.key.now g.met.K.Ord.total c.args.tree.now.nodes (map.len c.args.tree.now.nodes) (pairs_of c.args.tree.now)

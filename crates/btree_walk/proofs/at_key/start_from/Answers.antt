@@ -7,9 +7,10 @@ use Rattle.btree_shape.specs.TreeState.{node_map, pairs_of, pairs_under}
 use Rattle.btree_shape.specs.WellFormed.{IsWellFormed}
 use Rattle.btree_shape.proofs.LookUp.KeyInList.{rises}
 use Rattle.btree_walk.specs.Rows.{rows_of}
-use Rattle.btree_walk.proofs.FromLemmas.{from-ascends, from-down, from-found, from-leaf, from-room, from-smaller}
+use Rattle.btree_walk.proofs.FromLemmas.{from-ascends, from-down, from-found, from-leaf, from-room}
 use Rattle.btree_walk.proofs.IterLemmas.{root-under}
 use Rattle.btree_walk.proofs.WalkLemmas.{under-used}
+use Rattle.btree_walk.proofs.RowLemmas.{pushed-smaller}
 use Rattle.btree_walk.proofs.at_key.start_from.Goals as goal
 
 pub loop-leaf-init : goal.loop-leaf-init
@@ -58,9 +59,9 @@ push-requires g c = (
 )
 
 pub loop-leaf-smaller : goal.loop-leaf-smaller
-loop-leaf-smaller g c =
-    from-smaller g.K.Ord.cmp c.args.key.now g.met.K.Ord.total c.args.tree.now.nodes (map.len c.args.tree.now.nodes) (pairs_of c.args.tree.now)
-    (rises g.K.Ord.cmp (pairs_of c.args.tree.now) c.in-Some.ensures.well_formed.ascends) c.loop-leaf.ancestors c.loop-leaf.id c.loop-leaf.invariant _ c.push.new.self c.push.ensures
+loop-leaf-smaller g c = pushed-smaller c.loop-leaf.ancestors _ c.push.new.self
+    (from-room g.K.Ord.cmp c.args.key.now g.met.K.Ord.total c.args.tree.now.nodes (map.len c.args.tree.now.nodes) (pairs_of c.args.tree.now)
+    (rises g.K.Ord.cmp (pairs_of c.args.tree.now) c.in-Some.ensures.well_formed.ascends) c.loop-leaf.ancestors c.loop-leaf.id c.loop-leaf.invariant) c.push.ensures
 
 pub loop-leaf-preserved : goal.loop-leaf-preserved
 loop-leaf-preserved g c =

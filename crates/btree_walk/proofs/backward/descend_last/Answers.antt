@@ -2,8 +2,9 @@ use Rattle.std.proofs.Common.{◌≡◌, ◌∷◌, length, map, slice_get, Some
 use Rattle.std.specs.FinMap as finite
 use Rattle.btree_node.specs.Node.{view_of}
 use Rattle.btree_node.proofs.NodeSizes.{fits-internal, fits-leaf}
-use Rattle.btree_walk.proofs.BackLemmas.{back-internal, back-leaf, back-room, back-smaller, whole-row}
+use Rattle.btree_walk.proofs.BackLemmas.{back-internal, back-leaf, back-room, whole-row}
 use Rattle.btree_walk.proofs.WalkLemmas.{under-used}
+use Rattle.btree_walk.proofs.RowLemmas.{pushed-smaller}
 use Rattle.btree_walk.proofs.backward.descend_last.Goals as goal
 
 pub loop-leaf-init : goal.loop-leaf-init
@@ -22,7 +23,8 @@ pub push-requires : goal.push-requires
 push-requires g c = (omega arith, back-room c.args.tree.now.nodes (finite.len c.args.tree.now.nodes) _ c.loop-leaf.ancestors c.loop-leaf.id c.loop-leaf.invariant.down)
 
 pub loop-leaf-smaller : goal.loop-leaf-smaller
-loop-leaf-smaller g c = back-smaller c.args.tree.now.nodes (finite.len c.args.tree.now.nodes) _ c.loop-leaf.ancestors c.loop-leaf.id c.loop-leaf.invariant.down _ c.push.new.self c.push.ensures
+loop-leaf-smaller g c = pushed-smaller c.loop-leaf.ancestors _ c.push.new.self
+    (back-room c.args.tree.now.nodes (finite.len c.args.tree.now.nodes) _ c.loop-leaf.ancestors c.loop-leaf.id c.loop-leaf.invariant.down) c.push.ensures
 
 pub loop-leaf-preserved : goal.loop-leaf-preserved
 loop-leaf-preserved g c =

@@ -1,7 +1,7 @@
 use Rattle.btree_raw.proofs.raw.RawBTree.validate.Goals as goal
 
 pub returns-clause-exact : goal.returns-clause-exact
-returns-clause-exact g c = rw (← c.self.view_is) (λ ok. c.validate.ensures.only ok, λ tree. c.validate.ensures.accepts tree)
+returns-clause-exact g c = rw (← c.self.view_is) (λ ok. (c.validate.ensures.only ok, c.validate.ensures.limited ok), λ tree. c.validate.ensures.accepts tree.0 tree.1)
 
 pub returns-clause-verdict : goal.returns-clause-verdict
 returns-clause-verdict g c = rw (← c.self.view_is) c.validate.ensures.verdict

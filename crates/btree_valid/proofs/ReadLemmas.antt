@@ -1,19 +1,18 @@
--- Where no check at a position fails, a reader may rest on `IsReadable`, whatever the length is and whatever else the store
--- holds: `readable`. So it is after an answer of `validate` that names no position (`readable-after`).
+-- Where no check at a position fails, the content is readable (`root-readable`).
 -- The proof builds the tree from its positions: below each of them is a first leaf (`first-leaf`), all leaves have as many
 -- indexes as the first one, and so the children of each node have one height (`build`).
-use Rattle.std.proofs.Common.{◌≡◌, ◌∙◌, ◌+◌, ◌<◌, ◌≤◌, ◌∷◌, ◌++◌, [], ℕ, zero, suc, inl, inr, List, Option, Some, None, Result, Ok, Err, length, slice_get, refl, sym, ap, subst, arith}
+use Rattle.std.proofs.Common.{◌≡◌, ◌∙◌, ◌+◌, ◌<◌, ◌≤◌, ◌∷◌, ◌++◌, [], ℕ, zero, suc, inl, inr, List, Option, Some, None, Ok, Err, length, slice_get, refl, sym, ap, subst, arith}
 use Rattle.std.proofs.lemmas.List.{length-map}
 use Rattle.std.specs.Cmp.{IsTotalOrder}
 use Rattle.std.specs.FinMap as finite
 use Rattle.std.specs.List.{AllByRecursion}
-use Rattle.std.specs.Prelude.{⊤, IsSome}
+use Rattle.std.specs.Prelude.{IsSome}
 use Rattle.std.specs.declared.cmp.Ordering.{Ordering}
 use Rattle.btree_store.specs.Content.{Content}
 use Rattle.btree_item.proofs.PairEdits.{Ascends-none}
 use Rattle.btree_item.specs.Pairs.{Ascends}
 use Rattle.btree_item.specs.declared.fault.Fault.{Fault}
-use Rattle.btree_item.specs.declared.fault.Fault.TheVariants.{NoNode, WrongParent, Overflowing, Underflowing, EmptyRoot, Unsorted, BelowSeparator, AboveSeparator, TooDeep, NotBalanced, WrongLength, Unreachable}
+use Rattle.btree_item.specs.declared.fault.Fault.TheVariants.{NoNode, WrongParent, Overflowing, Underflowing, EmptyRoot, Unsorted, BelowSeparator, AboveSeparator, TooDeep, NotBalanced, WrongLength, Unreachable, OverLimit}
 use Rattle.btree_node.specs.declared.node.Node.{Node}
 use Rattle.btree_view.specs.Checks.{FirstFailed, IsNodeVerdict, node_faults}
 use Rattle.btree_view.specs.View.{NodeMap, View, children_of, internal, items_of, leaf}
@@ -27,9 +26,9 @@ use Rattle.btree_shape.proofs.Trees.Represented.{represented-is}
 use Rattle.btree_shape.proofs.Trees.Subtrees.{represents-of}
 use Rattle.btree_valid.specs.ListedLaws.{numbers-met}
 use Rattle.btree_valid.specs.PositionLaws.{ok-or-err}
-use Rattle.btree_valid.specs.Positions.{IsFirstLeaf, IsLeafAt, IsLeafDepth, IsMetBelow, IsMetUnder, IsVerdictAt, PassesAt, PassesOwn, Spotted, position_faults, root_spot, step_down}
-use Rattle.btree_valid.specs.Verdicts.{HasNoFaultUnder, IsVerdict, items_met, numbers_met}
-use Rattle.btree_examples.specs.Reading.{IsReadable, PassesPositions}
+use Rattle.btree_valid.specs.Positions.{IsFirstLeaf, IsLeafAt, IsLeafDepth, IsMetBelow, IsVerdictAt, PassesAt, PassesOwn, Spotted, position_faults, root_spot, step_down}
+use Rattle.btree_valid.specs.Verdicts.{HasNoFaultUnder, items_met, numbers_met}
+use Rattle.btree_valid.specs.Reading.{IsReadable, PassesPositions}
 use Rattle.btree_valid.proofs.EndLemmas.{numbers-more}
 use Rattle.btree_valid.proofs.ExactLemmas.{AllSuit, assemble, row_of}
 use Rattle.btree_valid.proofs.FoundLemmas.{IsChecked, checked}
@@ -58,9 +57,10 @@ unanswered P (one ∷ later) fault none (inl f) = none.0 (let e = f.1 in cc)
 unanswered P (one ∷ later) fault none (inr f) = unanswered P later fault none.1 f.1
 
 -- a fault of the whole tree is none of a position
-no-position-fault : (fault : Fault) → PassesPositions (Err fault) → (P : Fault → Type 0) → FirstFailed P position_faults (Err fault) → ⊥
+pub no-position-fault : (fault : Fault) → PassesPositions (Err fault) → (P : Fault → Type 0) → FirstFailed P position_faults (Err fault) → ⊥
 no-position-fault WrongLength end P f = unanswered P position_faults WrongLength (λ e. cc, (λ e. cc, (λ e. cc, (λ e. cc, (λ e. cc, (λ e. cc, (λ e. cc, (λ e. cc, (λ e. cc, (λ e. cc, tt)))))))))) f
 no-position-fault Unreachable end P f = unanswered P position_faults Unreachable (λ e. cc, (λ e. cc, (λ e. cc, (λ e. cc, (λ e. cc, (λ e. cc, (λ e. cc, (λ e. cc, (λ e. cc, (λ e. cc, tt)))))))))) f
+no-position-fault OverLimit end P f = unanswered P position_faults OverLimit (λ e. cc, (λ e. cc, (λ e. cc, (λ e. cc, (λ e. cc, (λ e. cc, (λ e. cc, (λ e. cc, (λ e. cc, (λ e. cc, tt)))))))))) f
 no-position-fault NoNode end P f = end
 no-position-fault WrongParent end P f = end
 no-position-fault Overflowing end P f = end
@@ -302,7 +302,7 @@ module _ {K V : Type 0} (cmp : K → K → Ordering) (laws : IsTotalOrder cmp) (
         ascends = subst (Ascends cmp) (sym part-items) suits.ascends;
       }
 
-    root-readable : IsReadable cmp nodes (Some root)
+    pub root-readable : IsReadable cmp nodes (Some root)
     root-readable =
         let f = first-leaf cmp laws nodes IsFirst 32 (root_spot root) (omega arith) (omega arith) none in
         let o = passed cmp laws nodes IsFirst f.at (none f.way f.at f.first.met) in
@@ -311,16 +311,6 @@ module _ {K V : Type 0} (cmp : K → K → Ordering) (laws : IsTotalOrder cmp) (
         part-readable f.at.depth low b.part b.stands.here b.stands.suits
 
   -- without a root nothing is met
-  none-readable : IsReadable cmp nodes None
+  pub none-readable : IsReadable cmp nodes None
   unfolding items_met numbers_met
   none-readable = record { once = λ n. omega arith; list = refl; ascends = Ascends-none cmp }
-
-  -- where no check at a position fails, no number is met twice, and the items met are the list
-  pub readable : (root : Option ℕ) → HasNoFaultUnder cmp nodes root → IsReadable cmp nodes root
-  readable None none = none-readable
-  readable (Some root) none = root-readable root none
-
-  -- so it is where `validate` answers Ok, or a fault of the whole tree
-  pub readable-after : (root : Option ℕ) (len : ℕ) (answer : Result ⊤ Fault) → PassesPositions answer → IsVerdict cmp nodes root len answer → IsReadable cmp nodes root
-  readable-after root len answer passes (inl f) = absurd (no-position-fault f.0 (subst PassesPositions f.2 passes) (PassesAt cmp (views nodes) (IsLeafDepth (views nodes) (IsMetUnder (views nodes) root)) f.1.at) f.1.fails)
-  readable-after root len answer passes (inr f) = readable root f.0

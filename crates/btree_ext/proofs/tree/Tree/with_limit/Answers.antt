@@ -1,0 +1,8 @@
+use Rattle.std.proofs.Common.{ap, ◌∙◌}
+use Rattle.btree_shape.specs.TreeState.{TreeState, with_limit}
+use Rattle.btree_ext.proofs.LimitLemmas.{empty-within}
+use Rattle.btree_ext.proofs.tree.Tree.with_limit.Goals as goal
+
+pub invariant_of-result : goal.invariant_of-result
+invariant_of-result g c =
+    empty-within g.K.Ord.cmp c.set_limit.new.self _ (c.set_limit.ensures ∙ ap (λ (s : TreeState _ _). with_limit s c.args.limit) c.new-raw.ensures)
