@@ -209,9 +209,10 @@ refused-elements old new Count is = ap (λ (s : SetState _). s.elements) is.0
 module _ {T : Type 0} (old other : TreeState T (Unit {0})) where
   pub room-keys : sets.HasRoomForAll (set_of old) (set_of other) ↔ many.HasRoomForAll old other
   room-keys =
-      let counts = length-keys_of (pairs_of other) in
-      (λ room. (none-keys (pairs_of old) room.0, subst (λ n. n ≤ old.kept.limit) counts room.1),
-      λ room. (ap keys_of room.0, subst (λ n. n ≤ old.kept.limit) (sym counts) room.1))
+      let counts = length-keys_of (pairs_of other) in (
+        λ room. (none-keys (pairs_of old) room.0, subst (λ n. n ≤ old.kept.limit) counts room.1),
+        λ room. (ap keys_of room.0, subst (λ n. n ≤ old.kept.limit) (sym counts) room.1),
+      )
 
   pub moves-each-keys : sets.MovesEach (set_of old) (set_of other) ↔ many.MovesEach old other
   moves-each-keys = (λ each room. each (room-keys.1 room), λ each room. each (room-keys.0 room))
