@@ -12,8 +12,8 @@ fn says_refused(text: &str) -> bool {
 }
 
 /// Refuses the first growth of a call, then the second, and so on, until none is refused. After each refusal everything on the desk has to be
-/// as before. The reply is `kept` and that of the granted call, or `changed` and that of the call that changed something. Returns whether
-/// the words are a call.
+/// as before. The reply is `kept`, how many were refused and that of the granted call, or `changed` and that of the call that changed
+/// something. Returns whether the words are a call.
 pub(crate) fn insist<D: Desk>(
     alloc: Global,
     memory: &Refusing<Global>,
@@ -33,9 +33,14 @@ pub(crate) fn insist<D: Desk>(
             return Ok(false);
         }
         desk.content(&mut after)?;
-        let is_kept = says_refused(said.as_str()) && before.as_str() == after.as_str();
-        if !was_refused || !is_kept {
-            reply.word(if was_refused { "changed" } else { "kept" })?;
+        if !was_refused {
+            reply.word("kept")?;
+            reply.number(at.wrapping_sub(1))?;
+            reply.word(said.as_str())?;
+            return Ok(true);
+        }
+        if !says_refused(said.as_str()) || before.as_str() != after.as_str() {
+            reply.word("changed")?;
             reply.word(said.as_str())?;
             return Ok(true);
         }

@@ -5,7 +5,7 @@ use std::alloc::AllocError;
 const LINES: [&str; 33] = [
     "what the lines may say, a line for each group",
     "new: empty maps and sets over new stores. over slab, over refusing: the desk that the lines go to",
-    "refuse N: on the refusing desk, the N-th node or growth of memory from now on. insist CALL: each one of the call refused in turn",
+    "refuse N: on the refusing desk, the N-th node or growth of memory from now on. insist CALL: each one of the call refused in turn, and how many were",
     "in_turn NAME VERB N: so for extend, extend_copied, from_iter or append of the numbers below N, on a new desk",
     "each COUNT STEP CALL; CALL: the calls for each number below COUNT, in steps of STEP or down, where # is the number; the last reply of each",
     "KEY=VALUE is a pair. ADDRESS: nowhere, a path and an offset as T:0 or T02:-1, or of:KEY, that of a key or of its gap",

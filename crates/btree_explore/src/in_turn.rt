@@ -178,7 +178,7 @@ fn is_kept<D: Desk>(
 
 /// Does a call as `a extend 44`, of the numbers below a count, on a new desk while the first node or growth is refused, then the second,
 /// and so on, until none is. After each refusal what came before the refused number has to be there, as if inserted one by one, and the
-/// others have to be left, and to be taken then. The reply is `kept` and that of the granted call, if one was refused before; or `changed` and
+/// others have to be left, and to be taken then. The reply is `kept`, how many were refused and that of the granted call; or `changed` and
 /// that of the call that did not keep this. Returns whether the words are such a call.
 pub(crate) fn in_turn<D: Desk>(
     alloc: Global,
@@ -197,12 +197,16 @@ pub(crate) fn in_turn<D: Desk>(
         set_up(alloc, desk, &call)?;
         memory.refuse(at);
         let said = call_from(alloc, desk, &call, 0)?;
+        let was_refused = memory.refuses() == 0;
         memory.refuse(0);
         let is_kept = match refused_number(said.as_str()) {
-            Some(refused) => names_rest(alloc, said.as_str(), &call, refused)?
+            Some(refused) => was_refused
+                && names_rest(alloc, said.as_str(), &call, refused)?
                 && is_kept(alloc, desk, &call, refused)?,
+            None if was_refused => false,
             None => {
-                reply.word(if at > 1 { "kept" } else { "never refused" })?;
+                reply.word("kept")?;
+                reply.number(at.wrapping_sub(1))?;
                 reply.word(said.as_str())?;
                 return Ok(said.as_str() != "");
             }

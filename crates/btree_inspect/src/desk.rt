@@ -118,7 +118,7 @@ where
     }
 }
 
-// Adds everything that calls can change in a tree: its nodes with the numbers that the store gave them, its root and its length.
+// Adds everything that calls can change in a tree: its nodes with the numbers that the store gave them, its root, its length and its limit.
 fn put_content<C: NodesMut<u64, u64>>(reply: &mut Reply, raw: &Raw<C>) -> Result<(), AllocError> {
     for id in 0..NUMBERS {
         if raw.has_node(id) {
@@ -128,7 +128,8 @@ fn put_content<C: NodesMut<u64, u64>>(reply: &mut Reply, raw: &Raw<C>) -> Result
     }
     reply.value(raw.root_id().map(|id| id as u64))?;
     reply.count(raw.node_count())?;
-    reply.count(raw.len())
+    reply.count(raw.len())?;
+    reply.count(raw.limit())
 }
 
 impl<C: ClearNodes<u64, u64> + Drop> Desk for Bench<C>

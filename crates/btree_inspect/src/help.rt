@@ -5,7 +5,7 @@ use std::alloc::AllocError;
 const LINES: [&str; 27] = [
     "what the lines may say, a line for each group",
     "new: all of it empty, over new stores. over slab, over refusing: the desk that the lines go to",
-    "refuse N: the N-th growth of the refusing desk's memory from now on. insist CALL: each growth of the call refused in turn",
+    "refuse N: the N-th growth of the refusing desk's memory from now on. insist CALL: each growth of the call refused in turn, and how many were",
     "each COUNT STEP CALL; CALL: the calls for each number below COUNT, in steps of STEP or down, where # is the number; the last reply of each",
     "n, m: two nodes in no tree. t: a raw tree. s: a session. c: a map that a cursor edits. KEY=VALUE is an item. OFFSET: a number or -1",
     "n, m: leaf [under PARENT] ITEMS, internal [under PARENT] CHILD ITEM CHILD ..: another node. PARENT, CHILD: a number. show: such a text",

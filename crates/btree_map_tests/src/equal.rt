@@ -110,6 +110,10 @@ fn put_equal<C: NodesMut<Named, u64> + Drop>(
     assert_true(rt, map.append(&mut other).is_ok());
     assert_same(rt, stored(&map, 1), Some(('a', 9)));
     assert_same(rt, (map.len(), other.len()), (2, 0));
+    assert_same(rt, put(rt, &mut other, 1, 'e', 10), None);
+    assert_true(rt, map.extend_copied(&mut other.iter()).is_ok());
+    assert_same(rt, stored(&map, 1), Some(('a', 10)));
+    assert_same(rt, stored(&other, 1), Some(('e', 10)));
 }
 
 #[test]
@@ -294,6 +298,9 @@ fn append_equal<C: NodesMut<Named, ()> + Drop>(
     let mut other = names(rt, other, &[1, 3], 'c');
     assert_true(rt, set.append(&mut other).is_ok());
     assert_same(rt, parts(set.first()), Some((1, 'a')));
+    assert_same(rt, parts(set.last()), Some((3, 'c')));
+    let other = names(rt, other, &[3], 'd');
+    assert_true(rt, set.extend_copied(&mut other.iter()).is_ok());
     assert_same(rt, parts(set.last()), Some((3, 'c')));
 }
 

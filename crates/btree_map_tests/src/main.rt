@@ -29,6 +29,8 @@ mod merges;
 #[cfg(test)]
 mod names;
 #[cfg(test)]
+mod once;
+#[cfg(test)]
 mod own;
 #[cfg(test)]
 mod owner;

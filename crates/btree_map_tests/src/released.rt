@@ -17,16 +17,21 @@ use std::cell::Cell;
 use std::cmp::Ordering;
 use std::process::Abort;
 
-// A key that counts how many of its kind are dropped.
-struct CountedKey<'a> {
-    number: u64,
-    drops: &'a Cell<u64>,
+/// A key that counts how many of its kind are dropped: each drop adds its weight to a sum.
+pub(crate) struct CountedKey<'a> {
+    pub number: u64,
+    pub weight: u64,
+    pub drops: &'a Cell<u64>,
 }
 
 impl<'a> Drop for CountedKey<'a> {
     fn drop(self) {
-        let CountedKey { number: _, drops } = self;
-        drops.set(drops.get().wrapping_add(1));
+        let CountedKey {
+            number: _,
+            weight,
+            drops,
+        } = self;
+        drops.set(drops.get().wrapping_add(weight));
     }
 }
 
@@ -79,7 +84,12 @@ fn with_keys<'a, C: NodesMut<CountedKey<'a>, u64>>(
     let mut map = map;
     for step in 0..200u64 {
         let number = step % 100;
-        assert_true(rt, map.insert(CountedKey { number, drops }, step).is_ok());
+        let key = CountedKey {
+            number,
+            weight: 1,
+            drops,
+        };
+        assert_true(rt, map.insert(key, step).is_ok());
         assert_same(rt, drops.get(), step.saturating_sub(99));
     }
     map

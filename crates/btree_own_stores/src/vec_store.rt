@@ -84,10 +84,7 @@ impl<T, A: Allocator> SlabMut<T> for VecStore<T, A> {
     }
 
     fn get_mut(&mut self, id: usize) -> Option<&mut T> {
-        if id >= self.slots.len() {
-            return None;
-        }
-        if self.slots[id].is_none() {
+        if id >= self.slots.len() || self.slots[id].is_none() {
             return None;
         }
         Some(filled_mut(&mut self.slots[id]))
@@ -115,9 +112,6 @@ impl<T, A: Allocator> SlabMut<T> for VecStore<T, A> {
     }
 
     fn remove(&mut self, id: usize) -> T {
-        match self.slots[id].take() {
-            Some(value) => value,
-            None => unreachable!(),
-        }
+        self.slots[id].take().unwrap()
     }
 }

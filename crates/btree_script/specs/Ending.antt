@@ -19,7 +19,7 @@ status_after (Err ending) = status_of ending
 
 -- the line on standard error
 abbrev pub text_of : Ending → List ℕ
-text_of WrongArguments = codes "usage: btree_script [table]"
+text_of WrongArguments = codes "usage: btree_script [table] [limit n]"
 text_of (Stopped (NotACommand number)) = codes "line " ++ decimal number ++ codes ": not a command"
 text_of (Stopped Memory) = codes "out of memory"
 text_of (Stopped Input) = codes "input failed"

@@ -3,19 +3,20 @@ use Rattle.std.specs.Prelude.{◌≡◌, ℕ, List, Option, None, Result}
 use Rattle.std.specs.FinMap as map
 use Rattle.btree_store.specs.Content.{Content}
 use Rattle.btree_node.specs.declared.node.Node.{Node}
-use Rattle.btree_shape.specs.TreeState.{rootless, unlimited}
+use Rattle.btree_shape.specs.TreeState.{limited_to, rootless}
 use Rattle.btree_session.specs.Held.{Held}
 use Rattle.btree_session.specs.Script.{Drives}
 use Rattle.btree_session.specs.declared.script.Stop.{Stop}
 
--- a session over an empty map, which holds no place, was driven, over stores that may refuse a node in these contents
-pub record ServesAnew {A R W : Type 0} (MayRefuse : Content (Node ℕ ℕ) → Type 0) (remaining : R → Option (List ℕ)) (contents : W → Option (List ℕ)) (input : R) (output : W) (result : Result A Stop) (new_output : W) : Type 0 where
+-- a session over an empty map with this limit, which holds no place, was driven, over stores that may refuse a node in these
+-- contents
+pub record ServesAnew {A R W : Type 0} (limit : ℕ) (MayRefuse : Content (Node ℕ ℕ) → Type 0) (remaining : R → Option (List ℕ)) (contents : W → Option (List ℕ)) (input : R) (output : W) (result : Result A Stop) (new_output : W) : Type 0 where
   pub old : Held ℕ ℕ
-  pub empty : old.map ≡ rootless map.empty (unlimited 0)
+  pub empty : old.map ≡ rootless map.empty (limited_to limit)
   pub free : old.held ≡ None
   pub new : Held ℕ ℕ
   pub drives : Drives MayRefuse remaining contents old input output result new_output new
 
 -- so was one over a table of eleven nodes, which may refuse a node only if it holds that many
-abbrev pub ServesTable : {A R W : Type 0} → (R → Option (List ℕ)) → (W → Option (List ℕ)) → R → W → Result A Stop → W → Type 0
-ServesTable remaining contents input output result new_output = ServesAnew (λ nodes. map.len nodes ≡ 11) remaining contents input output result new_output
+abbrev pub ServesTable : {A R W : Type 0} → (limit : ℕ) → (R → Option (List ℕ)) → (W → Option (List ℕ)) → R → W → Result A Stop → W → Type 0
+ServesTable limit remaining contents input output result new_output = ServesAnew limit (λ nodes. map.len nodes ≡ 11) remaining contents input output result new_output

@@ -1,5 +1,5 @@
 //! Reads commands from standard input, one a line, and prints a reply to each. With the argument `table`, the nodes of its map are in a
-//! table of fixed size.
+//! table of fixed size; with `limit n` the map has at most n pairs.
 #![tactic(auto)]
 
 #[cfg(test)]
@@ -22,8 +22,8 @@ use std::process::ExitCode;
 use std::rt::Env;
 use std::{fmt, io, str};
 
-// The most bytes of an argument that the program has.
-const LONGEST_WORD: usize = 5;
+// The most bytes of an argument that the program has: the digits of the greatest limit.
+const LONGEST_WORD: usize = 20;
 
 // How many nodes a table has places for.
 const TABLE_NODES: usize = 11;
@@ -55,7 +55,7 @@ impl fmt::Display for Ending {
 
     fn fmt<W: fmt::Write>(&self, f: &mut fmt::Formatter<W>) -> fmt::Result {
         match self {
-            Ending::WrongArguments => write!(f, "usage: btree_script [table]"),
+            Ending::WrongArguments => write!(f, "usage: btree_script [table] [limit n]"),
             Ending::Stopped(Stop::NotACommand(number)) => {
                 write!(f, "line {number}: not a command")
             }
@@ -66,51 +66,69 @@ impl fmt::Display for Ending {
     }
 }
 
-// Returns what the arguments ask for, if it can read them.
-fn read_arguments(rt: &impl Env) -> Option<Setup> {
-    let mut buffer = [0; LONGEST_WORD];
-    let len = match rt.arg(1, &mut buffer) {
-        Ok(len) => len,
-        Err(FillError::NotPresent) => return setup(&[]),
-        Err(FillError::TooLong) => return None,
-    };
-    let Err(FillError::NotPresent) = rt.arg(2, &mut []) else {
-        return None;
-    };
-    match str::from_utf8(buffer.get(..len)?) {
-        Ok(word) => setup(&[word]),
-        Err(_) => None,
+// Returns an argument, if there is one. It returns `None` for one that it cannot read.
+fn read_word<'a>(rt: &impl Env, index: usize, buffer: &'a mut [u8]) -> Option<Option<&'a str>> {
+    match rt.arg(index, buffer) {
+        Ok(len) => match str::from_utf8(buffer.get(..len)?) {
+            Ok(word) => Some(Some(word)),
+            Err(_) => None,
+        },
+        Err(FillError::NotPresent) => Some(None),
+        Err(FillError::TooLong) => None,
     }
 }
 
-// Serves the lines of a reader, over a store from this origin.
+// Returns what the arguments ask for, if it can read them.
+fn read_arguments(rt: &impl Env) -> Option<Setup> {
+    let (mut first, mut second, mut third) = (
+        [0; LONGEST_WORD],
+        [0; LONGEST_WORD],
+        [0; LONGEST_WORD],
+    );
+    let Some(first) = read_word(rt, 1, &mut first)? else {
+        return setup(&[]);
+    };
+    let Some(second) = read_word(rt, 2, &mut second)? else {
+        return setup(&[first]);
+    };
+    let Some(third) = read_word(rt, 3, &mut third)? else {
+        return setup(&[first, second]);
+    };
+    let Err(FillError::NotPresent) = rt.arg(4, &mut []) else {
+        return None;
+    };
+    setup(&[first, second, third])
+}
+
+// Serves the lines of a reader with this limit, over a store from this origin.
 fn serve<C: ClearNodes<u64, u64> + Drop, R: Read, W: Write>(
     origin: C::Origin,
+    limit: usize,
     alloc: Global,
     input: &mut R,
     output: &mut W,
 ) -> Result<(), Stop>
-    ensures { ServesAnew C.MayRefuse R.remaining W.contents
+    ensures { ServesAnew limit C.MayRefuse R.remaining W.contents
         input.old output.old result output.new }
 {
-    let mut session: Session<C> = Session::new(origin);
+    let mut session: Session<C> = Session::with_limit(origin, limit);
     drive(alloc, &mut session, input, output)
 }
 
-// Serves the lines of a reader, over a table if that was asked for.
+// Serves the lines of a reader with the limit that was asked for, over a table if that was asked for.
 fn serve_asked<R: Read, W: Write>(
     asked: Setup,
     alloc: Global,
     input: &mut R,
     output: &mut W,
 ) -> Result<(), Stop>
-    ensures { IsTrue asked.table → ServesTable R.remaining W.contents
+    ensures { IsTrue asked.table → ServesTable asked.limit R.remaining W.contents
         input.old output.old result output.new }
 {
     if asked.table {
-        serve::<FixedSlab<Node<u64, u64>, TABLE_NODES>, R, W>((), alloc, input, output)
+        serve::<FixedSlab<Node<u64, u64>, TABLE_NODES>, R, W>((), asked.limit, alloc, input, output)
     } else {
-        serve::<SlabStore<Node<u64, u64>>, R, W>(alloc, alloc, input, output)
+        serve::<SlabStore<Node<u64, u64>>, R, W>(alloc, asked.limit, alloc, input, output)
     }
 }
 

@@ -1,18 +1,34 @@
 //! The arguments of the program.
-ghost use Rattle.std.specs.Prelude.{◌≡◌, [], ◌∷◌, Some, true, false, codes, IfSome};
-ghost use Rattle.btree_session.specs.Arguments.{asked_words, texts};
+ghost use Rattle.btree_session.specs.Arguments.{Asks, AsksLimit, texts};
+ghost use Rattle.btree_session.specs.Line.{SomeIfAny};
 
 use crate::Setup;
+use crate::line::number;
 
-/// Reads the arguments after the program's name: none at all, or the word `table`. Returns `None` for any others.
+/// Reads the arguments after the program's name: `table`, `limit` and a number of decimal digits, both in this order, or none at all. The
+/// limit is `usize::MAX` if none is asked for. Returns `None` for any other arguments.
 pub fn setup(words: &[&str]) -> Option<Setup>
-    ensures none { words.now ≡ [] → result ≡ Some (record { table = false }) }
-    ensures table { texts words.now ≡ codes "table" ∷ [] → result ≡ Some (record { table = true }) }
-    ensures only { IfSome result (λ setup. texts words.now ≡ asked_words setup) }
+    ensures { SomeIfAny (λ asked. Asks asked.table asked.limit (texts words.now)) result }
 {
     match words {
-        [] => Some(Setup { table: false }),
-        [word] if *word == "table" => Some(Setup { table: true }),
+        [word, rest @ ..] if *word == "table" => Some(Setup {
+            table: true,
+            limit: limit_of(rest)?,
+        }),
+        _ => Some(Setup {
+            table: false,
+            limit: limit_of(words)?,
+        }),
+    }
+}
+
+/// Returns the limit that the words ask for: `limit` and a number, or no words at all.
+fn limit_of(words: &[&str]) -> Option<usize>
+    ensures { SomeIfAny (λ limit. AsksLimit limit (texts words.now)) result }
+{
+    match words {
+        [] => Some(usize::MAX),
+        [word, digits] if *word == "limit" => Some(number(digits.as_bytes())? as usize),
         _ => None,
     }
 }

@@ -168,7 +168,7 @@ fn first_space(text: &[u8]) -> Option<usize>
 }
 
 /// Parses a word of decimal digits as a number of 64 bits.
-fn number(word: &[u8]) -> Option<u64>
+pub(crate) fn number(word: &[u8]) -> Option<u64>
     ensures { SomeIfAny (λ n. IsNumber n word.now) result }
 {
     if word.is_empty() {

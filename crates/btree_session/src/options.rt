@@ -5,4 +5,6 @@
 pub struct Setup {
     /// Whether the nodes are in a table of fixed size, and not in a slab.
     pub table: bool,
+    /// How many pairs there may be.
+    pub limit: usize,
 }

@@ -7,14 +7,43 @@ use std::io::{ErrorKind, Read, Write};
 use std::process::Abort;
 use std::test::Fail;
 
-// Replies with the words after `say`, and with two lines to `list`.
+// Replies with the words after `say`, and with two lines to `list`. It asks for memory to `grow`, to `spoil` and to `hide`; if that is refused,
+// `spoil` changes the desk, and `hide` does not say so.
 #[derive(Drop)]
-struct Echo {
+struct Echo<'m> {
     is_spent: bool,
+    memory: &'m Refusing<Global>,
 }
 
-impl Desk for Echo {
+fn has_room(memory: &Refusing<Global>) -> bool {
+    let mut room: Vec<u64, &Refusing<Global>> = Vec::new(memory);
+    room.reserve(1).is_ok()
+}
+
+impl Echo<'_> {
+    // Returns whether the words are a call that asks for memory.
+    fn grow(&mut self, words: &str, reply: &mut Reply) -> Result<bool, AllocError> {
+        if words != "grow" && words != "spoil" && words != "hide" {
+            return Ok(false);
+        }
+        let is_grown = has_room(self.memory);
+        if !is_grown && words == "spoil" {
+            self.is_spent = true;
+        }
+        reply.word(if is_grown || words == "hide" {
+            "grown"
+        } else {
+            "refused"
+        })?;
+        Ok(true)
+    }
+}
+
+impl Desk for Echo<'_> {
     fn call(&mut self, words: &str, reply: &mut Reply) -> Result<bool, AllocError> {
+        if self.grow(words, reply)? {
+            return Ok(true);
+        }
         if words == "fail" {
             self.is_spent = true;
             return Err(AllocError);
@@ -91,8 +120,14 @@ fn serve_from(
 ) -> Result<(), Ending> {
     let memory = Refusing::over(alloc, 0);
     let mut desks = Desks {
-        plain: Echo { is_spent: false },
-        refusing: Echo { is_spent: false },
+        plain: Echo {
+            is_spent: false,
+            memory: &memory,
+        },
+        refusing: Echo {
+            is_spent: false,
+            memory: &memory,
+        },
         is_refusing: false,
     };
     let mut input = Breaks { bytes, with };
@@ -112,7 +147,7 @@ fn check(rt: &impl Abort, case: &[u8], left: &[u8], right: &[u8], ends: bool) {
     assert!(rt; ends, "{case:?}");
 }
 
-const LINES: [(&[u8], &[u8], Result<(), Ending>); 12] = [
+const LINES: [(&[u8], &[u8], Result<(), Ending>); 14] = [
     (b"", b"", Ok(())),
     (
         b"# A heading\n\nsay 1 -> 1\nsay 2\n",
@@ -151,9 +186,19 @@ const LINES: [(&[u8], &[u8], Result<(), Ending>); 12] = [
         Ok(()),
     ),
     (
-        b"insist say 1 -> kept 1\ninsist jump\nrefuse now\n",
-        b"insist say 1 -> kept 1\nnot a call (line 2)\nnot a call (line 3)\n",
+        b"insist say 1 -> kept 0 1\ninsist jump\nrefuse now\n",
+        b"insist say 1 -> kept 0 1\nnot a call (line 2)\nnot a call (line 3)\n",
         Err(Ending::NotACall(2)),
+    ),
+    (
+        b"insist grow -> kept 1 grown\ninsist spoil -> changed refused\ninsist hide -> changed grown\n",
+        b"insist grow -> kept 1 grown\ninsist spoil -> changed refused\ninsist hide -> changed grown\n",
+        Ok(()),
+    ),
+    (
+        b"insist spoil -> kept 1 grown\n",
+        b"insist spoil -> changed refused\n",
+        Err(Ending::OtherReply(1)),
     ),
     (b"say 1\nfail\nsay 2\n", b"1\n", Err(Ending::Memory)),
     (b"say 1 -> \n", b"say 1 -> 1\n", Err(Ending::OtherReply(1))),

@@ -121,8 +121,8 @@ fn shapes_are_the_same_over_odd_numbers(rt: HostRuntime) -> Result<(), Fail> {
         (
             (9, 0),
             (
-                "seek 4\ntake\nput 4 4\nshape\n",
-                "found 4\npair 4 4\nok\n((0 1 2) 3 (4 5 6 7 8))\n",
+                "seek 4\ntake\nshape\nput 4 4\nshape\n",
+                "found 4\npair 4 4\n((0 1 2) 3 (5 6 7 8))\nok\n((0 1 2) 3 (4 5 6 7 8))\n",
             ),
         ),
     ] {

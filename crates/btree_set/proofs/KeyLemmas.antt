@@ -26,6 +26,7 @@ use Rattle.btree_map.specs.Comparison.{pair_cmp, pair_eq, pair_partial_cmp}
 use Rattle.btree_map.specs.Extension as many
 use Rattle.btree_set.specs.Elements.{IsRefused, LeavesElements, SetState, before, inserted, removed, replaced, set_of, stored}
 use Rattle.btree_set.specs.Extension.{IsRefusedInTurn, Moves, inserted_all}
+use Rattle.btree_set.specs.Extension as sets
 
 module _ {T V : Type 0} where
   find-keys : (test : T → Bool) (xs : List (T × V)) → find test (keys_of xs) ≡ option_map (λ p. p.0) (lookup_entry test xs)
@@ -204,3 +205,15 @@ moves-keys cmp old other x new rest m = record {
 pub refused-elements : {T : Type 0} (old new : SetState T) (cause : Cause) → LeavesElements old new cause → new.elements ≡ old.elements
 refused-elements old new Store is = is.0
 refused-elements old new Count is = ap (λ (s : SetState _). s.elements) is.0
+
+-- a set has room for another exactly if the map behind it has
+module _ {T : Type 0} (old other : TreeState T (Unit {0})) where
+  pub room-keys : sets.HasRoomForAll (set_of old) (set_of other) ↔ many.HasRoomForAll old other
+  room-keys =
+      let counts = length-keys_of (pairs_of other) in (
+        λ room. (none-keys (pairs_of old) room.0, subst (λ n. n ≤ old.kept.limit) counts room.1),
+        λ room. (ap keys_of room.0, subst (λ n. n ≤ old.kept.limit) (sym counts) room.1),
+      )
+
+  pub moves-each-keys : sets.MovesEach (set_of old) (set_of other) ↔ many.MovesEach old other
+  moves-each-keys = (λ each room. each (room-keys.1 room), λ each room. each (room-keys.0 room))

@@ -1,5 +1,5 @@
 //! Insertion of many elements.
-ghost use Rattle.std.specs.Prelude.{◌≡◌, ◌≢◌, [], IfErr, IfOk, OnErr, OnOk};
+ghost use Rattle.std.specs.Prelude.{◌≡◌, [], IfErr, IfOk, OnErr, OnOk};
 ghost use Rattle.std.specs.Iterator.{IsFinite};
 ghost use Rattle.std.specs.Mem.{FitsInMemory};
 ghost use denote.Plain.{Nothing as unit_row};
@@ -14,9 +14,9 @@ use btree_nodes::NodesMut;
 impl<T: Ord + Drop, C: NodesMut<T, ()>> BTreeSet<T, C> {
     /// Moves the elements of `other` into this set. Where both have an element, this set keeps its own.
     ///
-    /// If this set is empty, the two are swapped, with their stores. Otherwise the elements come from the front of `other`, one at a time,
-    /// as `insert` inserts them. The first one that is refused is returned: those before it are in this set, and those after it are still
-    /// in `other`.
+    /// If this set is empty, and those of `other` are within its limit, the elements are exchanged with their stores, and each set keeps its
+    /// limit. Otherwise the elements come from the front of `other`, one at a time, as `insert` inserts them. The first one that is refused
+    /// is returned: those before it are in this set, and those after it are still in `other`.
     pub fn append(&mut self, other: &mut Self) -> Result<(), Refused<T, ()>>
         ensures appended { OnOk result (AddsAll T.cmp self.old other.old self.new) }
         ensures emptied { OnOk result (other.new.elements ≡ []) }

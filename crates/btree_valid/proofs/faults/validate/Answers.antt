@@ -41,12 +41,22 @@ pub returns-then-lt-clause-verdict : goal.returns-then-lt-clause-verdict
 returns-then-lt-clause-verdict g c =
     let n = subst (NamesTree g.K.Ord.cmp (g.C.Nodes.content c.args.nodes.now) c.args.root c.args.len) c.in_ok-after.was c.check_root.ensures.names in
     let over = c.if-lt.ensures in
-    inr (n.none, inr (n.all_items.0 (same-parent c.in_ok-after.after.items (Some 0) c.if-ne.ensures),
-    inr (n.all_nodes.0 (same-parent c.in_ok-after.after.nodes (Some 0) c.if-ne-2.ensures), inl (λ low. omega arith, refl))))
+    inr (
+      n.none,
+      inr (
+        n.all_items.0 (same-parent c.in_ok-after.after.items (Some 0) c.if-ne.ensures),
+        inr (n.all_nodes.0 (same-parent c.in_ok-after.after.nodes (Some 0) c.if-ne-2.ensures), inl (λ low. omega arith, refl)),
+      ),
+    )
 
 pub returns-clause-verdict : goal.returns-clause-verdict
 returns-clause-verdict g c =
     let n = subst (NamesTree g.K.Ord.cmp (g.C.Nodes.content c.args.nodes.now) c.args.root c.args.len) c.in_ok-after.was c.check_root.ensures.names in
     let low = c.if-lt.ensures in
-    inr (n.none, inr (n.all_items.0 (same-parent c.in_ok-after.after.items (Some 0) c.if-ne.ensures),
-    inr (n.all_nodes.0 (same-parent c.in_ok-after.after.nodes (Some 0) c.if-ne-2.ensures), inr (omega arith, refl))))
+    inr (
+      n.none,
+      inr (
+        n.all_items.0 (same-parent c.in_ok-after.after.items (Some 0) c.if-ne.ensures),
+        inr (n.all_nodes.0 (same-parent c.in_ok-after.after.nodes (Some 0) c.if-ne-2.ensures), inr (omega arith, refl)),
+      ),
+    )

@@ -5,11 +5,11 @@ use Rattle.btree_map.specs.Extension.{inserted_all}
 use Rattle.btree_map.proofs.ExtensionLemmas.{all-into-none, first-and-rest, none-of}
 use Rattle.btree_map.proofs.map.BTreeMap.append.Goals as goal
 
-pub returns-then-is_empty-2-clause-appended : goal.returns-then-is_empty-2-clause-appended
-returns-then-is_empty-2-clause-appended g c =
+pub returns-then-len-limit-clause-appended : goal.returns-then-len-limit-clause-appended
+returns-then-len-limit-clause-appended g c =
     let empty : pairs_of c.args.self.now ≡ [] = search rules in
     let all = all-into-none g.K.Ord.cmp (pairs_of c.args.other.now) c.tell_well_formed.ensures.well_formed.ascends in
-    ap pairs_of c.swap.ensures.x_after ∙ sym all ∙ sym (ap (λ l. inserted_all g.K.Ord.cmp l (pairs_of c.args.other.now)) empty)
+    ap pairs_of c.swap.ensures.swapped ∙ sym all ∙ sym (ap (λ l. inserted_all g.K.Ord.cmp l (pairs_of c.args.other.now)) empty)
 
 pub loop-key-preserved : goal.loop-key-preserved
 loop-key-preserved g c =

@@ -2,7 +2,7 @@ use Rattle.std.proofs.Common.{◌∙◌, ap}
 use Rattle.btree_shape.specs.TreeState.{pairs_of}
 use Rattle.std.specs.Map.{keys_of}
 use Rattle.btree_set.specs.Elements.{set_of}
-use Rattle.btree_set.proofs.KeyLemmas.{inserted_all-keys, moves-keys, none-keys, turn-refused}
+use Rattle.btree_set.proofs.KeyLemmas.{inserted_all-keys, moves-each-keys, moves-keys, none-keys, room-keys, turn-refused}
 use Rattle.btree_set.proofs.set.BTreeSet.append.Goals as goal
 
 pub returns-in-Ok-clause-appended : goal.returns-in-Ok-clause-appended
@@ -12,10 +12,30 @@ pub returns-in-Ok-clause-unchanged : goal.returns-in-Ok-clause-unchanged
 returns-in-Ok-clause-unchanged g c = rw (← c.self.view_is, ← c.other.view_is) (λ e. let same = c.in-Ok.ensures.unchanged (none-keys (pairs_of c.other.inside.map) e) in (ap set_of same.0, ap set_of same.1))
 
 pub returns-in-Ok-clause-swapped : goal.returns-in-Ok-clause-swapped
-returns-in-Ok-clause-swapped g c = rw (← c.self.view_is, ← c.other.view_is) (λ e some. let same = c.in-Ok.ensures.swapped (none-keys (pairs_of c.self.inside.map) e) (λ none. some (ap (λ l. keys_of l) none)) in (ap set_of same.0, ap set_of same.1))
+returns-in-Ok-clause-swapped g c =
+    rw (← c.self.view_is, ← c.other.view_is)
+    (λ room some. let same = c.in-Ok.ensures.swapped ((room-keys c.self.inside.map c.other.inside.map).0 room) (λ none. some (ap (λ l. keys_of l) none)) in (ap set_of same.0, ap set_of same.1))
 
 pub returns-in-Ok-clause-uncounted : goal.returns-in-Ok-clause-uncounted
-returns-in-Ok-clause-uncounted g c = rw (← c.self.view_is) (λ some. c.in-Ok.ensures.uncounted (λ none. some (ap (λ l. keys_of l) none)))
+returns-in-Ok-clause-uncounted g c =
+    rw (← c.self.view_is, ← c.other.view_is) (λ each. c.in-Ok.ensures.uncounted ((moves-each-keys c.self.inside.map c.other.inside.map).0 each))
+
+pub returns-in-Ok-clause-other_uncounted : goal.returns-in-Ok-clause-other_uncounted
+returns-in-Ok-clause-other_uncounted g c =
+    rw (← c.self.view_is, ← c.other.view_is) (λ each. c.in-Ok.ensures.other_uncounted ((moves-each-keys c.self.inside.map c.other.inside.map).0 each))
+
+pub returns-in-Err-clause-swapped : goal.returns-in-Err-clause-swapped
+returns-in-Err-clause-swapped g c =
+    rw (← c.self.view_is, ← c.other.view_is)
+    (λ room some. absurd (c.in-Err.ensures.moved_each ((room-keys c.self.inside.map c.other.inside.map).0 room)))
+
+pub returns-in-Err-clause-other_uncounted : goal.returns-in-Err-clause-other_uncounted
+returns-in-Err-clause-other_uncounted g c =
+    rw (← c.self.view_is, ← c.other.view_is) (λ each. c.in-Err.ensures.other_uncounted ((moves-each-keys c.self.inside.map c.other.inside.map).0 each))
+
+pub returns-in-Err-clause-moved_each : goal.returns-in-Err-clause-moved_each
+returns-in-Err-clause-moved_each g c =
+    rw (← c.self.view_is, ← c.other.view_is) ((moves-each-keys c.self.inside.map c.other.inside.map).1 c.in-Err.ensures.moved_each)
 
 pub returns-in-Err-clause-unchanged : goal.returns-in-Err-clause-unchanged
 returns-in-Err-clause-unchanged g c = rw (← c.self.view_is, ← c.other.view_is) (λ e. let same = c.in-Err.ensures.unchanged (none-keys (pairs_of c.other.inside.map) e) in (ap set_of same.0, ap set_of same.1))

@@ -1,0 +1,215 @@
+//! Sixteen keys and values of which each one's drops are counted: the n-th digit of a sum to base 16 says how often that of the number n was
+//! dropped. So one that is dropped twice does not make up for one that is not.
+use crate::asserts::{assert_same, assert_same_in, assert_true};
+use crate::released::CountedKey;
+use btree_item::Refused;
+use btree_map::BTreeMap;
+use btree_node::Node;
+use btree_nodes::{ClearNodes, NodesMut};
+use btree_store::SlabStore;
+use btree_testing::{Refusing, RefusingStore};
+use std::alloc::Global;
+use std::cell::Cell;
+use std::process::Abort;
+
+type Pairs<'a, C> = BTreeMap<CountedKey<'a>, CountedKey<'a>, C>;
+
+type PairNode<'a> = Node<CountedKey<'a>, CountedKey<'a>>;
+
+// Every number once.
+const ALL: u64 = 0x1111_1111_1111_1111;
+
+// What the drops of keys add up to, and those of values.
+#[derive(Clone, Copy)]
+struct Sums<'a> {
+    keys: &'a Cell<u64>,
+    values: &'a Cell<u64>,
+}
+
+fn counted<'a>(number: u64, drops: &'a Cell<u64>) -> CountedKey<'a> {
+    let weight = 16u64.wrapping_pow(number as u32);
+    CountedKey {
+        number,
+        weight,
+        drops,
+    }
+}
+
+fn pair<'a>(number: u64, sums: Sums<'a>) -> (CountedKey<'a>, CountedKey<'a>) {
+    (counted(number, sums.keys), counted(number, sums.values))
+}
+
+fn check(rt: &impl Abort, sums: Sums<'_>, keys: u64, values: u64) {
+    assert_same(rt, (sums.keys.get(), sums.values.get()), (keys, values));
+}
+
+// Inserts the numbers from one to before another.
+fn put<'a, C: NodesMut<CountedKey<'a>, CountedKey<'a>>>(
+    rt: &impl Abort,
+    map: &mut Pairs<'a, C>,
+    sums: Sums<'a>,
+    from: u64,
+    to: u64,
+) {
+    for number in from..to {
+        let (key, value) = pair(number, sums);
+        assert_true(rt, map.insert(key, value).is_ok());
+    }
+}
+
+// Takes the first pair of a drain of the even numbers, and drops it and the drain.
+fn drain_even<'a, C: NodesMut<CountedKey<'a>, CountedKey<'a>>>(
+    rt: &impl Abort,
+    map: &mut Pairs<'a, C>,
+) {
+    let mut drain = map.drain_filter(|key: &CountedKey, _value: &mut CountedKey| {
+        key.number % 2 == 0
+    });
+    assert_true(rt, drain.next().is_some());
+}
+
+// Drops keys and values of a map that is empty in each way: an equal key and the value that its own replaces, a pair that is replaced, pairs
+// that are drained, one that is removed, those that are cleared, and those of the map itself.
+fn drop_each<'a, C: ClearNodes<CountedKey<'a>, CountedKey<'a>> + Drop>(
+    rt: &impl Abort,
+    mut map: Pairs<'a, C>,
+    sums: Sums<'a>,
+) {
+    put(rt, &mut map, sums, 0, 16);
+    check(rt, sums, 0, 0);
+    put(rt, &mut map, sums, 3, 4);
+    check(rt, sums, 0x1000, 0x1000);
+    let (key, value) = pair(5, sums);
+    assert_true(rt, map.replace(key, value).is_ok());
+    check(rt, sums, 0x10_1000, 0x10_1000);
+    drain_even(rt, &mut map);
+    check(rt, sums, 0x0101_0101_0111_1101, 0x0101_0101_0111_1101);
+    // The key that is asked for is dropped too.
+    drop(map.remove(&counted(1, sums.keys)));
+    check(rt, sums, 0x0101_0101_0111_1121, 0x0101_0101_0111_1111);
+    map.clear();
+    check(rt, sums, 0x1111_1111_1121_2121, 0x1111_1111_1121_2111);
+    put(rt, &mut map, sums, 0, 16);
+    drop(map);
+    check(rt, sums, 0x2222_2222_2232_3232, 0x2222_2222_2232_3222);
+}
+
+#[test]
+fn each_is_dropped_once_in_each_way(rt: HostRuntime) {
+    let (keys, values) = (Cell::new(0u64), Cell::new(0u64));
+    let sums = Sums {
+        keys: &keys,
+        values: &values,
+    };
+    drop_each::<SlabStore<PairNode<'_>>>(&rt, BTreeMap::new(rt.alloc()), sums);
+}
+
+// Drops what a call returned. Nothing was dropped by the call. Returns the number that was refused, if one was.
+fn drop_refused<'a>(
+    rt: &impl Abort,
+    answer: Result<(), Refused<CountedKey<'a>, CountedKey<'a>>>,
+    sums: Sums<'a>,
+) -> Option<u64> {
+    check(rt, sums, 0, 0);
+    match answer {
+        Ok(()) => None,
+        Err(back) => Some(back.key.number),
+    }
+}
+
+// Extends an empty map by sixteen pairs. Returns the number that was refused, and the sums after its pair is dropped and after the map is.
+fn extend_some<'a, C: NodesMut<CountedKey<'a>, CountedKey<'a>> + Drop>(
+    rt: &impl Abort,
+    origin: C::Origin,
+    sums: Sums<'a>,
+) -> (Option<u64>, u64, u64) {
+    let mut map: Pairs<'a, C> = BTreeMap::new(origin);
+    let mut source = (0..16u64).map(move |number| pair(number, sums));
+    let answer = map.extend(&mut source);
+    let refused = drop_refused(rt, answer, sums);
+    let came_back = sums.keys.get();
+    check(rt, sums, came_back, came_back);
+    drop(map);
+    let all = sums.keys.get();
+    check(rt, sums, all, all);
+    (refused, came_back, all)
+}
+
+// Each node and each growth is refused in turn. The first node needs both, the ninth key needs two nodes, and the fourteenth one.
+const EXTENDED: [(Option<u64>, u64, u64); 6] = [
+    (Some(0), 0x1, 0x1),
+    (Some(0), 0x1, 0x1),
+    (Some(8), 0x1_0000_0000, 0x1_1111_1111),
+    (Some(8), 0x1_0000_0000, 0x1_1111_1111),
+    (Some(13), 0x10_0000_0000_0000, 0x11_1111_1111_1111),
+    (None, 0, ALL),
+];
+
+type Refuses<'m, 'a> = RefusingStore<'m, SlabStore<PairNode<'a>, &'m Refusing<Global>>>;
+
+#[test]
+fn a_refused_extension_drops_each_pair_once(rt: HostRuntime) {
+    let mut nth = 0u64;
+    for expected in EXTENDED {
+        nth = nth.wrapping_add(1);
+        let memory = Refusing::over(rt.alloc(), nth);
+        let (keys, values) = (Cell::new(0u64), Cell::new(0u64));
+        let sums = Sums {
+            keys: &keys,
+            values: &values,
+        };
+        let found = extend_some::<Refuses<'_, '_>>(&rt, (&memory, &memory), sums);
+        assert_same_in(&rt, nth, found, expected);
+    }
+}
+
+// Appends fifteen pairs to a map of one. Returns the number that was refused, and the sums after its pair is dropped, and after the other map.
+fn append_some<'a, C: NodesMut<CountedKey<'a>, CountedKey<'a>> + Drop>(
+    rt: &impl Abort,
+    maps: (Pairs<'a, C>, Pairs<'a, C>),
+    memory: &Refusing<Global>,
+    nth: u64,
+    sums: Sums<'a>,
+) -> (Option<u64>, u64, u64) {
+    let (mut map, mut other) = maps;
+    put(rt, &mut map, sums, 0, 1);
+    put(rt, &mut other, sums, 1, 16);
+    memory.refuse(nth);
+    let answer = map.append(&mut other);
+    let refused = drop_refused(rt, answer, sums);
+    let came_back = sums.keys.get();
+    check(rt, sums, came_back, came_back);
+    drop(other);
+    let left = sums.keys.get();
+    check(rt, sums, left, left);
+    drop(map);
+    check(rt, sums, ALL, ALL);
+    (refused, came_back, left)
+}
+
+const APPENDED: [(Option<u64>, u64, u64); 4] = [
+    (Some(8), 0x1_0000_0000, 0x1111_1111_0000_0000),
+    (Some(8), 0x1_0000_0000, 0x1111_1111_0000_0000),
+    (Some(13), 0x10_0000_0000_0000, 0x1110_0000_0000_0000),
+    (None, 0, 0),
+];
+
+#[test]
+fn a_refused_append_drops_each_pair_once(rt: HostRuntime) {
+    let mut nth = 0u64;
+    for expected in APPENDED {
+        nth = nth.wrapping_add(1);
+        let memory = Refusing::over(rt.alloc(), 0);
+        let (keys, values) = (Cell::new(0u64), Cell::new(0u64));
+        let sums = Sums {
+            keys: &keys,
+            values: &values,
+        };
+        let maps = (
+            BTreeMap::new((&memory, &memory)),
+            BTreeMap::new((&memory, &memory)),
+        );
+        let found = append_some::<Refuses<'_, '_>>(&rt, maps, &memory, nth, sums);
+        assert_same_in(&rt, nth, found, expected);
+    }
+}
