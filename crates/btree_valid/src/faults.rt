@@ -1,5 +1,5 @@
 //! Checks the nodes of a store of any content, and finds the first fault.
-ghost use Rattle.std.specs.Prelude.{◌≡◌, ◌+◌, ◌<◌, None, IfErr, IfOk, Some, Ok, Err, option_copied, slice_get};
+ghost use Rattle.std.specs.Prelude.{◌≡◌, ◌+◌, ◌<◌, ◌≤◌, None, IfErr, IfOk, Some, Ok, Err, option_copied, slice_get};
 ghost use Rattle.std.specs.FinMap as map;
 ghost use Rattle.std.specs.Mem.{FitsInMemory};
 ghost use Rattle.btree_item.specs.declared.fault.Fault.TheVariants.{NoNode, NotBalanced};

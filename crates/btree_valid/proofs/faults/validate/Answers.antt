@@ -1,4 +1,4 @@
-use Rattle.std.proofs.Common.{◌≡◌, ◌∙◌, Some, ap, inl, inr, refl, subst, sym}
+use Rattle.std.proofs.Common.{◌≡◌, ◌∙◌, Some, ap, arith, inl, inr, refl, subst, sym}
 use Rattle.std.proofs.lemmas.Result.{err_from_is_err_and}
 use Rattle.btree_valid.specs.Verdicts.{NamesTree}
 use Rattle.btree_valid.proofs.EnterLemmas.{parent-same, same-parent}
@@ -37,10 +37,9 @@ returns-then-ne-2-clause-verdict g c =
     let n = subst (NamesTree g.K.Ord.cmp (g.C.Nodes.content c.args.nodes.now) c.args.root c.args.len) c.in_ok-after.was c.check_root.ensures.names in
     inr (n.none, inr (n.all_items.0 (same-parent c.in_ok-after.after.items (Some 0) c.if-ne.ensures), inl (λ few. parent-same c.in_ok-after.after.nodes (Some 0) c.if-ne-2.ensures (n.all_nodes.1 few), refl)))
 
-pub returns-then-lt-clause-verdict : goal.returns-then-lt-clause-verdict
-returns-then-lt-clause-verdict g c =
+pub returns-then-limit-len-clause-verdict : goal.returns-then-limit-len-clause-verdict
+returns-then-limit-len-clause-verdict g c =
     let n = subst (NamesTree g.K.Ord.cmp (g.C.Nodes.content c.args.nodes.now) c.args.root c.args.len) c.in_ok-after.was c.check_root.ensures.names in
-    let over = c.if-lt.ensures in
     inr (
       n.none,
       inr (
@@ -52,7 +51,6 @@ returns-then-lt-clause-verdict g c =
 pub returns-clause-verdict : goal.returns-clause-verdict
 returns-clause-verdict g c =
     let n = subst (NamesTree g.K.Ord.cmp (g.C.Nodes.content c.args.nodes.now) c.args.root c.args.len) c.in_ok-after.was c.check_root.ensures.names in
-    let low = c.if-lt.ensures in
     inr (
       n.none,
       inr (
