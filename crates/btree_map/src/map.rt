@@ -49,7 +49,8 @@ impl<K: Ord, V, C: NodesMut<K, V>> BTreeMap<K, V, C> {
         }
     }
 
-    /// Returns a map without pairs, over an empty store; the store's `len` tells whether it is empty. It keeps its count of refusals.
+    /// Returns a map without pairs, over an empty store; the store's `len` tells whether it is empty. It keeps its count of refusals,
+    /// and allocates no memory.
     ///
     /// The contract requires that a node fits in memory, as that of `new`.
     pub fn in_store(nodes: C) -> Self

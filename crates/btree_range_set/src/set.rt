@@ -44,7 +44,8 @@ impl<C: NodesMut<u64, u64>> RangeSet<C> {
         }
     }
 
-    /// Returns a set without numbers, over an empty store; the store's `len` tells whether it is empty. It keeps its count of refusals.
+    /// Returns a set without numbers, over an empty store; the store's `len` tells whether it is empty. It keeps its count of refusals,
+    /// and allocates no memory.
     pub fn in_store(nodes: C) -> Self
         requires { map.len (C.content nodes) ≡ 0 }
         ensures empty { result.ranges ≡ [] }

@@ -63,7 +63,7 @@ impl<K, V, C: NodesMut<K, V>> RawBTree<K, V, C> {
         }
     }
 
-    /// Returns a tree with no root and the length 0, over a store as it is.
+    /// Returns a tree with no root and the length 0, over a store as it is. It allocates no memory.
     ///
     /// The contract requires that a node fits in memory, as that of `new`.
     pub fn in_store(nodes: C) -> Self

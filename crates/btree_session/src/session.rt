@@ -50,8 +50,8 @@ impl<C: NodesMut<u64, u64>> Session<C> {
         }
     }
 
-    /// Returns a session over an empty map in an empty store; the store's `len` tells whether it is empty. It holds no address, and keeps
-    /// the store's count of refusals.
+    /// Returns a session over an empty map in an empty store; the store's `len` tells whether it is empty. It holds no address, keeps
+    /// the store's count of refusals, and allocates no memory.
     pub fn in_store(nodes: C) -> Self
         requires { map.len (C.content nodes) ≡ 0 }
         ensures empty { pairs_of result.map ≡ [] }

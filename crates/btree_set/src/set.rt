@@ -48,7 +48,8 @@ impl<T: Ord, C: NodesMut<T, ()>> BTreeSet<T, C> {
         }
     }
 
-    /// Returns a set without elements, over an empty store; the store's `len` tells whether it is empty. It keeps its count of refusals.
+    /// Returns a set without elements, over an empty store; the store's `len` tells whether it is empty. It keeps its count of refusals,
+    /// and allocates no memory.
     ///
     /// The contract requires that a node fits in memory, as that of `new`.
     pub fn in_store(nodes: C) -> Self
