@@ -28,10 +28,9 @@ returns-in-Ok-clause-outcome g c =
 pub returns-in-Err-clause-outcome : goal.returns-in-Err-clause-outcome
 returns-in-Err-clause-outcome g c =
     let gap = subst (λ r. IsAddressOf g.K.Ord.cmp c.args.key c.args.tree.now r) c.in-Err.is c.requires.at in
-    let done = λ t r. updates-gap g.K.Ord.cmp g.met.K.Ord.total c.args.tree.now c.update_absent.new.tree c.requires.tree c.args.key (goal.F-post g c.args.action) t c.in-Err.gap gap r in
     record {
-      updated = ok-each c.update_absent.result (λ t r. (done t r).runs) c.update_absent.ensures.updated;
-      uncounted = if_ok-on c.update_absent.result (λ t r. (done t r).uncounted) c.update_absent.ensures.updated;
+      updated = ok-each c.update_absent.result (λ t r. (updates-gap g.K.Ord.cmp g.met.K.Ord.total c.args.tree.now c.update_absent.new.tree c.requires.tree c.args.key (goal.F-post g c.args.action) t c.in-Err.gap gap r).runs) c.update_absent.ensures.updated;
+      uncounted = if_ok-on c.update_absent.result (λ t r. (updates-gap g.K.Ord.cmp g.met.K.Ord.total c.args.tree.now c.update_absent.new.tree c.requires.tree c.args.key (goal.F-post g c.args.action) t c.in-Err.gap gap r).uncounted) c.update_absent.ensures.updated;
       granted = on_ok-each c.update_absent.result (granted-gap g.K.Ord.cmp c.args.key c.args.tree.now g.C.Nodes.CanHold c.in-Err.gap gap) c.update_absent.ensures.granted;
       returned = c.update_absent.ensures.returned;
       absent = on_err c.update_absent.result (found-from_Err g.K.Ord.cmp c.args.key (pairs_of c.args.tree.now) _ gap.is);
