@@ -1,5 +1,5 @@
 -- An update by key: at the address of a key that is there, and at the gap of one that is not.
-use Rattle.std.proofs.Common.{◌≡◌, ◌≢◌, ◌<◌, ◌∙◌, ◌^◌, ◌-◌, ℕ, inl, inr, List, [], ◌∷◌, Option, Some, None, Result, Ok, Err, IfOk, OnOk, IfSome, IsSome, refl, sym, ap, subst, is_some, if◌then◌else◌, option_map}
+use Rattle.std.proofs.Common.{◌≡◌, ◌≢◌, ◌<◌, ◌∙◌, ◌^◌, ◌-◌, ℕ, inl, inr, List, [], ◌∷◌, Option, Some, None, Result, Ok, Err, IfOk, OnErr, OnOk, IfSome, IsSome, refl, sym, ap, subst, is_some, if◌then◌else◌, option_map}
 use Rattle.std.specs.Cmp.{IsTotalOrder}
 use Rattle.std.specs.FinMap as finite
 use Rattle.std.specs.List.{insert, remove}
@@ -130,6 +130,14 @@ module _ {K V : Type 0} (cmp : K → K → Ordering) (laws : IsTotalOrder cmp) (
 pub ok-each : {A B : Type 0} {P Q : A → Type 0} (r : Result A B) → ((x : A) → P x → Q x) → IfOk r P → IfOk r Q
 ok-each (Ok x) each p = each x p
 ok-each (Err e) each p = tt
+
+pub if_ok-on : {A B : Type 0} {P : A → Type 0} {Q : Type 0} (r : Result A B) → ((x : A) → P x → Q) → IfOk r P → OnOk r Q
+if_ok-on (Ok x) each p = each x p
+if_ok-on (Err e) each p = tt
+
+pub on_err : {A B : Type 0} {P : Type 0} (r : Result A B) → P → OnErr r P
+on_err (Ok x) p = tt
+on_err (Err e) p = p
 
 pub on_ok-each : {A B : Type 0} {P Q : Type 0} (r : Result A B) → (P → Q) → OnOk r P → OnOk r Q
 on_ok-each (Ok x) each p = each p

@@ -1,15 +1,15 @@
 //! Updates by key, by an action.
-ghost use Rattle.std.specs.Prelude.{◌≡◌, ◌≢◌, ◌<◌, IfErr, IfOk, None, OnErr, OnOk, Some};
-ghost use Rattle.btree_item.specs.Pairs.{found, found_value};
+ghost use Rattle.std.specs.Prelude.{◌≡◌, ◌≢◌, ◌<◌, IfErr, IfOk, None, OnOk, Some};
+ghost use Rattle.btree_item.specs.Pairs.{found_value};
 ghost use Rattle.btree_shape.specs.TreeState.{IsBTree, IsUsed, pairs_of};
 ghost use Rattle.btree_raw.specs.Insertion.{IsRefused};
 ghost use Rattle.btree_raw.specs.Limit.{IsWithinLimit};
 ghost use Rattle.btree_find.specs.Answers.{IsAddressOf};
 ghost use Rattle.btree_find.specs.Fits.{FitsIn};
 ghost use Rattle.btree_edit.specs.ByKey.{UpdateOutcome};
-ghost use Rattle.btree_edit.specs.Insert.{IsGapFor, IsGranted, IsGrantedIfAbsent, IsRefusedAtGap};
+ghost use Rattle.btree_edit.specs.Insert.{IsGapFor, IsGranted};
 ghost use Rattle.btree_edit.specs.Outcomes.{FindsSameBelow};
-ghost use Rattle.btree_edit.specs.Update.{RunsAtGap, RunsByKey};
+ghost use Rattle.btree_edit.specs.Update.{RunsAtGap};
 
 use crate::insertion::insert_claimed;
 use crate::updates_at::update_at;
@@ -142,15 +142,9 @@ where
     requires at { IsAddressOf K.cmp key tree.old at }
     requires callable { F.pre action (found_value K.cmp key (pairs_of tree.old)) }
     ensures tree { IsBTree K.cmp tree.new }
-    ensures updated { IfOk result (λ t. RunsByKey K.cmp tree.old tree.new (F.post action) key t) }
+    ensures outcome { UpdateOutcome K.cmp key tree.old tree.new
+        C.MayRefuse C.CanHold (F.post action) action result }
     ensures bounded { IsWithinLimit tree.old → IsWithinLimit tree.new }
-    ensures uncounted { OnOk result (tree.new.kept ≡ tree.old.kept) }
-    ensures granted { OnOk result (IsGrantedIfAbsent K.cmp key tree.old C.CanHold) }
-
-    ensures returned { IfErr result (λ r. (r.key ≡ key) × (r.action ≡ action)) }
-    ensures absent { OnErr result (found K.cmp key (pairs_of tree.old) ≡ None) }
-    ensures cause { IfErr result (λ r.
-        IsRefusedAtGap K.cmp key tree.old tree.new C.MayRefuse r.cause) }
 {
     match at {
         Ok(addr) => Ok(update_at(

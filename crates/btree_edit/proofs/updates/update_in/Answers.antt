@@ -10,15 +10,3 @@ pub returns-clause-under : goal.returns-clause-under
 returns-clause-under g c =
     found-under g.K.Ord.cmp g.met.K.Ord.total c.args.tree.now c.requires.tree c.args.key c.args.id c.requires.fits
     c.address_in-at.result c.address_in-at.ensures
-
-pub returns-clause-outcome : goal.returns-clause-outcome
-returns-clause-outcome g c =
-    let done = c.update_at_or_gap.ensures in
-    record {
-      updated = done.updated;
-      uncounted = done.uncounted;
-      granted = done.granted;
-      returned = done.returned;
-      absent = done.absent;
-      cause = done.cause;
-    }

@@ -1,11 +1,11 @@
-use Rattle.std.proofs.Common.{Ok, Err}
+use Rattle.std.proofs.Common.{Ok, Err, refl}
 use Rattle.btree_valid.proofs.ReadLaws.{no-fault-after, readable-after}
 use Rattle.btree_examples.proofs.copies.is_readable.Goals as goal
 
 pub returns-in-Ok-clause-faults : goal.returns-in-Ok-clause-faults
 returns-in-Ok-clause-faults g c =
     let v = no-fault-after g.K.Ord.cmp c.args.raw.now.nodes c.args.raw.now.root c.args.raw.now.len c.args.raw.now.kept.limit (Ok tt) c.in-Ok.ensures.verdict in
-    (λ is. v.0 tt, λ none. tt)
+    (λ is. v.0 tt, λ none. refl)
 
 pub returns-in-Ok-clause-read : goal.returns-in-Ok-clause-read
 returns-in-Ok-clause-read g c = λ is. readable-after g.K.Ord.cmp c.args.raw.now.nodes g.met.K.Ord.total c.args.raw.now.root c.args.raw.now.len c.args.raw.now.kept.limit (Ok tt) tt c.in-Ok.ensures.verdict
