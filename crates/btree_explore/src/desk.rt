@@ -118,7 +118,9 @@ where
 
     fn content(&self, reply: &mut Reply) -> Result<(), AllocError> {
         put_map(&self.a, reply)?;
+        reply.count(self.a.limit())?;
         put_map(&self.b, reply)?;
+        reply.count(self.b.limit())?;
         put_set(&self.p, reply)?;
         put_set(&self.q, reply)
     }

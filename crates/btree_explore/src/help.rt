@@ -12,7 +12,7 @@ const LINES: [&str; 33] = [
     "NODE: T is the root, T02 a path to a node, of:KEY that of an address, unused one that is not there",
     "WRITE: =VALUE or +NUMBER. ACTION: a WRITE, none, turn:VALUE or flip:VALUE. TEST: all, nothing, even, odd, KEY or KEY|KEY",
     "ENDS: f and b take from the front and the back, h is the hint, l the number left, e whether a range is empty, n the nodes that into_iter holds",
-    "a, b: len is_empty nodes height root list shape draw validate clear into_raw from_raw first_key_value last_key_value pop_first pop_last",
+    "a, b: len limit is_empty nodes height root list shape draw validate clear into_raw from_raw first_key_value last_key_value pop_first pop_last",
     "a, b: get contains_key get_key_value index remove remove_entry take KEY; insert replace KEY=VALUE; get_mut KEY WRITE; update KEY ACTION",
     "a, b: entry KEY; or_insert or_insert_with and_modify KEY=VALUE WRITE; or_insert_with_key or_default KEY WRITE",
     "a, b: occupied KEY STEPS: key get insert=VALUE get_mut=VALUE, the last into_mut=VALUE remove remove_entry; first_entry last_entry STEP",
@@ -31,10 +31,10 @@ const LINES: [&str; 33] = [
     "a, b: fill COUNT STEP; insert_each insert_gaps update_each put_back_each PAIRS; remove_each START STEP PAIRS: whether all was right",
     "a, b: neighbours; meets N: whether an iterator gives those of fill, N from the front; cut PLACE N: a cursor those of the other map",
     "a, b: moves COUNT STEP STEP: the keys below COUNT inserted and removed, whether no more nodes moved than there were calls",
-    "a, b: extend from_iter PAIRS; append clone extend_copied equals compare same_hash plain_hash same_nodes: with the other map",
-    "p, q: len is_empty nodes list clear first last pop_first pop_last; insert replace contains get remove take ELEMENT",
+    "a, b: extend from_iter PAIRS; append clone extend_copied equals compare same_hash plain_hash same_nodes: with the other map; limited N: an empty map with a limit",
+    "p, q: len limit is_empty nodes list clear first last pop_first pop_last; insert replace contains get remove take ELEMENT",
     "p, q: iter into_iter ENDS; into_loop; range LOW HIGH ENDS; drain finish TEST N; retain TEST",
-    "p, q: extend from_iter ELEMENTS; append clone extend_copied equals compare same_hash plain_hash: with the other set",
+    "p, q: extend from_iter ELEMENTS; append clone extend_copied equals compare same_hash plain_hash: with the other set; limited N: an empty set with a limit",
     "p, q: union intersection difference symmetric_difference is_disjoint is_subset is_superset: with the other set",
 ];
 

@@ -1,7 +1,7 @@
 //! Calls of two sets, and of a set and a list of elements.
 ghost use Rattle.std.specs.Iterator.{IsFinite};
 
-use btree_book::Reply;
+use btree_book::{Reply, number};
 use btree_map_calls::{numbers, put_left};
 use btree_slab::generic::BTreeSet;
 use btree_slab::store::{CloneNodes, NodesMut};
@@ -165,6 +165,24 @@ fn hash_of<C: NodesMut<u64, ()>>(set: &Set<C>) -> u64 {
     hasher.finish()
 }
 
+// Makes a set an empty one with a limit. Returns whether the word is a number.
+fn limited<C: NodesMut<u64, ()> + Drop>(
+    set: &mut Set<C>,
+    origin: C::Origin,
+    word: &str,
+    reply: &mut Reply,
+) -> Result<bool, AllocError>
+where
+    C::Origin: Copy,
+{
+    let Some(limit) = number(word) else {
+        return Ok(false);
+    };
+    *set = BTreeSet::with_limit(origin, limit as usize);
+    reply.word("ok")?;
+    Ok(true)
+}
+
 // Returns the hash of the elements in order, and of nothing else.
 fn plain_hash_of<C: NodesMut<u64, ()>>(set: &Set<C>) -> u64 {
     let mut hasher = DefaultHasher::new();
@@ -210,6 +228,9 @@ where
         return Ok(
             of_two(set, other, verb, reply)? || merge::<C, D>(set, other, origins.1, verb, reply)?,
         );
+    }
+    if verb == "limited" {
+        return limited(set, origins.0, rest, reply);
     }
     if verb != "extend" && verb != "from_iter" {
         return Ok(false);

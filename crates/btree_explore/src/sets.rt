@@ -76,6 +76,7 @@ fn whole<C: ClearNodes<u64, ()>>(
 ) -> Result<bool, AllocError> {
     match verb {
         "len" => reply.count(set.len())?,
+        "limit" => reply.count(set.limit())?,
         "is_empty" => reply.truth(set.is_empty())?,
         "nodes" => reply.count(set.node_count())?,
         "list" => put_set(set, reply)?,

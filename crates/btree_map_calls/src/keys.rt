@@ -166,6 +166,7 @@ fn whole<C: ClearNodes<u64, u64> + CloneNodes<u64, u64> + Drop>(
 ) -> Result<bool, AllocError> {
     match verb {
         "len" => reply.count(map.len())?,
+        "limit" => reply.count(map.limit())?,
         "is_empty" => reply.truth(map.is_empty())?,
         "nodes" => reply.count(map.node_count())?,
         "height" => reply.count(map.height())?,

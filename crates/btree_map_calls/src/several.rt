@@ -1,6 +1,6 @@
 //! Calls of two maps, and of a map and a list of pairs.
 use crate::lists::{pairs, put_left};
-use btree_book::{Reply, draw};
+use btree_book::{Reply, draw, number};
 use btree_slab::generic::BTreeMap;
 use btree_slab::generic::map::BTreeExt;
 use btree_slab::store::{CloneNodes, NodesMut};
@@ -56,6 +56,24 @@ where
         }
     }
     put_left(&mut source, reply)
+}
+
+// Makes a map an empty one with a limit. Returns whether the word is a number.
+fn limited<C: NodesMut<u64, u64> + Drop>(
+    map: &mut Map<C>,
+    origin: C::Origin,
+    word: &str,
+    reply: &mut Reply,
+) -> Result<bool, AllocError>
+where
+    C::Origin: Copy,
+{
+    let Some(limit) = number(word) else {
+        return Ok(false);
+    };
+    *map = BTreeMap::with_limit(origin, limit as usize);
+    reply.word("ok")?;
+    Ok(true)
 }
 
 // Adds what is left of a map.
@@ -193,6 +211,9 @@ where
 {
     if rest == "" {
         return of_two::<C, D>(alloc, origins.1, map, other, verb, reply);
+    }
+    if verb == "limited" {
+        return limited(map, origins.0, rest, reply);
     }
     if verb != "extend" && verb != "from_iter" {
         return Ok(false);
