@@ -25,6 +25,7 @@ fn fault_word(fault: Fault) -> &'static str {
         Fault::NotBalanced => "NotBalanced",
         Fault::WrongLength => "WrongLength",
         Fault::Unreachable => "Unreachable",
+        Fault::OverLimit => "OverLimit",
     }
 }
 
