@@ -2,7 +2,7 @@
 -- Read `inserted_all` first: `extend`, `from_iter` and `append` cite it. `Extends` says how far an iterator was stepped,
 -- and `Moves` the same of the list that `append` takes pairs from. `IsRefusedInTurn` is the refusal of one of the pairs.
 -- The words after it say these of whole trees, and of a refused insertion.
-use Rattle.std.specs.Prelude.{◌≡◌, ◌≢◌, ◌≤◌, ⊥, List, [], ◌∷◌, ◌++◌, length, Option, None, Some, option_map}
+use Rattle.std.specs.Prelude.{◌≡◌, ◌≢◌, ◌≤◌, List, [], ◌∷◌, ◌++◌, length, Option, None, Some, option_map}
 use Rattle.std.specs.Borrow.{Bor}
 use Rattle.std.specs.Iterator.{YieldsThen}
 use Rattle.std.specs.declared.cmp.Ordering.{Ordering}

@@ -38,13 +38,27 @@ fn asked(words: &[&str]) -> Option<Setup> {
     read_arguments(&Words { words })
 }
 
+fn with(table: bool, limit: usize) -> Option<Setup> {
+    Some(Setup { table, limit })
+}
+
 #[test]
-fn takes_one_argument(rt: HostRuntime) {
-    assert_eq!(rt; asked(&["btree_script"]), Some(Setup { table: false }));
+fn takes_a_table_and_a_limit(rt: HostRuntime) {
+    assert_eq!(rt; asked(&["btree_script"]), with(false, usize::MAX));
+    assert_eq!(rt; asked(&["btree_script", "table"]), with(true, usize::MAX));
+    assert_eq!(rt; asked(&["btree_script", "limit", "2"]), with(false, 2));
     assert_eq!(rt;
-        asked(&["btree_script", "table"]),
-        Some(Setup { table: true })
+        asked(&["btree_script", "table", "limit", "20"]),
+        with(true, 20)
     );
+    assert_eq!(rt;
+        asked(&["btree_script", "limit", "18446744073709551615"]),
+        with(false, 18446744073709551615)
+    );
+}
+
+#[test]
+fn takes_no_other_arguments(rt: HostRuntime) {
     for words in [
         ["btree_script", "tables"].as_slice(),
         &["btree_script", "tabl"],
@@ -54,21 +68,43 @@ fn takes_one_argument(rt: HostRuntime) {
         &["btree_script", "", "table"],
         &["btree_script", "table", "table"],
         &["btree_script", "-", "commands.txt"],
+        &["btree_script", "limit"],
+        &["btree_script", "limit", "two"],
+        &["btree_script", "limit", "2", ""],
+        &["btree_script", "limit", "2", "table"],
+        &["btree_script", "limit", "018446744073709551615"],
+        &["btree_script", "table", "limit"],
+        &["btree_script", "table", "limit", "2", "2"],
     ] {
         assert_eq!(rt; asked(words), None);
     }
 }
 
 #[test]
-fn only_table_is_a_setup(rt: HostRuntime) {
-    assert_eq!(rt; setup(&[]), Some(Setup { table: false }));
-    assert_eq!(rt; setup(&["table"]), Some(Setup { table: true }));
+fn only_a_table_and_a_limit_are_a_setup(rt: HostRuntime) {
+    assert_eq!(rt; setup(&[]), with(false, usize::MAX));
+    assert_eq!(rt; setup(&["table"]), with(true, usize::MAX));
+    assert_eq!(rt; setup(&["limit", "0"]), with(false, 0));
+    assert_eq!(rt;
+        setup(&["table", "limit", "18446744073709551615"]),
+        with(true, usize::MAX)
+    );
     for words in [
         ["tables"].as_slice(),
         &["tabl"],
         &[""],
         &["table", "table"],
         &["table", ""],
+        &["limit"],
+        &["limit", ""],
+        &["limit", "-1"],
+        &["limit", "18446744073709551616"],
+        &["limits", "2"],
+        &["limit", "2", "table"],
+        &["limit", "2", "limit", "2"],
+        &["table", "limit"],
+        &["table", "2"],
+        &["table", "limit", "2", "3"],
     ] {
         assert_eq!(rt; setup(words), None);
     }
@@ -79,7 +115,7 @@ fn says_which_arguments_there_are(rt: HostRuntime) -> Result<(), Fail> {
     let ending = Ending::WrongArguments;
     assert_eq!(rt;
         format!(in rt.alloc(); "{ending}")?.as_str(),
-        "usage: btree_script [table]"
+        "usage: btree_script [table] [limit n]"
     );
     assert_eq!(rt; ending.status(), 1);
     Ok(())
@@ -121,4 +157,50 @@ fn serves_a_table_if_asked(rt: HostRuntime) -> Result<(), Fail> {
         alloc,
     )?;
     check_run(&rt, &["btree_script"], 44, "12\n44\n", alloc)
+}
+
+// Compares the replies to these lines, in a run with these arguments.
+fn check_lines(rt: &impl Abort, words: &[&str], lines: &str, replies: &str, alloc: Global) {
+    let (mut input, mut output) = (lines.as_bytes(), Vec::new(alloc));
+    let end = run(&Words { words }, alloc, &mut input, &mut output);
+    assert_eq!(rt; end, Ok(()));
+    assert_eq!(rt; output.as_slice(), replies.as_bytes());
+}
+
+#[test]
+fn refuses_an_absent_key_at_the_limit(rt: HostRuntime) {
+    check_lines(
+        &rt,
+        &["btree_script", "limit", "2"],
+        "insert 1 10\ninsert 2 20\ninsert 3 30\ninsert 2 21\nseek 3\nput 3 30\nremove 1\ninsert 3 30\n",
+        "none\nnone\nrefused count\nsome 20\ngap\nrefused count\nsome 10\nnone\n",
+        rt.alloc(),
+    );
+    check_lines(
+        &rt,
+        &["btree_script", "limit", "0"],
+        "insert 1 10\nseek 1\nput 1 10\nlen\n",
+        "refused count\ngap\nrefused count\n0\n",
+        rt.alloc(),
+    );
+}
+
+// The limit is asked before the table, which has no node left for key 43.
+#[test]
+fn a_table_with_a_limit_refuses_by_the_first_that_is_met(rt: HostRuntime) -> Result<(), Fail> {
+    let alloc = rt.alloc();
+    check_run(
+        &rt,
+        &["btree_script", "table", "limit", "43"],
+        43,
+        "refused count\n9\n43\n",
+        alloc,
+    )?;
+    check_run(
+        &rt,
+        &["btree_script", "table", "limit", "44"],
+        43,
+        "refused store\n9\n43\n",
+        alloc,
+    )
 }

@@ -11,3 +11,4 @@ pub mod Lines
 pub mod Serving
 pub mod Printing
 pub mod Shapes
+pub mod ArgumentLemmas

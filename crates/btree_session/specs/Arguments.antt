@@ -1,5 +1,5 @@
 -- The arguments of the program.
-use Rattle.std.specs.Prelude.{◌≡◌, ◌-◌, ◌^◌, ⊥, ℕ, Bool, true, false, List, [], ◌∷◌, map, codes}
+use Rattle.std.specs.Prelude.{◌≡◌, ◌-◌, ◌^◌, ℕ, Bool, true, false, List, [], ◌∷◌, map, codes}
 use Rattle.std.specs.Borrow.{Bor}
 use Rattle.btree_session.specs.Line.{IsNumber}
 

@@ -11,14 +11,21 @@ pub fn setup(words: &[&str]) -> Option<Setup>
     ensures { SomeIfAny (λ asked. Asks asked.table asked.limit (texts words.now)) result }
 {
     match words {
-        [word, rest @ ..] if *word == "table" => Some(Setup {
-            table: true,
-            limit: limit_of(rest)?,
-        }),
-        _ => Some(Setup {
+        [] => Some(Setup {
             table: false,
-            limit: limit_of(words)?,
+            limit: usize::MAX,
         }),
+        [word, rest @ ..] => {
+            if *word == "table" {
+                let limit = limit_of(rest)?;
+                return Some(Setup { table: true, limit });
+            }
+            let limit = limit_of(words)?;
+            Some(Setup {
+                table: false,
+                limit,
+            })
+        }
     }
 }
 

@@ -2,7 +2,7 @@
 -- Read `inserted_all` first. `Extends` says how far an iterator was stepped, and `Moves` the same of the set that `append`
 -- takes elements from. `IsRefusedInTurn` is the refusal of one of the elements. The words after it say these of whole
 -- sets, and of a refused insertion.
-use Rattle.std.specs.Prelude.{◌≡◌, ◌≢◌, ◌≤◌, ⊥, List, [], ◌∷◌, ◌++◌, length, Option, None, Some}
+use Rattle.std.specs.Prelude.{◌≡◌, ◌≢◌, ◌≤◌, List, [], ◌∷◌, ◌++◌, length, Option, None, Some}
 use Rattle.std.specs.Borrow.{Bor}
 use Rattle.std.specs.Iterator.{YieldsThen}
 use Rattle.std.specs.Option.{option_copied}
