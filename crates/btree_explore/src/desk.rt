@@ -122,7 +122,9 @@ where
         put_map(&self.b, reply)?;
         reply.count(self.b.limit())?;
         put_set(&self.p, reply)?;
-        put_set(&self.q, reply)
+        reply.count(self.p.node_count())?;
+        put_set(&self.q, reply)?;
+        reply.count(self.q.node_count())
     }
 }
 
