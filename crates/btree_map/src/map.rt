@@ -128,8 +128,8 @@ impl<K: Ord, V, C: NodesMut<K, V>> BTreeMap<K, V, C> {
         tree.into_raw()
     }
 
-    /// Returns a raw tree as a map, if it is well formed and within its limit, and else as it was, with the fault that `validate` returns. It reads each node
-    /// of a well formed tree once, copies nothing and uses no memory but the stack.
+    /// Returns a raw tree as a map, if it is well formed and within its limit, and else as it was, with the fault that `validate` returns.
+    /// It reads each node of a well formed tree once, copies nothing and uses no memory but the stack.
     pub fn from_raw(raw: RawBTree<K, V, C>) -> Result<Self, (RawBTree<K, V, C>, Fault)>
         ensures exact { IsOk result ↔ IsBTreeWithinLimit raw K.cmp }
         ensures kept { IfOk result (λ map. map ≡ raw) }
@@ -157,7 +157,7 @@ impl<K: Ord + Drop, V: Drop, C: NodesMut<K, V>> BTreeMap<K, V, C> {
     ///
     /// For an absent key it uses one new node for each consecutive full node from the leaf upward, and one more if the last of them is
     /// the root; for the first pair it uses one. It returns an error, with the pair, if the store refuses one of these nodes, or if the
-    /// length has reached its limit: `usize::MAX`, unless a raw tree brought a lower one.
+    /// length has reached its limit.
     pub fn insert(&mut self, key: K, value: V) -> Result<Option<V>, Refused<K, V>>
         ensures old { IfOk result (λ old. old ≡ found_value K.cmp key (pairs_of self.old)) }
         ensures inserted { OnOk result (pairs_of self.new ≡ inserted K.cmp key value (pairs_of self.old)) }
