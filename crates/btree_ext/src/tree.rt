@@ -180,7 +180,7 @@ impl<K: Ord + Drop, V: Drop, C: NodesMut<K, V>> Tree<K, V, C> {
     ///
     /// For an absent key it uses one new node for each consecutive full node from the leaf upward, and one more if the last of them is
     /// the root; for the first pair it uses one. It returns an error, with the pair, if the store refuses one of these nodes, or if the
-    /// length has reached its limit: `usize::MAX`, unless a raw tree brought a lower one.
+    /// length has reached its limit.
     pub fn insert(&mut self, key: K, value: V) -> Result<Option<V>, Refused<K, V>>
         ensures { InsertOutcome K.cmp key self.old self.new C.MayRefuse value result }
     {

@@ -17,6 +17,7 @@ use Rattle.btree_nodes.specs.declared.Nodes as nodes
 use Rattle.btree_nodes.specs.declared.NodesMut as nodes_mut
 use Rattle.btree_shape.specs.TreeAddresses.{item_addresses_of}
 use Rattle.btree_shape.specs.TreeState.{TreeState, IsBTree, pairs_of}
+use Rattle.btree_raw.specs.Limit.{IsWithinLimit}
 use Rattle.btree_find.specs.Navigation.{HasPlace}
 use Rattle.btree_edit.specs.InsertAt.{InsertsAt, IsRefusedAt}
 use Rattle.btree_edit.specs.Remove.{IsRemoved}
@@ -106,12 +107,13 @@ module _ {K V C O : Type 0} {g : ord.Ghosts K} {g' : eq.Ghosts K} {g'' : partial
       pub inserts : InsertsAt old.map.now new.map.now gap g.cmp at x
 
     -- an insertion at the place of the cursor was refused: the cursor is where it was, and in the map, which is well
-    -- formed, nothing but the count of refusals has changed
+    -- formed and within its limit, nothing but the count of refusals has changed
     pub record RefusesEntry (cause : Cause) : Type 0 where
       pub same_map : new.map.ghost_name ≡ old.map.ghost_name
       pub passed : passed_of new ≡ passed_of old
       pub left : left_of new ≡ left_of old
       pub tree : IsBTree g.cmp new.map.now
+      pub within : IsWithinLimit new.map.now
       pub gap : Address
       pub has : HasPlace old.map.now gap (entry_front old)
       pub back : IsSome gap.offset

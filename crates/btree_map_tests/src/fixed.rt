@@ -9,7 +9,7 @@ use btree_nodes::{CloneNodes, NodesMut};
 use btree_stores::FixedSlab;
 use std::process::Abort;
 
-type Table<const N: usize> = FixedSlab<Node<u64, u64>, N>;
+pub(crate) type Table<const N: usize> = FixedSlab<Node<u64, u64>, N>;
 
 /// Inserts the keys from 0 on. Those below `taken` are taken, on so many nodes, and the next one comes back.
 pub(crate) fn check_table<C: NodesMut<u64, u64> + Drop>(

@@ -25,6 +25,8 @@ mod gates;
 #[cfg(test)]
 mod lending;
 #[cfg(test)]
+mod limit;
+#[cfg(test)]
 mod merges;
 #[cfg(test)]
 mod names;

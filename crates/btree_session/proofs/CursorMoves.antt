@@ -82,11 +82,13 @@ module _ {C O : Type 0} {g' : eq.Ghosts ℕ} {g'' : partial.Ghosts ℕ} {s : nod
       refused-state Store leaf r is = (tt, λ i. record { passed = r.passed i; left = r.left i; kept = (ap (λ t. t.kept) is.0) i })
       refused-state Count leaf r is =
           let all = r.tree.counted in
+          let within = r.within in
           let same = ap (λ t. t.len) is.0 in
+          let limit = ap (λ t. t.kept.limit) is.0 in
           let pairs = ap (λ t. length (pairs_of t)) is.0 in
           let long : length (passed_of old) + length (left_of old) ≡ length (pairs_of old.map.now) =
           omega (arith, length-take (entry_front old) (pairs_of old.map.now), length-drop (entry_front old) (pairs_of old.map.now)) in
-          (subst (λ n. old.map.now.kept.limit ≤ n) (sym same ∙ all ∙ pairs ∙ sym long) is.1, λ i. record { passed = r.passed i; left = r.left i; kept = (ap (λ t. t.kept) is.0) i })
+          (omega (arith, is.1), λ i. record { passed = r.passed i; left = r.left i; kept = (ap (λ t. t.kept) is.0) i })
 
       pub refuses-pair : (cause : Cause) → RefusesEntry old new cause → IsCursorStep s.MayRefuse (spot_of old) (Insert k v) (Refused cause) (spot_of new)
       refuses-pair cause r =

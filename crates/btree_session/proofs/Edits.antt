@@ -13,6 +13,7 @@ use Rattle.btree_shape.specs.TreeState.{TreeState, IsBTree, IsValidIn, pairs_of,
 use Rattle.btree_find.specs.Fits.{FitsAt}
 use Rattle.btree_find.specs.Navigation.{HasPlace, IsNormalized}
 use Rattle.btree_find.proofs.PlaceLemmas.{has-place, place-there}
+use Rattle.btree_raw.specs.Limit.{IsWithinLimit}
 use Rattle.btree_edit.specs.InsertAt.{InsertsAt, IsRefusedAt}
 use Rattle.btree_edit.specs.Remove.{IsRemoved, RemovesByKey}
 use Rattle.btree_session.specs.declared.command.Command.TheVariants.{Remove, Clear, Put, Take}
@@ -88,8 +89,8 @@ module _ (may_refuse : Content (Node ℕ ℕ) → Type 0) (old new : TreeState �
             (rw is (place, refl, inserts.has)) (place, refl, inserts.there)
             (place, refl, fits-there place inserts.has, rw (pairs, kept) refl) (a, b, is, refl, inserts) new_tree
 
-        pub put-refused : (cause : Cause) → IsRefusedAt old new a may_refuse cause → IsStep may_refuse (before_with held) (Put key value) (Refused cause) (after_with held)
-        put-refused cause refused =
+        pub put-refused : (cause : Cause) → IsWithinLimit old → IsRefusedAt old new a may_refuse cause → IsStep may_refuse (before_with held) (Put key value) (Refused cause) (after_with held)
+        put-refused cause within refused =
             let place = refused.leaf_for.place in
             let at : IsHeldPlace old held (Some place) = rw is (place, refl, refused.leaf_for.has) in
             a_step may_refuse (before_with held) (after_with held) (Put key value) (Refused cause) (Some place) (Some place) at
@@ -97,7 +98,7 @@ module _ (may_refuse : Content (Node ℕ ℕ) → Type 0) (old new : TreeState �
               place,
               refl,
               fits-there place refused.leaf_for.has,
-              refusable may_refuse refused.leaf.id old new held cause (Some place) tree refused.refused,
+              refusable may_refuse refused.leaf.id old new held cause (Some place) tree within refused.refused,
               state-refused may_refuse refused.leaf.id old new held cause (Some place) refused.refused,
             ) (a, is, refused, refl) new_tree
 

@@ -1,5 +1,5 @@
 -- Steps of a session, by the contracts of its map.
-use Rattle.std.proofs.Common.{◌≡◌, ◌≤◌, ℕ, List, Option, Some, None, refl, sym, ap, ◌∙◌, option_map, subst}
+use Rattle.std.proofs.Common.{◌≡◌, ℕ, List, Option, Some, None, refl, sym, ap, ◌∙◌, option_map, subst, arith}
 use Rattle.std.specs.Cmp.{nat_cmp_total}
 use Rattle.std.specs.Ordering.{nat_cmp}
 use Rattle.std.specs.List.{insert}
@@ -13,6 +13,7 @@ use Rattle.btree_shape.specs.TreeState.{Kept, TreeState, IsBTree, pairs_of, refu
 use Rattle.btree_find.specs.Navigation.{HasPlace}
 use Rattle.btree_find.proofs.PlaceLemmas.{has-place, place-there}
 use Rattle.btree_raw.specs.Insertion.{IsRefused}
+use Rattle.btree_raw.specs.Limit.{IsWithinLimit}
 use Rattle.btree_edit.specs.Insert.{IsRefusedAtGap, InsertsByKey}
 use Rattle.btree_session.specs.declared.command.Command.{Command}
 use Rattle.btree_session.specs.declared.command.Command.TheVariants.{Insert, Get}
@@ -54,10 +55,10 @@ module _ (may_refuse : Content (Node ℕ ℕ) → Type 0) (leaf : ℕ) (old new 
   state-refused Store place refused = ap (λ m. state_at (record { map = m; held = held }) place) refused.0
   state-refused Count place refused = ap (λ m. state_at (record { map = m; held = held }) place) refused.0
 
-  pub refusable : (cause : Cause) (place : Option ℕ) → IsBTree nat_cmp old → IsRefused may_refuse leaf old new cause
+  pub refusable : (cause : Cause) (place : Option ℕ) → IsBTree nat_cmp old → IsWithinLimit old → IsRefused may_refuse leaf old new cause
       → IsRefusable (state_at (record { map = old; held = held }) place) cause
-  refusable Store place tree refused = tt
-  refusable Count place tree refused = subst (λ n. old.kept.limit ≤ n) tree.counted refused.1
+  refusable Store place tree within refused = tt
+  refusable Count place tree within refused = omega (arith, tree.counted, within, refused.1)
 
 module _ (may_refuse : Content (Node ℕ ℕ) → Type 0) (old new : Held ℕ ℕ) where
   -- a step between states whose addresses have these places
@@ -95,7 +96,7 @@ module _ (may_refuse : Content (Node ℕ ℕ) → Type 0) (old new : Held ℕ �
           subst (λ o. IsStep may_refuse old (Insert key value) (value_reply o) new) (sym is) (inserted-by (found nat_cmp key (pairs_of old.map)) refl)
 
     -- an insertion is refused
-    module _ (key value : ℕ) (kept : new.held ≡ old.held) where
+    module _ (within : IsWithinLimit old.map) (key value : ℕ) (kept : new.held ≡ old.held) where
       pub insert-refused : (cause : Cause) → found nat_cmp key (pairs_of old.map) ≡ None → IsRefusedAtGap nat_cmp key old.map new.map may_refuse cause
           → IsStep may_refuse old (Insert key value) (Refused cause) new
       insert-refused cause absent refused =
@@ -103,7 +104,7 @@ module _ (may_refuse : Content (Node ℕ ℕ) → Type 0) (old new : Held ℕ �
           a_step (Insert key value) (Refused cause) p p (here old was_tree holds).1
           (rw kept (held_place-refused may_refuse refused.gap.id old.map new.map old.held cause p refused.refused (here old was_tree holds).1)) (
             absent,
-            refusable may_refuse refused.gap.id old.map new.map old.held cause p was_tree refused.refused,
+            refusable may_refuse refused.gap.id old.map new.map old.held cause p was_tree within refused.refused,
             state-refused may_refuse refused.gap.id old.map new.map old.held cause p refused.refused,
           ) (refused, kept) tree
 

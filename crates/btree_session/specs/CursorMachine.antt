@@ -42,7 +42,7 @@ after_refusal old Count = old
 -- a pair can be refused for a cause; the store may always refuse
 abbrev pub IsRefusable : CursorState → Cause → Type 0
 IsRefusable old Store = Unit {0}
-IsRefusable old Count = old.kept.limit ≤ length old.passed + length old.left
+IsRefusable old Count = length old.passed + length old.left ≡ old.kept.limit
 
 -- From `old`, the machine may give this reply to the step and go to `new`.
 abbrev pub CursorMove : CursorState → CursorStep → Reply → CursorState → Type 0

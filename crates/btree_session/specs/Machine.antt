@@ -49,10 +49,10 @@ abbrev pub after_refusal : SessionState → Cause → SessionState
 after_refusal old Store = record old { kept = refused_once old.kept }
 after_refusal old Count = old
 
--- a new pair can be refused for a cause; the store may always refuse
+-- a new pair can be refused for a cause: by the count at the greatest number of pairs alone; the store may always refuse
 abbrev pub IsRefusable : SessionState → Cause → Type 0
 IsRefusable old Store = Unit {0}
-IsRefusable old Count = old.kept.limit ≤ length old.pairs
+IsRefusable old Count = length old.pairs ≡ old.kept.limit
 
 -- the reply with a value, if there is one
 abbrev pub value_reply : Option ℕ → Reply

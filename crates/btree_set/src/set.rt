@@ -151,7 +151,7 @@ impl<T: Ord + Drop, C: NodesMut<T, ()>> BTreeSet<T, C> {
     /// Inserts an element. Returns whether it was not there yet: if an element is equal to it, that one stays, and the given one is dropped.
     ///
     /// A new element uses as many new nodes as `BTreeMap::insert` does. It returns an error, with the element, if the store refuses one of
-    /// them, or if the number of elements has reached its limit, `usize::MAX`.
+    /// them, or if the number of elements has reached its limit.
     pub fn insert(&mut self, element: T) -> Result<bool, Refused<T, ()>>
         ensures new { IfOk result (λ new. IsTrue new ↔ (stored T.cmp element self.old.elements ≡ None)) }
         ensures inserted { OnOk result (self.new.elements ≡ inserted T.cmp element self.old.elements) }

@@ -12,5 +12,5 @@ returns-in-Ok g c =
 pub returns-in-Err : goal.returns-in-Err
 returns-in-Err g c =
     rw (← c.self.view_is)
-    (insert-refused g.C.NodesMut.MayRefuse _ _ c.tell_well_formed.ensures.well_formed c.self.invariant c.tell_well_formed-2.ensures.well_formed c.args.key c.args.value
+    (insert-refused g.C.NodesMut.MayRefuse _ _ c.tell_well_formed.ensures.well_formed c.self.invariant c.tell_well_formed-2.ensures.well_formed c.tell_well_formed.ensures.within c.args.key c.args.value
     refl c.in-Err.refused.cause c.in-Err.ensures.absent c.in-Err.ensures.cause)

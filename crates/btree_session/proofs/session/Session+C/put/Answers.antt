@@ -26,4 +26,4 @@ pub returns-in-Err : goal.returns-in-Err
 returns-in-Err g c =
     rw (← c.self.view_is)
     (put-refused g.C.NodesMut.MayRefuse c.self.inside.map c.insert_at-outcome.new.self c.tell_well_formed.ensures.well_formed c.self.inside.held c.in-Some.held c.in-Some.is c.args.key c.args.value
-    ((rw c.new.ensures at c.if-not-fits_at.ensures.0) refl) c.tell_well_formed-2.ensures.well_formed c.in-Err.returned.cause c.in-Err.ensures.refused)
+    ((rw c.new.ensures at c.if-not-fits_at.ensures.0) refl) c.tell_well_formed-2.ensures.well_formed c.in-Err.returned.cause c.tell_well_formed.ensures.within c.in-Err.ensures.refused)
