@@ -30,9 +30,6 @@ pub record IsClearing (old s : TreeState ℕ ℕ) (at : Option Address) (start e
   pub few : length (pairs_of s) ≤ length (pairs_of old)
   pub uncounted : s.kept ≡ old.kept
 
-pub clearing-start : (s : TreeState ℕ ℕ) (at : Option Address) (start end : ℕ) → CanClear s at start → IsClearing s s at start end
-clearing-start s at start end can = record { can = can; same = λ n out. refl; few = omega arith; uncounted = refl }
-
 -- nothing is left to be taken out
 clearing-done : (old s : TreeState ℕ ℕ) (at : Option Address) (start end : ℕ) (l : IsClearing old s at start end) → StartsFrom (pairs_of s) l.can.place end
     → Clears old s start end

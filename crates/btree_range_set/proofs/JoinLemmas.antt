@@ -1,5 +1,5 @@
 -- An insertion that joins ranges, step by step, and one that joins none.
-use Rattle.std.proofs.Common.{◌≡◌, ◌≤◌, ◌<◌, ◌∙◌, ℕ, suc, max, ◌||◌, List, length, set, slice_get, Some, refl, sym, ap, subst, arith}
+use Rattle.std.proofs.Common.{◌≡◌, ◌≤◌, ◌<◌, ◌∙◌, ℕ, suc, max, ◌||◌, List, length, set, slice_get, Some, sym, ap, subst, arith}
 use Rattle.std.proofs.lemmas.List.{length-set}
 use Rattle.std.proofs.lemmas.List.Edits.{length-remove}
 use Rattle.std.proofs.lemmas.Option.{same_Some, slice_get_within}
@@ -28,9 +28,6 @@ pub record IsJoining (old s : TreeState ℕ ℕ) (a : Address) (start end : ℕ)
   pub same : (n : ℕ) → (has_number (pairs_of s) n || is_within (start, end) n) ≡ (has_number (pairs_of old) n || is_within (start, end) n)
   pub few : length (pairs_of s) ≤ length (pairs_of old)
   pub uncounted : s.kept ≡ old.kept
-
-pub joining-start : (s : TreeState ℕ ℕ) (a : Address) (start end : ℕ) → CanJoin s a start end → IsJoining s s a start end
-joining-start s a start end can = record { can = can; same = λ n. refl; few = omega arith; uncounted = refl }
 
 -- the list is shorter after a range was removed
 pub taken-shorter : (s new : TreeState ℕ ℕ) (place : ℕ) (x : ℕ × ℕ) → slice_get (pairs_of s) place ≡ Some x → pairs_of new ≡ remove (pairs_of s) place

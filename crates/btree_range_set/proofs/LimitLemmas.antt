@@ -4,14 +4,10 @@ use Rattle.std.specs.List.{insert}
 use Rattle.std.specs.Ordering.{nat_cmp}
 use Rattle.std.proofs.lemmas.List.Edits.{length-insert}
 use Rattle.btree_item.specs.declared.address.Address.{Address}
-use Rattle.btree_item.specs.declared.refused.Cause.{Cause}
-use Rattle.btree_item.specs.declared.refused.Cause.TheVariants.{Store, Count}
 use Rattle.btree_shape.specs.TreeState.{TreeState, pairs_of}
 use Rattle.btree_find.specs.Navigation.{HasPlace}
-use Rattle.btree_edit.specs.Insert.{LeavesPairs}
 use Rattle.btree_edit.specs.InsertAt.{InsertsAt}
 use Rattle.btree_range_set.specs.State.{GrowsWithinLimit, ranges_of}
-use Rattle.btree_range_set.specs.Steps.{IsRefusedIn}
 
 -- a step that adds no range
 pub grows-not : (old new : TreeState ℕ ℕ) → length (pairs_of new) ≤ length (pairs_of old) → GrowsWithinLimit (ranges_of old) (ranges_of new)
@@ -26,8 +22,3 @@ put-limit s new gap b place x has within puts =
     let counted = puts.inserted.tree.counted in
     let below = puts.inserted.below_limit in
     omega (arith, longer, counted, puts.inserted.longer, below)
-
--- what a refused insertion into the map leaves of the ranges
-pub refused-in : (old new : TreeState ℕ ℕ) (cause : Cause) → LeavesPairs old new cause → IsRefusedIn old new cause
-refused-in old new Store leaves = record { ranges = leaves.pairs; counts = leaves.counts }
-refused-in old new Count leaves = record { ranges = leaves.pairs; counts = leaves.counts }

@@ -100,13 +100,6 @@ put-union xs p s e within n = has-put xs p (s, e) within n ∙ or-comm (is_withi
   or-comm false true = refl
   or-comm false false = refl
 
--- ---- no numbers
-not-within-empty : (s e n : ℕ) → e ≤ s → is_within (s, e) n ≡ false
-not-within-empty s e n le = by (cases_Bool (is_within (s, e) n)) where
-  by : (is_within (s, e) n ≡ true) ⊎ (is_within (s, e) n ≡ false) → is_within (s, e) n ≡ false
-  by (inr is) = is
-  by (inl is) = let l = within-low (s, e) n is in let h = within-high (s, e) n is in absurd (omega (arith, l, h))
-
 or-right : (x y : Bool) → y ≡ false → x ≡ (x || y)
 or-right true y is = refl
 or-right false y is = sym is
@@ -118,12 +111,6 @@ and-right false y is = refl
 and-false : (x y : Bool) → y ≡ true → (x && not y) ≡ false
 and-false true y is = rw is refl
 and-false false y is = refl
-
-pub empty-union : (xs : List (ℕ × ℕ)) (s e : ℕ) → e ≤ s → IsUnion xs s e xs
-empty-union xs s e le n = or-right (has_number xs n) (is_within (s, e) n) (not-within-empty s e n le)
-
-pub empty-difference : (xs : List (ℕ × ℕ)) (s e : ℕ) → e ≤ s → IsDifference xs s e xs
-empty-difference xs s e le n = and-right (has_number xs n) (is_within (s, e) n) (not-within-empty s e n le)
 
 -- ---- a removal
 -- outside the numbers that are taken out, the set is the old one
