@@ -1,5 +1,6 @@
-//! Calls by key search once: at most six comparisons at each level, by keys that count them.
-use crate::asserts::{assert_same_in, assert_true_in};
+//! Calls by key search once: at most six comparisons at each level, by keys that count them. An extension by ascending pairs compares each
+//! with the last one alone.
+use crate::asserts::{assert_same, assert_same_in, assert_true_in};
 use btree_ext::BTreeExt;
 use btree_map::{BTreeMap, Entry};
 use btree_node::Node;
@@ -10,6 +11,8 @@ use std::cell::Cell;
 use std::process::Abort;
 
 type Store<'a> = SlabStore<Node<Counted<'a>, u32>>;
+
+type Map<'a, C> = BTreeMap<Counted<'a>, u32, C>;
 
 // Asks for a key in three ways, each of which compares at most `most` keys.
 fn ask<'a, C: NodesMut<Counted<'a>, u32>>(
@@ -64,4 +67,74 @@ fn asks_in<'a, C: NodesMut<Counted<'a>, u32> + Drop>(
 fn a_key_is_sought_once(rt: HostRuntime) {
     let compared = Cell::new(0u32);
     asks_in::<Store<'_>>(&rt, &compared, rt.alloc());
+}
+
+// A map of the numbers from one up to another.
+fn numbers<'a, C: NodesMut<Counted<'a>, u32> + Drop>(
+    rt: &impl Abort,
+    compared: &'a Cell<u32>,
+    origin: C::Origin,
+    (start, end): (u32, u32),
+) -> Map<'a, C> {
+    let mut map: Map<'a, C> = BTreeMap::new(origin);
+    for number in start..end {
+        let replaced = map.insert(Counted { number, compared }, number).ok();
+        assert_same_in(rt, number, replaced, Some(None));
+    }
+    map
+}
+
+// Extends a map by the pairs of another one. Returns how many comparisons it made, or `None` if a pair was refused.
+fn extends<'a, C: NodesMut<Counted<'a>, u32> + Drop>(
+    compared: &'a Cell<u32>,
+    map: &mut Map<'a, C>,
+    from: Map<'a, C>,
+) -> Option<u32> {
+    compared.set(0);
+    let mut source = from.into_iter();
+    let is_refused = map.extend(&mut source).is_err();
+    drop(source);
+    if is_refused {
+        return None;
+    }
+    Some(compared.get())
+}
+
+// Returns how many comparisons an insertion makes.
+fn inserts<'a, C: NodesMut<Counted<'a>, u32>>(
+    compared: &'a Cell<u32>,
+    map: &mut Map<'a, C>,
+    number: u32,
+) -> u32 {
+    compared.set(0);
+    drop(map.insert(Counted { number, compared }, number));
+    compared.get()
+}
+
+// 44 pairs into an empty map make 43 comparisons, the next 44 one each. Of two that are not above the last one, the first makes one more than
+// an insertion, and the other as many as an insertion.
+fn extends_in<'a, C: NodesMut<Counted<'a>, u32> + Drop>(
+    rt: &impl Abort,
+    compared: &'a Cell<u32>,
+    origin: C::Origin,
+)
+where
+    C::Origin: Copy,
+{
+    let low: Map<'a, C> = numbers(rt, compared, origin, (0, 44));
+    let high: Map<'a, C> = numbers(rt, compared, origin, (44, 88));
+    let two: Map<'a, C> = numbers(rt, compared, origin, (30, 32));
+    let mut map: Map<'a, C> = BTreeMap::new(origin);
+    assert_same(rt, extends(compared, &mut map, low), Some(43));
+    assert_same(rt, extends(compared, &mut map, high), Some(44));
+    let first = inserts(compared, &mut map, 30);
+    let second = inserts(compared, &mut map, 31);
+    let sum = first.wrapping_add(second).wrapping_add(1);
+    assert_same(rt, extends(compared, &mut map, two), Some(sum));
+}
+
+#[test]
+fn ascending_keys_are_compared_once(rt: HostRuntime) {
+    let compared = Cell::new(0u32);
+    extends_in::<Store<'_>>(&rt, &compared, rt.alloc());
 }
