@@ -4,9 +4,9 @@ use Rattle.btree_ext.proofs.LimitLemmas.{written-within}
 use Rattle.btree_ext.proofs.tree.TreeBTreeExtMut.get_mut_in.Goals as goal
 
 pub invariant_of-self-lent : goal.invariant_of-self-lent
-invariant_of-self-lent g c = λ w.
+invariant_of-self-lent g c = λ _.
     let old = c.self.inside.raw in
-    ((c.get_mut_in.ensures.tree w, written-within old (address_at_key g.K.Ord.cmp c.args.key.now old) w c.self.invariant.1), c.self.invariant)
+    (λ w. (c.get_mut_in.ensures.tree w, written-within old (address_at_key g.K.Ord.cmp c.args.key.now old) w c.self.invariant.1), c.self.invariant)
 
 pub returns : goal.returns
 returns g c =

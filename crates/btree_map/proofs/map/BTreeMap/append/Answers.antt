@@ -9,7 +9,7 @@ pub returns-then-len-limit-clause-appended : goal.returns-then-len-limit-clause-
 returns-then-len-limit-clause-appended g c =
     let empty : pairs_of c.args.self.now ≡ [] = search rules in
     let all = all-into-none g.K.Ord.cmp (pairs_of c.args.other.now) c.tell_well_formed.ensures.well_formed.ascends in
-    ap pairs_of c.swap.ensures.swapped ∙ sym all ∙ sym (ap (λ l. inserted_all g.K.Ord.cmp l (pairs_of c.args.other.now)) empty)
+    ap pairs_of c.swap.ensures.swapped ∙ ap pairs_of c.other.view_is ∙ sym all ∙ sym (ap (λ l. inserted_all g.K.Ord.cmp l (pairs_of c.args.other.now)) empty)
 
 pub loop-key-preserved : goal.loop-key-preserved
 loop-key-preserved g c =
