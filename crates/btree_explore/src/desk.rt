@@ -120,7 +120,9 @@ where
         put_map(&self.a, reply)?;
         put_map(&self.b, reply)?;
         put_set(&self.p, reply)?;
-        put_set(&self.q, reply)
+        reply.count(self.p.node_count())?;
+        put_set(&self.q, reply)?;
+        reply.count(self.q.node_count())
     }
 }
 
