@@ -70,7 +70,7 @@ pub mod store {
 pub mod table {
     pub use btree_table::{
         FixedMap, FixedSet, insert, insert_at, insert_at_with_room, insert_element,
-        insert_exactly_at, insert_first, insert_present, insert_vacant, insert_with_room,
+        insert_exactly_at, insert_from, insert_present, insert_vacant, insert_with_room,
         or_insert, replace, replace_element, replace_present, update, update_in, update_present,
         update_with_room,
     };

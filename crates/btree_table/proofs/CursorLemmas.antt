@@ -1,5 +1,6 @@
 -- An editing cursor after an insertion: it has the same map, whose list is what was passed and what is left.
 use Rattle.std.proofs.Common.{◌≡◌, ◌∙◌, List, [], ◌∷◌, ◌++◌, IfErr, OnErr, OnOk, Result, Ok, Err, sym}
+use Rattle.std.proofs.lemmas.List.{append_assoc}
 use Rattle.std.specs.declared.cmp.Ord as ord
 use Rattle.std.specs.declared.cmp.PartialEq as eq
 use Rattle.std.specs.declared.cmp.PartialOrd as partial
@@ -21,11 +22,11 @@ module _ {K V C O : Type 0} {g : ord.Ghosts K} {g' : eq.Ghosts K} {g'' : partial
   list-of : pairs_of new.map.now ≡ passed_of new ++ left_of new
   list-of = sym (whole (entry_front new) (pairs_of new.map.now))
 
-  -- a pair put before all others
-  pub first-inserted : (x : K × V) → passed_of old ≡ [] → InsertsEntry old new x → pairs_of new.map.now ≡ x ∷ left_of old
-  first-inserted x none i = list-of ∙ (λ j. i.passed j ++ i.left j) ∙ (λ j. (none j ++ x ∷ []) ++ left_of old)
+  -- a pair put between what was passed and what is left
+  pub cursor-inserted : (x : K × V) → InsertsEntry old new x → pairs_of new.map.now ≡ passed_of old ++ (x ∷ left_of old)
+  cursor-inserted x i = list-of ∙ (λ j. i.passed j ++ i.left j) ∙ append_assoc (passed_of old) (x ∷ []) (left_of old)
 
   pub none-inserted : {X E : Type 0} (cause_of : E → Cause) (result : Result X E) → IfErr result (λ e. RefusesEntry old new (cause_of e))
-      → OnErr result (pairs_of new.map.now ≡ passed_of old ++ left_of old)
+      → OnErr result (pairs_of new.map.now ≡ pairs_of old.map.now)
   none-inserted cause_of (Ok y) refused = tt
-  none-inserted cause_of (Err e) refused = list-of ∙ (λ j. refused.passed j ++ refused.left j)
+  none-inserted cause_of (Err e) refused = list-of ∙ (λ j. refused.passed j ++ refused.left j) ∙ whole (entry_front old) (pairs_of old.map.now)

@@ -8,6 +8,7 @@ use Rattle.std.specs.declared.cmp.Ord as ord
 use Rattle.std.specs.declared.cmp.Ordering.{Ordering}
 use Rattle.std.specs.declared.cmp.PartialEq as eq
 use Rattle.std.specs.declared.cmp.PartialOrd as partial
+use Rattle.std.proofs.lemmas.List.{length-take-le}
 use Rattle.std.proofs.lemmas.Option.{slice_get_within}
 use Rattle.std.proofs.lemmas.Map.Keys.{sorted_head, sorted_tail}
 use Rattle.btree_store.specs.Content.{Content}
@@ -83,27 +84,33 @@ module _ {K V : Type 0} (cmp : K → K → Ordering) (laws : IsTotalOrder cmp) (
       omega arith
 
 module _ {K V C O : Type 0} {g : ord.Ghosts K} {g' : eq.Ghosts K} {g'' : partial.Ghosts K} {s : nodes_mut.Ghosts C K V O} {s' : nodes.Ghosts C K V}
+    (old : EntriesMut K V C O g g' g'' s s') (laws : IsTotalOrder g.cmp) (tree : IsBTree g.cmp old.map.now) where
+  front-within : entry_front old ≤ length (pairs_of old.map.now)
+  front-within =
+      let low = index-within (item_addresses_of old.map.now) old.first in
+      let counted = (addresses-tree g.cmp laws old.map.now tree).items.counted in
+      omega arith
+
+  -- the place of a cursor is how many pairs it has passed
+  pub front-passed : entry_front old ≡ length (passed_of old)
+  front-passed = sym (length-take-le (entry_front old) (pairs_of old.map.now) front-within)
+
+module _ {K V C O : Type 0} {g : ord.Ghosts K} {g' : eq.Ghosts K} {g'' : partial.Ghosts K} {s : nodes_mut.Ghosts C K V O} {s' : nodes.Ghosts C K V}
     (old new : EntriesMut K V C O g g' g'' s s') (capacity : ℕ) {E : Type 0} (cause_of : E → Cause)
     (laws : IsTotalOrder g.cmp) (tree : IsBTree g.cmp old.map.now) (table : s.MayRefuse ≡ HoldsAll capacity) where
   -- an insertion by the cursor was done at its place
   module _ (x : K × V) (i : InsertsEntry old new x) where
-    front-within : entry_front old ≤ length (pairs_of old.map.now)
-    front-within =
-        let low = index-within (item_addresses_of old.map.now) old.first in
-        let counted = (addresses-tree g.cmp laws old.map.now tree).items.counted in
-        omega arith
-
     cut-there : insert (pairs_of old.map.now) i.inserts.place x ≡ insert (pairs_of old.map.now) (entry_front old) x
     cut-there =
         sym i.inserts.pairs
         ∙ sym (whole (entry_front new) (pairs_of new.map.now))
         ∙ (λ j. i.passed j ++ i.left j)
-        ∙ between-parts (entry_front old) (pairs_of old.map.now) x front-within
+        ∙ between-parts (entry_front old) (pairs_of old.map.now) x (front-within old laws tree)
 
     at-front : i.inserts.place ≡ entry_front old
     at-front =
         one-place g.cmp laws (pairs_of old.map.now) x i.inserts.place (entry_front old)
-        (place-within g.cmp laws old.map.now new.map.now tree i.gap i.at x i.inserts) front-within
+        (place-within g.cmp laws old.map.now new.map.now tree i.gap i.at x i.inserts) (front-within old laws tree)
         (subst (Ascends g.cmp) i.inserts.pairs i.inserts.inserted.tree.ascends) cut-there
 
   -- the refusal of an insertion by the cursor, by the cause in the error

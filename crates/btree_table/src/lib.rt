@@ -21,7 +21,7 @@ use btree_set::BTreeSet;
 use btree_stores::FixedSlab;
 pub use entries::{insert_vacant, or_insert};
 pub use keys::{insert, replace, update, update_in};
-pub use places::{insert_at, insert_exactly_at, insert_first};
+pub use places::{insert_at, insert_exactly_at, insert_from};
 pub use present::{insert_present, replace_present, update_present};
 pub use room::{insert_at_with_room, insert_with_room, update_with_room};
 pub use sets::{insert_element, replace_element};

@@ -1,14 +1,17 @@
 //! Insertions at an address, and by a cursor.
-ghost use Rattle.std.specs.Prelude.{◌≡◌, [], ◌∷◌, IfErr, IfOk, IsSome, OnErr, OnOk};
+ghost use Rattle.std.specs.Prelude.{◌≡◌, ◌∷◌, ◌++◌, IfErr, IfOk, IsSome, OnErr, OnOk, length};
 ghost use Rattle.btree_shape.specs.TreeState.{IsLeafAddressIn, IsValidIn, pairs_of};
 ghost use Rattle.btree_find.specs.Fits.{FitsAt};
 ghost use Rattle.btree_edit.specs.InsertAt.{InsertsAt, IsRefusedAt};
+ghost use Rattle.btree_walk.specs.Bounds.{bound_key, pairs_from};
 ghost use Rattle.btree_map.specs.Editing.{FitsBetween};
+ghost use Rattle.btree_map.specs.Spans.{pairs_before};
 ghost use Rattle.btree_table.specs.Capacity.{HoldsAll, HoldsAtMost, RefusesExactlyAt, RefusesExactlyAtPlace, TakesFew};
 
 use crate::{FixedMap, tell_held};
 use btree_ext::{BTreeExt, BTreeExtMut};
 use btree_item::{Address, Item, Refused};
+use std::ops::Bound;
 
 /// Inserts a pair at the place of an address, as `BTreeExtMut::insert_at` does, and returns the address of the pair.
 ///
@@ -62,26 +65,30 @@ pub fn insert_exactly_at<K: Ord + Drop, V: Drop, const N: usize>(
     result
 }
 
-/// Inserts a pair before all others, by `EntriesMut::insert` of a cursor that has passed none. The law of that call, `cursor-exact`, is of
-/// a cursor at any place.
+/// Inserts a pair at any place, by `EntriesMut::insert` of a cursor that starts at a bound, as `entries_mut_from` gives it.
 ///
-/// The key must be less than the first one; `EntriesMut::fits` decides that.
-pub fn insert_first<K: Ord + Drop, V: Drop, const N: usize>(
+/// The key must lie between the pairs that the bound leaves out and the others; `EntriesMut::fits` decides that.
+pub fn insert_from<K: Ord + Drop, V: Drop, const N: usize>(
     map: &mut FixedMap<K, V, N>,
+    start: Bound<&K>,
     key: K,
     value: V,
 ) -> Result<(), Refused<K, V>>
-    requires { FitsBetween K.cmp key [] (pairs_of map.old) }
-    ensures exact { RefusesExactlyAtPlace map.old 0 N result }
+    requires { FitsBetween K.cmp key
+        (pairs_before K.cmp (bound_key start) map.old) (pairs_from K.cmp (bound_key start) map.old) }
+    ensures exact { RefusesExactlyAtPlace map.old
+        (length (pairs_before K.cmp (bound_key start.entry) map.old)) N result }
     ensures few { TakesFew map.old N result }
     ensures held { HoldsAtMost N map.new.nodes }
 
-    ensures inserted { OnOk result (pairs_of map.new ≡ (key, value) ∷ pairs_of map.old) }
+    ensures inserted { OnOk result (pairs_of map.new ≡
+        pairs_before K.cmp (bound_key start.entry) map.old
+            ++ (key, value) ∷ pairs_from K.cmp (bound_key start.entry) map.old) }
     ensures returned { IfErr result (λ r. (r.key ≡ key) × (r.value ≡ value)) }
     ensures kept { OnErr result (pairs_of map.new ≡ pairs_of map.old) }
 {
     map.tell_well_formed();
-    let mut entries = map.entries_mut();
+    let mut entries = map.entries_mut_from(start);
     let result = entries.insert(key, value);
     tell_held(map);
     result
