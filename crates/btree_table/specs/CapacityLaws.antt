@@ -1,10 +1,8 @@
 -- The laws of the exact refusal, for callers of the map itself. The premises are clauses of a call, and a bound on the
 -- nodes that are held afterwards, which is the clause `can_hold` of `node_count`.
 -- By key: `insert-exact`, `replace-exact`, `update-exact`. At an address: `insert_at-exact`; by a cursor: `cursor-exact`.
--- `taken`, `taken-at`: an insertion that leaves few pairs is taken, whatever it is. A key has one gap (`one-gap`), and an
--- address one leaf address (`one-leaf`).
-use Rattle.std.proofs.Common.{◌≡◌, ◌<◌, ◌≤◌, ◌+◌, ◌*◌, ◌↔◌, ◌∙◌, ℕ, List, [], ◌∷◌, length, slice_get, Option, Some, None, Result, Ok, Err, IsErr, IsOk, IsSome, IfErr, IfOk, OnOk, refl, sym, ap, subst, arith}
-use Rattle.std.proofs.lemmas.Option.{same_Some}
+-- `taken`, `taken-at`: an insertion that leaves few pairs is taken, whatever it is.
+use Rattle.std.proofs.Common.{◌≡◌, ◌<◌, ◌≤◌, ◌+◌, ◌*◌, ◌↔◌, ℕ, List, [], ◌∷◌, length, Option, Some, None, Result, Ok, Err, IsErr, IsOk, IsSome, IfErr, IfOk, OnOk, refl, subst, arith}
 use Rattle.std.proofs.lemmas.Result.{on_ok_weaker}
 use Rattle.std.specs.Cmp.{IsTotalOrder}
 use Rattle.std.specs.FinMap as map
@@ -16,7 +14,6 @@ use Rattle.btree_item.specs.declared.address.Address.{Address}
 use Rattle.btree_item.specs.declared.refused.Cause.{Cause}
 use Rattle.btree_item.specs.declared.refused.Cause.TheVariants.{Store, Count}
 use Rattle.btree_node.specs.declared.node.Node.{Node}
-use Rattle.btree_shape.specs.TreeAddresses.{leaf_backs_of}
 use Rattle.btree_shape.specs.TreeState.{TreeState, IsBTree, IsLeafAddressIn, IsPlaceIn, nodes_needed, pairs_of}
 use Rattle.btree_raw.specs.Claimed.{AreClaims, CanHoldMore, EMPTY, MayRefuseOneOf, with_claims}
 use Rattle.btree_raw.specs.Insertion.{IsRefused}
@@ -63,25 +60,12 @@ module _ {K V : Type 0} (old new : TreeState K V) (capacity leaf : ℕ) where
   refused-exceeds Store refused below = refused-past EMPTY capacity old.nodes (nodes_needed old leaf) refused.1
   refused-exceeds Count refused below = let most = refused.1 in absurd (omega arith)
 
--- a key has one gap
-pub one-gap : {K V : Type 0} (cmp : K → K → Ordering) (k : K) (s : TreeState K V) (a b : Address) → IsGapAt cmp k s a → IsGapAt cmp k s b → a ≡ b
-one-gap cmp k s a b p q =
-    let same : p.fits.place ≡ q.fits.place = cc in
-    same_Some a b (sym p.listed ∙ ap (slice_get (leaf_backs_of s)) same ∙ q.listed)
-
--- a place has one back address in a leaf
-pub one-leaf-back : {K V : Type 0} (s : TreeState K V) (place : ℕ) (a b : Address) → IsLeafBackAt s place a → IsLeafBackAt s place b → a ≡ b
-one-leaf-back s place a b p q = same_Some a b (sym p.listed ∙ q.listed)
-
--- an address other than one at -1 has one leaf address, the back address in a leaf at its place
+-- an address other than one at -1 has its leaf address at its place
 module _ {K V : Type 0} (cmp : K → K → Ordering) (laws : IsTotalOrder cmp) (s : TreeState K V) (tree : IsBTree cmp s) (a : Address) (back : IsSome a.offset) where
   pub leaf-back : (leaf : Address) → IsLeafAddressFor s a leaf → (place : ℕ) → HasPlace s a place → IsLeafBackAt s place leaf
   leaf-back leaf l place has =
       let at : IsPlaceIn s leaf place = subst (IsPlaceIn s leaf) (has.only l.place l.has.at) l.there.at in
       leaf-back-at cmp laws s tree leaf place at l.in_leaf (l.back.0 back)
-
-  pub one-leaf : (x y : Address) → IsLeafAddressFor s a x → IsLeafAddressFor s a y → x ≡ y
-  one-leaf x y p q = one-leaf-back s p.place x y (leaf-back x p p.place p.has) (leaf-back y q p.place p.has)
 
 -- where few pairs are left, the nodes fit at each leaf
 few-fit : {K V : Type 0} (cmp : K → K → Ordering) (s : TreeState K V) (capacity : ℕ) (a : Address) → IsBTree cmp s → IsLeafAddressIn s a

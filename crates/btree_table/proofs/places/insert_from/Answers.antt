@@ -2,7 +2,7 @@ use Rattle.std.proofs.Common.{◌≡◌, ◌∙◌, ◌∷◌, ◌++◌, ◌≤�
 use Rattle.std.proofs.lemmas.Result.{on_err_weaker, on_ok_weaker}
 use Rattle.std.specs.FinMap as map
 use Rattle.btree_shape.specs.TreeState.{TreeState, IsBTree, pairs_of}
-use Rattle.btree_map.specs.Editing.{left_of, passed_of}
+use Rattle.btree_map.specs.Editing.{entry_front}
 use Rattle.btree_table.specs.Capacity.{RefusesExactlyAtPlace, TakesFew}
 use Rattle.btree_table.specs.CursorLaws.{cursor-exact, cursor-taken, front-passed}
 use Rattle.btree_table.proofs.CursorLemmas.{cursor-inserted, none-inserted, same-map}
@@ -22,8 +22,8 @@ returns-clause-exact g c =
     let exact = cursor-exact old c.insert-result.new.self g.row.N (λ e. e.cause) g.met.K.Ord.total tree refl _ c.insert-result.result
     c.insert-result.ensures.inserted c.insert-result.ensures.refused held in
     let place = front-passed old g.met.K.Ord.total tree ∙ ap length k.passed in
-    subst (λ (t : TreeState _ _). RefusesExactlyAtPlace t _ g.row.N c.insert-result.result) k.unchanged
-    (subst (λ n. RefusesExactlyAtPlace old.map.now n g.row.N c.insert-result.result) place exact)
+    subst (λ n. RefusesExactlyAtPlace c.args.map.now n g.row.N c.insert-result.result) place
+    (subst (λ (t : TreeState _ _). RefusesExactlyAtPlace t (entry_front old) g.row.N c.insert-result.result) k.unchanged exact)
 
 pub returns-clause-few : goal.returns-clause-few
 returns-clause-few g c =
