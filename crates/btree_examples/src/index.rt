@@ -1,5 +1,5 @@
 //! An index: the pages on which each word stands. A map whose values are lists is a multimap.
-ghost use Rattle.std.specs.Prelude.{◌≡◌, IfOk, OnErr};
+ghost use Rattle.std.specs.Prelude.{OnErr, OnOk};
 ghost use Rattle.btree_examples.specs.Index.{AddsPage, MayAddWord};
 ghost use Rattle.btree_shape.specs.TreeState.{pairs_of};
 
@@ -16,7 +16,7 @@ pub fn add_page<K: Ord + Drop, C: NodesMut<K, Vec<u32>>>(
     page: u32,
     alloc: Global,
 ) -> Result<(), AllocError>
-    ensures added { IfOk result (λ _. AddsPage K.cmp word page (pairs_of index.old) (pairs_of index.new)) }
+    ensures added { OnOk result (AddsPage K.cmp word page (pairs_of index.old) (pairs_of index.new)) }
     ensures kept { OnErr result (MayAddWord K.cmp word (pairs_of index.old) (pairs_of index.new)) }
 {
     let pages = index.entry(word).or_insert(Vec::new(alloc))?;

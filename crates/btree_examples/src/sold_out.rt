@@ -1,10 +1,7 @@
 //! A stock without the parts that are sold out, by an editing cursor.
-ghost use Rattle.std.specs.Prelude.{◌≡◌, ◌++◌, filter};
-ghost use Rattle.std.specs.declared.ops.Bound.TheVariants.{Included};
+ghost use Rattle.std.specs.Prelude.{◌≡◌};
 ghost use Rattle.btree_shape.specs.TreeState.{pairs_of};
-ghost use Rattle.btree_walk.specs.Bounds.{pairs_from};
-ghost use Rattle.btree_map.specs.Spans.{pairs_before};
-ghost use Rattle.btree_examples.specs.Stock.{is_in_stock};
+ghost use Rattle.btree_examples.specs.Stock.{left_from};
 
 use btree_slab::generic::map::BTreeMap;
 use btree_slab::store::NodesMut;
@@ -17,8 +14,7 @@ pub fn remove_sold_out<K: Ord + Drop, C: NodesMut<K, u64>>(
     stock: &mut BTreeMap<K, u64, C>,
     first: &K,
 )
-    ensures { pairs_of stock.new ≡ pairs_before K.cmp (Included first.now) stock.old
-        ++ filter is_in_stock (pairs_from K.cmp (Included first.now) stock.old) }
+    ensures { pairs_of stock.new ≡ left_from K.cmp first.now stock.old }
 {
     let mut parts = stock.entries_mut_from(Bound::Included(first));
     while let Some(part) = parts.peek() {

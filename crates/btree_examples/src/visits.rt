@@ -1,6 +1,7 @@
 //! Visits at doors, counted in a fixed table of nodes: no memory is taken from an allocator.
 ghost use Rattle.std.specs.Prelude.{◌≡◌, IfOk};
-ghost use Rattle.btree_examples.specs.Visits.{StoresCount, count_with_one};
+ghost use Rattle.std.specs.Ordering.{nat_cmp};
+ghost use Rattle.btree_examples.specs.Counts.{StoresCount, count_with_one};
 ghost use Rattle.btree_shape.specs.TreeState.{pairs_of};
 ghost use Rattle.btree_table.specs.Capacity.{TakesFew};
 
@@ -15,8 +16,8 @@ pub fn count_visit<const N: usize>(
     door: u32,
 ) -> Result<u64, Refused<u32, u64>>
     ensures few { TakesFew visits.old N result }
-    ensures stored { IfOk result (StoresCount door (pairs_of visits.old) (pairs_of visits.new)) }
-    ensures counted { IfOk result (λ n. n ≡ count_with_one u64.MAX door (pairs_of visits.old)) }
+    ensures stored { IfOk result (StoresCount nat_cmp door (pairs_of visits.old) (pairs_of visits.new)) }
+    ensures counted { IfOk result (λ n. n ≡ count_with_one nat_cmp u64.MAX door (pairs_of visits.old)) }
 {
     let before = visits.get(&door).copied().unwrap_or(0);
     let count = before.saturating_add(1);

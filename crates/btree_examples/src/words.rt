@@ -1,6 +1,6 @@
 //! A count of words, by the entries of a map.
-ghost use Rattle.std.specs.Prelude.{◌≡◌, ◌+◌, IfOk, min, unwrap_or};
-ghost use Rattle.btree_item.specs.Pairs.{found_value, inserted};
+ghost use Rattle.std.specs.Prelude.{◌≡◌, IfOk};
+ghost use Rattle.btree_examples.specs.Counts.{StoresCount, count_with_one};
 ghost use Rattle.btree_shape.specs.TreeState.{pairs_of};
 
 use btree_slab::generic::map::{BTreeMap, Refused};
@@ -13,9 +13,8 @@ pub fn count_word<K: Ord + Drop, C: NodesMut<K, u64>>(
     counts: &mut BTreeMap<K, u64, C>,
     word: K,
 ) -> Result<u64, Refused<K, u64>>
-    ensures stored { IfOk result (λ n. pairs_of counts.new ≡ inserted K.cmp word n (pairs_of counts.old)) }
-    ensures counted { IfOk result (λ n.
-        n ≡ min (unwrap_or (found_value K.cmp word (pairs_of counts.old)) 0 + 1) u64.MAX) }
+    ensures stored { IfOk result (StoresCount K.cmp word (pairs_of counts.old) (pairs_of counts.new)) }
+    ensures counted { IfOk result (λ n. n ≡ count_with_one K.cmp u64.MAX word (pairs_of counts.old)) }
 {
     let count = counts.entry(word).or_insert(0)?;
     *count = count.saturating_add(1);

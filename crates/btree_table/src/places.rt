@@ -1,12 +1,11 @@
 //! Insertions at an address, and by a cursor.
-ghost use Rattle.std.specs.Prelude.{◌≡◌, ◌∷◌, ◌++◌, IfErr, IfOk, IsSome, OnErr, OnOk, length};
+ghost use Rattle.std.specs.Prelude.{◌≡◌, IfErr, IfOk, IsSome, OnErr, OnOk};
 ghost use Rattle.btree_shape.specs.TreeState.{IsLeafAddressIn, IsValidIn, pairs_of};
 ghost use Rattle.btree_find.specs.Fits.{FitsAt};
 ghost use Rattle.btree_edit.specs.InsertAt.{InsertsAt, IsRefusedAt};
-ghost use Rattle.btree_walk.specs.Bounds.{bound_key, pairs_from};
-ghost use Rattle.btree_map.specs.Editing.{FitsBetween};
-ghost use Rattle.btree_map.specs.Spans.{pairs_before};
-ghost use Rattle.btree_table.specs.Capacity.{HoldsAll, HoldsAtMost, RefusesExactlyAt, RefusesExactlyAtPlace, TakesFew};
+ghost use Rattle.btree_walk.specs.Bounds.{bound_key};
+ghost use Rattle.btree_table.specs.Capacity.{HoldsAll, HoldsAtMost, RefusesExactlyAt, TakesFew};
+ghost use Rattle.btree_table.specs.From.{FitsFrom, InsertsFrom, RefusesExactlyFrom};
 
 use crate::{FixedMap, tell_held};
 use btree_ext::{BTreeExt, BTreeExtMut};
@@ -74,16 +73,13 @@ pub fn insert_from<K: Ord + Drop, V: Drop, const N: usize>(
     key: K,
     value: V,
 ) -> Result<(), Refused<K, V>>
-    requires { FitsBetween K.cmp key
-        (pairs_before K.cmp (bound_key start) map.old) (pairs_from K.cmp (bound_key start) map.old) }
-    ensures exact { RefusesExactlyAtPlace map.old
-        (length (pairs_before K.cmp (bound_key start.entry) map.old)) N result }
+    requires { FitsFrom K.cmp (bound_key start) map.old key }
+    ensures exact { RefusesExactlyFrom K.cmp (bound_key start.entry) map.old N result }
     ensures few { TakesFew map.old N result }
     ensures held { HoldsAtMost N map.new.nodes }
 
-    ensures inserted { OnOk result (pairs_of map.new ≡
-        pairs_before K.cmp (bound_key start.entry) map.old
-            ++ (key, value) ∷ pairs_from K.cmp (bound_key start.entry) map.old) }
+    ensures inserted { OnOk result
+        (InsertsFrom K.cmp (bound_key start.entry) map.old key value map.new) }
     ensures returned { IfErr result (λ r. (r.key ≡ key) × (r.value ≡ value)) }
     ensures kept { OnErr result (pairs_of map.new ≡ pairs_of map.old) }
 {
