@@ -51,7 +51,7 @@ fn add_to_range<K: Ord + Drop, C: NodesMut<K, u64>>(
     more: u64,
 )
     requires { IsValidRange K.cmp range }
-    ensures pairs { pairs_of map.new ≡
+    ensures all { pairs_of map.new ≡
         each (greater_between K.cmp range.entry more) (pairs_of map.old) }
     ensures addresses { item_addresses_of map.new ≡ item_addresses_of map.old }
     ensures uncounted { map.new.kept ≡ map.old.kept }

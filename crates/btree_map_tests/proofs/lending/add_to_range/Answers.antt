@@ -47,8 +47,8 @@ loop-pairs-preserved g c =
       uncounted = x.writes.exchanged.exchanged.uncounted ∙ held.uncounted;
     }
 
-pub returns-clause-pairs : goal.returns-clause-pairs
-returns-clause-pairs g c =
+pub returns-clause-all : goal.returns-clause-all
+returns-clause-all g c =
     let it = c.loop-pairs.pairs in
     let held = c.loop-pairs.invariant in
     let none = none-places (range_front it) (range_back it) c.is_empty.result c.is_empty.ensures.places c.loop-pairs-test.false in
