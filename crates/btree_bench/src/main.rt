@@ -1,6 +1,6 @@
 //! Times the kit's map and this repository's map: insertion, look-up, walks from both ends, removal, insertion in descending order, owning
 //! walks from both ends, and sets of ranges over both maps. Of this repository's map alone, it times short ranges, insertion at the address
-//! of the item before, and insertion in ascending order.
+//! of the item before, and insertion in ascending order. Insertion and look-up are timed over a fixed table of nodes too, for up to 1,536 keys.
 //!
 //! Without an argument it runs over 1000 keys and prints the sum of each phase. With a number of keys as its argument it prints, for each
 //! phase, its name, the nanoseconds that it took, and its sum.
@@ -18,7 +18,7 @@ use crate::descent::{descend, descend_at};
 use crate::random::{Numbers, drawn, shuffle};
 use crate::ranges::sum_ranges;
 use crate::spans::{KitSpans, Spans, add_and_subtract};
-use crate::tables::{KitMap, SlabMap, SlabNodes, Table};
+use crate::tables::{FixedNodes, KitMap, SlabMap, SlabNodes, Table};
 use btree_map::BTreeMap;
 use btree_nodes::NodesMut;
 use btree_range_set::RangeSet;
@@ -124,6 +124,34 @@ fn measure(
     let since = Instant::now(rt)?;
     let sum = take_all(table, keys.present.as_slice());
     report(rt, is_timed, (map, "remove"), since, sum)
+}
+
+// Insertion and look-up alone, over another store.
+fn measure_look_ups<C: NodesMut<u64, u64> + Drop>(
+    rt: &(impl Print + Clock),
+    is_timed: bool,
+    map: &str,
+    origin: C::Origin,
+    keys: &Keys,
+) -> io::Result<()> {
+    let mut table: BTreeMap<u64, u64, C> = BTreeMap::new(origin);
+    let since = Instant::now(rt)?;
+    let sum = put_all(&mut table, keys.put.as_slice())?;
+    report(rt, is_timed, (map, "insert"), since, sum)?;
+    let since = Instant::now(rt)?;
+    let sum = sum_at(&table, keys.present.as_slice());
+    report(rt, is_timed, (map, "get_present"), since, sum)?;
+    let since = Instant::now(rt)?;
+    let sum = sum_at(&table, keys.absent.as_slice());
+    report(rt, is_timed, (map, "get_absent"), since, sum)
+}
+
+// A table of 512 nodes takes 1,536 keys in any order.
+fn measure_fixed(rt: &(impl Print + Clock), is_timed: bool, keys: &Keys) -> io::Result<()> {
+    if keys.put.len() > 1_536 {
+        return Ok(());
+    }
+    measure_look_ups::<FixedNodes>(rt, is_timed, "fixed", (), keys)
 }
 
 fn measure_descent(
@@ -238,6 +266,7 @@ fn measure_both(
     measure(rt, is_timed, "std", &mut kit, &keys)?;
     let mut ours = SlabMap::new(alloc);
     measure(rt, is_timed, "btree_slab", &mut ours, &keys)?;
+    measure_fixed(rt, is_timed, &keys)?;
     measure_ranges::<SlabNodes>(rt, is_timed, alloc, &keys)?;
     let mut kit = KitMap::new(alloc);
     measure_descent(rt, is_timed, "std", &mut kit, count as u64)?;

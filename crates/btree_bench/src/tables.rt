@@ -5,11 +5,15 @@ use btree_map::BTreeMap;
 use btree_node::Node;
 use btree_nodes::NodesMut;
 use btree_store::SlabStore;
+use btree_stores::FixedSlab;
 use std::alloc::AllocError;
 use std::collections;
 
 /// The nodes of a map, in a slab.
 pub type SlabNodes = SlabStore<Node<u64, u64>>;
+
+/// The nodes of a map, in a table of its own.
+pub type FixedNodes = FixedSlab<Node<u64, u64>, 512>;
 
 /// The map of this repository, in a slab.
 pub type SlabMap = BTreeMap<u64, u64, SlabNodes>;
