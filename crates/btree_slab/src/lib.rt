@@ -70,8 +70,8 @@ pub mod store {
 pub mod table {
     pub use btree_table::{
         FixedMap, FixedSet, insert, insert_at, insert_at_with_room, insert_element,
-        insert_exactly_at, insert_from, insert_present, insert_vacant, insert_with_room,
-        or_insert, replace, replace_element, replace_present, update, update_in, update_present,
+        insert_exactly_at, insert_from, insert_present, insert_vacant, insert_with_room, or_insert,
+        replace, replace_element, replace_present, update, update_in, update_present,
         update_with_room,
     };
 }
