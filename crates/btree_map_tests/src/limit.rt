@@ -5,7 +5,7 @@ use crate::samples::{check_pairs, first_keys};
 use btree_item::{Cause, Fault};
 use btree_map::BTreeMap;
 use btree_node::Node;
-use btree_nodes::{CloneNodes, NodesMut};
+use btree_nodes::{ClearNodes, CloneNodes, NodesMut};
 use btree_set::BTreeSet;
 use btree_store::SlabStore;
 use std::process::Abort;
@@ -117,7 +117,7 @@ fn a_raw_tree_has_a_limit(rt: HostRuntime) {
 }
 
 // A clone has the limit of its original, and a map that was cleared keeps its own.
-fn clone_and_clear<C: CloneNodes<u64, u64> + Drop>(
+fn clone_and_clear<C: CloneNodes<u64, u64> + ClearNodes<u64, u64> + Drop>(
     rt: &impl Abort,
     mut map: BTreeMap<u64, u64, C>,
 ) {
