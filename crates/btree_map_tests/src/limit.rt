@@ -117,7 +117,7 @@ fn a_raw_tree_has_a_limit(rt: HostRuntime) {
 }
 
 // A clone has the limit of its original, and a map that was cleared keeps its own.
-fn clone_and_clear<C: CloneNodes<u64, u64> + ClearNodes<u64, u64> + Drop>(
+fn clone_and_clear<C: ClearNodes<u64, u64> + CloneNodes<u64, u64> + Drop>(
     rt: &impl Abort,
     mut map: BTreeMap<u64, u64, C>,
 ) {
