@@ -147,3 +147,34 @@ fn fill_a_node<C: NodesMut<u64, u64> + Drop>(rt: &impl Abort, origin: C::Origin)
 fn refuses_what_needs_a_node(rt: HostRuntime) {
     fill_a_node::<FixedSlab<Node<u64, u64>, 1>>(&rt, ());
 }
+
+// Checks that a call was refused for the limit, with its numbers.
+fn check_limited(rt: &impl Abort, outcome: Result<(), Refused<u64, u64>>, start: u64, end: u64) {
+    match outcome {
+        Ok(()) => panic!(rt; "not refused"),
+        Err(refused) => {
+            assert_same(rt, refused.cause, Cause::Count);
+            assert_same(rt, (refused.key, refused.value), (start, end));
+        }
+    }
+}
+
+// One range may grow, and is not cut in two; no second one is taken.
+fn keep_one_range<C: NodesMut<u64, u64> + Drop>(rt: &impl Abort, mut set: RangeSet<C>) {
+    assert_true(rt, set.insert(1, 9).is_ok());
+    check_limited(rt, set.remove(3, 5), 3, 5);
+    check_ranges(rt, &set, &[(1, 9)]);
+    assert_true(rt, set.insert(9, 12).is_ok());
+    check_ranges(rt, &set, &[(1, 12)]);
+    check_limited(rt, set.insert(20, 21), 20, 21);
+    assert_true(rt, set.insert(5, 5).is_ok());
+    check_ranges(rt, &set, &[(1, 12)]);
+    for (number, is) in [(0, false), (1, true), (11, true), (12, false)] {
+        assert_same(rt, set.contains(number), is);
+    }
+}
+
+#[test]
+fn keeps_within_the_limit(rt: HostRuntime) {
+    keep_one_range::<SlabStore<Node<u64, u64>>>(&rt, RangeSet::with_limit(rt.alloc(), 1));
+}
