@@ -174,38 +174,3 @@ fn drains_drop_what_they_take(rt: HostRuntime) {
         drain_and_retain(&rt, map, &drops, count);
     }
 }
-
-// Drains the even keys of a hundred. The test adds a thousand to the count of drops, and one pair is dropped before the drain is, or before it
-// is finished.
-fn drain_even<'a, C: NodesMut<u64, Counted<'a>> + Drop>(
-    rt: &impl Abort,
-    map: BTreeMap<u64, Counted<'a>, C>,
-    drops: &Cell<u64>,
-    finishes: bool,
-) {
-    let mut map = map;
-    let mut drain = map.drain_filter(|key: &u64, value: &mut Counted| {
-        value.drops.set(value.drops.get().wrapping_add(1000));
-        *key % 2 == 0
-    });
-    check_pair(rt, drain.next(), 0);
-    assert_same(rt, drops.get(), 1001);
-    if finishes {
-        drain.finish();
-    } else {
-        drop(drain);
-    }
-    assert_same(rt, (map.len(), drops.get()), (50, 100_050));
-}
-
-// A pair that was not taken yet is asked about once too.
-#[test]
-fn a_drain_that_is_dropped_early_asks_about_each_pair_once(rt: HostRuntime) {
-    for finishes in [false, true] {
-        let drops = Cell::new(0u64);
-        let Some(map) = hundred(rt.alloc(), &drops) else {
-            panic!(rt; "no memory")
-        };
-        drain_even(&rt, map, &drops, finishes);
-    }
-}

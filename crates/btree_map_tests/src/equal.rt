@@ -87,6 +87,15 @@ fn put<C: NodesMut<Named, u64>>(
     }
 }
 
+// Extends a map by the pairs of another one. Returns whether none was refused.
+fn copy_pairs<C: NodesMut<Named, u64>>(
+    map: &mut BTreeMap<Named, u64, C>,
+    other: &BTreeMap<Named, u64, C>,
+) -> bool {
+    let mut source = other.iter();
+    map.extend_copied(&mut source).is_ok()
+}
+
 // Inserts and replaces a key that is equal to one of the map, and appends a map that has one.
 fn put_equal<C: NodesMut<Named, u64> + Drop>(
     rt: &impl Abort,
@@ -111,7 +120,7 @@ fn put_equal<C: NodesMut<Named, u64> + Drop>(
     assert_same(rt, stored(&map, 1), Some(('a', 9)));
     assert_same(rt, (map.len(), other.len()), (2, 0));
     assert_same(rt, put(rt, &mut other, 1, 'e', 10), None);
-    assert_true(rt, map.extend_copied(&mut other.iter()).is_ok());
+    assert_true(rt, copy_pairs(&mut map, &other));
     assert_same(rt, stored(&map, 1), Some(('a', 10)));
     assert_same(rt, stored(&other, 1), Some(('e', 10)));
 }
@@ -287,6 +296,15 @@ fn insert_equal<C: NodesMut<Named, ()>>(rt: &impl Abort, set: &mut BTreeSet<Name
     assert_same(rt, parts(set.get(&second)), Some((2, 'b')));
 }
 
+// Extends a set by the elements of another one. Returns whether none was refused.
+fn copy_elements<C: NodesMut<Named, ()>>(
+    set: &mut BTreeSet<Named, C>,
+    other: &BTreeSet<Named, C>,
+) -> bool {
+    let mut source = other.iter();
+    set.extend_copied(&mut source).is_ok()
+}
+
 // Does so, and appends a set of which an element is equal to one that is there.
 fn append_equal<C: NodesMut<Named, ()> + Drop>(
     rt: &impl Abort,
@@ -300,7 +318,7 @@ fn append_equal<C: NodesMut<Named, ()> + Drop>(
     assert_same(rt, parts(set.first()), Some((1, 'a')));
     assert_same(rt, parts(set.last()), Some((3, 'c')));
     let other = names(rt, other, &[3], 'd');
-    assert_true(rt, set.extend_copied(&mut other.iter()).is_ok());
+    assert_true(rt, copy_elements(&mut set, &other));
     assert_same(rt, parts(set.last()), Some((3, 'c')));
 }
 

@@ -57,14 +57,23 @@ fn put<'a, C: NodesMut<CountedKey<'a>, CountedKey<'a>>>(
     }
 }
 
+// A key of which a drain asks whether its number is even.
+trait Even {
+    fn is_even(&self) -> bool;
+}
+
+impl Even for CountedKey<'_> {
+    fn is_even(&self) -> bool {
+        self.number % 2 == 0
+    }
+}
+
 // Takes the first pair of a drain of the even numbers, and drops it and the drain.
-fn drain_even<'a, C: NodesMut<CountedKey<'a>, CountedKey<'a>>>(
+fn drain_even<K: Even + Ord + Drop, V: Drop, C: NodesMut<K, V>>(
     rt: &impl Abort,
-    map: &mut Pairs<'a, C>,
+    map: &mut BTreeMap<K, V, C>,
 ) {
-    let mut drain = map.drain_filter(|key: &CountedKey, _value: &mut CountedKey| {
-        key.number % 2 == 0
-    });
+    let mut drain = map.drain_filter(|key: &K, _value: &mut V| key.is_even());
     assert_true(rt, drain.next().is_some());
 }
 

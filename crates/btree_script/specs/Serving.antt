@@ -20,3 +20,7 @@ pub record ServesAnew {A R W : Type 0} (limit : ℕ) (MayRefuse : Content (Node 
 -- so was one over a table of eleven nodes, which may refuse a node only if it holds that many
 abbrev pub ServesTable : {A R W : Type 0} → (limit : ℕ) → (R → Option (List ℕ)) → (W → Option (List ℕ)) → R → W → Result A Stop → W → Type 0
 ServesTable limit remaining contents input output result new_output = ServesAnew limit (λ nodes. map.len nodes ≡ 11) remaining contents input output result new_output
+
+-- and one over a slab, which may refuse any
+abbrev pub ServesSlab : {A R W : Type 0} → (limit : ℕ) → (R → Option (List ℕ)) → (W → Option (List ℕ)) → R → W → Result A Stop → W → Type 0
+ServesSlab limit remaining contents input output result new_output = ServesAnew limit (λ nodes. Unit {0}) remaining contents input output result new_output

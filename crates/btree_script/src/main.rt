@@ -5,10 +5,10 @@
 #[cfg(test)]
 mod tests;
 
-ghost use Rattle.std.specs.Prelude.{◌≡◌, Some, IsTrue};
+ghost use Rattle.std.specs.Prelude.{◌≡◌, Some, IsFalse, IsTrue};
 ghost use Rattle.std.specs.Process.{exit_status};
 ghost use Rattle.btree_script.specs.Ending.{status_after, status_of, text_of};
-ghost use Rattle.btree_script.specs.Serving.{ServesAnew, ServesTable};
+ghost use Rattle.btree_script.specs.Serving.{ServesAnew, ServesSlab, ServesTable};
 
 use btree_node::Node;
 use btree_nodes::ClearNodes;
@@ -22,8 +22,8 @@ use std::process::ExitCode;
 use std::rt::Env;
 use std::{fmt, io, str};
 
-// The most bytes of an argument that the program has: the digits of the greatest limit.
-const LONGEST_WORD: usize = 20;
+// The most bytes of an argument that is read.
+const LONGEST_WORD: usize = 1_024;
 
 // How many nodes a table has places for.
 const TABLE_NODES: usize = 11;
@@ -122,7 +122,9 @@ fn serve_asked<R: Read, W: Write>(
     input: &mut R,
     output: &mut W,
 ) -> Result<(), Stop>
-    ensures { IsTrue asked.table → ServesTable asked.limit R.remaining W.contents
+    ensures table { IsTrue asked.table → ServesTable asked.limit R.remaining W.contents
+        input.old output.old result output.new }
+    ensures slab { IsFalse asked.table → ServesSlab asked.limit R.remaining W.contents
         input.old output.old result output.new }
 {
     if asked.table {

@@ -52,7 +52,7 @@ fn takes_a_table_and_a_limit(rt: HostRuntime) {
         with(true, 20)
     );
     assert_eq!(rt;
-        asked(&["btree_script", "limit", "18446744073709551615"]),
+        asked(&["btree_script", "limit", "018446744073709551615"]),
         with(false, 18446744073709551615)
     );
 }
@@ -72,7 +72,6 @@ fn takes_no_other_arguments(rt: HostRuntime) {
         &["btree_script", "limit", "two"],
         &["btree_script", "limit", "2", ""],
         &["btree_script", "limit", "2", "table"],
-        &["btree_script", "limit", "018446744073709551615"],
         &["btree_script", "table", "limit"],
         &["btree_script", "table", "limit", "2", "2"],
     ] {
