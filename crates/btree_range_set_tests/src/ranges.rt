@@ -126,12 +126,22 @@ fn lists_overlaps_and_gaps(rt: HostRuntime) {
     look_around::<SlabStore<Node<u64, u64>>>(&rt, rt.alloc());
 }
 
+const EIGHT: [(u64, u64); 8] = [
+    (0, 5),
+    (10, 15),
+    (20, 25),
+    (30, 35),
+    (40, 45),
+    (50, 55),
+    (60, 65),
+    (70, 75),
+];
+
 // Eight ranges fill one node: a ninth is refused, and what joins or shortens is not.
 fn fill_a_node<C: NodesMut<u64, u64> + Drop>(rt: &impl Abort, origin: C::Origin) {
     let mut set: RangeSet<C> = eight_ranges(rt, origin);
     check_refused(rt, set.remove(32, 33), 32, 33);
-    check_listed(rt, set.overlapping(20, 50), &[(20, 25), (30, 35), (40, 45)]);
-    assert_same(rt, set.len(), 8);
+    check_ranges(rt, &set, &EIGHT);
     assert_true(rt, set.remove(30, 32).is_ok());
     check_listed(rt, set.overlapping(20, 50), &[(20, 25), (32, 35), (40, 45)]);
     assert_true(rt, set.insert(5, 10).is_ok());
@@ -141,6 +151,9 @@ fn fill_a_node<C: NodesMut<u64, u64> + Drop>(rt: &impl Abort, origin: C::Origin)
     check_listed(rt, set.overlapping(30, 40), &[(32, 33), (34, 35)]);
     assert_same(rt, set.len(), 8);
     check_refused(rt, set.insert(100, 101), 100, 101);
+    check_listed(rt, set.overlapping(0, 30), &[(0, 15), (20, 25)]);
+    check_listed(rt, set.overlapping(30, 40), &[(32, 33), (34, 35)]);
+    assert_same(rt, set.len(), 8);
 }
 
 #[test]
