@@ -1,5 +1,5 @@
 //! Maps in use: a stock of parts, by part number, a listing of them by pages (`listing.rt`), bookings of a room (`bookings.rt`), a count
-//! of words (`words.rt`), the pages on which each word stands (`index.rt`), visits in a fixed table (`visits.rt`), and one read from a copy of its nodes (`copies.rt`). A set of
+//! of words (`words.rt`), one of visits in a fixed table (`visits.rt`), and one read from a copy of its nodes (`copies.rt`). A set of
 //! ranges in use: reserved blocks (`reserved.rt`).
 #![tactic(auto)]
 
@@ -10,7 +10,6 @@ ghost use Rattle.btree_shape.specs.TreeState.{IsValidIn, pairs_of};
 
 mod bookings;
 mod copies;
-mod index;
 mod listing;
 mod reserved;
 mod sold_out;
@@ -19,7 +18,6 @@ mod words;
 
 use crate::bookings::{book_and_cancel, count_overlaps, three_bookings};
 use crate::copies::{is_readable, read_copy};
-use crate::index::add_page;
 use crate::listing::next_page;
 use crate::reserved::reserve;
 use crate::sold_out::remove_sold_out;
@@ -92,18 +90,6 @@ fn print_counts(rt: &impl Print, alloc: Global) -> io::Result<()> {
     }
     for (word, count) in counts.iter() {
         rt.println(format_args!("{word}: {count}"))?;
-    }
-    Ok(())
-}
-
-/// Prints the pages of each of a few words.
-fn print_index(rt: &impl Print, alloc: Global) -> io::Result<()> {
-    let mut index: BTreeMap<&'static str, Vec<u32>> = BTreeMap::new(alloc);
-    for (word, page) in [("tree", 1), ("node", 1), ("tree", 4)] {
-        add_page(&mut index, word, page, alloc)?;
-    }
-    for (word, pages) in index.iter() {
-        rt.println(format_args!("{word}: {pages:?}"))?;
     }
     Ok(())
 }
@@ -198,7 +184,6 @@ fn main(rt: HostRuntime) -> io::Result<()> {
     print_bookings(&rt, rt.alloc())?;
     print_blocks(&rt, rt.alloc())?;
     print_counts(&rt, rt.alloc())?;
-    print_index(&rt, rt.alloc())?;
     print_visits(&rt)?;
     print_copies(&rt, stock)
 }
