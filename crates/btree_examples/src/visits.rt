@@ -10,7 +10,7 @@ use btree_slab::{FixedMap, table};
 
 /// Counts a visit at a door, in a table of `N` nodes. Returns how many there have been, at most `u64::MAX`.
 ///
-/// It is not refused at the first 3N doors, whatever their numbers and their order.
+/// It is not refused at the first 3N doors, whatever their numbers and their order, unless the map has a lower limit.
 pub fn count_visit<const N: usize>(
     visits: &mut FixedMap<u32, u64, N>,
     door: u32,
