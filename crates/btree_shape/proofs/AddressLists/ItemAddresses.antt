@@ -1,7 +1,7 @@
 -- The list of the occupied addresses of a tree: each is at the index that is its place. Navigation and cursors will
 -- cite it.
-use Rattle.std.proofs.Common.{◌≡◌, ◌<◌, ◌≤◌, ◌∙◌, ◌∷◌, [], ℕ, zero, suc, inl, inr, true, List, length, Option, Some, None, refl, sym, ap, subst, arith, option_and_then}
-use Rattle.std.proofs.lemmas.Option.{slice_get_cases, slice_get_within}
+use Rattle.std.proofs.Common.{◌≡◌, ◌∙◌, ◌∷◌, [], ℕ, zero, suc, inl, inr, true, List, length, Option, Some, None, refl, sym, ap, subst, arith, option_and_then}
+use Rattle.std.proofs.lemmas.Option.{slice_get_within}
 use Rattle.std.specs.List.{AllByRecursion}
 use Rattle.std.specs.Prelude.{slice_get, is_some}
 use Rattle.btree_item.specs.declared.address.Address.{Address}
@@ -133,31 +133,3 @@ module _ {A : Type 0} (node_at : NodeMap A) where
     each = λ place a o i. absurd (no-occupied p.0 a.id a.offset o);
   }
   items-listed levels (Some root) xs p = items-placed levels root xs p
-
-  module _ (root : Option ℕ) (xs : List A) (list : List Address) (law : ListsItems node_at root xs list) where
-    -- occupied addresses with the same place are equal
-    pub one-occupied : (place : ℕ) (a b : Address) → IsOccupied node_at a.id a.offset → IsOccupied node_at b.id b.offset
-        → IsPlace node_at root xs a.id a.offset place → IsPlace node_at root xs b.id b.offset place → a ≡ b
-    one-occupied place a b o q i j =
-        let e = law.each place a o i in
-        let f = law.each place b q j in
-        cc
-
-    -- the occupied address at a place
-    pub record OccupiedAt (place : ℕ) : Type 0 where
-      pub address : Address
-      pub listed : slice_get list place ≡ Some address
-      pub occupied : IsOccupied node_at address.id address.offset
-      pub at_place : IsPlace node_at root xs address.id address.offset place
-      pub item : item_at node_at address ≡ slice_get xs place
-
-    -- each index of the list of pairs is the place of an occupied address
-    pub occupied-at : (place : ℕ) → place < length xs → OccupiedAt place
-    occupied-at place l =
-        let n = law.counted in
-        elim (slice_get_cases list place).1 [
-          | inl c ↦
-              let r = law.right place c.0 c.2 in
-              record { address = c.0; listed = c.2; occupied = r.0; at_place = r.1; item = r.2 }
-          | inr c ↦ (let k : length list ≤ place = c.0 in absurd (omega arith))
-        ]
