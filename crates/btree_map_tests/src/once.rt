@@ -27,7 +27,7 @@ struct Sums<'a> {
 }
 
 fn counted<'a>(number: u64, drops: &'a Cell<u64>) -> CountedKey<'a> {
-    let weight = 16u64.wrapping_pow(number as u32);
+    let weight = 16u64.wrapping_pow(u32::try_from(number).unwrap_or(0));
     CountedKey {
         number,
         weight,
