@@ -1,6 +1,6 @@
 //! Insertion in ascending order, each pair by its key, and all by one call.
 use btree_map::BTreeMap;
-use btree_nodes::NodesMut;
+use btree_node::NodesMut;
 use std::alloc::AllocError;
 
 /// Inserts the pairs of a map into another one, each by its key. Returns how many there are then.

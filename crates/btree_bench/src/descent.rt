@@ -7,7 +7,7 @@ use crate::tables::Table;
 use btree_ext::{BTreeExt, BTreeExtMut};
 use btree_item::{Address, Item};
 use btree_map::BTreeMap;
-use btree_nodes::NodesMut;
+use btree_node::NodesMut;
 use std::alloc::AllocError;
 
 /// Inserts the keys from `count` down to 1, by key. Returns how many were not there.

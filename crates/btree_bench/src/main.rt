@@ -20,7 +20,7 @@ use crate::ranges::sum_ranges;
 use crate::spans::{KitSpans, Spans, add_and_subtract};
 use crate::tables::{FixedNodes, KitMap, SlabMap, SlabNodes, Table};
 use btree_map::BTreeMap;
-use btree_nodes::NodesMut;
+use btree_node::NodesMut;
 use btree_range_set::RangeSet;
 use std::alloc::{AllocError, Global};
 use std::env::Env;

@@ -1,6 +1,6 @@
 //! Short ranges.
 use btree_map::BTreeMap;
-use btree_nodes::NodesMut;
+use btree_node::NodesMut;
 use btree_walk::is_valid_range;
 use std::ops::Bound;
 

@@ -1,6 +1,6 @@
 //! Sets of ranges: that of this repository, and a plain one over the kit's map.
 use crate::tables::KitMap;
-use btree_nodes::NodesMut;
+use btree_node::NodesMut;
 use btree_range_set::RangeSet;
 use std::alloc::AllocError;
 

@@ -2,8 +2,7 @@
 ghost use Rattle.std.specs.Iterator.{IsFinite};
 
 use btree_map::BTreeMap;
-use btree_node::Node;
-use btree_nodes::NodesMut;
+use btree_node::{Node, NodesMut};
 use btree_store::SlabStore;
 use btree_stores::FixedSlab;
 use std::alloc::AllocError;

@@ -13,8 +13,7 @@ ghost use Rattle.btree_edit.specs.Update.{ClaimsNeeded};
 use crate::values::exchange;
 use btree_find::address_of;
 use btree_item::{Address, Cause, Item, MAX_CLAIMS, Offset, Refused};
-use btree_node::Node;
-use btree_nodes::NodesMut;
+use btree_node::{Node, NodesMut};
 use btree_raw::{
     ClaimedIds, RawBTree, add_and_split, add_item_in_room, claim, claim_one, need_above, put,
     refused,

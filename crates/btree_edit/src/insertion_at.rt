@@ -9,7 +9,7 @@ ghost use Rattle.btree_edit.specs.InsertAt.{InsertsAt, IsRefusedAt};
 use crate::insertion::{insert_and_split, insert_at_gap};
 use btree_find::leaf_address;
 use btree_item::{Address, Item, Refused};
-use btree_nodes::NodesMut;
+use btree_node::NodesMut;
 use btree_raw::{NotAdded, RawBTree, add_item_at_leaf, need_above};
 
 /// Inserts a pair at the place of an address, which its key fits, before the item there. An address of an internal node stands for the

@@ -8,7 +8,7 @@ ghost use Rattle.btree_edit.specs.Remove.{HasChildBehind, IsInnerAt, IsRemoved, 
 
 use btree_find::{address_of, first_item_beside};
 use btree_item::{Address, Item, MIN_ITEMS};
-use btree_nodes::NodesMut;
+use btree_node::NodesMut;
 use btree_raw::{RawBTree, rebalance_fetched, take_last_below};
 
 /// Removes the item at an address. Returns it, with a back address at the place where it was. Returns `None`, and nothing changes, if there

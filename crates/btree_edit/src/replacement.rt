@@ -9,7 +9,7 @@ ghost use Rattle.btree_edit.specs.Exchange.{IsExchanged};
 use crate::insertion::insert_at_gap;
 use btree_find::address_of;
 use btree_item::{Address, Item, Refused};
-use btree_nodes::NodesMut;
+use btree_node::NodesMut;
 use btree_raw::RawBTree;
 
 /// Replaces key and value of the item at an address. Returns the old pair. It changes one node and needs no new one.

@@ -15,8 +15,7 @@ use crate::insertion::insert_claimed;
 use crate::updates_at::update_at;
 use btree_find::{address_in, address_of};
 use btree_item::{Address, Cause, Item, UpdateRefused};
-use btree_node::Node;
-use btree_nodes::NodesMut;
+use btree_node::{Node, NodesMut};
 use btree_raw::{ClaimedIds, RawBTree, claim, claim_one, need, put, release};
 
 // Updates an absent key in an empty tree.

@@ -6,7 +6,7 @@ ghost use Rattle.btree_edit.specs.Update.{RunsAt};
 
 use btree_find::first_item_beside;
 use btree_item::{Address, Item, MIN_ITEMS};
-use btree_nodes::NodesMut;
+use btree_node::NodesMut;
 use btree_raw::{RawBTree, rebalance_fetched, take_last_below};
 
 /// Calls `action` with the value at an address. The value that it gives takes the place of the old one, and the key stays; if it gives

@@ -12,7 +12,7 @@ ghost use Rattle.btree_edit.specs.Outcomes.{ExchangesLent, ExchangesLentAt, valu
 
 use btree_find::address_in;
 use btree_item::{Address, Item};
-use btree_nodes::NodesMut;
+use btree_node::NodesMut;
 use btree_raw::RawBTree;
 use std::mem;
 

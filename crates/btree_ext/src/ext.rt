@@ -19,8 +19,7 @@ use btree_find::{
     previous_front_address, previous_item_address, replaces_at,
 };
 use btree_item::{Address, Fault, Item, MAX_LEVELS};
-use btree_node::Node;
-use btree_nodes::NodesMut;
+use btree_node::{Node, NodesMut};
 use btree_raw::RawBTree;
 use btree_steps::Steps;
 

@@ -13,7 +13,7 @@ use btree_edit::{
 };
 use btree_find::get;
 use btree_item::{Address, Fault, Item, Refused, UpdateRefused};
-use btree_nodes::{ClearNodes, CloneNodes, NodesMut};
+use btree_node::{ClearNodes, CloneNodes, NodesMut};
 use btree_raw::RawBTree;
 use std::alloc::AllocError;
 use std::marker::Model;

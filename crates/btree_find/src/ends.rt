@@ -4,7 +4,7 @@ ghost use Rattle.btree_find.specs.Ends.{IsFirstBack, IsFirstItem, IsLastItem, Is
 
 use crate::navigation::{leftmost_leaf, rightmost_leaf};
 use btree_item::{Address, Offset};
-use btree_nodes::NodesMut;
+use btree_node::NodesMut;
 use btree_raw::RawBTree;
 
 /// Returns the address of the first item, or `None` if there are no pairs. It reads one node of each level.

@@ -6,7 +6,7 @@ ghost use Rattle.btree_find.specs.Neighbours.{IsAboveItem, IsBelowItem};
 
 use crate::navigation::{next_item_address, normalize, previous_item_address};
 use btree_item::{Address, Offset};
-use btree_nodes::NodesMut;
+use btree_node::NodesMut;
 use btree_raw::RawBTree;
 use std::cmp::Ordering;
 

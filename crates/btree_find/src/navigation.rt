@@ -9,8 +9,7 @@ ghost use Rattle.btree_raw.specs.LastItem.{EndsInLeaf};
 ghost use Rattle.btree_find.specs.Navigation.{AreBeside, BeginsInLeaf, IsLeafAddressFor, IsNext, IsNextOrBack, IsNormalized, IsPrevious, LeadsBefore, LeadsToItem, LeadsToNext};
 
 use btree_item::{Address, Offset};
-use btree_node::Node;
-use btree_nodes::NodesMut;
+use btree_node::{Node, NodesMut};
 use btree_raw::RawBTree;
 
 // Returns the leftmost leaf under a node.

@@ -9,8 +9,7 @@ ghost use Rattle.btree_find.specs.Fits.{pairs_below};
 ghost use Rattle.btree_find.specs.Levels.{IsDense, TicksAtMost, TicksExactly, comparisons_from, levels_from};
 
 use btree_item::{Address, MAX_COMPARISONS, MAX_LEVELS, Offset};
-use btree_node::Node;
-use btree_nodes::NodesMut;
+use btree_node::{Node, NodesMut};
 use btree_raw::RawBTree;
 use btree_steps::Steps;
 

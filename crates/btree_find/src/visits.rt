@@ -10,8 +10,7 @@ ghost use Rattle.btree_find.specs.Visits.{IsNextBack, IsPreviousFront};
 
 use crate::navigation::{leftmost_leaf, rightmost_leaf};
 use btree_item::{Address, Offset};
-use btree_node::Node;
-use btree_nodes::NodesMut;
+use btree_node::{Node, NodesMut};
 use btree_raw::RawBTree;
 
 // Returns the back address after an offset of a node.

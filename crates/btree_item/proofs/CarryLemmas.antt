@@ -1,13 +1,9 @@
 -- A list into which one more slot is inserted.
-use Rattle.std.proofs.Common.{◌≡◌, ℕ, ◌≤◌, List, [], ◌∷◌, ◌++◌, Some, length, zero, suc, ap, refl, arith}
+use Rattle.std.proofs.Common.{◌≡◌, ℕ, ◌≤◌, List, [], ◌∷◌, Some, length, zero, suc, ap, refl, arith}
 use Rattle.std.specs.Prelude.{slice_get}
 use Rattle.std.specs.List.{insert, remove}
 
 module _ {X : Type 0} where
-  pub inserted-end : (xs : List X) (c : X) → insert xs (length xs) c ≡ xs ++ c ∷ []
-  inserted-end [] c = refl
-  inserted-end (y ∷ ys) c = ap (λ l. y ∷ l) (inserted-end ys c)
-
   pub inserted-there : (xs : List X) (i : ℕ) (c : X) → i ≤ length xs → slice_get (insert xs i c) i ≡ Some c
   inserted-there xs zero c within = refl
   inserted-there [] (suc i) c within = absurd (omega (arith, within))

@@ -66,11 +66,6 @@ module _ {X : Type 0} where
   inserted-last (x ∷ xs) zero c within read = ap (λ y. y ∷ []) read
   inserted-last (x ∷ xs) (suc n) c within read = ap (λ l. x ∷ l) (inserted-last xs n c (omega (arith, within)) read)
 
-  pub put-last : (xs : List X) (n : ℕ) (c : X) → n < length xs → take (suc n) (set xs n c) ≡ insert (take n xs) n c
-  put-last [] n c within = absurd (omega (arith, within))
-  put-last (x ∷ xs) zero c within = refl
-  put-last (x ∷ xs) (suc n) c within = ap (λ l. x ∷ l) (put-last xs n c (omega (arith, within)))
-
   -- one more element moves from one list to the other
   pub moved-next : (xs ys : List X) (n i k : ℕ) (blank r : X) → i < n → i < length xs → k < length ys → r ≡ get_or xs i r
       → take (k + 1) (set ys k r) ++ drop (suc i) (take n (set xs i blank)) ≡ take k ys ++ drop i (take n xs)

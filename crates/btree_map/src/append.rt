@@ -6,7 +6,7 @@ ghost use Rattle.btree_map.specs.Extension.{AddsAll, MovesEach, MovesUntil, Refu
 use crate::BTreeMap;
 use btree_ext::BTreeExt;
 use btree_item::Refused;
-use btree_nodes::NodesMut;
+use btree_node::NodesMut;
 
 impl<K: Ord + Drop, V: Drop, C: NodesMut<K, V>> BTreeMap<K, V, C> {
     /// Moves the pairs of `other` into this map. Where both have a key, this map keeps its own and gets the value of `other`.

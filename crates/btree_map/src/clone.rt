@@ -3,7 +3,7 @@ ghost use Rattle.std.specs.Prelude.{◌≡◌, IfOk, OnErr};
 ghost use Rattle.btree_shape.specs.TreeState.{pairs_of, unrefused};
 
 use crate::BTreeMap;
-use btree_nodes::CloneNodes;
+use btree_node::CloneNodes;
 use std::alloc::AllocError;
 
 impl<K: Ord + Clone, V: Clone, C: CloneNodes<K, V>> BTreeMap<K, V, C> {

@@ -15,7 +15,7 @@ mod values;
 
 use crate::BTreeMap;
 use btree_item::Address;
-use btree_nodes::NodesMut;
+use btree_node::NodesMut;
 pub use editing::EntriesMut;
 
 /// A cursor over the pairs of a map, in the order of the keys and from both ends, that lends one value for writing at a time.

@@ -5,7 +5,7 @@ mod steps;
 use crate::BTreeMap;
 use crate::pair_test::ByPair;
 use btree_item::Address;
-use btree_nodes::NodesMut;
+use btree_node::NodesMut;
 pub use steps::{run_out, seek_from};
 
 /// The pairs of a map that a closure picks, removed one at a time in the order of the keys: what `BTreeMap::drain_filter` returns. The closure

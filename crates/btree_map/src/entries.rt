@@ -11,7 +11,7 @@ ghost use Rattle.btree_map.specs.Lists.{last_of};
 use crate::BTreeMap;
 use crate::entry::{Entry, OccupiedEntry, VacantEntry};
 use btree_ext::BTreeExt;
-use btree_nodes::NodesMut;
+use btree_node::NodesMut;
 
 impl<K: Ord, V, C: NodesMut<K, V>> BTreeMap<K, V, C> {
     /// Returns the entry of a key, to read, insert, change or remove its value after one search. If an equal key is there, it stays, and the

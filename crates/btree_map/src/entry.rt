@@ -12,8 +12,7 @@ mod vacant;
 
 use crate::BTreeMap;
 use btree_item::Address;
-use btree_node::Node;
-use btree_nodes::NodesMut;
+use btree_node::{Node, NodesMut};
 use btree_store::SlabStore;
 
 /// The entry of a key in a map, from one search.

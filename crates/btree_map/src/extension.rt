@@ -12,7 +12,7 @@ ghost use Rattle.btree_map.specs.Extension.{Adds, AddsUntil, Collects, CollectsU
 use crate::BTreeMap;
 use btree_ext::BTreeExt;
 use btree_item::{Address, Refused};
-use btree_nodes::NodesMut;
+use btree_node::NodesMut;
 use std::cmp::Ordering;
 
 impl<K: Ord + Drop, V: Drop, C: NodesMut<K, V>> BTreeMap<K, V, C> {

@@ -5,7 +5,7 @@ ghost use Rattle.btree_shape.specs.TreeState.{pairs_of};
 ghost use Rattle.btree_walk.specs.Bounds.{IsValidRange, pairs_between};
 
 use crate::BTreeMap;
-use btree_nodes::NodesMut;
+use btree_node::NodesMut;
 use btree_walk::{Iter, Keys, Range, Values};
 use std::iter::IntoIterator;
 use std::ops::Bound;

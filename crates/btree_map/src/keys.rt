@@ -7,7 +7,7 @@ ghost use Rattle.btree_map.specs.Lists.{last_of};
 use crate::BTreeMap;
 use btree_ext::{BTreeExt, Tree};
 use btree_item::Address;
-use btree_nodes::NodesMut;
+use btree_node::NodesMut;
 use std::ops::Index;
 
 // Returns the pair at an address, or `None` if no item is there.

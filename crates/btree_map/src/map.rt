@@ -6,7 +6,7 @@ ghost use Rattle.btree_raw.specs.Limit.{IsBTreeWithinLimit, IsWithinLimit};
 
 use btree_ext::{BTreeExt, BTreeExtMut, Tree};
 use btree_item::{Address, Fault, Item, Refused, UpdateRefused};
-use btree_nodes::{ClearNodes, NodesMut};
+use btree_node::{ClearNodes, NodesMut};
 use btree_raw::RawBTree;
 use std::marker::Model;
 

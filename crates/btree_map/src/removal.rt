@@ -7,7 +7,7 @@ ghost use Rattle.btree_map.specs.Removal.{RemovesPlace};
 
 use crate::BTreeMap;
 use btree_ext::{BTreeExt, BTreeExtMut};
-use btree_nodes::NodesMut;
+use btree_node::NodesMut;
 
 impl<K: Ord + Drop, V: Drop, C: NodesMut<K, V>> BTreeMap<K, V, C> {
     /// Removes the first pair, and returns it. Returns `None`, and nothing changes, if there are no pairs.

@@ -1,6 +1,6 @@
 //! The debug text of a map.
 use crate::BTreeMap;
-use btree_nodes::NodesMut;
+use btree_node::NodesMut;
 use std::fmt::{Debug, Formatter, Result, Write};
 
 /// The pairs in the order of their keys, as in `{1: 10, 2: 20}`.

@@ -8,7 +8,7 @@ ghost use Rattle.btree_map.specs.Comparison.{hash_writes, pair_cmp, pair_eq, pai
 
 use crate::BTreeMap;
 use crate::comparison::{feed, is_same, lexicographic_cmp, lexicographic_partial_cmp};
-use btree_nodes::NodesMut;
+use btree_node::NodesMut;
 use std::cmp::Ordering;
 use std::hash::{Hash, Hasher};
 

@@ -3,8 +3,7 @@
 use crate::asserts::{assert_same, assert_same_in, assert_true_in};
 use btree_ext::BTreeExt;
 use btree_map::{BTreeMap, Entry};
-use btree_node::Node;
-use btree_nodes::NodesMut;
+use btree_node::{Node, NodesMut};
 use btree_store::SlabStore;
 use btree_testing::Counted;
 use std::cell::Cell;

@@ -3,7 +3,7 @@ use crate::asserts::{assert_same, assert_true};
 use crate::drops::{Counted, hundred};
 use btree_ext::BTreeExt;
 use btree_map::{BTreeMap, IntoIter};
-use btree_nodes::NodesMut;
+use btree_node::NodesMut;
 use std::cell::Cell;
 use std::process::Abort;
 

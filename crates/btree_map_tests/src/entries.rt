@@ -1,8 +1,7 @@
 //! Entries, maps and sets as text, over the store that an entry has if none is named, and values of a type with a default.
 use crate::asserts::assert_same;
 use btree_map::{BTreeMap, Entry, OccupiedEntry, VacantEntry};
-use btree_node::Node;
-use btree_nodes::NodesMut;
+use btree_node::{Node, NodesMut};
 use btree_set::BTreeSet;
 use btree_store::SlabStore;
 use std::alloc::{AllocError, Global};

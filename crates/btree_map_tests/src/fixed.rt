@@ -4,8 +4,7 @@ use crate::samples::{check_pairs, first_keys};
 use btree_ext::BTreeExt;
 use btree_item::Cause;
 use btree_map::BTreeMap;
-use btree_node::Node;
-use btree_nodes::{CloneNodes, NodesMut};
+use btree_node::{CloneNodes, Node, NodesMut};
 use btree_stores::FixedSlab;
 use std::process::Abort;
 

@@ -1,7 +1,6 @@
 //! How often merges of sets compare elements.
 use crate::asserts::{assert_same, assert_true};
-use btree_node::Node;
-use btree_nodes::NodesMut;
+use btree_node::{Node, NodesMut};
 use btree_set::BTreeSet;
 use btree_store::SlabStore;
 use btree_testing::Counted;

@@ -2,8 +2,7 @@
 use crate::asserts::{assert_same, assert_same_in, assert_true};
 use crate::samples::check_pairs;
 use btree_map::BTreeMap;
-use btree_node::Node;
-use btree_nodes::NodesMut;
+use btree_node::{Node, NodesMut};
 use btree_store::SlabStore;
 use std::fmt::Debug;
 use std::process::Abort;

@@ -4,8 +4,7 @@ ghost use Rattle.std.specs.Prelude.{◌≡◌};
 use crate::asserts::assert_same;
 use crate::samples::first_keys;
 use btree_map::BTreeMap;
-use btree_node::Node;
-use btree_nodes::NodesMut;
+use btree_node::{Node, NodesMut};
 use btree_store::SlabStore;
 
 type Store = SlabStore<Node<u64, u64>>;

@@ -6,7 +6,7 @@ ghost use Rattle.btree_shape.specs.TreeState.{nodes_needed, pairs_of};
 ghost use Rattle.btree_find.specs.Answers.{IsGapAt};
 
 use btree_map::BTreeMap;
-use btree_nodes::NodesMut;
+use btree_node::NodesMut;
 
 // Inserts a pair where no node is needed: at a gap in a leaf with room.
 pub(crate) fn insert_in_room<K: Ord + Drop, V: Drop, C: NodesMut<K, V>>(

@@ -1,7 +1,7 @@
 //! Maps and lists of pairs that several modules of tests use.
 use crate::asserts::{assert_same, assert_true};
 use btree_map::BTreeMap;
-use btree_nodes::NodesMut;
+use btree_node::NodesMut;
 use std::fmt::Debug;
 use std::process::Abort;
 

@@ -1,2 +1,3 @@
 pub mod Node
 pub mod NodeLends
+pub mod StoreLends

@@ -1,12 +1,14 @@
-//! The nodes of the tree, of either kind.
+//! The nodes of the tree, of either kind, and stores of them.
 #![tactic(auto)]
 
 mod node;
+mod nodes;
 
 pub use btree_internal::{Branch, Children, ChildrenWithSeparators, InternalNode};
 pub use btree_leaf::LeafNode;
 pub use btree_view::{Balance, WouldUnderflow};
 pub use node::{Node, PoppedItem};
+pub use nodes::{ClearNodes, CloneNodes, Nodes, NodesMut};
 
 /// Internal nodes, under their path in Rust's crate.
 pub mod internal {

@@ -1,7 +1,6 @@
 //! A store that is full, one whose numbers are odd, and one that refuses one insertion.
 use crate::asserts::{assert_same, assert_same_in, assert_true, assert_true_in};
-use btree_node::{LeafNode, Node};
-use btree_nodes::ClearNodes;
+use btree_node::{ClearNodes, LeafNode, Node};
 use btree_store::{Clear, Slab, SlabClone, SlabMut, SlabStore};
 use btree_stores::{FixedSlab, Gate, OddSlab};
 use std::alloc::Global;

@@ -5,7 +5,7 @@ ghost use Rattle.btree_owned.specs.Ends.{HasFirst, KeepsFront, StandsAtFront, Ta
 
 use crate::spent::release_spent;
 use btree_item::Item;
-use btree_nodes::NodesMut;
+use btree_node::NodesMut;
 use btree_raw::RawBTree;
 use btree_steps::Steps;
 

@@ -4,7 +4,7 @@ ghost use Rattle.btree_shape.specs.TreeState.{IsBTree, pairs_of};
 
 use crate::back::take_last;
 use crate::front::take_first;
-use btree_nodes::NodesMut;
+use btree_node::NodesMut;
 use btree_raw::RawBTree;
 use btree_steps::Steps;
 use std::marker::Model;

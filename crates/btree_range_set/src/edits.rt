@@ -9,7 +9,7 @@ ghost use Rattle.btree_range_set.specs.Steps.{CanClear, CanCut, CanJoin, Clears,
 use btree_ext::{BTreeExt, BTreeExtMut};
 use btree_item::{Address, Item, Refused};
 use btree_map::BTreeMap;
-use btree_nodes::NodesMut;
+use btree_node::NodesMut;
 
 // Returns the range that a number is in.
 pub(crate) fn range_around<C: NodesMut<u64, u64>>(

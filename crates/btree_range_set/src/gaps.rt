@@ -5,7 +5,7 @@ ghost use Rattle.std.specs.Prelude.{◌≡◌, IfSome, None};
 ghost use Rattle.btree_range_set.specs.Gaps.{AreGaps, gaps_from};
 
 use crate::{Overlapping, RangeSet};
-use btree_nodes::NodesMut;
+use btree_node::NodesMut;
 use std::iter::{FusedIterator, Iterator};
 use std::marker::Model;
 

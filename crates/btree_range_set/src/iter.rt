@@ -5,7 +5,7 @@ ghost use Rattle.std.specs.Iterator.{UpTo, YieldsFirst, YieldsLast, item_count};
 ghost use Rattle.btree_range_set.specs.Ranges.{AreRuns};
 
 use crate::RangeSet;
-use btree_nodes::NodesMut;
+use btree_node::NodesMut;
 use btree_walk::Iter as Pairs;
 use std::iter::{DoubleEndedIterator, FusedIterator, IntoIterator, Iterator};
 use std::marker::Model;

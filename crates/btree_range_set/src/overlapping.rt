@@ -6,7 +6,7 @@ ghost use Rattle.btree_range_set.specs.Ranges.{AreRuns, ranges_meeting};
 
 use crate::RangeSet;
 use crate::edits::range_around;
-use btree_nodes::NodesMut;
+use btree_node::NodesMut;
 use btree_walk::Range as Pairs;
 use std::iter::{DoubleEndedIterator, FusedIterator, Iterator};
 use std::marker::Model;

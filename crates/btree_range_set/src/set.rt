@@ -8,7 +8,7 @@ ghost use Rattle.btree_range_set.specs.State.{GrowsWithinLimit, IsRefused};
 use crate::edits::{add, range_around, subtract};
 use btree_item::Refused;
 use btree_map::BTreeMap;
-use btree_nodes::{ClearNodes, NodesMut};
+use btree_node::{ClearNodes, NodesMut};
 use std::marker::Model;
 
 /// A set of numbers, kept as its maximal runs: half-open ranges in ascending order, none empty, no two of which touch. It may have any

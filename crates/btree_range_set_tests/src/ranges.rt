@@ -1,8 +1,7 @@
 //! Ranges that are joined, cut and refused.
 use crate::asserts::{assert_same, assert_true};
 use btree_item::{Cause, Refused};
-use btree_node::Node;
-use btree_nodes::{ClearNodes, NodesMut};
+use btree_node::{ClearNodes, Node, NodesMut};
 use btree_range_set::RangeSet;
 use btree_store::SlabStore;
 use btree_stores::FixedSlab;

@@ -1,8 +1,7 @@
 //! Lists of two hundred calls, against a table of truth values.
 use crate::asserts::{assert_same, assert_true};
 use btree_item::{Cause, Refused};
-use btree_node::Node;
-use btree_nodes::NodesMut;
+use btree_node::{Node, NodesMut};
 use btree_range_set::RangeSet;
 use btree_store::{SlabMut, SlabStore};
 use btree_stores::{FixedSlab, Gate, OddSlab};

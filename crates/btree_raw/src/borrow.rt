@@ -11,7 +11,7 @@ use crate::raw::RawBTree;
 use crate::rotate::{merge, rotate_left, rotate_right};
 use btree_item::{Address, LEAF_SLOTS, MIN_ITEMS};
 use btree_moved::{Siblings, moved_by_merge, moved_by_rotate_left, moved_by_rotate_right};
-use btree_nodes::NodesMut;
+use btree_node::NodesMut;
 
 /// Moves the first item of the right sibling into the left one, which underflows and has `count` items, through their parent. Returns the
 /// new address of what was at `addr`, or `None`, and nothing changes, if the right sibling has no item to spare. It changes three nodes, and

@@ -8,8 +8,7 @@ ghost use Rattle.btree_raw.specs.Raw.{Refuses, with_node};
 use crate::raw::RawBTree;
 use arrayvec::ArrayVec;
 use btree_item::MAX_CLAIMS;
-use btree_node::{LeafNode, Node};
-use btree_nodes::NodesMut;
+use btree_node::{LeafNode, Node, NodesMut};
 
 /// The numbers of claimed nodes. An insertion claims at most one for each of at most 32 levels, and one for a new root.
 pub type ClaimedIds = ArrayVec<usize, MAX_CLAIMS>;

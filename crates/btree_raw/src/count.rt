@@ -7,7 +7,7 @@ ghost use Rattle.btree_raw.specs.Steps.{HasParent, IsCountingSplits};
 
 use crate::raw::RawBTree;
 use btree_item::MAX_CLAIMS;
-use btree_nodes::NodesMut;
+use btree_node::NodesMut;
 
 /// Returns how many nodes the splits need that begin at a node with an item too many: one for each consecutive full node from there
 /// upward, and one more if the last of them is the root. It reads at most one node of each level.

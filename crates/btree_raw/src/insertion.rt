@@ -12,8 +12,7 @@ use crate::overflow::add_and_split;
 use crate::raw::RawBTree;
 use crate::rebalance::rebalance_fetched;
 use btree_item::{Address, Cause, Item, Offset, Refused};
-use btree_node::Node;
-use btree_nodes::NodesMut;
+use btree_node::{Node, NodesMut};
 
 /// Returns the error of a refused insertion: the cause, and the key and value of the item.
 pub fn refused<K, V>(cause: Cause, item: Item<K, V>) -> Refused<K, V>

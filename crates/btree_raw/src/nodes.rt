@@ -11,8 +11,7 @@ ghost use Rattle.btree_raw.specs.Insertion.{IsFull};
 use crate::claims::{ClaimedIds, empty_leaf, take_claim};
 use crate::raw::RawBTree;
 use btree_item::{INTERNAL_SLOTS, Item, Offset};
-use btree_node::Node;
-use btree_nodes::NodesMut;
+use btree_node::{Node, NodesMut};
 use std::mem;
 
 /// Puts a node in the place of another, which is dropped.

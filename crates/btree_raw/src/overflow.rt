@@ -10,8 +10,7 @@ use crate::nodes::{Cut, add_and_cut, cut_node, insert_separator, put, set_parent
 use crate::raw::RawBTree;
 use btree_item::{Address, Item};
 use btree_moved::moved_by_split;
-use btree_node::Node;
-use btree_nodes::NodesMut;
+use btree_node::{Node, NodesMut};
 
 // Makes node `root` a new root over two nodes.
 fn grow_root<K: Drop, V: Drop, C: NodesMut<K, V>>(

@@ -10,8 +10,7 @@ ghost use Rattle.btree_raw.specs.Raw.{IsWithinNode};
 
 use crate::nodes::reparent_children;
 use btree_item::{Address, Fault, Item};
-use btree_node::Node;
-use btree_nodes::{ClearNodes, CloneNodes, Nodes, NodesMut};
+use btree_node::{ClearNodes, CloneNodes, Node, Nodes, NodesMut};
 use btree_valid::{is_off_by_one, validate, validate_node};
 use std::alloc::AllocError;
 use std::marker::{Model, PhantomData};

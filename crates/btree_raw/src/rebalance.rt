@@ -10,7 +10,7 @@ use crate::overflow::split_upward;
 use crate::raw::RawBTree;
 use crate::underflow::fix_underflow_upward;
 use btree_item::{Address, Cause};
-use btree_nodes::NodesMut;
+use btree_node::NodesMut;
 
 // Claims the nodes that the splits need, and splits an overflowing node and so on upward.
 fn rebalance_overflow<K: Ord + Drop, V: Drop, C: NodesMut<K, V>>(

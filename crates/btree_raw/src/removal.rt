@@ -6,7 +6,7 @@ ghost use Rattle.btree_raw.specs.TreeSteps.{LosesItemOfFew};
 
 use crate::raw::RawBTree;
 use btree_item::Item;
-use btree_nodes::NodesMut;
+use btree_node::NodesMut;
 
 impl<K: Ord + Drop, V: Drop, C: NodesMut<K, V>> RawBTree<K, V, C> {
     /// Takes the last item out of the rightmost leaf under a node, and returns it with the number of that leaf. Nothing else changes:

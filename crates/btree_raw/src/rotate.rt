@@ -18,8 +18,7 @@ use crate::nodes::{adopt, set_parent};
 use crate::raw::RawBTree;
 use btree_item::{Item, LEAF_SLOTS, MIN_ITEMS, Offset};
 use btree_moved::Siblings;
-use btree_node::Node;
-use btree_nodes::NodesMut;
+use btree_node::{Node, NodesMut};
 use btree_view::WouldUnderflow;
 
 // Removes and returns the first item of a node, with the first child of an internal node, if it has one to spare.

@@ -14,7 +14,7 @@ use crate::raw::RawBTree;
 use crate::rotate::shrink_root;
 use btree_item::{Address, LEAF_SLOTS, MIN_ITEMS};
 use btree_moved::{Siblings, moved_by_shrink_root};
-use btree_nodes::NodesMut;
+use btree_node::NodesMut;
 
 // Returns two adjacent children, if both are there.
 fn siblings_of(

@@ -10,8 +10,7 @@ ghost use Rattle.std.specs.Process.{exit_status};
 ghost use Rattle.btree_script.specs.Ending.{status_after, status_of, text_of};
 ghost use Rattle.btree_script.specs.Serving.{ServesAnew, ServesSlab, ServesTable};
 
-use btree_node::Node;
-use btree_nodes::ClearNodes;
+use btree_node::{ClearNodes, Node};
 use btree_session::{Session, Setup, Stop, drive, setup};
 use btree_store::SlabStore;
 use btree_stores::FixedSlab;

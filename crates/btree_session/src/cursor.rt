@@ -5,7 +5,7 @@ ghost use Rattle.btree_session.specs.Text.{HasCapacityFor};
 
 use crate::Reply;
 use btree_map::{BTreeMap, EntriesMut};
-use btree_nodes::NodesMut;
+use btree_node::NodesMut;
 use std::alloc::{AllocError, Allocator};
 
 /// A step of an editing cursor over a map from `u64` to `u64`.

@@ -8,8 +8,7 @@ use crate::text::{push_key, push_number, push_pair, push_text};
 use btree_ext::BTreeExt;
 use btree_leaf::LeafNode;
 use btree_map::BTreeMap;
-use btree_node::Node;
-use btree_nodes::NodesMut;
+use btree_node::{Node, NodesMut};
 use std::alloc::AllocError;
 
 /// A question that a line may ask about the map. It changes nothing.

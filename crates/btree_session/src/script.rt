@@ -9,7 +9,7 @@ use crate::line::{Line, parse, without_last};
 use crate::question::{Question, push_answer_line};
 use crate::text::{LONGEST_LINE, push_line};
 use crate::{Command, Session};
-use btree_nodes::{ClearNodes, NodesMut};
+use btree_node::{ClearNodes, NodesMut};
 use std::alloc::{AllocError, Global};
 use std::io::{BufRead, BufReader, ErrorKind, Read, Write};
 

@@ -9,7 +9,7 @@ use crate::{Command, Reply};
 use btree_ext::{BTreeExt, BTreeExtMut};
 use btree_item::{Address, Item};
 use btree_map::BTreeMap;
-use btree_nodes::{ClearNodes, NodesMut};
+use btree_node::{ClearNodes, NodesMut};
 use std::alloc::{AllocError, Allocator};
 use std::marker::Model;
 

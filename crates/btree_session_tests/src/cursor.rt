@@ -1,8 +1,7 @@
 //! A list of steps that a cursor runs, without memory for the replies.
 use crate::asserts::{assert_same, assert_true};
 use btree_map::BTreeMap;
-use btree_node::Node;
-use btree_nodes::NodesMut;
+use btree_node::{Node, NodesMut};
 use btree_session::{CursorStep, Reply, run_cursor};
 use btree_store::SlabStore;
 use btree_testing::Refusing;

@@ -1,8 +1,7 @@
 //! Sessions over readers and writers that fail, over many lines, and without memory for the replies.
 use crate::asserts::{assert_same, assert_same_in, assert_true};
 use btree_ext::BTreeExt;
-use btree_node::Node;
-use btree_nodes::ClearNodes;
+use btree_node::{ClearNodes, Node};
 use btree_session::{Command, Reply, Session, Stop, drive, run};
 use btree_store::SlabStore;
 use btree_testing::{Refusing, content_of};

@@ -2,8 +2,7 @@
 use crate::asserts::{assert_same, assert_true, assert_true_in};
 use btree_ext::BTreeExt;
 use btree_item::Address;
-use btree_node::Node;
-use btree_nodes::ClearNodes;
+use btree_node::{ClearNodes, Node};
 use btree_session::{Session, drive};
 use btree_store::SlabMut;
 use btree_stores::{FixedSlab, OddSlab};

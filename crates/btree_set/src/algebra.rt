@@ -9,7 +9,7 @@ use crate::peeked::Peeked;
 use crate::symmetric_difference::SymmetricDifference;
 use crate::union::Union;
 use btree_ext::BTreeExt;
-use btree_nodes::NodesMut;
+use btree_node::NodesMut;
 
 impl<T: Ord, C: NodesMut<T, ()>> BTreeSet<T, C> {
     // Returns the elements, the first of which is taken from the iterator already.

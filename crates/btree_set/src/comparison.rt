@@ -6,7 +6,7 @@ ghost use Rattle.std.specs.List.{flat_map};
 ghost use Rattle.btree_map.specs.Comparison.{writes-same};
 
 use crate::BTreeSet;
-use btree_nodes::{CloneNodes, NodesMut};
+use btree_node::{CloneNodes, NodesMut};
 use std::alloc::AllocError;
 use std::cmp::Ordering;
 use std::hash::{Hash, Hasher};

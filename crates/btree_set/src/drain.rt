@@ -5,7 +5,7 @@ mod steps;
 use crate::BTreeSet;
 use btree_item::Address;
 use btree_map::ByKey;
-use btree_nodes::NodesMut;
+use btree_node::NodesMut;
 use steps::run_rest;
 
 /// The elements of a set that a closure picks, removed one at a time in order: what `BTreeSet::drain_filter` returns. The closure is called

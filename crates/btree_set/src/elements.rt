@@ -7,7 +7,7 @@ ghost use Rattle.btree_set.specs.Elements.{elements_between};
 
 use crate::BTreeSet;
 use btree_map::IntoKeys;
-use btree_nodes::NodesMut;
+use btree_node::NodesMut;
 use btree_walk::{Keys, Range as Pairs};
 use std::iter::{DoubleEndedIterator, FusedIterator, IntoIterator, Iterator};
 use std::marker::Model;

@@ -9,7 +9,7 @@ ghost use Rattle.btree_set.specs.Extension.{Adds, AddsAll, AddsUntil, Collects, 
 
 use crate::BTreeSet;
 use btree_item::Refused;
-use btree_nodes::NodesMut;
+use btree_node::NodesMut;
 
 impl<T: Ord + Drop, C: NodesMut<T, ()>> BTreeSet<T, C> {
     /// Moves the elements of `other` into this set. Where both have an element, this set keeps its own.

@@ -3,7 +3,7 @@ ghost use Rattle.std.specs.Prelude.{◌≡◌, drop, length, slice_get};
 ghost use Rattle.std.specs.List.Sorted.{IsStrictlySortedBy};
 ghost use Rattle.std.specs.Option.{option_copied};
 
-use btree_nodes::NodesMut;
+use btree_node::NodesMut;
 use btree_walk::Keys;
 use std::iter::{ExactSizeIterator, Iterator};
 use std::marker::Model;

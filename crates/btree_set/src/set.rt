@@ -14,7 +14,7 @@ ghost use Rattle.btree_set.specs.Elements.{IsInTree, IsRefused, inserted, remove
 use btree_ext::BTreeExt;
 use btree_item::Refused;
 use btree_map::BTreeMap;
-use btree_nodes::{ClearNodes, NodesMut};
+use btree_node::{ClearNodes, NodesMut};
 use std::marker::Model;
 
 /// An ordered set: a map without values. Contracts see its elements in order.

@@ -1,6 +1,6 @@
 //! The debug text of a set.
 use crate::BTreeSet;
-use btree_nodes::NodesMut;
+use btree_node::NodesMut;
 use std::fmt::{Debug, Formatter, Result, Write};
 
 /// The elements in order, as in `{1, 2}`.

@@ -5,7 +5,7 @@ ghost use Rattle.std.specs.Iterator.{YieldsFirstRef, item_count, UpTo};
 ghost use Rattle.btree_set.specs.Merges.{count_of, symmetric_difference, symmetric_difference_hint};
 
 use crate::peeked::Peeked;
-use btree_nodes::NodesMut;
+use btree_node::NodesMut;
 use std::cmp::Ordering;
 use std::iter::{FusedIterator, Iterator};
 use std::marker::Model;

@@ -16,8 +16,8 @@ use Rattle.btree_item.specs.Pairs.{Ascends}
 use Rattle.btree_item.specs.declared.address.Address.{Address}
 use Rattle.btree_item.specs.declared.refused.Cause.{Cause}
 use Rattle.btree_node.specs.declared.node.Node.{Node}
-use Rattle.btree_nodes.specs.declared.Nodes as nodes
-use Rattle.btree_nodes.specs.declared.NodesMut as nodes_mut
+use Rattle.btree_node.specs.declared.nodes.Nodes as nodes
+use Rattle.btree_node.specs.declared.nodes.NodesMut as nodes_mut
 use Rattle.btree_shape.specs.TreeAddresses.{item_addresses_of, leaf_backs_of}
 use Rattle.btree_shape.specs.TreeState.{TreeState, IsBTree, IsPlaceIn, pairs_of}
 use Rattle.btree_shape.proofs.AddressLists.Whole.{addresses-tree}

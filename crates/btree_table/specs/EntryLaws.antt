@@ -15,8 +15,8 @@ use Rattle.btree_item.specs.declared.address.Address.{Address}
 use Rattle.btree_item.specs.declared.refused.Cause.{Cause}
 use Rattle.btree_node.specs.declared.node.Node.{Node}
 use Rattle.btree_node.specs.Node.{view_of}
-use Rattle.btree_nodes.specs.declared.Nodes as nodes
-use Rattle.btree_nodes.specs.declared.NodesMut as nodes_mut
+use Rattle.btree_node.specs.declared.nodes.Nodes as nodes
+use Rattle.btree_node.specs.declared.nodes.NodesMut as nodes_mut
 use Rattle.btree_view.specs.View.{item_at_offset}
 use Rattle.btree_shape.specs.TreeState.{TreeState, IsBTree, pairs_of}
 use Rattle.btree_edit.specs.Insert.{InsertsByKey, IsRefusedAtGap}

@@ -9,7 +9,7 @@ use crate::{FixedMap, tell_held};
 use btree_ext::BTreeExt;
 use btree_item::Refused;
 use btree_map::{BTreeMap, Entry};
-use btree_nodes::NodesMut;
+use btree_node::NodesMut;
 
 // Inserts a pair whose key is not there, by `VacantEntry::insert`, over any store. Returns whether the key was not there.
 fn insert_by_vacant<K: Ord + Drop, V: Drop, C: NodesMut<K, V>>(

@@ -6,7 +6,7 @@ ghost use Rattle.btree_edit.specs.Replace.{replaced};
 ghost use Rattle.btree_edit.specs.Update.{RunsByKey};
 
 use btree_map::BTreeMap;
-use btree_nodes::NodesMut;
+use btree_node::NodesMut;
 
 /// Replaces the value at a key that is there, by `BTreeMap::insert`, and returns the old one.
 pub fn insert_present<K: Ord + Drop, V: Drop, C: NodesMut<K, V>>(

@@ -11,7 +11,7 @@ ghost use Rattle.btree_table.specs.Capacity.{NeedsNoNode, NeedsNoNodeAt};
 use btree_ext::BTreeExtMut;
 use btree_item::{Address, Item};
 use btree_map::BTreeMap;
-use btree_nodes::NodesMut;
+use btree_node::NodesMut;
 
 /// Inserts a pair where that needs no node, by `BTreeMap::insert`: the key is there, or its gap is in a leaf with room. Returns the old
 /// value, if there was one.

@@ -1,6 +1,5 @@
 use btree_item::Offset;
-use btree_node::Node;
-use btree_nodes::NodesMut;
+use btree_node::{Node, NodesMut};
 use btree_raw::RawBTree;
 use std::alloc::Global;
 use std::test::Fail;

@@ -4,7 +4,7 @@ ghost use Rattle.std.specs.FinMap as map;
 ghost use Rattle.btree_shape.specs.TreeState.{pairs_of};
 
 use btree_ext::{BTreeExt, Tree};
-use btree_nodes::NodesMut;
+use btree_node::NodesMut;
 use btree_steps::Steps;
 
 /// Passes each back address, from the first one on, and counts them: as many as pairs and nodes together.

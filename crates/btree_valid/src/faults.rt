@@ -14,8 +14,7 @@ ghost use Rattle.btree_valid.specs.Spots.{BlamesAt, CanMeet, FindsAt, FindsTree,
 ghost use Rattle.btree_valid.specs.Verdicts.{IsVerdict, NamesTree};
 
 use btree_item::{Fault, MAX_LEVELS};
-use btree_node::Node;
-use btree_nodes::Nodes;
+use btree_node::{Node, Nodes};
 
 // A node to check: its number, how many levels it is below the start of the walk, the number of the node above it, and the nearest
 // separators on both sides.

@@ -9,8 +9,7 @@ ghost use Rattle.btree_valid.specs.OffByOne.{IsAbove, IsOffByOneAmong, IsOffByOn
 ghost use Rattle.btree_valid.specs.Parts.{CanPassItems, CanPassPart, PassesItems, PassesKey, PassesPart};
 
 use btree_item::{MAX_INTERNAL_ITEMS, MAX_LEAF_ITEMS, MAX_LEVELS, MIN_ITEMS};
-use btree_node::Node;
-use btree_nodes::Nodes;
+use btree_node::{Node, Nodes};
 use std::cmp::Ordering;
 
 // An in-order walk through the nodes: how many nodes may still come, and the last key that was passed.

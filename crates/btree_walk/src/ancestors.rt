@@ -7,8 +7,7 @@ ghost use Rattle.btree_walk.specs.Rows.{AreAncestors, IsBelow, IsNextAbove, IsNe
 
 use btree_ext::{BTreeExt, Tree};
 use btree_item::{LEAF_SLOTS, MAX_LEVELS, Slots};
-use btree_node::{LeafNode, Node};
-use btree_nodes::NodesMut;
+use btree_node::{LeafNode, Node, NodesMut};
 use std::marker::Model;
 
 /// An internal node above the leaf, and how many of its items are passed.

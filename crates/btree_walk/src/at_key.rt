@@ -11,8 +11,7 @@ ghost use Rattle.btree_walk.specs.Rows.{AreAncestors};
 
 use crate::ancestors::{Ancestor, Ancestors};
 use btree_ext::{BTreeExt, Tree};
-use btree_node::{LeafNode, Node};
-use btree_nodes::NodesMut;
+use btree_node::{LeafNode, Node, NodesMut};
 
 // Returns how many items of a node have keys below `key`, and the child after them, or `None` if the key is in the node or the node is a
 // leaf. It makes at most six comparisons.

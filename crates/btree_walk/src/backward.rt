@@ -11,8 +11,7 @@ use crate::ancestors::{Ancestor, Ancestors};
 use crate::fetched::{Fetched, fetch_before, take_or_fetch};
 use btree_ext::{BTreeExt, Tree};
 use btree_item::{Item, LEAF_SLOTS, SlotsIter};
-use btree_node::{LeafNode, Node};
-use btree_nodes::NodesMut;
+use btree_node::{LeafNode, Node, NodesMut};
 
 // Returns the first `kept` items of a leaf, to be passed from the last one back.
 #[inline]

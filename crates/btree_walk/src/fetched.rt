@@ -7,8 +7,7 @@ ghost use Rattle.btree_walk.specs.Preceding.{AreAncestorsBefore, AreFetched, Has
 use crate::ancestors::{Ancestor, Ancestors};
 use btree_ext::{BTreeExt, Tree};
 use btree_item::{LEAF_SLOTS, MIN_ITEMS, Slots};
-use btree_node::{LeafNode, Node};
-use btree_nodes::NodesMut;
+use btree_node::{LeafNode, Node, NodesMut};
 
 /// The leaves that a backward walk comes to next, each with its number, the next one last. They have one parent. They are fetched together,
 /// so that the walk does not wait for each of them alone.

@@ -10,8 +10,7 @@ use crate::ancestors::{Ancestors, next_above, start};
 use crate::walks::Back;
 use btree_ext::{BTreeExt, Tree};
 use btree_item::{Item, SlotsIter};
-use btree_node::LeafNode;
-use btree_nodes::NodesMut;
+use btree_node::{LeafNode, NodesMut};
 use std::iter::{DoubleEndedIterator, ExactSizeIterator, FusedIterator};
 use std::marker::Model;
 

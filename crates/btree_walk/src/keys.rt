@@ -5,7 +5,7 @@ ghost use Rattle.std.specs.Iterator.{YieldsFirstRef, YieldsLastRef, item_count, 
 
 use crate::Iter;
 use btree_ext::Tree;
-use btree_nodes::NodesMut;
+use btree_node::NodesMut;
 use std::iter::{DoubleEndedIterator, ExactSizeIterator, FusedIterator};
 use std::marker::Model;
 

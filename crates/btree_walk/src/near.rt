@@ -9,8 +9,7 @@ ghost use Rattle.btree_walk.specs.Rows.{AreAncestors, remaining_of};
 
 use crate::ancestors::{Ancestors, next_in_leaf};
 use btree_ext::{BTreeExt, Tree};
-use btree_node::{LeafNode, Node};
-use btree_nodes::NodesMut;
+use btree_node::{LeafNode, Node, NodesMut};
 use std::ops::Bound;
 
 // Returns whether a key is past an end bound.

@@ -15,7 +15,7 @@ use crate::near::{is_past, last_within};
 use crate::walks::{Back, Front};
 use btree_ext::{BTreeExt, Tree};
 use btree_item::{Item, SlotsIter};
-use btree_nodes::NodesMut;
+use btree_node::NodesMut;
 use std::cmp::Ordering;
 use std::iter::{DoubleEndedIterator, FusedIterator};
 use std::marker::Model;

@@ -14,8 +14,7 @@ use crate::backward::{end, last_in_run, previous_above, run_to};
 use crate::fetched::Fetched;
 use btree_ext::{BTreeExt, Tree};
 use btree_item::{Item, Slots, SlotsIter};
-use btree_node::LeafNode;
-use btree_nodes::NodesMut;
+use btree_node::{LeafNode, NodesMut};
 use std::ops::Bound;
 
 /// A forward walk: its leaf, how many of its items are passed, and the nodes above.

@@ -7,7 +7,7 @@ use crate::BTreeMap;
 use crate::cursor::pairs::address_after;
 use btree_ext::BTreeExt;
 use btree_item::Address;
-use btree_nodes::NodesMut;
+use btree_node::NodesMut;
 
 // Returns the count one higher, if it is known.
 pub(crate) fn one_more(known: Option<usize>) -> Option<usize>

@@ -5,7 +5,7 @@ ghost use Rattle.btree_map.specs.Spans.{IsFirstListed, item_index};
 
 use crate::BTreeMap;
 use btree_item::Address;
-use btree_nodes::NodesMut;
+use btree_node::NodesMut;
 
 /// A cursor over the pairs of a map, in the order of the keys, that inserts and removes pairs where it is, and lends one value for writing
 /// at a time. It stands between the pairs that it has passed and those that are left.

@@ -16,7 +16,7 @@ use crate::cursor::pairs::address_after;
 use crate::cursor::ranges::first_from;
 use btree_ext::{BTreeExt, BTreeExtMut};
 use btree_item::{Address, Item, Refused};
-use btree_nodes::NodesMut;
+use btree_node::NodesMut;
 use std::ops::Bound;
 
 impl<K: Ord, V, C: NodesMut<K, V>> BTreeMap<K, V, C> {

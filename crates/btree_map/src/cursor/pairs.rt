@@ -11,7 +11,7 @@ use crate::BTreeMap;
 use crate::cursor::IterMut;
 use btree_ext::{BTreeExt, BTreeExtMut};
 use btree_item::Address;
-use btree_nodes::NodesMut;
+use btree_node::NodesMut;
 
 // Returns the address of the item after the one at an address.
 pub(crate) fn address_after<K: Ord, V, C: NodesMut<K, V>>(

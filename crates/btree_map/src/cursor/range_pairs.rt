@@ -9,7 +9,7 @@ use crate::cursor::RangeMut;
 use crate::cursor::pairs::{address_after, address_before};
 use btree_ext::{BTreeExt, BTreeExtMut};
 use btree_item::Address;
-use btree_nodes::NodesMut;
+use btree_node::NodesMut;
 
 impl<'a, K: Ord, V, C: NodesMut<K, V>> RangeMut<'a, K, V, C> {
     /// Returns whether no pair is left. It reads no node. How many are left is not known.

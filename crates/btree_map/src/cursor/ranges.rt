@@ -9,7 +9,7 @@ use crate::BTreeMap;
 use crate::cursor::RangeMut;
 use btree_ext::BTreeExt;
 use btree_item::Address;
-use btree_nodes::NodesMut;
+use btree_node::NodesMut;
 use std::ops::Bound;
 
 // Returns the address of the first item that is not before a start bound.

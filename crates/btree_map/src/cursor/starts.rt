@@ -7,7 +7,7 @@ ghost use Rattle.btree_map.specs.Cursor.{pairs_left, values_left};
 use crate::BTreeMap;
 use crate::cursor::{IterMut, ValuesMut};
 use btree_ext::BTreeExt;
-use btree_nodes::NodesMut;
+use btree_node::NodesMut;
 
 impl<K: Ord, V, C: NodesMut<K, V>> BTreeMap<K, V, C> {
     /// Returns a cursor over all pairs, which lends their values for writing. It reads two nodes of each level.

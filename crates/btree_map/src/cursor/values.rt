@@ -8,7 +8,7 @@ use crate::cursor::ValuesMut;
 use crate::cursor::pairs::address_after;
 use btree_ext::{BTreeExt, BTreeExtMut};
 use btree_item::Address;
-use btree_nodes::NodesMut;
+use btree_node::NodesMut;
 
 impl<'a, K: Ord, V, C: NodesMut<K, V>> ValuesMut<'a, K, V, C> {
     /// Returns how many values are left.

@@ -11,7 +11,7 @@ use crate::BTreeMap;
 use crate::drain::DrainFilter;
 use crate::pair_test::{ByPair, PairTest};
 use btree_ext::BTreeExt;
-use btree_nodes::NodesMut;
+use btree_node::NodesMut;
 
 impl<'a, K: Ord + Drop, V: Drop, C: NodesMut<K, V>, F: FnMut(&K, &mut V) -> bool> DrainFilter<
     'a,

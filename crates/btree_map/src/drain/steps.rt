@@ -10,7 +10,7 @@ use crate::BTreeMap;
 use crate::cursor::EntriesMut;
 use crate::pair_test::PairTest;
 use btree_item::Address;
-use btree_nodes::NodesMut;
+use btree_node::NodesMut;
 
 // Asks at the first pair that is left.
 fn ask<K: Ord + Drop, V: Drop, C: NodesMut<K, V>, P: PairTest<K, V>>(

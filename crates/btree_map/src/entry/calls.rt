@@ -8,7 +8,7 @@ ghost use Rattle.btree_map.specs.Lent.{entry_lends};
 
 use super::Entry;
 use btree_item::{Address, Refused};
-use btree_nodes::NodesMut;
+use btree_node::NodesMut;
 use std::default::Default;
 
 impl<'a, K: Ord, V, C: NodesMut<K, V>> Entry<'a, K, V, C> {

@@ -5,7 +5,7 @@ ghost use Rattle.std.specs.Map.Calls.{ModifiesValue};
 ghost use Rattle.btree_map.specs.Entry.{ModifiesEntry, asked_key, entry_search, entry_map, entry_value, list_with_value};
 
 use super::Entry;
-use btree_nodes::NodesMut;
+use btree_node::NodesMut;
 
 impl<'a, K: Ord + Drop, V: Drop, C: NodesMut<K, V>> Entry<'a, K, V, C> {
     /// Calls `change` with the value if the key is there, and returns the entry. The stored key stays, and so does every address.

@@ -10,7 +10,7 @@ use super::OccupiedEntry;
 use crate::BTreeMap;
 use btree_ext::{BTreeExt, BTreeExtMut};
 use btree_item::Address;
-use btree_nodes::NodesMut;
+use btree_node::NodesMut;
 use std::mem;
 
 // Removes the item at an address.

@@ -1,6 +1,6 @@
 //! Entries as text, for tests and messages.
 use super::{Entry, OccupiedEntry, VacantEntry};
-use btree_nodes::NodesMut;
+use btree_node::NodesMut;
 use std::fmt::{Debug, Formatter, Result, Write};
 
 impl<'a, K: Ord + Debug, V: Debug, C: NodesMut<K, V>> Debug for Entry<'a, K, V, C> {

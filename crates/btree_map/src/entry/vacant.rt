@@ -6,7 +6,7 @@ ghost use Rattle.btree_map.specs.Lent.{lends_inserted};
 use super::VacantEntry;
 use btree_ext::BTreeExtMut;
 use btree_item::{Address, Refused};
-use btree_nodes::NodesMut;
+use btree_node::NodesMut;
 
 impl<'a, K: Ord, V, C: NodesMut<K, V>> VacantEntry<'a, K, V, C> {
     /// Returns the back address in a leaf at which the key would be inserted, or nowhere if there are no pairs.

@@ -8,7 +8,7 @@ use crate::BTreeSet;
 use crate::drain::DrainFilter;
 use btree_ext::BTreeExt;
 use btree_map::ByKey;
-use btree_nodes::NodesMut;
+use btree_node::NodesMut;
 
 impl<'a, T: Ord + Drop, C: NodesMut<T, ()>, F: FnMut(&T) -> bool> DrainFilter<'a, T, C, F> {
     /// Returns the elements of a set for which the closure returns `true`, as `BTreeSet::drain_filter` does.

@@ -8,7 +8,7 @@ use crate::BTreeSet;
 use crate::set::first_of;
 use btree_item::Address;
 use btree_map::{ByKey, run_out, seek_from};
-use btree_nodes::NodesMut;
+use btree_node::NodesMut;
 
 // Asks at the elements from place `front` on until one is picked, and removes that one. Returns where the element after it is, too.
 pub(crate) fn seek<T: Ord + Drop, C: NodesMut<T, ()>, F: FnMut(&T) -> bool>(

@@ -1,11 +1,10 @@
 -- The list of the back addresses of a tree: each is in it once, and in order.
 use Rattle.std.proofs.Common.{◌≡◌, ◌∷◌, ◌+◌, ◌∙◌, [], ℕ, zero, suc, inl, true, List, length, Option, Some, None, refl, sym, ap, subst, arith, length-append}
 use Rattle.std.specs.Prelude.{slice_get, is_some}
-use Rattle.btree_item.specs.declared.address.Address.{Address}
 use Rattle.btree_view.specs.View.{NodeMap}
 use Rattle.btree_shape.specs.Addresses.{backs_under}
 use Rattle.btree_shape.specs.AddressLaws.{IsPlaced, IsPlacedUnder, ListsBacks, numbers_of}
-use Rattle.btree_shape.specs.Place.{IsBack, IsValid, IsWithin}
+use Rattle.btree_shape.specs.Place.{IsBack, IsWithin}
 use Rattle.btree_shape.specs.Lists.{total}
 use Rattle.btree_shape.specs.Focus.Subtree.{Subtree, items_under, later_items}
 use Rattle.btree_shape.specs.Represents.{numbers_under}
@@ -105,9 +104,3 @@ module _ {A : Type 0} (node_at : NodeMap A) where
     };
   }
   backs-listed levels (Some root) xs p = backs-placed levels root xs p
-
-  -- in a tree with a root the valid back addresses are those in nodes
-  pub valid-back : (root : ℕ) (xs : List A) (list : List Address) (numbers : List ℕ)
-      → ListsBacks node_at (Some root) xs list numbers → (a : Address) → IsValid node_at (Some root) a.id a.offset
-      → IsBack node_at a.offset → (i : ℕ) × (slice_get list i ≡ Some a)
-  valid-back root xs list numbers law a v b = law.each a (valid-within node_at root a.id a.offset v) b

@@ -2,19 +2,17 @@
 //!
 //! [`Nodes`] and [`NodesMut`] are [`Slab`] and [`SlabMut`] for nodes, as bounds on a tree's store: their parameters are those of the
 //! tree. Every store of nodes implements them, so that a new store has to implement only the traits of `btree_store`.
-#![tactic(auto)]
-
 ghost use Rattle.std.specs.Prelude.{◌≡◌, ℕ, ◌+◌, ◌<◌, Some, None, IsSome, IfOk, IfErr, OnOk, OnErr, OnSome, option_copied};
 ghost use Rattle.std.specs.Option.{option_copied_mut};
 ghost use Rattle.std.specs.FinMap as map;
 ghost use Rattle.std.specs.Borrow.{sem};
 ghost use Rattle.std.specs.Mem.{FitsInMemory};
 ghost use Rattle.btree_store.specs.Content.{Content, Gains};
-ghost use Rattle.btree_nodes.specs.Lends.{lends_node};
+ghost use Rattle.btree_node.specs.StoreLends.{lends_node};
 ghost use Rattle.btree_node.specs.declared.node.Node.{Node};
 ghost use Rattle.btree_node.specs.contracts.node.Node.{the_row as node_row};
 
-use btree_node::Node;
+use crate::node::Node;
 use btree_store::{Clear, Slab, SlabClone, SlabMut};
 use std::alloc::AllocError;
 
