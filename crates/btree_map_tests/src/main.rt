@@ -25,8 +25,6 @@ mod gates;
 #[cfg(test)]
 mod lending;
 #[cfg(test)]
-mod limit;
-#[cfg(test)]
 mod merges;
 #[cfg(test)]
 mod names;
