@@ -128,27 +128,6 @@ fn an_equal_key_stays_unless_it_is_replaced(rt: HostRuntime) {
     put_equal::<MapStore>(&rt, BTreeMap::new(rt.alloc()), BTreeMap::new(rt.alloc()));
 }
 
-// Makes a map of three pairs, of which the first and the last one have equal keys.
-fn make_map<C: NodesMut<Named, u64> + Drop>(rt: &impl Abort, origin: C::Origin) {
-    let names = [(1, 'a', 1), (2, 'b', 2), (1, 'c', 3)];
-    let mut source = names
-        .iter()
-        .map(|&(number, name, value)| (Named { number, name }, value));
-    match BTreeMap::<Named, u64, C>::from_iter(origin, &mut source) {
-        Ok(map) => {
-            assert_same(rt, stored(&map, 1), Some(('a', 3)));
-            assert_same(rt, stored(&map, 2), Some(('b', 2)));
-            assert_same(rt, map.len(), 2);
-        }
-        Err(_) => panic!(rt; "refused"),
-    }
-}
-
-#[test]
-fn an_equal_key_stays_when_pairs_are_added(rt: HostRuntime) {
-    make_map::<MapStore>(&rt, rt.alloc());
-}
-
 // Writes to the value of a key by its entry, and updates it.
 fn change_equal<C: NodesMut<Named, u64>>(rt: &impl Abort, map: &mut BTreeMap<Named, u64, C>) {
     let second = Named {
@@ -338,21 +317,7 @@ fn take_equal<C: NodesMut<Named, ()> + Drop>(rt: &impl Abort, set: BTreeSet<Name
     assert_same(rt, set.len(), 3);
 }
 
-// Makes a set of three elements, of which the first and the last one are equal.
-fn make_set<C: NodesMut<Named, ()> + Drop>(rt: &impl Abort, origin: C::Origin) {
-    let names = [(1, 'a'), (2, 'b'), (1, 'c')];
-    let mut source = names.iter().map(|&(number, name)| Named { number, name });
-    match BTreeSet::<Named, C>::from_iter(origin, &mut source) {
-        Ok(set) => {
-            assert_same(rt, parts(set.first()), Some((1, 'a')));
-            assert_same(rt, set.len(), 2);
-        }
-        Err(_) => panic!(rt; "refused"),
-    }
-}
-
 #[test]
 fn an_equal_element_stays_when_others_are_added(rt: HostRuntime) {
     take_equal::<SetStore>(&rt, BTreeSet::new(rt.alloc()));
-    make_set::<SetStore>(&rt, rt.alloc());
 }
