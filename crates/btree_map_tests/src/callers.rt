@@ -1,5 +1,5 @@
 //! What a caller learns of the list: with known types of key, value and store, and for any of them. Each contract is the test.
-ghost use Rattle.std.specs.Prelude.{◌≡◌, ℕ, ◌+◌, ◌%◌, ◌^◌, [], IfErr, IfOk, IsTrue, None, OnErr, OnOk, false, is_some};
+ghost use Rattle.std.specs.Prelude.{◌≡◌, ℕ, ◌+◌, ◌%◌, ◌^◌, IfErr, IfOk, IsTrue, None, OnErr, OnOk, false, is_some};
 ghost use Rattle.std.specs.Iterator.{IsFinite};
 ghost use Rattle.std.specs.Ordering.{nat_cmp};
 ghost use Rattle.btree_item.specs.Pairs.{found, found_value, inserted};
@@ -7,7 +7,6 @@ ghost use Rattle.btree_shape.specs.TreeState.{IsOccupiedIn, pairs_of};
 ghost use Rattle.btree_edit.specs.Exchange.{IsValueExchanged};
 ghost use Rattle.btree_edit.specs.Outcomes.{WritesAtKey};
 ghost use Rattle.btree_edit.specs.Update.{UpdatesAt, updated};
-ghost use Rattle.btree_map.specs.Extension.{AddsAll, MovesUntil};
 
 use btree_ext::BTreeExtMut;
 use btree_item::{Address, Refused};
@@ -129,18 +128,6 @@ pub(crate) fn add_at<K: Ord + Drop, C: NodesMut<K, u64>>(
     let old = *value;
     *value = old.wrapping_add(more);
     old
-}
-
-// Moves the pairs of one map into another, over any store.
-pub(crate) fn join<C: NodesMut<u64, u64>>(
-    map: &mut BTreeMap<u64, u64, C>,
-    other: &mut BTreeMap<u64, u64, C>,
-) -> Result<(), Refused<u64, u64>>
-    ensures joined { OnOk result (AddsAll nat_cmp map.old other.old map.new) }
-    ensures emptied { OnOk result (pairs_of other.new ≡ []) }
-    ensures stopped { IfErr result (MovesUntil nat_cmp map.old other.old map.new other.new) }
-{
-    map.append(other)
 }
 
 // Extends a map, and, if a pair is refused, the other map by the pairs after it, for any store and any iterator.

@@ -35,8 +35,6 @@ mod owner;
 #[cfg(test)]
 mod released;
 #[cfg(test)]
-mod room;
-#[cfg(test)]
 mod samples;
 
 use crate::drops::hundred;
