@@ -77,12 +77,15 @@ fn orders_offsets(rt: HostRuntime) {
         &rt,
         Address::nowhere().is_nowhere() && Address::nowhere().offset == first,
     );
+}
 
-    let mut offset = before;
+#[test]
+fn steps_offsets(rt: HostRuntime) {
+    let mut offset = Offset::before();
     offset.incr();
-    assert_same(&rt, offset, first);
+    assert_same(&rt, offset, Offset::from(0));
     offset.decr();
-    assert_same(&rt, offset, before);
+    assert_same(&rt, offset, Offset::before());
     let mut offset = Offset::from(usize::MAX - 2);
     offset.incr();
     assert_same(&rt, offset.unwrap(), 18446744073709551614);
@@ -97,7 +100,7 @@ fn clone_of<K: Clone, V: Clone>(item: &Item<K, V>) -> Result<Item<K, V>, AllocEr
 }
 
 #[test]
-fn writes_items(rt: HostRuntime) -> Result<(), Fail> {
+fn writes_items(rt: HostRuntime) {
     let mut item = Item::new(1, 10);
     let (key, value) = item.as_pair_mut();
     *key = 2;
@@ -110,6 +113,11 @@ fn writes_items(rt: HostRuntime) -> Result<(), Fail> {
     *item.key_mut() = 4;
     *item.value_mut() = 40;
     assert_same(&rt, (*item.key(), *item.as_item().value()), (4, 40));
+}
+
+#[test]
+fn sets_and_gives_up_items(rt: HostRuntime) -> Result<(), Fail> {
+    let mut item = Item::new(4, 40);
     assert_same(&rt, item.set_key(5), 4);
     assert_same(&rt, item.set_value(50), 40);
     assert_true(&rt, item == Item::new(5, 0) && item < Item::new(6, 0));
@@ -137,6 +145,13 @@ fn edits_slots(rt: HostRuntime) {
     assert_same(&rt, slots.remove(1), 2);
     assert_same(&rt, slots.len(), 2);
     assert_same(&rt, (slots.get(0), slots.get(2)), (Some(&7), None));
+}
+
+#[test]
+fn lists_slots(rt: HostRuntime) {
+    let mut slots: Slots<u32, 4> = Slots::new();
+    slots.push(7);
+    slots.push(3);
     let mut left = slots.iter();
     assert_same(&rt, left.size_hint(), (2, Some(2)));
     assert_same(&rt, left.next(), Some(&7));
