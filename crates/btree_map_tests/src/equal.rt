@@ -6,7 +6,6 @@ ghost use Rattle.std.specs.Cmp.Rules.{comparing};
 ghost use Rattle.std.specs.Ordering.{as_partial_cmp, nat_cmp, on};
 
 use crate::asserts::{assert_same, assert_true};
-use crate::bounded::Bounded;
 use btree_map::BTreeMap;
 use btree_node::{Node, NodesMut};
 use btree_set::BTreeSet;
@@ -129,27 +128,6 @@ fn an_equal_key_stays_unless_it_is_replaced(rt: HostRuntime) {
     put_equal::<MapStore>(&rt, BTreeMap::new(rt.alloc()), BTreeMap::new(rt.alloc()));
 }
 
-// Makes a map of three pairs, of which the first and the last one have equal keys.
-fn make_map<C: NodesMut<Named, u64> + Drop>(rt: &impl Abort, origin: C::Origin) {
-    let names = [(1, 'a', 1), (2, 'b', 2), (1, 'c', 3)];
-    let mut source = names
-        .iter()
-        .map(|&(number, name, value)| (Named { number, name }, value));
-    match BTreeMap::<Named, u64, C>::from_iter(origin, &mut source) {
-        Ok(map) => {
-            assert_same(rt, stored(&map, 1), Some(('a', 3)));
-            assert_same(rt, stored(&map, 2), Some(('b', 2)));
-            assert_same(rt, map.len(), 2);
-        }
-        Err(_) => panic!(rt; "refused"),
-    }
-}
-
-#[test]
-fn an_equal_key_stays_when_pairs_are_added(rt: HostRuntime) {
-    make_map::<MapStore>(&rt, rt.alloc());
-}
-
 // Writes to the value of a key by its entry, and updates it.
 fn change_equal<C: NodesMut<Named, u64>>(rt: &impl Abort, map: &mut BTreeMap<Named, u64, C>) {
     let second = Named {
@@ -218,10 +196,10 @@ fn parts(element: Option<&Named>) -> Option<(u64, char)> {
 }
 
 // Checks the union of {1, 2} with the name a and {2, 3} with the name b.
-fn check_union<C: NodesMut<Named, ()>, D: NodesMut<Named, ()>>(
+fn check_union<C: NodesMut<Named, ()>>(
     rt: &impl Abort,
     left: &BTreeSet<Named, C>,
-    right: &BTreeSet<Named, D>,
+    right: &BTreeSet<Named, C>,
 ) {
     let mut either = left.union(right);
     assert_same(rt, either.size_hint(), (2, Some(4)));
@@ -232,10 +210,10 @@ fn check_union<C: NodesMut<Named, ()>, D: NodesMut<Named, ()>>(
 }
 
 // Checks the intersection and the difference of the same sets.
-fn check_first<C: NodesMut<Named, ()>, D: NodesMut<Named, ()>>(
+fn check_first<C: NodesMut<Named, ()>>(
     rt: &impl Abort,
     left: &BTreeSet<Named, C>,
-    right: &BTreeSet<Named, D>,
+    right: &BTreeSet<Named, C>,
 ) {
     let mut both = left.intersection(right);
     assert_same(rt, parts(both.next()), Some((2, 'a')));
@@ -246,10 +224,10 @@ fn check_first<C: NodesMut<Named, ()>, D: NodesMut<Named, ()>>(
 }
 
 // Checks the symmetric difference of the same sets.
-fn check_symmetric<C: NodesMut<Named, ()>, D: NodesMut<Named, ()>>(
+fn check_symmetric<C: NodesMut<Named, ()>>(
     rt: &impl Abort,
     left: &BTreeSet<Named, C>,
-    right: &BTreeSet<Named, D>,
+    right: &BTreeSet<Named, C>,
 ) {
     let mut one = left.symmetric_difference(right);
     assert_same(rt, parts(one.next()), Some((1, 'a')));
@@ -258,10 +236,10 @@ fn check_symmetric<C: NodesMut<Named, ()>, D: NodesMut<Named, ()>>(
 }
 
 // Merges two sets: the first has 1 and 2 with the name a, the second one 2 and 3 with the name b.
-fn merge<C: NodesMut<Named, ()> + Drop, D: NodesMut<Named, ()> + Drop>(
+fn merge<C: NodesMut<Named, ()> + Drop>(
     rt: &impl Abort,
     left: BTreeSet<Named, C>,
-    right: BTreeSet<Named, D>,
+    right: BTreeSet<Named, C>,
 ) {
     let left = names(rt, left, &[1, 2], 'a');
     let right = names(rt, right, &[2, 3], 'b');
@@ -270,14 +248,9 @@ fn merge<C: NodesMut<Named, ()> + Drop, D: NodesMut<Named, ()> + Drop>(
     check_symmetric(rt, &left, &right);
 }
 
-// The sets have stores of two types.
 #[test]
 fn merges_take_the_stated_one(rt: HostRuntime) {
-    merge::<SetStore, Bounded<SetStore, 3>>(
-        &rt,
-        BTreeSet::new(rt.alloc()),
-        BTreeSet::new(rt.alloc()),
-    );
+    merge::<SetStore>(&rt, BTreeSet::new(rt.alloc()), BTreeSet::new(rt.alloc()));
 }
 
 // Inserts and replaces an element that is equal to one of a set.
@@ -344,21 +317,7 @@ fn take_equal<C: NodesMut<Named, ()> + Drop>(rt: &impl Abort, set: BTreeSet<Name
     assert_same(rt, set.len(), 3);
 }
 
-// Makes a set of three elements, of which the first and the last one are equal.
-fn make_set<C: NodesMut<Named, ()> + Drop>(rt: &impl Abort, origin: C::Origin) {
-    let names = [(1, 'a'), (2, 'b'), (1, 'c')];
-    let mut source = names.iter().map(|&(number, name)| Named { number, name });
-    match BTreeSet::<Named, C>::from_iter(origin, &mut source) {
-        Ok(set) => {
-            assert_same(rt, parts(set.first()), Some((1, 'a')));
-            assert_same(rt, set.len(), 2);
-        }
-        Err(_) => panic!(rt; "refused"),
-    }
-}
-
 #[test]
 fn an_equal_element_stays_when_others_are_added(rt: HostRuntime) {
     take_equal::<SetStore>(&rt, BTreeSet::new(rt.alloc()));
-    make_set::<SetStore>(&rt, rt.alloc());
 }

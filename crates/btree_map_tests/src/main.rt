@@ -4,8 +4,6 @@
 #[cfg(test)]
 mod asserts;
 #[cfg(test)]
-mod bounded;
-#[cfg(test)]
 mod callers;
 #[cfg(test)]
 mod counted;
@@ -25,8 +23,6 @@ mod gates;
 #[cfg(test)]
 mod lending;
 #[cfg(test)]
-mod limit;
-#[cfg(test)]
 mod merges;
 #[cfg(test)]
 mod names;
@@ -38,8 +34,6 @@ mod own;
 mod owner;
 #[cfg(test)]
 mod released;
-#[cfg(test)]
-mod room;
 #[cfg(test)]
 mod samples;
 

@@ -174,7 +174,7 @@ fn look_up_each<'a>(
 #[test]
 fn compares_as_many_keys_as_promised_in_a_leaf(rt: HostRuntime) {
     let compared = Cell::new(0);
-    for held in 1..10u32 {
+    for held in 0..10u32 {
         let leaf = leaf_of(&rt, &compared, held);
         look_up_each(&rt, &leaf, &compared, held);
     }

@@ -1,4 +1,4 @@
-//! Tests of stores, of items and lists of them, of nodes, and of the allocator that refuses.
+//! Tests of stores, of items and lists of them, and of nodes.
 #![tactic(auto)]
 
 #[cfg(test)]
@@ -13,7 +13,5 @@ mod items;
 mod nodes;
 #[cfg(test)]
 mod other_stores;
-#[cfg(test)]
-mod refusing;
 #[cfg(test)]
 mod stores;

@@ -1,16 +1,17 @@
-//! A leaf that is cloned and written by callers with contracts, and branches.
+//! Callers that clone a leaf and write to one, whose contracts are the test, and branches.
 ghost use Rattle.std.specs.Prelude.{◌≡◌, IfOk, true, false};
 ghost use Rattle.btree_item.specs.Pairs.{Ascends};
 ghost use Rattle.btree_leaf.specs.LeafLends.{leaf_with_value};
 
-use crate::asserts::{assert_same, assert_true};
+use crate::asserts::assert_same;
 use btree_item::{Item, Keyed};
 use btree_node::{Branch, InternalNode, LeafNode, internal};
 use std::alloc::AllocError;
 use std::cmp::Ordering;
-use std::test::Fail;
 
-fn clone_of<K: Clone, V: Clone>(leaf: &LeafNode<K, V>) -> Result<LeafNode<K, V>, AllocError>
+pub(crate) fn clone_of<K: Clone, V: Clone>(
+    leaf: &LeafNode<K, V>,
+) -> Result<LeafNode<K, V>, AllocError>
     requires key { (x y : K) → K.is_clone x y → y ≡ x }
     requires value { (x y : V) → V.is_clone x y → y ≡ x }
     ensures { IfOk result (λ copy. copy ≡ leaf.now) }
@@ -19,7 +20,7 @@ fn clone_of<K: Clone, V: Clone>(leaf: &LeafNode<K, V>) -> Result<LeafNode<K, V>,
 }
 
 #[tactic(auto, using(btree_item::proofs::PairEdits::order_kept), unfolding(btree_leaf::specs::LeafLends::leaf_with_value))]
-fn write<K: Ord, V: Drop>(leaf: &mut LeafNode<K, V>, key: &K, value: V) -> bool
+pub(crate) fn write<K: Ord, V: Drop>(leaf: &mut LeafNode<K, V>, key: &K, value: V) -> bool
     requires { Ascends K.cmp leaf.old.items }
     ensures written { result ≡ true → leaf.new ≡ leaf_with_value K.cmp key.now leaf.old value }
     ensures left { result ≡ false → leaf.new ≡ leaf.old }
@@ -32,26 +33,6 @@ fn write<K: Ord, V: Drop>(leaf: &mut LeafNode<K, V>, key: &K, value: V) -> bool
         }
         None => false,
     }
-}
-
-// What is written to a leaf leaves its copy as it was.
-#[test]
-#[tactic(auto, using(btree_item::proofs::PairEdits::order_kept))]
-fn clones_a_leaf(rt: HostRuntime) -> Result<(), Fail> {
-    let mut leaf = LeafNode::new(Some(3), Item::new(10u32, 'a'));
-    leaf.insert_by_key(20, 'b');
-    let copy = clone_of(&leaf)?;
-    assert_true(&rt, write(&mut leaf, &20, 'c'));
-    assert_true(&rt, !write(&mut leaf, &15, 'd'));
-    leaf.set_parent(None);
-    assert_same(&rt, leaf.get(&20), Some(&'c'));
-    assert_same(&rt, (copy.parent(), copy.item_count()), (Some(3), 2));
-    assert_same(
-        &rt,
-        (copy.get(&10), copy.get(&20)),
-        (Some(&'a'), Some(&'b')),
-    );
-    Ok(())
 }
 
 #[test]

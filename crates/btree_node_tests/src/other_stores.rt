@@ -1,6 +1,5 @@
 //! A store that is full, one whose numbers are odd, and one that refuses one insertion.
 use crate::asserts::{assert_same, assert_same_in, assert_true, assert_true_in};
-use btree_node::{ClearNodes, LeafNode, Node};
 use btree_store::{Clear, Slab, SlabClone, SlabMut, SlabStore};
 use btree_stores::{FixedSlab, Gate, OddSlab};
 use std::alloc::Global;
@@ -104,21 +103,4 @@ fn a_gate_before_a_table(rt: HostRuntime) -> Result<(), Fail> {
     check_refused(&rt, &mut gate, &[1, 3], rt.alloc())?;
     assert_true(&rt, gate.insert(0).is_err());
     Ok(())
-}
-
-// Puts a node into a store, by the bound that maps have.
-fn check_node<C: ClearNodes<u64, u64> + Drop>(rt: &impl Abort, origin: C::Origin) {
-    C::note_fits();
-    let mut store = C::empty(origin);
-    assert_true(rt, store.insert(Node::Leaf(LeafNode::empty(None))).is_ok());
-    assert_same(rt, store.len(), 1);
-    store.clear();
-    assert_same(rt, store.len(), 0);
-}
-
-#[test]
-fn each_keeps_nodes(rt: HostRuntime) {
-    check_node::<FixedSlab<Node<u64, u64>, 4>>(&rt, ());
-    check_node::<OddSlab<Node<u64, u64>>>(&rt, rt.alloc());
-    check_node::<Gate<SlabStore<Node<u64, u64>>>>(&rt, rt.alloc());
 }
