@@ -20,7 +20,7 @@ pub type RangeSet = range_set::RangeSet<SlabStore<generic::Node<u64, u64>>>;
 /// The types over any store of nodes.
 pub mod generic {
     pub use btree_map::BTreeMap;
-    pub use btree_node::{ClearNodes, CloneNodes, Node, Nodes, NodesMut};
+    pub use btree_node::Node;
     pub use btree_set::BTreeSet;
 
     /// The map and the tree in it, their entries and iterators, their calls by address, and how an insertion is refused.
@@ -61,6 +61,7 @@ pub mod generic {
 
 /// The contracts of a store, for any values and for nodes, and four stores.
 pub mod store {
+    pub use btree_node::{ClearNodes, CloneNodes, Nodes, NodesMut};
     pub use btree_store::{Clear, Slab, SlabClone, SlabMut, SlabStore};
     pub use btree_stores::{FixedSlab, Gate, OddSlab};
 }
