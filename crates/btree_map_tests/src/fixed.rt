@@ -32,16 +32,11 @@ pub(crate) fn check_table<C: NodesMut<u64, u64> + Drop>(
     assert_same(rt, map.node_count(), nodes);
 }
 
-// Does so with a table of N nodes.
-fn check_nodes<const N: usize>(rt: &impl Abort, taken: u64, nodes: usize) {
-    check_table::<Table<N>>(rt, (), taken, nodes);
-}
-
 #[test]
 fn a_table_takes_what_its_nodes_hold(rt: HostRuntime) {
-    check_nodes::<0>(&rt, 0, 0);
-    check_nodes::<2>(&rt, 8, 1);
-    check_nodes::<11>(&rt, 43, 9);
+    check_table::<Table<0>>(&rt, (), 0, 0);
+    check_table::<Table<2>>(&rt, (), 8, 1);
+    check_table::<Table<11>>(&rt, (), 43, 9);
 }
 
 // Appends three pairs to a map of eight keys on one node, which has no place for another. The first one replaces a value, and the second
