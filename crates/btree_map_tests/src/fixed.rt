@@ -35,6 +35,7 @@ pub(crate) fn check_table<C: NodesMut<u64, u64> + Drop>(
 #[test]
 fn a_table_takes_what_its_nodes_hold(rt: HostRuntime) {
     check_table::<Table<0>>(&rt, (), 0, 0);
+    check_table::<Table<1>>(&rt, (), 8, 1);
     check_table::<Table<2>>(&rt, (), 8, 1);
     check_table::<Table<11>>(&rt, (), 43, 9);
 }
@@ -128,25 +129,20 @@ where
     }
 }
 
-// Fills a table of N nodes, which are so many.
-fn fill_table<const N: usize>(rt: &impl Abort, nodes: u64) {
-    fill_thrice::<Table<N>>(rt, (), nodes);
-}
-
 #[test]
 fn a_table_takes_three_pairs_for_each_node(rt: HostRuntime) {
-    fill_table::<1>(&rt, 1);
-    fill_table::<2>(&rt, 2);
-    fill_table::<3>(&rt, 3);
-    fill_table::<4>(&rt, 4);
-    fill_table::<5>(&rt, 5);
-    fill_table::<6>(&rt, 6);
-    fill_table::<7>(&rt, 7);
-    fill_table::<8>(&rt, 8);
-    fill_table::<9>(&rt, 9);
-    fill_table::<10>(&rt, 10);
-    fill_table::<11>(&rt, 11);
-    fill_table::<12>(&rt, 12);
+    fill_thrice::<Table<1>>(&rt, (), 1);
+    fill_thrice::<Table<2>>(&rt, (), 2);
+    fill_thrice::<Table<3>>(&rt, (), 3);
+    fill_thrice::<Table<4>>(&rt, (), 4);
+    fill_thrice::<Table<5>>(&rt, (), 5);
+    fill_thrice::<Table<6>>(&rt, (), 6);
+    fill_thrice::<Table<7>>(&rt, (), 7);
+    fill_thrice::<Table<8>>(&rt, (), 8);
+    fill_thrice::<Table<9>>(&rt, (), 9);
+    fill_thrice::<Table<10>>(&rt, (), 10);
+    fill_thrice::<Table<11>>(&rt, (), 11);
+    fill_thrice::<Table<12>>(&rt, (), 12);
 }
 
 // Makes a map of nine pairs in a table of one node: eight are in the map, and the ninth comes back.
@@ -176,5 +172,5 @@ fn collect_nine<C: NodesMut<u64, u64> + Drop>(rt: &impl Abort, origin: C::Origin
 
 #[test]
 fn a_table_of_one_node_collects_eight_pairs(rt: HostRuntime) {
-    collect_nine::<Table<1>>(&rt, ());
+    collect_nine::<FixedSlab<Node<u64, u64>, 1>>(&rt, ());
 }

@@ -41,8 +41,10 @@ fn keep_and_take<C: NodesMut<u64, u64> + Drop>(map: BTreeMap<u64, u64, C>) -> us
 
 #[test]
 fn a_map_is_kept_and_handed_on_by_value(rt: HostRuntime) {
-    for keys in [0, 1, 40] {
+    for (keys, taken) in [(0, 0), (1, 1), (40, 40)] {
+        let owner = Owner::new(first_keys::<Store>(&rt, rt.alloc(), keys));
+        assert_same(&rt, take(owner.into_inner()), taken);
         let map = first_keys::<Store>(&rt, rt.alloc(), keys);
-        assert_same(&rt, keep_and_take(map) as u64, keys);
+        assert_same(&rt, keep_and_take(map), taken);
     }
 }
