@@ -15,7 +15,9 @@ use btree_node::{Node, NodesMut};
 use btree_store::SlabStore;
 use std::hash::{Hash, Hasher};
 
-type Map = BTreeMap<u64, u64, SlabStore<Node<u64, u64>>>;
+type Store = SlabStore<Node<u64, u64>>;
+
+type Map = BTreeMap<u64, u64, Store>;
 
 // Writes a value over the one that is there, by an entry. Returns whether the key is there.
 pub(crate) fn overwrite(map: &mut Map, key: u64, value: u64) -> bool
@@ -32,12 +34,8 @@ pub(crate) fn overwrite(map: &mut Map, key: u64, value: u64) -> bool
     }
 }
 
-// Does the same by an entry that is kept, in a map over any store.
-pub(crate) fn overwrite_kept<C: NodesMut<u64, u64>>(
-    map: &mut BTreeMap<u64, u64, C>,
-    key: u64,
-    value: u64,
-) -> bool
+// Does the same by an entry that is kept.
+pub(crate) fn overwrite_kept(map: &mut Map, key: u64, value: u64) -> bool
     ensures written { IsTrue result → WritesAtKey nat_cmp key value map.old map.new }
     ensures absent { result ≡ false → map.new ≡ map.old }
 {
@@ -51,12 +49,8 @@ pub(crate) fn overwrite_kept<C: NodesMut<u64, u64>>(
     }
 }
 
-// Does the same without an entry, over any store.
-pub(crate) fn write<C: NodesMut<u64, u64>>(
-    map: &mut BTreeMap<u64, u64, C>,
-    key: u64,
-    value: u64,
-) -> bool
+// Does the same without an entry.
+pub(crate) fn write(map: &mut Map, key: u64, value: u64) -> bool
     ensures written { IsTrue result → WritesAtKey nat_cmp key value map.old map.new }
     ensures absent { result ≡ false → map.new ≡ map.old }
 {
@@ -82,12 +76,8 @@ pub(crate) fn set(map: &mut Map, key: u64, value: u64) -> Result<Option<u64>, u6
     }
 }
 
-// Removes the pair with a key by an update, over any store. Returns its value, if the key was there. It can be refused only if the key is
-// absent.
-pub(crate) fn unset<C: NodesMut<u64, u64>>(
-    map: &mut BTreeMap<u64, u64, C>,
-    key: u64,
-) -> Result<Option<u64>, u64>
+// Removes the pair with a key by an update. Returns its value, if the key was there. It can be refused only if the key is absent.
+pub(crate) fn unset(map: &mut Map, key: u64) -> Result<Option<u64>, u64>
     ensures old { IfOk result (λ old. old ≡ found_value nat_cmp key (pairs_of map.old)) }
     ensures unset { OnOk result (pairs_of map.new ≡ updated nat_cmp key None (pairs_of map.old)) }
     ensures absent { OnErr result (found nat_cmp key (pairs_of map.old) ≡ None) }
@@ -107,8 +97,8 @@ pub(crate) fn set_at(map: &mut Map, addr: Address, value: u64) -> u64
     map.update_at(addr, |old| (Some(value), old))
 }
 
-// Removes the pair at an address by an update, over any store. Returns its value.
-pub(crate) fn unset_at<C: NodesMut<u64, u64>>(map: &mut BTreeMap<u64, u64, C>, addr: Address) -> u64
+// Removes the pair at an address by an update. Returns its value.
+pub(crate) fn unset_at(map: &mut Map, addr: Address) -> u64
     requires { IsOccupiedIn map.old addr }
     ensures { (key : ℕ) × UpdatesAt nat_cmp map.old map.new addr (key, result) None }
 {
