@@ -1,4 +1,4 @@
-//! Keys and values that count their drops: each is dropped once, by an iterator, and if it is refused.
+//! Keys and values that count their drops: each is dropped once, by an iterator, in a map that is cleared, replaced, or refused.
 ghost use Rattle.std.specs.Prelude.{nat_eq};
 ghost use Rattle.std.proofs.Common.{rules};
 ghost use Rattle.std.specs.Cmp.{partial_order_from_own_ties};
@@ -6,9 +6,9 @@ ghost use Rattle.std.specs.Cmp.Rules.{comparing};
 ghost use Rattle.std.specs.Ordering.{as_partial_cmp, nat_cmp, on};
 
 use crate::asserts::{assert_same, assert_true};
-use crate::drops::Counted;
+use crate::drops::{Counted, hundred};
 use btree_map::{BTreeMap, IntoIter};
-use btree_node::{Node, NodesMut};
+use btree_node::{ClearNodes, Node, NodesMut};
 use btree_store::SlabStore;
 use btree_testing::{Refusing, RefusingStore};
 use std::alloc::Global;
@@ -127,6 +127,32 @@ fn each_key_is_dropped_once(rt: HostRuntime) {
             from_back,
         );
     }
+}
+
+// Replaces each value of a hundred, clears the map, and drops it.
+fn replace_and_clear<'a, C: ClearNodes<u64, Counted<'a>> + Drop>(
+    rt: &impl Abort,
+    map: BTreeMap<u64, Counted<'a>, C>,
+    drops: &'a Cell<u64>,
+) {
+    let mut map = map;
+    for key in 0..100u64 {
+        assert_true(rt, map.insert(key, Counted { key, drops }).is_ok());
+        assert_same(rt, drops.get(), key.wrapping_add(1));
+    }
+    map.clear();
+    assert_same(rt, (map.len(), drops.get()), (0, 200));
+    drop(map);
+    assert_same(rt, drops.get(), 200);
+}
+
+#[test]
+fn each_replaced_value_is_dropped_once(rt: HostRuntime) {
+    let drops = Cell::new(0u64);
+    let Some(map) = hundred(rt.alloc(), &drops) else {
+        panic!(rt; "no memory")
+    };
+    replace_and_clear(&rt, map, &drops);
 }
 
 // Inserts a hundred values. One that is refused comes back, and is dropped at once. Returns how many were.
