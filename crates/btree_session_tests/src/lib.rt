@@ -11,5 +11,3 @@ mod lines;
 mod session;
 #[cfg(test)]
 mod stores;
-#[cfg(test)]
-mod streams;
