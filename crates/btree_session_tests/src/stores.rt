@@ -44,10 +44,12 @@ fn check_lines<C: ClearNodes<u64, u64>>(
     assert_same(rt, output.as_slice(), replies.as_bytes());
 }
 
-// Drives insertions over a session in a store that is there. The keys up to 42 are taken, and the next one is refused.
+// Drives insertions over a session in a store that is there. As many as given are taken, and the next one has the other replies.
 fn fill_table<C: ClearNodes<u64, u64> + Drop>(
     rt: &impl Abort,
     nodes: C,
+    taken: u64,
+    rest: &str,
     alloc: Global,
 ) -> Result<(), Fail> {
     if nodes.len() != 0 {
@@ -55,9 +57,9 @@ fn fill_table<C: ClearNodes<u64, u64> + Drop>(
     }
     let mut session: Session<C> = Session::in_store(nodes);
     let (mut lines, mut replies) = (String::new(alloc), String::new(alloc));
-    push_insertions(&mut lines, &mut replies, 43)?;
-    lines.push_str("insert 43 0\nnodes\nlen\n")?;
-    replies.push_str("refused store\n9\n43\n")?;
+    push_insertions(&mut lines, &mut replies, taken)?;
+    write!(lines, "insert {taken} 0\nnodes\nlen\n")?;
+    replies.push_str(rest)?;
     check_lines(rt, &mut session, lines.as_str(), replies.as_str(), alloc);
     Ok(())
 }
@@ -65,7 +67,9 @@ fn fill_table<C: ClearNodes<u64, u64> + Drop>(
 #[test]
 fn a_full_table_refuses_a_line(rt: HostRuntime) -> Result<(), Fail> {
     let eleven: FixedSlab<Node<u64, u64>, 11> = SlabMut::empty(());
-    fill_table(&rt, eleven, rt.alloc())
+    fill_table(&rt, eleven, 43, "refused store\n9\n43\n", rt.alloc())?;
+    let none: FixedSlab<Node<u64, u64>, 0> = SlabMut::empty(());
+    fill_table(&rt, none, 0, "refused store\n0\n0\n", rt.alloc())
 }
 
 // Checks that the number of each node is odd.
