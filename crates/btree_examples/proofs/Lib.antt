@@ -1,4 +1,5 @@
 mod BlockLemmas
 pub mod BookingLemmas
+mod IndexLemmas
 mod PageLemmas
 mod StockLemmas

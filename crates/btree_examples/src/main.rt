@@ -1,6 +1,6 @@
 //! Maps in use: a stock of parts, by part number, a listing of them by pages (`listing.rt`), bookings of a room (`bookings.rt`), a count
-//! of words (`words.rt`), one of visits in a fixed table (`visits.rt`), and one read from a copy of its nodes (`copies.rt`). A set of
-//! ranges in use: reserved blocks (`reserved.rt`).
+//! of words (`words.rt`), one of visits in a fixed table (`visits.rt`), and one read from a copy of its nodes (`copies.rt`). A set of pairs
+//! in use: an index of words (`index.rt`). A set of ranges in use: reserved blocks (`reserved.rt`).
 #![tactic(auto)]
 
 ghost use Rattle.std.specs.Prelude.{◌≡◌, ◌+◌, OnOk, OnErr, unwrap_or};
@@ -10,6 +10,7 @@ ghost use Rattle.btree_shape.specs.TreeState.{IsValidIn, pairs_of};
 
 mod bookings;
 mod copies;
+mod index;
 mod listing;
 mod reserved;
 mod sold_out;
@@ -18,6 +19,7 @@ mod words;
 
 use crate::bookings::{book_and_cancel, count_overlaps, three_bookings};
 use crate::copies::{is_readable, read_copy};
+use crate::index::append_lines;
 use crate::listing::next_page;
 use crate::reserved::reserve;
 use crate::sold_out::remove_sold_out;
@@ -90,6 +92,21 @@ fn print_counts(rt: &impl Print, alloc: Global) -> io::Result<()> {
     }
     for (word, count) in counts.iter() {
         rt.println(format_args!("{word}: {count}"))?;
+    }
+    Ok(())
+}
+
+/// Prints the lines on which a word stands, of an index from which one is taken out.
+fn print_index(rt: &impl Print, alloc: Global) -> io::Result<()> {
+    let mut index: BTreeSet<(&'static str, u32)> = BTreeSet::new(alloc);
+    for pair in [("tree", 4), ("node", 1), ("tree", 1), ("tree", 3)] {
+        index.insert(pair)?;
+    }
+    index.remove(&("tree", 3));
+    let mut lines = Vec::new(alloc);
+    append_lines(&index, "tree", &mut lines)?;
+    for line in lines.iter() {
+        rt.println(format_args!("tree: line {line}"))?;
     }
     Ok(())
 }
@@ -184,6 +201,7 @@ fn main(rt: HostRuntime) -> io::Result<()> {
     print_bookings(&rt, rt.alloc())?;
     print_blocks(&rt, rt.alloc())?;
     print_counts(&rt, rt.alloc())?;
+    print_index(&rt, rt.alloc())?;
     print_visits(&rt)?;
     print_copies(&rt, stock)
 }
