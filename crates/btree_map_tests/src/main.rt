@@ -4,6 +4,8 @@
 #[cfg(test)]
 mod asserts;
 #[cfg(test)]
+mod bounded;
+#[cfg(test)]
 mod callers;
 #[cfg(test)]
 mod counted;
