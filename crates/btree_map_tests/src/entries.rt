@@ -73,37 +73,55 @@ fn shown_in_lines<T: Debug>(alloc: Global, value: &T) -> Result<String, AllocErr
     Ok(text)
 }
 
-// The texts are those of the maps and sets of `std`.
-#[test]
-fn shows_maps(rt: HostRuntime) -> Result<(), Fail> {
-    let mut map: Map = BTreeMap::new(rt.alloc());
-    assert_same(&rt, shown(rt.alloc(), &map)?.as_str(), "{}");
-    for key in [2, 1] {
-        assert_same(&rt, map.insert(key, key).ok(), Some(None));
-    }
-    assert_same(&rt, shown(rt.alloc(), &map)?.as_str(), "{1: 1, 2: 2}");
-    assert_same(
-        &rt,
-        shown_in_lines(rt.alloc(), &map)?.as_str(),
-        "{\n    1: 1,\n    2: 2,\n}",
-    );
+// Checks the text of a value, and that in several lines. The texts are those of the maps and sets of `std`.
+fn check_texts<T: Debug>(
+    rt: &impl Abort,
+    alloc: Global,
+    value: &T,
+    text: &str,
+    lines: &str,
+) -> Result<(), Fail> {
+    assert_same(rt, shown(alloc, value)?.as_str(), text);
+    assert_same(rt, shown_in_lines(alloc, value)?.as_str(), lines);
     Ok(())
 }
 
-#[test]
-fn shows_sets(rt: HostRuntime) -> Result<(), Fail> {
-    let mut set: BTreeSet<u64, SlabStore<Node<u64, ()>>> = BTreeSet::new(rt.alloc());
-    assert_same(&rt, shown(rt.alloc(), &set)?.as_str(), "{}");
-    for element in [2, 1] {
-        assert_same(&rt, set.insert(element).ok(), Some(true));
+// Shows a map of two pairs.
+fn show_map<C: NodesMut<u64, u64> + Drop>(
+    rt: &impl Abort,
+    alloc: Global,
+    mut map: BTreeMap<u64, u64, C>,
+) -> Result<(), Fail> {
+    check_texts(rt, alloc, &map, "{}", "{}")?;
+    for key in [2, 1] {
+        assert_same(rt, map.insert(key, key).ok(), Some(None));
     }
-    assert_same(&rt, shown(rt.alloc(), &set)?.as_str(), "{1, 2}");
-    assert_same(
-        &rt,
-        shown_in_lines(rt.alloc(), &set)?.as_str(),
-        "{\n    1,\n    2,\n}",
-    );
-    Ok(())
+    check_texts(
+        rt,
+        alloc,
+        &map,
+        "{1: 1, 2: 2}",
+        "{\n    1: 1,\n    2: 2,\n}",
+    )
+}
+
+// Shows a set of two elements.
+fn show_set<C: NodesMut<u64, ()> + Drop>(
+    rt: &impl Abort,
+    alloc: Global,
+    mut set: BTreeSet<u64, C>,
+) -> Result<(), Fail> {
+    check_texts(rt, alloc, &set, "{}", "{}")?;
+    for element in [2, 1] {
+        assert_same(rt, set.insert(element).ok(), Some(true));
+    }
+    check_texts(rt, alloc, &set, "{1, 2}", "{\n    1,\n    2,\n}")
+}
+
+#[test]
+fn shows_maps_and_sets(rt: HostRuntime) -> Result<(), Fail> {
+    show_map::<SlabStore<Node<u64, u64>>>(&rt, rt.alloc(), BTreeMap::new(rt.alloc()))?;
+    show_set::<SlabStore<Node<u64, ()>>>(&rt, rt.alloc(), BTreeSet::new(rt.alloc()))
 }
 
 // Inserts the default value at a key twice, and writes to it in between.
