@@ -29,10 +29,10 @@ fn counted<'a, C: NodesMut<Counted<'a>, ()>>(
 }
 
 // Goes through a union, and checks how many elements it yields and how many steps compare two elements.
-fn check_union<'a, C: NodesMut<Counted<'a>, ()>, D: NodesMut<Counted<'a>, ()>>(
+fn check_union<'a, C: NodesMut<Counted<'a>, ()>>(
     rt: &impl Abort,
     left: &BTreeSet<Counted<'a>, C>,
-    right: &BTreeSet<Counted<'a>, D>,
+    right: &BTreeSet<Counted<'a>, C>,
     compared: &Cell<u32>,
 ) {
     let mut yielded = 0u32;
@@ -44,10 +44,10 @@ fn check_union<'a, C: NodesMut<Counted<'a>, ()>, D: NodesMut<Counted<'a>, ()>>(
 }
 
 // Does the same with an intersection.
-fn check_intersection<'a, C: NodesMut<Counted<'a>, ()>, D: NodesMut<Counted<'a>, ()>>(
+fn check_intersection<'a, C: NodesMut<Counted<'a>, ()>>(
     rt: &impl Abort,
     left: &BTreeSet<Counted<'a>, C>,
-    right: &BTreeSet<Counted<'a>, D>,
+    right: &BTreeSet<Counted<'a>, C>,
     compared: &Cell<u32>,
 ) {
     let mut yielded = 0u32;
@@ -59,10 +59,10 @@ fn check_intersection<'a, C: NodesMut<Counted<'a>, ()>, D: NodesMut<Counted<'a>,
 }
 
 // Does the same with a difference.
-fn check_difference<'a, C: NodesMut<Counted<'a>, ()>, D: NodesMut<Counted<'a>, ()>>(
+fn check_difference<'a, C: NodesMut<Counted<'a>, ()>>(
     rt: &impl Abort,
     left: &BTreeSet<Counted<'a>, C>,
-    right: &BTreeSet<Counted<'a>, D>,
+    right: &BTreeSet<Counted<'a>, C>,
     compared: &Cell<u32>,
 ) {
     let mut yielded = 0u32;
@@ -74,10 +74,10 @@ fn check_difference<'a, C: NodesMut<Counted<'a>, ()>, D: NodesMut<Counted<'a>, (
 }
 
 // Does the same with a symmetric difference.
-fn check_symmetric_difference<'a, C: NodesMut<Counted<'a>, ()>, D: NodesMut<Counted<'a>, ()>>(
+fn check_symmetric_difference<'a, C: NodesMut<Counted<'a>, ()>>(
     rt: &impl Abort,
     left: &BTreeSet<Counted<'a>, C>,
-    right: &BTreeSet<Counted<'a>, D>,
+    right: &BTreeSet<Counted<'a>, C>,
     compared: &Cell<u32>,
 ) {
     let mut yielded = 0u32;
@@ -90,10 +90,10 @@ fn check_symmetric_difference<'a, C: NodesMut<Counted<'a>, ()>, D: NodesMut<Coun
 
 // A merge compares nothing before its first step. The tests end at the first element that decides: 0 is in both, 2 only in the first set, and 3
 // only in the second, where it is compared with 2 and 4.
-fn check_ends<'a, C: NodesMut<Counted<'a>, ()>, D: NodesMut<Counted<'a>, ()>>(
+fn check_ends<'a, C: NodesMut<Counted<'a>, ()>>(
     rt: &impl Abort,
     left: &BTreeSet<Counted<'a>, C>,
-    right: &BTreeSet<Counted<'a>, D>,
+    right: &BTreeSet<Counted<'a>, C>,
     compared: &Cell<u32>,
 ) {
     compared.set(0);
@@ -111,10 +111,10 @@ fn check_ends<'a, C: NodesMut<Counted<'a>, ()>, D: NodesMut<Counted<'a>, ()>>(
 
 // Merges two sets. They have 10 and 7 numbers. Four are in both, the greatest among them: so neither ends before the other, and each of the
 // 13 numbers is one step.
-fn merge_counted<'a, C: NodesMut<Counted<'a>, ()> + Drop, D: NodesMut<Counted<'a>, ()> + Drop>(
+fn merge_counted<'a, C: NodesMut<Counted<'a>, ()> + Drop>(
     rt: &impl Abort,
     left: BTreeSet<Counted<'a>, C>,
-    right: BTreeSet<Counted<'a>, D>,
+    right: BTreeSet<Counted<'a>, C>,
     compared: &'a Cell<u32>,
 ) {
     let left = counted(rt, left, compared, &[0, 2, 4, 6, 8, 10, 12, 14, 16, 18]);
