@@ -6,7 +6,6 @@ ghost use Rattle.std.specs.Cmp.Rules.{comparing};
 ghost use Rattle.std.specs.Ordering.{as_partial_cmp, nat_cmp, on};
 
 use crate::asserts::{assert_same, assert_true};
-use crate::bounded::Bounded;
 use btree_map::BTreeMap;
 use btree_node::{Node, NodesMut};
 use btree_set::BTreeSet;
@@ -197,10 +196,10 @@ fn parts(element: Option<&Named>) -> Option<(u64, char)> {
 }
 
 // Checks the union of {1, 2} with the name a and {2, 3} with the name b.
-fn check_union<C: NodesMut<Named, ()>, D: NodesMut<Named, ()>>(
+fn check_union<C: NodesMut<Named, ()>>(
     rt: &impl Abort,
     left: &BTreeSet<Named, C>,
-    right: &BTreeSet<Named, D>,
+    right: &BTreeSet<Named, C>,
 ) {
     let mut either = left.union(right);
     assert_same(rt, either.size_hint(), (2, Some(4)));
@@ -211,10 +210,10 @@ fn check_union<C: NodesMut<Named, ()>, D: NodesMut<Named, ()>>(
 }
 
 // Checks the intersection and the difference of the same sets.
-fn check_first<C: NodesMut<Named, ()>, D: NodesMut<Named, ()>>(
+fn check_first<C: NodesMut<Named, ()>>(
     rt: &impl Abort,
     left: &BTreeSet<Named, C>,
-    right: &BTreeSet<Named, D>,
+    right: &BTreeSet<Named, C>,
 ) {
     let mut both = left.intersection(right);
     assert_same(rt, parts(both.next()), Some((2, 'a')));
@@ -225,10 +224,10 @@ fn check_first<C: NodesMut<Named, ()>, D: NodesMut<Named, ()>>(
 }
 
 // Checks the symmetric difference of the same sets.
-fn check_symmetric<C: NodesMut<Named, ()>, D: NodesMut<Named, ()>>(
+fn check_symmetric<C: NodesMut<Named, ()>>(
     rt: &impl Abort,
     left: &BTreeSet<Named, C>,
-    right: &BTreeSet<Named, D>,
+    right: &BTreeSet<Named, C>,
 ) {
     let mut one = left.symmetric_difference(right);
     assert_same(rt, parts(one.next()), Some((1, 'a')));
@@ -237,10 +236,10 @@ fn check_symmetric<C: NodesMut<Named, ()>, D: NodesMut<Named, ()>>(
 }
 
 // Merges two sets: the first has 1 and 2 with the name a, the second one 2 and 3 with the name b.
-fn merge<C: NodesMut<Named, ()> + Drop, D: NodesMut<Named, ()> + Drop>(
+fn merge<C: NodesMut<Named, ()> + Drop>(
     rt: &impl Abort,
     left: BTreeSet<Named, C>,
-    right: BTreeSet<Named, D>,
+    right: BTreeSet<Named, C>,
 ) {
     let left = names(rt, left, &[1, 2], 'a');
     let right = names(rt, right, &[2, 3], 'b');
@@ -249,14 +248,9 @@ fn merge<C: NodesMut<Named, ()> + Drop, D: NodesMut<Named, ()> + Drop>(
     check_symmetric(rt, &left, &right);
 }
 
-// The sets have stores of two types.
 #[test]
 fn merges_take_the_stated_one(rt: HostRuntime) {
-    merge::<SetStore, Bounded<SetStore, 3>>(
-        &rt,
-        BTreeSet::new(rt.alloc()),
-        BTreeSet::new(rt.alloc()),
-    );
+    merge::<SetStore>(&rt, BTreeSet::new(rt.alloc()), BTreeSet::new(rt.alloc()));
 }
 
 // Inserts and replaces an element that is equal to one of a set.
