@@ -100,40 +100,6 @@ fn drops_what_is_left(rt: HostRuntime) {
     }
 }
 
-// Takes so many pairs of a hundred from the front, then so many from the back, and drops the others.
-fn take_ends<V: Drop, C: NodesMut<u64, V> + Drop>(
-    rt: &impl Abort,
-    map: BTreeMap<u64, V, C>,
-    drops: &Cell<u64>,
-    from_front: u64,
-    from_back: u64,
-) {
-    let mut pairs = IntoIter::new(map);
-    for _ in 0..from_front {
-        drop(pairs.next());
-    }
-    for _ in 0..from_back {
-        drop(pairs.next_back());
-    }
-    let taken = from_front.wrapping_add(from_back);
-    assert_same(rt, drops.get(), taken);
-    assert_same(rt, pairs.len() as u64, 100u64.wrapping_sub(taken));
-    drop(pairs);
-    assert_same(rt, drops.get(), 100);
-}
-
-// Each row: how many are taken from the front, and from the back.
-#[test]
-fn drops_what_both_ends_leave(rt: HostRuntime) {
-    for (from_front, from_back) in [(0, 0), (1, 0), (50, 0), (10, 10), (30, 30), (50, 50)] {
-        let drops = Cell::new(0u64);
-        let Some(map) = hundred(rt.alloc(), &drops) else {
-            panic!(rt; "no memory")
-        };
-        take_ends(&rt, map, &drops, from_front, from_back);
-    }
-}
-
 // Takes so many of the odd keys that a drain picks, each of which is dropped, and drops the drain.
 fn take_odd<V: Drop, C: NodesMut<u64, V>>(
     rt: &impl Abort,
