@@ -11,3 +11,5 @@ mod lines;
 mod session;
 #[cfg(test)]
 mod stores;
+#[cfg(test)]
+mod streams;

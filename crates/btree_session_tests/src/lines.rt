@@ -1,9 +1,10 @@
 //! The lines of a book, from readers and to writers that fail.
+use crate::streams::{Piece, Pieces, Slow};
 use btree_book::{Desk, Desks, Ending, Reply, serve};
 use btree_testing::Refusing;
 use std::alloc::{AllocError, Global};
-use std::io;
-use std::io::{ErrorKind, Read, Write};
+use std::cell::Cell;
+use std::io::ErrorKind;
 use std::process::Abort;
 use std::test::Fail;
 
@@ -68,55 +69,11 @@ impl Desk for Echo<'_> {
     }
 }
 
-// Gives its bytes, and then fails, if there is an error to fail with.
-#[derive(Drop)]
-struct Breaks<'a> {
-    bytes: &'a [u8],
-    with: Option<ErrorKind>,
-}
-
-impl Read for Breaks<'_> {
-    fn read(&mut self, buf: &mut [u8]) -> io::Result<usize> {
-        if self.bytes.is_empty()
-            && let Some(kind) = self.with
-        {
-            return Err(io::Error::from(kind));
-        }
-        self.bytes.read(buf)
-    }
-}
-
-// Takes so many bytes, and then fails; or takes all, and fails to flush.
-#[derive(Drop)]
-struct Narrow {
-    written: Vec<u8>,
-    most: usize,
-    flushes: bool,
-}
-
-impl Write for Narrow {
-    fn write(&mut self, buf: &[u8]) -> io::Result<usize> {
-        if self.written.len() >= self.most {
-            return Err(io::Error::from(ErrorKind::BrokenPipe));
-        }
-        self.written.extend_from_slice(buf)?;
-        Ok(buf.len())
-    }
-
-    fn flush(&mut self) -> io::Result<()> {
-        if self.flushes {
-            Ok(())
-        } else {
-            Err(io::Error::from(ErrorKind::Other))
-        }
-    }
-}
-
 fn serve_from(
     alloc: Global,
-    bytes: &[u8],
-    with: Option<ErrorKind>,
-    output: &mut Narrow,
+    pieces: &[Piece<'_>],
+    flushed: &Cell<usize>,
+    output: &mut Slow<'_>,
 ) -> Result<(), Ending> {
     let memory = Refusing::over(alloc, 0);
     let mut desks = Desks {
@@ -130,21 +87,35 @@ fn serve_from(
         },
         is_refusing: false,
     };
-    let mut input = Breaks { bytes, with };
+    let mut input = Pieces {
+        pieces,
+        next: 0,
+        flushed,
+        seen: Vec::new(alloc),
+    };
     serve(alloc, &memory, &mut desks, &mut input, output)
 }
 
-fn wide(alloc: Global) -> Narrow {
-    Narrow {
+// Serves pieces of input, and checks what is written, and how that ends.
+fn check_pieces(
+    rt: &impl Abort,
+    alloc: Global,
+    case: &[u8],
+    pieces: &[Piece<'_>],
+    (most, flushes): (usize, bool),
+    written: &[u8],
+    ends: Result<(), Ending>,
+) {
+    let flushed = Cell::new(0);
+    let mut output = Slow {
         written: Vec::new(alloc),
-        most: usize::MAX,
-        flushes: true,
-    }
-}
-
-fn check(rt: &impl Abort, case: &[u8], left: &[u8], right: &[u8], ends: bool) {
-    assert_eq!(rt; left, right, "{case:?}");
-    assert!(rt; ends, "{case:?}");
+        flushed: &flushed,
+        most,
+        flushes,
+    };
+    let end = serve_from(alloc, pieces, &flushed, &mut output);
+    assert_eq!(rt; output.written.as_slice(), written, "{case:?}");
+    assert!(rt; end == ends, "{case:?}");
 }
 
 const LINES: [(&[u8], &[u8], Result<(), Ending>); 14] = [
@@ -207,9 +178,16 @@ const LINES: [(&[u8], &[u8], Result<(), Ending>); 14] = [
 #[test]
 fn lines_have_replies(rt: HostRuntime) {
     for (bytes, written, ends) in LINES {
-        let mut output = wide(rt.alloc());
-        let end = serve_from(rt.alloc(), bytes, None, &mut output);
-        check(&rt, bytes, output.written.as_slice(), written, end == ends);
+        let pieces = [Piece::Bytes(bytes)];
+        check_pieces(
+            &rt,
+            rt.alloc(),
+            bytes,
+            &pieces,
+            (usize::MAX, true),
+            written,
+            ends,
+        );
     }
 }
 
@@ -219,27 +197,36 @@ fn a_failed_read_is_the_end_of_input_or_of_memory(rt: HostRuntime) {
         (ErrorKind::Other, Err(Ending::Input)),
         (ErrorKind::OutOfMemory, Err(Ending::Memory)),
     ] {
-        let mut output = wide(rt.alloc());
-        let end = serve_from(rt.alloc(), b"say 1\nsay 2", Some(kind), &mut output);
-        check(&rt, b"read", output.written.as_slice(), b"1\n", end == ends);
+        let pieces = [Piece::Bytes(b"say 1\nsay 2"), Piece::Fails(kind)];
+        check_pieces(
+            &rt,
+            rt.alloc(),
+            b"read",
+            &pieces,
+            (usize::MAX, true),
+            b"1\n",
+            ends,
+        );
     }
 }
 
 #[test]
 fn a_writer_that_is_closed_ends_it(rt: HostRuntime) {
-    for (most, flushes, written) in [
-        (0, true, b"".as_slice()),
-        (1, true, b"1\n"),
-        (usize::MAX, false, b"1\n"),
+    for (limits, written) in [
+        ((0, true), b"".as_slice()),
+        ((1, true), b"1\n"),
+        ((usize::MAX, false), b"1\n"),
     ] {
-        let mut output = Narrow {
-            written: Vec::new(rt.alloc()),
-            most,
-            flushes,
-        };
-        let end = serve_from(rt.alloc(), b"say 1\nsay 2\n", None, &mut output);
-        let ends = end == Err(Ending::Output);
-        check(&rt, b"write", output.written.as_slice(), written, ends);
+        let pieces = [Piece::Bytes(b"say 1\nsay 2\n")];
+        check_pieces(
+            &rt,
+            rt.alloc(),
+            b"write",
+            &pieces,
+            limits,
+            written,
+            Err(Ending::Output),
+        );
     }
 }
 

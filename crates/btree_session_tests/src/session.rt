@@ -1,5 +1,6 @@
 //! Sessions over readers and writers that fail, over many lines, and without memory for the replies.
 use crate::asserts::{assert_same, assert_same_in, assert_true};
+use crate::streams::{Piece, Pieces, Slow};
 use btree_ext::BTreeExt;
 use btree_node::{ClearNodes, Node};
 use btree_session::{Command, Reply, Session, Stop, drive, run};
@@ -8,72 +9,11 @@ use btree_testing::{Refusing, content_of};
 use std::alloc::Global;
 use std::cell::Cell;
 use std::io;
-use std::io::{ErrorKind, Read, Write};
+use std::io::{ErrorKind, Write};
 use std::process::Abort;
 use std::test::Fail;
 
 type Store = SlabStore<Node<u64, u64>>;
-
-// The result of one read.
-#[derive(Clone, Copy)]
-enum Piece<'a> {
-    Bytes(&'a [u8]),
-    Fails(ErrorKind),
-}
-
-// Gives one piece at each read, and records how many bytes had been flushed at each.
-#[derive(Drop)]
-struct Pieces<'a> {
-    pieces: &'a [Piece<'a>],
-    next: usize,
-    flushed: &'a Cell<usize>,
-    seen: Vec<usize>,
-}
-
-impl Read for Pieces<'_> {
-    fn read(&mut self, buf: &mut [u8]) -> io::Result<usize> {
-        self.seen.push(self.flushed.get())?;
-        let at = self.next;
-        self.next = at.saturating_add(1);
-        match self.pieces.get(at).copied() {
-            Some(Piece::Bytes(bytes)) => {
-                let mut left = bytes;
-                left.read(buf)
-            }
-            Some(Piece::Fails(kind)) => Err(io::Error::from(kind)),
-            None => Ok(0),
-        }
-    }
-}
-
-// Accepts at most three bytes at each write, counts what is flushed, and fails after a given number of bytes, or at each flush.
-#[derive(Drop)]
-struct Slow<'a> {
-    written: Vec<u8>,
-    flushed: &'a Cell<usize>,
-    most: usize,
-    flushes: bool,
-}
-
-impl Write for Slow<'_> {
-    fn write(&mut self, buf: &[u8]) -> io::Result<usize> {
-        if self.written.len() >= self.most {
-            return Err(io::Error::from(ErrorKind::BrokenPipe));
-        }
-        let len = buf.len().min(3);
-        let (front, _) = buf.split_at(len);
-        self.written.extend_from_slice(front)?;
-        Ok(len)
-    }
-
-    fn flush(&mut self) -> io::Result<()> {
-        if !self.flushes {
-            return Err(io::Error::from(ErrorKind::Other));
-        }
-        self.flushed.set(self.written.len());
-        Ok(())
-    }
-}
 
 // One run over pieces of input: how it ends, what is written and flushed, and how much was flushed at each read.
 #[derive(Drop)]
