@@ -41,12 +41,18 @@ fn check_ranges<C: NodesMut<u64, u64>>(
     assert_same(rt, set.iter().next_back(), expected.last().copied());
 }
 
-// Checks that a call was refused for the store, with its numbers.
-fn check_refused(rt: &impl Abort, outcome: Result<(), Refused<u64, u64>>, start: u64, end: u64) {
+// Checks that a call was refused for this cause, with its numbers.
+fn check_refused(
+    rt: &impl Abort,
+    outcome: Result<(), Refused<u64, u64>>,
+    cause: Cause,
+    start: u64,
+    end: u64,
+) {
     match outcome {
         Ok(()) => panic!(rt; "not refused"),
         Err(refused) => {
-            assert_same(rt, refused.cause, Cause::Store);
+            assert_same(rt, refused.cause, cause);
             assert_same(rt, (refused.key, refused.value), (start, end));
         }
     }
@@ -139,7 +145,7 @@ const EIGHT: [(u64, u64); 8] = [
 // Eight ranges fill one node: a ninth is refused, and what joins or shortens is not.
 fn fill_a_node<C: NodesMut<u64, u64> + Drop>(rt: &impl Abort, origin: C::Origin) {
     let mut set: RangeSet<C> = eight_ranges(rt, origin);
-    check_refused(rt, set.remove(32, 33), 32, 33);
+    check_refused(rt, set.remove(32, 33), Cause::Store, 32, 33);
     check_ranges(rt, &set, &EIGHT);
     assert_true(rt, set.remove(30, 32).is_ok());
     check_listed(rt, set.overlapping(20, 50), &[(20, 25), (32, 35), (40, 45)]);
@@ -149,7 +155,7 @@ fn fill_a_node<C: NodesMut<u64, u64> + Drop>(rt: &impl Abort, origin: C::Origin)
     assert_true(rt, set.remove(33, 34).is_ok());
     check_listed(rt, set.overlapping(30, 40), &[(32, 33), (34, 35)]);
     assert_same(rt, set.len(), 8);
-    check_refused(rt, set.insert(100, 101), 100, 101);
+    check_refused(rt, set.insert(100, 101), Cause::Store, 100, 101);
     check_listed(rt, set.overlapping(0, 30), &[(0, 15), (20, 25)]);
     check_listed(rt, set.overlapping(30, 40), &[(32, 33), (34, 35)]);
     assert_same(rt, set.len(), 8);
@@ -160,25 +166,14 @@ fn refuses_what_needs_a_node(rt: HostRuntime) {
     fill_a_node::<FixedSlab<Node<u64, u64>, 1>>(&rt, ());
 }
 
-// Checks that a call was refused for the limit, with its numbers.
-fn check_limited(rt: &impl Abort, outcome: Result<(), Refused<u64, u64>>, start: u64, end: u64) {
-    match outcome {
-        Ok(()) => panic!(rt; "not refused"),
-        Err(refused) => {
-            assert_same(rt, refused.cause, Cause::Count);
-            assert_same(rt, (refused.key, refused.value), (start, end));
-        }
-    }
-}
-
 // One range may grow, and is not cut in two; no second one is taken.
 fn keep_one_range<C: NodesMut<u64, u64> + Drop>(rt: &impl Abort, mut set: RangeSet<C>) {
     assert_true(rt, set.insert(1, 9).is_ok());
-    check_limited(rt, set.remove(3, 5), 3, 5);
+    check_refused(rt, set.remove(3, 5), Cause::Count, 3, 5);
     check_ranges(rt, &set, &[(1, 9)]);
     assert_true(rt, set.insert(9, 12).is_ok());
     check_ranges(rt, &set, &[(1, 12)]);
-    check_limited(rt, set.insert(20, 21), 20, 21);
+    check_refused(rt, set.insert(20, 21), Cause::Count, 20, 21);
     assert_true(rt, set.insert(5, 5).is_ok());
     check_ranges(rt, &set, &[(1, 12)]);
     for (number, is) in [(0, false), (1, true), (11, true), (12, false)] {
