@@ -99,7 +99,7 @@ fn report(
     }
 }
 
-fn measure(
+fn measure_look_ups(
     rt: &(impl Print + Clock),
     is_timed: bool,
     map: &str,
@@ -114,7 +114,17 @@ fn measure(
     report(rt, is_timed, (map, "get_present"), since, sum)?;
     let since = Instant::now(rt)?;
     let sum = sum_at(table, keys.absent.as_slice());
-    report(rt, is_timed, (map, "get_absent"), since, sum)?;
+    report(rt, is_timed, (map, "get_absent"), since, sum)
+}
+
+fn measure<T: Table + Drop>(
+    rt: &(impl Print + Clock),
+    is_timed: bool,
+    map: &str,
+    mut table: T,
+    keys: &Keys,
+) -> io::Result<()> {
+    measure_look_ups(rt, is_timed, map, &mut table, keys)?;
     let since = Instant::now(rt)?;
     let sum = table.sum();
     report(rt, is_timed, (map, "iterate"), since, sum)?;
@@ -122,47 +132,30 @@ fn measure(
     let sum = table.sum_back();
     report(rt, is_timed, (map, "iterate_back"), since, sum)?;
     let since = Instant::now(rt)?;
-    let sum = take_all(table, keys.present.as_slice());
+    let sum = take_all(&mut table, keys.present.as_slice());
     report(rt, is_timed, (map, "remove"), since, sum)
 }
 
-// Insertion and look-up alone, over another store.
-fn measure_look_ups<C: NodesMut<u64, u64> + Drop>(
+// Insertion and look-up alone.
+fn measure_fixed<C: NodesMut<u64, u64> + Drop>(
     rt: &(impl Print + Clock),
     is_timed: bool,
-    map: &str,
     origin: C::Origin,
     keys: &Keys,
 ) -> io::Result<()> {
     let mut table: BTreeMap<u64, u64, C> = BTreeMap::new(origin);
-    let since = Instant::now(rt)?;
-    let sum = put_all(&mut table, keys.put.as_slice())?;
-    report(rt, is_timed, (map, "insert"), since, sum)?;
-    let since = Instant::now(rt)?;
-    let sum = sum_at(&table, keys.present.as_slice());
-    report(rt, is_timed, (map, "get_present"), since, sum)?;
-    let since = Instant::now(rt)?;
-    let sum = sum_at(&table, keys.absent.as_slice());
-    report(rt, is_timed, (map, "get_absent"), since, sum)
+    measure_look_ups(rt, is_timed, "fixed", &mut table, keys)
 }
 
-// A table of 512 nodes takes 1,536 keys in any order.
-fn measure_fixed(rt: &(impl Print + Clock), is_timed: bool, keys: &Keys) -> io::Result<()> {
-    if keys.put.len() > 1_536 {
-        return Ok(());
-    }
-    measure_look_ups::<FixedNodes>(rt, is_timed, "fixed", (), keys)
-}
-
-fn measure_descent(
+fn measure_descent<T: Table + Drop>(
     rt: &(impl Print + Clock),
     is_timed: bool,
     map: &str,
-    table: &mut impl Table,
+    mut table: T,
     count: u64,
 ) -> io::Result<()> {
     let since = Instant::now(rt)?;
-    let absent = descend(table, count)?;
+    let absent = descend(&mut table, count)?;
     report(rt, is_timed, (map, "descend"), since, absent)
 }
 
@@ -241,47 +234,70 @@ fn measure_owned<T: Table + Drop>(
 }
 
 // The widths of all ranges together are those of all numbers.
-fn measure_spans(
+fn measure_spans<S: Spans + Drop>(
     rt: &(impl Print + Clock),
     is_timed: bool,
     map: &str,
-    set: &mut impl Spans,
+    mut set: S,
     keys: &Keys,
 ) -> io::Result<()> {
     let width = u64::MAX / (keys.put.len() as u64).max(1);
     let since = Instant::now(rt)?;
-    let count = add_and_subtract(set, keys.put.as_slice(), width)? as u64;
+    let count = add_and_subtract(&mut set, keys.put.as_slice(), width)? as u64;
     report(rt, is_timed, (map, "range_set"), since, count)
 }
 
-// Each phase with a new map, so that all of them touch fresh memory.
-fn measure_both(
+// The phases of a map that is filled once, each with a new map, so that all of them touch fresh memory.
+fn measure_maps(
+    rt: &(impl Print + Clock),
+    alloc: Global,
+    is_timed: bool,
+    keys: &Keys,
+) -> io::Result<()> {
+    let count = keys.put.len() as u64;
+    measure(rt, is_timed, "std", KitMap::new(alloc), keys)?;
+    measure(rt, is_timed, "btree_slab", SlabMap::new(alloc), keys)?;
+    // (a table of 512 nodes takes 1,536 keys in any order)
+    if keys.put.len() <= 1_536 {
+        measure_fixed::<FixedNodes>(rt, is_timed, (), keys)?;
+    }
+    measure_ranges::<SlabNodes>(rt, is_timed, alloc, keys)?;
+    measure_descent(rt, is_timed, "std", KitMap::new(alloc), count)?;
+    measure_descent(rt, is_timed, "btree_slab", SlabMap::new(alloc), count)
+}
+
+// The other phases.
+fn measure_others(
+    rt: &(impl Print + Clock),
+    alloc: Global,
+    is_timed: bool,
+    keys: &Keys,
+) -> io::Result<()> {
+    measure_descent_at::<SlabNodes>(rt, is_timed, alloc, keys.put.len() as u64)?;
+    measure_ascents::<SlabNodes>(rt, is_timed, alloc, keys)?;
+    let kit = (KitMap::new(alloc), KitMap::new(alloc));
+    measure_owned(rt, is_timed, "std", kit, keys)?;
+    let ours = (SlabMap::new(alloc), SlabMap::new(alloc));
+    measure_owned(rt, is_timed, "btree_slab", ours, keys)?;
+    measure_spans(
+        rt,
+        is_timed,
+        "std",
+        KitSpans::in_map(KitMap::new(alloc)),
+        keys,
+    )?;
+    let ours: RangeSet<SlabNodes> = RangeSet::new(alloc);
+    measure_spans(rt, is_timed, "btree_slab", ours, keys)
+}
+
+fn measure_all(
     rt: &(impl Print + Clock + AllocGlobal),
     count: usize,
     is_timed: bool,
 ) -> io::Result<()> {
-    let alloc = rt.alloc();
-    let keys = make_keys(count, alloc)?;
-    let mut kit = KitMap::new(alloc);
-    measure(rt, is_timed, "std", &mut kit, &keys)?;
-    let mut ours = SlabMap::new(alloc);
-    measure(rt, is_timed, "btree_slab", &mut ours, &keys)?;
-    measure_fixed(rt, is_timed, &keys)?;
-    measure_ranges::<SlabNodes>(rt, is_timed, alloc, &keys)?;
-    let mut kit = KitMap::new(alloc);
-    measure_descent(rt, is_timed, "std", &mut kit, count as u64)?;
-    let mut ours = SlabMap::new(alloc);
-    measure_descent(rt, is_timed, "btree_slab", &mut ours, count as u64)?;
-    measure_descent_at::<SlabNodes>(rt, is_timed, alloc, count as u64)?;
-    measure_ascents::<SlabNodes>(rt, is_timed, alloc, &keys)?;
-    let kit = (KitMap::new(alloc), KitMap::new(alloc));
-    measure_owned(rt, is_timed, "std", kit, &keys)?;
-    let ours = (SlabMap::new(alloc), SlabMap::new(alloc));
-    measure_owned(rt, is_timed, "btree_slab", ours, &keys)?;
-    let mut kit = KitSpans::in_map(KitMap::new(alloc));
-    measure_spans(rt, is_timed, "std", &mut kit, &keys)?;
-    let mut ours: RangeSet<SlabNodes> = RangeSet::new(alloc);
-    measure_spans(rt, is_timed, "btree_slab", &mut ours, &keys)
+    let keys = make_keys(count, rt.alloc())?;
+    measure_maps(rt, rt.alloc(), is_timed, &keys)?;
+    measure_others(rt, rt.alloc(), is_timed, &keys)
 }
 
 // Returns the number of keys that the arguments give, and whether times are printed; `None` if they are something else.
@@ -302,7 +318,7 @@ fn main(rt: HostRuntime) -> ExitCode {
         let _ = rt.eprintln("usage: btree_bench [number of keys]");
         return ExitCode::from(1);
     };
-    match measure_both(&rt, count, is_timed) {
+    match measure_all(&rt, count, is_timed) {
         Ok(()) => ExitCode::SUCCESS,
         Err(error) => {
             let _ = rt.eprintln(format_args!("{error}"));
