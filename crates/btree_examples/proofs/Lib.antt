@@ -1,4 +1,5 @@
 mod BlockLemmas
 pub mod BookingLemmas
 mod PageLemmas
+mod ShelfLemmas
 mod StockLemmas

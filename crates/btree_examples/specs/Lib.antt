@@ -3,4 +3,5 @@ pub mod Bookings
 pub mod Copies
 pub mod Counts
 pub mod Listing
+pub mod Shelves
 pub mod Stock

@@ -1,6 +1,6 @@
 //! Maps in use: a stock of parts, by part number, a listing of them by pages (`listing.rt`), bookings of a room (`bookings.rt`), a count
-//! of words (`words.rt`), one of visits in a fixed table (`visits.rt`), and one read from a copy of its nodes (`copies.rt`). A set of
-//! ranges in use: reserved blocks (`reserved.rt`).
+//! of words (`words.rt`), one of visits in a fixed table (`visits.rt`), and one read from a copy of its nodes (`copies.rt`). A set of pairs
+//! in use: the shelves on which parts lie (`shelves.rt`). A set of ranges in use: reserved blocks (`reserved.rt`).
 #![tactic(auto)]
 
 ghost use Rattle.std.specs.Prelude.{◌≡◌, ◌+◌, OnOk, OnErr, unwrap_or};
@@ -12,6 +12,7 @@ mod bookings;
 mod copies;
 mod listing;
 mod reserved;
+mod shelves;
 mod sold_out;
 mod visits;
 mod words;
@@ -20,6 +21,7 @@ use crate::bookings::{book_and_cancel, count_overlaps, three_bookings};
 use crate::copies::{is_readable, read_copy};
 use crate::listing::next_page;
 use crate::reserved::reserve;
+use crate::shelves::append_shelves;
 use crate::sold_out::remove_sold_out;
 use crate::visits::count_visit;
 use crate::words::count_word;
@@ -90,6 +92,21 @@ fn print_counts(rt: &impl Print, alloc: Global) -> io::Result<()> {
     }
     for (word, count) in counts.iter() {
         rt.println(format_args!("{word}: {count}"))?;
+    }
+    Ok(())
+}
+
+/// Prints the shelves of a part, of which one is cleared.
+fn print_shelves(rt: &impl Print, alloc: Global) -> io::Result<()> {
+    let mut shelves: BTreeSet<(u32, u32)> = BTreeSet::new(alloc);
+    for pair in [(408, 4), (17, 1), (408, 1), (408, 3)] {
+        shelves.insert(pair)?;
+    }
+    shelves.remove(&(408, 3));
+    let mut found = Vec::new(alloc);
+    append_shelves(&shelves, 408, &mut found)?;
+    for shelf in found.iter() {
+        rt.println(format_args!("408 is on shelf {shelf}"))?;
     }
     Ok(())
 }
@@ -184,6 +201,7 @@ fn main(rt: HostRuntime) -> io::Result<()> {
     print_bookings(&rt, rt.alloc())?;
     print_blocks(&rt, rt.alloc())?;
     print_counts(&rt, rt.alloc())?;
+    print_shelves(&rt, rt.alloc())?;
     print_visits(&rt)?;
     print_copies(&rt, stock)
 }
