@@ -1,6 +1,7 @@
-//! Maps in use: a stock of parts, by part number, a listing of them by pages (`listing.rt`), bookings of a room (`bookings.rt`), a count
-//! of words (`words.rt`), one of visits in a fixed table (`visits.rt`), and one read from a copy of its nodes (`copies.rt`). A set of pairs
-//! in use: the shelves on which parts lie (`shelves.rt`). A set of ranges in use: reserved blocks (`reserved.rt`).
+//! Maps in use: a stock of parts, by part number, a listing of them by pages (`listing.rt`), bookings of a room (`bookings.rt`,
+//! `booked.rt`), a count of words (`words.rt`), one of visits in a fixed table (`visits.rt`), and one read from a copy of its nodes
+//! (`copies.rt`). A set of pairs in use: the shelves on which parts lie (`shelves.rt`). A set of ranges in use: reserved blocks
+//! (`reserved.rt`).
 #![tactic(auto)]
 
 ghost use Rattle.std.specs.Prelude.{◌≡◌, ◌+◌, OnOk, OnErr, unwrap_or};
@@ -8,6 +9,7 @@ ghost use Rattle.std.specs.Ordering.{nat_cmp};
 ghost use Rattle.btree_item.specs.Pairs.{found_value, inserted};
 ghost use Rattle.btree_shape.specs.TreeState.{IsValidIn, pairs_of};
 
+mod booked;
 mod bookings;
 mod copies;
 mod listing;
@@ -17,7 +19,8 @@ mod sold_out;
 mod visits;
 mod words;
 
-use crate::bookings::{book_and_cancel, count_overlaps, three_bookings};
+use crate::booked::{book_and_cancel, three_bookings};
+use crate::bookings::count_overlaps;
 use crate::copies::{is_readable, read_copy};
 use crate::listing::next_page;
 use crate::reserved::reserve;
