@@ -192,7 +192,30 @@ fn measure_ranges<C: NodesMut<u64, u64> + Drop>(
     report(rt, is_timed, ("btree_slab", "range_ten"), since, sum)
 }
 
-// The pairs of a map inserted into a new one, in order.
+// The pairs of a map inserted into an empty one in order, each by its key.
+fn measure_ascent<C: NodesMut<u64, u64> + Drop>(
+    rt: &(impl Print + Clock),
+    is_timed: bool,
+    mut map: BTreeMap<u64, u64, C>,
+    from: &BTreeMap<u64, u64, C>,
+) -> io::Result<()> {
+    let since = Instant::now(rt)?;
+    let len = ascend(&mut map, from)? as u64;
+    report(rt, is_timed, ("btree_slab", "ascend"), since, len)
+}
+
+// The same by one call.
+fn measure_ascent_all<C: NodesMut<u64, u64> + Drop>(
+    rt: &(impl Print + Clock),
+    is_timed: bool,
+    mut map: BTreeMap<u64, u64, C>,
+    from: &BTreeMap<u64, u64, C>,
+) -> io::Result<()> {
+    let since = Instant::now(rt)?;
+    let len = ascend_all(&mut map, from)? as u64;
+    report(rt, is_timed, ("btree_slab", "ascend_all"), since, len)
+}
+
 fn measure_ascents<C: NodesMut<u64, u64> + Drop>(
     rt: &(impl Print + Clock),
     is_timed: bool,
@@ -204,14 +227,8 @@ where
 {
     let mut from: BTreeMap<u64, u64, C> = BTreeMap::new(origin);
     let _present = put_all(&mut from, keys.put.as_slice())?;
-    let mut ours: BTreeMap<u64, u64, C> = BTreeMap::new(origin);
-    let since = Instant::now(rt)?;
-    let len = ascend(&mut ours, &from)? as u64;
-    report(rt, is_timed, ("btree_slab", "ascend"), since, len)?;
-    let mut ours: BTreeMap<u64, u64, C> = BTreeMap::new(origin);
-    let since = Instant::now(rt)?;
-    let len = ascend_all(&mut ours, &from)? as u64;
-    report(rt, is_timed, ("btree_slab", "ascend_all"), since, len)
+    measure_ascent(rt, is_timed, BTreeMap::new(origin), &from)?;
+    measure_ascent_all(rt, is_timed, BTreeMap::new(origin), &from)
 }
 
 // Both ends of an iterator that owns its map, each of a new one.
