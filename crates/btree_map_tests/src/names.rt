@@ -6,7 +6,7 @@ use btree_node::{Node, NodesMut};
 use btree_store::SlabStore;
 use std::process::Abort;
 
-type Names = SlabStore<Node<&'static str, u64>>;
+type Names = BTreeMap<&'static str, u64, SlabStore<Node<&'static str, u64>>>;
 
 // Adds to the value of an entry, which is `start` if the key is absent, and returns it.
 fn raised<K: Ord + Drop, C: NodesMut<K, u64>>(
@@ -41,43 +41,40 @@ fn called<K: Ord + Drop, C: NodesMut<K, u64>>(
     }
 }
 
-// Inserts values at the keys of one map, in each way.
-fn insert_names<C: NodesMut<&'static str, u64> + Drop>(
-    rt: &impl Abort,
-    mut map: BTreeMap<&'static str, u64, C>,
-) {
+#[test]
+fn inserts_values_of_names(rt: HostRuntime) {
+    let mut map: Names = BTreeMap::new(rt.alloc());
     for calls in [42, 43] {
-        assert_same(rt, called(rt, &mut map, "poneyland"), calls);
+        assert_same(&rt, called(&rt, &mut map, "poneyland"), calls);
     }
-    assert_same(rt, raised(rt, &mut map, "health", 100, 0), 100);
+    assert_same(&rt, raised(&rt, &mut map, "health", 100, 0), 100);
     for given in [42u64, 7] {
         match map.entry("defence").or_insert_with(move || given) {
-            Ok(value) => assert_same(rt, *value, 42),
+            Ok(value) => assert_same(&rt, *value, 42),
             Err(_) => panic!(rt; "refused"),
         }
     }
-    assert_same(rt, raised(rt, &mut map, "attack", 100, 42), 142);
-    let (attack, defence) = (("attack", 142), ("defence", 42));
-    let (health, poneyland) = (("health", 100), ("poneyland", 43));
-    check_pairs(rt, &map, &[attack, defence, health, poneyland]);
+    assert_same(&rt, raised(&rt, &mut map, "attack", 100, 42), 142);
+    check_pairs(
+        &rt,
+        &map,
+        &[
+            ("attack", 142),
+            ("defence", 42),
+            ("health", 100),
+            ("poneyland", 43),
+        ],
+    );
 }
 
-// Inserts the number of letters of a key.
-fn insert_letters<C: NodesMut<&'static str, u64> + Drop>(
-    rt: &impl Abort,
-    mut map: BTreeMap<&'static str, u64, C>,
-) {
+#[test]
+fn inserts_the_number_of_letters_of_a_name(rt: HostRuntime) {
+    let mut map: Names = BTreeMap::new(rt.alloc());
     match map
         .entry("poneyland")
         .or_insert_with_key(|key| key.len() as u64)
     {
-        Ok(value) => assert_same(rt, *value, 9),
+        Ok(value) => assert_same(&rt, *value, 9),
         Err(_) => panic!(rt; "refused"),
     }
-}
-
-#[test]
-fn inserts_values_of_names(rt: HostRuntime) {
-    insert_names::<Names>(&rt, BTreeMap::new(rt.alloc()));
-    insert_letters::<Names>(&rt, BTreeMap::new(rt.alloc()));
 }
