@@ -4,7 +4,7 @@
 -- `RefusesExactlyAtPlace` of one at a place, as a cursor's. `TakesFew` is what follows for a map of few pairs. The laws of
 -- these words are in `CapacityLaws.antt`; their premises are clauses of the calls. `RefusesElementExactly` and
 -- `TakesFewElements` are the same words for a set; their laws are in `SetLaws.antt`.
-use Rattle.std.specs.Prelude.{◌≡◌, ◌<◌, ◌≤◌, ◌+◌, ◌*◌, ◌↔◌, ℕ, None, Result, IsErr, IsOk, length}
+use Rattle.std.specs.Prelude.{◌≡◌, ◌<◌, ◌≤◌, ◌+◌, ◌*◌, ◌↔◌, ℕ, None, Result, IsErr, IsOk, IsSome, length}
 use Rattle.std.specs.FinMap as map
 use Rattle.std.specs.declared.cmp.Ordering.{Ordering}
 use Rattle.btree_store.specs.Content.{Content}
@@ -87,6 +87,10 @@ module _ {K V : Type 0} where
 -- in its place since
 abbrev pub InsertsByEntry : {K V : Type 0} → (K → K → Ordering) → K → (old new : TreeState K V) → Type 0
 InsertsByEntry {K} {V} cmp k old new = found cmp k (pairs_of old) ≡ None → (given : V) × ((w : V) × IsInsertedWith cmp k old new given w)
+
+-- if the key was there, every pair is as it was
+abbrev pub KeepsPresent : {K V : Type 0} → (K → K → Ordering) → K → (old new : TreeState K V) → Type 0
+KeepsPresent cmp k old new = IsSome (found cmp k (pairs_of old)) → pairs_of new ≡ pairs_of old
 
 -- below its limit, a set refuses an element that is not there exactly if the nodes for its gap do not fit
 abbrev pub RefusesElementExactly : {T X E : Type 0} → (T → T → Ordering) → T → SetState T → (capacity : ℕ) → Result X E → Type 0

@@ -1,8 +1,11 @@
 -- The law of the exact refusal for insertions by way of an entry, `by_entry-exact`. Its premises are what `VacantEntry::insert`
 -- says by `lends_inserted`, and `or_insert`, `or_insert_with`, `or_insert_with_key` and `or_default` by `entry_lends`, the
--- clause that these four share: `entry-inserts` and `entry-refused` lead from it to them.
-use Rattle.std.proofs.Common.{◌≡◌, ◌≤◌, ◌∙◌, ℕ, IfErr, IfSome, OnOk, Option, Some, None, Result, Ok, Err, IsOk, ap, is_some, refl, subst, sym, arith}
+-- clause that these four share: `entry-inserts` and `entry-refused` lead from it to them. `entry-keeps` is what they leave of a
+-- map in which the key is there.
+use Rattle.std.proofs.Common.{◌≡◌, ◌≤◌, ◌∙◌, ◌∷◌, [], ℕ, zero, suc, IfErr, IfSome, IsSome, OnOk, List, Option, Some, None, Result, Ok, Err, IsOk, ap, is_some, refl, option_map, set, slice_get, subst, sym, arith}
+use Rattle.std.proofs.lemmas.Option.{same_Some}
 use Rattle.std.proofs.lemmas.Result.{on_ok_weaker}
+use Rattle.std.specs.Option.{UnwrapsOrElse}
 use Rattle.std.specs.FinMap as map
 use Rattle.std.specs.declared.cmp.Ord as ord
 use Rattle.std.specs.declared.cmp.Ordering.{Ordering}
@@ -20,8 +23,9 @@ use Rattle.btree_node.specs.declared.nodes.NodesMut as nodes_mut
 use Rattle.btree_view.specs.View.{item_at_offset}
 use Rattle.btree_shape.specs.TreeState.{TreeState, IsBTree, pairs_of}
 use Rattle.btree_edit.specs.Insert.{InsertsByKey, IsRefusedAtGap}
+use Rattle.btree_edit.specs.Exchange.{IsValueExchanged}
 use Rattle.btree_edit.specs.ValueWritten.{item_written, node_written, value_written}
-use Rattle.btree_map.specs.Entry.{IsRefusedEntry, WritesEntry, asked_key, entry_map, entry_pair}
+use Rattle.btree_map.specs.Entry.{IsRefusedEntry, WritesEntry, asked_key, entry_map, entry_pair, entry_value}
 use Rattle.btree_map.specs.Written.{IsInsertedWith}
 use Rattle.btree_map.specs.declared.entry.Entry.{Entry}
 use Rattle.btree_map.specs.declared.entry.Entry.TheVariants.{Vacant, Occupied}
@@ -37,6 +41,19 @@ written-count {K} {V} s a w = by (map.get s.nodes a.id) refl
     by (Some node) is =
         ap (λ (t : TreeState K V). map.len t.nodes) (ap (node_written s a w) is)
         ∙ len-insert_used s.nodes a.id (item_written node a.offset w (item_at_offset (view_of node) a.offset)) (ap is_some is)
+
+-- an element that is put where it is leaves the list
+set-kept : {X : Type 0} (xs : List X) (n : ℕ) (x : X) → slice_get xs n ≡ Some x → set xs n x ≡ xs
+set-kept [] n x is = absurd (cc)
+set-kept (z ∷ xs) zero x is = ap (λ y. y ∷ xs) (sym (same_Some z x is))
+set-kept (z ∷ xs) (suc n) x is = ap (λ l. z ∷ l) (set-kept xs n x is)
+
+-- a value that takes its own place leaves the list
+pub exchanged-kept : {K V : Type 0} (cmp : K → K → Ordering) (old new : TreeState K V) (a : Address) (was w : V) → w ≡ was → IsValueExchanged old new a cmp was w
+    → pairs_of new ≡ pairs_of old
+exchanged-kept cmp old new a was w same e =
+    e.exchanged.pairs
+    ∙ (ap (λ v. set (pairs_of old) e.exchanged.place (e.key, v)) same ∙ set-kept (pairs_of old) e.exchanged.place (e.key, was) e.listed)
 
 module _ {K V X E : Type 0} (cmp : K → K → Ordering) (k : K) (old new : TreeState K V) (capacity : ℕ) (cause_of : E → Cause) (result : Result X E) where
   -- an insertion by way of an entry
@@ -68,3 +85,12 @@ module _ {K V C O : Type 0} {g : ord.Ghosts K} {g' : eq.Ghosts K} {g'' : partial
       let r = subst (λ q. IsRefusedAtGap g.cmp q v.map.now new s.MayRefuse cause) is refused in
       subst (λ (t : TreeState K V). IsRefusedAtGap g.cmp k t new s.MayRefuse cause) same r
   entry-refused (Occupied o) same is cause refused = absurd refused
+
+  -- if the key was there, and the last value is the one that the entry lent, the list is as it was
+  pub entry-keeps : (e : Entry K V C O g g' g'' s s') → (entry_map e).now ≡ old → entry_pair e ≡ found g.cmp k (pairs_of old) → IsSome (found g.cmp k (pairs_of old))
+      → (P : V → Type 0) (w : V) → UnwrapsOrElse (entry_value e) P w → WritesEntry e new w → pairs_of new ≡ pairs_of old
+  entry-keeps (Vacant v) same pair there P w lent written = absurd (cc)
+  entry-keeps (Occupied o) same pair there P w lent written =
+      let x = written.sets.1.exchanged in
+      let kept : w ≡ written.sets.0 = subst (λ (i : Option (K × V)). UnwrapsOrElse (option_map (λ y. y.1) i) P w) x.had lent in
+      exchanged-kept g.cmp o.map.now new o.at written.sets.0 w kept x ∙ ap pairs_of same

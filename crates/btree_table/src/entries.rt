@@ -1,9 +1,9 @@
 //! Insertions by way of an entry.
-ghost use Rattle.std.specs.Prelude.{◌≡◌, ◌↔◌, None, IfErr, IfOk, IsTrue, OnOk};
+ghost use Rattle.std.specs.Prelude.{◌≡◌, ◌↔◌, None, IfErr, IfOk, IsFalse, IsTrue, OnOk};
 ghost use Rattle.btree_item.specs.Pairs.{found};
 ghost use Rattle.btree_shape.specs.TreeState.{pairs_of};
 ghost use Rattle.btree_edit.specs.Insert.{IsRefusedAtGap};
-ghost use Rattle.btree_table.specs.Capacity.{HoldsAll, HoldsAtMost, InsertsByEntry, RefusesExactly, TakesFew};
+ghost use Rattle.btree_table.specs.Capacity.{HoldsAll, HoldsAtMost, InsertsByEntry, KeepsPresent, RefusesExactly, TakesFew};
 
 use crate::{FixedMap, tell_held};
 use btree_ext::BTreeExt;
@@ -18,6 +18,7 @@ fn insert_by_vacant<K: Ord + Drop, V: Drop, C: NodesMut<K, V>>(
     value: V,
 ) -> Result<bool, Refused<K, V>>
     ensures new { IfOk result (λ new. IsTrue new ↔ (found K.cmp key (pairs_of map.old) ≡ None)) }
+    ensures present { IfOk result (λ new. IsFalse new → pairs_of map.new ≡ pairs_of map.old) }
     ensures inserted { OnOk result (InsertsByEntry K.cmp key map.old map.new) }
     ensures returned { IfErr result (λ r. (r.key ≡ key) × (r.value ≡ value)) }
     ensures cause { IfErr result (λ r.
@@ -31,7 +32,11 @@ fn insert_by_vacant<K: Ord + Drop, V: Drop, C: NodesMut<K, V>>(
             }
             Err(refused) => return Err(refused),
         },
-        Entry::Occupied(_) => return Ok(false),
+        Entry::Occupied(entry) => {
+            // For the prover: what an entry leaves is told by the call that ends it.
+            let _value: &V = entry.into_mut();
+            return Ok(false);
+        }
     }
 }
 
@@ -48,6 +53,7 @@ pub fn insert_vacant<K: Ord + Drop, V: Drop, const N: usize>(
     ensures held { HoldsAtMost N map.new.nodes }
 
     ensures new { IfOk result (λ new. IsTrue new ↔ (found K.cmp key (pairs_of map.old) ≡ None)) }
+    ensures present { IfOk result (λ new. IsFalse new → pairs_of map.new ≡ pairs_of map.old) }
     ensures inserted { OnOk result (InsertsByEntry K.cmp key map.old map.new) }
     ensures returned { IfErr result (λ r. (r.key ≡ key) × (r.value ≡ value)) }
     ensures cause { IfErr result (λ r.
@@ -66,6 +72,7 @@ fn insert_by_entry<K: Ord + Drop, V: Drop, C: NodesMut<K, V>>(
     default: V,
 ) -> Result<(), Refused<K, V>>
     ensures inserted { OnOk result (InsertsByEntry K.cmp key map.old map.new) }
+    ensures present { OnOk result (KeepsPresent K.cmp key map.old map.new) }
     ensures returned { IfErr result (λ r. (r.key ≡ key) × (r.value ≡ default)) }
     ensures cause { IfErr result (λ r.
         IsRefusedAtGap K.cmp key map.old map.new C.MayRefuse r.cause) }
@@ -79,7 +86,7 @@ fn insert_by_entry<K: Ord + Drop, V: Drop, C: NodesMut<K, V>>(
     }
 }
 
-/// Inserts a value at a key that is not there, by `Entry::or_insert`.
+/// Inserts a value at a key that is not there, by `Entry::or_insert`. If the key is there, the map stays as it is, and the value is dropped.
 ///
 /// `or_insert_with`, `or_insert_with_key` and `or_default` have the same clause on the map, `entry_lends`, from which `entry-inserts` and
 /// `entry-refused` lead to the law that this function cites.
@@ -93,6 +100,7 @@ pub fn or_insert<K: Ord + Drop, V: Drop, const N: usize>(
     ensures held { HoldsAtMost N map.new.nodes }
 
     ensures inserted { OnOk result (InsertsByEntry K.cmp key map.old map.new) }
+    ensures present { OnOk result (KeepsPresent K.cmp key map.old map.new) }
     ensures returned { IfErr result (λ r. (r.key ≡ key) × (r.value ≡ default)) }
     ensures cause { IfErr result (λ r.
         IsRefusedAtGap K.cmp key map.old map.new (HoldsAll N) r.cause) }
