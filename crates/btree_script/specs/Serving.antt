@@ -1,12 +1,15 @@
 -- What serving lines from the start does.
-use Rattle.std.specs.Prelude.{◌≡◌, ℕ, List, Option, None, Result}
+use Rattle.std.specs.Prelude.{◌≡◌, ℕ, IsFalse, IsTrue, List, Option, None, Result, Ok, Err}
 use Rattle.std.specs.FinMap as map
 use Rattle.btree_store.specs.Content.{Content}
 use Rattle.btree_node.specs.declared.node.Node.{Node}
 use Rattle.btree_shape.specs.TreeState.{limited_to, rootless}
 use Rattle.btree_session.specs.Held.{Held}
 use Rattle.btree_session.specs.Script.{Drives}
+use Rattle.btree_session.specs.declared.options.Setup.{Setup}
 use Rattle.btree_session.specs.declared.script.Stop.{Stop}
+use Rattle.btree_script.specs.declared.Ending.{Ending}
+use Rattle.btree_script.specs.declared.Ending.TheVariants.{Stopped}
 
 -- a session over an empty map with this limit, which holds no place, was driven, over stores that may refuse a node in these
 -- contents
@@ -24,3 +27,16 @@ ServesTable limit remaining contents input output result new_output = ServesAnew
 -- and one over a slab, which may refuse any
 abbrev pub ServesSlab : {A R W : Type 0} → (limit : ℕ) → (R → Option (List ℕ)) → (W → Option (List ℕ)) → R → W → Result A Stop → W → Type 0
 ServesSlab limit remaining contents input output result new_output = ServesAnew limit (λ nodes. Unit {0}) remaining contents input output result new_output
+
+-- how a run ended in which lines were served
+abbrev pub ended : {A : Type 0} → Result A Stop → Result A Ending
+ended (Ok x) = Ok x
+ended (Err stop) = Err (Stopped stop)
+
+-- lines were served as some arguments ask, and the result says how that ended
+pub record ServesAsked {A R W : Type 0} (remaining : R → Option (List ℕ)) (contents : W → Option (List ℕ)) (input : R) (output : W) (result : Result A Ending) (new_output : W) : Type 0 where
+  pub asked : Setup
+  pub end : Result A Stop
+  pub told : result ≡ ended end
+  pub table : IsTrue asked.table → ServesTable asked.limit remaining contents input output end new_output
+  pub slab : IsFalse asked.table → ServesSlab asked.limit remaining contents input output end new_output

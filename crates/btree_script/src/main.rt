@@ -5,10 +5,11 @@
 #[cfg(test)]
 mod tests;
 
-ghost use Rattle.std.specs.Prelude.{◌≡◌, Some, IsFalse, IsTrue};
+ghost use Rattle.std.specs.Prelude.{◌≡◌, ◌⊎◌, Err, Some, IsFalse, IsTrue};
 ghost use Rattle.std.specs.Process.{exit_status};
 ghost use Rattle.btree_script.specs.Ending.{status_after, status_of, text_of};
-ghost use Rattle.btree_script.specs.Serving.{ServesAnew, ServesSlab, ServesTable};
+ghost use Rattle.btree_script.specs.Serving.{ServesAnew, ServesAsked, ServesSlab, ServesTable};
+ghost use Rattle.btree_script.specs.declared.Ending.TheVariants.{WrongArguments};
 
 use btree_node::{ClearNodes, Node};
 use btree_session::{Session, Setup, Stop, drive, setup};
@@ -139,11 +140,17 @@ fn run<R: Read, W: Write>(
     alloc: Global,
     input: &mut R,
     output: &mut W,
-) -> Result<(), Ending> {
+) -> Result<(), Ending>
+    ensures { (result ≡ Err WrongArguments) ⊎ ServesAsked R.remaining W.contents
+        input.old output.old result output.new }
+{
     let Some(asked) = read_arguments(arguments) else {
         return Err(Ending::WrongArguments);
     };
-    serve_asked(asked, alloc, input, output).map_err(Ending::Stopped)
+    match serve_asked(asked, alloc, input, output) {
+        Ok(()) => return Ok(()),
+        Err(stop) => return Err(Ending::Stopped(stop)),
+    }
 }
 
 // Prints how a run ended, unless it reached the end of its input, and returns its exit code.

@@ -1,10 +1,11 @@
 ghost use Rattle.std.specs.Io.{WritesAtMost};
 
 use crate::{Ending, read_arguments, run};
-use btree_session::{Setup, setup};
+use btree_session::{Setup, Stop, setup};
 use std::alloc::Global;
 use std::env::{Env, FillError};
 use std::process::Abort;
+use std::str;
 use std::test::Fail;
 
 // A program's name, and the arguments after it.
@@ -77,6 +78,17 @@ fn takes_no_other_arguments(rt: HostRuntime) {
     ] {
         assert_eq!(rt; asked(words), None);
     }
+}
+
+#[test]
+fn takes_no_long_argument(rt: HostRuntime) {
+    let bytes = [b't'; 1_025];
+    let Ok(word) = str::from_utf8(&bytes) else {
+        panic!(rt; "no text")
+    };
+    assert_eq!(rt; asked(&["btree_script", word]), None);
+    assert_eq!(rt; asked(&["btree_script", "table", word]), None);
+    assert_eq!(rt; asked(&["btree_script", "limit", word]), None);
 }
 
 #[test]
@@ -182,6 +194,24 @@ fn refuses_an_absent_key_at_the_limit(rt: HostRuntime) {
         "refused count\ngap\nrefused count\n0\n",
         rt.alloc(),
     );
+}
+
+// How a run over a line that is no command ends, and one with arguments that the program does not have.
+#[test]
+fn says_how_a_run_ended(rt: HostRuntime) {
+    for (words, end, replies) in [
+        (
+            ["btree_script"].as_slice(),
+            Ending::Stopped(Stop::NotACommand(2)),
+            b"none\n".as_slice(),
+        ),
+        (&["btree_script", "tables"], Ending::WrongArguments, b""),
+    ] {
+        let (mut input, mut output) = (b"insert 1 10\njump\n".as_slice(), Vec::new(rt.alloc()));
+        let found = run(&Words { words }, rt.alloc(), &mut input, &mut output);
+        assert_eq!(rt; found, Err(end));
+        assert_eq!(rt; output.as_slice(), replies);
+    }
 }
 
 // The limit is asked before the table, which has no node left for key 43.

@@ -2,7 +2,7 @@
 -- nodes that are held afterwards, which is the clause `can_hold` of `node_count`.
 -- By key: `insert-exact`, `replace-exact`, `update-exact`. At an address: `insert_at-exact`; by a cursor: `cursor-exact`.
 -- `taken`, `taken-at`: an insertion that leaves few pairs is taken, whatever it is.
-use Rattle.std.proofs.Common.{◌≡◌, ◌<◌, ◌≤◌, ◌+◌, ◌*◌, ◌↔◌, ℕ, List, [], ◌∷◌, length, Option, Some, None, Result, Ok, Err, IsErr, IsOk, IsSome, IfErr, IfOk, OnOk, refl, subst, arith}
+use Rattle.std.proofs.Common.{◌≡◌, ◌<◌, ◌≤◌, ◌+◌, ◌*◌, ℕ, List, [], ◌∷◌, length, None, Result, Ok, Err, IsSome, IfErr, IfOk, OnOk, refl, subst, arith}
 use Rattle.std.proofs.lemmas.Result.{on_ok_weaker}
 use Rattle.std.specs.Cmp.{IsTotalOrder}
 use Rattle.std.specs.FinMap as map
@@ -13,7 +13,6 @@ use Rattle.btree_item.specs.Pairs.{found}
 use Rattle.btree_item.specs.declared.address.Address.{Address}
 use Rattle.btree_item.specs.declared.refused.Cause.{Cause}
 use Rattle.btree_item.specs.declared.refused.Cause.TheVariants.{Store, Count}
-use Rattle.btree_node.specs.declared.node.Node.{Node}
 use Rattle.btree_shape.specs.TreeState.{TreeState, IsBTree, IsLeafAddressIn, IsPlaceIn, nodes_needed, pairs_of}
 use Rattle.btree_raw.specs.Claimed.{AreClaims, CanHoldMore, EMPTY, MayRefuseOneOf, with_claims}
 use Rattle.btree_raw.specs.Insertion.{IsRefused}
@@ -26,7 +25,7 @@ use Rattle.btree_edit.specs.Insert.{InsertsByKey, IsGrantedIfAbsent, IsRefusedAt
 use Rattle.btree_edit.specs.InsertAt.{InsertsAt, IsRefusedAt}
 use Rattle.btree_edit.specs.Replace.{ReplacesByKey}
 use Rattle.btree_edit.proofs.RoomLemmas.{room-needed}
-use Rattle.btree_table.specs.Capacity.{ExceedsCapacity, FailsAtGap, FailsAtLeaf, FailsAtPlace, HoldsAll, HoldsAtMost, RefusesExactly, RefusesExactlyAt, RefusesExactlyAtPlace, TakesFew}
+use Rattle.btree_table.specs.Capacity.{ExceedsCapacity, HoldsAll, HoldsAtMost, RefusesExactly, RefusesExactlyAt, TakesFew}
 
 -- claims add their number
 len-claims : {N : Type 0} (empty : N) (nodes : Content N) (ids : List ℕ) → AreClaims empty nodes ids

@@ -22,11 +22,10 @@ use Rattle.btree_shape.specs.TreeAddresses.{item_addresses_of, leaf_backs_of}
 use Rattle.btree_shape.specs.TreeState.{TreeState, IsBTree, IsPlaceIn, pairs_of}
 use Rattle.btree_shape.proofs.AddressLists.Whole.{addresses-tree}
 use Rattle.btree_find.specs.Ends.{IsLeafBackAt}
-use Rattle.btree_find.specs.Navigation.{HasPlace}
 use Rattle.btree_find.proofs.EndsLemmas.{leaf-back-at}
 use Rattle.btree_find.proofs.PlaceLemmas.{empty-by}
 use Rattle.btree_edit.specs.InsertAt.{InsertsAt, IsRefusedAt}
-use Rattle.btree_map.specs.Editing.{InsertsEntry, RefusesEntry, entry_front, left_of, passed_of}
+use Rattle.btree_map.specs.Editing.{InsertsEntry, RefusesEntry, entry_front, passed_of}
 use Rattle.btree_map.specs.SpanLaws.{index-within}
 use Rattle.btree_map.specs.declared.cursor.editing.EntriesMut.{EntriesMut}
 use Rattle.btree_table.specs.Capacity.{HoldsAll, RefusesExactlyAtPlace, TakesFew}

@@ -5,7 +5,7 @@ ghost use Rattle.btree_find.specs.Fits.{FitsAt};
 ghost use Rattle.btree_edit.specs.InsertAt.{InsertsAt, IsRefusedAt};
 ghost use Rattle.btree_walk.specs.Bounds.{bound_key};
 ghost use Rattle.btree_table.specs.Capacity.{HoldsAll, HoldsAtMost, RefusesExactlyAt, TakesFew};
-ghost use Rattle.btree_table.specs.From.{FitsFrom, InsertsFrom, RefusesExactlyFrom};
+ghost use Rattle.btree_table.specs.From.{FitsFrom, InsertsFrom, IsRefusedFrom, RefusesExactlyFrom};
 
 use crate::{FixedMap, tell_held};
 use btree_ext::{BTreeExt, BTreeExtMut};
@@ -81,6 +81,8 @@ pub fn insert_from<K: Ord + Drop, V: Drop, const N: usize>(
     ensures inserted { OnOk result
         (InsertsFrom K.cmp (bound_key start.entry) map.old key value map.new) }
     ensures returned { IfErr result (λ r. (r.key ≡ key) × (r.value ≡ value)) }
+    ensures refused { IfErr result (λ r.
+        IsRefusedFrom K.cmp (bound_key start.entry) map.old map.new N r.cause) }
     ensures kept { OnErr result (pairs_of map.new ≡ pairs_of map.old) }
 {
     map.tell_well_formed();

@@ -1,9 +1,11 @@
-use Rattle.std.proofs.Common.{◌≡◌, ◌∙◌, ◌∷◌, ◌++◌, ◌≤◌, ap, length, refl, subst, sym}
-use Rattle.std.proofs.lemmas.Result.{on_err_weaker, on_ok_weaker}
+use Rattle.std.proofs.Common.{◌∙◌, ◌∷◌, ◌++◌, ◌≤◌, ap, length, refl, subst, sym}
+use Rattle.std.proofs.lemmas.Result.{IfErr-weaker, on_err_weaker, on_ok_weaker}
 use Rattle.std.specs.FinMap as map
 use Rattle.btree_shape.specs.TreeState.{TreeState, IsBTree, pairs_of}
+use Rattle.btree_find.specs.Navigation.{HasPlace}
+use Rattle.btree_edit.specs.InsertAt.{IsRefusedAt}
 use Rattle.btree_map.specs.Editing.{entry_front}
-use Rattle.btree_table.specs.Capacity.{RefusesExactlyAtPlace, TakesFew}
+use Rattle.btree_table.specs.Capacity.{HoldsAll, RefusesExactlyAtPlace, TakesFew}
 use Rattle.btree_table.specs.CursorLaws.{cursor-exact, cursor-taken, front-passed}
 use Rattle.btree_table.proofs.CursorLemmas.{cursor-inserted, none-inserted, same-map}
 use Rattle.btree_table.proofs.places.insert_from.Goals as goal
@@ -55,3 +57,22 @@ returns-clause-kept g c =
     on_err_weaker c.insert-result.result
     (λ same. ap pairs_of final ∙ same ∙ ap pairs_of k.unchanged)
     (none-inserted c.entries_mut_from-entries.result c.insert-result.new.self (λ e. e.cause) c.insert-result.result c.insert-result.ensures.refused)
+
+pub returns-clause-refused : goal.returns-clause-refused
+returns-clause-refused g c =
+    let k = c.entries_mut_from-entries.ensures in
+    let old = c.entries_mut_from-entries.result in
+    let new = c.insert-result.new.self in
+    let same = same-map old new (λ e. e.cause) _ c.insert-result.result c.insert-result.ensures.inserted c.insert-result.ensures.refused in
+    let final = c.map-1.given.1 (sym (same ∙ k.same_map)) in
+    let tree = subst (IsBTree g.K.Ord.cmp) (sym k.unchanged) c.tell_well_formed.ensures.well_formed in
+    let place = front-passed old g.met.K.Ord.total tree ∙ ap length k.passed in
+    IfErr-weaker c.insert-result.result _ _
+    (λ r e. record {
+      gap = e.gap;
+      has = subst (λ n. HasPlace c.args.map.now e.gap n) place (subst (λ (t : TreeState _ _). HasPlace t e.gap (entry_front old)) k.unchanged e.has);
+      back = e.back;
+      refused = subst (λ (t : TreeState _ _). IsRefusedAt c.args.map.now t e.gap (HoldsAll g.row.N) r.cause) (sym final)
+        (subst (λ (t : TreeState _ _). IsRefusedAt t new.map.now e.gap (HoldsAll g.row.N) r.cause) k.unchanged e.refused);
+    })
+    c.insert-result.ensures.refused
