@@ -73,6 +73,6 @@ returns-clause-refused g c =
       has = subst (λ n. HasPlace c.args.map.now e.gap n) place (subst (λ (t : TreeState _ _). HasPlace t e.gap (entry_front old)) k.unchanged e.has);
       back = e.back;
       refused = subst (λ (t : TreeState _ _). IsRefusedAt c.args.map.now t e.gap (HoldsAll g.row.N) r.cause) (sym final)
-        (subst (λ (t : TreeState _ _). IsRefusedAt t new.map.now e.gap (HoldsAll g.row.N) r.cause) k.unchanged e.refused);
+          (subst (λ (t : TreeState _ _). IsRefusedAt t new.map.now e.gap (HoldsAll g.row.N) r.cause) k.unchanged e.refused);
     })
     c.insert-result.ensures.refused
