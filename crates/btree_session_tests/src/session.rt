@@ -201,15 +201,17 @@ fn many_lines_are_served(rt: HostRuntime) -> Result<(), Fail> {
     drive_many::<Store>(&rt, rt.alloc(), rt.alloc())
 }
 
-// Counts the bytes that are written, and keeps the length of the longest write.
+// Counts the writes and their bytes, and keeps the length of the longest one.
 #[derive(Drop)]
 struct Longest {
+    writes: usize,
     written: usize,
     longest: usize,
 }
 
 impl Write for Longest {
     fn write(&mut self, buf: &[u8]) -> io::Result<usize> {
+        self.writes = self.writes.saturating_add(1);
         self.written = self.written.saturating_add(buf.len());
         self.longest = self.longest.max(buf.len());
         Ok(buf.len())
@@ -220,7 +222,8 @@ impl Write for Longest {
     }
 }
 
-// Lists 300 pairs, 50 times, in lines that one read gives. Each reply has 2,400 bytes.
+// Lists 300 pairs, 50 times, in lines that one read gives. Each of these replies has 2,400 bytes, so a write has some of them, or all 300 short
+// ones before.
 fn drive_lists<C: ClearNodes<u64, u64> + Drop>(
     rt: &impl Abort,
     origin: C::Origin,
@@ -237,6 +240,7 @@ fn drive_lists<C: ClearNodes<u64, u64> + Drop>(
     }
     let mut input = lines.as_bytes();
     let mut output = Longest {
+        writes: 0,
         written: 0,
         longest: 0,
     };
@@ -244,6 +248,7 @@ fn drive_lists<C: ClearNodes<u64, u64> + Drop>(
     assert_same(rt, end, Ok(()));
     assert_same(rt, output.written, 300 * 5 + 50 * 2400);
     assert_true(rt, output.longest <= 8192 + 2400);
+    assert_true(rt, output.writes < 50);
     Ok(())
 }
 
