@@ -174,6 +174,26 @@ fn an_equal_key_stays_when_it_is_reached(rt: HostRuntime) {
     reach_equal::<MapStore>(&rt, BTreeMap::new(rt.alloc()));
 }
 
+// Makes a map of three pairs, of which two have equal keys.
+fn collect_equal<C: NodesMut<Named, u64> + Drop>(rt: &impl Abort, origin: C::Origin) {
+    let names = [(1, 'a', 1), (2, 'a', 2), (1, 'b', 3)];
+    let mut source = names
+        .iter()
+        .map(|&(number, name, value)| (Named { number, name }, value));
+    match BTreeMap::<Named, u64, C>::from_iter(origin, &mut source) {
+        Ok(map) => {
+            assert_same(rt, map.len(), 2);
+            assert_same(rt, stored(&map, 1), Some(('a', 3)));
+        }
+        Err(_) => panic!(rt; "refused"),
+    }
+}
+
+#[test]
+fn the_first_of_equal_keys_stays_in_a_new_map(rt: HostRuntime) {
+    collect_equal::<MapStore>(&rt, rt.alloc());
+}
+
 // Inserts the numbers, each with the name, into a set that is empty, and returns it.
 fn names<C: NodesMut<Named, ()>>(
     rt: &impl Abort,

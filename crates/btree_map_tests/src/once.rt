@@ -5,6 +5,7 @@ use crate::released::CountedKey;
 use btree_item::Refused;
 use btree_map::BTreeMap;
 use btree_node::{ClearNodes, Node, NodesMut};
+use btree_set::BTreeSet;
 use btree_store::SlabStore;
 use btree_testing::{Refusing, RefusingStore};
 use std::alloc::Global;
@@ -110,6 +111,41 @@ fn each_is_dropped_once_in_each_way(rt: HostRuntime) {
         values: &values,
     };
     drop_each::<SlabStore<PairNode<'_>>>(&rt, BTreeMap::new(rt.alloc()), sums);
+}
+
+// Takes the first element of a drain of the even numbers, and drops it and the drain.
+fn drain_even_elements<T: Even + Ord + Drop, C: NodesMut<T, ()>>(
+    rt: &impl Abort,
+    set: &mut BTreeSet<T, C>,
+) {
+    let mut drain = set.drain_filter(|element: &T| element.is_even());
+    assert_true(rt, drain.next().is_some());
+}
+
+// Drops elements of a set that is empty in each way: an equal one, one that is replaced, those that are drained, and those of the set itself.
+fn drop_elements<'a, C: NodesMut<CountedKey<'a>, ()> + Drop>(
+    rt: &impl Abort,
+    mut set: BTreeSet<CountedKey<'a>, C>,
+    drops: &'a Cell<u64>,
+) {
+    for number in 0..16u64 {
+        assert_true(rt, set.insert(counted(number, drops)).is_ok());
+    }
+    assert_same(rt, drops.get(), 0);
+    assert_true(rt, set.insert(counted(3, drops)).is_ok());
+    assert_same(rt, drops.get(), 0x1000);
+    assert_true(rt, set.replace(counted(5, drops)).is_ok());
+    assert_same(rt, drops.get(), 0x10_1000);
+    drain_even_elements(rt, &mut set);
+    assert_same(rt, drops.get(), 0x0101_0101_0111_1101);
+    drop(set);
+    assert_same(rt, drops.get(), 0x1111_1111_1121_2111);
+}
+
+#[test]
+fn each_element_is_dropped_once(rt: HostRuntime) {
+    let drops = Cell::new(0u64);
+    drop_elements::<SlabStore<Node<CountedKey<'_>, ()>>>(&rt, BTreeSet::new(rt.alloc()), &drops);
 }
 
 // Drops what a call returned. Nothing was dropped by the call. Returns the number that was refused, if one was.
