@@ -4,3 +4,4 @@ pub mod InternalSplit
 pub mod SeparatorLemmas
 pub mod InsertionLemmas
 pub mod ChangeLemmas
+pub mod InternalSizes

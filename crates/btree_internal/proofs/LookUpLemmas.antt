@@ -1,10 +1,12 @@
 -- What a look-up in an internal node returns, by what is found and by the place of the key or of a child.
-use Rattle.std.proofs.Common.{◌≡◌, ℕ, ◌+◌, ◌≤◌, List, [], ◌∷◌, Bool, true, false, Option, Some, None, Ok, Err, drop, length, zero, suc, refl, sym, ◌∙◌, ap, arith, inl, inr, Ordering}
+use Rattle.std.proofs.Common.{◌≡◌, ℕ, ◌+◌, ◌<◌, ◌≤◌, List, [], ◌∷◌, Bool, true, false, Option, Some, None, Ok, Err, drop, length, zero, suc, refl, sym, ◌∙◌, ap, arith, inl, inr, Ordering}
 use Rattle.std.specs.Prelude.{slice_get, ◌==◌}
 use Rattle.std.specs.List.{position, position_from}
+use Rattle.std.specs.Option.{option_map}
 use Rattle.std.proofs.lemmas.Bool.Decides.{eqb_tells}
 use Rattle.std.proofs.lemmas.Iterator.Adapters.{position_from-zero}
 use Rattle.std.proofs.lemmas.List.{drop_all}
+use Rattle.std.proofs.lemmas.Option.{slice_get_cases}
 use Rattle.btree_item.specs.Pairs.{before, found}
 use Rattle.btree_view.specs.LookUp.{look_up}
 use Rattle.btree_view.specs.View.{View, items_of, children_of}
@@ -49,4 +51,17 @@ pub eq-false : (a b : ℕ) → (a ≡ b → ⊥) → (a == b) ≡ false
 eq-false a b apart = elim (eqb_tells a b) [
   | inl is ↦ absurd (apart is.1)
   | inr differs ↦ differs.0
+]
+
+-- below the length there is an element
+pub not-past : {X Y : Type 0} (f : X → Y) (xs : List X) (i : ℕ) → i < length xs → None ≡ option_map f (slice_get xs i) → ⊥
+not-past f xs i low none = elim (slice_get_cases xs i).1 [
+  | inl there ↦ (let bad = rw there.2 at none in cc)
+  | inr past ↦ omega (arith, past.0)
+]
+
+pub none-past : {X : Type 0} (xs : List X) (i : ℕ) → i < length xs → None ≡ slice_get xs i → ⊥
+none-past xs i low none = elim (slice_get_cases xs i).1 [
+  | inl there ↦ (let at = there.2 in cc)
+  | inr past ↦ omega (arith, past.0)
 ]

@@ -1,3 +1,4 @@
+use Rattle.btree_internal.proofs.InternalSizes.{fits-slots}
 use Rattle.std.proofs.Common.{◌≡◌, ◌∙◌, [], ◌++◌, ◌∷◌, ap, length, length-append, arith, rules}
 use Rattle.std.proofs.lemmas.List.{length-map}
 use Rattle.btree_view.specs.View.{internal}
@@ -5,7 +6,7 @@ use Rattle.btree_internal.proofs.ChangeLemmas.{length-pairs, pairs, pairs-joined
 use Rattle.btree_internal.proofs.internal.InternalNode.append_from.Goals as goal
 
 pub item_count-requires : goal.item_count-requires
-item_count-requires g c = omega arith
+item_count-requires g c = assumption
 
 pub offset_at-offset-requires : goal.offset_at-offset-requires
 offset_at-offset-requires g c = search rules steps 200000
@@ -42,3 +43,6 @@ returns-clause-emptied g c =
     let first = ap (λ n. n.first) c.other.view_is in
     let none : pairs c.move_tail.new.self ≡ [] = ap pairs c.move_tail.ensures.left in
     λ i. record { parent = parent i; first = first i; branches = none i }
+
+pub push-requires : goal.push-requires
+push-requires g c = let long = ap (λ n. length n.branches) c.self.view_is in let mine = length-pairs c.self.inside.branches in let own = length-map c.args.self.now.branches (λ b. b.0) in (search fits-slots, omega (arith, long, mine, own, c.requires))

@@ -5,7 +5,7 @@ use Rattle.btree_item.proofs.PairLemmas.{before-from_Err}
 use Rattle.btree_internal.specs.Internal.{internal_view}
 use Rattle.btree_view.specs.View.{items_of}
 use Rattle.btree_internal.proofs.BranchLemmas.{with_value-from_at}
-use Rattle.btree_internal.proofs.LookUpLemmas.{look_up-Ok, look_up-Err}
+use Rattle.btree_internal.proofs.LookUpLemmas.{look_up-Ok, look_up-Err, not-past}
 use Rattle.btree_internal.proofs.internal.InternalNode.get_mut.Goals as goal
 use Rattle.std.proofs.lemmas.Grind.{common_steps}
 
@@ -38,10 +38,13 @@ pub find-requires : goal.find-requires
 find-requires g c = search rules steps 200000
 
 pub value_at-requires : goal.value_at-requires
-value_at-requires g c = omega arith
+value_at-requires g c = assumption
 
 pub unreachable-unreachable : goal.unreachable-unreachable
 unreachable-unreachable g c = search rules steps 200000
 
 pub child_id-requires : goal.child_id-requires
 child_id-requires g c = grind (arith, common_steps) steps 2000000
+
+pub unreachable-requires : goal.unreachable-requires
+unreachable-requires g c = not-past (λ x. x.1) (items_of (internal_view c.args.self.now)) c.in-Ok.index (omega (arith, c.in-Ok.ensures.sized, c.in-Ok.ensures.within)) c.in-None.ensures.value

@@ -1,4 +1,4 @@
-use Rattle.std.proofs.Common.{refl, sym, ◌∙◌, arith, rules}
+use Rattle.std.proofs.Common.{sym, ◌∙◌, arith, rules, refl}
 use Rattle.btree_internal.proofs.BranchLemmas.{pop_right-view}
 use Rattle.btree_internal.proofs.internal.InternalNode.pop_right.Goals as goal
 use Rattle.std.proofs.lemmas.Grind.{common_steps}
@@ -10,7 +10,7 @@ pub returns-clause-spare : goal.returns-clause-spare
 returns-clause-spare g c = c.if-not-has_spare.ensures.0 refl
 
 pub has_spare-requires : goal.has_spare-requires
-has_spare-requires g c = omega arith
+has_spare-requires g c = assumption
 
 pub returns-then-not-has_spare-clause-spare : goal.returns-then-not-has_spare-clause-spare
 returns-then-not-has_spare-clause-spare g c = search rules steps 200000
@@ -28,7 +28,7 @@ pub pop-requires : goal.pop-requires
 pop-requires g c = grind (arith, common_steps) steps 300000
 
 pub item_count-requires : goal.item_count-requires
-item_count-requires g c = omega arith
+item_count-requires g c = assumption
 
 pub offset_at-requires : goal.offset_at-requires
 offset_at-requires g c = search rules steps 200000

@@ -1,3 +1,7 @@
+use Rattle.btree_internal.proofs.LookUpLemmas.{none-past}
+use Rattle.btree_view.specs.View.{items_of}
+use Rattle.btree_internal.specs.Internal.{internal_view}
+use Rattle.std.proofs.lemmas.List.{length-map}
 use Rattle.btree_internal.proofs.BranchLemmas.{replaced-view}
 use Rattle.btree_internal.proofs.internal.InternalNode.replace.Goals as goal
 use Rattle.std.proofs.lemmas.Grind.{common_steps}
@@ -10,7 +14,7 @@ pub unwrap-index-requires : goal.unwrap-index-requires
 unwrap-index-requires g c = grind (arith, common_steps) steps 2000000
 
 pub item_mut_at_index-requires : goal.item_mut_at_index-requires
-item_mut_at_index-requires g c = omega arith
+item_mut_at_index-requires g c = assumption
 
 pub replace-requires : goal.replace-requires
 replace-requires g c κs = search rules steps 2000000
@@ -20,3 +24,6 @@ unreachable-unreachable g c = search rules steps 200000
 
 pub returns-clause-answer : goal.returns-clause-answer
 returns-clause-answer g c = grind (arith, common_steps) steps 300000
+
+pub unreachable-requires : goal.unreachable-requires
+unreachable-requires g c = let low = rw c.unwrap-index.ensures.value at c.requires in let long = length-map c.args.self.now.branches (λ b. b.0) in none-past (items_of (internal_view c.args.self.now)) c.unwrap-index.result (omega (arith, low, long)) c.in-None.ensures.value
