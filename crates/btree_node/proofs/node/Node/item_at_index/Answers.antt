@@ -17,7 +17,7 @@ pub returns-clause-item : goal.returns-clause-item
 returns-clause-item g c = sym (c.item.ensures ∙ ap (item_at_offset (view_of c.args.self.now)) c.offset_at.ensures)
 
 pub item_count-requires : goal.item_count-requires
-item_count-requires g c = omega arith
+item_count-requires g c = assumption
 
 pub returns-then-index-item_count-clause-fits : goal.returns-then-index-item_count-clause-fits
 returns-then-index-item_count-clause-fits g c = search rules steps 200000
@@ -26,4 +26,4 @@ pub offset_at-requires : goal.offset_at-requires
 offset_at-requires g c = grind (arith, common_steps) steps 300000
 
 pub item-requires : goal.item-requires
-item-requires g c = omega arith
+item-requires g c = assumption

@@ -44,7 +44,7 @@ pub returns-in_default-clause-none : goal.returns-in_default-clause-none
 returns-in_default-clause-none g c = search rules steps 200000
 
 pub item_count-requires : goal.item_count-requires
-item_count-requires g c = omega arith
+item_count-requires g c = assumption
 
 pub returns-then-index-item_count-clause-taken : goal.returns-then-index-item_count-clause-taken
 returns-then-index-item_count-clause-taken g c = search rules steps 200000

@@ -24,3 +24,12 @@ returns-in-Internal-clause-left g c = c.split-left.ensures.left ∙ sym (size-sp
 
 pub returns-in-Internal-clause-right : goal.returns-in-Internal-clause-right
 returns-in-Internal-clause-right g c = ap (λ n. size_of (view_of n)) c.replace.ensures.after ∙ length-map _ (λ b. b.0) ∙ c.split-left.ensures.right
+
+pub unreachable-requires : goal.unreachable-requires
+unreachable-requires g c = let bad = rw c.in-Internal-part.is at c.requires.leaf in cc
+
+pub returns-in-Leaf-part-clause-parts : goal.returns-in-Leaf-part-clause-parts
+returns-in-Leaf-part-clause-parts g c = rw c.in-Leaf.is c.split_into.ensures.parts
+
+pub returns-in-Leaf-part-clause-right : goal.returns-in-Leaf-part-clause-right
+returns-in-Leaf-part-clause-right g c = c.split_into.ensures.right
