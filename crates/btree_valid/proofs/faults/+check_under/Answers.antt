@@ -109,3 +109,21 @@ returns-in_err-passed-clause-names g t c =
 
 pub returns-clause-names : goal.returns-clause-names
 returns-clause-names g t c = λ origin k. tt
+
+pub get-requires : goal.get-requires
+get-requires g t c = c.requires
+
+pub validate-requires : goal.validate-requires
+validate-requires g t c = c.requires
+
+pub item_count-requires : goal.item_count-requires
+item_count-requires g t c = c.requires
+
+pub child_id_opt-requires : goal.child_id_opt-requires
+child_id_opt-requires g t c = c.requires
+
+pub child_count-index-end-requires : goal.child_count-index-end-requires
+child_count-index-end-requires g t c = c.requires
+
+pub child_id_opt-requires-in-loop-index : goal.child_id_opt-requires-in-loop-index
+child_id_opt-requires-in-loop-index g t c = c.requires

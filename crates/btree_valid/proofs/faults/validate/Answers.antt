@@ -58,3 +58,39 @@ returns-clause-verdict g c =
         inr (n.all_nodes.0 (same-parent c.in_ok-after.after.nodes (Some 0) c.if-ne-2.ensures), inr (omega arith, refl)),
       ),
     )
+
+pub check_root-requires : goal.check_root-requires
+check_root-requires g c = c.requires
+
+pub returns-in_err-after-clause-only : goal.returns-in_err-after-clause-only
+returns-in_err-after-clause-only g c = let e = err_from_is_err_and c.from_residual.result c.from_residual.ensures.1 in rw (e.1, e.2) (λ ok. absurd (cc))
+
+pub returns-in_err-after-clause-limited : goal.returns-in_err-after-clause-limited
+returns-in_err-after-clause-limited g c = let e = err_from_is_err_and c.from_residual.result c.from_residual.ensures.1 in rw (e.1, e.2) (λ ok. absurd (cc))
+
+pub returns-then-ne-clause-only : goal.returns-then-ne-clause-only
+returns-then-ne-clause-only g c = λ ok. absurd (cc)
+
+pub returns-then-ne-clause-limited : goal.returns-then-ne-clause-limited
+returns-then-ne-clause-limited g c = λ ok. absurd (cc)
+
+pub returns-then-ne-2-clause-only : goal.returns-then-ne-2-clause-only
+returns-then-ne-2-clause-only g c = λ ok. absurd (cc)
+
+pub returns-then-ne-2-clause-limited : goal.returns-then-ne-2-clause-limited
+returns-then-ne-2-clause-limited g c = λ ok. absurd (cc)
+
+pub returns-then-limit-len-clause-accepts : goal.returns-then-limit-len-clause-accepts
+returns-then-limit-len-clause-accepts g c = λ tree low. absurd (omega arith)
+
+pub returns-then-limit-len-clause-only : goal.returns-then-limit-len-clause-only
+returns-then-limit-len-clause-only g c = λ ok. absurd (cc)
+
+pub returns-then-limit-len-clause-limited : goal.returns-then-limit-len-clause-limited
+returns-then-limit-len-clause-limited g c = λ ok. absurd (cc)
+
+pub returns-clause-limited : goal.returns-clause-limited
+returns-clause-limited g c = λ ok. c.if-limit-len.false
+
+pub returns-clause-accepts : goal.returns-clause-accepts
+returns-clause-accepts g c = λ tree low. refl

@@ -43,3 +43,15 @@ pub returns-clause-verdict : goal.returns-clause-verdict
 returns-clause-verdict g c =
     let start : Met = record { leaf_level = None; items = None; nodes = None } in
     node-passed (g.C.Nodes.content c.args.nodes.now) g.K.Ord.cmp c.args.id c.args.parent _ _ start refl _ refl refl refl refl refl c.in_ok-after.after c.in_ok-after.ensures.only _ c.unwrap_or.ensures
+
+pub check_under-requires : goal.check_under-requires
+check_under-requires g c = c.requires
+
+pub returns-in_err-after-clause-unused : goal.returns-in_err-after-clause-unused
+returns-in_err-after-clause-unused g c = let e = err_from_is_err_and c.from_residual.result c.from_residual.ensures.1 in rw (e.1, e.2) (λ none. let own = c.check_under.ensures.unused none in let was = c.in_err-after.was in cc)
+
+pub returns-in_err-after-clause-only : goal.returns-in_err-after-clause-only
+returns-in_err-after-clause-only g c = λ s same formed. let e = err_from_is_err_and c.from_residual.result c.from_residual.ensures.1 in rw e.1 tt
+
+pub returns-clause-blames : goal.returns-clause-blames
+returns-clause-blames g c = λ s same low formed. tt

@@ -49,19 +49,19 @@ pub overflow_sub-entered : goal.overflow_sub-entered
 overflow_sub-entered g t c = let may = c.if-not-may_enter.ensures.0 refl in omega (arith, may.0)
 
 pub get-requires : goal.get-requires
-get-requires g t c = grind (arith, common_steps) steps 2000000
+get-requires g t c = c.requires
 
 pub returns-in_err-node-clause-only : goal.returns-in_err-node-clause-only
 returns-in_err-node-clause-only g t c = search rules steps 200000
 
 pub may_enter-requires : goal.may_enter-requires
-may_enter-requires g t c = grind (arith, common_steps) steps 2000000
+may_enter-requires g t c = c.requires
 
 pub returns-then-not-may_enter-clause-only : goal.returns-then-not-may_enter-clause-only
 returns-then-not-may_enter-clause-only g t c = search rules steps 200000
 
 pub child_id_opt-requires : goal.child_id_opt-requires
-child_id_opt-requires g t c = grind (arith, common_steps) steps 2000000
+child_id_opt-requires g t c = c.requires
 
 pub returns-then-height-ne0-clause-only : goal.returns-then-height-ne0-clause-only
 returns-then-height-ne0-clause-only g t c = search rules steps 200000

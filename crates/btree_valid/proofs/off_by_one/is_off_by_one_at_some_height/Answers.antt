@@ -18,7 +18,7 @@ pub loop-height-init : goal.loop-height-init
 loop-height-init g c = search rules steps 200000
 
 pub is_off_by_one_at_height-requires : goal.is_off_by_one_at_height-requires
-is_off_by_one_at_height-requires g c = grind (arith, common_steps) steps 2000000
+is_off_by_one_at_height-requires g c = c.requires
 
 pub loop-height-smaller : goal.loop-height-smaller
 loop-height-smaller g c = grind (arith, common_steps) steps 300000

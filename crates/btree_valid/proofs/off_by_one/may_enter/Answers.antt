@@ -1,4 +1,4 @@
-use Rattle.std.proofs.Common.{sym, ◌∙◌, arith, rules}
+use Rattle.std.proofs.Common.{sym, ◌∙◌, rules}
 use Rattle.btree_node.specs.Node.{view_of}
 use Rattle.btree_valid.proofs.EnterLemmas.{enters, parent-same, same-parent}
 use Rattle.btree_valid.proofs.off_by_one.may_enter.Goals as goal
@@ -14,13 +14,13 @@ pub returns-then-left-eq0 : goal.returns-then-left-eq0
 returns-then-left-eq0 g c = search rules steps 200000
 
 pub parent-requires : goal.parent-requires
-parent-requires g c = omega arith
+parent-requires g c = assumption
 
 pub ne-requires : goal.ne-requires
 ne-requires g c κs = search rules steps 200000
 
 pub item_count-count-requires : goal.item_count-count-requires
-item_count-count-requires g c = omega arith
+item_count-count-requires g c = assumption
 
 pub least_items-requires : goal.least_items-requires
 least_items-requires g c = search rules steps 200000
@@ -29,4 +29,4 @@ pub returns-then-count-least_items : goal.returns-then-count-least_items
 returns-then-count-least_items g c = search rules steps 200000
 
 pub most_items-requires : goal.most_items-requires
-most_items-requires g c = omega arith
+most_items-requires g c = assumption
