@@ -130,3 +130,12 @@ insert_and_split-requires-clause-parent g c =
     subst (λ (t : TreeState _ _). HasParent (node_map t) c.args.addr.id c.parent-parent.result) (sym (same-state c.args.tree.now c.args.addr.id c.node_mut-node.result.now c.node_mut-node.result.now c.node_mut-node.ensures.value refl))
     (parent-there c.args.tree.now.nodes c.args.addr.id c.node_mut-node.result.now (sym c.node_mut-node.ensures.value) c.parent-parent.result
     c.parent-parent.ensures.value)
+
+pub parent-parent-requires : goal.parent-parent-requires
+parent-parent-requires g c = c.tell_fits.ensures
+
+pub item_count-count-requires : goal.item_count-count-requires
+item_count-count-requires g c = c.tell_fits.ensures
+
+pub parent-parent-requires-2 : goal.parent-parent-requires-2
+parent-parent-requires-2 g c = c.tell_fits.ensures

@@ -73,3 +73,12 @@ returns g c =
         rest = then (record { rest = refl }) c.place_part-right.ensures.rest;
       };
     }
+
+pub is_overflowing-requires : goal.is_overflowing-requires
+is_overflowing-requires g c = c.tell_fits.ensures
+
+pub parent-parent-requires : goal.parent-parent-requires
+parent-parent-requires g c = c.tell_fits.ensures
+
+pub empty_leaf-part-requires : goal.empty_leaf-part-requires
+empty_leaf-part-requires g c = c.tell_fits.ensures

@@ -44,3 +44,6 @@ returns-then-is_full-clause-full g c = record {
 pub returns-then-is_full-clause-unchanged : goal.returns-then-is_full-clause-unchanged
 returns-then-is_full-clause-unchanged g c =
     same-state c.args.tree.now c.args.id c.node_mut-leaf.result.now c.node_mut-leaf.result.now c.node_mut-leaf.ensures.value refl
+
+pub is_full-requires : goal.is_full-requires
+is_full-requires g c = c.tell_fits.ensures

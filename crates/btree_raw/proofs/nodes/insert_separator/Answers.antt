@@ -99,3 +99,12 @@ returns-clause-adds g c =
 
 pub returns-clause-few : goal.returns-clause-few
 returns-clause-few g c = index-few c.args.tree.now.nodes c.args.above c.args.id c.requires.can c.node_mut-node.result.now (sym c.node_mut-node.ensures.value) c.child_index.result c.child_index.ensures.value c.unwrap-index.result c.unwrap-index.ensures
+
+pub is_overflowing-requires : goal.is_overflowing-requires
+is_overflowing-requires g c = c.tell_fits.ensures
+
+pub parent-parent-requires : goal.parent-parent-requires
+parent-parent-requires g c = c.tell_fits.ensures
+
+pub empty_leaf-part-requires : goal.empty_leaf-part-requires
+empty_leaf-part-requires g c = c.tell_fits.ensures

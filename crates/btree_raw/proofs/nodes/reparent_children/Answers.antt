@@ -47,4 +47,4 @@ pub returns : goal.returns
 returns g c = grind (arith, common_steps) steps 300000
 
 pub child_count-count-requires : goal.child_count-count-requires
-child_count-count-requires g c = grind (arith, common_steps) steps 1500000
+child_count-count-requires g c = c.tell_fits.ensures

@@ -42,4 +42,4 @@ pub set_parent-requires-2-clause-number : goal.set_parent-requires-2-clause-numb
 set_parent-requires-2-clause-number g c = grind (arith, common_steps) steps 300000
 
 pub binary-requires : goal.binary-requires
-binary-requires g c = grind (arith, common_steps) steps 1500000
+binary-requires g c = c.tell_fits.ensures

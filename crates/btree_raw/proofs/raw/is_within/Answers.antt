@@ -9,3 +9,6 @@ returns-then-not-has_node g c = (
 
 pub node-requires : goal.node-requires
 node-requires g c = (c.tell_fits.ensures, c.if-not-has_node.ensures.0 (cc))
+
+pub item_count-requires : goal.item_count-requires
+item_count-requires g c = c.tell_fits.ensures

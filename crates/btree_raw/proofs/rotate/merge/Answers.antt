@@ -54,3 +54,9 @@ returns-clause-first g c =
 
 pub array_drop-other-requires-2 : goal.array_drop-other-requires-2
 array_drop-other-requires-2 g c = let fits = c.tell_fits.ensures in omega arith
+
+pub empty_leaf-other-requires : goal.empty_leaf-other-requires
+empty_leaf-other-requires g c = c.tell_fits.ensures
+
+pub child_id_opt-first-requires : goal.child_id_opt-first-requires
+child_id_opt-first-requires g c = c.tell_fits.ensures

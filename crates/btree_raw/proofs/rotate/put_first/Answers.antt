@@ -20,3 +20,6 @@ pub returns-clause-first : goal.returns-clause-first
 returns-clause-first g c =
     first-at c.args.tree.now.nodes c.args.id c.node_mut-node.result.now c.child_id_opt-first.result (sym c.node_mut-node.ensures.value)
     c.child_id_opt-first.ensures
+
+pub child_id_opt-first-requires : goal.child_id_opt-first-requires
+child_id_opt-first-requires g c = c.tell_fits.ensures

@@ -54,3 +54,6 @@ returns-clause-count g c =
     (sym (child-same (node_map c.args.tree.now) (node_map c.release_node-node.new.self) c.args.root c.in-Some.child (c.requires.can c.in-Some.child first)
     (loses c.args.tree.now.nodes c.release_node-node.new.self.nodes c.args.root (nodes-of c.release_node-node.ensures.after))))
     ∙ c.clear_parent-held.ensures.count
+
+pub child_id_opt-first-requires : goal.child_id_opt-first-requires
+child_id_opt-first-requires g c = c.tell_fits.ensures

@@ -10,3 +10,9 @@ pub returns-clause-after : goal.returns-clause-after
 returns-clause-after g c =
     c.release_node.ensures.after
     ∙ (λ i. record c.args.tree.now { nodes = remove-written c.args.tree.now.nodes c.args.id c.move_into.new.self i })
+
+pub node_mut-requires : goal.node_mut-requires
+node_mut-requires g c = (c.tell_fits.ensures, c.requires.used)
+
+pub move_into-requires : goal.move_into-requires
+move_into-requires g c = (c.tell_fits.ensures, rw c.requires.empty assumption)

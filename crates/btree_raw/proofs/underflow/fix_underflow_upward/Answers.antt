@@ -107,3 +107,9 @@ loop-held-preserved g c = record {
   fit = λ fit. absurd (short-unfit (node_map c.args.tree.now) (node_map c.loop-held.tree) c.args.tree.now.root c.args.start c.loop-held.id c.args.addr c.loop-held.at c.requires.1.1.1.1.0.fixing c.loop-held.invariant.up_to
       c.in-Some.parent c.loop-held.held (c.loop-held.invariant.parent ∙ ap Some c.in-Some.is) c.loop-held.invariant.count (omega arith) (c.loop-held.invariant.fit fit));
 }
+
+pub item_count-held-requires : goal.item_count-held-requires
+item_count-held-requires g c = c.tell_fits.ensures
+
+pub parent-above-requires : goal.parent-above-requires
+parent-above-requires g c = c.tell_fits.ensures

@@ -46,4 +46,13 @@ pub overflow_sub-index : goal.overflow_sub-index
 overflow_sub-index g c = grind (arith, common_steps) steps 300000
 
 pub child_count-few-requires : goal.child_count-few-requires
-child_count-few-requires g c = grind (arith, common_steps) steps 1500000
+child_count-few-requires g c = c.tell_fits.ensures
+
+pub child_index-requires : goal.child_index-requires
+child_index-requires g c = c.tell_fits.ensures
+
+pub child_id_opt-right-requires : goal.child_id_opt-right-requires
+child_id_opt-right-requires g c = c.tell_fits.ensures
+
+pub child_id_opt-left-requires : goal.child_id_opt-left-requires
+child_id_opt-left-requires g c = c.tell_fits.ensures

@@ -42,4 +42,4 @@ pub returns-in-Err-clause-may_refuse : goal.returns-in-Err-clause-may_refuse
 returns-in-Err-clause-may_refuse g c = search rules steps 200000
 
 pub store_node-requires : goal.store_node-requires
-store_node-requires g c = grind (arith, common_steps) steps 1500000
+store_node-requires g c = assumption

@@ -1,8 +1,7 @@
-use Rattle.std.proofs.Common.{None, sym, arith, rules}
+use Rattle.std.proofs.Common.{None, sym, rules}
 use Rattle.btree_raw.proofs.StateLemmas.{found-occupied}
 use Rattle.btree_raw.proofs.raw.RawBTree.item.Goals as goal
 use Rattle.btree_shape.proofs.Trees.Stores.{item-some, item-none}
-use Rattle.std.proofs.lemmas.Grind.{common_steps}
 
 pub returns-in-None-clause-value : goal.returns-in-None-clause-value
 returns-in-None-clause-value g c = rw (← c.self.view_is) (item-none (g.C.Nodes.content c.self.inside.store) c.args.addr (sym c.in-None.ensures.value))
@@ -21,4 +20,4 @@ pub tell_fits-requires : goal.tell_fits-requires
 tell_fits-requires g c κs = search rules steps 200000
 
 pub get-requires : goal.get-requires
-get-requires g c = grind (arith, common_steps) steps 1500000
+get-requires g c = c.tell_fits.ensures

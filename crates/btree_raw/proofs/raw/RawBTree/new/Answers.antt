@@ -9,7 +9,7 @@ pub invariant_of-result : goal.invariant_of-result
 invariant_of-result g c = search rules steps 200000
 
 pub note_fits-requires : goal.note_fits-requires
-note_fits-requires g c = grind (arith, common_steps) steps 1500000
+note_fits-requires g c = c.requires
 
 pub returns : goal.returns
 returns g c = grind (arith, common_steps) steps 1500000

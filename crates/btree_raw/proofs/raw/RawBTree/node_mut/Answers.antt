@@ -13,3 +13,6 @@ invariant_of-self-inside-lent g c = search rules steps 200000
 
 pub invariant_of-self-lent : goal.invariant_of-self-lent
 invariant_of-self-lent g c = search rules steps 200000
+
+pub get_mut-requires : goal.get_mut-requires
+get_mut-requires g c = assumption

@@ -32,4 +32,4 @@ pub returns-clause-refused : goal.returns-clause-refused
 returns-clause-refused g c = search rules steps 200000
 
 pub is_overflowing-requires : goal.is_overflowing-requires
-is_overflowing-requires g c = grind (arith, common_steps) steps 1500000
+is_overflowing-requires g c = c.tell_fits.ensures

@@ -5,3 +5,6 @@ returns-clause-exact g c = rw (← c.self.view_is) (λ ok. (c.validate.ensures.o
 
 pub returns-clause-verdict : goal.returns-clause-verdict
 returns-clause-verdict g c = rw (← c.self.view_is) c.validate.ensures.verdict
+
+pub validate-requires : goal.validate-requires
+validate-requires g c = c.tell_fits.ensures

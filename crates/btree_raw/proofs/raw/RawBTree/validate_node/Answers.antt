@@ -12,3 +12,9 @@ returns-clause-blames g c = c.validate_node.ensures.blames c.args.self.now (ap (
 
 pub returns-clause-verdict : goal.returns-clause-verdict
 returns-clause-verdict g c = rw (← c.self.view_is) c.validate_node.ensures.verdict
+
+pub validate_node-requires : goal.validate_node-requires
+validate_node-requires g c = c.tell_fits.ensures
+
+pub returns-clause-unused : goal.returns-clause-unused
+returns-clause-unused g c = rw (← c.self.view_is) c.validate_node.ensures.unused
