@@ -19,3 +19,6 @@ returns-in-None g c =
     (begins-beside g.K.Ord.cmp g.met.K.Ord.total c.args.tree.now c.requires.tree c.args.left c.args.right c.requires.beside c.node.result.now c.node.ensures.value
     (sym c.in-None.is ∙ c.child_id_opt.ensures)) c.new.result
     (address-is c.new.result c.args.right 0 c.from.result (omega arith) c.from.ensures c.new.ensures)
+
+pub child_id_opt-requires : goal.child_id_opt-requires
+child_id_opt-requires g c = c.tell_fits.ensures

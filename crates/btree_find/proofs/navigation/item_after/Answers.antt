@@ -19,3 +19,15 @@ returns-in-Some g c = next-below g.K.Ord.cmp g.met.K.Ord.total c.args.tree.now c
 
 pub returns-in-None : goal.returns-in-None
 returns-in-None g c = next-along g.K.Ord.cmp g.met.K.Ord.total c.args.tree.now c.requires.tree c.args.id c.args.offset c.args.node.now c.requires.node (let n = c.item_count.ensures.value in let l = c.if-offset-item_count.false in omega arith) c.in-None.ensures c.item_from-in-None.result c.item_from-in-None.ensures
+
+pub child_id_opt-requires : goal.child_id_opt-requires
+child_id_opt-requires g c = c.tell_fits.ensures
+
+pub item_from-requires : goal.item_from-requires
+item_from-requires g c = (c.tell_fits.ensures, (c.requires.tree, (c.requires.node, c.requires.within)))
+
+pub item_from-requires-in-None : goal.item_from-requires-in-None
+item_from-requires-in-None g c = (
+  c.tell_fits.ensures,
+  (c.requires.tree, (c.requires.node, let n = c.item_count.ensures.value in let l = c.if-offset-item_count.false in omega arith)),
+)

@@ -26,3 +26,6 @@ returns g c =
     let f = c.ranges.offset.fits in
     before-along g.K.Ord.cmp g.met.K.Ord.total c.args.tree.now c.requires.tree c.args.id c.args.offset c.args.node.now c.requires.node c.requires.within (sym c.in_default.is ∙ c.child_id_opt.ensures) (c.args.offset - 1) (omega arith) c.new-2.result
     (address-is c.new-2.result c.args.id (c.args.offset - 1) c.from-2.result (omega arith) c.from-2.ensures c.new-2.ensures)
+
+pub child_id_opt-requires : goal.child_id_opt-requires
+child_id_opt-requires g c = c.tell_fits.ensures

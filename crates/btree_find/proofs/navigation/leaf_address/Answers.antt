@@ -32,3 +32,6 @@ returns g c =
     let h = few-last g.K.Ord.cmp g.met.K.Ord.total c.args.tree.now c.requires.tree c.in-Some-child_id_opt.child c.rightmost_leaf-leaf.result c.rightmost_leaf-leaf.ensures in
     leaf-last-below g.K.Ord.cmp g.met.K.Ord.total c.args.tree.now c.requires.tree c.args.addr c.requires.valid c.in-Some._root (sym c.root_id.ensures ∙ c.in-Some.is) c.node.result.now c.node.ensures.value c.in-Some-value.offset c.in-Some-child_id_opt.child (sym c.in-Some-child_id_opt.is ∙ c.child_id_opt.ensures) (sym c.value.ensures.value ∙ c.in-Some-value.is) c.rightmost_leaf-leaf.result c.rightmost_leaf-leaf.ensures c.new-2.result
     (address-is c.new-2.result c.rightmost_leaf-leaf.result.0 c.rightmost_leaf-leaf.result.1 c.from.result (omega arith) c.from.ensures c.new-2.ensures)
+
+pub child_id_opt-requires : goal.child_id_opt-requires
+child_id_opt-requires g c = c.tell_fits.ensures

@@ -16,3 +16,6 @@ loop-child-preserved g c = descend-next g.K.Ord.cmp g.met.K.Ord.total c.args.tre
 
 pub returns-in-None : goal.returns-in-None
 returns-in-None g c = descend-end g.K.Ord.cmp g.met.K.Ord.total c.args.tree.now c.requires.tree c.args.top c.loop-child.id c.loop-child.invariant c.node.result.now c.node.ensures.value c.in-None.ensures
+
+pub child_id_opt-requires : goal.child_id_opt-requires
+child_id_opt-requires g c = c.tell_fits.ensures

@@ -16,3 +16,9 @@ loop-child-preserved g c = right-next g.K.Ord.cmp g.met.K.Ord.total c.args.tree.
 
 pub returns-in-None : goal.returns-in-None
 returns-in-None g c = right-end g.K.Ord.cmp g.met.K.Ord.total c.args.tree.now (but-length g.K.Ord.cmp c.args.tree.now c.requires.tree) c.args.top c.loop-child.id c.loop-child.invariant c.node-node.result.now c.node-node.ensures.value c.item_count-count.result c.item_count-count.ensures.value c.in-None.ensures
+
+pub item_count-count-requires : goal.item_count-count-requires
+item_count-count-requires g c = c.tell_fits.ensures
+
+pub child_id_opt-requires : goal.child_id_opt-requires
+child_id_opt-requires g c = c.tell_fits.ensures

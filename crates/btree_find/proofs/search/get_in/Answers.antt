@@ -22,3 +22,6 @@ loop-offset-preserved g c = (down g.K.Ord.cmp c.args.key.now g.met.K.Ord.total c
 
 pub returns-in-None : goal.returns-in-None
 returns-in-None g c = miss-value g.K.Ord.cmp c.args.key.now g.met.K.Ord.total c.args.tree.now c.requires.tree c.args.top c.loop-offset.id c.loop-offset.invariant c.node-node.result.now c.node-node.ensures.value c.in-Err.index (rw (← c.in-None.is) c.in-Err.ensures.value)
+
+pub value_at-requires : goal.value_at-requires
+value_at-requires g c = c.tell_fits.ensures

@@ -16,3 +16,27 @@ pub returns-in-None-clause-levels : goal.returns-in-None-clause-levels
 returns-in-None-clause-levels g c =
     let e = descending-end c.args.tree.now.nodes c.in-Some.root _ c.loop-child.id c.loop-child.levels c.loop-child.invariant c.node.result.now c.node.ensures.value (sym c.in-None.ensures) in
     subst (λ t. HasLevelsUnder c.args.tree.now t c.loop-child.levels) (sym (sym c.root_id.ensures ∙ c.in-Some.is)) (e.height, e.represents, e.counted)
+
+pub child_id_opt-requires : goal.child_id_opt-requires
+child_id_opt-requires g c = c.tell_fits.ensures
+
+pub returns-in-None-clause-few : goal.returns-in-None-clause-few
+returns-in-None-clause-few g c =
+    let low = c.loop-child.invariant.low in
+    let counted = c.loop-child.invariant.counted in
+    omega arith
+
+pub returns-in-None-clause-dense : goal.returns-in-None-clause-dense
+returns-in-None-clause-dense g c = λ some. (descending-end c.args.tree.now.nodes c.in-Some.root _ c.loop-child.id c.loop-child.levels c.loop-child.invariant c.node.result.now c.node.ensures.value (sym c.in-None.ensures)).dense
+
+pub overflow_add-levels : goal.overflow_add-levels
+overflow_add-levels g c =
+    let low = c.loop-child.invariant.low in
+    let counted = c.loop-child.invariant.counted in
+    omega arith
+
+pub loop-child-smaller : goal.loop-child-smaller
+loop-child-smaller g c =
+    let low = c.loop-child.invariant.low in
+    let counted = c.loop-child.invariant.counted in
+    omega arith

@@ -42,3 +42,15 @@ returns g c =
     back-up g.K.Ord.cmp g.met.K.Ord.total c.args.tree.now c.requires.tree c.args.id c.args.node.now c.requires.node c.args.offset c.requires.within (let n = c.item_count-count.ensures.value in let l = c.if-offset-count.false in omega arith) c.in-Some-parent.parent c.unwrap-index.result
     (child-there g.K.Ord.cmp g.met.K.Ord.total c.args.tree.now c.requires.tree c.args.id c.args.node.now c.requires.node c.in-Some-parent.parent (sym c.parent.ensures.value ∙ c.in-Some-parent.is) c.node.result.now c.node.ensures.value c.child_index.result c.child_index.ensures.value c.unwrap-index.result c.unwrap-index.ensures) c.new-2.result
     (address-is c.new-2.result c.in-Some-parent.parent c.unwrap-index.result c.from-2.result (omega arith) c.from-2.ensures c.new-2.ensures)
+
+pub item_count-count-requires : goal.item_count-count-requires
+item_count-count-requires g c = c.tell_fits.ensures
+
+pub child_id_opt-requires : goal.child_id_opt-requires
+child_id_opt-requires g c = c.tell_fits.ensures
+
+pub parent-requires : goal.parent-requires
+parent-requires g c = c.tell_fits.ensures
+
+pub child_index-requires : goal.child_index-requires
+child_index-requires g c = c.tell_fits.ensures

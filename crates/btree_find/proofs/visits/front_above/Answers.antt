@@ -22,3 +22,9 @@ returns g c =
     (child-there g.K.Ord.cmp g.met.K.Ord.total c.args.tree.now c.requires.tree c.args.id c.args.node.now c.requires.node c.in-Some.parent (sym c.parent.ensures.value ∙ c.in-Some.is) c.node.result.now c.node.ensures.value c.child_index.result c.child_index.ensures.value c.unwrap-index.result c.unwrap-index.ensures) c.node.result.now c.node.ensures.value
     (children-few (view_of c.node.result.now) c.unwrap-index.result (subst (λ o. IfSome o (λ index. index < length (children_of (view_of c.node.result.now)))) c.unwrap-index.ensures c.child_index.ensures.within))
     c.slot_before.result c.slot_before.ensures
+
+pub parent-requires : goal.parent-requires
+parent-requires g c = c.tell_fits.ensures
+
+pub child_index-requires : goal.child_index-requires
+child_index-requires g c = c.tell_fits.ensures
