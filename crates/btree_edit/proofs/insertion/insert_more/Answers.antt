@@ -19,3 +19,21 @@ returns-in-Ok-clause-inserted g c =
     (unsplit g.K.Ord.cmp g.met.K.Ord.total c.args.tree.now c.requires.some c.requires.tree c.args.item.0 c.args.item.1 c.args.addr c.requires.gap
     [] c.args.tree.now (none-claimed c.args.tree.now) enough c.add_item_in_room.new.tree c.unwrap.result (sym c.unwrap.ensures.value) c.in-Ok.ensures.added refl)
     c.requires.granted)
+
+pub need_above-count-requires : goal.need_above-count-requires
+need_above-count-requires g c = record {
+  sound = rw c.in-Err.ensures.unchanged c.requires.tree;
+  full = rw c.in-Err.ensures.unchanged c.in-Err.ensures.full;
+  parent = rw c.in-Err.ensures.unchanged c.in-Err.ensures.parent;
+}
+
+pub insert_and_split-requires : goal.insert_and_split-requires
+insert_and_split-requires g c = record {
+  tree = rw c.in-Err.ensures.unchanged c.requires.tree;
+  some = rw c.in-Err.ensures.unchanged c.requires.some;
+  gap = rw (c.in-Err.ensures.unchanged, c.in-Err.ensures.returned) c.requires.gap;
+  room = rw c.in-Err.ensures.unchanged c.requires.room;
+  granted = rw c.in-Err.ensures.unchanged c.requires.granted;
+  enough = c.need_above-count.ensures.value;
+  few = c.need_above-count.ensures.few;
+}

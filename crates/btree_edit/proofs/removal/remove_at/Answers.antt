@@ -216,3 +216,12 @@ returns-else-count-ge-MIN_ITEMS-clause-bounded g c = λ within.
 pub returns-in-Some-Err-clause-bounded : goal.returns-in-Some-Err-clause-bounded
 returns-in-Some-Err-clause-bounded g c =
     removed-within g.K.Ord.cmp _ c.remove_inner.new.tree c.args.addr _ c.remove_inner.result.0 c.remove_inner.ensures.removed
+
+pub item_count-count-requires : goal.item_count-count-requires
+item_count-count-requires g c = c.tell_fits.ensures
+
+pub parent-parent-requires : goal.parent-parent-requires
+parent-parent-requires g c = c.tell_fits.ensures
+
+pub leaf_remove-requires : goal.leaf_remove-requires
+leaf_remove-requires g c = c.tell_fits.ensures

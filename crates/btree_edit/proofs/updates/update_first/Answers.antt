@@ -46,3 +46,6 @@ returns-clause-granted g c = (
       c.in-Some.ensures.unused c.in-Some.ensures.number c.in-Some.ensures.can_hold,
   c.requires.granted,
 )
+
+pub leaf-requires : goal.leaf-requires
+leaf-requires g c = c.tell_fits.ensures

@@ -201,3 +201,12 @@ update_inner-requires-clause-behind g c =
     subst (λ (t : TreeState _ _). HasChildBehind t c.args.addr c.child_id-right.result) (sym (same-state c.args.tree.now c.args.addr.id c.node_mut-node.result.now c.leaf_remove.new.self c.node_mut-node.ensures.value (on-err c.in-Some-Err.field-0 c.in-Some-Err.left c.in-Some-Err.field-0-is c.in-Some-Err.ensures.inner)))
     (has-behind g.K.Ord.cmp g.met.K.Ord.total c.args.tree.now c.requires.tree c.args.addr c.in-Some-Err.left (inner-by c.args.tree.now c.args.addr c.node_mut-node.result.now c.node_mut-node.ensures.value c.in-Some-Err.left (ap Some (sym c.in-Some-Err.field-0-is) ∙ c.in-Some-Err.ensures.answer)) c.node_mut-node.result.now (sym c.node_mut-node.ensures.value) c.unwrap.result c.unwrap.ensures.value c.child_id-right.result
     (subst (λ (n : Node _ _). slice_get (children_of (view_of n)) (c.unwrap.result + 1) ≡ Some c.child_id-right.result) (on-err c.in-Some-Err.field-0 c.in-Some-Err.left c.in-Some-Err.field-0-is c.in-Some-Err.ensures.inner) c.child_id-right.ensures))
+
+pub item_count-count-requires : goal.item_count-count-requires
+item_count-count-requires g c = c.tell_fits.ensures
+
+pub parent-parent-requires : goal.parent-parent-requires
+parent-parent-requires g c = c.tell_fits.ensures
+
+pub leaf_remove-requires : goal.leaf_remove-requires
+leaf_remove-requires g c = c.tell_fits.ensures

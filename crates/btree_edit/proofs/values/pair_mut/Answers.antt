@@ -18,3 +18,6 @@ returns g c = (
         c.key_and_value.result.1.now (ap (λ p. p.1) c.key_and_value.ensures.pair);
   },
 )
+
+pub item_mut-requires : goal.item_mut-requires
+item_mut-requires g c = c.tell_fits.ensures
