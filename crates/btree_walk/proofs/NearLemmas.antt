@@ -49,6 +49,16 @@ module _ {A : Type 0} where
     next = (refl, e);
   }
 
+  pub cutting-end : (past : A → Bool) (xs : List A) (last : Option A) (rest : List A) → IsCutting past xs last rest → rest ≡ [] → IsCut past xs last false
+  cutting-end past xs last rest c is = record {
+    inside = c.inside;
+    outside = [];
+    parts = c.parts ∙ ap (λ l. c.inside ++ l) is;
+    within = c.within;
+    ended = c.ended;
+    next = refl;
+  }
+
 module _ {K V : Type 0} {cmp : K → K → Ordering} (laws : IsTotalOrder cmp) (end : Bound K) where
   abbrev past : K × V → Bool
   past x = pair_past cmp end x

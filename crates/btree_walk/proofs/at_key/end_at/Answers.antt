@@ -1,4 +1,4 @@
-use Rattle.std.proofs.Common.{◌++◌, ◌-◌, [], sym, ap, subst, ◌∙◌, arith, append-nil}
+use Rattle.std.proofs.Common.{◌++◌, ◌-◌, [], sym, ap, subst, ◌∙◌, arith, append-nil, refl}
 use Rattle.std.specs.FinMap as map
 use Rattle.btree_node.specs.Node.{view_of}
 use Rattle.btree_shape.specs.Represents.{represented}
@@ -90,3 +90,18 @@ returns-in-None-clause-left g c =
     (record { node = c.node-node.result; passed = c.item_count.result - c.items_up_to-kept.result.0 })
     (row-kept (view_of c.node-node.result.now) c.in-Internal.field-0.parent c.in-Internal.field-0.first c.in-Internal.field-0.branches (ap view_of c.in-Internal.is)
     c.item_count.result c.items_up_to-kept.result.0 c.item_count.ensures.value c.items_up_to-kept.ensures.within) c.push.new.self c.push.ensures (rw (← c.in-None.is) c.items_up_to-kept.ensures.value)).list
+
+pub returns-in-Leaf-clause-kept : goal.returns-in-Leaf-clause-kept
+returns-in-Leaf-clause-kept g c = rw c.in-Leaf.is at c.items_up_to-kept.ensures.within
+
+pub returns-in-None-clause-kept : goal.returns-in-None-clause-kept
+returns-in-None-clause-kept g c = refl
+
+pub returns-in_default-clause-above : goal.returns-in_default-clause-above
+returns-in_default-clause-above g c = rw c.requires.none tt
+
+pub returns-in_default-clause-kept : goal.returns-in_default-clause-kept
+returns-in_default-clause-kept g c = refl
+
+pub overflow_sub-passed : goal.overflow_sub-passed
+overflow_sub-passed g c = omega (arith, c.items_up_to-kept.ensures.within, c.item_count.ensures.value)

@@ -22,3 +22,15 @@ pub returns-clause-last : goal.returns-clause-last
 returns-clause-last g c =
     row-at (view_of c.args.node.now) c.args.passed c.in-Some-item_at_index.item _ c.item_count-count.result c.item_count-count.ensures.value c.if-passed-count.false
     c.in-Some-item_at_index.ensures.item (sym c.in-Some.ensures)
+
+pub item_count-count-requires : goal.item_count-count-requires
+item_count-count-requires g c = assumption
+
+pub child_id_opt-requires : goal.child_id_opt-requires
+child_id_opt-requires g c = assumption
+
+pub item_at_index-requires : goal.item_at_index-requires
+item_at_index-requires g c = assumption
+
+pub returns-clause-fits : goal.returns-clause-fits
+returns-clause-fits g c = omega (arith, c.item_count-count.ensures.fits, c.if-passed-count.false)

@@ -27,3 +27,12 @@ loop-index-preserved g c = record {
 
 pub read_early-requires : goal.read_early-requires
 read_early-requires g c = search fits-leaf
+
+pub item_count-count-requires : goal.item_count-count-requires
+item_count-count-requires g c = c.tell_fits.ensures
+
+pub child_id_opt-requires : goal.child_id_opt-requires
+child_id_opt-requires g c = c.tell_fits.ensures
+
+pub returns : goal.returns
+returns g c = c.loop-index.invariant.fetched

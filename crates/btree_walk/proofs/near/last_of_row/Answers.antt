@@ -1,9 +1,9 @@
-use Rattle.std.proofs.Common.{◌+◌, drop}
+use Rattle.std.proofs.Common.{◌+◌, drop, ap, length, arith}
 use Rattle.btree_node.specs.Node.{view_of}
 use Rattle.btree_view.specs.View.{branches_of}
 use Rattle.btree_walk.specs.Bounds.{bound_key}
 use Rattle.btree_walk.specs.Near.{branch_now, branch_past}
-use Rattle.btree_walk.proofs.NearLemmas.{cutting-next, cutting-start, cutting-stop}
+use Rattle.btree_walk.proofs.NearLemmas.{cutting-next, cutting-start, cutting-stop, cutting-end}
 use Rattle.btree_walk.proofs.near.last_of_row.Goals as goal
 
 pub loop-item-init : goal.loop-item-init
@@ -29,3 +29,12 @@ loop-item-preserved g c =
     (cutting-next (branch_past g.K.Ord.cmp (bound_key c.args.end)) (drop c.args.passed (branches_of (view_of c.args.node.now))) (branch_now c.loop-item.last)
     (drop c.loop-item.index (branches_of (view_of c.args.node.now))) c.loop-item.invariant (c.in-Some.item.now, c.in-Some.child) (drop (c.loop-item.index + 1) (branches_of (view_of c.args.node.now)))
     c.in-Some.ensures.first (cc))
+
+pub returns : goal.returns
+returns g c = cutting-end (branch_past g.K.Ord.cmp (bound_key c.args.end)) (drop c.args.passed (branches_of (view_of c.args.node.now))) (branch_now c.loop-item.last) (drop c.loop-item.index (branches_of (view_of c.args.node.now))) c.loop-item.invariant c.in_default.ensures.first
+
+pub loop-item-smaller : goal.loop-item-smaller
+loop-item-smaller g c = omega (arith, ap length c.in-Some.ensures.first)
+
+pub branch_at_index-requires : goal.branch_at_index-requires
+branch_at_index-requires g c = assumption
