@@ -9,7 +9,7 @@ use Rattle.btree_node.specs.declared.nodes.Nodes as nodes
 use Rattle.btree_node.specs.declared.nodes.NodesMut as nodes_mut
 use Rattle.btree_shape.specs.TreeAddresses.{item_addresses_of}
 use Rattle.btree_shape.specs.TreeState.{TreeState, pairs_of}
-use Rattle.btree_map.specs.Drain.{Asks, AsksFirst, Ends, KeepsAddresses, RunsOut, RunsTest, if_same, picked}
+use Rattle.btree_map.specs.Drain.{Asks, AsksFirst, Ends, KeepsAddresses, RunsOut, RunsTest, Selects, if_same, picked}
 use Rattle.btree_map.specs.Editing.{PassesEntry, RemovesEntry, entry_front, left_of, passed_of}
 use Rattle.btree_map.specs.declared.cursor.editing.EntriesMut.{EntriesMut}
 
@@ -248,3 +248,11 @@ module _ {F K V : Type 0} (Step : F → K → V → Bool → V → F → Type 0)
       let each = asked-each f f' run.here asked run.calls in
       let both = answers asked in
       run.addresses (none-left _ (omega (arith, all, here, kept, each, both)))
+
+  pub all-selected : (f f' : F) (old new : TreeState K V) (front' : ℕ) → Ends Step false f f' old 0 new front' → Selects Step true f (pairs_of old) (pairs_of new)
+  all-selected f f' old new front' (asked, run, none) =
+      let here = run.left ∙ ap (λ (l : List (K × V)). run.here ++ l) none ∙ append-nil run.here in
+      (asked, f', subst (λ (l : List (K × V)). Asks Step f l asked f') (sym here) run.calls, sym (all-left f f' old 0 new front' none) ∙ run.passed)
+
+  pub all-uncounted : (f f' : F) (old new : TreeState K V) (front' : ℕ) → Ends Step false f f' old 0 new front' → new.kept ≡ old.kept
+  all-uncounted f f' old new front' (asked, run, none) = run.uncounted

@@ -4,7 +4,7 @@ use Rattle.btree_shape.specs.TreeState.{pairs_of}
 use Rattle.btree_map.specs.Editing.{entry_front}
 use Rattle.btree_map.specs.SpanLaws.{index-within}
 use Rattle.btree_map.specs.Spans.{item_index}
-use Rattle.btree_map.proofs.EditingLemmas.{counted, insert-left, insert-next, insert-passed, insert-within}
+use Rattle.btree_map.proofs.EditingLemmas.{counted, insert-left, insert-next, insert-passed, insert-within, fits-at}
 use Rattle.btree_map.proofs.IndexLemmas.{index-is}
 use Rattle.btree_map.proofs.KnownLemmas.{known-below, known-more}
 use Rattle.btree_map.proofs.RangeStarts.{once}
@@ -65,3 +65,9 @@ returns-in-Ok-clause-inserted g c =
       at = c.in-Ok.at;
       inserts = i;
     }
+
+pub insert_at-requires : goal.insert_at-requires
+insert_at-requires g c = let now = c.args.self.now in record { valid = c.gap-gap.ensures.valid; back = c.gap-gap.ensures.back; fits = rw c.new.ensures (fits-at g.K.Ord.cmp g.met.K.Ord.total now.map.now c.tell_well_formed.ensures.well_formed c.args.key c.gap-gap.result (entry_front now) c.gap-gap.ensures.has (index-within (item_addresses_of now.map.now) now.first) c.requires) }
+
+pub returns-in-Err-clause-returned : goal.returns-in-Err-clause-returned
+returns-in-Err-clause-returned g c = let is = c.in-Err.ensures.returned ∙ c.new.ensures in (ap (λ (p : g.row.K.Denot × g.row.V.Denot). p.0) is, ap (λ (p : g.row.K.Denot × g.row.V.Denot). p.1) is)
