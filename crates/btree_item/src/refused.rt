@@ -46,3 +46,19 @@ impl<K: Drop, V: Drop> From<Refused<K, V>> for io::Error {
         io::Error::from(io::ErrorKind::OutOfMemory)
     }
 }
+
+/// A refused update as an error of memory, for `?`. The key and the action are dropped.
+impl<K: Drop, F: Drop> From<UpdateRefused<K, F>> for AllocError {
+    fn from(_refused: UpdateRefused<K, F>) -> AllocError {
+        AllocError
+    }
+}
+
+/// A refused update as an error of input and output, of the kind `OutOfMemory`. The key and the action are dropped.
+impl<K: Drop, F: Drop> From<UpdateRefused<K, F>> for io::Error {
+    ghost from_gives = { λ _ error. error_kind error ≡ OutOfMemory };
+
+    fn from(_refused: UpdateRefused<K, F>) -> io::Error {
+        io::Error::from(io::ErrorKind::OutOfMemory)
+    }
+}

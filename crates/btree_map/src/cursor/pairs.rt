@@ -77,7 +77,7 @@ impl<'a, K: Ord + Drop, V: Drop, C: NodesMut<K, V>> IterMut<'a, K, V, C> {
         let Some(at) = self.first else {
             unreachable!();
         };
-        self.first = address_after(self.map, Address::new(at.id, at.offset));
+        self.first = address_after(self.map, at.copied());
         self.front += 1;
         self.map.pair_mut(at)
     }
@@ -93,7 +93,7 @@ impl<'a, K: Ord + Drop, V: Drop, C: NodesMut<K, V>> IterMut<'a, K, V, C> {
         let Some(at) = self.last else {
             unreachable!();
         };
-        self.last = address_before(self.map, Address::new(at.id, at.offset));
+        self.last = address_before(self.map, at.copied());
         self.back -= 1;
         self.map.pair_mut(at)
     }

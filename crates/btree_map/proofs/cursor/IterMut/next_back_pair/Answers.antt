@@ -15,7 +15,7 @@ pub address_before-self-requires : goal.address_before-self-requires
 address_before-self-requires g c =
     let now = c.args.self.now in
     let stands = last-stands (item_addresses_of now.map.now) now.last now.front now.back c.requires now.last_stands in
-    (now.back - 1, sym stands ∙ c.in-Some.is ∙ ap Some (sym c.new.ensures))
+    (now.back - 1, sym stands ∙ c.in-Some.is ∙ ap Some (sym c.copied.ensures))
 
 pub invariant_of-self-lent : goal.invariant_of-self-lent
 invariant_of-self-lent g c w =
@@ -27,7 +27,7 @@ invariant_of-self-lent g c w =
       (
         stays-last s c.in-Some.at w c.address_before-self.result (now.back - 1)
             (stands-previous g.K.Ord.cmp g.met.K.Ord.total s tree now.last c.in-Some.at c.in-Some.is (now.back - 1) stands
-            c.new.result c.address_before-self.result c.new.ensures (c.address_before-self.ensures.before (now.back - 1))),
+            c.copied.result c.address_before-self.result c.copied.ensures (c.address_before-self.ensures.before (now.back - 1))),
         (stays-within s c.in-Some.at w (now.back - 1) (less-low now.back (length (item_addresses_of s)) now.within), tt),
       ),
     )
@@ -45,7 +45,7 @@ returns g c =
             (stands-state g.K.Ord.cmp g.met.K.Ord.total s tree now.last c.in-Some.at c.in-Some.is (now.back - 1) stands w)
             refl
             (stands-previous g.K.Ord.cmp g.met.K.Ord.total s tree now.last c.in-Some.at c.in-Some.is (now.back - 1) stands
-            c.new.result c.address_before-self.result c.new.ensures (c.address_before-self.ensures.before (now.back - 1)))
+            c.copied.result c.address_before-self.result c.copied.ensures (c.address_before-self.ensures.before (now.back - 1)))
             _ _ _ _ _ _,
       ),
       record {
