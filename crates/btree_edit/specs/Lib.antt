@@ -1,5 +1,6 @@
 pub mod ByKey
 pub mod Exchange
+pub mod CallerLaws
 pub mod Insert
 pub mod InsertAbsent
 pub mod InsertAt

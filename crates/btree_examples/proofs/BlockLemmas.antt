@@ -1,6 +1,6 @@
 -- A run of blocks in a gap: they are free.
-use Rattle.std.proofs.Common.{◌≡◌, ◌≤◌, ◌<◌, ◌+◌, ◌-◌, ◌∙◌, ℕ, Bool, true, false, not, ◌&&◌, ◌||◌, List, ◌∷◌, refl, sym, arith}
-use Rattle.std.proofs.lemmas.Bool.{and_parts, or_left, or_right}
+use Rattle.std.proofs.Common.{◌≡◌, ◌≤◌, ◌<◌, ◌+◌, ◌-◌, ◌∙◌, ℕ, Bool, true, false, not, ◌&&◌, ◌||◌, List, ◌∷◌, sym, arith}
+use Rattle.std.proofs.lemmas.Bool.{and_parts, not-true, or_left, or_right}
 use Rattle.btree_range_set.specs.Gaps.{AreGaps}
 use Rattle.btree_range_set.specs.Ranges.{has_number, is_within}
 use Rattle.btree_range_set.proofs.RunLemmas.{within-from, within-high, within-low}
@@ -10,14 +10,10 @@ use Rattle.btree_examples.specs.Blocks.{AreFreeBelow}
 abbrev pub AreAllFree : (end : ℕ) → (reserved gaps : List (ℕ × ℕ)) → Type 0
 AreAllFree end reserved gaps = (n : ℕ) → has_number gaps n ≡ true → (n < end) × (has_number reserved n ≡ false)
 
-is-false : (b : Bool) → not b ≡ true → b ≡ false
-is-false false is = refl
-is-false true is = absurd (cc)
-
 pub all-free : (end : ℕ) (reserved gaps : List (ℕ × ℕ)) → AreGaps reserved 0 end gaps → AreAllFree end reserved gaps
 all-free end reserved gaps are n has =
     let both = and_parts (is_within (0, end) n) (not (has_number reserved n)) (sym (are.missing n) ∙ has) in
-    (within-high (0, end) n both.0, is-false (has_number reserved n) both.1)
+    (within-high (0, end) n both.0, not-true (has_number reserved n) both.1)
 
 module _ (end : ℕ) (reserved gaps rest : List (ℕ × ℕ)) (gap : ℕ × ℕ) (free : AreAllFree end reserved gaps) (is : gaps ≡ gap ∷ rest) where
   pub rest-free : AreAllFree end reserved rest

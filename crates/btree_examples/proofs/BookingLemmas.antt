@@ -1,11 +1,11 @@
 -- Bookings that overlap a time: none before the first candidate, and none from the first one on that begins too late.
 use Rattle.std.proofs.Common.{◌≡◌, ◌<◌, ◌≤◌, ◌+◌, ◌∙◌, ℕ, zero, suc, Bool, true, false, ◌&&◌, nat_lt, cond, List, [], ◌∷◌, take, drop, length, slice_get, Option, Some, refl, sym, ap, subst, arith}
 use Rattle.std.proofs.lemmas.Bool.{le-ltb, lt-ltb}
+use Rattle.std.proofs.lemmas.Cmp.{ranked}
 use Rattle.std.proofs.lemmas.List.{take-append-drop}
 use Rattle.std.proofs.lemmas.List.Sums.{sum_by-append}
-use Rattle.std.specs.Cmp.{ranks}
 use Rattle.std.specs.List.{AllByRecursion, count_by}
-use Rattle.std.specs.Ordering.{MatchOrdering, nat_cmp}
+use Rattle.std.specs.Ordering.{nat_cmp}
 use Rattle.std.specs.declared.cmp.Ordering.TheVariants.{Equal, Less}
 use Rattle.btree_item.specs.declared.address.Address.{Address}
 use Rattle.btree_shape.specs.TreeState.{TreeState, pairs_of}
@@ -88,13 +88,6 @@ take-past [] (suc q) low = refl
 take-past (x ∷ xs) zero low = absurd (omega arith)
 take-past (x ∷ xs) (suc q) low = ap (λ l. x ∷ l) (take-past xs q (omega arith))
 
--- what an order of two numbers says of them
-below : (x y : ℕ) → nat_cmp x y ≡ Less → x < y
-below x y e = subst (λ o. MatchOrdering o (x < y) (x ≡ y) (y < x)) e (ranks x y)
-
-same : (x y : ℕ) → nat_cmp x y ≡ Equal → x ≡ y
-same x y e = subst (λ o. MatchOrdering o (x < y) (x ≡ y) (y < x)) e (ranks x y)
-
 module _ (s : TreeState ℕ ℕ) (start : ℕ) (apart : AreApart (pairs_of s)) where
   candidate : (place : ℕ) (found_at : Option Address) → IsItemAt s place found_at → (x : ℕ × ℕ) → slice_get (pairs_of s) place ≡ Some x
       → x.0 ≤ start → IsFirstCandidate s start found_at
@@ -111,7 +104,7 @@ module _ (s : TreeState ℕ ℕ) (start : ℕ) (apart : AreApart (pairs_of s)) w
       let itself : found_at ≡ Some a = n.same f.here.occupied in
       let item : IsItemAt s n.place (Some a) = subst (IsItemAt s n.place) itself n.item in
       let x = pair-there s n.place a item.here in
-      let key : x.0.0 ≡ start = same x.0.0 start (found-equal nat_cmp start (pairs_of s) x.0 (sym f.item ∙ x.2)) in
+      let key : x.0.0 ≡ start = ranked x.0.0 start Equal (sym (found-equal nat_cmp start (pairs_of s) x.0 (sym f.item ∙ x.2))) in
       candidate n.place found_at n.item x.0 x.1 (omega arith)
 
   -- the booking before the time
@@ -125,7 +118,7 @@ module _ (s : TreeState ℕ ℕ) (start : ℕ) (apart : AreApart (pairs_of s)) w
           let x = pair-there s q previous before.here in
           let fits = g.fits in
           let there : fits.place ≡ suc q = p.has.only fits.place fits.has.at ∙ is in
-          let low : x.0.0 < start = below x.0.0 start (fits.fits.above q x.0 (sym there) x.1) in
+          let low : x.0.0 < start = ranked x.0.0 start Less (sym (fits.fits.above q x.0 (sym there) x.1)) in
           candidate q (Some previous) before x.0 x.1 (omega arith)
 
   module _ (end count place : ℕ) (x : ℕ × ℕ) (here : slice_get (pairs_of s) place ≡ Some x)

@@ -1,5 +1,5 @@
 -- Insertions at the end of a map.
-use Rattle.std.proofs.Common.{◌≡◌, ◌≤◌, ◌∙◌, ◌-◌, ℕ, zero, suc, List, [], ◌∷◌, Option, Some, None, IfSome, IsSome, refl, sym, ap, subst, arith, if◌then◌else◌, length, slice_get}
+use Rattle.std.proofs.Common.{◌≡◌, ◌≤◌, ◌∙◌, ◌-◌, ℕ, zero, suc, List, [], ◌∷◌, Option, Some, None, IsSome, refl, sym, ap, subst, arith, if◌then◌else◌, length, slice_get}
 use Rattle.std.proofs.lemmas.List.Edits.{length-insert}
 use Rattle.std.proofs.lemmas.Option.{slice_get_within}
 use Rattle.std.specs.Cmp.{IsTotalOrder}
@@ -9,7 +9,6 @@ use Rattle.btree_item.proofs.PairEdits.{before-from_KeyFits, found-from_KeyFits,
 use Rattle.btree_item.specs.declared.address.Address.{Address}
 use Rattle.btree_shape.specs.TreeState.{TreeState, pairs_of}
 use Rattle.btree_shape.proofs.Options.{else-none}
-use Rattle.btree_find.specs.Navigation.{IsItemBefore}
 use Rattle.btree_edit.specs.InsertAbsent.{InsertsAbsent}
 use Rattle.btree_map.specs.Ascending.{IsAboveLast, IsLastPair}
 use Rattle.btree_map.proofs.EntryLemmas.{item-valid}
@@ -55,10 +54,3 @@ module _ {K V : Type 0} (cmp : K → K → Ordering) (laws : IsTotalOrder cmp) (
             item = is.item ∙ sym (ap (λ l. slice_get l p) is.pairs ∙ slice_get-insert xs p (k, w) within);
           };
         }
-
--- the last item is the last pair
-pub last-pair : {K V : Type 0} (s : TreeState K V) (n : ℕ) (found : Option Address) → n ≡ length (pairs_of s) → IsItemBefore s n found → IfSome found (IsLastPair s)
-last-pair s zero None is at = tt
-last-pair s zero (Some a) is at = absurd (cc)
-last-pair s (suc n) None is at = tt
-last-pair s (suc n) (Some a) is at = record { place = n; last = is; here = at.here }

@@ -1,6 +1,6 @@
 -- A step of a cursor over a range: what is left, and where the ends stand.
 use Rattle.std.proofs.Common.{◌≡◌, ◌∙◌, ℕ, ◌+◌, ◌-◌, ◌<◌, ◌∷◌, ◌++◌, [], Bool, false, true, not, List, Option, Some, length, nat_lt, take, drop, slice_get, inl, inr, refl, sym, ap, arith}
-use Rattle.std.proofs.lemmas.Bool.{cases_Bool, ltb-false, ltb-true}
+use Rattle.std.proofs.lemmas.Bool.{cases_Bool, ltb-false, ltb-true, not-true}
 use Rattle.std.proofs.lemmas.List.{length-drop, length-take}
 use Rattle.std.specs.declared.cmp.Ord as ord
 use Rattle.std.specs.declared.cmp.PartialEq as eq
@@ -20,10 +20,6 @@ use Rattle.btree_map.specs.WrittenAddresses.{written-addresses}
 use Rattle.btree_map.specs.declared.cursor.RangeMut.{RangeMut}
 use Rattle.btree_map.proofs.IndexLemmas.{IsOnce, back-low, next-back, next-front}
 use Rattle.btree_map.proofs.SpanLemmas.{span-first, span-last}
-
-cases_none : (b : Bool) → not b ≡ true → b ≡ false
-cases_none false told = refl
-cases_none true told = absurd (cc)
 
 -- ends that are found in the list stand at their indices
 pub stands-first : (list : List Address) (found : Option Address) (n : ℕ) → found ≡ slice_get list n → found ≡ slice_get list (index_of list found)
@@ -63,7 +59,7 @@ module _ {K V C O : Type 0} {g : ord.Ghosts K} {g' : eq.Ghosts K} {g'' : partial
 
   pub none-left : not c.any_left ≡ true → range_left c ≡ []
   none-left told =
-      let none : c.any_left ≡ false = cases_none c.any_left told in
+      let none : c.any_left ≡ false = not-true c.any_left told in
       let low = ltb-false (range_front c) (range_back c) (sym c.ordered ∙ none) in
       let left : range_back c - range_front c ≡ 0 = omega arith in
       ap (λ n. take n (drop (range_front c) (pairs_of c.map.now))) left

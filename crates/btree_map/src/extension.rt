@@ -15,54 +15,58 @@ use btree_item::{Address, Refused};
 use btree_node::NodesMut;
 use std::cmp::Ordering;
 
-impl<K: Ord + Drop, V: Drop, C: NodesMut<K, V>> BTreeMap<K, V, C> {
-    // Returns `true` only if a key is greater than that of the last pair, or if there are no pairs. It compares the key with that of the last
-    // pair, if its address is given, and no other.
-    fn is_above(&self, last: Option<Address>, key: &K) -> bool
-        requires { IfSome last (IsLastPair self.now) }
-        ensures { IsTrue result → IsAboveLast K.cmp key.now (pairs_of self.now) }
-    {
-        match last {
-            Some(at) => self.pair_at(at).0.cmp(key) == Ordering::Less,
-            None => self.is_empty(),
-        }
+// Returns `true` only if a key is greater than that of the last pair, or if there are no pairs. It compares the key with that of the last
+// pair, if its address is given, and no other.
+fn is_above<K: Ord + Drop, V: Drop, C: NodesMut<K, V>>(
+    map: &BTreeMap<K, V, C>,
+    last: Option<Address>,
+    key: &K,
+) -> bool
+    requires { IfSome last (IsLastPair map.now) }
+    ensures { IsTrue result → IsAboveLast K.cmp key.now (pairs_of map.now) }
+{
+    match last {
+        Some(at) => map.pair_at(at).0.cmp(key) == Ordering::Less,
+        None => map.is_empty(),
     }
+}
 
-    // Inserts a pair as `insert` does, but first compares its key with that of the last pair, if the address of that is given, and if it is
-    // greater compares no other. Returns the address of the last pair, if that is known now.
-    fn insert_in_order(
-        &mut self,
-        last: Option<Address>,
-        key: K,
-        value: V,
-    ) -> Result<Option<Address>, Refused<K, V>>
-        requires { IfSome last (IsLastPair self.old) }
-        ensures inserted { OnOk result (pairs_of self.new ≡ inserted K.cmp key value (pairs_of self.old)) }
-        ensures last { IfOk result (λ at. IfSome at (IsLastPair self.new)) }
-        ensures uncounted { OnOk result (self.new.kept ≡ self.old.kept) }
+/// Inserts a pair as `insert` does, but first compares its key with that of the last pair, if the address of that is given, and if it is
+/// greater compares it with no other. Returns the address of the last pair, if that is known now. It fails as `insert` does.
+pub fn insert_in_order<K: Ord + Drop, V: Drop, C: NodesMut<K, V>>(
+    map: &mut BTreeMap<K, V, C>,
+    last: Option<Address>,
+    key: K,
+    value: V,
+) -> Result<Option<Address>, Refused<K, V>>
+    requires { IfSome last (IsLastPair map.old) }
+    ensures inserted { OnOk result (pairs_of map.new ≡ inserted K.cmp key value (pairs_of map.old)) }
+    ensures last { IfOk result (λ at. IfSome at (IsLastPair map.new)) }
+    ensures uncounted { OnOk result (map.new.kept ≡ map.old.kept) }
 
-        ensures returned { IfErr result (λ r. (r.key ≡ key) × (r.value ≡ value)) }
-        ensures absent { OnErr result (found K.cmp key (pairs_of self.old) ≡ None) }
-        ensures cause { IfErr result (λ r.
-            IsRefusedAtGap K.cmp key self.old self.new C.MayRefuse r.cause) }
-    {
-        if self.is_above(last, &key) {
-            self.tell_well_formed();
-            let end = self.last_valid_address();
-            return match self.insert_absent(end, key, value) {
-                Ok(at) => Ok(Some(at)),
-                Err(refused) => Err(refused),
-            };
-        }
-        match self.insert(key, value) {
-            Ok(replaced) => {
-                drop(replaced);
-                Ok(None)
-            }
+    ensures returned { IfErr result (λ r. (r.key ≡ key) × (r.value ≡ value)) }
+    ensures absent { OnErr result (found K.cmp key (pairs_of map.old) ≡ None) }
+    ensures cause { IfErr result (λ r.
+        IsRefusedAtGap K.cmp key map.old map.new C.MayRefuse r.cause) }
+{
+    if is_above(map, last, &key) {
+        map.tell_well_formed();
+        let end = map.last_valid_address();
+        return match map.insert_absent(end, key, value) {
+            Ok(at) => Ok(Some(at)),
             Err(refused) => Err(refused),
-        }
+        };
     }
+    match map.insert(key, value) {
+        Ok(replaced) => {
+            drop(replaced);
+            Ok(None)
+        }
+        Err(refused) => Err(refused),
+    }
+}
 
+impl<K: Ord + Drop, V: Drop, C: NodesMut<K, V>> BTreeMap<K, V, C> {
     /// Inserts the pairs that `source` gives, in order, as `insert` does. Returns the first pair that is refused: those before it are in
     /// the map, and those after it are still in `source`.
     ///
@@ -89,7 +93,7 @@ impl<K: Ord + Drop, V: Drop, C: NodesMut<K, V>> BTreeMap<K, V, C> {
     {
         let mut last = self.last_item_address();
         while let Some((key, value)) = source.next() {
-            match self.insert_in_order(last, key, value) {
+            match insert_in_order(self, last, key, value) {
                 Ok(at) => last = at,
                 Err(refused) => return Err(refused),
             }
@@ -119,7 +123,7 @@ impl<K: Ord + Drop, V: Drop, C: NodesMut<K, V>> BTreeMap<K, V, C> {
     {
         let mut last = self.last_item_address();
         while let Some((key, value)) = source.next() {
-            match self.insert_in_order(last, *key, *value) {
+            match insert_in_order(self, last, *key, *value) {
                 Ok(at) => last = at,
                 Err(refused) => return Err(refused),
             }

@@ -21,6 +21,7 @@ mod traits;
 pub use cursor::{EntriesMut, IterMut, RangeMut, ValuesMut};
 pub use drain::{DrainFilter, run_out, seek_from};
 pub use entry::{Entry, OccupiedEntry, VacantEntry};
+pub use extension::insert_in_order;
 pub use map::BTreeMap;
 pub use owned::{IntoIter, IntoKeys, IntoValues};
 pub use pair_test::{ByKey, ByPair, PairTest};

@@ -10,6 +10,7 @@ use Rattle.btree_shape.specs.TreeState.{TreeState, IsPlaceIn, item_of, pairs_of}
 use Rattle.btree_find.specs.Answers.{IsGapAt}
 use Rattle.btree_find.specs.Fits.{FitsAt}
 use Rattle.btree_find.specs.Navigation.{HasPlace, IsItemAddress, IsItemAt, IsNormalized, IsPrevious}
+use Rattle.btree_edit.specs.CallerLaws.{value-list}
 use Rattle.btree_edit.specs.Exchange.{IsValueExchanged}
 use Rattle.btree_edit.specs.InsertAt.{InsertsAt}
 use Rattle.btree_range_set.specs.Places.{EndsBefore, StartsFrom}
@@ -20,15 +21,6 @@ use Rattle.btree_range_set.proofs.ListLemmas.{get-inserted-before, get-set, get-
 use Rattle.btree_range_set.proofs.PlaceLemmas.{before-read, gap-below, less-from, previous-place}
 use Rattle.btree_range_set.proofs.RunLemmas.{next-apart, runs-set}
 use Rattle.btree_range_set.proofs.StepLemmas.{IsSameOutside, clear-part, cut-difference, cut-runs, left-part}
-
--- the range at an address got another end
-value-list : (s new : TreeState ℕ ℕ) (a : Address) (place was is : ℕ) (x : ℕ × ℕ) → IsItemAddress s place a → slice_get (pairs_of s) place ≡ Some x
-    → IsValueExchanged s new a nat_cmp was is → pairs_of new ≡ set (pairs_of s) place (x.0, is)
-value-list s new a place was is x item listed e =
-    let same : e.exchanged.place ≡ place = item.has.only e.exchanged.place e.exchanged.here.has.at in
-    let pair : (e.key, was) ≡ x = same_Some _ _ (sym e.listed ∙ ap (slice_get (pairs_of s)) same ∙ listed) in
-    let key : e.key ≡ x.0 = ap (λ (z : ℕ × ℕ). z.0) pair in
-    e.exchanged.pairs ∙ ap (λ p. set (pairs_of s) p (e.key, is)) same ∙ ap (λ k. set (pairs_of s) place (k, is)) key
 
 -- ---- a range that is cut in two
 -- the gap of the start of the numbers is after the range
@@ -80,7 +72,7 @@ module _ (s : TreeState ℕ ℕ) (gap : Address) (start end last : ℕ) (can : C
       let listed : slice_get (pairs_of mid) can.before ≡ Some (can.first, last) =
       ap (λ xs. slice_get xs can.before) pairs ∙ get-inserted-before (pairs_of s) can.before (end, last) within ∙ can.listed in
       let final : pairs_of new ≡ insert (set (pairs_of s) can.before (can.first, start)) (suc can.before) (end, last) =
-      value-list mid new left can.before was start (can.first, last) item listed e
+      value-list nat_cmp mid new left can.before was start (can.first, last) item listed e
       ∙ ap (λ xs. set xs can.before (can.first, start)) pairs
       ∙ set-insert (pairs_of s) can.before (end, last) (can.first, start) within in
       let P : List (ℕ × ℕ) → Type 0 = AreRuns in
@@ -101,7 +93,7 @@ module _ (s new : TreeState ℕ ℕ) (gap a : Address) (start end place was : �
   before = before-read s gap start place has fits a x previous read
 
   pairs : pairs_of new ≡ set (pairs_of s) before.0 (x.0, start)
-  pairs = value-list s new a before.0 was start x before.2 before.3 e
+  pairs = value-list nat_cmp s new a before.0 was start x before.2 before.3 e
 
   pub shorten-can : (after : Option Address) → IsNormalized new gap after → CanClear new after start
   shorten-can after normal =

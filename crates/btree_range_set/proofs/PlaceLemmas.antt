@@ -19,9 +19,6 @@ use Rattle.btree_range_set.proofs.RunLemmas.{has-here, has-none, run-at, within-
 pub less-from : (x y : ℕ) → x < y → nat_cmp x y ≡ Less
 less-from x y lt = rw (lt-ltb x y lt) refl
 
-pub from-less : (x y : ℕ) → nat_cmp x y ≡ Less → x < y
-from-less x y is = ranked x y Less (sym is)
-
 module _ (s : TreeState ℕ ℕ) where
   -- ---- an address that a search found
   module _ (k : ℕ) (a : Address) (f : IsFoundAt nat_cmp k s a) where
@@ -57,10 +54,10 @@ module _ (s : TreeState ℕ ℕ) where
 -- ---- a gap, and the ranges beside it
 module _ (s : TreeState ℕ ℕ) (gap : Address) (k place : ℕ) (has : HasPlace s gap place) (fits : KeyFits nat_cmp k place (pairs_of s)) where
   pub gap-above : (q : ℕ) (x : ℕ × ℕ) → suc q ≡ place → slice_get (pairs_of s) q ≡ Some x → x.0 < k
-  gap-above q x next at = from-less x.0 k (fits.above q x next at)
+  gap-above q x next at = ranked x.0 k Less (sym (fits.above q x next at))
 
   pub gap-below : StartsAfter (pairs_of s) place k
-  gap-below x at = from-less k x.0 (fits.below x at)
+  gap-below x at = ranked k x.0 Less (sym (fits.below x at))
 
   -- the range before it, which was read
   pub before-read : (b : Address) (x : ℕ × ℕ) → IsPrevious s gap (Some b) → item_of s b ≡ Some x

@@ -1,14 +1,18 @@
 //! Insertion of many elements.
-ghost use Rattle.std.specs.Prelude.{◌≡◌, [], IfErr, IfOk, OnErr, OnOk};
+ghost use Rattle.std.specs.Prelude.{◌≡◌, [], IfErr, IfOk, IfSome, None, OnErr, OnOk};
 ghost use Rattle.std.specs.Iterator.{IsFinite};
 ghost use Rattle.std.specs.Mem.{FitsInMemory};
 ghost use denote.Plain.{Nothing as unit_row};
 ghost use Rattle.btree_node.specs.contracts.node.Node.{the_row as node_row};
 ghost use Rattle.btree_shape.specs.TreeState.{unlimited};
+ghost use Rattle.btree_map.specs.Ascending.{IsLastPair};
+ghost use Rattle.btree_set.specs.Elements.{IsRefused, inserted, stored};
 ghost use Rattle.btree_set.specs.Extension.{Adds, AddsAll, AddsUntil, Collects, CollectsUntil, MovesEach, MovesUntil, RefusesInTurn, SwapsIntoEmpty, copied_steps};
 
 use crate::BTreeSet;
-use btree_item::Refused;
+use btree_ext::BTreeExt;
+use btree_item::{Address, Refused};
+use btree_map::insert_in_order;
 use btree_node::NodesMut;
 
 impl<T: Ord + Drop, C: NodesMut<T, ()>> BTreeSet<T, C> {
@@ -36,8 +40,34 @@ impl<T: Ord + Drop, C: NodesMut<T, ()>> BTreeSet<T, C> {
         }
     }
 
+    // Inserts an element as `insert` does, but first compares it with the last one, if the address of that is given, and if it is greater
+    // compares it with no other. Returns the address of the last element, if that is known now.
+    fn insert_in_order(
+        &mut self,
+        last: Option<Address>,
+        element: T,
+    ) -> Result<Option<Address>, Refused<T, ()>>
+        requires { IfSome last (IsLastPair self.old.tree) }
+        ensures inserted { OnOk result (self.new.elements ≡ inserted T.cmp element self.old.elements) }
+        ensures last { IfOk result (λ at. IfSome at (IsLastPair self.new.tree)) }
+        ensures uncounted { OnOk result (self.new.kept ≡ self.old.kept) }
+
+        ensures returned { IfErr result (λ r. r.key ≡ element) }
+        ensures absent { OnErr result (stored T.cmp element self.old.elements ≡ None) }
+        ensures cause { IfErr result (λ r. IsRefused T.cmp C.MayRefuse element self.old self.new r.cause) }
+    {
+        match insert_in_order(&mut self.map, last, element, ()) {
+            Ok(at) => return Ok(at),
+            Err(refused) => return Err(refused),
+        }
+    }
+
     /// Inserts the elements that `source` gives, in order, as `insert` does. Returns the first one that is refused: those before it are in
     /// the set, and those after it are still in `source`.
+    ///
+    /// From the start on, as long as each element is greater than all in the set, it compares it with the last one alone; each element still
+    /// goes from the root to the last leaf. The first one that is not greater costs one comparison more than `insert`, and from there on
+    /// each element costs what `insert` costs.
     ///
     /// The contract requires that `source` ends.
     pub fn extend<I: Iterator<Item = T>>(&mut self, source: &mut I) -> Result<(), Refused<T, ()>>
@@ -53,9 +83,10 @@ impl<T: Ord + Drop, C: NodesMut<T, ()>> BTreeSet<T, C> {
         ensures may_go_on { OnErr result (I.can_next source.new) }
         ensures still_ends { OnErr result (IsFinite (I.remaining source.new)) }
     {
+        let mut last = self.map.last_item_address();
         while let Some(element) = source.next() {
-            match self.insert(element) {
-                Ok(_) => {}
+            match self.insert_in_order(last, element) {
+                Ok(at) => last = at,
                 Err(refused) => return Err(refused),
             }
         }
@@ -81,9 +112,10 @@ impl<T: Ord + Drop, C: NodesMut<T, ()>> BTreeSet<T, C> {
         ensures may_go_on { OnErr result (I.can_next source.new) }
         ensures still_ends { OnErr result (IsFinite (I.remaining source.new)) }
     {
+        let mut last = self.map.last_item_address();
         while let Some(element) = source.next() {
-            match self.insert(*element) {
-                Ok(_) => {}
+            match self.insert_in_order(last, *element) {
+                Ok(at) => last = at,
                 Err(refused) => return Err(refused),
             }
         }

@@ -2,13 +2,13 @@ use Rattle.std.proofs.Common.{◌≡◌, ◌∙◌, ◌∷◌, [], None, Some, r
 use Rattle.btree_item.specs.Pairs.{inserted}
 use Rattle.btree_shape.specs.TreeState.{pairs_of}
 use Rattle.btree_map.specs.Extension.{inserted_all}
-use Rattle.btree_map.proofs.AscendingLemmas.{last-pair}
+use Rattle.btree_map.specs.AscendingLaws.{last-pair}
 use Rattle.btree_map.proofs.map.BTreeMap.extend_copied.Goals as goal
 
 pub loop-key-preserved : goal.loop-key-preserved
 loop-key-preserved g c =
     let next = c.in-Some.ensures.goes.on c.loop-key.invariant.0.1 in
-    let is : pairs_of c.insert_in_order.new.self ≡ inserted g.K.Ord.cmp c.in-Some.key.now c.in-Some.value.now (pairs_of c.loop-key.self) = c.in-Ok.ensures.inserted in (
+    let is : pairs_of c.insert_in_order.new.map ≡ inserted g.K.Ord.cmp c.in-Some.key.now c.in-Some.value.now (pairs_of c.loop-key.self) = c.in-Ok.ensures.inserted in (
       (next.0, next.1),
       c.in-Ok.ensures.uncounted ∙ c.loop-key.invariant.1,
       c.in-Ok.ensures.last,
@@ -23,7 +23,7 @@ pub returns-in-Err-clause-stopped : goal.returns-in-Err-clause-stopped
 returns-in-Err-clause-stopped g c =
     let cause = c.in-Err.ensures.cause in
     rw (c.in-Err.ensures.returned.0, c.in-Err.ensures.returned.1)
-    (c.loop-key.invariant.3 (Some (c.in-Some.key.now, c.in-Some.value.now)) (pairs_of c.insert_in_order.new.self) c.next.new.self (record {
+    (c.loop-key.invariant.3 (Some (c.in-Some.key.now, c.in-Some.value.now)) (pairs_of c.insert_in_order.new.map) c.next.new.self (record {
       given = [];
       yields = (_, refl, (Some (c.in-Some.key, c.in-Some.value), c.in-Some.ensures.steps, refl));
       pairs = cause.leaves.pairs;
