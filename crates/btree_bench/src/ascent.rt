@@ -14,11 +14,14 @@ pub fn ascend<C: NodesMut<u64, u64>>(
     Ok(map.len())
 }
 
-/// Does the same by `extend_copied`.
-pub fn ascend_all<C: NodesMut<u64, u64>>(
-    map: &mut BTreeMap<u64, u64, C>,
+/// Makes a map of the pairs of another one by `from_iter`.
+pub fn collect<C: NodesMut<u64, u64> + Drop>(
+    origin: C::Origin,
     from: &BTreeMap<u64, u64, C>,
-) -> Result<usize, AllocError> {
-    map.extend_copied(&mut from.iter())?;
-    Ok(map.len())
+) -> Result<BTreeMap<u64, u64, C>, AllocError> {
+    let mut pairs = from.iter().map(|(key, value)| (*key, *value));
+    match BTreeMap::<u64, u64, C>::from_iter(origin, &mut pairs) {
+        Ok(map) => Ok(map),
+        Err((_, refused)) => Err(refused.into()),
+    }
 }

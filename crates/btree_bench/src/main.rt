@@ -13,7 +13,7 @@ mod ranges;
 mod spans;
 mod tables;
 
-use crate::ascent::{ascend, ascend_all};
+use crate::ascent::{ascend, collect};
 use crate::descent::{descend, descend_at};
 use crate::random::{Numbers, drawn, shuffle};
 use crate::ranges::sum_ranges;
@@ -204,16 +204,22 @@ fn measure_ascent<C: NodesMut<u64, u64> + Drop>(
     report(rt, is_timed, ("btree_slab", "ascend"), since, len)
 }
 
-// The same by one call.
-fn measure_ascent_all<C: NodesMut<u64, u64> + Drop>(
+// The same pairs made a map by one call.
+fn measure_collect<C: NodesMut<u64, u64> + Drop>(
     rt: &(impl Print + Clock),
     is_timed: bool,
-    mut map: BTreeMap<u64, u64, C>,
+    origin: C::Origin,
     from: &BTreeMap<u64, u64, C>,
 ) -> io::Result<()> {
     let since = Instant::now(rt)?;
-    let len = ascend_all(&mut map, from)? as u64;
-    report(rt, is_timed, ("btree_slab", "ascend_all"), since, len)
+    let map = collect(origin, from)?;
+    report(
+        rt,
+        is_timed,
+        ("btree_slab", "collect"),
+        since,
+        map.len() as u64,
+    )
 }
 
 fn measure_ascents<C: NodesMut<u64, u64> + Drop>(
@@ -228,7 +234,7 @@ where
     let mut from: BTreeMap<u64, u64, C> = BTreeMap::new(origin);
     let _present = put_all(&mut from, keys.put.as_slice())?;
     measure_ascent(rt, is_timed, BTreeMap::new(origin), &from)?;
-    measure_ascent_all(rt, is_timed, BTreeMap::new(origin), &from)
+    measure_collect(rt, is_timed, origin, &from)
 }
 
 // Both ends of an iterator that owns its map, each of a new one.

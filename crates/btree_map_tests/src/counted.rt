@@ -1,9 +1,10 @@
-//! Calls by key search once: at most six comparisons at each level, by keys that count them. An extension by ascending pairs compares each
-//! with the last one alone.
-use crate::asserts::{assert_same, assert_same_in, assert_true_in};
+//! Calls by key search once: at most six comparisons at each level, by keys that count them. An extension by ascending pairs
+//! or elements compares each with the last one alone.
+use crate::asserts::{assert_same, assert_same_in, assert_true, assert_true_in};
 use btree_ext::BTreeExt;
 use btree_map::{BTreeMap, Entry};
 use btree_node::{Node, NodesMut};
+use btree_set::BTreeSet;
 use btree_store::SlabStore;
 use btree_testing::Counted;
 use std::cell::Cell;
@@ -136,4 +137,32 @@ where
 fn ascending_keys_are_compared_once(rt: HostRuntime) {
     let compared = Cell::new(0u32);
     extends_in::<Store<'_>>(&rt, &compared, rt.alloc());
+}
+
+// Extends an empty set by 44 ascending elements, which make 43 comparisons, and by two that are not above the last one. The first of these
+// makes one more than an insertion, and the other as many as an insertion.
+fn extends_set<'a, C: NodesMut<Counted<'a>, ()> + Drop>(
+    rt: &impl Abort,
+    compared: &'a Cell<u32>,
+    mut set: BTreeSet<Counted<'a>, C>,
+) {
+    let mut ascending = (0..44u32).map(move |number| Counted { number, compared });
+    compared.set(0);
+    assert_true(rt, set.extend(&mut ascending).is_ok());
+    assert_same(rt, compared.replace(0), 43);
+    for number in 30..32u32 {
+        let inserted = set.insert(Counted { number, compared }).ok();
+        assert_same(rt, inserted, Some(false));
+    }
+    let sought = compared.replace(0);
+    let mut two = (30..32u32).map(move |number| Counted { number, compared });
+    assert_true(rt, set.extend(&mut two).is_ok());
+    assert_same(rt, compared.get(), sought.wrapping_add(1));
+}
+
+#[test]
+fn ascending_elements_are_compared_once(rt: HostRuntime) {
+    let compared = Cell::new(0u32);
+    let set: BTreeSet<Counted<'_>, SlabStore<Node<Counted<'_>, ()>>> = BTreeSet::new(rt.alloc());
+    extends_set(&rt, &compared, set);
 }
