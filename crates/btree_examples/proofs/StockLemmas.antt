@@ -1,17 +1,9 @@
 -- A list that is filtered from a place on: the elements that were passed, and the rest.
-use Rattle.std.proofs.Common.{◌≡◌, ◌∙◌, ℕ, zero, suc, Bool, true, cond, not, ◌==◌, List, [], ◌∷◌, ◌++◌, Some, None, drop, filter, slice_get, take, refl, sym, ap, subst, append_assoc, ne_eqb}
+use Rattle.std.proofs.Common.{◌≡◌, ◌∙◌, ℕ, Bool, true, cond, not, ◌==◌, List, [], ◌∷◌, ◌++◌, Some, None, drop, filter, slice_get, take, refl, sym, ap, subst, append_assoc, ne_eqb}
+use Rattle.std.proofs.lemmas.List.{take-append-drop}
 use Rattle.std.proofs.lemmas.Option.{same_Some}
+use Rattle.btree_find.specs.CallerLaws.{none-first}
 use Rattle.btree_examples.specs.Stock.{is_in_stock}
-
-module _ {X : Type 0} where
-  cut : (n : ℕ) (xs : List X) → xs ≡ take n xs ++ drop n xs
-  cut zero xs = refl
-  cut (suc n) [] = refl
-  cut (suc n) (x ∷ xs) = ap (λ (l : List X). x ∷ l) (cut n xs)
-
-  none-first : (xs : List X) → None ≡ slice_get xs 0 → xs ≡ []
-  none-first [] none = refl
-  none-first (x ∷ xs) none = absurd (cc)
 
 module _ {X : Type 0} (keep : X → Bool) (whole : List X) where
   -- those that were passed are the whole list, but for those that are kept of the rest
@@ -29,7 +21,7 @@ module _ {X : Type 0} (keep : X → Bool) (whole : List X) where
   pub keeps-all : (n : ℕ) (xs : List X) → Keeps (take n xs) (drop n xs) → None ≡ slice_get (drop n xs) 0 → xs ≡ whole
   keeps-all n xs so_far none =
       let past = none-first (drop n xs) none in
-      cut n xs ∙ ap (λ l. take n xs ++ l) past ∙ ap (λ l. take n xs ++ filter keep l) (sym past) ∙ so_far
+      sym (take-append-drop n xs) ∙ ap (λ l. take n xs ++ l) past ∙ ap (λ l. take n xs ++ filter keep l) (sym past) ∙ so_far
 
 some-left : (n : ℕ) → (n ≡ 0 → ⊥) → not (n == 0) ≡ true
 some-left n some = ap not (ne_eqb n 0 some)

@@ -11,6 +11,11 @@ use Rattle.btree_shape.specs.Place.{IsOccupied}
 use Rattle.btree_shape.specs.TreeState.{TreeState, IsOccupiedIn, item_of, node_map, pairs_of}
 use Rattle.btree_find.specs.Navigation.{IsItemAddress, IsItemAt, IsNext}
 
+-- a list without a first element is empty
+pub none-first : {X : Type 0} (xs : List X) → None ≡ slice_get xs 0 → xs ≡ []
+none-first [] e = refl
+none-first (x ∷ xs) e = absurd (cc)
+
 -- the ordering that `is_eq` is true of is `Equal`
 pub equal-by : (o : Ordering) → is_eq o ≡ true → o ≡ Equal
 equal-by Less e = absurd (cc)

@@ -15,10 +15,6 @@ module _ {K V : Type 0} where
   first-and-rest [] ys x is rest = absurd (cc)
   first-and-rest (y ∷ xs) ys x is rest = let first : x ≡ y = cc in λ i. sym first i ∷ sym rest i
 
-  pub none-of : (xs : List (K × V)) → None ≡ slice_get xs 0 → xs ≡ []
-  none-of [] is = refl
-  none-of (y ∷ xs) is = absurd (cc)
-
   insert-end : (xs : List (K × V)) (x : K × V) → insert xs (length xs) x ≡ xs ++ x ∷ []
   insert-end [] x = refl
   insert-end (y ∷ xs) x = ap (λ l. y ∷ l) (insert-end xs x)

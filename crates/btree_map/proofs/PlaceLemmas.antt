@@ -1,6 +1,6 @@
 -- How many pairs are before the start bound of a range, and how many are up to its end bound.
 use Rattle.std.proofs.Common.{◌≡◌, ◌∙◌, ℕ, zero, suc, ◌+◌, ◌-◌, ◌<◌, Bool, true, false, not, cond, List, [], ◌∷◌, ◌++◌, Result, Ok, Err, if◌then◌else◌, length, take, drop, length-append, slice_get, nat_lt, is_some, inl, inr, Option, Some, None, refl, sym, ap, arith}
-use Rattle.std.proofs.lemmas.Bool.{cases_Bool, cases_eq, le-ltb, lt-ltb, ltb-false, ltb-true}
+use Rattle.std.proofs.lemmas.Bool.{cases_Bool, cases_eq, cond-false, cond-true, le-ltb, lt-ltb, ltb-false, ltb-true}
 use Rattle.std.proofs.lemmas.Option.{same_Some}
 use Rattle.std.proofs.lemmas.List.{drop_at, take_at}
 use Rattle.std.proofs.lemmas.List.Sums.{length-filter, sum_by-cons}
@@ -59,12 +59,6 @@ some-same a b e = rw e refl
 
 some-one : {X : Type 0} (a : Option X) (x : X) → a ≡ Some x → cond (is_some a) 1 0 ≡ suc zero
 some-one a x e = rw e refl
-
-test-none : (b : Bool) → b ≡ false → cond b 1 0 ≡ zero
-test-none b e = rw e refl
-
-test-one : (b : Bool) → b ≡ true → cond b 1 0 ≡ suc zero
-test-one b e = rw e refl
 
 some-none : {X : Type 0} (a : Option X) → a ≡ None → cond (is_some a) 1 0 ≡ zero
 some-none a e = rw e refl
@@ -194,12 +188,12 @@ module _ {X : Type 0} (p : X → Bool) where
   count-split [] [] pass fail = refl
   count-split [] (y ∷ ys) pass fail =
       let c = count-cons p y ys in
-      let z = test-none (p y) fail.0 in
+      let z = cond-false (p y) 1 0 fail.0 in
       let r = count-split [] ys tt fail.1 in
       omega arith
   count-split (x ∷ xs) ys pass fail =
       let c = count-cons p x (xs ++ ys) in
-      let z = test-one (p x) pass.0 in
+      let z = cond-true (p x) 1 0 pass.0 in
       let r = count-split xs ys pass.1 fail in
       omega arith
 

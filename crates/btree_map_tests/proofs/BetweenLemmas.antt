@@ -1,7 +1,7 @@
 -- A list whose elements in the middle are changed, from the front on.
 use Rattle.std.proofs.Common.{map as each}
 use Rattle.std.proofs.Common.{◌≡◌, ◌∙◌, ℕ, zero, suc, ◌+◌, ◌-◌, ◌<◌, ◌≤◌, Bool, true, false, cond, not, nat_lt, inl, inr, List, [], ◌∷◌, ◌++◌, Some, set, slice_get, take, drop, refl, sym, ap, arith}
-use Rattle.std.proofs.lemmas.Bool.{cases_Bool, ltb-false, ltb-true}
+use Rattle.std.proofs.lemmas.Bool.{cases_Bool, cond-true, ltb-false, ltb-true}
 use Rattle.std.proofs.lemmas.List.{take-append-drop}
 use Rattle.std.proofs.lemmas.List.Sums.{sum_by-cons}
 use Rattle.std.specs.List.{count_by, filter}
@@ -114,9 +114,6 @@ module _ {X : Type 0} (f : X → X) where
             passed : (b : Bool) → b ≡ false → cond b 1 0 + count_by p xs ≡ count_by p xs
             passed b e = rw e (omega arith)
 
-    test-one : (b : Bool) → b ≡ true → cond b 1 0 ≡ suc zero
-    test-one b e = rw e refl
-
     -- if those that pass are the ones between two places, then these are changed
     pub finished-passing : (front n : ℕ) (xs : List X) → filter p xs ≡ take n (drop front xs) → take front xs ++ changed f n (drop front xs) ≡ each if_passing xs
     finished-passing zero n xs e = first-part n xs e
@@ -127,7 +124,7 @@ module _ {X : Type 0} (f : X → X) where
             → x ∷ (take front xs ++ changed f n (drop front xs)) ≡ cond (p x) (f x) x ∷ each if_passing xs
         by true is rest =
             let a = count-cons x xs in
-            let b = test-one (p x) is in
+            let b = cond-true (p x) 1 0 is in
             let c = ap (count_by p) e in
             let d = twice (x ∷ xs) in
             let g = fewer-taken n (drop front xs) in

@@ -12,6 +12,7 @@ use Rattle.btree_node.specs.declared.nodes.Nodes as nodes
 use Rattle.btree_node.specs.declared.nodes.NodesMut as nodes_mut
 use Rattle.btree_raw.specs.Insertion.{IsRefused}
 use Rattle.btree_shape.specs.TreeState.{pairs_of}
+use Rattle.btree_find.specs.CallerLaws.{none-first}
 use Rattle.btree_map.specs.Cursor.{or_nowhere}
 use Rattle.btree_map.specs.Editing.{FitsBetween, InsertsEntry, RefusesEntry, RemovesEntry, WritesPassed, entry_front, left_of, passed_of, past_first}
 use Rattle.btree_map.specs.declared.cursor.editing.EntriesMut.{EntriesMut}
@@ -23,10 +24,6 @@ module _ {X : Type 0} where
   first-rest : (xs : List X) (x : X) → Some x ≡ slice_get xs 0 → xs ≡ x ∷ drop 1 xs
   first-rest [] x e = absurd (cc)
   first-rest (y ∷ ys) x e = ap (λ z. z ∷ ys) (sym (same_Some x y e))
-
-  first-none : (xs : List X) → None ≡ slice_get xs 0 → xs ≡ []
-  first-none [] e = refl
-  first-none (y ∷ ys) e = absurd (cc)
 
 -- the cursor's keys are numbers, in their order
 abbrev by_number : ord.Ghosts ℕ
@@ -47,7 +44,7 @@ module _ {C O : Type 0} {g' : eq.Ghosts ℕ} {g'' : partial.Ghosts ℕ} {s : nod
     peeks-first x here = record { move = (drop 1 (left_of c), first-rest (left_of c) x here, refl); nodes = refl }
 
     pub peeks-past : None ≡ slice_get (left_of c) 0 → IsCursorStep s.MayRefuse (spot_of c) Peek Nothing (spot_of c)
-    peeks-past past = peeks-none (first-none (left_of c) past)
+    peeks-past past = peeks-none (none-first (left_of c) past)
 
     pub passes-first : (k v : ℕ) → WritesPassed c k v v → IsCursorStep s.MayRefuse (spot_of c) Next (Pair k v) (spot_of (past_first c v))
     passes-first k v w = record {

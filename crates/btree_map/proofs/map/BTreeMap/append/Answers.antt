@@ -2,7 +2,8 @@ use Rattle.std.proofs.Common.{◌≡◌, ◌∙◌, ◌∷◌, [], ap, sym, rule
 use Rattle.btree_item.specs.Pairs.{inserted}
 use Rattle.btree_shape.specs.TreeState.{pairs_of}
 use Rattle.btree_map.specs.Extension.{inserted_all}
-use Rattle.btree_map.proofs.ExtensionLemmas.{all-into-none, first-and-rest, none-of}
+use Rattle.btree_find.specs.CallerLaws.{none-first}
+use Rattle.btree_map.proofs.ExtensionLemmas.{all-into-none, first-and-rest}
 use Rattle.btree_map.proofs.map.BTreeMap.append.Goals as goal
 
 pub returns-then-len-limit-clause-appended : goal.returns-then-len-limit-clause-appended
@@ -51,9 +52,9 @@ returns-in-Err-clause-cause g c =
 
 pub returns-clause-appended : goal.returns-clause-appended
 returns-clause-appended g c =
-    let none = none-of (pairs_of c.loop-key.other) c.in_default.ensures.pair in
+    let none = none-first (pairs_of c.loop-key.other) c.in_default.ensures.pair in
     sym (ap (inserted_all g.K.Ord.cmp (pairs_of c.loop-key.self)) none) ∙ c.loop-key.invariant.2
 
 pub returns-clause-emptied : goal.returns-clause-emptied
 returns-clause-emptied g c =
-    ap pairs_of c.in_default.ensures.unchanged ∙ none-of (pairs_of c.loop-key.other) c.in_default.ensures.pair
+    ap pairs_of c.in_default.ensures.unchanged ∙ none-first (pairs_of c.loop-key.other) c.in_default.ensures.pair
