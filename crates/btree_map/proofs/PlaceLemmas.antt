@@ -188,12 +188,12 @@ module _ {X : Type 0} (p : X → Bool) where
   count-split [] [] pass fail = refl
   count-split [] (y ∷ ys) pass fail =
       let c = count-cons p y ys in
-      let z = cond-false (p y) 1 0 fail.0 in
+      let z : cond (p y) 1 0 ≡ zero = cond-false (p y) 1 0 fail.0 in
       let r = count-split [] ys tt fail.1 in
       omega arith
   count-split (x ∷ xs) ys pass fail =
       let c = count-cons p x (xs ++ ys) in
-      let z = cond-true (p x) 1 0 pass.0 in
+      let z : cond (p x) 1 0 ≡ suc zero = cond-true (p x) 1 0 pass.0 in
       let r = count-split xs ys pass.1 fail in
       omega arith
 

@@ -124,7 +124,7 @@ module _ {X : Type 0} (f : X → X) where
             → x ∷ (take front xs ++ changed f n (drop front xs)) ≡ cond (p x) (f x) x ∷ each if_passing xs
         by true is rest =
             let a = count-cons x xs in
-            let b = cond-true (p x) 1 0 is in
+            let b : cond (p x) 1 0 ≡ suc zero = cond-true (p x) 1 0 is in
             let c = ap (count_by p) e in
             let d = twice (x ∷ xs) in
             let g = fewer-taken n (drop front xs) in
