@@ -1,5 +1,5 @@
 -- A list that is filtered from a place on: the elements that were passed, and the rest.
-use Rattle.std.proofs.Common.{◌≡◌, ◌∙◌, ℕ, Bool, true, cond, not, ◌==◌, List, [], ◌∷◌, ◌++◌, Some, None, drop, filter, slice_get, take, refl, sym, ap, subst, append_assoc, ne_eqb}
+use Rattle.std.proofs.Common.{◌≡◌, ◌∙◌, ℕ, Bool, true, cond, not, ◌==◌, List, [], ◌∷◌, ◌++◌, Some, None, drop, filter, slice_get, take, sym, ap, subst, append_assoc, ne_eqb}
 use Rattle.std.proofs.lemmas.List.{take-append-drop}
 use Rattle.std.proofs.lemmas.Option.{same_Some}
 use Rattle.btree_find.specs.CallerLaws.{none-first}

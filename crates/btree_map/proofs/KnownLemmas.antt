@@ -3,7 +3,6 @@ use Rattle.std.proofs.Common.{◌≡◌, ◌∙◌, ℕ, ◌+◌, ◌<◌, IfSom
 use Rattle.std.proofs.lemmas.Option.{same_Some}
 use Rattle.std.specs.Option.{ForSome, option_map}
 use Rattle.btree_item.specs.declared.address.Address.{Address}
-use Rattle.btree_shape.specs.TreeAddresses.{item_addresses_of}
 use Rattle.btree_shape.specs.TreeState.{TreeState}
 use Rattle.btree_edit.specs.ValueWritten.{value_written}
 use Rattle.btree_map.specs.Spans.{index_of, item_index}

@@ -1,5 +1,5 @@
 -- A list of pairs with another value at a key: at its place, at an equal key, twice, and at a key that was inserted.
-use Rattle.std.proofs.Common.{◌≡◌, ◌∙◌, ◌∷◌, [], ◌≤◌, ℕ, zero, suc, Bool, true, false, cond, List, Some, length, set, slice_get, if◌then◌else◌, refl, sym, ap, arith}
+use Rattle.std.proofs.Common.{◌≡◌, ◌∙◌, ◌∷◌, [], ◌≤◌, ℕ, zero, suc, Bool, true, false, cond, List, Some, length, set, slice_get, refl, sym, ap, arith}
 use Rattle.std.proofs.lemmas.Map.Keys.{sorted_head, sorted_tail}
 use Rattle.std.specs.Cmp.{IsTotalOrder, Equal-is, alike_right, tied_itself}
 use Rattle.std.specs.List.{AllByRecursion, insert}

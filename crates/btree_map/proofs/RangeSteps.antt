@@ -1,5 +1,5 @@
 -- A step of a cursor over a range: what is left, and where the ends stand.
-use Rattle.std.proofs.Common.{◌≡◌, ◌∙◌, ℕ, ◌+◌, ◌-◌, ◌<◌, ◌∷◌, ◌++◌, [], Bool, false, true, not, List, Option, Some, length, nat_lt, take, drop, slice_get, inl, inr, refl, sym, ap, arith}
+use Rattle.std.proofs.Common.{◌≡◌, ◌∙◌, ℕ, ◌+◌, ◌-◌, ◌<◌, ◌∷◌, ◌++◌, [], Bool, false, true, not, List, Option, Some, length, nat_lt, take, drop, slice_get, inl, inr, sym, ap, arith}
 use Rattle.std.proofs.lemmas.Bool.{cases_Bool, ltb-false, ltb-true, not-true}
 use Rattle.std.proofs.lemmas.List.{length-drop, length-take}
 use Rattle.std.specs.declared.cmp.Ord as ord

@@ -1,5 +1,5 @@
 -- What arguments ask for, by the comparisons of `setup` and `limit_of`.
-use Rattle.std.proofs.Common.{◌≡◌, ◌∙◌, ◌<◌, ◌≤◌, ◌-◌, [], ◌∷◌, List, ℕ, suc, Bool, true, false, length, take, drop, get_or, codes, Bor, ap, subst, sym, arith}
+use Rattle.std.proofs.Common.{◌≡◌, ◌∙◌, ◌<◌, ◌≤◌, ◌-◌, [], ◌∷◌, List, ℕ, Bool, true, false, length, take, drop, get_or, codes, Bor, ap, subst, sym, arith}
 use Rattle.std.specs.Cmp.Lexicographic.{pointwise, bytes_decides}
 use Rattle.std.proofs.Math.Dec.{eqb}
 use Rattle.std.proofs.lemmas.List.{take_all}

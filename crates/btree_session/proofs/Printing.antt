@@ -6,7 +6,6 @@ use Rattle.std.specs.declared.alloc.AllocError.{AllocError}
 use Rattle.std.specs.List.{flat_map, join_with_byte}
 use Rattle.btree_store.specs.Content.{Content}
 use Rattle.btree_internal.specs.Internal.{Internal as InternalParts, branch_pair}
-use Rattle.btree_leaf.specs.Leaf.{Leaf as LeafParts}
 use Rattle.btree_node.specs.Node.{view_of}
 use Rattle.btree_view.specs.View.{NodeMap}
 use Rattle.btree_internal.specs.declared.internal.Branch.{Branch}

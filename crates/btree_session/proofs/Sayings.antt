@@ -1,5 +1,5 @@
 -- What a name says with numbers after it.
-use Rattle.std.proofs.Common.{◌≡◌, ◌≢◌, ℕ, List, [], ◌∷◌, refl, sym, ap, ◌∙◌, subst}
+use Rattle.std.proofs.Common.{◌≡◌, ℕ, List, [], ◌∷◌, refl, sym, ap, ◌∙◌, subst}
 use Rattle.btree_session.specs.declared.command.Command.{Command}
 use Rattle.btree_session.specs.declared.command.Command.TheVariants.{Insert, Get, Remove, Clear, Seek, Next, Prev, Put, Take}
 use Rattle.btree_session.specs.declared.line.Line.{Line}
@@ -7,7 +7,6 @@ use Rattle.btree_session.specs.declared.line.Line.TheVariants as lines
 use Rattle.btree_session.specs.declared.line.Numbers.{Numbers}
 use Rattle.btree_session.specs.declared.line.Numbers.TheVariants.{Zero, One, Two}
 use Rattle.btree_session.specs.declared.question.Question.{Question}
-use Rattle.btree_session.specs.declared.question.Question.TheVariants as questions
 use Rattle.btree_session.specs.Line.{AreNumbers, MeansLine, Says, command_numbers, number_list}
 
 -- words are at most one list of numbers

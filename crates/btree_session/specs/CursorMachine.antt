@@ -3,7 +3,7 @@
 -- are left), then `Edits` (the map's nodes). `IsCursorStep` is both, and `RunsCursor`, which `run_cursor` cites, a list of
 -- such steps with their replies appended to a vector. As in a session, only a refusal by the store changes what is
 -- kept.
-use Rattle.std.specs.Prelude.{◌≡◌, ◌≤◌, ℕ, ◌+◌, List, [], ◌∷◌, ◌++◌, length, take, drop, Vec}
+use Rattle.std.specs.Prelude.{◌≡◌, ℕ, ◌+◌, List, [], ◌∷◌, ◌++◌, length, take, drop, Vec}
 use Rattle.std.specs.Ordering.{nat_cmp}
 use Rattle.std.specs.declared.cmp.Ord as ord
 use Rattle.std.specs.declared.cmp.PartialEq as eq

@@ -4,7 +4,7 @@
 -- Read `MachineStep` first (the reply and the state, over a list of pairs), then `Handles` (the nodes). `IsStep` is
 -- both, between the states that the session stands for (`StandsFor`), with a well formed tree after it. `IsRun` is a
 -- list of commands with a reply to each, and `Runs`, which `run` cites, the same with the replies appended to a vector.
-use Rattle.std.specs.Prelude.{◌≡◌, ◌≤◌, ℕ, suc, List, [], length, insert, remove, slice_get, Option, Some, None, Vec}
+use Rattle.std.specs.Prelude.{◌≡◌, ℕ, suc, List, [], length, insert, remove, slice_get, Option, Some, None, Vec}
 use Rattle.std.specs.FinMap as finite
 use Rattle.std.specs.Ordering.{nat_cmp}
 use Rattle.btree_item.specs.Pairs.{KeyFits, found, found_value, before, with_value}

@@ -2,7 +2,7 @@
 -- says by `lends_inserted`, and `or_insert`, `or_insert_with`, `or_insert_with_key` and `or_default` by `entry_lends`, the
 -- clause that these four share: `entry-inserts` and `entry-refused` lead from it to them. `entry-keeps` is what they leave of a
 -- map in which the key is there.
-use Rattle.std.proofs.Common.{◌≡◌, ◌≤◌, ◌∙◌, ◌∷◌, [], ℕ, zero, suc, IfErr, IfSome, IsSome, OnOk, List, Option, Some, None, Result, Ok, Err, IsOk, ap, is_some, refl, option_map, set, slice_get, subst, sym, arith}
+use Rattle.std.proofs.Common.{◌≡◌, ◌≤◌, ◌∙◌, ◌∷◌, [], ℕ, zero, suc, IfSome, IsSome, OnOk, List, Option, Some, None, Result, ap, is_some, refl, option_map, set, slice_get, subst, sym, arith}
 use Rattle.std.proofs.lemmas.Option.{same_Some}
 use Rattle.std.proofs.lemmas.Result.{on_ok_weaker}
 use Rattle.std.specs.Option.{UnwrapsOrElse}
@@ -11,7 +11,6 @@ use Rattle.std.specs.declared.cmp.Ord as ord
 use Rattle.std.specs.declared.cmp.Ordering.{Ordering}
 use Rattle.std.specs.declared.cmp.PartialEq as eq
 use Rattle.std.specs.declared.cmp.PartialOrd as partial
-use Rattle.btree_store.specs.Content.{Content}
 use Rattle.btree_store.specs.ContentLaws.{len-insert_used}
 use Rattle.btree_item.specs.Pairs.{found}
 use Rattle.btree_item.specs.declared.address.Address.{Address}
@@ -21,8 +20,8 @@ use Rattle.btree_node.specs.Node.{view_of}
 use Rattle.btree_node.specs.declared.nodes.Nodes as nodes
 use Rattle.btree_node.specs.declared.nodes.NodesMut as nodes_mut
 use Rattle.btree_view.specs.View.{item_at_offset}
-use Rattle.btree_shape.specs.TreeState.{TreeState, IsBTree, pairs_of}
-use Rattle.btree_edit.specs.Insert.{InsertsByKey, IsRefusedAtGap}
+use Rattle.btree_shape.specs.TreeState.{TreeState, pairs_of}
+use Rattle.btree_edit.specs.Insert.{IsRefusedAtGap}
 use Rattle.btree_edit.specs.Exchange.{IsValueExchanged}
 use Rattle.btree_edit.specs.ValueWritten.{item_written, node_written, value_written}
 use Rattle.btree_map.specs.Entry.{IsRefusedEntry, WritesEntry, asked_key, entry_map, entry_pair, entry_value}

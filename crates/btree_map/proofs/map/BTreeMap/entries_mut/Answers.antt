@@ -1,4 +1,4 @@
-use Rattle.std.proofs.Common.{◌∙◌, ap, arith, drop, sym, take}
+use Rattle.std.proofs.Common.{ap, arith, drop, sym, take}
 use Rattle.btree_shape.specs.TreeAddresses.{item_addresses_of}
 use Rattle.btree_shape.specs.TreeState.{pairs_of}
 use Rattle.btree_map.proofs.IndexLemmas.{index-is}
