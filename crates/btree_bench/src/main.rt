@@ -210,7 +210,10 @@ fn measure_collect<C: NodesMut<u64, u64> + Drop>(
     is_timed: bool,
     origin: C::Origin,
     from: &BTreeMap<u64, u64, C>,
-) -> io::Result<()> {
+) -> io::Result<()>
+where
+    C::Origin: Copy,
+{
     let since = Instant::now(rt)?;
     let map = collect(origin, from)?;
     report(
