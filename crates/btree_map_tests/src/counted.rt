@@ -139,17 +139,22 @@ fn ascending_keys_are_compared_once(rt: HostRuntime) {
     extends_in::<Store<'_>>(&rt, &compared, rt.alloc());
 }
 
-// Extends an empty set by 44 ascending elements, which make 43 comparisons, and by two that are not above the last one. The first of these
-// makes one more than an insertion, and the other as many as an insertion.
+// Makes a set of 44 ascending elements by 43 comparisons, and extends it by the next 44, by one each. Of two that are not above the last one,
+// the first makes one more than an insertion, and the other as many as an insertion.
 fn extends_set<'a, C: NodesMut<Counted<'a>, ()> + Drop>(
     rt: &impl Abort,
     compared: &'a Cell<u32>,
-    mut set: BTreeSet<Counted<'a>, C>,
+    origin: C::Origin,
 ) {
-    let mut ascending = (0..44u32).map(move |number| Counted { number, compared });
-    compared.set(0);
-    assert_true(rt, set.extend(&mut ascending).is_ok());
+    let mut low = (0..44u32).map(move |number| Counted { number, compared });
+    let Ok(set) = BTreeSet::<Counted<'a>, C>::from_iter(origin, &mut low) else {
+        panic!(rt; "refused")
+    };
+    let mut set = set;
     assert_same(rt, compared.replace(0), 43);
+    let mut high = (44..88u32).map(move |number| Counted { number, compared });
+    assert_true(rt, set.extend(&mut high).is_ok());
+    assert_same(rt, compared.replace(0), 44);
     for number in 30..32u32 {
         let inserted = set.insert(Counted { number, compared }).ok();
         assert_same(rt, inserted, Some(false));
@@ -163,6 +168,5 @@ fn extends_set<'a, C: NodesMut<Counted<'a>, ()> + Drop>(
 #[test]
 fn ascending_elements_are_compared_once(rt: HostRuntime) {
     let compared = Cell::new(0u32);
-    let set: BTreeSet<Counted<'_>, SlabStore<Node<Counted<'_>, ()>>> = BTreeSet::new(rt.alloc());
-    extends_set(&rt, &compared, set);
+    extends_set::<SlabStore<Node<Counted<'_>, ()>>>(&rt, &compared, rt.alloc());
 }
