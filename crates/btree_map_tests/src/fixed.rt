@@ -6,6 +6,7 @@ use btree_item::Cause;
 use btree_map::BTreeMap;
 use btree_node::{CloneNodes, Node, NodesMut};
 use btree_stores::FixedSlab;
+use std::io;
 use std::process::Abort;
 
 pub(crate) type Table<const N: usize> = FixedSlab<Node<u64, u64>, N>;
@@ -63,6 +64,16 @@ fn append_to_one<C: NodesMut<u64, u64> + Drop>(
     check_pairs(rt, &other, &[(9, 91)]);
 }
 
+// Sets a value by an update. A refusal is an error of input and output.
+fn set_value<C: NodesMut<u64, u64>>(
+    map: &mut BTreeMap<u64, u64, C>,
+    key: u64,
+    value: u64,
+) -> io::Result<Option<u64>> {
+    let old = map.update(key, |old| (Some(value), old))?;
+    Ok(old)
+}
+
 // Updates an absent key of such a map, which is refused, and then one that is there.
 fn update_in_one<C: NodesMut<u64, u64> + Drop>(rt: &impl Abort, mut map: BTreeMap<u64, u64, C>) {
     match map.update(8, |old| (Some(80), old.is_none())) {
@@ -73,6 +84,11 @@ fn update_in_one<C: NodesMut<u64, u64> + Drop>(rt: &impl Abort, mut map: BTreeMa
             assert_same(rt, action(None), (Some(80), true));
         }
     }
+    match set_value(&mut map, 8, 80) {
+        Ok(_) => panic!(rt; "not refused"),
+        Err(error) => assert_same(rt, error.kind(), io::ErrorKind::OutOfMemory),
+    }
+    assert_same(rt, set_value(&mut map, 7, 77).ok(), Some(Some(70)));
     assert_same(rt, map.len(), 8);
     assert_same(rt, map.update(3, |_| (None, 7u64)).ok(), Some(7));
     assert_same(rt, (map.len(), map.get(&3).copied()), (7, None));
