@@ -1,16 +1,18 @@
 -- Insertions at the end of a map.
-use Rattle.std.proofs.Common.{◌≡◌, ◌≤◌, ◌∙◌, ◌-◌, List, Some, None, IsSome, refl, sym, ap, subst, arith, length, slice_get}
+use Rattle.std.proofs.Common.{◌≡◌, ◌≤◌, ◌∙◌, Option, true, Bool, ◌↔◌, ◌==◌, ◌-◌, List, Some, None, IsSome, refl, sym, ap, subst, arith, length, slice_get}
 use Rattle.std.proofs.lemmas.List.Edits.{length-insert}
-use Rattle.std.proofs.lemmas.Option.{slice_get_within}
+use Rattle.std.proofs.lemmas.Option.{same_Some, slice_get_within}
 use Rattle.std.specs.Cmp.{IsTotalOrder}
+use Rattle.std.specs.Ordering.{ordering_index}
 use Rattle.std.specs.declared.cmp.Ordering.{Ordering}
+use Rattle.std.specs.declared.cmp.Ordering.TheVariants.{Equal, Greater, Less}
 use Rattle.btree_item.specs.Pairs.{Ascends, KeyFits, before, found, inserted}
 use Rattle.btree_item.proofs.PairEdits.{before-from_KeyFits, found-from_KeyFits, slice_get-insert}
 use Rattle.btree_item.specs.declared.address.Address.{Address}
-use Rattle.btree_shape.specs.TreeState.{TreeState, pairs_of}
+use Rattle.btree_shape.specs.TreeState.{TreeState, item_of, pairs_of}
 use Rattle.btree_shape.proofs.Options.{else-none}
 use Rattle.btree_edit.specs.InsertAbsent.{InsertsAbsent}
-use Rattle.btree_map.specs.Ascending.{IsAboveLast, IsLastPair}
+use Rattle.btree_map.specs.Ascending.{GoesLast, IsAboveLast, IsLastPair}
 use Rattle.btree_map.proofs.EntryLemmas.{item-valid}
 
 module _ {K V : Type 0} (cmp : K → K → Ordering) (laws : IsTotalOrder cmp) (k : K) (s : TreeState K V) (up : Ascends cmp (pairs_of s))
@@ -54,3 +56,27 @@ module _ {K V : Type 0} (cmp : K → K → Ordering) (laws : IsTotalOrder cmp) (
             item = is.item ∙ sym (ap (λ l. slice_get l p) is.pairs ∙ slice_get-insert xs p (k, w) within);
           };
         }
+
+-- whether an ordering is `Less`, by its number
+less-tells : (o : Ordering) → (ordering_index o == 0) ≡ true ↔ o ≡ Less
+less-tells Less = (λ t. refl, λ e. refl)
+less-tells Equal = (λ t. absurd (cc), λ e. absurd (cc))
+less-tells Greater = (λ t. absurd (cc), λ e. absurd (cc))
+
+-- the key of the last pair tells whether a key goes behind it
+module _ {K V : Type 0} (cmp : K → K → Ordering) (k : K) (s : TreeState K V) (a : Address) (last : IsLastPair s a) (x : K × V) (read : item_of s a ≡ Some x) where
+  last-listed : slice_get (pairs_of s) (length (pairs_of s) - 1) ≡ Some x
+  last-listed =
+      let place : length (pairs_of s) - 1 ≡ last.place = omega (arith, last.last) in
+      ap (slice_get (pairs_of s)) place ∙ sym last.here.item ∙ read
+
+  pub goes-last : (given : Option Address) → given ≡ Some a → (is : Ordering) → is ≡ cmp x.0 k → (tells : Bool) → tells ≡ (ordering_index is == 0)
+      → (tells ≡ true) ↔ GoesLast cmp k given s
+  goes-last given some is compared tells told = (
+    λ t.
+        let less : cmp x.0 k ≡ Less = sym compared ∙ (less-tells is).0 (sym told ∙ t) in (
+          λ y at. subst (λ (z : K × V). cmp z.0 k ≡ Less) (same_Some x y (sym last-listed ∙ at)) less,
+          λ none. absurd (cc),
+        ),
+    λ goes. told ∙ (less-tells is).1 (compared ∙ goes.0 x last-listed),
+  )

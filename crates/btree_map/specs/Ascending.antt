@@ -1,5 +1,5 @@
 -- The end of a map, where the pairs of an ascending source go.
-use Rattle.std.specs.Prelude.{◌≡◌, ◌-◌, ℕ, suc, List, Some, length, slice_get}
+use Rattle.std.specs.Prelude.{◌≡◌, ◌-◌, ℕ, suc, List, [], Option, None, Some, length, slice_get}
 use Rattle.std.specs.declared.cmp.Ordering.{Ordering}
 use Rattle.std.specs.declared.cmp.Ordering.TheVariants.{Less}
 use Rattle.btree_item.specs.declared.address.Address.{Address}
@@ -15,3 +15,8 @@ pub record IsLastPair {K V : Type 0} (s : TreeState K V) (a : Address) : Type 0 
 -- the key is greater than that of the last pair, if there is one
 abbrev pub IsAboveLast : {K V : Type 0} → (K → K → Ordering) → K → List (K × V) → Type 0
 IsAboveLast {K} {V} cmp k xs = (x : K × V) → slice_get xs (length xs - 1) ≡ Some x → cmp x.0 k ≡ Less
+
+-- the key goes behind the last pair, and no search is needed to know it: it is greater than that of the last pair, whose address is given, or
+-- there are no pairs
+abbrev pub GoesLast : {K V : Type 0} → (K → K → Ordering) → K → Option Address → TreeState K V → Type 0
+GoesLast cmp k last s = IsAboveLast cmp k (pairs_of s) × (last ≡ None → pairs_of s ≡ [])

@@ -1,12 +1,12 @@
 //! Insertion of the pairs that an iterator gives.
-ghost use Rattle.std.specs.Prelude.{◌≡◌, IfErr, IfOk, IfSome, IsTrue, None, OnErr, OnOk};
+ghost use Rattle.std.specs.Prelude.{◌≡◌, ◌↔◌, IfErr, IfOk, IfSome, IsSome, IsTrue, None, OnErr, OnOk};
 ghost use Rattle.std.specs.Iterator.{IsFinite};
 ghost use Rattle.std.specs.Mem.{FitsInMemory};
 ghost use Rattle.btree_node.specs.contracts.node.Node.{the_row as node_row};
 ghost use Rattle.btree_item.specs.Pairs.{found, inserted};
 ghost use Rattle.btree_shape.specs.TreeState.{pairs_of, unlimited};
 ghost use Rattle.btree_edit.specs.Insert.{IsRefusedAtGap};
-ghost use Rattle.btree_map.specs.Ascending.{IsAboveLast, IsLastPair};
+ghost use Rattle.btree_map.specs.Ascending.{GoesLast, IsLastPair};
 ghost use Rattle.btree_map.specs.Extension.{Adds, AddsUntil, Collects, CollectsUntil, RefusesInTurn, copied_steps};
 
 use crate::BTreeMap;
@@ -15,15 +15,14 @@ use btree_item::{Address, Refused};
 use btree_node::NodesMut;
 use std::cmp::Ordering;
 
-// Returns `true` only if a key is greater than that of the last pair, or if there are no pairs. It compares the key with that of the last
-// pair, if its address is given, and no other.
+// Returns whether a key is greater than that of the last pair, whose address is given, or there are no pairs. It compares no other key.
 fn is_above<K: Ord + Drop, V: Drop, C: NodesMut<K, V>>(
     map: &BTreeMap<K, V, C>,
     last: Option<Address>,
     key: &K,
 ) -> bool
     requires { IfSome last (IsLastPair map.now) }
-    ensures { IsTrue result → IsAboveLast K.cmp key.now (pairs_of map.now) }
+    ensures { IsTrue result ↔ GoesLast K.cmp key.now last map.now }
 {
     match last {
         Some(at) => map.pair_at(at).0.cmp(key) == Ordering::Less,
@@ -31,8 +30,9 @@ fn is_above<K: Ord + Drop, V: Drop, C: NodesMut<K, V>>(
     }
 }
 
-/// Inserts a pair as `insert` does, but first compares its key with that of the last pair, if the address of that is given, and if it is
-/// greater compares it with no other. Returns the address of the last pair, if that is known now. It fails as `insert` does.
+/// Inserts a pair, for types that stand on a map. It leaves the list that `insert` leaves, drops a value that it replaces, and fails as
+/// `insert` does. First it compares the key with that of the last pair, if the address of that is given, and if it is greater with no other.
+/// Returns the address of the last pair, if that is known now.
 pub fn insert_in_order<K: Ord + Drop, V: Drop, C: NodesMut<K, V>>(
     map: &mut BTreeMap<K, V, C>,
     last: Option<Address>,
@@ -42,6 +42,7 @@ pub fn insert_in_order<K: Ord + Drop, V: Drop, C: NodesMut<K, V>>(
     requires { IfSome last (IsLastPair map.old) }
     ensures inserted { OnOk result (pairs_of map.new ≡ inserted K.cmp key value (pairs_of map.old)) }
     ensures last { IfOk result (λ at. IfSome at (IsLastPair map.new)) }
+    ensures known { IfOk result (λ at. GoesLast K.cmp key last map.old → IsSome at) }
     ensures uncounted { OnOk result (map.new.kept ≡ map.old.kept) }
 
     ensures returned { IfErr result (λ r. (r.key ≡ key) × (r.value ≡ value)) }
@@ -131,8 +132,8 @@ impl<K: Ord + Drop, V: Drop, C: NodesMut<K, V>> BTreeMap<K, V, C> {
         Ok(())
     }
 
-    /// Returns a map of the pairs that `source` gives, over an empty store made from `origin`. Later pairs replace the values of earlier
-    /// ones, as `insert` does. Returns the first pair that is refused, with the map of those before it; those after it are still in
+    /// Returns a map of the pairs that `source` gives, over an empty store made from `origin`. It inserts them by `extend`, so later pairs
+    /// replace the values of earlier ones. Returns the first pair that is refused, with the map of those before it; those after it are still in
     /// `source`.
     ///
     /// The contract requires that `source` ends, and that a node fits in memory, as `new` does.

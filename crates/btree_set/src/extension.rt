@@ -1,11 +1,11 @@
 //! Insertion of many elements.
-ghost use Rattle.std.specs.Prelude.{◌≡◌, [], IfErr, IfOk, IfSome, None, OnErr, OnOk};
+ghost use Rattle.std.specs.Prelude.{◌≡◌, [], IfErr, IfOk, IfSome, IsSome, None, OnErr, OnOk};
 ghost use Rattle.std.specs.Iterator.{IsFinite};
 ghost use Rattle.std.specs.Mem.{FitsInMemory};
 ghost use denote.Plain.{Nothing as unit_row};
 ghost use Rattle.btree_node.specs.contracts.node.Node.{the_row as node_row};
 ghost use Rattle.btree_shape.specs.TreeState.{unlimited};
-ghost use Rattle.btree_map.specs.Ascending.{IsLastPair};
+ghost use Rattle.btree_map.specs.Ascending.{GoesLast, IsLastPair};
 ghost use Rattle.btree_set.specs.Elements.{IsRefused, inserted, stored};
 ghost use Rattle.btree_set.specs.Extension.{Adds, AddsAll, AddsUntil, Collects, CollectsUntil, MovesEach, MovesUntil, RefusesInTurn, SwapsIntoEmpty, copied_steps};
 
@@ -50,6 +50,7 @@ impl<T: Ord + Drop, C: NodesMut<T, ()>> BTreeSet<T, C> {
         requires { IfSome last (IsLastPair self.old.tree) }
         ensures inserted { OnOk result (self.new.elements ≡ inserted T.cmp element self.old.elements) }
         ensures last { IfOk result (λ at. IfSome at (IsLastPair self.new.tree)) }
+        ensures known { IfOk result (λ at. GoesLast T.cmp element last self.old.tree → IsSome at) }
         ensures uncounted { OnOk result (self.new.kept ≡ self.old.kept) }
 
         ensures returned { IfErr result (λ r. r.key ≡ element) }
@@ -122,8 +123,8 @@ impl<T: Ord + Drop, C: NodesMut<T, ()>> BTreeSet<T, C> {
         Ok(())
     }
 
-    /// Returns a set of the elements that `source` gives, over an empty store made from `origin`. Of equal elements the first one stays, as
-    /// `insert` does it. Returns the first element that is refused, with the set of those before it; those after it are still in `source`.
+    /// Returns a set of the elements that `source` gives, over an empty store made from `origin`. It inserts them by `extend`, so of equal
+    /// elements the first one stays. Returns the first element that is refused, with the set of those before it; those after it are still in `source`.
     ///
     /// The contract requires that `source` ends, and that a node fits in memory, as `new` does.
     pub fn from_iter<I: Iterator<Item = T>>(

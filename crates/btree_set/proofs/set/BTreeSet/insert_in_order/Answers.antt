@@ -1,7 +1,7 @@
 use Rattle.std.proofs.Common.{◌∙◌, IfSome, ap, subst, sym}
 use Rattle.std.specs.Map.{keys_of}
 use Rattle.btree_shape.specs.TreeState.{pairs_of}
-use Rattle.btree_map.specs.Ascending.{IsLastPair}
+use Rattle.btree_map.specs.Ascending.{GoesLast, IsLastPair}
 use Rattle.btree_set.specs.Elements.{SetState}
 use Rattle.btree_set.proofs.KeyLemmas.{absent-keys, gap-refused, inserted-keys}
 use Rattle.btree_set.proofs.set.BTreeSet.insert_in_order.Goals as goal
@@ -17,3 +17,7 @@ returns-in-Err-clause-absent g c = rw (← c.self.view_is) (absent-keys g.T.Ord.
 
 pub returns-in-Err-clause-cause : goal.returns-in-Err-clause-cause
 returns-in-Err-clause-cause g c = rw (← c.self.view_is) (gap-refused g.C.NodesMut.MayRefuse g.T.Ord.cmp c.args.element c.self.inside.map c.insert_in_order.new.map c.in-Err.refused.cause c.in-Err.ensures.cause)
+
+pub returns-in-Ok-clause-known : goal.returns-in-Ok-clause-known
+returns-in-Ok-clause-known g c = λ goes.
+    c.in-Ok.ensures.known (subst (λ (s : SetState _). GoesLast g.T.Ord.cmp c.args.element c.args.last s.tree) (sym c.self.view_is) goes)
