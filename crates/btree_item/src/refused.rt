@@ -31,6 +31,22 @@ pub struct UpdateRefused<K, F> {
     pub action: F,
 }
 
+/// The cause of a refusal as an error of memory, for `?`.
+impl From<Cause> for AllocError {
+    fn from(_cause: Cause) -> AllocError {
+        AllocError
+    }
+}
+
+/// The cause of a refusal as an error of input and output, of the kind `OutOfMemory`.
+impl From<Cause> for io::Error {
+    ghost from_gives = { λ _ error. error_kind error ≡ OutOfMemory };
+
+    fn from(_cause: Cause) -> io::Error {
+        io::Error::from(io::ErrorKind::OutOfMemory)
+    }
+}
+
 /// A refused insertion as an error of memory, for `?`. The key and the value are dropped.
 impl<K: Drop, V: Drop> From<Refused<K, V>> for AllocError {
     fn from(_refused: Refused<K, V>) -> AllocError {
