@@ -60,3 +60,7 @@ returns-then-child_count-gt0-clause-not_added g c = (
   children-there c.args.tree.now.nodes c.args.id c.node_mut-node.result.now c.node_mut-node.ensures.value c.child_count.result c.child_count.ensures.value
       c.if-child_count-gt0.true,
 )
+
+pub returns-then-child_count-gt0-clause-unchanged : goal.returns-then-child_count-gt0-clause-unchanged
+returns-then-child_count-gt0-clause-unchanged g c =
+    same-state c.args.tree.now c.args.id c.node_mut-node.result.now c.node_mut-node.result.now c.node_mut-node.ensures.value refl

@@ -23,3 +23,6 @@ pub returns-clause-count : goal.returns-clause-count
 returns-clause-count g c =
     ap (option_map size_of) (here-at c.args.tree.now.nodes c.args.id c.node_mut-node.result.now c.node_mut-node.ensures.value)
     ∙ ap Some (sym c.item_count-count.ensures.value)
+
+pub node_mut-node-requires : goal.node_mut-node-requires
+node_mut-node-requires g c = (c.tell_fits.ensures, c.requires)

@@ -16,3 +16,6 @@ returns-in-Some g c = record {
 
 pub returns-in-None : goal.returns-in-None
 returns-in-None g c = record { nodes = reparents-no (node_map c.args.tree.now) c.args.parent c.args.child c.in-None.is; rest = record { rest = refl } }
+
+pub set_parent-requires-clause-number : goal.set_parent-requires-clause-number
+set_parent-requires-clause-number g c = c.requires.number

@@ -1,4 +1,4 @@
-use Rattle.std.proofs.Common.{refl, sym}
+use Rattle.std.proofs.Common.{refl, rules, sym}
 use Rattle.std.specs.FinMap as map
 use Rattle.btree_raw.proofs.SingleNodeLemmas.{first-at, gains-first, room-for}
 use Rattle.btree_raw.proofs.StateLemmas.{used-here}
@@ -23,3 +23,6 @@ returns-clause-first g c =
 
 pub child_id_opt-first-requires : goal.child_id_opt-first-requires
 child_id_opt-first-requires g c = c.tell_fits.ensures
+
+pub tell_fits-requires : goal.tell_fits-requires
+tell_fits-requires g c κs = search rules steps 200000

@@ -33,3 +33,15 @@ pub returns-clause-first : goal.returns-clause-first
 returns-clause-first g c =
     ap (option_map first_in) (sym (right-same (node_map c.args.tree.now) c.args.siblings c.requires (node_map c.take_last.new.tree) c.in-Ok.up c.in-Ok.child c.in-Ok.ensures.taken.nodes (node_map c.change_separator-down.new.tree) c.change_separator-down.result c.change_separator-down.ensures.nodes))
     ∙ c.put_first-first.ensures.first
+
+pub returns-in-Err-clause-short : goal.returns-in-Err-clause-short
+returns-in-Err-clause-short g c = c.in-Err.ensures.short
+
+pub returns-in-Err-clause-unchanged : goal.returns-in-Err-clause-unchanged
+returns-in-Err-clause-unchanged g c = c.in-Err.ensures.unchanged
+
+pub returns-clause-count : goal.returns-clause-count
+returns-clause-count g c = c.in-Ok.ensures.count
+
+pub returns-clause-spare : goal.returns-clause-spare
+returns-clause-spare g c = c.in-Ok.ensures.spare

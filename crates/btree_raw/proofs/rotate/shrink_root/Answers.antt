@@ -57,3 +57,6 @@ returns-clause-count g c =
 
 pub child_id_opt-first-requires : goal.child_id_opt-first-requires
 child_id_opt-first-requires g c = c.tell_fits.ensures
+
+pub returns-clause-few : goal.returns-clause-few
+returns-clause-few g c = c.clear_parent-held.ensures.few

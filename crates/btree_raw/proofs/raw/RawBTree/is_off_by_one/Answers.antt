@@ -10,3 +10,6 @@ returns-in-None g c = rw (← c.self.view_is) (no-root-off g.K.Ord.cmp _ c.args.
 
 pub tell_fits-requires : goal.tell_fits-requires
 tell_fits-requires g c κs = search rules steps 200000
+
+pub is_off_by_one-requires : goal.is_off_by_one-requires
+is_off_by_one-requires g c = c.tell_fits.ensures

@@ -21,3 +21,6 @@ tell_fits-requires g c κs = search rules steps 200000
 
 pub get-requires : goal.get-requires
 get-requires g c = c.tell_fits.ensures
+
+pub item-requires : goal.item-requires
+item-requires g c = c.tell_fits.ensures

@@ -13,3 +13,6 @@ returns-clause-value g c = grind (arith, common_steps) steps 300000
 
 pub returns-clause-number : goal.returns-clause-number
 returns-clause-number g c = grind (arith, common_steps) steps 300000
+
+pub get-requires : goal.get-requires
+get-requires g c = assumption
