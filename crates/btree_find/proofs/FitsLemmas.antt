@@ -9,7 +9,7 @@ use Rattle.btree_view.specs.View.{NodeMap, item_in}
 use Rattle.btree_shape.specs.Place.{IsOccupied, IsPlace, IsPlaceOf, IsSubtreeAt}
 use Rattle.btree_shape.specs.TreeState.{TreeState, IsBTree, IsOccupiedIn, IsPlaceIn, item_of, node_map, pairs_of}
 use Rattle.btree_shape.specs.Focus.Positions.{address_at, address_before}
-use Rattle.btree_find.specs.Fits.{FitsIn, ReplacesAt, pairs_below}
+use Rattle.btree_find.specs.Fits.{FitsAt, FitsIn, ReplacesAt, pairs_below}
 use Rattle.btree_find.proofs.PlaceLemmas.{item-here}
 use Rattle.btree_find.specs.Navigation.{HasPlace, IsItemAt, IsItemBefore, IsNext, IsNormalized, IsPrevious}
 
@@ -111,10 +111,34 @@ module _ {K V : Type 0} (cmp : K → K → Ordering) (k : K) (s : TreeState K V)
   abbrev pub Smaller : K × V → Type 0
   Smaller x = cmp k x.0 ≡ Less
 
+  module _ (p : Option Address) (previous : IsPrevious s a p) where
+    pub fits-above : FitsAt cmp k s a → OfItem s Greater p
+    fits-above f =
+        let e = previous.has.only f.place f.has.at in
+        on-before s Greater previous.place p previous.item (λ q x is at. f.fits.above q x (is ∙ sym e) at)
+
   module _ (p n : Option Address) (previous : IsPrevious s a p) where
     module _ (here : IsNormalized s a n) where
       same : previous.place ≡ here.place
       same = here.has.only previous.place previous.has.at
+
+      pub fits-by : OfItem s Greater p → OfItem s Smaller n → FitsAt cmp k s a
+      fits-by above below = record {
+        place = previous.place;
+        has = previous.has;
+        fits = record {
+          within = place-low (node_map s) (pairs_of s) s.root a.id a.offset previous.place previous.has.at;
+          above = at-before s Greater previous.place p previous.item above;
+          below = λ x e. at-item s Smaller here.place n here.item below x
+              (subst (λ q. slice_get (pairs_of s) q ≡ Some x) same e);
+        };
+      }
+
+      pub fits-below : FitsAt cmp k s a → OfItem s Smaller n
+      fits-below f =
+          let e = here.has.only f.place f.has.at in
+          on-item s Smaller here.place n here.item
+          (λ x at. f.fits.below x (subst (λ q. slice_get (pairs_of s) q ≡ Some x) (sym e) at))
 
     module _ (next : IsNext s a n) where
       same-next : previous.place ≡ next.place

@@ -1,5 +1,4 @@
-use Rattle.std.proofs.Common.{◌≡◌, ◌∙◌, ℕ, sym, ap, subst, arith}
-use Rattle.std.proofs.lemmas.Grind.{common_steps}
+use Rattle.std.proofs.Common.{◌≡◌, ◌∙◌, ℕ, Option, sym, ap, subst, arith}
 use Rattle.btree_node.specs.Node.{view_of}
 use Rattle.btree_shape.specs.Focus.Positions.{address_at, address_before}
 use Rattle.btree_shape.specs.TreeState.{IsValidIn}
@@ -30,7 +29,7 @@ returns-then-is_above g c =
     let p = c.previous_item_address.result in
     let n = c.normalize.result in
     let b = spans cmp g.met.K.Ord.total s c.requires.tree id c.requires.used c.node.result.now c.node.ensures.value in
-    let first : c.new-start.result ≡ address_before id = grind (arith, common_steps) steps 300000 in
+    let first : c.new-start.result ≡ address_before id = c.new-start.ensures ∙ ap (λ (o : Option ℕ). record { id = id; offset = o }) c.before-2.ensures in
     let previous : IsPrevious s (address_before id) p = subst (λ a. IsPrevious s a p) first c.previous_item_address.ensures in
     let few = c.item_count-count.ensures.fits in
     let is =
@@ -47,10 +46,24 @@ returns-else-is_above g c =
     let id = c.args.id in
     let b = spans g.K.Ord.cmp g.met.K.Ord.total s c.requires.tree id c.requires.used c.node.result.now c.node.ensures.value in
     let p = c.previous_item_address.result in
-    let first : c.new-start.result ≡ address_before id = grind (arith, common_steps) steps 300000 in
+    let first : c.new-start.result ≡ address_before id = c.new-start.ensures ∙ ap (λ (o : Option ℕ). record { id = id; offset = o }) c.before-2.ensures in
     let previous : IsPrevious s (address_before id) p = subst (λ a. IsPrevious s a p) first c.previous_item_address.ensures in (
       λ t. absurd (cc),
       λ f.
           c.is_above.ensures.1
           (fits-in-above g.K.Ord.cmp c.args.key.now s id (size_of (view_of c.node.result.now)) b.start b.begins b.ends p previous f),
     )
+
+pub node-requires : goal.node-requires
+node-requires g c = (c.tell_fits.ensures, c.requires.used)
+
+pub item_count-count-requires : goal.item_count-count-requires
+item_count-count-requires g c = c.tell_fits.ensures
+
+pub previous_item_address-requires-clause-valid : goal.previous_item_address-requires-clause-valid
+previous_item_address-requires-clause-valid g c =
+    let s = c.args.tree.now in
+    let id = c.args.id in
+    let b = spans g.K.Ord.cmp g.met.K.Ord.total s c.requires.tree id c.requires.used c.node.result.now c.node.ensures.value in
+    let first : c.new-start.result ≡ address_before id = c.new-start.ensures ∙ ap (λ (o : Option ℕ). record { id = id; offset = o }) c.before-2.ensures in
+    subst (λ a. IsValidIn s a) (sym first) b.first
