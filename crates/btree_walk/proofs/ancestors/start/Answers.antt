@@ -1,4 +1,4 @@
-use Rattle.std.proofs.Common.{sym, ap, subst, ◌∙◌, ◌++◌, arith, append-nil, rules}
+use Rattle.std.proofs.Common.{sym, ap, subst, ◌∙◌, ◌++◌, arith, append-nil, refl, rules}
 use Rattle.std.specs.FinMap as map
 use Rattle.btree_shape.specs.Remaining.{remaining_above}
 use Rattle.btree_shape.specs.Represents.{represented}
@@ -7,7 +7,6 @@ use Rattle.btree_shape.specs.WellFormed.{IsWellFormed}
 use Rattle.btree_walk.specs.Rows.{rows_of}
 use Rattle.btree_walk.proofs.IterLemmas.{root-under}
 use Rattle.btree_walk.proofs.ancestors.start.Goals as goal
-use Rattle.std.proofs.lemmas.Grind.{common_steps}
 
 pub descend-requires : goal.descend-requires
 descend-requires g c =
@@ -41,10 +40,10 @@ pub root_id-requires : goal.root_id-requires
 root_id-requires g c κs = search rules steps 200000
 
 pub returns-in-Some-clause-above : goal.returns-in-Some-clause-above
-returns-in-Some-clause-above g c = search rules steps 200000
+returns-in-Some-clause-above g c = c.descend.ensures.above
 
 pub returns-in-None-clause-above : goal.returns-in-None-clause-above
-returns-in-None-clause-above g c = grind (arith, common_steps) steps 1500000
+returns-in-None-clause-above g c = rw c.requires.none tt
 
 pub returns-in-None-clause-left : goal.returns-in-None-clause-left
-returns-in-None-clause-left g c = grind (arith, common_steps) steps 1500000
+returns-in-None-clause-left g c = rw (c.requires.none, ← c.in-None.ensures.value) refl

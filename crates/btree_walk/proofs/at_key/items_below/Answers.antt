@@ -18,3 +18,6 @@ pub returns-in-Err : goal.returns-in-Err
 returns-in-Err g c =
     below-err (place_of g.K.Ord.cmp c.args.key.now (items_of (view_of c.args.node.now))) (children_of (view_of c.args.node.now)) c.in-Err.gap
     c.in-Err.ensures.value
+
+pub offset_of-requires : goal.offset_of-requires
+offset_of-requires g c = (assumption, c.requires)

@@ -1,3 +1,4 @@
+use Rattle.std.proofs.Common.{arith}
 use Rattle.btree_item.specs.Pairs.{place_of}
 use Rattle.btree_node.specs.Node.{view_of}
 use Rattle.btree_view.specs.View.{children_of, items_of}
@@ -18,3 +19,12 @@ pub returns-in-Err-clause-value : goal.returns-in-Err-clause-value
 returns-in-Err-clause-value g c =
     up_to-err (place_of g.K.Ord.cmp c.args.key.now (items_of (view_of c.args.node.now))) (children_of (view_of c.args.node.now)) c.in-Err.gap
     c.in-Err.ensures.value
+
+pub offset_of-requires : goal.offset_of-requires
+offset_of-requires g c = (assumption, c.requires)
+
+pub returns-in-Ok-clause-within : goal.returns-in-Ok-clause-within
+returns-in-Ok-clause-within g c = let low = rw c.unwrap.ensures.value at c.in-Ok.ensures.within in omega (arith, low)
+
+pub returns-in-Err-clause-within : goal.returns-in-Err-clause-within
+returns-in-Err-clause-within g c = c.in-Err.ensures.within

@@ -1,4 +1,4 @@
-use Rattle.std.proofs.Common.{sym, ap, subst, ◌∙◌, ◌++◌, arith, rules}
+use Rattle.std.proofs.Common.{sym, ap, subst, ◌∙◌, ◌++◌, arith, refl, rules}
 use Rattle.std.specs.FinMap as map
 use Rattle.btree_node.proofs.NodeSizes.{fits-leaf}
 use Rattle.btree_shape.specs.Represents.{represented}
@@ -21,3 +21,24 @@ returns-clause-left g c =
     sym c.descend_last-kept.ensures.left
     ∙ ap (λ fs. preceding_above (node_map c.args.tree.now) (map.len c.args.tree.now.nodes) (rows_before fs) ++ represented (node_map c.args.tree.now) (map.len c.args.tree.now.nodes) c.in-Some.root) c.requires.none
     ∙ ap (λ r. pairs_under (node_map c.args.tree.now) r (map.len c.args.tree.now.nodes)) c.in-Some.ensures.value
+
+pub returns-in_default-clause-above : goal.returns-in_default-clause-above
+returns-in_default-clause-above g c = rw c.requires.none tt
+
+pub returns-in_default-clause-fetched : goal.returns-in_default-clause-fetched
+returns-in_default-clause-fetched g c = c.requires.fetched
+
+pub returns-in_default-clause-kept : goal.returns-in_default-clause-kept
+returns-in_default-clause-kept g c = refl
+
+pub returns-in_default-clause-left : goal.returns-in_default-clause-left
+returns-in_default-clause-left g c = rw (c.requires.none, ← c.in_default.ensures.value) refl
+
+pub returns-clause-above : goal.returns-clause-above
+returns-clause-above g c = c.descend_last-kept.ensures.above
+
+pub returns-clause-fetched : goal.returns-clause-fetched
+returns-clause-fetched g c = c.descend_last-kept.ensures.fetched
+
+pub returns-clause-kept : goal.returns-clause-kept
+returns-clause-kept g c = c.descend_last-kept.ensures.kept

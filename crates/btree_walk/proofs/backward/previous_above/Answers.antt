@@ -49,3 +49,24 @@ returns-clause-left g c =
 
 pub fetch_before-requires : goal.fetch_before-requires
 fetch_before-requires g c = (omega arith, (omega arith, (search rules, (c.descend_last-kept.ensures.above, c.descend_last-kept.ensures.fetched))))
+
+pub branch_before-requires : goal.branch_before-requires
+branch_before-requires g c = c.tell_fits.ensures
+
+pub overflow_add-passed : goal.overflow_add-passed
+overflow_add-passed g c = omega (arith, c.in-Some-branch_before.ensures.fits)
+
+pub returns-in-Some-branch_before-clause-above : goal.returns-in-Some-branch_before-clause-above
+returns-in-Some-branch_before-clause-above g c = c.descend_last-kept.ensures.above
+
+pub returns-in-Some-branch_before-clause-fetched : goal.returns-in-Some-branch_before-clause-fetched
+returns-in-Some-branch_before-clause-fetched g c = c.fetch_before.ensures
+
+pub returns-in-Some-branch_before-clause-kept : goal.returns-in-Some-branch_before-clause-kept
+returns-in-Some-branch_before-clause-kept g c = c.descend_last-kept.ensures.kept
+
+pub returns-clause-fetched : goal.returns-clause-fetched
+returns-clause-fetched g c = c.loop-ancestor.invariant.fetched
+
+pub returns-clause-kept : goal.returns-clause-kept
+returns-clause-kept g c = tt

@@ -16,3 +16,6 @@ loop-preserved g c =
       left = rw c.in-Some.is (yields-less items n c.loop.run c.next_back.new.self c.next_back.result (subst (λ m. c.loop.run ≡ take m items) more left) (omega arith) c.next_back.ensures.steps);
       low = omega arith;
     }
+
+pub item_count-end-requires : goal.item_count-end-requires
+item_count-end-requires g c = assumption

@@ -14,3 +14,9 @@ returns-then-last-id-clause-fetched g c = rw c.pop.ensures.after (all-take _ (le
 
 pub returns-clause-fetched : goal.returns-clause-fetched
 returns-clause-fetched g c = rw c.pop.ensures.after (all-take _ (length c.args.fetched.now - 1) c.args.fetched.now c.requires.fetched)
+
+pub node-requires : goal.node-requires
+node-requires g c = (c.tell_fits.ensures, c.requires.here)
+
+pub returns-clause-value : goal.returns-clause-value
+returns-clause-value g c = c.node.ensures
