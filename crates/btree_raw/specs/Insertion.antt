@@ -4,7 +4,7 @@
 -- with a root the rebalanced content with the item (`IsPutAndRebalanced`), else one node (`IsOnlyItem`); `UsesNeeded`
 -- says how many nodes that took. `IsRefused` is the other outcome. An insertion is granted only where the length is below
 -- its limit (`IsBelowLimit`).
-use Rattle.std.specs.Prelude.{◌≡◌, ◌≢◌, ℕ, ◌+◌, ◌-◌, ◌^◌, ◌<◌, ◌≤◌, [], ◌∷◌, Option, Some, None}
+use Rattle.std.specs.Prelude.{◌≡◌, ◌≢◌, ℕ, ◌+◌, ◌≤◌, [], ◌∷◌, Option, Some, None}
 use Rattle.std.specs.FinMap as map
 use Rattle.std.specs.declared.cmp.Ordering.{Ordering}
 use Rattle.btree_store.specs.Content.{Content}

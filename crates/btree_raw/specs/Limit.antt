@@ -1,5 +1,5 @@
 -- The limit of a tree's length: how many pairs there may be. Insertions keep a tree within it; a raw tree may be beyond.
-use Rattle.std.specs.Prelude.{ℕ, ◌<◌, ◌≤◌}
+use Rattle.std.specs.Prelude.{◌<◌, ◌≤◌}
 use Rattle.std.specs.declared.cmp.Ordering.{Ordering}
 use Rattle.btree_shape.specs.TreeState.{TreeState, IsBTree}
 

@@ -1,5 +1,5 @@
 -- The focus moves from a node to its parent and to a child: the tree stays the same.
-use Rattle.std.proofs.Common.{◌≡◌, ◌++◌, ◌∷◌, [], ◌∙◌, ℕ, suc, List, sym, ap, subst, arith, append_assoc}
+use Rattle.std.proofs.Common.{◌≡◌, ◌++◌, ◌∷◌, ◌∙◌, ℕ, suc, List, sym, ap, subst, arith, append_assoc}
 use Rattle.btree_view.specs.View.{NodeMap}
 use Rattle.btree_shape.specs.Focus.Subtree.{IsFilled, IsFilledBelow, Subtree, count_at, items_under}
 use Rattle.btree_shape.specs.Focus.Path.{Path, Frame, HoldsAbove, SiblingsFilled, after_in, at_branch, at_first, before_in, fill, frame_count, items_after, items_before, least_at, parent_above, root_above, under}

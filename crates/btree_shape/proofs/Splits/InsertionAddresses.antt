@@ -1,5 +1,5 @@
 -- The positions in a leaf up to an offset: which addresses are before it, and how many items are.
-use Rattle.std.proofs.Common.{◌≡◌, ◌<◌, ◌≤◌, ◌++◌, ◌∷◌, [], ◌∙◌, ◌+◌, ℕ, zero, suc, inl, inr, List, length, Option, Some, None, refl, sym, ap, subst, arith, append_assoc}
+use Rattle.std.proofs.Common.{◌≡◌, ◌<◌, ◌++◌, ◌∷◌, [], ◌∙◌, ◌+◌, ℕ, suc, inl, inr, List, length, Option, Some, None, refl, sym, ap, subst, arith, append_assoc}
 use Rattle.btree_item.specs.declared.address.Address.{Address}
 use Rattle.btree_shape.specs.Focus.TreePositions.{IsAtBefore}
 use Rattle.btree_shape.specs.Focus.Positions.{IsAt, Position, address_before, mark, over, passed, address_at, positions_from, positions_to, path_after, path_before, all_positions}

@@ -1,2 +1,1 @@
 -- The list of a well formed tree without pairs.
-use Rattle.std.proofs.Common.{◌≡◌, [], ◌∷◌}
