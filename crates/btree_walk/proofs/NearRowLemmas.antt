@@ -23,7 +23,7 @@ use Rattle.btree_walk.specs.Rows.{rows_of}
 use Rattle.btree_walk.proofs.AtKeyLemmas.{remaining-parts}
 use Rattle.btree_walk.proofs.LevelLemmas.{IsLower, children-lower}
 use Rattle.btree_walk.proofs.NearLemmas.{ArePast, Searching, below-rises, cut-within, search-ends, search-on, search-past, search-split, within}
-use Rattle.btree_walk.proofs.RowLemmas.{take-more}
+use Rattle.btree_walk.proofs.RowLemmas.{take-more, take-none}
 use Rattle.btree_walk.proofs.WalkLemmas.{AreOpen, left_over, row_of, rows-of-push}
 
 module _ {K V : Type 0} {cmp : K → K → Ordering} (laws : IsTotalOrder cmp) (end : Bound K) (s : TreeState K V) (whole : List (K × V)) where
@@ -95,10 +95,6 @@ module _ {K V : Type 0} {cmp : K → K → Ordering} (laws : IsTotalOrder cmp) (
     leaf-ends up cut =
         let search = leaf-search true cut in
         search-ends laws end whole up last [] (cut.outside ++ above) search (leaf-past up cut.outside cut.next search) last (None, refl, refl)
-
-  take-none : {X : Type 0} (xs : List X) → take 0 xs ≡ []
-  take-none [] = refl
-  take-none (x ∷ xs) = refl
 
   -- the last pair within the bound is under the child of a branch, or it is the branch's item, or another one
   pub record IsNear (other : Option (K × V)) (branch : Option ((K × V) × ℕ)) : Type 0 where

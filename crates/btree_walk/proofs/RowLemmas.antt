@@ -10,6 +10,11 @@ use Rattle.btree_shape.specs.Represents.{represented}
 use Rattle.btree_shape.proofs.LookUp.Walk.{under-internal}
 use Rattle.btree_walk.specs.Preceding.{AreRowsBefore, preceding_above, preceding_in, with_child_before}
 
+-- no elements of a list
+pub take-none : {X : Type 0} (xs : List X) → take 0 xs ≡ []
+take-none [] = refl
+take-none (x ∷ xs) = refl
+
 -- one element more
 pub take-more : {X : Type 0} (xs : List X) (n : ℕ) (x : X) → slice_get xs n ≡ Some x → take (suc n) xs ≡ take n xs ++ x ∷ []
 take-more [] n x e = absurd (cc)

@@ -25,7 +25,7 @@ use Rattle.btree_walk.specs.declared.ancestors.Ancestor.{Ancestor}
 use Rattle.btree_walk.proofs.AtKeyLemmas.{child-under, cut-list, cut-low, gap-none, gap-of, hit-of, node-rises, pair-left, pair-right, remaining-parts, row-high}
 use Rattle.btree_walk.proofs.BackLemmas.{AreOpenBefore, left_before, row_of, rows-before-push}
 use Rattle.btree_walk.proofs.BetweenLemmas.{up_to-hit, up_to-miss}
-use Rattle.btree_walk.proofs.RowLemmas.{before-push, preceding-push}
+use Rattle.btree_walk.proofs.RowLemmas.{before-push, preceding-push, take-none}
 
 parts-found : {X : Type 0} (above front left back after : List X) → (above ++ (front ++ (left ++ back))) ++ after ≡ (above ++ (front ++ left)) ++ (back ++ after)
 parts-found above front left back after = simp append_assoc
@@ -42,11 +42,7 @@ parts-row front middle x y = simp append_assoc
 -- the first branches of a row
 before-front : {A : Type 0} (first : ℕ) (left right : List (A × ℕ)) (n : ℕ) → n ≡ length left
     → take n (with_child_before first (left ++ right)) ≡ with_child_before first left
-before-front first [] right zero e = none (with_child_before first right)
-  where
-    none : {X : Type 0} (xs : List X) → take 0 xs ≡ []
-    none [] = refl
-    none (x ∷ xs) = refl
+before-front first [] right zero e = take-none (with_child_before first right)
 before-front first [] right (suc n) e = absurd (omega arith)
 before-front first (b ∷ left) right zero e = absurd (omega arith)
 before-front first (b ∷ left) right (suc n) e = ap (λ l. (first, b.0) ∷ l) (before-front b.1 left right n (omega arith))

@@ -1,1 +1,0 @@
--- The list of a well formed tree without pairs.
