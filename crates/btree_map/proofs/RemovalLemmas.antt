@@ -6,6 +6,7 @@ use Rattle.std.specs.declared.cmp.Ordering.{Ordering}
 use Rattle.btree_item.specs.declared.address.Address.{Address}
 use Rattle.btree_node.proofs.RoomLemmas.{none-last}
 use Rattle.btree_shape.specs.TreeState.{TreeState, pairs_of}
+use Rattle.btree_find.specs.CallerLaws.{none-first}
 use Rattle.btree_find.specs.Ends.{IsFirstItem, IsLastItem}
 use Rattle.btree_find.specs.Navigation.{IsItemAddress, IsItemBefore}
 use Rattle.btree_edit.specs.Remove.{IsRemoved}
@@ -23,14 +24,10 @@ last-rest (y ∷ z ∷ zs) x e =
     let at : Some x ≡ slice_get (y ∷ z ∷ zs) (suc (length (z ∷ zs) - 1)) = subst (λ n. Some x ≡ slice_get (y ∷ z ∷ zs) n) less e in
     rw less (ap (λ l. y ∷ l) (last-rest (z ∷ zs) x at))
 
-first-empty : {X : Type 0} (xs : List X) → None ≡ slice_get xs 0 → xs ≡ []
-first-empty [] e = refl
-first-empty (y ∷ ys) e = absurd (cc)
-
 module _ {K V : Type 0} (old : TreeState K V) where
   -- without a first pair, or a last one, there are no pairs
   pub no-first : IsFirstItem old None → pairs_of old ≡ []
-  no-first is = first-empty (pairs_of old) (sym (slice_get_past (pairs_of old) 0 (is.item.past refl)))
+  no-first is = none-first (pairs_of old) (sym (slice_get_past (pairs_of old) 0 (is.item.past refl)))
 
   pub first-none : IsFirstItem old None → None ≡ slice_get (pairs_of old) 0
   first-none is = sym (slice_get_past (pairs_of old) 0 (is.item.past refl))

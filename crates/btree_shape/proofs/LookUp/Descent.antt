@@ -16,6 +16,7 @@ use Rattle.btree_shape.specs.Focus.Focus.{HasFocus, IsFocus}
 use Rattle.btree_shape.specs.Focus.Node.{IsNode}
 use Rattle.btree_shape.proofs.Paths.Frames.{AllByRecursion-append, AllByRecursion-right, fill-id, fill-items, top-view}
 use Rattle.btree_shape.proofs.Trees.Heights.{height-fits, levels-is}
+use Rattle.btree_shape.proofs.Trees.Sizes.{view-items}
 use Rattle.btree_shape.proofs.LookUp.KeyInList.{AreAbove, AreBelow, Rises, above-pivot, ascends, below-pivot, rises-left, rises-right, searched, side}
 use Rattle.btree_shape.proofs.Paths.Focus.{descend}
 
@@ -60,11 +61,6 @@ get-after (y ∷ front) x back zero e = absurd (omega arith)
 get-after (y ∷ front) x back (suc n) e = get-after front x back n (omega arith)
 
 module _ (A : Type 0) where
-  pub view-items : (h : ℕ) (bs : List (A × Subtree A h)) → map {B = A} (λ b. b.0)
-      (map {B = A × ℕ} (λ (b : A × Subtree A h). (b.0, id_of A h b.1)) bs) ≡ map {B = A} (λ (b : A × Subtree A h). b.0) bs
-  view-items h [] = refl
-  view-items h (b ∷ bs) = ap (λ l. b.0 ∷ l) (view-items h bs)
-
   -- the numbers of children after a front of branches
   pub child-numbers : (h : ℕ) (bs : List (A × Subtree A h)) → map {B = ℕ} (λ b. b.1)
       (map {B = A × ℕ} (λ (b : A × Subtree A h). (b.0, id_of A h b.1)) bs) ≡ map {B = ℕ}

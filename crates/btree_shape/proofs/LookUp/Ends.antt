@@ -13,9 +13,10 @@ use Rattle.btree_shape.specs.Focus.Search.{IsPart, IsSearching}
 use Rattle.btree_shape.specs.Focus.Subtree.{Subtree, id_of, items_under, later_items, view_at}
 use Rattle.btree_shape.specs.Focus.Path.{Path, items_before, parent_above}
 use Rattle.btree_shape.specs.Focus.Focus.{IsFocus}
-use Rattle.btree_shape.proofs.LookUp.Descent.{get-after, map-parts, hole-rises, items-rise, part-rises, view-items}
+use Rattle.btree_shape.proofs.LookUp.Descent.{get-after, map-parts, hole-rises, items-rise, part-rises}
 use Rattle.btree_shape.proofs.Paths.Frames.{AllByRecursion-append}
 use Rattle.btree_shape.proofs.Places.NodePlaces.{hole-place, items_upto}
+use Rattle.btree_shape.proofs.Trees.Sizes.{view-items}
 use Rattle.btree_shape.proofs.LookUp.KeyInList.{AreAbove, AreBelow, IsSearched, Rises, equal-back, equal-front, place-hit, place-miss, rises-right, searched, side}
 
 module _ {K V : Type 0} (cmp : K → K → Ordering) (k : K) (laws : IsTotalOrder cmp) (node_at : NodeMap (K × V)) (root : ℕ)

@@ -13,7 +13,7 @@ use Rattle.btree_shape.specs.Focus.Path.{Path, Frame, at_branch, at_first, befor
 use Rattle.btree_shape.proofs.Splits.KeptPositions.{node_positions-passed, positions-passed}
 use Rattle.btree_shape.proofs.Paths.Frames.{top-view}
 use Rattle.btree_shape.proofs.Places.NodePlaces.{items_upto, unsized-place, unsized-subtree}
-use Rattle.btree_shape.proofs.Trees.Sizes.{view-size}
+use Rattle.btree_shape.proofs.Trees.Sizes.{view-items, view-size}
 use Rattle.btree_shape.proofs.Paths.UnsizedFocus.{unsized-down}
 use Rattle.btree_shape.proofs.Places.Lists.{in-cases, in-left, in-right, passed-append, passed-positions_to}
 
@@ -133,16 +133,11 @@ module _ (A : Type 0) where
   items-self [] = refl
   items-self (x ∷ xs) = ap (λ l. x ∷ l) (items-self xs)
 
-  items-twice : (h : ℕ) (bs : List (A × Subtree A h)) → map {B = A} (λ b. b.0)
-      (map {B = A × ℕ} (λ (b : A × Subtree A h). (b.0, id_of A h b.1)) bs) ≡ map {B = A} (branch_key A h) bs
-  items-twice h [] = refl
-  items-twice h (b ∷ bs) = ap (λ l. b.0 ∷ l) (items-twice h bs)
-
   -- that is the item of the root's node
   pub top-item : (h : ℕ) (p : Option ℕ) (t : Subtree A h) (o : ℕ)
       → slice_get (items_of (view_at A h p t)) o ≡ top_item h t (Some o)
   top-item zero p t o = ap (λ l. slice_get l o) (sym (items-self t.1))
-  top-item (suc h) p t o = ap (λ l. slice_get l o) (items-twice h t.2)
+  top-item (suc h) p t o = ap (λ l. slice_get l o) (view-items A h t.2)
 
   take-singles : (o : ℕ) (xs : List A) → o ≤ length xs → total (λ (x : A). suc (passed {A = A} [])) (take o xs) ≡ o
   take-singles zero xs l = refl

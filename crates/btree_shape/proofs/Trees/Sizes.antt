@@ -33,6 +33,12 @@ module _ (A : Type 0) where
   branch-sizes h [] = refl
   branch-sizes h (b ∷ bs) = ap suc (branch-sizes h bs)
 
+  -- the items of an internal node are those of its subtree's branches
+  pub view-items : (h : ℕ) (bs : List (A × Subtree A h)) → map {B = A} (λ b. b.0)
+      (map {B = A × ℕ} (λ (b : A × Subtree A h). (b.0, id_of A h b.1)) bs) ≡ map {B = A} (λ (b : A × Subtree A h). b.0) bs
+  view-items h [] = refl
+  view-items h (b ∷ bs) = ap (λ l. b.0 ∷ l) (view-items h bs)
+
   -- a subtree's root has as many items as the subtree counts there
   pub view-size : (h : ℕ) (p : Option ℕ) (t : Subtree A h) → size_of (view_at A h p t) ≡ count_at A h t
   view-size zero p t = refl
