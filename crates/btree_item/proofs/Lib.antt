@@ -1,5 +1,4 @@
 pub mod SomesLemmas
-pub mod CarryLemmas
 pub mod StoreLemmas
 pub mod IterLemmas
 pub mod KeyLemmas

@@ -3,7 +3,7 @@ use Rattle.std.proofs.Common.{◌≡◌, ℕ, ◌+◌, ◌<◌, ◌≤◌, List,
 use Rattle.std.proofs.lemmas.List.{length-set, length-take-le, take-set, take-set-le, take_more_set, append_assoc}
 use Rattle.std.specs.Prelude.{slice_get}
 use Rattle.std.specs.List.{insert, refill, remove}
-use Rattle.btree_item.proofs.CarryLemmas.{inserted-there, inserted-others}
+use Rattle.btree_item.proofs.PairEdits.{remove-insert, slice_get-insert}
 
 module _ {X : Type 0} where
   take-whole : (ys zs : List X) → take (length ys) (ys ++ zs) ≡ ys
@@ -83,8 +83,8 @@ module _ {X : Type 0} where
   -- a removal is over: what was carried is at the index, and the others are what is left
   pub removed-there : (xs old : List X) (n i : ℕ) (c : X) → n ≤ length xs → i ≤ n → insert (take n xs) i c ≡ old → slice_get old i ≡ Some c
   removed-there xs old n i c within below all =
-      ap (λ l. slice_get l i) (sym all) ∙ inserted-there (take n xs) i c (omega (arith, length-take-le n xs within, below))
+      ap (λ l. slice_get l i) (sym all) ∙ slice_get-insert (take n xs) i c (omega (arith, length-take-le n xs within, below))
 
   pub removed-others : (xs old : List X) (n i : ℕ) (c : X) → n ≤ length xs → i ≤ n → insert (take n xs) i c ≡ old → take n xs ≡ remove old i
   removed-others xs old n i c within below all =
-      sym (inserted-others (take n xs) i c (omega (arith, length-take-le n xs within, below))) ∙ ap (λ l. remove l i) all
+      sym (remove-insert (take n xs) i c (omega (arith, length-take-le n xs within, below))) ∙ ap (λ l. remove l i) all

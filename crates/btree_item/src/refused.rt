@@ -4,6 +4,7 @@ ghost use Rattle.std.specs.IoError.{error_kind};
 ghost use Rattle.std.specs.declared.io.ErrorKind.TheVariants.{OutOfMemory};
 
 use std::alloc::AllocError;
+use std::fmt::{Debug, Formatter, Result, Write};
 use std::io;
 
 /// Why an insertion was refused.
@@ -31,19 +32,35 @@ pub struct UpdateRefused<K, F> {
     pub action: F,
 }
 
-/// The cause of a refusal as an error of memory, for `?`.
+/// The cause and the key, without the action.
+impl<K: Debug, F> Debug for UpdateRefused<K, F> {
+    fn fmt<W: Write>(&self, f: &mut Formatter<W>) -> Result {
+        f.debug_struct("UpdateRefused")
+            .field("cause", &self.cause)
+            .field("key", &self.key)
+            .finish_non_exhaustive()
+    }
+}
+
+fn out_of_memory() -> io::Error
+    ensures { error_kind result ≡ OutOfMemory }
+{
+    io::Error::from(io::ErrorKind::OutOfMemory)
+}
+
+/// The cause of a refusal as an error of memory, for `?`. Both causes become the same error.
 impl From<Cause> for AllocError {
     fn from(_cause: Cause) -> AllocError {
         AllocError
     }
 }
 
-/// The cause of a refusal as an error of input and output, of the kind `OutOfMemory`.
+/// The cause of a refusal as an error of input and output, of the kind `OutOfMemory`. Both causes become the same error.
 impl From<Cause> for io::Error {
     ghost from_gives = { λ _ error. error_kind error ≡ OutOfMemory };
 
     fn from(_cause: Cause) -> io::Error {
-        io::Error::from(io::ErrorKind::OutOfMemory)
+        out_of_memory()
     }
 }
 
@@ -59,7 +76,7 @@ impl<K: Drop, V: Drop> From<Refused<K, V>> for io::Error {
     ghost from_gives = { λ _ error. error_kind error ≡ OutOfMemory };
 
     fn from(_refused: Refused<K, V>) -> io::Error {
-        io::Error::from(io::ErrorKind::OutOfMemory)
+        out_of_memory()
     }
 }
 
@@ -75,6 +92,6 @@ impl<K: Drop, F: Drop> From<UpdateRefused<K, F>> for io::Error {
     ghost from_gives = { λ _ error. error_kind error ≡ OutOfMemory };
 
     fn from(_refused: UpdateRefused<K, F>) -> io::Error {
-        io::Error::from(io::ErrorKind::OutOfMemory)
+        out_of_memory()
     }
 }
