@@ -1,5 +1,5 @@
 -- Bookings that overlap a time: none before the first candidate, and none from the first one on that begins too late.
-use Rattle.std.proofs.Common.{◌≡◌, ◌<◌, ◌≤◌, ◌+◌, ◌∙◌, ℕ, zero, suc, Bool, true, false, ◌&&◌, nat_lt, cond, List, [], ◌∷◌, take, drop, length, slice_get, Option, Some, refl, sym, ap, subst, arith}
+use Rattle.std.proofs.Common.{◌≡◌, ◌<◌, ◌≤◌, ◌+◌, ◌∙◌, ℕ, zero, suc, Bool, true, false, ◌&&◌, nat_lt, cond, List, [], ◌∷◌, take, drop, slice_get, Option, Some, refl, sym, ap, subst, arith}
 use Rattle.std.proofs.lemmas.Bool.{le-ltb, lt-ltb}
 use Rattle.std.proofs.lemmas.Cmp.{ranked}
 use Rattle.std.proofs.lemmas.List.{take-append-drop}
@@ -81,12 +81,6 @@ count-all p xs q none =
     let parts = sum_by-append (λ x. cond (p x) 1 0) (take q xs) (drop q xs) in
     let whole = ap (count_by p) (take-append-drop q xs) in
     omega arith
-
-pub take-past : {X : Type 0} (xs : List X) (q : ℕ) → length xs ≤ q → take q xs ≡ xs
-take-past [] zero low = refl
-take-past [] (suc q) low = refl
-take-past (x ∷ xs) zero low = absurd (omega arith)
-take-past (x ∷ xs) (suc q) low = ap (λ l. x ∷ l) (take-past xs q (omega arith))
 
 module _ (s : TreeState ℕ ℕ) (start : ℕ) (apart : AreApart (pairs_of s)) where
   candidate : (place : ℕ) (found_at : Option Address) → IsItemAt s place found_at → (x : ℕ × ℕ) → slice_get (pairs_of s) place ≡ Some x

@@ -29,9 +29,6 @@ module _ {K V : Type 0} (old : TreeState K V) where
   pub no-first : IsFirstItem old None → pairs_of old ≡ []
   no-first is = none-first (pairs_of old) (sym (slice_get_past (pairs_of old) 0 (is.item.past refl)))
 
-  pub first-none : IsFirstItem old None → None ≡ slice_get (pairs_of old) 0
-  first-none is = sym (slice_get_past (pairs_of old) 0 (is.item.past refl))
-
   before-none : (n : ℕ) → length (pairs_of old) ≡ n → IsItemBefore old n None → None ≡ slice_get (pairs_of old) (n - 1)
   before-none zero long is =
       let first : 0 ≡ zero - 1 = omega arith in

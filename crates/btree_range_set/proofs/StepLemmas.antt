@@ -100,10 +100,6 @@ put-union xs p s e within n = has-put xs p (s, e) within n ∙ or-comm (is_withi
   or-comm false true = refl
   or-comm false false = refl
 
-or-right : (x y : Bool) → y ≡ false → x ≡ (x || y)
-or-right true y is = refl
-or-right false y is = sym is
-
 and-right : (x y : Bool) → y ≡ false → x ≡ (x && not y)
 and-right true y is = rw is refl
 and-right false y is = refl

@@ -16,7 +16,7 @@ use Rattle.btree_find.specs.CallerLaws.{none-first}
 use Rattle.btree_map.specs.Cursor.{or_nowhere}
 use Rattle.btree_map.specs.Editing.{FitsBetween, InsertsEntry, RefusesEntry, RemovesEntry, WritesPassed, entry_front, left_of, passed_of, past_first}
 use Rattle.btree_map.specs.declared.cursor.editing.EntriesMut.{EntriesMut}
-use Rattle.btree_session.specs.declared.command.Reply.TheVariants.{Nothing, Pair, Done, Unfit, Refused}
+use Rattle.btree_session.specs.declared.command.Reply.TheVariants.{Nothing, Pair, Done, Refused}
 use Rattle.btree_session.specs.declared.cursor.CursorStep.TheVariants.{Peek, Next, Insert, Remove}
 use Rattle.btree_session.specs.CursorMachine.{IsCursorStep, IsRefusable, after_refusal, spot_of, state_at}
 
@@ -55,10 +55,6 @@ module _ {C O : Type 0} {g' : eq.Ghosts ℕ} {g'' : partial.Ghosts ℕ} {s : nod
       );
       nodes = (or_nowhere c.first, w.writes);
     }
-
-    -- ---- a key that does not fit
-    pub unfit : (k v : ℕ) → (FitsBetween nat_cmp k (passed_of c) (left_of c) → ⊥) → IsCursorStep s.MayRefuse (spot_of c) (Insert k v) Unfit (spot_of c)
-    unfit k v unable = record { move = (unable, refl); nodes = refl }
 
   module _ (old new : EntriesMut ℕ ℕ C O by_number g' g'' s s') where
     pub removes-first : (x : ℕ × ℕ) → RemovesEntry old new x → IsCursorStep s.MayRefuse (spot_of old) Remove (Pair x.0 x.1) (spot_of new)

@@ -1,5 +1,5 @@
 -- Steps of a session that find an address and hold it, or go from the held one to the next or the previous item.
-use Rattle.std.proofs.Common.{◌≡◌, ◌≤◌, ◌∙◌, ℕ, zero, suc, List, length, slice_get, Option, Some, None, IsSome, refl, sym, ap, subst, arith, option_map}
+use Rattle.std.proofs.Common.{◌≡◌, ◌≤◌, ◌∙◌, ℕ, zero, suc, List, length, slice_get, Option, Some, None, refl, sym, ap, subst, arith, option_map}
 use Rattle.std.proofs.lemmas.Option.{slice_get_past}
 use Rattle.std.specs.Cmp.{nat_cmp_total}
 use Rattle.std.specs.Ordering.{nat_cmp}
@@ -8,8 +8,7 @@ use Rattle.btree_item.specs.declared.address.Address.{Address}
 use Rattle.btree_item.proofs.PairLemmas.{before-from_Ok, before-from_Err, found-from_Err}
 use Rattle.btree_store.specs.Content.{Content}
 use Rattle.btree_node.specs.declared.node.Node.{Node}
-use Rattle.btree_shape.specs.TreeState.{TreeState, IsBTree, IsOccupiedIn, IsPlaceIn, item_of, node_map, pairs_of}
-use Rattle.btree_shape.specs.Place.{IsOccupied}
+use Rattle.btree_shape.specs.TreeState.{TreeState, IsBTree, IsPlaceIn, item_of, node_map, pairs_of}
 use Rattle.btree_find.specs.Answers.{IsFoundAt, IsGapAt}
 use Rattle.btree_find.specs.Navigation.{HasPlace, IsItemAddress, IsItemAt, IsItemBefore, IsNext, IsNormalized, IsPrevious}
 use Rattle.btree_find.proofs.FitsLemmas.{place-low}
@@ -18,21 +17,11 @@ use Rattle.btree_session.specs.declared.command.Command.{Command}
 use Rattle.btree_session.specs.declared.command.Command.TheVariants.{Seek, Next, Prev}
 use Rattle.btree_session.specs.declared.command.Reply.{Reply}
 use Rattle.btree_session.specs.declared.command.Reply.TheVariants.{Nothing, Pair, Found, Gap, NoPlace}
-use Rattle.btree_session.specs.Held.{Held, HoldsBack, IsBackIn}
+use Rattle.btree_session.specs.Held.{Held, HoldsBack}
 use Rattle.btree_session.specs.Machine.{IsHeldPlace, IsStep}
 use Rattle.btree_session.proofs.Steps.{a_step, held_place}
 
 module _ (map : TreeState ℕ ℕ) where
-  -- an address at which an item is has an offset that is not -1
-  pub occupied-back : (a : Address) → IsOccupiedIn map a → IsSome a.offset
-  occupied-back a occupied = by a.offset occupied where
-    by : (offset : Option ℕ) → IsOccupied (node_map map) a.id offset → IsSome offset
-    by None is = absurd is
-    by (Some n) is = cc
-
-  pub item-back : (place : ℕ) (a : Address) → IsItemAddress map place a → IsBackIn map a
-  item-back place a is = record { valid = is.valid; back = occupied-back a is.occupied }
-
 module _ (may_refuse : Content (Node ℕ ℕ) → Type 0) (map : TreeState ℕ ℕ) (tree : IsBTree nat_cmp map) where
   -- the session over this map that holds this address
   abbrev pub holding_at : Option Address → Held ℕ ℕ
@@ -110,9 +99,6 @@ module _ (may_refuse : Content (Node ℕ ℕ) → Type 0) (map : TreeState ℕ �
           let there = (after (Some b) next).here in
           a_step may_refuse (holding_at (Some held)) (holding_at (Some b)) Next (Pair x.0 x.1) (Some is.place) (Some (suc is.place)) at_place
           (held_item (suc is.place) b there) (is.place, refl, (listed (suc is.place) b there x item, refl)) (b, refl, there.occupied, refl) tree
-
-      pub next-back : (b : Address) → IsNext map at (Some b) → IsBackIn map b
-      next-back b next = item-back map (suc is.place) b (after (Some b) next).here
 
   -- ---- `prev`
   module _ (held : Address) where

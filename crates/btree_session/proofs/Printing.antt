@@ -1,5 +1,5 @@
 -- Texts that are appended piece by piece.
-use Rattle.std.proofs.Common.{◌≡◌, ◌≢◌, ℕ, zero, suc, ◌-◌, ◌<◌, List, [], ◌∷◌, ◌++◌, map, Some, None, option_map, refl, sym, ap, ◌∙◌, arith, append_assoc, append-nil, decimal}
+use Rattle.std.proofs.Common.{◌≡◌, ◌≢◌, ℕ, zero, suc, ◌-◌, ◌<◌, List, [], ◌∷◌, ◌++◌, map, Some, option_map, refl, sym, ap, ◌∙◌, arith, append_assoc, append-nil, decimal}
 use Rattle.std.specs.FinMap as finite
 use Rattle.std.specs.Prelude.{Result, Ok, Err, OnOk, OnErr}
 use Rattle.std.specs.declared.alloc.AllocError.{AllocError}
@@ -109,12 +109,6 @@ shape_under-suc node_at (suc levels) id some =
     let less : levels ≡ suc levels - 1 = omega arith in ap (λ n. shape_in (shape_under node_at n) (node_at id)) less
 
 module _ (nodes : Content (Node ℕ ℕ)) (levels id : ℕ) where
-  pub no_node : finite.get nodes id ≡ None → shape_under (views nodes) levels id ≡ []
-  no_node none = at levels where
-    at : (levels : ℕ) → shape_under (views nodes) levels id ≡ []
-    at zero = refl
-    at (suc levels) = ap (λ node. shape_in (shape_under (views nodes) levels) (option_map view_of node)) none
-
   pub at_internal : (node : InternalParts ℕ ℕ) (bs : List (Branch ℕ ℕ)) → 0 < levels → finite.get nodes id ≡ Some (Internal node) → map branch_pair bs ≡ node.branches
       → shape_under (views nodes) levels id ≡ (40 ∷ []) ++ (shape_under (views nodes) (levels - 1) node.first ++ branches_text (views nodes) (levels - 1) bs) ++ 41 ∷ []
   at_internal node bs some here are =

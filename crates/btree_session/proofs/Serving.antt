@@ -3,7 +3,7 @@ use Rattle.std.proofs.Common.{◌≡◌, ℕ, ◌+◌, ◌<◌, List, [], ◌∷
 use Rattle.std.specs.Prelude.{position, ◌==◌}
 use Rattle.std.proofs.lemmas.List.Quantifiers.{position-Some}
 use Rattle.std.specs.Io.BufRead.{take_through, drop_through, strip_last, DropsConsumable, DropsThrough}
-use Rattle.std.specs.Io.KnownBytes.{Appends, Keeps, IsAtEnd, append_known, prepend_known}
+use Rattle.std.specs.Io.KnownBytes.{Appends, Keeps, append_known, prepend_known}
 use Rattle.std.specs.Io.Buffered.{reader_buffer, reader_capacity}
 use Rattle.std.specs.declared.io.buffered.BufReader.{BufReader}
 use Rattle.btree_session.specs.declared.line.Line.{Line}
@@ -99,26 +99,6 @@ these_lines (Some text) None served more known left_is = cc
 these_lines (Some text) (Some left) served more known left_is =
     let same : left ≡ known.0 = cc in
     record { lines = lines_of text; known = refl; are = known.2 ∙ ap (λ ls. served ++ lines_of ls) (sym same) ∙ ap (λ ls. served ++ ls) left_is }
-
-at_end : (rest : Option (List ℕ)) → IsAtEnd rest → IfSome rest (λ left. lines_of left ≡ [])
-at_end None none = tt
-at_end (Some left) none = ap lines_of none
-
--- the input has ended
-pub ended : {A R : Type 0} (remaining : R → Option (List ℕ)) (May : Content (Node ℕ ℕ) → Type 0) (old new : Held ℕ ℕ) (input before rest after : Option (List ℕ)) (number : ℕ) (x : A) →
-    Progress May old input before rest after new number → IsAtEnd rest → DrivesBytes May remaining old input before (Ok x) after new
-ended remaining May old new input before rest after number x so_far none =
-    let all = these_lines input rest so_far.served [] so_far.known (at_end rest none) in
-    record {
-      lines = all.lines;
-      known = all.known;
-      served = so_far.served;
-      ends = all.are ∙ append-nil so_far.served;
-      stops = tt;
-      printed = so_far.printed;
-      serves = so_far.serves;
-      writes = so_far.writes;
-    }
 
 ends_anywhere : (A : Type 0) (served lines : List (List ℕ)) (stop : Stop) → MayStopAnywhere stop → (rest : List (List ℕ)) × (lines ≡ served ++ rest) → EndsAfter {A = A} served lines (Err stop)
 ends_anywhere A served lines (NotACommand number) anywhere rest = absurd anywhere

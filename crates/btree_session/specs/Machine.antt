@@ -2,8 +2,8 @@
 -- Only a refusal by the store changes what is kept, which is its count of refusals and the greatest number of pairs. A refusal
 -- with the cause `Count` changes nothing at all.
 -- Read `MachineStep` first (the reply and the state, over a list of pairs), then `Handles` (the nodes). `IsStep` is
--- both, between the states that the session stands for (`StandsFor`), with a well formed tree after it. `IsRun` is a
--- list of commands with a reply to each, and `Runs`, which `run` cites, the same with the replies appended to a vector.
+-- both, between the states that the session stands for (`StandsFor`), with a well formed tree after it. `Runs`, which
+-- `run` cites, is a list of commands with a reply to each, appended to a vector.
 use Rattle.std.specs.Prelude.{◌≡◌, ℕ, suc, List, [], length, insert, remove, slice_get, Option, Some, None, Vec}
 use Rattle.std.specs.FinMap as finite
 use Rattle.std.specs.Ordering.{nat_cmp}
@@ -24,7 +24,7 @@ use Rattle.btree_session.specs.declared.command.Command.TheVariants.{Insert, Get
 use Rattle.btree_session.specs.declared.command.Reply.{Reply}
 use Rattle.btree_session.specs.declared.command.Reply.TheVariants.{Nothing, Value, Pair, Done, Found, Gap, NoPlace, Unfit, Refused}
 use Rattle.btree_session.specs.Held.{Held}
-use Rattle.btree_session.specs.Run.{IsRunBy, RunsBy}
+use Rattle.btree_session.specs.Run.{RunsBy}
 
 -- the state of a session: its pairs by ascending keys, the place that it holds, if any, and what its map keeps
 pub record SessionState : Type 0 where
@@ -153,10 +153,6 @@ module _ (MayRefuse : Content (Node ℕ ℕ) → Type 0) where
     pub step : MachineStep before command reply after
     pub nodes : Handles old command reply new
     pub tree : IsBTree nat_cmp new.map
-
-  -- The session may give these replies to these commands, one step after another.
-  abbrev pub IsRun : (old : Held ℕ ℕ) → List Command → List Reply → (new : Held ℕ ℕ) → Type 0
-  IsRun = IsRunBy IsStep
 
   -- The commands were run one after another, and their replies appended to those that were there.
   abbrev pub Runs : {Z : Type 0} → (old : Held ℕ ℕ) → List Command → (new : Held ℕ ℕ) → (replies more : Vec Reply Z) → Type 0

@@ -1,5 +1,5 @@
 -- One turn of each merge, as the iterators take it.
-use Rattle.std.proofs.Common.{◌≡◌, ◌∙◌, ◌<◌, true, false, List, [], ◌∷◌, Option, None, Some, drop, length, option_copied, slice_get, refl, sym, ap, subst, arith}
+use Rattle.std.proofs.Common.{◌≡◌, ◌∙◌, true, false, List, [], ◌∷◌, Option, None, Some, drop, length, option_copied, slice_get, refl, sym, ap, subst, arith}
 use Rattle.std.specs.Borrow.{Bor}
 use Rattle.std.specs.Cmp.{IsTotalOrder}
 use Rattle.std.specs.Iterator.{MakesProgress, YieldsFirstRef, item_count}
@@ -35,9 +35,6 @@ module _ {T : Type 0} where
   pub empty : (xs : List T) (r : Option (Bor T)) → option_copied r ≡ slice_get xs 0 → r ≡ None → xs ≡ []
   empty [] r is none = refl
   empty (y ∷ xs) r is none = absurd (let e = ap option_copied none in cc)
-
-  shorter : (xs us : List T) (x : T) → xs ≡ x ∷ us → length us < length xs
-  shorter xs us x e = let n = ap length e in omega arith
 
   module _ (cmp : T → T → Ordering) where
     pub union-no-first : (first second : List T) → first ≡ [] → union cmp first second ≡ second

@@ -8,7 +8,7 @@ use Rattle.btree_store.specs.Content.{Content}
 use Rattle.btree_item.specs.Pairs.{Ascends}
 use Rattle.btree_node.specs.Node.{view_of}
 use Rattle.btree_node.specs.declared.node.Node.{Node}
-use Rattle.btree_view.specs.View.{NodeMap, View}
+use Rattle.btree_view.specs.View.{NodeMap}
 use Rattle.btree_shape.specs.Lists.{times_listed}
 use Rattle.btree_shape.specs.Focus.Subtree.{times_under}
 use Rattle.btree_shape.specs.Represents.{Represents, numbers_under, represented}
@@ -71,10 +71,6 @@ module _ {K V : Type 0} (cmp : K → K → Ordering) (nodes : Content (Node K V)
     -- there are as many numbers as nodes
     pub all-counted : map.len nodes ≡ length ids
     all-counted = len-views nodes ids all-listed
-
-    used-here : (o : Option (View (K × V))) → 0 < times_used o → (v : View (K × V)) × (o ≡ Some v)
-    used-here None some = absurd (omega arith)
-    used-here (Some v) some = (v, refl)
 
     -- such a tree can be passed from its root
     pub off-can : CanPassUnder cmp node_at root exempt height None root (map.len nodes) None

@@ -147,13 +147,6 @@ module _ {A : Type 0} (node_at : NodeMap A) where
       pub back : IsBack node_at a.offset
       pub at_place : IsPlace node_at root xs a.id a.offset place
 
-    -- two of them with the same place are equal
-    pub one-leaf-back : (place : ℕ) (a b : Address) → IsLeafBack a place → IsLeafBack b place → a ≡ b
-    one-leaf-back place a b i j =
-        let e = law.each place a i.valid i.in_leaf i.back i.at_place in
-        let f = law.each place b j.valid j.in_leaf j.back j.at_place in
-        cc
-
     pub record LeafBackAt (place : ℕ) : Type 0 where
       pub address : Address
       pub listed : slice_get list place ≡ Some address

@@ -44,10 +44,6 @@ module _ (A : Type 0) (node_at : NodeMap A) where
       (λ u e. last-levels h m n (Some t.0) u (omega arith) (omega arith) e) t.1 d.1 t.2 d.2
       ∙ sym (ap (last_leaf_in (last_leaf node_at n) t.0) d.0))
 
-  -- the leftmost and the rightmost leaf are leaves
-  abbrev IsLeafAt : ℕ → Type 0
-  IsLeafAt id = (parent : Option ℕ) × (items : List A) × (node_at id ≡ Some (leaf parent items))
-
   first-down : (h n : ℕ) (p : Option ℕ) (t : Subtree A h) → h < n → Holds A node_at h p t → (parent : Option ℕ) (first : ℕ)
       (branches : List (A × ℕ)) → node_at (id_of A h t) ≡ Some (internal parent first branches)
       → first_leaf node_at n (id_of A h t) ≡ first_leaf node_at n first

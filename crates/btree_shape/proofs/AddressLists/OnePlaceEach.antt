@@ -10,10 +10,10 @@ use Rattle.btree_shape.specs.AddressLaws.{IsPlaced}
 use Rattle.btree_shape.specs.Focus.TreePositions.{IsAddressed, HasPosition}
 use Rattle.btree_shape.specs.Focus.Subtree.{Holds, Subtree, id_of, items_under}
 use Rattle.btree_shape.specs.Focus.Positions.{IsExpected, Position, IsAt, positions, passed}
-use Rattle.btree_shape.specs.WellFormed.{IsOffByOne, IsWellFormed}
+use Rattle.btree_shape.specs.WellFormed.{IsWellFormed}
 use Rattle.btree_shape.proofs.Splits.KeptPositions.{positions-passed}
 use Rattle.btree_shape.proofs.AddressLists.Kept.{IndexOf, Strung, kept, kept-at, kept-of, passed_to, strung-index, strung-length}
-use Rattle.btree_shape.proofs.Places.OnePlace.{one_place, one_place-well}
+use Rattle.btree_shape.proofs.Places.OnePlace.{one_place-well}
 use Rattle.btree_shape.proofs.Places.OneList.{one-positions}
 use Rattle.btree_shape.proofs.Places.OfTree.{positions-addressed, valid-on}
 use Rattle.btree_shape.proofs.Trees.Subtrees.{subtree-of}
@@ -26,15 +26,6 @@ module _ {K V : Type 0} (cmp : K → K → Ordering) (laws : IsTotalOrder cmp) (
         rooted = record { height = w.formed.height; represents = w.formed.represents; sized = λ id node e. tt; once = w.formed.once };
         low = l;
         one = λ id offset p q s t. one_place-well cmp laws node_at xs len (Some root) w id offset p q s t;
-      }
-
-  -- and so is a tree that is off by one at a node
-  abbrev pub placed-off : (root exempt : ℕ) (w : IsOffByOne cmp node_at root exempt xs) → w.rooted.height < levels → IsPlaced node_at levels root xs
-  placed-off root exempt w l =
-      record {
-        rooted = record { height = w.rooted.height; represents = w.rooted.represents; sized = λ id node e. tt; once = w.rooted.once };
-        low = l;
-        one = λ id offset p q s t. one_place cmp laws node_at root exempt xs w id offset p q s t;
       }
 
 module _ {A : Type 0} (node_at : NodeMap A) (levels root : ℕ) (xs : List A) (p : IsPlaced node_at levels root xs) where

@@ -1,6 +1,6 @@
 -- A well formed tree, and one that is off by one at a node, has the lists of its addresses, in the order that the rules
 -- give. Navigation and cursors cite it.
-use Rattle.std.proofs.Common.{◌≡◌, ℕ, suc, List, length, Option, Some, None, refl, sym, subst}
+use Rattle.std.proofs.Common.{◌≡◌, ℕ, suc, List, length, Option, Some, None, refl}
 use Rattle.std.specs.Cmp.{IsTotalOrder}
 use Rattle.std.specs.FinMap as finite
 use Rattle.std.specs.Prelude.{slice_get}
@@ -10,7 +10,7 @@ use Rattle.btree_view.specs.View.{NodeMap}
 use Rattle.btree_shape.specs.Addresses.{backs_under, fronts_under, last_item}
 use Rattle.btree_shape.specs.AddressLaws.{IsPlacedUnder, numbers_of}
 use Rattle.btree_shape.specs.TreeAddresses.{HasAddresses, first_back_under, last_front_under}
-use Rattle.btree_shape.specs.TreeState.{TreeState, IsBTree, IsBTreeButLength, IsOffByOneAt, node_map, pairs_of}
+use Rattle.btree_shape.specs.TreeState.{TreeState, IsBTree, node_map, pairs_of}
 use Rattle.btree_shape.specs.Visits.{back_after, front_before, prior}
 use Rattle.btree_shape.specs.WellFormed.{IsWellFormed}
 use Rattle.btree_shape.proofs.AddressLists.BackAddresses.{backs-listed}
@@ -20,7 +20,7 @@ use Rattle.btree_shape.proofs.AddressLists.FrontVisits.{fronts-visited}
 use Rattle.btree_shape.proofs.AddressLists.ItemAddresses.{items-listed}
 use Rattle.btree_shape.proofs.AddressLists.LeafBacks.{leaf-backs-listed}
 use Rattle.btree_shape.proofs.AddressLists.Next.{back-rule, came-before, front-rule}
-use Rattle.btree_shape.proofs.AddressLists.OnePlaceEach.{placed-formed, placed-off}
+use Rattle.btree_shape.proofs.AddressLists.OnePlaceEach.{placed-formed}
 use Rattle.btree_shape.proofs.Trees.Stores.{len-views}
 use Rattle.btree_shape.proofs.Trees.States.{height_held}
 
@@ -83,14 +83,3 @@ module _ {K V : Type 0} (cmp : K → K → Ordering) (laws : IsTotalOrder cmp) (
   -- a well formed tree has the four lists of its addresses, with their laws
   pub addresses-tree : IsBTree cmp s → HasAddresses s
   addresses-tree w = addresses-formed s.len w
-
-  pub addresses-but-length : IsBTreeButLength cmp s → HasAddresses s
-  addresses-but-length w = addresses-formed (length (pairs_of s)) w
-
-  -- the same for a tree that is off by one at a node
-  pub addresses-off : (id : ℕ) → IsOffByOneAt cmp s id → HasAddresses s
-  addresses-off id o =
-      addresses-placed s
-      (subst (λ t. IsPlacedUnder (node_map s) (finite.len s.nodes) t (pairs_of s)) (sym o.at_root)
-      (placed-off cmp laws (node_map s) (finite.len s.nodes) (pairs_of s) o.root id o.off
-      (height_held s _ o.root (pairs_of s) o.off.rooted)))

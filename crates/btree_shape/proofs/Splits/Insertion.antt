@@ -18,7 +18,7 @@ use Rattle.btree_shape.specs.Lists.{one}
 use Rattle.btree_shape.specs.Focus.Subtree.{IsFilled, Subtree, count_at, id_of}
 use Rattle.btree_shape.specs.Represents.{numbers_under}
 use Rattle.btree_shape.specs.Step.{Claims, WritesNode}
-use Rattle.btree_shape.specs.Focus.Strain.{own_strain, strain_of}
+use Rattle.btree_shape.specs.Focus.Strain.{strain_of}
 use Rattle.btree_shape.specs.Strain.{strain_under}
 use Rattle.btree_shape.specs.Focus.Positions.{address_at}
 use Rattle.btree_shape.specs.Focus.Path.{Path, depth, items_after, items_before, least_at, parent_above, times_above}
@@ -37,7 +37,7 @@ use Rattle.btree_shape.proofs.Places.OnePlace.{one_place-well}
 use Rattle.btree_shape.proofs.Splits.Need.{split_need-node}
 use Rattle.btree_shape.proofs.Paths.FromRoot.{node-at, rooted-node}
 use Rattle.btree_shape.proofs.Strain.Sums.{strain-rooted}
-use Rattle.btree_shape.proofs.Strain.Splits.{own-more}
+use Rattle.btree_shape.proofs.Strain.Splits.{put-strain}
 use Rattle.btree_shape.proofs.Places.TreePlaces.{item-in}
 
 insert-between : {X : Type 0} (front ys back : List X) (o : ℕ) (x : X) → o ≤ length ys
@@ -74,14 +74,6 @@ module _ (A : Type 0) where
             (items_after c) o x low;
         root_is = w.root_is;
       }
-
-  put-strain : (c : Path A 0) (i : ℕ) (ys : List A) (o : ℕ) (x : A) → o ≤ length ys
-      → strain_of A 0 c (i, insert ys o x) ≤ suc (strain_of A 0 c (i, ys))
-  put-strain c i ys o x low =
-      let n : length (insert ys o x) ≡ suc (length ys) =
-      length-insert ys o x low ∙ (let q : length ys + 1 ≡ suc (length ys) = omega arith in q) in
-      let e : own_strain A c (length (insert ys o x)) ≡ own_strain A c (suc (length ys)) = ap (own_strain A c) n in
-      omega (arith, own-more A 0 c (length ys))
 
   -- the splits that begin at a leaf of a well formed tree, into which an item was inserted: `node_at` is the tree
   -- before the numbers were claimed
@@ -137,7 +129,7 @@ module _ (A : Type 0) where
                 none = λ few. let y = less-yes (length t.1) 8 0 (path_need c) (omega arith) in enough ∙ (nd ∙ y);
                 there = item-in A 0 c (parent_above c) (id, insert ys o x) o x (slice_get-insert ys o x low)
                     (omega arith);
-                within_strain = let q = put-strain c id ys o x low in let r : strain_of A 0 c t ≡ strain_of A 0 c (id, ys) =
+                within_strain = let q = put-strain A c id ys o x low in let r : strain_of A 0 c t ≡ strain_of A 0 c (id, ys) =
                     ap (strain_of A 0 c) te in omega arith;
               };
             }

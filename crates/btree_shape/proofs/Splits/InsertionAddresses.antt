@@ -1,8 +1,7 @@
 -- The positions in a leaf up to an offset: which addresses are before it, and how many items are.
-use Rattle.std.proofs.Common.{◌≡◌, ◌<◌, ◌++◌, ◌∷◌, [], ◌∙◌, ◌+◌, ℕ, suc, inl, inr, List, length, Option, Some, None, refl, sym, ap, subst, arith, append_assoc}
+use Rattle.std.proofs.Common.{◌≡◌, ◌<◌, ◌++◌, ◌∷◌, [], ◌∙◌, ◌+◌, ℕ, inl, inr, List, length, Option, None, sym, ap, subst, arith, append_assoc}
 use Rattle.btree_item.specs.declared.address.Address.{Address}
-use Rattle.btree_shape.specs.Focus.TreePositions.{IsAtBefore}
-use Rattle.btree_shape.specs.Focus.Positions.{IsAt, Position, address_before, mark, over, passed, address_at, positions_from, positions_to, path_after, path_before, all_positions}
+use Rattle.btree_shape.specs.Focus.Positions.{IsAt, Position, address_before, mark, passed, positions_from, positions_to, path_after, path_before, all_positions}
 use Rattle.btree_shape.specs.Focus.Path.{Path, items_before}
 use Rattle.btree_shape.proofs.Splits.KeptPositions.{singles}
 use Rattle.btree_shape.proofs.Places.TreePlaces.{path-passed}
@@ -45,29 +44,3 @@ module _ (A : Type 0) (c : Path A 0) (i : ℕ) (l : List A) where
           | inl early ↦ early
           | inr later ↦ let n = later.is in let p = to-passed in absurd (omega arith)
         ]
-
-    -- and so does one that occurs before the offset's own address
-    pub at-before : IsAtBefore expected b (address_at i (length l)) (all_positions A 0 c (i, l ++ r)) q → IsAt expected b positions_until q
-    at-before s =
-        let e = starts r (subst (λ z. IsAtBefore expected b (address_at i (length l)) z q) (positions-parts r) s) in
-        cut e.0 e.1 positions_until q e.2
-      where
-        Rest : Option A → List (Position A) → Type 0
-        Rest item back = IsAtBefore expected b (address_at i (length l)) (positions_until ++ (mark (address_at i (length l)) item ∷ back)) q
-
-        starts : (r : List A) → IsAtBefore expected b (address_at i (length l))
-            (positions_until ++ (positions_from {A = A} {X = A} (λ x. x) (λ x. []) i (length l) r ++ path_after A c)) q
-            → (item : Option A) × (back : List (Position A)) × Rest item back
-        starts [] s = (None, path_after A c, s)
-        starts (y ∷ r) s = (
-          Some y,
-          over ∷ (positions_from {A = A} {X = A} (λ x. x) (λ x. []) i (suc (length l)) r ++ path_after A c),
-          s,
-        )
-
-        cut : (item : Option A) (back pre : List (Position A)) (n : ℕ)
-            → IsAtBefore expected b (address_at i (length l)) (pre ++ (mark (address_at i (length l)) item ∷ back)) n → IsAt expected b pre n
-        cut item back [] n s = absurd (s.0 refl)
-        cut item back (mark d k ∷ pre) n s =
-            elim s.1 [ inl here ↦ inl here | inr more ↦ inr (cut item back pre n more) ]
-        cut item back (over ∷ pre) n s = (s.0, s.1, cut item back pre s.0 s.2)

@@ -1,5 +1,7 @@
 -- The node that a split uses is within the strain of the nodes.
-use Rattle.std.proofs.Common.{◌≡◌, ◌≤◌, ◌++◌, ◌∷◌, [], ◌+◌, ◌-◌, ℕ, zero, suc, List, length, refl, ap, arith, length-append}
+use Rattle.std.proofs.Common.{◌≡◌, ◌≤◌, ◌∷◌, [], ◌+◌, ◌-◌, ℕ, zero, suc, List, length, refl, ap, ◌∙◌, arith, length-append}
+use Rattle.std.proofs.lemmas.List.Edits.{length-insert}
+use Rattle.std.specs.List.{insert}
 use Rattle.btree_shape.specs.Focus.Subtree.{Subtree, count_at, most_at}
 use Rattle.btree_shape.specs.Focus.Strain.{own_strain, strain, strain_below, strain_of_siblings, strain_of, surplus}
 use Rattle.btree_shape.specs.Focus.Path.{Path, Frame, at_branch, at_first, fill, fill_two, frame_count, top, under}
@@ -84,10 +86,10 @@ module _ (A : Type 0) where
     split-root-strain r e n = omega (arith, parts-strain e n)
 
   -- an item inserted into a leaf
-  pub put-strain : (c : Path A 0) (i : ℕ) (l : List A) (x : A) (r : List A)
-      → strain_of A 0 c (i, l ++ x ∷ r) ≤ suc (strain_of A 0 c (i, l ++ r))
-  put-strain c i l x r =
-      let e : own_strain A c (length (l ++ x ∷ r)) ≡ own_strain A c (suc (length (l ++ r))) =
-      ap (own_strain A c) (let p = length-append l (x ∷ r) in let q = length-append l r in let n : length
-      (l ++ x ∷ r) ≡ suc (length (l ++ r)) = omega arith in n) in
-      omega (arith, own-more 0 c (length (l ++ r)))
+  pub put-strain : (c : Path A 0) (i : ℕ) (ys : List A) (o : ℕ) (x : A) → o ≤ length ys
+      → strain_of A 0 c (i, insert ys o x) ≤ suc (strain_of A 0 c (i, ys))
+  put-strain c i ys o x low =
+      let n : length (insert ys o x) ≡ suc (length ys) =
+      length-insert ys o x low ∙ (let q : length ys + 1 ≡ suc (length ys) = omega arith in q) in
+      let e : own_strain A c (length (insert ys o x)) ≡ own_strain A c (suc (length ys)) = ap (own_strain A c) n in
+      omega (arith, own-more 0 c (length ys))

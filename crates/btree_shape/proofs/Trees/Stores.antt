@@ -36,9 +36,6 @@ module _ {K V : Type 0} where
   pub view-at : (nodes : Content (Node K V)) (id : ℕ) (node : Node K V) (v : View (K × V)) → Some node ≡ map.get nodes id → views nodes id ≡ Some v → view_of node ≡ v
   view-at nodes id node v at e = let here : views nodes id ≡ Some (view_of node) = ap (option_map view_of) (sym at) in cc
 
-  pub used-at : (nodes : Content (Node K V)) (id : ℕ) (node : Node K V) → Some node ≡ map.get nodes id → IsSome (map.get nodes id)
-  used-at nodes id node at = rw (← at) refl
-
   -- a number that is used has a node in the store
   pub used-view : (nodes : Content (Node K V)) (id : ℕ) → 0 < times_used (views nodes id) → IsSome (map.get nodes id)
   used-view nodes id used = at (map.get nodes id) used

@@ -1,12 +1,12 @@
 -- Two adjacent siblings, one of them with too few items, as code sees them, and the steps that fix it.
-use Rattle.std.proofs.Common.{◌≡◌, ◌≢◌, ◌<◌, ◌≤◌, ◌++◌, ◌∷◌, [], ◌+◌, ℕ, zero, suc, inl, inr, List, length, map, Option, Some, None, refl, sym, ap, subst, arith, length-append}
+use Rattle.std.proofs.Common.{◌≡◌, ◌≢◌, ◌<◌, ◌≤◌, ◌++◌, ◌∷◌, [], ◌+◌, ℕ, zero, suc, inl, inr, List, length, map, Option, Some, refl, sym, ap, subst, arith, length-append}
 use Rattle.std.specs.List.{AllByRecursion}
 use Rattle.std.specs.Prelude.{IsTrue, option_map}
 use Rattle.btree_item.specs.declared.address.Address.{Address}
-use Rattle.btree_view.specs.Edits.{HasChildFor, is_internal, with_parent}
-use Rattle.btree_view.specs.View.{NodeMap, View, children_of, internal, leaf, size_of, most_of}
+use Rattle.btree_view.specs.Edits.{is_internal, with_parent}
+use Rattle.btree_view.specs.View.{NodeMap, View, children_of, size_of, most_of}
 use Rattle.btree_shape.specs.Focus.Overflow.{IsRepaired}
-use Rattle.btree_shape.specs.Lists.{as_list, times_listed}
+use Rattle.btree_shape.specs.Lists.{times_listed}
 use Rattle.btree_shape.specs.SiblingSteps.{Merges, RotatesLeft, RotatesRight}
 use Rattle.btree_shape.specs.Moved.{first_in, moved_by_merge, moved_by_rotate_left, moved_by_rotate_right}
 use Rattle.btree_shape.specs.Need.{levels_above}
@@ -18,7 +18,6 @@ use Rattle.btree_shape.specs.Focus.Positions.{IsAt, all_positions}
 use Rattle.btree_shape.specs.Focus.Path.{Path, Frame, after_in, at_branch, at_first, before_in, depth, fill, fill_two, frame_count, frame_id, frame_index, items_after, items_before, least_at, parent_above}
 use Rattle.btree_shape.specs.WellFormed.{times_used}
 use Rattle.btree_shape.proofs.Paths.Parents.{deep-enough, levels-above-is}
-use Rattle.btree_shape.proofs.LookUp.Descent.{cons-parts}
 use Rattle.btree_shape.proofs.Paths.Frames.{fill-count, fill-id, one-other, one-zero, top-view}
 use Rattle.btree_shape.proofs.Splits.Upward.{children-below}
 use Rattle.btree_shape.proofs.Splits.NodeAddresses.{ids-apart}
@@ -73,14 +72,6 @@ module _ (A : Type 0) (node_at : NodeMap A) (root : ℕ) (xs : List A) (expected
     pub lower : (new : NodeMap A) → Merges node_at new parent index left right → size_of low + size_of high ≤ 5
         → (levels_above new (length xs) parent < levels_above node_at (length xs) left)
         × (levels_above new (length xs) parent < levels_above node_at (length xs) right)
-
--- the child that a node lends at its front is its first one
-pub first-child : {A : Type 0} (v : View A) (child : Option ℕ) (rest : List ℕ) → HasChildFor child v
-    → children_of v ≡ as_list child ++ rest → child ≡ first_in v
-first-child (leaf p xs) None rest k e = refl
-first-child (leaf p xs) (Some n) rest k e = absurd (cc)
-first-child (internal p u bs) None rest k e = absurd (cc)
-first-child (internal p u bs) (Some n) rest k e = ap Some (cons-parts {X = ℕ} (sym e)).0
 
 module _ (A : Type 0) where
   first-of-view : (h : ℕ) (p : Option ℕ) (t : Subtree A h) → first_in (view_at A h p t) ≡ first_of A h t

@@ -1,22 +1,18 @@
 -- Which step fixes an underflow, and how many levels are above a node.
 use Rattle.std.proofs.Common.{◌≡◌, ◌≢◌, ◌≤◌, ◌∙◌, ◌+◌, [], ℕ, zero, suc, List, length, Option, Some, None, sym, ap, subst, arith}
-use Rattle.std.specs.Prelude.{IfSome}
 use Rattle.std.proofs.lemmas.Option.{same_Some}
 use Rattle.btree_item.specs.declared.address.Address.{Address}
 use Rattle.btree_view.specs.View.{NodeMap, View, parent_of}
-use Rattle.btree_shape.specs.SiblingSteps.{RotatesLeft}
-use Rattle.btree_shape.specs.UnderflowFix.{Borrows, CanSpare, UnderflowsUnder, NoneSpares, child_at, from_left, from_right, size_in}
 use Rattle.btree_shape.specs.Need.{levels_above}
 use Rattle.btree_shape.specs.Focus.Search.{levels_below}
 use Rattle.btree_shape.specs.Focus.Subtree.{Subtree, id_of, view_at}
 use Rattle.btree_shape.specs.Focus.Underflow.{MayUnderflowAt}
 use Rattle.btree_shape.specs.Represents.{Represents}
 use Rattle.btree_shape.specs.Focus.Path.{Path, HoldsAbove, depth, frame_id, frame_view, parent_above, root_above, times_above, top, under}
-use Rattle.btree_shape.specs.WellFormed.{IsRooted, least_of}
+use Rattle.btree_shape.specs.WellFormed.{IsRooted}
 use Rattle.btree_shape.specs.Focus.Focus.{IsFocus}
 use Rattle.btree_shape.proofs.Paths.Frames.{times_in-is, top-view}
 use Rattle.btree_shape.proofs.Trees.Heights.{levels-is}
-use Rattle.btree_shape.proofs.Paths.Used.{full-no}
 use Rattle.btree_shape.proofs.Trees.Numbers.{times-own, used-low}
 use Rattle.btree_shape.proofs.Paths.Levels.{levels-rooted}
 use Rattle.btree_shape.proofs.Trees.Sizes.{frame-parent, root-there, view-parent}
@@ -96,33 +92,3 @@ module _ (A : Type 0) (node_at : NodeMap A) (root : ℕ) (xs : List A) (id : ℕ
             let m = times-own A h t in
             let k : 1 ≤ times_above (id_of A h t) (under f c) = subst (λ n. 1 ≤ times_above n (under f c)) is there in
             omega arith
-
--- the order of the steps, read backwards
-module _ {A : Type 0} (new : NodeMap A) (root : ℕ) (new_root : Option ℕ) where
-  least-other : (id : ℕ) → id ≢ root → least_of root id ≡ 3
-  least-other id apart = full-no id root 1 3 apart
-
-  -- a right sibling that has an item to spare lends it, whatever else could be done
-  module _ (node_at : NodeMap A) (parent index right id : ℕ) (child : child_at node_at parent index ≡ Some id)
-      (only : (k : ℕ) → child_at node_at parent k ≡ Some id → k ≡ index) (spare : CanSpare node_at parent (suc index) right) where
-    clash : (k : ℕ) → suc k ≡ index → NoneSpares node_at parent (suc (suc k)) → ⊥
-    clash k same none =
-        let n : NoneSpares node_at parent (suc index) = subst (λ i. NoneSpares node_at parent (suc i)) same none in
-        let m : size_in (node_at right) ≤ 3 = subst (λ o. IfSome o (λ i. size_in (node_at i) ≤ 3)) spare.0 n in
-        let l = spare.1 in omega arith
-
-    rotated : (p : ℕ) → p ≡ parent → Borrows node_at new p id → RotatesLeft node_at new parent index id right
-    rotated p up (from_right k r at lends step) =
-        let ki : k ≡ index = only k (subst (λ q. child_at node_at q k ≡ Some id) up at) in
-        let there : child_at node_at parent (suc index) ≡ Some r =
-        subst (λ i. child_at node_at parent (suc i) ≡ Some r) ki (subst (λ q. child_at node_at q (suc k) ≡ Some r) up lends.0) in
-        let other : child_at node_at parent (suc index) ≡ Some right = spare.0 in
-        let ri : r ≡ right = same_Some r right (sym there ∙ other) in
-        subst (λ j. RotatesLeft node_at new parent index id j) ri
-        (subst (λ i. RotatesLeft node_at new parent i id r) ki (subst (λ q. RotatesLeft node_at new q k id r) up step))
-    rotated p up (from_left k left at none lends step) =
-        let ki : suc k ≡ index = only (suc k) (subst (λ q. child_at node_at q (suc k) ≡ Some id) up at) in
-        absurd (clash k ki (subst (λ q. NoneSpares node_at q (suc (suc k))) up none))
-
-  same-parent : (node_at : NodeMap A) (id p q : ℕ) → UnderflowsUnder node_at root p id → UnderflowsUnder node_at root q id → p ≡ q
-  same-parent node_at id p q s t = let a = s.named in let b = t.named in cc
