@@ -28,11 +28,12 @@ use Rattle.btree_shape.proofs.Trees.States.{is-off, pairs-off}
 use Rattle.btree_raw.specs.LastItem.{TakesLast}
 use Rattle.btree_raw.specs.Rebalance.{HasRoom, IsRebalanced}
 use Rattle.btree_raw.proofs.SingleNodeLemmas.{remade-other}
+use Rattle.btree_raw.proofs.UpwardLemmas.{put-used}
 use Rattle.btree_find.specs.Navigation.{IsItemAddress, IsItemAt, IsItemBefore, LeadsBefore}
 use Rattle.btree_find.proofs.PlaceLemmas.{in-tree, only, place-there, placed, root-there}
 use Rattle.btree_find.proofs.PreviousLemmas.{before-below}
 use Rattle.btree_edit.specs.Remove.{IsInnerAt, IsRemoved, LeadsBehind}
-use Rattle.btree_edit.proofs.RemoveLemmas.{as-many-used, remove-shorter, removed-by, written-used}
+use Rattle.btree_edit.proofs.RemoveLemmas.{as-many-used, remove-shorter, removed-by}
 
 -- the node of a view
 pub node-of : {K V : Type 0} (o : Option (Node K V)) (v : View (K × V)) → option_map view_of o ≡ Some v
@@ -265,9 +266,9 @@ module _ {K V : Type 0} (cmp : K → K → Ordering) (laws : IsTotalOrder cmp) (
       as-many : map.len mid.nodes ≡ map.len old.nodes
       as-many =
           as-many-used cmp old mid root well
-          (λ n. written-used (node_map taken) (node_map mid) a.id inner.node w
+          (λ n. put-used (node_map taken) (node_map mid) a.id inner.node w
           (takes.writes.others a.id apart ∙ inner.here) put n
-          ∙ written-used node_at (node_map taken) leaf_id (leaf takes.parent takes.items) shorter takes.here takes.writes n)
+          ∙ put-used node_at (node_map taken) leaf_id (leaf takes.parent takes.items) shorter takes.here takes.writes n)
 
       -- after the underflow is fixed
       pub removed-from-internal : (new : TreeState K V) (b : Address) → mid.len + 1 ≡ old.len → mid.kept ≡ old.kept

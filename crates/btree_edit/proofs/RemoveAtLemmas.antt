@@ -29,13 +29,10 @@ use Rattle.btree_find.proofs.WalkLemmas.{occupied-below}
 use Rattle.btree_edit.specs.Remove.{HasChildBehind, IsInnerAt, IsRemoved, LeadsBehind, RebalancesLeaf}
 use Rattle.btree_edit.proofs.InnerLemmas.{node-of}
 use Rattle.btree_edit.proofs.RemoveLemmas.{removed-from-leaf, taken-counted, taken-off, taken-room, taken-valid}
+use Rattle.btree_edit.specs.WrittenLaws.{no-node}
 
 some-same : (m n : ℕ) → Some m ≡ Some n → m ≡ n
 some-same m n e = cc
-
-no-item : {A : Type 0} (o : Option ℕ) → option_and_then (item_in {A = A} None) o ≡ None
-no-item None = refl
-no-item (Some n) = refl
 
 -- what is so of a result that is Ok, or Err
 pub on-ok : {A B C : Type 0} (r : Result A B) (x : A) → r ≡ Ok x → OnOk r C → C
@@ -77,7 +74,7 @@ module _ {K V : Type 0} (old : TreeState K V) (a : Address) where
   pub vacant-empty : (cmp : K → K → Ordering) → IsBTree cmp old → old.root ≡ None → item_of old a ≡ None
   vacant-empty cmp tree e =
       let w = subst (λ t. IsWellFormed cmp (node_map old) t old.len (pairs_of old)) e tree in
-      ap (λ v. option_and_then (item_in v) a.offset) (w.formed.0 a.id) ∙ no-item a.offset
+      ap (λ v. option_and_then (item_in v) a.offset) (w.formed.0 a.id) ∙ no-node a.offset
 
   module _ (node : Node K V) (at : Some node ≡ finite.get old.nodes a.id) where
     pub here : node_map old a.id ≡ Some (view_of node)

@@ -1,6 +1,6 @@
 -- An item removed and the underflow fixed: the tree afterwards. The law for any removal is `removed-by`; for one from a
 -- leaf it is `removed-from-leaf`.
-use Rattle.std.proofs.Common.{◌≡◌, ◌∙◌, ◌+◌, ◌<◌, ◌≤◌, ℕ, suc, inl, inr, List, length, Option, Some, None, IsSome, refl, sym, ap, subst, option_and_then, slice_get, arith, ◌^◌}
+use Rattle.std.proofs.Common.{◌≡◌, ◌∙◌, ◌+◌, ◌<◌, ◌≤◌, ℕ, suc, inl, List, length, Option, Some, None, IsSome, refl, sym, ap, subst, option_and_then, slice_get, arith, ◌^◌}
 use Rattle.std.proofs.lemmas.List.Edits.{length-remove}
 use Rattle.std.proofs.lemmas.Option.{slice_get_within}
 use Rattle.std.specs.Cmp.{IsTotalOrder}
@@ -25,11 +25,11 @@ use Rattle.btree_shape.proofs.Places.Words.{item-within}
 use Rattle.btree_shape.proofs.Removal.FromTree.{take-address, take-height, take-item, take-off, take-within}
 use Rattle.btree_shape.proofs.Strain.OneStrain.{one-strain}
 use Rattle.btree_shape.proofs.Trees.Density.{height-low}
-use Rattle.btree_shape.proofs.Trees.Numbers.{same-or, used-one}
 use Rattle.btree_shape.proofs.Trees.States.{is-off, pairs-off}
 use Rattle.btree_shape.proofs.Trees.Stores.{len-views}
 use Rattle.btree_shape.proofs.Underflow.Order.{one-height}
 use Rattle.btree_raw.specs.Rebalance.{HasRoom, IsRebalanced}
+use Rattle.btree_raw.proofs.UpwardLemmas.{put-used}
 use Rattle.btree_find.specs.Fits.{FitsAt}
 use Rattle.btree_find.proofs.PlaceLemmas.{has-place}
 use Rattle.btree_edit.specs.Remove.{FreesWithinStrain, IsRemoved}
@@ -38,14 +38,6 @@ use Rattle.btree_edit.proofs.ReplaceLemmas.{fits-removed}
 -- one element less than before
 pub remove-shorter : {X : Type 0} (xs : List X) (i : ℕ) (x : X) → slice_get xs i ≡ Some x → length (remove xs i) + 1 ≡ length xs
 remove-shorter xs i x e = length-remove xs i (slice_get_within xs i x e)
-
--- a written node is as often in use as before
-pub written-used : {A : Type 0} (node_at new : NodeMap A) (id : ℕ) (v w : View A) → node_at id ≡ Some v
-    → WritesNode node_at new id w → (n : ℕ) → times_used (new n) ≡ times_used (node_at n)
-written-used node_at new id v w here put n = elim (same-or n id) [
-  | inl e ↦ let a = used-one (new id) w put.here in let b = used-one (node_at id) v here in rw e (omega arith)
-  | inr ne ↦ ap times_used (put.others n ne)
-]
 
 module _ {K V : Type 0} (cmp : K → K → Ordering) (old mid : TreeState K V) (root : ℕ)
     (well : IsWellFormed cmp (node_map old) (Some root) old.len (pairs_of old)) where
@@ -267,5 +259,5 @@ module _ {K V : Type 0} (cmp : K → K → Ordering) (laws : IsTotalOrder cmp) (
       (leaf p (remove ys o)) put.here taken-room.room
       (take-within cmp laws node_at root old.len xs well low (node_map mid) a.id p ys o place x here stood place-on.1 put)
       (as-many-used cmp old mid root well
-      (written-used node_at (node_map mid) a.id (leaf p ys) (leaf p (remove ys o)) here put))
+      (put-used node_at (node_map mid) a.id (leaf p ys) (leaf p (remove ys o)) here put))
       had at-place listed taken-place (subst (λ q. IsSome q) (sym offset) refl) new b len uncounted r

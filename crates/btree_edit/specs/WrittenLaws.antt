@@ -15,7 +15,8 @@ set-here [] n x y e = absurd (cc)
 set-here (z ∷ xs) zero x y e = refl
 set-here (z ∷ xs) (suc n) x y e = set-here xs n x y e
 
-no-node : {A : Type 0} (offset : Option ℕ) → option_and_then (item_in {A = A} None) offset ≡ None
+-- without a node there is no item
+pub no-node : {A : Type 0} (offset : Option ℕ) → option_and_then (item_in {A = A} None) offset ≡ None
 no-node None = refl
 no-node (Some n) = refl
 

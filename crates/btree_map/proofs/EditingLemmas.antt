@@ -1,6 +1,7 @@
 -- The place of an editing cursor: the item there, an address for an insertion there, and the address of the next item
 -- after each edit.
 use Rattle.std.proofs.Common.{◌≡◌, ◌↔◌, ◌∙◌, ℕ, suc, ◌+◌, ◌<◌, ◌≤◌, Bool, true, false, not, List, [], ◌∷◌, ◌++◌, Option, Some, None, IsSome, is_none, is_some, length, length-drop, take, drop, refl, sym, ap, slice_get, subst, arith}
+use Rattle.std.proofs.lemmas.List.{drop_all}
 use Rattle.std.proofs.lemmas.Option.{slice_get_within}
 use Rattle.std.specs.Cmp.{IsTotalOrder}
 use Rattle.std.specs.List.{insert, remove}
@@ -21,7 +22,7 @@ use Rattle.btree_edit.specs.InsertAt.{InsertsAt}
 use Rattle.btree_edit.specs.Remove.{IsRemoved}
 use Rattle.btree_map.specs.Editing.{FitsBetween}
 use Rattle.btree_map.proofs.CursorLemmas.{get_none, listed-item, listed-occupied, listed-valid}
-use Rattle.btree_map.proofs.EditingLists.{between-fits, drop-first, drop-past, fits-between, insert-drop, insert-take, remove-drop, remove-take}
+use Rattle.btree_map.proofs.EditingLists.{between-fits, drop-first, fits-between, insert-drop, insert-take, remove-drop, remove-take}
 
 none-there : (first : Option Address) → is_none first ≡ true → first ≡ None
 none-there None told = refl
@@ -61,7 +62,7 @@ module _ {K V : Type 0} (cmp : K → K → Ordering) (laws : IsTotalOrder cmp) (
     past-low none = let past = get_none (item_addresses_of s) front (sym stands ∙ none) in omega (arith, counted)
 
     pub past-empty : first ≡ None → drop front (pairs_of s) ≡ []
-    past-empty none = drop-past front (pairs_of s) (past-low none)
+    past-empty none = drop_all front (pairs_of s) (past-low none)
 
     pub past-first : first ≡ None → None ≡ slice_get (drop front (pairs_of s)) 0
     past-first none = ap (λ (l : List (K × V)). slice_get l 0) (sym (past-empty none))

@@ -1,5 +1,6 @@
 -- A list cut at a place: its first element after the place, and both parts after an edit there.
 use Rattle.std.proofs.Common.{◌≡◌, ◌∙◌, ℕ, zero, suc, ◌+◌, ◌-◌, ◌<◌, ◌≤◌, List, [], ◌∷◌, ◌++◌, Some, length, take, drop, set, slice_get, refl, sym, ap, subst, arith}
+use Rattle.std.proofs.lemmas.List.{length-take-le}
 use Rattle.std.proofs.lemmas.Option.{same_Some}
 use Rattle.std.specs.List.{insert, remove}
 use Rattle.std.specs.declared.cmp.Ordering.{Ordering}
@@ -13,27 +14,16 @@ module _ {X : Type 0} where
   drop-first (suc n) [] = refl
   drop-first (suc n) (x ∷ xs) = drop-first n xs
 
-  pub drop-past : (n : ℕ) (xs : List X) → length xs ≤ n → drop n xs ≡ []
-  drop-past zero [] low = refl
-  drop-past zero (x ∷ xs) low = absurd (omega arith)
-  drop-past (suc n) [] low = refl
-  drop-past (suc n) (x ∷ xs) low = drop-past n xs (omega arith)
-
   take-before : (n m : ℕ) (xs : List X) → m < n → slice_get (take n xs) m ≡ slice_get xs m
   take-before zero m xs less = absurd (omega arith)
   take-before (suc n) m [] less = refl
   take-before (suc n) zero (x ∷ xs) less = refl
   take-before (suc n) (suc m) (x ∷ xs) less = take-before n m xs (omega arith)
 
-  take-long : (n : ℕ) (xs : List X) → n ≤ length xs → length (take n xs) ≡ n
-  take-long zero xs low = refl
-  take-long (suc n) [] low = absurd (omega arith)
-  take-long (suc n) (x ∷ xs) low = let l = take-long n xs (omega arith) in omega arith
-
   -- the last element before the cut
   pub take-last : (n : ℕ) (xs : List X) → suc n ≤ length xs → slice_get (take (suc n) xs) (length (take (suc n) xs) - 1) ≡ slice_get xs n
   take-last n xs low =
-      let l = take-long (suc n) xs low in
+      let l = length-take-le (suc n) xs low in
       let last : length (take (suc n) xs) - 1 ≡ n = omega arith in
       ap (slice_get (take (suc n) xs)) last ∙ take-before (suc n) n xs (omega arith)
 

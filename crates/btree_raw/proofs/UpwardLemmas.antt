@@ -55,7 +55,8 @@ split-used node_at new i j x s used n = elim (same-or n i) [
   ]
 ]
 
-put-used : {A : Type 0} (node_at new : NodeMap A) (p : ℕ) (u v : View A) → node_at p ≡ Some u → WritesNode node_at new p v → (n : ℕ) → times_used (new n) ≡ times_used (node_at n)
+-- a written node is as often in use as before
+pub put-used : {A : Type 0} (node_at new : NodeMap A) (p : ℕ) (u v : View A) → node_at p ≡ Some u → WritesNode node_at new p v → (n : ℕ) → times_used (new n) ≡ times_used (node_at n)
 put-used node_at new p u v was put n = elim (same-or n p) [
   | inl e ↦ let a = used-one (new p) v put.here in let b = used-one (node_at p) u was in rw e (omega arith)
   | inr ne ↦ ap times_used (put.others n ne)

@@ -1,24 +1,19 @@
 -- A drain of a map without values is one of its keys.
 use Rattle.std.proofs.Common.{◌≡◌, ◌∙◌, ℕ, zero, suc, Bool, true, false, List, [], ◌∷◌, ◌++◌, Option, Some, None, IfSome, map, option_map, drop, take, length, ◌+◌, ◌<◌, arith, refl, sym, ap, subst}
+use Rattle.std.proofs.lemmas.List.{length-append}
 use Rattle.std.specs.Iterator.{MakesProgress, at_most}
 use Rattle.std.specs.List.{FoldsTo}
 use Rattle.std.specs.Map.{keys_of}
 use Rattle.std.specs.Map.Calls.{CallableOnEachPair, SomeCallAtPair}
 use Rattle.btree_shape.specs.TreeState.{TreeState, pairs_of}
 use Rattle.btree_map.specs.Drain.{Asks as PairAsks, Selects as PairSelects, RunsTest as PairRunsTest, RunsOut as PairRunsOut, Yields as PairYields, if_same as if_same_pair, picked as picked_pairs}
+use Rattle.btree_map.proofs.DrainRuns.{cons-tail}
 use Rattle.btree_set.specs.Drain.{Asks, CallableOnEach, RunsOut, RunsTest, Selects, SomeCallAt, Yields, if_same, picked}
 use Rattle.btree_set.specs.Elements.{SetState, set_of}
 
 module _ {T : Type 0} where
   same-head : {x y : T} {xs ys : List T} → x ∷ xs ≡ y ∷ ys → x ≡ y
   same-head e = cc
-
-  same-tail : {x y : T} {xs ys : List T} → x ∷ xs ≡ y ∷ ys → xs ≡ ys
-  same-tail e = cc
-
-  length-append : (xs ys : List T) → length (xs ++ ys) ≡ length xs + length ys
-  length-append [] ys = omega arith
-  length-append (x ∷ xs) ys = let l = length-append xs ys in omega (arith, l)
 
 module _ {F T : Type 0} (Step : F → T → Bool → F → Type 0) where
   no-cons : {x : Bool × T} {xs : List (Bool × T)} → x ∷ xs ≡ [] → ⊥
@@ -113,7 +108,7 @@ module _ {F T : Type 0} (Step : F → T → Bool → F → Type 0) where
       each ((k, v) ∷ ps) [] after f f' x is same can =
           subst (λ y. Takes f' y) (same-head is) (subst (λ z. Takes z k) same (can.at [] ps f k v refl refl))
       each ((k, v) ∷ ps) (b ∷ before) after f f' x is (f1, call, rest) can =
-          each ps before after f1 f' x (same-tail is) rest (behind f f1 (k, v) ps call.0 (subst (λ y. Step f y call.0 f1) (sym (same-head is)) call.1) can)
+          each ps before after f1 f' x (cons-tail is) rest (behind f f1 (k, v) ps call.0 (subst (λ y. Step f y call.0 f1) (sym (same-head is)) call.1) can)
 
   pub asks-keys : (f f' : F) (ps : List (T × Unit {0})) (asked : List (Bool × (T × Unit {0}))) → PairAsks PairStep f ps asked f' → Asks Step f (keys_of ps) (answers_of asked) f'
   asks-keys f f' [] asked run = (ap answers_of run.0, run.1)

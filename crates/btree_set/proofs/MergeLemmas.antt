@@ -8,6 +8,9 @@ use Rattle.std.specs.Set.{sorted_merge}
 use Rattle.std.specs.declared.cmp.Ordering.{Ordering}
 use Rattle.std.specs.declared.cmp.Ordering.TheVariants.{Less, Equal, Greater}
 use Rattle.btree_set.specs.Merges.{difference, intersection, is_in}
+use Rattle.btree_walk.proofs.BoundLemmas.{all-so}
+use Rattle.btree_walk.proofs.RangeLemmas.{filter-same}
+use Rattle.btree_shape.proofs.LookUp.KeyInList.{reversed, reversed-back}
 
 pub by-order : {P : Type 0} (o : Ordering) → (o ≡ Less → P) → (o ≡ Equal → P) → (o ≡ Greater → P) → P
 by-order Less a b c = a refl
@@ -31,44 +34,29 @@ module _ {T : Type 0} (cmp : T → T → Ordering) (both : Bool) where
     pub merge-equal : cmp x y ≡ Equal → sorted_merge cmp both (x ∷ xs) (y ∷ ys) ≡ cond both (x ∷ sorted_merge cmp both xs ys) (sorted_merge cmp both xs ys)
     merge-equal equal = rw equal refl
 
--- two tests that are alike on a list filter it alike
-filter-same : {A : Type 0} (p q : A → Bool) (xs : List A) → AllByRecursion (λ x. p x ≡ q x) xs → filter p xs ≡ filter q xs
-filter-same p q [] all = refl
-filter-same p q (x ∷ xs) all = rw all.0 (ap (λ l. cond (q x) (x ∷ l) l) (filter-same p q xs all.1))
-
-all-map : {A : Type 0} (P Q : A → Type 0) → ((x : A) → P x → Q x) → (xs : List A) → AllByRecursion P xs → AllByRecursion Q xs
-all-map P Q f [] all = tt
-all-map P Q f (x ∷ xs) all = (f x all.0, all-map P Q f xs all.1)
-
 module _ {T : Type 0} {cmp : T → T → Ordering} (laws : IsTotalOrder cmp) where
   -- each element of the list is above x
   abbrev pub Above : T → List T → Type 0
   Above x ys = AllByRecursion (λ y. cmp x y ≡ Less) ys
 
-  reversed : (x y : T) → cmp x y ≡ Less → cmp y x ≡ Greater
-  reversed x y less = laws.antisymm y x ∙ ap ordering_reverse less
-
-  pub turned : (x y : T) → cmp x y ≡ Greater → cmp y x ≡ Less
-  turned x y greater = laws.antisymm y x ∙ ap ordering_reverse greater
-
   apart : (x y : T) → cmp x y ≡ Less → is_eq (cmp y x) ≡ false
-  apart x y less = ap is_eq (reversed x y less)
+  apart x y less = ap is_eq (reversed laws x y less)
 
   pub absent : (x : T) (ys : List T) → Above x ys → is_in cmp ys x ≡ false
   absent x [] above = refl
   absent x (y ∷ ys) above = rw (apart x y above.0) (absent x ys above.1)
 
   pub above-more : (x y : T) (ys : List T) → cmp x y ≡ Less → Above y ys → Above x (y ∷ ys)
-  above-more x y ys less above = (less, all-map (λ z. cmp y z ≡ Less) (λ z. cmp x z ≡ Less) (λ z more. laws.trans x y z less more) ys above)
+  above-more x y ys less above = (less, all-so (λ z. cmp y z ≡ Less) (λ z. cmp x z ≡ Less) (λ z more. laws.trans x y z less more) ys above)
 
   pub above-equal : (x y : T) (ys : List T) → cmp x y ≡ Equal → Above y ys → Above x ys
-  above-equal x y ys equal above = all-map (λ z. cmp y z ≡ Less) (λ z. cmp x z ≡ Less) (λ z more. laws.congr x y z equal ∙ more) ys above
+  above-equal x y ys equal above = all-so (λ z. cmp y z ≡ Less) (λ z. cmp x z ≡ Less) (λ z more. laws.congr x y z equal ∙ more) ys above
 
   -- an element y below each of xs makes no difference to them
   below-same : (f : Bool → Bool) (y : T) (ys xs : List T) → Above y xs → filter (λ x. f (is_in cmp (y ∷ ys) x)) xs ≡ filter (λ x. f (is_in cmp ys x)) xs
   below-same f y ys xs above =
       filter-same (λ x. f (is_in cmp (y ∷ ys) x)) (λ x. f (is_in cmp ys x)) xs
-      (all-map (λ x. cmp y x ≡ Less) (λ x. f (is_in cmp (y ∷ ys) x) ≡ f (is_in cmp ys x)) (λ x less. rw (ap is_eq less) refl) xs above)
+      (all-so (λ x. cmp y x ≡ Less) (λ x. f (is_in cmp (y ∷ ys) x) ≡ f (is_in cmp ys x)) (λ x less. rw (ap is_eq less) refl) xs above)
 
   -- the first elements of two ascending lists
   module _ (x y : T) (xs ys : List T) (up : IsStrictlySortedBy cmp (x ∷ xs)) (rise : IsStrictlySortedBy cmp (y ∷ ys)) where
@@ -86,7 +74,7 @@ module _ {T : Type 0} {cmp : T → T → Ordering} (laws : IsTotalOrder cmp) whe
     skip-greater : (f : Bool → Bool) → cmp x y ≡ Greater
         → filter (λ z. f (is_in cmp (y ∷ ys) z)) (x ∷ xs) ≡ filter (λ z. f (is_in cmp ys z)) (x ∷ xs)
     unfolding IsStrictlySortedBy
-    skip-greater f greater = below-same f y ys (x ∷ xs) (above-more y x xs (turned x y greater) up.0)
+    skip-greater f greater = below-same f y ys (x ∷ xs) (above-more y x xs (reversed-back laws x y greater) up.0)
 
     pub intersection-less : cmp x y ≡ Less → intersection cmp (x ∷ xs) (y ∷ ys) ≡ intersection cmp xs (y ∷ ys)
     intersection-less less = rw (not-there less) refl

@@ -10,8 +10,9 @@ use Rattle.std.specs.Set.{sorted_merge}
 use Rattle.std.specs.declared.cmp.Ordering.{Ordering}
 use Rattle.std.specs.declared.cmp.Ordering.TheVariants.{Less, Equal}
 use Rattle.btree_set.specs.Merges.{is_in}
-use Rattle.btree_set.proofs.MergeLemmas.{above-equal, above-more, absent, by-order, merge-equal, merge-greater, merge-less, rest-up, turned}
+use Rattle.btree_set.proofs.MergeLemmas.{above-equal, above-more, absent, by-order, merge-equal, merge-greater, merge-less, rest-up}
 use Rattle.btree_find.specs.CallerLaws.{equal-by}
+use Rattle.btree_shape.proofs.LookUp.KeyInList.{reversed-back}
 
 module _ {T : Type 0} (cmp : T → T → Ordering) where
   -- whether x is in a list, by its first element
@@ -117,7 +118,7 @@ module _ {T : Type 0} {cmp : T → T → Ordering} (laws : IsTotalOrder cmp) whe
         (λ equal. rw (merge-equal cmp both x y xs ys equal)
         (either both (all-merged cmp (λ z. cmp x z ≡ Less) both xs ys up.0 (above-equal laws x y ys equal rise.0)) (go ys rise.1)))
         (λ greater. rw (merge-greater cmp both x y xs ys greater)
-        (all-merged cmp (λ z. cmp y z ≡ Less) both (x ∷ xs) ys (above-more laws y x xs (turned laws x y greater) up.0) rise.0, ascends-at x xs up go ys rise.1))
+        (all-merged cmp (λ z. cmp y z ≡ Less) both (x ∷ xs) ys (above-more laws y x xs (reversed-back laws x y greater) up.0) rise.0, ascends-at x xs up go ys rise.1))
       where
         either : (b : Bool) → AllByRecursion (λ z. cmp x z ≡ Less) (sorted_merge cmp both xs ys) → IsStrictlySortedBy cmp (sorted_merge cmp both xs ys)
             → IsStrictlySortedBy cmp (cond b (x ∷ sorted_merge cmp both xs ys) (sorted_merge cmp both xs ys))
@@ -162,7 +163,7 @@ module _ {T : Type 0} {cmp : T → T → Ordering} (laws : IsTotalOrder cmp) whe
         (λ equal. rw (merge-equal cmp false x y xs ys equal, go ys rise.1, in-first cmp x xs q, in-first cmp y ys q, sym (same-test x y equal))
         (xor-same (is_eq (cmp x q)) (has xs) (has ys) (none-equal x xs q up.0) (none-equal x ys q (above-equal laws x y ys equal rise.0))))
         (λ greater. rw (merge-greater cmp false x y xs ys greater, in-first cmp y (sorted_merge cmp false (x ∷ xs) ys) q, apart-at x xs up go ys rise.1, in-first cmp y ys q)
-        (xor-right (is_eq (cmp y q)) (has (x ∷ xs)) (has ys) (none-equal y (x ∷ xs) q (above-more laws y x xs (turned laws x y greater) up.0))))
+        (xor-right (is_eq (cmp y q)) (has (x ∷ xs)) (has ys) (none-equal y (x ∷ xs) q (above-more laws y x xs (reversed-back laws x y greater) up.0))))
 
     pub in-apart : (xs ys : List T) → IsStrictlySortedBy cmp xs → IsStrictlySortedBy cmp ys → has (sorted_merge cmp false xs ys) ≡ xor (has xs) (has ys)
     in-apart [] ys up rise = false-xor (has ys)

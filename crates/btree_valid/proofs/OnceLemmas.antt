@@ -14,7 +14,7 @@ use Rattle.btree_shape.specs.Lists.{one, times_listed, total}
 use Rattle.btree_shape.specs.Focus.Subtree.{Holds, Subtree, id_of, items_under, later_items, times_under}
 use Rattle.btree_shape.specs.WellFormed.{IsNearlySized, least_allowed, times_used}
 use Rattle.btree_shape.proofs.Paths.Frames.{one-other, one-self, total-append}
-use Rattle.btree_shape.proofs.Trees.Numbers.{same-or, used-low, used-one, zero-or}
+use Rattle.btree_shape.proofs.Trees.Numbers.{same-or, used-low, used-one, used-some, zero-or}
 use Rattle.btree_shape.proofs.LookUp.KeyInList.{Rises}
 
 -- as many numbers as a content has, each used and none twice, are all of its numbers
@@ -29,15 +29,11 @@ module _ {T : Type 0} where
   none-used m n None at none = refl
   none-used m n (Some u) at none = let l = without-one m n u at in absurd (omega arith)
 
-  used-at : (o : Option T) → 0 < times_used o → (u : T) × (o ≡ Some u)
-  used-at None some = absurd (omega arith)
-  used-at (Some u) some = (u, refl)
-
   pub all-used : (ns : List ℕ) (m : Content T) → ((n : ℕ) → times_listed n ns ≤ times_used (get m n)) → len m ≡ length ns
       → (n : ℕ) → times_listed n ns ≡ times_used (get m n)
   all-used [] m few same n = sym (none-used m n (get m n) refl same)
   all-used (i ∷ ns) m few same n =
-      let u = used-at (get m i) (let f = few i in let s = one-self i in omega arith) in
+      let u = used-some (get m i) (let f = few i in let s = one-self i in omega arith) in
       let l = without-one m i u.0 u.1 in
       let rest = all-used ns (remove m i) (λ n. elim (same-or n i) [
         | inl at ↦
@@ -69,7 +65,7 @@ module _ {T : Type 0} where
   pub listed-low : (ns : List ℕ) (m : Content T) → ((n : ℕ) → times_listed n ns ≤ times_used (get m n)) → length ns ≤ len m
   listed-low [] m few = omega arith
   listed-low (i ∷ ns) m few =
-      let u = used-at (get m i) (let f = few i in let s = one-self i in omega arith) in
+      let u = used-some (get m i) (let f = few i in let s = one-self i in omega arith) in
       let l = without-one m i u.0 u.1 in
       let rest = listed-low ns (remove m i) (λ n. elim (same-or n i) [
         | inl at ↦

@@ -28,7 +28,7 @@ use Rattle.btree_shape.proofs.Paths.UnsizedFocus.{focus-unsized}
 use Rattle.btree_shape.proofs.Trees.Heights.{levels-is}
 use Rattle.btree_shape.proofs.Trees.Numbers.{numbers-subtree, same-or, used-mapped, used-none, used-one, used-there}
 use Rattle.btree_shape.proofs.Trees.Represented.{represented-is}
-use Rattle.btree_shape.proofs.Trees.Sizes.{below-middle, least-low, least-root, view-most, view-size}
+use Rattle.btree_shape.proofs.Trees.Sizes.{below-middle, least-low, least-root, view-most, view-parent, view-size}
 use Rattle.btree_shape.proofs.Trees.States.{height_held, is-tree}
 use Rattle.btree_shape.proofs.Trees.Subtrees.{represents-of}
 use Rattle.btree_valid.specs.Faults.{AreBetween, SuitsNode}
@@ -36,7 +36,6 @@ use Rattle.btree_valid.specs.Spots.{FindsAt, FindsTree, Suits, least_between}
 use Rattle.btree_valid.specs.declared.faults.Met.{Met}
 use Rattle.btree_valid.specs.declared.faults.Spot.{Spot}
 use Rattle.btree_valid.proofs.OnceLemmas.{all-used, few, listed-low}
-use Rattle.btree_valid.proofs.VerdictLemmas.{own-parent}
 
 -- a part that suits at a spot, with the parent and the separators there by other names
 pub retarget : {K V : Type 0} (cmp : K → K → Ordering) (node_at : NodeMap (K × V)) (h : ℕ) (t : Subtree (K × V) h) (min max a b : Option K) (parent p : Option ℕ) → min ≡ a → max ≡ b → parent ≡ p → Suits cmp min max node_at parent h t → Suits cmp a b node_at p h t
@@ -183,7 +182,7 @@ module _ {K V : Type 0} (cmp : K → K → Ordering) (tree : TreeState K V) (id 
       record {
         node = view_at (K × V) h parent f.part;
         at = subst (λ i. node_map tree i ≡ Some (view_at (K × V) h parent f.part)) here (top-view (K × V) (node_map tree) h parent f.part suits.holds);
-        parent_is = own-parent V cmp h parent f.part;
+        parent_is = view-parent (K × V) h parent f.part;
         filled = λ no. let three = three-items min max (count_at (K × V) h f.part) suits.filled.0 no in omega arith;
         between = subst (AreBetween cmp min max) (sym list) suits.between;
       }

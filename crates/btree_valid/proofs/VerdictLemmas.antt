@@ -11,9 +11,10 @@ use Rattle.btree_item.specs.declared.fault.Fault.TheVariants.{NoNode, WrongParen
 use Rattle.btree_view.specs.Checks.{BeginsAbove, EndsBelow, FirstFailed, IsNodeVerdict, PassesCheck, is_judged_as_root, node_faults}
 use Rattle.btree_view.specs.View.{NodeMap, View, items_of, most_of, parent_of}
 use Rattle.btree_shape.specs.Focus.Subtree.{Subtree, count_at, id_of, items_under, later_items, view_at}
-use Rattle.btree_shape.proofs.LookUp.KeyInList.{Rises, ascends, rises, rises-right}
+use Rattle.btree_shape.proofs.LookUp.KeyInList.{ascends, rises}
 use Rattle.btree_shape.proofs.Paths.Frames.{AllByRecursion-right}
-use Rattle.btree_shape.proofs.Trees.Sizes.{view-most, view-size}
+use Rattle.btree_shape.proofs.Trees.Sizes.{view-most, view-parent, view-size}
+use Rattle.btree_shape.proofs.LookUp.Descent.{items-rise}
 use Rattle.btree_valid.specs.Faults.{Allows}
 use Rattle.btree_valid.specs.Spots.{Suits, least_between}
 
@@ -54,26 +55,10 @@ module _ {K : Type 0} (V : Type 0) (cmp : K → K → Ordering) where
   branch-all P h [] all = tt
   branch-all P h (b ∷ bs) all = (all.0, branch-all P h bs (AllByRecursion-right P (items_under (K × V) h b.1) (later_items (K × V) h bs) all.1))
 
-  branch-rise : (h : ℕ) (bs : List ((K × V) × Subtree (K × V) h)) → Rises cmp (later_items (K × V) h bs)
-      → Rises cmp (map {B = K × V} (λ b. b.0) (map {B = (K × V) × ℕ} (λ (b : (K × V) × Subtree (K × V) h). (b.0, id_of (K × V) h b.1)) bs))
-  branch-rise h [] up = tt
-  branch-rise h (b ∷ bs) up = (
-    branch-all (λ y. cmp b.0.0 y.0 ≡ Less) h bs (AllByRecursion-right (λ y. cmp b.0.0 y.0 ≡ Less) (items_under (K × V) h b.1) (later_items (K × V) h bs) up.0),
-    branch-rise h bs (rises-right cmp (items_under (K × V) h b.1) (later_items (K × V) h bs) up.1),
-  )
-
   -- what holds of all items of a part holds of those of its root
   own-all : (P : K × V → Type 0) (h : ℕ) (parent : Option ℕ) (t : Subtree (K × V) h) → AllByRecursion P (items_under (K × V) h t) → AllByRecursion P (items_of (view_at (K × V) h parent t))
   own-all P zero parent t all = all
   own-all P (suc h) parent t all = branch-all P h t.2 (AllByRecursion-right P (items_under (K × V) h t.1) (later_items (K × V) h t.2) all)
-
-  own-rise : (h : ℕ) (parent : Option ℕ) (t : Subtree (K × V) h) → Rises cmp (items_under (K × V) h t) → Rises cmp (items_of (view_at (K × V) h parent t))
-  own-rise zero parent t up = up
-  own-rise (suc h) parent t up = branch-rise h t.2 (rises-right cmp (items_under (K × V) h t.1) (later_items (K × V) h t.2) up)
-
-  pub own-parent : (h : ℕ) (parent : Option ℕ) (t : Subtree (K × V) h) → parent_of (view_at (K × V) h parent t) ≡ parent
-  own-parent zero parent t = refl
-  own-parent (suc h) parent t = refl
 
   key-at : (P : K → Type 0) (xs : List (K × V)) (i : ℕ) → AllByRecursion (λ x. P x.0) xs → IfSome (slice_get (keys_of xs) i) P
   key-at P [] i all = tt
@@ -97,11 +82,11 @@ module _ {K V : Type 0} (cmp : K → K → Ordering) where
     ends (Some k) f = key-at V cmp (λ y. cmp y k ≡ Less) (items_of own) _ (own-all V cmp (λ x. cmp x.0 k ≡ Less) h parent t f)
 
     pub passes : (fault : Fault) → PassesCheck cmp parent min max (parent_of own) (most_of own) (keys_of (items_of own)) fault
-    passes WrongParent = own-parent V cmp h parent t
+    passes WrongParent = view-parent (K × V) h parent t
     passes Overflowing = let c = count in let m = view-most (K × V) h parent t in let f = s.filled.1 in omega arith
     passes Underflowing = λ no. let c = count in let l = least-three min max no in let f = s.filled.0 in omega arith
     passes EmptyRoot = λ yes. let c = count in let l = least-one min max in let f = s.filled.0 in omega arith
-    passes Unsorted = ascends cmp (items_of own) (own-rise V cmp h parent t (rises cmp (items_under (K × V) h t) s.ascends))
+    passes Unsorted = ascends cmp (items_of own) (items-rise V cmp h parent t (rises cmp (items_under (K × V) h t) s.ascends))
     passes BelowSeparator = begins min s.between.above
     passes AboveSeparator = ends max s.between.below
     passes NoNode = tt
@@ -117,7 +102,7 @@ module _ {K V : Type 0} (cmp : K → K → Ordering) where
 
     module _ (asked : Option ℕ) (low high : Option K) where
       allowed : (fault : Fault) → Allows cmp parent (count_at (K × V) h t) (items_under (K × V) h t) asked low high fault → PassesCheck cmp asked low high (parent_of own) (most_of own) (keys_of (items_of own)) fault
-      allowed WrongParent a = own-parent V cmp h parent t ∙ a
+      allowed WrongParent a = view-parent (K × V) h parent t ∙ a
       allowed Underflowing a = λ no. let c = count in let l = a no in omega arith
       allowed BelowSeparator a = begins low a.above
       allowed AboveSeparator a = ends high a.below

@@ -5,7 +5,8 @@ use Rattle.btree_view.specs.View.{NodeMap, children_in, children_of}
 use Rattle.btree_shape.specs.Lists.{one, times_listed}
 use Rattle.btree_shape.specs.Represents.{numbers_under}
 use Rattle.btree_shape.proofs.Paths.Frames.{one-self}
-use Rattle.btree_valid.specs.ListedLaws.{listed-append, met-listed}
+use Rattle.btree_shape.proofs.Trees.Numbers.{listed-append}
+use Rattle.btree_valid.specs.ListedLaws.{met-listed}
 use Rattle.btree_valid.specs.PositionLaws.{one-first}
 use Rattle.btree_valid.specs.Positions.{Leads, Precedes, Spotted, step_down}
 

@@ -25,7 +25,7 @@ use Rattle.btree_shape.proofs.Trees.Density.{height-low}
 use Rattle.btree_shape.proofs.Trees.Heights.{levels-is, low-enough}
 use Rattle.btree_shape.proofs.Trees.Numbers.{used-there}
 use Rattle.btree_shape.proofs.Trees.Represented.{represented-is}
-use Rattle.btree_shape.proofs.Trees.Sizes.{view-size}
+use Rattle.btree_shape.proofs.Trees.Sizes.{view-parent, view-size}
 use Rattle.btree_shape.proofs.Trees.States.{few-nodes, height_held}
 use Rattle.btree_shape.proofs.Trees.Stores.{len-views}
 use Rattle.btree_shape.proofs.Trees.Subtrees.{represents-of}
@@ -33,7 +33,6 @@ use Rattle.btree_valid.specs.Faults.{Allows, AreBetween, SuitsNode, depth_below}
 use Rattle.btree_valid.specs.Spots.{BeginsAt, BlamesAt, CanMeet, MeetsAt, MeetsTree, Suits, least_between}
 use Rattle.btree_valid.specs.declared.faults.Met.{Met}
 use Rattle.btree_valid.specs.declared.faults.Spot.{Spot}
-use Rattle.btree_valid.proofs.VerdictLemmas.{own-parent}
 
 module _ {K V : Type 0} (content : Content (Node K V)) (cmp : K → K → Ordering) (len : ℕ) where
   -- without a root nothing may come
@@ -106,7 +105,7 @@ module _ {K V : Type 0} (cmp : K → K → Ordering) (tree : TreeState K V) (id 
       at h c t here whole sized =
           let top : node_map tree id ≡ Some (view_at (K × V) h (parent_above c) t) = subst (λ i. node_map tree i ≡ Some (view_at (K × V) h (parent_above c) t)) here (top-view (K × V) (node_map tree) h (parent_above c) t whole.inner) in
           let own : s.node ≡ view_at (K × V) h (parent_above c) t = (let is : Some s.node ≡ Some (view_at (K × V) h (parent_above c) t) = sym s.at ∙ top in cc) in
-          let up : parent_above c ≡ parent = sym (own-parent V cmp h (parent_above c) t) ∙ (ap parent_of (sym own) ∙ s.parent_is) in
+          let up : parent_above c ≡ parent = sym (view-parent (K × V) h (parent_above c) t) ∙ (ap parent_of (sym own) ∙ s.parent_is) in
           let size : size_of s.node ≡ count_at (K × V) h t = ap size_of own ∙ view-size (K × V) h (parent_above c) t in
           let levels = levels-rooted (K × V) (node_map tree) root _ _ w.formed h c t (focus-unsized (K × V) (node_map tree) [] root _ h c t whole) in
           let held = height_held tree _ root _ w.formed in

@@ -1,18 +1,15 @@
 -- The numbers under a number, level by level, are those that positions lead to, on any content.
 -- So `numbers_met`, which `validate` compares with the store at the end, lists the numbers that were met and no other.
-use Rattle.std.proofs.Common.{◌≡◌, ◌+◌, ◌<◌, ◌≤◌, ◌∷◌, ◌++◌, [], ℕ, zero, suc, inl, inr, List, length, Option, Some, None, slice_get, refl, sym, ap, subst, arith}
+use Rattle.std.proofs.Common.{◌≡◌, ◌+◌, ◌<◌, ◌≤◌, ◌∷◌, [], ℕ, zero, suc, inl, inr, List, length, Option, Some, None, slice_get, refl, sym, ap, subst, arith}
 use Rattle.std.specs.List.{flat_map}
 use Rattle.btree_view.specs.View.{NodeMap, View, children_in, children_of}
 use Rattle.btree_shape.specs.Lists.{one, times_listed}
 use Rattle.btree_shape.specs.Represents.{numbers_under}
-use Rattle.btree_shape.proofs.Paths.Frames.{one-other, one-self, total-append}
-use Rattle.btree_shape.proofs.Trees.Numbers.{same-or, zero-or}
+use Rattle.btree_shape.proofs.Paths.Frames.{one-other, one-self}
+use Rattle.btree_shape.proofs.Trees.Numbers.{listed-append, same-or, zero-or}
 use Rattle.btree_valid.specs.Positions.{IsMetUnder, Leads, Spotted, root_spot, step_down}
 use Rattle.btree_valid.specs.Verdicts.{numbers_met}
 use Rattle.std.specs.Prelude.{◌↔◌}
-
-pub listed-append : (n : ℕ) (xs ys : List ℕ) → times_listed n (xs ++ ys) ≡ times_listed n xs + times_listed n ys
-listed-append n xs ys = total-append (λ id. one n id) xs ys
 
 module _ {K V : Type 0} (node_at : NodeMap (K × V)) where
   -- one of several children

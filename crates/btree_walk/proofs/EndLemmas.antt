@@ -1,6 +1,6 @@
 -- One step at an end of an iterator from both ends.
 use Rattle.std.proofs.Common.{◌≡◌, ℕ, zero, suc, ◌-◌, ◌≤◌, List, [], ◌∷◌, ◌++◌, length, take, refl, sym, ap, ◌∙◌, arith, append_assoc, append-nil}
-use Rattle.std.proofs.lemmas.List.{length_push, take_all, take_at}
+use Rattle.std.proofs.lemmas.List.{length_push, take_all, take_at, same_from_push}
 use Rattle.btree_shape.proofs.LookUp.Descent.{snoc}
 use Rattle.btree_walk.specs.Ends.{AreEnds}
 
@@ -9,19 +9,6 @@ taken-none A zero = refl
 taken-none A (suc left) = refl
 
 module _ {A : Type 0} where
-  -- two lists that end in one element each
-  pub same-last : (xs ys : List A) (x y : A) → xs ++ x ∷ [] ≡ ys ++ y ∷ [] → (xs ≡ ys) × (x ≡ y)
-  same-last [] [] x y e = let same : x ≡ y = cc in (refl, same)
-  same-last [] (b ∷ []) x y e = absurd (cc)
-  same-last [] (b ∷ c ∷ ys) x y e = absurd (cc)
-  same-last (a ∷ []) [] x y e = absurd (cc)
-  same-last (a ∷ b ∷ xs) [] x y e = absurd (cc)
-  same-last (a ∷ xs) (b ∷ ys) x y e =
-      let head : a ≡ b = cc in
-      let tail : xs ++ x ∷ [] ≡ ys ++ y ∷ [] = cc in
-      let rest = same-last xs ys x y tail in
-      (rw (head, rest.0) refl, rest.1)
-
   -- the whole list is left
   pub ends-whole : (left : ℕ) (xs : List A) → left ≡ length xs → AreEnds left xs xs
   ends-whole left xs counted =
@@ -66,7 +53,7 @@ module _ {A : Type 0} where
           let s = snoc y ys in
           let both : rest ++ x ∷ [] ≡ (is.before ++ s.0) ++ s.1 ∷ [] =
           sym last ∙ is.back ∙ ap (λ l. is.before ++ l) (e ∙ s.2) ∙ sym (append_assoc is.before s.0 (s.1 ∷ [])) in
-          let same = same-last rest (is.before ++ s.0) x s.1 both in
+          let same = same_from_push rest (is.before ++ s.0) x s.1 both in
           record { others = s.0; whole = e ∙ s.2 ∙ ap (λ z. s.0 ++ z ∷ []) (sym same.1); kept = same.0 }
 
       split : Split

@@ -1,5 +1,6 @@
 -- A rotation makes two other nodes of two adjacent siblings, with the same list and the same numbers.
 use Rattle.std.proofs.Common.{◌≡◌, ◌≢◌, ◌<◌, ◌≤◌, ◌++◌, ◌∷◌, [], ◌∙◌, ◌+◌, ℕ, zero, suc, inl, inr, List, length, set, Option, Some, None, refl, sym, ap, subst, arith, append-nil, length-append}
+use Rattle.std.proofs.lemmas.List.{same_from_push}
 use Rattle.std.specs.Prelude.{is_some, option_map}
 use Rattle.btree_view.specs.Edits.{HasChildFor, is_internal, with_parent}
 use Rattle.btree_view.specs.View.{NodeMap, View, children_of, items_of, size_of}
@@ -21,27 +22,12 @@ use Rattle.btree_shape.proofs.Underflow.Items.{children_at, children_at-is, item
 use Rattle.btree_shape.proofs.LookUp.Descent.{cons-parts}
 use Rattle.std.proofs.lemmas.Option.{same_Some}
 
-snoc-parts : {X : Type 0} (l l' : List X) (x x' : X) → l ++ x ∷ [] ≡ l' ++ x' ∷ [] → (l ≡ l') × (x ≡ x')
-snoc-parts l l' x x' e =
-    let n = ap length e in
-    let q = append_same l (x ∷ []) l' (x' ∷ []) e (snoc-lengths l l' x x' n) in
-    (q.0, (cons-parts q.1).0)
-  where
-    snoc-lengths : {X : Type 0} (l l' : List X) (x x' : X) → length (l ++ x ∷ []) ≡ length (l' ++ x' ∷ [])
-        → length l ≡ length l'
-    snoc-lengths [] [] x x' n = refl
-    snoc-lengths [] (y ∷ []) x x' n = absurd (omega arith)
-    snoc-lengths [] (y ∷ z ∷ l') x x' n = absurd (omega arith)
-    snoc-lengths (y ∷ []) [] x x' n = absurd (omega arith)
-    snoc-lengths (y ∷ z ∷ l) [] x x' n = absurd (omega arith)
-    snoc-lengths (y ∷ l) (z ∷ l') x x' n = ap suc (snoc-lengths l l' x x' (omega arith))
-
 same-ends : (l l' : List ℕ) (o o' : Option ℕ) → is_some o ≡ is_some o' → l ++ as_list o ≡ l' ++ as_list o'
     → (o ≡ o') × (l ≡ l')
 same-ends l l' None None k e = (refl, sym (append-nil l) ∙ (e ∙ append-nil l'))
 same-ends l l' None (Some n) k e = absurd (cc)
 same-ends l l' (Some m) None k e = absurd (cc)
-same-ends l l' (Some m) (Some n) k e = let q = snoc-parts l l' m n e in (ap Some q.1, q.0)
+same-ends l l' (Some m) (Some n) k e = let q = same_from_push l l' m n e in (ap Some q.1, q.0)
 
 first-kind : (A : Type 0) (h : ℕ) (s : Subtree A h) → is_some (first_of A h s) ≡ is_internal (view_at A h None s)
 first-kind A zero s = refl
@@ -285,7 +271,7 @@ module _ (A : Type 0) (node_at new : NodeMap A) (root : ℕ) (xs : List A) (h : 
       r.low_is.children_are in
       let child = ends.0 in
       let items =
-      snoc-parts (items_of r.new_low) (items_at A h s.0) r.up s.1
+      same_from_push (items_of r.new_low) (items_at A h s.0) r.up s.1
       (sym r.low_is.items_are ∙ (ap items_of low ∙ (items_at-is A h (Some FId) a ∙ k.left_items))) in
       let down : r.down ≡ x = down-between A h (parent_above c) f a x b r.top r.down top r.down_is in
       let low2 : r.new_low ≡ view_at A h (Some FId) s.0 =
