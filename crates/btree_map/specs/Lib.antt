@@ -4,7 +4,7 @@ pub mod Entry
 pub mod Lent
 pub mod Removal
 pub mod Ascending
-pub mod AscendingLaws
+pub mod CallerLaws
 pub mod Extension
 pub mod Written
 pub mod Spans

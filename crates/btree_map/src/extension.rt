@@ -71,7 +71,7 @@ impl<K: Ord + Drop, V: Drop, C: NodesMut<K, V>> BTreeMap<K, V, C> {
     /// Inserts the pairs that `source` gives, in order, as `insert` does. Returns the first pair that is refused: those before it are in
     /// the map, and those after it are still in `source`.
     ///
-    /// From the start on, as long as each key is greater than all keys in the map, it compares it with the last one alone; each pair still
+    /// From the start on, as long as each key is greater than all keys in the map, it is compared with the last one alone; each pair still
     /// goes from the root to the last leaf. The first key that is not greater costs one comparison more than `insert`, and from there on each
     /// pair costs what `insert` costs.
     ///

@@ -30,7 +30,7 @@ pub mod generic {
         pub use btree_map::{
             BTreeMap, ByKey, ByPair, DrainFilter, EntriesMut, Entry, IntoIter, IntoKeys,
             IntoValues, IterMut, OccupiedEntry, PairTest, RangeMut, VacantEntry, ValuesMut,
-            run_out, seek_from,
+            insert_in_order, run_out, seek_from,
         };
         pub use btree_raw::RawBTree;
         pub use btree_walk::{Iter, Keys, Range, Values, is_valid_range};

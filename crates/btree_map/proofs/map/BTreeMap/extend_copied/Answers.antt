@@ -2,7 +2,7 @@ use Rattle.std.proofs.Common.{◌≡◌, ◌∙◌, ◌∷◌, [], None, Some, r
 use Rattle.btree_item.specs.Pairs.{inserted}
 use Rattle.btree_shape.specs.TreeState.{pairs_of}
 use Rattle.btree_map.specs.Extension.{inserted_all}
-use Rattle.btree_map.specs.AscendingLaws.{last-pair}
+use Rattle.btree_map.specs.CallerLaws.{last-pair}
 use Rattle.btree_map.proofs.map.BTreeMap.extend_copied.Goals as goal
 
 pub loop-key-preserved : goal.loop-key-preserved

@@ -1,6 +1,6 @@
 use Rattle.std.proofs.Common.{◌∙◌, ◌∷◌, [], IfSome, None, Some, ap, refl, subst}
 use Rattle.btree_map.specs.Ascending.{IsLastPair}
-use Rattle.btree_map.specs.AscendingLaws.{last-pair}
+use Rattle.btree_map.specs.CallerLaws.{last-pair}
 use Rattle.btree_set.specs.Elements.{SetState}
 use Rattle.btree_set.specs.Extension.{inserted_all}
 use Rattle.btree_set.proofs.KeyLemmas.{refused-elements}
