@@ -1,5 +1,6 @@
 //! The text of a reply.
 use std::alloc::{AllocError, Global};
+use std::fmt::Debug;
 
 /// The text of a reply: words with a space between them, on one line or more.
 ///
@@ -75,5 +76,11 @@ impl Reply {
     pub fn number(&mut self, number: u64) -> Result<(), AllocError> {
         self.word("")?;
         self.glue_number(number)
+    }
+
+    /// Adds the debug text of a value.
+    pub fn shown<T: Debug>(&mut self, value: &T) -> Result<(), AllocError> {
+        self.word("")?;
+        write!(self.text, "{value:?}")
     }
 }

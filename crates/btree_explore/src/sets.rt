@@ -80,6 +80,7 @@ fn whole<C: ClearNodes<u64, ()>>(
         "is_empty" => reply.truth(set.is_empty())?,
         "nodes" => reply.count(set.node_count())?,
         "list" => put_set(set, reply)?,
+        "debug" => reply.shown(set)?,
         "clear" => {
             set.clear();
             reply.word("ok")?

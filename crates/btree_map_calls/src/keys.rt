@@ -171,6 +171,7 @@ fn whole<C: ClearNodes<u64, u64> + CloneNodes<u64, u64> + Drop>(
         "nodes" => reply.count(map.node_count())?,
         "height" => reply.count(map.height())?,
         "list" => list(map, reply)?,
+        "debug" => reply.shown(map)?,
         "shape" => shape(reply, map.as_raw())?,
         "draw" => draw(reply, map.as_raw())?,
         "validate" => reply.validity(map.validate())?,
