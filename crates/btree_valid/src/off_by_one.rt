@@ -1,5 +1,5 @@
 //! Decides whether a tree of any content is off by one at a node.
-ghost use Rattle.std.specs.Prelude.{◌≡◌, ℕ, ◌+◌, ◌↔◌, ◌<◌, IfSome, IsTrue, IsSome, List, None, option_copied};
+ghost use Rattle.std.specs.Prelude.{◌≡◌, ℕ, ◌+◌, ◌-◌, ◌↔◌, ◌<◌, IfSome, IsTrue, IsSome, List, None, Some, option_copied};
 ghost use Rattle.std.specs.Mem.{FitsInMemory};
 ghost use Rattle.btree_node.specs.contracts.node.Node.{the_row as node_row};
 ghost use Rattle.btree_node.specs.Node.{view_of};
@@ -132,6 +132,20 @@ fn pass_key<'a, K: Ord>(seen: Walk<'a, K>, key: &'a K) -> Option<Walk<'a, K>>
     })
 }
 
+// Returns what is expected of the subtree at a child of the root of this one.
+fn child_part(part: Part, child: usize) -> Part
+    requires { 0 < part.height }
+    ensures height { result.height ≡ part.height - 1 }
+    ensures parent { result.parent ≡ Some part.id }
+    ensures id { result.id ≡ child }
+{
+    Part {
+        height: part.height - 1,
+        parent: Some(part.id),
+        id: child,
+    }
+}
+
 // Passes a subtree, or returns `None` if it is not the expected one.
 fn pass_node<'a, K: Ord + 'a, V: 'a, C: Nodes<K, V>>(
     nodes: &'a C,
@@ -162,20 +176,11 @@ fn pass_node<'a, K: Ord + 'a, V: 'a, C: Nodes<K, V>>(
     if height == 0 {
         return None;
     }
-    let leftmost = Part {
-        height: height - 1,
-        parent: Some(id),
-        id: first,
-    };
-    let mut passed = pass_node(nodes, root, exempt, leftmost, entered)?;
+    let mut passed = pass_node(nodes, root, exempt, child_part(part, first), entered)?;
     let mut index = 0;
     while let Some((item, child)) = node.branch_at_index(index) {
         let next = pass_key(passed, item.key())?;
-        let below = Part {
-            id: child,
-            ..leftmost
-        };
-        passed = pass_node(nodes, root, exempt, below, next)?;
+        passed = pass_node(nodes, root, exempt, child_part(part, child), next)?;
         index += 1;
     }
     Some(passed)

@@ -20,21 +20,28 @@ pub returns-in_default-clause-always : goal.returns-in_default-clause-always
 returns-in_default-clause-always g t c = λ can. c.pass_items.ensures.always (leaf-order g.K.Ord.cmp (g.C.Nodes.content c.args.nodes.now) c.args.root c.args.exempt c.args.part.height c.args.part.parent c.args.part.id c.args.seen.left (option_copied c.args.seen.last) c.in_ok-node.node.now c.in_ok-node.ensures.value (items_of (view_of c.in_ok-node.node.now)) (is-leaf (view_of c.in_ok-node.node.now) (sym c.in_default.is ∙ c.child_id_opt.ensures)) c.if-height-ne0.false can)
 
 pub returns-in_err-passed-clause-always : goal.returns-in_err-passed-clause-always
-returns-in_err-passed-clause-always g t c = λ can. let no : false ≡ true = c.in_err-passed.ensures.always (inner-can g.K.Ord.cmp (g.C.Nodes.content c.args.nodes.now) c.args.root c.args.exempt c.args.part.height c.args.part.parent c.args.part.id c.args.seen.left (option_copied c.args.seen.last) c.in_ok-node.node.now c.in_ok-node.ensures.value c.in-Some.first (is-internal (view_of c.in_ok-node.node.now) c.in-Some.first (sym c.in-Some.is ∙ c.child_id_opt.ensures)) (c.if-not-may_enter.ensures.0 refl) c.if-height-eq0.false can) in absurd (cc)
+returns-in_err-passed-clause-always g t c = λ can. let no : false ≡ true = c.in_err-passed.ensures.always (rw (c.child_part.ensures.height, c.child_part.ensures.parent, c.child_part.ensures.id) (inner-can g.K.Ord.cmp (g.C.Nodes.content c.args.nodes.now) c.args.root c.args.exempt c.args.part.height c.args.part.parent c.args.part.id c.args.seen.left (option_copied c.args.seen.last) c.in_ok-node.node.now c.in_ok-node.ensures.value c.in-Some.first (is-internal (view_of c.in_ok-node.node.now) c.in-Some.first (sym c.in-Some.is ∙ c.child_id_opt.ensures)) (c.if-not-may_enter.ensures.0 refl) c.if-height-eq0.false can)) in absurd (cc)
 
 pub returns-in_err-next-clause-always : goal.returns-in_err-next-clause-always
 returns-in_err-next-clause-always g t c = λ can. absurd (node-stops g.K.Ord.cmp (views (g.C.Nodes.content c.args.nodes.now)) c.args.root c.args.exempt _ _ _ _ _ _ _ _ _ _ c.loop-item.invariant (drop (c.loop-item.index + 1) (branches_of (view_of c.in_ok-node.node.now))) c.in-Some-branch_at_index.item.now c.in-Some-branch_at_index.child c.in-Some-branch_at_index.ensures.first c.key.result.now c.key.ensures c.in_err-next.ensures.always can)
 
 pub returns-in_err-passed-2-clause-always : goal.returns-in_err-passed-2-clause-always
-returns-in_err-passed-2-clause-always g t c = λ can. let p = c.in_ok-next.ensures.only in let no : false ≡ true = c.in_err-passed-2.ensures.always (rw (p.left, p.last) (node-child g.K.Ord.cmp (views (g.C.Nodes.content c.args.nodes.now)) c.args.root c.args.exempt _ _ _ _ _ _ _ _ _ _ c.loop-item.invariant (drop (c.loop-item.index + 1) (branches_of (view_of c.in_ok-node.node.now))) c.in-Some-branch_at_index.item.now c.in-Some-branch_at_index.child c.in-Some-branch_at_index.ensures.first c.key.result.now c.key.ensures g.met.K.Ord.total p.above can)) in absurd (cc)
+returns-in_err-passed-2-clause-always g t c = λ can. let p = c.in_ok-next.ensures.only in let part = c.child_part-in-Some-branch_at_index.ensures in let no : false ≡ true = c.in_err-passed-2.ensures.always (rw (p.left, p.last, part.height, part.parent, part.id) (node-child g.K.Ord.cmp (views (g.C.Nodes.content c.args.nodes.now)) c.args.root c.args.exempt _ _ _ _ _ _ _ _ _ _ c.loop-item.invariant (drop (c.loop-item.index + 1) (branches_of (view_of c.in_ok-node.node.now))) c.in-Some-branch_at_index.item.now c.in-Some-branch_at_index.child c.in-Some-branch_at_index.ensures.first c.key.result.now c.key.ensures g.met.K.Ord.total p.above can)) in absurd (cc)
 
 pub loop-item-init : goal.loop-item-init
-loop-item-init g t c = inner-start g.K.Ord.cmp (g.C.Nodes.content c.args.nodes.now) c.args.root c.args.exempt c.args.part.height c.args.part.parent c.args.part.id c.args.seen.left (option_copied c.args.seen.last) c.in_ok-node.node.now c.in_ok-node.ensures.value c.in-Some.first (is-internal (view_of c.in_ok-node.node.now) c.in-Some.first (sym c.in-Some.is ∙ c.child_id_opt.ensures)) (c.if-not-may_enter.ensures.0 refl) c.if-height-eq0.false (drop 0 (branches_of (view_of c.in_ok-node.node.now))) refl _ _ c.in_ok-passed.ensures.only
+loop-item-init g t c =
+    let part = c.child_part.ensures in
+    let only = c.in_ok-passed.ensures.only in
+    let under = rw (part.height, part.parent, part.id) at only in
+    inner-start g.K.Ord.cmp (g.C.Nodes.content c.args.nodes.now) c.args.root c.args.exempt c.args.part.height c.args.part.parent c.args.part.id c.args.seen.left (option_copied c.args.seen.last) c.in_ok-node.node.now c.in_ok-node.ensures.value c.in-Some.first (is-internal (view_of c.in_ok-node.node.now) c.in-Some.first (sym c.in-Some.is ∙ c.child_id_opt.ensures)) (c.if-not-may_enter.ensures.0 refl) c.if-height-eq0.false (drop 0 (branches_of (view_of c.in_ok-node.node.now))) refl _ _ under
 
 pub loop-item-preserved : goal.loop-item-preserved
 loop-item-preserved g t c =
     let p = c.in_ok-next.ensures.only in
-    node-next g.K.Ord.cmp (views (g.C.Nodes.content c.args.nodes.now)) c.args.root c.args.exempt _ _ _ _ _ _ _ _ _ _ c.loop-item.invariant (drop (c.loop-item.index + 1) (branches_of (view_of c.in_ok-node.node.now))) c.in-Some-branch_at_index.item.now c.in-Some-branch_at_index.child c.in-Some-branch_at_index.ensures.first c.key.result.now c.key.ensures g.met.K.Ord.total p.above _ _ (rw (← p.left, ← p.last) c.in_ok-passed-2.ensures.only)
+    let part = c.child_part-in-Some-branch_at_index.ensures in
+    let only = c.in_ok-passed-2.ensures.only in
+    let under = rw (part.height, part.parent, part.id) at only in
+    node-next g.K.Ord.cmp (views (g.C.Nodes.content c.args.nodes.now)) c.args.root c.args.exempt _ _ _ _ _ _ _ _ _ _ c.loop-item.invariant (drop (c.loop-item.index + 1) (branches_of (view_of c.in_ok-node.node.now))) c.in-Some-branch_at_index.item.now c.in-Some-branch_at_index.child c.in-Some-branch_at_index.ensures.first c.key.result.now c.key.ensures g.met.K.Ord.total p.above _ _ (rw (← p.left, ← p.last) under)
 
 pub returns-clause-only : goal.returns-clause-only
 returns-clause-only g t c = node-end g.K.Ord.cmp (views (g.C.Nodes.content c.args.nodes.now)) c.args.root c.args.exempt _ _ _ _ _ _ _ _ _ _ c.loop-item.invariant c.in_default-branch_at_index.ensures.first
@@ -71,9 +78,6 @@ returns-then-height-eq0-clause-only g t c = search rules steps 200000
 
 pub returns-then-height-eq0-clause-always : goal.returns-then-height-eq0-clause-always
 returns-then-height-eq0-clause-always g t c = search rules steps 2000000
-
-pub overflow_sub-leftmost : goal.overflow_sub-leftmost
-overflow_sub-leftmost g t c = grind (arith, common_steps) steps 300000
 
 pub pass_node-requires : goal.pass_node-requires
 pass_node-requires g t c κs within = search rules steps 2000000
