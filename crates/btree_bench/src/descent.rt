@@ -34,10 +34,7 @@ fn put_before<C: NodesMut<u64, u64>>(
     requires below { key < first }
     ensures { IfOk result (λ b. BeginsAt map.new b key) }
 {
-    match map.insert_at(at, Item::new(key, key)) {
-        Ok(inserted) => Ok(inserted),
-        Err(_) => Err(AllocError),
-    }
+    Ok(map.insert_at(at, Item::new(key, key))?)
 }
 
 // Inserts a pair into the empty map. Returns its address.
@@ -51,10 +48,7 @@ fn put_first<C: NodesMut<u64, u64>>(
     let Err(gap) = map.address_of(&key) else {
         unreachable!()
     };
-    match map.insert_at(gap, Item::new(key, key)) {
-        Ok(inserted) => Ok(inserted),
-        Err(_) => Err(AllocError),
-    }
+    Ok(map.insert_at(gap, Item::new(key, key))?)
 }
 
 /// Inserts the keys from `count` down to 1 into the empty map: the first by key, and each other at the address of the one before it. Returns

@@ -95,10 +95,7 @@ impl Table for KitMap {
 
 impl<C: NodesMut<u64, u64> + Drop> Table for BTreeMap<u64, u64, C> {
     fn put(&mut self, key: u64, value: u64) -> Result<bool, AllocError> {
-        match self.insert(key, value) {
-            Ok(old) => Ok(old.is_some()),
-            Err(_) => Err(AllocError),
-        }
+        Ok(self.insert(key, value)?.is_some())
     }
 
     fn value_at(&self, key: u64) -> Option<u64> {

@@ -33,13 +33,11 @@ pub fn count_overlaps(bookings: &BTreeMap<u32, u32>, start: u32, end: u32) -> us
         let Some(addr) = next else {
             return count;
         };
-        let Some(booking) = bookings.item(addr.copied()) else {
-            unreachable!()
-        };
-        if *booking.key() >= end {
+        let (begins, ends) = bookings.pair_at(addr.copied());
+        if *begins >= end {
             return count;
         }
-        if *booking.value() > start {
+        if *ends > start {
             count += 1;
         }
         next = bookings.next_item_address(addr);

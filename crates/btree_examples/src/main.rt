@@ -1,7 +1,7 @@
-//! Maps in use: a stock of parts, by part number, a listing of them by pages (`listing.rt`), bookings of a room (`bookings.rt`,
-//! `booked.rt`), a count of words (`words.rt`), one of visits in a fixed table (`visits.rt`), and one read from a copy of its nodes
-//! (`copies.rt`). A set of pairs in use: the shelves on which parts lie (`shelves.rt`). A set of ranges in use: reserved blocks
-//! (`reserved.rt`).
+//! Maps in use: a stock of parts, by part number, a listing of them by pages (`listing.rt`), a removal of those that are sold out
+//! (`sold_out.rt`), bookings of a room (`bookings.rt`, `booked.rt`), a count of words (`words.rt`), one of visits in a fixed table
+//! (`visits.rt`), and one read from a copy of its nodes (`copies.rt`). A set of pairs in use: the shelves on which parts lie
+//! (`shelves.rt`). A set of ranges in use: reserved blocks (`reserved.rt`).
 #![tactic(auto)]
 
 ghost use Rattle.std.specs.Prelude.{◌≡◌, ◌+◌, OnOk, OnErr, unwrap_or};
@@ -140,13 +140,9 @@ fn print_copies(rt: &impl Print, stock: BTreeMap<u32, u64>) -> io::Result<()> {
 /// Prints the parts of an order that are not in stock.
 fn print_missing(rt: &impl Print, alloc: Global, stock: &BTreeMap<u32, u64>) -> io::Result<()> {
     let mut order: BTreeSet<u32> = BTreeSet::new(alloc);
-    for part in [408, 1203, 2000] {
-        order.insert(part)?;
-    }
+    order.extend(&mut [408, 1203, 2000].into_iter())?;
     let mut parts: BTreeSet<u32> = BTreeSet::new(alloc);
-    for (part, _) in stock.iter() {
-        parts.insert(*part)?;
-    }
+    parts.extend_copied(&mut stock.keys())?;
     for part in order.difference(&parts) {
         rt.println(format_args!("missing: {part}"))?;
     }

@@ -1,5 +1,5 @@
 //! Calls by key search once: at most six comparisons at each level, by keys that count them. An extension by ascending pairs
-//! or elements compares each with the last one alone.
+//! or elements, or by copies of them, compares each with the last one alone.
 use crate::asserts::{assert_same, assert_same_in, assert_true, assert_true_in};
 use btree_ext::BTreeExt;
 use btree_map::{BTreeMap, Entry};
@@ -139,6 +139,55 @@ fn ascending_keys_are_compared_once(rt: HostRuntime) {
     extends_in::<Store<'_>>(&rt, &compared, rt.alloc());
 }
 
+// Extends a map by copies of the pairs of another one. Returns whether none was refused.
+fn copy_pairs<K: Ord + Copy + Drop, V: Copy + Drop, C: NodesMut<K, V>>(
+    map: &mut BTreeMap<K, V, C>,
+    from: &BTreeMap<K, V, C>,
+) -> bool {
+    let mut source = from.iter();
+    map.extend_copied(&mut source).is_ok()
+}
+
+// Does so. Returns how many comparisons it made, or `None` if a pair was refused.
+fn copies<'a, C: NodesMut<Counted<'a>, u32> + Drop>(
+    compared: &'a Cell<u32>,
+    map: &mut Map<'a, C>,
+    from: &Map<'a, C>,
+) -> Option<u32> {
+    compared.set(0);
+    if !copy_pairs(map, from) {
+        return None;
+    }
+    Some(compared.get())
+}
+
+// The numbers of `extends_in` for copies of the pairs.
+fn copies_in<'a, C: NodesMut<Counted<'a>, u32> + Drop>(
+    rt: &impl Abort,
+    compared: &'a Cell<u32>,
+    origin: C::Origin,
+)
+where
+    C::Origin: Copy,
+{
+    let low: Map<'a, C> = numbers(rt, compared, origin, (0, 44));
+    let high: Map<'a, C> = numbers(rt, compared, origin, (44, 88));
+    let two: Map<'a, C> = numbers(rt, compared, origin, (30, 32));
+    let mut map: Map<'a, C> = BTreeMap::new(origin);
+    assert_same(rt, copies(compared, &mut map, &low), Some(43));
+    assert_same(rt, copies(compared, &mut map, &high), Some(44));
+    let first = inserts(compared, &mut map, 30);
+    let second = inserts(compared, &mut map, 31);
+    let sum = first.wrapping_add(second).wrapping_add(1);
+    assert_same(rt, copies(compared, &mut map, &two), Some(sum));
+}
+
+#[test]
+fn copied_keys_are_compared_once(rt: HostRuntime) {
+    let compared = Cell::new(0u32);
+    copies_in::<Store<'_>>(&rt, &compared, rt.alloc());
+}
+
 // Makes a set of 44 ascending elements by 43 comparisons, and extends it by the next 44, by one each. Of two that are not above the last one,
 // the first makes one more than an insertion, and the other as many as an insertion.
 fn extends_set<'a, C: NodesMut<Counted<'a>, ()> + Drop>(
@@ -169,4 +218,60 @@ fn extends_set<'a, C: NodesMut<Counted<'a>, ()> + Drop>(
 fn ascending_elements_are_compared_once(rt: HostRuntime) {
     let compared = Cell::new(0u32);
     extends_set::<SlabStore<Node<Counted<'_>, ()>>>(&rt, &compared, rt.alloc());
+}
+
+// Returns a set of the numbers from one up to another.
+fn elements<'a, C: NodesMut<Counted<'a>, ()> + Drop>(
+    rt: &impl Abort,
+    compared: &'a Cell<u32>,
+    origin: C::Origin,
+    (start, end): (u32, u32),
+) -> BTreeSet<Counted<'a>, C> {
+    let mut source = (start..end).map(move |number| Counted { number, compared });
+    match BTreeSet::<Counted<'a>, C>::from_iter(origin, &mut source) {
+        Ok(set) => set,
+        Err(_) => panic!(rt; "refused"),
+    }
+}
+
+// Extends a set by copies of the elements of another one. Returns whether none was refused.
+fn copy_elements<T: Ord + Copy + Drop, C: NodesMut<T, ()>>(
+    set: &mut BTreeSet<T, C>,
+    from: &BTreeSet<T, C>,
+) -> bool {
+    let mut source = from.iter();
+    set.extend_copied(&mut source).is_ok()
+}
+
+// The numbers of `extends_set` for copies of the elements.
+fn copies_set<'a, C: NodesMut<Counted<'a>, ()> + Drop>(
+    rt: &impl Abort,
+    compared: &'a Cell<u32>,
+    origin: C::Origin,
+)
+where
+    C::Origin: Copy,
+{
+    let low: BTreeSet<Counted<'a>, C> = elements(rt, compared, origin, (0, 44));
+    let high: BTreeSet<Counted<'a>, C> = elements(rt, compared, origin, (44, 88));
+    let two: BTreeSet<Counted<'a>, C> = elements(rt, compared, origin, (30, 32));
+    let mut set: BTreeSet<Counted<'a>, C> = BTreeSet::new(origin);
+    compared.set(0);
+    assert_true(rt, copy_elements(&mut set, &low));
+    assert_same(rt, compared.replace(0), 43);
+    assert_true(rt, copy_elements(&mut set, &high));
+    assert_same(rt, compared.replace(0), 44);
+    for number in 30..32u32 {
+        let inserted = set.insert(Counted { number, compared }).ok();
+        assert_same(rt, inserted, Some(false));
+    }
+    let sought = compared.replace(0);
+    assert_true(rt, copy_elements(&mut set, &two));
+    assert_same(rt, compared.get(), sought.wrapping_add(1));
+}
+
+#[test]
+fn copied_elements_are_compared_once(rt: HostRuntime) {
+    let compared = Cell::new(0u32);
+    copies_set::<SlabStore<Node<Counted<'_>, ()>>>(&rt, &compared, rt.alloc());
 }

@@ -5,6 +5,7 @@ use btree_item::{Address, Cause, Item, Offset, Refused, Slots, binary_search_min
 use std::alloc::{AllocError, Global};
 use std::cmp::Ordering;
 use std::fmt::{Debug, Display};
+use std::io;
 use std::process::Abort;
 use std::test::Fail;
 
@@ -59,6 +60,37 @@ fn prints(rt: HostRuntime) -> Result<(), Fail> {
         "Refused { cause: Store, key: 1, value: 2 }",
     );
     Ok(())
+}
+
+// Refuses for a cause, as a rebalance of a tree does.
+fn refuse(cause: Cause) -> Result<(), Cause> {
+    Err(cause)
+}
+
+// The same as an error of memory.
+fn refuse_memory(cause: Cause) -> Result<(), AllocError> {
+    refuse(cause)?;
+    Ok(())
+}
+
+// The same as an error of input and output.
+fn refuse_output(cause: Cause) -> io::Result<()> {
+    refuse(cause)?;
+    Ok(())
+}
+
+fn check_cause(rt: &impl Abort, cause: Cause) {
+    assert_same(rt, refuse_memory(cause), Err(AllocError));
+    match refuse_output(cause) {
+        Ok(()) => panic!(rt; "not refused"),
+        Err(error) => assert_same(rt, error.kind(), io::ErrorKind::OutOfMemory),
+    }
+}
+
+#[test]
+fn causes_become_errors(rt: HostRuntime) {
+    check_cause(&rt, Cause::Store);
+    check_cause(&rt, Cause::Count);
 }
 
 #[test]

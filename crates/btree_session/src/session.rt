@@ -245,10 +245,8 @@ fn pair_at<C: NodesMut<u64, u64>>(map: &BTreeMap<u64, u64, C>, addr: &Address) -
     requires { IsOccupiedIn map.now addr.now }
     ensures { Some result ≡ item_of map.now addr.now }
 {
-    let Some(item) = map.item(*addr) else {
-        unreachable!()
-    };
-    (*item.key(), *item.value())
+    let (key, value) = map.pair_at(*addr);
+    (*key, *value)
 }
 
 fn reply_of(value: Option<u64>) -> Reply

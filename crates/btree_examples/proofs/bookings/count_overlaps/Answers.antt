@@ -1,41 +1,42 @@
-use Rattle.std.proofs.Common.{suc, sym, ◌∙◌, arith}
+use Rattle.std.proofs.Common.{ℕ, suc, sym, ◌∙◌, arith}
+use Rattle.btree_shape.specs.TreeState.{item_of}
 use Rattle.btree_find.specs.CallerLaws.{next-place, pair-read}
 use Rattle.btree_examples.proofs.BookingLemmas.{counted-all, counted-none, counted-one}
 use Rattle.btree_examples.proofs.bookings.count_overlaps.Goals as goal
-use Rattle.btree_examples.proofs.bookings.count_overlaps.Goals.{then-value-start, else-value-start}
+use Rattle.btree_examples.proofs.bookings.count_overlaps.Goals.{then-ends-start, else-ends-start}
 
 pub loop-step-init : goal.loop-step-init
 loop-step-init c =
     let first = c.first_candidate-next.ensures in
     record { place = first.place; item = first.item; counted = sym (first.none_before c.args.end); passed = omega arith; few = omega arith }
 
-pub returns-then-key-end : goal.returns-then-key-end
-returns-then-key-end c =
+pub returns-then-begins-end : goal.returns-then-begins-end
+returns-then-begins-end c =
     let s = c.args.bookings.now in
     let i = c.loop-step.invariant in
-    let x = c.in-Some-item.booking.now in
-    let here = pair-read s i.place c.loop-step.next c.in-Some.addr c.copied.result i.item c.in-Some.is c.copied.ensures x c.in-Some-item.ensures.value in
-    counted-all s c.args.start c.requires c.args.end c.loop-step.count i.place x here i.counted (omega (arith, c.key.ensures))
+    let x : ℕ × ℕ = (c.pair_at.result.0.now, c.pair_at.result.1.now) in
+    let here = pair-read s i.place c.loop-step.next c.in-Some.addr c.copied.result i.item c.in-Some.is c.copied.ensures x (sym {a = item_of s c.copied.result} c.pair_at.ensures) in
+    counted-all s c.args.start c.requires c.args.end c.loop-step.count i.place x here i.counted (omega arith)
 
 pub loop-step-preserved : goal.loop-step-preserved
 loop-step-preserved c =
     let s = c.args.bookings.now in
     let i = c.loop-step.invariant in
-    let x = c.in-Some-item.booking.now in
-    let here = pair-read s i.place c.loop-step.next c.in-Some.addr c.copied.result i.item c.in-Some.is c.copied.ensures x c.in-Some-item.ensures.value in
+    let x : ℕ × ℕ = (c.pair_at.result.0.now, c.pair_at.result.1.now) in
+    let here = pair-read s i.place c.loop-step.next c.in-Some.addr c.copied.result i.item c.in-Some.is c.copied.ensures x (sym {a = item_of s c.copied.result} c.pair_at.ensures) in
     let item = next-place s i.place c.loop-step.next c.next_item_address-next.result c.in-Some.addr i.item c.in-Some.is c.next_item_address-next.ensures in
-    elim c.if-value-start.branch [
-      | then-value-start w ↦ record {
+    elim c.if-ends-start.branch [
+      | then-ends-start w ↦ record {
         place = suc i.place;
         item = item;
-        counted = w.count-is ∙ counted-one s c.args.start c.requires c.args.end c.loop-step.count i.place x here i.counted (omega (arith, c.key.ensures)) (omega (arith, c.value.ensures));
+        counted = w.count-is ∙ counted-one s c.args.start c.requires c.args.end c.loop-step.count i.place x here i.counted (omega arith) (omega arith);
         passed = omega arith;
         few = omega arith;
       }
-      | else-value-start w ↦ record {
+      | else-ends-start w ↦ record {
         place = suc i.place;
         item = item;
-        counted = w.count-is ∙ counted-none s c.args.start c.requires c.args.end c.loop-step.count i.place x here i.counted (omega (arith, c.value.ensures));
+        counted = w.count-is ∙ counted-none s c.args.start c.requires c.args.end c.loop-step.count i.place x here i.counted (omega arith);
         passed = omega arith;
         few = omega arith;
       }
