@@ -86,7 +86,7 @@ fn occupied<C: NodesMut<u64, u64>>(
     }
 }
 
-// Reads the key of a vacant entry, or gets it back.
+// Reads the key of a vacant entry, or gets it back, or shows the entry.
 fn vacant<C: NodesMut<u64, u64>>(
     map: &mut Map<C>,
     key: u64,
@@ -96,11 +96,14 @@ fn vacant<C: NodesMut<u64, u64>>(
     let Entry::Vacant(entry) = map.entry(key) else {
         return reply.word("occupied");
     };
-    if step == "key" {
-        return reply.number(*entry.key());
+    match step {
+        "key" => reply.number(*entry.key()),
+        "debug" => reply.shown(&entry),
+        _ => {
+            let key = entry.into_key();
+            reply.number(key)
+        }
     }
-    let key = entry.into_key();
-    reply.number(key)
 }
 
 // Inserts at a vacant entry, and writes to the value.
@@ -154,7 +157,7 @@ fn or_insert<C: NodesMut<u64, u64>>(
     }
 }
 
-// Reads the key or the value of the first entry, or of the last one, or removes it.
+// Reads the key or the value of the first entry, or of the last one, or shows or removes it.
 fn of_end<C: NodesMut<u64, u64>>(
     map: &mut Map<C>,
     verb: &str,
@@ -172,6 +175,7 @@ fn of_end<C: NodesMut<u64, u64>>(
     match step {
         "key" => reply.number(*entry.key()),
         "get" => reply.number(*entry.get()),
+        "debug" => reply.shown(&entry),
         "remove" => {
             let value = entry.remove();
             reply.number(value)
@@ -210,7 +214,7 @@ pub(crate) fn serve_entries<C: NodesMut<u64, u64>>(
         ("vacant", Some((key, _))) => {
             let (step, by) = word(more);
             match read_step(step) {
-                ("key" | "into_key", None) => vacant(map, key, step, reply)?,
+                ("key" | "debug" | "into_key", None) => vacant(map, key, step, reply)?,
                 ("insert", Some(Action::Set(value))) => insert_vacant(
                     map,
                     key,
