@@ -1,7 +1,7 @@
 ghost use Rattle.std.specs.Prelude.{◌≡◌, ◌≤◌, length, map, IfOk};
 
 use crate::asserts::{assert_same, assert_same_in, assert_true};
-use btree_item::{Address, Cause, Item, Offset, Refused, Slots, binary_search_min};
+use btree_item::{Address, Cause, Item, Offset, Refused, Slots, UpdateRefused, binary_search_min};
 use std::alloc::{AllocError, Global};
 use std::cmp::Ordering;
 use std::fmt::{Debug, Display};
@@ -49,6 +49,11 @@ fn prints(rt: HostRuntime) -> Result<(), Fail> {
     ] {
         check_text(&rt, rt.alloc(), &offset, text)?;
     }
+    Ok(())
+}
+
+#[test]
+fn prints_refusals(rt: HostRuntime) -> Result<(), Fail> {
     let refused = Refused {
         cause: Cause::Store,
         key: 1,
@@ -58,6 +63,16 @@ fn prints(rt: HostRuntime) -> Result<(), Fail> {
         &rt,
         shown(rt.alloc(), &refused)?.as_str(),
         "Refused { cause: Store, key: 1, value: 2 }",
+    );
+    let refused = UpdateRefused {
+        cause: Cause::Count,
+        key: 3,
+        action: (),
+    };
+    assert_same(
+        &rt,
+        shown(rt.alloc(), &refused)?.as_str(),
+        "UpdateRefused { cause: Count, key: 3, .. }",
     );
     Ok(())
 }
