@@ -84,20 +84,40 @@ fn numbers<'a, C: NodesMut<Counted<'a>, u32> + Drop>(
     map
 }
 
-// Extends a map by the pairs of another one. Returns how many comparisons it made, or `None` if a pair was refused.
+// Extends a map by the pairs of another one. Returns whether none was refused.
+fn move_pairs<K: Ord + Drop, V: Drop, C: NodesMut<K, V> + Drop>(
+    map: &mut BTreeMap<K, V, C>,
+    from: BTreeMap<K, V, C>,
+) -> bool {
+    let mut source = from.into_iter();
+    let is_done = map.extend(&mut source).is_ok();
+    drop(source);
+    is_done
+}
+
+// Extends a map by copies of the pairs of another one. Returns whether none was refused.
+fn copy_pairs<K: Ord + Copy + Drop, V: Copy + Drop, C: NodesMut<K, V>>(
+    map: &mut BTreeMap<K, V, C>,
+    from: &BTreeMap<K, V, C>,
+) -> bool {
+    let mut source = from.iter();
+    map.extend_copied(&mut source).is_ok()
+}
+
+// Extends a map by the pairs of another one, or by copies of them. Returns how many comparisons it made, or `None` if a pair was refused.
 fn extends<'a, C: NodesMut<Counted<'a>, u32> + Drop>(
     compared: &'a Cell<u32>,
     map: &mut Map<'a, C>,
     from: Map<'a, C>,
+    copies: bool,
 ) -> Option<u32> {
     compared.set(0);
-    let mut source = from.into_iter();
-    let is_refused = map.extend(&mut source).is_err();
-    drop(source);
-    if is_refused {
-        return None;
-    }
-    Some(compared.get())
+    let is_done = if copies {
+        copy_pairs(map, &from)
+    } else {
+        move_pairs(map, from)
+    };
+    if is_done { Some(compared.get()) } else { None }
 }
 
 // Returns how many comparisons an insertion makes.
@@ -117,6 +137,7 @@ fn extends_in<'a, C: NodesMut<Counted<'a>, u32> + Drop>(
     rt: &impl Abort,
     compared: &'a Cell<u32>,
     origin: C::Origin,
+    copies: bool,
 )
 where
     C::Origin: Copy,
@@ -125,67 +146,24 @@ where
     let high: Map<'a, C> = numbers(rt, compared, origin, (44, 88));
     let two: Map<'a, C> = numbers(rt, compared, origin, (30, 32));
     let mut map: Map<'a, C> = BTreeMap::new(origin);
-    assert_same(rt, extends(compared, &mut map, low), Some(43));
-    assert_same(rt, extends(compared, &mut map, high), Some(44));
+    assert_same(rt, extends(compared, &mut map, low, copies), Some(43));
+    assert_same(rt, extends(compared, &mut map, high, copies), Some(44));
     let first = inserts(compared, &mut map, 30);
     let second = inserts(compared, &mut map, 31);
     let sum = first.wrapping_add(second).wrapping_add(1);
-    assert_same(rt, extends(compared, &mut map, two), Some(sum));
+    assert_same(rt, extends(compared, &mut map, two, copies), Some(sum));
 }
 
 #[test]
 fn ascending_keys_are_compared_once(rt: HostRuntime) {
     let compared = Cell::new(0u32);
-    extends_in::<Store<'_>>(&rt, &compared, rt.alloc());
-}
-
-// Extends a map by copies of the pairs of another one. Returns whether none was refused.
-fn copy_pairs<K: Ord + Copy + Drop, V: Copy + Drop, C: NodesMut<K, V>>(
-    map: &mut BTreeMap<K, V, C>,
-    from: &BTreeMap<K, V, C>,
-) -> bool {
-    let mut source = from.iter();
-    map.extend_copied(&mut source).is_ok()
-}
-
-// Does so. Returns how many comparisons it made, or `None` if a pair was refused.
-fn copies<'a, C: NodesMut<Counted<'a>, u32> + Drop>(
-    compared: &'a Cell<u32>,
-    map: &mut Map<'a, C>,
-    from: &Map<'a, C>,
-) -> Option<u32> {
-    compared.set(0);
-    if !copy_pairs(map, from) {
-        return None;
-    }
-    Some(compared.get())
-}
-
-// The numbers of `extends_in` for copies of the pairs.
-fn copies_in<'a, C: NodesMut<Counted<'a>, u32> + Drop>(
-    rt: &impl Abort,
-    compared: &'a Cell<u32>,
-    origin: C::Origin,
-)
-where
-    C::Origin: Copy,
-{
-    let low: Map<'a, C> = numbers(rt, compared, origin, (0, 44));
-    let high: Map<'a, C> = numbers(rt, compared, origin, (44, 88));
-    let two: Map<'a, C> = numbers(rt, compared, origin, (30, 32));
-    let mut map: Map<'a, C> = BTreeMap::new(origin);
-    assert_same(rt, copies(compared, &mut map, &low), Some(43));
-    assert_same(rt, copies(compared, &mut map, &high), Some(44));
-    let first = inserts(compared, &mut map, 30);
-    let second = inserts(compared, &mut map, 31);
-    let sum = first.wrapping_add(second).wrapping_add(1);
-    assert_same(rt, copies(compared, &mut map, &two), Some(sum));
+    extends_in::<Store<'_>>(&rt, &compared, rt.alloc(), false);
 }
 
 #[test]
 fn copied_keys_are_compared_once(rt: HostRuntime) {
     let compared = Cell::new(0u32);
-    copies_in::<Store<'_>>(&rt, &compared, rt.alloc());
+    extends_in::<Store<'_>>(&rt, &compared, rt.alloc(), true);
 }
 
 // Makes a set of 44 ascending elements by 43 comparisons, and extends it by the next 44, by one each. Of two that are not above the last one,
