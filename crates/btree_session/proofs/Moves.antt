@@ -21,8 +21,6 @@ use Rattle.btree_session.specs.Held.{Held, HoldsBack}
 use Rattle.btree_session.specs.Machine.{IsHeldPlace, IsStep}
 use Rattle.btree_session.proofs.Steps.{a_step, held_place}
 
-module _ (map : TreeState ℕ ℕ) where
-
 module _ (may_refuse : Content (Node ℕ ℕ) → Type 0) (map : TreeState ℕ ℕ) (tree : IsBTree nat_cmp map) where
   -- the session over this map that holds this address
   abbrev pub holding_at : Option Address → Held ℕ ℕ

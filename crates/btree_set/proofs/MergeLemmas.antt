@@ -9,7 +9,6 @@ use Rattle.std.specs.declared.cmp.Ordering.{Ordering}
 use Rattle.std.specs.declared.cmp.Ordering.TheVariants.{Less, Equal, Greater}
 use Rattle.btree_set.specs.Merges.{difference, intersection, is_in}
 use Rattle.btree_walk.proofs.BoundLemmas.{all-so}
-use Rattle.btree_walk.proofs.RangeLemmas.{filter-same}
 use Rattle.btree_shape.proofs.LookUp.KeyInList.{reversed, reversed-back}
 
 pub by-order : {P : Type 0} (o : Ordering) → (o ≡ Less → P) → (o ≡ Equal → P) → (o ≡ Greater → P) → P
@@ -33,6 +32,11 @@ module _ {T : Type 0} (cmp : T → T → Ordering) (both : Bool) where
 
     pub merge-equal : cmp x y ≡ Equal → sorted_merge cmp both (x ∷ xs) (y ∷ ys) ≡ cond both (x ∷ sorted_merge cmp both xs ys) (sorted_merge cmp both xs ys)
     merge-equal equal = rw equal refl
+
+-- two tests that are alike on a list filter it alike
+filter-same : {A : Type 0} (p q : A → Bool) (xs : List A) → AllByRecursion (λ x. p x ≡ q x) xs → filter p xs ≡ filter q xs
+filter-same p q [] all = refl
+filter-same p q (x ∷ xs) all = rw all.0 (ap (λ l. cond (q x) (x ∷ l) l) (filter-same p q xs all.1))
 
 module _ {T : Type 0} {cmp : T → T → Ordering} (laws : IsTotalOrder cmp) where
   -- each element of the list is above x
