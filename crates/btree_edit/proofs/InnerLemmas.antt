@@ -32,8 +32,8 @@ use Rattle.btree_raw.proofs.UpwardLemmas.{put-used}
 use Rattle.btree_find.specs.Navigation.{IsItemAddress, IsItemAt, IsItemBefore, LeadsBefore}
 use Rattle.btree_find.proofs.PlaceLemmas.{in-tree, only, place-there, placed, root-there}
 use Rattle.btree_find.proofs.PreviousLemmas.{before-below}
-use Rattle.btree_edit.specs.Remove.{IsInnerAt, IsRemoved, LeadsBehind}
-use Rattle.btree_edit.proofs.RemoveLemmas.{as-many-used, remove-shorter, removed-by}
+use Rattle.btree_edit.specs.Remove.{IsInnerAt, IsRemoved, LeadsBehind, ReplacesInner}
+use Rattle.btree_edit.proofs.RemoveLemmas.{as-many-used, no-leaf, one-left, remove-shorter, removed-by}
 
 -- the node of a view
 pub node-of : {K V : Type 0} (o : Option (Node K V)) (v : View (K × V)) → option_map view_of o ≡ Some v
@@ -272,8 +272,9 @@ module _ {K V : Type 0} (cmp : K → K → Ordering) (laws : IsTotalOrder cmp) (
 
       -- after the underflow is fixed
       pub removed-from-internal : (new : TreeState K V) (b : Address) → mid.len + 1 ≡ old.len → mid.kept ≡ old.kept
-          → IsRebalanced mid new leaf_id cmp next b → IsRemoved old new cmp a inner.item b
-      removed-from-internal new b len uncounted r =
+          → IsRebalanced mid new leaf_id cmp next b → ReplacesInner old new cmp a left b → IsRemoved old new cmp a inner.item b
+      removed-from-internal new b len uncounted r replaced =
           removed-by cmp old mid root well laws root-is.1 top leaf_id (suc before) a next inner.item off removed-inner.height_is
           shorter inner-room.here inner-room.room removed-inner.within_strain as-many had predecessor.at listed next-place
-          next-back new b len uncounted r
+          next-back new b len uncounted r (λ at. absurd (no-leaf old a root root-is.1 left inner at))
+          (λ other is. subst (λ n. ReplacesInner old new cmp a n b) (one-left old a left other inner is) replaced)

@@ -1,5 +1,5 @@
 -- The steps of a removal at an address: what a node returned, and the tree in between.
-use Rattle.std.proofs.Common.{◌≡◌, ◌∙◌, ◌+◌, ◌<◌, ◌≤◌, ◌^◌, ℕ, suc, inl, inr, List, length, Option, Some, None, Ok, Err, OnOk, OnErr, Result, IsTrue, refl, sym, ap, subst, option_map, option_and_then, slice_get, arith}
+use Rattle.std.proofs.Common.{◌≡◌, ◌∙◌, ◌+◌, ◌<◌, ◌≤◌, ◌^◌, ℕ, suc, List, length, Option, Some, None, Ok, Err, OnOk, OnErr, Result, IsTrue, refl, sym, ap, subst, option_map, option_and_then, slice_get, arith}
 use Rattle.std.proofs.lemmas.Option.{same_Some, slice_get_within}
 use Rattle.std.specs.Cmp.{IsTotalOrder}
 use Rattle.std.specs.FinMap as finite
@@ -10,12 +10,11 @@ use Rattle.btree_node.specs.declared.node.Node.{Node}
 use Rattle.btree_node.specs.Node.{view_of}
 use Rattle.btree_view.specs.Edits.{is_internal, without_at}
 use Rattle.btree_view.specs.Removal.{removal_in}
-use Rattle.btree_view.specs.View.{View, leaf, internal, children_in, children_of, item_in, items_of, size_of}
+use Rattle.btree_view.specs.View.{leaf, children_in, children_of, item_in, items_of, size_of}
 use Rattle.btree_view.proofs.RemovalLemmas.{child-from_removal, item-from_removal, no_item-from_removal}
 use Rattle.btree_shape.specs.Focus.Positions.{address_at, address_before}
-use Rattle.btree_shape.specs.Place.{IsLeaf}
 use Rattle.btree_shape.specs.Step.{WritesNode}
-use Rattle.btree_shape.specs.TreeState.{TreeState, IsBTree, IsLeafAddressIn, IsOffByOneAt, IsPlaceIn, IsUsed, IsValidIn, item_of, node_map, pairs_of}
+use Rattle.btree_shape.specs.TreeState.{TreeState, IsBTree, IsOffByOneAt, IsPlaceIn, IsUsed, IsValidIn, item_of, node_map, pairs_of}
 use Rattle.btree_shape.specs.WellFormed.{IsWellFormed}
 use Rattle.btree_shape.proofs.Trees.Stores.{item-some, writes_node}
 use Rattle.btree_shape.proofs.Paths.SiblingNumbers.{children-count}
@@ -40,34 +39,6 @@ on-ok {A} {B} {C} r x e = subst (λ z. OnOk z C) e
 
 pub on-err : {A B C : Type 0} (r : Result A B) (x : B) → r ≡ Err x → OnErr r C → C
 on-err {A} {B} {C} r x e = subst (λ z. OnErr z C) e
-
-module _ {K V : Type 0} (s : TreeState K V) (a : Address) where
-  -- only one child is before the item at an address
-  pub one-left : (left other : ℕ) → IsInnerAt s a left → IsInnerAt s a other → left ≡ other
-  one-left left other p q =
-      let node : p.node ≡ q.node = (let e = p.here in let f = q.here in cc) in
-      let index : p.index ≡ q.index = (let e = p.offset in let f = q.offset in cc) in
-      let e : Some left ≡ Some other =
-      sym p.child ∙ ap (λ v. slice_get (children_of v) p.index) node ∙ ap (λ n. slice_get (children_of q.node) n) index ∙ q.child in
-      cc
-
-  -- an item of a leaf is not one of an internal node
-  pub no-inner : (parent : Option ℕ) (xs : List (K × V)) → node_map s a.id ≡ Some (leaf parent xs) → (left : ℕ) → IsInnerAt s a left → ⊥
-  no-inner parent xs here left p =
-      let node : p.node ≡ leaf parent xs = (let e = p.here in cc) in
-      let kind : IsTrue (is_internal (leaf parent xs)) = subst (λ v. IsTrue (is_internal v)) node p.kind in
-      absurd (cc)
-
-  -- an item of an internal node is not one of a leaf
-  pub no-leaf : (root : ℕ) → s.root ≡ Some root → (left : ℕ) → IsInnerAt s a left → IsLeafAddressIn s a → ⊥
-  no-leaf root top left p at = elim at [
-    | inl in_leaf ↦ by p.node p.here p.kind in_leaf
-    | inr nowhere ↦ let none = nowhere.0 in absurd (cc)
-  ]
-    where
-      by : (v : View (K × V)) → node_map s a.id ≡ Some v → IsTrue (is_internal v) → IsLeaf (node_map s) (node_map s a.id) → ⊥
-      by (leaf parent xs) here kind in_leaf = absurd (cc)
-      by (internal parent first branches) here kind in_leaf = subst (IsLeaf (node_map s)) here in_leaf
 
 module _ {K V : Type 0} (old : TreeState K V) (a : Address) where
   -- the empty tree has no item
@@ -141,19 +112,7 @@ module _ {K V : Type 0} (old : TreeState K V) (a : Address) where
       pub leaf-counted : 1 ≤ old.len
       leaf-counted = taken-counted cmp laws old mid tree small a index leaf-is.4 parent xs x leaf-here leaf-is.5 put refl
 
-      pub leaf-removed : (new : TreeState K V) (b : Address) → len + 1 ≡ old.len → IsRebalanced mid new a.id cmp a b
-          → IsRemoved old new cmp a x b
-      leaf-removed new b shorter r =
-          removed-from-leaf cmp laws old mid tree small a index leaf-is.4 parent xs x leaf-here leaf-is.5 put refl new b
-          shorter refl r
-
-      -- with enough items left nothing is to be fixed
-      pub leaf-enough : len + 1 ≡ old.len → 2 < size_of (view_of kept) → IsRemoved old mid cmp a x a
-      leaf-enough shorter enough =
-          leaf-removed mid a shorter
-          (enough-rebalanced cmp laws mid a.id leaf-off a leaf-valid leaf-room (subst (λ v. 2 < size_of v) shorter-is enough))
-
-      pub leaf-taken : (new : TreeState K V) (b : Address) → len + 1 ≡ old.len → IsRebalanced mid new a.id cmp a b
+      leaf-taken : (new : TreeState K V) (b : Address) → len + 1 ≡ old.len → IsRebalanced mid new a.id cmp a b
           → RebalancesLeaf old new cmp a b
       leaf-taken new b shorter r = record {
         taken = mid;
@@ -166,9 +125,16 @@ module _ {K V : Type 0} (old : TreeState K V) (a : Address) where
         rebalanced = r;
       }
 
-      pub leaf-taken_enough : len + 1 ≡ old.len → 2 < size_of (view_of kept) → RebalancesLeaf old mid cmp a a
-      leaf-taken_enough shorter enough =
-          leaf-taken mid a shorter
+      pub leaf-removed : (new : TreeState K V) (b : Address) → len + 1 ≡ old.len → IsRebalanced mid new a.id cmp a b
+          → IsRemoved old new cmp a x b
+      leaf-removed new b shorter r =
+          removed-from-leaf cmp laws old mid tree small a index leaf-is.4 parent xs x leaf-here leaf-is.5 put refl new b
+          shorter refl r (leaf-taken new b shorter r)
+
+      -- with enough items left nothing is to be fixed
+      pub leaf-enough : len + 1 ≡ old.len → 2 < size_of (view_of kept) → IsRemoved old mid cmp a x a
+      leaf-enough shorter enough =
+          leaf-removed mid a shorter
           (enough-rebalanced cmp laws mid a.id leaf-off a leaf-valid leaf-room (subst (λ v. 2 < size_of v) shorter-is enough))
 
 module _ {K V : Type 0} (cmp : K → K → Ordering) (laws : IsTotalOrder cmp) (s : TreeState K V) (tree : IsBTree cmp s) where

@@ -97,17 +97,10 @@ module _ {K V : Type 0} (cmp : K → K → Ordering) (laws : IsTotalOrder cmp) (
         replaced-room =
             inner-room cmp laws old tree small a left inner taken y leaf_id takes next behind mid (view_of kept) put has top
 
-        pub removed-inner : (new : TreeState K V) (b : Address) → len + 1 ≡ old.len
-            → IsRebalanced mid new leaf_id cmp next b → IsRemoved old new cmp a x b
-        removed-inner new b shorter r =
-            subst (λ z. IsRemoved old new cmp a z b) removed-is
-            (removed-from-internal cmp laws old tree small a left inner taken y leaf_id takes next behind mid (view_of kept)
-            put has top new b shorter (ap (λ (s : TreeState K V). s.kept) takes.rest.rest) r)
-
         same-node : (other : View (K × V)) → node_map old a.id ≡ Some other → inner.node ≡ other
         same-node other is = let e = inner.here in cc
 
-        pub replaces-inner : (new : TreeState K V) (b : Address) → IsRebalanced mid new leaf_id cmp next b → ReplacesInner old new cmp a left b
+        replaces-inner : (new : TreeState K V) (b : Address) → IsRebalanced mid new leaf_id cmp next b → ReplacesInner old new cmp a left b
         replaces-inner new b r = record {
           last = y;
           leaf = leaf_id;
@@ -120,6 +113,13 @@ module _ {K V : Type 0} (cmp : K → K → Ordering) (laws : IsTotalOrder cmp) (
           behind = behind;
           rebalanced = r;
         }
+
+        pub removed-inner : (new : TreeState K V) (b : Address) → len + 1 ≡ old.len
+            → IsRebalanced mid new leaf_id cmp next b → IsRemoved old new cmp a x b
+        removed-inner new b shorter r =
+            subst (λ z. IsRemoved old new cmp a z b) removed-is
+            (removed-from-internal cmp laws old tree small a left inner taken y leaf_id takes next behind mid (view_of kept)
+            put has top new b shorter (ap (λ (s : TreeState K V). s.kept) takes.rest.rest) r (replaces-inner new b r))
 
         -- the leaf is still as it was left
         leaf-same : node_map mid leaf_id ≡ node_map taken leaf_id

@@ -1,6 +1,6 @@
 -- An item removed and the underflow fixed: the tree afterwards. The law for any removal is `removed-by`; for one from a
 -- leaf it is `removed-from-leaf`.
-use Rattle.std.proofs.Common.{◌≡◌, ◌∙◌, ◌+◌, ◌<◌, ◌≤◌, ℕ, suc, inl, List, length, Option, Some, None, IsSome, refl, sym, ap, subst, option_and_then, slice_get, arith, ◌^◌}
+use Rattle.std.proofs.Common.{◌≡◌, ◌∙◌, ◌+◌, ◌<◌, ◌≤◌, ℕ, suc, inl, inr, List, length, Option, Some, None, IsSome, IsTrue, refl, sym, ap, subst, option_and_then, slice_get, arith, ◌^◌}
 use Rattle.std.proofs.lemmas.List.Edits.{length-remove}
 use Rattle.std.proofs.lemmas.Option.{slice_get_within}
 use Rattle.std.specs.Cmp.{IsTotalOrder}
@@ -10,15 +10,16 @@ use Rattle.std.specs.declared.cmp.Ordering.{Ordering}
 use Rattle.btree_item.specs.declared.address.Address.{Address}
 use Rattle.btree_item.specs.Pairs.{KeyFits}
 use Rattle.btree_item.proofs.PairEdits.{insert-remove}
-use Rattle.btree_view.specs.View.{NodeMap, View, leaf, item_in, most_of, size_of}
+use Rattle.btree_view.specs.Edits.{is_internal}
+use Rattle.btree_view.specs.View.{NodeMap, View, leaf, internal, children_of, item_in, most_of, size_of}
 use Rattle.btree_shape.specs.Focus.Positions.{address_at}
 use Rattle.btree_shape.specs.Focus.TreePositions.{IsAddressed}
 use Rattle.btree_shape.specs.Lists.{times_listed}
-use Rattle.btree_shape.specs.Place.{IsPlace, IsValid}
+use Rattle.btree_shape.specs.Place.{IsLeaf, IsPlace, IsValid}
 use Rattle.btree_shape.specs.Represents.{Represents, numbers_under}
 use Rattle.btree_shape.specs.Step.{WritesNode}
 use Rattle.btree_shape.specs.Strain.{IsStrain, debt_of, strain_under}
-use Rattle.btree_shape.specs.TreeState.{TreeState, HasLevels, HasLevelsUnder, HasStrain, IsBTree, IsOffByOneAt, IsPlaceIn, IsValidIn, item_of, node_map, pairs_of}
+use Rattle.btree_shape.specs.TreeState.{TreeState, HasLevels, HasLevelsUnder, HasStrain, IsBTree, IsLeafAddressIn, IsOffByOneAt, IsPlaceIn, IsValidIn, item_of, node_map, pairs_of}
 use Rattle.btree_shape.specs.WellFormed.{IsNearlySized, IsOffByOne, IsSized, IsWellFormed, times_used}
 use Rattle.btree_shape.proofs.Places.OfTree.{positions-addressed, valid-on}
 use Rattle.btree_shape.proofs.Places.Words.{item-within}
@@ -32,12 +33,40 @@ use Rattle.btree_raw.specs.Rebalance.{HasRoom, IsRebalanced}
 use Rattle.btree_raw.proofs.UpwardLemmas.{put-used}
 use Rattle.btree_find.specs.Fits.{FitsAt}
 use Rattle.btree_find.proofs.PlaceLemmas.{has-place}
-use Rattle.btree_edit.specs.Remove.{FreesWithinStrain, IsRemoved}
+use Rattle.btree_edit.specs.Remove.{FreesWithinStrain, IsInnerAt, IsRemoved, RebalancesLeaf, ReplacesIfInner, TakesFromLeaf}
 use Rattle.btree_edit.proofs.ReplaceLemmas.{fits-removed}
 
 -- one element less than before
 pub remove-shorter : {X : Type 0} (xs : List X) (i : ℕ) (x : X) → slice_get xs i ≡ Some x → length (remove xs i) + 1 ≡ length xs
 remove-shorter xs i x e = length-remove xs i (slice_get_within xs i x e)
+
+module _ {K V : Type 0} (s : TreeState K V) (a : Address) where
+  -- only one child is before the item at an address
+  pub one-left : (left other : ℕ) → IsInnerAt s a left → IsInnerAt s a other → left ≡ other
+  one-left left other p q =
+      let node : p.node ≡ q.node = (let e = p.here in let f = q.here in cc) in
+      let index : p.index ≡ q.index = (let e = p.offset in let f = q.offset in cc) in
+      let e : Some left ≡ Some other =
+      sym p.child ∙ ap (λ v. slice_get (children_of v) p.index) node ∙ ap (λ n. slice_get (children_of q.node) n) index ∙ q.child in
+      cc
+
+  -- an item of a leaf is not one of an internal node
+  pub no-inner : (parent : Option ℕ) (xs : List (K × V)) → node_map s a.id ≡ Some (leaf parent xs) → (left : ℕ) → IsInnerAt s a left → ⊥
+  no-inner parent xs here left p =
+      let node : p.node ≡ leaf parent xs = (let e = p.here in cc) in
+      let kind : IsTrue (is_internal (leaf parent xs)) = subst (λ v. IsTrue (is_internal v)) node p.kind in
+      absurd (cc)
+
+  -- an item of an internal node is not one of a leaf
+  pub no-leaf : (root : ℕ) → s.root ≡ Some root → (left : ℕ) → IsInnerAt s a left → IsLeafAddressIn s a → ⊥
+  no-leaf root top left p at = elim at [
+    | inl in_leaf ↦ by p.node p.here p.kind in_leaf
+    | inr nowhere ↦ let none = nowhere.0 in absurd (cc)
+  ]
+    where
+      by : (v : View (K × V)) → node_map s a.id ≡ Some v → IsTrue (is_internal v) → IsLeaf (node_map s) (node_map s a.id) → ⊥
+      by (leaf parent xs) here kind in_leaf = absurd (cc)
+      by (internal parent first branches) here kind in_leaf = subst (IsLeaf (node_map s)) here in_leaf
 
 module _ {K V : Type 0} (cmp : K → K → Ordering) (old mid : TreeState K V) (root : ℕ)
     (well : IsWellFormed cmp (node_map old) (Some root) old.len (pairs_of old)) where
@@ -61,7 +90,7 @@ module _ {K V : Type 0} (cmp : K → K → Ordering) (old mid : TreeState K V) (
       (had : item_of old a ≡ Some x) (at : IsPlaceIn old a place) (listed : slice_get (pairs_of old) place ≡ Some x)
       (f-place : IsPlaceIn mid f place) (f-back : IsSome f.offset)
       (new : TreeState K V) (b : Address) (len : mid.len + 1 ≡ old.len) (uncounted : mid.kept ≡ old.kept)
-      (r : IsRebalanced mid new exempt cmp f b) where
+      (r : IsRebalanced mid new exempt cmp f b) (at-leaf : TakesFromLeaf old new cmp a b) (at-inner : ReplacesIfInner old new cmp a b) where
     old-tree : IsBTree cmp old
     old-tree = subst (λ t. IsWellFormed cmp (node_map old) t old.len (pairs_of old)) (sym at-root) well
 
@@ -152,6 +181,8 @@ module _ {K V : Type 0} (cmp : K → K → Ordering) (old mid : TreeState K V) (
           shorter = omega arith;
           frees = frees;
           uncounted = r.uncounted ∙ uncounted;
+          leaf = at-leaf;
+          inner = at-inner;
         }
 
 module _ {K V : Type 0} (cmp : K → K → Ordering) (laws : IsTotalOrder cmp) (old mid : TreeState K V) (tree : IsBTree cmp old) (small : old.len < 2 ^ 64)
@@ -252,8 +283,8 @@ module _ {K V : Type 0} (cmp : K → K → Ordering) (laws : IsTotalOrder cmp) (
 
   -- after the underflow is fixed
   pub removed-from-leaf : (new : TreeState K V) (b : Address) → mid.len + 1 ≡ old.len → mid.kept ≡ old.kept
-      → IsRebalanced mid new a.id cmp a b → IsRemoved old new cmp a x b
-  removed-from-leaf new b len uncounted r =
+      → IsRebalanced mid new a.id cmp a b → RebalancesLeaf old new cmp a b → IsRemoved old new cmp a x b
+  removed-from-leaf new b len uncounted r taken =
       removed-by cmp old mid root well laws at-root top a.id place a a x took
       (take-height cmp laws node_at root old.len xs well low (node_map mid) a.id p ys o place x here stood place-on.1 put)
       (leaf p (remove ys o)) put.here taken-room.room
@@ -261,3 +292,4 @@ module _ {K V : Type 0} (cmp : K → K → Ordering) (laws : IsTotalOrder cmp) (
       (as-many-used cmp old mid root well
       (put-used node_at (node_map mid) a.id (leaf p ys) (leaf p (remove ys o)) here put))
       had at-place listed taken-place (subst (λ q. IsSome q) (sym offset) refl) new b len uncounted r
+      (λ at. taken) (λ left inner. absurd (no-inner old a p ys here left inner))

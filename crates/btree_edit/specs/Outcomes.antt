@@ -9,13 +9,8 @@ use Rattle.btree_find.specs.Fits.{pairs_below}
 use Rattle.btree_edit.specs.Exchange.{IsValueExchanged}
 use Rattle.btree_edit.specs.Insert.{IsInserted}
 use Rattle.btree_edit.specs.KeyWritten.{ExchangesValue, key_written}
-use Rattle.btree_edit.specs.Remove.{IsInnerAt, ReplacesInner}
 use Rattle.btree_edit.specs.Update.{ClaimsNeeded}
 use Rattle.btree_edit.specs.ValueWritten.{value_written}
-
--- if the removed item was in an internal node, the last one under the child before it took its place
-abbrev pub ReplacesIfInner : {K V : Type 0} → (old new : TreeState K V) → (K → K → Ordering) → (addr after : Address) → Type 0
-ReplacesIfInner old new cmp addr after = (left : ℕ) → IsInnerAt old addr left → ReplacesInner old new cmp addr left after
 
 module _ {K V : Type 0} (cmp : K → K → Ordering) where
   -- whatever is written at a key replaces the value that was lent

@@ -1,13 +1,13 @@
 -- What a removal leaves of a tree. `IsRemoved` is the main word: with `valid`, `back` and `fits` it has all that
 -- `insert_at` requires to put the pair back, and `restores` says that this gives the old list. A removal may free nodes
--- and never allocates one. `TakesFromLeaf` says what is rebalanced after an item of a leaf was taken out, and
--- `ReplacesInner` which item takes the place of one of an internal node. `RemovesByKey` is a removal at the address of a
--- key.
-use Rattle.std.specs.Prelude.{◌≡◌, ℕ, suc, ◌+◌, ◌≤◌, slice_get, Some, IsSome, IsTrue}
+-- and never allocates one. Its `leaf` says what is rebalanced after an item of a leaf was taken out, and its `inner` which
+-- item takes the place of one of an internal node: so every removal leaves the tree that one at the address leaves.
+-- `RemovesByKey` is a removal at the address of a key.
+use Rattle.std.specs.Prelude.{◌≡◌, ℕ, suc, ◌+◌, ◌≤◌, List, slice_get, is_some, Some, IsSome, IsTrue, if◌then◌else◌}
 use Rattle.std.specs.FinMap as map
 use Rattle.std.specs.List.{insert, remove}
 use Rattle.std.specs.declared.cmp.Ordering.{Ordering}
-use Rattle.btree_item.specs.Pairs.{before}
+use Rattle.btree_item.specs.Pairs.{before, found}
 use Rattle.btree_item.specs.declared.address.Address.{Address}
 use Rattle.btree_view.specs.Edits.{is_internal, with_other_item_at, without_at}
 use Rattle.btree_view.specs.View.{View, children_in, children_of, items_of}
@@ -18,6 +18,10 @@ use Rattle.btree_raw.specs.Rebalance.{IsRebalanced}
 use Rattle.btree_find.specs.Answers.{IsFoundAt}
 use Rattle.btree_find.specs.Fits.{FitsAt}
 use Rattle.btree_find.specs.Navigation.{HasPlace, IsItemAt}
+
+-- the list without the pair of this key, if it is there
+abbrev pub removed : {K V : Type 0} → (K → K → Ordering) → K → List (K × V) → List (K × V)
+removed cmp k xs = if is_some (found cmp k xs) then remove xs (before cmp k xs) else xs
 
 module _ {K V : Type 0} (s : TreeState K V) where
   -- an item of an internal node is at the address, and `left` is the child before it
@@ -52,23 +56,6 @@ module _ {K V : Type 0} (old new : TreeState K V) where
     pub strain_after : HasStrain new after
     pub within_strain : freed + after ≤ before + 1
 
-  -- the pair x at address a was removed; address b is a back address at the place where it was, which its key fits
-  pub record IsRemoved (cmp : K → K → Ordering) (a : Address) (x : K × V) (b : Address) : Type 0 where
-    pub tree : IsBTree cmp new
-    pub had : item_of old a ≡ Some x
-    pub place : ℕ
-    pub has : HasPlace old a place
-    pub listed : slice_get (pairs_of old) place ≡ Some x
-    pub pairs : pairs_of new ≡ remove (pairs_of old) place
-    pub restores : insert (pairs_of new) place x ≡ pairs_of old
-    pub valid : IsValidIn new b
-    pub there : HasPlace new b place
-    pub back : IsSome b.offset
-    pub fits : FitsAt cmp x.0 new b
-    pub shorter : old.len ≡ new.len + 1
-    pub frees : FreesWithinStrain
-    pub uncounted : new.kept ≡ old.kept
-
   -- the item at address a, in a leaf, was taken out; then the leaf was rebalanced, while address a was followed, which
   -- is address b now
   pub record RebalancesLeaf (cmp : K → K → Ordering) (a b : Address) : Type 0 where
@@ -96,6 +83,29 @@ module _ {K V : Type 0} (old new : TreeState K V) where
     pub next : Address
     pub behind : LeadsBehind old a next
     pub rebalanced : IsRebalanced replaced new leaf cmp next b
+
+  -- so it was if address a is in an internal node, with this child before it
+  abbrev pub ReplacesIfInner : (cmp : K → K → Ordering) (a b : Address) → Type 0
+  ReplacesIfInner cmp a b = (left : ℕ) → IsInnerAt old a left → ReplacesInner cmp a left b
+
+  -- the pair x at address a was removed; address b is a back address at the place where it was, which its key fits
+  pub record IsRemoved (cmp : K → K → Ordering) (a : Address) (x : K × V) (b : Address) : Type 0 where
+    pub tree : IsBTree cmp new
+    pub had : item_of old a ≡ Some x
+    pub place : ℕ
+    pub has : HasPlace old a place
+    pub listed : slice_get (pairs_of old) place ≡ Some x
+    pub pairs : pairs_of new ≡ remove (pairs_of old) place
+    pub restores : insert (pairs_of new) place x ≡ pairs_of old
+    pub valid : IsValidIn new b
+    pub there : HasPlace new b place
+    pub back : IsSome b.offset
+    pub fits : FitsAt cmp x.0 new b
+    pub shorter : old.len ≡ new.len + 1
+    pub frees : FreesWithinStrain
+    pub uncounted : new.kept ≡ old.kept
+    pub leaf : TakesFromLeaf cmp a b
+    pub inner : ReplacesIfInner cmp a b
 
   -- the pair x, which is the one with the key, was removed
   pub record RemovesByKey (cmp : K → K → Ordering) (k : K) (x : K × V) : Type 0 where

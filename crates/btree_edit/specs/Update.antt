@@ -2,22 +2,21 @@
 -- `RunsAt` is an update at an address. Read `updated` first for one by key: the list that it leaves. `RunsByKey` is the
 -- update, and `UpdatesByKey` says what it does to the nodes: with a value what an insertion does, without one what a
 -- removal does, or nothing if the key is absent. `RunsAtGap` is the update of an absent key, at its gap.
-use Rattle.std.specs.Prelude.{◌≡◌, ◌≢◌, ◌<◌, ◌^◌, ◌-◌, ℕ, List, length, Option, Some, None, is_some, if◌then◌else◌}
-use Rattle.std.specs.List.{remove}
+use Rattle.std.specs.Prelude.{◌≡◌, ◌≢◌, ◌<◌, ◌^◌, ◌-◌, ℕ, List, length, Option, Some, None}
 use Rattle.std.specs.declared.cmp.Ordering.{Ordering}
-use Rattle.btree_item.specs.Pairs.{before, found, found_value, inserted}
+use Rattle.btree_item.specs.Pairs.{found, found_value, inserted}
 use Rattle.btree_item.specs.declared.address.Address.{Address}
 use Rattle.btree_shape.specs.TreeState.{TreeState, IsBTree, item_of, nodes_needed, pairs_of}
 use Rattle.btree_raw.specs.Claimed.{AreClaimed}
 use Rattle.btree_raw.specs.Limit.{IsBelowLimit}
 use Rattle.btree_edit.specs.Exchange.{IsValueExchanged}
 use Rattle.btree_edit.specs.Insert.{InsertsByKey, IsGapFor, IsInserted}
-use Rattle.btree_edit.specs.Remove.{IsRemoved, RemovesByKey}
+use Rattle.btree_edit.specs.Remove.{IsRemoved, RemovesByKey, removed}
 
 module _ {K V : Type 0} (cmp : K → K → Ordering) where
   -- the list with this value at the key, where an equal key stays; without the key if no value is given
   abbrev pub updated : K → Option V → List (K × V) → List (K × V)
-  updated k None xs = if is_some (found cmp k xs) then remove xs (before cmp k xs) else xs
+  updated k None xs = removed cmp k xs
   updated k (Some w) xs = inserted cmp k w xs
 
   module _ (old new : TreeState K V) where

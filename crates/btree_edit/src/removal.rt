@@ -3,8 +3,7 @@ ghost use Rattle.std.specs.Prelude.{◌≡◌, IfSome, IfNone, None};
 ghost use Rattle.btree_item.specs.Pairs.{found};
 ghost use Rattle.btree_shape.specs.TreeState.{IsBTree, IsValidIn, item_of, pairs_of};
 ghost use Rattle.btree_raw.specs.Limit.{IsWithinLimit};
-ghost use Rattle.btree_edit.specs.Outcomes.{ReplacesIfInner};
-ghost use Rattle.btree_edit.specs.Remove.{HasChildBehind, IsInnerAt, IsRemoved, RemovesByKey, ReplacesInner, TakesFromLeaf};
+ghost use Rattle.btree_edit.specs.Remove.{HasChildBehind, IsInnerAt, IsRemoved, RemovesByKey, removed};
 
 use btree_find::{address_of, first_item_beside};
 use btree_item::{Address, Item, MIN_ITEMS};
@@ -24,8 +23,6 @@ pub fn remove_at<K: Ord + Drop, V: Drop, C: NodesMut<K, V>>(
     requires tree { IsBTree K.cmp tree.old }
     requires valid { IsValidIn tree.old addr }
     ensures removed { IfSome result (λ r. IsRemoved tree.old tree.new K.cmp addr r.0 r.1) }
-    ensures leaf { IfSome result (λ r. TakesFromLeaf tree.old tree.new K.cmp addr r.1) }
-    ensures inner { IfSome result (λ r. ReplacesIfInner tree.old tree.new K.cmp addr r.1) }
     ensures vacant { IfNone result (item_of tree.old addr ≡ None) }
     ensures unchanged { IfNone result (tree.new ≡ tree.old) }
     ensures bounded { IsWithinLimit tree.old → IsWithinLimit tree.new }
@@ -62,7 +59,8 @@ pub fn remove_entry<K: Ord + Drop, V: Drop, C: NodesMut<K, V>>(
 ) -> Option<Item<K, V>>
     requires { IsBTree K.cmp tree.old }
     ensures entry { result ≡ found K.cmp key.now (pairs_of tree.old) }
-    ensures removed { IfSome result (λ x. RemovesByKey tree.old tree.new K.cmp key.now x) }
+    ensures removed { pairs_of tree.new ≡ removed K.cmp key.now (pairs_of tree.old) }
+    ensures removed_by_key { IfSome result (λ x. RemovesByKey tree.old tree.new K.cmp key.now x) }
     ensures unchanged { IfNone result (tree.new ≡ tree.old) }
     ensures bounded { IsWithinLimit tree.old → IsWithinLimit tree.new }
 {
@@ -86,8 +84,7 @@ fn remove_inner<K: Ord + Drop, V: Drop, C: NodesMut<K, V>>(
     requires tree { IsBTree K.cmp tree.old }
     requires inner { IsInnerAt tree.old addr left }
     requires behind { HasChildBehind tree.old addr right }
-    ensures removed { IsRemoved tree.old tree.new K.cmp addr result.0 result.1 }
-    ensures replaced { ReplacesInner tree.old tree.new K.cmp addr left result.1 }
+    ensures { IsRemoved tree.old tree.new K.cmp addr result.0 result.1 }
 {
     tree.tell_fits();
     let len = tree.len();

@@ -10,7 +10,6 @@ use Rattle.btree_shape.specs.TreeState.{TreeState}
 use Rattle.btree_edit.specs.Exchange as exchange
 use Rattle.btree_edit.specs.Insert as insert
 use Rattle.btree_edit.specs.InsertAt as insert_at
-use Rattle.btree_edit.specs.Outcomes as outcomes
 use Rattle.btree_edit.specs.Remove as remove
 use Rattle.btree_edit.specs.Update as update
 
@@ -33,12 +32,6 @@ module _ {S K V : Type 0} (state : S → TreeState K V) (old new : S) where
 
   abbrev pub IsRemoved : (K → K → Ordering) → Address → K × V → Address → Type 0
   IsRemoved cmp a x b = remove.IsRemoved (state old) (state new) cmp a x b
-
-  abbrev pub TakesFromLeaf : (K → K → Ordering) → (a b : Address) → Type 0
-  TakesFromLeaf cmp a b = remove.TakesFromLeaf (state old) (state new) cmp a b
-
-  abbrev pub ReplacesIfInner : (K → K → Ordering) → (a b : Address) → Type 0
-  ReplacesIfInner cmp a b = outcomes.ReplacesIfInner (state old) (state new) cmp a b
 
   abbrev pub RunsAt : {T : Type 0} → (K → K → Ordering) → (V → Option V × T → Type 0) → Address → T → Type 0
   RunsAt cmp post a answer = update.RunsAt cmp (state old) (state new) post a answer

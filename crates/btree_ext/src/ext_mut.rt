@@ -8,7 +8,7 @@ ghost use Rattle.btree_shape.specs.TreeState.{IsBTree, IsLeafAddressIn, IsOccupi
 ghost use Rattle.btree_find.specs.Fits.{FitsAt, FitsIn, ReplacesAt};
 ghost use Rattle.btree_edit.specs.Outcomes.{FindsSameBelow, value_below};
 ghost use Rattle.btree_ext.specs.Changes.{ExchangesAt, ExchangesAtKey, with_value_at_key};
-ghost use Rattle.btree_ext.specs.Seen.{InsertsAt, IsExchanged, IsGrantedIfAbsent, IsRefusedAtGap, IsRemoved, IsValueExchanged, RefusesAt, ReplacesIfInner, RunsAt, RunsByKey, TakesFromLeaf};
+ghost use Rattle.btree_ext.specs.Seen.{InsertsAt, IsExchanged, IsGrantedIfAbsent, IsRefusedAtGap, IsRemoved, IsValueExchanged, RefusesAt, RunsAt, RunsByKey};
 
 use crate::ext::BTreeExt;
 use btree_item::{Address, Item, Refused, UpdateRefused};
@@ -114,8 +114,6 @@ pub trait BTreeExtMut<K: Ord + Drop, V: Drop>: BTreeExt<K, V> {
     fn remove_at(&mut self, addr: Address) -> Option<(Item<K, V>, Address)>
         requires { IsValidIn (Self.state self.old) addr }
         ensures removed { IfSome result (λ r. IsRemoved Self.state self.old self.new K.cmp addr r.0 r.1) }
-        ensures leaf { IfSome result (λ r. TakesFromLeaf Self.state self.old self.new K.cmp addr r.1) }
-        ensures inner { IfSome result (λ r. ReplacesIfInner Self.state self.old self.new K.cmp addr r.1) }
         ensures vacant { IfNone result (item_of (Self.state self.old) addr ≡ None) }
         ensures unchanged { IfNone result (Self.state self.new ≡ Self.state self.old) };
 

@@ -174,7 +174,7 @@ impl<K: Ord + Drop, V: Drop, C: NodesMut<K, V>> Tree<K, V, C> {
     ghost use Rattle.btree_edit.specs.ByKey.{InsertOutcome, ReplaceOutcome, UpdateOutcome};
     ghost use Rattle.btree_edit.specs.Insert.{IsRefusedAtGap};
     ghost use Rattle.btree_edit.specs.InsertAbsent.{InsertsAbsent, IsGapOf};
-    ghost use Rattle.btree_edit.specs.Remove.{RemovesByKey};
+    ghost use Rattle.btree_edit.specs.Remove.{RemovesByKey, removed};
 
     /// Inserts a pair, or replaces the value if the key is there: the stored key stays, and the given one is dropped.
     ///
@@ -222,7 +222,8 @@ impl<K: Ord + Drop, V: Drop, C: NodesMut<K, V>> Tree<K, V, C> {
     /// It searches once: it makes at most six comparisons at each level. It frees at most as many nodes as the tree has levels and cannot fail.
     pub fn remove_entry(&mut self, key: &K) -> Option<(K, V)>
         ensures entry { result ≡ found K.cmp key.now (pairs_of self.old) }
-        ensures removed { IfSome result (λ x. RemovesByKey self.old self.new K.cmp key.now x) }
+        ensures removed { pairs_of self.new ≡ removed K.cmp key.now (pairs_of self.old) }
+        ensures removed_by_key { IfSome result (λ x. RemovesByKey self.old self.new K.cmp key.now x) }
         ensures unchanged { IfNone result (self.new ≡ self.old) }
     {
         match remove_entry(&mut self.raw, key) {

@@ -149,7 +149,7 @@ impl<K: Ord + Drop, V: Drop, C: NodesMut<K, V>> BTreeMap<K, V, C> {
     ghost use Rattle.btree_shape.specs.TreeState.{pairs_of};
     ghost use Rattle.btree_edit.specs.Insert.{InsertsByKey, IsGrantedIfAbsent, IsRefusedAtGap};
     ghost use Rattle.btree_edit.specs.InsertAbsent.{InsertsAbsent, IsGapOf};
-    ghost use Rattle.btree_edit.specs.Remove.{RemovesByKey};
+    ghost use Rattle.btree_edit.specs.Remove.{RemovesByKey, removed};
     ghost use Rattle.btree_edit.specs.Replace.{ReplacesByKey, replaced};
     ghost use Rattle.btree_edit.specs.Update.{RunsByKey};
     ghost use Rattle.btree_map.specs.Removal.{RemovesValueOf};
@@ -213,7 +213,8 @@ impl<K: Ord + Drop, V: Drop, C: NodesMut<K, V>> BTreeMap<K, V, C> {
     /// It searches once: it makes at most six comparisons at each level. It frees at most as many nodes as the tree has levels and cannot fail.
     pub fn remove(&mut self, key: &K) -> Option<V>
         ensures value { result ≡ found_value K.cmp key.now (pairs_of self.old) }
-        ensures removed { IfSome result (RemovesValueOf K.cmp key.now self.old self.new) }
+        ensures removed { pairs_of self.new ≡ removed K.cmp key.now (pairs_of self.old) }
+        ensures removed_by_key { IfSome result (RemovesValueOf K.cmp key.now self.old self.new) }
         ensures unchanged { IfNone result (self.new ≡ self.old) }
     {
         match self.tree.remove_entry(key) {
@@ -225,7 +226,8 @@ impl<K: Ord + Drop, V: Drop, C: NodesMut<K, V>> BTreeMap<K, V, C> {
     /// Removes a key equal to the given one, and returns the stored key with its value. Otherwise it does the same as `remove`.
     pub fn remove_entry(&mut self, key: &K) -> Option<(K, V)>
         ensures entry { result ≡ found K.cmp key.now (pairs_of self.old) }
-        ensures removed { IfSome result (λ x. RemovesByKey self.old self.new K.cmp key.now x) }
+        ensures removed { pairs_of self.new ≡ removed K.cmp key.now (pairs_of self.old) }
+        ensures removed_by_key { IfSome result (λ x. RemovesByKey self.old self.new K.cmp key.now x) }
         ensures unchanged { IfNone result (self.new ≡ self.old) }
     {
         self.tree.remove_entry(key)
@@ -234,7 +236,8 @@ impl<K: Ord + Drop, V: Drop, C: NodesMut<K, V>> BTreeMap<K, V, C> {
     /// Does the same as `remove_entry`.
     pub fn take(&mut self, key: &K) -> Option<(K, V)>
         ensures entry { result ≡ found K.cmp key.now (pairs_of self.old) }
-        ensures removed { IfSome result (λ x. RemovesByKey self.old self.new K.cmp key.now x) }
+        ensures removed { pairs_of self.new ≡ removed K.cmp key.now (pairs_of self.old) }
+        ensures removed_by_key { IfSome result (λ x. RemovesByKey self.old self.new K.cmp key.now x) }
         ensures unchanged { IfNone result (self.new ≡ self.old) }
     {
         self.tree.remove_entry(key)

@@ -11,19 +11,20 @@ use Rattle.btree_shape.specs.TreeState.{TreeState, node_map, pairs_of}
 use Rattle.btree_owned.specs.NodesLeft.{met, nodes_under}
 use Rattle.btree_owned.specs.Rest.{AtFirst, AtLast, IsRest}
 
--- the tree at the start, how many pairs were taken at the front, and how many are left
+-- the tree at the start, how many pairs were taken at the front, how many are left, and the nodes that are held
 pub record Leaving (K V : Type 0) : Type 0 where
   pub start : TreeState K V
   pub passed : ℕ
   pub left : ℕ
+  pub now : TreeState K V
 
 abbrev pub leaving_code : {K V : Type 0} → Coded (TreeState K V) → Coded (Leaving K V)
 leaving_code {K} {V} code =
     code_by
-    (TreeState K V × (ℕ × ℕ))
-    (coded× code (coded× coded_ℕ coded_ℕ))
-    (λ s. (s.start, (s.passed, s.left)))
-    (λ p. record { start = p.0; passed = p.1.0; left = p.1.1 })
+    (TreeState K V × (ℕ × (ℕ × TreeState K V)))
+    (coded× code (coded× coded_ℕ (coded× coded_ℕ code)))
+    (λ s. (s.start, (s.passed, (s.left, s.now))))
+    (λ p. record { start = p.0; passed = p.1.0; left = p.1.1.0; now = p.1.1.1 })
     (λ _. refl)
 
 module _ {K V : Type 0} where
@@ -39,6 +40,17 @@ module _ {K V : Type 0} where
   -- how many nodes of the tree at the start have a pair left under them
   abbrev pub nodes_left : Leaving K V → ℕ
   nodes_left s = nodes_of s.start s.start.root s.passed (s.passed + s.left)
+
+-- the nodes that are held are those of a tree of the pairs that are left, and no other
+pub record HoldsRest {K V : Type 0} (s : Leaving K V) : Type 0 where
+  pub height : ℕ
+  pub t : Subtree (K × V) height
+  pub rest : IsRest (K × V) (node_map s.now) height t
+  pub list : items_under (K × V) height t ≡ left_of s
+
+-- the same, or no node is held if no pair is left
+abbrev pub HoldsLeft : {K V : Type 0} → Leaving K V → Type 0
+HoldsLeft s = (s.left ≡ 0 → (n : ℕ) → node_map s.now n ≡ None) × (0 < s.left → HoldsRest s)
 
 -- a walk over a tree as it is, of which no pair is taken yet
 pub record BeginsAt {K V : Type 0} (tree : TreeState K V) (s : Leaving K V) : Type 0 where

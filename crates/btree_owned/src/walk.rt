@@ -34,7 +34,7 @@ impl<K, V, C: NodesMut<K, V>> Model for OwnedWalk<K, V, C> {
 
     ghost coded = { leaving_code (tree_code (Prim.hlevel codes)) };
 
-    ghost view = { λ w. record { start = w.start.value; passed = w.passed.count; left = w.left } };
+    ghost view = { λ w. record { start = w.start.value; passed = w.passed.count; left = w.left; now = w.nodes } };
 
     ghost invariant = { λ w. IsLeaving w.start.value (node_map w.nodes) w.passed.count w.left w.front w.back };
 }
@@ -65,7 +65,7 @@ impl<K: Ord, V, C: NodesMut<K, V>> OwnedWalk<K, V, C> {
 }
 
 impl<K, V, C: NodesMut<K, V>> OwnedWalk<K, V, C> {
-    ghost use Rattle.btree_owned.specs.Leaving.{left_of, nodes_left};
+    ghost use Rattle.btree_owned.specs.Leaving.{HoldsLeft, left_of, nodes_left};
 
     /// Returns how many pairs are left.
     pub fn len(&self) -> usize
@@ -77,7 +77,8 @@ impl<K, V, C: NodesMut<K, V>> OwnedWalk<K, V, C> {
 
     /// Returns how many nodes are held: those of the tree at the start under which a pair is left.
     pub fn node_count(&self) -> usize
-        ensures { result ≡ nodes_left self.now }
+        ensures count { result ≡ nodes_left self.now }
+        ensures held { HoldsLeft self.now }
     {
         self.nodes.node_count()
     }

@@ -22,6 +22,7 @@ use Rattle.btree_raw.specs.Insertion as raw
 use Rattle.btree_edit.specs.Insert.{IsRefusedAtGap, LeavesPairs}
 use Rattle.btree_edit.specs.Replace as replace
 use Rattle.btree_edit.specs.Remove.{RemovesByKey}
+use Rattle.btree_edit.specs.Update.{RemovesIfThere}
 use Rattle.btree_map.specs.Comparison.{pair_cmp, pair_eq, pair_partial_cmp}
 use Rattle.btree_map.specs.Extension as many
 use Rattle.btree_set.specs.Elements.{IsRefused, LeavesElements, SetState, before, inserted, removed, replaced, set_of, stored}
@@ -151,6 +152,18 @@ taken-keys cmp k None old new is some none =
     rw (there-keys cmp k (pairs_of old) ∙ sym (ap is_some is)) (ap (λ (s : TreeState _ _). keys_of (pairs_of s)) none)
 taken-keys cmp k (Some x) old new is some none =
     rw (there-keys cmp k (pairs_of old) ∙ sym (ap is_some is)) (ap (λ l. keys_of l) some.pairs ∙ removed-keys cmp k (pairs_of old))
+
+-- and so the tree was left, which is as it was if there was none
+pub taken-nodes : {T V : Type 0} (cmp : T → T → Ordering) (k : T) (o : Option (T × V)) (old new : TreeState T V) → o ≡ pairs.found cmp k (pairs_of old)
+    → IfSome o (λ x. RemovesByKey old new cmp k x) → IfNone o (new ≡ old) → RemovesIfThere cmp old new k
+taken-nodes cmp k None old new is some none = record {
+  present = λ x there. absurd (let e : None ≡ Some x = is ∙ there in cc);
+  absent = λ gone. none;
+}
+taken-nodes cmp k (Some y) old new is some none = record {
+  present = λ x there. let e : Some y ≡ Some x = is ∙ there in let same : y ≡ x = cc in subst (λ z. RemovesByKey old new cmp k z) same some;
+  absent = λ gone. absurd (let e : Some y ≡ None = is ∙ gone in cc);
+}
 
 -- values of `()` make no difference to comparisons
 and-true : (b : Bool) → (b && true) ≡ b

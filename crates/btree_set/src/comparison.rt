@@ -3,6 +3,7 @@ ghost use Rattle.std.specs.Prelude.{◌≡◌, IfOk, OnErr};
 ghost use Rattle.std.specs.Cmp.{on_equiv, on_per, on_po, on_total};
 ghost use Rattle.std.specs.Cmp.Lexicographic.{lists_agrees, lists_equiv, lists_per, lists_po, lists_ties, lists_total, pointwise, slice_cmp, slice_partial_cmp};
 ghost use Rattle.std.specs.List.{flat_map};
+ghost use Rattle.btree_shape.specs.TreeState.{unrefused};
 ghost use Rattle.btree_map.specs.Comparison.{writes-same};
 
 use crate::BTreeSet;
@@ -30,12 +31,13 @@ impl<T: Ord, C: NodesMut<T, ()>> BTreeSet<T, C> {
 }
 
 impl<T: Ord + Clone, C: CloneNodes<T, ()>> BTreeSet<T, C> {
-    /// Returns a set with clones of the elements. It fails only if the clone of the store fails.
+    /// Returns a set with clones of the elements, whose nodes have the same numbers. It fails only if the clone of the store fails.
     ///
     /// The contract requires that a clone of an element is equal to it.
     pub fn clone(&self) -> Result<Self, AllocError>
         requires { (x copy : T) → T.is_clone x copy → copy ≡ x }
         ensures elements { IfOk result (λ copy. copy.elements ≡ self.now.elements) }
+        ensures nodes { IfOk result (λ copy. copy.tree ≡ unrefused self.now.tree) }
         ensures uncounted { IfOk result (λ copy. copy.kept ≡ record self.now.kept { refusals = 0 }) }
         ensures may_fail { OnErr result (C.MayFail self.now.tree.nodes) }
     {

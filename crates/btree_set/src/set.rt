@@ -1,5 +1,5 @@
 //! The set.
-ghost use Rattle.std.specs.Prelude.{◌≡◌, ◌↔◌, ◌*◌, ◌+◌, ◌-◌, ◌≤◌, [], IfErr, IfOk, IsSome, IsTrue, None, OnErr, OnOk, length, option_map, slice_get};
+ghost use Rattle.std.specs.Prelude.{◌≡◌, ◌↔◌, ◌*◌, ◌+◌, ◌-◌, ◌≤◌, [], IfErr, IfNone, IfOk, IfSome, IsSome, IsTrue, None, OnErr, OnOk, length, option_map, slice_get};
 ghost use Rattle.std.specs.Iterator.{YieldsFirst, YieldsLast};
 ghost use Rattle.std.specs.FinMap as map;
 ghost use Rattle.std.specs.Mem.{FitsInMemory};
@@ -9,6 +9,9 @@ ghost use Rattle.std.specs.Option.{option_copied};
 ghost use Rattle.btree_shape.specs.TreeState.{limited_to, unlimited};
 ghost use Rattle.btree_edit.specs.Insert.{InsertsByKey};
 ghost use Rattle.btree_edit.specs.Replace.{ReplacesByKey};
+ghost use Rattle.btree_edit.specs.Update.{RemovesIfThere};
+ghost use Rattle.btree_map.specs.Lists.{last_place};
+ghost use Rattle.btree_map.specs.Removal.{RemovesPlace};
 ghost use Rattle.btree_set.specs.Elements.{IsInTree, IsRefused, inserted, removed, replaced, stored};
 
 use btree_ext::BTreeExt;
@@ -189,6 +192,7 @@ impl<T: Ord + Drop, C: NodesMut<T, ()>> BTreeSet<T, C> {
     pub fn remove(&mut self, element: &T) -> bool
         ensures there { IsTrue result ↔ IsSome (stored T.cmp element.now self.old.elements) }
         ensures removed { self.new.elements ≡ removed T.cmp element.now self.old.elements }
+        ensures nodes { RemovesIfThere T.cmp self.old.tree self.new.tree element.now }
         ensures uncounted { self.new.kept ≡ self.old.kept }
     {
         self.map.remove_entry(element).is_some()
@@ -198,6 +202,7 @@ impl<T: Ord + Drop, C: NodesMut<T, ()>> BTreeSet<T, C> {
     pub fn take(&mut self, element: &T) -> Option<T>
         ensures element { result ≡ stored T.cmp element.now self.old.elements }
         ensures removed { self.new.elements ≡ removed T.cmp element.now self.old.elements }
+        ensures nodes { RemovesIfThere T.cmp self.old.tree self.new.tree element.now }
         ensures uncounted { self.new.kept ≡ self.old.kept }
     {
         first_of(self.map.remove_entry(element))
@@ -206,6 +211,8 @@ impl<T: Ord + Drop, C: NodesMut<T, ()>> BTreeSet<T, C> {
     /// Removes the least element, and returns it. Returns `None`, and nothing changes, if there are no elements. It compares no elements.
     pub fn pop_first(&mut self) -> Option<T>
         ensures rest { YieldsFirst (λ set. set.elements) self.old result self.new }
+        ensures nodes { IfSome result (λ x. RemovesPlace self.old.tree self.new.tree T.cmp 0 (x, tt)) }
+        ensures unchanged { IfNone result (self.new ≡ self.old) }
         ensures uncounted { self.new.kept ≡ self.old.kept }
     {
         first_of(self.map.pop_first())
@@ -214,6 +221,8 @@ impl<T: Ord + Drop, C: NodesMut<T, ()>> BTreeSet<T, C> {
     /// Removes the greatest element, and returns it. Returns `None`, and nothing changes, if there are no elements. It compares no elements.
     pub fn pop_last(&mut self) -> Option<T>
         ensures rest { YieldsLast (λ set. set.elements) self.old result self.new }
+        ensures nodes { IfSome result (λ x. RemovesPlace self.old.tree self.new.tree T.cmp (last_place self.old.tree) (x, tt)) }
+        ensures unchanged { IfNone result (self.new ≡ self.old) }
         ensures uncounted { self.new.kept ≡ self.old.kept }
     {
         first_of(self.map.pop_last())

@@ -2,7 +2,9 @@
 #![tactic(auto, using(crate::specs::SlotLaws::slots))]
 
 ghost use Rattle.std.specs.Prelude.{◌≡◌, ℕ, ◌+◌, ◌<◌, Some, None, IsSome, IfOk, IfErr, OnOk, OnErr, OnSome, option_copied};
-ghost use Rattle.btree_store.specs.Content.{content_from};
+ghost use Rattle.std.specs.FinMap as map;
+ghost use Rattle.slab.specs.Slab.{HasRoomFor};
+ghost use Rattle.btree_store.specs.Content.{Gains, content_from};
 
 use crate::{Clear, Slab, SlabMut};
 use btree_steps::Steps;
@@ -10,7 +12,8 @@ use std::alloc::{Allocator, Global};
 
 /// A store in memory from an allocator. Each call takes constant time, except `clear` and an `insert` that has to make room.
 ///
-/// It refuses a value only if it has to make room and cannot: the allocator has no memory, or no number is left.
+/// It refuses a value only if it has to make room and cannot: the allocator has no memory, or no number is left. A value gets the number
+/// that the slab tells as its vacant key.
 #[derive(Drop)]
 pub struct SlabStore<T, A: Allocator = Global> {
     pub(crate) slab: slab::Slab<T, A>,
@@ -70,7 +73,20 @@ impl<T, A: Allocator> SlabMut<T> for SlabStore<T, A> {
         self.slab.get_mut(id)
     }
 
-    fn insert(&mut self, value: T) -> Result<usize, T> {
+    // The clauses are those of the trait, one on the number, and one on when a value is refused.
+    fn insert(&mut self, value: T) -> Result<usize, T>
+        ensures number { IfOk result (λ id. id < usize.MAX) }
+        ensures unused { IfOk result (λ id. map.get (content_from 0 self.old.slab.slots) id ≡ None) }
+        ensures stored { IfOk result (Gains (content_from 0 self.old.slab.slots) (content_from 0 self.new.slab.slots) value) }
+        ensures can_hold { OnOk result (Unit {0}) }
+        ensures uncounted { OnOk result (self.new.refused.count ≡ self.old.refused.count) }
+        ensures vacant { IfOk result (λ id. id ≡ self.old.slab.vacant_key) }
+
+        ensures returned { IfErr result (λ back. back ≡ value) }
+        ensures unchanged { OnErr result (content_from 0 self.new.slab.slots ≡ content_from 0 self.old.slab.slots) }
+        ensures counted { OnErr result (self.new.refused.count ≡ self.old.refused.count + 1) }
+        ensures full { OnErr result (HasRoomFor self.old.slab 1 → ⊥) }
+    {
         match self.slab.insert(value) {
             Ok(id) => {
                 // For the prover: the number is below the capacity.

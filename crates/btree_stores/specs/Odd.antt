@@ -1,7 +1,8 @@
 -- What an `OddSlab` contains: a map from odd numbers to values.
-use Rattle.std.specs.Prelude.{◌≡◌, ◌⊎◌, ◌<◌, ◌≤◌, ℕ, ◌+◌, ◌-◌, ◌*◌, ◌/◌, ◌%◌, ◌^◌, List, [], ◌∷◌, Option, Some, None, IsSome, ltb, cond, slice_index_or, slice_set, refl}
-use Rattle.std.specs.Coded.{Coded, code_by, coded×, coded_ℕ, coded_list, coded_option}
+use Rattle.std.specs.Prelude.{◌≡◌, ◌⊎◌, ◌<◌, ◌≤◌, ℕ, ◌+◌, ◌-◌, ◌*◌, ◌/◌, ◌%◌, ◌^◌, List, [], ◌∷◌, Option, Some, None, IsSome, ltb, cond, slice_index_or, refl}
+use Rattle.std.specs.Coded.{Coded, code_by, coded×, coded_ℕ}
 use Rattle.std.specs.FinMap.{empty, insert, get}
+use Rattle.slab.specs.Slab.{HasRoomFor, Slab, slab_code, with_value}
 use Rattle.btree_store.specs.Content.{Content}
 
 -- how many odd numbers are below `usize::MAX`
@@ -35,31 +36,28 @@ AreNumbered slots = (slot : ℕ) → ODD_NUMBERS ≤ slot → slice_index_or slo
 abbrev pub HasOddNumbers : {T : Type 0} → Content T → Type 0
 HasOddNumbers content = (id : ℕ) → IsSome (get content id) → id % 2 ≡ 1
 
--- the value or nothing in each slot of the inner store, how often that store refused a value, the last number that was given back to it
--- (0 if none was), and how often a value was refused in all
+-- the slab of the inner store, and how often a value was refused in all
 pub record Numbered (T : Type 0) : Type 0 where
-  pub slots : List (Option T)
-  pub inside : ℕ
-  pub given_back : ℕ
+  pub slab : Slab T
   pub refused : ℕ
 
 abbrev pub numbered_code : {T : Type 0} → Coded T → Coded (Numbered T)
 numbered_code {T} code =
     code_by
-    (List (Option T) × (ℕ × (ℕ × ℕ)))
-    (coded× (coded_list (coded_option code)) (coded× coded_ℕ (coded× coded_ℕ coded_ℕ)))
-    (λ store. (store.slots, (store.inside, (store.given_back, store.refused))))
-    (λ parts. record { slots = parts.0; inside = parts.1.0; given_back = parts.1.1.0; refused = parts.1.1.1 })
+    (Slab T × ℕ)
+    (coded× (slab_code code) coded_ℕ)
+    (λ store. (store.slab, store.refused))
+    (λ parts. record { slab = parts.0; refused = parts.1 })
     (λ _. refl)
 
 -- the content of such a store
 abbrev pub odd_content : {T : Type 0} → Numbered T → Content T
-odd_content store = odd_content_from 0 store.slots
+odd_content store = odd_content_from 0 store.slab.slots
 
 -- the store with a value under an odd number
 abbrev pub with_odd_value : {T : Type 0} → Numbered T → ℕ → T → Numbered T
-with_odd_value store id value = record store { slots = slice_set store.slots (slot_of id) (Some value) }
+with_odd_value store id value = record store { slab = with_value store.slab (slot_of id) value }
 
--- the inner store refused a value too, or gave it a number for which no odd number is left
-abbrev pub LacksNumber : {T : Type 0} → (old new : Numbered T) → Type 0
-LacksNumber old new = (new.inside ≡ old.inside + 1) ⊎ (ODD_NUMBERS ≤ new.given_back)
+-- the inner store has to make room for a value, or would put it under a number for which no odd number is left
+abbrev pub LacksNumber : {T : Type 0} → Numbered T → Type 0
+LacksNumber old = (HasRoomFor old.slab 1 → ⊥) ⊎ (ODD_NUMBERS ≤ old.slab.vacant_key)

@@ -19,8 +19,6 @@ const COUNT: usize = usize::MAX / 2;
 #[derive(Drop)]
 pub struct OddSlab<T, A: Allocator = Global> {
     inner: SlabStore<T, A>,
-    // For the prover alone: the last number of the inner store for which no odd number was left, and 0 before that.
-    given_back: usize,
     refused: Steps,
 }
 
@@ -31,7 +29,7 @@ impl<T, A: Allocator> Model for OddSlab<T, A> {
 
     ghost coded = { numbered_code T.code };
 
-    ghost view = { λ store. record { slots = store.inner.slab.slots; inside = store.inner.refused.count; given_back = store.given_back; refused = store.refused.count } };
+    ghost view = { λ store. record { slab = store.inner.slab; refused = store.refused.count } };
 
     ghost invariant = { λ store. AreNumbered store.inner.slab.slots };
 }
@@ -80,7 +78,7 @@ impl<T, A: Allocator> SlabMut<T> for OddSlab<T, A> {
 
     ghost written = { with_odd_value };
 
-    ghost content_written = { λ store id value used. odd-write store.slots id value used };
+    ghost content_written = { λ store id value used. odd-write store.slab.slots id value used };
 
     ghost refusals_written = { λ store id value. refl };
 
@@ -91,7 +89,6 @@ impl<T, A: Allocator> SlabMut<T> for OddSlab<T, A> {
     fn empty(origin: A) -> Self {
         OddSlab {
             inner: SlabStore::empty(origin),
-            given_back: 0,
             refused: Steps::new(),
         }
     }
@@ -117,13 +114,12 @@ impl<T, A: Allocator> SlabMut<T> for OddSlab<T, A> {
         ensures returned { IfErr result (λ back. back ≡ value) }
         ensures unchanged { OnErr result (odd_content self.new ≡ odd_content self.old) }
         ensures counted { OnErr result (self.new.refused ≡ self.old.refused + 1) }
-        ensures lacks_number { OnErr result (LacksNumber self.old self.new) }
+        ensures lacks_number { OnErr result (LacksNumber self.old) }
     {
         match self.inner.insert(value) {
             Ok(slot) => {
                 if slot >= COUNT {
                     let back = self.inner.remove(slot);
-                    self.given_back = slot;
                     self.refused.tick();
                     return Err(back);
                 }

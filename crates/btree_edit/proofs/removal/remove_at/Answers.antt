@@ -8,8 +8,8 @@ use Rattle.btree_raw.specs.Steps.{HasCount, HasParent}
 use Rattle.btree_raw.proofs.FetchedLemmas.{count-written, parent-written}
 use Rattle.btree_find.proofs.PlaceLemmas.{node-used}
 use Rattle.btree_raw.proofs.LastLemmas.{same-state}
-use Rattle.btree_edit.specs.Remove.{HasChildBehind, IsInnerAt, IsRemoved, RebalancesLeaf, ReplacesInner}
-use Rattle.btree_edit.proofs.RemoveAtLemmas.{behind-within, has-behind, inner-by, leaf-counted, leaf-enough, leaf-here, leaf-off, leaf-removed, leaf-room, leaf-taken, leaf-taken_enough, leaf-valid, no-inner, no-leaf, on-err, on-ok, one-left, vacant-by, vacant-empty}
+use Rattle.btree_edit.specs.Remove.{HasChildBehind, IsInnerAt, IsRemoved}
+use Rattle.btree_edit.proofs.RemoveAtLemmas.{behind-within, has-behind, inner-by, leaf-counted, leaf-enough, leaf-off, leaf-removed, leaf-room, leaf-valid, on-err, on-ok, vacant-by, vacant-empty}
 use Rattle.btree_edit.proofs.RemoveInnerLemmas.{small-len}
 use Rattle.btree_edit.proofs.LimitLemmas.{removed-within}
 use Rattle.btree_edit.proofs.removal.remove_at.Goals as goal
@@ -148,58 +148,7 @@ pub returns-in-Some-Err-clause-removed : goal.returns-in-Some-Err-clause-removed
 returns-in-Some-Err-clause-removed g c =
     subst (λ (t : TreeState _ _). IsRemoved t c.remove_inner.new.tree g.K.Ord.cmp c.args.addr c.remove_inner.result.0
     c.remove_inner.result.1) (same-state c.args.tree.now c.args.addr.id c.node_mut-node.result.now c.leaf_remove.new.self c.node_mut-node.ensures.value
-    (on-err c.in-Some-Err.field-0 c.in-Some-Err.left c.in-Some-Err.field-0-is c.in-Some-Err.ensures.inner)) c.remove_inner.ensures.removed
-
-pub returns-then-count-ge-MIN_ITEMS-clause-inner : goal.returns-then-count-ge-MIN_ITEMS-clause-inner
-returns-then-count-ge-MIN_ITEMS-clause-inner g c = λ left inner. absurd (no-inner c.args.tree.now c.args.addr _ _
-    (leaf-here c.args.tree.now c.args.addr c.node_mut-node.result.now c.node_mut-node.ensures.value g.K.Ord.cmp g.met.K.Ord.total
-    c.requires.tree (small-len c.args.tree.now c.len.result c.len.ensures c.len.type_inv) c.in-Some-Ok.item
-    (ap Some (sym c.in-Some-Ok.field-0-is) ∙ c.in-Some-Ok.ensures.answer) c.leaf_remove.new.self (on-ok c.in-Some-Ok.field-0 c.in-Some-Ok.item c.in-Some-Ok.field-0-is c.in-Some-Ok.ensures.taken) (c.len.result - 1)) left inner)
-
-pub returns-else-count-ge-MIN_ITEMS-clause-inner : goal.returns-else-count-ge-MIN_ITEMS-clause-inner
-returns-else-count-ge-MIN_ITEMS-clause-inner g c = λ left inner. absurd (no-inner c.args.tree.now c.args.addr _ _
-    (leaf-here c.args.tree.now c.args.addr c.node_mut-node.result.now c.node_mut-node.ensures.value g.K.Ord.cmp g.met.K.Ord.total
-    c.requires.tree (small-len c.args.tree.now c.len.result c.len.ensures c.len.type_inv) c.in-Some-Ok.item
-    (ap Some (sym c.in-Some-Ok.field-0-is) ∙ c.in-Some-Ok.ensures.answer) c.leaf_remove.new.self (on-ok c.in-Some-Ok.field-0 c.in-Some-Ok.item c.in-Some-Ok.field-0-is c.in-Some-Ok.ensures.taken) (c.len.result - 1)) left inner)
-
-pub returns-in-Some-Err-clause-inner : goal.returns-in-Some-Err-clause-inner
-returns-in-Some-Err-clause-inner g c = λ left inner.
-    let is = one-left c.args.tree.now c.args.addr c.in-Some-Err.left left
-    (inner-by c.args.tree.now c.args.addr c.node_mut-node.result.now c.node_mut-node.ensures.value c.in-Some-Err.left
-    (ap Some (sym c.in-Some-Err.field-0-is) ∙ c.in-Some-Err.ensures.answer)) inner in
-    subst (λ n. ReplacesInner c.args.tree.now c.remove_inner.new.tree g.K.Ord.cmp c.args.addr n c.remove_inner.result.1) is
-    (subst (λ (t : TreeState _ _). ReplacesInner t c.remove_inner.new.tree g.K.Ord.cmp c.args.addr c.in-Some-Err.left
-    c.remove_inner.result.1) (same-state c.args.tree.now c.args.addr.id c.node_mut-node.result.now c.leaf_remove.new.self c.node_mut-node.ensures.value
-    (on-err c.in-Some-Err.field-0 c.in-Some-Err.left c.in-Some-Err.field-0-is c.in-Some-Err.ensures.inner)) c.remove_inner.ensures.replaced)
-
-pub returns-then-count-ge-MIN_ITEMS-clause-leaf : goal.returns-then-count-ge-MIN_ITEMS-clause-leaf
-returns-then-count-ge-MIN_ITEMS-clause-leaf g c = λ at.
-    let e = c.len.ensures in
-    let n = leaf-counted c.args.tree.now c.args.addr c.node_mut-node.result.now c.node_mut-node.ensures.value g.K.Ord.cmp g.met.K.Ord.total
-    c.requires.tree (small-len c.args.tree.now c.len.result c.len.ensures c.len.type_inv) c.in-Some-Ok.item
-    (ap Some (sym c.in-Some-Ok.field-0-is) ∙ c.in-Some-Ok.ensures.answer) c.leaf_remove.new.self (on-ok c.in-Some-Ok.field-0 c.in-Some-Ok.item c.in-Some-Ok.field-0-is c.in-Some-Ok.ensures.taken) (c.len.result - 1) in
-    subst (λ (t : TreeState _ _). RebalancesLeaf c.args.tree.now t g.K.Ord.cmp c.args.addr c.args.addr) (sym c.set_len.ensures)
-    (leaf-taken_enough c.args.tree.now c.args.addr c.node_mut-node.result.now c.node_mut-node.ensures.value g.K.Ord.cmp g.met.K.Ord.total
-    c.requires.tree (small-len c.args.tree.now c.len.result c.len.ensures c.len.type_inv) c.in-Some-Ok.item
-    (ap Some (sym c.in-Some-Ok.field-0-is) ∙ c.in-Some-Ok.ensures.answer) c.leaf_remove.new.self (on-ok c.in-Some-Ok.field-0 c.in-Some-Ok.item c.in-Some-Ok.field-0-is c.in-Some-Ok.ensures.taken) (c.len.result - 1)
-    (omega arith) (let e = c.item_count-count.ensures.value in let t = c.if-count-ge-MIN_ITEMS.true in omega arith))
-
-pub returns-else-count-ge-MIN_ITEMS-clause-leaf : goal.returns-else-count-ge-MIN_ITEMS-clause-leaf
-returns-else-count-ge-MIN_ITEMS-clause-leaf g c = λ at.
-    let e = c.len.ensures in
-    let n = leaf-counted c.args.tree.now c.args.addr c.node_mut-node.result.now c.node_mut-node.ensures.value g.K.Ord.cmp g.met.K.Ord.total
-    c.requires.tree (small-len c.args.tree.now c.len.result c.len.ensures c.len.type_inv) c.in-Some-Ok.item
-    (ap Some (sym c.in-Some-Ok.field-0-is) ∙ c.in-Some-Ok.ensures.answer) c.leaf_remove.new.self (on-ok c.in-Some-Ok.field-0 c.in-Some-Ok.item c.in-Some-Ok.field-0-is c.in-Some-Ok.ensures.taken) (c.len.result - 1) in
-    leaf-taken c.args.tree.now c.args.addr c.node_mut-node.result.now c.node_mut-node.ensures.value g.K.Ord.cmp g.met.K.Ord.total
-    c.requires.tree (small-len c.args.tree.now c.len.result c.len.ensures c.len.type_inv) c.in-Some-Ok.item
-    (ap Some (sym c.in-Some-Ok.field-0-is) ∙ c.in-Some-Ok.ensures.answer) c.leaf_remove.new.self (on-ok c.in-Some-Ok.field-0 c.in-Some-Ok.item c.in-Some-Ok.field-0-is c.in-Some-Ok.ensures.taken) (c.len.result - 1)
-    c.rebalance_fetched-at.new.tree c.rebalance_fetched-at.result (omega arith)
-    (subst (λ (t : TreeState _ _). IsRebalanced t c.rebalance_fetched-at.new.tree c.args.addr.id g.K.Ord.cmp c.args.addr
-    c.rebalance_fetched-at.result) c.set_len.ensures c.rebalance_fetched-at.ensures)
-
-pub returns-in-Some-Err-clause-leaf : goal.returns-in-Some-Err-clause-leaf
-returns-in-Some-Err-clause-leaf g c = λ at. absurd (no-leaf c.args.tree.now c.args.addr c.in-Some._root (sym c.root_id.ensures ∙ c.in-Some.is) c.in-Some-Err.left
-    (inner-by c.args.tree.now c.args.addr c.node_mut-node.result.now c.node_mut-node.ensures.value c.in-Some-Err.left (ap Some (sym c.in-Some-Err.field-0-is) ∙ c.in-Some-Err.ensures.answer)) at)
+    (on-err c.in-Some-Err.field-0 c.in-Some-Err.left c.in-Some-Err.field-0-is c.in-Some-Err.ensures.inner)) c.remove_inner.ensures
 
 pub returns-then-count-ge-MIN_ITEMS-clause-bounded : goal.returns-then-count-ge-MIN_ITEMS-clause-bounded
 returns-then-count-ge-MIN_ITEMS-clause-bounded g c = λ within. let len = c.len.ensures in rw c.set_len.ensures (omega arith)
@@ -215,7 +164,7 @@ returns-else-count-ge-MIN_ITEMS-clause-bounded g c = λ within.
 
 pub returns-in-Some-Err-clause-bounded : goal.returns-in-Some-Err-clause-bounded
 returns-in-Some-Err-clause-bounded g c =
-    removed-within g.K.Ord.cmp _ c.remove_inner.new.tree c.args.addr _ c.remove_inner.result.0 c.remove_inner.ensures.removed
+    removed-within g.K.Ord.cmp _ c.remove_inner.new.tree c.args.addr _ c.remove_inner.result.0 c.remove_inner.ensures
 
 pub item_count-count-requires : goal.item_count-count-requires
 item_count-count-requires g c = c.tell_fits.ensures

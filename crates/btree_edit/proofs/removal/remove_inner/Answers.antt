@@ -3,9 +3,9 @@ use Rattle.btree_shape.specs.TreeState.{TreeState, IsOffByOneAt, IsValidIn, node
 use Rattle.btree_raw.specs.Rebalance.{HasRoom, IsRebalanced}
 use Rattle.btree_raw.specs.Steps.{HasCount, HasParent}
 use Rattle.btree_raw.proofs.PlacedLemmas.{but-length}
-use Rattle.btree_edit.specs.Remove.{IsRemoved, ReplacesInner}
+use Rattle.btree_edit.specs.Remove.{IsRemoved}
 use Rattle.btree_edit.proofs.RemoveAtLemmas.{beside, left-used, right-leads}
-use Rattle.btree_edit.proofs.RemoveInnerLemmas.{count-kept, has-item, inner-still, is-inner, len-above, parent-kept, removed-inner, replaced-off, replaced-room, replaced-valid, replaces-inner, small-len, still-balanced}
+use Rattle.btree_edit.proofs.RemoveInnerLemmas.{count-kept, has-item, inner-still, is-inner, len-above, parent-kept, removed-inner, replaced-off, replaced-room, replaced-valid, small-len, still-balanced}
 use Rattle.btree_edit.proofs.removal.remove_inner.Goals as goal
 
 pub first_item_beside-next-requires-clause-beside : goal.first_item_beside-next-requires-clause-beside
@@ -103,8 +103,8 @@ rebalance_fetched-at-requires-clause-parent g c =
     c.replace-item.ensures.after (c.len-len.result - 1) c.first_item_beside-next.result behind
     c.take_last_below-last.result.3 c.take_last_below-last.ensures.parent)
 
-pub returns-clause-removed : goal.returns-clause-removed
-returns-clause-removed g c =
+pub returns : goal.returns
+returns g c =
     let behind = right-leads g.K.Ord.cmp g.met.K.Ord.total c.args.tree.now c.requires.tree c.args.addr c.args.left c.requires.inner c.args.right c.requires.behind c.first_item_beside-next.result c.first_item_beside-next.ensures in
     let e = c.len-len.ensures in
     let n = len-above g.K.Ord.cmp g.met.K.Ord.total c.args.tree.now c.requires.tree
@@ -119,20 +119,8 @@ returns-clause-removed g c =
     (subst (λ (t : TreeState _ _). IsRebalanced t c.rebalance_fetched-at.new.tree c.take_last_below-last.result.1 g.K.Ord.cmp
     c.first_item_beside-next.result c.rebalance_fetched-at.result) c.set_len.ensures c.rebalance_fetched-at.ensures)
 
-pub returns-clause-replaced : goal.returns-clause-replaced
-returns-clause-replaced g c =
-    let behind = right-leads g.K.Ord.cmp g.met.K.Ord.total c.args.tree.now c.requires.tree c.args.addr c.args.left c.requires.inner c.args.right c.requires.behind c.first_item_beside-next.result c.first_item_beside-next.ensures in
-    replaces-inner g.K.Ord.cmp g.met.K.Ord.total c.args.tree.now c.requires.tree
-    (small-len c.args.tree.now c.len-len.result c.len-len.ensures c.len-len.type_inv) c.args.addr c.args.left c.requires.inner c.take_last_below-last.new.tree
-    c.take_last_below-last.result.0 c.take_last_below-last.result.1 c.take_last_below-last.ensures.taken
-    c.node_mut.result.now c.node_mut.ensures.value c.replace-item.result c.replace-item.ensures.answer c.replace-item.new.self
-    c.replace-item.ensures.after (c.len-len.result - 1) c.first_item_beside-next.result behind
-    c.rebalance_fetched-at.new.tree c.rebalance_fetched-at.result
-    (subst (λ (t : TreeState _ _). IsRebalanced t c.rebalance_fetched-at.new.tree c.take_last_below-last.result.1 g.K.Ord.cmp
-    c.first_item_beside-next.result c.rebalance_fetched-at.result) c.set_len.ensures c.rebalance_fetched-at.ensures)
-
-pub returns-then-count-ge-MIN_ITEMS-clause-removed : goal.returns-then-count-ge-MIN_ITEMS-clause-removed
-returns-then-count-ge-MIN_ITEMS-clause-removed g c =
+pub returns-then-count-ge-MIN_ITEMS : goal.returns-then-count-ge-MIN_ITEMS
+returns-then-count-ge-MIN_ITEMS g c =
     let behind = right-leads g.K.Ord.cmp g.met.K.Ord.total c.args.tree.now c.requires.tree c.args.addr c.args.left c.requires.inner c.args.right c.requires.behind c.first_item_beside-next.result c.first_item_beside-next.ensures in
     let e = c.len-len.ensures in
     let n = len-above g.K.Ord.cmp g.met.K.Ord.total c.args.tree.now c.requires.tree
@@ -151,20 +139,3 @@ returns-then-count-ge-MIN_ITEMS-clause-removed g c =
     c.node_mut.result.now c.node_mut.ensures.value c.replace-item.result c.replace-item.ensures.answer c.replace-item.new.self
     c.replace-item.ensures.after (c.len-len.result - 1) c.first_item_beside-next.result behind
     _ c.first_item_beside-next.result (omega arith) same)
-
-pub returns-then-count-ge-MIN_ITEMS-clause-replaced : goal.returns-then-count-ge-MIN_ITEMS-clause-replaced
-returns-then-count-ge-MIN_ITEMS-clause-replaced g c =
-    let behind = right-leads g.K.Ord.cmp g.met.K.Ord.total c.args.tree.now c.requires.tree c.args.addr c.args.left c.requires.inner c.args.right c.requires.behind c.first_item_beside-next.result c.first_item_beside-next.ensures in
-    let same = still-balanced g.K.Ord.cmp g.met.K.Ord.total c.args.tree.now c.requires.tree
-    (small-len c.args.tree.now c.len-len.result c.len-len.ensures c.len-len.type_inv) c.args.addr c.args.left c.requires.inner c.take_last_below-last.new.tree
-    c.take_last_below-last.result.0 c.take_last_below-last.result.1 c.take_last_below-last.ensures.taken
-    c.node_mut.result.now c.node_mut.ensures.value c.replace-item.result c.replace-item.ensures.answer c.replace-item.new.self
-    c.replace-item.ensures.after (c.len-len.result - 1) c.first_item_beside-next.result behind
-    c.take_last_below-last.result.2 c.take_last_below-last.ensures.count (omega arith) in
-    subst (λ (t : TreeState _ _). ReplacesInner c.args.tree.now t g.K.Ord.cmp c.args.addr c.args.left c.first_item_beside-next.result) (sym c.set_len.ensures)
-    (replaces-inner g.K.Ord.cmp g.met.K.Ord.total c.args.tree.now c.requires.tree
-    (small-len c.args.tree.now c.len-len.result c.len-len.ensures c.len-len.type_inv) c.args.addr c.args.left c.requires.inner c.take_last_below-last.new.tree
-    c.take_last_below-last.result.0 c.take_last_below-last.result.1 c.take_last_below-last.ensures.taken
-    c.node_mut.result.now c.node_mut.ensures.value c.replace-item.result c.replace-item.ensures.answer c.replace-item.new.self
-    c.replace-item.ensures.after (c.len-len.result - 1) c.first_item_beside-next.result behind
-    _ c.first_item_beside-next.result same)
