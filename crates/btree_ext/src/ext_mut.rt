@@ -21,8 +21,8 @@ pub trait BTreeExtMut<K: Ord + Drop, V: Drop>: BTreeExt<K, V> {
     /// Returns the key of the item at an address, and its value for writing, or `None` if there is no item: at -1, past the last item of a
     /// node, or nowhere. It changes no address, needs no new node and cannot fail.
     ///
-    /// The address must be valid: `is_valid` decides that. The contract does not say what the tree is after the value was written; that of
-    /// `pair_mut` does.
+    /// The address must be valid: `is_valid` decides that. The contract says what is returned, and nothing of the tree afterwards, also where
+    /// that is `None`; that of `pair_mut` says both.
     fn item_mut(&mut self, addr: Address) -> Option<(&K, &mut V)>
         requires { IsValidIn (Self.state self.old) addr }
         ensures item { IfSome result (λ p.

@@ -44,6 +44,11 @@ module _ {T V : Type 0} where
   keys-append [] qs = refl
   keys-append (p ∷ ps) qs = ap (λ (l : List T). p.0 ∷ l) (keys-append ps qs)
 
+  -- pairs without keys are none
+  no-keys : (ps : List (T × V)) → keys_of ps ≡ [] → ps ≡ []
+  no-keys [] none = refl
+  no-keys (p ∷ ps) none = absurd (cc)
+
   pub drop-keys : (n : ℕ) (ps : List (T × V)) → drop n (keys_of ps) ≡ keys_of (drop n ps)
   drop-keys zero ps = refl
   drop-keys (suc n) [] = refl
@@ -131,6 +136,7 @@ module _ {F T : Type 0} (Step : F → T → Bool → F → Type 0) where
           ∙ ap (λ (l : List T). l ++ keys_of (picked_pairs false asked)) (sym (take-keys front (pairs_of old)))
           ∙ ap (λ (l : List T). take front (keys_of (pairs_of old)) ++ l) (picked-keys false asked);
       uncounted = run.uncounted;
+      addresses = λ none. run.addresses (no-keys (picked_pairs true asked) (picked-keys true asked ∙ none));
     }
 
     yields-some : (x : T × Unit {0}) → PairYields PairStep true f f' old front new front' (Some x) → Yields Step f f' (set_of old) front (set_of new) front' (Some x.0)
@@ -163,4 +169,5 @@ module _ {F T : Type 0} (Step : F → T → Bool → F → Type 0) where
         ∙ ap (λ (l : List T). l ++ keys_of (picked_pairs false run.asked)) (sym (take-keys front (pairs_of old)))
         ∙ ap (λ (l : List T). take front (keys_of (pairs_of old)) ++ l) (picked-keys false run.asked);
     uncounted = run.uncounted;
+    addresses = λ none. run.addresses (no-keys (picked_pairs true run.asked) (picked-keys true run.asked ∙ none));
   }

@@ -43,13 +43,14 @@ module _ {F T : Type 0} (Step : F → T → Bool → F → Type 0) where
   Selects answer f old new = (asked : List (Bool × T)) × (f' : F) × Asks f old asked f' × (new ≡ picked answer asked)
 
   -- calls at the next elements of a set of which `front` were passed: those that were picked are gone, and `front'` are
-  -- passed now
+  -- passed now; if none was picked, every address stays
   pub record RunsTest (f f' : F) (old : SetState T) (front : ℕ) (new : SetState T) (front' : ℕ) (asked : List (Bool × T)) : Type 0 where
     pub here : List T
     pub left : drop front old.elements ≡ here ++ drop front' new.elements
     pub calls : Asks f here asked f'
     pub passed : take front' new.elements ≡ take front old.elements ++ picked false asked
     pub uncounted : new.kept ≡ old.kept
+    pub addresses : picked true asked ≡ [] → item_addresses_of new.tree ≡ item_addresses_of old.tree
 
   -- calls up to the first element that is picked, which is removed, or at all that were left
   abbrev pub Yields : F → F → (old : SetState T) → (front : ℕ) → (new : SetState T) → (front' : ℕ) → Option T → Type 0
@@ -65,6 +66,7 @@ module _ {F T : Type 0} (Step : F → T → Bool → F → Type 0) where
     pub calls : Asks f (drop front old.elements) asked last
     pub elements : now.elements ≡ take front old.elements ++ picked false asked
     pub uncounted : now.kept ≡ old.kept
+    pub addresses : picked true asked ≡ [] → item_addresses_of now.tree ≡ item_addresses_of old.tree
 
 module _ {T C F O : Type 0} (calls : Mut F (Bor T × Unit {0}) Bool) where
   -- the first address is that of the place, and the closure may be called at each element that is left

@@ -1,6 +1,6 @@
 -- A set as contracts see it: its elements in order, and what is kept beside them: how often its store has refused a
--- node, and the greatest number of elements. Only drains, a failed clone, and what says how many nodes an insertion uses
--- name the tree behind the elements; `IsInTree` leads from the one to the other.
+-- node, and the greatest number of elements. Only what says what becomes of nodes and addresses names the tree behind the
+-- elements; `IsInTree` leads from the one to the other.
 -- An element is in a set by the order: `stored` is the equal element that is there. Insertion and removal are at the
 -- place of the element, which is the number of smaller ones (`before`).
 use Rattle.std.specs.Prelude.{◌≡◌, ◌≤◌, ℕ, List, Option, is_some, length, refl, set, if◌then◌else◌}
@@ -19,6 +19,8 @@ use Rattle.btree_node.specs.declared.node.Node.{Node}
 use Rattle.btree_shape.specs.TreeState.{IsBTree, Kept, TreeState, coded_kept, pairs_of, refused_once, tree_code, with_limit}
 use Rattle.btree_edit.specs.Insert.{IsRefusedAtGap}
 use Rattle.btree_walk.specs.Bounds.{bound_key}
+use Rattle.btree_map.specs.Lists.{last_place}
+use Rattle.btree_map.specs.Removal.{RemovesPlace}
 
 pub record SetState (T : Type 0) : Type 0 where
   pub elements : List T
@@ -67,6 +69,14 @@ module _ {T : Type 0} (cmp : T → T → Ordering) where
   -- without the element that is equal to x
   abbrev pub removed : T → List T → List T
   removed x xs = if is_some (stored x xs) then remove xs (before x xs) else xs
+
+  -- x, the first element, was removed at its address in the tree
+  abbrev pub RemovesFirst : (old new : SetState T) → T → Type 0
+  RemovesFirst old new x = RemovesPlace old.tree new.tree cmp 0 (x, tt)
+
+  -- so was x, the last element
+  abbrev pub RemovesLast : (old new : SetState T) → T → Type 0
+  RemovesLast old new x = RemovesPlace old.tree new.tree cmp (last_place old.tree) (x, tt)
 
 -- only the count of refusals has changed, by one, or nothing has, and there are as many elements as there may be
 abbrev pub LeavesElements : {T : Type 0} → (old new : SetState T) → Cause → Type 0

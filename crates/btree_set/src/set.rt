@@ -10,9 +10,7 @@ ghost use Rattle.btree_shape.specs.TreeState.{limited_to, unlimited};
 ghost use Rattle.btree_edit.specs.Insert.{InsertsByKey};
 ghost use Rattle.btree_edit.specs.Replace.{ReplacesByKey};
 ghost use Rattle.btree_edit.specs.Update.{RemovesIfThere};
-ghost use Rattle.btree_map.specs.Lists.{last_place};
-ghost use Rattle.btree_map.specs.Removal.{RemovesPlace};
-ghost use Rattle.btree_set.specs.Elements.{IsInTree, IsRefused, inserted, removed, replaced, stored};
+ghost use Rattle.btree_set.specs.Elements.{IsInTree, IsRefused, RemovesFirst, RemovesLast, inserted, removed, replaced, stored};
 
 use btree_ext::BTreeExt;
 use btree_item::Refused;
@@ -211,7 +209,7 @@ impl<T: Ord + Drop, C: NodesMut<T, ()>> BTreeSet<T, C> {
     /// Removes the least element, and returns it. Returns `None`, and nothing changes, if there are no elements. It compares no elements.
     pub fn pop_first(&mut self) -> Option<T>
         ensures rest { YieldsFirst (λ set. set.elements) self.old result self.new }
-        ensures nodes { IfSome result (λ x. RemovesPlace self.old.tree self.new.tree T.cmp 0 (x, tt)) }
+        ensures nodes { IfSome result (RemovesFirst T.cmp self.old self.new) }
         ensures unchanged { IfNone result (self.new ≡ self.old) }
         ensures uncounted { self.new.kept ≡ self.old.kept }
     {
@@ -221,7 +219,7 @@ impl<T: Ord + Drop, C: NodesMut<T, ()>> BTreeSet<T, C> {
     /// Removes the greatest element, and returns it. Returns `None`, and nothing changes, if there are no elements. It compares no elements.
     pub fn pop_last(&mut self) -> Option<T>
         ensures rest { YieldsLast (λ set. set.elements) self.old result self.new }
-        ensures nodes { IfSome result (λ x. RemovesPlace self.old.tree self.new.tree T.cmp (last_place self.old.tree) (x, tt)) }
+        ensures nodes { IfSome result (RemovesLast T.cmp self.old self.new) }
         ensures unchanged { IfNone result (self.new ≡ self.old) }
         ensures uncounted { self.new.kept ≡ self.old.kept }
     {

@@ -257,7 +257,8 @@ impl<'a, K: Ord + Drop, V: Drop, C: NodesMut<K, V>> EntriesMut<'a, K, V, C> {
 
     /// Passes the first pair that is left, and returns its key, and its value for writing, or `None` if no pair is left.
     ///
-    /// The contract does not say what the map is after the value was written; that of `next_pair` does.
+    /// The contract says which pair is lent, and nothing of the cursor and the map afterwards, also where that is none; that of `next_pair`
+    /// says both.
     pub fn next(&mut self) -> Option<(&K, &mut V)>
         ensures pair { IfSome result (λ p.
             slice_get (left_of self.old) 0 ≡ Some (p.0.now, p.1.now)) }
@@ -280,7 +281,8 @@ impl<'a, K: Ord + Drop, V: Drop, C: NodesMut<K, V>> EntriesMut<'a, K, V, C> {
 
     /// Returns the key of the first pair that is left, and its value for writing, or `None` if no pair is left. It does not pass the pair.
     ///
-    /// The contract does not say what the map is after the value was written; that of `peek_pair` does.
+    /// The contract says which pair is lent, and nothing of the cursor and the map afterwards, also where that is none; that of `peek_pair`
+    /// says both.
     pub fn peek_mut(&mut self) -> Option<(&K, &mut V)>
         ensures pair { IfSome result (λ p.
             slice_get (left_of self.old) 0 ≡ Some (p.0.now, p.1.now)) }

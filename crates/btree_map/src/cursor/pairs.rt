@@ -100,7 +100,8 @@ impl<'a, K: Ord + Drop, V: Drop, C: NodesMut<K, V>> IterMut<'a, K, V, C> {
 
     /// Returns the key of the first pair that is left, and its value for writing, or `None` if no pair is left.
     ///
-    /// The contract does not say what the map is after the value was written; that of `next_pair` does.
+    /// The contract says which pair is lent, and nothing of the cursor and the map afterwards, also where that is none; that of `next_pair`
+    /// says both.
     pub fn next(&mut self) -> Option<(&K, &mut V)>
         ensures pair { IfSome result (λ p.
             slice_get (pairs_left self.old) 0 ≡ Some (p.0.now, p.1.now)) }
@@ -114,7 +115,8 @@ impl<'a, K: Ord + Drop, V: Drop, C: NodesMut<K, V>> IterMut<'a, K, V, C> {
 
     /// Returns the key of the last pair that is left, and its value for writing, or `None` if no pair is left.
     ///
-    /// The contract does not say what the map is after the value was written; that of `next_back_pair` does.
+    /// The contract says which pair is lent, and nothing of the cursor and the map afterwards, also where that is none; that of `next_back_pair`
+    /// says both.
     pub fn next_back(&mut self) -> Option<(&K, &mut V)>
         ensures pair { IfSome result (λ p.
             last_of (pairs_left self.old) ≡ Some (p.0.now, p.1.now)) }

@@ -1,6 +1,7 @@
 //! What drains of a set are asked, and what keeps elements.
 ghost use Rattle.std.specs.Prelude.{◌≡◌, true};
 ghost use Rattle.std.specs.Fn.{CalledAt, TakesAt};
+ghost use Rattle.btree_map.specs.Drain.{KeepsAddresses};
 ghost use Rattle.btree_set.specs.Drain.{CallableOnEach, IsDraining, LetsGo, Selects};
 
 use super::steps::{run_rest, seek};
@@ -93,12 +94,13 @@ impl<T: Ord + Drop, C: NodesMut<T, ()>> BTreeSet<T, C> {
         DrainFilter::new(self, f)
     }
 
-    /// Keeps the elements for which the closure returns `true`, and drops the others. It is called once at each element, in order. It allocates
-    /// no memory and cannot fail.
+    /// Keeps the elements for which the closure returns `true`, and drops the others. It is called once at each element, in order. If it keeps
+    /// all elements, every address stays. It allocates no memory and cannot fail.
     pub fn retain<F: FnMut(&T) -> bool>(&mut self, f: F)
         requires { CallableOnEach (CalledAt F.FnMut) (TakesAt F.FnMut) f self.old.elements }
         ensures kept { Selects (CalledAt F.FnMut) true f self.old.elements self.new.elements }
         ensures uncounted { self.new.kept ≡ self.old.kept }
+        ensures addresses { KeepsAddresses self.old.tree self.new.tree }
     {
         self.map.retain_by(ByKey::new(f));
     }
