@@ -1,6 +1,7 @@
 use Rattle.std.proofs.Common.{subst, sym, true}
 use Rattle.std.specs.Fn.{CalledAt, TakesAt}
 use Rattle.btree_shape.specs.TreeState.{pairs_of}
+use Rattle.btree_map.specs.Drain.{KeepsAddresses}
 use Rattle.btree_set.specs.Drain.{CallableOnEach, Selects}
 use Rattle.btree_set.specs.Elements.{set_of}
 use Rattle.btree_set.proofs.DrainLemmas.{callable-pairs, selects-keys}
@@ -16,3 +17,7 @@ returns-clause-kept g c =
     let kept = selects-keys (CalledAt g.F.FnMut) true c.new.result (pairs_of c.self.inside.map) (pairs_of c.retain_by.new.self) c.retain_by.ensures.kept in
     subst (λ set. Selects (CalledAt g.F.FnMut) true c.args.f set.elements (set_of c.retain_by.new.self).elements) c.self.view_is
     (subst (λ f. Selects (CalledAt g.F.FnMut) true f (set_of c.self.inside.map).elements (set_of c.retain_by.new.self).elements) c.new.ensures kept)
+
+pub returns-clause-addresses : goal.returns-clause-addresses
+returns-clause-addresses g c =
+    subst (λ set. KeepsAddresses set.tree c.retain_by.new.self) c.self.view_is c.retain_by.ensures.addresses
