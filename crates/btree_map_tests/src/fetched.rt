@@ -130,11 +130,7 @@ fn look_up_each<C: NodesMut<u64, u64> + Drop>(
         assert_same_in(rt, key, map.contains_key(&key), is_there);
         assert_same_in(rt, key, tally(asked), (levels, 1));
         assert_same_in(rt, key, map.get_mut(&key).is_some(), is_there);
-        let for_writing = if is_there {
-            (levels + 1, 2)
-        } else {
-            (3, 1)
-        };
+        let for_writing = if is_there { (levels + 1, 2) } else { (3, 1) };
         assert_same_in(rt, key, tally(asked), for_writing);
     }
 }
@@ -146,12 +142,7 @@ fn a_look_up_fetches_a_node_of_each_level(rt: HostRuntime) {
 }
 
 // Takes 44 items from one end of an iterator, and no other is there. A step inside a leaf, which has four items, asks for no node.
-fn walk<I: DoubleEndedIterator + Drop>(
-    rt: &impl Abort,
-    items: I,
-    is_back: bool,
-    asked: &Cell<u64>,
-)
+fn walk<I: DoubleEndedIterator + Drop>(rt: &impl Abort, items: I, is_back: bool, asked: &Cell<u64>)
 where
     I::Item: Drop,
     requires front { (state : I) → I.can_next state }

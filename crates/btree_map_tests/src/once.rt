@@ -271,10 +271,7 @@ fn drop_elements<'a, C: NodesMut<CountedKey<'a>, ()> + Drop>(
 // Extends a set of sixteen elements by two that it has, and appends two others that it has. Those that come are dropped.
 fn repeat_elements<'a, C: NodesMut<CountedKey<'a>, ()> + Drop>(
     rt: &impl Abort,
-    sets: (
-        BTreeSet<CountedKey<'a>, C>,
-        BTreeSet<CountedKey<'a>, C>,
-    ),
+    sets: (BTreeSet<CountedKey<'a>, C>, BTreeSet<CountedKey<'a>, C>),
     drops: &'a Cell<u64>,
 ) {
     let (mut set, mut other) = sets;
