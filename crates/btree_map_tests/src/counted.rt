@@ -1,8 +1,8 @@
 //! Calls by key search once: at most six comparisons at each level, by keys that count them. An extension by ascending pairs
-//! or elements, or by copies of them, compares each with the last one alone.
+//! or elements, or by copies of them, compares each with the last one alone. An entry and an editing cursor insert and remove without any.
 use crate::asserts::{assert_same, assert_same_in, assert_true, assert_true_in};
 use btree_ext::BTreeExt;
-use btree_map::{BTreeMap, Entry};
+use btree_map::{BTreeMap, EntriesMut, Entry};
 use btree_node::{Node, NodesMut};
 use btree_set::BTreeSet;
 use btree_store::SlabStore;
@@ -67,6 +67,101 @@ fn asks_in<'a, C: NodesMut<Counted<'a>, u32> + Drop>(
 fn a_key_is_sought_once(rt: HostRuntime) {
     let compared = Cell::new(0u32);
     asks_in::<Store<'_>>(&rt, &compared, rt.alloc());
+}
+
+// Inserts a number where a cursor is. Returns how many comparisons that makes, or `None` if it does not fit there or is refused.
+fn inserts_at_cursor<'a, C: NodesMut<Counted<'a>, u32>>(
+    compared: &'a Cell<u32>,
+    entries: &mut EntriesMut<'_, Counted<'a>, u32, C>,
+    number: u32,
+) -> Option<u32> {
+    let key = Counted { number, compared };
+    if !entries.fits(&key) {
+        return None;
+    }
+    compared.set(0);
+    match entries.insert(key, number) {
+        Ok(()) => Some(compared.get()),
+        Err(_) => None,
+    }
+}
+
+// Inserts a number that is absent by its entry. Returns how many comparisons that makes after the search, or `None` if it is refused.
+fn inserts_at_entry<'a, C: NodesMut<Counted<'a>, u32>>(
+    compared: &'a Cell<u32>,
+    map: &mut Map<'a, C>,
+    number: u32,
+) -> Option<u32> {
+    let Entry::Vacant(vacant) = map.entry(Counted { number, compared }) else {
+        return None;
+    };
+    compared.set(0);
+    match vacant.insert(number) {
+        Ok(_) => Some(compared.get()),
+        Err(_) => None,
+    }
+}
+
+// Removes a number by its entry. Returns how many comparisons that makes after the search, or `None` if it is absent.
+fn removes_at_entry<'a, C: NodesMut<Counted<'a>, u32>>(
+    compared: &'a Cell<u32>,
+    map: &mut Map<'a, C>,
+    number: u32,
+) -> Option<u32> {
+    let Entry::Occupied(occupied) = map.entry(Counted { number, compared }) else {
+        return None;
+    };
+    compared.set(0);
+    drop(occupied.remove_entry());
+    Some(compared.get())
+}
+
+// A cursor inserts the odd numbers up to 87 between the even ones, and removes all.
+fn edits_by_cursor<'a, C: NodesMut<Counted<'a>, u32>>(
+    rt: &impl Abort,
+    compared: &'a Cell<u32>,
+    map: &mut Map<'a, C>,
+) {
+    let mut entries = map.entries_mut();
+    for half in 0..44u32 {
+        assert_true(rt, entries.next().is_some());
+        let made = inserts_at_cursor(compared, &mut entries, 2 * half + 1);
+        assert_same_in(rt, half, made, Some(0));
+    }
+    let mut entries = map.entries_mut();
+    compared.set(0);
+    for place in 0..88u32 {
+        assert_true_in(rt, place, entries.remove().is_some());
+    }
+    assert_same(rt, compared.get(), 0);
+}
+
+// Entries insert the even numbers below 88 before a cursor edits, and after it insert and remove those below 44.
+fn edits_in<'a, C: NodesMut<Counted<'a>, u32> + Drop>(
+    rt: &impl Abort,
+    compared: &'a Cell<u32>,
+    origin: C::Origin,
+) {
+    let mut map: Map<'a, C> = BTreeMap::new(origin);
+    for half in 0..44u32 {
+        let made = inserts_at_entry(compared, &mut map, 2 * half);
+        assert_same_in(rt, half, made, Some(0));
+    }
+    edits_by_cursor(rt, compared, &mut map);
+    for number in 0..44u32 {
+        let made = inserts_at_entry(compared, &mut map, number);
+        assert_same_in(rt, number, made, Some(0));
+    }
+    for number in 0..44u32 {
+        let made = removes_at_entry(compared, &mut map, number);
+        assert_same_in(rt, number, made, Some(0));
+    }
+}
+
+#[test]
+fn entries_and_cursors_edit_without_comparisons(rt: HostRuntime) {
+    let compared = Cell::new(0u32);
+    edits_in::<Store<'_>>(&rt, &compared, rt.alloc());
 }
 
 // A map of the numbers from one up to another.

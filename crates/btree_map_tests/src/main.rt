@@ -17,6 +17,8 @@ mod entries;
 #[cfg(test)]
 mod equal;
 #[cfg(test)]
+mod fetched;
+#[cfg(test)]
 mod fixed;
 #[cfg(test)]
 mod gates;

@@ -3,7 +3,7 @@
 use crate::asserts::{assert_same, assert_same_in, assert_true};
 use crate::released::CountedKey;
 use btree_item::Refused;
-use btree_map::BTreeMap;
+use btree_map::{BTreeMap, Entry};
 use btree_node::{ClearNodes, Node, NodesMut};
 use btree_set::BTreeSet;
 use btree_store::SlabStore;
@@ -113,6 +113,128 @@ fn each_is_dropped_once_in_each_way(rt: HostRuntime) {
     drop_each::<SlabStore<PairNode<'_>>>(&rt, BTreeMap::new(rt.alloc()), sums);
 }
 
+// Drops what is not kept at a key that is there: of an entry the key that is asked for, a default, and a key whose value is removed; of an
+// update the key that is given, and a pair that is removed.
+fn drop_at_keys<'a, C: NodesMut<CountedKey<'a>, CountedKey<'a>> + Drop>(
+    rt: &impl Abort,
+    mut map: Pairs<'a, C>,
+    sums: Sums<'a>,
+) {
+    put(rt, &mut map, sums, 0, 16);
+    let (key, value) = pair(3, sums);
+    assert_true(rt, map.entry(key).or_insert(value).is_ok());
+    check(rt, sums, 0x1000, 0x1000);
+    let Entry::Occupied(entry) = map.entry(counted(5, sums.keys)) else {
+        panic!(rt; "vacant")
+    };
+    let value = entry.remove();
+    check(rt, sums, 0x20_1000, 0x1000);
+    drop(value);
+    check(rt, sums, 0x20_1000, 0x10_1000);
+    let kept = map.update(counted(7, sums.keys), |value| (value, ()));
+    assert_true(rt, kept.is_ok());
+    check(rt, sums, 0x1020_1000, 0x10_1000);
+    let removed = map.update(counted(9, sums.keys), |value| (None, value.is_some()));
+    assert_true(rt, removed.is_ok());
+    check(rt, sums, 0x20_1020_1000, 0x10_0010_1000);
+    drop(map);
+    check(rt, sums, 0x1111_1121_2121_2111, 0x1111_1111_1111_2111);
+}
+
+#[test]
+fn each_is_dropped_once_at_a_key(rt: HostRuntime) {
+    let (keys, values) = (Cell::new(0u64), Cell::new(0u64));
+    let sums = Sums {
+        keys: &keys,
+        values: &values,
+    };
+    drop_at_keys::<SlabStore<PairNode<'_>>>(&rt, BTreeMap::new(rt.alloc()), sums);
+}
+
+// Extends a map of sixteen pairs by two that it has, and appends two others that it has. It drops the keys that come, and the values that are
+// replaced.
+fn replace_values<'a, C: NodesMut<CountedKey<'a>, CountedKey<'a>> + Drop>(
+    rt: &impl Abort,
+    maps: (Pairs<'a, C>, Pairs<'a, C>),
+    sums: Sums<'a>,
+) {
+    let (mut map, mut other) = maps;
+    put(rt, &mut map, sums, 0, 16);
+    let mut source = (2..4u64).map(move |number| pair(number, sums));
+    assert_true(rt, map.extend(&mut source).is_ok());
+    check(rt, sums, 0x1100, 0x1100);
+    put(rt, &mut other, sums, 7, 9);
+    assert_true(rt, map.append(&mut other).is_ok());
+    check(rt, sums, 0x1_1000_1100, 0x1_1000_1100);
+    drop(other);
+    check(rt, sums, 0x1_1000_1100, 0x1_1000_1100);
+    drop(map);
+    check(rt, sums, 0x1111_1112_2111_2211, 0x1111_1112_2111_2211);
+}
+
+#[test]
+fn each_is_dropped_once_by_many_insertions(rt: HostRuntime) {
+    let (keys, values) = (Cell::new(0u64), Cell::new(0u64));
+    let sums = Sums {
+        keys: &keys,
+        values: &values,
+    };
+    let maps = (BTreeMap::new(rt.alloc()), BTreeMap::new(rt.alloc()));
+    replace_values::<SlabStore<PairNode<'_>>>(&rt, maps, sums);
+}
+
+// Takes a key from each end of an iterator that owns a map. A value is dropped in the step that gives its key.
+fn take_keys<'a, C: NodesMut<CountedKey<'a>, CountedKey<'a>> + Drop>(
+    rt: &impl Abort,
+    mut map: Pairs<'a, C>,
+    sums: Sums<'a>,
+) {
+    put(rt, &mut map, sums, 0, 16);
+    let mut given = map.into_keys();
+    let first = given.next();
+    check(rt, sums, 0, 0x1);
+    let last = given.next_back();
+    check(rt, sums, 0, 0x1000_0000_0000_0001);
+    drop((first, last));
+    check(rt, sums, 0x1000_0000_0000_0001, 0x1000_0000_0000_0001);
+    drop(given);
+    check(rt, sums, ALL, ALL);
+}
+
+// The same for values.
+fn take_values<'a, C: NodesMut<CountedKey<'a>, CountedKey<'a>> + Drop>(
+    rt: &impl Abort,
+    mut map: Pairs<'a, C>,
+    sums: Sums<'a>,
+) {
+    put(rt, &mut map, sums, 0, 16);
+    let mut given = map.into_values();
+    let first = given.next();
+    check(rt, sums, 0x1, 0);
+    let last = given.next_back();
+    check(rt, sums, 0x1000_0000_0000_0001, 0);
+    drop((first, last));
+    check(rt, sums, 0x1000_0000_0000_0001, 0x1000_0000_0000_0001);
+    drop(given);
+    check(rt, sums, ALL, ALL);
+}
+
+#[test]
+fn each_is_dropped_once_by_an_owner(rt: HostRuntime) {
+    for is_values in [false, true] {
+        let (keys, values) = (Cell::new(0u64), Cell::new(0u64));
+        let sums = Sums {
+            keys: &keys,
+            values: &values,
+        };
+        if is_values {
+            take_values::<SlabStore<PairNode<'_>>>(&rt, BTreeMap::new(rt.alloc()), sums);
+        } else {
+            take_keys::<SlabStore<PairNode<'_>>>(&rt, BTreeMap::new(rt.alloc()), sums);
+        }
+    }
+}
+
 // Takes the first element of a drain of the even numbers, and drops it and the drain.
 fn drain_even_elements<T: Even + Ord + Drop, C: NodesMut<T, ()>>(
     rt: &impl Abort,
@@ -122,7 +244,8 @@ fn drain_even_elements<T: Even + Ord + Drop, C: NodesMut<T, ()>>(
     assert_true(rt, drain.next().is_some());
 }
 
-// Drops elements of a set that is empty in each way: an equal one, one that is replaced, those that are drained, and those of the set itself.
+// Drops elements of a set that is empty in each way: an equal one, one that is replaced, those that are drained, one that is removed, and those
+// of the set itself.
 fn drop_elements<'a, C: NodesMut<CountedKey<'a>, ()> + Drop>(
     rt: &impl Abort,
     mut set: BTreeSet<CountedKey<'a>, C>,
@@ -138,8 +261,41 @@ fn drop_elements<'a, C: NodesMut<CountedKey<'a>, ()> + Drop>(
     assert_same(rt, drops.get(), 0x10_1000);
     drain_even_elements(rt, &mut set);
     assert_same(rt, drops.get(), 0x0101_0101_0111_1101);
+    // The element that is asked for is dropped too.
+    assert_true(rt, set.remove(&counted(7, drops)));
+    assert_same(rt, drops.get(), 0x0101_0101_2111_1101);
     drop(set);
-    assert_same(rt, drops.get(), 0x1111_1111_1121_2111);
+    assert_same(rt, drops.get(), 0x1111_1111_2121_2111);
+}
+
+// Extends a set of sixteen elements by two that it has, and appends two others that it has. Those that come are dropped.
+fn repeat_elements<'a, C: NodesMut<CountedKey<'a>, ()> + Drop>(
+    rt: &impl Abort,
+    sets: (BTreeSet<CountedKey<'a>, C>, BTreeSet<CountedKey<'a>, C>),
+    drops: &'a Cell<u64>,
+) {
+    let (mut set, mut other) = sets;
+    let mut source = (0..16u64).map(move |number| counted(number, drops));
+    assert_true(rt, set.extend(&mut source).is_ok());
+    assert_same(rt, drops.get(), 0);
+    let mut again = (2..4u64).map(move |number| counted(number, drops));
+    assert_true(rt, set.extend(&mut again).is_ok());
+    assert_same(rt, drops.get(), 0x1100);
+    let mut more = (7..9u64).map(move |number| counted(number, drops));
+    assert_true(rt, other.extend(&mut more).is_ok());
+    assert_true(rt, set.append(&mut other).is_ok());
+    assert_same(rt, drops.get(), 0x1_1000_1100);
+    drop(other);
+    assert_same(rt, drops.get(), 0x1_1000_1100);
+    drop(set);
+    assert_same(rt, drops.get(), 0x1111_1112_2111_2211);
+}
+
+#[test]
+fn each_repeated_element_is_dropped_once(rt: HostRuntime) {
+    let drops = Cell::new(0u64);
+    let sets = (BTreeSet::new(rt.alloc()), BTreeSet::new(rt.alloc()));
+    repeat_elements::<SlabStore<Node<CountedKey<'_>, ()>>>(&rt, sets, &drops);
 }
 
 #[test]
