@@ -1,2 +1,3 @@
 pub mod Ending
 pub mod Serving
+pub mod Words

@@ -1,5 +1,5 @@
 -- What serving lines from the start does.
-use Rattle.std.specs.Prelude.{◌≡◌, ℕ, IsFalse, IsTrue, List, Option, None, Result, Ok, Err}
+use Rattle.std.specs.Prelude.{◌≡◌, ◌⊎◌, ℕ, IsFalse, IsTrue, List, Option, None, Result, Ok, Err}
 use Rattle.std.specs.FinMap as map
 use Rattle.btree_store.specs.Content.{Content}
 use Rattle.btree_node.specs.declared.node.Node.{Node}
@@ -9,7 +9,8 @@ use Rattle.btree_session.specs.Script.{Drives}
 use Rattle.btree_session.specs.declared.options.Setup.{Setup}
 use Rattle.btree_session.specs.declared.script.Stop.{Stop}
 use Rattle.btree_script.specs.declared.Ending.{Ending}
-use Rattle.btree_script.specs.declared.Ending.TheVariants.{Stopped}
+use Rattle.btree_script.specs.declared.Ending.TheVariants.{Stopped, WrongArguments}
+use Rattle.btree_script.specs.Ending.{status_after}
 
 -- a session over an empty map with this limit, which holds no place, was driven, over stores that may refuse a node in these
 -- contents
@@ -33,10 +34,19 @@ abbrev pub ended : {A : Type 0} → Result A Stop → Result A Ending
 ended (Ok x) = Ok x
 ended (Err stop) = Err (Stopped stop)
 
--- lines were served as some arguments ask, and the result says how that ended
-pub record ServesAsked {A R W : Type 0} (remaining : R → Option (List ℕ)) (contents : W → Option (List ℕ)) (input : R) (output : W) (result : Result A Ending) (new_output : W) : Type 0 where
-  pub asked : Setup
+-- lines were served as is asked for here, and the result says how that ended
+pub record ServesAsked {A R W : Type 0} (asked : Setup) (remaining : R → Option (List ℕ)) (contents : W → Option (List ℕ)) (input : R) (output : W) (result : Result A Ending) (new_output : W) : Type 0 where
   pub end : Result A Stop
   pub told : result ≡ ended end
   pub table : IsTrue asked.table → ServesTable asked.limit remaining contents input output end new_output
   pub slab : IsFalse asked.table → ServesSlab asked.limit remaining contents input output end new_output
+
+-- there were arguments that the program does not have, or lines were served as some arguments ask
+abbrev pub ServesArguments : {A R W : Type 0} → (R → Option (List ℕ)) → (W → Option (List ℕ)) → R → W → Result A Ending → W → Type 0
+ServesArguments remaining contents input output result new_output =
+    (result ≡ Err WrongArguments) ⊎ (asked : Setup) × ServesAsked asked remaining contents input output result new_output
+
+-- the same of a run that returns this exit status
+abbrev pub ReportsRun : {R W : Type 0} → (R → Option (List ℕ)) → (W → Option (List ℕ)) → R → W → (status : ℕ) → W → Type 0
+ReportsRun remaining contents input output status new_output =
+    (end : Result (Unit {0}) Ending) × (status ≡ status_after end) × ServesArguments remaining contents input output end new_output

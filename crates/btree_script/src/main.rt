@@ -5,10 +5,12 @@
 #[cfg(test)]
 mod tests;
 
-ghost use Rattle.std.specs.Prelude.{◌≡◌, ◌⊎◌, Err, Some, IsFalse, IsTrue};
+ghost use Rattle.std.specs.Prelude.{◌≡◌, ◌⊎◌, Err, Some, IfNone, IfSome, IsFalse, IsTrue};
+ghost use Rattle.std.specs.Io.{WritesAtMost};
 ghost use Rattle.std.specs.Process.{exit_status};
 ghost use Rattle.btree_script.specs.Ending.{status_after, status_of, text_of};
-ghost use Rattle.btree_script.specs.Serving.{ServesAnew, ServesAsked, ServesSlab, ServesTable};
+ghost use Rattle.btree_script.specs.Serving.{ReportsRun, ServesAnew, ServesArguments, ServesAsked, ServesSlab, ServesTable};
+ghost use Rattle.btree_script.specs.Words.{ReadsWord};
 ghost use Rattle.btree_script.specs.declared.Ending.TheVariants.{WrongArguments};
 
 use btree_node::{ClearNodes, Node};
@@ -66,13 +68,25 @@ impl fmt::Display for Ending {
     }
 }
 
-// Returns an argument, if there is one. It returns `None` for one that it cannot read.
+// Returns the argument with this number, if there is one. It returns `None` for one that it cannot read.
 fn read_word<'a>(rt: &impl Env, index: usize, buffer: &'a mut [u8]) -> Option<Option<&'a str>> {
-    match rt.arg(index, buffer) {
-        Ok(len) => match str::from_utf8(buffer.get(..len)?) {
-            Ok(word) => Some(Some(word)),
-            Err(_) => None,
-        },
+    let filled = rt.arg(index, buffer);
+    word_in(filled, buffer)
+}
+
+// Returns the argument that a buffer was filled with, if there is one. It returns `None` for one that is too long, or no text.
+fn word_in<'a>(filled: Result<usize, FillError>, buffer: &'a [u8]) -> Option<Option<&'a str>>
+    requires { WritesAtMost filled buffer.now }
+    ensures { ReadsWord filled buffer.now result }
+{
+    match filled {
+        Ok(len) => {
+            let (bytes, _) = buffer.split_at(len);
+            match str::from_utf8(bytes) {
+                Ok(word) => Some(Some(word)),
+                Err(_) => None,
+            }
+        }
         Err(FillError::NotPresent) => Some(None),
         Err(FillError::TooLong) => None,
     }
@@ -134,6 +148,26 @@ fn serve_asked<R: Read, W: Write>(
     }
 }
 
+// Serves the lines of a reader as was asked for, if that could be read.
+fn run_asked<R: Read, W: Write>(
+    asked: Option<Setup>,
+    alloc: Global,
+    input: &mut R,
+    output: &mut W,
+) -> Result<(), Ending>
+    ensures refused { IfNone asked (result ≡ Err WrongArguments) }
+    ensures serves { IfSome asked (λ setup. ServesAsked setup R.remaining W.contents
+        input.old output.old result output.new) }
+{
+    let Some(setup) = asked else {
+        return Err(Ending::WrongArguments);
+    };
+    match serve_asked(setup, alloc, input, output) {
+        Ok(()) => return Ok(()),
+        Err(stop) => return Err(Ending::Stopped(stop)),
+    }
+}
+
 // Serves the lines of a reader as the arguments ask.
 fn run<R: Read, W: Write>(
     arguments: &impl Env,
@@ -141,16 +175,9 @@ fn run<R: Read, W: Write>(
     input: &mut R,
     output: &mut W,
 ) -> Result<(), Ending>
-    ensures { (result ≡ Err WrongArguments) ⊎ ServesAsked R.remaining W.contents
-        input.old output.old result output.new }
+    ensures { ServesArguments R.remaining W.contents input.old output.old result output.new }
 {
-    let Some(asked) = read_arguments(arguments) else {
-        return Err(Ending::WrongArguments);
-    };
-    match serve_asked(asked, alloc, input, output) {
-        Ok(()) => return Ok(()),
-        Err(stop) => return Err(Ending::Stopped(stop)),
-    }
+    run_asked(read_arguments(arguments), alloc, input, output)
 }
 
 // Prints how a run ended, unless it reached the end of its input, and returns its exit code.
@@ -165,8 +192,21 @@ fn report(rt: &impl Eprint, end: Result<(), Ending>) -> ExitCode
     ExitCode::from(ending.status())
 }
 
+// Serves the lines of a reader as the arguments ask, prints how that ended, and returns the exit code.
+fn run_and_report<R: Read, W: Write>(
+    rt: &(impl Env + Eprint),
+    alloc: Global,
+    input: &mut R,
+    output: &mut W,
+) -> ExitCode
+    ensures { ReportsRun R.remaining W.contents
+        input.old output.old (exit_status result) output.new }
+{
+    let end = run(rt, alloc, input, output);
+    report(rt, end)
+}
+
 fn main(rt: HostRuntime) -> ExitCode {
     let (mut input, mut output) = (rt.reader(), io::writer(&rt));
-    let end = run(&rt, rt.alloc(), &mut input, &mut output);
-    report(&rt, end)
+    run_and_report(&rt, rt.alloc(), &mut input, &mut output)
 }

@@ -1,29 +1,46 @@
 ghost use Rattle.std.specs.Io.{WritesAtMost};
 
-use crate::{Ending, read_arguments, run};
+use crate::{Ending, read_arguments, report, run, run_and_report};
 use btree_session::{Setup, Stop, setup};
 use std::alloc::Global;
+use std::cell::Cell;
 use std::env::{Env, FillError};
+use std::fmt::Display;
 use std::process::Abort;
-use std::str;
 use std::test::Fail;
+use std::{io, str};
 
-// A program's name, and the arguments after it.
+// A program's name, the arguments after it, and perhaps one more, which may be no text.
 #[derive(Drop)]
 struct Words<'a> {
     words: &'a [&'a str],
+    last: Option<&'a [u8]>,
+}
+
+fn only<'a>(words: &'a [&'a str]) -> Words<'a> {
+    Words { words, last: None }
+}
+
+// Copies a word to the start of a buffer.
+fn fill(word: &[u8], buf: &mut [u8]) -> Result<usize, FillError>
+    ensures { WritesAtMost result buf.new }
+{
+    let Some(place) = buf.get_mut(..word.len()) else {
+        return Err(FillError::TooLong);
+    };
+    place.copy_from_slice(word);
+    Ok(word.len())
 }
 
 impl Env for Words<'_> {
     fn arg(&self, i: usize, buf: &mut [u8]) -> Result<usize, FillError> {
-        let Some(word) = self.words.get(i) else {
-            return Err(FillError::NotPresent);
-        };
-        let Some(place) = buf.get_mut(..word.len()) else {
-            return Err(FillError::TooLong);
-        };
-        place.copy_from_slice(word.as_bytes());
-        Ok(word.len())
+        if let Some(word) = self.words.get(i) {
+            return fill(word.as_bytes(), buf);
+        }
+        match self.last {
+            Some(bytes) if i == self.words.len() => fill(bytes, buf),
+            _ => Err(FillError::NotPresent),
+        }
     }
 
     fn var(&self, _name: &str, _buf: &mut [u8]) -> Result<usize, FillError> {
@@ -35,8 +52,58 @@ impl Env for Words<'_> {
     }
 }
 
+// Arguments, and a standard error that counts how often a line is printed, and how often something else is.
+#[derive(Drop)]
+struct System<'a> {
+    words: Words<'a>,
+    line: &'a str,
+    lines: Cell<usize>,
+    others: Cell<usize>,
+    alloc: Global,
+}
+
+fn given<'a>(words: &'a [&'a str], line: &'a str, alloc: Global) -> System<'a> {
+    let words = only(words);
+    System {
+        words,
+        line,
+        lines: Cell::new(0),
+        others: Cell::new(0),
+        alloc,
+    }
+}
+
+impl Env for System<'_> {
+    fn arg(&self, i: usize, buf: &mut [u8]) -> Result<usize, FillError> {
+        self.words.arg(i, buf)
+    }
+
+    fn var(&self, _name: &str, _buf: &mut [u8]) -> Result<usize, FillError> {
+        Err(FillError::NotPresent)
+    }
+
+    fn var_at(&self, _i: usize, _buf: &mut [u8]) -> Result<usize, FillError> {
+        Err(FillError::NotPresent)
+    }
+}
+
+impl io::Eprint for System<'_> {
+    fn eprint<D: Display + Drop>(&self, _value: D) -> io::Result<()> {
+        self.others.set(self.others.get().saturating_add(1));
+        Ok(())
+    }
+
+    fn eprintln<D: Display + Drop>(&self, value: D) -> io::Result<()> {
+        let mut text = String::new(self.alloc);
+        let is_line = write!(text, "{value}").is_ok() && text.as_str() == self.line;
+        let count = if is_line { &self.lines } else { &self.others };
+        count.set(count.get().saturating_add(1));
+        Ok(())
+    }
+}
+
 fn asked(words: &[&str]) -> Option<Setup> {
-    read_arguments(&Words { words })
+    read_arguments(&only(words))
 }
 
 fn with(table: bool, limit: usize) -> Option<Setup> {
@@ -89,6 +156,35 @@ fn takes_no_long_argument(rt: HostRuntime) {
     assert_eq!(rt; asked(&["btree_script", word]), None);
     assert_eq!(rt; asked(&["btree_script", "table", word]), None);
     assert_eq!(rt; asked(&["btree_script", "limit", word]), None);
+}
+
+#[test]
+fn takes_a_number_of_1024_digits(rt: HostRuntime) {
+    let mut bytes = [b'0'; 1_024];
+    bytes[1_023] = b'7';
+    let Ok(word) = str::from_utf8(&bytes) else {
+        panic!(rt; "no text")
+    };
+    assert_eq!(rt; asked(&["btree_script", "limit", word]), with(false, 7));
+    assert_eq!(rt;
+        asked(&["btree_script", "table", "limit", word]),
+        with(true, 7)
+    );
+}
+
+#[test]
+fn takes_no_bytes_that_are_no_text(rt: HostRuntime) {
+    for words in [
+        ["btree_script"].as_slice(),
+        &["btree_script", "table"],
+        &["btree_script", "limit"],
+        &["btree_script", "limit", "2"],
+        &["btree_script", "table", "limit"],
+        &["btree_script", "table", "limit", "2"],
+    ] {
+        let last = Some(b"\xff".as_slice());
+        assert_eq!(rt; read_arguments(&Words { words, last }), None);
+    }
 }
 
 #[test]
@@ -150,7 +246,7 @@ fn check_run(
     }
     replies.push_str(rest)?;
     let (mut input, mut output) = (lines.as_bytes(), Vec::new(alloc));
-    let end = run(&Words { words }, alloc, &mut input, &mut output);
+    let end = run(&only(words), alloc, &mut input, &mut output);
     assert_eq!(rt; end, Ok(()));
     assert_eq!(rt; output.as_slice(), replies.as_bytes());
     Ok(())
@@ -173,7 +269,7 @@ fn serves_a_table_if_asked(rt: HostRuntime) -> Result<(), Fail> {
 // Compares the replies to these lines, in a run with these arguments.
 fn check_lines(rt: &impl Abort, words: &[&str], lines: &str, replies: &str, alloc: Global) {
     let (mut input, mut output) = (lines.as_bytes(), Vec::new(alloc));
-    let end = run(&Words { words }, alloc, &mut input, &mut output);
+    let end = run(&only(words), alloc, &mut input, &mut output);
     assert_eq!(rt; end, Ok(()));
     assert_eq!(rt; output.as_slice(), replies.as_bytes());
 }
@@ -208,7 +304,7 @@ fn says_how_a_run_ended(rt: HostRuntime) {
         (&["btree_script", "tables"], Ending::WrongArguments, b""),
     ] {
         let (mut input, mut output) = (b"insert 1 10\njump\n".as_slice(), Vec::new(rt.alloc()));
-        let found = run(&Words { words }, rt.alloc(), &mut input, &mut output);
+        let found = run(&only(words), rt.alloc(), &mut input, &mut output);
         assert_eq!(rt; found, Err(end));
         assert_eq!(rt; output.as_slice(), replies);
     }
@@ -232,4 +328,112 @@ fn a_table_with_a_limit_refuses_by_the_first_that_is_met(rt: HostRuntime) -> Res
         "refused store\n9\n43\n",
         alloc,
     )
+}
+
+// Inserts one key more than this limit, and asks for the number of pairs.
+fn check_limit(rt: &impl Abort, limit: u64, alloc: Global) -> Result<(), Fail> {
+    let (mut lines, mut replies) = (String::new(alloc), String::new(alloc));
+    for key in 0..limit {
+        write!(lines, "insert {key} {key}\n")?;
+        replies.push_str("none\n")?;
+    }
+    write!(lines, "insert {limit} {limit}\nlen\n")?;
+    write!(replies, "refused count\n{limit}\n")?;
+    let mut number = String::new(alloc);
+    write!(number, "{limit}")?;
+    check_lines(
+        rt,
+        &["btree_script", "limit", number.as_str()],
+        lines.as_str(),
+        replies.as_str(),
+        alloc,
+    );
+    check_lines(
+        rt,
+        &["btree_script", "table", "limit", number.as_str()],
+        lines.as_str(),
+        replies.as_str(),
+        alloc,
+    );
+    Ok(())
+}
+
+#[test]
+fn each_limit_is_the_one_that_was_asked_for(rt: HostRuntime) -> Result<(), Fail> {
+    for limit in 0..24 {
+        check_limit(&rt, limit, rt.alloc())?;
+    }
+    Ok(())
+}
+
+// Reports how a run ended, and compares how often the line is printed; nothing else is.
+fn check_report(rt: &impl Abort, end: Result<(), Ending>, line: &str, lines: usize, alloc: Global) {
+    let system = given(&[], line, alloc);
+    let _ = report(&system, end);
+    assert_eq!(rt; system.lines.get(), lines, "{line}");
+    assert_eq!(rt; system.others.get(), 0, "{line}");
+}
+
+#[test]
+fn each_ending_prints_its_line(rt: HostRuntime) {
+    check_report(&rt, Ok(()), "", 0, rt.alloc());
+    for (ending, line) in [
+        (
+            Ending::WrongArguments,
+            "usage: btree_script [table] [limit n]",
+        ),
+        (
+            Ending::Stopped(Stop::NotACommand(1)),
+            "line 1: not a command",
+        ),
+        (
+            Ending::Stopped(Stop::NotACommand(18446744073709551614)),
+            "line 18446744073709551614: not a command",
+        ),
+        (Ending::Stopped(Stop::Memory), "out of memory"),
+        (Ending::Stopped(Stop::Input), "input failed"),
+        (Ending::Stopped(Stop::Output), "output failed"),
+    ] {
+        check_report(&rt, Err(ending), line, 1, rt.alloc());
+    }
+}
+
+// Serves lines, compares the replies, and how often the line is printed on standard error.
+fn check_whole_run(
+    rt: &impl Abort,
+    words: &[&str],
+    lines: &[u8],
+    replies: &[u8],
+    (line, count): (&str, usize),
+    alloc: Global,
+) {
+    let system = given(words, line, alloc);
+    let (mut input, mut output) = (lines, Vec::new(alloc));
+    let _ = run_and_report(&system, alloc, &mut input, &mut output);
+    assert_eq!(rt; output.as_slice(), replies);
+    assert_eq!(rt; system.lines.get(), count, "{line}");
+    assert_eq!(rt; system.others.get(), 0, "{line}");
+}
+
+#[test]
+fn a_whole_run_serves_and_reports(rt: HostRuntime) {
+    let asked = ["btree_script", "limit", "1"].as_slice();
+    let usage = "usage: btree_script [table] [limit n]";
+    for (words, lines, replies, printed) in [
+        (
+            asked,
+            b"insert 1 10\ninsert 2 20\n".as_slice(),
+            b"none\nrefused count\n".as_slice(),
+            ("", 0),
+        ),
+        (
+            asked,
+            b"get 1\njump\n",
+            b"none\n",
+            ("line 2: not a command", 1),
+        ),
+        (&["btree_script", "tables"], b"get 1\n", b"", (usage, 1)),
+    ] {
+        check_whole_run(&rt, words, lines, replies, printed, rt.alloc());
+    }
 }

@@ -10,5 +10,6 @@ pub mod Digits
 pub mod Lines
 pub mod Serving
 pub mod Printing
+pub mod Room
 pub mod Shapes
 pub mod ArgumentLemmas

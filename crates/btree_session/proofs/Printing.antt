@@ -103,7 +103,7 @@ join-branches node_at levels first (b ∷ bs) =
     ∙ ap (λ t. first ++ (32 ∷ t)) (between (decimal b.item.0) (shape_under node_at levels b.child ++ branches_text node_at levels bs))
 
 -- the text of the tree under a node, by its levels
-shape_under-suc : (node_at : NodeMap (ℕ × ℕ)) (levels id : ℕ) → 0 < levels → shape_under node_at levels id ≡ shape_in (shape_under node_at (levels - 1)) (node_at id)
+pub shape_under-suc : (node_at : NodeMap (ℕ × ℕ)) (levels id : ℕ) → 0 < levels → shape_under node_at levels id ≡ shape_in (shape_under node_at (levels - 1)) (node_at id)
 shape_under-suc node_at zero id some = absurd (omega arith)
 shape_under-suc node_at (suc levels) id some =
     let less : levels ≡ suc levels - 1 = omega arith in ap (λ n. shape_in (shape_under node_at n) (node_at id)) less

@@ -1,5 +1,5 @@
 -- Lines served one after another.
-use Rattle.std.proofs.Common.{◌≡◌, ℕ, ◌+◌, ◌<◌, List, [], ◌∷◌, ◌++◌, take, drop, length, add-one, Option, Some, None, IfSome, Result, Ok, Err, Bool, true, false, cond, inl, inr, refl, sym, ap, ◌∙◌, arith, append_assoc, append-nil, length-append}
+use Rattle.std.proofs.Common.{◌≡◌, ℕ, ◌+◌, ◌<◌, List, [], ◌∷◌, ◌++◌, take, drop, length, add-one, Option, Some, None, IfSome, Result, Ok, Err, Bool, true, false, cond, inl, inr, refl, sym, ap, ◌∙◌, arith, append_assoc, append-nil, length-append, Vec}
 use Rattle.std.specs.Prelude.{position, ◌==◌}
 use Rattle.std.proofs.lemmas.List.Quantifiers.{position-Some}
 use Rattle.std.specs.Io.BufRead.{take_through, drop_through, strip_last, DropsConsumable, DropsThrough}
@@ -209,11 +209,11 @@ not_a_command remaining May old new input before rest next after number so_far r
     }
 
 -- it stops at the next line
-pub at_line : {A R : Type 0} (remaining : R → Option (List ℕ)) (May : Content (Node ℕ ℕ) → Type 0) (old new : Held ℕ ℕ) (input before rest next after : Option (List ℕ)) (number : ℕ) (said : Line) (stop : Stop) →
+pub at_line : {A R Z : Type 0} (remaining : R → Option (List ℕ)) (May : Content (Node ℕ ℕ) → Type 0) (old new : Held ℕ ℕ) (input before rest next after : Option (List ℕ)) (number : ℕ) (said : Line) (text : Vec ℕ Z) (stop : Stop) →
     Progress May old input before rest after new number → ReadsLine rest next said
-    → StopsAt said number stop → DrivesBytes {A = A} May remaining old input before (Err stop) after new
-at_line remaining May old new input before rest next after number said stop so_far reads cause = elim cause [
-  | inl memory ↦ rw memory (stopped remaining May old new input before rest after number Memory so_far tt tt)
+    → StopsAt new said text number stop → DrivesBytes {A = A} May remaining old input before (Err stop) after new
+at_line remaining May old new input before rest next after number said text stop so_far reads cause = elim cause [
+  | inl memory ↦ rw memory.0 (stopped remaining May old new input before rest after number Memory so_far tt tt)
   | inr other ↦ rw other.0 (not_a_command remaining May old new input before rest next after number so_far (rw other.1 at reads))
 ]
 

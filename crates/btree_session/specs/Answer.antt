@@ -8,7 +8,7 @@ use Rattle.btree_view.specs.View.{View, leaf, internal, NodeMap}
 use Rattle.btree_shape.specs.TreeState.{TreeState, node_map, pairs_of}
 use Rattle.btree_session.specs.declared.question.Question.{Question}
 use Rattle.btree_session.specs.declared.question.Question.TheVariants as questions
-use Rattle.btree_session.specs.Text.{Pushes, as_line}
+use Rattle.btree_session.specs.Text.{LacksRoomFor, Pushes, as_line}
 
 -- the text of a pair
 abbrev pub pair_text : ℕ × ℕ → List ℕ
@@ -54,6 +54,10 @@ IsAnswer m questions.Shape text = IsShapeOf (node_map m) m.root text
 -- the answer to a question was appended to a text, on a line of its own
 abbrev pub Answers : {Z : Type 0} → TreeState ℕ ℕ → Question → (text more : Vec ℕ Z) → Type 0
 Answers m question text more = (answer : List ℕ) × IsAnswer m question answer × Pushes text more (as_line answer)
+
+-- a text without room for the answer to a question about a map
+abbrev pub LacksRoomToAnswer : {Z : Type 0} → TreeState ℕ ℕ → Question → (text : Vec ℕ Z) → Type 0
+LacksRoomToAnswer m question text = (answer : List ℕ) × IsAnswer m question answer × LacksRoomFor text answer
 
 -- Below, the same as functions, in the steps in which code prints it.
 

@@ -21,11 +21,12 @@ use Rattle.btree_session.specs.declared.line.Line.TheVariants.{Empty, Question, 
 use Rattle.btree_session.specs.declared.line.Line.TheVariants as line_kinds
 use Rattle.btree_session.specs.declared.script.Stop.{Stop}
 use Rattle.btree_session.specs.declared.script.Stop.TheVariants.{NotACommand, Memory, Input, Output}
-use Rattle.btree_session.specs.Answer.{IsAnswer}
+use Rattle.btree_session.specs.declared.text.TheConstants.{LONGEST_LINE}
+use Rattle.btree_session.specs.Answer.{IsAnswer, LacksRoomToAnswer}
 use Rattle.btree_session.specs.Held.{Held}
 use Rattle.btree_session.specs.Line.{line_words, MeansLine}
 use Rattle.btree_session.specs.Machine.{IsStep}
-use Rattle.btree_session.specs.Text.{Pushes, as_line, line_of}
+use Rattle.btree_session.specs.Text.{LacksCapacityFor, Pushes, as_line, line_of}
 
 -- a byte that ends a line
 abbrev pub is_newline : ℕ → Bool
@@ -151,9 +152,17 @@ MayStopAnywhere Memory = Unit {0}
 MayStopAnywhere Input = Unit {0}
 MayStopAnywhere Output = Unit {0}
 
--- why the line with a number was not served: memory was refused, or it is neither a command nor a question
-abbrev pub StopsAt : (said : Line) → (number : ℕ) → Stop → Type 0
-StopsAt said number stop = (stop ≡ Memory) ⊎ ((stop ≡ NotACommand number) × (said ≡ Other))
+-- a text without room for what the line prints
+abbrev pub LacksRoomAt : {Z : Type 0} → (old : Held ℕ ℕ) → Line → (text : Vec ℕ Z) → Type 0
+LacksRoomAt old Empty text = ⊥
+LacksRoomAt old (line_kinds.Command command) text = LacksCapacityFor text LONGEST_LINE
+LacksRoomAt old (Question question) text = LacksRoomToAnswer old.map question text
+LacksRoomAt old Other text = ⊥
+
+-- why the line with a number was not served: memory for what it prints was refused, or it is neither a command nor a
+-- question
+abbrev pub StopsAt : {Z : Type 0} → (old : Held ℕ ℕ) → (said : Line) → (text : Vec ℕ Z) → (number : ℕ) → Stop → Type 0
+StopsAt old said text number stop = ((stop ≡ Memory) × LacksRoomAt old said text) ⊎ ((stop ≡ NotACommand number) × (said ≡ Other))
 
 -- Lines of the input were served, and what they print was written. If the bytes of the input are known, the lines are
 -- theirs.

@@ -1,8 +1,8 @@
 //! Questions about a session's map, and their answers as text.
-ghost use Rattle.std.specs.Prelude.{OnOk, OnErr};
+ghost use Rattle.std.specs.Prelude.{◌≤◌, vec_capacity, OnOk, OnErr};
 ghost use Rattle.btree_shape.specs.TreeState.{node_map, pairs_of};
-ghost use Rattle.btree_session.specs.Answer.{Answers, IsAnswer, list_text, leaf_text, shape_under, answer_text};
-ghost use Rattle.btree_session.specs.Text.{Grows, Pushes};
+ghost use Rattle.btree_session.specs.Answer.{Answers, IsAnswer, LacksRoomToAnswer, list_text, leaf_text, shape_under, answer_text};
+ghost use Rattle.btree_session.specs.Text.{Grows, LacksRoomFor, Pushes};
 
 use crate::text::{push_key, push_number, push_pair, push_text};
 use btree_ext::BTreeExt;
@@ -32,6 +32,7 @@ pub(crate) fn push_answer_line<C: NodesMut<u64, u64>>(
 ) -> Result<(), AllocError>
     ensures put { OnOk result (Answers map.now question text.old text.new) }
     ensures kept { OnErr result (Grows text.old.items text.new.items) }
+    ensures full { OnErr result (LacksRoomToAnswer map.now question text.old) }
 {
     push_answer(map, question, text)?;
     push_text(text, b"\n")
@@ -45,6 +46,8 @@ fn push_answer<C: NodesMut<u64, u64>>(
     ensures answer { IsAnswer map.now question (answer_text map.now question) }
     ensures put { OnOk result (Pushes text.old text.new (answer_text map.now question)) }
     ensures kept { OnErr result (Grows text.old.items text.new.items) }
+    ensures full { OnErr result (LacksRoomFor text.old (answer_text map.now question)) }
+    ensures capacity { vec_capacity text.old ≤ vec_capacity text.new }
 {
     let root = map.root_id();
     match question {
@@ -64,6 +67,8 @@ fn push_list<C: NodesMut<u64, u64>>(
 ) -> Result<(), AllocError>
     ensures put { OnOk result (Pushes text.old text.new (list_text (pairs_of map.now))) }
     ensures kept { OnErr result (Grows text.old.items text.new.items) }
+    ensures full { OnErr result (LacksRoomFor text.old (list_text (pairs_of map.now))) }
+    ensures capacity { vec_capacity text.old ≤ vec_capacity text.new }
 {
     if map.is_empty() {
         return push_text(text, b"empty");
@@ -86,6 +91,9 @@ fn push_shape<C: NodesMut<u64, u64>>(
 ) -> Result<(), AllocError>
     ensures put { OnOk result (Pushes text.old text.new (shape_under (node_map map.now) levels id)) }
     ensures kept { OnErr result (Grows text.old.items text.new.items) }
+    ensures full { OnErr result (LacksRoomFor
+        text.old (shape_under (node_map map.now) levels id)) }
+    ensures capacity { vec_capacity text.old ≤ vec_capacity text.new }
 {
     if levels == 0 || !map.has_node(id) {
         return Ok(());
@@ -106,6 +114,8 @@ fn push_shape<C: NodesMut<u64, u64>>(
 fn push_leaf(leaf: &LeafNode<u64, u64>, text: &mut Vec<u8>) -> Result<(), AllocError>
     ensures put { OnOk result (Pushes text.old text.new (leaf_text leaf.now.items)) }
     ensures kept { OnErr result (Grows text.old.items text.new.items) }
+    ensures full { OnErr result (LacksRoomFor text.old (leaf_text leaf.now.items)) }
+    ensures capacity { vec_capacity text.old ≤ vec_capacity text.new }
 {
     push_text(text, b"(")?;
     let mut before = b"".as_slice();

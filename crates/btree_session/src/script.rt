@@ -2,8 +2,9 @@
 ghost use Rattle.std.specs.Prelude.{◌≡◌, ◌⊎◌, [], position, IfSome, IfNone, IfOk, IfErr, OnOk, OnErr};
 ghost use Rattle.std.specs.Io.KnownBytes.{IsAtEnd};
 ghost use Rattle.btree_session.specs.Line.{line_words, MeansLine};
-ghost use Rattle.btree_session.specs.Answer.{Answers};
+ghost use Rattle.btree_session.specs.Answer.{Answers, LacksRoomToAnswer};
 ghost use Rattle.btree_session.specs.Script.{is_newline, input_of, Drives, DrivesBuffered, HasNoLine, IfInput, MayStopAnywhere, RunsCommand, Performs, StopsAt, TakesLine, UnlessOutput, WritesOut};
+ghost use Rattle.btree_session.specs.Text.{LacksCapacityFor};
 
 use crate::line::{Line, parse, without_last};
 use crate::question::{Question, push_answer_line};
@@ -148,7 +149,7 @@ fn serve_line<C: ClearNodes<u64, u64>>(
         (Performs C.MayRefuse session.old said session.new text.old text.new) }
     ensures session_kept { OnErr result (session.new ≡ session.old) }
     ensures text_kept { OnErr result (text.new.items ≡ text.old.items) }
-    ensures stop { IfErr result (StopsAt said number) }
+    ensures stop { IfErr result (StopsAt session.old said text.old number) }
 {
     match said {
         Line::Empty => Ok(()),
@@ -174,6 +175,7 @@ fn obey<C: ClearNodes<u64, u64>>(
         (RunsCommand C.MayRefuse session.old command session.new text.old text.new) }
     ensures session_kept { OnErr result (session.new ≡ session.old) }
     ensures text_kept { OnErr result (text.new.items ≡ text.old.items) }
+    ensures full { OnErr result (LacksCapacityFor text.old LONGEST_LINE) }
 {
     text.reserve(LONGEST_LINE)?;
     let reply = session.execute(command);
@@ -189,6 +191,7 @@ fn answer<C: NodesMut<u64, u64>>(
 ) -> Result<(), AllocError>
     ensures answered { OnOk result (Answers session.now.map question text.old text.new) }
     ensures text_kept { OnErr result (text.new.items ≡ text.old.items) }
+    ensures full { OnErr result (LacksRoomToAnswer session.now.map question text.old) }
 {
     let len = text.len();
     match push_answer_line(session.map(), question, text) {

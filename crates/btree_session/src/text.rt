@@ -1,7 +1,7 @@
 //! The text of replies, and pieces of the text of answers.
 ghost use Rattle.std.specs.Prelude.{◌≡◌, ◌+◌, ◌≤◌, ◌++◌, length, vec_len, vec_capacity, codes, decimal, OnOk, OnErr};
 ghost use Rattle.btree_session.specs.Answer.{pair_text};
-ghost use Rattle.btree_session.specs.Text.{HasCapacityFor, Pushes, cause_text, line_of};
+ghost use Rattle.btree_session.specs.Text.{HasCapacityFor, LacksCapacityFor, Pushes, cause_text, line_of};
 
 use crate::Reply;
 use btree_item::Cause;
@@ -54,6 +54,8 @@ pub(crate) fn push_line(text: &mut Vec<u8>, reply: Reply)
 pub(crate) fn push_text(text: &mut Vec<u8>, bytes: &[u8]) -> Result<(), AllocError>
     ensures put { OnOk result (Pushes text.old text.new bytes.now) }
     ensures kept { OnErr result (text.new.items ≡ text.old.items) }
+    ensures full { OnErr result (LacksCapacityFor text.old (length bytes.now)) }
+    ensures capacity { vec_capacity text.old ≤ vec_capacity text.new }
 {
     text.extend_from_slice(bytes)
 }
@@ -63,6 +65,8 @@ pub(crate) fn push_text(text: &mut Vec<u8>, bytes: &[u8]) -> Result<(), AllocErr
 pub(crate) fn push_number(text: &mut Vec<u8>, number: u64) -> Result<(), AllocError>
     ensures put { OnOk result (Pushes text.old text.new (decimal number)) }
     ensures kept { OnErr result (text.new.items ≡ text.old.items) }
+    ensures full { OnErr result (LacksCapacityFor text.old LONGEST_NUMBER) }
+    ensures capacity { vec_capacity text.old ≤ vec_capacity text.new }
 {
     text.reserve(LONGEST_NUMBER)?;
     push_decimal(text, number);
@@ -81,6 +85,8 @@ pub(crate) fn push_key(
     requires after { length after.now ≤ 1 }
     ensures put { OnOk result (Pushes text.old text.new (before.now ++ decimal key ++ after.now)) }
     ensures kept { OnErr result (text.new.items ≡ text.old.items) }
+    ensures full { OnErr result (LacksCapacityFor text.old (LONGEST_NUMBER + 2)) }
+    ensures capacity { vec_capacity text.old ≤ vec_capacity text.new }
 {
     text.reserve(LONGEST_NUMBER + 2)?;
     push_all(text, before);
@@ -100,6 +106,8 @@ pub(crate) fn push_pair(
     requires { length before.now ≤ 1 }
     ensures put { OnOk result (Pushes text.old text.new (before.now ++ pair_text (key, value))) }
     ensures kept { OnErr result (text.new.items ≡ text.old.items) }
+    ensures full { OnErr result (LacksCapacityFor text.old (LONGEST_NUMBER + LONGEST_NUMBER + 2)) }
+    ensures capacity { vec_capacity text.old ≤ vec_capacity text.new }
 {
     text.reserve(LONGEST_NUMBER + LONGEST_NUMBER + 2)?;
     push_all(text, before);

@@ -175,7 +175,34 @@ fn a_failed_read_is_the_end_of_input_or_of_memory(rt: HostRuntime) {
     }
 }
 
-// Drives 2,501 lines in one run, each of which is served.
+// Adds a line for each key that inserts it, and then lines without words, of more than a mebibyte. The last line lists the pairs.
+fn push_lines(lines: &mut String, keys: (u64, u64)) -> Result<(), Fail> {
+    for key in keys.0..keys.1 {
+        write!(lines, "insert {key} {key}\n")?;
+    }
+    for _ in 0..1_100_000 {
+        lines.push('\n')?;
+    }
+    lines.push_str("list\n")?;
+    Ok(())
+}
+
+// Adds the replies to these lines.
+fn push_replies(replies: &mut String, keys: (u64, u64)) -> Result<(), Fail> {
+    for _ in keys.0..keys.1 {
+        replies.push_str("none\n")?;
+    }
+    for key in keys.0..keys.1 {
+        if key > keys.0 {
+            replies.push(' ')?;
+        }
+        write!(replies, "{key}={key}")?;
+    }
+    replies.push('\n')?;
+    Ok(())
+}
+
+// Drives lines of more than a mebibyte in one run. The list of 7,000 pairs has 69,999 bytes.
 fn drive_many<C: ClearNodes<u64, u64> + Drop>(
     rt: &impl Abort,
     origin: C::Origin,
@@ -183,16 +210,13 @@ fn drive_many<C: ClearNodes<u64, u64> + Drop>(
 ) -> Result<(), Fail> {
     let mut session: Session<C> = Session::new(origin);
     let (mut lines, mut replies) = (String::new(alloc), String::new(alloc));
-    for key in 0..2500u64 {
-        write!(lines, "insert {key} {key}\n")?;
-        replies.push_str("none\n")?;
-    }
-    lines.push_str("len\n")?;
-    replies.push_str("2500\n")?;
+    push_lines(&mut lines, (1_000, 8_000))?;
+    push_replies(&mut replies, (1_000, 8_000))?;
     let (mut input, mut output) = (lines.as_bytes(), Vec::new(alloc));
     let end = drive(alloc, &mut session, &mut input, &mut output);
     assert_same(rt, end, Ok(()));
-    assert_same(rt, output.as_slice(), replies.as_bytes());
+    assert_same(rt, output.len(), 7_000 * 5 + 70_000);
+    assert_true(rt, output.as_slice() == replies.as_bytes());
     Ok(())
 }
 

@@ -1,4 +1,4 @@
-use Rattle.std.proofs.Common.{◌-◌, ◌∷◌, ◌++◌, []}
+use Rattle.std.proofs.Common.{◌-◌, ◌≤◌, vec_capacity, ◌∷◌, ◌++◌, []}
 use Rattle.btree_shape.specs.TreeState.{views}
 use Rattle.btree_session.specs.Answer.{shape_under}
 use Rattle.btree_session.proofs.Printing.{Printed, branches_text}
@@ -8,5 +8,7 @@ abbrev pub decreases-push_shape : goal.decreases-push_shape
 decreases-push_shape g l = l.levels
 
 abbrev pub invariant-loop-branch : goal.invariant-loop-branch
-invariant-loop-branch g l =
-    Printed l.fn.text.items l.text.items (branches_text (views l.map.nodes) (l.levels - 1) l.branch-iterator ++ 41 ∷ []) (shape_under (views l.map.nodes) l.levels l.id)
+invariant-loop-branch g l = record {
+  grown : vec_capacity l.fn.text ≤ vec_capacity l.text;
+  printed : Printed l.fn.text.items l.text.items (branches_text (views l.map.nodes) (l.levels - 1) l.branch-iterator ++ 41 ∷ []) (shape_under (views l.map.nodes) l.levels l.id);
+}

@@ -1,4 +1,4 @@
-use Rattle.std.proofs.Common.{◌≤◌, ◌++◌, [], length, map}
+use Rattle.std.proofs.Common.{◌≤◌, ◌++◌, [], length, map, vec_capacity}
 use Rattle.btree_shape.specs.TreeState.{pairs_of}
 use Rattle.btree_session.specs.Answer.{pair_text, list_text}
 use Rattle.btree_session.proofs.Printing.{Printed, behind}
@@ -7,5 +7,6 @@ use Rattle.btree_session.proofs.question.push_list.Given as goal
 abbrev pub invariant-loop-key : goal.invariant-loop-key
 invariant-loop-key g l = record {
   short : length l.before ≤ 1;
+  grown : vec_capacity l.fn.text ≤ vec_capacity l.text;
   printed : Printed l.fn.text.items l.text.items (behind l.before (map pair_text l.key-iterator) ++ []) (list_text (pairs_of l.map));
 }

@@ -16,7 +16,7 @@ pub returns-in_err-serve_line : goal.returns-in_err-serve_line
 returns-in_err-serve_line g c =
     let exit = err_from_is_err_and c.from_residual-in_err-serve_line.result c.from_residual-in_err-serve_line.ensures.1 in
     rw (exit.1, exit.2, c.in_err-serve_line.ensures.session_kept, c.in_err-serve_line.ensures.text_kept)
-    (at_line _ _ _ _ _ _ _ _ _ _ _ _ (written _ _ _ _ _ _ _ _ _ c.loop-number.invariant c.in_ok-said.ensures.text)
+    (at_line _ _ _ _ _ _ _ _ _ _ _ _ _ (written _ _ _ _ _ _ _ _ _ c.loop-number.invariant c.in_ok-said.ensures.text)
     (rw c.in-Some.is at c.in_ok-said.ensures.line) c.in_err-serve_line.ensures.stop)
 
 pub loop-number-preserved : goal.loop-number-preserved
