@@ -12,9 +12,9 @@ pub loop-branch-init : goal.loop-branch-init
 loop-branch-init g t c = record {
   grown = omega arith;
   printed = child_put (views c.args.map.now.nodes) (c.args.levels - 1) _ _ (41 ∷ []) _ _ c.first_child_id.result c.into_iter-branch-iterator.result
-    (internal_open c.args.map.now.nodes c.args.levels c.args.id c.in-Internal.node c.branches.result.now c.into_iter-branch-iterator.result c.first_child_id.result _ _ (omega arith)
-    (rw c.in-Internal.is at c.node.ensures) c.branches.ensures (c.into_iter-branch-iterator.ensures.into_iter_gives ∙ c.iter-branch-items.ensures) c.first_child_id.ensures c.in_ok-push_text.ensures.put)
-    c.in_ok-push_shape.ensures.put;
+      (internal_open c.args.map.now.nodes c.args.levels c.args.id c.in-Internal.node c.branches.result.now c.into_iter-branch-iterator.result c.first_child_id.result _ _ (omega arith)
+      (rw c.in-Internal.is at c.node.ensures) c.branches.ensures (c.into_iter-branch-iterator.ensures.into_iter_gives ∙ c.iter-branch-items.ensures) c.first_child_id.ensures c.in_ok-push_text.ensures.put)
+      c.in_ok-push_shape.ensures.put;
 }
 
 pub returns-in_err-push_key-clause-kept : goal.returns-in_err-push_key-clause-kept
@@ -28,7 +28,7 @@ pub loop-branch-preserved : goal.loop-branch-preserved
 loop-branch-preserved g t c = record {
   grown = omega arith;
   printed = child_put (views c.args.map.now.nodes) (c.args.levels - 1) _ _ (41 ∷ []) _ _ c.in-Some.branch.now.child c.next.new.self
-    (key_put (views c.args.map.now.nodes) (c.args.levels - 1) _ _ (41 ∷ []) _ _ c.loop-branch.branch-iterator c.next.new.self c.in-Some.branch.now _ c.loop-branch.invariant.printed c.in-Some.ensures.steps c.key.ensures c.in_ok-push_key.ensures.put) c.in_ok-push_shape-2.ensures.put;
+      (key_put (views c.args.map.now.nodes) (c.args.levels - 1) _ _ (41 ∷ []) _ _ c.loop-branch.branch-iterator c.next.new.self c.in-Some.branch.now _ c.loop-branch.invariant.printed c.in-Some.ensures.steps c.key.ensures c.in_ok-push_key.ensures.put) c.in_ok-push_shape-2.ensures.put;
 }
 
 pub returns-clause-put : goal.returns-clause-put
