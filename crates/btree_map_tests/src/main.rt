@@ -17,8 +17,6 @@ mod entries;
 #[cfg(test)]
 mod equal;
 #[cfg(test)]
-mod fetched;
-#[cfg(test)]
 mod fixed;
 #[cfg(test)]
 mod gates;
