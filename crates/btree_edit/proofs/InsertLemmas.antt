@@ -3,6 +3,7 @@ use Rattle.std.proofs.Common.{◌≡◌, ℕ, List, Option, Some, None, Ok, Err,
 use Rattle.std.specs.Cmp.{IsTotalOrder}
 use Rattle.std.specs.declared.cmp.Ordering.{Ordering}
 use Rattle.btree_item.proofs.PairLemmas.{set-from_Ok, slice_get-from_Ok}
+use Rattle.btree_item.specs.KeyLaws.{cuts_of}
 use Rattle.btree_item.specs.Pairs.{before, found, found_value, inserted}
 use Rattle.btree_item.specs.declared.address.Address.{Address}
 use Rattle.btree_shape.specs.TreeState.{TreeState, IsBTree, pairs_of}
@@ -29,7 +30,7 @@ module _ {K V : Type 0} (cmp : K → K → Ordering) (laws : IsTotalOrder cmp) (
     listed = sym f.here.item ∙ x.had
 
     is-found : found cmp k xs ≡ Some (x.key, was)
-    is-found = sym (slice_get-from_Ok cmp laws k xs f.replaces.place tree.ascends f.is) ∙ listed
+    is-found = sym (slice_get-from_Ok cmp (cuts_of laws) k xs f.replaces.place tree.ascends f.is) ∙ listed
 
     is-some : IsSome (found cmp k xs)
     is-some = rw is-found refl
@@ -40,7 +41,7 @@ module _ {K V : Type 0} (cmp : K → K → Ordering) (laws : IsTotalOrder cmp) (
     pub exchanged-pairs : pairs_of new ≡ inserted cmp k w xs
     exchanged-pairs =
         let same : x.exchanged.place ≡ f.replaces.place = f.here.has.only x.exchanged.place x.exchanged.here.has.at in
-        let set_is = set-from_Ok cmp laws k w xs f.replaces.place (x.key, was) tree.ascends f.is listed in
+        let set_is = set-from_Ok cmp (cuts_of laws) k w xs f.replaces.place (x.key, was) tree.ascends f.is listed in
         x.exchanged.pairs ∙ (rw same set_is ∙ sym (if-some (found cmp k xs) _ _ is-some))
 
     pub exchanged-by_key : InsertsByKey cmp k old new w

@@ -7,10 +7,13 @@ use Rattle.btree_shape.specs.Focus.Positions.{address_at}
 use Rattle.btree_shape.specs.Place.{NOWHERE}
 use Rattle.btree_shape.specs.TreeAddresses.{item_addresses_of}
 use Rattle.btree_shape.specs.TreeState.{TreeState, pairs_of}
+use Rattle.btree_find.specs.Answers.{IsFoundBy}
+use Rattle.btree_edit.specs.Exchange.{IsValueExchanged}
 use Rattle.btree_edit.specs.Insert.{ExchangesValueAt}
 use Rattle.btree_edit.specs.ValueWritten.{value_written}
 
-module _ {K V : Type 0} (cmp : K → K → Ordering) (k : K) where
+-- `cmp x k` says on which side of k the key x is
+module _ {K Q V : Type 0} (cmp : K → Q → Ordering) (k : Q) where
   -- the address of the item with the key, if the key is there
   abbrev pub address_at_key : TreeState K V → Address
   address_at_key s = unwrap_or (slice_get (item_addresses_of s) (before cmp k (pairs_of s))) (address_at NOWHERE 0)
@@ -19,6 +22,15 @@ module _ {K V : Type 0} (cmp : K → K → Ordering) (k : K) where
   abbrev pub key_written : TreeState K V → V → TreeState K V
   key_written s w = value_written s (address_at_key s) w
 
+module _ {K V : Type 0} (cmp : K → K → Ordering) where
+  -- the value at the key that a query is equal to was replaced: `was` by `is`
+  pub record ExchangesValueBy {Q : Type 0} (compare : K → Q → Ordering) (query : Q) (old new : TreeState K V) (was is : V) : Type 0 where
+    pub at : Address
+    pub found_by : IsFoundBy compare query old at
+    pub exchanged : IsValueExchanged old new at cmp was is
+    pub pairs : pairs_of new ≡ with_value compare query is (pairs_of old)
+
+module _ {K V : Type 0} (cmp : K → K → Ordering) (k : K) where
   -- the value at the key, which is there, was replaced: `was` by `is`
   pub record ExchangesValue (old new : TreeState K V) (was is : V) : Type 0 where
     pub pairs : pairs_of new ≡ with_value cmp k is (pairs_of old)

@@ -14,5 +14,5 @@ module _ (K V C O : RattleType) (s : StoreMembers C.Denot K.Denot V.Denot) (tree
   lends_value a value = Lends (raw_row K V C O s) V tree value (value_written tree.now a)
 
   -- the last value behind the borrow is the one at the key; without one nothing has changed
-  abbrev pub lends_at_key : (K.Denot → K.Denot → Ordering) → K.Denot → Option (MutBor V.Denot) → Fml
+  abbrev pub lends_at_key : {Q : Type 0} → (K.Denot → Q → Ordering) → Q → Option (MutBor V.Denot) → Fml
   lends_at_key cmp k value = LendsIf (raw_row K V C O s) V tree value (key_written cmp k tree.now) tree.now

@@ -8,7 +8,7 @@ use Rattle.btree_shape.specs.TreeState.{TreeState, pairs_of}
 use Rattle.btree_find.specs.Fits.{pairs_below}
 use Rattle.btree_edit.specs.Exchange.{IsValueExchanged}
 use Rattle.btree_edit.specs.Insert.{IsInserted}
-use Rattle.btree_edit.specs.KeyWritten.{ExchangesValue, key_written}
+use Rattle.btree_edit.specs.KeyWritten.{ExchangesValue, ExchangesValueBy, key_written}
 use Rattle.btree_edit.specs.Update.{ClaimsNeeded}
 use Rattle.btree_edit.specs.ValueWritten.{value_written}
 
@@ -16,6 +16,10 @@ module _ {K V : Type 0} (cmp : K → K → Ordering) where
   -- whatever is written at a key replaces the value that was lent
   abbrev pub ExchangesLent : (k : K) → TreeState K V → (lent : MutBor V) → Type 0
   ExchangesLent k tree lent = (w : V) → ExchangesValue cmp k tree (key_written cmp k tree w) lent.now w
+
+  -- so it does at the key that a query is equal to
+  abbrev pub ExchangesLentBy : {Q : Type 0} → (K → Q → Ordering) → (query : Q) → TreeState K V → (lent : MutBor V) → Type 0
+  ExchangesLentBy compare query tree lent = (w : V) → ExchangesValueBy cmp compare query tree (key_written compare query tree w) lent.now w
 
   -- whatever is written at an address replaces the value that was lent
   abbrev pub ExchangesLentAt : Address → TreeState K V → (lent : MutBor V) → Type 0

@@ -2,8 +2,8 @@
 -- `insert_at` requires to put the pair back, and `restores` says that this gives the old list. A removal may free nodes
 -- and never allocates one. Its `leaf` says what is rebalanced after an item of a leaf was taken out, and its `inner` which
 -- item takes the place of one of an internal node: so every removal leaves the tree that one at the address leaves.
--- `RemovesByKey` is a removal at the address of a key.
-use Rattle.std.specs.Prelude.{◌≡◌, ℕ, suc, ◌+◌, ◌≤◌, List, slice_get, is_some, Some, IsSome, IsTrue, if◌then◌else◌}
+-- `RemovesBy` is a removal at the address that a query finds, and `RemovesByKey` at that of a key.
+use Rattle.std.specs.Prelude.{◌≡◌, ℕ, suc, ◌+◌, ◌≤◌, List, slice_get, is_some, Some, None, IsSome, IsTrue, if◌then◌else◌}
 use Rattle.std.specs.FinMap as map
 use Rattle.std.specs.List.{insert, remove}
 use Rattle.std.specs.declared.cmp.Ordering.{Ordering}
@@ -15,12 +15,12 @@ use Rattle.btree_shape.specs.Step.{WritesNode}
 use Rattle.btree_shape.specs.TreeState.{TreeState, HasLevels, HasStrain, IsBTree, IsLeafAddressIn, IsPlaceIn, IsValidIn, item_of, node_map, pairs_of}
 use Rattle.btree_raw.specs.LastItem.{TakesLast}
 use Rattle.btree_raw.specs.Rebalance.{IsRebalanced}
-use Rattle.btree_find.specs.Answers.{IsFoundAt}
+use Rattle.btree_find.specs.Answers.{IsFoundAt, IsFoundBy}
 use Rattle.btree_find.specs.Fits.{FitsAt}
 use Rattle.btree_find.specs.Navigation.{HasPlace, IsItemAt}
 
--- the list without the pair of this key, if it is there
-abbrev pub removed : {K V : Type 0} → (K → K → Ordering) → K → List (K × V) → List (K × V)
+-- the list without the pair of this key, if it is there; `cmp x k` says on which side of k the key x is
+abbrev pub removed : {K Q V : Type 0} → (K → Q → Ordering) → Q → List (K × V) → List (K × V)
 removed cmp k xs = if is_some (found cmp k xs) then remove xs (before cmp k xs) else xs
 
 module _ {K V : Type 0} (s : TreeState K V) where
@@ -106,6 +106,19 @@ module _ {K V : Type 0} (old new : TreeState K V) where
     pub uncounted : new.kept ≡ old.kept
     pub leaf : TakesFromLeaf cmp a b
     pub inner : ReplacesIfInner cmp a b
+
+  -- the pair x, which is the one whose key the query is equal to, was removed
+  pub record RemovesBy {Q : Type 0} (cmp : K → K → Ordering) (compare : K → Q → Ordering) (query : Q) (x : K × V) : Type 0 where
+    pub at : Address
+    pub found_by : IsFoundBy compare query old at
+    pub after : Address
+    pub removed : IsRemoved cmp at x after
+    pub pairs : pairs_of new ≡ remove (pairs_of old) (before compare query (pairs_of old))
+
+  -- so it was if it was there; else nothing has changed
+  pub record RemovesIfThereBy {Q : Type 0} (cmp : K → K → Ordering) (compare : K → Q → Ordering) (query : Q) : Type 0 where
+    pub present : (x : K × V) → found compare query (pairs_of old) ≡ Some x → RemovesBy cmp compare query x
+    pub absent : found compare query (pairs_of old) ≡ None → new ≡ old
 
   -- the pair x, which is the one with the key, was removed
   pub record RemovesByKey (cmp : K → K → Ordering) (k : K) (x : K × V) : Type 0 where

@@ -12,8 +12,8 @@ mod values;
 
 pub use insertion::{insert, insert_absent, insert_at_gap};
 pub use insertion_at::{insert_at, insert_exactly_at};
-pub use removal::{remove_at, remove_entry};
+pub use removal::{remove_at, remove_by, remove_entry};
 pub use replacement::{replace, replace_at};
 pub use updates::{update, update_in};
 pub use updates_at::update_at;
-pub use values::{exchange, get_mut, get_mut_in, pair_mut};
+pub use values::{exchange, get_mut, get_mut_by, get_mut_in, pair_mut};

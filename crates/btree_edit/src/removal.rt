@@ -1,12 +1,12 @@
-//! Removal at an address, and by key.
+//! Removal at an address, by key and by another query.
 ghost use Rattle.std.specs.Prelude.{◌≡◌, IfSome, IfNone, None};
 ghost use Rattle.btree_item.specs.Pairs.{found};
 ghost use Rattle.btree_shape.specs.TreeState.{IsBTree, IsValidIn, item_of, pairs_of};
 ghost use Rattle.btree_raw.specs.Limit.{IsWithinLimit};
-ghost use Rattle.btree_edit.specs.Remove.{HasChildBehind, IsInnerAt, IsRemoved, RemovesByKey, removed};
+ghost use Rattle.btree_edit.specs.Remove.{HasChildBehind, IsInnerAt, IsRemoved, RemovesBy, RemovesByKey, removed};
 
-use btree_find::{address_of, first_item_beside};
-use btree_item::{Address, Item, MIN_ITEMS};
+use btree_find::{address_by, first_item_beside};
+use btree_item::{Address, Item, MIN_ITEMS, Query};
 use btree_node::NodesMut;
 use btree_raw::{RawBTree, rebalance_fetched, take_last_below};
 
@@ -64,7 +64,22 @@ pub fn remove_entry<K: Ord + Drop, V: Drop, C: NodesMut<K, V>>(
     ensures unchanged { IfNone result (tree.new ≡ tree.old) }
     ensures bounded { IsWithinLimit tree.old → IsWithinLimit tree.new }
 {
-    match address_of(tree, key) {
+    remove_by(tree, key)
+}
+
+/// Removes the pair whose key a query is equal to, and returns it. Otherwise it does the same as `remove_entry`.
+pub fn remove_by<K: Ord + Drop, Q: Query<K>, V: Drop, C: NodesMut<K, V>>(
+    tree: &mut RawBTree<K, V, C>,
+    query: &Q,
+) -> Option<Item<K, V>>
+    requires { IsBTree K.cmp tree.old }
+    ensures entry { result ≡ found Q.compare query.now (pairs_of tree.old) }
+    ensures removed { pairs_of tree.new ≡ removed Q.compare query.now (pairs_of tree.old) }
+    ensures removed_by { IfSome result (λ x. RemovesBy tree.old tree.new K.cmp Q.compare query.now x) }
+    ensures unchanged { IfNone result (tree.new ≡ tree.old) }
+    ensures bounded { IsWithinLimit tree.old → IsWithinLimit tree.new }
+{
+    match address_by(tree, query) {
         Ok(addr) => match remove_at(tree, addr) {
             Some((item, _)) => Some(item),
             None => unreachable!(),

@@ -8,10 +8,10 @@ ghost use Rattle.btree_shape.specs.TreeState.{IsBTree, IsOccupiedIn, IsUsed, ite
 ghost use Rattle.btree_edit.specs.Exchange.{IsValueExchanged};
 ghost use Rattle.btree_edit.specs.KeyWritten.{key_written};
 ghost use Rattle.btree_edit.specs.Lent.{lends_at_key, lends_value};
-ghost use Rattle.btree_edit.specs.Outcomes.{ExchangesLent, ExchangesLentAt, value_below};
+ghost use Rattle.btree_edit.specs.Outcomes.{ExchangesLent, ExchangesLentAt, ExchangesLentBy, value_below};
 
-use btree_find::address_in;
-use btree_item::{Address, Item};
+use btree_find::{address_by, address_in};
+use btree_item::{Address, Item, Query};
 use btree_node::NodesMut;
 use btree_raw::RawBTree;
 use std::mem;
@@ -94,6 +94,24 @@ pub fn get_mut_in<'a, K: Ord + 'a, V: 'a, C: NodesMut<K, V>>(
     ensures exchanged { IfSome result (ExchangesLent K.cmp key.now tree.old) }
 {
     match address_in(tree, top, key) {
+        Ok(addr) => Some(value_mut(tree, addr)),
+        Err(_) => None,
+    }
+}
+
+/// Returns the value at the key that a query is equal to for writing, or `None` if it is not there, as `get_mut` does.
+pub fn get_mut_by<'a, K: Ord + 'a, Q: Query<K>, V: 'a, C: NodesMut<K, V>>(
+    tree: &'a mut RawBTree<K, V, C>,
+    query: &Q,
+) -> Option<&'a mut V>
+    requires { IsBTree K.cmp tree.old }
+    ensures* writes_back { sem 𝓛 (lends_at_key
+        K.row V.row C.row C.Origin.row C.NodesMut tree.entry Q.compare query.now result) }
+    ensures value { option_copied_mut result ≡ found_value Q.compare query.now (pairs_of tree.old) }
+    ensures tree { (w : V) → IsBTree K.cmp (key_written Q.compare query.now tree.old w) }
+    ensures exchanged { IfSome result (ExchangesLentBy K.cmp Q.compare query.now tree.old) }
+{
+    match address_by(tree, query) {
         Ok(addr) => Some(value_mut(tree, addr)),
         Err(_) => None,
     }

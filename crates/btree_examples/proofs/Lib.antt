@@ -3,3 +3,4 @@ pub mod BookingLemmas
 mod PageLemmas
 mod ShelfLemmas
 mod StockLemmas
+mod TextLemmas

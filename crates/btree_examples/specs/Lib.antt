@@ -3,5 +3,7 @@ pub mod Bookings
 pub mod Copies
 pub mod Counts
 pub mod Listing
+pub mod Minutes
 pub mod Shelves
+pub mod Texts
 pub mod Stock

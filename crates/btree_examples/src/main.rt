@@ -1,7 +1,8 @@
 //! Maps in use: a stock of parts, by part number, a listing of them by pages (`listing.rt`), a removal of those that are sold out
-//! (`sold_out.rt`), bookings of a room (`bookings.rt`, `booked.rt`), a count of words (`words.rt`), one of visits in a fixed table
-//! (`visits.rt`), and one read from a copy of its nodes (`copies.rt`). A set of pairs in use: the shelves on which parts lie
-//! (`shelves.rt`). A set of ranges in use: reserved blocks (`reserved.rt`).
+//! (`sold_out.rt`), bookings of a room (`bookings.rt`, `booked.rt`), a count of words (`words.rt`), one of strings by their texts
+//! (`texts.rt`), a log listed by minutes (`minutes.rt`), a count of visits in a fixed table (`visits.rt`), and a map read from a copy of its
+//! nodes (`copies.rt`). A set of pairs in use: the shelves on which parts lie (`shelves.rt`). A set of ranges in use: reserved blocks
+//! (`reserved.rt`).
 #![tactic(auto)]
 
 ghost use Rattle.std.specs.Prelude.{◌≡◌, ◌+◌, OnOk, OnErr, unwrap_or};
@@ -13,9 +14,11 @@ mod booked;
 mod bookings;
 mod copies;
 mod listing;
+mod minutes;
 mod reserved;
 mod shelves;
 mod sold_out;
+mod texts;
 mod visits;
 mod words;
 
@@ -23,9 +26,11 @@ use crate::booked::{book_and_cancel, three_bookings};
 use crate::bookings::count_overlaps;
 use crate::copies::{is_readable, read_copy};
 use crate::listing::next_page;
+use crate::minutes::{Minute, logged};
 use crate::reserved::reserve;
 use crate::shelves::append_shelves;
 use crate::sold_out::remove_sold_out;
+use crate::texts::{count_of, count_text};
 use crate::visits::count_visit;
 use crate::words::count_word;
 use btree_slab::generic::map::Refused;
@@ -99,6 +104,30 @@ fn print_counts(rt: &impl Print, alloc: Global) -> io::Result<()> {
     Ok(())
 }
 
+/// Prints how often two of a few words occur, in a map of strings.
+fn print_texts(rt: &impl Print, alloc: Global) -> io::Result<()> {
+    let mut counts: BTreeMap<String, u64> = BTreeMap::new(alloc);
+    for word in ["to", "be", "or", "not", "to", "be"] {
+        count_text(&mut counts, alloc, word)?;
+    }
+    for word in ["be", "bee"] {
+        rt.println(format_args!("texts: {word} {}", count_of(&counts, word)))?;
+    }
+    Ok(())
+}
+
+/// Prints what was logged in two minutes.
+fn print_log(rt: &impl Print, alloc: Global) -> io::Result<()> {
+    let mut log: BTreeMap<u64, u32> = BTreeMap::new(alloc);
+    for (second, door) in [(59, 3), (180, 2), (60, 1), (119, 3), (179, 1)] {
+        log.insert(second, door)?;
+    }
+    for (second, door) in logged(&log, Minute { number: 1 }, Minute { number: 3 }) {
+        rt.println(format_args!("second {second}: door {door}"))?;
+    }
+    Ok(())
+}
+
 /// Prints the shelves of a part, of which one is cleared.
 fn print_shelves(rt: &impl Print, alloc: Global) -> io::Result<()> {
     let mut shelves: BTreeSet<(u32, u32)> = BTreeSet::new(alloc);
@@ -107,7 +136,7 @@ fn print_shelves(rt: &impl Print, alloc: Global) -> io::Result<()> {
     }
     shelves.remove(&(408, 3));
     let mut found = Vec::new(alloc);
-    append_shelves(&shelves, 408, &mut found)?;
+    append_shelves(&shelves, &408, &mut found)?;
     for shelf in found.iter() {
         rt.println(format_args!("408 is on shelf {shelf}"))?;
     }
@@ -200,6 +229,8 @@ fn main(rt: HostRuntime) -> io::Result<()> {
     print_bookings(&rt, rt.alloc())?;
     print_blocks(&rt, rt.alloc())?;
     print_counts(&rt, rt.alloc())?;
+    print_texts(&rt, rt.alloc())?;
+    print_log(&rt, rt.alloc())?;
     print_shelves(&rt, rt.alloc())?;
     print_visits(&rt)?;
     print_copies(&rt, stock)

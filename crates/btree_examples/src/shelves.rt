@@ -5,25 +5,23 @@ ghost use Rattle.std.specs.Prelude.{◌≡◌, ◌++◌, OnOk};
 ghost use Rattle.btree_examples.specs.Shelves.{shelves_of};
 
 use btree_slab::generic::BTreeSet;
+use btree_slab::query::{AfterFirst, BeforeFirst};
 use btree_slab::store::NodesMut;
 use std::alloc::AllocError;
-use std::ops::Bound;
 
 /// Appends the shelves of a part to `found`, in order, from a set over any store. It returns an error only if there is no memory for
 /// `found`.
 ///
-/// The pairs of a part are a range, from the first shelf that there can be to the last.
-pub fn append_shelves<K: Ord + Copy, C: NodesMut<(K, u32), ()>>(
+/// The pairs of a part are those between the places before and after all pairs that begin with it.
+pub fn append_shelves<K: Ord, C: NodesMut<(K, u32), ()>>(
     shelves: &BTreeSet<(K, u32), C>,
-    part: K,
+    part: &K,
     found: &mut Vec<u32>,
 ) -> Result<(), AllocError>
     ensures { OnOk result (found.new.items ≡ found.old.items
-        ++ shelves_of K.cmp part u32.MAX shelves.now.elements) }
+        ++ shelves_of K.cmp part.now shelves.now.elements) }
 {
-    let first = (part, 0);
-    let last = (part, u32::MAX);
-    let mut rest = shelves.range((Bound::Included(&first), Bound::Included(&last)));
+    let mut rest = shelves.range_by(&BeforeFirst(part), &AfterFirst(part));
     while let Some(pair) = rest.next() {
         found.push(pair.1)?;
     }

@@ -2,6 +2,7 @@
 use Rattle.std.specs.Prelude.{Option}
 use Rattle.std.specs.BTreeMap.Lent.{OrdMembers}
 use Rattle.std.specs.Borrow.{Fml, LendsIf, MutBor, RattleType}
+use Rattle.std.specs.declared.cmp.Ordering.{Ordering}
 use Rattle.btree_shape.specs.TreeState.{TreeState}
 use Rattle.btree_raw.specs.Lent.{StoreMembers}
 use Rattle.btree_edit.specs.KeyWritten.{key_written}
@@ -21,3 +22,8 @@ tree_row K V C O g s =
 abbrev pub lends_at_key : (K V C O : RattleType) → OrdMembers K.Denot → StoreMembers C.Denot K.Denot V.Denot
     → MutBor (TreeState K.Denot V.Denot) → K.Denot → Option (MutBor V.Denot) → Fml
 lends_at_key K V C O g s tree k value = LendsIf (tree_row K V C O g s) V tree value (key_written g.cmp k tree.now) tree.now
+
+-- so it is at the key that a query is equal to
+abbrev pub lends_by : (K V C O : RattleType) → {Q : Type 0} → OrdMembers K.Denot → StoreMembers C.Denot K.Denot V.Denot
+    → MutBor (TreeState K.Denot V.Denot) → (K.Denot → Q → Ordering) → Q → Option (MutBor V.Denot) → Fml
+lends_by K V C O g s tree compare query value = LendsIf (tree_row K V C O g s) V tree value (key_written compare query tree.now) tree.now

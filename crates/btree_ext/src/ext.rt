@@ -4,7 +4,7 @@ ghost use Rattle.std.specs.FinMap as map;
 ghost use Rattle.btree_shape.specs.TreeState.{TreeState, HasLevels, IsBTree, IsOccupiedIn, IsUsed, IsValidIn, item_of, pairs_of};
 ghost use Rattle.btree_item.specs.Pairs.{found_value};
 ghost use Rattle.btree_raw.specs.Limit.{IsWithinLimit};
-ghost use Rattle.btree_find.specs.Answers.{IsAddressIn, IsAddressOf};
+ghost use Rattle.btree_find.specs.Answers.{IsAddressBy, IsAddressIn, IsAddressOf};
 ghost use Rattle.btree_find.specs.Ends.{IsFirstBack, IsFirstItem, IsLastItem, IsLastValid};
 ghost use Rattle.btree_find.specs.Fits.{FitsAt, FitsIn, ReplacesAt, pairs_below};
 ghost use Rattle.btree_find.specs.Levels.{IsDense, TicksAtMost, TicksExactly};
@@ -13,12 +13,12 @@ ghost use Rattle.btree_find.specs.Visits.{IsNextBack, IsPreviousFront};
 ghost use Rattle.btree_valid.specs.Faults.{AcceptsNode, BlamesIfErr, IsVerdictFor, SuitsIfOk};
 
 use btree_find::{
-    address_in, address_of, address_of_counted, first_back_address, first_item_address, fits_at,
-    get_in, height, key_fits_in, last_item_address, last_valid_address, leaf_address,
+    address_by, address_in, address_of, address_of_counted, first_back_address, first_item_address,
+    fits_at, get_in, height, key_fits_in, last_item_address, last_valid_address, leaf_address,
     next_back_address, next_item_address, next_item_or_back_address, normalize,
     previous_front_address, previous_item_address, replaces_at,
 };
-use btree_item::{Address, Fault, Item, MAX_LEVELS};
+use btree_item::{Address, Fault, Item, MAX_LEVELS, Query};
 use btree_node::{Node, NodesMut};
 use btree_raw::RawBTree;
 use btree_steps::Steps;
@@ -122,6 +122,14 @@ pub trait BTreeExt<K: Ord, V> {
         ensures ticks { TicksAtMost (state self.now) steps.old.count steps.new.count }
     {
         address_of_counted(self.as_raw(), key, steps)
+    }
+
+    /// Returns `Ok` with the address of the item whose key a query is equal to, or `Err` with the back address in a leaf whose place is the
+    /// number of keys below it. It makes at most six tests of the query at each level.
+    fn address_by<Q: Query<K>>(&self, query: &Q) -> Result<Address, Address>
+        ensures { IsAddressBy Q.compare query.now (state self.now) result }
+    {
+        address_by(self.as_raw(), query)
     }
 
     /// Returns `Ok` with the address of a key under a node, or `Err` with the back address in a leaf under the node that has as many

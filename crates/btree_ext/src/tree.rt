@@ -8,11 +8,12 @@ ghost use Rattle.btree_raw.specs.Limit.{IsBTreeWithinLimit, IsWithinLimit};
 use crate::ext::BTreeExt;
 use crate::ext_mut::BTreeExtMut;
 use btree_edit::{
-    exchange, get_mut, get_mut_in, insert, insert_absent, insert_at, insert_exactly_at, pair_mut,
-    remove_at, remove_entry, replace, replace_at, update, update_at, update_in,
+    exchange, get_mut, get_mut_by, get_mut_in, insert, insert_absent, insert_at, insert_exactly_at,
+    pair_mut, remove_at, remove_by, remove_entry, replace, replace_at, update, update_at,
+    update_in,
 };
 use btree_find::get;
-use btree_item::{Address, Fault, Item, Refused, UpdateRefused};
+use btree_item::{Address, Fault, Item, Query, Refused, UpdateRefused};
 use btree_node::{ClearNodes, CloneNodes, NodesMut};
 use btree_raw::RawBTree;
 use std::alloc::AllocError;
@@ -45,8 +46,8 @@ impl<K: Ord, V, C: NodesMut<K, V>> Tree<K, V, C> {
     ghost use Rattle.std.specs.Option.{option_copied_mut};
     ghost use Rattle.btree_item.specs.Pairs.{found_value};
     ghost use Rattle.btree_shape.specs.TreeState.{IsBTree, limited_to, pairs_of, rootless, unlimited, with_limit};
-    ghost use Rattle.btree_edit.specs.Outcomes.{ExchangesLent};
-    ghost use Rattle.btree_ext.specs.Lent.{lends_at_key};
+    ghost use Rattle.btree_edit.specs.Outcomes.{ExchangesLent, ExchangesLentBy};
+    ghost use Rattle.btree_ext.specs.Lent.{lends_at_key, lends_by};
 
     /// Returns a tree without pairs, over an empty store made from `origin`. It allocates no memory.
     ///
@@ -132,6 +133,13 @@ impl<K: Ord, V, C: NodesMut<K, V>> Tree<K, V, C> {
         get(&self.raw, key)
     }
 
+    /// Returns the value at the key that a query is equal to, or `None`, as `get` does.
+    pub fn get_by<Q: Query<K>>(&self, query: &Q) -> Option<&V>
+        ensures { option_copied result ≡ found_value Q.compare query.now (pairs_of self.now) }
+    {
+        get(&self.raw, query)
+    }
+
     /// Returns the value at a key equal to the given one for writing, or `None`. What is written replaces the value, and nothing else
     /// changes: the stored key stays, and so does every address. It makes at most six comparisons at each level.
     pub fn get_mut(&mut self, key: &K) -> Option<&mut V>
@@ -141,6 +149,16 @@ impl<K: Ord, V, C: NodesMut<K, V>> Tree<K, V, C> {
         ensures exchanged { IfSome result (ExchangesLent K.cmp key.now self.old) }
     {
         get_mut(&mut self.raw, key)
+    }
+
+    /// Returns the value at the key that a query is equal to for writing, or `None`, as `get_mut` does.
+    pub fn get_mut_by<Q: Query<K>>(&mut self, query: &Q) -> Option<&mut V>
+        ensures* writes_back { sem 𝓛 (lends_by
+            K.row V.row C.row C.Origin.row K.Ord C.NodesMut self.entry Q.compare query.now result) }
+        ensures value { option_copied_mut result ≡ found_value Q.compare query.now (pairs_of self.old) }
+        ensures exchanged { IfSome result (ExchangesLentBy K.cmp Q.compare query.now self.old) }
+    {
+        get_mut_by(&mut self.raw, query)
     }
 
     /// Returns the nodes in their store, the number of the root and the length, as a tree of any content.
@@ -174,7 +192,7 @@ impl<K: Ord + Drop, V: Drop, C: NodesMut<K, V>> Tree<K, V, C> {
     ghost use Rattle.btree_edit.specs.ByKey.{InsertOutcome, ReplaceOutcome, UpdateOutcome};
     ghost use Rattle.btree_edit.specs.Insert.{IsRefusedAtGap};
     ghost use Rattle.btree_edit.specs.InsertAbsent.{InsertsAbsent, IsGapOf};
-    ghost use Rattle.btree_edit.specs.Remove.{RemovesByKey, removed};
+    ghost use Rattle.btree_edit.specs.Remove.{RemovesBy, RemovesByKey, removed};
 
     /// Inserts a pair, or replaces the value if the key is there: the stored key stays, and the given one is dropped.
     ///
@@ -227,6 +245,19 @@ impl<K: Ord + Drop, V: Drop, C: NodesMut<K, V>> Tree<K, V, C> {
         ensures unchanged { IfNone result (self.new ≡ self.old) }
     {
         match remove_entry(&mut self.raw, key) {
+            Some(item) => Some(item.into_pair()),
+            None => None,
+        }
+    }
+
+    /// Removes the pair whose key a query is equal to, and returns it. Otherwise it does the same as `remove_entry`.
+    pub fn remove_entry_by<Q: Query<K>>(&mut self, query: &Q) -> Option<(K, V)>
+        ensures entry { result ≡ found Q.compare query.now (pairs_of self.old) }
+        ensures removed { pairs_of self.new ≡ removed Q.compare query.now (pairs_of self.old) }
+        ensures removed_by { IfSome result (λ x. RemovesBy self.old self.new K.cmp Q.compare query.now x) }
+        ensures unchanged { IfNone result (self.new ≡ self.old) }
+    {
+        match remove_by(&mut self.raw, query) {
             Some(item) => Some(item.into_pair()),
             None => None,
         }

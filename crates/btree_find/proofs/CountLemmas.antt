@@ -18,7 +18,7 @@ found-at : {X : Type 0} (n m p : ℕ) (o : Option X) → (if is_some o then Ok n
 found-at n m p None e = absurd (cc)
 found-at n m p (Some x) e = (x, refl)
 
-module _ {K V : Type 0} (cmp : K → K → Ordering) (k : K) where
+module _ {K Q V : Type 0} (cmp : K → Q → Ordering) (k : Q) where
   module _ (below : ℕ → ℕ) (node : View (K × V)) where
     after-hit : (offset : Option ℕ) → Ok offset ≡ offset_in cmp k node → comparisons_after below (look_up cmp k node) ≡ 0
     after-hit offset e =

@@ -4,6 +4,7 @@ use Rattle.std.proofs.lemmas.Option.{same_Some}
 use Rattle.std.specs.Cmp.{IsTotalOrder}
 use Rattle.std.specs.declared.cmp.Ordering.{Ordering}
 use Rattle.std.specs.declared.cmp.Ordering.TheVariants.{Greater, Less}
+use Rattle.btree_item.specs.KeyLaws.{cuts_of}
 use Rattle.btree_item.specs.Pairs.{Ascends, place_of}
 use Rattle.btree_shape.proofs.LookUp.KeyInList.{AreAbove, AreBelow, rises, searched}
 use Rattle.btree_find.specs.Fits.{KeyReplaces}
@@ -25,7 +26,7 @@ module _ {K V : Type 0} (cmp : K → K → Ordering) (k : K) (laws : IsTotalOrde
 
   pub key-replaces : (xs : List (K × V)) (p : ℕ) → Ascends cmp xs → place_of cmp k xs ≡ Ok p → KeyReplaces cmp k p xs
   key-replaces xs p up is =
-      let s = searched cmp k laws xs (Ok p) (rises cmp xs up) is in
+      let s = searched cmp k (cuts_of laws) xs (Ok p) (rises cmp xs up) is in
       let long = ap length s.3 ∙ length-append s.0 (s.1 ∷ s.2) in
       let front = s.4 in
       record {

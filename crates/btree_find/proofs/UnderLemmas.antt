@@ -5,6 +5,7 @@ use Rattle.std.specs.Cmp.{IsTotalOrder}
 use Rattle.std.specs.FinMap as finite
 use Rattle.std.specs.declared.cmp.Ordering.{Ordering}
 use Rattle.std.specs.declared.cmp.Ordering.TheVariants.{Less}
+use Rattle.btree_item.specs.Keys.{Cuts}
 use Rattle.btree_item.specs.Pairs.{Ascends, KeyFits, place_of}
 use Rattle.btree_item.proofs.PairEdits.{KeyFits-before}
 use Rattle.btree_item.proofs.PairLemmas.{before-from_Err, found-from_Err}
@@ -31,21 +32,21 @@ use Rattle.btree_shape.proofs.Trees.States.{height_held}
 use Rattle.btree_shape.proofs.Trees.Subtrees.{represents-of}
 use Rattle.btree_shape.proofs.Trees.ValidPlaces.{place-valid}
 use Rattle.btree_shape.proofs.Options.{some-of}
-use Rattle.btree_find.specs.Fits.{pairs_below}
+use Rattle.btree_find.specs.Fits.{FitsIn, pairs_below}
 use Rattle.btree_find.specs.Navigation.{HasPlace}
 use Rattle.btree_find.proofs.PlaceLemmas.{has-place, in-state, root-there}
 
 -- a key among some pairs of an ascending list has its place in the whole list
-pub place-in_whole : {K V : Type 0} (cmp : K → K → Ordering) (laws : IsTotalOrder cmp) (k : K) (xs front ys back : List (K × V)) (index : ℕ)
-    → Ascends cmp xs → xs ≡ front ++ (ys ++ back) → place_of cmp k ys ≡ Ok index → place_of cmp k xs ≡ Ok (length front + index)
-place-in_whole {K} {V} cmp laws k xs front ys back index up split place =
-    let r : Rises cmp (front ++ (ys ++ back)) = subst (Rises cmp) split (rises cmp xs up) in
-    let s = searched cmp k laws ys (Ok index) (rises-left cmp ys back (rises-right cmp front (ys ++ back) r)) place in
+pub place-in_whole : {K Q V : Type 0} (cmp : K → Q → Ordering) {ord : K → K → Ordering} (cut : Cuts ord cmp) (k : Q) (xs front ys back : List (K × V)) (index : ℕ)
+    → Ascends ord xs → xs ≡ front ++ (ys ++ back) → place_of cmp k ys ≡ Ok index → place_of cmp k xs ≡ Ok (length front + index)
+place-in_whole {K} {Q} {V} cmp {ord} cut k xs front ys back index up split place =
+    let r : Rises ord (front ++ (ys ++ back)) = subst (Rises ord) split (rises ord xs up) in
+    let s = searched cmp k cut ys (Ok index) (rises-left ord ys back (rises-right ord front (ys ++ back) r)) place in
     let joined : xs ≡ (front ++ s.0) ++ s.1 ∷ (s.2 ++ back) =
     split
     ∙ (ap (λ l. front ++ (l ++ back)) s.3
     ∙ (ap (λ l. front ++ l) (append_assoc s.0 (s.1 ∷ s.2) back) ∙ sym (append_assoc front s.0 (s.1 ∷ (s.2 ++ back))))) in
-    let whole : Rises cmp ((front ++ s.0) ++ s.1 ∷ (s.2 ++ back)) = subst (Rises cmp) joined (rises cmp xs up) in
+    let whole : Rises ord ((front ++ s.0) ++ s.1 ∷ (s.2 ++ back)) = subst (Rises ord) joined (rises ord xs up) in
     let count : length (front ++ s.0) ≡ length front + index = length-append front s.0 ∙ ap (λ n. length front + n) s.4 in
     (place-hit cmp k xs (length front + index) (
       front ++ s.0,
@@ -53,9 +54,9 @@ place-in_whole {K} {V} cmp laws k xs front ys back index up split place =
       s.2 ++ back,
       joined,
       count,
-      equal-front cmp k laws (front ++ s.0) s.1 (s.2 ++ back) whole s.6,
+      equal-front cmp k cut (front ++ s.0) s.1 (s.2 ++ back) whole s.6,
       s.6,
-      equal-back cmp k laws s.1 (s.2 ++ back) (rises-right cmp (front ++ s.0) (s.1 ∷ (s.2 ++ back)) whole).0 s.6,
+      equal-back cmp k cut s.1 (s.2 ++ back) (rises-right ord (front ++ s.0) (s.1 ∷ (s.2 ++ back)) whole).0 s.6,
     )).0
 
 -- what is at an index after a front, and in the first of two parts
@@ -145,7 +146,9 @@ module _ {K V : Type 0} (cmp : K → K → Ordering) (laws : IsTotalOrder cmp) (
     here : node_map s id ≡ Some view
     start : ℕ
     at : IsSubtreeAt (node_map s) (pairs_of s) id (pairs_below s id) start
-    searching : (k : K) → IsSearching cmp k (node_map s) root (pairs_of s) (pairs_below s id) start id
+    node : IsNode (K × V) (node_map s) root (pairs_of s) id
+    same : pairs_below s id ≡ items_under (K × V) node.focus.height node.focus.subtree
+    started : start ≡ length (items_before node.focus.path)
 
   part : Part
   part =
@@ -178,33 +181,48 @@ module _ {K V : Type 0} (cmp : K → K → Ordering) (laws : IsTotalOrder cmp) (
               split = f.whole.list ∙ sym (append_assoc (items_before f.path) list (items_after f.path));
               counted = refl;
             });
-        searching = λ k.
-            subst
-            (λ ys. IsSearching cmp k (node_map s) u.root (pairs_of s) ys (length (items_before f.path)) id)
-            (sym same) (search-start cmp k (node_map s) u.root (pairs_of s) id u.node);
+        node = u.node;
+        same = same;
+        started = refl;
       }
 
   -- a search among the pairs under the node begins at the node
-  pub record Begins (k : K) : Type 0 where
+  pub record Begins {Q : Type 0} (compare : K → Q → Ordering) (k : Q) : Type 0 where
     pub root : ℕ
     pub is : s.root ≡ Some root
     pub start : ℕ
     pub begins : HasPlace s (address_before id) start
-    pub searching : IsSearching cmp k (node_map s) root (pairs_of s) (pairs_below s id) start id
+    pub searching : IsSearching compare k (node_map s) root (pairs_of s) (pairs_below s id) start id
 
   before-place : (p : Part) → IsPlaceIn s (address_before id) p.start
   before-place p = in-state cmp laws s tree p.root p.is id None p.start (pairs_below s id, p.at)
 
-  pub begins-here : (k : K) → Begins k
-  begins-here k =
+  pub begins-here : {Q : Type 0} (compare : K → Q → Ordering) (k : Q) → Begins compare k
+  begins-here compare k =
       let p = part in
       record {
         root = p.root;
         is = p.is;
         start = p.start;
         begins = has-place cmp laws s tree (address_before id) p.start (before-place p);
-        searching = p.searching k;
+        searching =
+            subst (λ n. IsSearching compare k (node_map s) p.root (pairs_of s) (pairs_below s id) n id) (sym p.started)
+            (subst (λ ys. IsSearching compare k (node_map s) p.root (pairs_of s) ys (length (items_before p.node.focus.path)) id) (sym p.same)
+            (search-start compare k (node_map s) p.root (pairs_of s) id p.node));
       }
+
+  -- a key that is not among the pairs under the node, and fits under it, fits at its place among all pairs
+  pub fits-whole : (k : K) (start index : ℕ) → HasPlace s (address_before id) start → place_of cmp k (pairs_below s id) ≡ Err index
+      → FitsIn cmp k s id → KeyFits cmp k (start + index) (pairs_of s)
+  fits-whole k start index begins is f =
+      let p = part in
+      let at = p.at in
+      let counted : start ≡ length at.front = sym (begins.only p.start (before-place p)) ∙ at.counted in
+      let first : f.start ≡ length at.front = begins.only f.start f.begins.at ∙ counted in
+      subst (λ n. KeyFits cmp k (n + index) (pairs_of s)) (sym counted)
+      (fits-in_whole cmp laws k (pairs_of s) at.front (pairs_below s id) at.back index tree.ascends (at.split ∙ append_assoc at.front (pairs_below s id) at.back) is
+      (λ n x e here. f.above n x (e ∙ sym first) here)
+      (λ x here. f.below x (subst (λ n. slice_get (pairs_of s) (n + length (pairs_below s id)) ≡ Some x) (sym first) here)))
 
   -- where the pairs under the node begin and end: the places of its first offset and of its last one
   pub record Spans (size : ℕ) : Type 0 where

@@ -1,8 +1,9 @@
--- What a search by key returns: the occupied address of a key that is there, else the gap where it would be.
--- `address_of` cites `IsAddressOf`. Insertion cites its two cases, `IsFoundAt` and `IsGapAt`. `address_in` cites
--- `IsAddressIn`, the same for the pairs under a node: places in the whole list, counted from that of offset -1 of the
--- node.
-use Rattle.std.specs.Prelude.{◌≡◌, ◌+◌, ℕ, slice_get, IfSome, IsSome, Some, Result, Ok, Err}
+-- What a search returns: the occupied address of an item whose key is equal, else the gap where it would be.
+-- `address_by` cites `IsAddressBy`, for a key or for a query of another type. `address_of` cites `IsAddressOf`, for a key,
+-- which may replace the equal one or be inserted at the gap; insertion cites its two cases, `IsFoundAt` and `IsGapAt`.
+-- `IsAddressUnder` and `IsAddressIn` (cited by `address_in`) are the same for the pairs under a node: places in the whole
+-- list, counted from that of offset -1 of the node.
+use Rattle.std.specs.Prelude.{◌≡◌, ◌+◌, ℕ, slice_get, IfSome, IsSome, Some, None, Result, Ok, Err}
 use Rattle.std.specs.declared.cmp.Ordering.TheVariants.{Equal}
 use Rattle.std.specs.declared.cmp.Ordering.{Ordering}
 use Rattle.btree_item.specs.Pairs.{found, place_of}
@@ -13,6 +14,53 @@ use Rattle.btree_shape.specs.TreeState.{TreeState, IsLeafAddressIn, IsValidIn, i
 use Rattle.btree_find.specs.Ends.{IsLeafBackAt}
 use Rattle.btree_find.specs.Fits.{FitsAt, FitsIn, ReplacesAt, pairs_below}
 use Rattle.btree_find.specs.Navigation.{HasPlace, IsItemAddress}
+
+-- `compare x k` says on which side of k the key x is.
+module _ {K Q V : Type 0} (compare : K → Q → Ordering) (k : Q) (s : TreeState K V) where
+  -- the address of the item whose key is equal
+  pub record IsFoundBy (a : Address) : Type 0 where
+    pub place : ℕ
+    pub is : place_of compare k (pairs_of s) ≡ Ok place
+    pub here : IsItemAddress s place a
+    pub item : item_of s a ≡ found compare k (pairs_of s)
+    pub same : IfSome (item_of s a) (λ x. compare x.0 k ≡ Equal)
+    pub listed : slice_get (item_addresses_of s) place ≡ Some a
+
+  -- no key is equal: the back address in a leaf whose place is the number of smaller keys
+  pub record IsGapBy (a : Address) : Type 0 where
+    pub place : ℕ
+    pub is : place_of compare k (pairs_of s) ≡ Err place
+    pub absent : found compare k (pairs_of s) ≡ None
+    pub gap : IsLeafBackAt s place a
+
+  -- the address of the item whose key is equal, or of the gap where it would be
+  abbrev pub IsAddressBy : Result Address Address → Type 0
+  IsAddressBy (Ok a) = IsFoundBy a
+  IsAddressBy (Err a) = IsGapBy a
+
+  -- the key at this index among the pairs under a node is equal: the address of its item
+  pub record IsFoundUnder (id : ℕ) (a : Address) : Type 0 where
+    pub start : ℕ
+    pub begins : HasPlace s (address_before id) start
+    pub index : ℕ
+    pub is : place_of compare k (pairs_below s id) ≡ Ok index
+    pub pair : found compare k (pairs_below s id) ≡ item_of s a
+    pub item : IsItemAddress s (start + index) a
+    pub whole : IsFoundBy a
+
+  -- no key under a node is equal: the back address in a leaf that has as many smaller keys of the node before it
+  pub record IsGapUnder (id : ℕ) (a : Address) : Type 0 where
+    pub start : ℕ
+    pub begins : HasPlace s (address_before id) start
+    pub index : ℕ
+    pub is : place_of compare k (pairs_below s id) ≡ Err index
+    pub absent : found compare k (pairs_below s id) ≡ None
+    pub gap : IsLeafBackAt s (start + index) a
+
+  -- the address of the item under a node whose key is equal, or of the gap where it would be there
+  abbrev pub IsAddressUnder : (id : ℕ) → Result Address Address → Type 0
+  IsAddressUnder id (Ok a) = IsFoundUnder id a
+  IsAddressUnder id (Err a) = IsGapUnder id a
 
 module _ {K V : Type 0} (cmp : K → K → Ordering) (k : K) (s : TreeState K V) where
   -- the address of the item with the key, whose key is equal; the key may replace the stored one there

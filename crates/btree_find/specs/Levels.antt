@@ -25,7 +25,7 @@ abbrev pub comparisons_after : {A : Type 0} → (below : ℕ → ℕ) → Result
 comparisons_after below (Ok found) = 0
 comparisons_after below (Err child) = below child
 
-module _ {K V : Type 0} (cmp : K → K → Ordering) (k : K) where
+module _ {K Q V : Type 0} (cmp : K → Q → Ordering) (k : Q) where
   -- how many keys a search compares in a node, if there is one, and below it
   abbrev pub comparisons_at : (below : ℕ → ℕ) → Option (View (K × V)) → ℕ
   comparisons_at below None = 0

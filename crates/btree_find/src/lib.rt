@@ -13,5 +13,5 @@ pub use navigation::{
     first_item, first_item_beside, leaf_address, next_item_address, next_item_or_back_address,
     normalize, previous_item_address,
 };
-pub use search::{address_in, address_of, address_of_counted, get, get_in, height};
+pub use search::{address_by, address_in, address_of, address_of_counted, get, get_in, height};
 pub use visits::{next_back_address, previous_front_address};

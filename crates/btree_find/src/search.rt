@@ -1,14 +1,14 @@
-//! Look-up by key, and the number of levels.
+//! Look-up by a key or another query, and the number of levels.
 ghost use Rattle.std.specs.Prelude.{◌≡◌, ◌+◌, ◌*◌, ◌≤◌, option_copied};
 ghost use Rattle.btree_item.specs.Pairs.{found_value};
 ghost use Rattle.btree_node.specs.Node.{view_of};
 ghost use Rattle.btree_view.specs.View.{value_at_offset};
 ghost use Rattle.btree_shape.specs.TreeState.{HasLevels, IsBTree, IsUsed, pairs_of};
-ghost use Rattle.btree_find.specs.Answers.{IsAddressIn, IsAddressOf};
+ghost use Rattle.btree_find.specs.Answers.{IsAddressBy, IsAddressIn, IsAddressOf, IsAddressUnder};
 ghost use Rattle.btree_find.specs.Fits.{pairs_below};
 ghost use Rattle.btree_find.specs.Levels.{IsDense, TicksAtMost, TicksExactly, comparisons_from, levels_from};
 
-use btree_item::{Address, MAX_COMPARISONS, MAX_LEVELS, Offset};
+use btree_item::{Address, MAX_COMPARISONS, MAX_LEVELS, Offset, Query};
 use btree_node::{Node, NodesMut};
 use btree_raw::RawBTree;
 use btree_steps::Steps;
@@ -37,6 +37,34 @@ pub fn address_of_counted<K: Ord, V, C: NodesMut<K, V>>(
     ensures counted { TicksExactly K.cmp key.now tree.now steps.old.count steps.new.count }
     ensures ticks { TicksAtMost tree.now steps.old.count steps.new.count }
 {
+    search(tree, key, steps)
+}
+
+/// Returns `Ok` with the address of the item whose key a query is equal to, or `Err` with the address in a leaf of the gap where it is. So
+/// no key has to be made for a look-up. It makes at most six tests of the query at each level.
+pub fn address_by<K: Ord, Q: Query<K>, V, C: NodesMut<K, V>>(
+    tree: &RawBTree<K, V, C>,
+    query: &Q,
+) -> Result<Address, Address>
+    requires { IsBTree K.cmp tree.now }
+    ensures { IsAddressBy Q.compare query.now tree.now result }
+{
+    let mut steps = Steps::new();
+    search(tree, query, &mut steps)
+}
+
+// Searches in the whole tree.
+#[inline(always)]
+fn search<K: Ord, Q: Query<K>, V, C: NodesMut<K, V>>(
+    tree: &RawBTree<K, V, C>,
+    key: &Q,
+    steps: &mut Steps,
+) -> Result<Address, Address>
+    requires { IsBTree K.cmp tree.now }
+    ensures found { IsAddressBy Q.compare key.now tree.now result }
+    ensures counted { TicksExactly Q.compare key.now tree.now steps.old.count steps.new.count }
+    ensures ticks { TicksAtMost tree.now steps.old.count steps.new.count }
+{
     match tree.root_id() {
         Some(root) => search_from(tree, root, key, steps),
         None => Err(Address::nowhere()),
@@ -59,19 +87,19 @@ pub fn address_in<K: Ord, V, C: NodesMut<K, V>>(
     search_from(tree, top, key, &mut steps)
 }
 
-// Searches for a key from a node down.
+// Searches from a node down.
 #[inline(always)]
-fn search_from<K: Ord, V, C: NodesMut<K, V>>(
+fn search_from<K: Ord, Q: Query<K>, V, C: NodesMut<K, V>>(
     tree: &RawBTree<K, V, C>,
     top: usize,
-    key: &K,
+    key: &Q,
     steps: &mut Steps,
 ) -> Result<Address, Address>
     requires tree { IsBTree K.cmp tree.now }
     requires used { IsUsed tree.now top }
-    ensures found { IsAddressIn K.cmp key.now tree.now top result }
+    ensures found { IsAddressUnder Q.compare key.now tree.now top result }
     ensures counted { steps.new.count ≡
-        steps.old.count + comparisons_from K.cmp key.now tree.now top }
+        steps.old.count + comparisons_from Q.compare key.now tree.now top }
     ensures ticks { steps.new.count ≤ steps.old.count + MAX_COMPARISONS * levels_from tree.now top }
 {
     tree.tell_fits();
@@ -94,14 +122,14 @@ fn value_at<K, V>(node: &Node<K, V>, offset: Offset) -> Option<&V>
     }
 }
 
-/// Returns the value at a key, or `None` if the key is not there. It makes at most six comparisons at each level, copies nothing and
-/// allocates no memory.
-pub fn get<'a, K: Ord + 'a, V: 'a, C: NodesMut<K, V>>(
+/// Returns the value at the key that a key or another query is equal to, or `None` if it is not there. It makes at most six tests of the
+/// query at each level, copies nothing and allocates no memory.
+pub fn get<'a, K: Ord + 'a, Q: Query<K>, V: 'a, C: NodesMut<K, V>>(
     tree: &'a RawBTree<K, V, C>,
-    key: &K,
+    key: &Q,
 ) -> Option<&'a V>
     requires { IsBTree K.cmp tree.now }
-    ensures { option_copied result ≡ found_value K.cmp key.now (pairs_of tree.now) }
+    ensures { option_copied result ≡ found_value Q.compare key.now (pairs_of tree.now) }
 {
     match tree.root_id() {
         Some(root) => get_in(tree, key, root),
@@ -109,16 +137,15 @@ pub fn get<'a, K: Ord + 'a, V: 'a, C: NodesMut<K, V>>(
     }
 }
 
-/// Returns the value at a key under a node, which must be in use, or `None` if the key is not there. It makes at most six comparisons at
-/// each level from the node down, copies nothing and allocates no memory.
-pub fn get_in<'a, K: Ord + 'a, V: 'a, C: NodesMut<K, V>>(
+/// Does the same under a node, which must be in use. It makes at most six tests of the query at each level from the node down.
+pub fn get_in<'a, K: Ord + 'a, Q: Query<K>, V: 'a, C: NodesMut<K, V>>(
     tree: &'a RawBTree<K, V, C>,
-    key: &K,
+    key: &Q,
     top: usize,
 ) -> Option<&'a V>
     requires tree { IsBTree K.cmp tree.now }
     requires used { IsUsed tree.now top }
-    ensures { option_copied result ≡ found_value K.cmp key.now (pairs_below tree.now top) }
+    ensures { option_copied result ≡ found_value Q.compare key.now (pairs_below tree.now top) }
 {
     tree.tell_fits();
     let mut id = top;

@@ -5,6 +5,7 @@ use Rattle.std.specs.Prelude.{slice_get}
 use Rattle.std.specs.Cmp.{IsTotalOrder}
 use Rattle.std.specs.List.{insert, remove, zip}
 use Rattle.btree_item.specs.Pairs.{Ascends, place_of}
+use Rattle.btree_item.specs.KeyLaws.{cuts_of}
 use Rattle.btree_item.proofs.PairLemmas.{set-from_Ok}
 use Rattle.btree_internal.specs.InternalLends.{internal_with_item_at, internal_with_value, internal_with_value_at, with_value_read}
 use Rattle.std.specs.Map.{keys_of}
@@ -150,5 +151,5 @@ module _ {K V : Type 0} where
   unfolding internal_with_value_at internal_with_value
   with_value-from_at cmp o node k i x up place at w =
       let items = items_of (internal_view node) in
-      let written = ap (λ r. with_value_read r items i w) at ∙ set-from_Ok cmp o k w items i x up place at in
+      let written = ap (λ r. with_value_read r items i w) at ∙ set-from_Ok cmp (cuts_of o) k w items i x up place at in
       ap (λ l. record node { branches = zip l (map (λ c. c.1) node.branches) }) written

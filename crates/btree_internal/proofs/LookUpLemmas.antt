@@ -11,7 +11,7 @@ use Rattle.btree_item.specs.Pairs.{before, found}
 use Rattle.btree_view.specs.LookUp.{look_up}
 use Rattle.btree_view.specs.View.{View, items_of, children_of}
 
-module _ {K V : Type 0} (cmp : K → K → Ordering) (k : K) (node : View (K × V)) where
+module _ {K Q V : Type 0} (cmp : K → Q → Ordering) (k : Q) (node : View (K × V)) where
   -- a look-up in a node ends at an item with the key
   pub look_up-Ok : (item : K × V) → found cmp k (items_of node) ≡ Some item → look_up cmp k node ≡ Ok (Some item.1)
   look_up-Ok item finds = rw finds refl

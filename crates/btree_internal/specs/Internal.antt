@@ -36,5 +36,5 @@ abbrev pub branch_pair : {K V : Type 0} → Branch K V → Item K V × ℕ
 branch_pair b = (b.item, b.child)
 
 -- how many keys a search in branches compares
-abbrev pub comparisons_in_branches : {K V : Type 0} → (K → K → Ordering) → K → List (Branch K V) → ℕ
+abbrev pub comparisons_in_branches : {K Q V : Type 0} → (K → Q → Ordering) → Q → List (Branch K V) → ℕ
 comparisons_in_branches cmp k branches = comparisons (length branches) (before cmp k (map (λ b. b.item) branches))

@@ -16,7 +16,7 @@ ghost use Rattle.btree_view.specs.View.{items_of, children_of, internal, item_at
 
 use btree_item::{
     Fault, INTERNAL_MEDIAN, INTERNAL_SLOTS, Item, Keyed, MAX_COMPARISONS, MAX_INTERNAL_ITEMS,
-    MIN_ITEMS, Offset, Slots, search_counted,
+    MIN_ITEMS, Offset, Query, Slots, search_counted,
 };
 use btree_steps::Steps;
 use btree_view::{Balance, WouldUnderflow, check_node, offset_at};
@@ -365,18 +365,18 @@ fn child_id_among<K, V>(
 }
 
 // Returns the place of a key among the items, and ticks once for each comparison of keys.
-fn place<K: Ord, V>(
+fn place<K: Ord, Q: Query<K>, V>(
     branches: &Slots<Branch<K, V>, INTERNAL_SLOTS>,
-    key: &K,
+    key: &Q,
     steps: &mut Steps,
 ) -> Result<usize, usize>
     requires { Ascends K.cmp (map (λ b. b.item) branches.now) }
-    ensures place { result ≡ place_of K.cmp key.now (map (λ b. b.item) branches.now) }
+    ensures place { result ≡ place_of Q.compare key.now (map (λ b. b.item) branches.now) }
     ensures within { IsSearchInRange result (length branches.now) }
     ensures fits { length branches.now ≤ INTERNAL_SLOTS }
-    ensures here { IfOk result (IsIndexOfKey K.cmp key.now (map (λ b. b.item) branches.now)) }
-    ensures absent { OnErr result (found K.cmp key.now (map (λ b. b.item) branches.now) ≡ None) }
-    ensures counted { TicksBy steps.old steps.new (comparisons_in_branches K.cmp key.now branches.now) }
+    ensures here { IfOk result (IsIndexOfKey Q.compare key.now (map (λ b. b.item) branches.now)) }
+    ensures absent { OnErr result (found Q.compare key.now (map (λ b. b.item) branches.now) ≡ None) }
+    ensures counted { TicksBy steps.old steps.new (comparisons_in_branches Q.compare key.now branches.now) }
     ensures ticks { steps.new.count ≤ steps.old.count + MAX_COMPARISONS }
 {
     search_counted(branches, key, steps)
@@ -398,29 +398,29 @@ impl<K: Ord, V> InternalNode<K, V> {
     }
 
     // Returns the place of a key among the items, and ticks once for each comparison of keys.
-    fn find_counted(&self, key: &K, steps: &mut Steps) -> Result<usize, usize>
+    fn find_counted<Q: Query<K>>(&self, key: &Q, steps: &mut Steps) -> Result<usize, usize>
         requires { Ascends K.cmp (items_of (view_of self.now)) }
-        ensures place { result ≡ place_of K.cmp key.now (items_of (view_of self.now)) }
+        ensures place { result ≡ place_of Q.compare key.now (items_of (view_of self.now)) }
         ensures within { IsSearchInRange result (length self.now.branches) }
         ensures sized { size_of (view_of self.now) ≡ length self.now.branches }
-        ensures here { IfOk result (IsIndexOfKey K.cmp key.now (items_of (view_of self.now))) }
+        ensures here { IfOk result (IsIndexOfKey Q.compare key.now (items_of (view_of self.now))) }
         ensures fits { length self.now.branches ≤ INTERNAL_SLOTS }
-        ensures absent { OnErr result (found K.cmp key.now (items_of (view_of self.now)) ≡ None) }
-        ensures counted { TicksBy steps.old steps.new (comparisons_in K.cmp key.now (view_of self.now)) }
+        ensures absent { OnErr result (found Q.compare key.now (items_of (view_of self.now)) ≡ None) }
+        ensures counted { TicksBy steps.old steps.new (comparisons_in Q.compare key.now (view_of self.now)) }
         ensures ticks { steps.new.count ≤ steps.old.count + MAX_COMPARISONS }
     {
         place(&self.branches, key, steps)
     }
 
     // Does the same without a counter.
-    fn find(&self, key: &K) -> Result<usize, usize>
+    fn find<Q: Query<K>>(&self, key: &Q) -> Result<usize, usize>
         requires { Ascends K.cmp (items_of (view_of self.now)) }
-        ensures place { result ≡ place_of K.cmp key.now (items_of (view_of self.now)) }
+        ensures place { result ≡ place_of Q.compare key.now (items_of (view_of self.now)) }
         ensures within { IsSearchInRange result (length self.now.branches) }
         ensures sized { size_of (view_of self.now) ≡ length self.now.branches }
-        ensures here { IfOk result (IsIndexOfKey K.cmp key.now (items_of (view_of self.now))) }
+        ensures here { IfOk result (IsIndexOfKey Q.compare key.now (items_of (view_of self.now))) }
         ensures fits { length self.now.branches ≤ INTERNAL_SLOTS }
-        ensures absent { OnErr result (found K.cmp key.now (items_of (view_of self.now)) ≡ None) }
+        ensures absent { OnErr result (found Q.compare key.now (items_of (view_of self.now)) ≡ None) }
     {
         let mut steps = Steps::new();
         self.find_counted(key, &mut steps)
@@ -444,9 +444,9 @@ impl<K: Ord, V> InternalNode<K, V> {
 
     /// Returns `Ok` with the offset of a key that is there, or `Err` with the index and the number of the child that may hold it. It
     /// makes at most six comparisons.
-    pub fn offset_of(&self, key: &K) -> Result<Offset, (usize, usize)>
+    pub fn offset_of<Q: Query<K>>(&self, key: &Q) -> Result<Offset, (usize, usize)>
         requires { Ascends K.cmp (items_of (view_of self.now)) }
-        ensures value { result_map_err gap_with_child result ≡ offset_in K.cmp key.now (view_of self.now) }
+        ensures value { result_map_err gap_with_child result ≡ offset_in Q.compare key.now (view_of self.now) }
         ensures within { PointsInto (view_of self.now) result }
     {
         let mut steps = Steps::new();
@@ -454,11 +454,15 @@ impl<K: Ord, V> InternalNode<K, V> {
     }
 
     /// Does the same as `offset_of`, and ticks once for each comparison of keys, at most six times.
-    pub fn offset_of_counted(&self, key: &K, steps: &mut Steps) -> Result<Offset, (usize, usize)>
+    pub fn offset_of_counted<Q: Query<K>>(
+        &self,
+        key: &Q,
+        steps: &mut Steps,
+    ) -> Result<Offset, (usize, usize)>
         requires { Ascends K.cmp (items_of (view_of self.now)) }
-        ensures value { result_map_err gap_with_child result ≡ offset_in K.cmp key.now (view_of self.now) }
+        ensures value { result_map_err gap_with_child result ≡ offset_in Q.compare key.now (view_of self.now) }
         ensures within { PointsInto (view_of self.now) result }
-        ensures counted { TicksBy steps.old steps.new (comparisons_in K.cmp key.now (view_of self.now)) }
+        ensures counted { TicksBy steps.old steps.new (comparisons_in Q.compare key.now (view_of self.now)) }
         ensures ticks { steps.new.count ≤ steps.old.count + MAX_COMPARISONS }
     {
         match self.find_counted(key, steps) {

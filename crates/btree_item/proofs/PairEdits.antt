@@ -16,6 +16,7 @@ use Rattle.std.proofs.lemmas.Map.Keys.{sorted_head, sorted_tail}
 use Rattle.std.proofs.lemmas.Option.{slice_get-map}
 use Rattle.btree_item.specs.Keys.{count_below, has_key, AllBelow, IsFirstNotBelow}
 use Rattle.btree_item.specs.Pairs.{Ascends, KeyFits, before, found, with_value, inserted}
+use Rattle.btree_item.specs.KeyLaws.{cuts_of}
 use Rattle.btree_item.proofs.KeyLemmas.{AllBelow-none, AllBelow-from_key, IsFirstNotBelow-count, count_below-first, has_key-gap, has_key-here}
 use Rattle.btree_item.proofs.PairLemmas.{None-from_is_some, count_below-keys_of, has_key-keys_of}
 
@@ -141,7 +142,7 @@ module _ {K V : Type 0} (cmp : K → K → Ordering) where
         let within = fits.within in
         let last = pair_at xs p (omega arith) in
         let less = fits.above p last.0 refl last.1 in
-        let all = AllBelow-from_key o k last.0.0 p (keys_of xs) up (key_at xs p last.0 last.1) (ap is_lt less) in
+        let all = AllBelow-from_key (cuts_of o) k last.0.0 p (keys_of xs) up (key_at xs p last.0 last.1) (ap is_lt less) in
         record { below = λ i q lt at. all.below i q (omega arith) at }
 
     IsFirstNotBelow-from_KeyFits : (k : K) (p : ℕ) (xs : List (K × V)) → Ascends cmp xs → KeyFits cmp k p xs → IsFirstNotBelow cmp k p (keys_of xs)
@@ -158,12 +159,12 @@ module _ {K V : Type 0} (cmp : K → K → Ordering) where
     -- a key that fits at a place has as many smaller keys
     pub before-from_KeyFits : (k : K) (p : ℕ) (xs : List (K × V)) → Ascends cmp xs → KeyFits cmp k p xs → before cmp k xs ≡ p
     before-from_KeyFits k p xs up fits =
-        sym (count_below-keys_of cmp k xs) ∙ count_below-first o k p (keys_of xs) up (IsFirstNotBelow-from_KeyFits k p xs up fits)
+        sym (count_below-keys_of cmp k xs) ∙ count_below-first (cuts_of o) k p (keys_of xs) up (IsFirstNotBelow-from_KeyFits k p xs up fits)
 
     -- a key that fits at a place is absent
     pub found-from_KeyFits : (k : K) (p : ℕ) (xs : List (K × V)) → Ascends cmp xs → KeyFits cmp k p xs → found cmp k xs ≡ None
     found-from_KeyFits k p xs up fits =
-        let gap = has_key-gap o k p (keys_of xs) up (IsFirstNotBelow-from_KeyFits k p xs up fits) (λ q at. ap is_eq (Greater-from_Less cmp o k q (above_at xs p k q fits.below at))) in
+        let gap = has_key-gap (cuts_of o) k p (keys_of xs) up (IsFirstNotBelow-from_KeyFits k p xs up fits) (λ q at. ap is_eq (Greater-from_Less cmp o k q (above_at xs p k q fits.below at))) in
         None-from_is_some (found cmp k xs) (sym (has_key-keys_of cmp k xs) ∙ gap)
 
     -- a pair inserted where its key fits leaves the keys in order
@@ -179,7 +180,7 @@ module _ {K V : Type 0} (cmp : K → K → Ordering) where
     pub KeyFits-before : (k : K) (xs : List (K × V)) → Ascends cmp xs → found cmp k xs ≡ None → KeyFits cmp k (before cmp k xs) xs
     KeyFits-before k xs up absent =
         let count = count_below-keys_of cmp k xs in
-        let first = IsFirstNotBelow-count o k (keys_of xs) up in
+        let first = IsFirstNotBelow-count (cuts_of o) k (keys_of xs) up in
         let has_not : has_key cmp k (keys_of xs) ≡ false = has_key-keys_of cmp k xs ∙ ap is_some absent in
         record {
           within = before-le-length k xs;
@@ -187,7 +188,7 @@ module _ {K V : Type 0} (cmp : K → K → Ordering) where
           below = λ x at.
               let key : slice_get (keys_of xs) (count_below cmp k (keys_of xs)) ≡ Some x.0 = ap (slice_get (keys_of xs)) count ∙ key_at xs (before cmp k xs) x at in
               Less-from_apart cmp o (cmp x.0 k) k x.0 refl (first.here.stops x.0 key)
-              (is_apart (is_eq (cmp x.0 k)) (λ equal. has_key-here o k x.0 (count_below cmp k (keys_of xs)) (keys_of xs) key equal) has_not);
+              (is_apart (is_eq (cmp x.0 k)) (λ equal. has_key-here (cuts_of o) k x.0 (count_below cmp k (keys_of xs)) (keys_of xs) key equal) has_not);
         }
       where
         is_apart : (b : Bool) → (b ≡ true → has_key cmp k (keys_of xs) ≡ true) → has_key cmp k (keys_of xs) ≡ false → b ≡ false

@@ -15,7 +15,7 @@ abbrev pub comparisons : (len smaller : ℕ) → ℕ
 comparisons len smaller = comparisons_for_place len smaller + (if nat_lt smaller len then 1 else 0)
 
 -- A search for a key compares so many in slots of which each has the key that `key_of` says.
-abbrev pub comparisons_in_slots : {T K : Type 0} → (K → K → Ordering) → (key_of : T → K) → (key : K) → (slots : List T) → ℕ
+abbrev pub comparisons_in_slots : {T K Q : Type 0} → (K → Q → Ordering) → (key_of : T → K) → (key : Q) → (slots : List T) → ℕ
 comparisons_in_slots cmp key_of key slots = comparisons (length slots) (count_below cmp key (map key_of slots))
 
 -- The counter was raised by this number.

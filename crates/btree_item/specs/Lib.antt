@@ -6,4 +6,5 @@ pub mod Somes
 pub mod Slots
 pub mod Comparisons
 pub mod Keys
+pub mod KeyLaws
 pub mod Pairs

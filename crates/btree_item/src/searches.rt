@@ -4,7 +4,7 @@ ghost use Rattle.std.specs.List.Sorted.{IsSearchInRange, IsSorted, IsStrictlySor
 ghost use Rattle.btree_item.specs.Comparisons.{comparisons_for_place, comparisons_in_slots, TicksBy};
 ghost use Rattle.btree_item.specs.Keys.{key_place, AllAbove, AllBelow, IsFirstNotBelow, IsLastAtMost, IsNotBelowAt};
 
-use crate::{Keyed, LEAF_SLOTS, MAX_COMPARISONS, Slots};
+use crate::{Keyed, LEAF_SLOTS, MAX_COMPARISONS, Query, Slots};
 use btree_steps::Steps;
 
 // The index at which a search divides the slots: the middle of a full leaf with one item too many.
@@ -20,9 +20,9 @@ fn key_at<T: Keyed, const N: usize>(slots: &Slots<T, N>, index: usize) -> &T::Ke
 // Returns the first index from `start` to `end` whose key is not less than `key`. It always compares all of these, so that no branch
 // depends on the result, and ticks for each.
 #[tactic(auto, using(crate::proofs::KeyLemmas::search_steps))]
-fn first_not_below<T: Keyed, const N: usize>(
+fn first_not_below<T: Keyed, Q: Query<T::Key>, const N: usize>(
     slots: &Slots<T, N>,
-    key: &T::Key,
+    key: &Q,
     start: usize,
     end: usize,
     steps: &mut Steps,
@@ -32,9 +32,9 @@ where
     requires ordered { start ≤ end }
     requires within { end ≤ length slots.now }
     requires ascends { IsStrictlySortedBy T.Key.cmp (map T.key_of slots.now) }
-    requires before { AllBelow T.Key.cmp key.now start (map T.key_of slots.now) }
-    requires here { IsNotBelowAt T.Key.cmp key.now end (map T.key_of slots.now) }
-    ensures place { IsFirstNotBelow T.Key.cmp key.now result (map T.key_of slots.now) }
+    requires before { AllBelow Q.compare key.now start (map T.key_of slots.now) }
+    requires here { IsNotBelowAt Q.compare key.now end (map T.key_of slots.now) }
+    ensures place { IsFirstNotBelow Q.compare key.now result (map T.key_of slots.now) }
     ensures from { start ≤ result }
     ensures to { result ≤ end }
     ensures ticks { steps.new.count + start ≡ steps.old.count + end }
@@ -42,7 +42,7 @@ where
     let mut place = start;
     for i in start..end {
         steps.tick();
-        if key_at(slots, i) < key {
+        if key.is_after(key_at(slots, i)) {
             place = i + 1;
         }
     }
@@ -51,15 +51,15 @@ where
 
 // Does the same over all slots. The key in the middle decides which half to search. Of the comparisons that a node may take, one is left.
 #[tactic(auto, using(crate::proofs::KeyLemmas::search_halves))]
-fn lower_bound<T: Keyed, const N: usize>(
+fn lower_bound<T: Keyed, Q: Query<T::Key>, const N: usize>(
     slots: &Slots<T, N>,
-    key: &T::Key,
+    key: &Q,
     steps: &mut Steps,
 ) -> usize
 where
     T::Key: Ord,
     requires { IsStrictlySortedBy T.Key.cmp (map T.key_of slots.now) }
-    ensures place { IsFirstNotBelow T.Key.cmp key.now result (map T.key_of slots.now) }
+    ensures place { IsFirstNotBelow Q.compare key.now result (map T.key_of slots.now) }
     ensures counted { TicksBy steps.old steps.new (comparisons_for_place (length slots.now) result) }
     ensures ticks { length slots.now ≤ LEAF_SLOTS →
         steps.new.count < steps.old.count + MAX_COMPARISONS }
@@ -71,7 +71,7 @@ where
     // Reads a slot before the middle too, so that two cache lines of the node are loaded together.
     let _early = key_at(slots, MIDDLE / 2);
     steps.tick();
-    if key_at(slots, MIDDLE) < key {
+    if key.is_after(key_at(slots, MIDDLE)) {
         first_not_below(slots, key, MIDDLE + 1, len, steps)
     } else {
         first_not_below(slots, key, 0, MIDDLE, steps)
@@ -80,19 +80,19 @@ where
 
 /// Returns the place of a key in slots whose keys ascend strictly: `Ok` if it is there, or `Err` with the number of smaller keys. It
 /// ticks once for each comparison of keys. In up to nine slots these are at most six: five by `<`, and then one by `==`.
-pub fn search_counted<T: Keyed, const N: usize>(
+pub fn search_counted<T: Keyed, Q: Query<T::Key>, const N: usize>(
     slots: &Slots<T, N>,
-    key: &T::Key,
+    key: &Q,
     steps: &mut Steps,
 ) -> Result<usize, usize>
 where
     T::Key: Ord,
     requires { IsStrictlySortedBy T.Key.cmp (map T.key_of slots.now) }
-    ensures place { result ≡ key_place T.Key.cmp key.now (map T.key_of slots.now) }
+    ensures place { result ≡ key_place Q.compare key.now (map T.key_of slots.now) }
     ensures within { IsSearchInRange result (length slots.now) }
     ensures fits { length slots.now ≤ N }
     ensures counted { TicksBy steps.old steps.new
-        (comparisons_in_slots T.Key.cmp T.key_of key.now slots.now) }
+        (comparisons_in_slots Q.compare T.key_of key.now slots.now) }
     ensures ticks { length slots.now ≤ LEAF_SLOTS →
         steps.new.count ≤ steps.old.count + MAX_COMPARISONS }
 {
@@ -101,7 +101,7 @@ where
         return Err(place);
     }
     steps.tick();
-    if key_at(slots, place) == key {
+    if key.is_at(key_at(slots, place)) {
         Ok(place)
     } else {
         Err(place)
@@ -109,11 +109,14 @@ where
 }
 
 /// Does the same without a counter.
-pub fn search<T: Keyed, const N: usize>(slots: &Slots<T, N>, key: &T::Key) -> Result<usize, usize>
+pub fn search<T: Keyed, Q: Query<T::Key>, const N: usize>(
+    slots: &Slots<T, N>,
+    key: &Q,
+) -> Result<usize, usize>
 where
     T::Key: Ord,
     requires { IsStrictlySortedBy T.Key.cmp (map T.key_of slots.now) }
-    ensures place { result ≡ key_place T.Key.cmp key.now (map T.key_of slots.now) }
+    ensures place { result ≡ key_place Q.compare key.now (map T.key_of slots.now) }
     ensures within { IsSearchInRange result (length slots.now) }
     ensures fits { length slots.now ≤ N }
 {

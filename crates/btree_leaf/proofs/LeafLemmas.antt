@@ -4,6 +4,7 @@ use Rattle.std.specs.Prelude.{slice_get}
 use Rattle.std.specs.List.{insert}
 use Rattle.std.specs.Cmp.{IsTotalOrder}
 use Rattle.btree_item.specs.Pairs.{Ascends, found, found_value, place_of, with_value, inserted}
+use Rattle.btree_item.specs.KeyLaws.{cuts_of}
 use Rattle.btree_item.proofs.PairLemmas.{set-from_Ok, inserted-from_Ok, inserted-from_Err}
 use Rattle.btree_item.proofs.PairEdits.{Ascends-inserted}
 use Rattle.btree_leaf.specs.Leaf.{Leaf}
@@ -30,7 +31,7 @@ module _ {K V : Type 0} (cmp : K → K → Ordering) (leaf : Leaf K V) (parent :
 
     pub with_value-at : record { parent = parent; items = set items i (item.0, w) } ≡ record leaf { items = with_value cmp k w leaf.items }
     with_value-at =
-        let written = ap (λ l. set l i (item.0, w)) items_are ∙ set-from_Ok cmp o k w leaf.items i item up (place_in_leaf (Ok i) place) there in
+        let written = ap (λ l. set l i (item.0, w)) items_are ∙ set-from_Ok cmp (cuts_of o) k w leaf.items i item up (place_in_leaf (Ok i) place) there in
         λ j. record { parent = parent_is j; items = written j }
 
     pub inserted-at : record { parent = parent; items = set items i (item.0, w) } ≡ record leaf { items = inserted cmp k w leaf.items }

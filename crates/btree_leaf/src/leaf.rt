@@ -11,7 +11,7 @@ ghost use Rattle.btree_view.specs.LookUp.{comparisons_among, comparisons_in, IsI
 
 use btree_item::{
     Fault, Item, LEAF_MEDIAN, LEAF_SLOTS, MAX_COMPARISONS, MAX_LEAF_ITEMS, MIN_ITEMS, Offset,
-    Slots, SlotsIter, search_counted,
+    Query, Slots, SlotsIter, search_counted,
 };
 use btree_steps::Steps;
 use btree_view::{Balance, WouldUnderflow, check_node, offset_at};
@@ -153,31 +153,34 @@ impl<K, V> LeafNode<K, V> {
 }
 
 // Returns the place of a key among items, and ticks once for each comparison of keys.
-fn place_counted<K: Ord, V>(
+fn place_counted<K: Ord, Q: Query<K>, V>(
     items: &Slots<Item<K, V>, LEAF_SLOTS>,
-    key: &K,
+    key: &Q,
     steps: &mut Steps,
 ) -> Result<usize, usize>
     requires { Ascends K.cmp items.now }
-    ensures place { result ≡ place_of K.cmp key.now items.now }
+    ensures place { result ≡ place_of Q.compare key.now items.now }
     ensures within { IsSearchInRange result (length items.now) }
     ensures fits { length items.now ≤ LEAF_SLOTS }
-    ensures here { IfOk result (IsIndexOfKey K.cmp key.now items.now) }
-    ensures absent { OnErr result (found K.cmp key.now items.now ≡ None) }
-    ensures counted { TicksBy steps.old steps.new (comparisons_among K.cmp key.now items.now) }
+    ensures here { IfOk result (IsIndexOfKey Q.compare key.now items.now) }
+    ensures absent { OnErr result (found Q.compare key.now items.now ≡ None) }
+    ensures counted { TicksBy steps.old steps.new (comparisons_among Q.compare key.now items.now) }
     ensures ticks { steps.new.count ≤ steps.old.count + MAX_COMPARISONS }
 {
     search_counted(items, key, steps)
 }
 
 // Does the same without a counter.
-fn place<K: Ord, V>(items: &Slots<Item<K, V>, LEAF_SLOTS>, key: &K) -> Result<usize, usize>
+fn place<K: Ord, Q: Query<K>, V>(
+    items: &Slots<Item<K, V>, LEAF_SLOTS>,
+    key: &Q,
+) -> Result<usize, usize>
     requires { Ascends K.cmp items.now }
-    ensures place { result ≡ place_of K.cmp key.now items.now }
+    ensures place { result ≡ place_of Q.compare key.now items.now }
     ensures within { IsSearchInRange result (length items.now) }
     ensures fits { length items.now ≤ LEAF_SLOTS }
-    ensures here { IfOk result (IsIndexOfKey K.cmp key.now items.now) }
-    ensures absent { OnErr result (found K.cmp key.now items.now ≡ None) }
+    ensures here { IfOk result (IsIndexOfKey Q.compare key.now items.now) }
+    ensures absent { OnErr result (found Q.compare key.now items.now ≡ None) }
 {
     let mut steps = Steps::new();
     place_counted(items, key, &mut steps)
@@ -216,9 +219,9 @@ impl<K: Ord, V> LeafNode<K, V> {
     }
 
     /// Returns `Ok` with the offset of a key that is there, or `Err` with the number of smaller keys. It makes at most six comparisons.
-    pub fn offset_of(&self, key: &K) -> Result<Offset, Offset>
+    pub fn offset_of<Q: Query<K>>(&self, key: &Q) -> Result<Offset, Offset>
         requires { Ascends K.cmp self.now.items }
-        ensures { result ≡ as_offset (place_of K.cmp key.now self.now.items) }
+        ensures { result ≡ as_offset (place_of Q.compare key.now self.now.items) }
     {
         match self.find(key) {
             Ok(index) => Ok(offset_at(index)),
@@ -227,9 +230,9 @@ impl<K: Ord, V> LeafNode<K, V> {
     }
 
     /// Does the same with indices.
-    pub fn find(&self, key: &K) -> Result<usize, usize>
+    pub fn find<Q: Query<K>>(&self, key: &Q) -> Result<usize, usize>
         requires { Ascends K.cmp self.now.items }
-        ensures place { result ≡ place_of K.cmp key.now self.now.items }
+        ensures place { result ≡ place_of Q.compare key.now self.now.items }
         ensures within { IsSearchInRange result (length self.now.items) }
         ensures fits { length self.now.items ≤ LEAF_SLOTS }
     {
@@ -237,12 +240,12 @@ impl<K: Ord, V> LeafNode<K, V> {
     }
 
     /// Does the same as `find`, and ticks once for each comparison of keys, at most six times.
-    pub fn find_counted(&self, key: &K, steps: &mut Steps) -> Result<usize, usize>
+    pub fn find_counted<Q: Query<K>>(&self, key: &Q, steps: &mut Steps) -> Result<usize, usize>
         requires { Ascends K.cmp self.now.items }
-        ensures place { result ≡ place_of K.cmp key.now self.now.items }
+        ensures place { result ≡ place_of Q.compare key.now self.now.items }
         ensures within { IsSearchInRange result (length self.now.items) }
         ensures fits { length self.now.items ≤ LEAF_SLOTS }
-        ensures counted { TicksBy steps.old steps.new (comparisons_in K.cmp key.now (view_of self.now)) }
+        ensures counted { TicksBy steps.old steps.new (comparisons_in Q.compare key.now (view_of self.now)) }
         ensures ticks { steps.new.count ≤ steps.old.count + MAX_COMPARISONS }
     {
         place_counted(self.items(), key, steps)

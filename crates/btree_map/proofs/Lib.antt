@@ -11,6 +11,7 @@ pub mod SpanLemmas
 pub mod CursorSteps
 pub mod IndexLemmas
 pub mod PlaceLemmas
+pub mod QueryLemmas
 pub mod RangeStarts
 pub mod RangeSteps
 pub mod EditingLists

@@ -2,6 +2,7 @@
 use mir.Syntax.{named}
 use Rattle.std.specs.Prelude.{◌≡◌, [], IfErr, Option, Result}
 use Rattle.std.specs.BTreeMap.Lent.{OrdMembers}
+use Rattle.std.specs.declared.cmp.Ordering.{Ordering}
 use Rattle.std.specs.Borrow.{Fml, Lends, LendsIf, LendsSoOk, MutBor, RattleType, RestsIfNone}
 use Rattle.std.specs.declared.cmp.Ord as ord
 use Rattle.std.specs.declared.cmp.PartialEq as eq
@@ -36,6 +37,11 @@ map_row K V C O g s =
 abbrev pub lends_at_key : (K V C O : RattleType) → OrdMembers K.Denot → StoreMembers C.Denot K.Denot V.Denot
     → MutBor (TreeState K.Denot V.Denot) → K.Denot → Option (MutBor V.Denot) → Fml
 lends_at_key K V C O g s map k value = LendsIf (map_row K V C O g s) V map value (key_written g.cmp k map.now) map.now
+
+-- so it is at the key that a query is equal to
+abbrev pub lends_by : (K V C O : RattleType) → {Q : Type 0} → OrdMembers K.Denot → StoreMembers C.Denot K.Denot V.Denot
+    → MutBor (TreeState K.Denot V.Denot) → (K.Denot → Q → Ordering) → Q → Option (MutBor V.Denot) → Fml
+lends_by K V C O g s map compare query value = LendsIf (map_row K V C O g s) V map value (key_written compare query map.now) map.now
 
 module _ (K V C O : RattleType) {g : ord.Ghosts K.Denot} {g' : eq.Ghosts K.Denot} {g'' : partial.Ghosts K.Denot}
     {s : nodes_mut.Ghosts C.Denot K.Denot V.Denot O.Denot} {s' : nodes.Ghosts C.Denot K.Denot V.Denot} where

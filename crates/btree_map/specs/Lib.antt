@@ -3,6 +3,7 @@ pub mod Comparison
 pub mod Entry
 pub mod Lent
 pub mod Removal
+pub mod Queries
 pub mod Ascending
 pub mod CallerLaws
 pub mod Extension

@@ -5,7 +5,7 @@ use Rattle.std.specs.declared.cmp.Ordering.{Ordering}
 use Rattle.btree_item.specs.declared.address.Address.{Address}
 use Rattle.btree_shape.specs.TreeState.{TreeState, pairs_of}
 use Rattle.btree_find.specs.Navigation.{IsItemAddress}
-use Rattle.btree_edit.specs.Remove.{IsRemoved, RemovesByKey}
+use Rattle.btree_edit.specs.Remove.{IsRemoved, RemovesBy, RemovesByKey}
 
 -- the pair x at a place of the list was removed, at its address
 pub record RemovesPlace {K V : Type 0} (old new : TreeState K V) (cmp : K → K → Ordering) (place : ℕ) (x : K × V) : Type 0 where
@@ -14,6 +14,10 @@ pub record RemovesPlace {K V : Type 0} (old new : TreeState K V) (cmp : K → K 
   pub after : Address
   pub removed : IsRemoved old new cmp at x after
   pub pairs : pairs_of new ≡ remove (pairs_of old) place
+
+-- the pair of the stored key that a query is equal to, and this value, was removed
+abbrev pub RemovesValueBy : {K Q V : Type 0} → (K → K → Ordering) → (K → Q → Ordering) → (query : Q) → (old new : TreeState K V) → (value : V) → Type 0
+RemovesValueBy {K} cmp compare query old new value = (stored : K) × RemovesBy old new cmp compare query (stored, value)
 
 -- the pair of a stored key equal to k, and this value, was removed
 abbrev pub RemovesValueOf : {K V : Type 0} → (K → K → Ordering) → (k : K) → (old new : TreeState K V) → (value : V) → Type 0

@@ -11,7 +11,7 @@ use std::iter::IntoIterator;
 use std::ops::Bound;
 
 impl<K: Ord, V, C: NodesMut<K, V>> BTreeMap<K, V, C> {
-    /// Returns an iterator over the pairs in the order of the keys, from both ends. A whole walk from one end fetches each node once. It
+    /// Returns an iterator over the pairs in the order of the keys, from both ends. A whole walk from the front fetches each node once. It
     /// allocates no memory.
     pub fn iter(&self) -> Iter<'_, K, V, C>
         ensures { result ≡ pairs_of self.now }

@@ -1,4 +1,4 @@
-//! Look-up by key and at both ends.
+//! Look-up by key, by another query and at both ends.
 ghost use Rattle.std.specs.Prelude.{◌≡◌, ◌↔◌, IsSome, IsTrue, Some, option_map, slice_get};
 ghost use Rattle.btree_item.specs.Pairs.{found, found_value};
 ghost use Rattle.btree_shape.specs.TreeState.{item_of, pairs_of};
@@ -6,12 +6,15 @@ ghost use Rattle.btree_map.specs.Lists.{last_of};
 
 use crate::BTreeMap;
 use btree_ext::{BTreeExt, Tree};
-use btree_item::Address;
+use btree_item::{Address, Query};
 use btree_node::NodesMut;
 use std::ops::Index;
 
 // Returns the pair at an address, or `None` if no item is there.
-fn pair_at<K: Ord, V, C: NodesMut<K, V>>(tree: &Tree<K, V, C>, addr: Address) -> Option<(&K, &V)>
+pub(crate) fn pair_at<K: Ord, V, C: NodesMut<K, V>>(
+    tree: &Tree<K, V, C>,
+    addr: Address,
+) -> Option<(&K, &V)>
     ensures { option_map (λ p. (p.0.now, p.1.now)) result ≡ item_of tree.now addr }
 {
     match tree.item(addr) {
@@ -31,11 +34,28 @@ impl<K: Ord, V, C: NodesMut<K, V>> BTreeMap<K, V, C> {
         }
     }
 
+    /// Returns the stored key that a query is equal to, and its value, or `None`, as `get_key_value` does.
+    pub fn get_key_value_by<Q: Query<K>>(&self, query: &Q) -> Option<(&K, &V)>
+        ensures { option_map (λ p. (p.0.now, p.1.now)) result ≡ found Q.compare query.now (pairs_of self.now) }
+    {
+        match self.tree.address_by(query) {
+            Ok(addr) => pair_at(&self.tree, addr),
+            Err(_) => None,
+        }
+    }
+
     /// Returns whether a key is equal to the given one. It makes at most six comparisons at each level.
     pub fn contains_key(&self, key: &K) -> bool
         ensures { IsTrue result ↔ IsSome (found K.cmp key.now (pairs_of self.now)) }
     {
         self.tree.get(key).is_some()
+    }
+
+    /// Returns whether a query is equal to a key. It makes at most six tests of the query at each level.
+    pub fn contains_key_by<Q: Query<K>>(&self, query: &Q) -> bool
+        ensures { IsTrue result ↔ IsSome (found Q.compare query.now (pairs_of self.now)) }
+    {
+        self.tree.get_by(query).is_some()
     }
 
     /// Returns the first pair, or `None` if there are no pairs. It reads one node of each level, and compares no keys.

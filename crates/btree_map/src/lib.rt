@@ -14,6 +14,7 @@ mod keys;
 mod map;
 mod owned;
 mod pair_test;
+mod queries;
 mod removal;
 mod shown;
 mod traits;

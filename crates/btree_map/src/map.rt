@@ -5,7 +5,7 @@ ghost use Rattle.btree_valid.specs.Faults.{IsRawVerdict};
 ghost use Rattle.btree_raw.specs.Limit.{IsBTreeWithinLimit, IsWithinLimit};
 
 use btree_ext::{BTreeExt, BTreeExtMut, Tree};
-use btree_item::{Address, Fault, Item, Refused, UpdateRefused};
+use btree_item::{Address, Fault, Item, Query, Refused, UpdateRefused};
 use btree_node::{ClearNodes, NodesMut};
 use btree_raw::RawBTree;
 use std::marker::Model;
@@ -34,8 +34,8 @@ impl<K: Ord, V, C: NodesMut<K, V>> BTreeMap<K, V, C> {
     ghost use Rattle.btree_node.specs.contracts.node.Node.{the_row as node_row};
     ghost use Rattle.btree_item.specs.Pairs.{found_value};
     ghost use Rattle.btree_shape.specs.TreeState.{IsBTree, limited_to, pairs_of, rootless, unlimited};
-    ghost use Rattle.btree_edit.specs.Outcomes.{ExchangesLent};
-    ghost use Rattle.btree_map.specs.Lent.{lends_at_key};
+    ghost use Rattle.btree_edit.specs.Outcomes.{ExchangesLent, ExchangesLentBy};
+    ghost use Rattle.btree_map.specs.Lent.{lends_at_key, lends_by};
 
     /// Returns a map without pairs, over an empty store made from `origin`. It allocates no memory.
     ///
@@ -108,6 +108,14 @@ impl<K: Ord, V, C: NodesMut<K, V>> BTreeMap<K, V, C> {
         self.tree.get(key)
     }
 
+    /// Returns the value at the key that a query is equal to, or `None`, as `get` does: no key has to be made for it. A text is a query for
+    /// keys that are a `String`, and a slice for keys that are a `Vec`.
+    pub fn get_by<Q: Query<K>>(&self, query: &Q) -> Option<&V>
+        ensures { option_copied result ≡ found_value Q.compare query.now (pairs_of self.now) }
+    {
+        self.tree.get_by(query)
+    }
+
     /// Returns the value at a key equal to the given one for writing, or `None`. What is written replaces the value, and nothing else
     /// changes: the stored key stays, and so does every address. It makes at most six comparisons at each level.
     pub fn get_mut(&mut self, key: &K) -> Option<&mut V>
@@ -117,6 +125,16 @@ impl<K: Ord, V, C: NodesMut<K, V>> BTreeMap<K, V, C> {
         ensures exchanged { IfSome result (ExchangesLent K.cmp key.now self.old) }
     {
         self.tree.get_mut(key)
+    }
+
+    /// Returns the value at the key that a query is equal to for writing, or `None`, as `get_mut` does.
+    pub fn get_mut_by<Q: Query<K>>(&mut self, query: &Q) -> Option<&mut V>
+        ensures* writes_back { sem 𝓛 (lends_by
+            K.row V.row C.row C.Origin.row K.Ord C.NodesMut self.entry Q.compare query.now result) }
+        ensures value { option_copied_mut result ≡ found_value Q.compare query.now (pairs_of self.old) }
+        ensures exchanged { IfSome result (ExchangesLentBy K.cmp Q.compare query.now self.old) }
+    {
+        self.tree.get_mut_by(query)
     }
 
     /// Returns the nodes in their store, the number of the root and the length, as a tree of any content.
@@ -149,10 +167,10 @@ impl<K: Ord + Drop, V: Drop, C: NodesMut<K, V>> BTreeMap<K, V, C> {
     ghost use Rattle.btree_shape.specs.TreeState.{pairs_of};
     ghost use Rattle.btree_edit.specs.Insert.{InsertsByKey, IsGrantedIfAbsent, IsRefusedAtGap};
     ghost use Rattle.btree_edit.specs.InsertAbsent.{InsertsAbsent, IsGapOf};
-    ghost use Rattle.btree_edit.specs.Remove.{RemovesByKey, removed};
+    ghost use Rattle.btree_edit.specs.Remove.{RemovesBy, RemovesByKey, removed};
     ghost use Rattle.btree_edit.specs.Replace.{ReplacesByKey, replaced};
     ghost use Rattle.btree_edit.specs.Update.{RunsByKey};
-    ghost use Rattle.btree_map.specs.Removal.{RemovesValueOf};
+    ghost use Rattle.btree_map.specs.Removal.{RemovesValueBy, RemovesValueOf};
 
     /// Inserts a pair, or replaces the value if the key is there: the stored key stays, and the given one is dropped.
     ///
@@ -241,6 +259,30 @@ impl<K: Ord + Drop, V: Drop, C: NodesMut<K, V>> BTreeMap<K, V, C> {
         ensures unchanged { IfNone result (self.new ≡ self.old) }
     {
         self.tree.remove_entry(key)
+    }
+
+    /// Removes the key that a query is equal to, and returns its value. Otherwise it does the same as `remove`.
+    pub fn remove_by<Q: Query<K>>(&mut self, query: &Q) -> Option<V>
+        ensures value { result ≡ found_value Q.compare query.now (pairs_of self.old) }
+        ensures removed { pairs_of self.new ≡ removed Q.compare query.now (pairs_of self.old) }
+        ensures removed_by { IfSome result
+            (RemovesValueBy K.cmp Q.compare query.now self.old self.new) }
+        ensures unchanged { IfNone result (self.new ≡ self.old) }
+    {
+        match self.tree.remove_entry_by(query) {
+            Some((_stored, value)) => Some(value),
+            None => None,
+        }
+    }
+
+    /// Removes the key that a query is equal to, and returns it with its value. Otherwise it does the same as `remove`.
+    pub fn remove_entry_by<Q: Query<K>>(&mut self, query: &Q) -> Option<(K, V)>
+        ensures entry { result ≡ found Q.compare query.now (pairs_of self.old) }
+        ensures removed { pairs_of self.new ≡ removed Q.compare query.now (pairs_of self.old) }
+        ensures removed_by { IfSome result (λ x. RemovesBy self.old self.new K.cmp Q.compare query.now x) }
+        ensures unchanged { IfNone result (self.new ≡ self.old) }
+    {
+        self.tree.remove_entry_by(query)
     }
 
     /// Calls `action` with the value at a key, or with `None` if the key is not there. The value that it gives is stored at the key: an

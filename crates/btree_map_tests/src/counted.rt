@@ -41,6 +41,31 @@ fn ask<'a, C: NodesMut<Counted<'a>, u32>>(
     );
 }
 
+// Finds the address of a key, and removes the key if it is there, each with no more comparisons than a look-up makes. Puts the key back.
+fn remove_once<'a, C: NodesMut<Counted<'a>, u32>>(
+    rt: &impl Abort,
+    map: &mut BTreeMap<Counted<'a>, u32, C>,
+    key: Counted<'a>,
+) {
+    let (number, compared) = (key.number, key.compared);
+    compared.set(0);
+    let is_there = map.contains_key(&key);
+    let most = compared.get();
+    compared.set(0);
+    let is_found = map.address_by(&key).is_ok();
+    assert_true_in(rt, number, is_found == is_there && compared.get() <= most);
+    compared.set(0);
+    let removed = map.remove(&key);
+    assert_true_in(
+        rt,
+        number,
+        removed.is_some() == is_there && compared.get() <= most,
+    );
+    if let Some(value) = removed {
+        assert_same_in(rt, number, map.insert(key, value).ok(), Some(None));
+    }
+}
+
 // The same over any store: the odd keys up to 87, on three levels.
 fn asks_in<'a, C: NodesMut<Counted<'a>, u32> + Drop>(
     rt: &impl Abort,
@@ -60,6 +85,7 @@ fn asks_in<'a, C: NodesMut<Counted<'a>, u32> + Drop>(
     assert_same_in(rt, 0u32, map.height(), 3);
     for number in 0..89u32 {
         ask(rt, &mut map, Counted { number, compared }, 18);
+        remove_once(rt, &mut map, Counted { number, compared });
     }
 }
 

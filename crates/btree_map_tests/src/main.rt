@@ -17,6 +17,8 @@ mod entries;
 #[cfg(test)]
 mod equal;
 #[cfg(test)]
+mod fetched;
+#[cfg(test)]
 mod fixed;
 #[cfg(test)]
 mod gates;
@@ -32,6 +34,8 @@ mod once;
 mod own;
 #[cfg(test)]
 mod owner;
+#[cfg(test)]
+mod queries;
 #[cfg(test)]
 mod released;
 #[cfg(test)]

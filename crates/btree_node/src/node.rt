@@ -13,7 +13,8 @@ ghost use Rattle.btree_view.specs.View.{BeginsAt, parent_of, items_of, children_
 
 use btree_internal::{Children, ChildrenWithSeparators, InsertionError, InternalNode};
 use btree_item::{
-    Fault, Item, LEAF_SLOTS, MAX_COMPARISONS, MAX_INTERNAL_ITEMS, MAX_LEAF_ITEMS, MIN_ITEMS, Offset,
+    Fault, Item, LEAF_SLOTS, MAX_COMPARISONS, MAX_INTERNAL_ITEMS, MAX_LEAF_ITEMS, MIN_ITEMS,
+    Offset, Query,
 };
 use btree_leaf::LeafNode;
 use btree_steps::Steps;
@@ -601,9 +602,9 @@ impl<K: Ord, V> Node<K, V> {
     /// Returns `Ok` with the offset of a key that is there, or `Err` with the number of smaller keys, which is the index of the child
     /// that may hold it, and the child's number. It makes at most six comparisons.
     #[inline(always)]
-    pub fn offset_of(&self, key: &K) -> Result<Offset, (usize, Option<usize>)>
+    pub fn offset_of<Q: Query<K>>(&self, key: &Q) -> Result<Offset, (usize, Option<usize>)>
         requires { Ascends K.cmp (items_of (view_of self.now)) }
-        ensures value { result ≡ offset_in K.cmp key.now (view_of self.now) }
+        ensures value { result ≡ offset_in Q.compare key.now (view_of self.now) }
         ensures within { PointsInto (view_of self.now) result }
     {
         let mut steps = Steps::new();
@@ -612,15 +613,15 @@ impl<K: Ord, V> Node<K, V> {
 
     /// Does the same as `offset_of`, and ticks once for each comparison of keys, at most six times.
     #[inline(always)]
-    pub fn offset_of_counted(
+    pub fn offset_of_counted<Q: Query<K>>(
         &self,
-        key: &K,
+        key: &Q,
         steps: &mut Steps,
     ) -> Result<Offset, (usize, Option<usize>)>
         requires { Ascends K.cmp (items_of (view_of self.now)) }
-        ensures value { result ≡ offset_in K.cmp key.now (view_of self.now) }
+        ensures value { result ≡ offset_in Q.compare key.now (view_of self.now) }
         ensures within { PointsInto (view_of self.now) result }
-        ensures counted { TicksBy steps.old steps.new (comparisons_in K.cmp key.now (view_of self.now)) }
+        ensures counted { TicksBy steps.old steps.new (comparisons_in Q.compare key.now (view_of self.now)) }
         ensures ticks { steps.new.count ≤ steps.old.count + MAX_COMPARISONS }
     {
         match self {

@@ -21,7 +21,8 @@ use Rattle.btree_shape.specs.TreeState.{Kept, TreeState, pairs_of}
 use Rattle.btree_raw.specs.Insertion as raw
 use Rattle.btree_edit.specs.Insert.{IsRefusedAtGap, LeavesPairs}
 use Rattle.btree_edit.specs.Replace as replace
-use Rattle.btree_edit.specs.Remove.{RemovesByKey}
+use Rattle.btree_edit.specs.Remove as lists
+use Rattle.btree_edit.specs.Remove.{RemovesBy, RemovesByKey, RemovesIfThereBy}
 use Rattle.btree_edit.specs.Update.{RemovesIfThere}
 use Rattle.btree_map.specs.Comparison.{pair_cmp, pair_eq, pair_partial_cmp}
 use Rattle.btree_map.specs.Extension as many
@@ -48,7 +49,7 @@ module _ {T V : Type 0} where
   some-map None = refl
   some-map (Some x) = refl
 
-  module _ (cmp : T → T → Ordering) (k : T) (xs : List (T × V)) where
+  module _ {Q : Type 0} (cmp : T → Q → Ordering) (k : Q) (xs : List (T × V)) where
     -- the stored element equal to a key is the key of the pair found by it
     pub stored-keys : stored cmp k (keys_of xs) ≡ option_map (λ p. p.0) (pairs.found cmp k xs)
     stored-keys = find-keys (λ q. is_eq (cmp q k)) xs
@@ -59,24 +60,31 @@ module _ {T V : Type 0} where
     pub there-keys : is_some (stored cmp k (keys_of xs)) ≡ is_some (pairs.found cmp k xs)
     there-keys = ap is_some stored-keys ∙ some-map (pairs.found cmp k xs)
 
+    -- the pair at a key was removed, if there was one
+    pub removed-keys : keys_of (lists.removed cmp k xs) ≡ removed cmp k (keys_of xs)
+    removed-keys = rw there-keys (by (is_some (pairs.found cmp k xs)))
+      where
+        by : (b : Bool) → keys_of (if b then remove xs (pairs.before cmp k xs) else xs)
+            ≡ (if b then remove (keys_of xs) (before cmp k (keys_of xs)) else keys_of xs)
+        by true = map_remove (λ x. x.0) xs (pairs.before cmp k xs) ∙ ap (λ n. remove (keys_of xs) n) (sym before-keys)
+        by false = refl
+
+  module _ (cmp : T → T → Ordering) (k : T) (xs : List (T × V)) where
     pub inserted-keys : (w : V) → keys_of (pairs.inserted cmp k w xs) ≡ inserted cmp k (keys_of xs)
-    inserted-keys w = rw there-keys (by (is_some (pairs.found cmp k xs)))
+    inserted-keys w = rw (there-keys cmp k xs) (by (is_some (pairs.found cmp k xs)))
       where
         by : (b : Bool) → keys_of (if b then pairs.with_value cmp k w xs else insert xs (pairs.before cmp k xs) (k, w))
             ≡ (if b then keys_of xs else insert (keys_of xs) (before cmp k (keys_of xs)) k)
         by true = keys-set_value (λ q. is_eq (cmp q k)) xs w
-        by false = keys_of-insert xs (pairs.before cmp k xs) (k, w) ∙ ap (λ n. insert (keys_of xs) n k) (sym before-keys)
+        by false = keys_of-insert xs (pairs.before cmp k xs) (k, w) ∙ ap (λ n. insert (keys_of xs) n k) (sym (before-keys cmp k xs))
 
     pub replaced-keys : (w : V) → keys_of (replace.replaced cmp k w xs) ≡ replaced cmp k (keys_of xs)
-    replaced-keys w = rw there-keys (by (is_some (pairs.found cmp k xs)))
+    replaced-keys w = rw (there-keys cmp k xs) (by (is_some (pairs.found cmp k xs)))
       where
         by : (b : Bool) → keys_of (if b then set xs (pairs.before cmp k xs) (k, w) else insert xs (pairs.before cmp k xs) (k, w))
             ≡ (if b then set (keys_of xs) (before cmp k (keys_of xs)) k else insert (keys_of xs) (before cmp k (keys_of xs)) k)
-        by true = map-set (λ x. x.0) xs (pairs.before cmp k xs) (k, w) ∙ ap (λ n. set (keys_of xs) n k) (sym before-keys)
-        by false = keys_of-insert xs (pairs.before cmp k xs) (k, w) ∙ ap (λ n. insert (keys_of xs) n k) (sym before-keys)
-
-    pub removed-keys : keys_of (remove xs (pairs.before cmp k xs)) ≡ remove (keys_of xs) (before cmp k (keys_of xs))
-    removed-keys = map_remove (λ x. x.0) xs (pairs.before cmp k xs) ∙ ap (λ n. remove (keys_of xs) n) (sym before-keys)
+        by true = map-set (λ x. x.0) xs (pairs.before cmp k xs) (k, w) ∙ ap (λ n. set (keys_of xs) n k) (sym (before-keys cmp k xs))
+        by false = keys_of-insert xs (pairs.before cmp k xs) (k, w) ∙ ap (λ n. insert (keys_of xs) n k) (sym (before-keys cmp k xs))
 
   -- nothing is there without pairs
   pub none-keys : (xs : List (T × V)) → keys_of xs ≡ [] → xs ≡ []
@@ -86,7 +94,7 @@ module _ {T V : Type 0} where
   pub keys-none : (xs : List (T × V)) → (xs ≡ []) ↔ (keys_of xs ≡ [])
   keys-none xs = (λ e. ap keys_of e, none-keys xs)
 
-  module _ (cmp : T → T → Ordering) (k : T) (xs : List (T × V)) where
+  module _ {Q : Type 0} (cmp : T → Q → Ordering) (k : Q) (xs : List (T × V)) where
     pub absent-keys : pairs.found cmp k xs ≡ None → stored cmp k (keys_of xs) ≡ None
     absent-keys none = stored-keys cmp k xs ∙ ap (option_map (λ p. p.0)) none
 
@@ -145,25 +153,28 @@ filter-keys test (x ∷ xs) = by (test x.0) (filter-keys test xs)
     by true same = ap (λ l. x.0 ∷ l) same
     by false same = same
 
--- the pair at a key was removed, if there was one
-pub taken-keys : {T V : Type 0} (cmp : T → T → Ordering) (k : T) (o : Option (T × V)) (old new : TreeState T V) → o ≡ pairs.found cmp k (pairs_of old)
-    → IfSome o (λ x. RemovesByKey old new cmp k x) → IfNone o (new ≡ old) → keys_of (pairs_of new) ≡ removed cmp k (keys_of (pairs_of old))
-taken-keys cmp k None old new is some none =
-    rw (there-keys cmp k (pairs_of old) ∙ sym (ap is_some is)) (ap (λ (s : TreeState _ _). keys_of (pairs_of s)) none)
-taken-keys cmp k (Some x) old new is some none =
-    rw (there-keys cmp k (pairs_of old) ∙ sym (ap is_some is)) (ap (λ l. keys_of l) some.pairs ∙ removed-keys cmp k (pairs_of old))
+-- what holds of the pair that was taken out, or of none, holds of the pair that was there
+if-there : {X : Type 0} (P : X → Type 0) (N : Type 0) (was o : Option X) → o ≡ was → IfSome o P → IfNone o N
+    → ((x : X) → was ≡ Some x → P x) × (was ≡ None → N)
+if-there P N was None is some none = (λ x there. absurd (let e = is ∙ there in cc), λ gone. none)
+if-there P N was (Some y) is some none = (
+  λ x there. let e : Some y ≡ Some x = is ∙ there in let same : y ≡ x = cc in subst P same some,
+  λ gone. absurd (let e = is ∙ gone in cc),
+)
 
--- and so the tree was left, which is as it was if there was none
+-- so the tree was left, which is as it was if there was no pair
 pub taken-nodes : {T V : Type 0} (cmp : T → T → Ordering) (k : T) (o : Option (T × V)) (old new : TreeState T V) → o ≡ pairs.found cmp k (pairs_of old)
     → IfSome o (λ x. RemovesByKey old new cmp k x) → IfNone o (new ≡ old) → RemovesIfThere cmp old new k
-taken-nodes cmp k None old new is some none = record {
-  present = λ x there. absurd (let e : None ≡ Some x = is ∙ there in cc);
-  absent = λ gone. none;
-}
-taken-nodes cmp k (Some y) old new is some none = record {
-  present = λ x there. let e : Some y ≡ Some x = is ∙ there in let same : y ≡ x = cc in subst (λ z. RemovesByKey old new cmp k z) same some;
-  absent = λ gone. absurd (let e : Some y ≡ None = is ∙ gone in cc);
-}
+taken-nodes cmp k o old new is some none =
+    let r = if-there (λ x. RemovesByKey old new cmp k x) (new ≡ old) (pairs.found cmp k (pairs_of old)) o is some none in
+    record { present = r.0; absent = r.1 }
+
+pub taken-nodes-by : {T Q V : Type 0} (cmp : T → T → Ordering) (compare : T → Q → Ordering) (k : Q) (o : Option (T × V)) (old new : TreeState T V)
+    → o ≡ pairs.found compare k (pairs_of old)
+    → IfSome o (λ x. RemovesBy old new cmp compare k x) → IfNone o (new ≡ old) → RemovesIfThereBy old new cmp compare k
+taken-nodes-by cmp compare k o old new is some none =
+    let r = if-there (λ x. RemovesBy old new cmp compare k x) (new ≡ old) (pairs.found compare k (pairs_of old)) o is some none in
+    record { present = r.0; absent = r.1 }
 
 -- values of `()` make no difference to comparisons
 and-true : (b : Bool) → (b && true) ≡ b

@@ -3,7 +3,7 @@
 -- elements; `IsInTree` leads from the one to the other.
 -- An element is in a set by the order: `stored` is the equal element that is there. Insertion and removal are at the
 -- place of the element, which is the number of smaller ones (`before`).
-use Rattle.std.specs.Prelude.{◌≡◌, ◌≤◌, ℕ, List, Option, is_some, length, refl, set, if◌then◌else◌}
+use Rattle.std.specs.Prelude.{◌≡◌, ◌≤◌, ◌&&◌, ℕ, List, Option, is_some, length, not, refl, set, if◌then◌else◌}
 use Rattle.std.specs.BTreeMap.Range.{range_contains}
 use Rattle.std.specs.Borrow.{Bor}
 use Rattle.std.specs.Coded.{Coded, code_by, coded_list, coded×}
@@ -44,31 +44,33 @@ set_of map = record { elements = keys_of (pairs_of map); kept = map.kept; tree =
 abbrev pub set_with_limit : {T : Type 0} → SetState T → ℕ → SetState T
 set_with_limit s limit = record s { kept = record s.kept { limit = limit }; tree = with_limit s.tree limit }
 
+-- An element may be sought by another one or by a query of another type: `cmp y x` says on which side of x the element y is.
+module _ {T Q : Type 0} (cmp : T → Q → Ordering) where
+  -- how many elements are below x
+  abbrev pub before : Q → List T → ℕ
+  before x xs = count_by (λ y. is_lt (cmp y x)) xs
+
+  -- the element that is equal to x, if there is one
+  abbrev pub stored : Q → List T → Option T
+  stored x xs = find (λ y. is_eq (cmp y x)) xs
+
+  -- without the element that is equal to x
+  abbrev pub removed : Q → List T → List T
+  removed x xs = if is_some (stored x xs) then remove xs (before x xs) else xs
+
 module _ {T : Type 0} (cmp : T → T → Ordering) where
   -- the elements, and what is kept beside them, are those of the tree, which is well formed
   pub record IsInTree (s : SetState T) : Type 0 where
     pub same : s ≡ set_of s.tree
     pub tree : IsBTree cmp s.tree
 
-  -- how many elements are below x
-  abbrev pub before : T → List T → ℕ
-  before x xs = count_by (λ y. is_lt (cmp y x)) xs
-
-  -- the element that is equal to x, if there is one
-  abbrev pub stored : T → List T → Option T
-  stored x xs = find (λ y. is_eq (cmp y x)) xs
-
   -- with x, if no element is equal to it
   abbrev pub inserted : T → List T → List T
-  inserted x xs = if is_some (stored x xs) then xs else insert xs (before x xs) x
+  inserted x xs = if is_some (stored cmp x xs) then xs else insert xs (before cmp x xs) x
 
   -- with x, in the place of an equal element if there is one
   abbrev pub replaced : T → List T → List T
-  replaced x xs = if is_some (stored x xs) then set xs (before x xs) x else insert xs (before x xs) x
-
-  -- without the element that is equal to x
-  abbrev pub removed : T → List T → List T
-  removed x xs = if is_some (stored x xs) then remove xs (before x xs) else xs
+  replaced x xs = if is_some (stored cmp x xs) then set xs (before cmp x xs) x else insert xs (before cmp x xs) x
 
   -- x, the first element, was removed at its address in the tree
   abbrev pub RemovesFirst : (old new : SetState T) → T → Type 0
@@ -91,3 +93,7 @@ pub record IsRefused {T : Type 0} (cmp : T → T → Ordering) (MayRefuse : Cont
 -- the elements of a list between the two bounds of a range
 abbrev pub elements_between : {T : Type 0} → (T → T → Ordering) → Bound (Bor T) × Bound (Bor T) → List T → List T
 elements_between cmp range xs = filter (range_contains cmp (bound_key range.0) (bound_key range.1)) xs
+
+-- the elements that are not below one query, and are below another: `low x q` and `high x r` say on which sides of them an element x is
+abbrev pub elements_from_to : {T Q R : Type 0} → (T → Q → Ordering) → Q → (T → R → Ordering) → R → List T → List T
+elements_from_to low start high end xs = filter (λ x. not (is_lt (low x start)) && is_lt (high x end)) xs

@@ -3,9 +3,10 @@ ghost use Rattle.std.specs.Prelude.{◌≡◌, IfSome};
 ghost use Rattle.std.specs.Iterator.SizeHint.{IsWithinCount};
 ghost use Rattle.std.specs.Iterator.{YieldsFirstRef, YieldsLastRef, item_count, UpTo};
 ghost use Rattle.btree_walk.specs.Bounds.{IsValidRange};
-ghost use Rattle.btree_set.specs.Elements.{elements_between};
+ghost use Rattle.btree_set.specs.Elements.{elements_between, elements_from_to};
 
 use crate::BTreeSet;
+use btree_item::Query;
 use btree_map::IntoKeys;
 use btree_node::NodesMut;
 use btree_walk::{Keys, Range as Pairs};
@@ -72,7 +73,7 @@ impl<'a, T: Ord, C: NodesMut<T, ()>> DoubleEndedIterator for Range<'a, T, C> {
 impl<'a, T: Ord, C: NodesMut<T, ()>> FusedIterator for Range<'a, T, C> {}
 
 impl<T: Ord, C: NodesMut<T, ()>> BTreeSet<T, C> {
-    /// Returns an iterator over the elements in order, from both ends. A whole walk from one end fetches each node once. It allocates
+    /// Returns an iterator over the elements in order, from both ends. A whole walk from the front fetches each node once. It allocates
     /// no memory.
     pub fn iter(&self) -> Iter<'_, T, C>
         ensures { result ≡ self.now.elements }
@@ -88,6 +89,16 @@ impl<T: Ord, C: NodesMut<T, ()>> BTreeSet<T, C> {
     {
         Range {
             pairs: self.map.range(range),
+        }
+    }
+
+    /// Returns an iterator over the elements that are not below one query and are below another, from both ends, as `BTreeMap::range_by` does
+    /// over pairs.
+    pub fn range_by<Q: Query<T>, R: Query<T>>(&self, start: &Q, end: &R) -> Range<'_, T, C>
+        ensures { result ≡ elements_from_to Q.compare start.now R.compare end.now self.now.elements }
+    {
+        Range {
+            pairs: self.map.range_by(start, end),
         }
     }
 }

@@ -8,12 +8,13 @@ ghost use Rattle.btree_node.specs.contracts.node.Node.{the_row as node_row};
 ghost use Rattle.std.specs.Option.{option_copied};
 ghost use Rattle.btree_shape.specs.TreeState.{limited_to, unlimited};
 ghost use Rattle.btree_edit.specs.Insert.{InsertsByKey};
+ghost use Rattle.btree_edit.specs.Remove.{RemovesIfThereBy};
 ghost use Rattle.btree_edit.specs.Replace.{ReplacesByKey};
 ghost use Rattle.btree_edit.specs.Update.{RemovesIfThere};
 ghost use Rattle.btree_set.specs.Elements.{IsInTree, IsRefused, RemovesFirst, RemovesLast, inserted, removed, replaced, stored};
 
 use btree_ext::BTreeExt;
-use btree_item::Refused;
+use btree_item::{Query, Refused};
 use btree_map::BTreeMap;
 use btree_node::{ClearNodes, NodesMut};
 use std::marker::Model;
@@ -127,6 +128,23 @@ impl<T: Ord, C: NodesMut<T, ()>> BTreeSet<T, C> {
         }
     }
 
+    /// Returns whether a query is equal to an element, as `contains` does: no element has to be made for it.
+    pub fn contains_by<Q: Query<T>>(&self, query: &Q) -> bool
+        ensures { IsTrue result ↔ IsSome (stored Q.compare query.now self.now.elements) }
+    {
+        self.map.contains_key_by(query)
+    }
+
+    /// Returns the element that a query is equal to, or `None`, as `get` does.
+    pub fn get_by<Q: Query<T>>(&self, query: &Q) -> Option<&T>
+        ensures { option_copied result ≡ stored Q.compare query.now self.now.elements }
+    {
+        match self.map.get_key_value_by(query) {
+            Some((stored, _)) => Some(stored),
+            None => None,
+        }
+    }
+
     /// Returns the least element, or `None` if there are no elements. It reads one node of each level, and compares no elements.
     pub fn first(&self) -> Option<&T>
         ensures { option_copied result ≡ slice_get self.now.elements 0 }
@@ -204,6 +222,26 @@ impl<T: Ord + Drop, C: NodesMut<T, ()>> BTreeSet<T, C> {
         ensures uncounted { self.new.kept ≡ self.old.kept }
     {
         first_of(self.map.remove_entry(element))
+    }
+
+    /// Removes the element that a query is equal to. Returns whether there was one. It searches once and cannot fail.
+    pub fn remove_by<Q: Query<T>>(&mut self, query: &Q) -> bool
+        ensures there { IsTrue result ↔ IsSome (stored Q.compare query.now self.old.elements) }
+        ensures removed { self.new.elements ≡ removed Q.compare query.now self.old.elements }
+        ensures nodes { RemovesIfThereBy self.old.tree self.new.tree T.cmp Q.compare query.now }
+        ensures uncounted { self.new.kept ≡ self.old.kept }
+    {
+        self.map.remove_entry_by(query).is_some()
+    }
+
+    /// Removes the element that a query is equal to, and returns it. Otherwise it does the same as `remove_by`.
+    pub fn take_by<Q: Query<T>>(&mut self, query: &Q) -> Option<T>
+        ensures element { result ≡ stored Q.compare query.now self.old.elements }
+        ensures removed { self.new.elements ≡ removed Q.compare query.now self.old.elements }
+        ensures nodes { RemovesIfThereBy self.old.tree self.new.tree T.cmp Q.compare query.now }
+        ensures uncounted { self.new.kept ≡ self.old.kept }
+    {
+        first_of(self.map.remove_entry_by(query))
     }
 
     /// Removes the least element, and returns it. Returns `None`, and nothing changes, if there are no elements. It compares no elements.

@@ -88,6 +88,11 @@ pub mod range_set {
     pub use btree_range_set::{Gaps, Iter, Overlapping, RangeSet};
 }
 
+/// What a key may be sought by beside a key: a text or a slice, and the places beside a key and beside a first part.
+pub mod query {
+    pub use btree_item::{After, AfterFirst, Before, BeforeFirst, Query};
+}
+
 /// Lists of a fixed capacity, a search in one, and a counter of no bytes.
 pub mod utils {
     pub use btree_item::{Slots, SlotsIter, binary_search_min};

@@ -37,7 +37,7 @@ abbrev pub PointsInto : {A X : Type 0} → View A → Result (Option ℕ) (ℕ �
 PointsInto node (Ok offset) = IsSomeAnd offset (λ index. index < size_of node)
 PointsInto node (Err gap) = gap.0 ≤ size_of node
 
-module _ {K V : Type 0} (cmp : K → K → Ordering) (k : K) where
+module _ {K Q V : Type 0} (cmp : K → Q → Ordering) (k : Q) where
   -- the item with the key is at this index
   abbrev pub IsIndexOfKey : List (K × V) → ℕ → Type 0
   IsIndexOfKey xs index = slice_get xs index ≡ found cmp k xs

@@ -5,6 +5,7 @@ use Rattle.std.specs.Cmp.{IsTotalOrder}
 use Rattle.std.specs.List.{AllByRecursion}
 use Rattle.std.specs.declared.cmp.Ordering.{Ordering}
 use Rattle.std.specs.declared.cmp.Ordering.TheVariants.{Equal, Less}
+use Rattle.btree_item.specs.KeyLaws.{cuts_of}
 use Rattle.btree_item.specs.Pairs.{place_of}
 use Rattle.btree_view.specs.LookUp.{placed}
 use Rattle.btree_view.specs.View.{NodeMap, View, internal, items_of, leaf}
@@ -125,7 +126,7 @@ module _ {K V : Type 0} (cmp : K → K → Ordering) (node_at : NodeMap (K × V)
 
     pub gap-of : (bs : List ((K × V) × ℕ)) (index : ℕ) → Rises cmp (map (λ b. b.0) bs) → place_of cmp k (map (λ b. b.0) bs) ≡ Err index → Gap bs index
     gap-of bs index up place =
-        let s = searched cmp k laws (map (λ b. b.0) bs) (Err index) up place in
+        let s = searched cmp k (cuts_of laws) (map (λ b. b.0) bs) (Err index) up place in
         let m = map-parts (λ (b : (K × V) × ℕ). b.0) bs s.0 s.1 s.2 in
         record {
           left = m.left;
@@ -147,7 +148,7 @@ module _ {K V : Type 0} (cmp : K → K → Ordering) (node_at : NodeMap (K × V)
 
     pub hit-of : (bs : List ((K × V) × ℕ)) (index : ℕ) → Rises cmp (map (λ b. b.0) bs) → place_of cmp k (map (λ b. b.0) bs) ≡ Ok index → Hit bs index
     hit-of bs index up place =
-        let s = searched cmp k laws (map (λ b. b.0) bs) (Ok index) up place in
+        let s = searched cmp k (cuts_of laws) (map (λ b. b.0) bs) (Ok index) up place in
         let m = map-parts (λ (b : (K × V) × ℕ). b.0) bs s.0 (s.1 ∷ s.2) s.3 in
         let c : index ≡ length m.left = let a = s.4 in let b = ap length m.first in let c = length-map m.left (λ (b : (K × V) × ℕ). b.0) in omega arith in
         parts m.left c s.1 s.2 s.6 m.right m.is m.second
@@ -166,11 +167,11 @@ module _ {K V : Type 0} (cmp : K → K → Ordering) (node_at : NodeMap (K × V)
         let front : List (K × V) = represented node_at levels first in
         let rest : List (K × V) = represented node_at levels b.1 ++ remaining_in node_at levels left in
         AllByRecursion-append (λ y. side cmp k y ≡ Less) (front ++ b.0 ∷ []) (preceding_in node_at levels (with_child_before b.1 left))
-        (AllByRecursion-append (λ y. side cmp k y ≡ Less) front (b.0 ∷ []) (below-pivot cmp k laws front b.0 rest up low.0) (low.0, tt))
+        (AllByRecursion-append (λ y. side cmp k y ≡ Less) front (b.0 ∷ []) (below-pivot cmp k (cuts_of laws) front b.0 rest up low.0) (low.0, tt))
         (cut-low b.1 left low.1 (rises-right cmp front (b.0 ∷ rest) up).1)
 
     pub row-high : (right : List ((K × V) × ℕ)) → AreAbove cmp k (map (λ b. b.0) right) → Rises cmp (remaining_in node_at levels right)
         → AreAbove cmp k (remaining_in node_at levels right)
     row-high [] high up = tt
     row-high (b ∷ right) high up =
-        above-pivot cmp k laws b.0 (represented node_at levels b.1 ++ remaining_in node_at levels right) up high.0
+        above-pivot cmp k (cuts_of laws) b.0 (represented node_at levels b.1 ++ remaining_in node_at levels right) up high.0

@@ -6,6 +6,7 @@ use Rattle.std.specs.List.{AllByRecursion, filter}
 use Rattle.std.specs.declared.cmp.Ordering.{Ordering}
 use Rattle.std.specs.declared.cmp.Ordering.TheVariants.{Equal, Greater, Less}
 use Rattle.std.specs.declared.ops.Bound.TheVariants.{Included, Unbounded}
+use Rattle.btree_item.specs.KeyLaws.{cuts_of}
 use Rattle.btree_shape.proofs.Paths.Frames.{AllByRecursion-append}
 use Rattle.btree_shape.proofs.LookUp.KeyInList.{AreAbove, AreBelow, Rises, equal-back, equal-front, rises-right, side}
 
@@ -81,10 +82,10 @@ module _ {K V : Type 0} (cmp : K → K → Ordering) (k : K) (laws : IsTotalOrde
       rise = subst (λ l. Rises cmp l) is up
 
       pub below-hit : AreBelow cmp k xs
-      below-hit = equal-front cmp k laws xs x ys rise same
+      below-hit = equal-front cmp k (cuts_of laws) xs x ys rise same
 
       pub above-hit : AreAbove cmp k ys
-      above-hit = equal-back cmp k laws x ys (rises-right cmp xs (x ∷ ys) rise).0 same
+      above-hit = equal-back cmp k (cuts_of laws) x ys (rises-right cmp xs (x ∷ ys) rise).0 same
 
       pub from-hit : x ∷ ys ≡ entries_between cmp (Included k) Unbounded whole
       from-hit =

@@ -9,6 +9,7 @@ use Rattle.std.specs.declared.cmp.Ordering.{Ordering}
 use Rattle.std.specs.declared.cmp.Ordering.TheVariants.{Greater, Less}
 use Rattle.std.specs.declared.ops.Bound.TheVariants.{Included, Unbounded}
 use Rattle.btree_store.specs.Content.{Content}
+use Rattle.btree_item.specs.KeyLaws.{cuts_of}
 use Rattle.btree_item.specs.Pairs.{Ascends, place_of}
 use Rattle.btree_node.specs.declared.node.Node.{Node}
 use Rattle.btree_node.specs.Node.{view_of}
@@ -104,7 +105,7 @@ module _ {K V : Type 0} (cmp : K → K → Ordering) (k : K) (laws : IsTotalOrde
             at : (r : Result ℕ ℕ) → place_of cmp k ys ≡ r → ◌≡◌ {A = ℕ × Option ℕ} (index, next) (below_place r [])
                 → drop index ys ++ above ≡ entries_between cmp (Included k) Unbounded whole
             at (Ok i) e cut =
-                let s = searched cmp k laws ys (Ok i) leaf-rises e in
+                let s = searched cmp k (cuts_of laws) ys (Ok i) leaf-rises e in
                 let low : index ≡ length s.0 = pair-left index i next None cut ∙ sym s.4 in
                 let list : whole ≡ (d.before ++ s.0) ++ s.1 ∷ (s.2 ++ above) =
                 leaf-list ∙ ap (λ l. d.before ++ (l ++ above)) s.3 ∙ ap (λ l. d.before ++ l) (append_assoc s.0 (s.1 ∷ s.2) above)
@@ -112,7 +113,7 @@ module _ {K V : Type 0} (cmp : K → K → Ordering) (k : K) (laws : IsTotalOrde
                 ap (λ l. l ++ above) (ap (drop index) s.3 ∙ drop-front s.0 (s.1 ∷ s.2) index low)
                 ∙ from-hit cmp k laws whole up (d.before ++ s.0) s.1 (s.2 ++ above) list s.6
             at (Err i) e cut =
-                let s = searched cmp k laws ys (Err i) leaf-rises e in
+                let s = searched cmp k (cuts_of laws) ys (Err i) leaf-rises e in
                 let low : index ≡ length s.0 = pair-left index i next None cut ∙ sym s.3 in
                 let list : whole ≡ (d.before ++ s.0) ++ (s.1 ++ above) =
                 leaf-list ∙ ap (λ l. d.before ++ (l ++ above)) s.2 ∙ ap (λ l. d.before ++ l) (append_assoc s.0 s.1 above)

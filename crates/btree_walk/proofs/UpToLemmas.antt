@@ -9,6 +9,7 @@ use Rattle.std.specs.declared.cmp.Ordering.{Ordering}
 use Rattle.std.specs.declared.cmp.Ordering.TheVariants.{Greater, Less}
 use Rattle.std.specs.declared.ops.Bound.TheVariants.{Included, Unbounded}
 use Rattle.btree_store.specs.Content.{Content}
+use Rattle.btree_item.specs.KeyLaws.{cuts_of}
 use Rattle.btree_item.specs.Pairs.{Ascends, place_of}
 use Rattle.btree_node.specs.declared.node.Node.{Node}
 use Rattle.btree_node.specs.Node.{view_of}
@@ -140,7 +141,7 @@ module _ {K V : Type 0} (cmp : K → K → Ordering) (k : K) (laws : IsTotalOrde
             at : (r : Result ℕ ℕ) → place_of cmp k ys ≡ r → ◌≡◌ {A = ℕ × Option ℕ} (kept, next) (up_to_place r [])
                 → above ++ take kept ys ≡ entries_between cmp Unbounded (Included k) whole
             at (Ok i) e cut =
-                let s = searched cmp k laws ys (Ok i) leaf-rises e in
+                let s = searched cmp k (cuts_of laws) ys (Ok i) leaf-rises e in
                 let long : length (s.0 ++ s.1 ∷ []) ≡ kept = let a = pair-left kept (i + 1) next None cut in let b = s.4 in let c = length_push s.0 s.1 in omega arith in
                 let list : whole ≡ (above ++ s.0) ++ s.1 ∷ (s.2 ++ d.after) =
                 leaf-list ∙ ap (λ l. (above ++ l) ++ d.after) s.3 ∙ parts-leaf above s.0 (s.1 ∷ s.2) d.after in
@@ -148,7 +149,7 @@ module _ {K V : Type 0} (cmp : K → K → Ordering) (k : K) (laws : IsTotalOrde
                 ∙ sym (append_assoc above s.0 (s.1 ∷ []))
                 ∙ up_to-hit cmp k laws whole up (above ++ s.0) s.1 (s.2 ++ d.after) list s.6
             at (Err i) e cut =
-                let s = searched cmp k laws ys (Err i) leaf-rises e in
+                let s = searched cmp k (cuts_of laws) ys (Err i) leaf-rises e in
                 let long : length s.0 ≡ kept = s.3 ∙ sym (pair-left kept i next None cut) in
                 let list : whole ≡ (above ++ s.0) ++ (s.1 ++ d.after) =
                 leaf-list ∙ ap (λ l. (above ++ l) ++ d.after) s.2 ∙ parts-leaf above s.0 s.1 d.after in

@@ -102,8 +102,9 @@ fn step_back<'a, K: Ord + 'a, V: 'a, C: NodesMut<K, V> + 'a>(
 }
 
 /// An iterator over the pairs of a tree in the order of the keys, from both ends, seen by contracts as the list of those that are left. It
-/// allocates no memory. A whole walk from one end fetches each node from the store once. A step inside a leaf reads that leaf alone. From
-/// the back, a step to another leaf may fetch all leaves before it that have the same parent, at most seven, for the steps to come.
+/// allocates no memory. A whole walk from the front fetches each node from the store once. One from the back fetches the path to the first
+/// leaf once more, where the iterator is made. A step inside a leaf reads that leaf alone. From the back, a step to another leaf may fetch all
+/// leaves before it that have the same parent, at most seven, for the steps to come.
 #[derive(Drop)]
 pub struct Iter<'a, K: Ord, V, C: NodesMut<K, V>> {
     tree: &'a Tree<K, V, C>,

@@ -2,11 +2,11 @@
 use Rattle.std.proofs.Common.{◌≡◌, ◌<◌, ◌++◌, ◌∷◌, [], ◌∙◌, ℕ, zero, suc, List, length, map, Option, Some, Err, refl, sym, ap, subst, arith, append_assoc, append-nil, length-append}
 use Rattle.std.proofs.lemmas.Grind.{flat_map-append}
 use Rattle.std.proofs.lemmas.List.{length-map, map-append}
-use Rattle.std.specs.Cmp.{IsTotalOrder}
 use Rattle.std.specs.List.{AllByRecursion}
 use Rattle.std.specs.Prelude.{slice_get}
 use Rattle.std.specs.declared.cmp.Ordering.{Ordering}
 use Rattle.std.specs.declared.cmp.Ordering.TheVariants.{Less}
+use Rattle.btree_item.specs.Keys.{Cuts}
 use Rattle.btree_item.specs.Pairs.{Ascends, place_of}
 use Rattle.btree_view.specs.View.{NodeMap, View, children_of, items_of, leaf}
 use Rattle.btree_shape.specs.Focus.Search.{IsPart, IsSearching, levels_below}
@@ -92,9 +92,9 @@ module _ {K : Type 0} (V : Type 0) (cmp : K → K → Ordering) where
       subst (λ l. Rises cmp l) (sym (view-items (K × V) h t.2))
       (branches-rise h t.2 (rises-right cmp (items_under (K × V) h t.1) (later_items (K × V) h t.2) up))
 
-module _ {K V : Type 0} (cmp : K → K → Ordering) where
-  module _ (k : K) (laws : IsTotalOrder cmp) (node_at : NodeMap (K × V)) (root : ℕ) (xs : List (K × V))
-      (up : Rises cmp xs) (within : List (K × V)) (start : ℕ) where
+module _ {K Q V : Type 0} (cmp : K → Q → Ordering) where
+  module _ (k : Q) {ord : K → K → Ordering} (cut : Cuts ord cmp) (node_at : NodeMap (K × V)) (root : ℕ) (xs : List (K × V))
+      (up : Rises ord xs) (within : List (K × V)) (start : ℕ) where
     pub record Down (id child : ℕ) : Type 0 where
       pub next : IsSearching cmp k node_at root xs within start child
       pub smaller : levels_below node_at (length xs) child < levels_below node_at (length xs) id
@@ -104,30 +104,30 @@ module _ {K V : Type 0} (cmp : K → K → Ordering) where
 
     -- the items among which the search is ascend
     pub part-rises : (h : ℕ) (c : Path A h) (t : Subtree A h) → IsFocus A node_at [] root xs h c t
-        → IsPart c (items_under A h t) within start → Rises cmp within
+        → IsPart c (items_under A h t) within start → Rises ord within
     part-rises h c t w p =
         let e : xs ≡ p.front ++ (within ++ p.back) = w.list ∙ rw (p.before, p.after, p.is) (simp append_assoc) in
-        rises-left cmp within p.back (rises-right cmp p.front (within ++ p.back) (subst (λ l. Rises cmp l) e up))
+        rises-left ord within p.back (rises-right ord p.front (within ++ p.back) (subst (λ l. Rises ord l) e up))
 
     pub hole-rises : (h : ℕ) (c : Path A h) (t : Subtree A h) → IsFocus A node_at [] root xs h c t
-        → Rises cmp (items_under A h t)
+        → Rises ord (items_under A h t)
     hole-rises h c t w =
-        rises-left cmp (items_under A h t) (items_after c)
-        (rises-right cmp (items_before c) (items_under A h t ++ items_after c) (subst (λ l. Rises cmp l) w.list up))
+        rises-left ord (items_under A h t) (items_after c)
+        (rises-right ord (items_before c) (items_under A h t ++ items_after c) (subst (λ l. Rises ord l) w.list up))
 
     -- the items of a node that a search comes to are in order
     pub search-ascends : (id : ℕ) → IsSearching cmp k node_at root xs within start id → (v : View A) → node_at id ≡ Some v
-        → Ascends cmp (items_of v)
+        → Ascends ord (items_of v)
     search-ascends id s v e = at s.node.focus.height s.node.focus.path s.node.focus.subtree s.node.focus.here s.node.focus.whole
       where
         at : (h : ℕ) (c : Path A h) (t : Subtree A h) → id_of A h t ≡ id → IsFocus A node_at [] root xs h c t
-            → Ascends cmp (items_of v)
+            → Ascends ord (items_of v)
         at h c t here w =
             let d = top-view A node_at h (parent_above c) t w.inner in
             let e2 : node_at (id_of A h t) ≡ Some v = rw here e in
             let is : view_at A h (parent_above c) t ≡ v = cc in
-            ascends cmp (items_of v)
-            (subst (λ u. Rises cmp (items_of u)) is (items-rise V cmp h (parent_above c) t (hole-rises h c t w)))
+            ascends ord (items_of v)
+            (subst (λ u. Rises ord (items_of u)) is (items-rise V ord h (parent_above c) t (hole-rises h c t w)))
 
     go-down : (h : ℕ) (f : Frame A h) (c : Path A (suc h)) (t : Subtree A h)
         → IsFocus A node_at [] root xs (suc h) c (fill f t)
@@ -163,7 +163,7 @@ module _ {K V : Type 0} (cmp : K → K → Ordering) where
 
     low-of : (h : ℕ) (c : Path A (suc h)) (n : ℕ) (first : Subtree A h) (front : List (A × Subtree A h)) (x : A)
         (u : Subtree A h) (back : List (A × Subtree A h))
-        → Rises cmp within → (p : IsPart c (items_under A (suc h) (n, first, front ++ (x, u) ∷ back)) within start)
+        → Rises ord within → (p : IsPart c (items_under A (suc h) (n, first, front ++ (x, u) ∷ back)) within start)
         → side cmp k x ≡ Less
         → AreBelow cmp k (p.lower ++ ((items_under A h first ++ later_items A h front) ++ x ∷ []))
     low-of h c n first front x u back rise p l =
@@ -172,20 +172,20 @@ module _ {K V : Type 0} (cmp : K → K → Ordering) where
         let e : within ≡ ps ++ x ∷ qs = p.is ∙ simp (flat_map-append, append_assoc) in
         subst (λ ys. AreBelow cmp k ys) (append_assoc p.lower (items_under A h first ++ later_items A h front) (x ∷ []))
         (AllByRecursion-append (λ y. side cmp k y ≡ Less) ps (x ∷ [])
-        (below-pivot cmp k laws ps x qs (subst (λ ys. Rises cmp ys) e rise) l) (l, tt))
+        (below-pivot cmp k cut ps x qs (subst (λ ys. Rises ord ys) e rise) l) (l, tt))
 
     later-above : (h : ℕ) (ps : List A) (bs : List (A × Subtree A h)) (qs : List A)
-        → Rises cmp (ps ++ (later_items A h bs ++ qs))
+        → Rises ord (ps ++ (later_items A h bs ++ qs))
         → AreAbove cmp k (map {B = A} (λ (b : A × Subtree A h). b.0) bs) → AreAbove cmp k qs → AreAbove cmp k
         (later_items A h bs ++ qs)
     later-above h ps [] qs a g q = q
     later-above h ps (b ∷ bs) qs a g q =
-        above-pivot cmp k laws b.0 ((items_under A h b.1 ++ later_items A h bs) ++ qs)
-        (rises-right cmp ps (b.0 ∷ ((items_under A h b.1 ++ later_items A h bs) ++ qs)) a) g.0
+        above-pivot cmp k cut b.0 ((items_under A h b.1 ++ later_items A h bs) ++ qs)
+        (rises-right ord ps (b.0 ∷ ((items_under A h b.1 ++ later_items A h bs) ++ qs)) a) g.0
 
     high-of : (h : ℕ) (f : Frame A h) (c : Path A (suc h)) (t : Subtree A h) (back : List (A × Subtree A h))
         → after_in f ≡ later_items A h back
-        → Rises cmp within → (p : IsPart c (items_under A (suc h) (fill f t)) within start)
+        → Rises ord within → (p : IsPart c (items_under A (suc h) (fill f t)) within start)
         → AreAbove cmp k (map {B = A} (λ (b : A × Subtree A h). b.0) back)
         → AreAbove cmp k p.higher → AreAbove cmp k (after_in f ++ p.higher)
     high-of h f c t back is rise p g high =
@@ -193,7 +193,7 @@ module _ {K V : Type 0} (cmp : K → K → Ordering) where
         let e : within ≡ ps ++ (later_items A h back ++ p.higher) =
         p.is ∙ (ap (λ ys. p.lower ++ (ys ++ p.higher)) (fill-items A h f t) ∙ rw is (simp append_assoc))
         in
-        rw is (later-above h ps back p.higher (subst (λ ys. Rises cmp ys) e rise) g high)
+        rw is (later-above h ps back p.higher (subst (λ ys. Rises ord ys) e rise) g high)
 
     -- down to the child at an index; `left` are the branches before it
     at-child : (h : ℕ) (c : Path A (suc h)) (t : Subtree A (suc h)) → IsFocus A node_at [] root xs (suc h) c t
@@ -280,10 +280,10 @@ module _ {K V : Type 0} (cmp : K → K → Ordering) where
             let d = w.inner.0 in
             let e2 : node_at t.0 ≡ Some v = rw here e in
             let is : view_at A (suc h) (parent_above c) t ≡ v = cc in
-            let up2 = items-rise V cmp (suc h) (parent_above c) t (hole-rises (suc h) c t w) in
+            let up2 = items-rise V ord (suc h) (parent_above c) t (hole-rises (suc h) c t w) in
             let place2 : place_of cmp k (items_of (view_at A (suc h) (parent_above c) t)) ≡ Err o =
             subst (λ u. place_of cmp k (items_of u) ≡ Err o) (sym is) place in
-            let r = searched cmp k laws (items_of (view_at A (suc h) (parent_above c) t)) (Err o) up2 place2 in
+            let r = searched cmp k cut (items_of (view_at A (suc h) (parent_above c) t)) (Err o) up2 place2 in
             let q = map-parts (λ (b : A × Subtree A h). b.0) t.2 r.0 r.1 (sym (view-items A h t.2) ∙ r.2) in
             let get2 : slice_get (children_of (view_at A (suc h) (parent_above c) t)) o ≡ Some child =
             subst (λ u. slice_get (children_of u) o ≡ Some child) (sym is) get in
@@ -302,7 +302,7 @@ module _ {K V : Type 0} (cmp : K → K → Ordering) where
             (subst (λ ys. AreAbove cmp k ys) (sym q.second) r.5))
 
   -- a search among the items under a node begins at it
-  pub search-start : (k : K) (node_at : NodeMap (K × V)) (root : ℕ) (xs : List (K × V)) (id : ℕ) (n : IsNode (K × V) node_at root xs id)
+  pub search-start : (k : Q) (node_at : NodeMap (K × V)) (root : ℕ) (xs : List (K × V)) (id : ℕ) (n : IsNode (K × V) node_at root xs id)
       → IsSearching cmp k node_at root xs (items_under (K × V) n.focus.height n.focus.subtree) (length (items_before n.focus.path)) id
   search-start k node_at root xs id n =
       let under : List (K × V) = items_under (K × V) n.focus.height n.focus.subtree in

@@ -2,10 +2,10 @@
 use Rattle.std.proofs.Common.{◌≡◌, ◌++◌, ◌∷◌, [], ◌∙◌, ◌+◌, ℕ, zero, suc, List, length, map, take, Option, Some, None, Ok, Err, refl, sym, ap, subst, arith, append_assoc, length-append}
 use Rattle.std.proofs.lemmas.Grind.{flat_map-append}
 use Rattle.std.proofs.lemmas.List.{length-map, take_at}
-use Rattle.std.specs.Cmp.{IsTotalOrder}
 use Rattle.std.specs.Prelude.{slice_get}
 use Rattle.std.specs.declared.cmp.Ordering.{Ordering}
 use Rattle.std.specs.declared.cmp.Ordering.TheVariants.{Equal, Greater, Less}
+use Rattle.btree_item.specs.Keys.{Cuts}
 use Rattle.btree_item.specs.Pairs.{found, place_of}
 use Rattle.btree_view.specs.View.{NodeMap, View, item_in, items_of, leaf}
 use Rattle.btree_shape.specs.Place.{IsPlace}
@@ -19,8 +19,8 @@ use Rattle.btree_shape.proofs.Places.NodePlaces.{hole-place, items_upto}
 use Rattle.btree_shape.proofs.Trees.Sizes.{view-items}
 use Rattle.btree_shape.proofs.LookUp.KeyInList.{AreAbove, AreBelow, IsSearched, Rises, equal-back, equal-front, place-hit, place-miss, rises-right, searched, side}
 
-module _ {K V : Type 0} (cmp : K → K → Ordering) (k : K) (laws : IsTotalOrder cmp) (node_at : NodeMap (K × V)) (root : ℕ)
-    (xs : List (K × V)) (up : Rises cmp xs) (within : List (K × V)) (start : ℕ) where
+module _ {K Q V : Type 0} (cmp : K → Q → Ordering) (k : Q) {ord : K → K → Ordering} (cut : Cuts ord cmp) (node_at : NodeMap (K × V)) (root : ℕ)
+    (xs : List (K × V)) (up : Rises ord xs) (within : List (K × V)) (start : ℕ) where
   abbrev A : Type 0
   A = K × V
 
@@ -89,18 +89,18 @@ module _ {K V : Type 0} (cmp : K → K → Ordering) (k : K) (laws : IsTotalOrde
       let ps : List A = part.lower ++ (items_under A h t.1 ++ later_items A h left) in
       let qs : List A = (items_under A h b.1 ++ later_items A h right) ++ part.higher in
       let e : within ≡ ps ++ b.0 ∷ qs = part.is ∙ (rw is (simp (flat_map-append, append_assoc))) in
-      let rise = part-rises cmp k laws node_at root xs up within start (suc h) c t w part in
-      let up' : Rises cmp (ps ++ b.0 ∷ qs) = subst (λ ys. Rises cmp ys) e rise in
+      let rise = part-rises cmp k cut node_at root xs up within start (suc h) c t w part in
+      let up' : Rises ord (ps ++ b.0 ∷ qs) = subst (λ ys. Rises ord ys) e rise in
       let s : IsSearched cmp k within (Ok (length ps)) = (
         ps,
         b.0,
         qs,
         e,
         refl,
-        equal-front cmp k laws ps b.0 qs up' l,
+        equal-front cmp k cut ps b.0 qs up' l,
         l,
-        equal-back cmp k laws b.0 qs
-            (rises-right cmp ps (b.0 ∷ qs) up').0 l,
+        equal-back cmp k cut b.0 qs
+            (rises-right ord ps (b.0 ∷ qs) up').0 l,
       ) in
       let p = place-hit cmp k within (length ps) s in
       let many : length t.2 ≡ length left + suc (length right) = ap length is ∙ length-append left (b ∷ right) in
@@ -134,16 +134,16 @@ module _ {K V : Type 0} (cmp : K → K → Ordering) (k : K) (laws : IsTotalOrde
           let d = w.inner in
           let is : leaf (parent_above c) t.1 ≡ v = cc in
           let place2 : place_of cmp k t.1 ≡ Ok o = subst (λ u. place_of cmp k (items_of u) ≡ Ok o) (sym is) place in
-          let r = searched cmp k laws t.1 (Ok o) (hole-rises cmp k laws node_at root xs up within start 0 c t w) place2 in
+          let r = searched cmp k cut t.1 (Ok o) (hole-rises cmp k cut node_at root xs up within start 0 c t w) place2 in
           subst (λ n. Hit n o) here (leaf-hit 0 c t o w part low high r)
       at (suc h) c t here w part low high =
           let d = w.inner.0 in
           let e2 : node_at t.0 ≡ Some v = rw here e in
           let is : view_at A (suc h) (parent_above c) t ≡ v = cc in
           let ys : List A = items_of (view_at A (suc h) (parent_above c) t) in
-          let up2 = items-rise V cmp (suc h) (parent_above c) t (hole-rises cmp k laws node_at root xs up within start (suc h) c t w) in
+          let up2 = items-rise V ord (suc h) (parent_above c) t (hole-rises cmp k cut node_at root xs up within start (suc h) c t w) in
           let place2 : place_of cmp k ys ≡ Ok o = subst (λ u. place_of cmp k (items_of u) ≡ Ok o) (sym is) place in
-          let r = searched cmp k laws ys (Ok o) up2 place2 in
+          let r = searched cmp k cut ys (Ok o) up2 place2 in
           let q = map-parts (λ (b : A × Subtree A h). b.0) t.2 r.0 (r.1 ∷ r.2) (sym (view-items A h t.2) ∙ r.3) in
           subst (λ n. Hit n o) here
           (parts q.left q.right q.is q.first q.second (r.4) r.6
@@ -177,7 +177,7 @@ module _ {K V : Type 0} (cmp : K → K → Ordering) (k : K) (laws : IsTotalOrde
           let d = w.inner in
           let is : t.1 ≡ ys = cc in
           let r =
-          searched cmp k laws t.1 (Err o) (hole-rises cmp k laws node_at root xs up within start 0 c t w)
+          searched cmp k cut t.1 (Err o) (hole-rises cmp k cut node_at root xs up within start 0 c t w)
           (ap (place_of cmp k) is ∙ place) in
           let b : List A = part.lower in
           let a : List A = part.higher in

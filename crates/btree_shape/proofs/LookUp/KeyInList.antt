@@ -1,13 +1,15 @@
 -- Where a key is, or would be, in a list whose keys ascend: the list in parts.
 use Rattle.std.proofs.Common.{◌≡◌, ◌++◌, ◌∷◌, [], ◌∙◌, ◌+◌, ℕ, zero, suc, cond, List, length, Some, None, Result, Ok, Err, refl, sym, ap, subst, arith}
 use Rattle.std.proofs.lemmas.List.Sums.{sum_by-cons}
-use Rattle.std.specs.Cmp.{IsTotalOrder, alike_right}
+use Rattle.std.specs.Cmp.{IsTotalOrder}
 use Rattle.std.specs.List.{AllByRecursion}
 use Rattle.std.specs.List.Sorted.{IsStrictlySortedBy}
 use Rattle.std.specs.Map.{keys_of}
 use Rattle.std.specs.Ordering.{is_lt}
 use Rattle.std.specs.declared.cmp.Ordering.{Ordering}
 use Rattle.std.specs.declared.cmp.Ordering.TheVariants.{Equal, Greater, Less}
+use Rattle.btree_item.specs.Keys.{Cuts}
+use Rattle.btree_item.proofs.KeyLemmas.{before_below, before_equal}
 use Rattle.btree_item.specs.Pairs.{Ascends, before, found, place_of}
 use Rattle.btree_shape.proofs.Paths.Frames.{AllByRecursion-left, AllByRecursion-right}
 
@@ -64,7 +66,7 @@ module _ {K : Type 0} {cmp : K → K → Ordering} (laws : IsTotalOrder cmp) whe
   pub reversed-back : (x y : K) → cmp x y ≡ Greater → cmp y x ≡ Less
   reversed-back x y e = let r = laws.antisymm y x in rw e at r
 
-module _ {K V : Type 0} (cmp : K → K → Ordering) (k : K) where
+module _ {K Q V : Type 0} (cmp : K → Q → Ordering) (k : Q) where
   -- how a pair compares with the key
   abbrev pub side : K × V → Ordering
   side x = cmp x.0 k
@@ -145,45 +147,45 @@ module _ {K V : Type 0} (cmp : K → K → Ordering) (k : K) where
   searched-place xs (Ok i) s = (place-hit xs i s).0
   searched-place xs (Err i) s = (place-miss xs i s).0
 
-  module _ (laws : IsTotalOrder cmp) where
+  module _ {ord : K → K → Ordering} (cut : Cuts ord cmp) where
     -- if a pair is below a key, so are all pairs before it
-    pub below-pivot : (xs : List (K × V)) (x : K × V) (ys : List (K × V)) → Rises cmp (xs ++ x ∷ ys) → side x ≡ Less
+    pub below-pivot : (xs : List (K × V)) (x : K × V) (ys : List (K × V)) → Rises ord (xs ++ x ∷ ys) → side x ≡ Less
         → AreBelow xs
     below-pivot [] x ys a l = tt
     below-pivot (y ∷ xs) x ys a l = (
-      laws.trans y.0 x.0 k (AllByRecursion-right (λ z. cmp y.0 z.0 ≡ Less) xs (x ∷ ys) a.0).0 l,
+      before_below cut k y.0 x.0 (AllByRecursion-right (λ z. ord y.0 z.0 ≡ Less) xs (x ∷ ys) a.0).0 l,
       below-pivot xs x ys a.1 l,
     )
 
     -- all pairs before the one with an equal key are below the key
-    pub equal-front : (xs : List (K × V)) (x : K × V) (ys : List (K × V)) → Rises cmp (xs ++ x ∷ ys) → side x ≡ Equal
+    pub equal-front : (xs : List (K × V)) (x : K × V) (ys : List (K × V)) → Rises ord (xs ++ x ∷ ys) → side x ≡ Equal
         → AreBelow xs
     equal-front [] x ys a l = tt
     equal-front (y ∷ xs) x ys a l = (
-      sym (alike_right laws x.0 k y.0 l) ∙ (AllByRecursion-right (λ z. cmp y.0 z.0 ≡ Less) xs (x ∷ ys) a.0).0,
+      before_equal cut k y.0 x.0 (AllByRecursion-right (λ z. ord y.0 z.0 ≡ Less) xs (x ∷ ys) a.0).0 l,
       equal-front xs x ys a.1 l,
     )
 
     -- all pairs after the one with an equal key are above the key
-    pub equal-back : (x : K × V) (ys : List (K × V)) → AllByRecursion (λ y. cmp x.0 y.0 ≡ Less) ys → side x ≡ Equal
+    pub equal-back : (x : K × V) (ys : List (K × V)) → AllByRecursion (λ y. ord x.0 y.0 ≡ Less) ys → side x ≡ Equal
         → AreAbove ys
     equal-back x [] a l = tt
-    equal-back x (y ∷ ys) a l = (reversed laws k y.0 (sym (laws.congr x.0 k y.0 l) ∙ a.0), equal-back x ys a.1 l)
+    equal-back x (y ∷ ys) a l = (cut.above k x.0 y.0 (ap is_lt l) a.0, equal-back x ys a.1 l)
 
-    above-all : (x : K × V) (ys : List (K × V)) → AllByRecursion (λ y. cmp x.0 y.0 ≡ Less) ys → side x ≡ Greater
+    above-all : (x : K × V) (ys : List (K × V)) → AllByRecursion (λ y. ord x.0 y.0 ≡ Less) ys → side x ≡ Greater
         → AreAbove ys
     above-all x [] a g = tt
     above-all x (y ∷ ys) a g = (
-      reversed laws k y.0 (laws.trans k x.0 y.0 (reversed-back laws x.0 k g) a.0),
+      cut.above k x.0 y.0 (ap is_lt g) a.0,
       above-all x ys a.1 g,
     )
 
     -- if a pair is above a key, so are all pairs after it
-    pub above-pivot : (x : K × V) (ys : List (K × V)) → Rises cmp (x ∷ ys) → side x ≡ Greater → AreAbove (x ∷ ys)
+    pub above-pivot : (x : K × V) (ys : List (K × V)) → Rises ord (x ∷ ys) → side x ≡ Greater → AreAbove (x ∷ ys)
     above-pivot x ys a g = (g, above-all x ys a.0 g)
 
     -- each ascending list has such parts
-    some-search : (xs : List (K × V)) → Rises cmp xs → (r : Result ℕ ℕ) × IsSearched xs r
+    some-search : (xs : List (K × V)) → Rises ord xs → (r : Result ℕ ℕ) × IsSearched xs r
     some-search [] up = (Err 0, ([], [], refl, refl, tt, tt))
     some-search (x ∷ xs) up = by (side x) refl (some-search xs up.1)
       where
@@ -193,7 +195,7 @@ module _ {K V : Type 0} (cmp : K → K → Ordering) (k : K) where
         by Equal e s = (Ok 0, ([], x, xs, refl, refl, tt, e, equal-back x xs up.0 e))
         by Greater e s = (Err 0, ([], x ∷ xs, refl, refl, tt, above-pivot x xs up e))
 
-    pub searched : (xs : List (K × V)) (r : Result ℕ ℕ) → Rises cmp xs → place_of cmp k xs ≡ r → IsSearched xs r
+    pub searched : (xs : List (K × V)) (r : Result ℕ ℕ) → Rises ord xs → place_of cmp k xs ≡ r → IsSearched xs r
     searched xs r up e =
         let s = some-search xs up in
         subst (λ z. IsSearched xs z) (sym (searched-place xs s.0 s.1) ∙ e) s.1

@@ -32,7 +32,7 @@ pub record IsPart {A : Type 0} {height : ℕ} (path : Path A height) (under with
 
 -- a search for k among the items `within`, which are some of those of a well formed tree and have `start` others before
 -- them, has reached node `id`: of them, those before its subtree have smaller keys and those after it have greater ones
-pub record IsSearching {K V : Type 0} (cmp : K → K → Ordering) (k : K) (node_at : NodeMap (K × V))
+pub record IsSearching {K Q V : Type 0} (cmp : K → Q → Ordering) (k : Q) (node_at : NodeMap (K × V))
     (root : ℕ) (xs within : List (K × V)) (start id : ℕ) : Type 0 where
   pub node : IsNode (K × V) node_at root xs id
   pub part : IsPart node.focus.path (items_under (K × V) node.focus.height node.focus.subtree) within start

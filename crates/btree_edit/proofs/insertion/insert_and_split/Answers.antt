@@ -1,5 +1,6 @@
-use Rattle.std.proofs.Common.{◌∙◌, arith}
+use Rattle.std.proofs.Common.{◌∙◌, subst, arith}
 use Rattle.std.proofs.lemmas.Grind.{common_steps}
+use Rattle.btree_raw.specs.Claimed.{EMPTY, MayRefuseOneOf}
 use Rattle.btree_edit.proofs.insertion.insert_and_split.Goals as goal
 
 pub insert_claimed-requires : goal.insert_claimed-requires
@@ -35,4 +36,9 @@ pub returns-then-not-claim-clause-returned : goal.returns-then-not-claim-clause-
 returns-then-not-claim-clause-returned g c = grind (arith, common_steps) steps 300000
 
 pub returns-then-not-claim-clause-refused : goal.returns-then-not-claim-clause-refused
-returns-then-not-claim-clause-refused g c = grind (arith, common_steps) steps 300000
+returns-then-not-claim-clause-refused g c =
+    rw c.refused.ensures (
+      c.claim.ensures.refused c.if-not-claim.true,
+      subst (λ count. MayRefuseOneOf EMPTY g.C.NodesMut.MayRefuse c.args.tree.now.nodes count) c.requires.enough (c.claim.ensures.may_refuse c.if-not-claim.true),
+      c.requires.granted,
+    )

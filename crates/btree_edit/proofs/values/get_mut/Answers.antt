@@ -12,7 +12,7 @@ returns-in-None g c =
       record {
         writes_back = tt;
         value = ap (λ t. found_value g.K.Ord.cmp c.args.key.now (pairs_under (node_map s) t (map.len s.nodes))) c.in-None.ensures;
-        tree = key_written-tree g.K.Ord.cmp g.met.K.Ord.total c.args.key.now s c.requires;
+        tree = key_written-tree g.K.Ord.cmp g.met.K.Ord.total g.K.Ord.cmp c.args.key.now s c.requires;
         exchanged = tt;
       },
     )

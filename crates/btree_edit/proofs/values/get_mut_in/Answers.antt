@@ -16,7 +16,7 @@ returns-in-Ok g c =
       record {
         writes_back = tt;
         value = sym (ap (option_map (λ x. x.1)) (f.pair ∙ (c.value_mut.ensures.exchanged was).had));
-        tree = key_written-tree g.K.Ord.cmp g.met.K.Ord.total c.args.key.now c.args.tree.now c.requires.tree;
+        tree = key_written-tree g.K.Ord.cmp g.met.K.Ord.total g.K.Ord.cmp c.args.key.now c.args.tree.now c.requires.tree;
         exchanged = λ w. at was w (c.value_mut.ensures.exchanged w);
       },
     )
@@ -28,7 +28,7 @@ returns-in-Err g c =
       record {
         writes_back = tt;
         value = sym (ap (option_map (λ x. x.1)) (found-from_Err g.K.Ord.cmp c.args.key.now (pairs_below c.args.tree.now c.args.top) gap.index gap.is));
-        tree = key_written-tree g.K.Ord.cmp g.met.K.Ord.total c.args.key.now c.args.tree.now c.requires.tree;
+        tree = key_written-tree g.K.Ord.cmp g.met.K.Ord.total g.K.Ord.cmp c.args.key.now c.args.tree.now c.requires.tree;
         exchanged = tt;
       },
     )

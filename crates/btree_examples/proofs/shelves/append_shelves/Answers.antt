@@ -5,8 +5,8 @@ use Rattle.btree_examples.proofs.shelves.append_shelves.Goals as goal
 
 pub loop-pair-init : goal.loop-pair-init
 loop-pair-init g c =
-    ap (λ l. c.args.found.now.items ++ values_of l) c.range-rest.ensures
-    ∙ ap (λ l. c.args.found.now.items ++ l) (range-shelves g.K.Ord.cmp c.args.part 4294967295 c.args.shelves.now.elements)
+    ap (λ l. c.args.found.now.items ++ values_of l) c.range_by-rest.ensures
+    ∙ ap (λ l. c.args.found.now.items ++ l) (range-shelves g.K.Ord.cmp c.args.part.now c.args.shelves.now.elements)
 
 pub loop-pair-preserved : goal.loop-pair-preserved
 loop-pair-preserved g c =

@@ -5,4 +5,4 @@ use Rattle.btree_examples.proofs.shelves.append_shelves.Given as goal
 
 -- the shelves found, with those that are left, are all of them
 abbrev pub invariant-loop-pair : goal.invariant-loop-pair
-invariant-loop-pair g l = l.found.items ++ values_of l.rest ≡ l.fn.found.items ++ shelves_of g.K.Ord.cmp l.fn.part 4294967295 l.fn.shelves.elements
+invariant-loop-pair g l = l.found.items ++ values_of l.rest ≡ l.fn.found.items ++ shelves_of g.K.Ord.cmp l.fn.part l.fn.shelves.elements

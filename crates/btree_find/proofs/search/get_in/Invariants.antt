@@ -6,7 +6,7 @@ use Rattle.btree_find.proofs.search.get_in.Given as goal
 
 abbrev pub invariant-loop-offset : goal.invariant-loop-offset
 invariant-loop-offset g l =
-    Searches g.K.Ord.cmp l.key l.tree l.top l.id
+    Searches g.Q.Query.compare l.key l.tree l.top l.id
 
 abbrev pub decreases-loop-offset : goal.decreases-loop-offset
 decreases-loop-offset g l =

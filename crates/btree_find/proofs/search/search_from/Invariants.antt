@@ -8,8 +8,8 @@ use Rattle.btree_find.proofs.search.search_from.Given as goal
 
 abbrev pub invariant-loop-offset : goal.invariant-loop-offset
 invariant-loop-offset g l = record {
-  searches : Searches g.K.Ord.cmp l.key l.tree l.top l.id;
-  counts : Counts g.K.Ord.cmp l.key l.tree l.top l.id l.initial.steps.count l.steps.count;
+  searches : Searches g.Q.Query.compare l.key l.tree l.top l.id;
+  counts : Counts g.Q.Query.compare l.key l.tree l.top l.id l.initial.steps.count l.steps.count;
   ticks : l.steps.count + 6 * levels_from l.tree l.id ≤ l.initial.steps.count + 6 * levels_from l.tree l.top;
 }
 

@@ -11,14 +11,14 @@ search_counted-requires g c = (omega arith, rw (keys-branches c.args.branches.no
 pub returns-clause-place : goal.returns-clause-place
 returns-clause-place g c =
     c.search_counted.ensures.place
-    ∙ ap (key_place g.K.Ord.cmp c.args.key.now) (keys-branches c.args.branches.now)
-    ∙ key_place-keys_of g.K.Ord.cmp _ _
+    ∙ ap (key_place g.Q.Query.compare c.args.key.now) (keys-branches c.args.branches.now)
+    ∙ key_place-keys_of g.Q.Query.compare _ _
 
 pub returns-clause-here : goal.returns-clause-here
-returns-clause-here g c = slice_get-from_place g.K.Ord.cmp g.met.K.Ord.total c.args.key.now _ c.search_counted.result c.requires (returns-clause-place g c)
+returns-clause-here g c = slice_get-from_place g.Q.Query.compare g.met.Q.Query.cuts c.args.key.now _ c.search_counted.result c.requires (returns-clause-place g c)
 
 pub returns-clause-absent : goal.returns-clause-absent
-returns-clause-absent g c = found-from_place g.K.Ord.cmp c.args.key.now _ c.search_counted.result (returns-clause-place g c)
+returns-clause-absent g c = found-from_place g.Q.Query.compare c.args.key.now _ c.search_counted.result (returns-clause-place g c)
 
 pub returns-clause-ticks : goal.returns-clause-ticks
 returns-clause-ticks g c =
@@ -30,5 +30,5 @@ returns-clause-counted g c =
     let bs = c.args.branches.now in
     let k = c.args.key.now in
     let smaller =
-    ap (count_below g.K.Ord.cmp k) (keys-branches bs) ∙ count_below-keys_of g.K.Ord.cmp k (map (λ b. b.item) bs) in
+    ap (count_below g.Q.Query.compare k) (keys-branches bs) ∙ count_below-keys_of g.Q.Query.compare k (map (λ b. b.item) bs) in
     c.search_counted.ensures.counted ∙ ap (λ n. c.args.steps.now.count + comparisons (length bs) n) smaller

@@ -1,23 +1,23 @@
-use Rattle.std.proofs.Common.{◌∙◌, arith, rules}
-use Rattle.btree_item.proofs.KeyLemmas.{AllBelow-from_key, IsNotBelowAt-next, is_lt-from_partial}
+use Rattle.std.proofs.Common.{◌∙◌, sym, arith, rules}
+use Rattle.btree_item.proofs.KeyLemmas.{AllBelow-from_key, IsNotBelowAt-next}
 use Rattle.btree_item.proofs.searches.first_not_below.Goals as goal
-use Rattle.btree_item.proofs.searches.first_not_below.Goals.{then-lt, else-lt}
+use Rattle.btree_item.proofs.searches.first_not_below.Goals.{then-is_after, else-is_after}
 use Rattle.std.proofs.lemmas.Grind.{common_steps}
 
 pub loop-i-preserved : goal.loop-i-preserved
-loop-i-preserved g c = elim c.if-lt.branch [
-  | then-lt w ↦
-      let is_below = is_lt-from_partial g.met.T.Key.Ord.matches_partial_cmp _ _ _ c.lt.ensures ∙ w.if-lt.true in
+loop-i-preserved g c = elim c.if-is_after.branch [
+  | then-is_after w ↦
+      let is_below = sym c.is_after.ensures ∙ w.if-is_after.true in
       let moved = w.place-is in
       record {
         ticks = omega arith;
         reached = omega arith;
         from = omega arith;
-        before = rw moved (AllBelow-from_key g.met.T.Key.Ord.total _ _ _ _ c.requires.ascends c.key_at.ensures is_below);
+        before = rw moved (AllBelow-from_key g.met.Q.Query.cuts _ _ _ _ c.requires.ascends c.key_at.ensures is_below);
         here = λ earlier. absurd (omega arith);
       }
-  | else-lt w ↦
-      let not_below = is_lt-from_partial g.met.T.Key.Ord.matches_partial_cmp _ _ _ c.lt.ensures ∙ w.if-lt.false in
+  | else-is_after w ↦
+      let not_below = sym c.is_after.ensures ∙ w.if-is_after.false in
       let stays = w.place-is in
       let reached = c.loop-i.invariant.reached in
       record {
@@ -38,8 +38,8 @@ tick-requires g c = search rules steps 200000
 pub key_at-requires : goal.key_at-requires
 key_at-requires g c = search rules steps 200000
 
-pub lt-requires : goal.lt-requires
-lt-requires g c κs = search rules steps 200000
+pub is_after-requires : goal.is_after-requires
+is_after-requires g c κs = search rules steps 200000
 
 pub overflow_add-place : goal.overflow_add-place
 overflow_add-place g c = search rules steps 200000

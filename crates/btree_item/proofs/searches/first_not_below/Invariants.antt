@@ -7,6 +7,6 @@ invariant-loop-i g l = record {
   ticks : l.steps.count + l.start ≡ l.initial.steps.count + l.i;
   reached : l.place ≤ l.i;
   from : l.start ≤ l.place;
-  before : AllBelow g.T.Key.Ord.cmp l.key l.place (map g.T.Keyed.key_of l.slots);
-  here : l.place < l.i → IsNotBelowAt g.T.Key.Ord.cmp l.key l.place (map g.T.Keyed.key_of l.slots);
+  before : AllBelow g.Q.Query.compare l.key l.place (map g.T.Keyed.key_of l.slots);
+  here : l.place < l.i → IsNotBelowAt g.Q.Query.compare l.key l.place (map g.T.Keyed.key_of l.slots);
 }

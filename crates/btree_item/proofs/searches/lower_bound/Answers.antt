@@ -1,20 +1,20 @@
-use Rattle.std.proofs.Common.{◌∙◌, arith, rules}
+use Rattle.std.proofs.Common.{◌∙◌, sym, arith, rules}
 use Rattle.std.proofs.lemmas.List.{length-map}
-use Rattle.btree_item.proofs.KeyLemmas.{AllBelow-from_key, IsNotBelowAt-end, is_lt-from_partial}
+use Rattle.btree_item.proofs.KeyLemmas.{AllBelow-from_key, IsNotBelowAt-end}
 use Rattle.btree_item.proofs.searches.lower_bound.Goals as goal
 use Rattle.std.proofs.lemmas.Grind.{common_steps}
 
-pub first_not_below-requires-then-lt : goal.first_not_below-requires-then-lt
-first_not_below-requires-then-lt g c =
+pub first_not_below-requires-then-is_after : goal.first_not_below-requires-then-is_after
+first_not_below-requires-then-is_after g c =
     let fits = c.well_formed in
     let same = length-map c.args.slots.now g.T.Keyed.key_of in
-    let is_below = is_lt-from_partial g.met.T.Key.Ord.matches_partial_cmp _ _ _ c.lt.ensures ∙ c.if-lt.true in (
+    let is_below = sym c.is_after.ensures ∙ c.if-is_after.true in (
       omega arith,
       (
         omega arith,
         (
           omega arith,
-          (c.requires, (AllBelow-from_key g.met.T.Key.Ord.total _ _ _ _ c.requires c.key_at.ensures is_below, IsNotBelowAt-end _ _ _ (omega arith))),
+          (c.requires, (AllBelow-from_key g.met.Q.Query.cuts _ _ _ _ c.requires c.key_at.ensures is_below, IsNotBelowAt-end _ _ _ (omega arith))),
         ),
       ),
     )
@@ -28,14 +28,14 @@ tick-requires g c = search rules steps 200000
 pub key_at-requires : goal.key_at-requires
 key_at-requires g c = search rules steps 200000
 
-pub lt-requires : goal.lt-requires
-lt-requires g c κs = search rules steps 200000
+pub is_after-requires : goal.is_after-requires
+is_after-requires g c κs = search rules steps 200000
 
 pub overflow_add-first_not_below : goal.overflow_add-first_not_below
 overflow_add-first_not_below g c = search rules steps 200000
 
-pub first_not_below-requires-else-lt : goal.first_not_below-requires-else-lt
-first_not_below-requires-else-lt g c = grind (arith, common_steps) steps 2000000
+pub first_not_below-requires-else-is_after : goal.first_not_below-requires-else-is_after
+first_not_below-requires-else-is_after g c = grind (arith, common_steps) steps 2000000
 
 pub returns-then-len-le-MIDDLE-clause-ticks : goal.returns-then-len-le-MIDDLE-clause-ticks
 returns-then-len-le-MIDDLE-clause-ticks g c = λ few. omega arith
@@ -43,14 +43,14 @@ returns-then-len-le-MIDDLE-clause-ticks g c = λ few. omega arith
 pub returns-then-len-le-MIDDLE-clause-place : goal.returns-then-len-le-MIDDLE-clause-place
 returns-then-len-le-MIDDLE-clause-place g c = search rules steps 200000
 
-pub returns-then-lt-clause-ticks : goal.returns-then-lt-clause-ticks
-returns-then-lt-clause-ticks g c = λ few. omega arith
+pub returns-then-is_after-clause-ticks : goal.returns-then-is_after-clause-ticks
+returns-then-is_after-clause-ticks g c = λ few. omega arith
 
-pub returns-then-lt-clause-place : goal.returns-then-lt-clause-place
-returns-then-lt-clause-place g c = search rules steps 200000
+pub returns-then-is_after-clause-place : goal.returns-then-is_after-clause-place
+returns-then-is_after-clause-place g c = search rules steps 200000
 
-pub returns-else-lt-clause-ticks : goal.returns-else-lt-clause-ticks
-returns-else-lt-clause-ticks g c = λ few. omega arith
+pub returns-else-is_after-clause-ticks : goal.returns-else-is_after-clause-ticks
+returns-else-is_after-clause-ticks g c = λ few. omega arith
 
-pub returns-else-lt-clause-place : goal.returns-else-lt-clause-place
-returns-else-lt-clause-place g c = search rules steps 200000
+pub returns-else-is_after-clause-place : goal.returns-else-is_after-clause-place
+returns-else-is_after-clause-place g c = search rules steps 200000

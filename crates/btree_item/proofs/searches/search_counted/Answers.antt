@@ -21,7 +21,7 @@ len-requires g c = search rules steps 200000
 pub returns-then-place-len-clause-place : goal.returns-then-place-len-clause-place
 returns-then-place-len-clause-place g c =
     let same = length-map c.args.slots.now g.T.Keyed.key_of in
-    sym (key_place-end g.met.T.Key.Ord.total _ _ _ c.requires c.lower_bound-place.ensures.place (omega arith))
+    sym (key_place-end g.met.Q.Query.cuts _ _ _ c.requires c.lower_bound-place.ensures.place (omega arith))
 
 pub returns-then-place-len-clause-within : goal.returns-then-place-len-clause-within
 returns-then-place-len-clause-within g c = grind (arith, common_steps) steps 300000
@@ -38,51 +38,51 @@ tick-requires g c = search rules steps 200000
 pub key_at-requires : goal.key_at-requires
 key_at-requires g c = search rules steps 200000
 
-pub eq-requires : goal.eq-requires
-eq-requires g c κs = search rules steps 200000
+pub is_at-requires : goal.is_at-requires
+is_at-requires g c κs = search rules steps 200000
 
-pub returns-then-eq-clause-place : goal.returns-then-eq-clause-place
-returns-then-eq-clause-place g c =
-    let equal = sym (g.met.T.Key.Ord.matches_eq _ _) ∙ sym c.eq.ensures ∙ c.if-eq.true in
-    sym (key_place-here g.met.T.Key.Ord.total _ _ _ _ c.requires c.lower_bound-place.ensures.place c.key_at.ensures equal)
+pub returns-then-is_at-clause-place : goal.returns-then-is_at-clause-place
+returns-then-is_at-clause-place g c =
+    let equal = sym c.is_at.ensures ∙ c.if-is_at.true in
+    sym (key_place-here g.met.Q.Query.cuts _ _ _ _ c.requires c.lower_bound-place.ensures.place c.key_at.ensures equal)
 
-pub returns-then-eq-clause-within : goal.returns-then-eq-clause-within
-returns-then-eq-clause-within g c = search rules steps 200000
+pub returns-then-is_at-clause-within : goal.returns-then-is_at-clause-within
+returns-then-is_at-clause-within g c = search rules steps 200000
 
-pub returns-then-eq-clause-fits : goal.returns-then-eq-clause-fits
-returns-then-eq-clause-fits g c = search rules steps 200000
+pub returns-then-is_at-clause-fits : goal.returns-then-is_at-clause-fits
+returns-then-is_at-clause-fits g c = search rules steps 200000
 
-pub returns-then-eq-clause-ticks : goal.returns-then-eq-clause-ticks
-returns-then-eq-clause-ticks g c = λ few. let left = c.lower_bound-place.ensures.ticks few in omega arith
+pub returns-then-is_at-clause-ticks : goal.returns-then-is_at-clause-ticks
+returns-then-is_at-clause-ticks g c = λ few. let left = c.lower_bound-place.ensures.ticks few in omega arith
 
-pub returns-else-eq-clause-place : goal.returns-else-eq-clause-place
-returns-else-eq-clause-place g c =
-    let apart = sym (g.met.T.Key.Ord.matches_eq _ _) ∙ sym c.eq.ensures ∙ c.if-eq.false in
-    sym (key_place-between g.met.T.Key.Ord.total _ _ _ _ c.requires c.lower_bound-place.ensures.place c.key_at.ensures apart)
+pub returns-else-is_at-clause-place : goal.returns-else-is_at-clause-place
+returns-else-is_at-clause-place g c =
+    let apart = sym c.is_at.ensures ∙ c.if-is_at.false in
+    sym (key_place-between g.met.Q.Query.cuts _ _ _ _ c.requires c.lower_bound-place.ensures.place c.key_at.ensures apart)
 
-pub returns-else-eq-clause-within : goal.returns-else-eq-clause-within
-returns-else-eq-clause-within g c = grind (arith, common_steps) steps 300000
+pub returns-else-is_at-clause-within : goal.returns-else-is_at-clause-within
+returns-else-is_at-clause-within g c = grind (arith, common_steps) steps 300000
 
-pub returns-else-eq-clause-fits : goal.returns-else-eq-clause-fits
-returns-else-eq-clause-fits g c = search rules steps 200000
+pub returns-else-is_at-clause-fits : goal.returns-else-is_at-clause-fits
+returns-else-is_at-clause-fits g c = search rules steps 200000
 
-pub returns-else-eq-clause-ticks : goal.returns-else-eq-clause-ticks
-returns-else-eq-clause-ticks g c = λ few. let left = c.lower_bound-place.ensures.ticks few in omega arith
+pub returns-else-is_at-clause-ticks : goal.returns-else-is_at-clause-ticks
+returns-else-is_at-clause-ticks g c = λ few. let left = c.lower_bound-place.ensures.ticks few in omega arith
 
 pub returns-then-place-len-clause-counted : goal.returns-then-place-len-clause-counted
 returns-then-place-len-clause-counted g c =
     let first = c.lower_bound-place.ensures.place in
-    let smaller = count_below-first g.met.T.Key.Ord.total _ _ _ c.requires first in
+    let smaller = count_below-first g.met.Q.Query.cuts _ _ _ c.requires first in
     rw smaller (past _ _ _ _ _ c.lower_bound-place.ensures.counted (omega arith))
 
-pub returns-then-eq-clause-counted : goal.returns-then-eq-clause-counted
-returns-then-eq-clause-counted g c =
+pub returns-then-is_at-clause-counted : goal.returns-then-is_at-clause-counted
+returns-then-is_at-clause-counted g c =
     let first = c.lower_bound-place.ensures.place in
-    let smaller = count_below-first g.met.T.Key.Ord.total _ _ _ c.requires first in
+    let smaller = count_below-first g.met.Q.Query.cuts _ _ _ c.requires first in
     rw smaller (within _ _ _ _ _ _ c.lower_bound-place.ensures.counted c.tick.ensures (omega arith))
 
-pub returns-else-eq-clause-counted : goal.returns-else-eq-clause-counted
-returns-else-eq-clause-counted g c =
+pub returns-else-is_at-clause-counted : goal.returns-else-is_at-clause-counted
+returns-else-is_at-clause-counted g c =
     let first = c.lower_bound-place.ensures.place in
-    let smaller = count_below-first g.met.T.Key.Ord.total _ _ _ c.requires first in
+    let smaller = count_below-first g.met.Q.Query.cuts _ _ _ c.requires first in
     rw smaller (within _ _ _ _ _ _ c.lower_bound-place.ensures.counted c.tick.ensures (omega arith))

@@ -13,7 +13,7 @@ pub place-requires : goal.place-requires
 place-requires g c = (let fits = c.well_formed in omega arith, rw (items_are c.args.self.now _ c.self.inside.first c.self.inside.branches c.self.view_is) c.requires)
 
 pub returns-clause-place : goal.returns-clause-place
-returns-clause-place g c = c.place.ensures.place ∙ ap (place_of g.K.Ord.cmp c.args.key.now) (items_are c.args.self.now _ c.self.inside.first c.self.inside.branches c.self.view_is)
+returns-clause-place g c = c.place.ensures.place ∙ ap (place_of g.Q.Query.compare c.args.key.now) (items_are c.args.self.now _ c.self.inside.first c.self.inside.branches c.self.view_is)
 
 pub returns-clause-fits : goal.returns-clause-fits
 returns-clause-fits g c =
@@ -22,10 +22,10 @@ returns-clause-fits g c =
     omega (arith, long, same, c.place.ensures.fits)
 
 pub returns-clause-here : goal.returns-clause-here
-returns-clause-here g c = slice_get-from_place g.K.Ord.cmp g.met.K.Ord.total c.args.key.now _ c.place.result c.requires (returns-clause-place g c)
+returns-clause-here g c = slice_get-from_place g.Q.Query.compare g.met.Q.Query.cuts c.args.key.now _ c.place.result c.requires (returns-clause-place g c)
 
 pub returns-clause-absent : goal.returns-clause-absent
-returns-clause-absent g c = found-from_place g.K.Ord.cmp c.args.key.now _ c.place.result (returns-clause-place g c)
+returns-clause-absent g c = found-from_place g.Q.Query.compare c.args.key.now _ c.place.result (returns-clause-place g c)
 
 pub returns-clause-sized : goal.returns-clause-sized
 returns-clause-sized g c = length-map c.args.self.now.branches (λ b. b.0)
@@ -43,5 +43,5 @@ returns-clause-counted g c =
     let items = items_are c.args.self.now _ c.self.inside.first bs c.self.view_is in
     let sized : length bs ≡ size_of (internal_view c.args.self.now) = sym (length-map bs (λ b. b.item)) ∙ ap length items in
     c.place.ensures.counted
-    ∙ ap (λ n. c.args.steps.now.count + comparisons n (before g.K.Ord.cmp k (map (λ b. b.item) bs))) sized
-    ∙ ap (λ l. c.args.steps.now.count + comparisons (size_of (internal_view c.args.self.now)) (before g.K.Ord.cmp k l)) items
+    ∙ ap (λ n. c.args.steps.now.count + comparisons n (before g.Q.Query.compare k (map (λ b. b.item) bs))) sized
+    ∙ ap (λ l. c.args.steps.now.count + comparisons (size_of (internal_view c.args.self.now)) (before g.Q.Query.compare k l)) items

@@ -3,14 +3,14 @@ use Rattle.btree_shape.specs.TreeState.{pairs_of}
 use Rattle.std.proofs.Common.{is_some}
 use Rattle.std.specs.Map.{keys_of}
 use Rattle.btree_set.specs.Elements.{stored}
-use Rattle.btree_set.proofs.KeyLemmas.{taken-keys, taken-nodes, there-keys}
+use Rattle.btree_set.proofs.KeyLemmas.{removed-keys, taken-nodes, there-keys}
 use Rattle.btree_set.proofs.set.BTreeSet.remove.Goals as goal
 
 pub returns-clause-there : goal.returns-clause-there
 returns-clause-there g c = rw (← c.self.view_is) (let same : is_some (stored g.T.Ord.cmp c.args.element.now (keys_of (pairs_of c.self.inside.map))) ≡ c.is_some.result = (let a = there-keys g.T.Ord.cmp c.args.element.now (pairs_of c.self.inside.map) in let b = ap is_some c.remove_entry.ensures.entry in let e = c.is_some.ensures in cc) in ((λ t. same ∙ t), (λ t. sym same ∙ t)))
 
 pub returns-clause-removed : goal.returns-clause-removed
-returns-clause-removed g c = rw (← c.self.view_is) (taken-keys g.T.Ord.cmp c.args.element.now c.remove_entry.result c.self.inside.map c.remove_entry.new.self c.remove_entry.ensures.entry c.remove_entry.ensures.removed_by_key c.remove_entry.ensures.unchanged)
+returns-clause-removed g c = rw (← c.self.view_is) (ap keys_of c.remove_entry.ensures.removed ∙ removed-keys g.T.Ord.cmp c.args.element.now (pairs_of c.self.inside.map))
 
 pub returns-clause-nodes : goal.returns-clause-nodes
 returns-clause-nodes g c = rw (← c.self.view_is) (taken-nodes g.T.Ord.cmp c.args.element.now c.remove_entry.result c.self.inside.map c.remove_entry.new.self c.remove_entry.ensures.entry c.remove_entry.ensures.removed_by_key c.remove_entry.ensures.unchanged)

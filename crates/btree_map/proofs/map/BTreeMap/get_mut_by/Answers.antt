@@ -1,0 +1,7 @@
+use Rattle.std.proofs.Common.{refl}
+use Rattle.btree_map.proofs.map.BTreeMap.get_mut_by.Goals as goal
+
+pub returns : goal.returns
+returns g c =
+    rw (← c.self.view_is)
+    (refl, record { writes_back = tt; value = c.get_mut_by.ensures.value; exchanged = c.get_mut_by.ensures.exchanged })

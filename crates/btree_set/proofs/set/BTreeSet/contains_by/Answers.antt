@@ -1,0 +1,6 @@
+use Rattle.btree_shape.specs.TreeState.{pairs_of}
+use Rattle.btree_set.proofs.KeyLemmas.{some-keys}
+use Rattle.btree_set.proofs.set.BTreeSet.contains_by.Goals as goal
+
+pub returns : goal.returns
+returns g c = rw (← c.self.view_is) ((λ is. (some-keys g.Q.Query.compare c.args.query.now (pairs_of c.self.inside.map)).0 (c.contains_key_by.ensures.0 is)), (λ is. c.contains_key_by.ensures.1 ((some-keys g.Q.Query.compare c.args.query.now (pairs_of c.self.inside.map)).1 is)))
