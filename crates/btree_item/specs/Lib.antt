@@ -8,3 +8,4 @@ pub mod Comparisons
 pub mod Keys
 pub mod KeyLaws
 pub mod Pairs
+pub mod Refusals

@@ -1,4 +1,9 @@
 //! Faults of nodes and trees.
+ghost use Rattle.std.specs.Prelude.{Some};
+ghost use Rattle.btree_item.specs.Refusals.{fault_text};
+
+use std::error::Error;
+use std::fmt::{Display, Formatter, Result, Write};
 
 /// What is wrong with a node, or with a whole tree.
 #[derive(Clone, Copy, Debug, PartialEq, Eq)]
@@ -30,3 +35,27 @@ pub enum Fault {
     /// The length is greater than its limit.
     OverLimit,
 }
+
+impl Display for Fault {
+    ghost output = { λ fault. Some (fault_text fault) };
+
+    fn fmt<W: Write>(&self, f: &mut Formatter<W>) -> Result {
+        f.write_str(match self {
+            Fault::NoNode => "a node's number is not used",
+            Fault::WrongParent => "a node's parent is not the node above it",
+            Fault::Overflowing => "a node has too many items",
+            Fault::Underflowing => "a node has too few items",
+            Fault::EmptyRoot => "the root has no item",
+            Fault::Unsorted => "the keys of a node do not ascend",
+            Fault::BelowSeparator => "a key is not greater than the separator before it",
+            Fault::AboveSeparator => "a key is not less than the separator after it",
+            Fault::TooDeep => "there are too many levels",
+            Fault::NotBalanced => "two leaves are on different levels",
+            Fault::WrongLength => "the length is not the number of items",
+            Fault::Unreachable => "a node is not in the tree",
+            Fault::OverLimit => "the length is greater than its limit",
+        })
+    }
+}
+
+impl Error for Fault {}

@@ -1,10 +1,12 @@
 //! Refusals of an insertion and of an update, and the errors that `?` makes of them.
-ghost use Rattle.std.specs.Prelude.{◌≡◌};
+ghost use Rattle.std.specs.Prelude.{◌≡◌, Some};
 ghost use Rattle.std.specs.IoError.{error_kind};
 ghost use Rattle.std.specs.declared.io.ErrorKind.TheVariants.{OutOfMemory};
+ghost use Rattle.btree_item.specs.Refusals.{cause_text};
 
 use std::alloc::AllocError;
-use std::fmt::{Debug, Formatter, Result, Write};
+use std::error::Error;
+use std::fmt::{Debug, Display, Formatter, Result, Write};
 use std::io;
 
 /// Why an insertion was refused.
@@ -41,6 +43,41 @@ impl<K: Debug, F> Debug for UpdateRefused<K, F> {
             .finish_non_exhaustive()
     }
 }
+
+impl Display for Cause {
+    ghost output = { λ cause. Some (cause_text cause) };
+
+    fn fmt<W: Write>(&self, f: &mut Formatter<W>) -> Result {
+        match self {
+            Cause::Store => f.write_str("no node could be allocated"),
+            Cause::Count => f.write_str("there are as many pairs as the limit allows"),
+        }
+    }
+}
+
+impl Error for Cause {}
+
+/// The cause, without the key and the value.
+impl<K, V> Display for Refused<K, V> {
+    ghost output = { λ refused. Some (cause_text refused.cause) };
+
+    fn fmt<W: Write>(&self, f: &mut Formatter<W>) -> Result {
+        write!(f, "{}", self.cause)
+    }
+}
+
+impl<K: Debug + Drop, V: Debug + Drop> Error for Refused<K, V> {}
+
+/// The cause, without the key and the action.
+impl<K, F> Display for UpdateRefused<K, F> {
+    ghost output = { λ refused. Some (cause_text refused.cause) };
+
+    fn fmt<W: Write>(&self, f: &mut Formatter<W>) -> Result {
+        write!(f, "{}", self.cause)
+    }
+}
+
+impl<K: Debug + Drop, F: Drop> Error for UpdateRefused<K, F> {}
 
 fn out_of_memory() -> io::Error
     ensures { error_kind result ≡ OutOfMemory }
