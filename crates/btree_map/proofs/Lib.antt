@@ -12,6 +12,7 @@ pub mod CursorSteps
 pub mod IndexLemmas
 pub mod PlaceLemmas
 pub mod QueryLemmas
+pub mod OutsideLemmas
 pub mod RangeStarts
 pub mod RangeSteps
 pub mod EditingLists

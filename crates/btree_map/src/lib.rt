@@ -15,6 +15,7 @@ mod map;
 mod owned;
 mod pair_test;
 mod queries;
+mod range_removal;
 mod removal;
 mod shown;
 mod traits;
