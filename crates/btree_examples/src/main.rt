@@ -7,8 +7,8 @@
 
 ghost use Rattle.std.specs.Prelude.{◌≡◌, ◌+◌, OnOk, OnErr, unwrap_or};
 ghost use Rattle.std.specs.Ordering.{nat_cmp};
-ghost use Rattle.btree_item.specs.Pairs.{found_value, inserted};
-ghost use Rattle.btree_shape.specs.TreeState.{IsValidIn, pairs_of};
+ghost use Rattle.btree_slab.specs.Pairs.{found_value, inserted};
+ghost use Rattle.btree_slab.specs.TreeState.{IsValidIn, pairs_of};
 
 mod booked;
 mod bookings;

@@ -27,3 +27,4 @@ pub use extension::insert_in_order;
 pub use map::BTreeMap;
 pub use owned::{IntoIter, IntoKeys, IntoValues};
 pub use pair_test::{ByKey, ByPair, PairTest};
+pub use queries::{AfterAll, BeforeAll};
