@@ -79,7 +79,6 @@ module _ {A : Type 0} where
 
 module _ {K : Type 0} {cmp : K → K → Ordering} (laws : IsTotalOrder cmp) where
   -- a key after one inside a start bound is inside it
-  -- a key above one that is inside a start bound is inside it too
   pub from-on : (lo : Bound K) (x y : K) → cmp x y ≡ Less → is_from_start cmp lo x ≡ true → is_from_start cmp lo y ≡ true
   from-on Unbounded x y less pass = refl
   from-on (Included a) x y less pass = by (cmp a x) refl
