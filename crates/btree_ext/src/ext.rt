@@ -107,7 +107,10 @@ pub trait BTreeExt<K: Ord, V> {
     }
 
     /// Returns the store of the nodes, for reading.
-    fn store(&self) -> &Self::Nodes
+    fn store<'a>(&'a self) -> &'a Self::Nodes
+    where
+        K: 'a,
+        V: 'a,
         ensures content { Self.Nodes.content result.now ≡ (state self.now).nodes }
         ensures refusals { Self.Nodes.refusals result.now ≡ (state self.now).kept.refusals }
     {
