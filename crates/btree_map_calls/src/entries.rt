@@ -157,6 +157,18 @@ fn or_insert<C: NodesMut<u64, u64>>(
     }
 }
 
+// Sets a value by the entry of its key, and reads the pair by the entry that comes back.
+fn insert_entry<C: NodesMut<u64, u64>>(
+    map: &mut Map<C>,
+    (key, value): (u64, u64),
+    reply: &mut Reply,
+) -> Result<(), AllocError> {
+    match map.entry(key).insert_entry(value) {
+        Ok(entry) => reply.pair(*entry.key(), *entry.get()),
+        Err(refused) => reply.refused_pair(refused.cause, refused.key, refused.value),
+    }
+}
+
 // Reads the key or the value of the first entry, or of the last one, or shows or removes it.
 fn of_end<C: NodesMut<u64, u64>>(
     map: &mut Map<C>,
@@ -210,6 +222,7 @@ pub(crate) fn serve_entries<C: NodesMut<u64, u64>>(
     match (verb, asked(first)) {
         ("first_entry" | "last_entry", _) => of_end(map, verb, rest, reply)?,
         ("entry", Some((key, _))) => show(map, key, reply)?,
+        ("insert_entry", Some(pair)) => insert_entry(map, pair, reply)?,
         ("occupied", Some((key, _))) => occupied(map, key, more, reply)?,
         ("vacant", Some((key, _))) => {
             let (step, by) = word(more);
