@@ -3,7 +3,7 @@ use Rattle.std.specs.BTreeMap.Range.{is_from_start}
 use Rattle.std.specs.List.{AllByRecursion}
 use Rattle.std.specs.declared.ops.Bound.TheVariants.{Included}
 use Rattle.btree_shape.specs.TreeState.{pairs_of}
-use Rattle.btree_map.proofs.splitting.BTreeMap.split_off.Given as goal
+use Rattle.btree_map.proofs.map.BTreeMap.split_off.Given as goal
 
 abbrev pub invariant-loop-last : goal.invariant-loop-last
 invariant-loop-last g l = record {
