@@ -56,6 +56,7 @@ impl<K: Ord + Drop, V: Drop, C: NodesMut<K, V>> BTreeMap<K, V, C> {
         ensures cause { IfErr result (λ stop.
             RefusesInTurn K.cmp C.MayRefuse (unlimited (C.refusals nodes)) stop.0 stop.1) }
     {
+        self.tell_well_formed();
         let mut other = BTreeMap::in_store(nodes);
         while let Some((last, value)) = pop_from(self, key) {
             match other.insert(last, value) {

@@ -10,7 +10,7 @@ invariant-loop-last g l = record {
   uncounted : l.self.kept ≡ l.initial.self.kept;
   moved_uncounted : l.other.kept ≡ l.initial.other.kept;
   split : pairs_of l.initial.self ≡ pairs_of l.self ++ pairs_of l.other;
-  from : AllByRecursion (λ x. is_from_start g.K.Ord.cmp (Included l.fn.key.now) x.0 ≡ true) (pairs_of l.other);
+  from : AllByRecursion (λ x. is_from_start g.K.Ord.cmp (Included l.fn.key) x.0 ≡ true) (pairs_of l.other);
 }
 
 abbrev pub decreases-loop-last : goal.decreases-loop-last
