@@ -1,6 +1,6 @@
 -- What navigation says of the end of a map, in the words of insertions there.
 use Rattle.std.proofs.Common.{◌≡◌, ℕ, zero, suc, Option, Some, None, IfSome, length}
-use Rattle.btree_item.specs.declared.address.Address.{Address}
+use Rattle.btree_item.specs.Address.{Address}
 use Rattle.btree_shape.specs.TreeState.{TreeState, pairs_of}
 use Rattle.btree_find.specs.Navigation.{IsItemBefore}
 use Rattle.btree_map.specs.Ascending.{IsLastPair}

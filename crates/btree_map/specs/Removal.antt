@@ -2,7 +2,7 @@
 use Rattle.std.specs.Prelude.{◌≡◌, ℕ}
 use Rattle.std.specs.List.{remove}
 use Rattle.std.specs.declared.cmp.Ordering.{Ordering}
-use Rattle.btree_item.specs.declared.address.Address.{Address}
+use Rattle.btree_item.specs.Address.{Address}
 use Rattle.btree_shape.specs.TreeState.{TreeState, pairs_of}
 use Rattle.btree_find.specs.Navigation.{IsItemAddress}
 use Rattle.btree_edit.specs.Remove.{IsRemoved, RemovesBy, RemovesByKey}
