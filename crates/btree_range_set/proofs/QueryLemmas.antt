@@ -19,7 +19,7 @@ pub first-lowest : (xs : List (ℕ × ℕ)) (o : Option (ℕ × ℕ)) → AreRun
     → IfSome o (λ x. (n : ℕ) → has_number xs n ≡ true → x.0 ≤ n)
 first-lowest xs None runs is = tt
 first-lowest [] (Some x) runs is = absurd (cc)
-first-lowest (y ∷ ys) (Some x) runs is n has = elim (cases_lt n x.0) [
+first-lowest (y ∷ ys) (Some x) runs is = λ n has. elim (cases_lt n x.0) [
   | inr from ↦ from
   | inl below ↦
       let same : x ≡ y = same_Some _ _ is in
@@ -30,13 +30,16 @@ first-lowest (y ∷ ys) (Some x) runs is n has = elim (cases_lt n x.0) [
 
 below-last : (low : ℕ) (xs : List (ℕ × ℕ)) (x : ℕ × ℕ) → AreRunsFrom low xs → Some x ≡ last_of xs → (n : ℕ) → has_number xs n ≡ true → n < x.1
 below-last low [] x runs is n has = absurd (cc)
-below-last low (y ∷ []) x runs is n has =
-    let same : x ≡ y = same_Some _ _ is in
-    let end = ap (λ (z : ℕ × ℕ). z.1) same in
-    by (cases_Bool (is_within y n)) end where
-  by : (is_within y n ≡ true) ⊎ (is_within y n ≡ false) → x.1 ≡ y.1 → n < x.1
-  by (inl inside) end = let high = within-high y n inside in omega (arith, high, end)
-  by (inr out) end = absurd (cc)
+below-last low (y ∷ []) x runs is n has = by (cases_Bool (is_within y n)) where
+  end : x.1 ≡ y.1
+  end =
+      let first : length (y ∷ []) - 1 ≡ 0 = omega arith in
+      let same : x ≡ y = same_Some _ _ (is ∙ ap (slice_get (y ∷ [])) first) in
+      ap (λ (z : ℕ × ℕ). z.1) same
+
+  by : (is_within y n ≡ true) ⊎ (is_within y n ≡ false) → n < x.1
+  by (inl inside) = let high = within-high y n inside in omega (arith, high, end)
+  by (inr out) = let no : false ≡ true = rw out at has in absurd (cc)
 below-last low (y ∷ z ∷ xs) x runs is n has = by (cases_Bool (is_within y n)) (below-last (suc y.1) (z ∷ xs) x runs.2 later) where
   later : Some x ≡ last_of (z ∷ xs)
   later = let one : length (y ∷ z ∷ xs) - 1 ≡ suc (length (z ∷ xs) - 1) = omega arith in is ∙ ap (slice_get (y ∷ z ∷ xs)) one

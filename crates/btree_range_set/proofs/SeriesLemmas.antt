@@ -1,8 +1,9 @@
 -- Series of insertions and removals, by one range more.
-use Rattle.std.proofs.Common.{◌≡◌, ◌∙◌, ◌+◌, ◌<◌, ◌≤◌, ℕ, Bool, true, false, not, ◌&&◌, ◌||◌, List, [], ◌∷◌, length, Option, Some, refl, sym, ap, subst, arith, inl, inr}
+use Rattle.std.proofs.Common.{◌≡◌, ◌∙◌, ◌<◌, ◌≤◌, ℕ, Bool, true, false, not, ◌&&◌, ◌||◌, List, [], ◌∷◌, length, Option, Some, refl, sym, ap, subst, arith, inl, inr}
 use Rattle.std.proofs.lemmas.Bool.{cases_lt}
 use Rattle.btree_item.specs.declared.refused.Cause.{Cause}
 use Rattle.btree_item.specs.declared.refused.Cause.TheVariants.{Count, Store}
+use Rattle.btree_shape.specs.TreeState.{refused_once}
 use Rattle.btree_range_set.specs.Ranges.{IsDifference, IsUnion, has_number, is_within}
 use Rattle.btree_range_set.specs.Series.{CountsLastRefusal, GoesThrough}
 use Rattle.btree_range_set.specs.State.{GrowsWithinLimit, IsRefused, RangeState}
@@ -81,11 +82,11 @@ pub grows-refused : (old mid new : RangeState) (cause : Cause) → GrowsWithinLi
 grows-refused old mid new cause grows is = subst (λ l. length old.ranges < length l → length l ≤ old.kept.limit) (sym is.ranges) grows
 
 pub counts-last : (old mid new : RangeState) (cause : Cause) → mid.kept ≡ old.kept → IsRefused mid new cause → CountsLastRefusal old new cause
-counts-last old mid new Store same is = (
-  is.counts.0 ∙ ap (λ k. record k { refusals = k.refusals + 1 }) same,
-  let count = ap length is.ranges in let limit = ap (λ k. k.limit) same in omega (arith, is.counts.1, count, limit),
-)
-counts-last old mid new Count same is = (
-  is.counts.0 ∙ same,
-  let count = ap length is.ranges in let limit = ap (λ k. k.limit) same in omega (arith, is.counts.1, count, limit),
-)
+counts-last old mid new Store same is =
+    let count = ap length is.ranges in
+    let limit = ap (λ k. k.limit) same in
+    (is.counts.0 ∙ ap refused_once same, omega (arith, is.counts.1, count, limit))
+counts-last old mid new Count same is =
+    let count = ap length is.ranges in
+    let limit = ap (λ k. k.limit) same in
+    (is.counts.0 ∙ same, omega (arith, is.counts.1, count, limit))
