@@ -1,9 +1,9 @@
 -- A run of blocks in a gap: they are free.
 use Rattle.std.proofs.Common.{◌≡◌, ◌≤◌, ◌<◌, ◌+◌, ◌-◌, ◌∙◌, ℕ, true, false, not, List, ◌∷◌, sym, arith}
 use Rattle.std.proofs.lemmas.Bool.{and_parts, not-true, or_left, or_right}
-use Rattle.btree_range_set.specs.CallerLaws.{within-from, within-high, within-low}
-use Rattle.btree_range_set.specs.Gaps.{AreGaps}
-use Rattle.btree_range_set.specs.Ranges.{has_number, is_within}
+use Rattle.btree_slab.specs.Gaps.{AreGaps}
+use Rattle.btree_slab.specs.RangeLaws.{within-from, within-high, within-low}
+use Rattle.btree_slab.specs.Ranges.{has_number, is_within}
 use Rattle.btree_examples.specs.Blocks.{AreFreeBelow}
 
 -- the blocks in the gaps that are left are free

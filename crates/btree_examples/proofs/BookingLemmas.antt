@@ -3,16 +3,15 @@ use Rattle.std.proofs.Common.{◌≡◌, ◌<◌, ◌≤◌, ◌+◌, ◌∙◌,
 use Rattle.std.proofs.lemmas.Bool.{le-ltb, lt-ltb}
 use Rattle.std.proofs.lemmas.Cmp.{ranked}
 use Rattle.std.proofs.lemmas.List.{take-append-drop}
-use Rattle.std.proofs.lemmas.List.Sums.{sum_by-append}
+use Rattle.std.proofs.lemmas.List.Sums.{sum_by-append, sum_by-cons}
 use Rattle.std.specs.List.{AllByRecursion, count_by}
 use Rattle.std.specs.Ordering.{nat_cmp}
 use Rattle.std.specs.declared.cmp.Ordering.TheVariants.{Equal, Less}
-use Rattle.btree_item.specs.declared.address.Address.{Address}
-use Rattle.btree_shape.specs.TreeState.{TreeState, pairs_of}
-use Rattle.btree_find.specs.Answers.{IsFoundAt, IsGapAt}
-use Rattle.btree_find.specs.CallerLaws.{found-equal, pair-there}
-use Rattle.btree_find.specs.Navigation.{IsItemAt, IsItemBefore, IsNormalized, IsPrevious}
-use Rattle.btree_item.proofs.KeyLemmas.{count_by-cons}
+use Rattle.btree_slab.specs.declared.Address.{Address}
+use Rattle.btree_slab.specs.TreeState.{TreeState, pairs_of}
+use Rattle.btree_slab.specs.Answers.{IsFoundAt, IsGapAt}
+use Rattle.btree_slab.specs.FindLaws.{found-equal, pair-there}
+use Rattle.btree_slab.specs.Navigation.{IsItemAt, IsItemBefore, IsNormalized, IsPrevious}
 use Rattle.btree_examples.specs.Bookings.{AreApart, IsFirstCandidate, overlaps}
 
 and-false : (b : Bool) → (b && false) ≡ false
@@ -32,7 +31,7 @@ all-at P (y ∷ ys) zero x all e = let same : y ≡ x = cc in subst P same all.0
 all-at P (y ∷ ys) (suc q) x all e = all-at P ys q x all.1 e
 
 skip : {X : Type 0} (p : X → Bool) (x : X) (xs : List X) → p x ≡ false → count_by p (x ∷ xs) ≡ count_by p xs
-skip p x xs not = count_by-cons p x xs ∙ rw not (omega arith)
+skip p x xs not = sum_by-cons (λ z. cond (p z) 1 0) x xs ∙ rw not (omega arith)
 
 -- the bookings before one that begins at a time or earlier end by then
 pub none-before : (start end : ℕ) (xs : List (ℕ × ℕ)) → AreApart xs → (q : ℕ) (x : ℕ × ℕ) → slice_get xs q ≡ Some x → x.0 ≤ start
@@ -68,10 +67,10 @@ pub count-next : {X : Type 0} (p : X → Bool) (xs : List X) (q : ℕ) (x : X) �
 count-next p [] q x e = absurd (cc)
 count-next p (y ∷ ys) zero x e =
     let same : y ≡ x = cc in
-    count_by-cons p y [] ∙ ap (λ z. cond (p z) 1 0 + 0) same ∙ omega arith
+    sum_by-cons (λ z. cond (p z) 1 0) y [] ∙ ap (λ z. cond (p z) 1 0 + 0) same ∙ omega arith
 count-next p (y ∷ ys) (suc q) x e =
-    let a = count_by-cons p y (take (suc q) ys) in
-    let b = count_by-cons p y (take q ys) in
+    let a = sum_by-cons (λ z. cond (p z) 1 0) y (take (suc q) ys) in
+    let b = sum_by-cons (λ z. cond (p z) 1 0) y (take q ys) in
     let c = count-next p ys q x e in
     omega arith
 

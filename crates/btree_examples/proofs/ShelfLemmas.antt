@@ -4,7 +4,7 @@ use Rattle.std.specs.Map.{values_of}
 use Rattle.std.specs.Ordering.{is_eq, is_lt}
 use Rattle.std.specs.declared.cmp.Ordering.{Ordering}
 use Rattle.std.specs.declared.cmp.Ordering.TheVariants.{Less, Equal, Greater}
-use Rattle.btree_item.specs.KeyLaws.{side_after, side_before}
+use Rattle.btree_slab.specs.KeyLaws.{side_after, side_before}
 use Rattle.btree_examples.specs.Shelves.{shelves_of}
 
 -- what is neither before nor after all pairs of a part is of the part

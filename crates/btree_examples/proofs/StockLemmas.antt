@@ -2,7 +2,7 @@
 use Rattle.std.proofs.Common.{◌≡◌, ◌∙◌, ℕ, Bool, true, cond, not, ◌==◌, List, [], ◌∷◌, ◌++◌, Some, None, drop, filter, slice_get, take, sym, ap, subst, append_assoc, ne_eqb}
 use Rattle.std.proofs.lemmas.List.{take-append-drop}
 use Rattle.std.proofs.lemmas.Option.{same_Some}
-use Rattle.btree_find.specs.CallerLaws.{none-first}
+use Rattle.btree_slab.specs.FindLaws.{none-first}
 use Rattle.btree_examples.specs.Stock.{is_in_stock}
 
 module _ {X : Type 0} (keep : X → Bool) (whole : List X) where

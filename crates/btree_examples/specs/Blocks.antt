@@ -1,7 +1,7 @@
 -- Numbered blocks, of which some are reserved.
 use Rattle.std.specs.Prelude.{◌≡◌, ℕ, ◌+◌, ◌<◌, true, false, List, Option, Some, None}
-use Rattle.btree_range_set.specs.Ranges.{IsUnion, has_number, is_within}
-use Rattle.btree_range_set.specs.State.{RangeState}
+use Rattle.btree_slab.specs.Ranges.{IsUnion, has_number, is_within}
+use Rattle.btree_slab.specs.State.{RangeState}
 
 -- the blocks of a run are below `end`, and none is reserved
 abbrev pub AreFreeBelow : (end : ℕ) → (reserved : List (ℕ × ℕ)) → (run : ℕ × ℕ) → Type 0

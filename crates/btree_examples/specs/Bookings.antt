@@ -1,9 +1,9 @@
 -- Bookings by the time at which they begin, each with the time at which it ends.
 use Rattle.std.specs.Prelude.{◌≡◌, ◌<◌, ◌≤◌, ℕ, Bool, ◌&&◌, nat_lt, List, [], ◌∷◌, take, Option}
 use Rattle.std.specs.List.{AllByRecursion, count_by}
-use Rattle.btree_item.specs.declared.address.Address.{Address}
-use Rattle.btree_shape.specs.TreeState.{TreeState, pairs_of}
-use Rattle.btree_find.specs.Navigation.{IsItemAt}
+use Rattle.btree_slab.specs.declared.Address.{Address}
+use Rattle.btree_slab.specs.TreeState.{TreeState, pairs_of}
+use Rattle.btree_slab.specs.Navigation.{IsItemAt}
 
 -- a booking overlaps the time from start to end
 abbrev pub overlaps : (start end : ℕ) → ℕ × ℕ → Bool

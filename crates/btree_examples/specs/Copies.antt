@@ -1,8 +1,8 @@
 -- Two copies of a tree, of which either may have a fault.
 use Rattle.std.specs.Prelude.{◌≡◌, ◌⊎◌}
 use Rattle.std.specs.declared.cmp.Ordering.{Ordering}
-use Rattle.btree_shape.specs.TreeState.{TreeState}
-use Rattle.btree_raw.specs.Limit.{IsBTreeWithinLimit}
+use Rattle.btree_slab.specs.TreeState.{TreeState}
+use Rattle.btree_slab.specs.Limit.{IsBTreeWithinLimit}
 
 module _ {K V : Type 0} (cmp : K → K → Ordering) (first second : TreeState K V) where
   -- what was read is the first copy, or the second one if the first has a fault

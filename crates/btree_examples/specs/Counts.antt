@@ -1,7 +1,7 @@
 -- Keys that are counted: visits at doors, words of a text.
 use Rattle.std.specs.Prelude.{◌≡◌, ℕ, List, ◌+◌, min, unwrap_or}
 use Rattle.std.specs.declared.cmp.Ordering.{Ordering}
-use Rattle.btree_item.specs.Pairs.{found_value, inserted}
+use Rattle.btree_slab.specs.Pairs.{found_value, inserted}
 
 module _ {K : Type 0} (cmp : K → K → Ordering) where
   -- the count of a key after one more, at most `limit`

@@ -1,9 +1,11 @@
 pub mod Blocks
 pub mod Bookings
+pub mod Cache
 pub mod Copies
 pub mod Counts
 pub mod Listing
 pub mod Minutes
+pub mod Orders
 pub mod Shelves
 pub mod Texts
 pub mod Stock

@@ -4,7 +4,7 @@ use Rattle.std.specs.BTreeMap.Range.{entries_between}
 use Rattle.std.specs.Map.{keys_of}
 use Rattle.std.specs.Ordering.{nat_cmp}
 use Rattle.std.specs.declared.ops.Bound.TheVariants.{Excluded, Unbounded}
-use Rattle.btree_shape.specs.TreeState.{TreeState, pairs_of}
+use Rattle.btree_slab.specs.TreeState.{TreeState, pairs_of}
 
 -- the first parts of a listing that come after one, at most `size` of them
 abbrev pub page_after : {V : Type 0} → (last size : ℕ) → TreeState ℕ V → List ℕ

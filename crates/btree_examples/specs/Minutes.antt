@@ -3,9 +3,9 @@ use Rattle.std.specs.Prelude.{ℕ, ◌*◌, List}
 use Rattle.std.specs.Cmp.{nat_cmp_total}
 use Rattle.std.specs.Ordering.{nat_cmp}
 use Rattle.std.specs.declared.cmp.Ordering.{Ordering}
-use Rattle.btree_item.specs.Keys.{Cuts}
-use Rattle.btree_item.specs.KeyLaws.{cuts_of, cuts_before, side_before}
-use Rattle.btree_map.specs.Queries.{pairs_from_to}
+use Rattle.btree_slab.specs.Keys.{Cuts}
+use Rattle.btree_slab.specs.KeyLaws.{cuts_of, cuts_before, side_before}
+use Rattle.btree_slab.specs.Queries.{pairs_from_to}
 
 -- on which side of the start of a minute a second is
 abbrev pub side_of_minute : ℕ → ℕ → Ordering

@@ -2,9 +2,9 @@
 use Rattle.std.specs.Prelude.{ℕ, Bool, List, not, ◌==◌, ◌++◌, filter}
 use Rattle.std.specs.declared.cmp.Ordering.{Ordering}
 use Rattle.std.specs.declared.ops.Bound.TheVariants.{Included}
-use Rattle.btree_shape.specs.TreeState.{TreeState}
-use Rattle.btree_walk.specs.Bounds.{pairs_from}
-use Rattle.btree_map.specs.Spans.{pairs_before}
+use Rattle.btree_slab.specs.TreeState.{TreeState}
+use Rattle.btree_slab.specs.Bounds.{pairs_from}
+use Rattle.btree_slab.specs.Spans.{pairs_before}
 
 -- some of the part are left
 abbrev pub is_in_stock : {K : Type 0} → K × ℕ → Bool

@@ -3,7 +3,7 @@ use Rattle.std.specs.Prelude.{ℕ, List, Option, String, string_bytes}
 use Rattle.std.specs.Cmp.Lexicographic.{slice_cmp}
 use Rattle.std.specs.Ordering.{nat_cmp}
 use Rattle.std.specs.declared.cmp.Ordering.{Ordering}
-use Rattle.btree_item.specs.Pairs.{found_value}
+use Rattle.btree_slab.specs.Pairs.{found_value}
 
 module _ {A : Type 0} where
   -- on which side of a text a word is

@@ -1,6 +1,6 @@
 //! Bookings that are made, and one that is cancelled at once.
 ghost use Rattle.std.specs.Prelude.{◌≡◌, IfOk, OnErr, OnOk};
-ghost use Rattle.btree_shape.specs.TreeState.{pairs_of};
+ghost use Rattle.btree_slab.specs.TreeState.{pairs_of};
 ghost use Rattle.btree_examples.specs.Bookings.{AreApart};
 
 use btree_slab::generic::map::Refused;

@@ -1,7 +1,7 @@
 //! Bookings of a room, by the time at which each begins. Those that overlap a given time are found by navigation from one address.
 ghost use Rattle.std.specs.Prelude.{◌≡◌};
 ghost use Rattle.std.specs.List.{count_by};
-ghost use Rattle.btree_shape.specs.TreeState.{pairs_of};
+ghost use Rattle.btree_slab.specs.TreeState.{pairs_of};
 ghost use Rattle.btree_examples.specs.Bookings.{AreApart, IsFirstCandidate, overlaps};
 
 use btree_slab::{Address, BTreeExt, BTreeMap};

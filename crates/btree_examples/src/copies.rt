@@ -1,8 +1,8 @@
 //! Trees in nodes that another program wrote: of two copies the second is read if the first has a fault.
 ghost use Rattle.std.specs.Prelude.{◌≡◌, ◌↔◌, Err, IfErr, IfOk, IsTrue, OnErr};
-ghost use Rattle.btree_valid.specs.Faults.{IsRawVerdict};
-ghost use Rattle.btree_valid.specs.Reading.{IsReadable, PassesPositions};
-ghost use Rattle.btree_valid.specs.Verdicts.{HasNoFaultUnder};
+ghost use Rattle.btree_slab.specs.Faults.{IsRawVerdict};
+ghost use Rattle.btree_slab.specs.Reading.{IsReadable, PassesPositions};
+ghost use Rattle.btree_slab.specs.Verdicts.{HasNoFaultUnder};
 ghost use Rattle.btree_examples.specs.Copies.{HaveFaults, ReadsCopy};
 
 use btree_slab::generic::map::{BTreeMap, Fault, RawBTree};

@@ -1,20 +1,23 @@
 //! Maps in use: a stock of parts, by part number, a listing of them by pages (`listing.rt`), a removal of those that are sold out
-//! (`sold_out.rt`), bookings of a room (`bookings.rt`, `booked.rt`), a count of words (`words.rt`), one of strings by their texts
-//! (`texts.rt`), a log listed by minutes (`minutes.rt`), a count of visits in a fixed table (`visits.rt`), and a map read from a copy of its
-//! nodes (`copies.rt`). A set of pairs in use: the shelves on which parts lie (`shelves.rt`). A set of ranges in use: reserved blocks
+//! (`sold_out.rt`), a stock read from a file (`lines.rt`), bookings of a room (`bookings.rt`, `booked.rt`), orders by price (`orders.rt`), a
+//! count of words (`words.rt`), one of strings by their texts (`texts.rt`), a log listed by minutes (`minutes.rt`), a count of visits in a
+//! fixed table (`visits.rt`), a cache of a bounded number of pairs (`cache.rt`), and a map read from a copy of its nodes (`copies.rt`). A set of pairs in use: the shelves on which parts lie (`shelves.rt`). A set of ranges in use: reserved blocks
 //! (`reserved.rt`).
 #![tactic(auto)]
 
 ghost use Rattle.std.specs.Prelude.{◌≡◌, ◌+◌, OnOk, OnErr, unwrap_or};
 ghost use Rattle.std.specs.Ordering.{nat_cmp};
-ghost use Rattle.btree_item.specs.Pairs.{found_value, inserted};
-ghost use Rattle.btree_shape.specs.TreeState.{IsValidIn, pairs_of};
+ghost use Rattle.btree_slab.specs.Pairs.{found_value, inserted};
+ghost use Rattle.btree_slab.specs.TreeState.{IsValidIn, pairs_of};
 
 mod booked;
 mod bookings;
+mod cache;
 mod copies;
+mod lines;
 mod listing;
 mod minutes;
+mod orders;
 mod reserved;
 mod shelves;
 mod sold_out;
@@ -24,9 +27,12 @@ mod words;
 
 use crate::booked::{book_and_cancel, three_bookings};
 use crate::bookings::count_overlaps;
+use crate::cache::put;
 use crate::copies::{is_readable, read_copy};
+use crate::lines::read_stock;
 use crate::listing::next_page;
 use crate::minutes::{Minute, logged};
+use crate::orders::{cancel, take_best};
 use crate::reserved::reserve;
 use crate::shelves::append_shelves;
 use crate::sold_out::remove_sold_out;
@@ -37,6 +43,7 @@ use btree_slab::generic::map::Refused;
 use btree_slab::{Address, BTreeExt, BTreeExtMut, BTreeMap, BTreeSet, FixedMap, RangeSet};
 use std::alloc::Global;
 use std::io;
+use std::rt::Files;
 
 /// Sets how many of a part are in stock.
 ///
@@ -221,6 +228,47 @@ fn print_bookings(rt: &impl Print, alloc: Global) -> io::Result<()> {
     Ok(())
 }
 
+/// Prints what leaves a cache of six pairs, in a table of two nodes.
+fn print_cache(rt: &impl Print) -> io::Result<()> {
+    let mut cache: FixedMap<u32, u32, 2> = FixedMap::with_limit((), 6);
+    for key in 1..9u32 {
+        if let Some((gone, _)) = put(&mut cache, key, key)? {
+            rt.println(format_args!("no more in the cache: {gone}"))?;
+        }
+    }
+    Ok(())
+}
+
+/// Prints what is taken of three orders, of which one is cancelled.
+fn print_orders(rt: &impl Print, alloc: Global) -> io::Result<()> {
+    let mut orders: BTreeMap<(u64, u64), u64> = BTreeMap::new(alloc);
+    for (price, number, amount) in [(100, 1, 5), (99, 2, 3), (100, 3, 4)] {
+        orders.insert((price, number), amount)?;
+    }
+    let cancelled = cancel(&mut orders, 100, 1);
+    rt.println(format_args!("cancelled: {}", cancelled.unwrap_or(0)))?;
+    for wanted in [4, 1] {
+        let taken = take_best(&mut orders, wanted);
+        rt.println(format_args!("taken: {taken}"))?;
+    }
+    for ((price, number), amount) in orders.iter() {
+        rt.println(format_args!("order {number} at {price}: {amount}"))?;
+    }
+    Ok(())
+}
+
+/// Prints what is read of two files, of which one has a line without a count.
+fn print_files(rt: &(impl Print + Files + AllocGlobal)) -> io::Result<()> {
+    let mut stock: BTreeMap<u32, u64> = BTreeMap::new(rt.alloc());
+    for path in ["parts.txt", "torn.txt"] {
+        match read_stock(rt, &mut stock, path) {
+            Ok(()) => rt.println(format_args!("{path}: {} parts", stock.len()))?,
+            Err(error) => rt.println(format_args!("{path}: {error}"))?,
+        }
+    }
+    Ok(())
+}
+
 fn main(rt: HostRuntime) -> io::Result<()> {
     let mut stock: BTreeMap<u32, u64> = BTreeMap::new(rt.alloc());
     print_stock(&rt, &mut stock)?;
@@ -233,5 +281,8 @@ fn main(rt: HostRuntime) -> io::Result<()> {
     print_log(&rt, rt.alloc())?;
     print_shelves(&rt, rt.alloc())?;
     print_visits(&rt)?;
+    print_cache(&rt)?;
+    print_orders(&rt, rt.alloc())?;
+    print_files(&rt)?;
     print_copies(&rt, stock)
 }

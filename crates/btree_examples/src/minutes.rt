@@ -1,6 +1,6 @@
 //! A log with a key in seconds, of which the entries of some minutes are listed by a query of this crate.
 ghost use Rattle.std.specs.Prelude.{◌≡◌};
-ghost use Rattle.btree_shape.specs.TreeState.{pairs_of};
+ghost use Rattle.btree_slab.specs.TreeState.{pairs_of};
 ghost use Rattle.btree_examples.specs.Minutes.{entries_from_to};
 
 use btree_slab::generic::BTreeMap;

@@ -1,6 +1,6 @@
 //! A stock without the parts that are sold out, by an editing cursor.
 ghost use Rattle.std.specs.Prelude.{◌≡◌};
-ghost use Rattle.btree_shape.specs.TreeState.{pairs_of};
+ghost use Rattle.btree_slab.specs.TreeState.{pairs_of};
 ghost use Rattle.btree_examples.specs.Stock.{left_from};
 
 use btree_slab::generic::map::BTreeMap;

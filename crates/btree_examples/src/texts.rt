@@ -1,7 +1,7 @@
 //! A count of words in a map of strings, which are looked up by their texts.
 ghost use Rattle.std.specs.Prelude.{◌≡◌, ◌+◌, OnOk, Some, min, unwrap_or};
 ghost use Rattle.btree_examples.specs.Texts.{count_in};
-ghost use Rattle.btree_shape.specs.TreeState.{pairs_of};
+ghost use Rattle.btree_slab.specs.TreeState.{pairs_of};
 
 use btree_slab::generic::BTreeMap;
 use btree_slab::store::NodesMut;

@@ -2,8 +2,8 @@
 ghost use Rattle.std.specs.Prelude.{◌≡◌, IfOk};
 ghost use Rattle.std.specs.Ordering.{nat_cmp};
 ghost use Rattle.btree_examples.specs.Counts.{StoresCount, count_with_one};
-ghost use Rattle.btree_shape.specs.TreeState.{pairs_of};
-ghost use Rattle.btree_table.specs.Capacity.{TakesFew};
+ghost use Rattle.btree_slab.specs.TreeState.{pairs_of};
+ghost use Rattle.btree_slab.specs.Capacity.{TakesFew};
 
 use btree_slab::generic::map::Refused;
 use btree_slab::{FixedMap, table};

@@ -1,7 +1,7 @@
 //! A count of words, by the entries of a map.
 ghost use Rattle.std.specs.Prelude.{◌≡◌, IfOk};
 ghost use Rattle.btree_examples.specs.Counts.{StoresCount, count_with_one};
-ghost use Rattle.btree_shape.specs.TreeState.{pairs_of};
+ghost use Rattle.btree_slab.specs.TreeState.{pairs_of};
 
 use btree_slab::generic::map::{BTreeMap, Refused};
 use btree_slab::store::NodesMut;

@@ -2,7 +2,7 @@
 use btree_book::Reply;
 use std::alloc::AllocError;
 
-const LINES: [&str; 33] = [
+const LINES: [&str; 37] = [
     "what the lines may say, a line for each group",
     "new: empty maps and sets over new stores. over slab, over refusing: the desk that the lines go to",
     "refuse N: on the refusing desk, the N-th node or growth of memory from now on. insist CALL: each one of the call refused in turn, and how many were",
@@ -25,6 +25,9 @@ const LINES: [&str; 33] = [
     "a, b: item_mut ADDRESS WRITE; update_at ADDRESS ACTION; get_mut_in NODE KEY WRITE; update_in NODE KEY ACTION",
     "a, b: iter keys values into_iter into_keys into_values ENDS; iter_mut values_mut ENDS WRITE; loop into_loop",
     "a, b: range LOW HIGH ENDS; range_mut LOW HIGH ENDS WRITE; is_valid_range LOW HIGH: [3 (3 and 3] 3) are bounds, .. is none",
+    "a, b: remove_range LOW HIGH; stored: the nodes that the store says it has",
+    "a, b: get_by contains_key_by get_key_value_by address_by remove_by remove_entry_by QUERY; get_mut_by QUERY WRITE; range_by QUERY QUERY ENDS",
+    "QUERY: 3, <3 or >3 is a key, or the place before or after it",
     "a, b: entries_mut STEPS: peek peek_mut next next_item remove hint empty KEY=VALUE fits:KEY skip:N, where the lent ones take a WRITE as next+1",
     "a, b: entries_mut_from LOW STEPS: the same from a bound on; address_from LOW: where it starts",
     "a, b: drain finish TEST N WRITE; retain TEST WRITE: N pairs are taken; +calls adds how often the test was called; drain TEST N hint",
@@ -33,7 +36,8 @@ const LINES: [&str; 33] = [
     "a, b: moves COUNT STEP STEP: the keys below COUNT inserted and removed, whether no more nodes moved than there were calls",
     "a, b: extend from_iter PAIRS; append clone extend_copied equals compare same_hash plain_hash same_nodes: with the other map; limited N: an empty map with a limit",
     "p, q: len limit is_empty nodes list debug clear first last pop_first pop_last; insert replace contains get remove take ELEMENT",
-    "p, q: iter into_iter ENDS; into_loop; range LOW HIGH ENDS; drain finish TEST N; retain TEST",
+    "p, q: iter into_iter ENDS; into_loop; range LOW HIGH ENDS; remove_range LOW HIGH; drain finish TEST N; retain TEST",
+    "p, q: contains_by get_by remove_by take_by QUERY; range_by QUERY QUERY ENDS",
     "p, q: extend from_iter ELEMENTS; append clone extend_copied equals compare same_hash plain_hash: with the other set; limited N: an empty set with a limit",
     "p, q: union intersection difference symmetric_difference is_disjoint is_subset is_superset: with the other set",
 ];

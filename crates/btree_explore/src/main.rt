@@ -6,6 +6,7 @@ mod help;
 mod in_turn;
 mod loops;
 mod merges;
+mod set_queries;
 mod sets;
 
 use crate::desk::serve_stores;

@@ -1,8 +1,8 @@
 //! Calls of a set.
+use crate::set_queries::serve_queries;
 use btree_book::{Reply, high, low, number, word};
 use btree_map_calls::{Pick, picks, put_all, read_pick, walk, walk_known};
 use btree_slab::generic::BTreeSet;
-use btree_slab::generic::map::is_valid_range;
 use btree_slab::generic::set::DrainFilter;
 use btree_slab::store::{ClearNodes, CloneNodes, NodesMut};
 use std::alloc::AllocError;
@@ -178,8 +178,31 @@ fn by_test<C: NodesMut<u64, ()>>(
     Ok(true)
 }
 
+fn ranges<C: NodesMut<u64, ()>>(
+    set: &mut Set<C>,
+    verb: &str,
+    words: &str,
+    reply: &mut Reply,
+) -> Result<bool, AllocError> {
+    let (start, rest) = word(words);
+    let (end, ends) = word(rest);
+    let (Some(start), Some(end)) = (low(start), high(end)) else {
+        return Ok(false);
+    };
+    let bounds = (start.as_ref(), end.as_ref());
+    match verb {
+        "range" if set.is_valid_range(&bounds) => walk(set.range(bounds), ends, reply)?,
+        "range" => reply.word("not valid")?,
+        _ => {
+            set.remove_range(bounds);
+            reply.word("ok")?
+        }
+    }
+    Ok(true)
+}
+
 fn walks<C: CloneNodes<u64, ()> + Drop>(
-    set: &Set<C>,
+    set: &mut Set<C>,
     verb: &str,
     words: &str,
     reply: &mut Reply,
@@ -187,19 +210,7 @@ fn walks<C: CloneNodes<u64, ()> + Drop>(
     match verb {
         "iter" => walk_known(set.iter(), words, reply)?,
         "into_iter" | "into_loop" => into_iter(set, verb, words, reply)?,
-        "range" => {
-            let (start, rest) = word(words);
-            let (end, ends) = word(rest);
-            let (Some(start), Some(end)) = (low(start), high(end)) else {
-                return Ok(false);
-            };
-            let bounds = (start.as_ref(), end.as_ref());
-            if !is_valid_range(bounds) {
-                reply.word("not valid")?;
-                return Ok(true);
-            }
-            walk(set.range(bounds), ends, reply)?
-        }
+        "range" | "remove_range" => return ranges(set, verb, words, reply),
         _ => return Ok(false),
     }
     Ok(true)
@@ -215,11 +226,13 @@ pub(crate) fn serve_sets<C: ClearNodes<u64, ()> + CloneNodes<u64, ()> + Drop>(
     if rest == "" && whole(set, verb, reply)? {
         return Ok(true);
     }
-    if let Some(element) = number(rest) {
-        return by_element(set, verb, element, reply);
+    if let Some(element) = number(rest)
+        && by_element(set, verb, element, reply)?
+    {
+        return Ok(true);
     }
     match verb {
         "retain" | "drain" | "finish" => by_test(set, verb, rest, reply),
-        _ => walks(set, verb, rest, reply),
+        _ => Ok(serve_queries(set, verb, rest, reply)? || walks(set, verb, rest, reply)?),
     }
 }

@@ -106,6 +106,17 @@ pub trait BTreeExt<K: Ord, V> {
         self.as_raw().node_count()
     }
 
+    /// Returns the store of the nodes, for reading.
+    fn store<'a>(&'a self) -> &'a Self::Nodes
+    where
+        K: 'a,
+        V: 'a,
+        ensures content { Self.Nodes.content result.now ≡ (state self.now).nodes }
+        ensures refusals { Self.Nodes.refusals result.now ≡ (state self.now).kept.refusals }
+    {
+        self.as_raw().store()
+    }
+
     /// Returns `Ok` with the address of a key that is there, or `Err` with the back address in a leaf whose place is the number of
     /// smaller keys. It makes at most six comparisons at each level.
     fn address_of(&self, key: &K) -> Result<Address, Address>

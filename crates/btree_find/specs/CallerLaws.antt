@@ -22,7 +22,7 @@ equal-by Less e = absurd (cc)
 equal-by Equal e = refl
 equal-by Greater e = absurd (cc)
 
-module _ {K V : Type 0} (cmp : K → K → Ordering) (k : K) where
+module _ {K Q V : Type 0} (cmp : K → Q → Ordering) (k : Q) where
   equal-first : (b : Bool) (y : K × V) (ys : List (K × V)) (x : K × V) → is_eq (cmp y.0 k) ≡ b → found cmp k (y ∷ ys) ≡ Some x
       → (found cmp k ys ≡ Some x → cmp x.0 k ≡ Equal) → cmp x.0 k ≡ Equal
   equal-first true y ys x is e later =
@@ -31,7 +31,7 @@ module _ {K V : Type 0} (cmp : K → K → Ordering) (k : K) where
       subst (λ (z : K × V). cmp z.0 k ≡ Equal) same (equal-by (cmp y.0 k) is)
   equal-first false y ys x is e later = later (rw is at e)
 
-  -- the pair that is found by a key has an equal one
+  -- the pair that is found by a key or another query has a key that is equal to it
   pub found-equal : (xs : List (K × V)) (x : K × V) → found cmp k xs ≡ Some x → cmp x.0 k ≡ Equal
   found-equal [] x e = absurd (cc)
   found-equal (y ∷ ys) x e = equal-first (is_eq (cmp y.0 k)) y ys x refl e (found-equal ys x)

@@ -12,6 +12,8 @@ pub mod CursorSteps
 pub mod IndexLemmas
 pub mod PlaceLemmas
 pub mod QueryLemmas
+pub mod OutsideLemmas
+pub mod SplitLemmas
 pub mod RangeStarts
 pub mod RangeSteps
 pub mod EditingLists

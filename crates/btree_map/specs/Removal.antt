@@ -1,7 +1,9 @@
--- A removal of the pair at a place of the list, and of a key of which only the value is returned.
-use Rattle.std.specs.Prelude.{◌≡◌, ℕ}
-use Rattle.std.specs.List.{remove}
+-- A removal of the pair at a place of the list, of a key of which only the value is returned, and of a range.
+use Rattle.std.specs.Prelude.{◌≡◌, ℕ, List, not}
+use Rattle.std.specs.BTreeMap.Range.{range_contains}
+use Rattle.std.specs.List.{filter, remove}
 use Rattle.std.specs.declared.cmp.Ordering.{Ordering}
+use Rattle.std.specs.declared.ops.Bound.{Bound}
 use Rattle.btree_item.specs.declared.address.Address.{Address}
 use Rattle.btree_shape.specs.TreeState.{TreeState, pairs_of}
 use Rattle.btree_find.specs.Navigation.{IsItemAddress}
@@ -22,3 +24,7 @@ RemovesValueBy {K} cmp compare query old new value = (stored : K) × RemovesBy o
 -- the pair of a stored key equal to k, and this value, was removed
 abbrev pub RemovesValueOf : {K V : Type 0} → (K → K → Ordering) → (k : K) → (old new : TreeState K V) → (value : V) → Type 0
 RemovesValueOf {K} cmp k old new value = (stored : K) × RemovesByKey old new cmp k (stored, value)
+
+-- the pairs of a list whose keys are not between two bounds
+abbrev pub pairs_outside : {K V : Type 0} → (K → K → Ordering) → (start end : Bound K) → List (K × V) → List (K × V)
+pairs_outside cmp start end pairs = filter (λ x. not (range_contains cmp start end x.0)) pairs

@@ -15,8 +15,10 @@ mod map;
 mod owned;
 mod pair_test;
 mod queries;
+mod range_removal;
 mod removal;
 mod shown;
+mod splitting;
 mod traits;
 
 pub use cursor::{EntriesMut, IterMut, RangeMut, ValuesMut};
@@ -26,3 +28,4 @@ pub use extension::insert_in_order;
 pub use map::BTreeMap;
 pub use owned::{IntoIter, IntoKeys, IntoValues};
 pub use pair_test::{ByKey, ByPair, PairTest};
+pub use queries::{AfterAll, BeforeAll};

@@ -1,5 +1,6 @@
 //! The pairs between two queries.
 ghost use Rattle.std.specs.Prelude.{◌≡◌, ℕ, [], option_map, slice_get};
+ghost use Rattle.std.specs.declared.cmp.Ordering.TheVariants.{Greater, Less};
 ghost use Rattle.btree_item.specs.Pairs.{before};
 ghost use Rattle.btree_shape.specs.TreeState.{IsValidIn, pairs_of};
 ghost use Rattle.btree_shape.specs.Visits.{prior};
@@ -14,6 +15,50 @@ use btree_item::{Address, Query};
 use btree_node::NodesMut;
 use btree_walk::Range;
 use std::ops::Bound;
+
+/// The place before all keys, for a range by queries that begins at the first pair.
+#[derive(Clone, Copy)]
+pub struct BeforeAll;
+
+impl<K: Ord> Query<K> for BeforeAll {
+    ghost use Rattle.btree_map.specs.Queries.{all_above};
+
+    ghost compare = { λ _ _. Greater };
+
+    ghost cuts = { all_above };
+
+    fn is_after(&self, key: &K) -> bool {
+        let _key = key;
+        false
+    }
+
+    fn is_at(&self, key: &K) -> bool {
+        let _key = key;
+        false
+    }
+}
+
+/// The place after all keys, for a range by queries that ends at the last pair.
+#[derive(Clone, Copy)]
+pub struct AfterAll;
+
+impl<K: Ord> Query<K> for AfterAll {
+    ghost use Rattle.btree_map.specs.Queries.{all_below};
+
+    ghost compare = { λ _ _. Less };
+
+    ghost cuts = { all_below };
+
+    fn is_after(&self, key: &K) -> bool {
+        let _key = key;
+        true
+    }
+
+    fn is_at(&self, key: &K) -> bool {
+        let _key = key;
+        false
+    }
+}
 
 // Returns the address of the key that a query is equal to, or of the gap where it is.
 fn address_near<K: Ord, Q: Query<K>, V, C: NodesMut<K, V>>(
@@ -94,7 +139,8 @@ fn bounds_by<'a, K: Ord + 'a, Q: Query<K>, R: Query<K>, V: 'a, C: NodesMut<K, V>
 
 impl<K: Ord, V, C: NodesMut<K, V>> BTreeMap<K, V, C> {
     /// Returns an iterator over the pairs whose keys are not below one query and are below another, from both ends. If the queries are in the
-    /// other order, there are none. So the entries `(a, _)` of a first part are those from `BeforeFirst(&a)` to `AfterFirst(&a)`.
+    /// other order, there are none. So the entries `(a, _)` of a first part are those from `BeforeFirst(&a)` to `AfterFirst(&a)`. `BeforeAll`
+    /// and `AfterAll` are the ends of the map.
     ///
     /// It searches four times: for both queries, and then, as `range` does, for the first key and the last one.
     pub fn range_by<Q: Query<K>, R: Query<K>>(&self, start: &Q, end: &R) -> Range<'_, K, V, C>

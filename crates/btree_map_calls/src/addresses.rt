@@ -41,7 +41,7 @@ pub(crate) fn map_address<C: NodesMut<u64, u64>>(map: &Map<C>, word: &str) -> Op
     Some(Address::new(map_node(map, at)?, offset(index)?))
 }
 
-fn put_search<C: NodesMut<u64, u64>>(
+pub(crate) fn put_search<C: NodesMut<u64, u64>>(
     map: &Map<C>,
     found: Result<Address, Address>,
     reply: &mut Reply,

@@ -3,7 +3,7 @@ use crate::menu::{Action, given, read_action, write};
 use btree_book::{Reply, draw, number, pair, shape, word};
 use btree_slab::generic::BTreeMap;
 use btree_slab::generic::map::{BTreeExt, UpdateRefused};
-use btree_slab::store::{ClearNodes, CloneNodes, NodesMut};
+use btree_slab::store::{ClearNodes, CloneNodes, Nodes, NodesMut};
 use std::alloc::AllocError;
 
 type Map<C> = BTreeMap<u64, u64, C>;
@@ -169,6 +169,7 @@ fn whole<C: ClearNodes<u64, u64> + CloneNodes<u64, u64> + Drop>(
         "limit" => reply.count(map.limit())?,
         "is_empty" => reply.truth(map.is_empty())?,
         "nodes" => reply.count(map.node_count())?,
+        "stored" => reply.count(map.store().len())?,
         "height" => reply.count(map.height())?,
         "list" => list(map, reply)?,
         "debug" => reply.shown(map)?,

@@ -4,6 +4,7 @@ use crate::cursors::serve_cursors;
 use crate::edits::serve_edits;
 use crate::entries::serve_entries;
 use crate::keys::serve_keys;
+use crate::queries::serve_queries;
 use crate::several::serve_several;
 use crate::walks::serve_walks;
 use btree_book::{Reply, word};
@@ -34,6 +35,7 @@ where
             || serve_entries(map, verb, rest, reply)?
             || serve_addresses(map, verb, rest, reply)?
             || serve_edits(map, verb, rest, reply)?
+            || serve_queries(map, verb, rest, reply)?
             || serve_walks(map, verb, rest, reply)?
             || serve_cursors(map, verb, rest, reply)?
             || serve_several::<C, D>(alloc, origins, map, other, verb, rest, reply)?,

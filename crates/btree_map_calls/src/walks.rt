@@ -266,7 +266,11 @@ fn ranges<C: NodesMut<u64, u64>>(
     };
     let bounds = (start.as_ref(), end.as_ref());
     match (verb, read_action(by)) {
-        ("is_valid_range", _) => reply.truth(is_valid_range(bounds))?,
+        ("is_valid_range", _) => reply.truth(map.is_valid_range(&bounds))?,
+        ("remove_range", _) => {
+            map.remove_range(bounds);
+            reply.word("ok")?
+        }
         ("range", _) => range(map, bounds, ends, reply)?,
         ("range_mut", action) => range_mut(map, bounds, ends, action, reply)?,
         _ => return Ok(false),
@@ -293,7 +297,9 @@ pub(crate) fn serve_walks<C: CloneNodes<u64, u64> + Drop>(
         ),
         "iter_mut" => iter_mut(map, ends, action, reply)?,
         "values_mut" => values_mut(map, ends, action, reply)?,
-        "range" | "range_mut" | "is_valid_range" => return ranges(map, verb, rest, reply),
+        "range" | "range_mut" | "remove_range" | "is_valid_range" => return ranges(
+            map, verb, rest, reply,
+        ),
         _ => return Ok(false),
     }
     Ok(true)

@@ -2,6 +2,7 @@
 //! or elements, or by copies of them, compares each with the last one alone. An entry and an editing cursor insert and remove without any.
 use crate::asserts::{assert_same, assert_same_in, assert_true, assert_true_in};
 use btree_ext::BTreeExt;
+use btree_item::{After, Before};
 use btree_map::{BTreeMap, EntriesMut, Entry};
 use btree_node::{Node, NodesMut};
 use btree_set::BTreeSet;
@@ -66,6 +67,23 @@ fn remove_once<'a, C: NodesMut<Counted<'a>, u32>>(
     }
 }
 
+// Asks for the places beside a key, with at most six tests of the query at each level: one for a place before a key compares it once, and one
+// for a place after it at most twice.
+fn ask_beside<'a, C: NodesMut<Counted<'a>, u32>>(
+    rt: &impl Abort,
+    map: &BTreeMap<Counted<'a>, u32, C>,
+    key: Counted<'a>,
+    most: u32,
+) {
+    let (number, compared) = (key.number, key.compared);
+    compared.set(0);
+    let is_before = map.contains_key_by(&Before(&key));
+    assert_true_in(rt, number, !is_before && compared.get() <= most);
+    compared.set(0);
+    let is_after = map.contains_key_by(&After(&key));
+    assert_true_in(rt, number, !is_after && compared.get() <= 2 * most);
+}
+
 // The same over any store: the odd keys up to 87, on three levels.
 fn asks_in<'a, C: NodesMut<Counted<'a>, u32> + Drop>(
     rt: &impl Abort,
@@ -86,6 +104,7 @@ fn asks_in<'a, C: NodesMut<Counted<'a>, u32> + Drop>(
     for number in 0..89u32 {
         ask(rt, &mut map, Counted { number, compared }, 18);
         remove_once(rt, &mut map, Counted { number, compared });
+        ask_beside(rt, &map, Counted { number, compared }, 18);
     }
 }
 

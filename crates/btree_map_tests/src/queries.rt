@@ -3,7 +3,7 @@ use crate::asserts::{assert_same, assert_same_in, assert_true};
 use crate::samples::first_keys;
 use btree_ext::BTreeExt;
 use btree_item::{Address, After, AfterFirst, Before, BeforeFirst, Query};
-use btree_map::BTreeMap;
+use btree_map::{AfterAll, BTreeMap, BeforeAll};
 use btree_node::{Node, NodesMut};
 use btree_set::BTreeSet;
 use btree_store::SlabStore;
@@ -105,6 +105,73 @@ fn hold_lists<C: NodesMut<Vec<u64>, ()> + Drop>(rt: &impl Abort, origin: C::Orig
         assert_same_in(rt, second, lists.contains_by(&&list[..1]), false);
     }
     assert_same(rt, lists.len(), 0);
+}
+
+// The text of a number.
+fn text_of(rt: &impl Abort, alloc: Global, number: u64) -> String {
+    let mut text = String::new(alloc);
+    match write!(text, "{number}") {
+        Ok(()) => text,
+        Err(_) => panic!(rt; "no memory"),
+    }
+}
+
+// Checks the calls by text at one number of a map in which the texts of 10 to 53 have their numbers as values. Puts back what was removed.
+fn look_up_number<C: NodesMut<String, u64>>(
+    rt: &impl Abort,
+    alloc: Global,
+    map: &mut BTreeMap<String, u64, C>,
+    number: u64,
+) {
+    let text = text_of(rt, alloc, number);
+    let word = text.as_str();
+    let expected = if 10 <= number && number < 54 {
+        Some(number)
+    } else {
+        None
+    };
+    assert_same_in(rt, number, map.get_by(&word).copied(), expected);
+    let found = map.get_key_value_by(&word).map(|pair| *pair.1);
+    assert_same_in(rt, number, found, expected);
+    let lent = map.get_mut_by(&word).map(|value| *value);
+    assert_same_in(rt, number, lent, expected);
+    let len = map.len();
+    let removed = map.remove_entry_by(&word);
+    assert_same_in(rt, number, map.contains_key_by(&word), false);
+    let Some((key, value)) = removed else {
+        assert_same_in(rt, number, None, expected);
+        return;
+    };
+    assert_same_in(rt, number, Some(value), expected);
+    assert_same_in(rt, number, map.len() + 1, len);
+    assert_same_in(rt, number, map.insert(key, value).ok(), Some(None));
+}
+
+// The texts of 44 numbers, on three levels.
+fn count_levels<C: NodesMut<String, u64> + Drop>(
+    rt: &impl Abort,
+    origin: C::Origin,
+    alloc: Global,
+) {
+    let mut map: BTreeMap<String, u64, C> = BTreeMap::new(origin);
+    for number in 10..54u64 {
+        let inserted = map.insert(text_of(rt, alloc, number), number).is_ok();
+        assert_true(rt, inserted);
+    }
+    assert_same(rt, map.height(), 3);
+    for number in 0..60u64 {
+        look_up_number(rt, alloc, &mut map, number);
+    }
+    assert_same(rt, count_between(&map, &"2", &"4"), 20);
+    assert_same(rt, count_between(&map, &"200", &"22"), 1);
+    assert_same(rt, count_between(&map, &After(&"20"), &"22"), 1);
+    assert_same(rt, count_between(&map, &"4", &AfterAll), 14);
+    assert_same(rt, count_between(&map, &BeforeAll, &"2"), 10);
+}
+
+#[test]
+fn texts_are_found_on_each_level(rt: HostRuntime) {
+    count_levels::<SlabStore<Node<String, u64>>>(&rt, rt.alloc(), rt.alloc());
 }
 
 #[test]

@@ -1,7 +1,9 @@
 ghost use Rattle.std.specs.Prelude.{◌≡◌, ◌≤◌, length, map, IfOk};
 
 use crate::asserts::{assert_same, assert_same_in, assert_true};
-use btree_item::{Address, Cause, Item, Offset, Refused, Slots, UpdateRefused, binary_search_min};
+use btree_item::{
+    Address, Cause, Fault, Item, Offset, Refused, Slots, UpdateRefused, binary_search_min,
+};
 use std::alloc::{AllocError, Global};
 use std::cmp::Ordering;
 use std::fmt::{Debug, Display};
@@ -74,6 +76,63 @@ fn prints_refusals(rt: HostRuntime) -> Result<(), Fail> {
         shown(rt.alloc(), &refused)?.as_str(),
         "UpdateRefused { cause: Count, key: 3, .. }",
     );
+    Ok(())
+}
+
+// Checks the printed text of a cause, and of refusals for it.
+fn check_printed_cause(
+    rt: &impl Abort,
+    alloc: Global,
+    cause: Cause,
+    text: &str,
+) -> Result<(), Fail> {
+    assert_same(rt, printed(alloc, &cause)?.as_str(), text);
+    let refused = Refused {
+        cause,
+        key: 1,
+        value: 2,
+    };
+    assert_same(rt, printed(alloc, &refused)?.as_str(), text);
+    let refused = UpdateRefused {
+        cause,
+        key: 3,
+        action: (),
+    };
+    assert_same(rt, printed(alloc, &refused)?.as_str(), text);
+    Ok(())
+}
+
+#[test]
+fn prints_why(rt: HostRuntime) -> Result<(), Fail> {
+    let full = "there are as many pairs as the limit allows";
+    check_printed_cause(&rt, rt.alloc(), Cause::Store, "no node could be allocated")?;
+    check_printed_cause(&rt, rt.alloc(), Cause::Count, full)?;
+    for (fault, text) in [
+        (Fault::NoNode, "a node's number is not used"),
+        (
+            Fault::WrongParent,
+            "a node's parent is not the node above it",
+        ),
+        (Fault::Overflowing, "a node has too many items"),
+        (Fault::Underflowing, "a node has too few items"),
+        (Fault::EmptyRoot, "the root has no item"),
+        (Fault::Unsorted, "the keys of a node do not ascend"),
+        (
+            Fault::BelowSeparator,
+            "a key is not greater than the separator before it",
+        ),
+        (
+            Fault::AboveSeparator,
+            "a key is not less than the separator after it",
+        ),
+        (Fault::TooDeep, "there are too many levels"),
+        (Fault::NotBalanced, "two leaves are on different levels"),
+        (Fault::WrongLength, "the length is not the number of items"),
+        (Fault::Unreachable, "a node is not in the tree"),
+        (Fault::OverLimit, "the length is greater than its limit"),
+    ] {
+        assert_same(&rt, printed(rt.alloc(), &fault)?.as_str(), text);
+    }
     Ok(())
 }
 

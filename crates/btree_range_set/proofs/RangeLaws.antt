@@ -7,7 +7,7 @@ use Rattle.std.proofs.lemmas.Option.{same_Some, slice_get_within}
 use Rattle.btree_range_set.specs.CallerLaws.{ranges-equal, within-from, within-high, within-low}
 use Rattle.btree_range_set.specs.Calls.{AreGranted, Call, IsGranted, after_call, after_calls}
 use Rattle.btree_range_set.specs.Calls.Call.{Insert, Remove}
-use Rattle.btree_range_set.specs.Comparison.{ranges_eq}
+use Rattle.btree_range_set.specs.SameRanges.{ranges_eq}
 use Rattle.btree_range_set.specs.Ranges.{AreRuns, AreRunsFrom, IsMaximalRun, has_number, is_within}
 use Rattle.btree_range_set.proofs.RunLemmas.{above-not-within, has-here, has-none, next-apart, none-below, run-at}
 

@@ -5,7 +5,7 @@ use Rattle.std.proofs.Common.{◌≡◌, ◌≤◌, ◌<◌, ◌∙◌, ℕ, max
 use Rattle.std.proofs.lemmas.Bool.{and_from, and_parts, cases_Bool, eq-eqb, eqb-true, le-leb, leb-true, lt-ltb, ltb-true, or_left, or_right}
 use Rattle.std.specs.Cmp.Lexicographic.{pointwise_decides}
 use Rattle.btree_map.specs.Comparison.{pair_eq}
-use Rattle.btree_range_set.specs.Comparison.{ranges_eq}
+use Rattle.btree_range_set.specs.SameRanges.{ranges_eq}
 use Rattle.btree_range_set.specs.Ranges.{Overlaps, OverlapsNone, has_number, is_within, meets, ranges_meeting}
 
 -- ---- a number in a range

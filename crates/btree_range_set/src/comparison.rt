@@ -1,7 +1,7 @@
 //! Equality of sets: that of their ranges, and so of their numbers. And their clones.
 ghost use Rattle.std.specs.Prelude.{◌≡◌, ◌↔◌, ℕ, IfOk, IsTrue};
 ghost use Rattle.std.specs.Cmp.{on_equiv, on_per, partial_equiv_from_equiv};
-ghost use Rattle.btree_range_set.specs.Comparison.{ranges-equiv, ranges_eq};
+ghost use Rattle.btree_range_set.specs.SameRanges.{ranges-equiv, ranges_eq};
 ghost use Rattle.btree_range_set.specs.Ranges.{has_number};
 
 use crate::RangeSet;

@@ -125,6 +125,14 @@ impl<K, V, C: NodesMut<K, V>> RawBTree<K, V, C> {
         self.store.len()
     }
 
+    /// Returns the store of the nodes, for reading.
+    pub fn store(&self) -> &C
+        ensures content { C.content result.now ≡ self.now.nodes }
+        ensures refusals { C.refusals result.now ≡ self.now.kept.refusals }
+    {
+        &self.store
+    }
+
     /// Returns whether a node has this number.
     pub fn has_node(&self, id: usize) -> bool
         ensures { IsTrue result ↔ IsUsed self.now id }

@@ -90,9 +90,13 @@ pub record IsRefused {T : Type 0} (cmp : T → T → Ordering) (MayRefuse : Cont
   pub leaves : LeavesElements old new cause
   pub at_gap : IsRefusedAtGap cmp x old.tree new.tree MayRefuse cause
 
--- the elements of a list between the two bounds of a range
-abbrev pub elements_between : {T : Type 0} → (T → T → Ordering) → Bound (Bor T) × Bound (Bor T) → List T → List T
-elements_between cmp range xs = filter (range_contains cmp (bound_key range.0) (bound_key range.1)) xs
+-- the elements of a list between two bounds
+abbrev pub elements_between : {T : Type 0} → (T → T → Ordering) → (start end : Bound T) → List T → List T
+elements_between cmp start end xs = filter (range_contains cmp start end) xs
+
+-- those that are not between them
+abbrev pub elements_outside : {T : Type 0} → (T → T → Ordering) → (start end : Bound T) → List T → List T
+elements_outside cmp start end xs = filter (λ x. not (range_contains cmp start end x)) xs
 
 -- the elements that are not below one query, and are below another: `low x q` and `high x r` say on which sides of them an element x is
 abbrev pub elements_from_to : {T Q R : Type 0} → (T → Q → Ordering) → Q → (T → R → Ordering) → R → List T → List T

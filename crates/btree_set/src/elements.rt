@@ -1,8 +1,8 @@
 //! Iterators over the elements of a set.
-ghost use Rattle.std.specs.Prelude.{◌≡◌, IfSome};
+ghost use Rattle.std.specs.Prelude.{◌≡◌, true, IfSome};
 ghost use Rattle.std.specs.Iterator.SizeHint.{IsWithinCount};
 ghost use Rattle.std.specs.Iterator.{YieldsFirstRef, YieldsLastRef, item_count, UpTo};
-ghost use Rattle.btree_walk.specs.Bounds.{IsValidRange};
+ghost use Rattle.btree_walk.specs.Bounds.{is_valid};
 ghost use Rattle.btree_set.specs.Elements.{elements_between, elements_from_to};
 
 use crate::BTreeSet;
@@ -12,7 +12,7 @@ use btree_node::NodesMut;
 use btree_walk::{Keys, Range as Pairs};
 use std::iter::{DoubleEndedIterator, FusedIterator, IntoIterator, Iterator};
 use std::marker::Model;
-use std::ops::Bound;
+use std::ops::RangeBounds;
 
 /// An iterator over the elements of a set in order, from both ends.
 pub type Iter<'a, T, C> = Keys<'a, T, (), C>;
@@ -81,15 +81,25 @@ impl<T: Ord, C: NodesMut<T, ()>> BTreeSet<T, C> {
         self.map.keys()
     }
 
-    /// Returns an iterator over the elements between two bounds, each of them included, excluded or absent, from both ends. The start must be
-    /// at most the end, and they may not be equal if both are excluded: `is_valid_range` tells.
-    pub fn range(&self, range: (Bound<&T>, Bound<&T>)) -> Range<'_, T, C>
-        requires { IsValidRange T.cmp range }
-        ensures { result ≡ elements_between T.cmp range.entry self.now.elements }
+    /// Returns an iterator over the elements in a range, as `BTreeMap::range` takes it, from both ends. The start must be at most the end, and
+    /// they may not be equal if both are excluded: `is_valid_range` tells.
+    pub fn range<R: RangeBounds<T> + Drop>(&self, range: R) -> Range<'_, T, C>
+        requires bounds { R.has_bounds range }
+        requires valid { is_valid T.cmp (R.start_bound range) (R.end_bound range) ≡ true }
+        ensures { result ≡
+            elements_between T.cmp (R.start_bound range) (R.end_bound range) self.now.elements }
     {
         Range {
             pairs: self.map.range(range),
         }
+    }
+
+    /// Returns whether `range` may be asked for a range, as that of a map tells.
+    pub fn is_valid_range<R: RangeBounds<T>>(&self, range: &R) -> bool
+        ensures { R.has_bounds range.now →
+            result ≡ is_valid T.cmp (R.start_bound range.now) (R.end_bound range.now) }
+    {
+        self.map.is_valid_range(range)
     }
 
     /// Returns an iterator over the elements that are not below one query and are below another, from both ends, as `BTreeMap::range_by` does

@@ -11,13 +11,14 @@ ghost use Rattle.btree_edit.specs.Insert.{InsertsByKey};
 ghost use Rattle.btree_edit.specs.Remove.{RemovesIfThereBy};
 ghost use Rattle.btree_edit.specs.Replace.{ReplacesByKey};
 ghost use Rattle.btree_edit.specs.Update.{RemovesIfThere};
-ghost use Rattle.btree_set.specs.Elements.{IsInTree, IsRefused, RemovesFirst, RemovesLast, inserted, removed, replaced, stored};
+ghost use Rattle.btree_set.specs.Elements.{IsInTree, IsRefused, RemovesFirst, RemovesLast, elements_outside, inserted, removed, replaced, stored};
 
 use btree_ext::BTreeExt;
 use btree_item::{Query, Refused};
 use btree_map::BTreeMap;
 use btree_node::{ClearNodes, NodesMut};
 use std::marker::Model;
+use std::ops::RangeBounds;
 
 /// An ordered set: a map without values. Contracts see its elements in order.
 #[derive(Drop)]
@@ -109,6 +110,14 @@ impl<T: Ord, C: NodesMut<T, ()>> BTreeSet<T, C> {
     {
         self.map.tell_well_formed();
         self.map.node_count()
+    }
+
+    /// Returns the store of the nodes, for reading.
+    pub fn store(&self) -> &C
+        ensures content { C.content result.now ≡ self.now.tree.nodes }
+        ensures refusals { C.refusals result.now ≡ self.now.kept.refusals }
+    {
+        self.map.store()
     }
 
     /// Returns whether an element is equal to the given one. It makes at most six comparisons at each level.
@@ -242,6 +251,16 @@ impl<T: Ord + Drop, C: NodesMut<T, ()>> BTreeSet<T, C> {
         ensures uncounted { self.new.kept ≡ self.old.kept }
     {
         first_of(self.map.remove_entry_by(query))
+    }
+
+    /// Removes the elements in a range, as `range` takes it, and drops them, as `BTreeMap::remove_range` does with pairs.
+    pub fn remove_range<R: RangeBounds<T>>(&mut self, range: R)
+        requires { R.has_bounds range }
+        ensures elements { self.new.elements ≡
+            elements_outside T.cmp (R.start_bound range) (R.end_bound range) self.old.elements }
+        ensures uncounted { self.new.kept ≡ self.old.kept }
+    {
+        self.map.remove_range(range);
     }
 
     /// Removes the least element, and returns it. Returns `None`, and nothing changes, if there are no elements. It compares no elements.

@@ -88,9 +88,10 @@ pub mod range_set {
     pub use btree_range_set::{Gaps, IntoIter, Iter, Overlapping, RangeSet};
 }
 
-/// What a key may be sought by beside a key: a text or a slice, and the places beside a key and beside a first part.
+/// What a key may be sought by beside a key: a text or a slice, and the places beside a key, beside a first part and at the ends.
 pub mod query {
     pub use btree_item::{After, AfterFirst, Before, BeforeFirst, Query};
+    pub use btree_map::{AfterAll, BeforeAll};
 }
 
 /// Lists of a fixed capacity, a search in one, and a counter of no bytes.

@@ -20,10 +20,12 @@ module _ {A : Type 0} where
   all-so P Q so [] all = tt
   all-so P Q so (x ∷ xs) all = (so x all.0, all-so P Q so xs all.1)
 
+  -- of a list in which no element passes a test nothing is left
   pub filter-none : (test : A → Bool) (xs : List A) → AllByRecursion (λ x. test x ≡ false) xs → filter test xs ≡ []
   filter-none test [] all = refl
   filter-none test (x ∷ xs) all = ap (λ b. cond b (x ∷ filter test xs) (filter test xs)) all.0 ∙ filter-none test xs all.1
 
+  -- a list in which each element passes is left whole
   pub filter-all : (test : A → Bool) (xs : List A) → AllByRecursion (λ x. test x ≡ true) xs → filter test xs ≡ xs
   filter-all test [] all = refl
   filter-all test (x ∷ xs) all = ap (λ b. cond b (x ∷ filter test xs) (filter test xs)) all.0 ∙ ap (λ l. x ∷ l) (filter-all test xs all.1)
@@ -77,7 +79,7 @@ module _ {A : Type 0} where
 
 module _ {K : Type 0} {cmp : K → K → Ordering} (laws : IsTotalOrder cmp) where
   -- a key after one inside a start bound is inside it
-  from-on : (lo : Bound K) (x y : K) → cmp x y ≡ Less → is_from_start cmp lo x ≡ true → is_from_start cmp lo y ≡ true
+  pub from-on : (lo : Bound K) (x y : K) → cmp x y ≡ Less → is_from_start cmp lo x ≡ true → is_from_start cmp lo y ≡ true
   from-on Unbounded x y less pass = refl
   from-on (Included a) x y less pass = by (cmp a x) refl
     where
@@ -92,6 +94,7 @@ module _ {K : Type 0} {cmp : K → K → Ordering} (laws : IsTotalOrder cmp) whe
       by Equal e = let no : false ≡ true = ap is_lt (sym e) ∙ pass in absurd (cc)
       by Greater e = let no : false ≡ true = ap is_lt (sym e) ∙ pass in absurd (cc)
 
+  -- a key above one that is past an end bound is past it too
   pub past-on : (hi : Bound K) (x y : K) → cmp x y ≡ Less → is_past_end cmp hi x ≡ true → is_past_end cmp hi y ≡ true
   past-on Unbounded x y less past = past
   past-on (Included b) x y less past = from-on (Excluded b) x y less past

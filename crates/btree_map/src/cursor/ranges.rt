@@ -1,7 +1,8 @@
 //! Where a cursor over a range starts.
-ghost use Rattle.std.specs.Prelude.{◌≡◌, nat_lt};
+ghost use Rattle.std.specs.Prelude.{◌≡◌, nat_lt, true};
+ghost use Rattle.std.specs.BTreeMap.Range.{entries_between};
 ghost use Rattle.btree_shape.specs.TreeState.{IsBTree, pairs_of};
-ghost use Rattle.btree_walk.specs.Bounds.{IsValidRange, bound_key, pairs_between};
+ghost use Rattle.btree_walk.specs.Bounds.{bound_key, is_valid};
 ghost use Rattle.btree_map.specs.RangeCursor.{range_left};
 ghost use Rattle.btree_map.specs.Spans.{IsFirstListed, IsLastListed, first_address, item_index, last_address, next_index};
 
@@ -10,7 +11,7 @@ use crate::cursor::RangeMut;
 use btree_ext::BTreeExt;
 use btree_item::Address;
 use btree_node::NodesMut;
-use std::ops::Bound;
+use std::ops::{Bound, RangeBounds};
 
 // Returns the address of the first item that is not before a start bound.
 pub(crate) fn first_from<K: Ord, V, C: NodesMut<K, V>>(
@@ -82,21 +83,20 @@ fn are_in_order<K: Ord, V, C: NodesMut<K, V>>(
 }
 
 impl<K: Ord, V, C: NodesMut<K, V>> BTreeMap<K, V, C> {
-    /// Returns a cursor over the pairs whose keys are between two bounds, each of them included, excluded or absent, which lends their
-    /// values for writing. The start must be at most the end, and they may not be equal if both are excluded: `is_valid_range` tells.
+    /// Returns a cursor over the pairs whose keys are in a range, as `range` takes it, which lends their values for writing. The start must be at most the end, and they may not be equal if both are excluded: `is_valid_range` tells.
     ///
     /// It reads at most four nodes of each level and two more, makes at most twelve comparisons at each level and one more, and allocates
     /// no memory.
-    pub fn range_mut(&mut self, range: (Bound<&K>, Bound<&K>)) -> RangeMut<'_, K, V, C>
-        requires { IsValidRange K.cmp range }
+    pub fn range_mut<R: RangeBounds<K> + Drop>(&mut self, range: R) -> RangeMut<'_, K, V, C>
+        requires bounds { R.has_bounds range }
+        requires valid { is_valid K.cmp (R.start_bound range) (R.end_bound range) ≡ true }
         ensures same_map { result.map.ghost_name ≡ self.entry.ghost_name }
         ensures unchanged { result.map.now ≡ self.old }
         ensures between { range_left result ≡
-            pairs_between K.cmp range.entry (pairs_of self.old) }
+            entries_between K.cmp (R.start_bound range) (R.end_bound range) (pairs_of self.old) }
     {
-        let (start, end) = range;
-        let first = first_from(self, start);
-        let last = last_up_to(self, end);
+        let first = first_from(self, range.start_bound());
+        let last = last_up_to(self, range.end_bound());
         let any_left = are_in_order(self, &first, &last);
         RangeMut {
             map: self,

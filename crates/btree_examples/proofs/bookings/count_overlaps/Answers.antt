@@ -1,6 +1,6 @@
 use Rattle.std.proofs.Common.{ℕ, suc, sym, ◌∙◌, arith}
-use Rattle.btree_shape.specs.TreeState.{item_of}
-use Rattle.btree_find.specs.CallerLaws.{next-place, pair-read}
+use Rattle.btree_slab.specs.TreeState.{item_of}
+use Rattle.btree_slab.specs.FindLaws.{next-place, pair-read}
 use Rattle.btree_examples.proofs.BookingLemmas.{counted-all, counted-none, counted-one}
 use Rattle.btree_examples.proofs.bookings.count_overlaps.Goals as goal
 use Rattle.btree_examples.proofs.bookings.count_overlaps.Goals.{then-ends-start, else-ends-start}

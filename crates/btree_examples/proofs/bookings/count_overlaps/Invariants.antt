@@ -1,7 +1,7 @@
 use Rattle.std.proofs.Common.{◌≡◌, ◌≤◌, ℕ, take}
 use Rattle.std.specs.List.{count_by}
-use Rattle.btree_shape.specs.TreeState.{pairs_of}
-use Rattle.btree_find.specs.Navigation.{IsItemAt}
+use Rattle.btree_slab.specs.TreeState.{pairs_of}
+use Rattle.btree_slab.specs.Navigation.{IsItemAt}
 use Rattle.btree_examples.specs.Bookings.{overlaps}
 use Rattle.btree_examples.proofs.bookings.count_overlaps.Given as goal
 

@@ -1,5 +1,5 @@
 use Rattle.std.proofs.Common.{Some, subst}
-use Rattle.btree_find.specs.Navigation.{IsPrevious}
+use Rattle.btree_slab.specs.Navigation.{IsPrevious}
 use Rattle.btree_examples.proofs.BookingLemmas.{candidate-before, candidate-found}
 use Rattle.btree_examples.proofs.bookings.first_candidate.Goals as goal
 

@@ -1,5 +1,5 @@
 use Rattle.std.proofs.Common.{Ok, Err, refl}
-use Rattle.btree_valid.proofs.ReadLaws.{no-fault-after, readable-after}
+use Rattle.btree_slab.specs.ReadLaws.{no-fault-after, readable-after}
 use Rattle.btree_examples.proofs.copies.is_readable.Goals as goal
 
 pub returns-in-Ok-clause-faults : goal.returns-in-Ok-clause-faults

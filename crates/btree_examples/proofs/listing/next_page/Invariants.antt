@@ -3,7 +3,7 @@ use Rattle.std.specs.BTreeMap.Range.{entries_between}
 use Rattle.std.specs.Map.{keys_of}
 use Rattle.std.specs.Ordering.{nat_cmp}
 use Rattle.std.specs.declared.ops.Bound.TheVariants.{Excluded, Unbounded}
-use Rattle.btree_shape.specs.TreeState.{pairs_of}
+use Rattle.btree_slab.specs.TreeState.{pairs_of}
 use Rattle.btree_examples.proofs.listing.next_page.Given as goal
 
 -- the page, with what may still be added to it, is the whole page

@@ -1,6 +1,6 @@
 use Rattle.std.proofs.Common.{◌∙◌, ◌++◌, ap, filter, sym}
-use Rattle.btree_shape.specs.TreeState.{pairs_of}
-use Rattle.btree_map.specs.Editing.{entry_front, left_of, passed_of, past_first}
+use Rattle.btree_slab.specs.TreeState.{pairs_of}
+use Rattle.btree_slab.specs.Editing.{entry_front, left_of, passed_of, past_first}
 use Rattle.btree_examples.specs.Stock.{is_in_stock}
 use Rattle.btree_examples.proofs.StockLemmas.{keeps-all, keeps-in_stock}
 use Rattle.btree_examples.proofs.sold_out.remove_sold_out.Goals as goal

@@ -1,5 +1,5 @@
 use Rattle.std.proofs.Common.{◌≡◌, ◌++◌, filter, length}
-use Rattle.btree_map.specs.Editing.{left_of, passed_of}
+use Rattle.btree_slab.specs.Editing.{left_of, passed_of}
 use Rattle.btree_examples.specs.Stock.{is_in_stock}
 use Rattle.btree_examples.proofs.StockLemmas.{Keeps}
 use Rattle.btree_examples.proofs.sold_out.remove_sold_out.Given as goal

@@ -1,4 +1,4 @@
-use Rattle.btree_shape.specs.TreeState.{pairs_of}
+use Rattle.btree_slab.specs.TreeState.{pairs_of}
 use Rattle.btree_examples.specs.Texts.{by_text}
 use Rattle.btree_examples.proofs.TextLemmas.{counted-again, counted-first}
 use Rattle.btree_examples.proofs.texts.count_text.Goals as goal

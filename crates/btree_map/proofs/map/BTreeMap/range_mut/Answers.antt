@@ -1,3 +1,4 @@
+use Rattle.std.proofs.Common.{sym}
 use Rattle.btree_shape.specs.TreeAddresses.{item_addresses_of}
 use Rattle.btree_walk.specs.Bounds.{bound_key}
 use Rattle.btree_map.proofs.RangeStarts.{between-ends}
@@ -21,5 +22,6 @@ invariant_of-result g c = record {
 
 pub returns-clause-between : goal.returns-clause-between
 returns-clause-between g c =
-    between-ends g.K.Ord.cmp g.met.K.Ord.total c.args.self.now c.are_in_order-any_left.ensures.tree (bound_key c.args.range.0) (bound_key c.args.range.1)
-    c.first_from-first.result c.last_up_to-last.result c.first_from-first.ensures c.last_up_to-last.ensures
+    rw (sym (c.start_bound.ensures c.requires.bounds), sym (c.end_bound.ensures c.requires.bounds))
+    (between-ends g.K.Ord.cmp g.met.K.Ord.total c.args.self.now c.are_in_order-any_left.ensures.tree (bound_key c.start_bound.result) (bound_key c.end_bound.result)
+    c.first_from-first.result c.last_up_to-last.result c.first_from-first.ensures c.last_up_to-last.ensures)

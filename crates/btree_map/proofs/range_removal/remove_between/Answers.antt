@@ -1,0 +1,37 @@
+use Rattle.std.proofs.Common.{◌≡◌, ◌∙◌, ◌++◌, ◌∷◌, [], ap, sym, false}
+use Rattle.std.proofs.lemmas.List.{take-append-drop}
+use Rattle.std.specs.BTreeMap.Range.{is_past_end}
+use Rattle.btree_shape.specs.TreeState.{pairs_of}
+use Rattle.btree_shape.proofs.LookUp.KeyInList.{rises}
+use Rattle.btree_walk.specs.Bounds.{bound_key}
+use Rattle.btree_map.specs.Editing.{entry_front, left_of, passed_of}
+use Rattle.btree_map.proofs.OutsideLemmas.{append-one, left-over, next-gone}
+use Rattle.btree_map.proofs.range_removal.remove_between.Goals as goal
+
+pub rest-preserved : goal.rest-preserved
+rest-preserved g c =
+    let now = c.rest.invariant in
+    let r = c.remove_next.ensures.removed c.rest-test.true in
+    record {
+      same_map = r.1.same_map ∙ now.same_map;
+      passed = r.1.passed ∙ now.passed;
+      gone = now.gone ++ r.0 ∷ [];
+      left = next-gone (left_of c.entries_mut_from-pairs.result) now.gone (left_of c.rest.pairs)
+          (left_of c.remove_next.new.pairs) r.0 now.left r.1.left;
+      uncounted = r.1.removed.uncounted ∙ now.uncounted;
+      until = append-one (λ x. is_past_end g.K.Ord.cmp (bound_key c.args.end) x.0 ≡ false) now.gone r.0 now.until r.2;
+    }
+
+pub returns-clause-pairs : goal.returns-clause-pairs
+returns-clause-pairs g c =
+    let now = c.rest.invariant in
+    let start = c.entries_mut_from-pairs.ensures in
+    let stays = c.remove_next.ensures.same c.rest-test.false in
+    let end = c.remove_next.new.pairs in
+    ap pairs_of (c.map-1.given.1 (sym (ap (λ p. p.map.ghost_name) stays ∙ now.same_map ∙ start.same_map)))
+    ∙ sym (take-append-drop (entry_front end) (pairs_of end.map.now))
+    ∙ (λ i. passed_of (stays i) ++ left_of (stays i))
+    ∙ ap (λ l. l ++ left_of c.rest.pairs) (now.passed ∙ start.passed)
+    ∙ left-over g.met.K.Ord.total (bound_key c.args.start) (bound_key c.args.end) (pairs_of c.args.map.now) now.gone (left_of c.rest.pairs)
+    (rises g.K.Ord.cmp (pairs_of c.args.map.now) c.tell_well_formed.ensures.well_formed.ascends) (sym start.left ∙ now.left) now.until
+    (c.remove_next.ensures.past c.rest-test.false)
