@@ -7,7 +7,7 @@ use Rattle.btree_range_set.specs.CallerLaws.{within-high}
 use Rattle.btree_range_set.specs.Places.{IsRangeAround}
 use Rattle.btree_range_set.specs.Ranges.{AreRuns, AreRunsFrom, IsMaximalRun, has_number, is_within}
 use Rattle.btree_range_set.proofs.RangeLaws.{maximal, starts-here}
-use Rattle.btree_range_set.proofs.RunLemmas.{none-below}
+use Rattle.btree_range_set.proofs.RunLemmas.{none-below, range-there}
 
 -- the range around a number is a maximal run
 pub around-maximal : (xs : List (ℕ × ℕ)) (n : ℕ) (o : Option (ℕ × ℕ)) → AreRuns xs → IfSome o (IsRangeAround xs n) → IfSome o (IsMaximalRun xs)
@@ -55,5 +55,13 @@ below-last low (y ∷ z ∷ xs) x runs is n has = by (cases_Bool (is_within y n)
 pub last-highest : (xs : List (ℕ × ℕ)) (o : Option (ℕ × ℕ)) → AreRuns xs → o ≡ last_of xs → IfSome o (λ x. (n : ℕ) → has_number xs n ≡ true → n < x.1)
 last-highest xs None runs is = tt
 last-highest xs (Some x) runs is = below-last 0 xs x runs is
+
+-- without a last range there is none
+pub none-last : (xs : List (ℕ × ℕ)) → None ≡ last_of xs → xs ≡ []
+none-last [] is = refl
+none-last (x ∷ xs) is =
+    let there = range-there (x ∷ xs) (length (x ∷ xs) - 1) (omega arith) in
+    let no : None ≡ Some there.0 = is ∙ there.1 in
+    absurd (cc)
 
 pub ruleset queries = (around-maximal, first-lowest, last-highest)

@@ -91,7 +91,7 @@ none-below low (x ∷ xs) runs n lt =
 or-false : (x y : Bool) → x ≡ false → y ≡ false → (x || y) ≡ false
 or-false x y fx fy = rw (fx, fy) refl
 
-range-there : {X : Type 0} (xs : List X) (p : ℕ) → p < length xs → (x : X) × (slice_get xs p ≡ Some x)
+pub range-there : {X : Type 0} (xs : List X) (p : ℕ) → p < length xs → (x : X) × (slice_get xs p ≡ Some x)
 range-there [] p within = absurd (omega arith)
 range-there (x ∷ xs) zero within = (x, refl)
 range-there (x ∷ xs) (suc p) within = range-there xs p (omega arith)

@@ -90,3 +90,5 @@ counts-last old mid new Count same is =
     let count = ap length is.ranges in
     let limit = ap (λ k. k.limit) same in
     (is.counts.0 ∙ same, omega (arith, is.counts.1, count, limit))
+
+pub ruleset series = (adds-none, adds-more, removes-none, removes-more, grows-more, grows-refused, counts-last)

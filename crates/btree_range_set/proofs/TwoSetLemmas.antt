@@ -133,3 +133,5 @@ module _ (other gaps : List (ℕ × ℕ)) (end : ℕ) (are : AreGaps other 0 end
       negated : (b : Bool) → not b ≡ true → b ≡ false
       negated true is = absurd (cc)
       negated false is = refl
+
+pub ruleset two_sets = (adds-all, adds-below, adds-run, removes-all, removes-below, removes-run, shares-all, shares-below, shares-none)

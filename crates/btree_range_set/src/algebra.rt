@@ -12,6 +12,7 @@ use btree_node::NodesMut;
 impl<C: NodesMut<u64, u64>> RangeSet<C> {
     /// Adds the numbers of `other`: its ranges in ascending order, as `insert` does. Returns the first one that is refused: the numbers below
     /// its start have been added, and no other.
+    #[tactic(auto, using(crate::proofs::TwoSetLemmas::two_sets))]
     pub fn union_with<D: NodesMut<u64, u64>>(
         &mut self,
         other: &RangeSet<D>,
@@ -32,6 +33,7 @@ impl<C: NodesMut<u64, u64>> RangeSet<C> {
 
     /// Removes the numbers of `other`: its ranges in ascending order, as `remove` does. Returns the first one that is refused: the numbers
     /// below its start have been removed, and no other.
+    #[tactic(auto, using(crate::proofs::TwoSetLemmas::two_sets))]
     pub fn difference_with<D: NodesMut<u64, u64>>(
         &mut self,
         other: &RangeSet<D>,
@@ -52,6 +54,7 @@ impl<C: NodesMut<u64, u64>> RangeSet<C> {
 
     /// Removes the numbers that `other` does not have: its gaps in ascending order, as `remove` does. Returns the first one that is refused:
     /// such numbers below its start have been removed, and no other.
+    #[tactic(auto, using(crate::proofs::TwoSetLemmas::two_sets))]
     pub fn intersect_with<D: NodesMut<u64, u64>>(
         &mut self,
         other: &RangeSet<D>,

@@ -15,6 +15,7 @@ impl<C: NodesMut<u64, u64>> RangeSet<C> {
     /// refused: the numbers of those before it are in the set, and those after it are still in `source`.
     ///
     /// The contract requires that `source` ends.
+    #[tactic(auto, using(crate::proofs::SeriesLemmas::series))]
     pub fn extend<I: Iterator<Item = (u64, u64)>>(
         &mut self,
         source: &mut I,
@@ -40,6 +41,7 @@ impl<C: NodesMut<u64, u64>> RangeSet<C> {
     }
 
     // Removes the ranges that `source` gives, in order, as `remove` does. Returns the first one that is refused.
+    #[tactic(auto, using(crate::proofs::SeriesLemmas::series))]
     pub(crate) fn remove_each<I: Iterator<Item = (u64, u64)>>(
         &mut self,
         source: &mut I,
