@@ -14,7 +14,7 @@ const LINES: [&str; 37] = [
     "ENDS: f and b take from the front and the back, h is the hint, l the number left, e whether a range is empty, n the nodes that into_iter holds",
     "a, b: len limit is_empty nodes height root list debug shape draw validate clear into_raw from_raw first_key_value last_key_value pop_first pop_last",
     "a, b: get contains_key get_key_value index remove remove_entry take KEY; insert replace KEY=VALUE; get_mut KEY WRITE; update KEY ACTION",
-    "a, b: entry KEY; or_insert or_insert_with and_modify KEY=VALUE WRITE; or_insert_with_key or_default KEY WRITE",
+    "a, b: entry KEY; insert_entry KEY=VALUE; or_insert or_insert_with and_modify KEY=VALUE WRITE; or_insert_with_key or_default KEY WRITE",
     "a, b: occupied KEY STEPS: key get insert=VALUE get_mut=VALUE, the last into_mut=VALUE remove remove_entry; first_entry last_entry STEP or debug",
     "a, b: vacant KEY STEP: key debug into_key insert=VALUE",
     "a, b: first_item_address last_item_address first_back_address last_valid_address visit_backs visit_fronts; address_of address_of_counted KEY",

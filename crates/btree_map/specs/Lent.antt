@@ -3,7 +3,7 @@ use mir.Syntax.{named}
 use Rattle.std.specs.Prelude.{◌≡◌, [], IfErr, Option, Result}
 use Rattle.std.specs.BTreeMap.Lent.{OrdMembers}
 use Rattle.std.specs.declared.cmp.Ordering.{Ordering}
-use Rattle.std.specs.Borrow.{Fml, Lends, LendsIf, LendsSoOk, MutBor, RattleType, RestsIfNone}
+use Rattle.std.specs.Borrow.{Fml, Lends, LendsIf, LendsSoOk, MutBor, RattleType, RestsIfErr, RestsIfNone}
 use Rattle.std.specs.declared.cmp.Ord as ord
 use Rattle.std.specs.declared.cmp.PartialEq as eq
 use Rattle.std.specs.declared.cmp.PartialOrd as partial
@@ -69,3 +69,8 @@ module _ (K V C O : RattleType) {g : ord.Ghosts K.Denot} {g' : eq.Ghosts K.Denot
       LendsSoOk (the_row K V C O g g' g'' s s') V e.map r
       (λ new w. IsInsertedWith g.cmp e.key e.map.now new value w)
       (λ new. IfErr r (λ x. IsRefusedAtGap g.cmp e.key e.map.now new s.MayRefuse x.cause))
+
+  -- the entry of a pair that was inserted has the map itself; a refused insertion has changed nothing but the count of refusals
+  abbrev pub rests_if_refused : VacantEntry K.Denot V.Denot C.Denot O.Denot g g' g'' s s' → Result (OccupiedEntry K.Denot V.Denot C.Denot O.Denot g g' g'' s s') (Refused K.Denot V.Denot) → Fml
+  rests_if_refused e r =
+      RestsIfErr (the_row K V C O g g' g'' s s') e.map (λ o. o.map.ghost_name) r (λ new. IfErr r (λ x. IsRefusedAtGap g.cmp e.key e.map.now new s.MayRefuse x.cause))

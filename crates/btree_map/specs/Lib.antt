@@ -9,7 +9,6 @@ pub mod CallerLaws
 pub mod Extension
 pub mod Written
 pub mod Spans
-pub mod Splitting
 pub mod SpanLaws
 pub mod WrittenAddresses
 pub mod Cursor

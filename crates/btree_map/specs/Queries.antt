@@ -11,8 +11,8 @@ abbrev pub pairs_from_to : {K Q R V : Type 0} → (K → Q → Ordering) → Q �
 pairs_from_to low start high end xs = filter (λ x. not (is_lt (low x.0 start)) && is_lt (high x.0 end)) xs
 
 -- every key is above the place before all keys, and below the one after them
-pub all_above : {K Q : Type 0} {ord : K → K → Ordering} → Cuts {K} {Q} ord (λ _ _. Greater)
+pub all_above : {K Q : Type 0} {ord : K → K → Ordering} → Cuts {K = K} {Q = Q} ord (λ _ _. Greater)
 all_above = record { above = λ q x y stop up. refl }
 
-pub all_below : {K Q : Type 0} {ord : K → K → Ordering} → Cuts {K} {Q} ord (λ _ _. Less)
+pub all_below : {K Q : Type 0} {ord : K → K → Ordering} → Cuts {K = K} {Q = Q} ord (λ _ _. Less)
 all_below = record { above = λ q x y stop up. absurd (cc) }

@@ -157,6 +157,26 @@ fn or_insert<C: NodesMut<u64, u64>>(
     }
 }
 
+// Sets a value by the entry of its key, and reads the pair by the entry that comes back.
+fn insert_entry<C: NodesMut<u64, u64>>(
+    map: &mut Map<C>,
+    (key, value): (u64, u64),
+    reply: &mut Reply,
+) -> Result<(), AllocError> {
+    let entry = match map.entry(key) {
+        Entry::Vacant(entry) => entry.insert_entry(value),
+        Entry::Occupied(entry) => {
+            let mut entry = entry;
+            drop(entry.insert(value));
+            Ok(entry)
+        }
+    };
+    match entry {
+        Ok(entry) => reply.pair(*entry.key(), *entry.get()),
+        Err(refused) => reply.refused_pair(refused.cause, refused.key, refused.value),
+    }
+}
+
 // Reads the key or the value of the first entry, or of the last one, or shows or removes it.
 fn of_end<C: NodesMut<u64, u64>>(
     map: &mut Map<C>,
@@ -210,6 +230,7 @@ pub(crate) fn serve_entries<C: NodesMut<u64, u64>>(
     match (verb, asked(first)) {
         ("first_entry" | "last_entry", _) => of_end(map, verb, rest, reply)?,
         ("entry", Some((key, _))) => show(map, key, reply)?,
+        ("insert_entry", Some(pair)) => insert_entry(map, pair, reply)?,
         ("occupied", Some((key, _))) => occupied(map, key, more, reply)?,
         ("vacant", Some((key, _))) => {
             let (step, by) = word(more);

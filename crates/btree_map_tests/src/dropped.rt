@@ -140,3 +140,27 @@ fn drains_drop_what_they_take(rt: HostRuntime) {
         drain_and_retain(&rt, map, &drops, count);
     }
 }
+
+// Removes a range of ten keys, and one more, and drops what is left.
+fn remove_ranges<'a, C: NodesMut<u64, Counted<'a>> + Drop>(
+    rt: &impl Abort,
+    map: BTreeMap<u64, Counted<'a>, C>,
+    drops: &'a Cell<u64>,
+) {
+    let mut map = map;
+    map.remove_range(40..50);
+    assert_same(rt, (drops.get(), map.len()), (10, 90));
+    map.remove_range(40..=50);
+    assert_same(rt, (drops.get(), map.len()), (11, 89));
+    drop(map);
+    assert_same(rt, drops.get(), 100);
+}
+
+#[test]
+fn ranges_drop_what_they_remove(rt: HostRuntime) {
+    let drops = Cell::new(0u64);
+    let Some(map) = hundred(rt.alloc(), &drops) else {
+        panic!(rt; "no memory")
+    };
+    remove_ranges(&rt, map, &drops);
+}

@@ -7,8 +7,10 @@ use btree_map::{AfterAll, BTreeMap, BeforeAll};
 use btree_node::{Node, NodesMut};
 use btree_set::BTreeSet;
 use btree_store::SlabStore;
+use btree_walk::Range;
 use std::alloc::Global;
 use std::iter::DoubleEndedIterator;
+use std::ops::Bound;
 use std::process::Abort;
 
 // Counts a word. A `String` is made for a word that is not there yet, and for no other.
@@ -301,6 +303,38 @@ fn ranges<C: NodesMut<u64, u64> + Drop>(rt: &impl Abort, origin: C::Origin, othe
             assert_same_in(rt, (start, end), given, more);
         }
     }
+}
+
+// The first and the last key of a range.
+fn ends<C: NodesMut<u64, u64>>(range: Range<'_, u64, u64, C>) -> (Option<u64>, Option<u64>) {
+    let mut range = range;
+    let first = range.next().map(|pair| *pair.0);
+    (first, range.next_back().map(|pair| *pair.0))
+}
+
+// Each kind of range, of keys and of references to them.
+fn kinds<C: NodesMut<u64, u64> + Drop>(rt: &impl Abort, origin: C::Origin) {
+    let map = first_keys::<C>(rt, origin, 44);
+    let (low, high) = (3, 7);
+    assert_same(rt, ends(map.range(3..7)), (Some(3), Some(6)));
+    assert_same(rt, ends(map.range(3..=7)), (Some(3), Some(7)));
+    assert_same(rt, ends(map.range(40..)), (Some(40), Some(43)));
+    assert_same(rt, ends(map.range(..3)), (Some(0), Some(2)));
+    assert_same(rt, ends(map.range(..=3)), (Some(0), Some(3)));
+    assert_same(rt, ends(map.range(..)), (Some(0), Some(43)));
+    assert_same(rt, ends(map.range(&low..)), (Some(3), Some(43)));
+    if map.is_valid_range(&(&low..&high)) {
+        assert_same(rt, ends(map.range(&low..&high)), (Some(3), Some(6)));
+    }
+    let past = (Bound::Excluded(&low), Bound::Unbounded);
+    assert_same(rt, ends(map.range(past)), (Some(4), Some(43)));
+    assert_true(rt, map.is_valid_range(&(3..3)));
+    assert_true(rt, !map.is_valid_range(&(7..3)));
+}
+
+#[test]
+fn kinds_of_ranges_are_found(rt: HostRuntime) {
+    kinds::<SlabStore<Node<u64, u64>>>(&rt, rt.alloc());
 }
 
 #[test]

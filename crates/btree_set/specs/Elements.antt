@@ -5,7 +5,6 @@
 -- place of the element, which is the number of smaller ones (`before`).
 use Rattle.std.specs.Prelude.{◌≡◌, ◌≤◌, ◌&&◌, ℕ, List, Option, is_some, length, not, refl, set, if◌then◌else◌}
 use Rattle.std.specs.BTreeMap.Range.{range_contains}
-use Rattle.std.specs.Borrow.{Bor}
 use Rattle.std.specs.Coded.{Coded, code_by, coded_list, coded×}
 use Rattle.std.specs.List.{count_by, filter, find, insert, remove}
 use Rattle.std.specs.Map.{keys_of}
@@ -18,7 +17,6 @@ use Rattle.btree_item.specs.declared.refused.Cause.TheVariants.{Store, Count}
 use Rattle.btree_node.specs.declared.node.Node.{Node}
 use Rattle.btree_shape.specs.TreeState.{IsBTree, Kept, TreeState, coded_kept, pairs_of, refused_once, tree_code, with_limit}
 use Rattle.btree_edit.specs.Insert.{IsRefusedAtGap}
-use Rattle.btree_walk.specs.Bounds.{bound_key}
 use Rattle.btree_map.specs.Lists.{last_place}
 use Rattle.btree_map.specs.Removal.{RemovesPlace}
 

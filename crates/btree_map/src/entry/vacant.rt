@@ -1,9 +1,10 @@
 //! An entry whose key is not there.
 ghost use Rattle.std.specs.Prelude.{◌≡◌, IfErr, IfOk};
 ghost use Rattle.std.specs.Borrow.{sem};
-ghost use Rattle.btree_map.specs.Lent.{lends_inserted};
+ghost use Rattle.btree_edit.specs.InsertAbsent.{InsertsAbsent};
+ghost use Rattle.btree_map.specs.Lent.{lends_inserted, rests_if_refused};
 
-use super::VacantEntry;
+use super::{OccupiedEntry, VacantEntry};
 use btree_ext::BTreeExtMut;
 use btree_item::{Address, Refused};
 use btree_node::NodesMut;
@@ -53,6 +54,24 @@ impl<'a, K: Ord + Drop, V: Drop, C: NodesMut<K, V>> VacantEntry<'a, K, V, C> {
                 let (_key, lent) = map.pair_mut(addr);
                 Ok(lent)
             }
+            Err(refused) => Err(refused),
+        }
+    }
+
+    /// Inserts the key with a value, and returns the entry of the pair. It compares no keys.
+    ///
+    /// It uses the same nodes as an insertion by key, and returns the same errors, with key and value.
+    pub fn insert_entry(self, value: V) -> Result<OccupiedEntry<'a, K, V, C>, Refused<K, V>>
+        ensures* rests { sem 𝓛 (rests_if_refused
+            K.row V.row C.row C.Origin.row self.entry result) }
+        ensures same_map { IfOk result (λ e. e.map.ghost_name ≡ self.entry.map.ghost_name) }
+        ensures inserted { IfOk result (λ e.
+            InsertsAbsent K.cmp self.entry.key self.entry.map.now e.map.now value e.at) }
+        ensures returned { IfErr result (λ r. (r.key ≡ self.entry.key) × (r.value ≡ value)) }
+    {
+        let VacantEntry { map, key, gap } = self;
+        match map.insert_absent(gap, key, value) {
+            Ok(at) => Ok(OccupiedEntry { map, at }),
             Err(refused) => Err(refused),
         }
     }
