@@ -1,6 +1,6 @@
 -- What callers conclude: from navigation, where the end of a map is, in the words of insertions there; and what a key or another query finds
 -- in a list after its value was written or its pair inserted.
-use Rattle.std.proofs.Common.{◌≡◌, ◌∙◌, ℕ, zero, suc, Bool, true, false, cond, List, [], ◌∷◌, Option, Some, None, IfSome, is_some, length, option_map, drop, if◌then◌else◌, sym, ap}
+use Rattle.std.proofs.Common.{◌≡◌, ◌∙◌, ℕ, zero, suc, Bool, true, false, cond, List, [], ◌∷◌, Option, Some, None, IfSome, is_some, length, option_map, drop, if◌then◌else◌, refl, sym, ap}
 use Rattle.std.specs.List.{insert}
 use Rattle.std.specs.Map.{lookup_entry, set_value}
 use Rattle.std.specs.Ordering.{is_eq}
