@@ -11,14 +11,15 @@ use std::process::Abort;
 // The ranges come in any order. They may overlap, touch and be empty.
 fn extend_twice<C: ClearNodes<u64, u64> + Drop>(rt: &impl Abort, origin: C::Origin) {
     let mut set: RangeSet<C> = RangeSet::new(origin);
-    let ranges = [(5, 7), (1, 3), (20, 30), (9, 9), (25, 26), (3, 5), (8, 2)];
+    let ranges: [(u64, u64); 7] = [(5, 7), (1, 3), (20, 30), (9, 9), (25, 26), (3, 5), (8, 2)];
     let mut source = ranges.iter().copied();
     assert_true(rt, set.extend(&mut source).is_ok());
     check_ranges(rt, &set, &[(1, 7), (20, 30)]);
     assert_true(rt, set.extend(&mut source).is_ok());
     check_ranges(rt, &set, &[(1, 7), (20, 30)]);
-    let ends = [(0, 1), (30, u64::MAX)];
-    assert_true(rt, set.extend(&mut ends.iter().copied()).is_ok());
+    let ends: [(u64, u64); 2] = [(0, 1), (30, u64::MAX)];
+    let mut source = ends.iter().copied();
+    assert_true(rt, set.extend(&mut source).is_ok());
     check_ranges(rt, &set, &[(0, 7), (20, u64::MAX)]);
 }
 
@@ -29,7 +30,7 @@ fn extend_a_full_set<C: ClearNodes<u64, u64> + Drop>(
     cause: Cause,
 ) {
     fill(rt, &mut set, &EIGHT);
-    let ranges = [(5, 6), (100, 101), (75, 80), (6, 10)];
+    let ranges: [(u64, u64); 4] = [(5, 6), (100, 101), (75, 80), (6, 10)];
     let mut source = ranges.iter().copied();
     check_refused(rt, set.extend(&mut source), cause, 100, 101);
     let mut left = EIGHT;

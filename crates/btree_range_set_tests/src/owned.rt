@@ -5,7 +5,6 @@ use btree_range_set::RangeSet;
 use btree_store::SlabStore;
 use std::alloc::{AllocError, Global};
 use std::fmt::Debug;
-use std::iter::{DoubleEndedIterator, ExactSizeIterator, Iterator};
 use std::process::Abort;
 use std::test::Fail;
 
@@ -47,7 +46,11 @@ fn take_some<C: NodesMut<u64, u64> + Drop>(rt: &impl Abort, origin: C::Origin, i
 }
 
 // Takes the ranges in a loop, and those of a set that has none.
-fn take_in_a_loop<C: NodesMut<u64, u64> + Drop>(rt: &impl Abort, set: RangeSet<C>, none: RangeSet<C>) {
+fn take_in_a_loop<C: NodesMut<u64, u64> + Drop>(
+    rt: &impl Abort,
+    set: RangeSet<C>,
+    none: RangeSet<C>,
+) {
     let mut next = 0u64;
     for range in set {
         assert_same(rt, range, (next, next.wrapping_add(2)));

@@ -1,7 +1,7 @@
 //! The range that a number is in, those at the ends, and which numbers overlap a set.
 use crate::asserts::assert_same;
 use crate::checks::fill;
-use btree_node::{ClearNodes, Node};
+use btree_node::{ClearNodes, Node, NodesMut};
 use btree_range_set::RangeSet;
 use btree_store::SlabStore;
 use std::process::Abort;
@@ -57,16 +57,20 @@ fn overlap_three<C: ClearNodes<u64, u64> + Drop>(rt: &impl Abort, origin: C::Ori
     }
 }
 
+// Checks that a set has no range.
+fn check_none<C: NodesMut<u64, u64>>(rt: &impl Abort, set: &RangeSet<C>) {
+    assert_same(rt, (set.get(0), set.get(10)), (None, None));
+    assert_same(rt, (set.first(), set.last()), (None, None));
+    assert_same(rt, set.overlaps(0, u64::MAX), false);
+}
+
 // A set without numbers, before it had any and after.
 fn ask_none<C: ClearNodes<u64, u64> + Drop>(rt: &impl Abort, origin: C::Origin) {
     let mut set: RangeSet<C> = RangeSet::new(origin);
-    for ranges in [&THREE[..0], &THREE[..], &THREE[..0]] {
-        fill(rt, &mut set, ranges);
-        assert_same(rt, set.get(10).is_some(), !ranges.is_empty());
-        assert_same(rt, set.first(), ranges.first().copied());
-        assert_same(rt, set.last(), ranges.last().copied());
-        assert_same(rt, set.overlaps(0, u64::MAX), !ranges.is_empty());
-    }
+    check_none(rt, &set);
+    fill(rt, &mut set, &THREE);
+    set.clear();
+    check_none(rt, &set);
 }
 
 #[test]

@@ -1,5 +1,6 @@
 //! A set that is changed by another one, and two that are compared.
-use crate::asserts::{assert_same, assert_true};
+use crate::asserts::assert_true;
+use crate::changes::{Change, change_set};
 use crate::checks::{EIGHT, check_ranges, check_refused, fill};
 use btree_item::Cause;
 use btree_node::{ClearNodes, CloneNodes, Node, NodesMut};
@@ -11,40 +12,46 @@ use std::process::Abort;
 type Ranges = &'static [(u64, u64)];
 
 // Two sets, their union, the first without the second, and their intersection.
-const CASES: [[Ranges; 5]; 9] = [
-    [&[], &[], &[], &[], &[]],
-    [&[(1, 4)], &[], &[(1, 4)], &[(1, 4)], &[]],
-    [&[], &[(1, 4)], &[(1, 4)], &[], &[]],
-    [&[(1, 4), (6, 8)], &[(1, 4), (6, 8)], &[(1, 4), (6, 8)], &[], &[(1, 4), (6, 8)]],
-    [&[(1, 3)], &[(3, 5)], &[(1, 5)], &[(1, 3)], &[]],
-    [
+const CASES: [(Ranges, Ranges, Ranges, Ranges, Ranges); 9] = [
+    (&[], &[], &[], &[], &[]),
+    (&[(1, 4)], &[], &[(1, 4)], &[(1, 4)], &[]),
+    (&[], &[(1, 4)], &[(1, 4)], &[], &[]),
+    (
+        &[(1, 4), (6, 8)],
+        &[(1, 4), (6, 8)],
+        &[(1, 4), (6, 8)],
+        &[],
+        &[(1, 4), (6, 8)],
+    ),
+    (&[(1, 3)], &[(3, 5)], &[(1, 5)], &[(1, 3)], &[]),
+    (
         &[(1, 5), (10, 15)],
         &[(3, 12), (20, 25)],
         &[(1, 15), (20, 25)],
         &[(1, 3), (12, 15)],
         &[(3, 5), (10, 12)],
-    ],
-    [
+    ),
+    (
         &[(0, 100)],
         &[(10, 20), (30, 40)],
         &[(0, 100)],
         &[(0, 10), (20, 30), (40, 100)],
         &[(10, 20), (30, 40)],
-    ],
-    [
+    ),
+    (
         &[(10, 20), (30, 40)],
         &[(0, 100)],
         &[(0, 100)],
         &[],
         &[(10, 20), (30, 40)],
-    ],
-    [
+    ),
+    (
         &[(5, u64::MAX)],
         &[(0, 6), (u64::MAX - 1, u64::MAX)],
         &[(0, u64::MAX)],
         &[(6, u64::MAX - 1)],
         &[(5, 6), (u64::MAX - 1, u64::MAX)],
-    ],
+    ),
 ];
 
 // Changes the first set of each case by the second, which stays.
@@ -53,7 +60,7 @@ fn change<C: ClearNodes<u64, u64> + Drop, D: ClearNodes<u64, u64> + Drop>(
     mut set: RangeSet<C>,
     mut other: RangeSet<D>,
 ) {
-    for [first, second, union, difference, intersection] in CASES {
+    for (first, second, union, difference, intersection) in CASES {
         fill(rt, &mut other, second);
         fill(rt, &mut set, first);
         assert_true(rt, set.union_with(&other).is_ok());
@@ -77,25 +84,17 @@ fn changes_by_another_set(rt: HostRuntime) {
     );
 }
 
-// How a full set of the ranges `EIGHT` is changed by another one: the other one, the numbers that are refused, and the first range that is
-// left. The others are left as they were.
-type Refusal = (Ranges, (u64, u64), (u64, u64));
-
-const UNIONS: [Refusal; 3] = [
-    (&[(80, 90)], (80, 90), (0, 5)),
-    (&[(17, 18)], (17, 18), (0, 5)),
-    (&[(3, 7), (17, 18), (75, 90)], (17, 18), (0, 7)),
-];
-
-const DIFFERENCES: [Refusal; 2] = [
-    (&[(2, 3)], (2, 3), (0, 5)),
-    (&[(0, 1), (12, 13), (30, 35)], (12, 13), (1, 5)),
-];
-
-const INTERSECTIONS: [Refusal; 3] = [
-    (&[(0, 12), (13, 100)], (12, 13), (0, 5)),
-    (&[(1, 12), (13, 30)], (12, 13), (1, 5)),
-    (&[(0, 3), (4, 100)], (3, 4), (0, 5)),
+// How a set of the ranges `EIGHT`, which may have no ninth, is changed by another one: the ranges of the other, the numbers that are refused, and
+// the first range that is left. The others are left as they were.
+const REFUSALS: [(Change, Ranges, (u64, u64), (u64, u64)); 8] = [
+    (Change::Union, &[(80, 90)], (80, 90), (0, 5)),
+    (Change::Union, &[(17, 18)], (17, 18), (0, 5)),
+    (Change::Union, &[(3, 7), (17, 18), (75, 90)], (17, 18), (0, 7)),
+    (Change::Difference, &[(2, 3)], (2, 3), (0, 5)),
+    (Change::Difference, &[(0, 1), (12, 13), (30, 35)], (12, 13), (1, 5)),
+    (Change::Intersection, &[(0, 12), (13, 100)], (12, 13), (0, 5)),
+    (Change::Intersection, &[(1, 12), (13, 30)], (12, 13), (1, 5)),
+    (Change::Intersection, &[(0, 3), (4, 100)], (3, 4), (0, 5)),
 ];
 
 // Returns the ranges `EIGHT` with another first one.
@@ -105,48 +104,6 @@ fn eight_from(first: (u64, u64)) -> [(u64, u64); 8] {
     ranges
 }
 
-fn refuse_unions<C: ClearNodes<u64, u64> + Drop, D: ClearNodes<u64, u64> + Drop>(
-    rt: &impl Abort,
-    set: &mut RangeSet<C>,
-    other: &mut RangeSet<D>,
-    cause: Cause,
-) {
-    for (ranges, (start, end), first) in UNIONS {
-        fill(rt, set, &EIGHT);
-        fill(rt, other, ranges);
-        check_refused(rt, set.union_with(other), cause, start, end);
-        check_ranges(rt, set, &eight_from(first));
-    }
-}
-
-fn refuse_differences<C: ClearNodes<u64, u64> + Drop, D: ClearNodes<u64, u64> + Drop>(
-    rt: &impl Abort,
-    set: &mut RangeSet<C>,
-    other: &mut RangeSet<D>,
-    cause: Cause,
-) {
-    for (ranges, (start, end), first) in DIFFERENCES {
-        fill(rt, set, &EIGHT);
-        fill(rt, other, ranges);
-        check_refused(rt, set.difference_with(other), cause, start, end);
-        check_ranges(rt, set, &eight_from(first));
-    }
-}
-
-fn refuse_intersections<C: ClearNodes<u64, u64> + Drop, D: ClearNodes<u64, u64> + Drop>(
-    rt: &impl Abort,
-    set: &mut RangeSet<C>,
-    other: &mut RangeSet<D>,
-    cause: Cause,
-) {
-    for (ranges, (start, end), first) in INTERSECTIONS {
-        fill(rt, set, &EIGHT);
-        fill(rt, other, ranges);
-        check_refused(rt, set.intersect_with(other), cause, start, end);
-        check_ranges(rt, set, &eight_from(first));
-    }
-}
-
 // Changes a set that may have eight ranges by another one.
 fn refuse<C: ClearNodes<u64, u64> + Drop, D: ClearNodes<u64, u64> + Drop>(
     rt: &impl Abort,
@@ -154,9 +111,13 @@ fn refuse<C: ClearNodes<u64, u64> + Drop, D: ClearNodes<u64, u64> + Drop>(
     mut other: RangeSet<D>,
     cause: Cause,
 ) {
-    refuse_unions(rt, &mut set, &mut other, cause);
-    refuse_differences(rt, &mut set, &mut other, cause);
-    refuse_intersections(rt, &mut set, &mut other, cause);
+    for (change, ranges, (start, end), first) in REFUSALS {
+        fill(rt, &mut set, &EIGHT);
+        fill(rt, &mut other, ranges);
+        let outcome = change_set(&mut set, &other, change);
+        check_refused(rt, outcome, cause, start, end);
+        check_ranges(rt, &set, &eight_from(first));
+    }
 }
 
 #[test]

@@ -1,7 +1,8 @@
 //! Changes of a set by other sets, against tables of truth values.
 use crate::asserts::{assert_same, assert_true};
+use crate::changes::{Change, change_set};
 use crate::table::{check_table, gated_set, write};
-use btree_item::{Cause, Refused};
+use btree_item::Cause;
 use btree_node::{ClearNodes, Node, NodesMut};
 use btree_range_set::RangeSet;
 use btree_store::SlabStore;
@@ -9,14 +10,6 @@ use btree_stores::FixedSlab;
 use std::alloc::Global;
 use std::process::Abort;
 use std::test::Fail;
-
-// A change by another set.
-#[derive(Clone, Copy)]
-enum Change {
-    Union,
-    Difference,
-    Intersection,
-}
 
 const CHANGES: [Change; 4] = [
     Change::Union,
@@ -27,32 +20,18 @@ const CHANGES: [Change; 4] = [
 
 // Makes the change to the numbers of a table that are below `end`.
 fn change_table(table: &mut [bool; 64], other: &[bool; 64], change: Change, end: u64) {
-    let mut number = 0u64;
-    for (entry, has) in table.iter_mut().zip(other.iter()) {
-        if number < end {
-            *entry = match change {
-                Change::Union => *entry || *has,
-                Change::Difference => *entry && !*has,
-                Change::Intersection => *entry && *has,
+    for number in 0..64usize {
+        if (number as u64) < end {
+            table[number] = match change {
+                Change::Union => table[number] || other[number],
+                Change::Difference => table[number] && !other[number],
+                Change::Intersection => table[number] && other[number],
             };
         }
-        number = number.wrapping_add(1);
     }
 }
 
-fn change_set<C: NodesMut<u64, u64>, D: NodesMut<u64, u64>>(
-    set: &mut RangeSet<C>,
-    other: &RangeSet<D>,
-    change: Change,
-) -> Result<(), Refused<u64, u64>> {
-    match change {
-        Change::Union => set.union_with(other),
-        Change::Difference => set.difference_with(other),
-        Change::Intersection => set.intersect_with(other),
-    }
-}
-
-// Gives another set, and its table, `count` ranges that a number picks.
+// Gives a set `count` ranges that a number picks, and no other. Returns its table.
 fn pick<D: ClearNodes<u64, u64> + Drop>(
     rt: &impl Abort,
     other: &mut RangeSet<D>,
@@ -71,7 +50,6 @@ fn pick<D: ClearNodes<u64, u64> + Drop>(
         assert_true(rt, other.insert(start, end).is_ok());
         write(&mut table, start, end, true);
     }
-    check_table(rt, other, &table);
     table
 }
 
@@ -88,6 +66,7 @@ fn run<C: NodesMut<u64, u64> + Drop, D: ClearNodes<u64, u64> + Drop>(
     for round in 0..40 {
         let change = CHANGES[round % 4];
         let picked = pick(rt, &mut other, list.wrapping_add(round as u64), 8);
+        check_table(rt, &other, &picked);
         match change_set(&mut set, &other, change) {
             Ok(()) => change_table(&mut table, &picked, change, 64),
             Err(refused) => {
