@@ -1,5 +1,5 @@
 -- The range around a number, and the first and the last one.
-use Rattle.std.proofs.Common.{◌≡◌, ◌≤◌, ◌<◌, ◌∙◌, ◌-◌, ℕ, suc, true, false, List, [], ◌∷◌, length, slice_get, Option, None, Some, IfSome, refl, sym, ap, arith, ◌⊎◌, inl, inr}
+use Rattle.std.proofs.Common.{◌≡◌, ◌≤◌, ◌<◌, ◌∙◌, ◌-◌, ℕ, suc, true, false, List, [], ◌∷◌, length, slice_get, Option, None, Some, IfSome, refl, ap, arith, ◌⊎◌, inl, inr}
 use Rattle.std.proofs.lemmas.Bool.{cases_Bool, cases_lt}
 use Rattle.std.proofs.lemmas.Option.{same_Some}
 use Rattle.btree_map.specs.Lists.{last_of}

@@ -81,7 +81,10 @@ pub(crate) const EIGHT: [(u64, u64); 8] = [
 ];
 
 // Returns the ranges from 10i up to 10i + 5, for i from 0 to 7.
-pub(crate) fn eight_ranges<C: NodesMut<u64, u64> + Drop>(rt: &impl Abort, origin: C::Origin) -> RangeSet<C> {
+pub(crate) fn eight_ranges<C: NodesMut<u64, u64> + Drop>(
+    rt: &impl Abort,
+    origin: C::Origin,
+) -> RangeSet<C> {
     let mut set: RangeSet<C> = RangeSet::new(origin);
     for i in 0..8 {
         assert_true(rt, set.insert(10 * i, 10 * i + 5).is_ok());

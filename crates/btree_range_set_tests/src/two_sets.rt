@@ -89,10 +89,25 @@ fn changes_by_another_set(rt: HostRuntime) {
 const REFUSALS: [(Change, Ranges, (u64, u64), (u64, u64)); 8] = [
     (Change::Union, &[(80, 90)], (80, 90), (0, 5)),
     (Change::Union, &[(17, 18)], (17, 18), (0, 5)),
-    (Change::Union, &[(3, 7), (17, 18), (75, 90)], (17, 18), (0, 7)),
+    (
+        Change::Union,
+        &[(3, 7), (17, 18), (75, 90)],
+        (17, 18),
+        (0, 7),
+    ),
     (Change::Difference, &[(2, 3)], (2, 3), (0, 5)),
-    (Change::Difference, &[(0, 1), (12, 13), (30, 35)], (12, 13), (1, 5)),
-    (Change::Intersection, &[(0, 12), (13, 100)], (12, 13), (0, 5)),
+    (
+        Change::Difference,
+        &[(0, 1), (12, 13), (30, 35)],
+        (12, 13),
+        (1, 5),
+    ),
+    (
+        Change::Intersection,
+        &[(0, 12), (13, 100)],
+        (12, 13),
+        (0, 5),
+    ),
     (Change::Intersection, &[(1, 12), (13, 30)], (12, 13), (1, 5)),
     (Change::Intersection, &[(0, 3), (4, 100)], (3, 4), (0, 5)),
 ];
