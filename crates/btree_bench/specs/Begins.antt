@@ -1,6 +1,6 @@
 -- A map whose first item is at a known address.
 use Rattle.std.specs.Prelude.{◌≡◌, ℕ, Some, IsSome, slice_get}
-use Rattle.btree_item.specs.declared.address.Address.{Address}
+use Rattle.btree_item.specs.Address.{Address}
 use Rattle.btree_shape.specs.TreeState.{TreeState, IsValidIn, pairs_of}
 use Rattle.btree_find.specs.Navigation.{HasPlace}
 

@@ -7,7 +7,7 @@ use Rattle.std.specs.Map.{keys_of}
 use Rattle.std.specs.declared.cmp.Ordering.{Ordering}
 use Rattle.std.specs.List.Sorted.{IsStrictlySortedBy}
 use Rattle.btree_item.specs.Pairs.{Ascends}
-use Rattle.btree_item.specs.declared.address.Address.{Address}
+use Rattle.btree_item.specs.Address.{Address}
 use Rattle.btree_store.specs.ContentLaws.{insert-same}
 use Rattle.btree_node.specs.declared.node.Node.{Node}
 use Rattle.btree_node.specs.Node.{view_of}

@@ -4,7 +4,7 @@ use Rattle.std.specs.Cmp.{IsTotalOrder}
 use Rattle.std.specs.declared.cmp.Ordering.{Ordering}
 use Rattle.btree_item.specs.KeyLaws.{cuts_of}
 use Rattle.btree_item.specs.Keys.{Cuts}
-use Rattle.btree_item.specs.declared.address.Address.{Address}
+use Rattle.btree_item.specs.Address.{Address}
 use Rattle.btree_item.proofs.PairLemmas.{before-from_Ok, set-from_Ok}
 use Rattle.btree_shape.specs.Focus.Positions.{address_at}
 use Rattle.btree_shape.specs.Place.{NOWHERE}

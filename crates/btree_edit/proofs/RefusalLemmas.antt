@@ -1,7 +1,7 @@
 -- What a refused insertion leaves, said of the list.
 use Rattle.std.proofs.Common.{ℕ, ap, arith}
 use Rattle.std.specs.declared.cmp.Ordering.{Ordering}
-use Rattle.btree_item.specs.declared.address.Address.{Address}
+use Rattle.btree_item.specs.Address.{Address}
 use Rattle.btree_item.specs.declared.refused.Cause.{Cause}
 use Rattle.btree_item.specs.declared.refused.Cause.TheVariants.{Store, Count}
 use Rattle.btree_node.specs.declared.node.Node.{Node}

@@ -5,7 +5,7 @@ use Rattle.std.specs.List.{remove}
 use Rattle.std.specs.declared.cmp.Ordering.{Ordering}
 use Rattle.btree_item.specs.Keys.{Cuts}
 use Rattle.btree_item.specs.Pairs.{before, found}
-use Rattle.btree_item.specs.declared.address.Address.{Address}
+use Rattle.btree_item.specs.Address.{Address}
 use Rattle.btree_item.proofs.PairLemmas.{before-from_Ok, slice_get-from_Ok}
 use Rattle.btree_shape.specs.TreeState.{TreeState, IsBTree, pairs_of}
 use Rattle.btree_shape.proofs.Options.{else-none, then-some}

@@ -7,7 +7,7 @@ use Rattle.std.specs.List.{insert, remove}
 use Rattle.std.specs.declared.cmp.Ordering.{Ordering}
 use Rattle.std.specs.declared.cmp.Ordering.TheVariants.{Less}
 use Rattle.btree_item.specs.Pairs.{Ascends, KeyFits}
-use Rattle.btree_item.specs.declared.address.Address.{Address}
+use Rattle.btree_item.specs.Address.{Address}
 use Rattle.btree_item.proofs.PairEdits.{Ascends-insert}
 use Rattle.btree_shape.specs.TreeState.{TreeState, Changes, IsBTree, pairs_of}
 use Rattle.btree_shape.proofs.LookUp.KeyInList.{Rises, rises}

@@ -3,7 +3,7 @@
 use Rattle.std.proofs.Common.{◌≡◌, ◌≤◌, ◌+◌, ◌*◌, ℕ, inl, inr, List, [], Option, Some, None, refl, arith}
 use Rattle.std.specs.FinMap as map
 use Rattle.std.specs.declared.cmp.Ordering.{Ordering}
-use Rattle.btree_item.specs.declared.address.Address.{Address}
+use Rattle.btree_item.specs.Address.{Address}
 use Rattle.btree_shape.specs.Need.{need}
 use Rattle.btree_shape.specs.Place.{IsLeafAddress}
 use Rattle.btree_shape.specs.TreeState.{TreeState, IsBTree, IsLeafAddressIn, node_map, nodes_needed, pairs_of}

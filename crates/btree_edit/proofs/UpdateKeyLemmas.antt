@@ -9,7 +9,7 @@ use Rattle.btree_store.specs.ContentLaws.{remove-insert}
 use Rattle.btree_item.proofs.PairLemmas.{found-from_Err}
 use Rattle.btree_item.proofs.PairEdits.{before-from_KeyFits, found-from_KeyFits}
 use Rattle.btree_item.specs.Pairs.{before, found, found_value}
-use Rattle.btree_item.specs.declared.address.Address.{Address}
+use Rattle.btree_item.specs.Address.{Address}
 use Rattle.btree_node.specs.declared.node.Node.{Node}
 use Rattle.btree_shape.specs.Need.{need}
 use Rattle.btree_shape.specs.TreeState.{TreeState, IsBTree, IsUsed, item_of, node_map, nodes_needed, pairs_of}

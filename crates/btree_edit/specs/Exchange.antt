@@ -5,7 +5,7 @@
 use Rattle.std.specs.Prelude.{◌≡◌, ◌≢◌, ℕ, Some, set, slice_get}
 use Rattle.std.specs.FinMap as map
 use Rattle.std.specs.declared.cmp.Ordering.{Ordering}
-use Rattle.btree_item.specs.declared.address.Address.{Address}
+use Rattle.btree_item.specs.Address.{Address}
 use Rattle.btree_shape.specs.TreeState.{TreeState, IsBTree, IsPlaceIn, IsValidIn, item_of, pairs_of}
 use Rattle.btree_find.specs.Navigation.{IsItemAddress}
 

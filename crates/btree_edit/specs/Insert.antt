@@ -13,7 +13,7 @@ use Rattle.std.specs.List.{insert}
 use Rattle.std.specs.declared.cmp.Ordering.{Ordering}
 use Rattle.btree_store.specs.Content.{Content}
 use Rattle.btree_item.specs.Pairs.{KeyFits, found}
-use Rattle.btree_item.specs.declared.address.Address.{Address}
+use Rattle.btree_item.specs.Address.{Address}
 use Rattle.btree_item.specs.declared.refused.Cause.{Cause}
 use Rattle.btree_item.specs.declared.refused.Cause.TheVariants.{Store, Count}
 use Rattle.btree_node.specs.declared.node.Node.{Node}

@@ -4,7 +4,7 @@ use Rattle.std.specs.Prelude.{◌≡◌, Some, slice_get}
 use Rattle.std.specs.List.{insert}
 use Rattle.std.specs.declared.cmp.Ordering.{Ordering}
 use Rattle.btree_item.specs.Pairs.{before}
-use Rattle.btree_item.specs.declared.address.Address.{Address}
+use Rattle.btree_item.specs.Address.{Address}
 use Rattle.btree_shape.specs.TreeAddresses.{leaf_backs_of}
 use Rattle.btree_shape.specs.TreeState.{TreeState, IsBTree, IsOccupiedIn, item_of, pairs_of}
 use Rattle.btree_find.specs.Navigation.{HasPlace}

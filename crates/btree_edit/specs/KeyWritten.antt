@@ -2,7 +2,7 @@
 use Rattle.std.specs.Prelude.{◌≡◌, slice_get, unwrap_or}
 use Rattle.std.specs.declared.cmp.Ordering.{Ordering}
 use Rattle.btree_item.specs.Pairs.{before, with_value}
-use Rattle.btree_item.specs.declared.address.Address.{Address}
+use Rattle.btree_item.specs.Address.{Address}
 use Rattle.btree_shape.specs.Focus.Positions.{address_at}
 use Rattle.btree_shape.specs.Place.{NOWHERE}
 use Rattle.btree_shape.specs.TreeAddresses.{item_addresses_of}

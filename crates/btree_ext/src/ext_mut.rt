@@ -3,7 +3,7 @@ ghost use Rattle.std.specs.Prelude.{◌≡◌, Some, None, IsSome, IfSome, IfNon
 ghost use Rattle.std.specs.Borrow.{Lends, LendsIf, sem};
 ghost use Rattle.std.specs.Option.{option_copied_mut};
 ghost use Rattle.btree_item.specs.Pairs.{found, found_value};
-ghost use Rattle.btree_item.specs.declared.address.Address.{Address};
+ghost use Rattle.btree_item.specs.Address.{Address};
 ghost use Rattle.btree_shape.specs.TreeState.{IsBTree, IsLeafAddressIn, IsOccupiedIn, IsUsed, IsValidIn, item_of, pairs_of};
 ghost use Rattle.btree_find.specs.Fits.{FitsAt, FitsIn, ReplacesAt};
 ghost use Rattle.btree_edit.specs.Outcomes.{FindsSameBelow, value_below};

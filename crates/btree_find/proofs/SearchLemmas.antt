@@ -11,7 +11,7 @@ use Rattle.btree_item.specs.Pairs.{Ascends, KeyFits, found, found_value, place_o
 use Rattle.btree_item.proofs.PairEdits.{KeyFits-before}
 use Rattle.btree_item.proofs.PairLemmas.{before-from_Err, found-from_Err, slice_get-from_Ok}
 use Rattle.btree_item.specs.Offset.{index_offset}
-use Rattle.btree_item.specs.declared.address.Address.{Address}
+use Rattle.btree_item.specs.Address.{Address}
 use Rattle.btree_node.specs.declared.node.Node.{Node}
 use Rattle.btree_view.specs.LookUp.{placed, offset_in}
 use Rattle.btree_node.specs.Node.{view_of}

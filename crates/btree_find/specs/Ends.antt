@@ -1,7 +1,7 @@
 -- The ends of a tree: its first and last item, and its first and last back address in a leaf.
 use Rattle.std.specs.Prelude.{◌≡◌, ℕ, length, slice_get, unwrap_or, Option, Some, None, IsSome, option_map}
 use Rattle.std.specs.FinMap as map
-use Rattle.btree_item.specs.declared.address.Address.{Address}
+use Rattle.btree_item.specs.Address.{Address}
 use Rattle.btree_view.specs.View.{size_of}
 use Rattle.btree_shape.specs.Addresses.{last_leaf}
 use Rattle.btree_shape.specs.Focus.Positions.{address_at}

@@ -3,7 +3,7 @@
 -- the given one.
 use Rattle.std.specs.Prelude.{◌≡◌, ◌≢◌, ◌+◌, ℕ, zero, suc, ◌≤◌, length, slice_get, Option, Some, None, IfSome, IsSome, ◌↔◌}
 use Rattle.std.specs.FinMap as map
-use Rattle.btree_item.specs.declared.address.Address.{Address}
+use Rattle.btree_item.specs.Address.{Address}
 use Rattle.btree_view.specs.View.{children_in}
 use Rattle.btree_shape.specs.Addresses.{first_leaf}
 use Rattle.btree_shape.specs.Focus.Positions.{address_at, address_before}

@@ -2,7 +2,7 @@
 -- `HasAddresses` has the laws of the two lists: each address once, in the order of the places, as many as pairs and nodes.
 use Rattle.std.specs.Prelude.{◌≡◌, ◌≢◌, ℕ, suc, slice_get, Option, Some, None, IfSome, IsSome}
 use Rattle.std.specs.FinMap as map
-use Rattle.btree_item.specs.declared.address.Address.{Address}
+use Rattle.btree_item.specs.Address.{Address}
 use Rattle.btree_shape.specs.AddressLaws.{IsFront}
 use Rattle.btree_shape.specs.Addresses.{first_leaf, last_item}
 use Rattle.btree_shape.specs.Focus.Positions.{address_at}

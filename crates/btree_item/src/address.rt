@@ -4,12 +4,23 @@ ghost use Rattle.btree_item.specs.Address.{address_text};
 
 use crate::Offset;
 use std::fmt;
+use std::marker::Model;
 
 /// A node's number and an offset in that node.
 #[derive(Clone, Copy, PartialEq, Eq)]
 pub struct Address {
     pub id: usize,
     pub offset: Offset,
+}
+
+impl Model for Address {
+    ghost use Rattle.btree_item.specs.Address.{Address};
+
+    ghost Value = { Address };
+
+    ghost view = { λ a. record { id = a.id; offset = a.offset } };
+
+    ghost inverse = { λ v. record { id = v.id; offset = v.offset } };
 }
 
 impl Address {
@@ -26,16 +37,6 @@ impl Address {
         Address {
             id: usize::MAX,
             offset: Offset::from(0),
-        }
-    }
-
-    /// Returns the same address once more, so that a call that takes one leaves the caller its own.
-    pub fn copied(&self) -> Self
-        ensures { result ≡ self.now }
-    {
-        Address {
-            id: self.id,
-            offset: self.offset,
         }
     }
 

@@ -3,7 +3,7 @@ use Rattle.std.proofs.Common.{◌≡◌, ◌∙◌, ℕ, Option, Some, None, IsS
 use Rattle.std.specs.Cmp.{IsTotalOrder}
 use Rattle.std.specs.declared.cmp.Ordering.{Ordering}
 use Rattle.btree_item.specs.Pairs.{inserted}
-use Rattle.btree_item.specs.declared.address.Address.{Address}
+use Rattle.btree_item.specs.Address.{Address}
 use Rattle.btree_shape.specs.Place.{IsOccupied, IsWithin}
 use Rattle.btree_shape.specs.TreeState.{TreeState, IsValidIn, item_of, node_map, pairs_of}
 use Rattle.btree_shape.proofs.Places.Words.{item-within}

@@ -6,7 +6,7 @@ use Rattle.std.proofs.lemmas.Option.{same_Some, slice_get_within}
 use Rattle.std.specs.Option.{option_eq}
 use Rattle.btree_item.specs.Offset.{kept_number}
 use Rattle.btree_item.specs.contracts.address.AddressPartialEq.TheImpl as derived
-use Rattle.btree_item.specs.declared.address.Address.{Address}
+use Rattle.btree_item.specs.Address.{Address}
 use Rattle.btree_shape.specs.Visits.{prior}
 use Rattle.btree_map.specs.SpanLaws.{at-own, same-address, same-itself}
 use Rattle.btree_map.specs.Spans.{index_after, index_of, is_same}

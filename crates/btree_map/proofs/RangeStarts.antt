@@ -8,7 +8,7 @@ use Rattle.std.specs.declared.cmp.Ordering.{Ordering}
 use Rattle.std.specs.declared.ops.Bound.{Bound}
 use Rattle.std.specs.declared.ops.Bound.TheVariants.{Included, Excluded, Unbounded}
 use Rattle.btree_item.proofs.PairLemmas.{before-from_Err, before-from_Ok, found-from_Err}
-use Rattle.btree_item.specs.declared.address.Address.{Address}
+use Rattle.btree_item.specs.Address.{Address}
 use Rattle.btree_shape.proofs.AddressLists.Whole.{addresses-tree}
 use Rattle.btree_shape.proofs.LookUp.KeyInList.{Rises, rises}
 use Rattle.btree_shape.proofs.Places.OnePlace.{one_place-well}

@@ -2,7 +2,7 @@
 use Rattle.std.specs.Prelude.{◌≡◌, ◌+◌, ◌-◌, ℕ, List, Option, Some, drop, length, slice_get}
 use Rattle.std.specs.Borrow.{Bor, MutBor}
 use Rattle.std.specs.Iterator.{Count, at_most}
-use Rattle.btree_item.specs.declared.address.Address.{Address}
+use Rattle.btree_item.specs.Address.{Address}
 use Rattle.btree_shape.specs.TreeAddresses.{item_addresses_of}
 use Rattle.btree_shape.specs.TreeState.{TreeState, pairs_of}
 use Rattle.btree_shape.specs.Visits.{prior}

@@ -3,7 +3,7 @@
 -- begin with, and `Joins` and `Clears` what they leave.
 use Rattle.std.specs.Prelude.{◌≡◌, ℕ, suc, ◌≤◌, ◌<◌, length, Option, Some, IsSome, slice_get}
 use Rattle.std.specs.List.{remove}
-use Rattle.btree_item.specs.declared.address.Address.{Address}
+use Rattle.btree_item.specs.Address.{Address}
 use Rattle.btree_item.specs.declared.refused.Cause.{Cause}
 use Rattle.btree_shape.specs.TreeState.{TreeState, IsValidIn, pairs_of}
 use Rattle.btree_find.specs.Navigation.{HasPlace, IsItemAddress, IsItemAt}

@@ -2,7 +2,7 @@
 use Rattle.std.proofs.Common.{◌≡◌, ◌≢◌, ℕ, suc, ◌+◌, ◌<◌, ◌≤◌, ◌^◌, ◌-◌, inl, inr, Option, Some, None, IfSome, IsSome, List, sym, ap, subst, ◌∙◌, option_map, slice_get, arith, length}
 use Rattle.btree_moved.specs.Siblings.{between}
 use Rattle.btree_moved.specs.declared.siblings.Siblings.{Siblings}
-use Rattle.btree_item.specs.declared.address.Address.{Address}
+use Rattle.btree_item.specs.Address.{Address}
 use Rattle.btree_view.specs.Edits.{with_parent}
 use Rattle.btree_view.specs.View.{NodeMap, View, leaf, internal, children_in, children_of, most_of, size_of, parent_of}
 use Rattle.btree_shape.specs.Focus.Overflow.{IsRepaired}

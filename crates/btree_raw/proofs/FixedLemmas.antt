@@ -1,6 +1,6 @@
 -- An underflow fix upward: its state at a node, and its end at the root.
 use Rattle.std.proofs.Common.{◌≡◌, ◌≢◌, ℕ, suc, ◌+◌, ◌<◌, ◌≤◌, inl, inr, List, [], ◌∷◌, ◌++◌, length, Option, Some, None, IfSome, IsSome, IsTrue, false, refl, sym, ap, subst, ◌∙◌, option_map, arith, length-append}
-use Rattle.btree_item.specs.declared.address.Address.{Address}
+use Rattle.btree_item.specs.Address.{Address}
 use Rattle.btree_view.specs.Edits.{is_internal, with_parent}
 use Rattle.btree_view.specs.View.{NodeMap, View, leaf, internal, children_of, parent_of, size_of}
 use Rattle.btree_shape.specs.Focus.Overflow.{IsRepaired}

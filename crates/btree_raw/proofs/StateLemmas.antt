@@ -4,7 +4,7 @@ use Rattle.std.specs.FinMap as map
 use Rattle.btree_store.specs.Content.{Content}
 use Rattle.btree_store.specs.ContentLaws.{get-insert_other, get-remove_other, get-remove_same, is_remove}
 use Rattle.btree_node.specs.declared.node.Node.{Node}
-use Rattle.btree_item.specs.declared.address.Address.{Address}
+use Rattle.btree_item.specs.Address.{Address}
 use Rattle.btree_view.specs.View.{View, item_in}
 use Rattle.btree_shape.specs.Place.{IsOccupied}
 use Rattle.btree_shape.specs.TreeState.{IsOccupiedIn, KeepsRest, Kept, TreeState, item_of, node_map, views}

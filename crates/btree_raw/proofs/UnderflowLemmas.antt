@@ -5,7 +5,7 @@ use Rattle.std.specs.FinMap as nodes_map
 use Rattle.std.specs.List.{position}
 use Rattle.btree_store.specs.Content.{Content}
 use Rattle.btree_moved.specs.declared.siblings.Siblings.{Siblings}
-use Rattle.btree_item.specs.declared.address.Address.{Address}
+use Rattle.btree_item.specs.Address.{Address}
 use Rattle.btree_node.specs.declared.node.Node.{Node}
 use Rattle.btree_node.specs.Node.{view_of}
 use Rattle.std.specs.Prelude.{IfSome}

@@ -1,7 +1,7 @@
 -- A split upward, from the node where it began to the node that it has reached.
 use Rattle.std.proofs.Common.{◌≡◌, ◌≢◌, ◌↔◌, ◌⊎◌, true, false, IsTrue, ℕ, suc, ◌+◌, ◌<◌, ◌≤◌, ◌^◌, ◌-◌, inl, inr, List, [], ◌∷◌, ◌++◌, All, Option, Some, None, IfSome, IsSome, is_some, if◌then◌else◌, length, length-append, option_map, slice_get, refl, sym, ap, subst, ◌∙◌, arith}
 use Rattle.std.proofs.lemmas.List.{nil_from_length}
-use Rattle.btree_item.specs.declared.address.Address.{Address}
+use Rattle.btree_item.specs.Address.{Address}
 use Rattle.btree_view.specs.Edits.{IsOverflowing, with_item, with_parent}
 use Rattle.btree_view.specs.View.{View, NodeMap, children_in, children_of, internal, most_of, parent_of, size_of}
 use Rattle.btree_shape.specs.Focus.Overflow.{MayOverflowAt, IsRepaired}

@@ -1,7 +1,7 @@
 -- An address in a node.
 use Rattle.std.proofs.Common.{◌≡◌, ℕ, IsTrue, leb, Option, Some, None, IsSome, option_map, refl, subst, sym}
 use Rattle.std.specs.FinMap as map
-use Rattle.btree_item.specs.declared.address.Address.{Address}
+use Rattle.btree_item.specs.Address.{Address}
 use Rattle.btree_node.proofs.RoomLemmas.{at_least}
 use Rattle.btree_node.specs.Node.{view_of}
 use Rattle.btree_node.specs.declared.node.Node.{Node}

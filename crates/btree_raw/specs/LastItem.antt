@@ -6,7 +6,7 @@ use Rattle.std.specs.Prelude.{◌≡◌, ℕ, suc, List, length, slice_get, Opti
 use Rattle.std.specs.FinMap as map
 use Rattle.std.specs.List.{remove}
 use Rattle.std.specs.declared.cmp.Ordering.{Ordering}
-use Rattle.btree_item.specs.declared.address.Address.{Address}
+use Rattle.btree_item.specs.Address.{Address}
 use Rattle.btree_view.specs.View.{leaf, size_of}
 use Rattle.btree_shape.specs.Addresses.{last_leaf}
 use Rattle.btree_shape.specs.Focus.Positions.{address_at}

@@ -9,7 +9,7 @@ use Rattle.btree_shape.specs.Lists.{times_listed}
 use Rattle.btree_shape.specs.Step.{Reparents}
 use Rattle.btree_shape.specs.Place.{IsWithin}
 use Rattle.btree_shape.specs.TreeState.{TreeState, KeepsRest, node_map, refused_once, views}
-use Rattle.btree_item.specs.declared.address.Address.{Address}
+use Rattle.btree_item.specs.Address.{Address}
 
 module _ {K V : Type 0} where
   -- each of these numbers is that of a node

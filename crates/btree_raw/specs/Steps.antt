@@ -8,7 +8,7 @@
 -- `split_need` requires, and the state of its loop. The words of `Rebalance.antt` cite `Overflows` too.
 use Rattle.std.specs.Prelude.{◌≡◌, ◌≢◌, ℕ, ◌+◌, ◌-◌, ◌^◌, ◌<◌, ◌≤◌, List, [], ◌∷◌, ◌++◌, All, length, Option, Some, None, option_map, IsTrue, Bool, nat_lt}
 use Rattle.btree_item.specs.declared.TheConstants.{MAX_CLAIMS}
-use Rattle.btree_item.specs.declared.address.Address.{Address}
+use Rattle.btree_item.specs.Address.{Address}
 use Rattle.btree_view.specs.View.{View, NodeMap, size_of, most_of, children_in, children_of, parent_of}
 use Rattle.btree_view.specs.Edits.{with_parent, with_item, is_internal, HasChildFor, IsOverflowing, IsSplit}
 use Rattle.btree_shape.specs.Focus.Overflow.{MayOverflowAt, IsRepaired}

@@ -6,7 +6,7 @@
 -- names find the siblings of a node.
 use Rattle.std.specs.Prelude.{◌-◌, ◌*◌, ◌≡◌, ℕ, suc, ◌+◌, ◌<◌, ◌≤◌, ◌⊎◌, List, length, Option, Some, None, option_map, Bool, true, false}
 use Rattle.btree_item.specs.declared.TheConstants.{MIN_ITEMS}
-use Rattle.btree_item.specs.declared.address.Address.{Address}
+use Rattle.btree_item.specs.Address.{Address}
 use Rattle.btree_view.specs.View.{View, NodeMap, children_of, parent_of, size_of}
 use Rattle.btree_moved.specs.declared.siblings.Siblings.{Siblings}
 use Rattle.btree_shape.specs.Focus.Overflow.{IsRepaired}

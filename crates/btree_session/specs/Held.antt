@@ -1,7 +1,7 @@
 -- A session as contracts see it: the state of its map, and the address that it holds, if any.
 use Rattle.std.specs.Prelude.{ℕ, Option, IfSome, IsSome, refl}
 use Rattle.std.specs.Coded.{Coded, code_by, coded×, coded_ℕ, coded_option}
-use Rattle.btree_item.specs.declared.address.Address.{Address}
+use Rattle.btree_item.specs.Address.{Address}
 use Rattle.btree_node.specs.declared.node.Node.{Node}
 use Rattle.btree_shape.specs.TreeState.{TreeState, IsValidIn, tree_code}
 

@@ -3,7 +3,7 @@
 -- them (`one-occupied` in `proofs/AddressLists/ItemAddresses.antt`). There is one more back address in leaves than
 -- items, so a place has exactly one back address in a leaf (`one-leaf-back` in `proofs/AddressLists/LeafBacks.antt`).
 use Rattle.std.specs.Prelude.{◌≡◌, ℕ, suc, ◌+◌, ◌<◌, ◌≤◌, List, [], length, slice_get, Option, Some, None}
-use Rattle.btree_item.specs.declared.address.Address.{Address}
+use Rattle.btree_item.specs.Address.{Address}
 use Rattle.btree_view.specs.View.{NodeMap, View, size_of}
 use Rattle.btree_shape.specs.Place.{IsWithin, IsValid, IsOccupied, IsBack, IsLeafAddress, IsPlace, item_at}
 use Rattle.btree_shape.specs.Represents.{numbers_under}

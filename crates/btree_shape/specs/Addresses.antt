@@ -3,7 +3,7 @@
 -- Contracts cite them by the state (`TreeAddresses.antt`); `AddressLaws.antt` says what is in each list.
 use Rattle.std.specs.Prelude.{ℕ, zero, suc, List, [], ◌∷◌, ◌++◌, Option, Some, None}
 use Rattle.std.specs.List.{flat_map}
-use Rattle.btree_item.specs.declared.address.Address.{Address}
+use Rattle.btree_item.specs.Address.{Address}
 use Rattle.btree_item.specs.Offset.{offset_before}
 use Rattle.btree_view.specs.View.{View, leaf, internal, NodeMap, size_of}
 use Rattle.btree_shape.specs.Place.{NOWHERE}

@@ -5,7 +5,7 @@
 -- has each line at given numbers. `moved_by_take` is no such step: each address after the removed item has one place
 -- less (`take-later` in `proofs/Removal/FromTree.antt`).
 use Rattle.std.specs.Prelude.{ℕ, zero, suc, ◌+◌, ◌-◌, ◌==◌, nat_lt, if◌then◌else◌, Option, Some, None}
-use Rattle.btree_item.specs.declared.address.Address.{Address}
+use Rattle.btree_item.specs.Address.{Address}
 use Rattle.btree_view.specs.View.{View, leaf, internal}
 use Rattle.btree_shape.specs.Place.{NOWHERE}
 use Rattle.btree_shape.specs.Focus.Positions.{address_before, address_at}

@@ -5,7 +5,7 @@
 -- `proofs/Places/OnePlace.antt`).
 use Rattle.std.specs.Prelude.{◌≡◌, ℕ, ◌+◌, ◌^◌, ◌-◌, ◌≤◌, ◌⊎◌, List, ◌++◌, length, slice_get, Option, Some, None}
 use Rattle.std.specs.Option.{option_and_then}
-use Rattle.btree_item.specs.declared.address.Address.{Address}
+use Rattle.btree_item.specs.Address.{Address}
 use Rattle.btree_view.specs.View.{View, leaf, internal, NodeMap, size_of, item_in}
 use Rattle.btree_shape.specs.Represents.{Represents}
 

@@ -3,7 +3,7 @@
 -- (`proofs/AddressLists/Whole.antt`).
 use Rattle.std.specs.Prelude.{◌≡◌, ℕ, suc, List, length, slice_get, Option, Some, None}
 use Rattle.std.specs.FinMap as map
-use Rattle.btree_item.specs.declared.address.Address.{Address}
+use Rattle.btree_item.specs.Address.{Address}
 use Rattle.btree_view.specs.View.{NodeMap}
 use Rattle.btree_shape.specs.Addresses.{item_addresses_under, leaf_backs_under, backs_under, fronts_under, first_leaf, last_item}
 use Rattle.btree_shape.specs.AddressLaws.{ListsItems, ListsLeafBacks, ListsBacks, ListsFronts}

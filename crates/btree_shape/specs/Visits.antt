@@ -1,6 +1,6 @@
 -- From an address to the next: how the back addresses of a tree are visited forwards, and the front ones backwards.
 use Rattle.std.specs.Prelude.{◌≡◌, ℕ, suc, zero, ◌<◌, ◌==◌, if◌then◌else◌, nat_lt, List, [], ◌∷◌, length, slice_get, option_map, Option, Some, None}
-use Rattle.btree_item.specs.declared.address.Address.{Address}
+use Rattle.btree_item.specs.Address.{Address}
 use Rattle.btree_view.specs.View.{View, leaf, NodeMap, children_in, children_of, parent_of, size_of}
 use Rattle.btree_shape.specs.Addresses.{first_leaf, last_item, slot_before}
 use Rattle.btree_shape.specs.Focus.Positions.{address_before, address_at}

@@ -9,7 +9,7 @@ use Rattle.std.specs.FinMap as map
 use Rattle.std.specs.declared.cmp.Ordering.{Ordering}
 use Rattle.btree_store.specs.Content.{Content}
 use Rattle.btree_item.specs.Pairs.{found}
-use Rattle.btree_item.specs.declared.address.Address.{Address}
+use Rattle.btree_item.specs.Address.{Address}
 use Rattle.btree_shape.specs.TreeState.{TreeState, nodes_needed, pairs_of}
 use Rattle.btree_raw.specs.Limit.{IsBelowLimit}
 use Rattle.btree_find.specs.Answers.{IsGapAt}

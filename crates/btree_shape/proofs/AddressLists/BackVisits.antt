@@ -1,7 +1,7 @@
 -- The order of the back addresses of a tree: each follows the one before it by a rule.
 use Rattle.std.proofs.Common.{◌≡◌, ◌<◌, ◌∙◌, ◌+◌, [], ℕ, zero, suc, List, length, Option, Some, None, sym, ap, subst, arith, append-nil}
 use Rattle.std.specs.Prelude.{slice_get}
-use Rattle.btree_item.specs.declared.address.Address.{Address}
+use Rattle.btree_item.specs.Address.{Address}
 use Rattle.btree_view.specs.View.{NodeMap, View, leaf, children_in, parent_of, size_of}
 use Rattle.btree_shape.specs.Addresses.{backs_under, first_leaf}
 use Rattle.btree_shape.specs.AddressLaws.{IsPlaced}

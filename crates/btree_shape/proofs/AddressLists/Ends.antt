@@ -1,7 +1,7 @@
 -- The back and front addresses at which the positions of a tree, and the parts before and after a hole, begin and end.
 use Rattle.std.proofs.Common.{◌≡◌, ◌<◌, ◌++◌, ◌∷◌, ◌∙◌, ◌+◌, [], ℕ, zero, suc, Bool, List, length, map, Option, Some, None, refl, sym, ap, subst, arith, append_assoc, append-nil, length-append}
 use Rattle.std.specs.List.{AllByRecursion}
-use Rattle.btree_item.specs.declared.address.Address.{Address}
+use Rattle.btree_item.specs.Address.{Address}
 use Rattle.btree_view.specs.View.{NodeMap, leaf}
 use Rattle.btree_shape.specs.Addresses.{first_leaf, first_leaf_in, last_child, last_item, last_item_in, last_leaf, last_leaf_in, slot_before}
 use Rattle.btree_shape.specs.Focus.Subtree.{Holds, Subtree, count_at, id_of}

@@ -1,7 +1,7 @@
 -- The order of the front addresses of a tree: each comes before the next by a rule.
 use Rattle.std.proofs.Common.{◌≡◌, ◌<◌, ◌∙◌, [], ℕ, zero, suc, List, length, Option, Some, None, sym, ap, subst, arith, append-nil}
 use Rattle.std.specs.Prelude.{slice_get}
-use Rattle.btree_item.specs.declared.address.Address.{Address}
+use Rattle.btree_item.specs.Address.{Address}
 use Rattle.btree_view.specs.View.{NodeMap, View, leaf, children_in, parent_of, size_of}
 use Rattle.btree_shape.specs.Addresses.{fronts_under, last_item, slot_before}
 use Rattle.btree_shape.specs.AddressLaws.{IsFront, IsPlaced}

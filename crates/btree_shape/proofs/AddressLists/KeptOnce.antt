@@ -1,7 +1,7 @@
 -- An address is kept once: it is among the positions at most as often as its number is in the tree.
 use Rattle.std.proofs.Common.{◌≡◌, ◌<◌, ◌≤◌, ◌++◌, ◌∷◌, ◌+◌, ◌∙◌, [], ℕ, zero, suc, inl, inr, Bool, true, false, List, Option, Some, None, refl, sym, ap, subst, arith}
 use Rattle.std.specs.Prelude.{slice_get}
-use Rattle.btree_item.specs.declared.address.Address.{Address}
+use Rattle.btree_item.specs.Address.{Address}
 use Rattle.btree_shape.specs.Lists.{one, total}
 use Rattle.btree_shape.specs.Focus.Subtree.{Subtree, times_under}
 use Rattle.btree_shape.specs.Focus.Positions.{Position, branch_key, branch_positions, address_before, mark, over, address_at, positions_from, positions}

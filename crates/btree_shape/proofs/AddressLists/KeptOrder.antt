@@ -1,7 +1,7 @@
 -- What is kept of the positions of a tree is in order, each address once; and how many nodes and items a tree has.
 use Rattle.std.proofs.Common.{◌≡◌, ◌≤◌, ◌∷◌, ◌+◌, ◌∙◌, [], ℕ, suc, inl, inr, Bool, List, length, Option, Some, None, refl, sym, ap, subst, arith, length-append}
 use Rattle.std.specs.Prelude.{slice_get}
-use Rattle.btree_item.specs.declared.address.Address.{Address}
+use Rattle.btree_item.specs.Address.{Address}
 use Rattle.btree_view.specs.View.{NodeMap}
 use Rattle.btree_shape.specs.AddressLaws.{IsInOrder, IsPlaced, IsPlacedUnder, numbers_of}
 use Rattle.btree_shape.specs.Place.{IsValid, IsWithin}

@@ -4,7 +4,7 @@ use Rattle.std.proofs.lemmas.Bool.Decides.{nat_tests}
 use Rattle.std.proofs.lemmas.List.{length-map}
 use Rattle.std.proofs.lemmas.Option.{slice_get_cases, slice_get_past}
 use Rattle.std.specs.Prelude.{slice_get, nat_lt, ◌==◌}
-use Rattle.btree_item.specs.declared.address.Address.{Address}
+use Rattle.btree_item.specs.Address.{Address}
 use Rattle.btree_view.specs.View.{NodeMap, View, leaf, internal, children_in, children_of, parent_of, size_of}
 use Rattle.btree_shape.specs.Addresses.{backs_under, fronts_under, last_item, slot_before}
 use Rattle.btree_shape.specs.AddressLaws.{IsFront, IsPlaced}

@@ -2,7 +2,7 @@
 use Rattle.std.proofs.Common.{◌≡◌, ◌<◌, ◌++◌, ◌∷◌, [], ◌∙◌, ℕ, zero, suc, Bool, true, false, List, map, Option, Some, None, refl, sym, ap, arith}
 use Rattle.std.specs.List.{AllByRecursion, flat_map}
 use Rattle.std.specs.Prelude.{is_some}
-use Rattle.btree_item.specs.declared.address.Address.{Address}
+use Rattle.btree_item.specs.Address.{Address}
 use Rattle.btree_view.specs.View.{View, leaf, internal, NodeMap}
 use Rattle.btree_shape.specs.Addresses.{slots, slots_to_end, item_addresses, item_addresses_in, leaf_backs, leaf_backs_in, backs, backs_in, fronts, fronts_in}
 use Rattle.btree_shape.specs.Focus.Subtree.{Holds, Subtree, id_of}

@@ -5,7 +5,7 @@ use Rattle.std.specs.Cmp.{IsTotalOrder}
 use Rattle.std.specs.FinMap as finite
 use Rattle.std.specs.Prelude.{slice_get}
 use Rattle.std.specs.declared.cmp.Ordering.{Ordering}
-use Rattle.btree_item.specs.declared.address.Address.{Address}
+use Rattle.btree_item.specs.Address.{Address}
 use Rattle.btree_view.specs.View.{NodeMap}
 use Rattle.btree_shape.specs.Addresses.{backs_under, fronts_under, last_item}
 use Rattle.btree_shape.specs.AddressLaws.{IsPlacedUnder, numbers_of}

@@ -1,7 +1,7 @@
 -- A focus at the child at an index of a node, and the positions next to that child's.
 use Rattle.std.proofs.Common.{◌≡◌, ◌<◌, ◌++◌, ◌∷◌, ◌∙◌, ◌+◌, [], ℕ, zero, suc, List, length, map, Option, Some, None, Bool, true, refl, sym, ap, subst, arith, append_assoc}
 use Rattle.std.specs.Prelude.{slice_get}
-use Rattle.btree_item.specs.declared.address.Address.{Address}
+use Rattle.btree_item.specs.Address.{Address}
 use Rattle.btree_view.specs.View.{NodeMap, View, children_in, children_of}
 use Rattle.btree_shape.specs.Addresses.{slot_before}
 use Rattle.btree_shape.specs.Focus.Subtree.{Subtree, id_of, view_at}

@@ -1,7 +1,7 @@
 -- A back address stays one: no step moves an offset other than -1 to -1.
 use Rattle.std.proofs.Common.{◌+◌, ◌-◌, ◌==◌, if◌then◌else◌, ℕ, zero, suc, Bool, true, false, Option, Some, None}
 use Rattle.std.specs.Prelude.{nat_lt}
-use Rattle.btree_item.specs.declared.address.Address.{Address}
+use Rattle.btree_item.specs.Address.{Address}
 use Rattle.btree_view.specs.View.{NodeMap}
 use Rattle.btree_shape.specs.Moved.{at_separator, select_by_order, left_after_lending, right_after_merge, right_after_lending, right_after_borrowing, node_after_split, moved_by_merge, moved_by_rotate_left, moved_by_rotate_right, moved_by_split, parent_after_merge, parent_after_split}
 use Rattle.btree_shape.specs.Place.{IsBack}

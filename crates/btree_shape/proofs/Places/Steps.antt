@@ -1,6 +1,6 @@
 -- At the end of splits or underflow fixes the followed address is at its place, and any address may be followed.
 use Rattle.std.proofs.Common.{[], ℕ, List, Option}
-use Rattle.btree_item.specs.declared.address.Address.{Address}
+use Rattle.btree_item.specs.Address.{Address}
 use Rattle.btree_view.specs.View.{NodeMap}
 use Rattle.btree_shape.specs.Focus.Overflow.{IsRepaired}
 use Rattle.btree_shape.specs.Focus.TreePositions.{IsAddressed, HasPosition}

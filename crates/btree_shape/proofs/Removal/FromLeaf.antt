@@ -1,7 +1,7 @@
 -- An item removed from a leaf: the tree, its strain, and the new addresses.
 use Rattle.std.proofs.Common.{◌≡◌, ◌<◌, ◌≤◌, ◌++◌, ◌∷◌, [], ◌∙◌, ◌+◌, ◌-◌, ℕ, suc, inl, inr, List, length, Option, Some, None, refl, sym, ap, subst, arith, append_assoc, length-append}
 use Rattle.std.specs.List.{remove}
-use Rattle.btree_item.specs.declared.address.Address.{Address}
+use Rattle.btree_item.specs.Address.{Address}
 use Rattle.btree_view.specs.View.{NodeMap, leaf}
 use Rattle.btree_shape.specs.Moved.{in_shortened, moved_by_take}
 use Rattle.btree_shape.specs.Lists.{one}

@@ -6,7 +6,7 @@ use Rattle.std.specs.List.{remove}
 use Rattle.std.specs.Prelude.{slice_get}
 use Rattle.std.specs.declared.cmp.Ordering.{Ordering}
 use Rattle.btree_item.specs.Pairs.{Ascends}
-use Rattle.btree_item.specs.declared.address.Address.{Address}
+use Rattle.btree_item.specs.Address.{Address}
 use Rattle.btree_view.specs.View.{NodeMap, View, items_of}
 use Rattle.btree_shape.specs.Focus.TreePositions.{HasPosition}
 use Rattle.btree_shape.specs.Place.{IsPlace}

@@ -2,7 +2,7 @@
 use Rattle.std.proofs.Common.{◌≡◌, ◌≢◌, ◌≤◌, ◌++◌, ◌∷◌, [], ◌∙◌, ◌+◌, ℕ, inl, inr, List, length, set, Option, Some, refl, sym, ap, subst, arith, append_assoc, length-append}
 use Rattle.std.proofs.lemmas.List.{length-set}
 use Rattle.std.specs.Prelude.{slice_get}
-use Rattle.btree_item.specs.declared.address.Address.{Address}
+use Rattle.btree_item.specs.Address.{Address}
 use Rattle.btree_view.specs.Edits.{is_internal}
 use Rattle.btree_view.specs.View.{NodeMap, View, children_of, internal, items_of, leaf, most_of, size_of}
 use Rattle.btree_shape.specs.Focus.Focus.{IsUnsizedFocus}

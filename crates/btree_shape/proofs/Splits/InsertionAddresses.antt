@@ -1,6 +1,6 @@
 -- The positions in a leaf up to an offset: which addresses are before it, and how many items are.
 use Rattle.std.proofs.Common.{◌≡◌, ◌<◌, ◌++◌, ◌∷◌, [], ◌∙◌, ◌+◌, ℕ, inl, inr, List, length, Option, None, sym, ap, subst, arith, append_assoc}
-use Rattle.btree_item.specs.declared.address.Address.{Address}
+use Rattle.btree_item.specs.Address.{Address}
 use Rattle.btree_shape.specs.Focus.Positions.{IsAt, Position, address_before, mark, passed, positions_from, positions_to, path_after, path_before, all_positions}
 use Rattle.btree_shape.specs.Focus.Path.{Path, items_before}
 use Rattle.btree_shape.proofs.Splits.KeptPositions.{singles}

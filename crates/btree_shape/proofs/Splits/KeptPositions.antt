@@ -1,7 +1,7 @@
 -- A split keeps the place of each address of the tree.
 use Rattle.std.proofs.Common.{◌≡◌, ◌≢◌, ◌<◌, ◌≤◌, ◌++◌, ◌∷◌, [], ◌∙◌, ◌+◌, ℕ, zero, suc, List, length, Some, None, refl, sym, ap, subst, arith, append_assoc, append-nil, length-append}
 use Rattle.std.proofs.lemmas.Grind.{flat_map-append}
-use Rattle.btree_item.specs.declared.address.Address.{Address}
+use Rattle.btree_item.specs.Address.{Address}
 use Rattle.btree_shape.specs.Moved.{moved_by_split}
 use Rattle.btree_shape.specs.Lists.{one, total}
 use Rattle.btree_shape.specs.Focus.Subtree.{Subtree, count_at, id_of, items_under, later_items, times_under}

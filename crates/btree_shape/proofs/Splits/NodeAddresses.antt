@@ -1,6 +1,6 @@
 -- The positions of a node that is split, and those below it.
 use Rattle.std.proofs.Common.{◌≡◌, ◌≢◌, ◌<◌, ◌≤◌, ◌++◌, ◌∷◌, [], ◌∙◌, ◌+◌, ◌-◌, ◌==◌, if◌then◌else◌, ℕ, zero, suc, inl, List, length, Option, Some, None, refl, sym, ap, subst, arith}
-use Rattle.btree_item.specs.declared.address.Address.{Address}
+use Rattle.btree_item.specs.Address.{Address}
 use Rattle.btree_shape.specs.Moved.{node_after_split, moved_by_split, parent_after_split}
 use Rattle.btree_shape.specs.Lists.{one}
 use Rattle.btree_shape.specs.Focus.Subtree.{Subtree, count_at, id_of, times_under}

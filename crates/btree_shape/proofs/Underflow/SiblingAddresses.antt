@@ -1,6 +1,6 @@
 -- The positions of two adjacent siblings that are merged, or between which an item moves, and those below.
 use Rattle.std.proofs.Common.{◌≡◌, ◌≢◌, ◌<◌, ◌++◌, ◌∷◌, [], ◌∙◌, ◌+◌, ◌-◌, ◌==◌, if◌then◌else◌, ℕ, zero, suc, inl, inr, List, length, Option, Some, None, refl, sym, ap, subst, arith, length-append}
-use Rattle.btree_item.specs.declared.address.Address.{Address}
+use Rattle.btree_item.specs.Address.{Address}
 use Rattle.btree_shape.specs.Moved.{at_separator, left_after_lending, right_after_merge, right_after_lending, right_after_borrowing, moved_by_merge, moved_by_rotate_left, moved_by_rotate_right, parent_after_merge}
 use Rattle.btree_shape.specs.Focus.Pair.{Rotates, first_of}
 use Rattle.btree_shape.specs.Lists.{total}

@@ -1,7 +1,7 @@
 -- The positions of two adjacent siblings A and B, by rows: B is merged into A, or an item moves between them.
 use Rattle.std.proofs.Common.{◌≡◌, ◌<◌, ◌≤◌, ◌++◌, ◌∷◌, [], ◌∙◌, ◌+◌, ℕ, suc, inl, List, length, Some, None, refl, sym, ap, subst, arith, append_assoc}
 use Rattle.std.specs.List.{AllByRecursion}
-use Rattle.btree_item.specs.declared.address.Address.{Address}
+use Rattle.btree_item.specs.Address.{Address}
 use Rattle.btree_shape.specs.Focus.Positions.{KeepsPositions, IsAt, Position, address_before, mark, over, node_positions, address_at, positions_from, positions_to}
 use Rattle.btree_shape.proofs.Splits.CutPositions.{keep-back, keep-front, fits-none, in-none, node_positions-joined, node_positions-then}
 use Rattle.btree_shape.proofs.Places.Lists.{keep-append, keep-mark, keep-more, keep-over, keep-positions_from, keep-to}

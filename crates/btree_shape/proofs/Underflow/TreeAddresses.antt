@@ -1,6 +1,6 @@
 -- A rotation, a merge and shrinking the root keep the place of each address of the tree.
 use Rattle.std.proofs.Common.{◌≡◌, ◌≢◌, ◌≤◌, ◌++◌, ◌∷◌, [], ◌∙◌, ◌+◌, ◌-◌, ℕ, zero, suc, inl, inr, List, length, Option, Some, None, refl, sym, ap, subst, arith, append_assoc, append-nil}
-use Rattle.btree_item.specs.declared.address.Address.{Address}
+use Rattle.btree_item.specs.Address.{Address}
 use Rattle.btree_shape.specs.Moved.{at_separator, root_after_shrinking, moved_by_merge, moved_by_shrink_root, moved_by_rotate_left, moved_by_rotate_right}
 use Rattle.btree_shape.specs.Focus.Pair.{Rotates, first_of}
 use Rattle.btree_shape.specs.Lists.{one}

@@ -1,6 +1,6 @@
 -- The states of a split upward, with the address that is followed and the bound that the strain gives.
 use Rattle.std.specs.Prelude.{◌≡◌, ℕ, suc, ◌+◌, ◌≤◌, List, length, Option}
-use Rattle.btree_item.specs.declared.address.Address.{Address}
+use Rattle.btree_item.specs.Address.{Address}
 use Rattle.btree_view.specs.View.{NodeMap}
 use Rattle.btree_shape.specs.Focus.Subtree.{most_at, count_at}
 use Rattle.btree_shape.specs.Focus.Path.{least_at}

@@ -2,7 +2,7 @@
 -- between them; so the place of an address is the number of items stepped over before it. `proofs/Places/OfTree.antt`
 -- shows that this agrees with `IsPlace`.
 use Rattle.std.specs.Prelude.{◌≡◌, ℕ, zero, suc, ◌⊎◌, List, [], ◌∷◌, ◌++◌, length, Option, Some, None}
-use Rattle.btree_item.specs.declared.address.Address.{Address}
+use Rattle.btree_item.specs.Address.{Address}
 use Rattle.btree_shape.specs.Focus.Subtree.{Subtree}
 use Rattle.btree_shape.specs.Focus.Path.{Frame, at_first, at_branch, Path, top, under, frame_id, frame_index}
 

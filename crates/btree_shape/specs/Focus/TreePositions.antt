@@ -1,6 +1,6 @@
 -- The positions of the tree under a root, whatever the focus, and the public definitions for an address of that tree.
 use Rattle.std.specs.Prelude.{◌≡◌, ◌≢◌, ℕ, suc, ◌⊎◌, List, [], ◌∷◌, Option, Some, None}
-use Rattle.btree_item.specs.declared.address.Address.{Address}
+use Rattle.btree_item.specs.Address.{Address}
 use Rattle.btree_view.specs.View.{NodeMap}
 use Rattle.btree_shape.specs.Place.{IsValid, IsPlace, item_at}
 use Rattle.btree_shape.specs.Focus.Subtree.{Subtree, id_of, Holds}

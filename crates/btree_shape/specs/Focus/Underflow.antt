@@ -3,7 +3,7 @@
 -- Every node but `id` has its number of items. The debt is 1 for a root without items, else 0. The fix ends in
 -- `IsRepaired` (`Overflow.antt`), as splits do, where each node has its number of items, or in the empty tree.
 use Rattle.std.specs.Prelude.{ℕ, zero, suc, ◌+◌, ◌≤◌, List, [], Option}
-use Rattle.btree_item.specs.declared.address.Address.{Address}
+use Rattle.btree_item.specs.Address.{Address}
 use Rattle.btree_view.specs.View.{NodeMap}
 use Rattle.btree_shape.specs.Focus.Subtree.{most_at, count_at}
 use Rattle.btree_shape.specs.Focus.Path.{Path, top, under, least_at}

@@ -1,7 +1,7 @@
 use Rattle.std.proofs.lemmas.Grind.{common_steps}
 use Rattle.std.proofs.Common.{◌≡◌, ◌≢◌, ◌∙◌, ◌-◌, ◌<◌, ◌^◌, Option, Some, ap, arith, nat_cmp, refl, subst, sym, ℕ}
 use Rattle.btree_item.specs.Offset.{index_offset}
-use Rattle.btree_item.specs.declared.address.Address.{Address}
+use Rattle.btree_item.specs.Address.{Address}
 use Rattle.btree_node.specs.declared.node.Node.{Node}
 use Rattle.btree_node.specs.declared.node.Node.TheVariants.{Internal}
 use Rattle.btree_node.specs.Node.{view_of}

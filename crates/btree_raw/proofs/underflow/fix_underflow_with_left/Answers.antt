@@ -1,5 +1,5 @@
 use Rattle.std.proofs.Common.{IfSome, IsSome, subst, sym, ◌≤◌}
-use Rattle.btree_item.specs.declared.address.Address.{Address}
+use Rattle.btree_item.specs.Address.{Address}
 use Rattle.btree_shape.specs.TreeState.{TreeState, KeepsRest, node_map}
 use Rattle.btree_raw.specs.NodeSteps.{MergesSiblings}
 use Rattle.btree_raw.specs.Underflow.{AreAdjacent, EndsUnderflow, FitTogether, PassesUnderflowUp}
