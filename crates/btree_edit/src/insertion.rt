@@ -57,7 +57,8 @@ pub(crate) fn insert_claimed<K: Ord + Drop, V: Drop, C: NodesMut<K, V>>(
 {
     tree.tell_fits();
     let index = addr.offset.unwrap();
-    let at = add_and_split(tree, addr.id, index, item, None, addr, claims);
+    let id = addr.id;
+    let at = add_and_split(tree, id, index, item, None, addr, claims);
     tree.set_len(tree.len() + 1);
     at
 }

@@ -41,7 +41,8 @@ pub fn remove_at<K: Ord + Drop, V: Drop, C: NodesMut<K, V>>(
             if count >= MIN_ITEMS {
                 return Some((item, addr));
             }
-            let at = rebalance_fetched(tree, addr.id, count, parent, addr);
+            let id = addr.id;
+            let at = rebalance_fetched(tree, id, count, parent, addr);
             Some((item, at))
         }
         Some(Err(left)) => {

@@ -43,7 +43,8 @@ where
                 if count >= MIN_ITEMS {
                     return answer;
                 }
-                let _at = rebalance_fetched(tree, addr.id, count, parent, addr);
+                let id = addr.id;
+                let _at = rebalance_fetched(tree, id, count, parent, addr);
                 return answer;
             };
             tree.node_mut(addr.id)

@@ -13,7 +13,7 @@ fn first_candidate(bookings: &BTreeMap<u32, u32>, start: u32) -> Option<Address>
 {
     match bookings.address_of(&start) {
         Ok(addr) => bookings.normalize(addr),
-        Err(gap) => match bookings.previous_item_address(gap.copied()) {
+        Err(gap) => match bookings.previous_item_address(gap) {
             Some(previous) => Some(previous),
             None => bookings.normalize(gap),
         },
@@ -33,7 +33,7 @@ pub fn count_overlaps(bookings: &BTreeMap<u32, u32>, start: u32, end: u32) -> us
         let Some(addr) = next else {
             return count;
         };
-        let (begins, ends) = bookings.pair_at(addr.copied());
+        let (begins, ends) = bookings.pair_at(addr);
         if *begins >= end {
             return count;
         }

@@ -115,17 +115,18 @@ fn put_back<C: NodesMut<u64, u64>>(map: &mut Map<C>, key: u64, value: u64) -> bo
     let Ok(addr) = map.address_of(&key) else {
         return false;
     };
-    let is_leaf = map.leaf_address(addr.copied()) == addr;
+    let is_leaf = map.leaf_address(addr) == addr;
     let Some((item, at)) = map.remove_at(addr) else {
         return false;
     };
-    if item.into_pair() != (key, value) || at.offset.is_before() || !map.is_valid(at.copied()) {
+    let offset = at.offset;
+    if item.into_pair() != (key, value) || offset.is_before() || !map.is_valid(at) {
         return false;
     }
-    if is_leaf && map.leaf_address(at.copied()) != at || map.validate().is_err() {
+    if is_leaf && map.leaf_address(at) != at || map.validate().is_err() {
         return false;
     }
-    if !map.fits_at(at.copied(), &key) {
+    if !map.fits_at(at, &key) {
         return false;
     }
     map.insert_at(at, Item::new(key, value)).is_ok()
@@ -170,13 +171,13 @@ fn neighbours_of<C: NodesMut<u64, u64>>(map: &Map<C>, key: &u64) -> Option<u64> 
         return None;
     };
     let mut neighbours = 0u64;
-    if let Some(next) = map.next_item_address(addr.copied()) {
-        if next == addr || map.previous_item_address(next) != Some(addr.copied()) {
+    if let Some(next) = map.next_item_address(addr) {
+        if next == addr || map.previous_item_address(next) != Some(addr) {
             return None;
         }
         neighbours = neighbours.wrapping_add(1);
     }
-    if let Some(previous) = map.previous_item_address(addr.copied()) {
+    if let Some(previous) = map.previous_item_address(addr) {
         if previous == addr || map.next_item_address(previous) != Some(addr) {
             return None;
         }

@@ -29,7 +29,7 @@ pub trait BTreeExtMut<K: Ord + Drop, V: Drop>: BTreeExt<K, V> {
             item_of (Self.state self.old) addr ≡ Some (p.0.now, p.1.now)) }
         ensures vacant { IfNone result (item_of (Self.state self.old) addr ≡ None) }
     {
-        if self.item(addr.copied()).is_none() {
+        if self.item(addr).is_none() {
             return None;
         }
         Some(self.pair_mut(addr))

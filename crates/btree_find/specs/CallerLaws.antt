@@ -55,11 +55,11 @@ module _ {K V : Type 0} (s : TreeState K V) where
       by (Some x) e = (x, sym here.item ∙ e, e)
 
   -- the pair that was read at the address of the item at a place is the list's pair there
-  pub pair-read : (place : ℕ) (at : Option Address) (a b : Address) → IsItemAt s place at → at ≡ Some a → b ≡ a → (x : K × V)
-      → Some x ≡ item_of s b → slice_get (pairs_of s) place ≡ Some x
-  pair-read place at a b item is itself x read =
+  pub pair-read : (place : ℕ) (at : Option Address) (a : Address) → IsItemAt s place at → at ≡ Some a → (x : K × V)
+      → Some x ≡ item_of s a → slice_get (pairs_of s) place ≡ Some x
+  pair-read place at a item is x read =
       let there : IsItemAt s place (Some a) = subst (IsItemAt s place) is item in
-      sym there.here.item ∙ (ap (item_of s) (sym itself) ∙ sym read)
+      sym there.here.item ∙ sym read
 
   -- the item after the one at a place is at the next place
   pub next-place : (place : ℕ) (at next : Option Address) (a : Address) → IsItemAt s place at → at ≡ Some a → IsNext s a next

@@ -57,7 +57,7 @@ pub fn fits_at<K: Ord, V, C: NodesMut<K, V>>(
     requires valid { IsValidIn tree.now addr }
     ensures { IsTrue result ↔ FitsAt K.cmp key.now tree.now addr }
 {
-    let previous = previous_item_address(tree, addr.copied());
+    let previous = previous_item_address(tree, addr);
     is_above(tree, previous, key) && is_below(tree, normalize(tree, addr), key)
 }
 
@@ -75,10 +75,10 @@ pub fn replaces_at<K: Ord, V, C: NodesMut<K, V>>(
     requires valid { IsValidIn tree.now addr }
     ensures { IsTrue result ↔ ReplacesAt K.cmp key.now tree.now addr }
 {
-    let Some(_item) = tree.item(addr.copied()) else {
+    let Some(_item) = tree.item(addr) else {
         return false;
     };
-    let previous = previous_item_address(tree, addr.copied());
+    let previous = previous_item_address(tree, addr);
     is_above(tree, previous, key) && is_below(tree, next_item_address(tree, addr), key)
 }
 

@@ -66,10 +66,11 @@ struct Spot {
 }
 
 fn find_spot<C: NodesMut<u64, u64>>(raw: &Raw<C>, addr: &Address) -> Spot {
+    let key = raw.item(*addr).map(|item| *item.key());
     Spot {
         place: place(raw, addr.id, addr.offset),
         is_before: addr.offset.is_before(),
-        key: raw.item(addr.copied()).map(|item| *item.key()),
+        key,
     }
 }
 
@@ -98,7 +99,7 @@ fn is_followed<C: NodesMut<u64, u64>>(
     is_listed: bool,
     reply: &mut Reply,
 ) -> Result<bool, AllocError> {
-    if !raw.is_off_by_one(id) || !raw.is_valid(addr.copied()) {
+    if !raw.is_off_by_one(id) || !raw.is_valid(addr) {
         return Ok(false);
     }
     let asked = find_spot(raw, &addr);
@@ -112,7 +113,7 @@ fn is_followed<C: NodesMut<u64, u64>>(
     if is_listed {
         put_named(reply, raw, None, &at)?;
     }
-    Ok(raw.is_valid(at.copied()) && leads_back(asked, find_spot(raw, &at)))
+    Ok(raw.is_valid(at) && leads_back(asked, find_spot(raw, &at)))
 }
 
 // Builds the tree anew, and rebalances it with the address that comes after so many. Returns whether that is followed.

@@ -111,7 +111,7 @@ pub(crate) fn rebalance<C: NodesMut<u64, u64>>(
     if !raw.is_off_by_one(id) {
         return reply.word("not off by one");
     }
-    if !raw.is_valid(addr.copied()) {
+    if !raw.is_valid(addr) {
         return reply.word("not valid");
     }
     match raw.rebalance(id, addr) {
@@ -159,7 +159,7 @@ pub(crate) fn put_place<C: NodesMut<u64, u64>>(
     addr: Address,
     reply: &mut Reply,
 ) -> Result<(), AllocError> {
-    if !raw.is_valid(addr.copied()) {
+    if !raw.is_valid(addr) {
         return reply.word("not valid");
     }
     reply.number(place(raw, addr.id, addr.offset))

@@ -81,15 +81,15 @@ module _ {K V : Type 0} (cmp : K → K → Ordering) (laws : IsTotalOrder cmp) (
       subst (λ o. WritesPlace cmp s (value_written s (or_nowhere o) w) (or_nowhere o) place k was w) (sym is)
       (listed-written cmp laws s tree a place stands-listed k was w here x)
 
-  pub stands-next : (copy : Address) (after : Option Address) → copy ≡ a
-      → (slice_get (item_addresses_of s) place ≡ Some copy → after ≡ slice_get (item_addresses_of s) (place + 1))
+  pub stands-next : (after : Option Address)
+      → (slice_get (item_addresses_of s) place ≡ Some a → after ≡ slice_get (item_addresses_of s) (place + 1))
       → after ≡ slice_get (item_addresses_of s) (place + 1)
-  stands-next copy after same next = next (stands-listed ∙ ap Some (sym same))
+  stands-next after next = next stands-listed
 
-  pub stands-previous : (copy : Address) (before : Option Address) → copy ≡ a
-      → (slice_get (item_addresses_of s) place ≡ Some copy → before ≡ prior (item_addresses_of s) place)
+  pub stands-previous : (before : Option Address)
+      → (slice_get (item_addresses_of s) place ≡ Some a → before ≡ prior (item_addresses_of s) place)
       → before ≡ prior (item_addresses_of s) place
-  stands-previous copy before same previous = previous (stands-listed ∙ ap Some (sym same))
+  stands-previous before previous = previous stands-listed
 
 pub prior-some : {X : Type 0} (list : List X) (n : ℕ) → 0 < n → prior list n ≡ slice_get list (n - 1)
 prior-some list zero some = absurd (omega arith)

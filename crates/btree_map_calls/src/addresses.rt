@@ -65,8 +65,8 @@ fn visit<C: NodesMut<u64, u64>>(
     is_forward: bool,
     reply: &mut Reply,
 ) -> Result<Option<Address>, AllocError> {
-    put_address(reply, map.as_raw(), Some(addr.copied()))?;
-    if !map.is_valid(addr.copied()) {
+    put_address(reply, map.as_raw(), Some(addr))?;
+    if !map.is_valid(addr) {
         return Ok(None);
     }
     if is_forward {
@@ -124,7 +124,7 @@ fn navigate<C: NodesMut<u64, u64>>(
     addr: Address,
     reply: &mut Reply,
 ) -> Result<bool, AllocError> {
-    if !map.is_valid(addr.copied()) {
+    if !map.is_valid(addr) {
         reply.word("not valid")?;
         return Ok(true);
     }
@@ -150,7 +150,7 @@ fn fitting<C: NodesMut<u64, u64>>(
     key: u64,
     reply: &mut Reply,
 ) -> Result<bool, AllocError> {
-    if !map.is_valid(addr.copied()) {
+    if !map.is_valid(addr) {
         reply.word("not valid")?;
         return Ok(true);
     }
@@ -181,7 +181,7 @@ fn by_address<C: NodesMut<u64, u64>>(
             Some(item) => reply.pair(*item.key(), *item.value())?,
             None => reply.word("none")?,
         },
-        "pair_at" if map.item(addr.copied()).is_none() => reply.word("not occupied")?,
+        "pair_at" if map.item(addr).is_none() => reply.word("not occupied")?,
         "pair_at" => {
             let (key, value) = map.pair_at(addr);
             reply.pair(*key, *value)?

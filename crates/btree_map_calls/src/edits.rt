@@ -16,10 +16,11 @@ fn insert_at<C: NodesMut<u64, u64>>(
     (key, value): (u64, u64),
     reply: &mut Reply,
 ) -> Result<(), AllocError> {
-    if addr.offset.is_before() || !map.is_valid(addr.copied()) {
+    let offset = addr.offset;
+    if offset.is_before() || !map.is_valid(addr) {
         return reply.word("not valid");
     }
-    if !map.fits_at(addr.copied(), &key) {
+    if !map.fits_at(addr, &key) {
         return reply.word("unfit");
     }
     match map.insert_at(addr, Item::new(key, value)) {
@@ -34,14 +35,15 @@ fn insert_exactly_at<C: NodesMut<u64, u64>>(
     (key, value): (u64, u64),
     reply: &mut Reply,
 ) -> Result<(), AllocError> {
-    if addr.offset.is_before() || !map.is_valid(addr.copied()) {
+    let offset = addr.offset;
+    if offset.is_before() || !map.is_valid(addr) {
         return reply.word("not valid");
     }
-    let leaf = map.leaf_address(addr.copied());
+    let leaf = map.leaf_address(addr);
     if leaf != addr {
         return reply.word("not a leaf");
     }
-    if !map.fits_at(addr.copied(), &key) {
+    if !map.fits_at(addr, &key) {
         return reply.word("unfit");
     }
     match map.insert_exactly_at(addr, Item::new(key, value)) {
@@ -56,10 +58,10 @@ fn replace_at<C: NodesMut<u64, u64>>(
     (key, value): (u64, u64),
     reply: &mut Reply,
 ) -> Result<(), AllocError> {
-    if !map.is_valid(addr.copied()) {
+    if !map.is_valid(addr) {
         return reply.word("not valid");
     }
-    if !map.replaces_at(addr.copied(), &key) {
+    if !map.replaces_at(addr, &key) {
         return reply.word("unfit");
     }
     let (key, value) = map.replace_at(addr, key, value);
@@ -72,7 +74,7 @@ fn replace_value_at<C: NodesMut<u64, u64>>(
     value: u64,
     reply: &mut Reply,
 ) -> Result<(), AllocError> {
-    if map.item(addr.copied()).is_none() {
+    if map.item(addr).is_none() {
         return reply.word("not occupied");
     }
     let old = map.replace_value_at(addr, value);
@@ -84,7 +86,7 @@ fn remove_at<C: NodesMut<u64, u64>>(
     addr: Address,
     reply: &mut Reply,
 ) -> Result<(), AllocError> {
-    if !map.is_valid(addr.copied()) {
+    if !map.is_valid(addr) {
         return reply.word("not valid");
     }
     match map.remove_at(addr) {
@@ -102,7 +104,7 @@ fn update_at<C: NodesMut<u64, u64>>(
     action: Action,
     reply: &mut Reply,
 ) -> Result<(), AllocError> {
-    if map.item(addr.copied()).is_none() {
+    if map.item(addr).is_none() {
         return reply.word("not occupied");
     }
     let found = map.update_at(addr, |found| (given(action, Some(found)), found));
@@ -155,7 +157,7 @@ fn item_mut<C: NodesMut<u64, u64>>(
     action: Action,
     reply: &mut Reply,
 ) -> Result<(), AllocError> {
-    if !map.is_valid(addr.copied()) {
+    if !map.is_valid(addr) {
         return reply.word("not valid");
     }
     match map.item_mut(addr) {

@@ -198,7 +198,7 @@ fn place_of<K: Ord, C: NodesMut<K, u64>>(
 ) -> usize {
     let (Ok(addr) | Err(addr)) = found;
     let mut place = 0usize;
-    let mut next = if map.is_valid(addr.copied()) {
+    let mut next = if map.is_valid(addr) {
         map.previous_item_address(addr)
     } else {
         None
@@ -206,7 +206,7 @@ fn place_of<K: Ord, C: NodesMut<K, u64>>(
     for _ in 0..map.len() {
         if let Some(at) = next {
             place = place.wrapping_add(1);
-            next = if map.is_valid(at.copied()) {
+            next = if map.is_valid(at) {
                 map.previous_item_address(at)
             } else {
                 None

@@ -59,7 +59,7 @@ fn touches_next<C: NodesMut<u64, u64>>(map: &BTreeMap<u64, u64, C>, at: &Address
     ensures touches { IsTrue result → NextStartsBy map.now at.now end }
     ensures apart { IsFalse result → NextStartsAfter map.now at.now end }
 {
-    let Some(next) = map.next_item_address(at.copied()) else {
+    let Some(next) = map.next_item_address(*at) else {
         return false;
     };
     let (start, _end) = map.pair_at(next);
@@ -79,7 +79,7 @@ fn join<C: NodesMut<u64, u64>>(map: &mut BTreeMap<u64, u64, C>, at: Address, sta
         };
         at = next;
     }
-    let (_, last) = map.pair_at(at.copied());
+    let (_, last) = map.pair_at(at);
     let last = end.max(*last);
     map.replace_at(at, start, last);
 }
@@ -104,16 +104,16 @@ pub(crate) fn add<C: NodesMut<u64, u64>>(
         }
         Err(gap) => gap,
     };
-    if let Some(before) = map.previous_item_address(gap.copied()) {
-        let (first, last) = map.pair_at(before.copied());
+    if let Some(before) = map.previous_item_address(gap) {
+        let (first, last) = map.pair_at(before);
         let first = *first;
         if start <= *last {
             join(map, before, first, end);
             return Ok(());
         }
     }
-    if let Some(after) = map.normalize(gap.copied()) {
-        let (first, _) = map.pair_at(after.copied());
+    if let Some(after) = map.normalize(gap) {
+        let (first, _) = map.pair_at(after);
         if *first <= end {
             join(map, after, start, end);
             return Ok(());
@@ -138,7 +138,7 @@ fn clear_from<C: NodesMut<u64, u64>>(
 {
     let mut at = at;
     while let Some(addr) = at {
-        let (first, last) = map.pair_at(addr.copied());
+        let (first, last) = map.pair_at(addr);
         let (first, last) = (*first, *last);
         if end <= first {
             return;
@@ -201,8 +201,8 @@ pub(crate) fn subtract<C: NodesMut<u64, u64>>(
         }
         Err(gap) => gap,
     };
-    if let Some(before) = map.previous_item_address(gap.copied()) {
-        let (_, last) = map.pair_at(before.copied());
+    if let Some(before) = map.previous_item_address(gap) {
+        let (_, last) = map.pair_at(before);
         let last = *last;
         if end < last {
             return cut(map, gap, start, end, last);

@@ -75,7 +75,8 @@ fn insert_and_split<K: Ord + Drop, V: Drop, C: NodesMut<K, V>>(
         return Err(refused(Cause::Store, item));
     }
     let index = addr.offset.unwrap();
-    let at = add_and_split(tree, addr.id, index, item, child, addr, &mut claims);
+    let id = addr.id;
+    let at = add_and_split(tree, id, index, item, child, addr, &mut claims);
     tree.set_len(tree.len() + 1);
     Ok(at)
 }
@@ -105,7 +106,8 @@ fn insert_in_tree<K: Ord + Drop, V: Drop, C: NodesMut<K, V>>(
     node.insert(Offset::from(index), item, child);
     let count = node.item_count();
     let parent = node.parent();
-    let at = rebalance_fetched(tree, addr.id, count, parent, addr);
+    let id = addr.id;
+    let at = rebalance_fetched(tree, id, count, parent, addr);
     tree.set_len(tree.len() + 1);
     Ok(at)
 }

@@ -78,7 +78,7 @@ fn fix_underflow_with_left<K: Drop, V: Drop, C: NodesMut<K, V>>(
     ensures rest { KeepsRest tree.old tree.new }
     ensures back { IsSome addr.offset → IsSome result.0.offset }
 {
-    match borrow_from_left(tree, siblings, addr.copied()) {
+    match borrow_from_left(tree, siblings, addr) {
         Some(at) => (at, false),
         None => (merge_siblings(tree, siblings, addr), true),
     }
@@ -109,7 +109,7 @@ fn fix_underflow_at<K: Drop, V: Drop, C: NodesMut<K, V>>(
     let Some(after) = after else {
         return fix_underflow_with_left(tree, before.unwrap(), addr);
     };
-    if let Some(at) = borrow_from_right(tree, after, count, addr.copied()) {
+    if let Some(at) = borrow_from_right(tree, after, count, addr) {
         return (at, false);
     }
     match before {

@@ -176,7 +176,7 @@ impl<C: NodesMut<u64, u64>> Session<C> {
         let Some(held) = self.held else {
             return Reply::NoPlace;
         };
-        if !self.map.fits_at(held.copied(), &key) {
+        if !self.map.fits_at(held, &key) {
             return Reply::Unfit;
         }
         let outcome = self.map.insert_at(held, Item::new(key, value));

@@ -81,7 +81,7 @@ fn check_numbers<C: ClearNodes<u64, u64>>(rt: &impl Abort, session: &Session<C>)
             panic!(rt; "an address is missing");
         };
         assert_true_in(rt, at.id, at.id % 2 == 1);
-        assert_true(rt, map.is_valid(at.copied()));
+        assert_true(rt, map.is_valid(at));
         next = map.next_back_address(at);
     }
     assert_same(rt, next, None);

@@ -163,9 +163,9 @@ fn check_at<'a, C: NodesMut<Counted<'a>, u32>>(
     key.compared.set(0);
     assert_same_in(rt, key.number, tree.get(&key).copied(), value);
     assert_true_in(rt, key.number, key.compared.get() <= 18);
-    assert_true(rt, tree.is_valid(addr.copied()));
+    assert_true(rt, tree.is_valid(addr));
     key.compared.set(0);
-    let fits = tree.fits_at(addr.copied(), &key);
+    let fits = tree.fits_at(addr, &key);
     assert_true_in(rt, key.number, fits != is_there && key.compared.get() <= 2);
     key.compared.set(0);
     let replaces = tree.replaces_at(addr, &key);
@@ -312,7 +312,7 @@ fn remove_each_at<'a, C: NodesMut<Counted<'a>, u32> + Drop>(
     for value in 0..44u32 {
         let number = 2 * value + 1;
         let (Ok(addr) | Err(addr)) = tree.address_of(&Counted { number, compared });
-        assert_true(rt, tree.is_valid(addr.copied()));
+        assert_true(rt, tree.is_valid(addr));
         compared.set(0);
         let removed = tree.remove_at(addr).map(|pair| *pair.0.value());
         assert_same(rt, (removed, compared.get()), (Some(value), 0));

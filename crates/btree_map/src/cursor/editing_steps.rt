@@ -235,7 +235,7 @@ impl<'a, K: Ord + Drop, V: Drop, C: NodesMut<K, V>> EntriesMut<'a, K, V, C> {
         let Some(at) = self.first else {
             unreachable!();
         };
-        self.first = address_after(self.map, at.copied());
+        self.first = address_after(self.map, at);
         self.known = one_more(self.known);
         self.map.pair_mut(at)
     }

@@ -77,7 +77,7 @@ impl<'a, K: Ord + Drop, V: Drop, C: NodesMut<K, V>> IterMut<'a, K, V, C> {
         let Some(at) = self.first else {
             unreachable!();
         };
-        self.first = address_after(self.map, at.copied());
+        self.first = address_after(self.map, at);
         self.front += 1;
         self.map.pair_mut(at)
     }
@@ -93,7 +93,7 @@ impl<'a, K: Ord + Drop, V: Drop, C: NodesMut<K, V>> IterMut<'a, K, V, C> {
         let Some(at) = self.last else {
             unreachable!();
         };
-        self.last = address_before(self.map, at.copied());
+        self.last = address_before(self.map, at);
         self.back -= 1;
         self.map.pair_mut(at)
     }

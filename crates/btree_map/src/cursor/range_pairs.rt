@@ -40,7 +40,7 @@ impl<'a, K: Ord + Drop, V: Drop, C: NodesMut<K, V>> RangeMut<'a, K, V, C> {
             unreachable!();
         };
         self.any_left = self.first != self.last;
-        self.first = address_after(self.map, at.copied());
+        self.first = address_after(self.map, at);
         self.map.pair_mut(at)
     }
 
@@ -56,7 +56,7 @@ impl<'a, K: Ord + Drop, V: Drop, C: NodesMut<K, V>> RangeMut<'a, K, V, C> {
             unreachable!();
         };
         self.any_left = self.first != self.last;
-        self.last = address_before(self.map, at.copied());
+        self.last = address_before(self.map, at);
         self.map.pair_mut(at)
     }
 

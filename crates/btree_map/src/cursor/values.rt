@@ -46,7 +46,7 @@ impl<'a, K: Ord + Drop, V: Drop, C: NodesMut<K, V>> ValuesMut<'a, K, V, C> {
         let Some(at) = self.first else {
             unreachable!();
         };
-        self.first = address_after(self.map, at.copied());
+        self.first = address_after(self.map, at);
         self.front += 1;
         let (_key, value) = self.map.pair_mut(at);
         value

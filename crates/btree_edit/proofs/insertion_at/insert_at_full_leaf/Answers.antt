@@ -7,16 +7,19 @@ use Rattle.btree_edit.proofs.LimitLemmas.{either-within, inserted-within, refuse
 use Rattle.btree_edit.proofs.insertion_at.insert_at_full_leaf.Goals as goal
 
 pub need_above-count-requires-clause-full : goal.need_above-count-requires-clause-full
-need_above-count-requires-clause-full g c = c.requires.full.full
+need_above-count-requires-clause-full g c = let full = rw (← c.addr.view_is) at c.requires.full in full.full
 
 pub need_above-count-requires-clause-parent : goal.need_above-count-requires-clause-parent
-need_above-count-requires-clause-parent g c = c.requires.full.named
+need_above-count-requires-clause-parent g c = let full = rw (← c.addr.view_is) at c.requires.full in full.named
 
 pub insert_and_split-requires-clause-gap : goal.insert_and_split-requires-clause-gap
 insert_and_split-requires-clause-gap g c =
     let here = leaf-same g.K.Ord.cmp g.met.K.Ord.total c.args.tree.now c.requires.tree c.args.addr c.requires.valid (inl c.requires.full.leaf) in
     gap-at-leaf g.K.Ord.cmp g.met.K.Ord.total c.args.tree.now c.requires.tree c.args.item c.args.addr c.requires.fits
     c.args.addr here c.requires.back
+
+pub insert_and_split-requires-clause-enough : goal.insert_and_split-requires-clause-enough
+insert_and_split-requires-clause-enough g c = rw (← c.addr.view_is) c.need_above-count.ensures.value
 
 pub returns-clause-inserted : goal.returns-clause-inserted
 returns-clause-inserted g c =

@@ -1,23 +1,24 @@
 use Rattle.std.proofs.Common.{refl, sym, ap, ◌∙◌, Some}
 use Rattle.btree_edit.proofs.ExchangeLemmas.{item-here_of, occupied-used, written, written-exchanged}
+use Rattle.btree_item.specs.declared.address.Address.TheView.{view}
 use Rattle.btree_edit.proofs.values.pair_mut.Goals as goal
 
 pub node_mut-requires : goal.node_mut-requires
-node_mut-requires g c = (c.tell_fits.ensures, occupied-used c.args.tree.now c.args.addr c.requires.occupied)
+node_mut-requires g c = (c.tell_fits.ensures, occupied-used c.args.tree.now (view c.addr.inside) (rw (← c.addr.view_is) at c.requires.occupied))
 
 pub returns : goal.returns
-returns g c = (
-  (refl, written g.K.Ord.cmp g.met.K.Ord.total c.args.tree.now c.args.addr c.requires.tree c.node_mut.result.now c.node_mut.ensures.value c.in-Some.item.now c.in-Some.ensures.value),
+returns g c = rw (← c.addr.view_is) ((
+  (refl, written g.K.Ord.cmp g.met.K.Ord.total c.args.tree.now (view c.addr.inside) c.requires.tree c.node_mut.result.now c.node_mut.ensures.value c.in-Some.item.now c.in-Some.ensures.value),
   record {
     writes_back = tt;
     pair =
-        item-here_of g.K.Ord.cmp g.met.K.Ord.total c.args.tree.now c.args.addr c.requires.tree c.node_mut.result.now c.node_mut.ensures.value c.in-Some.item.now c.in-Some.ensures.value
+        item-here_of g.K.Ord.cmp g.met.K.Ord.total c.args.tree.now (view c.addr.inside) c.requires.tree c.node_mut.result.now c.node_mut.ensures.value c.in-Some.item.now c.in-Some.ensures.value
         ∙ sym (ap Some c.key_and_value.ensures.pair);
     exchanged =
-        written-exchanged g.K.Ord.cmp g.met.K.Ord.total c.args.tree.now c.args.addr c.requires.tree c.node_mut.result.now c.node_mut.ensures.value c.in-Some.item.now c.in-Some.ensures.value
+        written-exchanged g.K.Ord.cmp g.met.K.Ord.total c.args.tree.now (view c.addr.inside) c.requires.tree c.node_mut.result.now c.node_mut.ensures.value c.in-Some.item.now c.in-Some.ensures.value
         c.key_and_value.result.1.now (ap (λ p. p.1) c.key_and_value.ensures.pair);
   },
-)
+))
 
 pub item_mut-requires : goal.item_mut-requires
 item_mut-requires g c = c.tell_fits.ensures

@@ -15,7 +15,7 @@ returns-then-begins-end c =
     let s = c.args.bookings.now in
     let i = c.loop-step.invariant in
     let x : ℕ × ℕ = (c.pair_at.result.0.now, c.pair_at.result.1.now) in
-    let here = pair-read s i.place c.loop-step.next c.in-Some.addr c.copied.result i.item c.in-Some.is c.copied.ensures x (sym {a = item_of s c.copied.result} c.pair_at.ensures) in
+    let here = pair-read s i.place c.loop-step.next c.in-Some.addr i.item c.in-Some.is x (sym {a = item_of s c.in-Some.addr} c.pair_at.ensures) in
     counted-all s c.args.start c.requires c.args.end c.loop-step.count i.place x here i.counted (omega arith)
 
 pub loop-step-preserved : goal.loop-step-preserved
@@ -23,7 +23,7 @@ loop-step-preserved c =
     let s = c.args.bookings.now in
     let i = c.loop-step.invariant in
     let x : ℕ × ℕ = (c.pair_at.result.0.now, c.pair_at.result.1.now) in
-    let here = pair-read s i.place c.loop-step.next c.in-Some.addr c.copied.result i.item c.in-Some.is c.copied.ensures x (sym {a = item_of s c.copied.result} c.pair_at.ensures) in
+    let here = pair-read s i.place c.loop-step.next c.in-Some.addr i.item c.in-Some.is x (sym {a = item_of s c.in-Some.addr} c.pair_at.ensures) in
     let item = next-place s i.place c.loop-step.next c.next_item_address-next.result c.in-Some.addr i.item c.in-Some.is c.next_item_address-next.ensures in
     elim c.if-ends-start.branch [
       | then-ends-start w ↦ record {

@@ -1,5 +1,3 @@
-use Rattle.std.proofs.Common.{Some, subst}
-use Rattle.btree_slab.specs.Navigation.{IsPrevious}
 use Rattle.btree_examples.proofs.BookingLemmas.{candidate-before, candidate-found}
 use Rattle.btree_examples.proofs.bookings.first_candidate.Goals as goal
 
@@ -9,4 +7,4 @@ returns-in-Ok c = candidate-found c.args.bookings.now c.args.start c.requires c.
 pub returns-in-Some : goal.returns-in-Some
 returns-in-Some c =
     candidate-before c.args.bookings.now c.args.start c.requires c.in-Err.gap c.in-Some.previous c.in-Err.ensures
-    (subst (λ a. IsPrevious c.args.bookings.now a (Some c.in-Some.previous)) c.copied.ensures c.in-Some.ensures)
+    c.in-Some.ensures

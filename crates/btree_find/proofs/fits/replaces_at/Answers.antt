@@ -12,10 +12,9 @@ returns-then-is_above g c =
     let k = c.args.key.now in
     let p = c.previous_item_address-previous.result in
     let n = c.next_item_address.result in
-    let some : item_of s a ≡ Some c.in-Some._item.now =
-    ap (λ b. item_of s b) (sym c.copied.ensures) ∙ (sym c.item.ensures.value ∙ ap option_copied c.in-Some.is) in
+    let some : item_of s a ≡ Some c.in-Some._item.now = sym c.item.ensures.value ∙ ap option_copied c.in-Some.is in
     let occupied = item-occupied s a (subst (λ o. IsSome o) (sym some) refl) in
-    let previous : IsPrevious s a p = subst (λ b. IsPrevious s b p) c.copied-2.ensures c.previous_item_address-previous.ensures in
+    let previous : IsPrevious s a p = c.previous_item_address-previous.ensures in
     let low = occupied-low g.K.Ord.cmp g.met.K.Ord.total s c.requires.tree a previous.place previous.has.at occupied in (
       λ t.
           replaces-by g.K.Ord.cmp k s a p n previous c.next_item_address.ensures occupied low (c.is_above.ensures.0 c.if-is_above.true)

@@ -14,13 +14,13 @@ pub join-requires-then-start-last : goal.join-requires-then-start-last
 join-requires-then-start-last g c =
     let f = c.in-Err.ensures.fits in
     join-before c.args.map.now c.in-Err.gap c.args.start c.args.end f.place f.has f.fits c.requires.runs c.requires.some c.in-Some.before _
-    (rw c.copied.ensures at c.in-Some.ensures) (rw c.copied-in-Some.ensures at c.pair_at.ensures)
+    c.in-Some.ensures c.pair_at.ensures
 
 pub returns-then-start-last-clause-joined : goal.returns-then-start-last-clause-joined
 returns-then-start-last-clause-joined g c =
     let f = c.in-Err.ensures.fits in
     joined-wider c.args.map.now c.in-Err.gap c.args.start c.args.end f.place f.has f.fits c.requires.runs c.requires.some c.in-Some.before _
-    (rw c.copied.ensures at c.in-Some.ensures) (rw c.copied-in-Some.ensures at c.pair_at.ensures)
+    c.in-Some.ensures c.pair_at.ensures
     c.join-then-start-last.new.map (omega (arith, c.if-start-last.true)) c.join-then-start-last.ensures
 
 pub join-requires-then-first-end : goal.join-requires-then-first-end
@@ -31,11 +31,11 @@ join-requires-then-first-end g c =
     let ends : EndsBefore (pairs_of s) f.place c.args.start =
     elim c.match-previous_item_address.branch [
       | in-Some+else-start-last w ↦
-          ends-some s gap c.args.start f.place f.has f.fits w.in-Some.before _ c.args.start (rw c.copied.ensures at w.in-Some.ensures) (rw w.copied-in-Some.ensures at w.pair_at.ensures) (omega (arith, w.if-start-last.false))
-      | in_default w ↦ ends-none s gap c.args.start f.place f.has f.fits c.args.start (rw c.copied.ensures at w.in_default.ensures)
+          ends-some s gap c.args.start f.place f.has f.fits w.in-Some.before _ c.args.start w.in-Some.ensures w.pair_at.ensures (omega (arith, w.if-start-last.false))
+      | in_default w ↦ ends-none s gap c.args.start f.place f.has f.fits c.args.start w.in_default.ensures
     ] in
     join-after s gap c.args.start c.args.end f.place f.has f.fits c.requires.runs c.requires.some c.in-Some-normalize.after _
-    (rw c.copied-2.ensures at c.in-Some-normalize.ensures) (rw c.copied-in-Some-normalize.ensures at c.pair_at-in-Some-normalize.ensures) (omega (arith, c.if-first-end.true)) ends
+    c.in-Some-normalize.ensures c.pair_at-in-Some-normalize.ensures (omega (arith, c.if-first-end.true)) ends
 
 pub returns-in-Ok-insert_at-clause-joined : goal.returns-in-Ok-insert_at-clause-joined
 returns-in-Ok-insert_at-clause-joined g c =
@@ -45,15 +45,15 @@ returns-in-Ok-insert_at-clause-joined g c =
     let ends : EndsBefore (pairs_of s) f.place c.args.start =
     elim c.match-previous_item_address.branch [
       | in-Some+else-start-last w ↦
-          ends-some s gap c.args.start f.place f.has f.fits w.in-Some.before _ c.args.start (rw c.copied.ensures at w.in-Some.ensures) (rw w.copied-in-Some.ensures at w.pair_at.ensures) (omega (arith, w.if-start-last.false))
-      | in_default w ↦ ends-none s gap c.args.start f.place f.has f.fits c.args.start (rw c.copied.ensures at w.in_default.ensures)
+          ends-some s gap c.args.start f.place f.has f.fits w.in-Some.before _ c.args.start w.in-Some.ensures w.pair_at.ensures (omega (arith, w.if-start-last.false))
+      | in_default w ↦ ends-none s gap c.args.start f.place f.has f.fits c.args.start w.in_default.ensures
     ] in
     let starts : StartsAfter (pairs_of s) f.place c.args.end =
     elim c.match-normalize.branch [
       | in-Some-normalize+else-first-end w ↦
-          starts-some s gap c.args.start f.place f.has f.fits w.in-Some-normalize.after _ c.args.end (rw c.copied-2.ensures at w.in-Some-normalize.ensures)
-          (rw w.copied-in-Some-normalize.ensures at w.pair_at-in-Some-normalize.ensures) (omega (arith, w.if-first-end.false))
-      | in_default-normalize w ↦ starts-none s gap c.args.start f.place f.has f.fits c.args.end (rw c.copied-2.ensures at w.in_default-normalize.ensures)
+          starts-some s gap c.args.start f.place f.has f.fits w.in-Some-normalize.after _ c.args.end w.in-Some-normalize.ensures
+          w.pair_at-in-Some-normalize.ensures (omega (arith, w.if-first-end.false))
+      | in_default-normalize w ↦ starts-none s gap c.args.start f.place f.has f.fits c.args.end w.in_default-normalize.ensures
     ] in
     put-done s gap c.args.start c.args.end f.place f.has f.fits c.requires.runs c.requires.some c.insert_at.new.self c.in-Ok-insert_at._at ends starts
     (rw c.new.ensures at c.in-Ok-insert_at.ensures.inserted)
@@ -66,14 +66,14 @@ returns-in-Err-insert_at-clause-joins_none g c =
     let ends : EndsBefore (pairs_of s) f.place c.args.start =
     elim c.match-previous_item_address.branch [
       | in-Some+else-start-last w ↦
-          ends-some s gap c.args.start f.place f.has f.fits w.in-Some.before _ c.args.start (rw c.copied.ensures at w.in-Some.ensures) (rw w.copied-in-Some.ensures at w.pair_at.ensures) (omega (arith, w.if-start-last.false))
-      | in_default w ↦ ends-none s gap c.args.start f.place f.has f.fits c.args.start (rw c.copied.ensures at w.in_default.ensures)
+          ends-some s gap c.args.start f.place f.has f.fits w.in-Some.before _ c.args.start w.in-Some.ensures w.pair_at.ensures (omega (arith, w.if-start-last.false))
+      | in_default w ↦ ends-none s gap c.args.start f.place f.has f.fits c.args.start w.in_default.ensures
     ] in
     let starts : StartsAfter (pairs_of s) f.place c.args.end =
     elim c.match-normalize.branch [
       | in-Some-normalize+else-first-end w ↦
-          starts-some s gap c.args.start f.place f.has f.fits w.in-Some-normalize.after _ c.args.end (rw c.copied-2.ensures at w.in-Some-normalize.ensures)
-          (rw w.copied-in-Some-normalize.ensures at w.pair_at-in-Some-normalize.ensures) (omega (arith, w.if-first-end.false))
-      | in_default-normalize w ↦ starts-none s gap c.args.start f.place f.has f.fits c.args.end (rw c.copied-2.ensures at w.in_default-normalize.ensures)
+          starts-some s gap c.args.start f.place f.has f.fits w.in-Some-normalize.after _ c.args.end w.in-Some-normalize.ensures
+          w.pair_at-in-Some-normalize.ensures (omega (arith, w.if-first-end.false))
+      | in_default-normalize w ↦ starts-none s gap c.args.start f.place f.has f.fits c.args.end w.in_default-normalize.ensures
     ] in
     record { some = c.requires.some; apart = joins-none 0 (pairs_of s) f.place c.args.start c.args.end c.requires.runs f.fits.within ends starts }

@@ -15,5 +15,5 @@ pub returns : goal.returns
 returns g c =
     let l = c.loop-map.invariant in
     joining-done c.args.map.now c.loop-map.map c.replace_at.new.self c.loop-map.at c.args.start c.args.end l
-    _ (rw c.copied.ensures at c.pair_at.ensures) (c.loop-map-test.ensures.apart refl l.can.place l.can.item.has)
+    _ c.pair_at.ensures (c.loop-map-test.ensures.apart refl l.can.place l.can.item.has)
     (rw c.max-last.ensures at c.replace_at.ensures.exchanged)

@@ -13,27 +13,27 @@ clear_from-requires-clause-from g c = clear-found c.args.map.now c.args.start c.
 pub cut-requires : goal.cut-requires
 cut-requires g c =
     cut-can c.args.map.now c.in-Err.gap c.in-Some.before c.args.start c.args.end _ c.in-Err.ensures
-    (rw c.copied.ensures at c.in-Some.ensures) (rw c.copied-in-Some.ensures at c.pair_at.ensures) c.requires.some (omega (arith, c.if-end-last.true)) c.requires.runs
+    c.in-Some.ensures c.pair_at.ensures c.requires.some (omega (arith, c.if-end-last.true)) c.requires.runs
 
 pub returns-then-end-last-clause-cuts_one : goal.returns-then-end-last-clause-cuts_one
 returns-then-end-last-clause-cuts_one g c =
     let s = c.args.map.now in
     let f = c.in-Err.ensures.fits in
-    let there = before-read s c.in-Err.gap c.args.start f.place f.has f.fits c.in-Some.before _ (rw c.copied.ensures at c.in-Some.ensures) (rw c.copied-in-Some.ensures at c.pair_at.ensures) in
+    let there = before-read s c.in-Err.gap c.args.start f.place f.has f.fits c.in-Some.before _ c.in-Some.ensures c.pair_at.ensures in
     cuts-one c.cut.result (pairs_of s) c.args.start c.args.end there.0 _ c.requires.some there.3 there.4 (omega (arith, c.if-end-last.true))
 
 pub clear_from-requires-then-start-last-clause-from : goal.clear_from-requires-then-start-last-clause-from
 clear_from-requires-then-start-last-clause-from g c =
     let f = c.in-Err.ensures.fits in
     shorten-can c.args.map.now c.replace_value_at.new.self c.in-Err.gap c.in-Some.before c.args.start c.args.end f.place c.replace_value_at.result _
-    f.has f.fits c.requires.runs (rw c.copied.ensures at c.in-Some.ensures) (rw c.copied-in-Some.ensures at c.pair_at.ensures) c.requires.some (omega (arith, c.if-start-last.true))
+    f.has f.fits c.requires.runs c.in-Some.ensures c.pair_at.ensures c.requires.some (omega (arith, c.if-start-last.true))
     c.replace_value_at.ensures c.normalize-after.result c.normalize-after.ensures
 
 pub returns-then-start-last-clause-cleared : goal.returns-then-start-last-clause-cleared
 returns-then-start-last-clause-cleared g c =
     let f = c.in-Err.ensures.fits in
     shorten-then c.args.map.now c.replace_value_at.new.self c.in-Err.gap c.in-Some.before c.args.start c.args.end f.place c.replace_value_at.result _
-    f.has f.fits c.requires.runs (rw c.copied.ensures at c.in-Some.ensures) (rw c.copied-in-Some.ensures at c.pair_at.ensures) c.requires.some (omega (arith, c.if-start-last.true))
+    f.has f.fits c.requires.runs c.in-Some.ensures c.pair_at.ensures c.requires.some (omega (arith, c.if-start-last.true))
     c.replace_value_at.ensures (omega (arith, c.if-end-last.false)) c.clear_from-then-start-last.new.map c.clear_from-then-start-last.ensures
 
 pub clear_from-requires-2-clause-from : goal.clear_from-requires-2-clause-from
@@ -44,8 +44,8 @@ clear_from-requires-2-clause-from g c =
     elim c.match-previous_item_address.branch [
       | in-Some+else-end-last+else-start-last w ↦
           let low = w.if-start-last.false in
-          ends-some s c.in-Err.gap c.args.start f.place f.has f.fits w.in-Some.before _ (suc c.args.start) (rw c.copied.ensures at w.in-Some.ensures)
-          (rw w.copied-in-Some.ensures at w.pair_at.ensures) (omega (arith, low))
-      | in_default w ↦ ends-none s c.in-Err.gap c.args.start f.place f.has f.fits (suc c.args.start) (rw c.copied.ensures at w.in_default.ensures)
+          ends-some s c.in-Err.gap c.args.start f.place f.has f.fits w.in-Some.before _ (suc c.args.start) w.in-Some.ensures
+          w.pair_at.ensures (omega (arith, low))
+      | in_default w ↦ ends-none s c.in-Err.gap c.args.start f.place f.has f.fits (suc c.args.start) w.in_default.ensures
     ] in
     clear-gap s c.in-Err.gap c.args.start f.place f.has f.fits c.normalize-after-2.result c.normalize-after-2.ensures ends c.requires.runs

@@ -2,6 +2,7 @@ use Rattle.std.proofs.Common.{◌∙◌, arith, refl, sym, rules}
 use Rattle.btree_raw.proofs.ClaimLemmas.{claims-low}
 use Rattle.btree_raw.proofs.PutLemmas.{can-add-claimed, old-counting, put-refused, put-splitting, split-inserted}
 use Rattle.btree_raw.proofs.StateLemmas.{same-len}
+use Rattle.btree_item.specs.declared.address.Address.TheView.{view}
 use Rattle.btree_raw.proofs.insertion.insert_and_split.Goals as goal
 use Rattle.std.proofs.lemmas.Grind.{common_steps}
 
@@ -11,7 +12,7 @@ tell_fits-requires g c κs =
 
 pub split_need_above-count-requires-clause-counting : goal.split_need_above-count-requires-clause-counting
 split_need_above-count-requires-clause-counting g c =
-    old-counting g.K.Ord.cmp g.met.K.Ord.total c.args.tree.now c.args.addr c.args.item c.args.child c.requires.off_by_one c.requires.full
+    old-counting g.K.Ord.cmp g.met.K.Ord.total c.args.tree.now (view c.addr.inside) c.args.item c.args.child (rw (← c.addr.view_is) at c.requires.off_by_one) (rw (← c.addr.view_is) at c.requires.full)
 
 pub new-claims-requires : goal.new-claims-requires
 new-claims-requires g c =
@@ -38,21 +39,22 @@ returns-then-not-claim-clause-returned g c =
     grind (arith, common_steps) steps 300000
 
 pub returns-then-not-claim-clause-refused : goal.returns-then-not-claim-clause-refused
-returns-then-not-claim-clause-refused g c =
-    rw c.refused.ensures (put-refused g.K.Ord.cmp g.met.K.Ord.total c.args.tree.now c.args.addr c.args.item c.args.child c.requires.off_by_one c.requires.full g.C.NodesMut.MayRefuse c.claim.new.tree c.split_need_above-count.result c.split_need_above-count.ensures.value (c.claim.ensures.refused c.if-not-claim.true) (c.claim.ensures.may_refuse c.if-not-claim.true) c.requires.granted)
+returns-then-not-claim-clause-refused g c = rw (← c.addr.view_is) (rw c.refused.ensures (put-refused g.K.Ord.cmp g.met.K.Ord.total c.args.tree.now (view c.addr.inside) c.args.item c.args.child (rw (← c.addr.view_is) at c.requires.off_by_one) (rw (← c.addr.view_is) at c.requires.full) g.C.NodesMut.MayRefuse c.claim.new.tree c.split_need_above-count.result c.split_need_above-count.ensures.value (c.claim.ensures.refused c.if-not-claim.true) (c.claim.ensures.may_refuse c.if-not-claim.true) c.requires.granted))
 
 pub unwrap-index-requires : goal.unwrap-index-requires
 unwrap-index-requires g c =
-    let o = c.requires.off_by_one.puts.offset in rw o refl
+    let off = rw (← c.addr.view_is) at c.requires.off_by_one in
+    let o = off.puts.offset in
+    rw o refl
 
 pub add_and_split-at-requires-clause-can : goal.add_and_split-at-requires-clause-can
 add_and_split-at-requires-clause-can g c =
-    can-add-claimed g.K.Ord.cmp g.met.K.Ord.total c.args.tree.now c.args.addr c.args.item c.args.child c.requires.off_by_one c.requires.full c.claim.new.claims.items c.claim.new.tree (c.claim.ensures.claimed c.if-not-claim.false) (c.claim.ensures.count c.if-not-claim.false ∙ c.split_need_above-count.ensures.value) c.unwrap-index.result (sym c.unwrap-index.ensures.value)
+    can-add-claimed g.K.Ord.cmp g.met.K.Ord.total c.args.tree.now (view c.addr.inside) c.args.item c.args.child (rw (← c.addr.view_is) at c.requires.off_by_one) (rw (← c.addr.view_is) at c.requires.full) c.claim.new.claims.items c.claim.new.tree (c.claim.ensures.claimed c.if-not-claim.false) (c.claim.ensures.count c.if-not-claim.false ∙ c.split_need_above-count.ensures.value) c.unwrap-index.result (sym c.unwrap-index.ensures.value)
 
 pub add_and_split-at-requires-clause-splitting : goal.add_and_split-at-requires-clause-splitting
 add_and_split-at-requires-clause-splitting g c =
-    λ added adds. put-splitting g.K.Ord.cmp g.met.K.Ord.total c.args.tree.now c.args.addr c.args.item c.args.child c.requires.off_by_one c.requires.full c.claim.new.claims.items c.claim.new.tree (c.claim.ensures.claimed c.if-not-claim.false) (c.claim.ensures.count c.if-not-claim.false ∙ c.split_need_above-count.ensures.value)
-    added c.unwrap-index.result (sym c.unwrap-index.ensures.value) adds
+    rw (← c.addr.view_is) (λ added adds. put-splitting g.K.Ord.cmp g.met.K.Ord.total c.args.tree.now (view c.addr.inside) c.args.item c.args.child (rw (← c.addr.view_is) at c.requires.off_by_one) (rw (← c.addr.view_is) at c.requires.full) c.claim.new.claims.items c.claim.new.tree (c.claim.ensures.claimed c.if-not-claim.false) (c.claim.ensures.count c.if-not-claim.false ∙ c.split_need_above-count.ensures.value)
+    added c.unwrap-index.result (sym c.unwrap-index.ensures.value) adds)
 
 pub add_and_split-at-requires-clause-numbers : goal.add_and_split-at-requires-clause-numbers
 add_and_split-at-requires-clause-numbers g c =
@@ -76,9 +78,9 @@ set_len-requires g c κs =
 
 pub returns-clause-inserted : goal.returns-clause-inserted
 returns-clause-inserted g c =
-    rw (c.set_len.ensures, c.len.ensures)
-    (split-inserted g.K.Ord.cmp g.met.K.Ord.total c.args.tree.now c.args.addr c.args.item c.args.child c.requires.off_by_one c.requires.full c.claim.new.claims.items c.claim.new.tree (c.claim.ensures.claimed c.if-not-claim.false) (c.claim.ensures.count c.if-not-claim.false ∙ c.split_need_above-count.ensures.value)
-    c.add_and_split-at.ensures.split.added c.unwrap-index.result (sym c.unwrap-index.ensures.value) c.add_and_split-at.ensures.split.adds c.add_and_split-at.new.tree c.add_and_split-at.result c.requires.rooted c.requires.granted c.add_and_split-at.ensures.split.splits c.add_and_split-at.ensures.back)
+    rw (← c.addr.view_is) (rw (c.set_len.ensures, c.len.ensures)
+    (split-inserted g.K.Ord.cmp g.met.K.Ord.total c.args.tree.now (view c.addr.inside) c.args.item c.args.child (rw (← c.addr.view_is) at c.requires.off_by_one) (rw (← c.addr.view_is) at c.requires.full) c.claim.new.claims.items c.claim.new.tree (c.claim.ensures.claimed c.if-not-claim.false) (c.claim.ensures.count c.if-not-claim.false ∙ c.split_need_above-count.ensures.value)
+    c.add_and_split-at.ensures.split.added c.unwrap-index.result (sym c.unwrap-index.ensures.value) c.add_and_split-at.ensures.split.adds c.add_and_split-at.new.tree c.add_and_split-at.result c.requires.rooted c.requires.granted (rw (← c.addr.view_is) at c.add_and_split-at.ensures.split.splits) (rw (← c.addr.view_is) at c.add_and_split-at.ensures.back)))
 
 pub returns-clause-returned : goal.returns-clause-returned
 returns-clause-returned g c =

@@ -10,6 +10,7 @@ use Rattle.btree_raw.specs.Steps.{HasParent}
 use Rattle.btree_raw.proofs.FetchedLemmas.{count-written, parent-there, parent-written}
 use Rattle.btree_raw.proofs.LastLemmas.{same-state}
 use Rattle.btree_raw.proofs.StepLemmas.{adds, take-room}
+use Rattle.btree_item.specs.declared.address.Address.TheView.{view}
 use Rattle.btree_raw.proofs.insertion.insert_in_tree.Goals as goal
 
 pub tell_fits-requires : goal.tell_fits-requires
@@ -18,7 +19,7 @@ tell_fits-requires g c κs =
 
 pub node_mut-node-requires : goal.node_mut-node-requires
 node_mut-node-requires g c =
-    (c.tell_fits.ensures, add-used g.K.Ord.cmp g.met.K.Ord.total c.args.tree.now c.args.addr c.args.item c.args.child c.requires.off_by_one)
+    (c.tell_fits.ensures, add-used g.K.Ord.cmp g.met.K.Ord.total c.args.tree.now (view c.addr.inside) c.args.item c.args.child (rw (← c.addr.view_is) at c.requires.off_by_one))
 
 pub is_full-requires : goal.is_full-requires
 is_full-requires g c =
@@ -26,11 +27,10 @@ is_full-requires g c =
 
 pub insert_and_split-requires-clause-off_by_one : goal.insert_and_split-requires-clause-off_by_one
 insert_and_split-requires-clause-off_by_one g c =
-    subst (λ (t : TreeState _ _). IsOffByOneWith g.K.Ord.cmp t c.args.addr c.args.item c.args.child) (sym (same-state c.args.tree.now c.args.addr.id c.node_mut-node.result.now c.node_mut-node.result.now c.node_mut-node.ensures.value refl)) c.requires.off_by_one
+    subst (λ (t : TreeState _ _). IsOffByOneWith g.K.Ord.cmp t c.args.addr c.args.item c.args.child) (sym (same-state c.args.tree.now c.addr.inside.id c.node_mut-node.result.now c.node_mut-node.result.now c.node_mut-node.ensures.value refl)) c.requires.off_by_one
 
 pub insert_and_split-requires-clause-full : goal.insert_and_split-requires-clause-full
-insert_and_split-requires-clause-full g c =
-    subst (λ (t : TreeState _ _). IsFull (node_map t) c.args.addr.id) (sym (same-state c.args.tree.now c.args.addr.id c.node_mut-node.result.now c.node_mut-node.result.now c.node_mut-node.ensures.value refl)) (record { node = view_of c.node_mut-node.result.now; here = ap (option_map view_of) (sym c.node_mut-node.ensures.value); full = is-full c.node_mut-node.result.now c.if-is_full.ensures })
+insert_and_split-requires-clause-full g c = rw (← c.addr.view_is) (subst (λ (t : TreeState _ _). IsFull (node_map t) c.addr.inside.id) (sym (same-state c.args.tree.now c.addr.inside.id c.node_mut-node.result.now c.node_mut-node.result.now c.node_mut-node.ensures.value refl)) (record { node = view_of c.node_mut-node.result.now; here = ap (option_map view_of) (sym c.node_mut-node.ensures.value); full = is-full c.node_mut-node.result.now c.if-is_full.ensures }))
 
 pub insert_and_split-requires-clause-rooted : goal.insert_and_split-requires-clause-rooted
 insert_and_split-requires-clause-rooted g c =
@@ -47,7 +47,7 @@ insert_and_split-requires-clause-granted g c =
 pub returns-then-is_full-clause-inserted : goal.returns-then-is_full-clause-inserted
 returns-then-is_full-clause-inserted g c =
     subst (λ (t : TreeState _ _). IfOk c.insert_and_split.result
-    (λ b. InsertsExactly g.K.Ord.cmp t c.insert_and_split.new.tree c.args.addr b c.args.item c.args.child)) (same-state c.args.tree.now c.args.addr.id c.node_mut-node.result.now c.node_mut-node.result.now c.node_mut-node.ensures.value refl) c.insert_and_split.ensures.inserted
+    (λ b. InsertsExactly g.K.Ord.cmp t c.insert_and_split.new.tree c.args.addr b c.args.item c.args.child)) (same-state c.args.tree.now c.addr.inside.id c.node_mut-node.result.now c.node_mut-node.result.now c.node_mut-node.ensures.value refl) c.insert_and_split.ensures.inserted
 
 pub returns-then-is_full-clause-returned : goal.returns-then-is_full-clause-returned
 returns-then-is_full-clause-returned g c = c.insert_and_split.ensures.returned
@@ -55,41 +55,43 @@ returns-then-is_full-clause-returned g c = c.insert_and_split.ensures.returned
 pub returns-then-is_full-clause-refused : goal.returns-then-is_full-clause-refused
 returns-then-is_full-clause-refused g c =
     subst (λ (t : TreeState _ _). IfErr c.insert_and_split.result
-    (λ r. IsRefused g.C.NodesMut.MayRefuse c.args.addr.id t c.insert_and_split.new.tree r.cause)) (same-state c.args.tree.now c.args.addr.id c.node_mut-node.result.now c.node_mut-node.result.now c.node_mut-node.ensures.value refl) c.insert_and_split.ensures.refused
+    (λ r. IsRefused g.C.NodesMut.MayRefuse c.args.addr.id t c.insert_and_split.new.tree r.cause)) (same-state c.args.tree.now c.addr.inside.id c.node_mut-node.result.now c.node_mut-node.result.now c.node_mut-node.ensures.value refl) c.insert_and_split.ensures.refused
 
 pub unwrap-index-requires : goal.unwrap-index-requires
 unwrap-index-requires g c =
-    let o = c.requires.off_by_one.puts.offset in rw o refl
+    let off = rw (← c.addr.view_is) at c.requires.off_by_one in
+    let o = off.puts.offset in
+    rw o refl
 
 pub insert-requires : goal.insert-requires
 insert-requires g c = (
   c.tell_fits.ensures,
-  take-room c.args.tree.now.nodes c.args.addr.id c.node_mut-node.result.now c.node_mut-node.ensures.value c.unwrap-index.result c.args.child
-      c.from.result c.from.ensures (can-add g.K.Ord.cmp g.met.K.Ord.total c.args.tree.now c.args.addr c.args.item c.args.child c.requires.off_by_one c.unwrap-index.result (sym c.unwrap-index.ensures.value)),
+  take-room c.args.tree.now.nodes c.addr.inside.id c.node_mut-node.result.now c.node_mut-node.ensures.value c.unwrap-index.result c.args.child
+      c.from.result c.from.ensures (can-add g.K.Ord.cmp g.met.K.Ord.total c.args.tree.now (view c.addr.inside) c.args.item c.args.child (rw (← c.addr.view_is) at c.requires.off_by_one) c.unwrap-index.result (sym c.unwrap-index.ensures.value)),
 )
 
 pub rebalance_fetched-at-requires-clause-count : goal.rebalance_fetched-at-requires-clause-count
 rebalance_fetched-at-requires-clause-count g c =
-    count-written c.args.tree.now.nodes c.args.addr.id c.insert.new.self c.item_count-count.result c.item_count-count.ensures.value
+    count-written c.args.tree.now.nodes c.addr.inside.id c.insert.new.self c.item_count-count.result c.item_count-count.ensures.value
 
 pub rebalance_fetched-at-requires-clause-parent : goal.rebalance_fetched-at-requires-clause-parent
 rebalance_fetched-at-requires-clause-parent g c =
-    parent-written c.args.tree.now.nodes c.args.addr.id c.insert.new.self c.parent-parent-2.result c.parent-parent-2.ensures.value
+    parent-written c.args.tree.now.nodes c.addr.inside.id c.insert.new.self c.parent-parent-2.result c.parent-parent-2.ensures.value
 
 pub rebalance_fetched-at-requires-clause-off_by_one : goal.rebalance_fetched-at-requires-clause-off_by_one
 rebalance_fetched-at-requires-clause-off_by_one g c =
-    put-off g.K.Ord.cmp g.met.K.Ord.total c.args.tree.now c.args.addr c.args.item c.args.child c.requires.off_by_one (with_node c.args.tree.now c.args.addr.id c.insert.new.self) c.unwrap-index.result (sym c.unwrap-index.ensures.value) (record { nodes = adds c.args.tree.now.nodes c.args.addr.id c.node_mut-node.result.now c.node_mut-node.ensures.value c.insert.new.self c.unwrap-index.result c.args.item c.args.child c.from.result c.from.ensures (can-add g.K.Ord.cmp g.met.K.Ord.total c.args.tree.now c.args.addr c.args.item c.args.child c.requires.off_by_one c.unwrap-index.result (sym c.unwrap-index.ensures.value)) c.insert.ensures; rest = record { rest = refl } })
+    put-off g.K.Ord.cmp g.met.K.Ord.total c.args.tree.now (view c.addr.inside) c.args.item c.args.child (rw (← c.addr.view_is) at c.requires.off_by_one) (with_node c.args.tree.now c.addr.inside.id c.insert.new.self) c.unwrap-index.result (sym c.unwrap-index.ensures.value) (record { nodes = adds c.args.tree.now.nodes c.addr.inside.id c.node_mut-node.result.now c.node_mut-node.ensures.value c.insert.new.self c.unwrap-index.result c.args.item c.args.child c.from.result c.from.ensures (can-add g.K.Ord.cmp g.met.K.Ord.total c.args.tree.now (view c.addr.inside) c.args.item c.args.child (rw (← c.addr.view_is) at c.requires.off_by_one) c.unwrap-index.result (sym c.unwrap-index.ensures.value)) c.insert.ensures; rest = record { rest = refl } })
 
 pub rebalance_fetched-at-requires-clause-valid : goal.rebalance_fetched-at-requires-clause-valid
 rebalance_fetched-at-requires-clause-valid g c =
-    put-valid g.K.Ord.cmp g.met.K.Ord.total c.args.tree.now c.args.addr c.args.item c.args.child (with_node c.args.tree.now c.args.addr.id c.insert.new.self)
-    (these g.K.Ord.cmp g.met.K.Ord.total c.args.tree.now c.args.addr c.args.item c.args.child c.requires.off_by_one (with_node c.args.tree.now c.args.addr.id c.insert.new.self) c.unwrap-index.result (sym c.unwrap-index.ensures.value) (record { nodes = adds c.args.tree.now.nodes c.args.addr.id c.node_mut-node.result.now c.node_mut-node.ensures.value c.insert.new.self c.unwrap-index.result c.args.item c.args.child c.from.result c.from.ensures (can-add g.K.Ord.cmp g.met.K.Ord.total c.args.tree.now c.args.addr c.args.item c.args.child c.requires.off_by_one c.unwrap-index.result (sym c.unwrap-index.ensures.value)) c.insert.ensures; rest = record { rest = refl } }))
+    rw (← c.addr.view_is) (put-valid g.K.Ord.cmp g.met.K.Ord.total c.args.tree.now (view c.addr.inside) c.args.item c.args.child (with_node c.args.tree.now c.addr.inside.id c.insert.new.self)
+    (these g.K.Ord.cmp g.met.K.Ord.total c.args.tree.now (view c.addr.inside) c.args.item c.args.child (rw (← c.addr.view_is) at c.requires.off_by_one) (with_node c.args.tree.now c.addr.inside.id c.insert.new.self) c.unwrap-index.result (sym c.unwrap-index.ensures.value) (record { nodes = adds c.args.tree.now.nodes c.addr.inside.id c.node_mut-node.result.now c.node_mut-node.ensures.value c.insert.new.self c.unwrap-index.result c.args.item c.args.child c.from.result c.from.ensures (can-add g.K.Ord.cmp g.met.K.Ord.total c.args.tree.now (view c.addr.inside) c.args.item c.args.child (rw (← c.addr.view_is) at c.requires.off_by_one) c.unwrap-index.result (sym c.unwrap-index.ensures.value)) c.insert.ensures; rest = record { rest = refl } })))
 
 pub rebalance_fetched-at-requires-clause-room : goal.rebalance_fetched-at-requires-clause-room
 rebalance_fetched-at-requires-clause-room g c =
-    put-room g.K.Ord.cmp g.met.K.Ord.total c.args.tree.now c.args.addr c.args.item c.args.child (with_node c.args.tree.now c.args.addr.id c.insert.new.self)
-    (these g.K.Ord.cmp g.met.K.Ord.total c.args.tree.now c.args.addr c.args.item c.args.child c.requires.off_by_one (with_node c.args.tree.now c.args.addr.id c.insert.new.self) c.unwrap-index.result (sym c.unwrap-index.ensures.value) (record { nodes = adds c.args.tree.now.nodes c.args.addr.id c.node_mut-node.result.now c.node_mut-node.ensures.value c.insert.new.self c.unwrap-index.result c.args.item c.args.child c.from.result c.from.ensures (can-add g.K.Ord.cmp g.met.K.Ord.total c.args.tree.now c.args.addr c.args.item c.args.child c.requires.off_by_one c.unwrap-index.result (sym c.unwrap-index.ensures.value)) c.insert.ensures; rest = record { rest = refl } }))
-    (room-at g.K.Ord.cmp g.met.K.Ord.total c.args.tree.now c.args.addr c.args.item c.args.child c.requires.off_by_one (with_node c.args.tree.now c.args.addr.id c.insert.new.self) c.unwrap-index.result (sym c.unwrap-index.ensures.value) (record { nodes = adds c.args.tree.now.nodes c.args.addr.id c.node_mut-node.result.now c.node_mut-node.ensures.value c.insert.new.self c.unwrap-index.result c.args.item c.args.child c.from.result c.from.ensures (can-add g.K.Ord.cmp g.met.K.Ord.total c.args.tree.now c.args.addr c.args.item c.args.child c.requires.off_by_one c.unwrap-index.result (sym c.unwrap-index.ensures.value)) c.insert.ensures; rest = record { rest = refl } }) c.node_mut-node.result.now (sym c.node_mut-node.ensures.value) (not-full c.node_mut-node.result.now c.if-is_full.ensures))
+    put-room g.K.Ord.cmp g.met.K.Ord.total c.args.tree.now (view c.addr.inside) c.args.item c.args.child (with_node c.args.tree.now c.addr.inside.id c.insert.new.self)
+    (these g.K.Ord.cmp g.met.K.Ord.total c.args.tree.now (view c.addr.inside) c.args.item c.args.child (rw (← c.addr.view_is) at c.requires.off_by_one) (with_node c.args.tree.now c.addr.inside.id c.insert.new.self) c.unwrap-index.result (sym c.unwrap-index.ensures.value) (record { nodes = adds c.args.tree.now.nodes c.addr.inside.id c.node_mut-node.result.now c.node_mut-node.ensures.value c.insert.new.self c.unwrap-index.result c.args.item c.args.child c.from.result c.from.ensures (can-add g.K.Ord.cmp g.met.K.Ord.total c.args.tree.now (view c.addr.inside) c.args.item c.args.child (rw (← c.addr.view_is) at c.requires.off_by_one) c.unwrap-index.result (sym c.unwrap-index.ensures.value)) c.insert.ensures; rest = record { rest = refl } }))
+    (room-at g.K.Ord.cmp g.met.K.Ord.total c.args.tree.now (view c.addr.inside) c.args.item c.args.child (rw (← c.addr.view_is) at c.requires.off_by_one) (with_node c.args.tree.now c.addr.inside.id c.insert.new.self) c.unwrap-index.result (sym c.unwrap-index.ensures.value) (record { nodes = adds c.args.tree.now.nodes c.addr.inside.id c.node_mut-node.result.now c.node_mut-node.ensures.value c.insert.new.self c.unwrap-index.result c.args.item c.args.child c.from.result c.from.ensures (can-add g.K.Ord.cmp g.met.K.Ord.total c.args.tree.now (view c.addr.inside) c.args.item c.args.child (rw (← c.addr.view_is) at c.requires.off_by_one) c.unwrap-index.result (sym c.unwrap-index.ensures.value)) c.insert.ensures; rest = record { rest = refl } }) c.node_mut-node.result.now (sym c.node_mut-node.ensures.value) (not-full c.node_mut-node.result.now c.if-is_full.ensures))
 
 pub len-requires : goal.len-requires
 len-requires g c κs =
@@ -107,15 +109,15 @@ set_len-requires g c κs =
 
 pub returns-clause-inserted : goal.returns-clause-inserted
 returns-clause-inserted g c =
-    rw (c.set_len.ensures, c.len.ensures)
-    (put-inserted g.K.Ord.cmp g.met.K.Ord.total c.args.tree.now c.args.addr c.args.item c.args.child (with_node c.args.tree.now c.args.addr.id c.insert.new.self)
-    (these g.K.Ord.cmp g.met.K.Ord.total c.args.tree.now c.args.addr c.args.item c.args.child c.requires.off_by_one (with_node c.args.tree.now c.args.addr.id c.insert.new.self) c.unwrap-index.result (sym c.unwrap-index.ensures.value) (record { nodes = adds c.args.tree.now.nodes c.args.addr.id c.node_mut-node.result.now c.node_mut-node.ensures.value c.insert.new.self c.unwrap-index.result c.args.item c.args.child c.from.result c.from.ensures (can-add g.K.Ord.cmp g.met.K.Ord.total c.args.tree.now c.args.addr c.args.item c.args.child c.requires.off_by_one c.unwrap-index.result (sym c.unwrap-index.ensures.value)) c.insert.ensures; rest = record { rest = refl } }))
+    rw (← c.addr.view_is) (rw (c.set_len.ensures, c.len.ensures)
+    (put-inserted g.K.Ord.cmp g.met.K.Ord.total c.args.tree.now (view c.addr.inside) c.args.item c.args.child (with_node c.args.tree.now c.addr.inside.id c.insert.new.self)
+    (these g.K.Ord.cmp g.met.K.Ord.total c.args.tree.now (view c.addr.inside) c.args.item c.args.child (rw (← c.addr.view_is) at c.requires.off_by_one) (with_node c.args.tree.now c.addr.inside.id c.insert.new.self) c.unwrap-index.result (sym c.unwrap-index.ensures.value) (record { nodes = adds c.args.tree.now.nodes c.addr.inside.id c.node_mut-node.result.now c.node_mut-node.ensures.value c.insert.new.self c.unwrap-index.result c.args.item c.args.child c.from.result c.from.ensures (can-add g.K.Ord.cmp g.met.K.Ord.total c.args.tree.now (view c.addr.inside) c.args.item c.args.child (rw (← c.addr.view_is) at c.requires.off_by_one) c.unwrap-index.result (sym c.unwrap-index.ensures.value)) c.insert.ensures; rest = record { rest = refl } }))
     c.rebalance_fetched-at.new.tree c.rebalance_fetched-at.result c.requires.rooted c.requires.granted
-    (put-off g.K.Ord.cmp g.met.K.Ord.total c.args.tree.now c.args.addr c.args.item c.args.child c.requires.off_by_one (with_node c.args.tree.now c.args.addr.id c.insert.new.self) c.unwrap-index.result (sym c.unwrap-index.ensures.value) (record { nodes = adds c.args.tree.now.nodes c.args.addr.id c.node_mut-node.result.now c.node_mut-node.ensures.value c.insert.new.self c.unwrap-index.result c.args.item c.args.child c.from.result c.from.ensures (can-add g.K.Ord.cmp g.met.K.Ord.total c.args.tree.now c.args.addr c.args.item c.args.child c.requires.off_by_one c.unwrap-index.result (sym c.unwrap-index.ensures.value)) c.insert.ensures; rest = record { rest = refl } }))
-    c.rebalance_fetched-at.ensures
-    (no-overflow g.K.Ord.cmp g.met.K.Ord.total c.args.tree.now c.args.addr c.args.item c.args.child (with_node c.args.tree.now c.args.addr.id c.insert.new.self)
-    (these g.K.Ord.cmp g.met.K.Ord.total c.args.tree.now c.args.addr c.args.item c.args.child c.requires.off_by_one (with_node c.args.tree.now c.args.addr.id c.insert.new.self) c.unwrap-index.result (sym c.unwrap-index.ensures.value) (record { nodes = adds c.args.tree.now.nodes c.args.addr.id c.node_mut-node.result.now c.node_mut-node.ensures.value c.insert.new.self c.unwrap-index.result c.args.item c.args.child c.from.result c.from.ensures (can-add g.K.Ord.cmp g.met.K.Ord.total c.args.tree.now c.args.addr c.args.item c.args.child c.requires.off_by_one c.unwrap-index.result (sym c.unwrap-index.ensures.value)) c.insert.ensures; rest = record { rest = refl } }))
-    (room-at g.K.Ord.cmp g.met.K.Ord.total c.args.tree.now c.args.addr c.args.item c.args.child c.requires.off_by_one (with_node c.args.tree.now c.args.addr.id c.insert.new.self) c.unwrap-index.result (sym c.unwrap-index.ensures.value) (record { nodes = adds c.args.tree.now.nodes c.args.addr.id c.node_mut-node.result.now c.node_mut-node.ensures.value c.insert.new.self c.unwrap-index.result c.args.item c.args.child c.from.result c.from.ensures (can-add g.K.Ord.cmp g.met.K.Ord.total c.args.tree.now c.args.addr c.args.item c.args.child c.requires.off_by_one c.unwrap-index.result (sym c.unwrap-index.ensures.value)) c.insert.ensures; rest = record { rest = refl } }) c.node_mut-node.result.now (sym c.node_mut-node.ensures.value) (not-full c.node_mut-node.result.now c.if-is_full.ensures))))
+    (put-off g.K.Ord.cmp g.met.K.Ord.total c.args.tree.now (view c.addr.inside) c.args.item c.args.child (rw (← c.addr.view_is) at c.requires.off_by_one) (with_node c.args.tree.now c.addr.inside.id c.insert.new.self) c.unwrap-index.result (sym c.unwrap-index.ensures.value) (record { nodes = adds c.args.tree.now.nodes c.addr.inside.id c.node_mut-node.result.now c.node_mut-node.ensures.value c.insert.new.self c.unwrap-index.result c.args.item c.args.child c.from.result c.from.ensures (can-add g.K.Ord.cmp g.met.K.Ord.total c.args.tree.now (view c.addr.inside) c.args.item c.args.child (rw (← c.addr.view_is) at c.requires.off_by_one) c.unwrap-index.result (sym c.unwrap-index.ensures.value)) c.insert.ensures; rest = record { rest = refl } }))
+    (rw (← c.addr.view_is) at c.rebalance_fetched-at.ensures)
+    (no-overflow g.K.Ord.cmp g.met.K.Ord.total c.args.tree.now (view c.addr.inside) c.args.item c.args.child (with_node c.args.tree.now c.addr.inside.id c.insert.new.self)
+    (these g.K.Ord.cmp g.met.K.Ord.total c.args.tree.now (view c.addr.inside) c.args.item c.args.child (rw (← c.addr.view_is) at c.requires.off_by_one) (with_node c.args.tree.now c.addr.inside.id c.insert.new.self) c.unwrap-index.result (sym c.unwrap-index.ensures.value) (record { nodes = adds c.args.tree.now.nodes c.addr.inside.id c.node_mut-node.result.now c.node_mut-node.ensures.value c.insert.new.self c.unwrap-index.result c.args.item c.args.child c.from.result c.from.ensures (can-add g.K.Ord.cmp g.met.K.Ord.total c.args.tree.now (view c.addr.inside) c.args.item c.args.child (rw (← c.addr.view_is) at c.requires.off_by_one) c.unwrap-index.result (sym c.unwrap-index.ensures.value)) c.insert.ensures; rest = record { rest = refl } }))
+    (room-at g.K.Ord.cmp g.met.K.Ord.total c.args.tree.now (view c.addr.inside) c.args.item c.args.child (rw (← c.addr.view_is) at c.requires.off_by_one) (with_node c.args.tree.now c.addr.inside.id c.insert.new.self) c.unwrap-index.result (sym c.unwrap-index.ensures.value) (record { nodes = adds c.args.tree.now.nodes c.addr.inside.id c.node_mut-node.result.now c.node_mut-node.ensures.value c.insert.new.self c.unwrap-index.result c.args.item c.args.child c.from.result c.from.ensures (can-add g.K.Ord.cmp g.met.K.Ord.total c.args.tree.now (view c.addr.inside) c.args.item c.args.child (rw (← c.addr.view_is) at c.requires.off_by_one) c.unwrap-index.result (sym c.unwrap-index.ensures.value)) c.insert.ensures; rest = record { rest = refl } }) c.node_mut-node.result.now (sym c.node_mut-node.ensures.value) (not-full c.node_mut-node.result.now c.if-is_full.ensures)))))
 
 pub returns-clause-returned : goal.returns-clause-returned
 returns-clause-returned g c =
@@ -127,9 +129,9 @@ returns-clause-refused g c =
 
 pub insert_and_split-requires-clause-parent : goal.insert_and_split-requires-clause-parent
 insert_and_split-requires-clause-parent g c =
-    subst (λ (t : TreeState _ _). HasParent (node_map t) c.args.addr.id c.parent-parent.result) (sym (same-state c.args.tree.now c.args.addr.id c.node_mut-node.result.now c.node_mut-node.result.now c.node_mut-node.ensures.value refl))
-    (parent-there c.args.tree.now.nodes c.args.addr.id c.node_mut-node.result.now (sym c.node_mut-node.ensures.value) c.parent-parent.result
-    c.parent-parent.ensures.value)
+    rw (← c.addr.view_is) (subst (λ (t : TreeState _ _). HasParent (node_map t) c.addr.inside.id c.parent-parent.result) (sym (same-state c.args.tree.now c.addr.inside.id c.node_mut-node.result.now c.node_mut-node.result.now c.node_mut-node.ensures.value refl))
+    (parent-there c.args.tree.now.nodes c.addr.inside.id c.node_mut-node.result.now (sym c.node_mut-node.ensures.value) c.parent-parent.result
+    c.parent-parent.ensures.value))
 
 pub parent-parent-requires : goal.parent-parent-requires
 parent-parent-requires g c = c.tell_fits.ensures

@@ -1,5 +1,4 @@
-use Rattle.std.proofs.Common.{IsSome, subst, sym}
-use Rattle.btree_item.specs.Address.{Address}
+use Rattle.std.proofs.Common.{subst, sym}
 use Rattle.btree_shape.specs.UnderflowFix.{Borrows, MergesNode}
 use Rattle.btree_shape.specs.TreeState.{TreeState, KeepsRest, node_map}
 use Rattle.btree_raw.specs.NodeSteps.{MergesSiblings}
@@ -33,8 +32,7 @@ returns-in_default-clause-above g c = λ yes. as-before (node_map c.args.tree.no
 
 pub borrow_from_right-requires-clause-adjacent : goal.borrow_from_right-requires-clause-adjacent
 borrow_from_right-requires-clause-adjacent g c =
-    subst (λ (a : Address). AreAdjacent (node_map c.args.tree.now) c.in-Some.after c.in-Some.after.left a) (sym c.copied.ensures)
-    (after-adjacent (node_map c.args.tree.now) c.args.id c.args.parent c.args.addr c.requires.followed c.requires.under c.siblings-before.result.0 c.siblings-before.result.1 c.siblings-before.ensures c.in-Some.after c.in-Some.is)
+    after-adjacent (node_map c.args.tree.now) c.args.id c.args.parent c.args.addr c.requires.followed c.requires.under c.siblings-before.result.0 c.siblings-before.result.1 c.siblings-before.ensures c.in-Some.after c.in-Some.is
 
 pub borrow_from_right-requires-clause-short : goal.borrow_from_right-requires-clause-short
 borrow_from_right-requires-clause-short g c = rw (after-left (node_map c.args.tree.now) c.args.id c.args.parent c.args.addr c.requires.followed c.requires.under c.siblings-before.result.0 c.siblings-before.result.1 c.siblings-before.ensures c.in-Some.after c.in-Some.is) (is-short (node_map c.args.tree.now) c.args.id c.args.parent c.args.addr c.requires.followed c.requires.under c.args.count c.requires.count c.requires.short)
@@ -48,15 +46,14 @@ returns-in-Some-borrow_from_right-clause-borrows g c = λ yes. right-borrows (no
 pub returns-in-Some-borrow_from_right-clause-here : goal.returns-in-Some-borrow_from_right-clause-here
 returns-in-Some-borrow_from_right-clause-here g c = λ yes.
     as-after (node_map c.args.tree.now) c.args.id c.args.parent c.args.addr c.requires.followed c.requires.under c.siblings-before.result.0 c.siblings-before.result.1 c.siblings-before.ensures c.in-Some.after c.in-Some.is (λ q n. EndsUnderflow (node_map c.args.tree.now) (node_map c.borrow_from_right.new.tree) n c.args.addr c.in-Some-borrow_from_right.at)
-    (subst (λ (a : Address). EndsUnderflow (node_map c.args.tree.now) (node_map c.borrow_from_right.new.tree) c.in-Some.after.left a c.in-Some-borrow_from_right.at)
-    c.copied.ensures c.in-Some-borrow_from_right.ensures.here)
+    c.in-Some-borrow_from_right.ensures.here
 
 pub returns-in-Some-borrow_from_right-clause-rest : goal.returns-in-Some-borrow_from_right-clause-rest
 returns-in-Some-borrow_from_right-clause-rest g c = c.in-Some-borrow_from_right.ensures.rotates.rest
 
 pub returns-in-Some-borrow_from_right-clause-back : goal.returns-in-Some-borrow_from_right-clause-back
 returns-in-Some-borrow_from_right-clause-back g c = λ is.
-    c.in-Some-borrow_from_right.ensures.back (subst (λ (a : Address). IsSome a.offset) (sym c.copied.ensures) is)
+    c.in-Some-borrow_from_right.ensures.back is
 
 pub fix_underflow_with_left-requires-in-Some-before-clause-adjacent : goal.fix_underflow_with_left-requires-in-Some-before-clause-adjacent
 fix_underflow_with_left-requires-in-Some-before-clause-adjacent g c =

@@ -1,33 +1,31 @@
-use Rattle.std.proofs.Common.{IfSome, IsSome, subst, sym, ◌≤◌}
-use Rattle.btree_item.specs.Address.{Address}
+use Rattle.std.proofs.Common.{subst, sym}
 use Rattle.btree_shape.specs.TreeState.{TreeState, KeepsRest, node_map}
 use Rattle.btree_raw.specs.NodeSteps.{MergesSiblings}
-use Rattle.btree_raw.specs.Underflow.{AreAdjacent, EndsUnderflow, FitTogether, PassesUnderflowUp}
+use Rattle.btree_raw.specs.Underflow.{AreAdjacent, FitTogether, PassesUnderflowUp}
 use Rattle.btree_raw.proofs.UnderflowLemmas.{left-borrows, left-few, left-merges}
 use Rattle.btree_raw.proofs.underflow.fix_underflow_with_left.Goals as goal
 
 pub borrow_from_left-requires-clause-adjacent : goal.borrow_from_left-requires-clause-adjacent
 borrow_from_left-requires-clause-adjacent g c =
-    subst (λ (a : Address). AreAdjacent (node_map c.args.tree.now) c.args.siblings c.args.siblings.right a) (sym c.copied.ensures) c.requires.adjacent
+    c.requires.adjacent
 
 pub borrow_from_left-requires-clause-low : goal.borrow_from_left-requires-clause-low
 borrow_from_left-requires-clause-low g c =
-    subst (λ (a : Address). IfSome a.offset (λ n. n ≤ 9)) (sym c.copied.ensures) c.requires.low
+    c.requires.low
 
 pub returns-in-Some-clause-borrows : goal.returns-in-Some-clause-borrows
 returns-in-Some-clause-borrows g c = λ yes none. left-borrows (node_map c.args.tree.now) c.args.siblings c.args.addr c.requires.adjacent none (node_map c.borrow_from_left.new.tree) c.in-Some.ensures.spare c.in-Some.ensures.rotates.nodes
 
 pub returns-in-Some-clause-here : goal.returns-in-Some-clause-here
 returns-in-Some-clause-here g c = λ yes.
-    subst (λ (a : Address). EndsUnderflow (node_map c.args.tree.now) (node_map c.borrow_from_left.new.tree) c.args.siblings.right a c.in-Some.at)
-    c.copied.ensures c.in-Some.ensures.here
+    c.in-Some.ensures.here
 
 pub returns-in-Some-clause-rest : goal.returns-in-Some-clause-rest
 returns-in-Some-clause-rest g c = c.in-Some.ensures.rotates.rest
 
 pub returns-in-Some-clause-back : goal.returns-in-Some-clause-back
 returns-in-Some-clause-back g c = λ is.
-    c.in-Some.ensures.back (subst (λ (a : Address). IsSome a.offset) (sym c.copied.ensures) is)
+    c.in-Some.ensures.back is
 
 pub merge_siblings-requires-clause-adjacent : goal.merge_siblings-requires-clause-adjacent
 merge_siblings-requires-clause-adjacent g c = (

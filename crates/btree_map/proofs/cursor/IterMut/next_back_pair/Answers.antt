@@ -1,4 +1,4 @@
-use Rattle.std.proofs.Common.{Some, refl, sym, ap, ◌∙◌, ◌-◌, length}
+use Rattle.std.proofs.Common.{refl, sym, ◌∙◌, ◌-◌, length}
 use Rattle.btree_shape.specs.TreeAddresses.{item_addresses_of}
 use Rattle.btree_map.specs.Cursor.{less-low}
 use Rattle.btree_map.proofs.CursorLemmas.{last-stands, none-last, stands-pair, stands-previous, stands-state, stands-written, stays-first, stays-last, stays-within}
@@ -15,7 +15,7 @@ pub address_before-self-requires : goal.address_before-self-requires
 address_before-self-requires g c =
     let now = c.args.self.now in
     let stands = last-stands (item_addresses_of now.map.now) now.last now.front now.back c.requires now.last_stands in
-    (now.back - 1, sym stands ∙ c.in-Some.is ∙ ap Some (sym c.copied.ensures))
+    (now.back - 1, sym stands ∙ c.in-Some.is)
 
 pub invariant_of-self-lent : goal.invariant_of-self-lent
 invariant_of-self-lent g c w =
@@ -27,7 +27,7 @@ invariant_of-self-lent g c w =
       (
         stays-last s c.in-Some.at w c.address_before-self.result (now.back - 1)
             (stands-previous g.K.Ord.cmp g.met.K.Ord.total s tree now.last c.in-Some.at c.in-Some.is (now.back - 1) stands
-            c.copied.result c.address_before-self.result c.copied.ensures (c.address_before-self.ensures.before (now.back - 1))),
+            c.address_before-self.result (c.address_before-self.ensures.before (now.back - 1))),
         (stays-within s c.in-Some.at w (now.back - 1) (less-low now.back (length (item_addresses_of s)) now.within), tt),
       ),
     )
@@ -45,7 +45,7 @@ returns g c =
             (stands-state g.K.Ord.cmp g.met.K.Ord.total s tree now.last c.in-Some.at c.in-Some.is (now.back - 1) stands w)
             refl
             (stands-previous g.K.Ord.cmp g.met.K.Ord.total s tree now.last c.in-Some.at c.in-Some.is (now.back - 1) stands
-            c.copied.result c.address_before-self.result c.copied.ensures (c.address_before-self.ensures.before (now.back - 1)))
+            c.address_before-self.result (c.address_before-self.ensures.before (now.back - 1)))
             _ _ _ _ _ _,
       ),
       record {

@@ -18,7 +18,7 @@ invariant_of-self g c =
     let some = some-left now c.requires in
     let stands = last-stands list now.last (range_front now) (range_back now) some now.last_stands in
     let previous = stands-previous g.K.Ord.cmp g.met.K.Ord.total s tree now.last c.in-Some.at c.in-Some.is (range_back now - 1) stands
-    c.copied.result c.address_before-self.result c.copied.ensures (c.address_before-self.ensures.before (range_back now - 1)) in
+    c.address_before-self.result (c.address_before-self.ensures.before (range_back now - 1)) in
     record {
       first_stands = now.first_stands;
       last_stands = stands-last list c.address_before-self.result (range_back now - 1) previous;
@@ -38,7 +38,7 @@ invariant_of-self-lent g c w =
     let some = some-left now c.requires in
     let stands = last-stands list now.last (range_front now) (range_back now) some now.last_stands in
     let previous = stands-previous g.K.Ord.cmp g.met.K.Ord.total s tree now.last c.in-Some.at c.in-Some.is (range_back now - 1) stands
-    c.copied.result c.address_before-self.result c.copied.ensures (c.address_before-self.ensures.before (range_back now - 1)) in (
+    c.address_before-self.result (c.address_before-self.ensures.before (range_back now - 1)) in (
       again-first s c.in-Some.at w now.first (range_front now) now.first_stands,
       (
         again-last s c.in-Some.at w c.address_before-self.result (range_back now - 1) previous,
@@ -63,7 +63,7 @@ returns g c =
     let some = some-left now c.requires in
     let stands = last-stands list now.last (range_front now) (range_back now) some now.last_stands in
     let previous = stands-previous g.K.Ord.cmp g.met.K.Ord.total s tree now.last c.in-Some.at c.in-Some.is (range_back now - 1) stands
-    c.copied.result c.address_before-self.result c.copied.ensures (c.address_before-self.ensures.before (range_back now - 1)) in
+    c.address_before-self.result (c.address_before-self.ensures.before (range_back now - 1)) in
     let pair = stands-pair g.K.Ord.cmp g.met.K.Ord.total s tree now.last c.in-Some.at c.in-Some.is (range_back now - 1) stands _ c.pair_mut.ensures.pair in (
       (
         refl,

@@ -16,7 +16,7 @@ invariant_of-self g c =
     let tree = c.address_after-self.ensures.tree in
     let list = item_addresses_of s in
     let next = stands-next g.K.Ord.cmp g.met.K.Ord.total s tree now.first c.in-Some.at c.in-Some.is (range_front now) now.first_stands
-    c.copied.result c.address_after-self.result c.copied.ensures (c.address_after-self.ensures.after (range_front now)) in
+    c.address_after-self.result (c.address_after-self.ensures.after (range_front now)) in
     record {
       first_stands = stands-first list c.address_after-self.result (range_front now + 1) next;
       last_stands = now.last_stands;
@@ -34,7 +34,7 @@ invariant_of-self-lent g c w =
     let tree = c.address_after-self.ensures.tree in
     let list = item_addresses_of s in
     let next = stands-next g.K.Ord.cmp g.met.K.Ord.total s tree now.first c.in-Some.at c.in-Some.is (range_front now) now.first_stands
-    c.copied.result c.address_after-self.result c.copied.ensures (c.address_after-self.ensures.after (range_front now)) in (
+    c.address_after-self.result (c.address_after-self.ensures.after (range_front now)) in (
       again-first s c.in-Some.at w c.address_after-self.result (range_front now + 1) next,
       (
         again-last s c.in-Some.at w now.last _ now.last_stands,
@@ -58,7 +58,7 @@ returns g c =
     let unique = once g.K.Ord.cmp g.met.K.Ord.total s tree in
     let some = some-left now c.requires in
     let next = stands-next g.K.Ord.cmp g.met.K.Ord.total s tree now.first c.in-Some.at c.in-Some.is (range_front now) now.first_stands
-    c.copied.result c.address_after-self.result c.copied.ensures (c.address_after-self.ensures.after (range_front now)) in
+    c.address_after-self.result (c.address_after-self.ensures.after (range_front now)) in
     let pair = stands-pair g.K.Ord.cmp g.met.K.Ord.total s tree now.first c.in-Some.at c.in-Some.is (range_front now) now.first_stands _ c.pair_mut.ensures.pair in (
       (
         refl,

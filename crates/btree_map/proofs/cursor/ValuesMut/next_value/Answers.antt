@@ -11,7 +11,7 @@ invariant_of-self-lent g c w =
     let tree = c.pair_mut-value.ensures.well_formed in (
       stays-first s c.in-Some.at w c.address_after-self.result (now.front + 1)
           (stands-next g.K.Ord.cmp g.met.K.Ord.total s tree now.first c.in-Some.at c.in-Some.is now.front now.first_stands
-          c.copied.result c.address_after-self.result c.copied.ensures (c.address_after-self.ensures.after now.front)),
+          c.address_after-self.result (c.address_after-self.ensures.after now.front)),
       (stays-within s c.in-Some.at w now.back now.within, tt),
     )
 
@@ -26,7 +26,7 @@ returns g c =
         λ w. same_values now.map _ _ _ _ (now.front + 1) now.back
             (stands-state g.K.Ord.cmp g.met.K.Ord.total s tree now.first c.in-Some.at c.in-Some.is now.front now.first_stands w)
             (stands-next g.K.Ord.cmp g.met.K.Ord.total s tree now.first c.in-Some.at c.in-Some.is now.front now.first_stands
-            c.copied.result c.address_after-self.result c.copied.ensures (c.address_after-self.ensures.after now.front))
+            c.address_after-self.result (c.address_after-self.ensures.after now.front))
             _ _ _ _,
       ),
       record {

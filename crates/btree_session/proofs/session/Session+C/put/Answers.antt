@@ -14,16 +14,16 @@ returns-then-not-fits_at g c =
     let back = subst (λ held. HoldsBack c.self.inside.map held) c.in-Some.is holds in
     rw (← c.self.view_is)
     (put-unfit g.C.NodesMut.MayRefuse c.self.inside.map c.self.inside.map c.tell_well_formed.ensures.well_formed c.self.inside.held c.in-Some.held c.in-Some.is c.args.key c.args.value back.valid
-    (λ fits. let no = (rw c.copied.ensures at c.if-not-fits_at.ensures.1) fits in absurd (cc)))
+    (λ fits. let no = c.if-not-fits_at.ensures.1 fits in absurd (cc)))
 
 pub returns-in-Ok : goal.returns-in-Ok
 returns-in-Ok g c =
     rw (← c.self.view_is)
     (put-done g.C.NodesMut.MayRefuse c.self.inside.map c.insert_at-outcome.new.self c.tell_well_formed.ensures.well_formed c.self.inside.held c.in-Some.held c.in-Some.is c.args.key c.args.value
-    ((rw c.copied.ensures at c.if-not-fits_at.ensures.0) refl) c.tell_well_formed-2.ensures.well_formed c.in-Ok.addr (rw c.new.ensures at c.in-Ok.ensures.inserted))
+    (c.if-not-fits_at.ensures.0 refl) c.tell_well_formed-2.ensures.well_formed c.in-Ok.addr (rw c.new.ensures at c.in-Ok.ensures.inserted))
 
 pub returns-in-Err : goal.returns-in-Err
 returns-in-Err g c =
     rw (← c.self.view_is)
     (put-refused g.C.NodesMut.MayRefuse c.self.inside.map c.insert_at-outcome.new.self c.tell_well_formed.ensures.well_formed c.self.inside.held c.in-Some.held c.in-Some.is c.args.key c.args.value
-    ((rw c.copied.ensures at c.if-not-fits_at.ensures.0) refl) c.tell_well_formed-2.ensures.well_formed c.in-Err.returned.cause c.tell_well_formed.ensures.within c.in-Err.ensures.refused)
+    (c.if-not-fits_at.ensures.0 refl) c.tell_well_formed-2.ensures.well_formed c.in-Err.returned.cause c.tell_well_formed.ensures.within c.in-Err.ensures.refused)

@@ -35,7 +35,7 @@ invariant_of-self-3 g c =
     let tree = c.tell_well_formed.ensures.well_formed in
     let within = at-within g.K.Ord.cmp g.met.K.Ord.total s tree now.first (entry_front now) now.first_stands c.in-Some.at c.in-Some.is in
     let next = stands-next g.K.Ord.cmp g.met.K.Ord.total s tree now.first c.in-Some.at c.in-Some.is (entry_front now) now.first_stands
-    c.copied.result c.address_after-self.result c.copied.ensures (c.address_after-self.ensures.after (entry_front now)) in
+    c.address_after-self.result (c.address_after-self.ensures.after (entry_front now)) in
     let place = index-is list (once g.K.Ord.cmp g.met.K.Ord.total s tree) (entry_front now + 1) c.address_after-self.result next (omega (arith, within)) in
     record {
       first_stands = stands-first list c.address_after-self.result (entry_front now + 1) next;
@@ -50,7 +50,7 @@ invariant_of-self-lent g c w =
     let tree = c.tell_well_formed.ensures.well_formed in
     let within = at-within g.K.Ord.cmp g.met.K.Ord.total s tree now.first (entry_front now) now.first_stands c.in-Some.at c.in-Some.is in
     let next = stands-next g.K.Ord.cmp g.met.K.Ord.total s tree now.first c.in-Some.at c.in-Some.is (entry_front now) now.first_stands
-    c.copied.result c.address_after-self.result c.copied.ensures (c.address_after-self.ensures.after (entry_front now)) in
+    c.address_after-self.result (c.address_after-self.ensures.after (entry_front now)) in
     let place = index-is list (once g.K.Ord.cmp g.met.K.Ord.total s tree) (entry_front now + 1) c.address_after-self.result next (omega (arith, within)) in (
       again-first s c.in-Some.at w c.address_after-self.result (entry_front now + 1) next,
       (
@@ -75,7 +75,7 @@ returns g c =
         λ w. same_editing now.map _ _ _ _ _ _
             (stands-state g.K.Ord.cmp g.met.K.Ord.total s tree now.first c.in-Some.at c.in-Some.is (entry_front now) now.first_stands w)
             (stands-next g.K.Ord.cmp g.met.K.Ord.total s tree now.first c.in-Some.at c.in-Some.is (entry_front now) now.first_stands
-            c.copied.result c.address_after-self.result c.copied.ensures (c.address_after-self.ensures.after (entry_front now)))
+            c.address_after-self.result (c.address_after-self.ensures.after (entry_front now)))
             (c.one_more-self.ensures ∙ known-mapped now.known (entry_front now) (item_index s (next_of now)) now.counted place)
             _ _ _ _,
       ),
