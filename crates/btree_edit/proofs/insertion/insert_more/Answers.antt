@@ -4,6 +4,9 @@ use Rattle.btree_edit.proofs.MoreLemmas.{can-add-first, leaf-used, more-inserted
 use Rattle.btree_item.specs.declared.address.Address.TheView.{view}
 use Rattle.btree_edit.proofs.insertion.insert_more.Goals as goal
 
+pub unwrap-requires : goal.unwrap-requires
+unwrap-requires g c = rw (← c.addr.view_is) at c.requires.gap.back
+
 pub add_item_in_room-requires : goal.add_item_in_room-requires
 add_item_in_room-requires g c =
     can-add-first g.K.Ord.cmp g.met.K.Ord.total c.args.tree.now c.requires.some c.requires.tree c.args.item.0 c.args.item.1 (view c.addr.inside) (rw (← c.addr.view_is) at c.requires.gap)

@@ -9,6 +9,9 @@ use Rattle.btree_edit.proofs.MoreLemmas.{leaf-used, more-inserted, none-claimed,
 use Rattle.btree_item.specs.declared.address.Address.TheView.{view}
 use Rattle.btree_edit.proofs.insertion_at.insert_at.Goals as goal
 
+pub unwrap-requires : goal.unwrap-requires
+unwrap-requires g c = rw (← c.addr.view_is) at c.requires.back
+
 pub add_item_at_leaf-requires-clause-used : goal.add_item_at_leaf-requires-clause-used
 add_item_at_leaf-requires-clause-used g c =
     node-used g.K.Ord.cmp g.met.K.Ord.total c.args.tree.now c.requires.tree c.in-Some._root (sym c.root_id.ensures ∙ c.in-Some.is) (view c.addr.inside) (rw (← c.addr.view_is) at c.requires.valid)

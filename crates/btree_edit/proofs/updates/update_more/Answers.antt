@@ -1,17 +1,20 @@
-use Rattle.std.proofs.Common.{◌≡◌, ◌∙◌, Some, None, false, sym, subst}
+use Rattle.std.proofs.Common.{◌≡◌, ◌∙◌, Some, None, false, sym, ap, subst}
+use Rattle.btree_item.specs.Address.{Address}
+use Rattle.btree_item.specs.declared.address.Address.TheView.{view}
+use Rattle.btree_shape.specs.TreeState.{nodes_needed}
 use Rattle.btree_raw.specs.Claimed.{CanHoldMore, EMPTY, MayRefuseOneOf}
 use Rattle.btree_edit.specs.Insert.{IsGapFor, IsInserted}
 use Rattle.btree_edit.proofs.UpdateKeyLemmas.{gap-used}
 use Rattle.btree_edit.proofs.updates.update_more.Goals as goal
 
 pub need-count-requires-clause-used : goal.need-count-requires-clause-used
-need-count-requires-clause-used g c = gap-used g.K.Ord.cmp c.args.key c.args.tree.now c.args.gap c.requires.some c.requires.gap
+need-count-requires-clause-used g c = gap-used g.K.Ord.cmp c.args.key c.args.tree.now (view c.gap.inside) c.requires.some (rw (← c.gap.view_is) at c.requires.gap)
 
 pub returns-then-not-claim-clause-refused : goal.returns-then-not-claim-clause-refused
 returns-then-not-claim-clause-refused g c =
     let none : c.claim.result ≡ false = (let e = c.if-not-claim.true in cc) in (
       c.claim.ensures.refused none,
-      subst (λ n. MayRefuseOneOf EMPTY g.C.NodesMut.MayRefuse c.args.tree.now.nodes n) c.need-count.ensures.value (c.claim.ensures.may_refuse none),
+      subst (λ n. MayRefuseOneOf EMPTY g.C.NodesMut.MayRefuse c.args.tree.now.nodes n) (c.need-count.ensures.value ∙ ap (λ (a : Address). nodes_needed c.args.tree.now a.id) c.gap.view_is) (c.claim.ensures.may_refuse none),
       c.requires.granted,
     )
 
@@ -35,7 +38,7 @@ insert_claimed-at-requires g c = (
     room = c.requires.room;
     below_limit = c.requires.granted;
     claimed = c.claim.ensures.claimed c.if-not-claim.false;
-    enough = c.claim.ensures.count c.if-not-claim.false ∙ c.need-count.ensures.value;
+    enough = c.claim.ensures.count c.if-not-claim.false ∙ c.need-count.ensures.value ∙ ap (λ (a : Address). nodes_needed c.args.tree.now a.id) c.gap.view_is;
   },
 )
 
@@ -53,19 +56,19 @@ returns-clause-updated g c = record {
           room = c.requires.room;
           below_limit = c.requires.granted;
           claimed = c.claim.ensures.claimed c.if-not-claim.false;
-          enough = c.claim.ensures.count c.if-not-claim.false ∙ c.need-count.ensures.value;
+          enough = c.claim.ensures.count c.if-not-claim.false ∙ c.need-count.ensures.value ∙ ap (λ (a : Address). nodes_needed c.args.tree.now a.id) c.gap.view_is;
         })),
   );
 }
 
 pub returns-in_default-clause-granted : goal.returns-in_default-clause-granted
 returns-in_default-clause-granted g c = (
-  subst (λ n. CanHoldMore EMPTY g.C.Nodes.CanHold c.args.tree.now.nodes n) c.need-count.ensures.value (c.claim.ensures.can_hold c.if-not-claim.false),
+  subst (λ n. CanHoldMore EMPTY g.C.Nodes.CanHold c.args.tree.now.nodes n) (c.need-count.ensures.value ∙ ap (λ (a : Address). nodes_needed c.args.tree.now a.id) c.gap.view_is) (c.claim.ensures.can_hold c.if-not-claim.false),
   c.requires.granted,
 )
 
 pub returns-clause-granted : goal.returns-clause-granted
 returns-clause-granted g c = (
-  subst (λ n. CanHoldMore EMPTY g.C.Nodes.CanHold c.args.tree.now.nodes n) c.need-count.ensures.value (c.claim.ensures.can_hold c.if-not-claim.false),
+  subst (λ n. CanHoldMore EMPTY g.C.Nodes.CanHold c.args.tree.now.nodes n) (c.need-count.ensures.value ∙ ap (λ (a : Address). nodes_needed c.args.tree.now a.id) c.gap.view_is) (c.claim.ensures.can_hold c.if-not-claim.false),
   c.requires.granted,
 )

@@ -7,7 +7,7 @@ pub node_mut-requires : goal.node_mut-requires
 node_mut-requires g c = (c.tell_fits.ensures, occupied-used c.args.tree.now (view c.addr.inside) (rw (← c.addr.view_is) at c.requires.occupied))
 
 pub returns : goal.returns
-returns g c = rw (← c.addr.view_is) ((
+returns g c = rw (← c.addr.view_is) (
   (refl, written g.K.Ord.cmp g.met.K.Ord.total c.args.tree.now (view c.addr.inside) c.requires.tree c.node_mut.result.now c.node_mut.ensures.value c.in-Some.item.now c.in-Some.ensures.value),
   record {
     writes_back = tt;
@@ -18,7 +18,7 @@ returns g c = rw (← c.addr.view_is) ((
         written-exchanged g.K.Ord.cmp g.met.K.Ord.total c.args.tree.now (view c.addr.inside) c.requires.tree c.node_mut.result.now c.node_mut.ensures.value c.in-Some.item.now c.in-Some.ensures.value
         c.key_and_value.result.1.now (ap (λ p. p.1) c.key_and_value.ensures.pair);
   },
-))
+)
 
 pub item_mut-requires : goal.item_mut-requires
 item_mut-requires g c = c.tell_fits.ensures

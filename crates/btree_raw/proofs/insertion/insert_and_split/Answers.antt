@@ -14,6 +14,14 @@ pub split_need_above-count-requires-clause-counting : goal.split_need_above-coun
 split_need_above-count-requires-clause-counting g c =
     old-counting g.K.Ord.cmp g.met.K.Ord.total c.args.tree.now (view c.addr.inside) c.args.item c.args.child (rw (← c.addr.view_is) at c.requires.off_by_one) (rw (← c.addr.view_is) at c.requires.full)
 
+pub split_need_above-count-requires-clause-full : goal.split_need_above-count-requires-clause-full
+split_need_above-count-requires-clause-full g c =
+    rw (← c.addr.view_is) at c.requires.full
+
+pub split_need_above-count-requires-clause-parent : goal.split_need_above-count-requires-clause-parent
+split_need_above-count-requires-clause-parent g c =
+    rw (← c.addr.view_is) at c.requires.parent
+
 pub new-claims-requires : goal.new-claims-requires
 new-claims-requires g c =
     search rules steps 200000
