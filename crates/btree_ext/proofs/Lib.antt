@@ -1,1 +1,2 @@
 pub mod LimitLemmas
+pub mod Crossing

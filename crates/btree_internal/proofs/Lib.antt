@@ -5,3 +5,4 @@ pub mod SeparatorLemmas
 pub mod InsertionLemmas
 pub mod ChangeLemmas
 pub mod InternalSizes
+pub mod Crossing

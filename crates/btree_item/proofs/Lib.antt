@@ -5,3 +5,4 @@ pub mod KeyLemmas
 pub mod PairLemmas
 pub mod PairEdits
 pub mod MinLemmas
+pub mod Crossing

@@ -8,7 +8,7 @@ use Rattle.btree_item.specs.declared.fault.Fault.TheVariants.{NoNode, WrongParen
 -- why an insertion was refused
 abbrev pub cause_text : Cause → List ℕ
 cause_text Store = codes "no node could be allocated"
-cause_text Count = codes "there are as many pairs as the limit allows"
+cause_text Count = codes "the length has reached its limit"
 
 -- what is wrong with a node or a tree
 abbrev pub fault_text : Fault → List ℕ

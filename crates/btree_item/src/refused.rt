@@ -50,7 +50,7 @@ impl Display for Cause {
     fn fmt<W: Write>(&self, f: &mut Formatter<W>) -> Result {
         match self {
             Cause::Store => f.write_str("no node could be allocated"),
-            Cause::Count => f.write_str("there are as many pairs as the limit allows"),
+            Cause::Count => f.write_str("the length has reached its limit"),
         }
     }
 }

@@ -1,2 +1,3 @@
 pub mod LeafLemmas
 pub mod LeafSplit
+pub mod Crossing

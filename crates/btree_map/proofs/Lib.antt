@@ -21,3 +21,4 @@ pub mod SameEditing
 pub mod EditingSteps
 pub mod KnownLemmas
 pub mod DrainRuns
+pub mod Crossing

@@ -3,3 +3,4 @@ pub mod NodeLemmas
 pub mod SplitSizes
 pub mod NodeSizes
 pub mod RoomLemmas
+pub mod Crossing

@@ -104,7 +104,7 @@ fn check_printed_cause(
 
 #[test]
 fn prints_why(rt: HostRuntime) -> Result<(), Fail> {
-    let full = "there are as many pairs as the limit allows";
+    let full = "the length has reached its limit";
     check_printed_cause(&rt, rt.alloc(), Cause::Store, "no node could be allocated")?;
     check_printed_cause(&rt, rt.alloc(), Cause::Count, full)?;
     for (fault, text) in [

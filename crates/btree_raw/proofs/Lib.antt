@@ -27,3 +27,4 @@ pub mod PutBackLemmas
 pub mod ResultLemmas
 pub mod FetchedLemmas
 pub mod CutLemmas
+pub mod Crossing

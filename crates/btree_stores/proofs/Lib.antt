@@ -1,2 +1,3 @@
 pub mod SlotLemmas
 pub mod TableLemmas
+pub mod Crossing
