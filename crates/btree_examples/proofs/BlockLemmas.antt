@@ -2,8 +2,8 @@
 use Rattle.std.proofs.Common.{◌≡◌, ◌≤◌, ◌<◌, ◌+◌, ◌-◌, ◌∙◌, ℕ, true, false, not, List, ◌∷◌, sym, arith}
 use Rattle.std.proofs.lemmas.Bool.{and_parts, not-true, or_left, or_right}
 use Rattle.btree_slab.specs.Gaps.{AreGaps}
+use Rattle.btree_slab.specs.RangeLaws.{within-from, within-high, within-low}
 use Rattle.btree_slab.specs.Ranges.{has_number, is_within}
-use Rattle.btree_range_set.proofs.RunLemmas.{within-from, within-high, within-low}
 use Rattle.btree_examples.specs.Blocks.{AreFreeBelow}
 
 -- the blocks in the gaps that are left are free

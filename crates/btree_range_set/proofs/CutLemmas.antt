@@ -71,8 +71,9 @@ module _ (s : TreeState ℕ ℕ) (gap : Address) (start end last : ℕ) (can : C
       let item : IsItemAddress mid can.before left = (previous-place mid right (suc can.before) there (Some left) previous).here in
       let listed : slice_get (pairs_of mid) can.before ≡ Some (can.first, last) =
       ap (λ xs. slice_get xs can.before) pairs ∙ get-inserted-before (pairs_of s) can.before (end, last) within ∙ can.listed in
+      let changed : pairs_of new ≡ set (pairs_of mid) can.before (can.first, start) = value-list nat_cmp mid new left can.before was start (can.first, last) item listed e in
       let final : pairs_of new ≡ insert (set (pairs_of s) can.before (can.first, start)) (suc can.before) (end, last) =
-      value-list nat_cmp mid new left can.before was start (can.first, last) item listed e
+      changed
       ∙ ap (λ xs. set xs can.before (can.first, start)) pairs
       ∙ set-insert (pairs_of s) can.before (end, last) (can.first, start) within in
       let P : List (ℕ × ℕ) → Type 0 = AreRuns in
@@ -81,7 +82,10 @@ module _ (s : TreeState ℕ ℕ) (gap : Address) (start end last : ℕ) (can : C
         leaves = record {
           runs = subst P (sym final) (cut-runs (pairs_of s) can.before start end (can.first, last) can.runs can.listed can.left can.some can.right);
           uncounted = e.exchanged.uncounted ∙ puts.inserted.uncounted;
-          bounded = λ more. put-limit s mid gap right (suc can.before) (end, last) can.has (omega (arith, within)) puts;
+          bounded = λ more.
+              let mid_few = put-limit s mid gap right (suc can.before) (end, last) can.has (omega (arith, within)) puts in
+              let same : length (pairs_of new) ≡ length (pairs_of mid) = ap length changed ∙ length-set (pairs_of mid) can.before (can.first, start) in
+              omega (arith, mid_few, same);
         };
       }
 
@@ -140,7 +144,7 @@ module _ (s new : TreeState ℕ ℕ) (gap a : Address) (start end place was : �
         leaves = record {
           runs = c.leaves.runs;
           uncounted = c.leaves.uncounted ∙ e.exchanged.uncounted;
-          bounded = λ more. let below = c.leaves.bounded (omega (arith, count, more)) in omega (arith, below, count, limit);
+          bounded = λ more. let below = c.leaves.bounded (omega (arith, count, more)) in omega (arith, below, limit);
         };
       }
     where

@@ -1,10 +1,11 @@
 -- The gaps between ranges: they are runs, of the numbers that are in no range.
 use Rattle.std.proofs.Common.{◌≡◌, ◌≤◌, ◌<◌, ◌∙◌, ℕ, suc, max, min, Bool, true, false, not, ◌&&◌, ◌||◌, List, [], ◌∷◌, cond, refl, sym, ap, arith, ◌⊎◌, inl, inr}
-use Rattle.std.proofs.lemmas.Bool.{cases_Bool, cases_lt, le-ltb, lt-ltb, ltb-false, ltb-true}
+use Rattle.std.proofs.lemmas.Bool.{cases_lt, le-ltb, lt-ltb, ltb-false, ltb-true}
 use Rattle.std.specs.List.{AllByRecursion, filter}
+use Rattle.btree_range_set.specs.CallerLaws.{has-meeting, within-from}
 use Rattle.btree_range_set.specs.Gaps.{AreGaps, gaps_from, is_some_range}
 use Rattle.btree_range_set.specs.Ranges.{AreRuns, AreRunsFrom, has_number, is_within, meets, ranges_meeting}
-use Rattle.btree_range_set.proofs.RunLemmas.{above-not-within, below-not-within, none-below, weaken, within-from, within-high, within-low}
+use Rattle.btree_range_set.proofs.RunLemmas.{above-not-within, below-not-within, none-below, weaken}
 
 -- ---- the ranges that have one of the numbers
 runs-filtered : (test : ℕ × ℕ → Bool) (low : ℕ) (xs : List (ℕ × ℕ)) → AreRunsFrom low xs → AreRunsFrom low (filter test xs)
@@ -24,26 +25,6 @@ ahead s e (x ∷ xs) = by (meets s e x) refl (ahead s e xs) where
   by : (b : Bool) → meets s e x ≡ b → IsAhead s e (ranges_meeting s e xs) → IsAhead s e (cond b (x ∷ ranges_meeting s e xs) (ranges_meeting s e xs))
   by true is rest = let lt = ltb-true (max s x.0) (min e x.1) is in ((omega (arith, lt), omega (arith, lt)), rest)
   by false is rest = rest
-
-has-meeting : (s e n : ℕ) (xs : List (ℕ × ℕ)) → is_within (s, e) n ≡ true → has_number (ranges_meeting s e xs) n ≡ has_number xs n
-has-meeting s e n [] inside = refl
-has-meeting s e n (x ∷ xs) inside = by (meets s e x) refl (has-meeting s e n xs inside) where
-  low : s ≤ n
-  low = within-low (s, e) n inside
-
-  high : n < e
-  high = within-high (s, e) n inside
-
-  outside : meets s e x ≡ false → (is_within x n ≡ true) ⊎ (is_within x n ≡ false) → is_within x n ≡ false
-  outside is (inr out) = out
-  outside is (inl within) =
-      let yes = lt-ltb (max s x.0) (min e x.1) (omega (arith, low, high, within-low x n within, within-high x n within)) in
-      absurd (cc)
-
-  by : (b : Bool) → meets s e x ≡ b → has_number (ranges_meeting s e xs) n ≡ has_number xs n
-      → has_number (cond b (x ∷ ranges_meeting s e xs) (ranges_meeting s e xs)) n ≡ (is_within x n || has_number xs n)
-  by true is rest = ap (λ b. is_within x n || b) rest
-  by false is rest = rest ∙ ap (λ b. b || has_number xs n) (sym (outside is (cases_Bool (is_within x n))))
 
 -- ---- from one range to the next
 -- to leave out an empty range changes neither the numbers nor the order

@@ -6,6 +6,9 @@ pub mod LimitLemmas
 pub mod ListLemmas
 pub mod MeetLemmas
 pub mod PlaceLemmas
+pub mod QueryLemmas
 pub mod RangeLaws
 pub mod RunLemmas
+pub mod SeriesLemmas
 pub mod StepLemmas
+pub mod TwoSetLemmas

@@ -1,5 +1,5 @@
--- How many ranges there are: no more than there may be, and fewer before one is added.
-use Rattle.std.proofs.Common.{◌≡◌, ◌≤◌, ◌<◌, ◌∙◌, ℕ, length, ap, arith}
+-- How many ranges there are: no more than before, or than there may be.
+use Rattle.std.proofs.Common.{◌≡◌, ◌≤◌, ◌∙◌, ℕ, length, ap, arith}
 use Rattle.std.specs.List.{insert}
 use Rattle.std.specs.Ordering.{nat_cmp}
 use Rattle.std.proofs.lemmas.List.Edits.{length-insert}
@@ -15,7 +15,7 @@ grows-not old new few more = absurd (omega (arith, few, more))
 
 -- a range was added, so there were fewer than there may be
 pub put-limit : (s new : TreeState ℕ ℕ) (gap b : Address) (place : ℕ) (x : ℕ × ℕ) → HasPlace s gap place → place ≤ length (pairs_of s)
-    → InsertsAt s new gap nat_cmp b x → length (pairs_of s) < s.kept.limit
+    → InsertsAt s new gap nat_cmp b x → length (pairs_of new) ≤ s.kept.limit
 put-limit s new gap b place x has within puts =
     let same : puts.place ≡ place = has.only puts.place puts.has.at in
     let longer = ap length (puts.pairs ∙ ap (λ p. insert (pairs_of s) p x) same) ∙ length-insert (pairs_of s) place x within in

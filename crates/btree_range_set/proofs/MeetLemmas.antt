@@ -8,9 +8,10 @@ use Rattle.std.specs.Ordering.{is_le, nat_cmp}
 use Rattle.std.specs.declared.cmp.Ordering.TheVariants.{Equal, Greater, Less}
 use Rattle.std.specs.declared.ops.Bound.TheVariants.{Included, Excluded}
 use Rattle.std.proofs.lemmas.Option.{same_Some}
+use Rattle.btree_range_set.specs.CallerLaws.{within-from, within-high, within-low}
 use Rattle.btree_range_set.specs.Places.{IsRangeAround}
 use Rattle.btree_range_set.specs.Ranges.{AreRuns, AreRunsFrom, has_number, meets, ranges_meeting}
-use Rattle.btree_range_set.proofs.RunLemmas.{has-here, run-at, within-from, within-high, within-low}
+use Rattle.btree_range_set.proofs.RunLemmas.{has-here, run-at}
 
 -- ---- comparisons of numbers
 le-by : (x y : ℕ) (o : Ordering) → o ≡ nat_cmp x y → x ≤ y → is_le o ≡ true

@@ -12,9 +12,10 @@ use Rattle.btree_shape.specs.TreeState.{TreeState, item_of, pairs_of}
 use Rattle.btree_find.specs.Answers.{IsFoundAt}
 use Rattle.btree_find.specs.CallerLaws.{pair-there}
 use Rattle.btree_find.specs.Navigation.{HasPlace, IsItemAddress, IsItemAt, IsItemBefore, IsNormalized, IsPrevious}
+use Rattle.btree_range_set.specs.CallerLaws.{within-from}
 use Rattle.btree_range_set.specs.Places.{EndsBefore, IsRangeAround, StartsAfter}
 use Rattle.btree_range_set.specs.Ranges.{AreRuns, CutsOne, has_number}
-use Rattle.btree_range_set.proofs.RunLemmas.{has-here, has-none, run-at, within-from}
+use Rattle.btree_range_set.proofs.RunLemmas.{has-here, has-none, run-at}
 
 pub less-from : (x y : ℕ) → x < y → nat_cmp x y ≡ Less
 less-from x y lt = rw (lt-ltb x y lt) refl

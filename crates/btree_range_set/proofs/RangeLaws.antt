@@ -1,13 +1,15 @@
 -- What callers conclude: after any list of granted calls the set has the numbers that the calls make of those before
--- (`made-by-calls`); its ranges are exactly its maximal runs (`maximal`, `run-listed`); and there is one list of runs for
--- a set of numbers (`same-runs`).
-use Rattle.std.proofs.Common.{◌≡◌, ◌≤◌, ◌<◌, ◌∙◌, ℕ, zero, suc, Bool, true, false, List, [], ◌∷◌, slice_get, Some, refl, sym, ap, subst, arith, ◌⊎◌, inl, inr}
+-- (`made-by-calls`); its ranges are exactly its maximal runs (`maximal`, `run-listed`); there is one list of runs for a set
+-- of numbers (`same-runs`); and `==` is equality of the numbers (`equal-numbers`).
+use Rattle.std.proofs.Common.{◌≡◌, ◌≤◌, ◌<◌, ◌∙◌, ℕ, zero, suc, Bool, true, false, List, [], ◌∷◌, slice_get, Some, refl, sym, ap, subst, arith, ◌⊎◌, inl, inr, Decides}
 use Rattle.std.proofs.lemmas.Bool.{cases_Bool, cases_lt, cases_order, or_from, or_left}
 use Rattle.std.proofs.lemmas.Option.{same_Some, slice_get_within}
+use Rattle.btree_range_set.specs.CallerLaws.{ranges-equal, within-from, within-high, within-low}
 use Rattle.btree_range_set.specs.Calls.{AreGranted, Call, IsGranted, after_call, after_calls}
 use Rattle.btree_range_set.specs.Calls.Call.{Insert, Remove}
+use Rattle.btree_range_set.specs.SameRanges.{ranges_eq}
 use Rattle.btree_range_set.specs.Ranges.{AreRuns, AreRunsFrom, IsMaximalRun, has_number, is_within}
-use Rattle.btree_range_set.proofs.RunLemmas.{above-not-within, has-here, has-none, next-apart, none-below, run-at, within-from, within-high, within-low}
+use Rattle.btree_range_set.proofs.RunLemmas.{above-not-within, has-here, has-none, next-apart, none-below, run-at}
 
 -- ---- lists of calls
 one-call : (call : Call) (old new : List (ℕ × ℕ)) → IsGranted call old new → (n : ℕ) → has_number new n ≡ after_call call (has_number old) n
@@ -96,7 +98,7 @@ run-listed ranges r runs is =
     ]
 
 -- ---- one list of runs for a set of numbers
-starts-here : (low : ℕ) (x : ℕ × ℕ) (xs : List (ℕ × ℕ)) → AreRunsFrom low (x ∷ xs) → has_number (x ∷ xs) x.0 ≡ true
+pub starts-here : (low : ℕ) (x : ℕ × ℕ) (xs : List (ℕ × ℕ)) → AreRunsFrom low (x ∷ xs) → has_number (x ∷ xs) x.0 ≡ true
 starts-here low x xs runs = or_left (is_within x x.0) (has_number xs x.0) (within-from x x.0 (omega arith) runs.1)
 
 -- the end of the first range is in none
@@ -152,3 +154,9 @@ same-runs-from low (x ∷ xs) (y ∷ ys) runs others same =
 -- two lists of runs with the same numbers are the same list
 pub same-runs : (xs ys : List (ℕ × ℕ)) → AreRuns xs → AreRuns ys → ((n : ℕ) → has_number xs n ≡ has_number ys n) → xs ≡ ys
 same-runs xs ys runs others same = same-runs-from 0 xs ys runs others same
+
+-- sets are `==` exactly if they have the same numbers
+pub equal-numbers : (xs ys : List (ℕ × ℕ)) → AreRuns xs → AreRuns ys → Decides (ranges_eq xs ys) ((n : ℕ) → has_number xs n ≡ has_number ys n)
+equal-numbers xs ys runs others =
+    let equal = ranges-equal xs ys in
+    (λ is n. ap (λ l. has_number l n) (equal.0 is), λ same. equal.1 (same-runs xs ys runs others same))

@@ -1,23 +1,11 @@
 -- Lists of ranges that are edited at one place: the numbers in them, and that they still are runs.
 use Rattle.std.proofs.Common.{◌≡◌, ◌≤◌, ◌<◌, ◌∙◌, ℕ, zero, suc, Bool, true, false, ◌||◌, nat_le, nat_lt, List, [], ◌∷◌, length, set, slice_get, Some, refl, sym, ap, subst, arith, ◌⊎◌, inl, inr}
-use Rattle.std.proofs.lemmas.Bool.{le-leb, lt-leb, lt-ltb, le-ltb, leb-true, ltb-true, and_parts, and_from, and_left, and_right}
+use Rattle.std.proofs.lemmas.Bool.{lt-leb, le-ltb, and_left, and_right}
 use Rattle.std.specs.List.{AllByRecursion, insert, remove}
 use Rattle.btree_range_set.specs.Places.{EndsBefore, StartsAfter}
 use Rattle.btree_range_set.specs.Ranges.{AreRunsFrom, has_number, is_within}
 
--- ---- a number in a range
--- a number from a run's first to below its end is within it
-pub within-from : (r : ℕ × ℕ) (n : ℕ) → r.0 ≤ n → n < r.1 → is_within r n ≡ true
-within-from r n low high = and_from (nat_le r.0 n) (nat_lt n r.1) (le-leb r.0 n low) (lt-ltb n r.1 high)
-
--- a number within a run is not below its first
-pub within-low : (r : ℕ × ℕ) (n : ℕ) → is_within r n ≡ true → r.0 ≤ n
-within-low r n is = leb-true r.0 n (and_parts (nat_le r.0 n) (nat_lt n r.1) is).0
-
--- a number within a run is below its end
-pub within-high : (r : ℕ × ℕ) (n : ℕ) → is_within r n ≡ true → n < r.1
-within-high r n is = ltb-true n r.1 (and_parts (nat_le r.0 n) (nat_lt n r.1) is).1
-
+-- ---- a number outside of a range
 pub below-not-within : (r : ℕ × ℕ) (n : ℕ) → n < r.0 → is_within r n ≡ false
 below-not-within r n low = and_left (nat_le r.0 n) (nat_lt n r.1) (lt-leb r.0 n low)
 
@@ -103,7 +91,7 @@ none-below low (x ∷ xs) runs n lt =
 or-false : (x y : Bool) → x ≡ false → y ≡ false → (x || y) ≡ false
 or-false x y fx fy = rw (fx, fy) refl
 
-range-there : {X : Type 0} (xs : List X) (p : ℕ) → p < length xs → (x : X) × (slice_get xs p ≡ Some x)
+pub range-there : {X : Type 0} (xs : List X) (p : ℕ) → p < length xs → (x : X) × (slice_get xs p ≡ Some x)
 range-there [] p within = absurd (omega arith)
 range-there (x ∷ xs) zero within = (x, refl)
 range-there (x ∷ xs) (suc p) within = range-there xs p (omega arith)

@@ -5,10 +5,11 @@ use Rattle.std.proofs.lemmas.List.{length-set}
 use Rattle.std.proofs.lemmas.List.Edits.{length-remove}
 use Rattle.std.proofs.lemmas.Option.{same_Some, slice_get_within}
 use Rattle.std.specs.List.{insert, remove}
+use Rattle.btree_range_set.specs.CallerLaws.{within-from, within-high, within-low}
 use Rattle.btree_range_set.specs.Places.{EndsBefore, StartsAfter}
 use Rattle.btree_range_set.specs.Ranges.{AreRuns, IsDifference, IsUnion, has_number, is_within}
 use Rattle.btree_range_set.proofs.ListLemmas.{get-removed, get-removed-below, get-set, get-set-other}
-use Rattle.btree_range_set.proofs.RunLemmas.{above-not-within, below-not-within, has-none, has-put, has-set, has-taken, next-apart, run-at, runs-put, runs-set, runs-taken, within-from, within-high, within-low}
+use Rattle.btree_range_set.proofs.RunLemmas.{above-not-within, below-not-within, has-none, has-put, has-set, has-taken, next-apart, run-at, runs-put, runs-set, runs-taken}
 
 pub ends-taken : (xs : List (ℕ × ℕ)) (p n : ℕ) → EndsBefore xs p n → EndsBefore (remove xs p) p n
 ends-taken xs p n ends q x next at = ends q x next (sym (get-removed-below xs p q (omega (arith, next))) ∙ at)

@@ -58,3 +58,13 @@ meets start end range = nat_lt (max start range.0) (min end range.1)
 -- the ranges that have one of these numbers
 abbrev pub ranges_meeting : (start end : ℕ) → List (ℕ × ℕ) → List (ℕ × ℕ)
 ranges_meeting start end ranges = filter (meets start end) ranges
+
+-- one of the numbers from `start` up to `end` is in the set
+pub record Overlaps (ranges : List (ℕ × ℕ)) (start end : ℕ) : Type 0 where
+  pub number : ℕ
+  pub inside : is_within (start, end) number ≡ true
+  pub has : has_number ranges number ≡ true
+
+-- none of them is
+abbrev pub OverlapsNone : (ranges : List (ℕ × ℕ)) → (start end : ℕ) → Type 0
+OverlapsNone ranges start end = (n : ℕ) → is_within (start, end) n ≡ true → has_number ranges n ≡ false

@@ -35,6 +35,6 @@ module _ (old new : RangeState) where
     pub ranges : new.ranges ≡ old.ranges
     pub counts : CountsRefusal cause
 
-  -- there are more ranges than before only if there were fewer than there may be
+  -- there are more ranges than before only if there may be as many
   abbrev pub GrowsWithinLimit : Type 0
-  GrowsWithinLimit = length old.ranges < length new.ranges → length old.ranges < old.kept.limit
+  GrowsWithinLimit = length old.ranges < length new.ranges → length new.ranges ≤ old.kept.limit

@@ -1,13 +1,20 @@
 //! Sets of numbers as disjoint ranges over an ordered map.
 #![tactic(auto)]
 
+mod algebra;
+mod comparison;
 mod edits;
+mod extension;
 mod gaps;
 mod iter;
 mod overlapping;
+mod owned;
+mod queries;
 mod set;
+mod shown;
 
 pub use gaps::Gaps;
 pub use iter::Iter;
 pub use overlapping::Overlapping;
+pub use owned::IntoIter;
 pub use set::RangeSet;

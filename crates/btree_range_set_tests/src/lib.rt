@@ -4,6 +4,20 @@
 #[cfg(test)]
 mod asserts;
 #[cfg(test)]
+mod changes;
+#[cfg(test)]
+mod checks;
+#[cfg(test)]
+mod extension;
+#[cfg(test)]
+mod owned;
+#[cfg(test)]
+mod queries;
+#[cfg(test)]
 mod ranges;
 #[cfg(test)]
 mod table;
+#[cfg(test)]
+mod two_sets;
+#[cfg(test)]
+mod two_tables;

@@ -1,62 +1,12 @@
 //! Ranges that are joined, cut and refused.
 use crate::asserts::{assert_same, assert_true};
-use btree_item::{Cause, Refused};
+use crate::checks::{EIGHT, check_listed, check_ranges, check_refused, eight_ranges};
+use btree_item::Cause;
 use btree_node::{ClearNodes, Node, NodesMut};
 use btree_range_set::RangeSet;
 use btree_store::SlabStore;
 use btree_stores::FixedSlab;
 use std::process::Abort;
-
-// Passes the next range of an iterator, and returns it.
-fn step<I: Iterator<Item = (u64, u64)>>(ranges: &mut I) -> Option<(u64, u64)>
-    requires { (state : I) → I.can_next state }
-{
-    ranges.next()
-}
-
-// Checks that an iterator gives exactly these ranges.
-fn check_listed<I: Iterator<Item = (u64, u64)> + Drop>(
-    rt: &impl Abort,
-    ranges: I,
-    expected: &[(u64, u64)],
-)
-    requires { (state : I) → I.can_next state }
-{
-    let mut ranges = ranges;
-    for range in expected.iter() {
-        assert_same(rt, step(&mut ranges), Some(*range));
-    }
-    assert_same(rt, step(&mut ranges), None);
-}
-
-// Checks the ranges of a set, from both ends, and how many there are.
-fn check_ranges<C: NodesMut<u64, u64>>(
-    rt: &impl Abort,
-    set: &RangeSet<C>,
-    expected: &[(u64, u64)],
-) {
-    check_listed(rt, set.iter(), expected);
-    assert_same(rt, set.len(), expected.len());
-    assert_same(rt, set.is_empty(), expected.is_empty());
-    assert_same(rt, set.iter().next_back(), expected.last().copied());
-}
-
-// Checks that a call was refused for this cause, with its numbers.
-fn check_refused(
-    rt: &impl Abort,
-    outcome: Result<(), Refused<u64, u64>>,
-    cause: Cause,
-    start: u64,
-    end: u64,
-) {
-    match outcome {
-        Ok(()) => panic!(rt; "not refused"),
-        Err(refused) => {
-            assert_same(rt, refused.cause, cause);
-            assert_same(rt, (refused.key, refused.value), (start, end));
-        }
-    }
-}
 
 // The range between two joins them, and what is removed over the middle cuts them.
 fn join_and_cut<C: ClearNodes<u64, u64> + Drop>(rt: &impl Abort, origin: C::Origin) {
@@ -98,15 +48,6 @@ fn joins_and_cuts(rt: HostRuntime) {
     hold_the_greatest::<SlabStore<Node<u64, u64>>>(&rt, rt.alloc());
 }
 
-// Returns the ranges from 10i up to 10i + 5, for i from 0 to 7.
-fn eight_ranges<C: NodesMut<u64, u64> + Drop>(rt: &impl Abort, origin: C::Origin) -> RangeSet<C> {
-    let mut set: RangeSet<C> = RangeSet::new(origin);
-    for i in 0..8 {
-        assert_true(rt, set.insert(10 * i, 10 * i + 5).is_ok());
-    }
-    set
-}
-
 // The ranges that overlap some numbers, and the gaps between them.
 fn look_around<C: NodesMut<u64, u64> + Drop>(rt: &impl Abort, origin: C::Origin) {
     let set: RangeSet<C> = eight_ranges(rt, origin);
@@ -130,17 +71,6 @@ fn look_around<C: NodesMut<u64, u64> + Drop>(rt: &impl Abort, origin: C::Origin)
 fn lists_overlaps_and_gaps(rt: HostRuntime) {
     look_around::<SlabStore<Node<u64, u64>>>(&rt, rt.alloc());
 }
-
-const EIGHT: [(u64, u64); 8] = [
-    (0, 5),
-    (10, 15),
-    (20, 25),
-    (30, 35),
-    (40, 45),
-    (50, 55),
-    (60, 65),
-    (70, 75),
-];
 
 // Eight ranges fill one node: a ninth is refused, and what joins or shortens is not.
 fn fill_a_node<C: NodesMut<u64, u64> + Drop>(rt: &impl Abort, origin: C::Origin) {

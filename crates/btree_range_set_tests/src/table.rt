@@ -10,7 +10,7 @@ use std::process::Abort;
 use std::test::Fail;
 
 // Writes a value for the numbers from `start` up to `end`.
-fn write(table: &mut [bool; 64], start: u64, end: u64, is: bool) {
+pub(crate) fn write(table: &mut [bool; 64], start: u64, end: u64, is: bool) {
     let mut number = 0u64;
     for entry in table.iter_mut() {
         if start <= number && number < end {
@@ -34,7 +34,11 @@ fn count_runs(table: &[bool; 64]) -> usize {
 }
 
 // Checks which numbers are in the set, by `contains` and by its ranges, which are as many as there are runs.
-fn check_table<C: NodesMut<u64, u64>>(rt: &impl Abort, set: &RangeSet<C>, table: &[bool; 64]) {
+pub(crate) fn check_table<C: NodesMut<u64, u64>>(
+    rt: &impl Abort,
+    set: &RangeSet<C>,
+    table: &[bool; 64],
+) {
     let mut listed = [false; 64];
     for (start, end) in set.iter() {
         write(&mut listed, start, end, true);
@@ -103,7 +107,10 @@ fn agrees_with_a_table(rt: HostRuntime) {
 }
 
 // Returns an empty set whose store refuses one allocation.
-fn gated_set(alloc: Global, refuses_at: usize) -> RangeSet<Gate<SlabStore<Node<u64, u64>>>> {
+pub(crate) fn gated_set(
+    alloc: Global,
+    refuses_at: usize,
+) -> RangeSet<Gate<SlabStore<Node<u64, u64>>>> {
     let nodes = <SlabStore<Node<u64, u64>> as SlabMut<Node<u64, u64>>>::empty(alloc);
     RangeSet::in_store(Gate::over(nodes, refuses_at))
 }

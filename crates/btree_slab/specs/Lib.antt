@@ -57,8 +57,12 @@ pub use Rattle.btree_node.specs.NodeLends
 pub use Rattle.btree_node.specs.StoreLends
 pub use Rattle.btree_owned.specs.Leaving
 pub use Rattle.btree_range_set.specs.Gaps
+pub use Rattle.btree_range_set.specs.Places
 pub use Rattle.btree_range_set.specs.Ranges
+pub use Rattle.btree_range_set.specs.SameRanges
+pub use Rattle.btree_range_set.specs.Series
 pub use Rattle.btree_range_set.specs.State
+pub use Rattle.btree_range_set.specs.TwoSets
 pub use Rattle.btree_raw.specs.Claimed
 pub use Rattle.btree_raw.specs.Insertion
 pub use Rattle.btree_raw.specs.LastItem
@@ -110,4 +114,5 @@ pub use Rattle.btree_walk.specs.Rows
 pub use Rattle.btree_find.specs.CallerLaws as FindLaws
 pub use Rattle.btree_edit.specs.CallerLaws as EditLaws
 pub use Rattle.btree_map.specs.CallerLaws as MapLaws
+pub use Rattle.btree_range_set.specs.CallerLaws as RangeLaws
 pub use Rattle.btree_valid.proofs.ReadLaws

@@ -85,7 +85,7 @@ pub mod script {
 
 /// Sets of numbers as disjoint ranges over a map, and their iterators.
 pub mod range_set {
-    pub use btree_range_set::{Gaps, Iter, Overlapping, RangeSet};
+    pub use btree_range_set::{Gaps, IntoIter, Iter, Overlapping, RangeSet};
 }
 
 /// What a key may be sought by beside a key: a text or a slice, and the places beside a key, beside a first part and at the ends.

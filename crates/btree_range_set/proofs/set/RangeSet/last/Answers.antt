@@ -1,0 +1,6 @@
+use Rattle.btree_shape.specs.TreeState.{pairs_of}
+use Rattle.btree_range_set.proofs.QueryLemmas.{last-highest}
+use Rattle.btree_range_set.proofs.set.RangeSet.last.Goals as goal
+
+pub returns-in-Some-clause-highest : goal.returns-in-Some-clause-highest
+returns-in-Some-clause-highest g c = rw (← c.self.view_is) (last-highest (pairs_of c.self.inside.map) _ c.self.invariant c.in-Some.ensures)

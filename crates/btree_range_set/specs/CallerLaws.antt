@@ -1,0 +1,81 @@
+-- What callers conclude from the words of a set of ranges: which numbers are within a range, which ones the ranges have that
+-- meet some numbers, and that `==` is equality of the ranges.
+-- `#![tactic(auto, using(btree_range_set::specs::CallerLaws::range_laws))]` gives `search` the laws on ranges that meet.
+use Rattle.std.proofs.Common.{◌≡◌, ◌≤◌, ◌<◌, ◌∙◌, ℕ, max, min, Bool, true, false, ◌||◌, nat_eq, nat_le, nat_lt, List, [], ◌∷◌, cond, refl, sym, ap, arith, ◌⊎◌, inl, inr, Decides}
+use Rattle.std.proofs.lemmas.Bool.{and_from, and_parts, cases_Bool, eq-eqb, eqb-true, le-leb, leb-true, lt-ltb, ltb-true, or_left, or_right}
+use Rattle.std.specs.Cmp.Lexicographic.{pointwise_decides}
+use Rattle.btree_map.specs.Comparison.{pair_eq}
+use Rattle.btree_range_set.specs.SameRanges.{ranges_eq}
+use Rattle.btree_range_set.specs.Ranges.{Overlaps, OverlapsNone, has_number, is_within, meets, ranges_meeting}
+
+-- ---- a number in a range
+-- a number from a range's start to below its end is within it
+pub within-from : (r : ℕ × ℕ) (n : ℕ) → r.0 ≤ n → n < r.1 → is_within r n ≡ true
+within-from r n low high = and_from (nat_le r.0 n) (nat_lt n r.1) (le-leb r.0 n low) (lt-ltb n r.1 high)
+
+-- a number within a range is not below its start
+pub within-low : (r : ℕ × ℕ) (n : ℕ) → is_within r n ≡ true → r.0 ≤ n
+within-low r n is = leb-true r.0 n (and_parts (nat_le r.0 n) (nat_lt n r.1) is).0
+
+-- a number within a range is below its end
+pub within-high : (r : ℕ × ℕ) (n : ℕ) → is_within r n ≡ true → n < r.1
+within-high r n is = ltb-true n r.1 (and_parts (nat_le r.0 n) (nat_lt n r.1) is).1
+
+-- ---- the ranges that meet some numbers
+-- of these numbers, the set has those that the ranges have
+pub has-meeting : (s e n : ℕ) (xs : List (ℕ × ℕ)) → is_within (s, e) n ≡ true → has_number (ranges_meeting s e xs) n ≡ has_number xs n
+has-meeting s e n [] inside = refl
+has-meeting s e n (x ∷ xs) inside = by (meets s e x) refl (has-meeting s e n xs inside) where
+  low : s ≤ n
+  low = within-low (s, e) n inside
+
+  high : n < e
+  high = within-high (s, e) n inside
+
+  outside : meets s e x ≡ false → (is_within x n ≡ true) ⊎ (is_within x n ≡ false) → is_within x n ≡ false
+  outside is (inr out) = out
+  outside is (inl within) =
+      let yes = lt-ltb (max s x.0) (min e x.1) (omega (arith, low, high, within-low x n within, within-high x n within)) in
+      absurd (cc)
+
+  by : (b : Bool) → meets s e x ≡ b → has_number (ranges_meeting s e xs) n ≡ has_number xs n
+      → has_number (cond b (x ∷ ranges_meeting s e xs) (ranges_meeting s e xs)) n ≡ (is_within x n || has_number xs n)
+  by true is rest = ap (λ b. is_within x n || b) rest
+  by false is rest = rest ∙ ap (λ b. b || has_number xs n) (sym (outside is (cases_Bool (is_within x n))))
+
+-- if no range meets them, none of them is in the set
+pub none-meet : (s e : ℕ) (xs : List (ℕ × ℕ)) → ranges_meeting s e xs ≡ [] → OverlapsNone xs s e
+none-meet s e xs none n inside = sym (has-meeting s e n xs inside) ∙ ap (λ l. has_number l n) none
+
+-- if one does, one of them is
+pub some-meet : (s e : ℕ) (xs : List (ℕ × ℕ)) (x : ℕ × ℕ) (rest : List (ℕ × ℕ)) → ranges_meeting s e xs ≡ x ∷ rest → Overlaps xs s e
+some-meet s e [] x rest is = absurd (cc)
+some-meet s e (y ∷ ys) x rest is = by (meets s e y) refl is (λ later. some-meet s e ys x rest later) where
+  by : (b : Bool) → meets s e y ≡ b → cond b (y ∷ ranges_meeting s e ys) (ranges_meeting s e ys) ≡ x ∷ rest
+      → (ranges_meeting s e ys ≡ x ∷ rest → Overlaps ys s e) → Overlaps (y ∷ ys) s e
+  by true sure _ _ =
+      let lt = ltb-true (max s y.0) (min e y.1) sure in
+      record {
+        number = max s y.0;
+        inside = within-from (s, e) (max s y.0) (omega arith) (omega (arith, lt));
+        has = or_left (is_within y (max s y.0)) (has_number ys (max s y.0)) (within-from y (max s y.0) (omega arith) (omega (arith, lt)));
+      }
+  by false _ later some =
+      let found = some later in
+      record { number = found.number; inside = found.inside; has = or_right (is_within y found.number) (has_number ys found.number) found.has }
+
+pub ruleset range_laws = (has-meeting, none-meet, some-meet)
+
+-- ---- equal sets
+range-equal : (p q : ℕ × ℕ) → Decides (pair_eq nat_eq nat_eq p q) (p ≡ q)
+range-equal p q = (
+  λ is. let parts = and_parts (nat_eq p.0 q.0) (nat_eq p.1 q.1) is in
+      let start = eqb-true p.0 q.0 parts.0 in
+      let end = eqb-true p.1 q.1 parts.1 in
+      λ i. (start i, end i),
+  λ same. and_from (nat_eq p.0 q.0) (nat_eq p.1 q.1) (eq-eqb p.0 q.0 (ap (λ (z : ℕ × ℕ). z.0) same)) (eq-eqb p.1 q.1 (ap (λ (z : ℕ × ℕ). z.1) same)),
+)
+
+-- sets are `==` exactly if their ranges are equal
+pub ranges-equal : (xs ys : List (ℕ × ℕ)) → Decides (ranges_eq xs ys) (xs ≡ ys)
+ranges-equal = pointwise_decides range-equal

@@ -1,0 +1,105 @@
+//! Ranges by value, and sets as text.
+use crate::asserts::{assert_same, assert_true};
+use btree_node::{Node, NodesMut};
+use btree_range_set::RangeSet;
+use btree_store::SlabStore;
+use std::alloc::{AllocError, Global};
+use std::fmt::Debug;
+use std::process::Abort;
+use std::test::Fail;
+
+// Returns a set of 45 ranges, the i-th of which has 3i and 3i + 1.
+fn twos<C: NodesMut<u64, u64> + Drop>(rt: &impl Abort, origin: C::Origin) -> RangeSet<C> {
+    let mut set: RangeSet<C> = RangeSet::new(origin);
+    for i in 0..45 {
+        assert_true(rt, set.insert(3 * i, 3 * i + 2).is_ok());
+    }
+    set
+}
+
+// Takes all ranges, in turn from the front and from the back, and then the one in the middle.
+fn take_from_both_ends<C: NodesMut<u64, u64> + Drop>(rt: &impl Abort, origin: C::Origin) {
+    let mut ranges = twos::<C>(rt, origin).into_iter();
+    for i in 0..22 {
+        let back = 132 - 3 * i;
+        assert_same(rt, ranges.next(), Some((3 * i, 3 * i + 2)));
+        assert_same(rt, ranges.next_back(), Some((back, back + 2)));
+    }
+    assert_same(rt, (ranges.len(), ranges.size_hint()), (1, (1, Some(1))));
+    assert_same(rt, ranges.next_back(), Some((66, 68)));
+    assert_same(rt, (ranges.next(), ranges.next_back()), (None, None));
+    assert_same(rt, (ranges.len(), ranges.size_hint()), (0, (0, Some(0))));
+}
+
+// Takes some ranges of one end, and drops the rest.
+fn take_some<C: NodesMut<u64, u64> + Drop>(rt: &impl Abort, origin: C::Origin, is_back: bool) {
+    let mut ranges = twos::<C>(rt, origin).into_iter();
+    for i in 0..20 {
+        if is_back {
+            let back = 132 - 3 * i;
+            assert_same(rt, ranges.next_back(), Some((back, back + 2)));
+        } else {
+            assert_same(rt, ranges.next(), Some((3 * i, 3 * i + 2)));
+        }
+    }
+    assert_same(rt, ranges.len(), 25);
+}
+
+// Takes the ranges in a loop, and those of a set that has none.
+fn take_in_a_loop<C: NodesMut<u64, u64> + Drop>(
+    rt: &impl Abort,
+    set: RangeSet<C>,
+    none: RangeSet<C>,
+) {
+    let mut next = 0u64;
+    for range in set {
+        assert_same(rt, range, (next, next.wrapping_add(2)));
+        next = next.wrapping_add(3);
+    }
+    assert_same(rt, next, 135);
+    let mut ranges = none.into_iter();
+    assert_same(rt, ranges.len(), 0);
+    assert_same(rt, (ranges.next_back(), ranges.next()), (None, None));
+}
+
+#[test]
+fn takes_ranges(rt: HostRuntime) {
+    take_from_both_ends::<SlabStore<Node<u64, u64>>>(&rt, rt.alloc());
+    take_some::<SlabStore<Node<u64, u64>>>(&rt, rt.alloc(), false);
+    take_some::<SlabStore<Node<u64, u64>>>(&rt, rt.alloc(), true);
+    take_in_a_loop::<SlabStore<Node<u64, u64>>>(
+        &rt,
+        twos(&rt, rt.alloc()),
+        RangeSet::new(rt.alloc()),
+    );
+}
+
+// Returns what a value is in a text, in one line and in several.
+fn texts<T: Debug>(alloc: Global, value: &T) -> Result<(String, String), AllocError> {
+    let mut text = String::new(alloc);
+    let mut lines = String::new(alloc);
+    write!(text, "{value:?}")?;
+    write!(lines, "{value:#?}")?;
+    Ok((text, lines))
+}
+
+// Shows a set without ranges, and one of two.
+fn show<C: NodesMut<u64, u64> + Drop>(
+    rt: &impl Abort,
+    alloc: Global,
+    mut set: RangeSet<C>,
+) -> Result<(), Fail> {
+    let (text, lines) = texts(alloc, &set)?;
+    assert_same(rt, (text.as_str(), lines.as_str()), ("{}", "{}"));
+    assert_true(rt, set.insert(5, 9).is_ok());
+    assert_true(rt, set.insert(1, 3).is_ok());
+    let (text, lines) = texts(alloc, &set)?;
+    assert_same(rt, text.as_str(), "{1..3, 5..9}");
+    assert_same(rt, lines.as_str(), "{\n    1..3,\n    5..9,\n}");
+    Ok(())
+}
+
+#[test]
+fn shows_ranges(rt: HostRuntime) -> Result<(), Fail> {
+    show::<SlabStore<Node<u64, u64>>>(&rt, rt.alloc(), RangeSet::new(rt.alloc()))
+}
