@@ -1,8 +1,9 @@
--- An address as contracts see it: a node's number with an offset, printed as `@id:offset`.
+-- An address as contracts see it, and how it is printed: `@id:offset`.
 use Rattle.std.specs.Prelude.{ℕ, Option, List, ◌++◌, codes}
 use Rattle.std.specs.Fmt.{decimal}
 use Rattle.btree_item.specs.Offset.{offset_text}
 
+-- a node's number and an offset in that node; `None` is the place before its first item
 pub record Address : Type 0 where
   pub id : ℕ
   pub offset : Option ℕ

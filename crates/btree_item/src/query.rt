@@ -6,7 +6,7 @@ use std::alloc::Allocator;
 use std::cmp::Ordering;
 
 /// What a key may be sought by: another key, or a value of another type that divides the keys in their order, so that no key has to be
-/// made for a look-up. A search tests a query as often as it compares a key.
+/// made for a look-up. A search asks a query as often as it compares a key.
 pub trait Query<K: Ord> {
     ghost use Rattle.std.specs.Prelude.{◌≡◌};
     ghost use Rattle.std.specs.Ordering.{is_eq, is_lt};
@@ -111,8 +111,8 @@ impl<'a, K: Ord, Q: Query<K>> Query<K> for Before<'a, Q> {
     }
 }
 
-/// The place after a key, or after another query: the keys that are not above it come before that place, and no key is there. A test of it
-/// makes at most two tests of that key or query.
+/// The place after a key, or after another query: the keys that are not above it come before that place, and no key is there. Each
+/// question to it asks that key or query at most twice.
 #[derive(Clone, Copy)]
 pub struct After<'a, Q>(pub &'a Q);
 
