@@ -34,7 +34,7 @@ const LINES: [&str; 37] = [
     "a, b: fill COUNT STEP; insert_each insert_gaps update_each put_back_each PAIRS; remove_each START STEP PAIRS: whether all was right",
     "a, b: neighbours; meets N: whether an iterator gives those of fill, N from the front; cut PLACE N: a cursor those of the other map",
     "a, b: moves COUNT STEP STEP: the keys below COUNT inserted and removed, whether no more nodes moved than there were calls",
-    "a, b: extend from_iter PAIRS; append clone extend_copied equals compare same_hash plain_hash same_nodes: with the other map; limited N: an empty map with a limit",
+    "a, b: extend from_iter PAIRS; append clone extend_copied equals compare same_hash plain_hash same_nodes: with the other map; split_off KEY: the pairs of the other map from there on; limited N: an empty map with a limit",
     "p, q: len limit is_empty nodes list debug clear first last pop_first pop_last; insert replace contains get remove take ELEMENT",
     "p, q: iter into_iter ENDS; into_loop; range LOW HIGH ENDS; remove_range LOW HIGH; drain finish TEST N; retain TEST",
     "p, q: contains_by get_by remove_by take_by QUERY; range_by QUERY QUERY ENDS",

@@ -13,6 +13,7 @@ pub mod IndexLemmas
 pub mod PlaceLemmas
 pub mod QueryLemmas
 pub mod OutsideLemmas
+pub mod SplitLemmas
 pub mod RangeStarts
 pub mod RangeSteps
 pub mod EditingLists

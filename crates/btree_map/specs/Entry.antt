@@ -15,6 +15,7 @@ use Rattle.btree_node.specs.declared.nodes.Nodes as nodes
 use Rattle.btree_node.specs.declared.nodes.NodesMut as nodes_mut
 use Rattle.btree_shape.specs.TreeState.{TreeState, item_of, pairs_of}
 use Rattle.btree_edit.specs.Insert.{IsRefusedAtGap}
+use Rattle.btree_edit.specs.InsertAbsent.{InsertsAbsent}
 use Rattle.btree_edit.specs.ValueWritten.{value_written}
 use Rattle.btree_edit.specs.WrittenLaws.{written-item}
 use Rattle.btree_map.specs.Written.{IsInsertedWith, WritesValueAt, list_written}
@@ -87,6 +88,11 @@ module _ {K V C O : Type 0} {g : ord.Ghosts K} {g' : eq.Ghosts K} {g'' : partial
   pub record WritesEntry (e : Entry K V C O g g' g'' s s') (new : TreeState K V) (w : V) : Type 0 where
     pub pairs : pairs_of new ≡ list_with_value e w
     pub sets : SetsValue e new w
+
+  -- a value was entered: the pair was inserted and is at an address, or the value that was there was replaced
+  abbrev pub EntersValue : Entry K V C O g g' g'' s s' → TreeState K V → V → Address → Type 0
+  EntersValue (Vacant e) new value at = InsertsAbsent g.cmp e.key e.map.now new value at
+  EntersValue (Occupied o) new value at = (at ≡ o.at) × ((was : V) × WritesValueAt g.cmp o.map.now new at was value)
 
   -- an insertion of the key was refused; for a key that is there nothing is refused
   abbrev pub IsRefusedEntry : Entry K V C O g g' g'' s s' → TreeState K V → Cause → Type 0

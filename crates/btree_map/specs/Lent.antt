@@ -70,6 +70,11 @@ module _ (K V C O : RattleType) {g : ord.Ghosts K.Denot} {g' : eq.Ghosts K.Denot
       (λ new w. IsInsertedWith g.cmp e.key e.map.now new value w)
       (λ new. IfErr r (λ x. IsRefusedAtGap g.cmp e.key e.map.now new s.MayRefuse x.cause))
 
+  -- the entry of a key that has a value has the map itself; a refused insertion has changed nothing but the count of refusals
+  abbrev pub entry_rests : Entry K.Denot V.Denot C.Denot O.Denot g g' g'' s s' → Result (OccupiedEntry K.Denot V.Denot C.Denot O.Denot g g' g'' s s') (Refused K.Denot V.Denot) → Fml
+  entry_rests e r =
+      RestsIfErr (the_row K V C O g g' g'' s s') (entry_map e) (λ o. o.map.ghost_name) r (λ new. IfErr r (λ x. IsRefusedEntry e new x.cause))
+
   -- the entry of a pair that was inserted has the map itself; a refused insertion has changed nothing but the count of refusals
   abbrev pub rests_if_refused : VacantEntry K.Denot V.Denot C.Denot O.Denot g g' g'' s s' → Result (OccupiedEntry K.Denot V.Denot C.Denot O.Denot g g' g'' s s') (Refused K.Denot V.Denot) → Fml
   rests_if_refused e r =

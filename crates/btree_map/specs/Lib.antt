@@ -9,6 +9,7 @@ pub mod CallerLaws
 pub mod Extension
 pub mod Written
 pub mod Spans
+pub mod Splitting
 pub mod SpanLaws
 pub mod WrittenAddresses
 pub mod Cursor

@@ -18,6 +18,7 @@ mod queries;
 mod range_removal;
 mod removal;
 mod shown;
+mod splitting;
 mod traits;
 
 pub use cursor::{EntriesMut, IterMut, RangeMut, ValuesMut};

@@ -163,15 +163,7 @@ fn insert_entry<C: NodesMut<u64, u64>>(
     (key, value): (u64, u64),
     reply: &mut Reply,
 ) -> Result<(), AllocError> {
-    let entry = match map.entry(key) {
-        Entry::Vacant(entry) => entry.insert_entry(value),
-        Entry::Occupied(entry) => {
-            let mut entry = entry;
-            drop(entry.insert(value));
-            Ok(entry)
-        }
-    };
-    match entry {
+    match map.entry(key).insert_entry(value) {
         Ok(entry) => reply.pair(*entry.key(), *entry.get()),
         Err(refused) => reply.refused_pair(refused.cause, refused.key, refused.value),
     }

@@ -94,6 +94,26 @@ fn append<C: NodesMut<u64, u64>>(
     put_rest(other, reply)
 }
 
+// Makes a map the pairs of the other one from a key on.
+fn split_off<C: NodesMut<u64, u64> + Drop>(
+    map: &mut Map<C>,
+    origin: C::Origin,
+    other: &mut Map<C>,
+    key: u64,
+    reply: &mut Reply,
+) -> Result<(), AllocError> {
+    match other.split_off(&key, C::empty(origin)) {
+        Ok(moved) => {
+            *map = moved;
+            reply.word("ok")
+        }
+        Err((moved, refused)) => {
+            *map = moved;
+            reply.refused_pair(refused.cause, refused.key, refused.value)
+        }
+    }
+}
+
 // Makes a map a clone of the other one.
 fn clone<C: CloneNodes<u64, u64> + Drop>(
     map: &mut Map<C>,
@@ -211,6 +231,12 @@ where
 {
     if rest == "" {
         return of_two::<C, D>(alloc, origins.1, map, other, verb, reply);
+    }
+    if verb == "split_off"
+        && let Some(key) = number(rest)
+    {
+        split_off(map, origins.0, other, key, reply)?;
+        return Ok(true);
     }
     if verb == "limited" {
         return limited(map, origins.0, rest, reply);

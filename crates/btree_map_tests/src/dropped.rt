@@ -141,26 +141,32 @@ fn drains_drop_what_they_take(rt: HostRuntime) {
     }
 }
 
-// Removes a range of ten keys, and one more, and drops what is left.
-fn remove_ranges<'a, C: NodesMut<u64, Counted<'a>> + Drop>(
+// Sets a value by the entry of a key that is there, removes a range of ten keys, and drops what is left.
+fn set_and_remove<'a, C: NodesMut<u64, Counted<'a>> + Drop>(
     rt: &impl Abort,
     map: BTreeMap<u64, Counted<'a>, C>,
     drops: &'a Cell<u64>,
 ) {
     let mut map = map;
+    let value = Counted { key: 5, drops };
+    match map.entry(5).insert_entry(value) {
+        Ok(entry) => assert_same(rt, (*entry.key(), entry.get().key), (5, 5)),
+        Err(_) => panic!(rt; "refused"),
+    }
+    assert_same(rt, drops.get(), 1);
     map.remove_range(40..50);
-    assert_same(rt, (drops.get(), map.len()), (10, 90));
+    assert_same(rt, (drops.get(), map.len()), (11, 90));
     map.remove_range(40..=50);
-    assert_same(rt, (drops.get(), map.len()), (11, 89));
+    assert_same(rt, (drops.get(), map.len()), (12, 89));
     drop(map);
-    assert_same(rt, drops.get(), 100);
+    assert_same(rt, drops.get(), 101);
 }
 
 #[test]
-fn ranges_drop_what_they_remove(rt: HostRuntime) {
+fn entries_and_ranges_drop_what_they_replace(rt: HostRuntime) {
     let drops = Cell::new(0u64);
     let Some(map) = hundred(rt.alloc(), &drops) else {
         panic!(rt; "no memory")
     };
-    remove_ranges(&rt, map, &drops);
+    set_and_remove(&rt, map, &drops);
 }

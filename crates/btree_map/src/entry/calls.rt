@@ -3,10 +3,10 @@ ghost use Rattle.std.specs.Prelude.{◌≡◌, None, Some, IfErr, IfOk};
 ghost use Rattle.std.specs.Borrow.{Bor, LendsSoOk, sem};
 ghost use Rattle.std.specs.Fn.{FnOnceReturnsAt};
 ghost use Rattle.std.specs.Option.{UnwrapsOrElse};
-ghost use Rattle.btree_map.specs.Entry.{HoldsOfAsked, IsRefusedEntry, ReturnsAsked, WritesEntry, asked_key, entry_address, entry_key, entry_map, entry_value};
-ghost use Rattle.btree_map.specs.Lent.{entry_lends};
+ghost use Rattle.btree_map.specs.Entry.{EntersValue, HoldsOfAsked, IsRefusedEntry, ReturnsAsked, WritesEntry, asked_key, entry_address, entry_key, entry_map, entry_value};
+ghost use Rattle.btree_map.specs.Lent.{entry_lends, entry_rests};
 
-use super::Entry;
+use super::{Entry, OccupiedEntry};
 use btree_item::{Address, Refused};
 use btree_node::NodesMut;
 use std::default::Default;
@@ -85,6 +85,25 @@ impl<'a, K: Ord + Drop, V: Drop, C: NodesMut<K, V>> Entry<'a, K, V, C> {
                 entry.insert(value)
             }
             Entry::Occupied(entry) => Ok(entry.into_mut()),
+        }
+    }
+
+    /// Inserts the key with a value, or replaces the value that is there, which is dropped, and returns the entry of the pair.
+    ///
+    /// It compares no keys. A refused insertion returns key and value.
+    pub fn insert_entry(self, value: V) -> Result<OccupiedEntry<'a, K, V, C>, Refused<K, V>>
+        ensures* rests { sem 𝓛 (entry_rests K.row V.row C.row C.Origin.row self.entry result) }
+        ensures same_map { IfOk result (λ e. e.map.ghost_name ≡ (entry_map self.entry).ghost_name) }
+        ensures entered { IfOk result (λ e. EntersValue self.entry e.map.now value e.at) }
+        ensures returned { IfErr result (ReturnsAsked (asked_key self.entry) (λ w. w ≡ value)) }
+    {
+        match self {
+            Entry::Vacant(vacant) => vacant.insert_entry(value),
+            Entry::Occupied(occupied) => {
+                let mut occupied = occupied;
+                drop(occupied.insert(value));
+                Ok(occupied)
+            }
         }
     }
 
