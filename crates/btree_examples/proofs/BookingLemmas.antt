@@ -7,7 +7,7 @@ use Rattle.std.proofs.lemmas.List.Sums.{sum_by-append, sum_by-cons}
 use Rattle.std.specs.List.{AllByRecursion, count_by}
 use Rattle.std.specs.Ordering.{nat_cmp}
 use Rattle.std.specs.declared.cmp.Ordering.TheVariants.{Equal, Less}
-use Rattle.btree_slab.specs.declared.Address.{Address}
+use Rattle.btree_slab.specs.Address.{Address}
 use Rattle.btree_slab.specs.TreeState.{TreeState, pairs_of}
 use Rattle.btree_slab.specs.Answers.{IsFoundAt, IsGapAt}
 use Rattle.btree_slab.specs.FindLaws.{found-equal, pair-there}

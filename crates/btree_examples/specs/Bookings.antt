@@ -1,7 +1,7 @@
 -- Bookings by the time at which they begin, each with the time at which it ends.
 use Rattle.std.specs.Prelude.{◌≡◌, ◌<◌, ◌≤◌, ℕ, Bool, ◌&&◌, nat_lt, List, [], ◌∷◌, take, Option}
 use Rattle.std.specs.List.{AllByRecursion, count_by}
-use Rattle.btree_slab.specs.declared.Address.{Address}
+use Rattle.btree_slab.specs.Address.{Address}
 use Rattle.btree_slab.specs.TreeState.{TreeState, pairs_of}
 use Rattle.btree_slab.specs.Navigation.{IsItemAt}
 

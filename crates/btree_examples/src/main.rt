@@ -17,6 +17,7 @@ mod copies;
 mod lines;
 mod listing;
 mod minutes;
+mod readers;
 mod reserved;
 mod shelves;
 mod sold_out;

@@ -41,7 +41,32 @@ fn ask<'a, C: NodesMut<Counted<'a>, u32>>(
     );
 }
 
-// Finds the address of a key, and removes the key if it is there, each with no more comparisons than a look-up makes. Puts the key back.
+// Removes a key, by itself or as a query, with at most `most` comparisons, and puts it back if it was there.
+fn remove_and_put_back<'a, C: NodesMut<Counted<'a>, u32>>(
+    rt: &impl Abort,
+    map: &mut BTreeMap<Counted<'a>, u32, C>,
+    key: Counted<'a>,
+    is_query: bool,
+    most: u32,
+) {
+    let (number, compared) = (key.number, key.compared);
+    compared.set(0);
+    let removed = if is_query {
+        map.remove_by(&key)
+    } else {
+        map.remove(&key)
+    };
+    assert_true_in(
+        rt,
+        number,
+        removed.is_some() == (number % 2 == 1) && compared.get() <= most,
+    );
+    if let Some(value) = removed {
+        assert_same_in(rt, number, map.insert(key, value).ok(), Some(None));
+    }
+}
+
+// Finds the address of a key, and removes the key if it is there, each with no more comparisons than a look-up makes.
 fn remove_once<'a, C: NodesMut<Counted<'a>, u32>>(
     rt: &impl Abort,
     map: &mut BTreeMap<Counted<'a>, u32, C>,
@@ -54,15 +79,8 @@ fn remove_once<'a, C: NodesMut<Counted<'a>, u32>>(
     compared.set(0);
     let is_found = map.address_by(&key).is_ok();
     assert_true_in(rt, number, is_found == is_there && compared.get() <= most);
-    compared.set(0);
-    let removed = map.remove(&key);
-    assert_true_in(
-        rt,
-        number,
-        removed.is_some() == is_there && compared.get() <= most,
-    );
-    if let Some(value) = removed {
-        assert_same_in(rt, number, map.insert(key, value).ok(), Some(None));
+    for is_query in [false, true] {
+        remove_and_put_back(rt, map, Counted { number, compared }, is_query, most);
     }
 }
 

@@ -140,3 +140,23 @@ fn a_consuming_step_inside_a_leaf_reads_no_node(rt: HostRuntime) {
     consume::<Store<'_, u64>>(&rt, (rt.alloc(), &asked), false, &asked);
     consume::<Store<'_, u64>>(&rt, (rt.alloc(), &asked), true, &asked);
 }
+
+// A cursor that began before the first pair knows how many are left, also after an insertion: it reads no node for it.
+fn count_left<C: NodesMut<u64, u64> + Drop>(rt: &impl Abort, origin: C::Origin, asked: &Asked) {
+    let mut map = first_keys::<C>(rt, origin, 44);
+    assert_same_in(rt, 0u64, map.remove(&0).is_some(), true);
+    let mut pairs = map.entries_mut();
+    if !pairs.fits(&0) {
+        panic!(rt; "it does not fit")
+    }
+    assert_same_in(rt, 0u64, pairs.insert(0, 0).is_ok(), true);
+    asked.restart();
+    assert_same_in(rt, 0u64, pairs.size_hint(), (43, Some(43)));
+    check(rt, 0u64, asked, (0, 0));
+}
+
+#[test]
+fn a_cursor_that_inserted_counts_what_is_left(rt: HostRuntime) {
+    let asked = Asked::new();
+    count_left::<Store<'_, u64>>(&rt, (rt.alloc(), &asked), &asked);
+}
