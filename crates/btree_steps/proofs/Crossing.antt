@@ -7,6 +7,3 @@ Steps-send = owning_send Steps.the_type (search sendable, tt) (λ d. tt) (λ k x
 
 pub Steps-sync : IsSync Steps.the_row
 Steps-sync = record { shared = λ d b o κ q. part_keyless Steps.the_row Steps-send q d b o }
-
-pub Steps-field-sync : IsSync (Steps.the_field).row
-Steps-field-sync = Steps-sync

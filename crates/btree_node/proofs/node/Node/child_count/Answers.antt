@@ -1,7 +1,7 @@
 use Rattle.btree_node.proofs.NodeSizes.{fits-internal}
 use Rattle.btree_node.proofs.node.Node.child_count.Goals as goal
 use Rattle.std.proofs.lemmas.Grind.{common_steps}
-use Rattle.std.proofs.Common.{arith, rules}
+use Rattle.std.proofs.Common.{arith, refl, rules}
 
 pub child_count-requires : goal.child_count-requires
 child_count-requires g c = search fits-internal
@@ -13,7 +13,7 @@ pub returns-in-Internal-clause-fits : goal.returns-in-Internal-clause-fits
 returns-in-Internal-clause-fits g c = grind (arith, common_steps) steps 300000
 
 pub returns-in-Leaf-clause-value : goal.returns-in-Leaf-clause-value
-returns-in-Leaf-clause-value g c = grind (arith, common_steps) steps 300000
+returns-in-Leaf-clause-value g c = rw (c.in-Leaf.is) refl
 
 pub returns-in-Leaf-clause-fits : goal.returns-in-Leaf-clause-fits
 returns-in-Leaf-clause-fits g c = search rules steps 200000
