@@ -20,3 +20,16 @@ pub fn both_counts<R: Threads, C: NodesMut<u32, u64> + Sync>(
 {
     join(rt, || stock.get(&first).copied(), || stock.get(&second).copied())
 }
+
+/// The same of a map over the heap: the store may be shared, as docs/CALLING.md says.
+pub fn both_in_stock<R: Threads>(
+    rt: &R,
+    stock: &BTreeMap<u32, u64>,
+    first: u32,
+    second: u32,
+) -> (Option<u64>, Option<u64>)
+    ensures first { result.0 ≡ found_value nat_cmp first (pairs_of stock.now) }
+    ensures second { result.1 ≡ found_value nat_cmp second (pairs_of stock.now) }
+{
+    both_counts(rt, stock, first, second)
+}

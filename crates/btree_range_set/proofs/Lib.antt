@@ -12,3 +12,4 @@ pub mod RunLemmas
 pub mod SeriesLemmas
 pub mod StepLemmas
 pub mod TwoSetLemmas
+pub mod Crossing

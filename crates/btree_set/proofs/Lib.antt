@@ -6,3 +6,4 @@ pub mod PeekLemmas
 pub mod TurnLemmas
 pub mod HintLemmas
 pub mod DrainLemmas
+pub mod Crossing
