@@ -2,9 +2,12 @@
 -- refused, and the greatest number of ranges.
 use Rattle.std.specs.Prelude.{◌≡◌, ℕ, ◌<◌, ◌≤◌, List, length, refl}
 use Rattle.std.specs.Coded.{Coded, code_by, coded_ℕ, coded_list, coded×}
+use Rattle.std.specs.Ordering.{nat_cmp}
 use Rattle.btree_item.specs.declared.refused.Cause.{Cause}
 use Rattle.btree_item.specs.declared.refused.Cause.TheVariants.{Store, Count}
-use Rattle.btree_shape.specs.TreeState.{Kept, TreeState, coded_kept, pairs_of, refused_once}
+use Rattle.btree_store.specs.Content.{Content}
+use Rattle.btree_node.specs.declared.node.Node.{Node}
+use Rattle.btree_shape.specs.TreeState.{IsBTree, Kept, TreeState, coded_kept, pairs_of, refused_once}
 
 pub record RangeState : Type 0 where
   pub ranges : List (ℕ × ℕ)
@@ -22,6 +25,10 @@ range_code =
 -- that of a map from the start of each range to its end
 abbrev pub ranges_of : TreeState ℕ ℕ → RangeState
 ranges_of map = record { ranges = pairs_of map; kept = map.kept }
+
+-- the nodes are those of a map from the start of each range to its end
+abbrev pub HoldsRanges : Content (Node ℕ ℕ) → RangeState → Type 0
+HoldsRanges nodes s = (map : TreeState ℕ ℕ) × IsBTree nat_cmp map × (ranges_of map ≡ s) × (nodes ≡ map.nodes)
 
 module _ (old new : RangeState) where
   -- with the cause `Store` one more refusal is counted, and there are fewer ranges than there may be; with the cause

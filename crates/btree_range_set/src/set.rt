@@ -3,9 +3,10 @@ ghost use Rattle.std.specs.Prelude.{◌≡◌, ◌↔◌, [], IfErr, IsTrue, OnE
 ghost use Rattle.std.specs.FinMap as map;
 ghost use Rattle.btree_shape.specs.TreeState.{limited_to, unlimited};
 ghost use Rattle.btree_range_set.specs.Ranges.{CutsOne, IsDifference, IsUnion, JoinsNone, has_number};
-ghost use Rattle.btree_range_set.specs.State.{GrowsWithinLimit, IsRefused};
+ghost use Rattle.btree_range_set.specs.State.{GrowsWithinLimit, HoldsRanges, IsRefused};
 
 use crate::edits::{add, range_around, subtract};
+use btree_ext::BTreeExt;
 use btree_item::Refused;
 use btree_map::BTreeMap;
 use btree_node::{ClearNodes, NodesMut};
@@ -78,6 +79,15 @@ impl<C: NodesMut<u64, u64>> RangeSet<C> {
         ensures { IsTrue result ↔ (self.now.ranges ≡ []) }
     {
         self.map.is_empty()
+    }
+
+    /// Returns the store of the nodes, for reading.
+    pub fn store(&self) -> &C
+        ensures content { HoldsRanges (C.content result.now) self.now }
+        ensures refusals { C.refusals result.now ≡ self.now.kept.refusals }
+    {
+        self.map.tell_well_formed();
+        self.map.store()
     }
 
     /// Returns whether a number is in the set. It makes at most six comparisons at each level.
