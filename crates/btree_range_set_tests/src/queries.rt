@@ -47,6 +47,8 @@ fn ask_three<C: ClearNodes<u64, u64> + Drop>(rt: &impl Abort, origin: C::Origin)
     }
     assert_same(rt, set.first(), Some((1, 4)));
     assert_same(rt, set.last(), Some((u64::MAX - 2, u64::MAX)));
+    // Three ranges are in one node.
+    assert_same(rt, set.store().len(), 1);
 }
 
 fn overlap_three<C: ClearNodes<u64, u64> + Drop>(rt: &impl Abort, origin: C::Origin) {
@@ -62,6 +64,7 @@ fn check_none<C: NodesMut<u64, u64>>(rt: &impl Abort, set: &RangeSet<C>) {
     assert_same(rt, (set.get(0), set.get(10)), (None, None));
     assert_same(rt, (set.first(), set.last()), (None, None));
     assert_same(rt, set.overlaps(0, u64::MAX), false);
+    assert_same(rt, set.store().len(), 0);
 }
 
 // A set without numbers, before it had any and after.
