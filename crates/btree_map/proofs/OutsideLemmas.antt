@@ -1,5 +1,5 @@
 -- A rising list without the pairs between two bounds.
-use Rattle.std.proofs.Common.{◌≡◌, ◌∙◌, Bool, true, false, not, ◌&&◌, List, [], ◌∷◌, ◌++◌, slice_get, Option, Some, None, IfSome, IfNone, refl, sym, ap, subst, append_assoc}
+use Rattle.std.proofs.Common.{◌≡◌, ◌∙◌, ⊥, suc, ◌+◌, Bool, true, false, not, ◌&&◌, List, [], ◌∷◌, ◌++◌, length, length-append, arith, slice_get, Option, Some, None, IfSome, IfNone, refl, sym, ap, subst, append_assoc}
 use Rattle.std.proofs.lemmas.Option.{same_Some}
 use Rattle.std.proofs.lemmas.List.Elements.{filter-append}
 use Rattle.std.specs.BTreeMap.Range.{entries_between, is_from_start, is_past_end, range_contains}
@@ -22,6 +22,18 @@ module _ {A : Type 0} where
   pub append-one : (P : A → Type 0) (xs : List A) (x : A) → AllByRecursion P xs → P x → AllByRecursion P (xs ++ x ∷ [])
   append-one P [] x all is = (is, tt)
   append-one P (y ∷ xs) x all is = (all.0, append-one P xs x all.1 is)
+
+  pub not-empty : (xs : List A) (x : A) → xs ++ x ∷ [] ≡ [] → ⊥
+  not-empty [] x e = cc
+  not-empty (y ∷ xs) x e = cc
+
+  -- what is between the same front and the same rest is nothing
+  pub none-between : (front gone rest : List A) → front ++ rest ≡ front ++ (gone ++ rest) → gone ≡ []
+  none-between front [] rest e = refl
+  none-between front (x ∷ gone) rest e =
+      let long : length front + length rest ≡ length front + suc (length (gone ++ rest)) = sym (length-append front rest) ∙ ap length e ∙ length-append front (x ∷ gone ++ rest) in
+      let more = length-append gone rest in
+      absurd (omega arith)
 
 and-false : (a : Bool) → not (a && false) ≡ true
 and-false true = refl

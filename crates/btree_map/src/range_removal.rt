@@ -51,6 +51,7 @@ fn remove_between<K: Ord + Drop, V: Drop, C: NodesMut<K, V>>(
 )
     ensures pairs { pairs_of map.new ≡
         pairs_outside K.cmp (bound_key start.entry) (bound_key end.entry) (pairs_of map.old) }
+    ensures unchanged { pairs_of map.new ≡ pairs_of map.old → map.new ≡ map.old }
     ensures uncounted { map.new.kept ≡ map.old.kept }
 {
     map.tell_well_formed();
@@ -67,6 +68,7 @@ impl<K: Ord + Drop, V: Drop, C: NodesMut<K, V>> BTreeMap<K, V, C> {
         requires { R.has_bounds range }
         ensures pairs { pairs_of self.new ≡
             pairs_outside K.cmp (R.start_bound range) (R.end_bound range) (pairs_of self.old) }
+        ensures unchanged { pairs_of self.new ≡ pairs_of self.old → self.new ≡ self.old }
         ensures uncounted { self.new.kept ≡ self.old.kept }
     {
         remove_between(self, range.start_bound(), range.end_bound());

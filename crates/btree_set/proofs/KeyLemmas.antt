@@ -241,3 +241,13 @@ module _ {T : Type 0} (old other : TreeState T (Unit {0})) where
 
   pub moves-each-keys : sets.MovesEach (set_of old) (set_of other) ↔ many.MovesEach old other
   moves-each-keys = (λ each room. each (room-keys.1 room), λ each room. each (room-keys.0 room))
+
+-- keys without values tell the whole list
+pub same-units : {T : Type 0} (xs ys : List (T × Unit {0})) → keys_of xs ≡ keys_of ys → xs ≡ ys
+same-units [] [] e = refl
+same-units [] (y ∷ ys) e = absurd (cc)
+same-units (x ∷ xs) [] e = absurd (cc)
+same-units (x ∷ xs) (y ∷ ys) e =
+    let key : x.0 ≡ y.0 = cc in
+    let rest = same-units xs ys (cc) in
+    λ i. (key i, tt) ∷ rest i

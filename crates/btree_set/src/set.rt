@@ -258,6 +258,7 @@ impl<T: Ord + Drop, C: NodesMut<T, ()>> BTreeSet<T, C> {
         requires { R.has_bounds range }
         ensures elements { self.new.elements ≡
             elements_outside T.cmp (R.start_bound range) (R.end_bound range) self.old.elements }
+        ensures unchanged { self.new.elements ≡ self.old.elements → self.new ≡ self.old }
         ensures uncounted { self.new.kept ≡ self.old.kept }
     {
         self.map.remove_range(range);

@@ -1,4 +1,4 @@
-use Rattle.std.proofs.Common.{◌≡◌, ◌++◌, List, false, length}
+use Rattle.std.proofs.Common.{◌≡◌, ◌++◌, List, [], false, length}
 use Rattle.std.specs.BTreeMap.Range.{is_past_end}
 use Rattle.std.specs.List.{AllByRecursion}
 use Rattle.btree_walk.specs.Bounds.{bound_key}
@@ -11,6 +11,7 @@ invariant-rest g l = record {
   passed : passed_of l.pairs ≡ passed_of l.initial.pairs;
   gone : List (g.row.K.Denot × g.row.V.Denot);
   left : left_of l.initial.pairs ≡ gone ++ left_of l.pairs;
+  none : gone ≡ [] → l.pairs ≡ l.initial.pairs;
   uncounted : l.pairs.map.now.kept ≡ l.initial.pairs.map.now.kept;
   until : AllByRecursion (λ x. is_past_end g.K.Ord.cmp (bound_key l.fn.end) x.0 ≡ false) gone;
 }
