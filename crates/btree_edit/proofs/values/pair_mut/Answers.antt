@@ -1,5 +1,6 @@
 use Rattle.std.proofs.Common.{refl, sym, ap, ◌∙◌, Some}
-use Rattle.btree_edit.proofs.ExchangeLemmas.{item-here_of, occupied-used, written, written-exchanged}
+use Rattle.std.specs.Option.{option_copied_mut}
+use Rattle.btree_edit.proofs.ExchangeLemmas.{item-here_of, occupied-some, occupied-used, written, written-exchanged}
 use Rattle.btree_item.specs.declared.address.Address.TheView.{view}
 use Rattle.btree_edit.proofs.values.pair_mut.Goals as goal
 
@@ -22,3 +23,7 @@ returns g c = rw (← c.addr.view_is) (
 
 pub item_mut-requires : goal.item_mut-requires
 item_mut-requires g c = c.tell_fits.ensures
+
+pub unreachable-requires : goal.unreachable-requires
+unreachable-requires g c =
+    occupied-some c.args.tree.now (view c.addr.inside) c.node_mut.result.now c.node_mut.ensures.value (rw (← c.addr.view_is) at c.requires.occupied) (sym (ap option_copied_mut c.in-None.is) ∙ c.item_mut.follows)
