@@ -5,6 +5,7 @@ pub mod Copies
 pub mod Counts
 pub mod Listing
 pub mod Minutes
+pub mod Orders
 pub mod Shelves
 pub mod Texts
 pub mod Stock

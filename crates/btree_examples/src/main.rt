@@ -1,9 +1,9 @@
 //! Maps in use: a stock of parts, by part number, a listing of them by pages (`listing.rt`), a removal of those that are sold out
-//! (`sold_out.rt`), a stock read from a file (`lines.rt`), bookings of a room (`bookings.rt`, `booked.rt`), a count of words (`words.rt`),
-//! one of strings by their texts (`texts.rt`), a log listed by minutes (`minutes.rt`), a count of visits in a fixed table (`visits.rt`), a
-//! cache of a bounded number of pairs (`cache.rt`), a map that two threads read (`readers.rt`), and a map read from a copy of its nodes
-//! (`copies.rt`). A set of pairs in use: the shelves on which parts lie (`shelves.rt`). A set of ranges in use: reserved blocks
-//! (`reserved.rt`).
+//! (`sold_out.rt`), a stock read from a file (`lines.rt`), bookings of a room (`bookings.rt`, `booked.rt`), orders by price (`orders.rt`), a
+//! count of words (`words.rt`), one of strings by their texts (`texts.rt`), a log listed by minutes (`minutes.rt`), a count of visits in a
+//! fixed table (`visits.rt`), a cache of a bounded number of pairs (`cache.rt`), a map that two threads read (`readers.rt`), and a map read
+//! from a copy of its nodes (`copies.rt`). A set of pairs in use: the shelves on which parts lie (`shelves.rt`). A set of ranges in use:
+//! reserved blocks (`reserved.rt`).
 #![tactic(auto)]
 
 ghost use Rattle.std.specs.Prelude.{◌≡◌, ◌+◌, OnOk, OnErr, unwrap_or};
@@ -18,6 +18,7 @@ mod copies;
 mod lines;
 mod listing;
 mod minutes;
+mod orders;
 mod readers;
 mod reserved;
 mod shelves;
@@ -33,6 +34,7 @@ use crate::copies::{is_readable, read_copy};
 use crate::lines::read_stock;
 use crate::listing::next_page;
 use crate::minutes::{Minute, logged};
+use crate::orders::{cancel, take_best};
 use crate::reserved::reserve;
 use crate::shelves::append_shelves;
 use crate::sold_out::remove_sold_out;
@@ -239,6 +241,24 @@ fn print_cache(rt: &impl Print) -> io::Result<()> {
     Ok(())
 }
 
+/// Prints what is taken of three orders, of which one is cancelled.
+fn print_orders(rt: &impl Print, alloc: Global) -> io::Result<()> {
+    let mut orders: BTreeMap<(u64, u64), u64> = BTreeMap::new(alloc);
+    for (price, number, amount) in [(100, 1, 5), (99, 2, 3), (100, 3, 4)] {
+        orders.insert((price, number), amount)?;
+    }
+    let cancelled = cancel(&mut orders, 100, 1);
+    rt.println(format_args!("cancelled: {}", cancelled.unwrap_or(0)))?;
+    for wanted in [4, 1] {
+        let taken = take_best(&mut orders, wanted);
+        rt.println(format_args!("taken: {taken}"))?;
+    }
+    for ((price, number), amount) in orders.iter() {
+        rt.println(format_args!("order {number} at {price}: {amount}"))?;
+    }
+    Ok(())
+}
+
 /// Prints what is read of two files, of which one has a line without a count.
 fn print_files(rt: &(impl Print + Files + AllocGlobal)) -> io::Result<()> {
     let mut stock: BTreeMap<u32, u64> = BTreeMap::new(rt.alloc());
@@ -264,6 +284,7 @@ fn main(rt: HostRuntime) -> io::Result<()> {
     print_shelves(&rt, rt.alloc())?;
     print_visits(&rt)?;
     print_cache(&rt)?;
+    print_orders(&rt, rt.alloc())?;
     print_files(&rt)?;
     print_copies(&rt, stock)
 }

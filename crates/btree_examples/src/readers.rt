@@ -4,14 +4,14 @@ ghost use Rattle.std.specs.Ordering.{nat_cmp};
 ghost use Rattle.btree_slab.specs.Pairs.{found_value};
 ghost use Rattle.btree_slab.specs.TreeState.{pairs_of};
 
-use btree_slab::generic::map::BTreeMap;
+use btree_slab::{BTreeMap, generic};
 use btree_slab::store::NodesMut;
 use std::thread::{Threads, join};
 
 /// Looks two parts up, each in a thread of its own. Neither waits for the other.
 pub fn both_counts<R: Threads, C: NodesMut<u32, u64> + Sync>(
     rt: &R,
-    stock: &BTreeMap<u32, u64, C>,
+    stock: &generic::BTreeMap<u32, u64, C>,
     first: u32,
     second: u32,
 ) -> (Option<u64>, Option<u64>)
