@@ -2,6 +2,7 @@
 //! or elements, or by copies of them, compares each with the last one alone. An entry and an editing cursor insert and remove without any.
 use crate::asserts::{assert_same, assert_same_in, assert_true, assert_true_in};
 use btree_ext::BTreeExt;
+use btree_item::{After, Before};
 use btree_map::{BTreeMap, EntriesMut, Entry};
 use btree_node::{Node, NodesMut};
 use btree_set::BTreeSet;
@@ -84,6 +85,24 @@ fn remove_once<'a, C: NodesMut<Counted<'a>, u32>>(
     }
 }
 
+// Seeks the places beside a key, where no key is: before it, with no more comparisons than the key itself, and after it, with twice as many.
+fn seek_beside<'a, C: NodesMut<Counted<'a>, u32>>(
+    rt: &impl Abort,
+    map: &BTreeMap<Counted<'a>, u32, C>,
+    key: Counted<'a>,
+    most: u32,
+) {
+    let (number, compared) = (key.number, key.compared);
+    let before = Before(&key);
+    compared.set(0);
+    let is_there = map.contains_key_by(&before);
+    assert_true_in(rt, number, !is_there && compared.get() <= most);
+    let after = After(&key);
+    compared.set(0);
+    let is_there = map.contains_key_by(&after);
+    assert_true_in(rt, number, !is_there && compared.get() <= 2 * most);
+}
+
 // The same over any store: the odd keys up to 87, on three levels.
 fn asks_in<'a, C: NodesMut<Counted<'a>, u32> + Drop>(
     rt: &impl Abort,
@@ -104,6 +123,7 @@ fn asks_in<'a, C: NodesMut<Counted<'a>, u32> + Drop>(
     for number in 0..89u32 {
         ask(rt, &mut map, Counted { number, compared }, 18);
         remove_once(rt, &mut map, Counted { number, compared });
+        seek_beside(rt, &map, Counted { number, compared }, 18);
     }
 }
 
