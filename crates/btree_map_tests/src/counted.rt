@@ -42,15 +42,21 @@ fn ask<'a, C: NodesMut<Counted<'a>, u32>>(
     );
 }
 
-// Removes a key, by itself or as a query, with at most `most` comparisons, and puts it back if it was there.
-fn remove_and_put_back<'a, C: NodesMut<Counted<'a>, u32>>(
+// Finds the address of a key, and removes the key if it is there, by itself or as a query, each with no more comparisons than a look-up
+// makes. Puts the key back.
+fn remove_once<'a, C: NodesMut<Counted<'a>, u32>>(
     rt: &impl Abort,
     map: &mut BTreeMap<Counted<'a>, u32, C>,
     key: Counted<'a>,
     is_query: bool,
-    most: u32,
 ) {
     let (number, compared) = (key.number, key.compared);
+    compared.set(0);
+    let is_there = map.contains_key(&key);
+    let most = compared.get();
+    compared.set(0);
+    let is_found = map.address_by(&key).is_ok();
+    assert_true_in(rt, number, is_found == is_there && compared.get() <= most);
     compared.set(0);
     let removed = if is_query {
         map.remove_by(&key)
@@ -60,28 +66,10 @@ fn remove_and_put_back<'a, C: NodesMut<Counted<'a>, u32>>(
     assert_true_in(
         rt,
         number,
-        removed.is_some() == (number % 2 == 1) && compared.get() <= most,
+        removed.is_some() == is_there && compared.get() <= most,
     );
     if let Some(value) = removed {
         assert_same_in(rt, number, map.insert(key, value).ok(), Some(None));
-    }
-}
-
-// Finds the address of a key, and removes the key if it is there, each with no more comparisons than a look-up makes.
-fn remove_once<'a, C: NodesMut<Counted<'a>, u32>>(
-    rt: &impl Abort,
-    map: &mut BTreeMap<Counted<'a>, u32, C>,
-    key: Counted<'a>,
-) {
-    let (number, compared) = (key.number, key.compared);
-    compared.set(0);
-    let is_there = map.contains_key(&key);
-    let most = compared.get();
-    compared.set(0);
-    let is_found = map.address_by(&key).is_ok();
-    assert_true_in(rt, number, is_found == is_there && compared.get() <= most);
-    for is_query in [false, true] {
-        remove_and_put_back(rt, map, Counted { number, compared }, is_query, most);
     }
 }
 
@@ -122,7 +110,8 @@ fn asks_in<'a, C: NodesMut<Counted<'a>, u32> + Drop>(
     assert_same_in(rt, 0u32, map.height(), 3);
     for number in 0..89u32 {
         ask(rt, &mut map, Counted { number, compared }, 18);
-        remove_once(rt, &mut map, Counted { number, compared });
+        remove_once(rt, &mut map, Counted { number, compared }, false);
+        remove_once(rt, &mut map, Counted { number, compared }, true);
         seek_beside(rt, &map, Counted { number, compared }, 18);
     }
 }
