@@ -4,3 +4,4 @@ mod PageLemmas
 mod ShelfLemmas
 mod StockLemmas
 mod TextLemmas
+mod OrderLemmas
