@@ -16,3 +16,5 @@ module _ {K V : Type 0} (cmp : K → K → Ordering) (s new : TreeState K V) (a 
       let pair : (e.key, was) ≡ x = same_Some _ _ (sym e.listed ∙ ap (slice_get (pairs_of s)) same ∙ listed) in
       let key : e.key ≡ x.0 = ap (λ (z : K × V). z.0) pair in
       e.exchanged.pairs ∙ ap (λ p. set (pairs_of s) p (e.key, is)) same ∙ ap (λ k. set (pairs_of s) place (k, is)) key
+
+pub ruleset edit_laws = (value-list)

@@ -68,3 +68,5 @@ module _ {K V : Type 0} (s : TreeState K V) where
       let there : IsItemAt s place (Some a) = subst (IsItemAt s place) is item in
       let itself : place ≡ n.place = n.has.only place there.here.has.at in
       subst (λ q. IsItemAt s (suc q) next) (sym itself) (n.after there.here.occupied)
+
+pub ruleset find_laws = (none-first, found-equal, not-vacant, pair-there, pair-read, next-place)

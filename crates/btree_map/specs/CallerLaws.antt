@@ -59,3 +59,5 @@ module _ {K Q V : Type 0} (cmp : K → Q → Ordering) (k : Q) where
       let there : List (K × V) = insert xs (before ord x xs) (x, w) in
       let put : inserted ord x w xs ≡ there = ap (λ o. if is_some o then with_value ord x w xs else there) absent in
       ap (found_value cmp k) put ∙ put-in (λ q. is_eq (cmp q k)) xs (before ord x xs) (x, w) (ap is_eq same) none
+
+pub ruleset map_laws = (last-pair, found-written, found-inserted)
