@@ -1,5 +1,5 @@
 -- A list in two parts at a start bound, of which the second one is moved from its end.
-use Rattle.std.proofs.Common.{◌≡◌, ◌∙◌, ◌+◌, ◌-◌, suc, Bool, true, false, not, ◌&&◌, List, [], ◌∷◌, ◌++◌, length, slice_get, Option, Some, None, MatchOption, IfSome, refl, sym, ap, arith, append_assoc}
+use Rattle.std.proofs.Common.{◌≡◌, ◌∙◌, ◌+◌, ◌-◌, suc, Bool, true, false, not, ◌&&◌, List, [], ◌∷◌, ◌++◌, length, length-append, slice_get, Option, Some, None, MatchOption, IfSome, refl, sym, ap, arith, append_assoc}
 use Rattle.std.proofs.lemmas.Option.{same_Some}
 use Rattle.std.specs.BTreeMap.Range.{entries_between, is_from_start, range_contains}
 use Rattle.std.specs.Cmp.{IsTotalOrder}
@@ -72,3 +72,10 @@ module _ {K V : Type 0} {cmp : K → K → Ordering} (laws : IsTotalOrder cmp) w
 -- one more pair was moved from the end
 pub one-more : {X : Type 0} (old was now moved : List X) (x : X) → old ≡ was ++ moved → was ≡ now ++ x ∷ [] → old ≡ now ++ x ∷ moved
 one-more old was now moved x split popped = split ∙ ap (λ l. l ++ moved) popped ∙ append_assoc now (x ∷ []) moved
+
+-- if the first part is the whole list, the second one is empty
+pub all-kept : {X : Type 0} (kept moved : List X) → kept ++ moved ≡ kept → moved ≡ []
+all-kept kept [] e = refl
+all-kept kept (x ∷ moved) e =
+    let long : length kept + suc (length moved) ≡ length kept = sym (length-append kept (x ∷ moved)) ∙ ap length e in
+    absurd (omega arith)

@@ -1,6 +1,7 @@
 -- A removal of the pair at a place of the list, of a key of which only the value is returned, and of a range.
-use Rattle.std.specs.Prelude.{◌≡◌, ℕ, List, not}
+use Rattle.std.specs.Prelude.{◌≡◌, ◌≤◌, ℕ, List, not}
 use Rattle.std.specs.BTreeMap.Range.{range_contains}
+use Rattle.std.specs.FinMap as map
 use Rattle.std.specs.List.{filter, remove}
 use Rattle.std.specs.declared.cmp.Ordering.{Ordering}
 use Rattle.std.specs.declared.ops.Bound.{Bound}
@@ -8,6 +9,10 @@ use Rattle.btree_item.specs.Address.{Address}
 use Rattle.btree_shape.specs.TreeState.{TreeState, pairs_of}
 use Rattle.btree_find.specs.Navigation.{IsItemAddress}
 use Rattle.btree_edit.specs.Remove.{IsRemoved, RemovesBy, RemovesByKey}
+
+-- there are no more nodes than before
+abbrev pub AddsNoNode : {K V : Type 0} → (old new : TreeState K V) → Type 0
+AddsNoNode old new = map.len new.nodes ≤ map.len old.nodes
 
 -- the pair x at a place of the list was removed, at its address
 pub record RemovesPlace {K V : Type 0} (old new : TreeState K V) (cmp : K → K → Ordering) (place : ℕ) (x : K × V) : Type 0 where

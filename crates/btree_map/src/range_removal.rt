@@ -4,7 +4,7 @@ ghost use Rattle.std.specs.BTreeMap.Range.{is_past_end};
 ghost use Rattle.btree_shape.specs.TreeState.{pairs_of};
 ghost use Rattle.btree_walk.specs.Bounds.{bound_key};
 ghost use Rattle.btree_map.specs.Editing.{RemovesEntry, left_of};
-ghost use Rattle.btree_map.specs.Removal.{pairs_outside};
+ghost use Rattle.btree_map.specs.Removal.{AddsNoNode, pairs_outside};
 
 use crate::{BTreeMap, EntriesMut};
 use btree_ext::BTreeExt;
@@ -52,6 +52,7 @@ fn remove_between<K: Ord + Drop, V: Drop, C: NodesMut<K, V>>(
     ensures pairs { pairs_of map.new ≡
         pairs_outside K.cmp (bound_key start.entry) (bound_key end.entry) (pairs_of map.old) }
     ensures unchanged { pairs_of map.new ≡ pairs_of map.old → map.new ≡ map.old }
+    ensures frees { AddsNoNode map.old map.new }
     ensures uncounted { map.new.kept ≡ map.old.kept }
 {
     map.tell_well_formed();
@@ -69,6 +70,7 @@ impl<K: Ord + Drop, V: Drop, C: NodesMut<K, V>> BTreeMap<K, V, C> {
         ensures pairs { pairs_of self.new ≡
             pairs_outside K.cmp (R.start_bound range) (R.end_bound range) (pairs_of self.old) }
         ensures unchanged { pairs_of self.new ≡ pairs_of self.old → self.new ≡ self.old }
+        ensures frees { AddsNoNode self.old self.new }
         ensures uncounted { self.new.kept ≡ self.old.kept }
     {
         remove_between(self, range.start_bound(), range.end_bound());

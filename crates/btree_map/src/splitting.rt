@@ -8,8 +8,9 @@ ghost use Rattle.btree_node.specs.contracts.node.Node.{the_row as node_row};
 ghost use Rattle.btree_shape.specs.TreeState.{pairs_of, unlimited};
 ghost use Rattle.btree_walk.specs.Bounds.{pairs_from};
 ghost use Rattle.btree_map.specs.Extension.{RefusesInTurn};
+ghost use Rattle.btree_map.specs.Removal.{AddsNoNode};
 ghost use Rattle.btree_map.specs.Spans.{pairs_before};
-ghost use Rattle.btree_map.specs.Splitting.{AreBefore, StopsAtRefused};
+ghost use Rattle.btree_map.specs.Splitting.{AreBefore, AreFrom, StopsAtRefused};
 
 use crate::BTreeMap;
 use btree_ext::BTreeExt;
@@ -25,6 +26,7 @@ fn pop_from<K: Ord + Drop, V: Drop, C: NodesMut<K, V>>(
     ensures from { IfSome result (λ x. is_from_start K.cmp (Included key.now) x.0 ≡ true) }
     ensures none { IfNone result (AreBefore K.cmp (Included key.now) (pairs_of map.old)) }
     ensures unchanged { IfNone result (map.new ≡ map.old) }
+    ensures frees { AddsNoNode map.old map.new }
     ensures uncounted { map.new.kept ≡ map.old.kept }
 {
     map.tell_well_formed();
@@ -48,11 +50,15 @@ impl<K: Ord + Drop, V: Drop, C: NodesMut<K, V>> BTreeMap<K, V, C> {
         ensures kept { OnOk result (pairs_of self.new ≡ pairs_before K.cmp (Included key.now) self.old) }
         ensures moved { IfOk result (λ other.
             pairs_of other ≡ pairs_from K.cmp (Included key.now) self.old) }
+        ensures unchanged { OnOk result (pairs_of self.new ≡ pairs_of self.old → self.new ≡ self.old) }
+        ensures frees { AddsNoNode self.old self.new }
         ensures uncounted { self.new.kept ≡ self.old.kept }
         ensures moved_uncounted { IfOk result (λ other. other.kept ≡ unlimited (C.refusals nodes)) }
 
         ensures stopped { IfErr result (λ stop.
             StopsAtRefused (pairs_of self.old) (pairs_of self.new) stop.1 (pairs_of stop.0)) }
+        ensures from { IfErr result (λ stop.
+            AreFrom K.cmp (Included key.now) ((stop.1.key, stop.1.value) ∷ pairs_of stop.0)) }
         ensures cause { IfErr result (λ stop.
             RefusesInTurn K.cmp C.MayRefuse (unlimited (C.refusals nodes)) stop.0 stop.1) }
     {

@@ -1,12 +1,16 @@
-use Rattle.std.proofs.Common.{◌≡◌, ◌∙◌, ◌++◌, ◌∷◌, [], ap, sym, false}
+use Rattle.std.proofs.Common.{◌≡◌, ◌∙◌, ◌++◌, ◌∷◌, ◌≤◌, [], ap, arith, false, refl, subst, sym}
 use Rattle.std.proofs.lemmas.List.{take-append-drop}
 use Rattle.std.specs.BTreeMap.Range.{is_past_end}
 use Rattle.btree_shape.specs.TreeState.{pairs_of}
 use Rattle.btree_shape.proofs.LookUp.KeyInList.{rises}
 use Rattle.btree_walk.specs.Bounds.{bound_key}
 use Rattle.btree_map.specs.Editing.{entry_front, left_of, passed_of}
+use Rattle.btree_map.specs.Removal.{AddsNoNode}
 use Rattle.btree_map.proofs.OutsideLemmas.{append-one, left-over, next-gone, none-between, not-empty}
 use Rattle.btree_map.proofs.range_removal.remove_between.Goals as goal
+
+pub rest-init : goal.rest-init
+rest-init g c = record { same_map = refl; passed = refl; gone = []; left = refl; none = λ e. refl; frees = omega arith; uncounted = refl; until = tt }
 
 pub rest-preserved : goal.rest-preserved
 rest-preserved g c =
@@ -19,6 +23,7 @@ rest-preserved g c =
       left = next-gone (left_of c.entries_mut_from-pairs.result) now.gone (left_of c.rest.pairs)
           (left_of c.remove_next.new.pairs) r.0 now.left r.1.left;
       none = λ e. absurd (not-empty now.gone r.0 e);
+      frees = let fewer = r.1.removed.frees.fewer in let before = now.frees in omega arith;
       uncounted = r.1.removed.uncounted ∙ now.uncounted;
       until = append-one (λ x. is_past_end g.K.Ord.cmp (bound_key c.args.end) x.0 ≡ false) now.gone r.0 now.until r.2;
     }
@@ -55,3 +60,11 @@ returns-clause-unchanged g c same =
         ∙ ap (λ l. passed_of first ++ l) now.left in
     let empty = none-between (passed_of first) now.gone (left_of c.rest.pairs) (sym at_end ∙ sym (ap pairs_of state) ∙ same ∙ at_start) in
     state ∙ ap (λ p. p.map.now) (stays ∙ now.none empty) ∙ start.unchanged
+
+pub returns-clause-frees : goal.returns-clause-frees
+returns-clause-frees g c =
+    let now = c.rest.invariant in
+    let start = c.entries_mut_from-pairs.ensures in
+    let stays = c.remove_next.ensures.same c.rest-test.false in
+    let state = c.map-1.given.1 (sym (ap (λ p. p.map.ghost_name) stays ∙ now.same_map ∙ start.same_map)) in
+    subst (λ s. AddsNoNode s c.map-1.given.0) start.unchanged (subst (λ s. AddsNoNode c.entries_mut_from-pairs.result.map.now s) (sym (state ∙ ap (λ p. p.map.now) stays)) now.frees)

@@ -3,6 +3,7 @@ use Rattle.std.specs.BTreeMap.Range.{is_past_end}
 use Rattle.std.specs.List.{AllByRecursion}
 use Rattle.btree_walk.specs.Bounds.{bound_key}
 use Rattle.btree_map.specs.Editing.{left_of, passed_of}
+use Rattle.btree_map.specs.Removal.{AddsNoNode}
 use Rattle.btree_map.proofs.range_removal.remove_between.Given as goal
 
 abbrev pub invariant-rest : goal.invariant-rest
@@ -12,6 +13,7 @@ invariant-rest g l = record {
   gone : List (g.row.K.Denot × g.row.V.Denot);
   left : left_of l.initial.pairs ≡ gone ++ left_of l.pairs;
   none : gone ≡ [] → l.pairs ≡ l.initial.pairs;
+  frees : AddsNoNode l.initial.pairs.map.now l.pairs.map.now;
   uncounted : l.pairs.map.now.kept ≡ l.initial.pairs.map.now.kept;
   until : AllByRecursion (λ x. is_past_end g.K.Ord.cmp (bound_key l.fn.end) x.0 ≡ false) gone;
 }

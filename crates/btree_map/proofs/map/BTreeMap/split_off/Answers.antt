@@ -1,10 +1,9 @@
-use Rattle.std.proofs.Common.{◌≡◌, ◌∙◌, ◌++◌, ◌∷◌, true, sym, ap, subst}
-use Rattle.std.specs.BTreeMap.Range.{is_from_start}
-use Rattle.std.specs.List.{AllByRecursion}
+use Rattle.std.proofs.Common.{◌≡◌, ◌∙◌, ◌++◌, ◌∷◌, ◌≤◌, [], arith, sym, ap, subst}
 use Rattle.std.specs.declared.ops.Bound.TheVariants.{Included}
 use Rattle.btree_shape.specs.TreeState.{TreeState, pairs_of}
 use Rattle.btree_shape.proofs.LookUp.KeyInList.{Rises, rises, rises-right}
-use Rattle.btree_map.proofs.SplitLemmas.{inserted-front, kept-before, moved-from, one-more}
+use Rattle.btree_map.specs.Splitting.{AreFrom}
+use Rattle.btree_map.proofs.SplitLemmas.{all-kept, inserted-front, kept-before, moved-from, one-more}
 use Rattle.btree_map.proofs.map.BTreeMap.split_off.Goals as goal
 
 pub loop-last-preserved : goal.loop-last-preserved
@@ -21,7 +20,9 @@ loop-last-preserved g c =
       uncounted = c.in-Some.ensures.uncounted ∙ held.uncounted;
       moved_uncounted = c.in-Ok.ensures.uncounted ∙ held.moved_uncounted;
       split = split ∙ ap (λ l. left ++ l) (sym put);
-      from = subst (λ l. AllByRecursion (λ y. is_from_start cmp (Included c.args.key.now) y.0 ≡ true) l) (sym put) (c.in-Some.ensures.from, held.from);
+      from = subst (λ l. AreFrom cmp (Included c.args.key.now) l) (sym put) (c.in-Some.ensures.from, held.from);
+      none = λ e. absurd (let no = sym put ∙ e in cc);
+      frees = let fewer = c.pop_from.ensures.frees in let before = held.frees in omega arith;
     }
 
 pub returns-in-Err-clause-stopped : goal.returns-in-Err-clause-stopped
@@ -48,3 +49,22 @@ returns-clause-kept g c =
 pub returns-clause-moved : goal.returns-clause-moved
 returns-clause-moved g c =
     moved-from g.met.K.Ord.total (Included c.args.key.now) (pairs_of c.args.self.now) (pairs_of c.loop-last.self) (pairs_of c.loop-last.other) c.loop-last.invariant.split c.in_default.ensures.none c.loop-last.invariant.from
+
+pub returns-in-Err-clause-from : goal.returns-in-Err-clause-from
+returns-in-Err-clause-from g c =
+    rw (c.in-Err.ensures.returned.0)
+    (c.in-Some.ensures.from, subst (λ l. AreFrom g.K.Ord.cmp (Included c.args.key.now) l) (sym c.in-Err.ensures.cause.leaves.pairs) c.loop-last.invariant.from)
+
+pub returns-clause-unchanged : goal.returns-clause-unchanged
+returns-clause-unchanged g c same =
+    let held = c.loop-last.invariant in
+    let stays = c.in_default.ensures.unchanged in
+    let moved = pairs_of c.loop-last.other in
+    let empty : moved ≡ [] = all-kept (pairs_of c.loop-last.self) moved (sym held.split ∙ sym same ∙ ap pairs_of stays) in
+    stays ∙ held.none empty
+
+pub returns-clause-frees : goal.returns-clause-frees
+returns-clause-frees g c = let fewer = c.pop_from.ensures.frees in let before = c.loop-last.invariant.frees in omega arith
+
+pub returns-in-Err-clause-frees : goal.returns-in-Err-clause-frees
+returns-in-Err-clause-frees g c = let fewer = c.pop_from.ensures.frees in let before = c.loop-last.invariant.frees in omega arith

@@ -1,8 +1,8 @@
-use Rattle.std.proofs.Common.{◌≡◌, ◌++◌, true, length}
-use Rattle.std.specs.BTreeMap.Range.{is_from_start}
-use Rattle.std.specs.List.{AllByRecursion}
+use Rattle.std.proofs.Common.{◌≡◌, ◌++◌, [], length}
 use Rattle.std.specs.declared.ops.Bound.TheVariants.{Included}
 use Rattle.btree_shape.specs.TreeState.{pairs_of}
+use Rattle.btree_map.specs.Removal.{AddsNoNode}
+use Rattle.btree_map.specs.Splitting.{AreFrom}
 use Rattle.btree_map.proofs.map.BTreeMap.split_off.Given as goal
 
 abbrev pub invariant-loop-last : goal.invariant-loop-last
@@ -10,7 +10,9 @@ invariant-loop-last g l = record {
   uncounted : l.self.kept ≡ l.initial.self.kept;
   moved_uncounted : l.other.kept ≡ l.initial.other.kept;
   split : pairs_of l.initial.self ≡ pairs_of l.self ++ pairs_of l.other;
-  from : AllByRecursion (λ x. is_from_start g.K.Ord.cmp (Included l.fn.key) x.0 ≡ true) (pairs_of l.other);
+  from : AreFrom g.K.Ord.cmp (Included l.fn.key) (pairs_of l.other);
+  none : pairs_of l.other ≡ [] → l.self ≡ l.initial.self;
+  frees : AddsNoNode l.initial.self l.self;
 }
 
 abbrev pub decreases-loop-last : goal.decreases-loop-last
