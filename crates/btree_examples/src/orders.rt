@@ -6,8 +6,8 @@ ghost use Rattle.btree_slab.specs.Remove.{removed};
 ghost use Rattle.btree_slab.specs.TreeState.{pairs_of};
 
 use btree_slab::generic::BTreeMap;
-use btree_slab::{BTreeExt, BTreeExtMut};
 use btree_slab::store::NodesMut;
+use btree_slab::{BTreeExt, BTreeExtMut};
 
 /// Cancels an order. Returns what was left of it, if it is there.
 pub fn cancel<C: NodesMut<(u64, u64), u64>>(

@@ -4,8 +4,8 @@ ghost use Rattle.std.specs.Ordering.{nat_cmp};
 ghost use Rattle.btree_slab.specs.Pairs.{found_value};
 ghost use Rattle.btree_slab.specs.TreeState.{pairs_of};
 
-use btree_slab::{BTreeMap, generic};
 use btree_slab::store::NodesMut;
+use btree_slab::{BTreeMap, generic};
 use std::thread::{Threads, join};
 
 /// Looks two parts up, each in a thread of its own. Neither waits for the other.
@@ -18,7 +18,11 @@ pub fn both_counts<R: Threads, C: NodesMut<u32, u64> + Sync>(
     ensures first { result.0 ≡ found_value nat_cmp first (pairs_of stock.now) }
     ensures second { result.1 ≡ found_value nat_cmp second (pairs_of stock.now) }
 {
-    join(rt, || stock.get(&first).copied(), || stock.get(&second).copied())
+    join(
+        rt,
+        || stock.get(&first).copied(),
+        || stock.get(&second).copied(),
+    )
 }
 
 /// The same of a map over the heap: the store may be shared, as docs/CALLING.md says.

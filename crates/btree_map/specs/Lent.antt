@@ -75,6 +75,11 @@ module _ (K V C O : RattleType) {g : ord.Ghosts K.Denot} {g' : eq.Ghosts K.Denot
   entry_rests e r =
       RestsIfErr (the_row K V C O g g' g'' s s') (entry_map e) (λ o. o.map.ghost_name) r (λ new. IfErr r (λ x. IsRefusedEntry e new x.cause))
 
+  -- the entry whose value was replaced has the map itself
+  abbrev pub rests_if_entered : OccupiedEntry K.Denot V.Denot C.Denot O.Denot g g' g'' s s' → Result (OccupiedEntry K.Denot V.Denot C.Denot O.Denot g g' g'' s s') (Refused K.Denot V.Denot) → Fml
+  rests_if_entered e r =
+      RestsIfErr (the_row K V C O g g' g'' s s') e.map (λ o. o.map.ghost_name) r (λ new. Unit {0})
+
   -- the entry of a pair that was inserted has the map itself; a refused insertion has changed nothing but the count of refusals
   abbrev pub rests_if_refused : VacantEntry K.Denot V.Denot C.Denot O.Denot g g' g'' s s' → Result (OccupiedEntry K.Denot V.Denot C.Denot O.Denot g g' g'' s s') (Refused K.Denot V.Denot) → Fml
   rests_if_refused e r =

@@ -11,6 +11,7 @@ ghost use Rattle.btree_edit.specs.Insert.{InsertsByKey};
 ghost use Rattle.btree_edit.specs.Remove.{RemovesIfThereBy};
 ghost use Rattle.btree_edit.specs.Replace.{ReplacesByKey};
 ghost use Rattle.btree_edit.specs.Update.{RemovesIfThere};
+ghost use Rattle.btree_map.specs.Removal.{AddsNoNode};
 ghost use Rattle.btree_set.specs.Elements.{IsInTree, IsRefused, RemovesFirst, RemovesLast, elements_outside, inserted, removed, replaced, stored};
 
 use btree_ext::BTreeExt;
@@ -259,6 +260,7 @@ impl<T: Ord + Drop, C: NodesMut<T, ()>> BTreeSet<T, C> {
         ensures elements { self.new.elements ≡
             elements_outside T.cmp (R.start_bound range) (R.end_bound range) self.old.elements }
         ensures unchanged { self.new.elements ≡ self.old.elements → self.new ≡ self.old }
+        ensures frees { AddsNoNode self.old.tree self.new.tree }
         ensures uncounted { self.new.kept ≡ self.old.kept }
     {
         self.map.remove_range(range);

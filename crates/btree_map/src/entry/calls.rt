@@ -99,11 +99,7 @@ impl<'a, K: Ord + Drop, V: Drop, C: NodesMut<K, V>> Entry<'a, K, V, C> {
     {
         match self {
             Entry::Vacant(vacant) => vacant.insert_entry(value),
-            Entry::Occupied(occupied) => {
-                let mut occupied = occupied;
-                drop(occupied.insert(value));
-                Ok(occupied)
-            }
+            Entry::Occupied(occupied) => occupied.enter(value),
         }
     }
 

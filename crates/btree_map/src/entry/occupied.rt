@@ -1,15 +1,15 @@
 //! An entry whose key is there.
-ghost use Rattle.std.specs.Prelude.{◌≡◌, IsSome, Some, option_map};
+ghost use Rattle.std.specs.Prelude.{◌≡◌, IfOk, IsOk, IsSome, Some, option_map};
 ghost use Rattle.std.specs.Borrow.{sem};
 ghost use Rattle.btree_shape.specs.TreeState.{item_of};
 ghost use Rattle.btree_map.specs.Entry.{with_entry_value};
-ghost use Rattle.btree_map.specs.Lent.{lends_in_entry, lends_occupied};
+ghost use Rattle.btree_map.specs.Lent.{lends_in_entry, lends_occupied, rests_if_entered};
 ghost use Rattle.btree_map.specs.Written.{RemovesAt, RemovesValueAt, WritesLentAt, WritesValueAt};
 
 use super::OccupiedEntry;
 use crate::BTreeMap;
 use btree_ext::{BTreeExt, BTreeExtMut};
-use btree_item::Address;
+use btree_item::{Address, Refused};
 use btree_node::NodesMut;
 use std::mem;
 
@@ -77,6 +77,22 @@ impl<'a, K: Ord + Drop, V: Drop, C: NodesMut<K, V>> OccupiedEntry<'a, K, V, C> {
             self.new.map.now self.old.at result value }
     {
         mem::replace(self.get_mut(), value)
+    }
+
+    // Replaces the value, which is dropped, and returns the entry. It cannot fail: the result is that of `insert_entry`.
+    pub(crate) fn enter(self, value: V) -> Result<OccupiedEntry<'a, K, V, C>, Refused<K, V>>
+        ensures* rests { sem 𝓛 (rests_if_entered
+            K.row V.row C.row C.Origin.row self.entry result) }
+        ensures same_map { IfOk result (λ e. e.map.ghost_name ≡ self.entry.map.ghost_name) }
+        ensures at { IfOk result (λ e. e.at ≡ self.entry.at) }
+        ensures writes { IfOk result (λ e. (was : V) ×
+            WritesValueAt K.cmp self.entry.map.now e.map.now self.entry.at was value) }
+        ensures succeeds { IsOk result }
+    {
+        let OccupiedEntry { map, at } = self;
+        map.tell_well_formed();
+        drop(map.replace_value_at(at, value));
+        Ok(OccupiedEntry { map, at })
     }
 
     /// Returns the value for writing, for as long as the map is lent. What is written replaces the value, and nothing else changes: the

@@ -51,13 +51,13 @@ returns-clause-unchanged g c same =
     let end = c.remove_next.new.pairs in
     let state = c.map-1.given.1 (sym (ap (λ p. p.map.ghost_name) stays ∙ now.same_map ∙ start.same_map)) in
     let at_end : pairs_of end.map.now ≡ passed_of first ++ left_of c.rest.pairs =
-        sym (take-append-drop (entry_front end) (pairs_of end.map.now))
-        ∙ (λ i. passed_of (stays i) ++ left_of (stays i))
-        ∙ ap (λ l. l ++ left_of c.rest.pairs) now.passed in
+    sym (take-append-drop (entry_front end) (pairs_of end.map.now))
+    ∙ (λ i. passed_of (stays i) ++ left_of (stays i))
+    ∙ ap (λ l. l ++ left_of c.rest.pairs) now.passed in
     let at_start : pairs_of c.args.map.now ≡ passed_of first ++ (now.gone ++ left_of c.rest.pairs) =
-        ap pairs_of (sym start.unchanged)
-        ∙ sym (take-append-drop (entry_front first) (pairs_of first.map.now))
-        ∙ ap (λ l. passed_of first ++ l) now.left in
+    ap pairs_of (sym start.unchanged)
+    ∙ sym (take-append-drop (entry_front first) (pairs_of first.map.now))
+    ∙ ap (λ l. passed_of first ++ l) now.left in
     let empty = none-between (passed_of first) now.gone (left_of c.rest.pairs) (sym at_end ∙ sym (ap pairs_of state) ∙ same ∙ at_start) in
     state ∙ ap (λ p. p.map.now) (stays ∙ now.none empty) ∙ start.unchanged
 

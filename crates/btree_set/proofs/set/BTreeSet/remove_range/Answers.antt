@@ -12,3 +12,6 @@ pub returns-clause-unchanged : goal.returns-clause-unchanged
 returns-clause-unchanged g c same =
     let elements = rw (← c.self.view_is) at same in
     ap set_of (c.remove_range.ensures.unchanged (same-units _ _ elements)) ∙ c.self.view_is
+
+pub returns-clause-frees : goal.returns-clause-frees
+returns-clause-frees g c = rw (← c.self.view_is) c.remove_range.ensures.frees
