@@ -170,3 +170,32 @@ fn entries_and_ranges_drop_what_they_replace(rt: HostRuntime) {
     };
     set_and_remove(&rt, map, &drops);
 }
+
+// Splits a map at a key, which drops nothing, and drops both parts.
+fn split<'a, C: NodesMut<u64, Counted<'a>> + Drop>(
+    rt: &impl Abort,
+    map: BTreeMap<u64, Counted<'a>, C>,
+    origin: C::Origin,
+    drops: &'a Cell<u64>,
+) {
+    let mut map = map;
+    match map.split_off(&40, C::empty(origin)) {
+        Ok(moved) => {
+            assert_same(rt, (map.len(), moved.len(), drops.get()), (40, 60, 0));
+            drop(moved);
+        }
+        Err(_) => panic!(rt; "refused"),
+    }
+    assert_same(rt, drops.get(), 60);
+    drop(map);
+    assert_same(rt, drops.get(), 100);
+}
+
+#[test]
+fn a_split_map_drops_nothing(rt: HostRuntime) {
+    let drops = Cell::new(0u64);
+    let Some(map) = hundred(rt.alloc(), &drops) else {
+        panic!(rt; "no memory")
+    };
+    split(&rt, map, rt.alloc(), &drops);
+}

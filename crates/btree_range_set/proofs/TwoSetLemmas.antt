@@ -1,16 +1,16 @@
 -- A series whose ranges are those of another set, or its gaps.
-use Rattle.std.proofs.Common.{◌≡◌, ◌≤◌, ◌<◌, ◌∙◌, ℕ, suc, Bool, true, false, not, ◌&&◌, ◌||◌, nat_le, nat_lt, List, [], ◌∷◌, ◌++◌, length, slice_get, Option, None, Some, refl, sym, ap, subst, arith, ◌⊎◌, inl, inr}
+use Rattle.std.proofs.Common.{◌≡◌, ◌≤◌, ◌<◌, ◌∙◌, ℕ, suc, Bool, true, false, not, ◌&&◌, ◌||◌, nat_le, nat_lt, List, [], ◌∷◌, ◌++◌, length, slice_get, Option, None, Some, Result, Ok, Err, IfErr, refl, sym, ap, subst, arith, ◌⊎◌, inl, inr}
 use Rattle.std.proofs.lemmas.Bool.{and_parts, cases_Bool, cases_lt, le-leb, le-ltb, lt-leb, lt-ltb, or_from}
 use Rattle.std.specs.Iterator.{YieldsFirst, YieldsThen}
 use Rattle.btree_item.specs.declared.refused.Refused.{Refused}
 use Rattle.btree_range_set.specs.CallerLaws.{within-from, within-high}
 use Rattle.btree_range_set.specs.Gaps.{AreGaps}
-use Rattle.btree_range_set.specs.Ranges.{AreRuns, AreRunsFrom, IsMaximalRun, OverlapsNone, has_number, is_within}
+use Rattle.btree_range_set.specs.Ranges.{AreRuns, AreRunsFrom, CutsOne, IsGap, IsMaximalRun, OverlapsNone, has_number, is_within}
 use Rattle.btree_range_set.specs.Series.{AddsRanges, AddsRangesUntil, RemovesRanges, RemovesRangesUntil}
 use Rattle.btree_range_set.specs.State.{RangeState}
 use Rattle.btree_range_set.specs.TwoSets.{IsDifferenceBelow, IsDifferenceWith, IsIntersectionBelow, IsIntersectionWith, IsUnionBelow, IsUnionWith}
 use Rattle.btree_range_set.proofs.RangeLaws.{maximal}
-use Rattle.btree_range_set.proofs.RunLemmas.{above-not-within, none-below}
+use Rattle.btree_range_set.proofs.RunLemmas.{above-not-within, has-here, none-below}
 
 -- ---- what an iterator over a list gave
 abbrev firsts : List (ℕ × ℕ) → Option (ℕ × ℕ) → List (ℕ × ℕ) → Type 0
@@ -128,10 +128,43 @@ module _ (other gaps : List (ℕ × ℕ)) (end : ℕ) (are : AreGaps other 0 end
           (not-missing (has_number old.ranges n) (has_number other n))
       by (inr from) = rw (le-ltb n r.key from, le-leb r.key n from) refl
 
-    pub shares-none : OverlapsNone other r.key r.value
+    shares-none : OverlapsNone other r.key r.value
     shares-none n inside = negated (has_number other n) (and_parts (is_within (0, end) n) (not (has_number other n)) (sym (are.missing n) ∙ run.inside n inside)).1 where
       negated : (b : Bool) → not b ≡ true → b ≡ false
       negated true is = absurd (cc)
       negated false is = refl
 
-pub ruleset two_sets = (adds-all, adds-below, adds-run, removes-all, removes-below, removes-run, shares-all, shares-below, shares-none)
+    there : (n : ℕ) → n < end → has_number gaps n ≡ false → has_number other n ≡ true
+    there n below out = positive (has_number other n) (sym (missing n below) ∙ out) where
+      positive : (b : Bool) → (true && not b) ≡ false → b ≡ true
+      positive true is = refl
+      positive false is = absurd (cc)
+
+    -- what is cut out of the old set ends below the end
+    pub shares-gap : ((n : ℕ) → has_number old.ranges n ≡ true → n < end) → CutsOne new.ranges r.key r.value → IsGap other (r.key, r.value)
+    shares-gap within cut =
+        record {
+          some = run.some;
+          none = shares-none;
+          after = elim (cases_lt r.value end) [
+            | inl below ↦ there r.value below run.after
+            | inr from ↦ let below = within r.value old-has in absurd (omega (arith, below, from))
+          ];
+          before = λ n is. there n (omega (arith, start-below, is)) (run.before n is);
+        }
+      where
+      some : r.key < r.value
+      some = run.some
+
+      new-has : has_number new.ranges r.value ≡ true
+      new-has = has-here new.ranges cut.index cut.range cut.here r.value (within-from cut.range r.value (omega (arith, cut.left, some)) cut.right)
+
+      old-has : has_number old.ranges r.value ≡ true
+      old-has = (and_parts (has_number old.ranges r.value) (nat_le r.key r.value || has_number other r.value) (sym (shares-below r.value) ∙ new-has)).0
+
+-- a refusal of which two facts are known
+pub both-refused : {T E : Type 0} (r : Result T E) (P Q R : E → Type 0) → ((e : E) → P e → Q e → R e) → IfErr r P → IfErr r Q → IfErr r R
+both-refused (Ok x) P Q R f p q = tt
+both-refused (Err e) P Q R f p q = f e p q
+
+pub ruleset two_sets = (adds-all, adds-below, adds-run, removes-all, removes-below, removes-run, shares-all, shares-below, shares-gap)

@@ -51,6 +51,13 @@ pub record IsMaximalRun (ranges : List (ℕ × ℕ)) (range : ℕ × ℕ) : Type
   pub after : has_number ranges range.1 ≡ false
   pub before : (n : ℕ) → suc n ≡ range.0 → has_number ranges n ≡ false
 
+-- a range is a gap of the set: none of its numbers is in the set, and those next to it are, but for the one before 0
+pub record IsGap (ranges : List (ℕ × ℕ)) (range : ℕ × ℕ) : Type 0 where
+  pub some : range.0 < range.1
+  pub none : (n : ℕ) → is_within range n ≡ true → has_number ranges n ≡ false
+  pub after : has_number ranges range.1 ≡ true
+  pub before : (n : ℕ) → suc n ≡ range.0 → has_number ranges n ≡ true
+
 -- whether a range has one of the numbers from `start` up to `end`
 abbrev pub meets : (start end : ℕ) → ℕ × ℕ → Bool
 meets start end range = nat_lt (max start range.0) (min end range.1)

@@ -30,6 +30,10 @@ ranges_of map = record { ranges = pairs_of map; kept = map.kept }
 abbrev pub HoldsRanges : Content (Node ℕ ℕ) → RangeState → Type 0
 HoldsRanges nodes s = (map : TreeState ℕ ℕ) × IsBTree nat_cmp map × (ranges_of map ≡ s) × (nodes ≡ map.nodes)
 
+-- a clone may fail, of a store with nodes that hold the ranges
+abbrev pub FailsOver : (MayFail : Content (Node ℕ ℕ) → Type 0) → RangeState → Type 0
+FailsOver MayFail s = (nodes : Content (Node ℕ ℕ)) × HoldsRanges nodes s × MayFail nodes
+
 module _ (old new : RangeState) where
   -- with the cause `Store` one more refusal is counted, and there are fewer ranges than there may be; with the cause
   -- `Count` there are as many as there may be

@@ -1,6 +1,6 @@
 //! Changes of a set by another one, which may have another store.
 ghost use Rattle.std.specs.Prelude.{◌≡◌, IfErr, OnOk};
-ghost use Rattle.btree_range_set.specs.Ranges.{CutsOne, IsMaximalRun, JoinsNone, OverlapsNone};
+ghost use Rattle.btree_range_set.specs.Ranges.{CutsOne, IsGap, IsMaximalRun, JoinsNone};
 ghost use Rattle.btree_range_set.specs.Series.{CountsLastRefusal};
 ghost use Rattle.btree_range_set.specs.State.{GrowsWithinLimit};
 ghost use Rattle.btree_range_set.specs.TwoSets.{IsDifferenceBelow, IsDifferenceWith, IsIntersectionBelow, IsIntersectionWith, IsUnionBelow, IsUnionWith};
@@ -64,7 +64,7 @@ impl<C: NodesMut<u64, u64>> RangeSet<C> {
         ensures uncounted { OnOk result (self.new.kept ≡ self.old.kept) }
         ensures bounded { GrowsWithinLimit self.old self.new }
 
-        ensures returned { IfErr result (λ r. OverlapsNone other.now.ranges r.key r.value) }
+        ensures returned { IfErr result (λ r. IsGap other.now.ranges (r.key, r.value)) }
         ensures stopped { IfErr result (λ r.
             IsIntersectionBelow r.key self.old.ranges other.now.ranges self.new.ranges) }
         ensures cuts_one { IfErr result (λ r. CutsOne self.new.ranges r.key r.value) }

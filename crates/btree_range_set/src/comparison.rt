@@ -1,10 +1,12 @@
 //! Equality of sets: that of their ranges, and so of their numbers. And their clones.
-ghost use Rattle.std.specs.Prelude.{◌≡◌, ◌↔◌, ℕ, IfOk, IsTrue};
+ghost use Rattle.std.specs.Prelude.{◌≡◌, ◌↔◌, ℕ, IfOk, IsTrue, OnErr};
 ghost use Rattle.std.specs.Cmp.{on_equiv, on_per, partial_equiv_from_equiv};
 ghost use Rattle.btree_range_set.specs.SameRanges.{ranges-equiv, ranges_eq};
 ghost use Rattle.btree_range_set.specs.Ranges.{has_number};
+ghost use Rattle.btree_range_set.specs.State.{FailsOver};
 
 use crate::RangeSet;
+use btree_ext::BTreeExt;
 use btree_node::{CloneNodes, NodesMut};
 use std::alloc::AllocError;
 
@@ -25,7 +27,9 @@ impl<C: CloneNodes<u64, u64>> RangeSet<C> {
     pub fn clone(&self) -> Result<Self, AllocError>
         ensures ranges { IfOk result (λ copy. copy.ranges ≡ self.now.ranges) }
         ensures uncounted { IfOk result (λ copy. copy.kept ≡ record self.now.kept { refusals = 0 }) }
+        ensures may_fail { OnErr result (FailsOver C.MayFail self.now) }
     {
+        self.map.tell_well_formed();
         Ok(RangeSet {
             map: self.map.clone()?,
         })

@@ -7,7 +7,7 @@ ghost use Rattle.btree_range_set.specs.Ranges.{AreRuns};
 use crate::RangeSet;
 use btree_node::NodesMut;
 use btree_walk::Iter as Pairs;
-use std::iter::{DoubleEndedIterator, FusedIterator, IntoIterator, Iterator};
+use std::iter::{DoubleEndedIterator, ExactSizeIterator, FusedIterator, IntoIterator, Iterator};
 use std::marker::Model;
 
 /// An iterator over the ranges of a set, each as its start and its end, in ascending order and from both ends. Contracts see it as the list
@@ -57,6 +57,12 @@ impl<'a, C: NodesMut<u64, u64>> DoubleEndedIterator for Iter<'a, C> {
             Some((start, end)) => Some((*start, *end)),
             None => None,
         }
+    }
+}
+
+impl<'a, C: NodesMut<u64, u64>> ExactSizeIterator for Iter<'a, C> {
+    fn len(&self) -> usize {
+        self.pairs.len()
     }
 }
 

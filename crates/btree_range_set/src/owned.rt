@@ -9,8 +9,8 @@ use btree_node::NodesMut;
 use std::iter::{DoubleEndedIterator, ExactSizeIterator, FusedIterator, IntoIterator, Iterator};
 use std::marker::Model;
 
-/// An iterator that owns a set and gives its ranges, each as its start and its end, in ascending order and from both ends. It removes a node
-/// from the store as the last range under it goes. What is left is dropped with the iterator. Contracts see it as the list of those left.
+/// An iterator that owns a set and gives its ranges, each as its start and its end, in ascending order and from both ends. What is
+/// left is dropped with the iterator. Contracts see it as the list of those left.
 #[derive(Drop)]
 pub struct IntoIter<C: NodesMut<u64, u64>> {
     pairs: Pairs<u64, u64, C>,

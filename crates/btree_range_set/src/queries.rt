@@ -10,7 +10,7 @@ use btree_node::NodesMut;
 use std::iter::Iterator;
 
 impl<C: NodesMut<u64, u64>> RangeSet<C> {
-    /// Returns the range that a number is in, or `None`. It makes at most six comparisons at each level.
+    /// Returns the range that a number is in, or `None`. It makes at most six comparisons at each level, and one more.
     #[tactic(auto, using(crate::proofs::QueryLemmas::queries))]
     pub fn get(&self, number: u64) -> Option<(u64, u64)>
         ensures around { IfSome result (IsRangeAround self.now.ranges number) }

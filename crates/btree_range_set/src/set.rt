@@ -90,7 +90,7 @@ impl<C: NodesMut<u64, u64>> RangeSet<C> {
         self.map.store()
     }
 
-    /// Returns whether a number is in the set. It makes at most six comparisons at each level.
+    /// Returns whether a number is in the set. It makes at most six comparisons at each level, and one more.
     pub fn contains(&self, number: u64) -> bool
         ensures { result ≡ has_number self.now.ranges number }
     {

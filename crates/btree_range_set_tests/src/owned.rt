@@ -83,7 +83,7 @@ fn texts<T: Debug>(alloc: Global, value: &T) -> Result<(String, String), AllocEr
     Ok((text, lines))
 }
 
-// Shows a set without ranges, and one of two.
+// Shows a set without ranges, and one of three.
 fn show<C: NodesMut<u64, u64> + Drop>(
     rt: &impl Abort,
     alloc: Global,
@@ -93,9 +93,10 @@ fn show<C: NodesMut<u64, u64> + Drop>(
     assert_same(rt, (text.as_str(), lines.as_str()), ("{}", "{}"));
     assert_true(rt, set.insert(5, 9).is_ok());
     assert_true(rt, set.insert(1, 3).is_ok());
+    assert_true(rt, set.insert(20, 30).is_ok());
     let (text, lines) = texts(alloc, &set)?;
-    assert_same(rt, text.as_str(), "{1..3, 5..9}");
-    assert_same(rt, lines.as_str(), "{\n    1..3,\n    5..9,\n}");
+    assert_same(rt, text.as_str(), "{1..3, 5..9, 20..30}");
+    assert_same(rt, lines.as_str(), "{\n    1..3,\n    5..9,\n    20..30,\n}");
     Ok(())
 }
 

@@ -86,7 +86,7 @@ fn changes_by_another_set(rt: HostRuntime) {
 
 // How a set of the ranges `EIGHT`, which may have no ninth, is changed by another one: the ranges of the other, the numbers that are refused, and
 // the first range that is left. The others are left as they were.
-const REFUSALS: [(Change, Ranges, (u64, u64), (u64, u64)); 8] = [
+const REFUSALS: [(Change, Ranges, (u64, u64), (u64, u64)); 9] = [
     (Change::Union, &[(80, 90)], (80, 90), (0, 5)),
     (Change::Union, &[(17, 18)], (17, 18), (0, 5)),
     (
@@ -106,6 +106,12 @@ const REFUSALS: [(Change, Ranges, (u64, u64), (u64, u64)); 8] = [
         Change::Intersection,
         &[(0, 12), (13, 100)],
         (12, 13),
+        (0, 5),
+    ),
+    (
+        Change::Intersection,
+        &[(0, 11), (14, 100)],
+        (11, 14),
         (0, 5),
     ),
     (Change::Intersection, &[(1, 12), (13, 30)], (12, 13), (1, 5)),

@@ -1,7 +1,7 @@
 use Rattle.std.proofs.Common.{refl}
 use Rattle.std.proofs.lemmas.Result.{IfErr-weaker, on_ok_weaker}
 use Rattle.btree_range_set.proofs.QueryLemmas.{none-last}
-use Rattle.btree_range_set.proofs.TwoSetLemmas.{shares-all, shares-below, shares-none}
+use Rattle.btree_range_set.proofs.TwoSetLemmas.{both-refused, shares-all, shares-below, shares-gap}
 use Rattle.btree_range_set.proofs.set.RangeSet.intersect_with.Goals as goal
 
 pub returns-in-Some-clause-shared : goal.returns-in-Some-clause-shared
@@ -12,9 +12,9 @@ returns-in-Some-clause-shared g c =
 
 pub returns-in-Some-clause-returned : goal.returns-in-Some-clause-returned
 returns-in-Some-clause-returned g c =
-    IfErr-weaker c.remove_each.result _ _
-    (shares-none c.args.other.now.ranges c.gaps.result c.in-Some.end c.gaps.ensures c.args.self.now c.remove_each.new.self c.remove_each.new.source)
-    c.remove_each.ensures.stopped
+    both-refused c.remove_each.result _ _ _
+    (λ r through cut. shares-gap c.args.other.now.ranges c.gaps.result c.in-Some.end c.gaps.ensures c.args.self.now c.remove_each.new.self c.remove_each.new.source r through c.in-Some.ensures.highest cut)
+    c.remove_each.ensures.stopped c.remove_each.ensures.cuts_one
 
 pub returns-in-Some-clause-stopped : goal.returns-in-Some-clause-stopped
 returns-in-Some-clause-stopped g c =
