@@ -1,7 +1,7 @@
 //! A cache of a bounded number of pairs: where it is full, the pair with the least key goes.
-ghost use Rattle.std.specs.Prelude.{◌≡◌, IfOk};
+ghost use Rattle.std.specs.Prelude.{◌≡◌, ◌≤◌, IfOk, IsSome, None, length};
 ghost use Rattle.btree_examples.specs.Cache.{without_first_if};
-ghost use Rattle.btree_slab.specs.Pairs.{inserted};
+ghost use Rattle.btree_slab.specs.Pairs.{found, inserted};
 ghost use Rattle.btree_slab.specs.TreeState.{pairs_of};
 
 use btree_slab::generic::map::{BTreeMap, Cause, Refused};
@@ -17,8 +17,10 @@ pub fn put<K: Ord + Drop, V: Drop, C: NodesMut<K, V>>(
     key: K,
     value: V,
 ) -> Result<Option<(K, V)>, Refused<K, V>>
-    ensures { IfOk result (λ gone. pairs_of cache.new ≡
+    ensures put { IfOk result (λ gone. pairs_of cache.new ≡
         inserted K.cmp key value (without_first_if gone (pairs_of cache.old))) }
+    ensures full { IfOk result (λ gone. IsSome gone → cache.old.kept.limit ≤ length (pairs_of cache.old)) }
+    ensures absent { IfOk result (λ gone. IsSome gone → found K.cmp key (pairs_of cache.old) ≡ None) }
 {
     match cache.insert(key, value) {
         Ok(_replaced) => Ok(None),

@@ -1,6 +1,6 @@
 //! Orders at a price, best price first: each is found again by its price and number, since no address survives the next order.
 ghost use Rattle.std.specs.Prelude.{◌≡◌, slice_get};
-ghost use Rattle.btree_examples.specs.Orders.{by_rank, left_after};
+ghost use Rattle.btree_examples.specs.Orders.{by_rank, left_after, taken_of};
 ghost use Rattle.btree_slab.specs.Pairs.{found_value};
 ghost use Rattle.btree_slab.specs.Remove.{removed};
 ghost use Rattle.btree_slab.specs.TreeState.{pairs_of};
@@ -39,7 +39,8 @@ pub fn take_best<C: NodesMut<(u64, u64), u64>>(
     orders: &mut BTreeMap<(u64, u64), u64, C>,
     wanted: u64,
 ) -> u64
-    ensures { pairs_of orders.new ≡ left_after wanted (pairs_of orders.old) }
+    ensures left { pairs_of orders.new ≡ left_after wanted (pairs_of orders.old) }
+    ensures taken { result ≡ taken_of wanted (pairs_of orders.old) }
 {
     let Some((_, amount)) = first_of(orders) else {
         return 0;
