@@ -51,6 +51,7 @@ pub use Rattle.btree_map.specs.Queries
 pub use Rattle.btree_map.specs.RangeCursor
 pub use Rattle.btree_map.specs.Removal
 pub use Rattle.btree_map.specs.Spans
+pub use Rattle.btree_map.specs.Splitting
 pub use Rattle.btree_map.specs.Written
 pub use Rattle.btree_node.specs.Node
 pub use Rattle.btree_node.specs.NodeLends
