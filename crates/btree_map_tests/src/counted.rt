@@ -9,6 +9,7 @@ use btree_set::BTreeSet;
 use btree_store::SlabStore;
 use btree_testing::Counted;
 use std::cell::Cell;
+use std::ops::Bound;
 use std::process::Abort;
 
 type Store<'a> = SlabStore<Node<Counted<'a>, u32>>;
@@ -155,6 +156,20 @@ fn inserts_at_entry<'a, C: NodesMut<Counted<'a>, u32>>(
     }
 }
 
+// Enters a number, which may be there, by its entry. Returns how many comparisons that makes after the search, or `None` if it is refused.
+fn enters<'a, C: NodesMut<Counted<'a>, u32>>(
+    compared: &'a Cell<u32>,
+    map: &mut Map<'a, C>,
+    number: u32,
+) -> Option<u32> {
+    let entry = map.entry(Counted { number, compared });
+    compared.set(0);
+    match entry.insert_entry(number) {
+        Ok(_) => Some(compared.get()),
+        Err(_) => None,
+    }
+}
+
 // Removes a number by its entry. Returns how many comparisons that makes after the search, or `None` if it is absent.
 fn removes_at_entry<'a, C: NodesMut<Counted<'a>, u32>>(
     compared: &'a Cell<u32>,
@@ -189,7 +204,8 @@ fn edits_by_cursor<'a, C: NodesMut<Counted<'a>, u32>>(
     assert_same(rt, compared.get(), 0);
 }
 
-// Entries insert the even numbers below 88 before a cursor edits, and after it insert and remove those below 44.
+// Entries insert the even numbers below 88 before a cursor edits, and after it insert those below 44, enter 44 from 22 on, and remove those
+// below 44.
 fn edits_in<'a, C: NodesMut<Counted<'a>, u32> + Drop>(
     rt: &impl Abort,
     compared: &'a Cell<u32>,
@@ -203,6 +219,10 @@ fn edits_in<'a, C: NodesMut<Counted<'a>, u32> + Drop>(
     edits_by_cursor(rt, compared, &mut map);
     for number in 0..44u32 {
         let made = inserts_at_entry(compared, &mut map, number);
+        assert_same_in(rt, number, made, Some(0));
+    }
+    for number in 0..44u32 {
+        let made = enters(compared, &mut map, number.wrapping_add(22));
         assert_same_in(rt, number, made, Some(0));
     }
     for number in 0..44u32 {
@@ -230,6 +250,46 @@ fn numbers<'a, C: NodesMut<Counted<'a>, u32> + Drop>(
         assert_same_in(rt, number, replaced, Some(None));
     }
     map
+}
+
+// The numbers from one up to another are removed from those below 44: how many are left then, and how many comparisons it makes at most, 18
+// for a search, and one of each number with the end.
+const RANGES: [((u32, u32), usize, u32); 4] = [
+    ((0, 44), 0, 63),
+    ((10, 40), 14, 49),
+    ((20, 21), 43, 20),
+    ((30, 30), 44, 19),
+];
+
+fn removes_range<'a, C: NodesMut<Counted<'a>, u32> + Drop>(
+    compared: &'a Cell<u32>,
+    map: Map<'a, C>,
+    (start, end): (u32, u32),
+) -> (usize, u32) {
+    let mut map = map;
+    let low = Counted {
+        number: start,
+        compared,
+    };
+    let high = Counted {
+        number: end,
+        compared,
+    };
+    compared.set(0);
+    map.remove_range((Bound::Included(&low), Bound::Excluded(&high)));
+    let made = compared.get();
+    (map.len(), made)
+}
+
+#[test]
+fn a_range_is_sought_once(rt: HostRuntime) {
+    for (range, left, most) in RANGES {
+        let compared = Cell::new(0u32);
+        let map = numbers::<Store<'_>>(&rt, &compared, rt.alloc(), (0, 44));
+        let (len, made) = removes_range(&compared, map, range);
+        assert_same_in(&rt, range.0, len, left);
+        assert_true_in(&rt, range.0, made <= most);
+    }
 }
 
 // Extends a map by the pairs of another one. Returns whether none was refused.
