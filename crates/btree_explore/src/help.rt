@@ -38,7 +38,7 @@ const LINES: [&str; 37] = [
     "p, q: len limit is_empty nodes list debug clear first last pop_first pop_last; insert replace contains get remove take ELEMENT",
     "p, q: iter into_iter ENDS; into_loop; range LOW HIGH ENDS; remove_range LOW HIGH; drain finish TEST N; retain TEST",
     "p, q: contains_by get_by remove_by take_by QUERY; range_by QUERY QUERY ENDS",
-    "p, q: extend from_iter ELEMENTS; append clone extend_copied equals compare same_hash plain_hash: with the other set; limited N: an empty set with a limit",
+    "p, q: extend from_iter ELEMENTS; append clone extend_copied equals compare same_hash plain_hash: with the other set; split_off ELEMENT: the elements of the other set from there on; limited N: an empty set with a limit",
     "p, q: union intersection difference symmetric_difference is_disjoint is_subset is_superset: with the other set",
 ];
 

@@ -144,6 +144,26 @@ fn append<C: NodesMut<u64, ()>>(
     put_rest(other, reply)
 }
 
+// Moves the elements of the other set from one on into a new set.
+fn split_off<C: NodesMut<u64, ()> + Drop>(
+    set: &mut Set<C>,
+    origin: C::Origin,
+    other: &mut Set<C>,
+    element: u64,
+    reply: &mut Reply,
+) -> Result<(), AllocError> {
+    match other.split_off(&element, C::empty(origin)) {
+        Ok(moved) => {
+            *set = moved;
+            reply.word("ok")
+        }
+        Err((moved, refused)) => {
+            *set = moved;
+            reply.refused_key(refused.cause, refused.key)
+        }
+    }
+}
+
 // Makes a set a clone of the other one.
 fn clone<C: CloneNodes<u64, ()> + Drop>(
     set: &mut Set<C>,
@@ -228,6 +248,12 @@ where
         return Ok(
             of_two(set, other, verb, reply)? || merge::<C, D>(set, other, origins.1, verb, reply)?,
         );
+    }
+    if verb == "split_off"
+        && let Some(element) = number(rest)
+    {
+        split_off(set, origins.0, other, element, reply)?;
+        return Ok(true);
     }
     if verb == "limited" {
         return limited(set, origins.0, rest, reply);

@@ -10,6 +10,9 @@ use Rattle.std.specs.Ordering.{is_eq, is_lt, ordering_then, partial_ordering_the
 use Rattle.std.specs.declared.cmp.Ordering.TheVariants.{Less, Equal, Greater}
 use Rattle.std.specs.declared.cmp.Ordering.{Ordering}
 use Rattle.btree_item.specs.Pairs as pairs
+use Rattle.std.specs.declared.ops.Bound.{Bound}
+use Rattle.btree_map.specs.Splitting as split
+use Rattle.btree_set.specs.Splitting.{AreFrom}
 use Rattle.btree_item.proofs.KeyLemmas.{count_by-cons}
 use Rattle.btree_item.proofs.PairEdits.{keys_of-insert}
 use Rattle.btree_internal.proofs.BranchLemmas.{map_remove}
@@ -251,3 +254,8 @@ same-units (x ∷ xs) (y ∷ ys) e =
     let key : x.0 ≡ y.0 = cc in
     let rest = same-units xs ys (cc) in
     λ i. (key i, tt) ∷ rest i
+
+-- pairs from a bound on have their keys there
+pub from-keys : {T V : Type 0} (cmp : T → T → Ordering) (start : Bound T) (xs : List (T × V)) → split.AreFrom cmp start xs → AreFrom cmp start (keys_of xs)
+from-keys cmp start [] all = tt
+from-keys cmp start (x ∷ xs) all = (all.0, from-keys cmp start xs all.1)

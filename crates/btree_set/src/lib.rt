@@ -11,6 +11,7 @@ mod intersection;
 mod peeked;
 mod set;
 mod shown;
+mod splitting;
 mod symmetric_difference;
 mod union;
 

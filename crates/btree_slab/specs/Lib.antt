@@ -84,6 +84,7 @@ pub use Rattle.btree_set.specs.Drain as SetDrain
 pub use Rattle.btree_set.specs.Elements
 pub use Rattle.btree_set.specs.Extension as SetExtension
 pub use Rattle.btree_set.specs.Merges
+pub use Rattle.btree_set.specs.Splitting as SetSplitting
 pub use Rattle.btree_shape.specs.Step
 pub use Rattle.btree_shape.specs.TreeAddresses
 pub use Rattle.btree_shape.specs.TreeState
