@@ -153,14 +153,14 @@ module _ (other gaps : List (ℕ × ℕ)) (end : ℕ) (are : AreGaps other 0 end
           before = λ n is. there n (omega (arith, start-below, is)) (run.before n is);
         }
       where
-      some : r.key < r.value
-      some = run.some
+        some : r.key < r.value
+        some = run.some
 
-      new-has : has_number new.ranges r.value ≡ true
-      new-has = has-here new.ranges cut.index cut.range cut.here r.value (within-from cut.range r.value (omega (arith, cut.left, some)) cut.right)
+        new-has : has_number new.ranges r.value ≡ true
+        new-has = has-here new.ranges cut.index cut.range cut.here r.value (within-from cut.range r.value (omega (arith, cut.left, some)) cut.right)
 
-      old-has : has_number old.ranges r.value ≡ true
-      old-has = (and_parts (has_number old.ranges r.value) (nat_le r.key r.value || has_number other r.value) (sym (shares-below r.value) ∙ new-has)).0
+        old-has : has_number old.ranges r.value ≡ true
+        old-has = (and_parts (has_number old.ranges r.value) (nat_le r.key r.value || has_number other r.value) (sym (shares-below r.value) ∙ new-has)).0
 
 -- a refusal of which two facts are known
 pub both-refused : {T E : Type 0} (r : Result T E) (P Q R : E → Type 0) → ((e : E) → P e → Q e → R e) → IfErr r P → IfErr r Q → IfErr r R

@@ -96,7 +96,11 @@ fn show<C: NodesMut<u64, u64> + Drop>(
     assert_true(rt, set.insert(20, 30).is_ok());
     let (text, lines) = texts(alloc, &set)?;
     assert_same(rt, text.as_str(), "{1..3, 5..9, 20..30}");
-    assert_same(rt, lines.as_str(), "{\n    1..3,\n    5..9,\n    20..30,\n}");
+    assert_same(
+        rt,
+        lines.as_str(),
+        "{\n    1..3,\n    5..9,\n    20..30,\n}",
+    );
     Ok(())
 }
 
