@@ -39,8 +39,8 @@ impl<T: Ord + Drop, C: NodesMut<T, ()>> BTreeSet<T, C> {
             RefusesInTurn T.cmp C.MayRefuse (unlimited (C.refusals nodes)) stop.0 stop.1) }
     {
         match self.map.split_off(element, nodes) {
-            Ok(map) => Ok(BTreeSet { map }),
-            Err((map, refused)) => Err((BTreeSet { map }, refused)),
+            Ok(map) => return Ok(BTreeSet { map }),
+            Err((map, refused)) => return Err((BTreeSet { map }, refused)),
         }
     }
 }
