@@ -4,4 +4,3 @@ mod PageLemmas
 mod ShelfLemmas
 mod StockLemmas
 mod TextLemmas
-mod OrderLemmas
