@@ -1,6 +1,6 @@
 use denote.Param.Send.{sendable}
 use Rattle.btree_slab.proofs.Crossing.{crosses}
-use Rattle.btree_examples.proofs.readers.share_each.Goals as goal
+use Rattle.btree_examples.proofs.shared.share_each.Goals as goal
 
 pub share-requires-sync-T : goal.share-requires-sync-T
 share-requires-sync-T c κs = search (crosses, sendable) depth 40

@@ -1,6 +1,6 @@
 use denote.Param.Send.{sendable}
 use Rattle.btree_slab.proofs.Crossing.{crosses}
-use Rattle.btree_examples.proofs.readers.send_each.Goals as goal
+use Rattle.btree_examples.proofs.shared.send_each.Goals as goal
 
 pub send-requires-send-T : goal.send-requires-send-T
 send-requires-send-T c κs = search (crosses, sendable) depth 40
