@@ -9,9 +9,9 @@ use Rattle.btree_node.specs.declared.node.Node.{Node}
 use Rattle.btree_raw.specs.Insertion.{IsRefused}
 use Rattle.btree_raw.proofs.UpwardLemmas.{some-back}
 use Rattle.btree_store.specs.Content.{Content}
-use Rattle.btree_shape.specs.TreeAddresses.{HasAddresses}
-use Rattle.btree_shape.specs.TreeState.{TreeState, IsBTree, IsPlaceIn, node_map, pairs_of}
-use Rattle.btree_shape.proofs.AddressLists.Whole.{addresses-tree}
+use Rattle.btree_laws.specs.TreeAddresses.{HasAddresses}
+use Rattle.btree_laws.specs.TreeState.{TreeState, IsBTree, IsPlaceIn, node_map, pairs_of}
+use Rattle.btree_laws.proofs.AddressLists.Whole.{addresses-tree}
 use Rattle.btree_find.specs.Answers.{IsGapAt}
 use Rattle.btree_find.proofs.FitsLemmas.{item-occupied}
 use Rattle.btree_find.proofs.PlaceLemmas.{has-place}

@@ -14,22 +14,22 @@ use Rattle.btree_node.specs.Node.{view_of}
 use Rattle.btree_node.specs.NodeLends.{node_with_item_at}
 use Rattle.btree_node.proofs.NodeLemmas.{item_at-children, item_at-items, item_at-kind, item_at-parent}
 use Rattle.btree_view.specs.View.{NodeMap, View, item_in, items_of}
-use Rattle.btree_shape.specs.Focus.TreePositions.{HasPosition}
-use Rattle.btree_shape.specs.Place.{IsEnd, IsOccupied, IsPlace, IsPlaceOf, IsValid}
-use Rattle.btree_shape.specs.Lists.{times_listed}
-use Rattle.btree_shape.specs.Represents.{numbers_under}
-use Rattle.btree_shape.specs.Step.{HasItems, WritesNode}
-use Rattle.btree_shape.specs.Focus.Positions.{address_at}
-use Rattle.btree_shape.specs.TreeState.{TreeState, Changes, IsBTree, IsOccupiedIn, IsPlaceIn, IsUsed, IsValidIn, item_of, node_map, pairs_of}
-use Rattle.btree_shape.specs.WellFormed.{IsSized, IsWellFormed, times_used}
-use Rattle.btree_shape.proofs.Places.Words.{item-within}
-use Rattle.btree_shape.proofs.Trees.Numbers.{same-or, used-one}
-use Rattle.btree_shape.proofs.Places.OnePlace.{one_place-well}
-use Rattle.btree_shape.proofs.Places.OfTree.{positions-addressed, valid-on, well-on}
-use Rattle.btree_shape.proofs.Trees.ValidPlaces.{place-valid}
-use Rattle.btree_shape.proofs.Removal.OtherItemInState.{ReplacedWell, replaced-well}
-use Rattle.btree_shape.proofs.Trees.Stores.{len-views, writes_node, used-view, within-used}
-use Rattle.btree_shape.proofs.Trees.States.{is-tree, pairs-tree}
+use Rattle.btree_laws.specs.Focus.TreePositions.{HasPosition}
+use Rattle.btree_laws.specs.Place.{IsEnd, IsOccupied, IsPlace, IsPlaceOf, IsValid}
+use Rattle.btree_laws.specs.Lists.{times_listed}
+use Rattle.btree_laws.specs.Represents.{numbers_under}
+use Rattle.btree_laws.specs.Step.{HasItems, WritesNode}
+use Rattle.btree_laws.specs.Focus.Positions.{address_at}
+use Rattle.btree_laws.specs.TreeState.{TreeState, Changes, IsBTree, IsOccupiedIn, IsPlaceIn, IsUsed, IsValidIn, item_of, node_map, pairs_of}
+use Rattle.btree_laws.specs.WellFormed.{IsSized, IsWellFormed, times_used}
+use Rattle.btree_laws.proofs.Places.Words.{item-within}
+use Rattle.btree_laws.proofs.Trees.Numbers.{same-or, used-one}
+use Rattle.btree_laws.proofs.Places.OnePlace.{one_place-well}
+use Rattle.btree_laws.proofs.Places.OfTree.{positions-addressed, valid-on, well-on}
+use Rattle.btree_laws.proofs.Trees.ValidPlaces.{place-valid}
+use Rattle.btree_laws.proofs.Removal.OtherItemInState.{ReplacedWell, replaced-well}
+use Rattle.btree_laws.proofs.Trees.Stores.{len-views, writes_node, used-view, within-used}
+use Rattle.btree_laws.proofs.Trees.States.{is-tree, pairs-tree}
 use Rattle.btree_raw.specs.Raw.{with_node}
 use Rattle.btree_raw.proofs.StateLemmas.{same-len, same-kept, same-root}
 use Rattle.btree_find.proofs.FitsLemmas.{item-occupied}

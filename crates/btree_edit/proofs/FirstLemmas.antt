@@ -7,17 +7,17 @@ use Rattle.btree_item.specs.Address.{Address}
 use Rattle.btree_node.specs.declared.node.Node.{Node}
 use Rattle.btree_node.specs.Node.{view_of}
 use Rattle.btree_view.specs.View.{leaf, item_in}
-use Rattle.btree_shape.specs.Place.{IsPlace}
-use Rattle.btree_shape.specs.Lists.{times_listed}
-use Rattle.btree_shape.specs.Step.{WritesNode}
-use Rattle.btree_shape.specs.Strain.{IsStrain, strain_under}
-use Rattle.btree_shape.specs.TreeState.{TreeState, Changes, IsBTree, node_map, pairs_of}
-use Rattle.btree_shape.specs.WellFormed.{IsWellFormed, times_used}
-use Rattle.btree_shape.proofs.Paths.Used.{full-yes}
-use Rattle.btree_shape.proofs.Splits.Insertion.{first-well}
-use Rattle.btree_shape.proofs.Trees.OneLeaf.{IsOneLeaf, once_here, only-place}
-use Rattle.btree_shape.proofs.Trees.Stores.{len-views}
-use Rattle.btree_shape.proofs.Trees.States.{is-tree, pairs-tree}
+use Rattle.btree_laws.specs.Place.{IsPlace}
+use Rattle.btree_laws.specs.Lists.{times_listed}
+use Rattle.btree_laws.specs.Step.{WritesNode}
+use Rattle.btree_laws.specs.Strain.{IsStrain, strain_under}
+use Rattle.btree_laws.specs.TreeState.{TreeState, Changes, IsBTree, node_map, pairs_of}
+use Rattle.btree_laws.specs.WellFormed.{IsWellFormed, times_used}
+use Rattle.btree_laws.proofs.Paths.Used.{full-yes}
+use Rattle.btree_laws.proofs.Splits.Insertion.{first-well}
+use Rattle.btree_laws.proofs.Trees.OneLeaf.{IsOneLeaf, once_here, only-place}
+use Rattle.btree_laws.proofs.Trees.Stores.{len-views}
+use Rattle.btree_laws.proofs.Trees.States.{is-tree, pairs-tree}
 use Rattle.btree_raw.specs.Claimed.{EMPTY}
 use Rattle.btree_raw.specs.Limit.{IsBelowLimit}
 use Rattle.btree_raw.proofs.OnlyLemmas.{only-leaf}

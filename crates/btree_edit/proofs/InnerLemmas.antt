@@ -11,20 +11,20 @@ use Rattle.btree_node.specs.declared.node.Node.{Node}
 use Rattle.btree_node.specs.Node.{view_of}
 use Rattle.btree_view.specs.Edits.{is_internal, with_other_item}
 use Rattle.btree_view.specs.View.{NodeMap, View, leaf, item_in, items_of, children_of}
-use Rattle.btree_shape.specs.AddressLaws.{IsPlaced}
-use Rattle.btree_shape.specs.Focus.Positions.{address_at}
-use Rattle.btree_shape.specs.Focus.TreePositions.{HasPosition, IsAddressed}
-use Rattle.btree_shape.specs.Place.{IsOccupied, IsPlace, IsValid}
-use Rattle.btree_shape.specs.Step.{HasItems, WritesNode}
-use Rattle.btree_shape.specs.TreeState.{TreeState, IsBTree, IsOffByOneAt, IsPlaceIn, IsValidIn, item_of, node_map, pairs_of}
-use Rattle.btree_shape.specs.WellFormed.{IsNearlySized, IsOffByOne, IsWellFormed}
-use Rattle.btree_shape.proofs.Places.InNode.{leaf-along}
-use Rattle.btree_shape.proofs.Places.OfTree.{positions-addressed, well-on}
-use Rattle.btree_shape.proofs.Places.Words.{item-within}
-use Rattle.btree_shape.proofs.Removal.FromInternal.{RemovedInner, inner-item, inner-removed, place-item}
-use Rattle.btree_shape.proofs.Trees.Density.{height-low}
-use Rattle.btree_shape.proofs.Trees.Numbers.{less-or, same-node}
-use Rattle.btree_shape.proofs.Trees.States.{is-off, pairs-off}
+use Rattle.btree_laws.specs.AddressLaws.{IsPlaced}
+use Rattle.btree_laws.specs.Focus.Positions.{address_at}
+use Rattle.btree_laws.specs.Focus.TreePositions.{HasPosition, IsAddressed}
+use Rattle.btree_laws.specs.Place.{IsOccupied, IsPlace, IsValid}
+use Rattle.btree_laws.specs.Step.{HasItems, WritesNode}
+use Rattle.btree_laws.specs.TreeState.{TreeState, IsBTree, IsOffByOneAt, IsPlaceIn, IsValidIn, item_of, node_map, pairs_of}
+use Rattle.btree_laws.specs.WellFormed.{IsNearlySized, IsOffByOne, IsWellFormed}
+use Rattle.btree_laws.proofs.Places.InNode.{leaf-along}
+use Rattle.btree_laws.proofs.Places.OfTree.{positions-addressed, well-on}
+use Rattle.btree_laws.proofs.Places.Words.{item-within}
+use Rattle.btree_laws.proofs.Removal.FromInternal.{RemovedInner, inner-item, inner-removed, place-item}
+use Rattle.btree_laws.proofs.Trees.Density.{height-low}
+use Rattle.btree_laws.proofs.Trees.Numbers.{less-or, same-node}
+use Rattle.btree_laws.proofs.Trees.States.{is-off, pairs-off}
 use Rattle.btree_raw.specs.LastItem.{TakesLast}
 use Rattle.btree_raw.specs.Rebalance.{HasRoom, IsRebalanced}
 use Rattle.btree_raw.proofs.SingleNodeLemmas.{remade-other}

@@ -7,10 +7,10 @@ use Rattle.btree_item.proofs.PairEdits.{remove-insert}
 use Rattle.btree_item.specs.Address.{Address}
 use Rattle.btree_view.specs.Edits.{is_internal}
 use Rattle.btree_view.specs.View.{View, NodeMap, leaf, internal, item_in}
-use Rattle.btree_shape.specs.Place.{IsLeaf}
+use Rattle.btree_laws.specs.Place.{IsLeaf}
 use Rattle.btree_raw.specs.Steps.{CanAddItem}
-use Rattle.btree_shape.specs.TreeState.{TreeState, IsBTree, IsPlaceIn, node_map, pairs_of}
-use Rattle.btree_shape.proofs.Trees.ValidPlaces.{place-valid}
+use Rattle.btree_laws.specs.TreeState.{TreeState, IsBTree, IsPlaceIn, node_map, pairs_of}
+use Rattle.btree_laws.proofs.Trees.ValidPlaces.{place-valid}
 use Rattle.btree_find.specs.Fits.{FitsAt}
 use Rattle.btree_find.specs.Navigation.{IsLeafAddressFor}
 use Rattle.btree_find.proofs.PlaceLemmas.{has-place}

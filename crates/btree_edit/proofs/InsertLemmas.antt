@@ -6,8 +6,8 @@ use Rattle.btree_item.proofs.PairLemmas.{set-from_Ok, slice_get-from_Ok}
 use Rattle.btree_item.specs.KeyLaws.{cuts_of}
 use Rattle.btree_item.specs.Pairs.{before, found, found_value, inserted}
 use Rattle.btree_item.specs.Address.{Address}
-use Rattle.btree_shape.specs.TreeState.{TreeState, IsBTree, pairs_of}
-use Rattle.btree_shape.proofs.Options.{some-none}
+use Rattle.btree_laws.specs.TreeState.{TreeState, IsBTree, pairs_of}
+use Rattle.btree_laws.proofs.Options.{some-none}
 use Rattle.btree_find.specs.Answers.{IsFoundAt, IsGapAt}
 use Rattle.btree_edit.specs.Exchange.{IsValueExchanged}
 use Rattle.btree_edit.specs.Insert.{IsGapFor, IsInserted, InsertsByKey}

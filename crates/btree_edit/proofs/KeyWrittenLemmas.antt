@@ -6,10 +6,10 @@ use Rattle.btree_item.specs.KeyLaws.{cuts_of}
 use Rattle.btree_item.specs.Keys.{Cuts}
 use Rattle.btree_item.specs.Address.{Address}
 use Rattle.btree_item.proofs.PairLemmas.{before-from_Ok, set-from_Ok}
-use Rattle.btree_shape.specs.Focus.Positions.{address_at}
-use Rattle.btree_shape.specs.Place.{NOWHERE}
-use Rattle.btree_shape.specs.TreeAddresses.{item_addresses_of}
-use Rattle.btree_shape.specs.TreeState.{TreeState, IsBTree, pairs_of}
+use Rattle.btree_laws.specs.Focus.Positions.{address_at}
+use Rattle.btree_laws.specs.Place.{NOWHERE}
+use Rattle.btree_laws.specs.TreeAddresses.{item_addresses_of}
+use Rattle.btree_laws.specs.TreeState.{TreeState, IsBTree, pairs_of}
 use Rattle.btree_find.specs.Answers.{IsFoundAt, IsFoundBy}
 use Rattle.btree_edit.specs.Exchange.{IsValueExchanged}
 use Rattle.btree_edit.specs.KeyWritten.{ExchangesValue, ExchangesValueBy, address_at_key, key_written}

@@ -4,17 +4,17 @@ use Rattle.std.specs.FinMap as map
 use Rattle.std.specs.declared.cmp.Ordering.{Ordering}
 use Rattle.btree_item.specs.Address.{Address}
 use Rattle.btree_view.specs.View.{View, NodeMap, leaf, internal}
-use Rattle.btree_shape.specs.Need.{need}
-use Rattle.btree_shape.specs.Place.{IsLeaf, IsLeafAddress}
-use Rattle.btree_shape.specs.Focus.Subtree.{count_at}
-use Rattle.btree_shape.specs.TreeState.{TreeState, HasLevels, HasLevelsUnder, IsBTree, IsLeafAddressIn, node_map, nodes_needed, pairs_of}
-use Rattle.btree_shape.specs.WellFormed.{IsSized, IsWellFormed, times_used}
-use Rattle.btree_shape.proofs.Splits.Need.{split_need-node}
-use Rattle.btree_shape.proofs.Paths.Levels.{levels-rooted}
-use Rattle.btree_shape.proofs.Underflow.Order.{one-height}
-use Rattle.btree_shape.proofs.Paths.FromRoot.{node-at}
-use Rattle.btree_shape.proofs.Paths.UnsizedFocus.{focus-unsized}
-use Rattle.btree_shape.proofs.Trees.States.{height_held}
+use Rattle.btree_laws.specs.Need.{need}
+use Rattle.btree_laws.specs.Place.{IsLeaf, IsLeafAddress}
+use Rattle.btree_laws.specs.Focus.Subtree.{count_at}
+use Rattle.btree_laws.specs.TreeState.{TreeState, HasLevels, HasLevelsUnder, IsBTree, IsLeafAddressIn, node_map, nodes_needed, pairs_of}
+use Rattle.btree_laws.specs.WellFormed.{IsSized, IsWellFormed, times_used}
+use Rattle.btree_laws.proofs.Splits.Need.{split_need-node}
+use Rattle.btree_laws.proofs.Paths.Levels.{levels-rooted}
+use Rattle.btree_laws.proofs.Underflow.Order.{one-height}
+use Rattle.btree_laws.proofs.Paths.FromRoot.{node-at}
+use Rattle.btree_laws.proofs.Paths.UnsizedFocus.{focus-unsized}
+use Rattle.btree_laws.proofs.Trees.States.{height_held}
 use Rattle.btree_raw.proofs.NeedLemmas.{path_need_from-few}
 
 pub leaf-used : {A : Type 0} (node_at : NodeMap A) (o : Option (View A)) → IsLeaf node_at o → 0 < times_used o

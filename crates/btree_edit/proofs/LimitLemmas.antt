@@ -6,7 +6,7 @@ use Rattle.btree_item.specs.Address.{Address}
 use Rattle.btree_item.specs.declared.refused.Cause.{Cause}
 use Rattle.btree_item.specs.declared.refused.Cause.TheVariants.{Store, Count}
 use Rattle.btree_node.specs.declared.node.Node.{Node}
-use Rattle.btree_shape.specs.TreeState.{Kept, TreeState}
+use Rattle.btree_laws.specs.TreeState.{Kept, TreeState}
 use Rattle.btree_raw.specs.Insertion.{IsRefused}
 use Rattle.btree_raw.specs.Limit.{IsWithinLimit}
 use Rattle.btree_edit.specs.Exchange.{IsExchanged}

@@ -8,21 +8,21 @@ use Rattle.std.specs.declared.cmp.Ordering.{Ordering}
 use Rattle.btree_item.specs.Address.{Address}
 use Rattle.btree_view.specs.Edits.{with_item}
 use Rattle.btree_view.specs.View.{View, NodeMap, leaf, internal, item_in, most_of, size_of}
-use Rattle.btree_shape.specs.Focus.Overflow.{MayOverflowAt, IsRepaired}
-use Rattle.btree_shape.specs.Need.{need}
-use Rattle.btree_shape.specs.Place.{IsPlace, IsPlaceOf, IsEnd, IsLeaf}
-use Rattle.btree_shape.specs.Lists.{times_listed}
-use Rattle.btree_shape.specs.Represents.{numbers_under}
-use Rattle.btree_shape.specs.Step.{Claims, WritesNode}
-use Rattle.btree_shape.specs.Strain.{IsStrain, strain_under}
-use Rattle.btree_shape.specs.Focus.Positions.{address_at}
-use Rattle.btree_shape.specs.TreeState.{TreeState, Changes, IsBTree, IsPlaceIn, IsUsed, node_map, nodes_needed, pairs_of, views}
-use Rattle.btree_shape.specs.WellFormed.{IsSized, IsWellFormed, times_used}
-use Rattle.btree_shape.proofs.Trees.Numbers.{less-or, listed-append, same-or, used-low, used-one}
-use Rattle.btree_shape.proofs.Places.OnePlace.{one_place-well}
-use Rattle.btree_shape.proofs.Splits.Insertion.{leaf-overflow, repaired-well, repaired-address, repaired-within, repaired-rooted}
-use Rattle.btree_shape.proofs.Trees.Stores.{used-view, len-views}
-use Rattle.btree_shape.proofs.Trees.States.{height_held, is-tree, pairs-tree}
+use Rattle.btree_laws.specs.Focus.Overflow.{MayOverflowAt, IsRepaired}
+use Rattle.btree_laws.specs.Need.{need}
+use Rattle.btree_laws.specs.Place.{IsPlace, IsPlaceOf, IsEnd, IsLeaf}
+use Rattle.btree_laws.specs.Lists.{times_listed}
+use Rattle.btree_laws.specs.Represents.{numbers_under}
+use Rattle.btree_laws.specs.Step.{Claims, WritesNode}
+use Rattle.btree_laws.specs.Strain.{IsStrain, strain_under}
+use Rattle.btree_laws.specs.Focus.Positions.{address_at}
+use Rattle.btree_laws.specs.TreeState.{TreeState, Changes, IsBTree, IsPlaceIn, IsUsed, node_map, nodes_needed, pairs_of, views}
+use Rattle.btree_laws.specs.WellFormed.{IsSized, IsWellFormed, times_used}
+use Rattle.btree_laws.proofs.Trees.Numbers.{less-or, listed-append, same-or, used-low, used-one}
+use Rattle.btree_laws.proofs.Places.OnePlace.{one_place-well}
+use Rattle.btree_laws.proofs.Splits.Insertion.{leaf-overflow, repaired-well, repaired-address, repaired-within, repaired-rooted}
+use Rattle.btree_laws.proofs.Trees.Stores.{used-view, len-views}
+use Rattle.btree_laws.proofs.Trees.States.{height_held, is-tree, pairs-tree}
 use Rattle.btree_raw.proofs.ClaimLemmas.{claims-low, claims-focus}
 use Rattle.btree_raw.proofs.UpwardLemmas.{upward-done, upward-left, upward-start}
 use Rattle.btree_raw.proofs.StateLemmas.{same-len, same-kept, same-root}

@@ -6,7 +6,7 @@ use Rattle.btree_item.specs.declared.refused.Cause.{Cause}
 use Rattle.btree_item.specs.declared.refused.Cause.TheVariants.{Store, Count}
 use Rattle.btree_node.specs.declared.node.Node.{Node}
 use Rattle.btree_store.specs.Content.{Content}
-use Rattle.btree_shape.specs.TreeState.{TreeState, IsBTree, pairs_of}
+use Rattle.btree_laws.specs.TreeState.{TreeState, IsBTree, pairs_of}
 use Rattle.btree_raw.specs.Insertion.{IsRefused}
 use Rattle.btree_find.specs.Answers.{IsGapAt}
 use Rattle.btree_find.specs.Navigation.{IsLeafAddressFor}

@@ -12,12 +12,12 @@ use Rattle.btree_view.specs.Edits.{is_internal, without_at}
 use Rattle.btree_view.specs.Removal.{removal_in}
 use Rattle.btree_view.specs.View.{leaf, children_in, children_of, item_in, items_of, size_of}
 use Rattle.btree_view.proofs.RemovalLemmas.{child-from_removal, item-from_removal, no_item-from_removal}
-use Rattle.btree_shape.specs.Focus.Positions.{address_at, address_before}
-use Rattle.btree_shape.specs.Step.{WritesNode}
-use Rattle.btree_shape.specs.TreeState.{TreeState, IsBTree, IsOffByOneAt, IsPlaceIn, IsUsed, IsValidIn, item_of, node_map, pairs_of}
-use Rattle.btree_shape.specs.WellFormed.{IsWellFormed}
-use Rattle.btree_shape.proofs.Trees.Stores.{item-some, writes_node}
-use Rattle.btree_shape.proofs.Paths.SiblingNumbers.{children-count}
+use Rattle.btree_laws.specs.Focus.Positions.{address_at, address_before}
+use Rattle.btree_laws.specs.Step.{WritesNode}
+use Rattle.btree_laws.specs.TreeState.{TreeState, IsBTree, IsOffByOneAt, IsPlaceIn, IsUsed, IsValidIn, item_of, node_map, pairs_of}
+use Rattle.btree_laws.specs.WellFormed.{IsWellFormed}
+use Rattle.btree_laws.proofs.Trees.Stores.{item-some, writes_node}
+use Rattle.btree_laws.proofs.Paths.SiblingNumbers.{children-count}
 use Rattle.btree_raw.specs.Raw.{with_node}
 use Rattle.btree_raw.specs.Rebalance.{HasRoom, IsRebalanced}
 use Rattle.btree_raw.proofs.RebalanceLemmas.{enough-rebalanced}

@@ -7,8 +7,8 @@ use Rattle.btree_item.specs.Keys.{Cuts}
 use Rattle.btree_item.specs.Pairs.{before, found}
 use Rattle.btree_item.specs.Address.{Address}
 use Rattle.btree_item.proofs.PairLemmas.{before-from_Ok, slice_get-from_Ok}
-use Rattle.btree_shape.specs.TreeState.{TreeState, IsBTree, pairs_of}
-use Rattle.btree_shape.proofs.Options.{else-none, then-some}
+use Rattle.btree_laws.specs.TreeState.{TreeState, IsBTree, pairs_of}
+use Rattle.btree_laws.proofs.Options.{else-none, then-some}
 use Rattle.btree_find.specs.Answers.{IsFoundAt, IsFoundBy, IsGapBy}
 use Rattle.btree_find.proofs.SearchLemmas.{found-at}
 use Rattle.btree_edit.specs.Remove.{IsRemoved, RemovesBy, RemovesByKey, removed}

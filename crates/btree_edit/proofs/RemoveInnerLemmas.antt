@@ -10,9 +10,9 @@ use Rattle.btree_node.specs.declared.node.Node.{Node}
 use Rattle.btree_node.specs.Node.{view_of}
 use Rattle.btree_view.specs.Edits.{is_internal, with_other_item, with_other_item_at}
 use Rattle.btree_view.specs.View.{View, item_at_offset, items_of, parent_of, size_of}
-use Rattle.btree_shape.specs.Step.{HasItems, WritesNode}
-use Rattle.btree_shape.specs.TreeState.{TreeState, IsBTree, IsOffByOneAt, IsUsed, IsValidIn, node_map}
-use Rattle.btree_shape.proofs.Trees.Stores.{view-at, writes_node}
+use Rattle.btree_laws.specs.Step.{HasItems, WritesNode}
+use Rattle.btree_laws.specs.TreeState.{TreeState, IsBTree, IsOffByOneAt, IsUsed, IsValidIn, node_map}
+use Rattle.btree_laws.proofs.Trees.Stores.{view-at, writes_node}
 use Rattle.btree_raw.specs.LastItem.{TakesLast}
 use Rattle.btree_raw.specs.Raw.{with_node}
 use Rattle.btree_raw.specs.Rebalance.{HasRoom, IsRebalanced}

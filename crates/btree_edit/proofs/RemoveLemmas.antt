@@ -12,23 +12,23 @@ use Rattle.btree_item.specs.Pairs.{KeyFits}
 use Rattle.btree_item.proofs.PairEdits.{insert-remove}
 use Rattle.btree_view.specs.Edits.{is_internal}
 use Rattle.btree_view.specs.View.{NodeMap, View, leaf, internal, children_of, item_in, most_of, size_of}
-use Rattle.btree_shape.specs.Focus.Positions.{address_at}
-use Rattle.btree_shape.specs.Focus.TreePositions.{IsAddressed}
-use Rattle.btree_shape.specs.Lists.{times_listed}
-use Rattle.btree_shape.specs.Place.{IsLeaf, IsPlace, IsValid}
-use Rattle.btree_shape.specs.Represents.{Represents, numbers_under}
-use Rattle.btree_shape.specs.Step.{WritesNode}
-use Rattle.btree_shape.specs.Strain.{IsStrain, debt_of, strain_under}
-use Rattle.btree_shape.specs.TreeState.{TreeState, HasLevels, HasLevelsUnder, HasStrain, IsBTree, IsLeafAddressIn, IsOffByOneAt, IsPlaceIn, IsValidIn, item_of, node_map, pairs_of}
-use Rattle.btree_shape.specs.WellFormed.{IsNearlySized, IsOffByOne, IsSized, IsWellFormed, times_used}
-use Rattle.btree_shape.proofs.Places.OfTree.{positions-addressed, valid-on}
-use Rattle.btree_shape.proofs.Places.Words.{item-within}
-use Rattle.btree_shape.proofs.Removal.FromTree.{take-address, take-height, take-item, take-off, take-within}
-use Rattle.btree_shape.proofs.Strain.OneStrain.{one-strain}
-use Rattle.btree_shape.proofs.Trees.Density.{height-low}
-use Rattle.btree_shape.proofs.Trees.States.{is-off, pairs-off}
-use Rattle.btree_shape.proofs.Trees.Stores.{len-views}
-use Rattle.btree_shape.proofs.Underflow.Order.{one-height}
+use Rattle.btree_laws.specs.Focus.Positions.{address_at}
+use Rattle.btree_laws.specs.Focus.TreePositions.{IsAddressed}
+use Rattle.btree_laws.specs.Lists.{times_listed}
+use Rattle.btree_laws.specs.Place.{IsLeaf, IsPlace, IsValid}
+use Rattle.btree_laws.specs.Represents.{Represents, numbers_under}
+use Rattle.btree_laws.specs.Step.{WritesNode}
+use Rattle.btree_laws.specs.Strain.{IsStrain, debt_of, strain_under}
+use Rattle.btree_laws.specs.TreeState.{TreeState, HasLevels, HasLevelsUnder, HasStrain, IsBTree, IsLeafAddressIn, IsOffByOneAt, IsPlaceIn, IsValidIn, item_of, node_map, pairs_of}
+use Rattle.btree_laws.specs.WellFormed.{IsNearlySized, IsOffByOne, IsSized, IsWellFormed, times_used}
+use Rattle.btree_laws.proofs.Places.OfTree.{positions-addressed, valid-on}
+use Rattle.btree_laws.proofs.Places.Words.{item-within}
+use Rattle.btree_laws.proofs.Removal.FromTree.{take-address, take-height, take-item, take-off, take-within}
+use Rattle.btree_laws.proofs.Strain.OneStrain.{one-strain}
+use Rattle.btree_laws.proofs.Trees.Density.{height-low}
+use Rattle.btree_laws.proofs.Trees.States.{is-off, pairs-off}
+use Rattle.btree_laws.proofs.Trees.Stores.{len-views}
+use Rattle.btree_laws.proofs.Underflow.Order.{one-height}
 use Rattle.btree_raw.specs.Rebalance.{HasRoom, IsRebalanced}
 use Rattle.btree_raw.proofs.UpwardLemmas.{put-used}
 use Rattle.btree_find.specs.Fits.{FitsAt}

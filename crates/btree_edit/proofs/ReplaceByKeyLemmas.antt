@@ -6,8 +6,8 @@ use Rattle.std.specs.declared.cmp.Ordering.{Ordering}
 use Rattle.btree_item.proofs.PairLemmas.{before-from_Err, before-from_Ok}
 use Rattle.btree_item.specs.Pairs.{before, found}
 use Rattle.btree_item.specs.Address.{Address}
-use Rattle.btree_shape.specs.TreeState.{TreeState, IsBTree, item_of, pairs_of}
-use Rattle.btree_shape.proofs.Options.{else-none, some-none, then-some}
+use Rattle.btree_laws.specs.TreeState.{TreeState, IsBTree, item_of, pairs_of}
+use Rattle.btree_laws.proofs.Options.{else-none, some-none, then-some}
 use Rattle.btree_find.specs.Answers.{IsFoundAt, IsGapAt}
 use Rattle.btree_edit.specs.Exchange.{IsExchanged}
 use Rattle.btree_edit.specs.Insert.{IsInserted}

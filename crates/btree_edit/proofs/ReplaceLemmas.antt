@@ -9,9 +9,9 @@ use Rattle.std.specs.declared.cmp.Ordering.TheVariants.{Less}
 use Rattle.btree_item.specs.Pairs.{Ascends, KeyFits}
 use Rattle.btree_item.specs.Address.{Address}
 use Rattle.btree_item.proofs.PairEdits.{Ascends-insert}
-use Rattle.btree_shape.specs.TreeState.{TreeState, Changes, IsBTree, pairs_of}
-use Rattle.btree_shape.proofs.LookUp.KeyInList.{Rises, rises}
-use Rattle.btree_shape.proofs.Removal.FromTree.{Ascends-remove}
+use Rattle.btree_laws.specs.TreeState.{TreeState, Changes, IsBTree, pairs_of}
+use Rattle.btree_laws.proofs.LookUp.KeyInList.{Rises, rises}
+use Rattle.btree_laws.proofs.Removal.FromTree.{Ascends-remove}
 use Rattle.btree_find.specs.Fits.{KeyReplaces, ReplacesAt}
 use Rattle.btree_edit.specs.Exchange.{IsExchanged}
 use Rattle.btree_edit.proofs.ExchangeLemmas.{ExchangesAt, at-place, exchanged, listed, place-on}

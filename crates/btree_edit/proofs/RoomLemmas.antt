@@ -4,16 +4,16 @@ use Rattle.std.proofs.Common.{◌≡◌, ◌≤◌, ◌+◌, ◌*◌, ℕ, inl, 
 use Rattle.std.specs.FinMap as map
 use Rattle.std.specs.declared.cmp.Ordering.{Ordering}
 use Rattle.btree_item.specs.Address.{Address}
-use Rattle.btree_shape.specs.Need.{need}
-use Rattle.btree_shape.specs.Place.{IsLeafAddress}
-use Rattle.btree_shape.specs.TreeState.{TreeState, IsBTree, IsLeafAddressIn, node_map, nodes_needed, pairs_of}
-use Rattle.btree_shape.specs.WellFormed.{IsSized, IsWellFormed}
-use Rattle.btree_shape.proofs.Paths.FromRoot.{node-at}
-use Rattle.btree_shape.proofs.Paths.Levels.{levels-rooted}
-use Rattle.btree_shape.proofs.Paths.UnsizedFocus.{focus-unsized}
-use Rattle.btree_shape.proofs.Splits.Room.{need-room}
-use Rattle.btree_shape.proofs.Trees.States.{height_held}
-use Rattle.btree_shape.proofs.Trees.Stores.{len-views}
+use Rattle.btree_laws.specs.Need.{need}
+use Rattle.btree_laws.specs.Place.{IsLeafAddress}
+use Rattle.btree_laws.specs.TreeState.{TreeState, IsBTree, IsLeafAddressIn, node_map, nodes_needed, pairs_of}
+use Rattle.btree_laws.specs.WellFormed.{IsSized, IsWellFormed}
+use Rattle.btree_laws.proofs.Paths.FromRoot.{node-at}
+use Rattle.btree_laws.proofs.Paths.Levels.{levels-rooted}
+use Rattle.btree_laws.proofs.Paths.UnsizedFocus.{focus-unsized}
+use Rattle.btree_laws.proofs.Splits.Room.{need-room}
+use Rattle.btree_laws.proofs.Trees.States.{height_held}
+use Rattle.btree_laws.proofs.Trees.Stores.{len-views}
 use Rattle.btree_edit.proofs.LevelLemmas.{leaf-used}
 
 module _ {K V : Type 0} (cmp : K → K → Ordering) (s : TreeState K V) where

@@ -11,10 +11,10 @@ use Rattle.btree_node.specs.declared.node.Node.{Node}
 use Rattle.btree_node.specs.Node.{view_of}
 use Rattle.btree_view.specs.Edits.{HasChildFor, is_internal, pushed_right, with_other_item, with_other_item_at}
 use Rattle.btree_view.specs.View.{View, leaf, item_at_offset, item_in, items_of, most_of, size_of}
-use Rattle.btree_shape.specs.Step.{HasItems, WritesNode}
-use Rattle.btree_shape.specs.TreeState.{TreeState, Changes, IsBTree, IsUsed, item_of, node_map}
-use Rattle.btree_shape.proofs.Trees.Numbers.{same-or}
-use Rattle.btree_shape.proofs.Trees.Stores.{view-at}
+use Rattle.btree_laws.specs.Step.{HasItems, WritesNode}
+use Rattle.btree_laws.specs.TreeState.{TreeState, Changes, IsBTree, IsUsed, item_of, node_map}
+use Rattle.btree_laws.proofs.Trees.Numbers.{same-or}
+use Rattle.btree_laws.proofs.Trees.Stores.{view-at}
 use Rattle.btree_raw.specs.LastItem.{TakesLast}
 use Rattle.btree_raw.specs.Raw.{with_node}
 use Rattle.btree_edit.specs.Exchange.{IsValueExchanged}

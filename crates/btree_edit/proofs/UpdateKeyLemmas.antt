@@ -11,10 +11,10 @@ use Rattle.btree_item.proofs.PairEdits.{before-from_KeyFits, found-from_KeyFits}
 use Rattle.btree_item.specs.Pairs.{before, found, found_value}
 use Rattle.btree_item.specs.Address.{Address}
 use Rattle.btree_node.specs.declared.node.Node.{Node}
-use Rattle.btree_shape.specs.Need.{need}
-use Rattle.btree_shape.specs.TreeState.{TreeState, IsBTree, IsUsed, item_of, node_map, nodes_needed, pairs_of}
-use Rattle.btree_shape.proofs.Trees.Stores.{used-view}
-use Rattle.btree_shape.proofs.Options.{else-none, then-some}
+use Rattle.btree_laws.specs.Need.{need}
+use Rattle.btree_laws.specs.TreeState.{TreeState, IsBTree, IsUsed, item_of, node_map, nodes_needed, pairs_of}
+use Rattle.btree_laws.proofs.Trees.Stores.{used-view}
+use Rattle.btree_laws.proofs.Options.{else-none, then-some}
 use Rattle.btree_raw.specs.Claimed.{CanHoldMore, EMPTY}
 use Rattle.btree_raw.specs.Raw.{with_node}
 use Rattle.btree_find.specs.Answers.{IsAddressIn, IsAddressOf, IsFoundAt, IsGapAt, IsGapIn}

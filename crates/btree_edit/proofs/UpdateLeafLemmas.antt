@@ -13,9 +13,9 @@ use Rattle.btree_node.specs.Node.{view_of}
 use Rattle.btree_view.specs.Edits.{HasChildFor, with_item_at, without_at}
 use Rattle.btree_view.specs.Removal.{removal_in}
 use Rattle.btree_view.specs.View.{leaf, item_in, most_of, size_of}
-use Rattle.btree_shape.specs.Step.{HasItems}
-use Rattle.btree_shape.specs.TreeState.{TreeState, Changes, IsBTree, item_of, node_map}
-use Rattle.btree_shape.proofs.Trees.Stores.{writes_node}
+use Rattle.btree_laws.specs.Step.{HasItems}
+use Rattle.btree_laws.specs.TreeState.{TreeState, Changes, IsBTree, item_of, node_map}
+use Rattle.btree_laws.proofs.Trees.Stores.{writes_node}
 use Rattle.btree_raw.specs.Raw.{with_node}
 use Rattle.btree_edit.specs.Exchange.{IsValueExchanged}
 use Rattle.btree_edit.proofs.ExchangeLemmas.{ExchangesAt, value-exchanged}

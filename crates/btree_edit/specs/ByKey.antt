@@ -7,7 +7,7 @@ use Rattle.btree_item.specs.Pairs.{found, found_value, inserted}
 use Rattle.btree_item.specs.declared.refused.Refused.{Refused}
 use Rattle.btree_item.specs.declared.refused.UpdateRefused.{UpdateRefused}
 use Rattle.btree_node.specs.declared.node.Node.{Node}
-use Rattle.btree_shape.specs.TreeState.{TreeState, pairs_of}
+use Rattle.btree_laws.specs.TreeState.{TreeState, pairs_of}
 use Rattle.btree_edit.specs.Insert.{InsertsByKey, IsGrantedIfAbsent, IsRefusedAtGap}
 use Rattle.btree_edit.specs.Replace.{ReplacesByKey, replaced}
 use Rattle.btree_edit.specs.Update.{RunsByKey}

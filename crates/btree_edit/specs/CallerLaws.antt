@@ -3,7 +3,7 @@ use Rattle.std.proofs.Common.{◌≡◌, ◌∙◌, ℕ, Some, ap, set, slice_ge
 use Rattle.std.proofs.lemmas.Option.{same_Some}
 use Rattle.std.specs.declared.cmp.Ordering.{Ordering}
 use Rattle.btree_item.specs.Address.{Address}
-use Rattle.btree_shape.specs.TreeState.{TreeState, pairs_of}
+use Rattle.btree_laws.specs.TreeState.{TreeState, pairs_of}
 use Rattle.btree_find.specs.Navigation.{IsItemAddress}
 use Rattle.btree_edit.specs.Exchange.{IsValueExchanged}
 

@@ -18,8 +18,8 @@ use Rattle.btree_item.specs.declared.refused.Cause.{Cause}
 use Rattle.btree_item.specs.declared.refused.Cause.TheVariants.{Store, Count}
 use Rattle.btree_node.specs.declared.node.Node.{Node}
 use Rattle.btree_view.specs.View.{NodeMap}
-use Rattle.btree_shape.specs.Step.{Claims}
-use Rattle.btree_shape.specs.TreeState.{TreeState, HasLevels, HasStrain, IsBTree, IsLeafAddressIn, IsPlaceIn, item_of, node_map, nodes_needed, pairs_of, refused_once}
+use Rattle.btree_laws.specs.Step.{Claims}
+use Rattle.btree_laws.specs.TreeState.{TreeState, HasLevels, HasStrain, IsBTree, IsLeafAddressIn, IsPlaceIn, item_of, node_map, nodes_needed, pairs_of, refused_once}
 use Rattle.btree_raw.specs.Claimed.{CanHoldMore, EMPTY}
 use Rattle.btree_raw.specs.Insertion.{IsRefused}
 use Rattle.btree_raw.specs.Limit.{IsBelowLimit}

@@ -5,8 +5,8 @@ use Rattle.std.specs.List.{insert}
 use Rattle.std.specs.declared.cmp.Ordering.{Ordering}
 use Rattle.btree_item.specs.Pairs.{before}
 use Rattle.btree_item.specs.Address.{Address}
-use Rattle.btree_shape.specs.TreeAddresses.{leaf_backs_of}
-use Rattle.btree_shape.specs.TreeState.{TreeState, IsBTree, IsOccupiedIn, item_of, pairs_of}
+use Rattle.btree_laws.specs.TreeAddresses.{leaf_backs_of}
+use Rattle.btree_laws.specs.TreeState.{TreeState, IsBTree, IsOccupiedIn, item_of, pairs_of}
 use Rattle.btree_find.specs.Navigation.{HasPlace}
 use Rattle.btree_edit.specs.Insert.{InsertsByKey}
 

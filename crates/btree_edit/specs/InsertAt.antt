@@ -8,7 +8,7 @@ use Rattle.btree_store.specs.Content.{Content}
 use Rattle.btree_item.specs.Address.{Address}
 use Rattle.btree_item.specs.declared.refused.Cause.{Cause}
 use Rattle.btree_node.specs.declared.node.Node.{Node}
-use Rattle.btree_shape.specs.TreeState.{TreeState, HasLevels, IsValidIn, pairs_of}
+use Rattle.btree_laws.specs.TreeState.{TreeState, HasLevels, IsValidIn, pairs_of}
 use Rattle.btree_find.specs.Navigation.{HasPlace, IsLeafAddressFor}
 use Rattle.btree_raw.specs.Insertion.{IsRefused}
 use Rattle.btree_edit.specs.Insert.{IsInserted, LeavesPairs}

@@ -3,10 +3,10 @@ use Rattle.std.specs.Prelude.{◌≡◌, slice_get, unwrap_or}
 use Rattle.std.specs.declared.cmp.Ordering.{Ordering}
 use Rattle.btree_item.specs.Pairs.{before, with_value}
 use Rattle.btree_item.specs.Address.{Address}
-use Rattle.btree_shape.specs.Focus.Positions.{address_at}
-use Rattle.btree_shape.specs.Place.{NOWHERE}
-use Rattle.btree_shape.specs.TreeAddresses.{item_addresses_of}
-use Rattle.btree_shape.specs.TreeState.{TreeState, pairs_of}
+use Rattle.btree_laws.specs.Focus.Positions.{address_at}
+use Rattle.btree_laws.specs.Place.{NOWHERE}
+use Rattle.btree_laws.specs.TreeAddresses.{item_addresses_of}
+use Rattle.btree_laws.specs.TreeState.{TreeState, pairs_of}
 use Rattle.btree_find.specs.Answers.{IsFoundBy}
 use Rattle.btree_edit.specs.Exchange.{IsValueExchanged}
 use Rattle.btree_edit.specs.Insert.{ExchangesValueAt}

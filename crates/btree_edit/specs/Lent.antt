@@ -3,7 +3,7 @@ use Rattle.std.specs.Prelude.{Option}
 use Rattle.std.specs.Borrow.{Fml, Lends, LendsIf, MutBor, RattleType}
 use Rattle.std.specs.declared.cmp.Ordering.{Ordering}
 use Rattle.btree_item.specs.Address.{Address}
-use Rattle.btree_shape.specs.TreeState.{TreeState}
+use Rattle.btree_laws.specs.TreeState.{TreeState}
 use Rattle.btree_raw.specs.Lent.{StoreMembers, raw_row}
 use Rattle.btree_edit.specs.KeyWritten.{key_written}
 use Rattle.btree_edit.specs.ValueWritten.{value_written}

@@ -11,8 +11,8 @@ use Rattle.btree_item.specs.Pairs.{before, found}
 use Rattle.btree_item.specs.Address.{Address}
 use Rattle.btree_view.specs.Edits.{is_internal, with_other_item_at, without_at}
 use Rattle.btree_view.specs.View.{View, children_in, children_of, items_of}
-use Rattle.btree_shape.specs.Step.{WritesNode}
-use Rattle.btree_shape.specs.TreeState.{TreeState, HasLevels, HasStrain, IsBTree, IsLeafAddressIn, IsPlaceIn, IsValidIn, item_of, node_map, pairs_of}
+use Rattle.btree_laws.specs.Step.{WritesNode}
+use Rattle.btree_laws.specs.TreeState.{TreeState, HasLevels, HasStrain, IsBTree, IsLeafAddressIn, IsPlaceIn, IsValidIn, item_of, node_map, pairs_of}
 use Rattle.btree_raw.specs.LastItem.{TakesLast}
 use Rattle.btree_raw.specs.Rebalance.{IsRebalanced}
 use Rattle.btree_find.specs.Answers.{IsFoundAt, IsFoundBy}

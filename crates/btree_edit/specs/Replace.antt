@@ -4,7 +4,7 @@ use Rattle.std.specs.List.{insert}
 use Rattle.std.specs.declared.cmp.Ordering.{Ordering}
 use Rattle.btree_item.specs.Pairs.{before, found}
 use Rattle.btree_item.specs.Address.{Address}
-use Rattle.btree_shape.specs.TreeState.{TreeState, pairs_of}
+use Rattle.btree_laws.specs.TreeState.{TreeState, pairs_of}
 use Rattle.btree_find.specs.Answers.{IsFoundAt}
 use Rattle.btree_edit.specs.Exchange.{IsExchanged}
 use Rattle.btree_edit.specs.Insert.{InsertsByKey}

@@ -6,7 +6,7 @@ use Rattle.std.specs.Prelude.{◌≡◌, ◌≢◌, ◌<◌, ◌^◌, ◌-◌, �
 use Rattle.std.specs.declared.cmp.Ordering.{Ordering}
 use Rattle.btree_item.specs.Pairs.{found, found_value, inserted}
 use Rattle.btree_item.specs.Address.{Address}
-use Rattle.btree_shape.specs.TreeState.{TreeState, IsBTree, item_of, nodes_needed, pairs_of}
+use Rattle.btree_laws.specs.TreeState.{TreeState, IsBTree, item_of, nodes_needed, pairs_of}
 use Rattle.btree_raw.specs.Claimed.{AreClaimed}
 use Rattle.btree_raw.specs.Limit.{IsBelowLimit}
 use Rattle.btree_edit.specs.Exchange.{IsValueExchanged}

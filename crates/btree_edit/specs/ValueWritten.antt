@@ -6,7 +6,7 @@ use Rattle.btree_node.specs.declared.node.Node.{Node}
 use Rattle.btree_node.specs.Node.{view_of}
 use Rattle.btree_node.specs.NodeLends.{node_with_item_at}
 use Rattle.btree_view.specs.View.{item_at_offset}
-use Rattle.btree_shape.specs.TreeState.{TreeState}
+use Rattle.btree_laws.specs.TreeState.{TreeState}
 use Rattle.btree_raw.specs.Raw.{with_node}
 
 module _ {K V : Type 0} where

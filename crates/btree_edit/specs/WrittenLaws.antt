@@ -7,7 +7,7 @@ use Rattle.btree_node.specs.declared.node.Node.{Node}
 use Rattle.btree_node.specs.Node.{view_of}
 use Rattle.btree_node.proofs.NodeLemmas.{item_at-items}
 use Rattle.btree_view.specs.View.{item_at_offset, item_in, items_of}
-use Rattle.btree_shape.specs.TreeState.{TreeState, item_of}
+use Rattle.btree_laws.specs.TreeState.{TreeState, item_of}
 use Rattle.btree_edit.specs.ValueWritten.{item_written, node_written, value_written}
 
 pub set-here : {X : Type 0} (xs : List X) (n : ℕ) (x y : X) → slice_get xs n ≡ Some x → slice_get (set xs n y) n ≡ Some y

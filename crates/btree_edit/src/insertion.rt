@@ -1,7 +1,7 @@
 //! Insertion.
 ghost use Rattle.std.specs.Prelude.{◌≡◌, ◌≢◌, ◌<◌, ◌≤◌, None, IfOk, IfErr};
 ghost use Rattle.btree_item.specs.Pairs.{found};
-ghost use Rattle.btree_shape.specs.TreeState.{TreeState, IsBTree, nodes_needed, pairs_of};
+ghost use Rattle.btree_laws.specs.TreeState.{TreeState, IsBTree, nodes_needed, pairs_of};
 ghost use Rattle.btree_raw.specs.Insertion.{IsRefused};
 ghost use Rattle.btree_raw.specs.Limit.{IsWithinLimit};
 ghost use Rattle.btree_edit.specs.ByKey.{InsertOutcome};

@@ -1,6 +1,6 @@
 //! Insertion at an address.
 ghost use Rattle.std.specs.Prelude.{◌≡◌, ◌≢◌, ◌<◌, None, IfOk, IfErr, IsSome};
-ghost use Rattle.btree_shape.specs.TreeState.{IsBTree, IsLeafAddressIn, IsValidIn, node_map};
+ghost use Rattle.btree_laws.specs.TreeState.{IsBTree, IsLeafAddressIn, IsValidIn, node_map};
 ghost use Rattle.btree_raw.specs.Insertion.{IsFullLeaf};
 ghost use Rattle.btree_raw.specs.Limit.{IsWithinLimit};
 ghost use Rattle.btree_find.specs.Fits.{FitsAt};

@@ -1,7 +1,7 @@
 //! Removal at an address, by key and by another query.
 ghost use Rattle.std.specs.Prelude.{◌≡◌, IfSome, IfNone, None};
 ghost use Rattle.btree_item.specs.Pairs.{found};
-ghost use Rattle.btree_shape.specs.TreeState.{IsBTree, IsValidIn, item_of, pairs_of};
+ghost use Rattle.btree_laws.specs.TreeState.{IsBTree, IsValidIn, item_of, pairs_of};
 ghost use Rattle.btree_raw.specs.Limit.{IsWithinLimit};
 ghost use Rattle.btree_edit.specs.Remove.{HasChildBehind, IsInnerAt, IsRemoved, RemovesBy, RemovesByKey, removed};
 

@@ -1,6 +1,6 @@
 //! Replacing key and value.
 ghost use Rattle.std.specs.Prelude.{◌≡◌, Some};
-ghost use Rattle.btree_shape.specs.TreeState.{IsBTree, item_of, pairs_of};
+ghost use Rattle.btree_laws.specs.TreeState.{IsBTree, item_of, pairs_of};
 ghost use Rattle.btree_raw.specs.Limit.{IsWithinLimit};
 ghost use Rattle.btree_find.specs.Fits.{ReplacesAt};
 ghost use Rattle.btree_edit.specs.ByKey.{ReplaceOutcome};

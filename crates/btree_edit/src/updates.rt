@@ -1,7 +1,7 @@
 //! Updates by key, by an action.
 ghost use Rattle.std.specs.Prelude.{◌≡◌, ◌≢◌, ◌<◌, IfErr, IfOk, None, OnOk, Some};
 ghost use Rattle.btree_item.specs.Pairs.{found_value};
-ghost use Rattle.btree_shape.specs.TreeState.{IsBTree, IsUsed, pairs_of};
+ghost use Rattle.btree_laws.specs.TreeState.{IsBTree, IsUsed, pairs_of};
 ghost use Rattle.btree_raw.specs.Insertion.{IsRefused};
 ghost use Rattle.btree_raw.specs.Limit.{IsWithinLimit};
 ghost use Rattle.btree_find.specs.Answers.{IsAddressOf};

@@ -1,6 +1,6 @@
 //! An update at an address, by an action.
 ghost use Rattle.std.specs.Prelude.{IfSome};
-ghost use Rattle.btree_shape.specs.TreeState.{IsBTree, IsOccupiedIn, item_of};
+ghost use Rattle.btree_laws.specs.TreeState.{IsBTree, IsOccupiedIn, item_of};
 ghost use Rattle.btree_edit.specs.Remove.{HasChildBehind, IsInnerAt};
 ghost use Rattle.btree_edit.specs.Update.{RunsAt};
 

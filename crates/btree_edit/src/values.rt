@@ -4,7 +4,7 @@ ghost use Rattle.std.specs.Option.{option_copied_mut};
 ghost use Rattle.std.specs.Borrow.{Lends, sem};
 ghost use Rattle.btree_item.specs.Pairs.{found_value};
 ghost use Rattle.btree_item.specs.contracts.item.Item.{the_row as item_row};
-ghost use Rattle.btree_shape.specs.TreeState.{IsBTree, IsOccupiedIn, IsUsed, item_of, pairs_of};
+ghost use Rattle.btree_laws.specs.TreeState.{IsBTree, IsOccupiedIn, IsUsed, item_of, pairs_of};
 ghost use Rattle.btree_edit.specs.Exchange.{IsValueExchanged};
 ghost use Rattle.btree_edit.specs.KeyWritten.{key_written};
 ghost use Rattle.btree_edit.specs.Lent.{lends_at_key, lends_value};

@@ -4,8 +4,8 @@ use Rattle.std.specs.FinMap as map
 use Rattle.std.specs.declared.cmp.Ordering.{Ordering}
 use Rattle.btree_item.specs.Address.{Address}
 use Rattle.btree_node.specs.declared.node.Node.{Node}
-use Rattle.btree_shape.specs.TreeState.{Kept, TreeState, IsBTree, pairs_of, rootless, with_limit}
-use Rattle.btree_shape.proofs.Trees.States.{empty-tree}
+use Rattle.btree_laws.specs.TreeState.{Kept, TreeState, IsBTree, pairs_of, rootless, with_limit}
+use Rattle.btree_laws.proofs.Trees.States.{empty-tree}
 use Rattle.btree_raw.specs.Limit.{IsBTreeWithinLimit, IsWithinLimit}
 use Rattle.btree_edit.specs.ValueWritten.{node_written, value_written}
 

@@ -6,7 +6,7 @@ use Rattle.btree_item.specs.Address.{Address}
 use Rattle.btree_item.specs.declared.refused.Cause.{Cause}
 use Rattle.btree_item.specs.declared.refused.Refused.{Refused}
 use Rattle.btree_node.specs.declared.node.Node.{Node}
-use Rattle.btree_shape.specs.TreeState.{TreeState}
+use Rattle.btree_laws.specs.TreeState.{TreeState}
 use Rattle.btree_edit.specs.Exchange as exchange
 use Rattle.btree_edit.specs.Insert as insert
 use Rattle.btree_edit.specs.InsertAt as insert_at

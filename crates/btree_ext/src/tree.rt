@@ -28,7 +28,7 @@ pub struct Tree<K: Ord, V, C: NodesMut<K, V>> {
 
 impl<K: Ord, V, C: NodesMut<K, V>> Model for Tree<K, V, C> {
     ghost use Rattle.std.specs.Coded.{codes};
-    ghost use Rattle.btree_shape.specs.TreeState.{TreeState, tree_code};
+    ghost use Rattle.btree_laws.specs.TreeState.{TreeState, tree_code};
     ghost use Rattle.btree_raw.specs.Limit.{IsBTreeWithinLimit};
 
     ghost Value = { TreeState K V };
@@ -45,7 +45,7 @@ impl<K: Ord, V, C: NodesMut<K, V>> Tree<K, V, C> {
     ghost use Rattle.std.specs.Mem.{FitsInMemory};
     ghost use Rattle.std.specs.Option.{option_copied_mut};
     ghost use Rattle.btree_item.specs.Pairs.{found_value};
-    ghost use Rattle.btree_shape.specs.TreeState.{IsBTree, limited_to, pairs_of, rootless, unlimited, with_limit};
+    ghost use Rattle.btree_laws.specs.TreeState.{IsBTree, limited_to, pairs_of, rootless, unlimited, with_limit};
     ghost use Rattle.btree_edit.specs.Outcomes.{ExchangesLent, ExchangesLentBy};
     ghost use Rattle.btree_ext.specs.Lent.{lends_at_key, lends_by};
 
@@ -188,7 +188,7 @@ impl<K: Ord, V, C: NodesMut<K, V>> Tree<K, V, C> {
 
 impl<K: Ord + Drop, V: Drop, C: NodesMut<K, V>> Tree<K, V, C> {
     ghost use Rattle.btree_item.specs.Pairs.{found, found_value};
-    ghost use Rattle.btree_shape.specs.TreeState.{pairs_of};
+    ghost use Rattle.btree_laws.specs.TreeState.{pairs_of};
     ghost use Rattle.btree_edit.specs.ByKey.{InsertOutcome, ReplaceOutcome, UpdateOutcome};
     ghost use Rattle.btree_edit.specs.Insert.{IsRefusedAtGap};
     ghost use Rattle.btree_edit.specs.InsertAbsent.{InsertsAbsent, IsGapOf};
@@ -283,7 +283,7 @@ impl<K: Ord + Drop, V: Drop, C: NodesMut<K, V>> Tree<K, V, C> {
 }
 
 impl<K: Ord, V, C: ClearNodes<K, V>> Tree<K, V, C> {
-    ghost use Rattle.btree_shape.specs.TreeState.{pairs_of, rootless};
+    ghost use Rattle.btree_laws.specs.TreeState.{pairs_of, rootless};
 
     /// Removes all pairs. The store has no node then, and the count of refusals stays.
     pub fn clear(&mut self)
@@ -295,7 +295,7 @@ impl<K: Ord, V, C: ClearNodes<K, V>> Tree<K, V, C> {
 }
 
 impl<K: Ord + Clone, V: Clone, C: CloneNodes<K, V>> Tree<K, V, C> {
-    ghost use Rattle.btree_shape.specs.TreeState.{pairs_of, unrefused};
+    ghost use Rattle.btree_laws.specs.TreeState.{pairs_of, unrefused};
 
     /// Returns a tree with clones of the keys and values, whose nodes have the same numbers. Its store has refused no node yet. It fails only if
     /// the clone of the store fails.
@@ -326,7 +326,7 @@ impl<K: Ord, V, C: NodesMut<K, V>> BTreeExt<K, V> for Tree<K, V, C> {
 
 impl<K: Ord + Drop, V: Drop, C: NodesMut<K, V>> BTreeExtMut<K, V> for Tree<K, V, C> {
     ghost use Rattle.btree_item.specs.Pairs.{found, found_value};
-    ghost use Rattle.btree_shape.specs.TreeState.{IsLeafAddressIn, IsUsed, IsValidIn, pairs_of};
+    ghost use Rattle.btree_laws.specs.TreeState.{IsLeafAddressIn, IsUsed, IsValidIn, pairs_of};
     ghost use Rattle.btree_find.specs.Fits.{FitsAt, FitsIn, pairs_below};
     ghost use Rattle.btree_edit.specs.Insert.{IsGrantedIfAbsent, IsRefusedAtGap};
     ghost use Rattle.btree_edit.specs.InsertAt.{InsertsAt, IsRefusedAt};

@@ -6,7 +6,7 @@ use Rattle.std.specs.declared.cmp.Ordering.{Ordering}
 use Rattle.btree_item.specs.Pairs.{before}
 use Rattle.btree_item.proofs.PairEdits.{before-le-length}
 use Rattle.btree_item.specs.Address.{Address}
-use Rattle.btree_shape.specs.TreeState.{TreeState, IsBTree, item_of, pairs_of}
+use Rattle.btree_laws.specs.TreeState.{TreeState, IsBTree, item_of, pairs_of}
 use Rattle.btree_edit.specs.Exchange.{IsValueExchanged}
 use Rattle.btree_edit.specs.InsertAbsent.{InsertsAbsent}
 use Rattle.btree_edit.specs.ValueWritten.{value_written}

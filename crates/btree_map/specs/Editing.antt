@@ -15,8 +15,8 @@ use Rattle.btree_item.specs.Address.{Address}
 use Rattle.btree_item.specs.declared.refused.Cause.{Cause}
 use Rattle.btree_node.specs.declared.nodes.Nodes as nodes
 use Rattle.btree_node.specs.declared.nodes.NodesMut as nodes_mut
-use Rattle.btree_shape.specs.TreeAddresses.{item_addresses_of}
-use Rattle.btree_shape.specs.TreeState.{TreeState, IsBTree, pairs_of}
+use Rattle.btree_laws.specs.TreeAddresses.{item_addresses_of}
+use Rattle.btree_laws.specs.TreeState.{TreeState, IsBTree, pairs_of}
 use Rattle.btree_raw.specs.Limit.{IsWithinLimit}
 use Rattle.btree_find.specs.Navigation.{HasPlace}
 use Rattle.btree_edit.specs.InsertAt.{InsertsAt, IsRefusedAt}

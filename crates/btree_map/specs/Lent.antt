@@ -19,7 +19,7 @@ use Rattle.btree_map.specs.declared.entry.Entry.{Entry}
 use Rattle.btree_map.specs.declared.entry.OccupiedEntry.{OccupiedEntry}
 use Rattle.btree_map.specs.declared.entry.VacantEntry.{VacantEntry}
 use Rattle.btree_map.specs.Written.{IsInsertedWith}
-use Rattle.btree_shape.specs.TreeState.{TreeState}
+use Rattle.btree_laws.specs.TreeState.{TreeState}
 use Rattle.btree_map.specs.contracts.entry.OccupiedEntry.{the_row as occupied_row}
 use Rattle.btree_map.specs.contracts.map.BTreeMap.{the_row}
 

@@ -5,7 +5,7 @@ use Rattle.std.specs.List.{insert}
 use Rattle.std.specs.declared.cmp.Ordering.{Ordering}
 use Rattle.btree_item.specs.Pairs.{before, with_value}
 use Rattle.btree_item.specs.Address.{Address}
-use Rattle.btree_shape.specs.TreeState.{TreeState, item_of, pairs_of}
+use Rattle.btree_laws.specs.TreeState.{TreeState, item_of, pairs_of}
 use Rattle.btree_edit.specs.Exchange.{IsValueExchanged}
 use Rattle.btree_edit.specs.InsertAbsent.{InsertsAbsent}
 use Rattle.btree_edit.specs.Remove.{IsRemoved}

@@ -1,7 +1,7 @@
 //! The types of entries.
 ghost use Rattle.std.specs.Prelude.{◌≡◌, None, IsSome};
 ghost use Rattle.btree_item.specs.Pairs.{found};
-ghost use Rattle.btree_shape.specs.TreeState.{item_of, pairs_of};
+ghost use Rattle.btree_laws.specs.TreeState.{item_of, pairs_of};
 ghost use Rattle.btree_edit.specs.InsertAbsent.{IsGapOf};
 
 mod calls;

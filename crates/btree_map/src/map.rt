@@ -18,7 +18,7 @@ pub struct BTreeMap<K: Ord, V, C: NodesMut<K, V>> {
 
 impl<K: Ord, V, C: NodesMut<K, V>> Model for BTreeMap<K, V, C> {
     ghost use Rattle.std.specs.Coded.{codes};
-    ghost use Rattle.btree_shape.specs.TreeState.{TreeState, tree_code};
+    ghost use Rattle.btree_laws.specs.TreeState.{TreeState, tree_code};
 
     ghost Value = { TreeState K V };
 
@@ -33,7 +33,7 @@ impl<K: Ord, V, C: NodesMut<K, V>> BTreeMap<K, V, C> {
     ghost use Rattle.std.specs.Option.{option_copied_mut};
     ghost use Rattle.btree_node.specs.contracts.node.Node.{the_row as node_row};
     ghost use Rattle.btree_item.specs.Pairs.{found_value};
-    ghost use Rattle.btree_shape.specs.TreeState.{IsBTree, limited_to, pairs_of, rootless, unlimited};
+    ghost use Rattle.btree_laws.specs.TreeState.{IsBTree, limited_to, pairs_of, rootless, unlimited};
     ghost use Rattle.btree_edit.specs.Outcomes.{ExchangesLent, ExchangesLentBy};
     ghost use Rattle.btree_map.specs.Lent.{lends_at_key, lends_by};
 
@@ -164,7 +164,7 @@ impl<K: Ord, V, C: NodesMut<K, V>> BTreeMap<K, V, C> {
 
 impl<K: Ord + Drop, V: Drop, C: NodesMut<K, V>> BTreeMap<K, V, C> {
     ghost use Rattle.btree_item.specs.Pairs.{found, found_value, inserted};
-    ghost use Rattle.btree_shape.specs.TreeState.{pairs_of};
+    ghost use Rattle.btree_laws.specs.TreeState.{pairs_of};
     ghost use Rattle.btree_edit.specs.Insert.{InsertsByKey, IsGrantedIfAbsent, IsRefusedAtGap};
     ghost use Rattle.btree_edit.specs.InsertAbsent.{InsertsAbsent, IsGapOf};
     ghost use Rattle.btree_edit.specs.Remove.{RemovesBy, RemovesByKey, removed};
@@ -311,7 +311,7 @@ impl<K: Ord + Drop, V: Drop, C: NodesMut<K, V>> BTreeMap<K, V, C> {
 }
 
 impl<K: Ord, V, C: ClearNodes<K, V>> BTreeMap<K, V, C> {
-    ghost use Rattle.btree_shape.specs.TreeState.{pairs_of, rootless};
+    ghost use Rattle.btree_laws.specs.TreeState.{pairs_of, rootless};
 
     /// Removes all pairs. The store has no node then, and the count of refusals stays.
     pub fn clear(&mut self)
@@ -334,7 +334,7 @@ impl<K: Ord, V, C: NodesMut<K, V>> BTreeExt<K, V> for BTreeMap<K, V, C> {
 
 impl<K: Ord + Drop, V: Drop, C: NodesMut<K, V>> BTreeExtMut<K, V> for BTreeMap<K, V, C> {
     ghost use Rattle.btree_item.specs.Pairs.{found, found_value};
-    ghost use Rattle.btree_shape.specs.TreeState.{IsLeafAddressIn, IsUsed, IsValidIn, pairs_of};
+    ghost use Rattle.btree_laws.specs.TreeState.{IsLeafAddressIn, IsUsed, IsValidIn, pairs_of};
     ghost use Rattle.btree_find.specs.Fits.{FitsAt, FitsIn, pairs_below};
     ghost use Rattle.btree_edit.specs.Insert.{IsGrantedIfAbsent, IsRefusedAtGap};
     ghost use Rattle.btree_edit.specs.InsertAt.{InsertsAt, IsRefusedAt};

@@ -3,7 +3,7 @@ ghost use Rattle.std.specs.Prelude.{◌≡◌};
 ghost use Rattle.std.specs.Cmp.{and_equiv, and_per, both_tied, on_equiv, on_per, on_po, on_total, then_agrees, then_po, then_total};
 ghost use Rattle.std.specs.Cmp.Lexicographic.{lists_agrees, lists_equiv, lists_per, lists_po, lists_ties, lists_total, pointwise, slice_cmp, slice_partial_cmp};
 ghost use Rattle.std.specs.Hash.{and-Alike, on_Alike};
-ghost use Rattle.btree_shape.specs.TreeState.{pairs_of};
+ghost use Rattle.btree_laws.specs.TreeState.{pairs_of};
 ghost use Rattle.btree_map.specs.Comparison.{hash_writes, pair_cmp, pair_eq, pair_partial_cmp, writes-same};
 
 use crate::BTreeMap;

@@ -2,7 +2,7 @@
 //! `child` the first child of the right one, if it has one.
 ghost use Rattle.std.specs.Prelude.{◌≡◌, ◌+◌, ◌<◌, IfSome};
 ghost use Rattle.btree_moved.specs.Siblings.{between};
-ghost use Rattle.btree_shape.specs.Moved as moved;
+ghost use Rattle.btree_laws.specs.Moved as moved;
 
 use crate::Siblings;
 use btree_item::{Address, Offset};

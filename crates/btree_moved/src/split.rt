@@ -1,6 +1,6 @@
 //! New addresses after a split.
 ghost use Rattle.std.specs.Prelude.{◌≡◌, ◌+◌, ◌<◌, IfSome};
-ghost use Rattle.btree_shape.specs.Moved as moved;
+ghost use Rattle.btree_laws.specs.Moved as moved;
 
 use btree_item::{Address, Offset};
 

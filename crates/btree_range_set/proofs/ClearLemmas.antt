@@ -7,7 +7,7 @@ use Rattle.std.proofs.lemmas.List.Edits.{length-remove}
 use Rattle.std.proofs.lemmas.Option.{same_Some, slice_get_within}
 use Rattle.btree_item.specs.Pairs.{KeyFits}
 use Rattle.btree_item.specs.Address.{Address}
-use Rattle.btree_shape.specs.TreeState.{TreeState, item_of, pairs_of}
+use Rattle.btree_laws.specs.TreeState.{TreeState, item_of, pairs_of}
 use Rattle.btree_find.specs.Answers.{IsFoundAt}
 use Rattle.btree_find.specs.Fits.{ReplacesAt}
 use Rattle.btree_find.specs.Navigation.{HasPlace, IsNormalized}

@@ -6,7 +6,7 @@ use Rattle.std.proofs.lemmas.Option.{same_Some, slice_get_within}
 use Rattle.std.specs.Ordering.{nat_cmp}
 use Rattle.btree_item.specs.Pairs.{KeyFits}
 use Rattle.btree_item.specs.Address.{Address}
-use Rattle.btree_shape.specs.TreeState.{TreeState, IsPlaceIn, item_of, pairs_of}
+use Rattle.btree_laws.specs.TreeState.{TreeState, IsPlaceIn, item_of, pairs_of}
 use Rattle.btree_find.specs.Answers.{IsGapAt}
 use Rattle.btree_find.specs.Fits.{FitsAt}
 use Rattle.btree_find.specs.Navigation.{HasPlace, IsItemAddress, IsItemAt, IsNormalized, IsPrevious}

@@ -9,11 +9,11 @@ use Rattle.std.specs.Prelude.{◌≡◌, ◌≢◌, ℕ, ◌+◌, ◌<◌, ◌�
 use Rattle.btree_view.specs.View.{View, NodeMap, size_of, most_of, items_of, children_of}
 use Rattle.btree_view.specs.Edits.{with_parent, with_other_item, without, joined, pushed_left, pushed_right, is_internal, HasChildFor, HaveRoom}
 use Rattle.btree_moved.specs.declared.siblings.Siblings.{Siblings}
-use Rattle.btree_shape.specs.Lists.{times_listed}
-use Rattle.btree_shape.specs.Moved.{first_in}
-use Rattle.btree_shape.specs.SiblingSteps.{Merges, RotatesLeft, RotatesRight}
-use Rattle.btree_shape.specs.Step.{Becomes, WritesNode}
-use Rattle.btree_shape.specs.WellFormed.{times_used}
+use Rattle.btree_laws.specs.Lists.{times_listed}
+use Rattle.btree_laws.specs.Moved.{first_in}
+use Rattle.btree_laws.specs.SiblingSteps.{Merges, RotatesLeft, RotatesRight}
+use Rattle.btree_laws.specs.Step.{Becomes, WritesNode}
+use Rattle.btree_laws.specs.WellFormed.{times_used}
 
 module _ {A : Type 0} (node_at : NodeMap A) where
   -- node `id` is an internal node that does not overflow, and has an item at the index

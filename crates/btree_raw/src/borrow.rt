@@ -1,7 +1,7 @@
 //! One step of an underflow fix, between two siblings, with an address that is followed.
 ghost use Rattle.std.specs.Prelude.{◌≡◌, ℕ, ◌<◌, ◌≤◌, IfNone, IfSome, IsSome, OnSome};
-ghost use Rattle.btree_shape.specs.TreeState.{Changes, node_map};
-ghost use Rattle.btree_shape.specs.UnderflowFix.{size_in};
+ghost use Rattle.btree_laws.specs.TreeState.{Changes, node_map};
+ghost use Rattle.btree_laws.specs.UnderflowFix.{size_in};
 ghost use Rattle.btree_raw.specs.NodeSteps.{MergesSiblings};
 ghost use Rattle.btree_raw.specs.Underflow.{AreAdjacent, GoesUpFromEither, FitTogether, Underflows};
 ghost use Rattle.btree_raw.specs.Steps.{HasCount};

@@ -1,7 +1,7 @@
 //! How many nodes splits need.
 ghost use Rattle.std.specs.Prelude.{◌≡◌, ◌≤◌};
 ghost use Rattle.std.specs.FinMap as map;
-ghost use Rattle.btree_shape.specs.TreeState.{IsBTree, IsUsed, node_map, nodes_for_splits, nodes_needed};
+ghost use Rattle.btree_laws.specs.TreeState.{IsBTree, IsUsed, node_map, nodes_for_splits, nodes_needed};
 ghost use Rattle.btree_raw.specs.Insertion.{IsFull};
 ghost use Rattle.btree_raw.specs.Steps.{HasParent, IsCountingSplits};
 

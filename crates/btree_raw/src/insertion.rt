@@ -1,7 +1,7 @@
 //! Insertion at exactly an address.
 ghost use Rattle.std.specs.Prelude.{◌≡◌, ◌≢◌, ◌<◌, ◌≤◌, None, IfOk, IfErr};
 ghost use Rattle.std.specs.FinMap as map;
-ghost use Rattle.btree_shape.specs.TreeState.{node_map};
+ghost use Rattle.btree_laws.specs.TreeState.{node_map};
 ghost use Rattle.btree_raw.specs.Steps.{HasParent};
 ghost use Rattle.btree_raw.specs.Insertion.{InsertsExactly, IsFull, IsOffByOneWith, IsRefused, IsVacant};
 

@@ -2,8 +2,8 @@
 ghost use Rattle.std.specs.Prelude.{◌≡◌, ◌<◌, ◌≤◌, ◌∷◌, ◌++◌, [], None, OnOk, IfErr, IfSome, IfNone, OnErr};
 ghost use Rattle.btree_node.specs.Node.{view_of};
 ghost use Rattle.btree_view.specs.View.{children_in, children_of};
-ghost use Rattle.btree_shape.specs.Step.{Reparents, WritesNode};
-ghost use Rattle.btree_shape.specs.TreeState.{Changes, IsUsed, KeepsRest, node_map, nodes_for_splits};
+ghost use Rattle.btree_laws.specs.Step.{Reparents, WritesNode};
+ghost use Rattle.btree_laws.specs.TreeState.{Changes, IsUsed, KeepsRest, node_map, nodes_for_splits};
 ghost use Rattle.btree_raw.specs.Steps.{AddsAndCuts, AddsItem, AddsSeparatorAndCuts, AreThere, CanAddItem, CanAddSeparator, CanCut, CanCutAbove, CanCutWith, CanReparent, HasParent, LeavesPart, Overflows, SetsParent};
 ghost use Rattle.btree_raw.specs.TreeSteps.{IsInsertionIndex, IsNotAdded, KeepsLeftPart, MayCutIn, PlacesPart};
 ghost use Rattle.btree_raw.specs.Insertion.{IsFull};

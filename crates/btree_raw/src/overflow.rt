@@ -1,7 +1,7 @@
 //! Splits, from a node upward.
 ghost use Rattle.std.specs.Prelude.{◌≡◌, ◌<◌, [], All, IsSome};
-ghost use Rattle.btree_shape.specs.Step.{GrowsRoot};
-ghost use Rattle.btree_shape.specs.TreeState.{Changes, node_map};
+ghost use Rattle.btree_laws.specs.Step.{GrowsRoot};
+ghost use Rattle.btree_laws.specs.TreeState.{Changes, node_map};
 ghost use Rattle.btree_raw.specs.Steps.{AddsAndSplits, CanAddItem, CanGrowRoot, IsSplitting, MaySplitWith, SplitsUpward};
 ghost use Rattle.btree_raw.specs.TreeSteps.{IsCutFromSome, SplitsFromCut};
 

@@ -1,6 +1,6 @@
 //! Rebalancing a tree that is off by one at a node.
 ghost use Rattle.std.specs.Prelude.{IfOk, IfErr};
-ghost use Rattle.btree_shape.specs.TreeState.{IsOffByOneAt, IsValidIn, node_map};
+ghost use Rattle.btree_laws.specs.TreeState.{IsOffByOneAt, IsValidIn, node_map};
 ghost use Rattle.btree_raw.specs.Steps.{HasCount, HasParent, Overflows};
 ghost use Rattle.btree_raw.specs.Rebalance.{HasRoom, IsRebalanced, IsRefusal};
 

@@ -3,11 +3,11 @@ ghost use Rattle.std.specs.Prelude.{◌≡◌, ◌<◌, ◌≤◌, [], IfNone, I
 ghost use Rattle.std.specs.FinMap as map;
 ghost use Rattle.btree_node.specs.Node.{view_of};
 ghost use Rattle.btree_view.specs.Edits.{with_items};
-ghost use Rattle.btree_shape.specs.Lists.{as_list};
-ghost use Rattle.btree_shape.specs.SiblingSteps.{ShrinksRoot};
-ghost use Rattle.btree_shape.specs.Step.{RemovesNode, Reparents};
-ghost use Rattle.btree_shape.specs.TreeState.{Changes, IsUsed, node_map};
-ghost use Rattle.btree_shape.specs.UnderflowFix.{size_in};
+ghost use Rattle.btree_laws.specs.Lists.{as_list};
+ghost use Rattle.btree_laws.specs.SiblingSteps.{ShrinksRoot};
+ghost use Rattle.btree_laws.specs.Step.{RemovesNode, Reparents};
+ghost use Rattle.btree_laws.specs.TreeState.{Changes, IsUsed, node_map};
+ghost use Rattle.btree_laws.specs.UnderflowFix.{size_in};
 ghost use Rattle.btree_raw.specs.Claimed.{EMPTY};
 ghost use Rattle.btree_raw.specs.NodeSteps.{MergesSiblings, HasRoomFor, HasRoomForAll, HasSeparator, LosesFirst, LosesLast, ChangesSeparator, GainsFirst, GainsLast, GainsAll, LosesSeparator, ClearsParent, CanRotateLeft, CanRotateRight, CanMerge, CanShrinkToFirst, IsThere};
 ghost use Rattle.btree_raw.specs.Steps.{HasCount};

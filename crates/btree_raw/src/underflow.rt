@@ -1,8 +1,8 @@
 //! Fixes of underflows, from a node upward.
 ghost use Rattle.std.specs.Prelude.{◌≡◌, ◌-◌, ℕ, ◌<◌, ◌≤◌, IfSome, IsSome, Some, None, option_map, true, false};
 ghost use Rattle.btree_view.specs.View.{parent_of};
-ghost use Rattle.btree_shape.specs.UnderflowFix.{Borrows, MergesNode};
-ghost use Rattle.btree_shape.specs.TreeState.{KeepsRest, node_map};
+ghost use Rattle.btree_laws.specs.UnderflowFix.{Borrows, MergesNode};
+ghost use Rattle.btree_laws.specs.TreeState.{KeepsRest, node_map};
 ghost use Rattle.btree_raw.specs.Rebalance.{StaysAsIs};
 ghost use Rattle.btree_raw.specs.Underflow.{AreAdjacent, BorrowsFromLeft, EndsHere, GoesUp, HasSiblings, IsChild, IsFollowed, IsFixing, IsFixingOf, Underflows, MergesWithLeft, FixesUnderflowUpward};
 ghost use Rattle.btree_raw.specs.Underflow as specs;

@@ -9,7 +9,7 @@ use Rattle.btree_item.specs.Address.{Address}
 use Rattle.btree_item.specs.declared.refused.Cause.{Cause}
 use Rattle.btree_store.specs.Content.{Content}
 use Rattle.btree_node.specs.declared.node.Node.{Node}
-use Rattle.btree_shape.specs.TreeState.{TreeState, IsBTree, IsValidIn, pairs_of, rootless}
+use Rattle.btree_laws.specs.TreeState.{TreeState, IsBTree, IsValidIn, pairs_of, rootless}
 use Rattle.btree_find.specs.Fits.{FitsAt}
 use Rattle.btree_find.specs.Navigation.{HasPlace, IsNormalized}
 use Rattle.btree_find.proofs.PlaceLemmas.{has-place, place-there}

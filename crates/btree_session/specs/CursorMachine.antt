@@ -15,7 +15,7 @@ use Rattle.btree_store.specs.Content.{Content}
 use Rattle.btree_node.specs.declared.node.Node.{Node}
 use Rattle.btree_node.specs.declared.nodes.Nodes as nodes
 use Rattle.btree_node.specs.declared.nodes.NodesMut as nodes_mut
-use Rattle.btree_shape.specs.TreeState.{Kept, TreeState, pairs_of, refused_once}
+use Rattle.btree_laws.specs.TreeState.{Kept, TreeState, pairs_of, refused_once}
 use Rattle.btree_find.specs.Navigation.{HasPlace}
 use Rattle.btree_edit.specs.InsertAt.{InsertsAt, IsRefusedAt}
 use Rattle.btree_edit.specs.Remove.{IsRemoved}

@@ -20,7 +20,7 @@ use Rattle.btree_store.specs.Content.{Content}
 use Rattle.btree_item.specs.declared.refused.Cause.{Cause}
 use Rattle.btree_item.specs.declared.refused.Cause.TheVariants.{Count, Store}
 use Rattle.btree_node.specs.declared.node.Node.{Node}
-use Rattle.btree_shape.specs.TreeState.{Kept, TreeState, pairs_of}
+use Rattle.btree_laws.specs.TreeState.{Kept, TreeState, pairs_of}
 use Rattle.btree_raw.specs.Insertion as raw
 use Rattle.btree_edit.specs.Insert.{IsRefusedAtGap, LeavesPairs}
 use Rattle.btree_edit.specs.Replace as replace

@@ -6,7 +6,7 @@ ghost use Rattle.std.specs.Mem.{FitsInMemory};
 ghost use denote.Plain.{Nothing as unit_row};
 ghost use Rattle.btree_node.specs.contracts.node.Node.{the_row as node_row};
 ghost use Rattle.std.specs.Option.{option_copied};
-ghost use Rattle.btree_shape.specs.TreeState.{limited_to, unlimited};
+ghost use Rattle.btree_laws.specs.TreeState.{limited_to, unlimited};
 ghost use Rattle.btree_edit.specs.Insert.{InsertsByKey};
 ghost use Rattle.btree_edit.specs.Remove.{RemovesIfThereBy};
 ghost use Rattle.btree_edit.specs.Replace.{ReplacesByKey};

@@ -56,7 +56,7 @@ pub use Rattle.btree_map.specs.Written
 pub use Rattle.btree_node.specs.Node
 pub use Rattle.btree_node.specs.NodeLends
 pub use Rattle.btree_node.specs.StoreLends
-pub use Rattle.btree_owned.specs.Leaving
+pub use Rattle.btree_owned_walk.specs.Leaving
 pub use Rattle.btree_range_set.specs.Gaps
 pub use Rattle.btree_range_set.specs.Places
 pub use Rattle.btree_range_set.specs.Ranges
@@ -85,17 +85,17 @@ pub use Rattle.btree_set.specs.Elements
 pub use Rattle.btree_set.specs.Extension as SetExtension
 pub use Rattle.btree_set.specs.Merges
 pub use Rattle.btree_set.specs.Splitting as SetSplitting
-pub use Rattle.btree_shape.specs.Step
-pub use Rattle.btree_shape.specs.TreeAddresses
-pub use Rattle.btree_shape.specs.TreeState
+pub use Rattle.btree_laws.specs.Step
+pub use Rattle.btree_laws.specs.TreeAddresses
+pub use Rattle.btree_laws.specs.TreeState
 pub use Rattle.btree_store.specs.Content
 pub use Rattle.btree_store.specs.SlotLaws
-pub use Rattle.btree_stores.specs.Gated
-pub use Rattle.btree_stores.specs.Odd
-pub use Rattle.btree_stores.specs.OddLaws
-pub use Rattle.btree_stores.specs.Table
-pub use Rattle.btree_table.specs.Capacity
-pub use Rattle.btree_table.specs.From
+pub use Rattle.btree_more_stores.specs.Gated
+pub use Rattle.btree_more_stores.specs.Odd
+pub use Rattle.btree_more_stores.specs.OddLaws
+pub use Rattle.btree_more_stores.specs.Table
+pub use Rattle.btree_fixed.specs.Capacity
+pub use Rattle.btree_fixed.specs.From
 pub use Rattle.btree_valid.specs.Faults
 pub use Rattle.btree_valid.specs.Reading
 pub use Rattle.btree_valid.specs.Verdicts

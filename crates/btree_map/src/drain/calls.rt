@@ -1,7 +1,7 @@
 //! What drains are asked, and what keeps pairs.
 ghost use Rattle.std.specs.Prelude.{◌≡◌, true};
 ghost use Rattle.std.specs.Map.Calls.{CallableOnEachPair, CalledAtPair, TakesPair};
-ghost use Rattle.btree_shape.specs.TreeState.{pairs_of};
+ghost use Rattle.btree_laws.specs.TreeState.{pairs_of};
 ghost use Rattle.btree_map.specs.Drain.{KeepsAddresses, Selects};
 ghost use Rattle.btree_map.specs.DrainSteps.{IsDraining, LetsGo};
 

@@ -1,5 +1,5 @@
 use Rattle.std.proofs.Common.{[], inl, refl, sym, ap, ◌∙◌, arith}
-use Rattle.btree_shape.specs.TreeState.{Kept}
+use Rattle.btree_laws.specs.TreeState.{Kept}
 use Rattle.btree_raw.proofs.NeedLemmas.{need-split_need}
 use Rattle.btree_raw.proofs.StateLemmas.{same-kept, same-len}
 use Rattle.btree_find.proofs.LeafLemmas.{leaf-same}

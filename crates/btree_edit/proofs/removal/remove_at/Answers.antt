@@ -1,5 +1,5 @@
 use Rattle.std.proofs.Common.{◌≡◌, ◌∙◌, ◌+◌, ◌-◌, ◌<◌, IsSome, Some, length, slice_get, refl, sym, ap, subst, arith, rules}
-use Rattle.btree_shape.specs.TreeState.{Kept, TreeState, IsBTree, IsOffByOneAt, IsValidIn, node_map}
+use Rattle.btree_laws.specs.TreeState.{Kept, TreeState, IsBTree, IsOffByOneAt, IsValidIn, node_map}
 use Rattle.btree_node.specs.declared.node.Node.{Node}
 use Rattle.btree_node.specs.Node.{view_of}
 use Rattle.btree_view.specs.View.{children_of}

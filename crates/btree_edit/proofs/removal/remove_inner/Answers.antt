@@ -1,5 +1,5 @@
 use Rattle.std.proofs.Common.{◌-◌, sym, subst, arith}
-use Rattle.btree_shape.specs.TreeState.{TreeState, IsOffByOneAt, IsValidIn, node_map}
+use Rattle.btree_laws.specs.TreeState.{TreeState, IsOffByOneAt, IsValidIn, node_map}
 use Rattle.btree_raw.specs.Rebalance.{HasRoom, IsRebalanced}
 use Rattle.btree_raw.specs.Steps.{HasCount, HasParent}
 use Rattle.btree_raw.proofs.PlacedLemmas.{but-length}

@@ -1,7 +1,7 @@
 use Rattle.std.proofs.Common.{◌≡◌, ◌∙◌, Some, None, false, sym, ap, subst}
 use Rattle.btree_item.specs.Address.{Address}
 use Rattle.btree_item.specs.declared.address.Address.TheView.{view}
-use Rattle.btree_shape.specs.TreeState.{nodes_needed}
+use Rattle.btree_laws.specs.TreeState.{nodes_needed}
 use Rattle.btree_raw.specs.Claimed.{CanHoldMore, EMPTY, MayRefuseOneOf}
 use Rattle.btree_edit.specs.Insert.{IsGapFor, IsInserted}
 use Rattle.btree_edit.proofs.UpdateKeyLemmas.{gap-used}

@@ -3,7 +3,7 @@ use Rattle.btree_node.specs.declared.node.Node.{Node}
 use Rattle.btree_node.specs.Node.{view_of}
 use Rattle.btree_view.specs.View.{children_of}
 use Rattle.btree_view.specs.Edits.{with_item_at}
-use Rattle.btree_shape.specs.TreeState.{TreeState, IsBTree, IsOffByOneAt, IsValidIn, item_of, node_map}
+use Rattle.btree_laws.specs.TreeState.{TreeState, IsBTree, IsOffByOneAt, IsValidIn, item_of, node_map}
 use Rattle.btree_raw.specs.Rebalance.{HasRoom, IsRebalanced}
 use Rattle.btree_raw.specs.Steps.{HasCount, HasParent}
 use Rattle.btree_raw.proofs.FetchedLemmas.{count-written, parent-written}

@@ -1,7 +1,7 @@
 use Rattle.std.proofs.Common.{◌∙◌, ◌-◌, Option, Some, None, IfSome, sym, ap, subst, arith}
 use Rattle.btree_node.specs.Node.{view_of}
 use Rattle.btree_view.specs.Edits.{with_other_item_at}
-use Rattle.btree_shape.specs.TreeState.{TreeState, IsOffByOneAt, IsValidIn, node_map}
+use Rattle.btree_laws.specs.TreeState.{TreeState, IsOffByOneAt, IsValidIn, node_map}
 use Rattle.btree_raw.specs.Rebalance.{HasRoom, IsRebalanced}
 use Rattle.btree_raw.specs.Steps.{HasCount, HasParent}
 use Rattle.btree_edit.specs.Remove.{IsRemoved}

@@ -1,7 +1,7 @@
 use Rattle.std.proofs.Common.{refl, ap}
 use Rattle.std.specs.FinMap as map
 use Rattle.btree_item.specs.Pairs.{found_value}
-use Rattle.btree_shape.specs.TreeState.{node_map, pairs_under}
+use Rattle.btree_laws.specs.TreeState.{node_map, pairs_under}
 use Rattle.btree_edit.proofs.KeyWrittenLemmas.{key_written-tree}
 use Rattle.btree_edit.proofs.values.get_mut.Goals as goal
 

@@ -1,6 +1,6 @@
 use Rattle.std.specs.FinMap as map
-use Rattle.btree_shape.specs.Need.{levels_above}
-use Rattle.btree_shape.specs.TreeState.{node_map}
+use Rattle.btree_laws.specs.Need.{levels_above}
+use Rattle.btree_laws.specs.TreeState.{node_map}
 use Rattle.btree_raw.specs.Insertion.{IsFull}
 use Rattle.btree_raw.specs.Steps.{HasParent, IsCountingSplits}
 use Rattle.btree_raw.proofs.count.split_need_above.Given as goal

@@ -1,8 +1,8 @@
 use Rattle.std.proofs.Common.{take}
 use Rattle.btree_node.specs.Node.{view_of}
 use Rattle.btree_view.specs.View.{children_of}
-use Rattle.btree_shape.specs.Step.{Reparents}
-use Rattle.btree_shape.specs.TreeState.{Changes}
+use Rattle.btree_laws.specs.Step.{Reparents}
+use Rattle.btree_laws.specs.TreeState.{Changes}
 use Rattle.btree_raw.proofs.nodes.adopt.Given as goal
 
 abbrev pub invariant-loop-index : goal.invariant-loop-index

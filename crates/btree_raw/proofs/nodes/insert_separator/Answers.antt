@@ -3,7 +3,7 @@ use Rattle.std.specs.FinMap as map
 use Rattle.btree_node.specs.Node.{view_of}
 use Rattle.btree_view.specs.Edits.{is_internal}
 use Rattle.btree_view.specs.View.{items_of}
-use Rattle.btree_shape.specs.TreeState.{Changes, node_map}
+use Rattle.btree_laws.specs.TreeState.{Changes, node_map}
 use Rattle.btree_raw.specs.Raw.{with_node}
 use Rattle.btree_raw.specs.OverflowSplit.{AddsSeparator}
 use Rattle.btree_raw.proofs.CutLemmas.{cuts-node, here-after, over-after, part-after, stays-after}

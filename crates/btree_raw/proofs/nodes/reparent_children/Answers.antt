@@ -1,4 +1,4 @@
-use Rattle.btree_shape.proofs.Trees.Stores.{used-view}
+use Rattle.btree_laws.proofs.Trees.Stores.{used-view}
 use Rattle.btree_raw.proofs.ParentLemmas.{still-used, index-below, child-used, child-reparented}
 use Rattle.btree_raw.proofs.StateLemmas.{then}
 use Rattle.btree_raw.proofs.nodes.reparent_children.Goals as goal

@@ -1,7 +1,7 @@
 use Rattle.std.proofs.Common.{take}
 use Rattle.btree_view.specs.View.{children_in}
-use Rattle.btree_shape.specs.Step.{Reparents}
-use Rattle.btree_shape.specs.TreeState.{Changes, node_map}
+use Rattle.btree_laws.specs.Step.{Reparents}
+use Rattle.btree_laws.specs.TreeState.{Changes, node_map}
 use Rattle.btree_raw.proofs.nodes.reparent_children.Given as goal
 
 abbrev pub invariant-loop-index : goal.invariant-loop-index

@@ -2,8 +2,8 @@ use Rattle.std.proofs.Common.{◌≡◌, ◌-◌, ◌^◌, ◌∙◌, Some, ap, 
 use Rattle.std.specs.FinMap as map
 use Rattle.btree_node.specs.Node.{view_of}
 use Rattle.btree_view.specs.Edits.{with_parent}
-use Rattle.btree_shape.proofs.Places.Untouched.{other-test}
-use Rattle.btree_shape.proofs.Trees.Stores.{writes_node}
+use Rattle.btree_laws.proofs.Places.Untouched.{other-test}
+use Rattle.btree_laws.proofs.Trees.Stores.{writes_node}
 use Rattle.btree_raw.proofs.SingleNodeLemmas.{here-at}
 use Rattle.btree_raw.proofs.nodes.set_parent.Goals as goal
 

@@ -1,10 +1,10 @@
 use Rattle.std.proofs.Common.{subst, arith, rules}
-use Rattle.btree_shape.specs.Step.{WritesNode}
-use Rattle.btree_shape.specs.TreeState.{node_map}
+use Rattle.btree_laws.specs.Step.{WritesNode}
+use Rattle.btree_laws.specs.TreeState.{node_map}
 use Rattle.btree_raw.proofs.OverflowLemmas.{left-there, right-still, grows-root}
 use Rattle.btree_raw.proofs.StateLemmas.{then}
 use Rattle.btree_raw.proofs.overflow.grow_root.Goals as goal
-use Rattle.btree_shape.proofs.Trees.Stores.{used-view}
+use Rattle.btree_laws.proofs.Trees.Stores.{used-view}
 use Rattle.std.proofs.lemmas.Grind.{common_steps}
 
 pub put-requires : goal.put-requires

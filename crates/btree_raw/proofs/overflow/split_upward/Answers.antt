@@ -1,5 +1,5 @@
-use Rattle.btree_shape.specs.TreeState.{node_map}
-use Rattle.btree_shape.proofs.Trees.Stores.{used-view}
+use Rattle.btree_laws.specs.TreeState.{node_map}
+use Rattle.btree_laws.proofs.Trees.Stores.{used-view}
 use Rattle.btree_raw.proofs.UpwardLemmas.{can-cut, upward-start, upward-used}
 use Rattle.btree_raw.proofs.overflow.split_upward.Goals as goal
 

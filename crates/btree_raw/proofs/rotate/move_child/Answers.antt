@@ -1,6 +1,6 @@
 use Rattle.std.proofs.Common.{refl, subst}
-use Rattle.btree_shape.specs.TreeState.{node_map}
-use Rattle.btree_shape.proofs.Trees.Stores.{used-view}
+use Rattle.btree_laws.specs.TreeState.{node_map}
+use Rattle.btree_laws.proofs.Trees.Stores.{used-view}
 use Rattle.btree_raw.specs.NodeSteps.{IsThere}
 use Rattle.btree_raw.proofs.SingleNodeLemmas.{reparents-one, reparents-no}
 use Rattle.btree_raw.proofs.rotate.move_child.Goals as goal

@@ -1,7 +1,7 @@
 use Rattle.std.proofs.Common.{◌∙◌, ap, option_map, sym}
-use Rattle.btree_shape.specs.Moved.{first_in}
-use Rattle.btree_shape.specs.TreeState.{node_map}
-use Rattle.btree_shape.proofs.Trees.Stores.{used-view}
+use Rattle.btree_laws.specs.Moved.{first_in}
+use Rattle.btree_laws.specs.TreeState.{node_map}
+use Rattle.btree_laws.proofs.Trees.Stores.{used-view}
 use Rattle.btree_raw.proofs.StateLemmas.{then}
 use Rattle.btree_raw.proofs.SiblingLemmas.{right-between, right-giver, right-room, right-child, right-same, right-taker, rotates-right}
 use Rattle.btree_raw.proofs.rotate.rotate_right.Goals as goal

@@ -1,6 +1,6 @@
 use Rattle.std.proofs.Common.{ap, refl, ◌∙◌}
 use Rattle.std.specs.FinMap.{empty_of_len}
-use Rattle.btree_shape.specs.TreeState.{rootless, unlimited}
+use Rattle.btree_laws.specs.TreeState.{rootless, unlimited}
 use Rattle.btree_ext.proofs.LimitLemmas.{empty-within}
 use Rattle.btree_ext.proofs.tree.Tree.in_store.Goals as goal
 

@@ -1,5 +1,5 @@
 use Rattle.std.proofs.Common.{ap, ◌∙◌}
-use Rattle.btree_shape.specs.TreeState.{TreeState, with_limit}
+use Rattle.btree_laws.specs.TreeState.{TreeState, with_limit}
 use Rattle.btree_ext.proofs.LimitLemmas.{empty-within}
 use Rattle.btree_ext.proofs.tree.Tree.with_limit.Goals as goal
 
