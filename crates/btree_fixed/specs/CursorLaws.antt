@@ -16,8 +16,8 @@ use Rattle.btree_item.specs.Pairs.{Ascends}
 use Rattle.btree_item.specs.Address.{Address}
 use Rattle.btree_item.specs.declared.refused.Cause.{Cause}
 use Rattle.btree_node.specs.declared.node.Node.{Node}
-use Rattle.btree_node.specs.declared.nodes.Nodes as nodes
-use Rattle.btree_node.specs.declared.nodes.NodesMut as nodes_mut
+use Rattle.btree_node.specs.declared.node_stores.Nodes as nodes
+use Rattle.btree_node.specs.declared.node_stores.NodesMut as nodes_mut
 use Rattle.btree_laws.specs.TreeAddresses.{item_addresses_of, leaf_backs_of}
 use Rattle.btree_laws.specs.TreeState.{TreeState, IsBTree, IsPlaceIn, pairs_of}
 use Rattle.btree_laws.proofs.AddressLists.Whole.{addresses-tree}

@@ -17,8 +17,8 @@ use Rattle.btree_item.specs.Address.{Address}
 use Rattle.btree_item.specs.declared.refused.Cause.{Cause}
 use Rattle.btree_node.specs.declared.node.Node.{Node}
 use Rattle.btree_node.specs.Node.{view_of}
-use Rattle.btree_node.specs.declared.nodes.Nodes as nodes
-use Rattle.btree_node.specs.declared.nodes.NodesMut as nodes_mut
+use Rattle.btree_node.specs.declared.node_stores.Nodes as nodes
+use Rattle.btree_node.specs.declared.node_stores.NodesMut as nodes_mut
 use Rattle.btree_view.specs.View.{item_at_offset}
 use Rattle.btree_laws.specs.TreeState.{TreeState, pairs_of}
 use Rattle.btree_edit.specs.Insert.{IsRefusedAtGap}

@@ -8,8 +8,8 @@ use Rattle.std.specs.declared.cmp.Ord as ord
 use Rattle.std.specs.declared.cmp.PartialEq as eq
 use Rattle.std.specs.declared.cmp.PartialOrd as partial
 use Rattle.btree_item.specs.declared.refused.Refused.{Refused}
-use Rattle.btree_node.specs.declared.nodes.Nodes as nodes
-use Rattle.btree_node.specs.declared.nodes.NodesMut as nodes_mut
+use Rattle.btree_node.specs.declared.node_stores.Nodes as nodes
+use Rattle.btree_node.specs.declared.node_stores.NodesMut as nodes_mut
 use Rattle.btree_edit.specs.Insert.{IsRefusedAtGap}
 use Rattle.btree_edit.specs.KeyWritten.{key_written}
 use Rattle.btree_edit.specs.ValueWritten.{value_written}

@@ -5,9 +5,9 @@ ghost use Rattle.btree_laws.specs.TreeState.{item_of, pairs_of};
 ghost use Rattle.btree_edit.specs.InsertAbsent.{IsGapOf};
 
 mod calls;
+mod fmt;
 mod modify;
 mod occupied;
-mod shown;
 mod vacant;
 
 use crate::BTreeMap;

@@ -20,7 +20,7 @@ use Rattle.btree_laws.proofs.Splits.Upward.{UpTo, child-apart, child-used, overf
 use Rattle.btree_laws.proofs.Trees.Numbers.{less-or, none-listed, same-or, times-has, used-low, used-mapped, used-one, zero-or}
 use Rattle.btree_laws.proofs.Trees.Sizes.{view-most, view-size}
 use Rattle.btree_raw.specs.OverflowSplit.{AddsSeparator, CutsNode, OverflowSplit, goes_up, grows_root, rests}
-use Rattle.btree_raw.specs.declared.nodes.Cut.{Cut}
+use Rattle.btree_raw.specs.declared.node_changes.Cut.{Cut}
 use Rattle.btree_raw.specs.Steps.{AreSplit, CanAddSeparator, CanCut, CanGrowRoot, CanSplitInto, HasCount, IsSplitting, MayCut, Overflows}
 use Rattle.btree_raw.proofs.SeparatorLemmas.{one-more}
 use Rattle.btree_raw.proofs.OffsetLemmas.{overflow-low}

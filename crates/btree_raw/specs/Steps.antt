@@ -18,7 +18,7 @@ use Rattle.btree_laws.specs.Lists.{times_listed}
 use Rattle.btree_laws.specs.Step.{Becomes, WritesNode}
 use Rattle.btree_laws.specs.TreeState.{TreeState, Changes, node_map}
 use Rattle.btree_laws.specs.WellFormed.{times_used}
-use Rattle.btree_raw.specs.declared.nodes.Cut.{Cut}
+use Rattle.btree_raw.specs.declared.node_changes.Cut.{Cut}
 use Rattle.btree_raw.specs.OverflowSplit.{AddsSeparator, CutsNode, OverflowSplit, StaysWhole}
 
 module _ {A : Type 0} (node_at : NodeMap A) where

@@ -8,7 +8,7 @@ ghost use Rattle.btree_raw.specs.Steps.{HasCount};
 ghost use Rattle.btree_raw.specs.TreeSteps.{EndsUnderflowIn, RotatesLeftIn, RotatesRightIn};
 
 use crate::raw::RawBTree;
-use crate::rotate::{merge, rotate_left, rotate_right};
+use crate::sibling_steps::{merge, rotate_left, rotate_right};
 use btree_item::{Address, LEAF_SLOTS, MIN_ITEMS};
 use btree_moved::{Siblings, moved_by_merge, moved_by_rotate_left, moved_by_rotate_right};
 use btree_node::NodesMut;

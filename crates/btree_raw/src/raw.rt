@@ -8,7 +8,7 @@ ghost use Rattle.btree_node.specs.Node.{view_of};
 ghost use Rattle.btree_node.specs.contracts.node.Node.{the_row as node_row};
 ghost use Rattle.btree_raw.specs.Raw.{IsWithinNode};
 
-use crate::nodes::reparent_children;
+use crate::node_changes::reparent_children;
 use btree_item::{Address, Fault, Item};
 use btree_node::{ClearNodes, CloneNodes, Node, Nodes, NodesMut};
 use btree_valid::{is_off_by_one, validate, validate_node};

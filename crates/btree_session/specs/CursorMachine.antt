@@ -13,8 +13,8 @@ use Rattle.btree_item.specs.declared.refused.Cause.{Cause}
 use Rattle.btree_item.specs.declared.refused.Cause.TheVariants.{Store, Count}
 use Rattle.btree_store.specs.Content.{Content}
 use Rattle.btree_node.specs.declared.node.Node.{Node}
-use Rattle.btree_node.specs.declared.nodes.Nodes as nodes
-use Rattle.btree_node.specs.declared.nodes.NodesMut as nodes_mut
+use Rattle.btree_node.specs.declared.node_stores.Nodes as nodes
+use Rattle.btree_node.specs.declared.node_stores.NodesMut as nodes_mut
 use Rattle.btree_laws.specs.TreeState.{Kept, TreeState, pairs_of, refused_once}
 use Rattle.btree_find.specs.Navigation.{HasPlace}
 use Rattle.btree_edit.specs.InsertAt.{InsertsAt, IsRefusedAt}
