@@ -1,7 +1,7 @@
 -- Two siblings, one of which underflows: what the steps between them require, and what holds afterwards.
 use Rattle.std.proofs.Common.{◌≡◌, ◌≢◌, ℕ, suc, ◌+◌, ◌<◌, ◌≤◌, ◌^◌, ◌-◌, inl, inr, Option, Some, None, IfSome, IsSome, List, sym, ap, subst, ◌∙◌, option_map, slice_get, arith, length}
-use Rattle.btree_moved.specs.Siblings.{between}
-use Rattle.btree_moved.specs.declared.siblings.Siblings.{Siblings}
+use Rattle.btree_raw.specs.Siblings.{between}
+use Rattle.btree_raw.specs.declared.moved.siblings.Siblings.{Siblings}
 use Rattle.btree_item.specs.Address.{Address}
 use Rattle.btree_view.specs.Edits.{with_parent}
 use Rattle.btree_view.specs.View.{NodeMap, View, leaf, internal, children_in, children_of, most_of, size_of, parent_of}

@@ -1,6 +1,6 @@
 -- Rotations and merges of two siblings, call by call.
 use Rattle.std.proofs.Common.{◌≡◌, ◌≢◌, ℕ, ◌+◌, ◌<◌, ◌≤◌, inl, inr, [], ◌∷◌, ◌++◌, Option, Some, None, IfSome, refl, sym, ap, subst, ◌∙◌, option_map, slice_get, arith}
-use Rattle.btree_moved.specs.declared.siblings.Siblings.{Siblings}
+use Rattle.btree_raw.specs.declared.moved.siblings.Siblings.{Siblings}
 use Rattle.btree_view.specs.Edits.{HasChildFor, is_internal, joined, pushed_left, pushed_right, with_other_item, without}
 use Rattle.btree_view.specs.View.{NodeMap, View, children_of, items_of}
 use Rattle.btree_laws.specs.Lists.{as_list, times_listed}

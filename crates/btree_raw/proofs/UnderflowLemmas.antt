@@ -4,7 +4,7 @@ use Rattle.std.proofs.lemmas.List.{length-map}
 use Rattle.std.specs.FinMap as nodes_map
 use Rattle.std.specs.List.{position}
 use Rattle.btree_store.specs.Content.{Content}
-use Rattle.btree_moved.specs.declared.siblings.Siblings.{Siblings}
+use Rattle.btree_raw.specs.declared.moved.siblings.Siblings.{Siblings}
 use Rattle.btree_item.specs.Address.{Address}
 use Rattle.btree_node.specs.declared.node.Node.{Node}
 use Rattle.btree_node.specs.Node.{view_of}

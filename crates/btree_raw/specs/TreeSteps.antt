@@ -8,7 +8,7 @@ use Rattle.btree_item.specs.Address.{Address}
 use Rattle.btree_node.specs.declared.node.Node.{Node}
 use Rattle.btree_node.specs.Node.{view_of}
 use Rattle.btree_view.specs.View.{NodeMap, children_in, size_of}
-use Rattle.btree_moved.specs.declared.siblings.Siblings.{Siblings}
+use Rattle.btree_raw.specs.declared.moved.siblings.Siblings.{Siblings}
 use Rattle.btree_laws.specs.Moved.{first_in}
 use Rattle.btree_laws.specs.Step.{Splits}
 use Rattle.btree_laws.specs.TreeState.{TreeState, Changes, node_map, pairs_of}

@@ -8,7 +8,7 @@ use Rattle.std.specs.Prelude.{◌-◌, ◌*◌, ◌≡◌, ℕ, suc, ◌+◌, �
 use Rattle.btree_item.specs.declared.TheConstants.{MIN_ITEMS}
 use Rattle.btree_item.specs.Address.{Address}
 use Rattle.btree_view.specs.View.{View, NodeMap, children_of, parent_of, size_of}
-use Rattle.btree_moved.specs.declared.siblings.Siblings.{Siblings}
+use Rattle.btree_raw.specs.declared.moved.siblings.Siblings.{Siblings}
 use Rattle.btree_laws.specs.Focus.Overflow.{IsRepaired}
 use Rattle.btree_laws.specs.UnderflowFix.{Borrows, IsUnderflowFixed, MergesNode, NoneSpares, child_at}
 use Rattle.btree_laws.specs.Need.{levels_above}

@@ -7,10 +7,10 @@ ghost use Rattle.btree_raw.specs.Underflow.{AreAdjacent, GoesUpFromEither, FitTo
 ghost use Rattle.btree_raw.specs.Steps.{HasCount};
 ghost use Rattle.btree_raw.specs.TreeSteps.{EndsUnderflowIn, RotatesLeftIn, RotatesRightIn};
 
+use crate::moved::{Siblings, moved_by_merge, moved_by_rotate_left, moved_by_rotate_right};
 use crate::raw::RawBTree;
 use crate::sibling_steps::{merge, rotate_left, rotate_right};
 use btree_item::{Address, LEAF_SLOTS, MIN_ITEMS};
-use btree_moved::{Siblings, moved_by_merge, moved_by_rotate_left, moved_by_rotate_right};
 use btree_node::NodesMut;
 
 /// Moves the first item of the right sibling into the left one, which underflows and has `count` items, through their parent. Returns the

@@ -4,6 +4,7 @@
 mod borrow;
 mod claims;
 mod insertion;
+mod moved;
 mod need;
 mod node_changes;
 mod raw;

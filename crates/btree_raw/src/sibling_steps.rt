@@ -14,10 +14,10 @@ ghost use Rattle.btree_raw.specs.Steps.{HasCount};
 ghost use Rattle.btree_raw.specs.TreeSteps.{HasFirstChild, RotatesLeftIn, RotatesRightIn};
 
 use crate::claims::empty_leaf;
+use crate::moved::Siblings;
 use crate::node_changes::{adopt, set_parent};
 use crate::raw::RawBTree;
 use btree_item::{Item, LEAF_SLOTS, MIN_ITEMS, Offset};
-use btree_moved::Siblings;
 use btree_node::{Node, NodesMut};
 use btree_view::WouldUnderflow;
 

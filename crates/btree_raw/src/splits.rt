@@ -6,10 +6,10 @@ ghost use Rattle.btree_raw.specs.Steps.{AddsAndSplits, CanAddItem, CanGrowRoot, 
 ghost use Rattle.btree_raw.specs.TreeSteps.{IsCutFromSome, SplitsFromCut};
 
 use crate::claims::{ClaimedIds, take_claim};
+use crate::moved::moved_by_split;
 use crate::node_changes::{Cut, add_and_cut, cut_node, insert_separator, put, set_parent};
 use crate::raw::RawBTree;
 use btree_item::{Address, Item};
-use btree_moved::moved_by_split;
 use btree_node::{Node, NodesMut};
 
 // Makes node `root` a new root over two nodes.

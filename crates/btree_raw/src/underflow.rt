@@ -10,10 +10,10 @@ ghost use Rattle.btree_raw.specs.Steps.{HasCount, HasParent};
 ghost use Rattle.btree_raw.specs.TreeSteps.{StaysIfFit};
 
 use crate::borrow::{borrow_from_left, borrow_from_right, merge_siblings};
+use crate::moved::{Siblings, moved_by_shrink_root};
 use crate::raw::RawBTree;
 use crate::sibling_steps::shrink_root;
 use btree_item::{Address, LEAF_SLOTS, MIN_ITEMS};
-use btree_moved::{Siblings, moved_by_shrink_root};
 use btree_node::NodesMut;
 
 // Returns two adjacent children, if both are there.

@@ -1,10 +1,10 @@
 //! New addresses after a step that fixes an underflow between two siblings. `count` is the number of items that the left sibling had, and
 //! `child` the first child of the right one, if it has one.
 ghost use Rattle.std.specs.Prelude.{◌≡◌, ◌+◌, ◌<◌, IfSome};
-ghost use Rattle.btree_moved.specs.Siblings.{between};
+ghost use Rattle.btree_raw.specs.Siblings.{between};
 ghost use Rattle.btree_laws.specs.Moved as moved;
 
-use crate::Siblings;
+use super::Siblings;
 use btree_item::{Address, Offset};
 
 fn before_child_or(child: Option<usize>, other: Address) -> Address
