@@ -6,7 +6,7 @@ use Rattle.btree_item.specs.Address.{Address}
 use Rattle.btree_laws.specs.TreeState.{TreeState, pairs_of}
 use Rattle.btree_find.specs.Fits.{FitsAt}
 use Rattle.btree_find.specs.Navigation.{HasPlace}
-use Rattle.btree_edit.specs.InsertAt.{InsertsAt}
+use Rattle.btree_ext.specs.InsertAt.{InsertsAt}
 use Rattle.bench_maps.specs.Begins.{BeginsAt}
 
 insert-first : (xs : List (ℕ × ℕ)) (x : ℕ × ℕ) → slice_get (insert xs 0 x) 0 ≡ Some x

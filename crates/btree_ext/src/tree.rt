@@ -7,11 +7,13 @@ ghost use Rattle.btree_raw.specs.Limit.{IsBTreeWithinLimit, IsWithinLimit};
 
 use crate::ext::BTreeExt;
 use crate::ext_mut::BTreeExtMut;
-use btree_edit::{
-    exchange, get_mut, get_mut_by, get_mut_in, insert, insert_absent, insert_at, insert_exactly_at,
-    pair_mut, remove_at, remove_by, remove_entry, replace, replace_at, update, update_at,
-    update_in,
-};
+use crate::insertion::{insert, insert_absent};
+use crate::insertion_at::{insert_at, insert_exactly_at};
+use crate::removal::{remove_at, remove_by, remove_entry};
+use crate::replacement::{replace, replace_at};
+use crate::updates::{update, update_in};
+use crate::updates_at::update_at;
+use crate::values::{exchange, get_mut, get_mut_by, get_mut_in, pair_mut};
 use btree_find::get;
 use btree_item::{Address, Fault, Item, Query, Refused, UpdateRefused};
 use btree_node::{ClearNodes, CloneNodes, NodesMut};
@@ -46,8 +48,8 @@ impl<K: Ord, V, C: NodesMut<K, V>> Tree<K, V, C> {
     ghost use Rattle.std.specs.Option.{option_copied_mut};
     ghost use Rattle.btree_item.specs.Pairs.{found_value};
     ghost use Rattle.btree_laws.specs.TreeState.{IsBTree, limited_to, pairs_of, rootless, unlimited, with_limit};
-    ghost use Rattle.btree_edit.specs.Outcomes.{ExchangesLent, ExchangesLentBy};
-    ghost use Rattle.btree_ext.specs.Lent.{lends_at_key, lends_by};
+    ghost use Rattle.btree_ext.specs.Outcomes.{ExchangesLent, ExchangesLentBy};
+    ghost use Rattle.btree_ext.specs.TreeLent.{lends_at_key, lends_by};
 
     /// Returns a tree without pairs, over an empty store made from `origin`. It allocates no memory.
     ///
@@ -189,10 +191,10 @@ impl<K: Ord, V, C: NodesMut<K, V>> Tree<K, V, C> {
 impl<K: Ord + Drop, V: Drop, C: NodesMut<K, V>> Tree<K, V, C> {
     ghost use Rattle.btree_item.specs.Pairs.{found, found_value};
     ghost use Rattle.btree_laws.specs.TreeState.{pairs_of};
-    ghost use Rattle.btree_edit.specs.ByKey.{InsertOutcome, ReplaceOutcome, UpdateOutcome};
-    ghost use Rattle.btree_edit.specs.Insert.{IsRefusedAtGap};
-    ghost use Rattle.btree_edit.specs.InsertAbsent.{InsertsAbsent, IsGapOf};
-    ghost use Rattle.btree_edit.specs.Remove.{RemovesBy, RemovesByKey, removed};
+    ghost use Rattle.btree_ext.specs.ByKey.{InsertOutcome, ReplaceOutcome, UpdateOutcome};
+    ghost use Rattle.btree_ext.specs.Insert.{IsRefusedAtGap};
+    ghost use Rattle.btree_ext.specs.InsertAbsent.{InsertsAbsent, IsGapOf};
+    ghost use Rattle.btree_ext.specs.Remove.{RemovesBy, RemovesByKey, removed};
 
     /// Inserts a pair, or replaces the value if the key is there: the stored key stays, and the given one is dropped.
     ///
@@ -328,10 +330,10 @@ impl<K: Ord + Drop, V: Drop, C: NodesMut<K, V>> BTreeExtMut<K, V> for Tree<K, V,
     ghost use Rattle.btree_item.specs.Pairs.{found, found_value};
     ghost use Rattle.btree_laws.specs.TreeState.{IsLeafAddressIn, IsUsed, IsValidIn, pairs_of};
     ghost use Rattle.btree_find.specs.Fits.{FitsAt, FitsIn, pairs_below};
-    ghost use Rattle.btree_edit.specs.Insert.{IsGrantedIfAbsent, IsRefusedAtGap};
-    ghost use Rattle.btree_edit.specs.InsertAt.{InsertsAt, IsRefusedAt};
-    ghost use Rattle.btree_edit.specs.Update.{RunsByKey};
-    ghost use Rattle.btree_edit.specs.ValueWritten.{value_written};
+    ghost use Rattle.btree_ext.specs.Insert.{IsGrantedIfAbsent, IsRefusedAtGap};
+    ghost use Rattle.btree_ext.specs.InsertAt.{InsertsAt, IsRefusedAt};
+    ghost use Rattle.btree_ext.specs.Update.{RunsByKey};
+    ghost use Rattle.btree_ext.specs.ValueWritten.{value_written};
 
     ghost with_value = { value_written };
 

@@ -21,10 +21,10 @@ use Rattle.btree_find.specs.Answers.{IsGapAt}
 use Rattle.btree_find.specs.Ends.{IsLeafBackAt}
 use Rattle.btree_find.specs.Navigation.{HasPlace, IsLeafAddressFor}
 use Rattle.btree_find.proofs.EndsLemmas.{leaf-back-at}
-use Rattle.btree_edit.specs.Insert.{InsertsByKey, IsGrantedIfAbsent, IsRefusedAtGap}
-use Rattle.btree_edit.specs.InsertAt.{InsertsAt, IsRefusedAt}
-use Rattle.btree_edit.specs.Replace.{ReplacesByKey}
-use Rattle.btree_edit.proofs.RoomLemmas.{room-needed}
+use Rattle.btree_ext.specs.Insert.{InsertsByKey, IsGrantedIfAbsent, IsRefusedAtGap}
+use Rattle.btree_ext.specs.InsertAt.{InsertsAt, IsRefusedAt}
+use Rattle.btree_ext.specs.Replace.{ReplacesByKey}
+use Rattle.btree_ext.proofs.RoomLemmas.{room-needed}
 use Rattle.btree_fixed.specs.Capacity.{ExceedsCapacity, HoldsAll, HoldsAtMost, RefusesExactly, RefusesExactlyAt, TakesFew}
 
 -- claims add their number

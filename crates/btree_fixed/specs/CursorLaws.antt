@@ -24,7 +24,7 @@ use Rattle.btree_laws.proofs.AddressLists.Whole.{addresses-tree}
 use Rattle.btree_find.specs.Ends.{IsLeafBackAt}
 use Rattle.btree_find.proofs.EndsLemmas.{leaf-back-at}
 use Rattle.btree_find.proofs.PlaceLemmas.{empty-by}
-use Rattle.btree_edit.specs.InsertAt.{InsertsAt, IsRefusedAt}
+use Rattle.btree_ext.specs.InsertAt.{InsertsAt, IsRefusedAt}
 use Rattle.btree_map.specs.Editing.{InsertsEntry, RefusesEntry, entry_front, passed_of}
 use Rattle.btree_map.specs.SpanLaws.{index-within}
 use Rattle.btree_map.specs.declared.cursor.editing.EntriesMut.{EntriesMut}

@@ -21,9 +21,9 @@ use Rattle.btree_node.specs.declared.node_stores.Nodes as nodes
 use Rattle.btree_node.specs.declared.node_stores.NodesMut as nodes_mut
 use Rattle.btree_view.specs.View.{item_at_offset}
 use Rattle.btree_laws.specs.TreeState.{TreeState, pairs_of}
-use Rattle.btree_edit.specs.Insert.{IsRefusedAtGap}
-use Rattle.btree_edit.specs.Exchange.{IsValueExchanged}
-use Rattle.btree_edit.specs.ValueWritten.{item_written, node_written, value_written}
+use Rattle.btree_ext.specs.Insert.{IsRefusedAtGap}
+use Rattle.btree_ext.specs.Exchange.{IsValueExchanged}
+use Rattle.btree_ext.specs.ValueWritten.{item_written, node_written, value_written}
 use Rattle.btree_map.specs.Entry.{IsRefusedEntry, WritesEntry, asked_key, entry_map, entry_pair, entry_value}
 use Rattle.btree_map.specs.Written.{IsInsertedWith}
 use Rattle.btree_map.specs.declared.entry.Entry.{Entry}

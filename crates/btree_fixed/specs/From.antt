@@ -6,7 +6,7 @@ use Rattle.btree_item.specs.Address.{Address}
 use Rattle.btree_item.specs.declared.refused.Cause.{Cause}
 use Rattle.btree_laws.specs.TreeState.{TreeState, pairs_of}
 use Rattle.btree_find.specs.Navigation.{HasPlace}
-use Rattle.btree_edit.specs.InsertAt.{IsRefusedAt}
+use Rattle.btree_ext.specs.InsertAt.{IsRefusedAt}
 use Rattle.btree_walk.specs.Bounds.{pairs_from}
 use Rattle.btree_map.specs.Editing.{FitsBetween}
 use Rattle.btree_map.specs.Spans.{pairs_before}

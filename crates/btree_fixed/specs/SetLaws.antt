@@ -10,8 +10,8 @@ use Rattle.btree_item.specs.Pairs.{found}
 use Rattle.btree_item.specs.declared.refused.Cause.{Cause}
 use Rattle.btree_laws.specs.TreeState.{pairs_of}
 use Rattle.btree_raw.specs.Limit.{IsBelowLimit}
-use Rattle.btree_edit.specs.Insert.{InsertsByKey}
-use Rattle.btree_edit.specs.Replace.{ReplacesByKey}
+use Rattle.btree_ext.specs.Insert.{InsertsByKey}
+use Rattle.btree_ext.specs.Replace.{ReplacesByKey}
 use Rattle.btree_set.specs.Elements.{IsInTree, IsRefused, SetState, stored}
 use Rattle.btree_set.proofs.KeyLemmas.{stored-keys}
 use Rattle.btree_fixed.specs.Capacity.{HoldsAll, RefusesElementExactly, TakesFewElements}

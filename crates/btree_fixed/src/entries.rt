@@ -2,7 +2,7 @@
 ghost use Rattle.std.specs.Prelude.{◌≡◌, ◌↔◌, None, IfErr, IfOk, IsFalse, IsTrue, OnOk};
 ghost use Rattle.btree_item.specs.Pairs.{found};
 ghost use Rattle.btree_laws.specs.TreeState.{pairs_of};
-ghost use Rattle.btree_edit.specs.Insert.{IsRefusedAtGap};
+ghost use Rattle.btree_ext.specs.Insert.{IsRefusedAtGap};
 ghost use Rattle.btree_fixed.specs.Capacity.{HoldsAll, HoldsAtMost, InsertsByEntry, KeepsPresent, RefusesExactly, TakesFew};
 
 use crate::{FixedMap, tell_held};

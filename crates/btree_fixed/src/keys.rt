@@ -3,9 +3,9 @@ ghost use Rattle.std.specs.Prelude.{◌≡◌, None, IfErr, IfOk, OnErr, OnOk};
 ghost use Rattle.btree_item.specs.Pairs.{found, found_value, inserted};
 ghost use Rattle.btree_laws.specs.TreeState.{IsUsed, pairs_of};
 ghost use Rattle.btree_find.specs.Fits.{FitsIn};
-ghost use Rattle.btree_edit.specs.Insert.{IsRefusedAtGap};
-ghost use Rattle.btree_edit.specs.Replace.{replaced};
-ghost use Rattle.btree_edit.specs.Update.{RunsByKey};
+ghost use Rattle.btree_ext.specs.Insert.{IsRefusedAtGap};
+ghost use Rattle.btree_ext.specs.Replace.{replaced};
+ghost use Rattle.btree_ext.specs.Update.{RunsByKey};
 ghost use Rattle.btree_fixed.specs.Capacity.{HoldsAll, HoldsAtMost, RefusesExactly, TakesFew};
 
 use crate::{FixedMap, tell_held};

@@ -2,7 +2,7 @@
 ghost use Rattle.std.specs.Prelude.{◌≡◌, IfErr, IfOk, IsSome, OnErr, OnOk};
 ghost use Rattle.btree_laws.specs.TreeState.{IsLeafAddressIn, IsValidIn, pairs_of};
 ghost use Rattle.btree_find.specs.Fits.{FitsAt};
-ghost use Rattle.btree_edit.specs.InsertAt.{InsertsAt, IsRefusedAt};
+ghost use Rattle.btree_ext.specs.InsertAt.{InsertsAt, IsRefusedAt};
 ghost use Rattle.btree_walk.specs.Bounds.{bound_key};
 ghost use Rattle.btree_fixed.specs.Capacity.{HoldsAll, HoldsAtMost, RefusesExactlyAt, TakesFew};
 ghost use Rattle.btree_fixed.specs.From.{FitsFrom, InsertsFrom, IsRefusedFrom, RefusesExactlyFrom};

@@ -2,8 +2,8 @@
 ghost use Rattle.std.specs.Prelude.{◌≡◌, IsSome, Some};
 ghost use Rattle.btree_item.specs.Pairs.{found, found_value, inserted};
 ghost use Rattle.btree_laws.specs.TreeState.{pairs_of};
-ghost use Rattle.btree_edit.specs.Replace.{replaced};
-ghost use Rattle.btree_edit.specs.Update.{RunsByKey};
+ghost use Rattle.btree_ext.specs.Replace.{replaced};
+ghost use Rattle.btree_ext.specs.Update.{RunsByKey};
 
 use btree_map::BTreeMap;
 use btree_node::NodesMut;

@@ -4,8 +4,8 @@ ghost use Rattle.btree_item.specs.Pairs.{found_value, inserted};
 ghost use Rattle.btree_laws.specs.TreeState.{IsValidIn, pairs_of};
 ghost use Rattle.btree_raw.specs.Limit.{IsBelowLimit};
 ghost use Rattle.btree_find.specs.Fits.{FitsAt};
-ghost use Rattle.btree_edit.specs.InsertAt.{InsertsAt};
-ghost use Rattle.btree_edit.specs.Update.{RunsByKey};
+ghost use Rattle.btree_ext.specs.InsertAt.{InsertsAt};
+ghost use Rattle.btree_ext.specs.Update.{RunsByKey};
 ghost use Rattle.btree_fixed.specs.Capacity.{NeedsNoNode, NeedsNoNodeAt};
 
 use btree_ext::BTreeExtMut;

@@ -1,7 +1,7 @@
 -- Nodes that overflow, and the splits from a node upward. Main theorem: the step in Upward, from a node that may have
 -- an item too many: `overflow-done` if it has not; else it is split, and the parent is next (`to-parent`) or the root
 -- grows (`new-root`). The loop `split_upward` of btree_raw goes through these cases.
--- Closing law: `repaired-well` in Insertion, cited by btree_edit. When the splits after an insertion have ended, in
+-- Closing law: `repaired-well` in Insertion, cited by btree_ext. When the splits after an insertion have ended, in
 -- `IsRepaired`, the tree is well formed and has the pair at its place. (After a rebalancing it is `fixed-well` in
 -- Underflow/OffByOne.)
 -- Order: a node in two parts (TwoParts), the tree with them (Trees), where its addresses go (CutPositions,

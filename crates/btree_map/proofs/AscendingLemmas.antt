@@ -11,7 +11,7 @@ use Rattle.btree_item.proofs.PairEdits.{before-from_KeyFits, found-from_KeyFits,
 use Rattle.btree_item.specs.Address.{Address}
 use Rattle.btree_laws.specs.TreeState.{TreeState, item_of, pairs_of}
 use Rattle.btree_laws.proofs.Options.{else-none}
-use Rattle.btree_edit.specs.InsertAbsent.{InsertsAbsent}
+use Rattle.btree_ext.specs.InsertAbsent.{InsertsAbsent}
 use Rattle.btree_map.specs.Ascending.{GoesLast, IsAboveLast, IsLastPair}
 use Rattle.btree_map.proofs.EntryLemmas.{item-valid}
 

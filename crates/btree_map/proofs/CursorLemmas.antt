@@ -10,8 +10,8 @@ use Rattle.btree_laws.specs.Visits.{prior}
 use Rattle.btree_laws.proofs.AddressLists.Whole.{addresses-tree}
 use Rattle.btree_find.specs.Navigation.{IsItemBefore, IsNext, IsPrevious}
 use Rattle.btree_find.proofs.FitsLemmas.{occupied-item}
-use Rattle.btree_edit.specs.Exchange.{IsValueExchanged}
-use Rattle.btree_edit.specs.ValueWritten.{value_written}
+use Rattle.btree_ext.specs.Exchange.{IsValueExchanged}
+use Rattle.btree_ext.specs.ValueWritten.{value_written}
 use Rattle.btree_map.specs.Cursor.{WritesPlace, or_nowhere}
 use Rattle.btree_map.specs.WrittenAddresses.{written-addresses}
 use Rattle.btree_map.proofs.EntryLemmas.{item-valid}

@@ -18,8 +18,8 @@ use Rattle.btree_find.specs.Fits.{FitsAt}
 use Rattle.btree_find.specs.Navigation.{HasPlace, IsNext, IsNormalized}
 use Rattle.btree_find.proofs.FitsLemmas.{item-occupied, occupied-item}
 use Rattle.btree_find.proofs.PlaceLemmas.{has-place, only}
-use Rattle.btree_edit.specs.InsertAt.{InsertsAt}
-use Rattle.btree_edit.specs.Remove.{IsRemoved}
+use Rattle.btree_ext.specs.InsertAt.{InsertsAt}
+use Rattle.btree_ext.specs.Remove.{IsRemoved}
 use Rattle.btree_map.specs.Editing.{FitsBetween}
 use Rattle.btree_map.proofs.CursorLemmas.{get_none, listed-item, listed-occupied, listed-valid}
 use Rattle.btree_map.proofs.EditingLists.{between-fits, drop-first, fits-between, insert-drop, insert-take, remove-drop, remove-take}

@@ -17,8 +17,8 @@ use Rattle.btree_laws.specs.Place.{NOWHERE}
 use Rattle.btree_laws.specs.TreeAddresses.{item_addresses_of}
 use Rattle.btree_laws.specs.TreeState.{TreeState, pairs_of}
 use Rattle.btree_laws.specs.Visits.{prior}
-use Rattle.btree_edit.specs.Exchange.{IsValueExchanged}
-use Rattle.btree_edit.specs.ValueWritten.{value_written}
+use Rattle.btree_ext.specs.Exchange.{IsValueExchanged}
+use Rattle.btree_ext.specs.ValueWritten.{value_written}
 use Rattle.btree_map.specs.WrittenAddresses.{written-addresses}
 use Rattle.btree_map.specs.declared.cursor.IterMut.{IterMut}
 use Rattle.btree_map.specs.declared.cursor.ValuesMut.{ValuesMut}

@@ -10,9 +10,9 @@ use Rattle.std.specs.declared.cmp.PartialOrd as partial
 use Rattle.btree_item.specs.declared.refused.Refused.{Refused}
 use Rattle.btree_node.specs.declared.node_stores.Nodes as nodes
 use Rattle.btree_node.specs.declared.node_stores.NodesMut as nodes_mut
-use Rattle.btree_edit.specs.Insert.{IsRefusedAtGap}
-use Rattle.btree_edit.specs.KeyWritten.{key_written}
-use Rattle.btree_edit.specs.ValueWritten.{value_written}
+use Rattle.btree_ext.specs.Insert.{IsRefusedAtGap}
+use Rattle.btree_ext.specs.KeyWritten.{key_written}
+use Rattle.btree_ext.specs.ValueWritten.{value_written}
 use Rattle.btree_raw.specs.Lent.{StoreMembers}
 use Rattle.btree_map.specs.Entry.{IsRefusedEntry, WritesEntry, entry_map, with_entry_value}
 use Rattle.btree_map.specs.declared.entry.Entry.{Entry}

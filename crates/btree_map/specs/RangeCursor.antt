@@ -12,7 +12,7 @@ use Rattle.btree_node.specs.declared.node_stores.NodesMut as nodes_mut
 use Rattle.btree_laws.specs.TreeAddresses.{item_addresses_of}
 use Rattle.btree_laws.specs.TreeState.{TreeState, pairs_of}
 use Rattle.btree_laws.specs.Visits.{prior}
-use Rattle.btree_edit.specs.ValueWritten.{value_written}
+use Rattle.btree_ext.specs.ValueWritten.{value_written}
 use Rattle.btree_map.specs.Cursor.{WritesPlace, or_nowhere}
 use Rattle.btree_map.specs.SpanLaws.{at-index, before-index}
 use Rattle.btree_map.specs.Spans.{index_after, index_of}

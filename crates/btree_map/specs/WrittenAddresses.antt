@@ -14,7 +14,7 @@ use Rattle.btree_laws.specs.Addresses.{slots, item_addresses, item_addresses_in,
 use Rattle.btree_laws.specs.Focus.Positions.{address_at}
 use Rattle.btree_laws.specs.TreeAddresses.{item_addresses_of}
 use Rattle.btree_laws.specs.TreeState.{TreeState, node_map}
-use Rattle.btree_edit.specs.ValueWritten.{item_written, node_written, value_written}
+use Rattle.btree_ext.specs.ValueWritten.{item_written, node_written, value_written}
 
 -- the addresses of the items of an internal node and below it, from its children
 abbrev under : (ℕ → List Address) → ℕ → List ℕ → List Address

@@ -34,7 +34,7 @@ impl<K: Ord, V, C: NodesMut<K, V>> BTreeMap<K, V, C> {
     ghost use Rattle.btree_node.specs.contracts.node.Node.{the_row as node_row};
     ghost use Rattle.btree_item.specs.Pairs.{found_value};
     ghost use Rattle.btree_laws.specs.TreeState.{IsBTree, limited_to, pairs_of, rootless, unlimited};
-    ghost use Rattle.btree_edit.specs.Outcomes.{ExchangesLent, ExchangesLentBy};
+    ghost use Rattle.btree_ext.specs.Outcomes.{ExchangesLent, ExchangesLentBy};
     ghost use Rattle.btree_map.specs.Lent.{lends_at_key, lends_by};
 
     /// Returns a map without pairs, over an empty store made from `origin`. It allocates no memory.
@@ -165,11 +165,11 @@ impl<K: Ord, V, C: NodesMut<K, V>> BTreeMap<K, V, C> {
 impl<K: Ord + Drop, V: Drop, C: NodesMut<K, V>> BTreeMap<K, V, C> {
     ghost use Rattle.btree_item.specs.Pairs.{found, found_value, inserted};
     ghost use Rattle.btree_laws.specs.TreeState.{pairs_of};
-    ghost use Rattle.btree_edit.specs.Insert.{InsertsByKey, IsGrantedIfAbsent, IsRefusedAtGap};
-    ghost use Rattle.btree_edit.specs.InsertAbsent.{InsertsAbsent, IsGapOf};
-    ghost use Rattle.btree_edit.specs.Remove.{RemovesBy, RemovesByKey, removed};
-    ghost use Rattle.btree_edit.specs.Replace.{ReplacesByKey, replaced};
-    ghost use Rattle.btree_edit.specs.Update.{RunsByKey};
+    ghost use Rattle.btree_ext.specs.Insert.{InsertsByKey, IsGrantedIfAbsent, IsRefusedAtGap};
+    ghost use Rattle.btree_ext.specs.InsertAbsent.{InsertsAbsent, IsGapOf};
+    ghost use Rattle.btree_ext.specs.Remove.{RemovesBy, RemovesByKey, removed};
+    ghost use Rattle.btree_ext.specs.Replace.{ReplacesByKey, replaced};
+    ghost use Rattle.btree_ext.specs.Update.{RunsByKey};
     ghost use Rattle.btree_map.specs.Removal.{RemovesValueBy, RemovesValueOf};
 
     /// Inserts a pair, or replaces the value if the key is there: the stored key stays, and the given one is dropped.
@@ -336,10 +336,10 @@ impl<K: Ord + Drop, V: Drop, C: NodesMut<K, V>> BTreeExtMut<K, V> for BTreeMap<K
     ghost use Rattle.btree_item.specs.Pairs.{found, found_value};
     ghost use Rattle.btree_laws.specs.TreeState.{IsLeafAddressIn, IsUsed, IsValidIn, pairs_of};
     ghost use Rattle.btree_find.specs.Fits.{FitsAt, FitsIn, pairs_below};
-    ghost use Rattle.btree_edit.specs.Insert.{IsGrantedIfAbsent, IsRefusedAtGap};
-    ghost use Rattle.btree_edit.specs.InsertAt.{InsertsAt, IsRefusedAt};
-    ghost use Rattle.btree_edit.specs.Update.{RunsByKey};
-    ghost use Rattle.btree_edit.specs.ValueWritten.{value_written};
+    ghost use Rattle.btree_ext.specs.Insert.{IsGrantedIfAbsent, IsRefusedAtGap};
+    ghost use Rattle.btree_ext.specs.InsertAt.{InsertsAt, IsRefusedAt};
+    ghost use Rattle.btree_ext.specs.Update.{RunsByKey};
+    ghost use Rattle.btree_ext.specs.ValueWritten.{value_written};
 
     ghost with_value = { value_written };
 

@@ -14,8 +14,8 @@ use Rattle.btree_find.specs.Fits.{FitsAt}
 use Rattle.btree_find.specs.Navigation.{HasPlace, IsNormalized}
 use Rattle.btree_find.proofs.PlaceLemmas.{has-place, place-there}
 use Rattle.btree_raw.specs.Limit.{IsWithinLimit}
-use Rattle.btree_edit.specs.InsertAt.{InsertsAt, IsRefusedAt}
-use Rattle.btree_edit.specs.Remove.{IsRemoved, RemovesByKey}
+use Rattle.btree_ext.specs.InsertAt.{InsertsAt, IsRefusedAt}
+use Rattle.btree_ext.specs.Remove.{IsRemoved, RemovesByKey}
 use Rattle.btree_session.specs.declared.command.Command.TheVariants.{Remove, Clear, Put, Take}
 use Rattle.btree_session.specs.declared.command.Reply.TheVariants.{Nothing, Value, Pair, Done, NoPlace, Unfit, Refused}
 use Rattle.btree_session.specs.Held.{Held, HoldsBack}

@@ -14,7 +14,7 @@ use Rattle.btree_find.specs.Navigation.{HasPlace}
 use Rattle.btree_find.proofs.PlaceLemmas.{has-place, place-there}
 use Rattle.btree_raw.specs.Insertion.{IsRefused}
 use Rattle.btree_raw.specs.Limit.{IsWithinLimit}
-use Rattle.btree_edit.specs.Insert.{IsRefusedAtGap, InsertsByKey}
+use Rattle.btree_ext.specs.Insert.{IsRefusedAtGap, InsertsByKey}
 use Rattle.btree_session.specs.declared.command.Command.{Command}
 use Rattle.btree_session.specs.declared.command.Command.TheVariants.{Insert, Get}
 use Rattle.btree_session.specs.declared.command.Reply.{Reply}

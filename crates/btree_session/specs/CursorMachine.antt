@@ -17,8 +17,8 @@ use Rattle.btree_node.specs.declared.node_stores.Nodes as nodes
 use Rattle.btree_node.specs.declared.node_stores.NodesMut as nodes_mut
 use Rattle.btree_laws.specs.TreeState.{Kept, TreeState, pairs_of, refused_once}
 use Rattle.btree_find.specs.Navigation.{HasPlace}
-use Rattle.btree_edit.specs.InsertAt.{InsertsAt, IsRefusedAt}
-use Rattle.btree_edit.specs.Remove.{IsRemoved}
+use Rattle.btree_ext.specs.InsertAt.{InsertsAt, IsRefusedAt}
+use Rattle.btree_ext.specs.Remove.{IsRemoved}
 use Rattle.btree_map.specs.Cursor.{WritesPlace}
 use Rattle.btree_map.specs.Editing.{FitsBetween, entry_front}
 use Rattle.btree_map.specs.declared.cursor.editing.EntriesMut.{EntriesMut}

@@ -1,18 +1,18 @@
 -- The words that the contracts of the public functions cite, so that a crate that names this library alone can import each
 -- of them, as `Rattle.btree_slab.specs.TreeState.{pairs_of}`.
-pub use Rattle.btree_edit.specs.ByKey
-pub use Rattle.btree_edit.specs.Exchange
-pub use Rattle.btree_edit.specs.Insert
-pub use Rattle.btree_edit.specs.InsertAbsent
-pub use Rattle.btree_edit.specs.InsertAt
-pub use Rattle.btree_edit.specs.KeyWritten
-pub use Rattle.btree_edit.specs.Outcomes
-pub use Rattle.btree_edit.specs.Remove
-pub use Rattle.btree_edit.specs.Replace
-pub use Rattle.btree_edit.specs.Update
-pub use Rattle.btree_edit.specs.ValueWritten
+pub use Rattle.btree_ext.specs.ByKey
+pub use Rattle.btree_ext.specs.Exchange
+pub use Rattle.btree_ext.specs.Insert
+pub use Rattle.btree_ext.specs.InsertAbsent
+pub use Rattle.btree_ext.specs.InsertAt
+pub use Rattle.btree_ext.specs.KeyWritten
+pub use Rattle.btree_ext.specs.Outcomes
+pub use Rattle.btree_ext.specs.Remove
+pub use Rattle.btree_ext.specs.Replace
+pub use Rattle.btree_ext.specs.Update
+pub use Rattle.btree_ext.specs.ValueWritten
 pub use Rattle.btree_ext.specs.Changes
-pub use Rattle.btree_ext.specs.Lent as ExtLent
+pub use Rattle.btree_ext.specs.TreeLent
 pub use Rattle.btree_ext.specs.Seen
 pub use Rattle.btree_find.specs.Answers
 pub use Rattle.btree_find.specs.Ends
@@ -114,7 +114,7 @@ pub use Rattle.btree_walk.specs.Ranges as WalkRanges
 pub use Rattle.btree_walk.specs.Rows
 -- what callers conclude from them
 pub use Rattle.btree_find.specs.CallerLaws as FindLaws
-pub use Rattle.btree_edit.specs.CallerLaws as EditLaws
+pub use Rattle.btree_ext.specs.CallerLaws as EditLaws
 pub use Rattle.btree_map.specs.CallerLaws as MapLaws
 pub use Rattle.btree_range_set.specs.CallerLaws as RangeLaws
 pub use Rattle.btree_valid.proofs.ReadLaws

@@ -4,9 +4,9 @@ ghost use Rattle.std.specs.Iterator.{IsFinite};
 ghost use Rattle.std.specs.Ordering.{nat_cmp};
 ghost use Rattle.btree_item.specs.Pairs.{found, found_value, inserted};
 ghost use Rattle.btree_laws.specs.TreeState.{IsOccupiedIn, pairs_of};
-ghost use Rattle.btree_edit.specs.Exchange.{IsValueExchanged};
-ghost use Rattle.btree_edit.specs.Outcomes.{WritesAtKey};
-ghost use Rattle.btree_edit.specs.Update.{UpdatesAt, updated};
+ghost use Rattle.btree_ext.specs.Exchange.{IsValueExchanged};
+ghost use Rattle.btree_ext.specs.Outcomes.{WritesAtKey};
+ghost use Rattle.btree_ext.specs.Update.{UpdatesAt, updated};
 
 use btree_ext::BTreeExtMut;
 use btree_item::{Address, Refused};

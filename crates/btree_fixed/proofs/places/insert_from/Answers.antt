@@ -3,7 +3,7 @@ use Rattle.std.proofs.lemmas.Result.{IfErr-weaker, on_err_weaker, on_ok_weaker}
 use Rattle.std.specs.FinMap as map
 use Rattle.btree_laws.specs.TreeState.{TreeState, IsBTree, pairs_of}
 use Rattle.btree_find.specs.Navigation.{HasPlace}
-use Rattle.btree_edit.specs.InsertAt.{IsRefusedAt}
+use Rattle.btree_ext.specs.InsertAt.{IsRefusedAt}
 use Rattle.btree_map.specs.Editing.{entry_front}
 use Rattle.btree_fixed.specs.Capacity.{HoldsAll, RefusesExactlyAtPlace, TakesFew}
 use Rattle.btree_fixed.specs.CursorLaws.{cursor-exact, cursor-taken, front-passed}
