@@ -65,13 +65,13 @@ def main():
     parser.add_argument("counts", nargs="+", type=int)
     parser.add_argument("--rounds", type=int, default=7)
     given = parser.parse_args()
-    crate = os.path.join("crates", "btree_bench")
+    crate = os.path.join("crates", "bench_maps")
     subprocess.run(["rt", "run"], cwd=crate, stdout=subprocess.DEVNULL, check=True)
     with tempfile.TemporaryDirectory() as folder:
         rust = os.path.join(folder, "std_map")
         subprocess.run(["rustc", "-C", "opt-level=3", "-o", rust, "bench/std_map.rs"], check=True)
         for count in given.counts:
-            least = measure(count, given.rounds, os.path.join(crate, "out", "btree_bench"), rust)
+            least = measure(count, given.rounds, os.path.join(crate, "out", "bench_maps"), rust)
             print_table(count, least)
             print_chart(least)
 

@@ -1,8 +1,8 @@
-//! The phases of `btree_bench` over the map of Rust's std. Build it by `rustc -C opt-level=3 std_map.rs`.
+//! The phases of `bench_maps` over the map of Rust's std. Build it by `rustc -C opt-level=3 std_map.rs`.
 use std::collections::BTreeMap;
 use std::time::Instant;
 
-// xorshift64*, as in the crate `btree_bench`.
+// xorshift64*, as in the crate `bench_maps`.
 struct Numbers(u64);
 
 impl Numbers {

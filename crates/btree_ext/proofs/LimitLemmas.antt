@@ -1,29 +1,67 @@
--- Trees within their limits: one without pairs, one that was given another limit, and one in which a value was written.
-use Rattle.std.proofs.Common.{◌≡◌, ℕ, ◌≤◌, length, Option, Some, None, ap, sym, subst, arith}
-use Rattle.std.specs.FinMap as map
+-- No edit leads beyond the limit of the length: an insertion is granted below it alone, and the other edits add no pair.
+use Rattle.std.proofs.Common.{◌≡◌, ℕ, Option, Some, None, Result, Ok, Err, IfErr, IfOk, ap, arith}
 use Rattle.std.specs.declared.cmp.Ordering.{Ordering}
+use Rattle.btree_store.specs.Content.{Content}
 use Rattle.btree_item.specs.Address.{Address}
+use Rattle.btree_item.specs.declared.refused.Cause.{Cause}
+use Rattle.btree_item.specs.declared.refused.Cause.TheVariants.{Store, Count}
 use Rattle.btree_node.specs.declared.node.Node.{Node}
-use Rattle.btree_shape.specs.TreeState.{Kept, TreeState, IsBTree, pairs_of, rootless, with_limit}
-use Rattle.btree_shape.proofs.Trees.States.{empty-tree}
-use Rattle.btree_raw.specs.Limit.{IsBTreeWithinLimit, IsWithinLimit}
-use Rattle.btree_edit.specs.ValueWritten.{node_written, value_written}
+use Rattle.btree_laws.specs.TreeState.{Kept, TreeState}
+use Rattle.btree_raw.specs.Insertion.{IsRefused}
+use Rattle.btree_raw.specs.Limit.{IsWithinLimit}
+use Rattle.btree_ext.specs.Exchange.{IsExchanged}
+use Rattle.btree_ext.specs.Insert.{IsInserted}
+use Rattle.btree_ext.specs.Remove.{IsRemoved}
+use Rattle.btree_ext.specs.Update.{RunsAt, RunsAtGap, UpdatesAt, UpdatesGap}
 
-module _ {K V : Type 0} (cmp : K → K → Ordering) where
-  pub empty-within : (s : TreeState K V) (kept : Kept) → s ≡ rootless map.empty kept → IsBTreeWithinLimit s cmp
-  empty-within s kept is =
-      let len : s.len ≡ 0 = ap (λ (t : TreeState K V). t.len) is in
-      (empty-tree cmp s (ap (λ (t : TreeState K V). t.nodes) is) (ap (λ (t : TreeState K V). t.root) is) len, omega (arith, len))
+module _ {K V : Type 0} (cmp : K → K → Ordering) (old new : TreeState K V) where
+  same-limit : new.kept ≡ old.kept → new.kept.limit ≡ old.kept.limit
+  same-limit kept = ap (λ (k : Kept). k.limit) kept
 
-  pub limited-within : (old new : TreeState K V) (limit : ℕ) → new ≡ with_limit old limit → IsBTree cmp old → length (pairs_of old) ≤ limit → IsBTreeWithinLimit new cmp
-  limited-within old new limit is tree fits =
-      let counted : old.len ≡ length (pairs_of old) = tree.counted in
-      subst (λ s. IsBTreeWithinLimit s cmp) (sym is) (tree, omega (arith, counted, fits))
+  pub inserted-within : (a b : Address) (x : K × V) → IsInserted cmp old new a b x → IsWithinLimit new
+  inserted-within a b x is = let below = is.below_limit in let more = is.longer in let limit = same-limit is.uncounted in omega arith
 
-module _ {K V : Type 0} (s : TreeState K V) (a : Address) (w : V) where
-  pub written-within : IsWithinLimit s → IsWithinLimit (value_written s a w)
-  written-within within = by (map.get s.nodes a.id)
+  pub exchanged-within : (a : Address) (x : K × V) → IsExchanged old new a cmp x → IsWithinLimit old → IsWithinLimit new
+  exchanged-within a x is within = let same = is.keeps.len in let limit = same-limit is.uncounted in omega arith
+
+  pub removed-within : (a b : Address) (x : K × V) → IsRemoved old new cmp a x b → IsWithinLimit old → IsWithinLimit new
+  removed-within a b x is within = let fewer = is.shorter in let limit = same-limit is.uncounted in omega arith
+
+  pub unchanged-within : new ≡ old → IsWithinLimit old → IsWithinLimit new
+  unchanged-within same within =
+      let len = ap (λ (s : TreeState K V). s.len) same in
+      let limit = ap (λ (s : TreeState K V). s.kept.limit) same in
+      omega arith
+
+  pub refused-within : (MayRefuse : Content (Node K V) → Type 0) (id : ℕ) (cause : Cause) → IsRefused MayRefuse id old new cause
+      → IsWithinLimit old → IsWithinLimit new
+  refused-within MayRefuse id Store r within =
+      let len = ap (λ (s : TreeState K V). s.len) r.0 in
+      let limit = ap (λ (s : TreeState K V). s.kept.limit) r.0 in
+      omega arith
+  refused-within MayRefuse id Count r within = unchanged-within r.0 within
+
+  -- an update at an address
+  pub ran-within : {T : Type 0} (post : V → Option V × T → Type 0) (a : Address) (answer : T) → RunsAt cmp old new post a answer
+      → IsWithinLimit old → IsWithinLimit new
+  ran-within post a answer r within = by r.given r.updates
     where
-      by : (node : Option (Node K V)) → IsWithinLimit (node_written s a w node)
-      by None = within
-      by (Some node) = within
+      by : (given : Option V) → UpdatesAt cmp old new a r.item given → IsWithinLimit new
+      by None u = removed-within a u.0 r.item u.1 within
+      by (Some w) u = exchanged-within a (u.key, w) u.exchanged within
+
+  -- an update at a gap
+  pub ran-gap-within : {T : Type 0} (post : Option V → Option V × T → Type 0) (k : K) (a : Address) (answer : T)
+      → RunsAtGap cmp old new post k a answer → IsWithinLimit old → IsWithinLimit new
+  ran-gap-within post k a answer r within = by r.given r.updates
+    where
+      by : (given : Option V) → UpdatesGap cmp old new k a given → IsWithinLimit new
+      by None u = unchanged-within u within
+      by (Some w) u = inserted-within a u.0 (k, w) u.1
+
+  -- whichever of two outcomes a call has, both of which stay within the limit
+  pub either-within : {T E : Type 0} (result : Result T E) {P : T → Type 0} {Q : E → Type 0} → IfOk result P → IfErr result Q
+      → ((t : T) → P t → IsWithinLimit old → IsWithinLimit new) → ((e : E) → Q e → IsWithinLimit old → IsWithinLimit new)
+      → IsWithinLimit old → IsWithinLimit new
+  either-within (Ok t) ok err if_ok if_err within = if_ok t ok within
+  either-within (Err e) ok err if_ok if_err within = if_err e err within

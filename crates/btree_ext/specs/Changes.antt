@@ -2,9 +2,9 @@
 use Rattle.std.specs.Borrow.{MutBor}
 use Rattle.std.specs.declared.cmp.Ordering.{Ordering}
 use Rattle.btree_item.specs.Address.{Address}
-use Rattle.btree_shape.specs.TreeState.{TreeState}
-use Rattle.btree_edit.specs.Exchange.{IsValueExchanged}
-use Rattle.btree_edit.specs.KeyWritten.{ExchangesValue, address_at_key}
+use Rattle.btree_laws.specs.TreeState.{TreeState}
+use Rattle.btree_ext.specs.Exchange.{IsValueExchanged}
+use Rattle.btree_ext.specs.KeyWritten.{ExchangesValue, address_at_key}
 
 module _ {K V : Type 0} (cmp : K → K → Ordering) where
   -- for trees seen as `state`, in which `with_value` writes at an address

@@ -1,4 +1,4 @@
--- What changes leave, for values that are seen as trees by `state`: the words of `btree_edit`, of two such values.
+-- What changes leave, for values that are seen as trees by `state`: the words of changes, of two such values.
 use Rattle.std.specs.Prelude.{Option}
 use Rattle.std.specs.declared.cmp.Ordering.{Ordering}
 use Rattle.btree_store.specs.Content.{Content}
@@ -6,12 +6,12 @@ use Rattle.btree_item.specs.Address.{Address}
 use Rattle.btree_item.specs.declared.refused.Cause.{Cause}
 use Rattle.btree_item.specs.declared.refused.Refused.{Refused}
 use Rattle.btree_node.specs.declared.node.Node.{Node}
-use Rattle.btree_shape.specs.TreeState.{TreeState}
-use Rattle.btree_edit.specs.Exchange as exchange
-use Rattle.btree_edit.specs.Insert as insert
-use Rattle.btree_edit.specs.InsertAt as insert_at
-use Rattle.btree_edit.specs.Remove as remove
-use Rattle.btree_edit.specs.Update as update
+use Rattle.btree_laws.specs.TreeState.{TreeState}
+use Rattle.btree_ext.specs.Exchange as exchange
+use Rattle.btree_ext.specs.Insert as insert
+use Rattle.btree_ext.specs.InsertAt as insert_at
+use Rattle.btree_ext.specs.Remove as remove
+use Rattle.btree_ext.specs.Update as update
 
 module _ {S K V : Type 0} (state : S → TreeState K V) (old new : S) where
   abbrev pub InsertsAt : Address → (K → K → Ordering) → Address → K × V → Type 0

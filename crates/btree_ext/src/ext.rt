@@ -1,7 +1,7 @@
 //! Reads of a tree by its nodes and addresses.
 ghost use Rattle.std.specs.Prelude.{◌≡◌, ◌↔◌, ◌*◌, ◌+◌, ◌≤◌, length, IsSome, IsTrue, Ok, Some, option_copied};
 ghost use Rattle.std.specs.FinMap as map;
-ghost use Rattle.btree_shape.specs.TreeState.{TreeState, HasLevels, IsBTree, IsOccupiedIn, IsUsed, IsValidIn, item_of, pairs_of};
+ghost use Rattle.btree_laws.specs.TreeState.{TreeState, HasLevels, IsBTree, IsOccupiedIn, IsUsed, IsValidIn, item_of, pairs_of};
 ghost use Rattle.btree_item.specs.Pairs.{found_value};
 ghost use Rattle.btree_raw.specs.Limit.{IsWithinLimit};
 ghost use Rattle.btree_find.specs.Answers.{IsAddressBy, IsAddressIn, IsAddressOf};

@@ -4,9 +4,9 @@ ghost use Rattle.std.specs.Borrow.{Lends, LendsIf, sem};
 ghost use Rattle.std.specs.Option.{option_copied_mut};
 ghost use Rattle.btree_item.specs.Pairs.{found, found_value};
 ghost use Rattle.btree_item.specs.Address.{Address};
-ghost use Rattle.btree_shape.specs.TreeState.{IsBTree, IsLeafAddressIn, IsOccupiedIn, IsUsed, IsValidIn, item_of, pairs_of};
+ghost use Rattle.btree_laws.specs.TreeState.{IsBTree, IsLeafAddressIn, IsOccupiedIn, IsUsed, IsValidIn, item_of, pairs_of};
 ghost use Rattle.btree_find.specs.Fits.{FitsAt, FitsIn, ReplacesAt};
-ghost use Rattle.btree_edit.specs.Outcomes.{FindsSameBelow, value_below};
+ghost use Rattle.btree_ext.specs.Outcomes.{FindsSameBelow, value_below};
 ghost use Rattle.btree_ext.specs.Changes.{ExchangesAt, ExchangesAtKey, with_value_at_key};
 ghost use Rattle.btree_ext.specs.Seen.{InsertsAt, IsExchanged, IsGrantedIfAbsent, IsRefusedAtGap, IsRemoved, IsValueExchanged, RefusesAt, RunsAt, RunsByKey};
 

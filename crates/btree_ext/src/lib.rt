@@ -1,9 +1,17 @@
-//! The tree, always well formed: look-up, insertion and reads by address, over any lawful store of nodes.
+//! The tree, always well formed, over any lawful store of nodes: look-up, navigation and reads by address, and its changes: insertion at a
+//! gap or at an address, removal at an address or by key, the exchange of a value and of a pair, and updates by an action.
 #![tactic(auto, using(btree_store::specs::ContentLaws::stores))]
 
 mod ext;
 mod ext_mut;
+mod insertion;
+mod insertion_at;
+mod removal;
+mod replacement;
 mod tree;
+mod updates;
+mod updates_at;
+mod values;
 
 pub use ext::BTreeExt;
 pub use ext_mut::BTreeExtMut;

@@ -7,11 +7,13 @@ ghost use Rattle.btree_raw.specs.Limit.{IsBTreeWithinLimit, IsWithinLimit};
 
 use crate::ext::BTreeExt;
 use crate::ext_mut::BTreeExtMut;
-use btree_edit::{
-    exchange, get_mut, get_mut_by, get_mut_in, insert, insert_absent, insert_at, insert_exactly_at,
-    pair_mut, remove_at, remove_by, remove_entry, replace, replace_at, update, update_at,
-    update_in,
-};
+use crate::insertion::{insert, insert_absent};
+use crate::insertion_at::{insert_at, insert_exactly_at};
+use crate::removal::{remove_at, remove_by, remove_entry};
+use crate::replacement::{replace, replace_at};
+use crate::updates::{update, update_in};
+use crate::updates_at::update_at;
+use crate::values::{exchange, get_mut, get_mut_by, get_mut_in, pair_mut};
 use btree_find::get;
 use btree_item::{Address, Fault, Item, Query, Refused, UpdateRefused};
 use btree_node::{ClearNodes, CloneNodes, NodesMut};
@@ -28,7 +30,7 @@ pub struct Tree<K: Ord, V, C: NodesMut<K, V>> {
 
 impl<K: Ord, V, C: NodesMut<K, V>> Model for Tree<K, V, C> {
     ghost use Rattle.std.specs.Coded.{codes};
-    ghost use Rattle.btree_shape.specs.TreeState.{TreeState, tree_code};
+    ghost use Rattle.btree_laws.specs.TreeState.{TreeState, tree_code};
     ghost use Rattle.btree_raw.specs.Limit.{IsBTreeWithinLimit};
 
     ghost Value = { TreeState K V };
@@ -45,9 +47,9 @@ impl<K: Ord, V, C: NodesMut<K, V>> Tree<K, V, C> {
     ghost use Rattle.std.specs.Mem.{FitsInMemory};
     ghost use Rattle.std.specs.Option.{option_copied_mut};
     ghost use Rattle.btree_item.specs.Pairs.{found_value};
-    ghost use Rattle.btree_shape.specs.TreeState.{IsBTree, limited_to, pairs_of, rootless, unlimited, with_limit};
-    ghost use Rattle.btree_edit.specs.Outcomes.{ExchangesLent, ExchangesLentBy};
-    ghost use Rattle.btree_ext.specs.Lent.{lends_at_key, lends_by};
+    ghost use Rattle.btree_laws.specs.TreeState.{IsBTree, limited_to, pairs_of, rootless, unlimited, with_limit};
+    ghost use Rattle.btree_ext.specs.Outcomes.{ExchangesLent, ExchangesLentBy};
+    ghost use Rattle.btree_ext.specs.TreeLent.{lends_at_key, lends_by};
 
     /// Returns a tree without pairs, over an empty store made from `origin`. It allocates no memory.
     ///
@@ -188,11 +190,11 @@ impl<K: Ord, V, C: NodesMut<K, V>> Tree<K, V, C> {
 
 impl<K: Ord + Drop, V: Drop, C: NodesMut<K, V>> Tree<K, V, C> {
     ghost use Rattle.btree_item.specs.Pairs.{found, found_value};
-    ghost use Rattle.btree_shape.specs.TreeState.{pairs_of};
-    ghost use Rattle.btree_edit.specs.ByKey.{InsertOutcome, ReplaceOutcome, UpdateOutcome};
-    ghost use Rattle.btree_edit.specs.Insert.{IsRefusedAtGap};
-    ghost use Rattle.btree_edit.specs.InsertAbsent.{InsertsAbsent, IsGapOf};
-    ghost use Rattle.btree_edit.specs.Remove.{RemovesBy, RemovesByKey, removed};
+    ghost use Rattle.btree_laws.specs.TreeState.{pairs_of};
+    ghost use Rattle.btree_ext.specs.ByKey.{InsertOutcome, ReplaceOutcome, UpdateOutcome};
+    ghost use Rattle.btree_ext.specs.Insert.{IsRefusedAtGap};
+    ghost use Rattle.btree_ext.specs.InsertAbsent.{InsertsAbsent, IsGapOf};
+    ghost use Rattle.btree_ext.specs.Remove.{RemovesBy, RemovesByKey, removed};
 
     /// Inserts a pair, or replaces the value if the key is there: the stored key stays, and the given one is dropped.
     ///
@@ -283,7 +285,7 @@ impl<K: Ord + Drop, V: Drop, C: NodesMut<K, V>> Tree<K, V, C> {
 }
 
 impl<K: Ord, V, C: ClearNodes<K, V>> Tree<K, V, C> {
-    ghost use Rattle.btree_shape.specs.TreeState.{pairs_of, rootless};
+    ghost use Rattle.btree_laws.specs.TreeState.{pairs_of, rootless};
 
     /// Removes all pairs. The store has no node then, and the count of refusals stays.
     pub fn clear(&mut self)
@@ -295,7 +297,7 @@ impl<K: Ord, V, C: ClearNodes<K, V>> Tree<K, V, C> {
 }
 
 impl<K: Ord + Clone, V: Clone, C: CloneNodes<K, V>> Tree<K, V, C> {
-    ghost use Rattle.btree_shape.specs.TreeState.{pairs_of, unrefused};
+    ghost use Rattle.btree_laws.specs.TreeState.{pairs_of, unrefused};
 
     /// Returns a tree with clones of the keys and values, whose nodes have the same numbers. Its store has refused no node yet. It fails only if
     /// the clone of the store fails.
@@ -326,12 +328,12 @@ impl<K: Ord, V, C: NodesMut<K, V>> BTreeExt<K, V> for Tree<K, V, C> {
 
 impl<K: Ord + Drop, V: Drop, C: NodesMut<K, V>> BTreeExtMut<K, V> for Tree<K, V, C> {
     ghost use Rattle.btree_item.specs.Pairs.{found, found_value};
-    ghost use Rattle.btree_shape.specs.TreeState.{IsLeafAddressIn, IsUsed, IsValidIn, pairs_of};
+    ghost use Rattle.btree_laws.specs.TreeState.{IsLeafAddressIn, IsUsed, IsValidIn, pairs_of};
     ghost use Rattle.btree_find.specs.Fits.{FitsAt, FitsIn, pairs_below};
-    ghost use Rattle.btree_edit.specs.Insert.{IsGrantedIfAbsent, IsRefusedAtGap};
-    ghost use Rattle.btree_edit.specs.InsertAt.{InsertsAt, IsRefusedAt};
-    ghost use Rattle.btree_edit.specs.Update.{RunsByKey};
-    ghost use Rattle.btree_edit.specs.ValueWritten.{value_written};
+    ghost use Rattle.btree_ext.specs.Insert.{IsGrantedIfAbsent, IsRefusedAtGap};
+    ghost use Rattle.btree_ext.specs.InsertAt.{InsertsAt, IsRefusedAt};
+    ghost use Rattle.btree_ext.specs.Update.{RunsByKey};
+    ghost use Rattle.btree_ext.specs.ValueWritten.{value_written};
 
     ghost with_value = { value_written };
 

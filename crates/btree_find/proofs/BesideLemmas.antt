@@ -6,11 +6,11 @@ use Rattle.std.specs.declared.cmp.Ordering.{Ordering}
 use Rattle.btree_node.specs.declared.node.Node.{Node}
 use Rattle.btree_node.specs.Node.{view_of}
 use Rattle.btree_view.specs.View.{NodeMap, View, leaf, internal, children_in, children_of}
-use Rattle.btree_shape.specs.Focus.Search.{levels_below, levels_in}
-use Rattle.btree_shape.specs.Place.{IsLeaf}
-use Rattle.btree_shape.specs.TreeState.{TreeState, IsBTree, IsUsed, node_map, pairs_of}
-use Rattle.btree_shape.proofs.AddressLists.LeafEnds.{first-leaf-self}
-use Rattle.btree_shape.proofs.Places.ChildPlaces.{ChildPlaces, child-places}
+use Rattle.btree_laws.specs.Focus.Search.{levels_below, levels_in}
+use Rattle.btree_laws.specs.Place.{IsLeaf}
+use Rattle.btree_laws.specs.TreeState.{TreeState, IsBTree, IsUsed, node_map, pairs_of}
+use Rattle.btree_laws.proofs.AddressLists.LeafEnds.{first-leaf-self}
+use Rattle.btree_laws.proofs.Places.ChildPlaces.{ChildPlaces, child-places}
 use Rattle.btree_find.specs.Navigation.{AreBeside, BeginsInLeaf}
 use Rattle.btree_find.proofs.PlaceLemmas.{placed, root-there}
 use Rattle.btree_find.proofs.WalkLemmas.{leaf-by-none, leaf-focus, used-of}

@@ -9,8 +9,8 @@ use Rattle.btree_node.specs.Node.{view_of}
 use Rattle.btree_view.specs.LookUp.{comparisons_in, look_up, offset_in}
 use Rattle.btree_view.specs.View.{View, children_of, items_of}
 use Rattle.btree_internal.proofs.LookUpLemmas.{look_up-Err, look_up-Ok}
-use Rattle.btree_shape.specs.Focus.Search.{levels_below}
-use Rattle.btree_shape.specs.TreeState.{TreeState, node_map, pairs_of}
+use Rattle.btree_laws.specs.Focus.Search.{levels_below}
+use Rattle.btree_laws.specs.TreeState.{TreeState, node_map, pairs_of}
 use Rattle.btree_find.specs.Levels.{comparisons_after, comparisons_at, comparisons_below, comparisons_from, levels_from}
 use Rattle.btree_find.proofs.SearchLemmas.{placed-err, placed-ok}
 

@@ -5,14 +5,14 @@ use Rattle.std.specs.FinMap as finite
 use Rattle.std.specs.declared.cmp.Ordering.{Ordering}
 use Rattle.btree_item.specs.Address.{Address}
 use Rattle.btree_view.specs.View.{View, size_of}
-use Rattle.btree_shape.specs.Addresses.{last_item_in}
-use Rattle.btree_shape.specs.Focus.Positions.{address_at, address_before}
-use Rattle.btree_shape.specs.Place.{IsBack, IsEnd, IsPlace, IsSubtreeAt, NOWHERE}
-use Rattle.btree_shape.specs.TreeAddresses.{HasAddresses, first_back, first_back_under, last_front_under}
-use Rattle.btree_shape.specs.TreeState.{TreeState, IsBTree, IsLeafAddressIn, IsPlaceIn, IsUsed, IsValidIn, node_map, pairs_of}
-use Rattle.btree_shape.specs.WellFormed.{IsWellFormed}
-use Rattle.btree_shape.proofs.AddressLists.Whole.{addresses-tree}
-use Rattle.btree_shape.proofs.Trees.ValidPlaces.{place-valid, represents-node}
+use Rattle.btree_laws.specs.Addresses.{last_item_in}
+use Rattle.btree_laws.specs.Focus.Positions.{address_at, address_before}
+use Rattle.btree_laws.specs.Place.{IsBack, IsEnd, IsPlace, IsSubtreeAt, NOWHERE}
+use Rattle.btree_laws.specs.TreeAddresses.{HasAddresses, first_back, first_back_under, last_front_under}
+use Rattle.btree_laws.specs.TreeState.{TreeState, IsBTree, IsLeafAddressIn, IsPlaceIn, IsUsed, IsValidIn, node_map, pairs_of}
+use Rattle.btree_laws.specs.WellFormed.{IsWellFormed}
+use Rattle.btree_laws.proofs.AddressLists.Whole.{addresses-tree}
+use Rattle.btree_laws.proofs.Trees.ValidPlaces.{place-valid, represents-node}
 use Rattle.btree_raw.specs.LastItem.{EndsInLeaf}
 use Rattle.btree_find.specs.Ends.{IsFirstBack, IsFirstItem, IsLastItem, IsLastValid, IsLeafBackAt, end_of, last_end_under}
 use Rattle.btree_find.specs.Navigation.{BeginsInLeaf, IsItemBefore}

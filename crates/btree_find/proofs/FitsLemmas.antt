@@ -6,9 +6,9 @@ use Rattle.std.specs.declared.cmp.Ordering.{Ordering}
 use Rattle.std.specs.declared.cmp.Ordering.TheVariants.{Less}
 use Rattle.btree_item.specs.Address.{Address}
 use Rattle.btree_view.specs.View.{NodeMap, item_in}
-use Rattle.btree_shape.specs.Place.{IsOccupied, IsPlace, IsPlaceOf, IsSubtreeAt}
-use Rattle.btree_shape.specs.TreeState.{TreeState, IsBTree, IsOccupiedIn, IsPlaceIn, item_of, node_map, pairs_of}
-use Rattle.btree_shape.specs.Focus.Positions.{address_at, address_before}
+use Rattle.btree_laws.specs.Place.{IsOccupied, IsPlace, IsPlaceOf, IsSubtreeAt}
+use Rattle.btree_laws.specs.TreeState.{TreeState, IsBTree, IsOccupiedIn, IsPlaceIn, item_of, node_map, pairs_of}
+use Rattle.btree_laws.specs.Focus.Positions.{address_at, address_before}
 use Rattle.btree_find.specs.Fits.{FitsAt, FitsIn, ReplacesAt, pairs_below}
 use Rattle.btree_find.proofs.PlaceLemmas.{item-here}
 use Rattle.btree_find.specs.Navigation.{HasPlace, IsItemAt, IsItemBefore, IsNext, IsNormalized, IsPrevious}

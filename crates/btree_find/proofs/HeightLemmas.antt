@@ -6,16 +6,16 @@ use Rattle.btree_store.specs.Content.{Content}
 use Rattle.btree_node.specs.declared.node.Node.{Node}
 use Rattle.btree_node.specs.Node.{view_of}
 use Rattle.btree_view.specs.View.{NodeMap, leaf, internal, children_of}
-use Rattle.btree_shape.specs.Represents.{Represents}
-use Rattle.btree_shape.specs.Focus.Search.{levels_below}
-use Rattle.btree_shape.specs.TreeState.{TreeState, HasLevelsUnder, IsBTree, node_map, pairs_of, views}
-use Rattle.btree_shape.specs.WellFormed.{IsWellFormed}
-use Rattle.btree_shape.proofs.Trees.Density.{height-dense, height-low}
-use Rattle.btree_shape.proofs.Trees.Represented.{height_below}
+use Rattle.btree_laws.specs.Represents.{Represents}
+use Rattle.btree_laws.specs.Focus.Search.{levels_below}
+use Rattle.btree_laws.specs.TreeState.{TreeState, HasLevelsUnder, IsBTree, node_map, pairs_of, views}
+use Rattle.btree_laws.specs.WellFormed.{IsWellFormed}
+use Rattle.btree_laws.proofs.Trees.Density.{height-dense, height-low}
+use Rattle.btree_laws.proofs.Trees.Represented.{height_below}
 use Rattle.std.specs.declared.cmp.Ordering.{Ordering}
-use Rattle.btree_shape.proofs.Trees.Numbers.{used-one}
-use Rattle.btree_shape.proofs.Trees.Stores.{used-view}
-use Rattle.btree_shape.proofs.Trees.ValidPlaces.{represents-node}
+use Rattle.btree_laws.proofs.Trees.Numbers.{used-one}
+use Rattle.btree_laws.proofs.Trees.Stores.{used-view}
+use Rattle.btree_laws.proofs.Trees.ValidPlaces.{represents-node}
 use Rattle.btree_find.specs.Levels.{TicksAtMost, levels_from}
 use Rattle.btree_find.proofs.PlaceLemmas.{some-items}
 use Rattle.std.specs.Cmp.{IsTotalOrder}

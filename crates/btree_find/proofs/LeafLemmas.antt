@@ -7,10 +7,10 @@ use Rattle.btree_item.specs.Address.{Address}
 use Rattle.btree_node.specs.declared.node.Node.{Node}
 use Rattle.btree_node.specs.Node.{view_of}
 use Rattle.btree_view.specs.View.{children_in, children_of, size_of}
-use Rattle.btree_shape.specs.Focus.Positions.{address_at, address_before}
-use Rattle.btree_shape.specs.Place.{IsPlace, IsValid}
-use Rattle.btree_shape.specs.TreeState.{TreeState, IsBTree, IsLeafAddressIn, IsValidIn, node_map, pairs_of}
-use Rattle.btree_shape.proofs.Trees.ValidPlaces.{place-valid}
+use Rattle.btree_laws.specs.Focus.Positions.{address_at, address_before}
+use Rattle.btree_laws.specs.Place.{IsPlace, IsValid}
+use Rattle.btree_laws.specs.TreeState.{TreeState, IsBTree, IsLeafAddressIn, IsValidIn, node_map, pairs_of}
+use Rattle.btree_laws.proofs.Trees.ValidPlaces.{place-valid}
 use Rattle.btree_raw.specs.LastItem.{EndsInLeaf}
 use Rattle.btree_raw.proofs.PlacedLemmas.{leaf-without}
 use Rattle.btree_find.specs.Navigation.{BeginsInLeaf, IsLeafAddressFor}

@@ -9,11 +9,11 @@ use Rattle.btree_item.specs.Address.{Address}
 use Rattle.btree_node.specs.declared.node.Node.{Node}
 use Rattle.btree_node.specs.Node.{view_of}
 use Rattle.btree_view.specs.View.{NodeMap, View, leaf, children_in, children_of, items_of, item_in, size_of}
-use Rattle.btree_shape.specs.Focus.Positions.{address_at, address_before}
-use Rattle.btree_shape.specs.Place.{IsOccupied}
-use Rattle.btree_shape.specs.TreeState.{TreeState, IsBTree, IsOccupiedIn, IsPlaceIn, IsUsed, IsValidIn, node_map, pairs_of}
-use Rattle.btree_shape.proofs.Places.ChildPlaces.{child-places, down-from-item}
-use Rattle.btree_shape.proofs.Places.InNode.{leaf-along}
+use Rattle.btree_laws.specs.Focus.Positions.{address_at, address_before}
+use Rattle.btree_laws.specs.Place.{IsOccupied}
+use Rattle.btree_laws.specs.TreeState.{TreeState, IsBTree, IsOccupiedIn, IsPlaceIn, IsUsed, IsValidIn, node_map, pairs_of}
+use Rattle.btree_laws.proofs.Places.ChildPlaces.{child-places, down-from-item}
+use Rattle.btree_laws.proofs.Places.InNode.{leaf-along}
 use Rattle.btree_raw.proofs.PlacedLemmas.{leaf-without}
 use Rattle.btree_find.specs.Navigation.{IsItemAt, IsNext, IsPrevious, LeadsToItem, LeadsToNext}
 use Rattle.btree_find.proofs.PlaceLemmas.{empty-leads, not-empty, has-place, in-state, in-tree, item-here, place-there, placed, root-there}

@@ -7,9 +7,9 @@ use Rattle.btree_item.specs.Address.{Address}
 use Rattle.btree_node.specs.declared.node.Node.{Node}
 use Rattle.btree_node.specs.Node.{view_of}
 use Rattle.btree_view.specs.View.{NodeMap, item_in, size_of}
-use Rattle.btree_shape.specs.Focus.Positions.{address_at, address_before}
-use Rattle.btree_shape.specs.Place.{IsOccupied, IsWithin}
-use Rattle.btree_shape.specs.TreeState.{TreeState, IsBTree, IsOccupiedIn, IsValidIn, node_map}
+use Rattle.btree_laws.specs.Focus.Positions.{address_at, address_before}
+use Rattle.btree_laws.specs.Place.{IsOccupied, IsWithin}
+use Rattle.btree_laws.specs.TreeState.{TreeState, IsBTree, IsOccupiedIn, IsValidIn, node_map}
 use Rattle.btree_find.specs.Navigation.{IsNext, IsNextOrBack, LeadsToItem, LeadsToNext}
 use Rattle.btree_find.proofs.NextLemmas.{next-at, next-before, next-empty, not-past}
 use Rattle.btree_find.proofs.PlaceLemmas.{not-empty, root-there}

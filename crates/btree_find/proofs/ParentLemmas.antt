@@ -7,11 +7,11 @@ use Rattle.std.specs.declared.cmp.Ordering.{Ordering}
 use Rattle.btree_node.specs.declared.node.Node.{Node}
 use Rattle.btree_node.specs.Node.{view_of}
 use Rattle.btree_view.specs.View.{View, children_in, children_of, parent_of}
-use Rattle.btree_shape.specs.TreeState.{TreeState, IsBTree, IsUsed, node_map, pairs_of}
-use Rattle.btree_shape.specs.WellFormed.{times_used}
-use Rattle.btree_shape.proofs.Paths.Parents.{get-times}
-use Rattle.btree_shape.proofs.Places.InNode.{index-in-parent}
-use Rattle.btree_shape.proofs.Trees.Stores.{used-view}
+use Rattle.btree_laws.specs.TreeState.{TreeState, IsBTree, IsUsed, node_map, pairs_of}
+use Rattle.btree_laws.specs.WellFormed.{times_used}
+use Rattle.btree_laws.proofs.Paths.Parents.{get-times}
+use Rattle.btree_laws.proofs.Places.InNode.{index-in-parent}
+use Rattle.btree_laws.proofs.Trees.Stores.{used-view}
 use Rattle.btree_raw.proofs.SeparatorLemmas.{has-index, index-is}
 use Rattle.btree_find.proofs.PlaceLemmas.{placed, root-there}
 

@@ -8,17 +8,17 @@ use Rattle.btree_item.specs.Address.{Address}
 use Rattle.btree_node.specs.declared.node.Node.{Node}
 use Rattle.btree_node.specs.Node.{view_of}
 use Rattle.btree_view.specs.View.{NodeMap, View, item_in, size_of}
-use Rattle.btree_shape.specs.AddressLaws.{IsPlaced}
-use Rattle.btree_shape.specs.Place.{IsNowhere, IsOccupied, IsPlace, IsValid, IsWithin}
-use Rattle.btree_shape.specs.TreeAddresses.{HasAddresses, item_addresses_of}
-use Rattle.btree_shape.specs.TreeState.{TreeState, IsBTree, IsBTreeButLength, IsOccupiedIn, IsPlaceIn, IsUsed, IsValidIn, node_map, pairs_of}
-use Rattle.btree_shape.specs.WellFormed.{IsWellFormed}
-use Rattle.btree_shape.proofs.AddressLists.Whole.{addresses-tree}
-use Rattle.btree_shape.proofs.Places.HasPlace.{has_place}
-use Rattle.btree_shape.proofs.Places.OnePlace.{one_place-well}
-use Rattle.btree_shape.proofs.Trees.Numbers.{used-one}
-use Rattle.btree_shape.proofs.Trees.Stores.{most-few, used-view}
-use Rattle.btree_shape.proofs.Trees.ValidPlaces.{place-valid}
+use Rattle.btree_laws.specs.AddressLaws.{IsPlaced}
+use Rattle.btree_laws.specs.Place.{IsNowhere, IsOccupied, IsPlace, IsValid, IsWithin}
+use Rattle.btree_laws.specs.TreeAddresses.{HasAddresses, item_addresses_of}
+use Rattle.btree_laws.specs.TreeState.{TreeState, IsBTree, IsBTreeButLength, IsOccupiedIn, IsPlaceIn, IsUsed, IsValidIn, node_map, pairs_of}
+use Rattle.btree_laws.specs.WellFormed.{IsWellFormed}
+use Rattle.btree_laws.proofs.AddressLists.Whole.{addresses-tree}
+use Rattle.btree_laws.proofs.Places.HasPlace.{has_place}
+use Rattle.btree_laws.proofs.Places.OnePlace.{one_place-well}
+use Rattle.btree_laws.proofs.Trees.Numbers.{used-one}
+use Rattle.btree_laws.proofs.Trees.Stores.{most-few, used-view}
+use Rattle.btree_laws.proofs.Trees.ValidPlaces.{place-valid}
 use Rattle.btree_raw.proofs.PlacedLemmas as raw
 use Rattle.btree_find.specs.Navigation.{HasPlace, IsItemAt, IsNormalized, LeadsToItem}
 

@@ -8,12 +8,12 @@ use Rattle.btree_item.specs.Address.{Address}
 use Rattle.btree_node.specs.declared.node.Node.{Node}
 use Rattle.btree_node.specs.Node.{view_of}
 use Rattle.btree_view.specs.View.{leaf, children_in, children_of, parent_of, size_of}
-use Rattle.btree_shape.specs.Focus.Positions.{address_at, address_before}
-use Rattle.btree_shape.specs.Need.{levels_above}
-use Rattle.btree_shape.specs.Place.{IsPlace}
-use Rattle.btree_shape.specs.TreeState.{TreeState, IsBTree, IsPlaceIn, IsUsed, IsValidIn, node_map, pairs_of}
-use Rattle.btree_shape.proofs.Places.ChildPlaces.{child-places, down-to-end, up-from-first, up-to-item}
-use Rattle.btree_shape.proofs.Places.InNode.{leaf-back, leaf-start, root-start}
+use Rattle.btree_laws.specs.Focus.Positions.{address_at, address_before}
+use Rattle.btree_laws.specs.Need.{levels_above}
+use Rattle.btree_laws.specs.Place.{IsPlace}
+use Rattle.btree_laws.specs.TreeState.{TreeState, IsBTree, IsPlaceIn, IsUsed, IsValidIn, node_map, pairs_of}
+use Rattle.btree_laws.proofs.Places.ChildPlaces.{child-places, down-to-end, up-from-first, up-to-item}
+use Rattle.btree_laws.proofs.Places.InNode.{leaf-back, leaf-start, root-start}
 use Rattle.btree_raw.specs.LastItem.{EndsInLeaf}
 use Rattle.btree_raw.proofs.LastLemmas.{size_at}
 use Rattle.btree_raw.proofs.PlacedLemmas.{leaf-without}

@@ -6,7 +6,7 @@ use Rattle.std.specs.declared.cmp.Ordering.{Ordering}
 use Rattle.std.specs.declared.cmp.Ordering.TheVariants.{Greater, Less}
 use Rattle.btree_item.specs.KeyLaws.{cuts_of}
 use Rattle.btree_item.specs.Pairs.{Ascends, place_of}
-use Rattle.btree_shape.proofs.LookUp.KeyInList.{AreAbove, AreBelow, rises, searched}
+use Rattle.btree_laws.proofs.LookUp.KeyInList.{AreAbove, AreBelow, rises, searched}
 use Rattle.btree_find.specs.Fits.{KeyReplaces}
 
 module _ {K V : Type 0} (cmp : K → K → Ordering) (k : K) (laws : IsTotalOrder cmp) where

@@ -16,17 +16,17 @@ use Rattle.btree_node.specs.declared.node.Node.{Node}
 use Rattle.btree_view.specs.LookUp.{placed, offset_in}
 use Rattle.btree_node.specs.Node.{view_of}
 use Rattle.btree_view.specs.View.{View, NodeMap, leaf, internal, items_of, children_of, item_in, size_of}
-use Rattle.btree_shape.specs.Place.{IsOccupied, NOWHERE}
-use Rattle.btree_shape.specs.Focus.Path.{items_after}
-use Rattle.btree_shape.specs.Focus.Positions.{address_before}
-use Rattle.btree_shape.specs.Focus.Search.{IsSearching, levels_below}
-use Rattle.btree_shape.specs.Focus.Subtree.{items_under}
-use Rattle.btree_shape.specs.TreeState.{TreeState, IsBTree, IsLeafAddressIn, IsPlaceIn, IsUsed, IsValidIn, item_of, node_map, pairs_of, pairs_under}
-use Rattle.btree_shape.specs.WellFormed.{IsWellFormed}
-use Rattle.btree_shape.proofs.LookUp.Descent.{get-after, search-ascends, search-down}
-use Rattle.btree_shape.proofs.LookUp.Ends.{search-hit, search-miss}
-use Rattle.btree_shape.proofs.Paths.Used.{focus-used}
-use Rattle.btree_shape.proofs.LookUp.KeyInList.{Rises, rises, searched}
+use Rattle.btree_laws.specs.Place.{IsOccupied, NOWHERE}
+use Rattle.btree_laws.specs.Focus.Path.{items_after}
+use Rattle.btree_laws.specs.Focus.Positions.{address_before}
+use Rattle.btree_laws.specs.Focus.Search.{IsSearching, levels_below}
+use Rattle.btree_laws.specs.Focus.Subtree.{items_under}
+use Rattle.btree_laws.specs.TreeState.{TreeState, IsBTree, IsLeafAddressIn, IsPlaceIn, IsUsed, IsValidIn, item_of, node_map, pairs_of, pairs_under}
+use Rattle.btree_laws.specs.WellFormed.{IsWellFormed}
+use Rattle.btree_laws.proofs.LookUp.Descent.{get-after, search-ascends, search-down}
+use Rattle.btree_laws.proofs.LookUp.Ends.{search-hit, search-miss}
+use Rattle.btree_laws.proofs.Paths.Used.{focus-used}
+use Rattle.btree_laws.proofs.LookUp.KeyInList.{Rises, rises, searched}
 use Rattle.btree_raw.proofs.PlacedLemmas.{has-child}
 use Rattle.btree_find.specs.Answers.{IsAddressBy, IsAddressIn, IsAddressOf, IsAddressUnder, IsFoundAt, IsFoundBy, IsFoundUnder, IsGapAt, IsGapBy, IsGapUnder}
 use Rattle.btree_find.specs.Ends.{IsLeafBackAt}
@@ -36,7 +36,7 @@ use Rattle.btree_find.proofs.EndsLemmas.{leaf-back-at, start-place}
 use Rattle.btree_find.proofs.PlaceLemmas.{has-place, in-state, item-here}
 use Rattle.btree_find.proofs.ReplacesLemmas.{key-replaces}
 use Rattle.btree_find.proofs.UnderLemmas.{begins-here, fits-whole, place-in_whole}
-use Rattle.btree_shape.proofs.Trees.Stores.{used-view, most-few}
+use Rattle.btree_laws.proofs.Trees.Stores.{used-view, most-few}
 
 -- the key of a pair that is found is equal
 pub found-equal : {K Q V : Type 0} (cmp : K → Q → Ordering) (k : Q) (xs : List (K × V)) → IfSome (found cmp k xs) (λ x. cmp x.0 k ≡ Equal)

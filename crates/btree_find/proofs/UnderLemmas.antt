@@ -12,26 +12,26 @@ use Rattle.btree_item.proofs.PairLemmas.{before-from_Err, found-from_Err}
 use Rattle.btree_node.specs.declared.node.Node.{Node}
 use Rattle.btree_node.specs.Node.{view_of}
 use Rattle.btree_view.specs.View.{View, size_of}
-use Rattle.btree_shape.specs.Focus.Node.{IsNode}
-use Rattle.btree_shape.specs.Focus.Path.{items_after, items_before, parent_above}
-use Rattle.btree_shape.specs.Focus.Positions.{address_at, address_before}
-use Rattle.btree_shape.specs.Focus.Search.{IsSearching}
-use Rattle.btree_shape.specs.Focus.Subtree.{items_under}
-use Rattle.btree_shape.specs.Place.{IsEnd, IsSubtreeAt}
-use Rattle.btree_shape.specs.Represents.{Represents}
-use Rattle.btree_shape.specs.TreeState.{TreeState, IsBTree, IsPlaceIn, IsUsed, IsValidIn, node_map, pairs_of}
-use Rattle.btree_shape.specs.WellFormed.{IsWellFormed}
-use Rattle.btree_shape.proofs.LookUp.Descent.{search-start}
-use Rattle.btree_shape.proofs.LookUp.KeyInList.{Rises, ascends, equal-back, equal-front, place-hit, rises, rises-left, rises-right, searched}
-use Rattle.btree_shape.proofs.Paths.FromRoot.{node-at}
-use Rattle.btree_shape.proofs.Paths.Levels.{levels-rooted}
-use Rattle.btree_shape.proofs.Paths.UnsizedFocus.{focus-unsized}
-use Rattle.btree_shape.proofs.Trees.Numbers.{used-one}
-use Rattle.btree_shape.proofs.Trees.Represented.{represented-is}
-use Rattle.btree_shape.proofs.Trees.States.{height_held}
-use Rattle.btree_shape.proofs.Trees.Subtrees.{represents-of}
-use Rattle.btree_shape.proofs.Trees.ValidPlaces.{place-valid}
-use Rattle.btree_shape.proofs.Options.{some-of}
+use Rattle.btree_laws.specs.Focus.Node.{IsNode}
+use Rattle.btree_laws.specs.Focus.Path.{items_after, items_before, parent_above}
+use Rattle.btree_laws.specs.Focus.Positions.{address_at, address_before}
+use Rattle.btree_laws.specs.Focus.Search.{IsSearching}
+use Rattle.btree_laws.specs.Focus.Subtree.{items_under}
+use Rattle.btree_laws.specs.Place.{IsEnd, IsSubtreeAt}
+use Rattle.btree_laws.specs.Represents.{Represents}
+use Rattle.btree_laws.specs.TreeState.{TreeState, IsBTree, IsPlaceIn, IsUsed, IsValidIn, node_map, pairs_of}
+use Rattle.btree_laws.specs.WellFormed.{IsWellFormed}
+use Rattle.btree_laws.proofs.LookUp.Descent.{search-start}
+use Rattle.btree_laws.proofs.LookUp.KeyInList.{Rises, ascends, equal-back, equal-front, place-hit, rises, rises-left, rises-right, searched}
+use Rattle.btree_laws.proofs.Paths.FromRoot.{node-at}
+use Rattle.btree_laws.proofs.Paths.Levels.{levels-rooted}
+use Rattle.btree_laws.proofs.Paths.UnsizedFocus.{focus-unsized}
+use Rattle.btree_laws.proofs.Trees.Numbers.{used-one}
+use Rattle.btree_laws.proofs.Trees.Represented.{represented-is}
+use Rattle.btree_laws.proofs.Trees.States.{height_held}
+use Rattle.btree_laws.proofs.Trees.Subtrees.{represents-of}
+use Rattle.btree_laws.proofs.Trees.ValidPlaces.{place-valid}
+use Rattle.btree_laws.proofs.Options.{some-of}
 use Rattle.btree_find.specs.Fits.{FitsIn, pairs_below}
 use Rattle.btree_find.specs.Navigation.{HasPlace}
 use Rattle.btree_find.proofs.PlaceLemmas.{has-place, in-state, root-there}

@@ -8,20 +8,20 @@ use Rattle.btree_item.specs.Address.{Address}
 use Rattle.btree_node.specs.declared.node.Node.{Node}
 use Rattle.btree_node.specs.Node.{view_of}
 use Rattle.btree_view.specs.View.{View, children_in, children_of, leaf, parent_of, size_of}
-use Rattle.btree_shape.specs.AddressLaws.{IsFront}
-use Rattle.btree_shape.specs.Addresses.{backs_under, fronts_under, last_item, last_item_in, last_leaf, slot_before}
-use Rattle.btree_shape.specs.Focus.Positions.{address_at, address_before}
-use Rattle.btree_shape.specs.Place.{IsBack, IsEnd, IsWithin}
-use Rattle.btree_shape.specs.TreeAddresses.{HasAddresses, backs_of, fronts_of}
-use Rattle.btree_shape.specs.TreeState.{TreeState, IsBTree, IsValidIn, node_map, pairs_of}
-use Rattle.btree_shape.specs.Visits.{ComesBefore, VisitsBacks, VisitsFronts, prior}
-use Rattle.btree_shape.specs.WellFormed.{IsWellFormed}
-use Rattle.btree_shape.proofs.AddressLists.BackVisits.{backs-visited}
-use Rattle.btree_shape.proofs.AddressLists.FrontAddresses.{front-within}
-use Rattle.btree_shape.proofs.AddressLists.FrontVisits.{fronts-visited}
-use Rattle.btree_shape.proofs.AddressLists.LeafEnds.{last-leaf-down, last-leaf-self}
-use Rattle.btree_shape.proofs.AddressLists.Next.{came-before}
-use Rattle.btree_shape.proofs.AddressLists.Whole.{addresses-tree}
+use Rattle.btree_laws.specs.AddressLaws.{IsFront}
+use Rattle.btree_laws.specs.Addresses.{backs_under, fronts_under, last_item, last_item_in, last_leaf, slot_before}
+use Rattle.btree_laws.specs.Focus.Positions.{address_at, address_before}
+use Rattle.btree_laws.specs.Place.{IsBack, IsEnd, IsWithin}
+use Rattle.btree_laws.specs.TreeAddresses.{HasAddresses, backs_of, fronts_of}
+use Rattle.btree_laws.specs.TreeState.{TreeState, IsBTree, IsValidIn, node_map, pairs_of}
+use Rattle.btree_laws.specs.Visits.{ComesBefore, VisitsBacks, VisitsFronts, prior}
+use Rattle.btree_laws.specs.WellFormed.{IsWellFormed}
+use Rattle.btree_laws.proofs.AddressLists.BackVisits.{backs-visited}
+use Rattle.btree_laws.proofs.AddressLists.FrontAddresses.{front-within}
+use Rattle.btree_laws.proofs.AddressLists.FrontVisits.{fronts-visited}
+use Rattle.btree_laws.proofs.AddressLists.LeafEnds.{last-leaf-down, last-leaf-self}
+use Rattle.btree_laws.proofs.AddressLists.Next.{came-before}
+use Rattle.btree_laws.proofs.AddressLists.Whole.{addresses-tree}
 use Rattle.btree_raw.specs.LastItem.{EndsInLeaf}
 use Rattle.btree_raw.proofs.LastLemmas.{internal-last}
 use Rattle.btree_raw.proofs.PlacedLemmas.{leaf-without}

@@ -10,18 +10,18 @@ use Rattle.btree_item.specs.Address.{Address}
 use Rattle.btree_node.specs.declared.node.Node.{Node}
 use Rattle.btree_node.specs.Node.{view_of}
 use Rattle.btree_view.specs.View.{NodeMap, View, leaf, internal, children_in, children_of, items_of, item_in, parent_of, size_of}
-use Rattle.btree_shape.specs.Addresses.{first_leaf}
-use Rattle.btree_shape.specs.Focus.Positions.{address_at, address_before}
-use Rattle.btree_shape.specs.Focus.Search.{levels_below}
-use Rattle.btree_shape.specs.Need.{levels_above}
-use Rattle.btree_shape.specs.Place.{IsLeaf, IsOccupied}
-use Rattle.btree_shape.specs.TreeState.{TreeState, IsBTree, IsPlaceIn, IsUsed, node_map, pairs_of}
-use Rattle.btree_shape.proofs.AddressLists.LeafEnds.{first-leaf-down, first-leaf-self}
-use Rattle.btree_shape.proofs.Places.ChildPlaces.{child-places, up-from-end, down-to-first}
-use Rattle.btree_shape.proofs.Places.HasPlace.{low_or_end}
-use Rattle.btree_shape.proofs.Places.InNode.{leaf-first, root-end}
-use Rattle.btree_shape.proofs.Trees.Numbers.{used-one}
-use Rattle.btree_shape.proofs.Trees.Stores.{used-view}
+use Rattle.btree_laws.specs.Addresses.{first_leaf}
+use Rattle.btree_laws.specs.Focus.Positions.{address_at, address_before}
+use Rattle.btree_laws.specs.Focus.Search.{levels_below}
+use Rattle.btree_laws.specs.Need.{levels_above}
+use Rattle.btree_laws.specs.Place.{IsLeaf, IsOccupied}
+use Rattle.btree_laws.specs.TreeState.{TreeState, IsBTree, IsPlaceIn, IsUsed, node_map, pairs_of}
+use Rattle.btree_laws.proofs.AddressLists.LeafEnds.{first-leaf-down, first-leaf-self}
+use Rattle.btree_laws.proofs.Places.ChildPlaces.{child-places, up-from-end, down-to-first}
+use Rattle.btree_laws.proofs.Places.HasPlace.{low_or_end}
+use Rattle.btree_laws.proofs.Places.InNode.{leaf-first, root-end}
+use Rattle.btree_laws.proofs.Trees.Numbers.{used-one}
+use Rattle.btree_laws.proofs.Trees.Stores.{used-view}
 use Rattle.btree_find.specs.Navigation.{BeginsInLeaf, IsItemAt, LeadsToItem}
 use Rattle.btree_find.proofs.ParentLemmas.{child-there}
 use Rattle.btree_find.proofs.PlaceLemmas.{in-state, in-tree, item-here, no-item, placed, root-there, some-items}

@@ -8,9 +8,9 @@ use Rattle.std.specs.declared.cmp.Ordering.TheVariants.{Equal}
 use Rattle.std.specs.declared.cmp.Ordering.{Ordering}
 use Rattle.btree_item.specs.Pairs.{found, place_of}
 use Rattle.btree_item.specs.Address.{Address}
-use Rattle.btree_shape.specs.Focus.Positions.{address_before}
-use Rattle.btree_shape.specs.TreeAddresses.{item_addresses_of, leaf_backs_of}
-use Rattle.btree_shape.specs.TreeState.{TreeState, IsLeafAddressIn, IsValidIn, item_of, pairs_of}
+use Rattle.btree_laws.specs.Focus.Positions.{address_before}
+use Rattle.btree_laws.specs.TreeAddresses.{item_addresses_of, leaf_backs_of}
+use Rattle.btree_laws.specs.TreeState.{TreeState, IsLeafAddressIn, IsValidIn, item_of, pairs_of}
 use Rattle.btree_find.specs.Ends.{IsLeafBackAt}
 use Rattle.btree_find.specs.Fits.{FitsAt, FitsIn, ReplacesAt, pairs_below}
 use Rattle.btree_find.specs.Navigation.{HasPlace, IsItemAddress}

@@ -7,8 +7,8 @@ use Rattle.std.specs.declared.cmp.Ordering.TheVariants.{Equal, Greater, Less}
 use Rattle.btree_item.specs.Pairs.{found}
 use Rattle.btree_item.specs.Address.{Address}
 use Rattle.btree_view.specs.View.{item_in}
-use Rattle.btree_shape.specs.Place.{IsOccupied}
-use Rattle.btree_shape.specs.TreeState.{TreeState, IsOccupiedIn, item_of, node_map, pairs_of}
+use Rattle.btree_laws.specs.Place.{IsOccupied}
+use Rattle.btree_laws.specs.TreeState.{TreeState, IsOccupiedIn, item_of, node_map, pairs_of}
 use Rattle.btree_find.specs.Navigation.{IsItemAddress, IsItemAt, IsNext}
 
 -- a list without a first element is empty

@@ -3,11 +3,11 @@ use Rattle.std.specs.Prelude.{◌≡◌, ℕ, length, slice_get, unwrap_or, Opti
 use Rattle.std.specs.FinMap as map
 use Rattle.btree_item.specs.Address.{Address}
 use Rattle.btree_view.specs.View.{size_of}
-use Rattle.btree_shape.specs.Addresses.{last_leaf}
-use Rattle.btree_shape.specs.Focus.Positions.{address_at}
-use Rattle.btree_shape.specs.Place.{NOWHERE}
-use Rattle.btree_shape.specs.TreeAddresses.{HasAddresses, first_back, last_front, leaf_backs_of}
-use Rattle.btree_shape.specs.TreeState.{TreeState, IsLeafAddressIn, IsValidIn, node_map, pairs_of}
+use Rattle.btree_laws.specs.Addresses.{last_leaf}
+use Rattle.btree_laws.specs.Focus.Positions.{address_at}
+use Rattle.btree_laws.specs.Place.{NOWHERE}
+use Rattle.btree_laws.specs.TreeAddresses.{HasAddresses, first_back, last_front, leaf_backs_of}
+use Rattle.btree_laws.specs.TreeState.{TreeState, IsLeafAddressIn, IsValidIn, node_map, pairs_of}
 use Rattle.btree_find.specs.Navigation.{HasPlace, IsItemAt, IsItemBefore}
 
 module _ {K V : Type 0} (s : TreeState K V) where

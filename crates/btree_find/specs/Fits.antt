@@ -6,9 +6,9 @@ use Rattle.std.specs.declared.cmp.Ordering.{Ordering}
 use Rattle.std.specs.declared.cmp.Ordering.TheVariants.{Less}
 use Rattle.btree_item.specs.Pairs.{KeyFits}
 use Rattle.btree_item.specs.Address.{Address}
-use Rattle.btree_shape.specs.Focus.Positions.{address_before}
-use Rattle.btree_shape.specs.Represents.{represented}
-use Rattle.btree_shape.specs.TreeState.{TreeState, IsOccupiedIn, node_map, pairs_of}
+use Rattle.btree_laws.specs.Focus.Positions.{address_before}
+use Rattle.btree_laws.specs.Represents.{represented}
+use Rattle.btree_laws.specs.TreeState.{TreeState, IsOccupiedIn, node_map, pairs_of}
 use Rattle.btree_find.specs.Navigation.{HasPlace}
 
 -- the pairs under a node: those of its subtree

@@ -5,8 +5,8 @@ use Rattle.std.specs.declared.cmp.Ordering.{Ordering}
 use Rattle.btree_item.specs.declared.TheConstants.{MAX_COMPARISONS}
 use Rattle.btree_view.specs.LookUp.{comparisons_in, look_up}
 use Rattle.btree_view.specs.View.{NodeMap, View}
-use Rattle.btree_shape.specs.Focus.Search.{levels_below}
-use Rattle.btree_shape.specs.TreeState.{TreeState, HasLevels, node_map, pairs_of}
+use Rattle.btree_laws.specs.Focus.Search.{levels_below}
+use Rattle.btree_laws.specs.TreeState.{TreeState, HasLevels, node_map, pairs_of}
 
 -- a tree that has pairs has enough of them for its levels: with n pairs, 2*4^(levels-1) is at most n+1
 abbrev pub IsDense : {K V : Type 0} → TreeState K V → (levels : ℕ) → Type 0

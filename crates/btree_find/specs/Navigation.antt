@@ -5,11 +5,11 @@ use Rattle.std.specs.Prelude.{◌≡◌, ◌≢◌, ◌+◌, ℕ, zero, suc, ◌
 use Rattle.std.specs.FinMap as map
 use Rattle.btree_item.specs.Address.{Address}
 use Rattle.btree_view.specs.View.{children_in}
-use Rattle.btree_shape.specs.Addresses.{first_leaf}
-use Rattle.btree_shape.specs.Focus.Positions.{address_at, address_before}
-use Rattle.btree_shape.specs.Place.{IsLeaf}
-use Rattle.btree_shape.specs.TreeAddresses.{item_addresses_of}
-use Rattle.btree_shape.specs.TreeState.{TreeState, IsLeafAddressIn, IsOccupiedIn, IsPlaceIn, IsValidIn, item_of, node_map, pairs_of}
+use Rattle.btree_laws.specs.Addresses.{first_leaf}
+use Rattle.btree_laws.specs.Focus.Positions.{address_at, address_before}
+use Rattle.btree_laws.specs.Place.{IsLeaf}
+use Rattle.btree_laws.specs.TreeAddresses.{item_addresses_of}
+use Rattle.btree_laws.specs.TreeState.{TreeState, IsLeafAddressIn, IsOccupiedIn, IsPlaceIn, IsValidIn, item_of, node_map, pairs_of}
 
 module _ {K V : Type 0} (s : TreeState K V) where
   -- the address has this place, and no other

@@ -3,7 +3,7 @@ use Rattle.std.specs.Prelude.{◌≡◌, IfSome, Option}
 use Rattle.std.specs.declared.cmp.Ordering.{Ordering}
 use Rattle.std.specs.declared.cmp.Ordering.TheVariants.{Less}
 use Rattle.btree_item.specs.Address.{Address}
-use Rattle.btree_shape.specs.TreeState.{TreeState, item_of}
+use Rattle.btree_laws.specs.TreeState.{TreeState, item_of}
 
 module _ {K V : Type 0} (cmp : K → K → Ordering) (k : K) (tree : TreeState K V) where
   -- the key is above that of the item at an address, if there is one

@@ -6,12 +6,12 @@ use Rattle.std.proofs.Common.{◌≡◌, ◌≢◌, ◌≤◌, ◌+◌, ◌∙�
 use Rattle.std.proofs.lemmas.List.{reverse-append}
 use Rattle.std.specs.FinMap as map
 use Rattle.btree_item.specs.Address.{Address}
-use Rattle.btree_shape.specs.Focus.Positions.{address_at}
-use Rattle.btree_shape.specs.Place.{NOWHERE}
-use Rattle.btree_shape.specs.TreeAddresses.{backs_of, first_back, fronts_of}
-use Rattle.btree_shape.specs.TreeState.{TreeState, IsValidIn, node_map, pairs_of}
-use Rattle.btree_shape.specs.Visits.{prior}
-use Rattle.btree_shape.proofs.AddressLists.FrontAddresses.{front-within}
+use Rattle.btree_laws.specs.Focus.Positions.{address_at}
+use Rattle.btree_laws.specs.Place.{NOWHERE}
+use Rattle.btree_laws.specs.TreeAddresses.{backs_of, first_back, fronts_of}
+use Rattle.btree_laws.specs.TreeState.{TreeState, IsValidIn, node_map, pairs_of}
+use Rattle.btree_laws.specs.Visits.{prior}
+use Rattle.btree_laws.proofs.AddressLists.FrontAddresses.{front-within}
 use Rattle.btree_find.specs.Ends.{IsFirstBack, IsLastItem}
 use Rattle.btree_find.specs.Visits.{IsNextBack, IsPreviousFront}
 

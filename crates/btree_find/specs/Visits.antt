@@ -3,13 +3,13 @@
 use Rattle.std.specs.Prelude.{◌≡◌, ◌≢◌, ℕ, suc, slice_get, Option, Some, None, IfSome, IsSome}
 use Rattle.std.specs.FinMap as map
 use Rattle.btree_item.specs.Address.{Address}
-use Rattle.btree_shape.specs.AddressLaws.{IsFront}
-use Rattle.btree_shape.specs.Addresses.{first_leaf, last_item}
-use Rattle.btree_shape.specs.Focus.Positions.{address_at}
-use Rattle.btree_shape.specs.Place.{IsEnd}
-use Rattle.btree_shape.specs.TreeAddresses.{backs_of, fronts_of}
-use Rattle.btree_shape.specs.TreeState.{TreeState, IsValidIn, node_map}
-use Rattle.btree_shape.specs.Visits.{prior}
+use Rattle.btree_laws.specs.AddressLaws.{IsFront}
+use Rattle.btree_laws.specs.Addresses.{first_leaf, last_item}
+use Rattle.btree_laws.specs.Focus.Positions.{address_at}
+use Rattle.btree_laws.specs.Place.{IsEnd}
+use Rattle.btree_laws.specs.TreeAddresses.{backs_of, fronts_of}
+use Rattle.btree_laws.specs.TreeState.{TreeState, IsValidIn, node_map}
+use Rattle.btree_laws.specs.Visits.{prior}
 
 module _ {K V : Type 0} (s : TreeState K V) (a : Address) (found : Option Address) where
   -- the next one in the list of back addresses; from -1, the first one under the node

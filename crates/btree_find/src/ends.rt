@@ -1,5 +1,5 @@
 //! The ends of a tree: the first and the last item, and the first and the last back address in a leaf.
-ghost use Rattle.btree_shape.specs.TreeState.{IsBTree};
+ghost use Rattle.btree_laws.specs.TreeState.{IsBTree};
 ghost use Rattle.btree_find.specs.Ends.{IsFirstBack, IsFirstItem, IsLastItem, IsLastValid};
 
 use crate::navigation::{leftmost_leaf, rightmost_leaf};

@@ -1,6 +1,6 @@
 //! Whether a key fits at the place of an address, or in the place of the item there.
 ghost use Rattle.std.specs.Prelude.{◌↔◌, IsTrue};
-ghost use Rattle.btree_shape.specs.TreeState.{IsBTree, IsUsed, IsValidIn};
+ghost use Rattle.btree_laws.specs.TreeState.{IsBTree, IsUsed, IsValidIn};
 ghost use Rattle.btree_find.specs.Fits.{FitsAt, FitsIn, ReplacesAt};
 ghost use Rattle.btree_find.specs.Neighbours.{IsAboveItem, IsBelowItem};
 

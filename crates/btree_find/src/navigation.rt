@@ -3,8 +3,8 @@ ghost use Rattle.std.specs.Prelude.{◌≡◌, ◌≤◌, ◌<◌, Some};
 ghost use Rattle.std.specs.FinMap as map;
 ghost use Rattle.btree_node.specs.Node.{view_of};
 ghost use Rattle.btree_view.specs.View.{size_of};
-ghost use Rattle.btree_shape.specs.Focus.Positions.{address_at, address_before};
-ghost use Rattle.btree_shape.specs.TreeState.{IsBTree, IsUsed, IsValidIn};
+ghost use Rattle.btree_laws.specs.Focus.Positions.{address_at, address_before};
+ghost use Rattle.btree_laws.specs.TreeState.{IsBTree, IsUsed, IsValidIn};
 ghost use Rattle.btree_raw.specs.LastItem.{EndsInLeaf};
 ghost use Rattle.btree_find.specs.Navigation.{AreBeside, BeginsInLeaf, IsLeafAddressFor, IsNext, IsNextOrBack, IsNormalized, IsPrevious, LeadsBefore, LeadsToItem, LeadsToNext};
 

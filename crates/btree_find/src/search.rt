@@ -3,7 +3,7 @@ ghost use Rattle.std.specs.Prelude.{◌≡◌, ◌+◌, ◌*◌, ◌≤◌, opti
 ghost use Rattle.btree_item.specs.Pairs.{found_value};
 ghost use Rattle.btree_node.specs.Node.{view_of};
 ghost use Rattle.btree_view.specs.View.{value_at_offset};
-ghost use Rattle.btree_shape.specs.TreeState.{HasLevels, IsBTree, IsUsed, pairs_of};
+ghost use Rattle.btree_laws.specs.TreeState.{HasLevels, IsBTree, IsUsed, pairs_of};
 ghost use Rattle.btree_find.specs.Answers.{IsAddressBy, IsAddressIn, IsAddressOf, IsAddressUnder};
 ghost use Rattle.btree_find.specs.Fits.{pairs_below};
 ghost use Rattle.btree_find.specs.Levels.{IsDense, TicksAtMost, TicksExactly, comparisons_from, levels_from};

@@ -3,9 +3,9 @@ ghost use Rattle.std.specs.Prelude.{◌≡◌, ◌≤◌, Some};
 ghost use Rattle.std.specs.FinMap as map;
 ghost use Rattle.btree_node.specs.Node.{view_of};
 ghost use Rattle.btree_view.specs.View.{size_of};
-ghost use Rattle.btree_shape.specs.Addresses.{slot_before};
-ghost use Rattle.btree_shape.specs.Focus.Positions.{address_at, address_before};
-ghost use Rattle.btree_shape.specs.TreeState.{IsBTree, IsValidIn};
+ghost use Rattle.btree_laws.specs.Addresses.{slot_before};
+ghost use Rattle.btree_laws.specs.Focus.Positions.{address_at, address_before};
+ghost use Rattle.btree_laws.specs.TreeState.{IsBTree, IsValidIn};
 ghost use Rattle.btree_find.specs.Visits.{IsNextBack, IsPreviousFront};
 
 use crate::navigation::{leftmost_leaf, rightmost_leaf};

@@ -9,9 +9,9 @@ use Rattle.std.specs.declared.cmp.Ordering.TheVariants.{Equal, Greater, Less}
 use Rattle.btree_item.specs.Pairs.{Ascends, KeyFits, before, found, inserted}
 use Rattle.btree_item.proofs.PairEdits.{before-from_KeyFits, found-from_KeyFits, slice_get-insert}
 use Rattle.btree_item.specs.Address.{Address}
-use Rattle.btree_shape.specs.TreeState.{TreeState, item_of, pairs_of}
-use Rattle.btree_shape.proofs.Options.{else-none}
-use Rattle.btree_edit.specs.InsertAbsent.{InsertsAbsent}
+use Rattle.btree_laws.specs.TreeState.{TreeState, item_of, pairs_of}
+use Rattle.btree_laws.proofs.Options.{else-none}
+use Rattle.btree_ext.specs.InsertAbsent.{InsertsAbsent}
 use Rattle.btree_map.specs.Ascending.{GoesLast, IsAboveLast, IsLastPair}
 use Rattle.btree_map.proofs.EntryLemmas.{item-valid}
 

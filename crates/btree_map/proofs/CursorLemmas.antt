@@ -4,14 +4,14 @@ use Rattle.std.proofs.lemmas.Option.{same_Some}
 use Rattle.std.specs.Cmp.{IsTotalOrder}
 use Rattle.std.specs.declared.cmp.Ordering.{Ordering}
 use Rattle.btree_item.specs.Address.{Address}
-use Rattle.btree_shape.specs.TreeAddresses.{item_addresses_of}
-use Rattle.btree_shape.specs.TreeState.{TreeState, IsBTree, IsOccupiedIn, IsPlaceIn, IsValidIn, item_of, pairs_of}
-use Rattle.btree_shape.specs.Visits.{prior}
-use Rattle.btree_shape.proofs.AddressLists.Whole.{addresses-tree}
+use Rattle.btree_laws.specs.TreeAddresses.{item_addresses_of}
+use Rattle.btree_laws.specs.TreeState.{TreeState, IsBTree, IsOccupiedIn, IsPlaceIn, IsValidIn, item_of, pairs_of}
+use Rattle.btree_laws.specs.Visits.{prior}
+use Rattle.btree_laws.proofs.AddressLists.Whole.{addresses-tree}
 use Rattle.btree_find.specs.Navigation.{IsItemBefore, IsNext, IsPrevious}
 use Rattle.btree_find.proofs.FitsLemmas.{occupied-item}
-use Rattle.btree_edit.specs.Exchange.{IsValueExchanged}
-use Rattle.btree_edit.specs.ValueWritten.{value_written}
+use Rattle.btree_ext.specs.Exchange.{IsValueExchanged}
+use Rattle.btree_ext.specs.ValueWritten.{value_written}
 use Rattle.btree_map.specs.Cursor.{WritesPlace, or_nowhere}
 use Rattle.btree_map.specs.WrittenAddresses.{written-addresses}
 use Rattle.btree_map.proofs.EntryLemmas.{item-valid}

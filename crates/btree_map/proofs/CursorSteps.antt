@@ -4,9 +4,9 @@ use Rattle.std.proofs.Common.{◌≡◌, ◌∙◌, ◌+◌, ◌-◌, ◌<◌, �
 use Rattle.std.specs.declared.cmp.Ord as ord
 use Rattle.std.specs.declared.cmp.PartialEq as eq
 use Rattle.std.specs.declared.cmp.PartialOrd as partial
-use Rattle.btree_node.specs.declared.nodes.Nodes as nodes
-use Rattle.btree_node.specs.declared.nodes.NodesMut as nodes_mut
-use Rattle.btree_shape.specs.TreeState.{pairs_of}
+use Rattle.btree_node.specs.declared.node_stores.Nodes as nodes
+use Rattle.btree_node.specs.declared.node_stores.NodesMut as nodes_mut
+use Rattle.btree_laws.specs.TreeState.{pairs_of}
 use Rattle.btree_map.specs.Cursor.{WritesFirst, WritesLast, WritesFirstValue, WritesPlace, back_written, first_written, front_written, or_nowhere, values_left}
 use Rattle.btree_map.specs.declared.cursor.IterMut.{IterMut}
 use Rattle.btree_map.specs.declared.cursor.ValuesMut.{ValuesMut}

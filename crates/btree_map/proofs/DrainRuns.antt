@@ -5,10 +5,10 @@ use Rattle.std.specs.Map.Calls.{CallableOnEachPair}
 use Rattle.std.specs.declared.cmp.Ord as ord
 use Rattle.std.specs.declared.cmp.PartialEq as eq
 use Rattle.std.specs.declared.cmp.PartialOrd as partial
-use Rattle.btree_node.specs.declared.nodes.Nodes as nodes
-use Rattle.btree_node.specs.declared.nodes.NodesMut as nodes_mut
-use Rattle.btree_shape.specs.TreeAddresses.{item_addresses_of}
-use Rattle.btree_shape.specs.TreeState.{TreeState, pairs_of}
+use Rattle.btree_node.specs.declared.node_stores.Nodes as nodes
+use Rattle.btree_node.specs.declared.node_stores.NodesMut as nodes_mut
+use Rattle.btree_laws.specs.TreeAddresses.{item_addresses_of}
+use Rattle.btree_laws.specs.TreeState.{TreeState, pairs_of}
 use Rattle.btree_map.specs.Drain.{Asks, AsksFirst, Ends, KeepsAddresses, RunsOut, RunsTest, Selects, if_same, picked}
 use Rattle.btree_map.specs.Editing.{PassesEntry, RemovesEntry, entry_front, left_of, passed_of}
 use Rattle.btree_map.specs.declared.cursor.editing.EntriesMut.{EntriesMut}

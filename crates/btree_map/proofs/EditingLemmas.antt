@@ -8,18 +8,18 @@ use Rattle.std.specs.List.{insert, remove}
 use Rattle.std.specs.declared.cmp.Ordering.{Ordering}
 use Rattle.btree_item.specs.Pairs.{KeyFits}
 use Rattle.btree_item.specs.Address.{Address}
-use Rattle.btree_shape.specs.Place.{IsOccupied}
-use Rattle.btree_shape.specs.TreeAddresses.{item_addresses_of}
-use Rattle.btree_shape.specs.TreeState.{IsBTree, IsOccupiedIn, IsValidIn, TreeState, item_of, node_map, pairs_of}
-use Rattle.btree_shape.proofs.AddressLists.Whole.{addresses-tree}
-use Rattle.btree_shape.proofs.Options.{some-none}
+use Rattle.btree_laws.specs.Place.{IsOccupied}
+use Rattle.btree_laws.specs.TreeAddresses.{item_addresses_of}
+use Rattle.btree_laws.specs.TreeState.{IsBTree, IsOccupiedIn, IsValidIn, TreeState, item_of, node_map, pairs_of}
+use Rattle.btree_laws.proofs.AddressLists.Whole.{addresses-tree}
+use Rattle.btree_laws.proofs.Options.{some-none}
 use Rattle.btree_find.specs.Ends.{IsLastValid}
 use Rattle.btree_find.specs.Fits.{FitsAt}
 use Rattle.btree_find.specs.Navigation.{HasPlace, IsNext, IsNormalized}
 use Rattle.btree_find.proofs.FitsLemmas.{item-occupied, occupied-item}
 use Rattle.btree_find.proofs.PlaceLemmas.{has-place, only}
-use Rattle.btree_edit.specs.InsertAt.{InsertsAt}
-use Rattle.btree_edit.specs.Remove.{IsRemoved}
+use Rattle.btree_ext.specs.InsertAt.{InsertsAt}
+use Rattle.btree_ext.specs.Remove.{IsRemoved}
 use Rattle.btree_map.specs.Editing.{FitsBetween}
 use Rattle.btree_map.proofs.CursorLemmas.{get_none, listed-item, listed-occupied, listed-valid}
 use Rattle.btree_map.proofs.EditingLists.{between-fits, drop-first, fits-between, insert-drop, insert-take, remove-drop, remove-take}

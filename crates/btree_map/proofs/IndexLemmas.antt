@@ -7,7 +7,7 @@ use Rattle.std.specs.Option.{option_eq}
 use Rattle.btree_item.specs.Offset.{kept_number}
 use Rattle.btree_item.specs.contracts.address.AddressPartialEq.TheImpl as derived
 use Rattle.btree_item.specs.Address.{Address}
-use Rattle.btree_shape.specs.Visits.{prior}
+use Rattle.btree_laws.specs.Visits.{prior}
 use Rattle.btree_map.specs.SpanLaws.{at-own, same-address, same-itself}
 use Rattle.btree_map.specs.Spans.{index_after, index_of, is_same}
 use Rattle.btree_map.proofs.CursorLemmas.{get_none}

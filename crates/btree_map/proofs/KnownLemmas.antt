@@ -3,8 +3,8 @@ use Rattle.std.proofs.Common.{◌≡◌, ◌∙◌, ℕ, ◌+◌, ◌<◌, IfSom
 use Rattle.std.proofs.lemmas.Option.{same_Some}
 use Rattle.std.specs.Option.{ForSome, option_map}
 use Rattle.btree_item.specs.Address.{Address}
-use Rattle.btree_shape.specs.TreeState.{TreeState}
-use Rattle.btree_edit.specs.ValueWritten.{value_written}
+use Rattle.btree_laws.specs.TreeState.{TreeState}
+use Rattle.btree_ext.specs.ValueWritten.{value_written}
 use Rattle.btree_map.specs.Spans.{index_of, item_index}
 use Rattle.btree_map.specs.WrittenAddresses.{written-addresses}
 

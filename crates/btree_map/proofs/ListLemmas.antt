@@ -8,7 +8,7 @@ use Rattle.std.specs.Ordering.{is_eq}
 use Rattle.std.specs.declared.cmp.Ordering.{Ordering}
 use Rattle.std.specs.declared.cmp.Ordering.TheVariants.{Less, Equal}
 use Rattle.btree_item.specs.Pairs.{Ascends, found, inserted, with_value}
-use Rattle.btree_shape.proofs.Options.{then-some}
+use Rattle.btree_laws.proofs.Options.{then-some}
 
 pub set-inserted : {X : Type 0} (xs : List X) (n : ℕ) (x y : X) → n ≤ length xs → set (insert xs n x) n y ≡ insert xs n y
 set-inserted [] zero x y low = refl

@@ -9,8 +9,8 @@ use Rattle.std.specs.declared.cmp.Ordering.{Ordering}
 use Rattle.std.specs.declared.cmp.Ordering.TheVariants.{Less}
 use Rattle.std.specs.declared.ops.Bound.{Bound}
 use Rattle.std.specs.declared.ops.Bound.TheVariants.{Unbounded}
-use Rattle.btree_shape.proofs.LookUp.KeyInList.{Rises, rises-right}
-use Rattle.btree_shape.proofs.Paths.Frames.{AllByRecursion-left}
+use Rattle.btree_laws.proofs.LookUp.KeyInList.{Rises, rises-right}
+use Rattle.btree_laws.proofs.Paths.Frames.{AllByRecursion-left}
 use Rattle.btree_walk.proofs.BoundLemmas.{all-so, filter-all, filter-none, filter-earlier, from-start, past-on, start-cut}
 use Rattle.btree_map.specs.Removal.{pairs_outside}
 

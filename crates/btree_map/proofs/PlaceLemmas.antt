@@ -14,7 +14,7 @@ use Rattle.std.specs.declared.ops.Bound.{Bound}
 use Rattle.std.specs.declared.ops.Bound.TheVariants.{Included, Excluded, Unbounded}
 use Rattle.btree_item.specs.Pairs.{before, found, place_of}
 use Rattle.btree_item.proofs.PairLemmas.{before-from_Ok}
-use Rattle.btree_shape.proofs.LookUp.KeyInList.{Rises}
+use Rattle.btree_laws.proofs.LookUp.KeyInList.{Rises}
 use Rattle.btree_walk.proofs.BoundLemmas.{all-so, between-take, filter-earlier, from-start, start-cut}
 use Rattle.btree_map.specs.Spans.{from_place, to_place}
 

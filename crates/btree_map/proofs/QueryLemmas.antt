@@ -11,8 +11,8 @@ use Rattle.std.specs.declared.cmp.Ordering.TheVariants.{Equal, Greater, Less}
 use Rattle.std.specs.declared.ops.Bound.TheVariants.{Included, Excluded, Unbounded}
 use Rattle.btree_item.specs.Keys.{Cuts}
 use Rattle.btree_item.specs.Pairs.{before}
-use Rattle.btree_shape.proofs.LookUp.KeyInList.{Rises, reversed, reversed-back}
-use Rattle.btree_shape.specs.Visits.{prior}
+use Rattle.btree_laws.proofs.LookUp.KeyInList.{Rises, reversed, reversed-back}
+use Rattle.btree_laws.specs.Visits.{prior}
 use Rattle.btree_map.specs.Queries.{pairs_from_to}
 
 module _ {A : Type 0} where

@@ -9,12 +9,12 @@ use Rattle.std.specs.declared.ops.Bound.{Bound}
 use Rattle.std.specs.declared.ops.Bound.TheVariants.{Included, Excluded, Unbounded}
 use Rattle.btree_item.proofs.PairLemmas.{before-from_Err, before-from_Ok, found-from_Err}
 use Rattle.btree_item.specs.Address.{Address}
-use Rattle.btree_shape.proofs.AddressLists.Whole.{addresses-tree}
-use Rattle.btree_shape.proofs.LookUp.KeyInList.{Rises, rises}
-use Rattle.btree_shape.proofs.Places.OnePlace.{one_place-well}
-use Rattle.btree_shape.specs.TreeAddresses.{item_addresses_of}
-use Rattle.btree_shape.specs.TreeState.{TreeState, IsBTree, item_of, node_map, pairs_of}
-use Rattle.btree_shape.specs.Visits.{prior}
+use Rattle.btree_laws.proofs.AddressLists.Whole.{addresses-tree}
+use Rattle.btree_laws.proofs.LookUp.KeyInList.{Rises, rises}
+use Rattle.btree_laws.proofs.Places.OnePlace.{one_place-well}
+use Rattle.btree_laws.specs.TreeAddresses.{item_addresses_of}
+use Rattle.btree_laws.specs.TreeState.{TreeState, IsBTree, item_of, node_map, pairs_of}
+use Rattle.btree_laws.specs.Visits.{prior}
 use Rattle.btree_find.specs.Answers.{IsFoundAt, IsGapAt}
 use Rattle.btree_find.specs.Ends.{IsFirstItem, IsLastItem}
 use Rattle.btree_find.specs.Navigation.{IsNext, IsNormalized, IsPrevious}

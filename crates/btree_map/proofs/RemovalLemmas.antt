@@ -5,11 +5,11 @@ use Rattle.std.specs.List.{remove}
 use Rattle.std.specs.declared.cmp.Ordering.{Ordering}
 use Rattle.btree_item.specs.Address.{Address}
 use Rattle.btree_node.proofs.RoomLemmas.{none-last}
-use Rattle.btree_shape.specs.TreeState.{TreeState, pairs_of}
+use Rattle.btree_laws.specs.TreeState.{TreeState, pairs_of}
 use Rattle.btree_find.specs.CallerLaws.{none-first}
 use Rattle.btree_find.specs.Ends.{IsFirstItem, IsLastItem}
 use Rattle.btree_find.specs.Navigation.{IsItemAddress, IsItemBefore}
-use Rattle.btree_edit.specs.Remove.{IsRemoved}
+use Rattle.btree_ext.specs.Remove.{IsRemoved}
 use Rattle.btree_map.specs.Removal.{RemovesPlace}
 
 first-rest : {X : Type 0} (xs : List X) (x : X) → Some x ≡ slice_get xs 0 → xs ≡ x ∷ remove xs 0

@@ -11,7 +11,7 @@ use Rattle.std.specs.declared.ops.Bound.{Bound}
 use Rattle.std.specs.declared.ops.Bound.TheVariants.{Unbounded}
 use Rattle.btree_item.specs.Pairs.{inserted}
 use Rattle.btree_item.proofs.PairLemmas.{inserted-from_Err}
-use Rattle.btree_shape.proofs.LookUp.KeyInList.{Rises, place-miss, reversed}
+use Rattle.btree_laws.proofs.LookUp.KeyInList.{Rises, place-miss, reversed}
 use Rattle.btree_walk.proofs.BoundLemmas.{all-so, filter-earlier, filter-later, from-on}
 use Rattle.btree_map.specs.Lists.{last_of}
 use Rattle.btree_map.specs.Splitting.{AreBefore}

@@ -6,11 +6,11 @@ use Rattle.std.specs.declared.cmp.Ordering.{Ordering}
 use Rattle.btree_item.specs.Pairs.{before}
 use Rattle.btree_item.proofs.PairEdits.{before-le-length}
 use Rattle.btree_item.specs.Address.{Address}
-use Rattle.btree_shape.specs.TreeState.{TreeState, IsBTree, item_of, pairs_of}
-use Rattle.btree_edit.specs.Exchange.{IsValueExchanged}
-use Rattle.btree_edit.specs.InsertAbsent.{InsertsAbsent}
-use Rattle.btree_edit.specs.ValueWritten.{value_written}
-use Rattle.btree_edit.specs.WrittenLaws.{written-item}
+use Rattle.btree_laws.specs.TreeState.{TreeState, IsBTree, item_of, pairs_of}
+use Rattle.btree_ext.specs.Exchange.{IsValueExchanged}
+use Rattle.btree_ext.specs.InsertAbsent.{InsertsAbsent}
+use Rattle.btree_ext.specs.ValueWritten.{value_written}
+use Rattle.btree_ext.specs.WrittenLaws.{written-item}
 use Rattle.btree_map.specs.Written.{IsInsertedWith, WritesValueAt, list_written, with_value_of}
 use Rattle.btree_map.proofs.ListLemmas.{set-inserted, set-stored, with_value-twice}
 

@@ -6,8 +6,8 @@ use Rattle.std.specs.declared.cmp.Ord as ord
 use Rattle.std.specs.declared.cmp.PartialEq as eq
 use Rattle.std.specs.declared.cmp.PartialOrd as partial
 use mir.Syntax.{named}
-use Rattle.btree_node.specs.declared.nodes.Nodes as nodes
-use Rattle.btree_node.specs.declared.nodes.NodesMut as nodes_mut
+use Rattle.btree_node.specs.declared.node_stores.Nodes as nodes
+use Rattle.btree_node.specs.declared.node_stores.NodesMut as nodes_mut
 use Rattle.btree_map.specs.Cursor.{past_back, past_front, past_value}
 use Rattle.btree_map.specs.Editing.{past_first, with_first}
 use Rattle.btree_map.specs.RangeCursor as range

@@ -5,8 +5,8 @@ use Rattle.std.specs.Prelude.{◌≡◌, ◌≤◌, Bool, true, Option, drop, le
 use Rattle.std.specs.Map.Calls.{CallableOnEachPair, CalledAtPair, TakesPair}
 use denote.Ref.{Bor, MutBor}
 use denote.Param.Members.{Mut}
-use Rattle.btree_shape.specs.TreeAddresses.{item_addresses_of}
-use Rattle.btree_shape.specs.TreeState.{TreeState, pairs_of}
+use Rattle.btree_laws.specs.TreeAddresses.{item_addresses_of}
+use Rattle.btree_laws.specs.TreeState.{TreeState, pairs_of}
 use Rattle.btree_map.specs.Drain.{RunsOut, Yields}
 use Rattle.btree_map.specs.declared.drain.DrainFilter.{DrainFilter}
 

@@ -13,15 +13,15 @@ use Rattle.std.specs.declared.cmp.PartialEq as eq
 use Rattle.std.specs.declared.cmp.PartialOrd as partial
 use Rattle.btree_item.specs.Address.{Address}
 use Rattle.btree_item.specs.declared.refused.Cause.{Cause}
-use Rattle.btree_node.specs.declared.nodes.Nodes as nodes
-use Rattle.btree_node.specs.declared.nodes.NodesMut as nodes_mut
-use Rattle.btree_shape.specs.TreeAddresses.{item_addresses_of}
-use Rattle.btree_shape.specs.TreeState.{TreeState, IsBTree, pairs_of}
+use Rattle.btree_node.specs.declared.node_stores.Nodes as nodes
+use Rattle.btree_node.specs.declared.node_stores.NodesMut as nodes_mut
+use Rattle.btree_laws.specs.TreeAddresses.{item_addresses_of}
+use Rattle.btree_laws.specs.TreeState.{TreeState, IsBTree, pairs_of}
 use Rattle.btree_raw.specs.Limit.{IsWithinLimit}
 use Rattle.btree_find.specs.Navigation.{HasPlace}
-use Rattle.btree_edit.specs.InsertAt.{InsertsAt, IsRefusedAt}
-use Rattle.btree_edit.specs.Remove.{IsRemoved}
-use Rattle.btree_edit.specs.ValueWritten.{value_written}
+use Rattle.btree_ext.specs.InsertAt.{InsertsAt, IsRefusedAt}
+use Rattle.btree_ext.specs.Remove.{IsRemoved}
+use Rattle.btree_ext.specs.ValueWritten.{value_written}
 use Rattle.btree_map.specs.Cursor.{WritesPlace, or_nowhere}
 use Rattle.btree_map.specs.SpanLaws.{at-index}
 use Rattle.btree_map.specs.Spans.{IsFirstListed, index_of, item_index}

@@ -11,13 +11,13 @@ use Rattle.btree_item.specs.Pairs.{before}
 use Rattle.btree_item.specs.Address.{Address}
 use Rattle.btree_item.specs.declared.refused.Cause.{Cause}
 use Rattle.btree_item.specs.declared.refused.Refused.{Refused}
-use Rattle.btree_node.specs.declared.nodes.Nodes as nodes
-use Rattle.btree_node.specs.declared.nodes.NodesMut as nodes_mut
-use Rattle.btree_shape.specs.TreeState.{TreeState, item_of, pairs_of}
-use Rattle.btree_edit.specs.Insert.{IsRefusedAtGap}
-use Rattle.btree_edit.specs.InsertAbsent.{InsertsAbsent}
-use Rattle.btree_edit.specs.ValueWritten.{value_written}
-use Rattle.btree_edit.specs.WrittenLaws.{written-item}
+use Rattle.btree_node.specs.declared.node_stores.Nodes as nodes
+use Rattle.btree_node.specs.declared.node_stores.NodesMut as nodes_mut
+use Rattle.btree_laws.specs.TreeState.{TreeState, item_of, pairs_of}
+use Rattle.btree_ext.specs.Insert.{IsRefusedAtGap}
+use Rattle.btree_ext.specs.InsertAbsent.{InsertsAbsent}
+use Rattle.btree_ext.specs.ValueWritten.{value_written}
+use Rattle.btree_ext.specs.WrittenLaws.{written-item}
 use Rattle.btree_map.specs.Written.{IsInsertedWith, WritesValueAt, list_written}
 use Rattle.btree_map.specs.declared.entry.Entry.{Entry}
 use Rattle.btree_map.specs.declared.entry.Entry.TheVariants.{Vacant, Occupied}

@@ -11,8 +11,8 @@ use Rattle.btree_item.specs.Pairs.{found, inserted}
 use Rattle.btree_item.specs.declared.refused.Cause.{Cause}
 use Rattle.btree_item.specs.declared.refused.Refused.{Refused}
 use Rattle.btree_node.specs.declared.node.Node.{Node}
-use Rattle.btree_shape.specs.TreeState.{Kept, TreeState, pairs_of, with_limit}
-use Rattle.btree_edit.specs.Insert.{IsRefusedAtGap}
+use Rattle.btree_laws.specs.TreeState.{Kept, TreeState, pairs_of, with_limit}
+use Rattle.btree_ext.specs.Insert.{IsRefusedAtGap}
 
 module _ {K V : Type 0} (cmp : K → K → Ordering) where
   -- the list after the insertion of each pair of the second list, in order

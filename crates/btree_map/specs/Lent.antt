@@ -8,18 +8,18 @@ use Rattle.std.specs.declared.cmp.Ord as ord
 use Rattle.std.specs.declared.cmp.PartialEq as eq
 use Rattle.std.specs.declared.cmp.PartialOrd as partial
 use Rattle.btree_item.specs.declared.refused.Refused.{Refused}
-use Rattle.btree_node.specs.declared.nodes.Nodes as nodes
-use Rattle.btree_node.specs.declared.nodes.NodesMut as nodes_mut
-use Rattle.btree_edit.specs.Insert.{IsRefusedAtGap}
-use Rattle.btree_edit.specs.KeyWritten.{key_written}
-use Rattle.btree_edit.specs.ValueWritten.{value_written}
+use Rattle.btree_node.specs.declared.node_stores.Nodes as nodes
+use Rattle.btree_node.specs.declared.node_stores.NodesMut as nodes_mut
+use Rattle.btree_ext.specs.Insert.{IsRefusedAtGap}
+use Rattle.btree_ext.specs.KeyWritten.{key_written}
+use Rattle.btree_ext.specs.ValueWritten.{value_written}
 use Rattle.btree_raw.specs.Lent.{StoreMembers}
 use Rattle.btree_map.specs.Entry.{IsRefusedEntry, WritesEntry, entry_map, with_entry_value}
 use Rattle.btree_map.specs.declared.entry.Entry.{Entry}
 use Rattle.btree_map.specs.declared.entry.OccupiedEntry.{OccupiedEntry}
 use Rattle.btree_map.specs.declared.entry.VacantEntry.{VacantEntry}
 use Rattle.btree_map.specs.Written.{IsInsertedWith}
-use Rattle.btree_shape.specs.TreeState.{TreeState}
+use Rattle.btree_laws.specs.TreeState.{TreeState}
 use Rattle.btree_map.specs.contracts.entry.OccupiedEntry.{the_row as occupied_row}
 use Rattle.btree_map.specs.contracts.map.BTreeMap.{the_row}
 

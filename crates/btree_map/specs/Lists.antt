@@ -3,9 +3,9 @@ use Rattle.std.specs.Prelude.{◌≡◌, ◌+◌, ◌-◌, ℕ, List, Option, So
 use Rattle.std.specs.Borrow.{Bor, MutBor}
 use Rattle.std.specs.Iterator.{Count, at_most}
 use Rattle.btree_item.specs.Address.{Address}
-use Rattle.btree_shape.specs.TreeAddresses.{item_addresses_of}
-use Rattle.btree_shape.specs.TreeState.{TreeState, pairs_of}
-use Rattle.btree_shape.specs.Visits.{prior}
+use Rattle.btree_laws.specs.TreeAddresses.{item_addresses_of}
+use Rattle.btree_laws.specs.TreeState.{TreeState, pairs_of}
+use Rattle.btree_laws.specs.Visits.{prior}
 
 -- the last element, if there is one
 abbrev pub last_of : {A : Type 0} → List A → Option A

@@ -6,9 +6,9 @@ use Rattle.std.specs.List.{filter, remove}
 use Rattle.std.specs.declared.cmp.Ordering.{Ordering}
 use Rattle.std.specs.declared.ops.Bound.{Bound}
 use Rattle.btree_item.specs.Address.{Address}
-use Rattle.btree_shape.specs.TreeState.{TreeState, pairs_of}
+use Rattle.btree_laws.specs.TreeState.{TreeState, pairs_of}
 use Rattle.btree_find.specs.Navigation.{IsItemAddress}
-use Rattle.btree_edit.specs.Remove.{IsRemoved, RemovesBy, RemovesByKey}
+use Rattle.btree_ext.specs.Remove.{IsRemoved, RemovesBy, RemovesByKey}
 
 -- there are no more nodes than before
 abbrev pub AddsNoNode : {K V : Type 0} → (old new : TreeState K V) → Type 0

@@ -6,7 +6,7 @@ use Rattle.std.proofs.lemmas.Option.{same_Some, slice_get_past}
 use Rattle.std.specs.List.{position_or_len}
 use Rattle.std.specs.Option.{option_eq}
 use Rattle.btree_item.specs.Address.{Address}
-use Rattle.btree_shape.specs.Visits.{prior}
+use Rattle.btree_laws.specs.Visits.{prior}
 use Rattle.btree_map.specs.Spans.{index_after, index_of, is_same}
 
 same-offset : (m n : Option ℕ) → option_eq nat_eq m n ≡ true → m ≡ n

@@ -9,9 +9,9 @@ use Rattle.std.specs.Option.{option_eq}
 use Rattle.std.specs.declared.cmp.Ordering.{Ordering}
 use Rattle.std.specs.declared.ops.Bound.{Bound}
 use Rattle.btree_item.specs.Address.{Address}
-use Rattle.btree_shape.specs.TreeAddresses.{item_addresses_of}
-use Rattle.btree_shape.specs.TreeState.{TreeState, pairs_of}
-use Rattle.btree_shape.specs.Visits.{prior}
+use Rattle.btree_laws.specs.TreeAddresses.{item_addresses_of}
+use Rattle.btree_laws.specs.TreeState.{TreeState, pairs_of}
+use Rattle.btree_laws.specs.Visits.{prior}
 
 -- whether two addresses are equal
 abbrev pub is_same : Address → Address → Bool

@@ -5,11 +5,11 @@ use Rattle.std.specs.List.{insert}
 use Rattle.std.specs.declared.cmp.Ordering.{Ordering}
 use Rattle.btree_item.specs.Pairs.{before, with_value}
 use Rattle.btree_item.specs.Address.{Address}
-use Rattle.btree_shape.specs.TreeState.{TreeState, item_of, pairs_of}
-use Rattle.btree_edit.specs.Exchange.{IsValueExchanged}
-use Rattle.btree_edit.specs.InsertAbsent.{InsertsAbsent}
-use Rattle.btree_edit.specs.Remove.{IsRemoved}
-use Rattle.btree_edit.specs.ValueWritten.{value_written}
+use Rattle.btree_laws.specs.TreeState.{TreeState, item_of, pairs_of}
+use Rattle.btree_ext.specs.Exchange.{IsValueExchanged}
+use Rattle.btree_ext.specs.InsertAbsent.{InsertsAbsent}
+use Rattle.btree_ext.specs.Remove.{IsRemoved}
+use Rattle.btree_ext.specs.ValueWritten.{value_written}
 
 module _ {K V : Type 0} (cmp : K → K → Ordering) where
   -- the list with w as the value at the key of this pair; the list itself without a pair

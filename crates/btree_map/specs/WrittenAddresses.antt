@@ -10,11 +10,11 @@ use Rattle.btree_node.specs.Node.{view_of}
 use Rattle.btree_node.proofs.NodeLemmas.{item_at-kind, item_at-items, item_at-children}
 use Rattle.btree_view.specs.Edits.{is_internal}
 use Rattle.btree_view.specs.View.{View, leaf, internal, children_of, items_of, item_at_offset}
-use Rattle.btree_shape.specs.Addresses.{slots, item_addresses, item_addresses_in, item_addresses_under}
-use Rattle.btree_shape.specs.Focus.Positions.{address_at}
-use Rattle.btree_shape.specs.TreeAddresses.{item_addresses_of}
-use Rattle.btree_shape.specs.TreeState.{TreeState, node_map}
-use Rattle.btree_edit.specs.ValueWritten.{item_written, node_written, value_written}
+use Rattle.btree_laws.specs.Addresses.{slots, item_addresses, item_addresses_in, item_addresses_under}
+use Rattle.btree_laws.specs.Focus.Positions.{address_at}
+use Rattle.btree_laws.specs.TreeAddresses.{item_addresses_of}
+use Rattle.btree_laws.specs.TreeState.{TreeState, node_map}
+use Rattle.btree_ext.specs.ValueWritten.{item_written, node_written, value_written}
 
 -- the addresses of the items of an internal node and below it, from its children
 abbrev under : (ℕ → List Address) → ℕ → List ℕ → List Address

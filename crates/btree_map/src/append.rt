@@ -1,6 +1,6 @@
 //! Moving the pairs of one map into another.
 ghost use Rattle.std.specs.Prelude.{◌≡◌, [], IfErr, OnErr, OnOk};
-ghost use Rattle.btree_shape.specs.TreeState.{pairs_of};
+ghost use Rattle.btree_laws.specs.TreeState.{pairs_of};
 ghost use Rattle.btree_map.specs.Extension.{AddsAll, MovesEach, MovesUntil, RefusesInTurn, SwapsIntoEmpty};
 
 use crate::BTreeMap;

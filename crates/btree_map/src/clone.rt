@@ -1,6 +1,6 @@
 //! Clones of maps.
 ghost use Rattle.std.specs.Prelude.{◌≡◌, IfOk, OnErr};
-ghost use Rattle.btree_shape.specs.TreeState.{pairs_of, unrefused};
+ghost use Rattle.btree_laws.specs.TreeState.{pairs_of, unrefused};
 
 use crate::BTreeMap;
 use btree_node::CloneNodes;

@@ -5,6 +5,8 @@ ghost use Rattle.std.specs.Cmp.Lexicographic.{pointwise, slice_cmp, slice_partia
 ghost use Rattle.btree_map.specs.Comparison.{hash_writes, pair_cmp, pair_eq, pair_partial_cmp};
 ghost use Rattle.btree_map.specs.Lists.{read_pair};
 
+mod traits;
+
 use btree_node::NodesMut;
 use btree_walk::Iter;
 use std::cmp::Ordering;

@@ -1,7 +1,7 @@
 //! The types of the cursors.
 ghost use Rattle.std.specs.Prelude.{◌≡◌, ◌≤◌, length, nat_lt, slice_get};
-ghost use Rattle.btree_shape.specs.TreeAddresses.{item_addresses_of};
-ghost use Rattle.btree_shape.specs.Visits.{prior};
+ghost use Rattle.btree_laws.specs.TreeAddresses.{item_addresses_of};
+ghost use Rattle.btree_laws.specs.Visits.{prior};
 ghost use Rattle.btree_map.specs.Spans.{index_after, index_of};
 
 mod counts;

@@ -1,5 +1,5 @@
 //! The drain: the pairs of a map that a closure picks, removed one at a time.
-mod calls;
+mod map;
 mod steps;
 
 use crate::BTreeMap;

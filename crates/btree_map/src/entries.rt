@@ -2,7 +2,7 @@
 ghost use Rattle.std.specs.Prelude.{◌≡◌, IfSome, slice_get};
 ghost use Rattle.std.specs.Borrow.{RestsIfNone, sem};
 ghost use Rattle.btree_item.specs.Pairs.{found, inserted};
-ghost use Rattle.btree_shape.specs.TreeState.{pairs_of};
+ghost use Rattle.btree_laws.specs.TreeState.{pairs_of};
 ghost use Rattle.btree_find.specs.Answers.{IsAddressOf};
 ghost use Rattle.btree_map.specs.Entry.{asked_key, entry_map, entry_pair, entry_search, list_with_value, pair_of_occupied};
 ghost use Rattle.btree_map.specs.Lent.{rests_if_none};

@@ -1,13 +1,13 @@
 //! The types of entries.
 ghost use Rattle.std.specs.Prelude.{◌≡◌, None, IsSome};
 ghost use Rattle.btree_item.specs.Pairs.{found};
-ghost use Rattle.btree_shape.specs.TreeState.{item_of, pairs_of};
-ghost use Rattle.btree_edit.specs.InsertAbsent.{IsGapOf};
+ghost use Rattle.btree_laws.specs.TreeState.{item_of, pairs_of};
+ghost use Rattle.btree_ext.specs.InsertAbsent.{IsGapOf};
 
 mod calls;
+mod fmt;
 mod modify;
 mod occupied;
-mod shown;
 mod vacant;
 
 use crate::BTreeMap;

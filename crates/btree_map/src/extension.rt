@@ -4,8 +4,8 @@ ghost use Rattle.std.specs.Iterator.{IsFinite};
 ghost use Rattle.std.specs.Mem.{FitsInMemory};
 ghost use Rattle.btree_node.specs.contracts.node.Node.{the_row as node_row};
 ghost use Rattle.btree_item.specs.Pairs.{found, inserted};
-ghost use Rattle.btree_shape.specs.TreeState.{pairs_of, unlimited};
-ghost use Rattle.btree_edit.specs.Insert.{IsRefusedAtGap};
+ghost use Rattle.btree_laws.specs.TreeState.{pairs_of, unlimited};
+ghost use Rattle.btree_ext.specs.Insert.{IsRefusedAtGap};
 ghost use Rattle.btree_map.specs.Ascending.{GoesLast, IsLastPair};
 ghost use Rattle.btree_map.specs.Extension.{Adds, AddsUntil, Collects, CollectsUntil, RefusesInTurn, copied_steps};
 

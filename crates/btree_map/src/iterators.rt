@@ -2,7 +2,7 @@
 ghost use Rattle.std.specs.Prelude.{◌≡◌, true};
 ghost use Rattle.std.specs.BTreeMap.Range.{entries_between};
 ghost use Rattle.std.specs.Map.{keys_of, values_of};
-ghost use Rattle.btree_shape.specs.TreeState.{pairs_of};
+ghost use Rattle.btree_laws.specs.TreeState.{pairs_of};
 ghost use Rattle.btree_walk.specs.Bounds.{is_valid};
 
 use crate::BTreeMap;

@@ -1,7 +1,7 @@
 //! Look-up by key, by another query and at both ends.
 ghost use Rattle.std.specs.Prelude.{◌≡◌, ◌↔◌, IsSome, IsTrue, Some, option_map, slice_get};
 ghost use Rattle.btree_item.specs.Pairs.{found, found_value};
-ghost use Rattle.btree_shape.specs.TreeState.{item_of, pairs_of};
+ghost use Rattle.btree_laws.specs.TreeState.{item_of, pairs_of};
 ghost use Rattle.btree_map.specs.Lists.{last_of};
 
 use crate::BTreeMap;

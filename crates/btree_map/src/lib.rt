@@ -9,6 +9,7 @@ mod drain;
 mod entries;
 mod entry;
 mod extension;
+mod fmt;
 mod iterators;
 mod keys;
 mod map;
@@ -17,9 +18,7 @@ mod pair_test;
 mod queries;
 mod range_removal;
 mod removal;
-mod shown;
 mod splitting;
-mod traits;
 
 pub use cursor::{EntriesMut, IterMut, RangeMut, ValuesMut};
 pub use drain::{DrainFilter, run_out, seek_from};

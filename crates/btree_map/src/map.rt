@@ -18,7 +18,7 @@ pub struct BTreeMap<K: Ord, V, C: NodesMut<K, V>> {
 
 impl<K: Ord, V, C: NodesMut<K, V>> Model for BTreeMap<K, V, C> {
     ghost use Rattle.std.specs.Coded.{codes};
-    ghost use Rattle.btree_shape.specs.TreeState.{TreeState, tree_code};
+    ghost use Rattle.btree_laws.specs.TreeState.{TreeState, tree_code};
 
     ghost Value = { TreeState K V };
 
@@ -33,8 +33,8 @@ impl<K: Ord, V, C: NodesMut<K, V>> BTreeMap<K, V, C> {
     ghost use Rattle.std.specs.Option.{option_copied_mut};
     ghost use Rattle.btree_node.specs.contracts.node.Node.{the_row as node_row};
     ghost use Rattle.btree_item.specs.Pairs.{found_value};
-    ghost use Rattle.btree_shape.specs.TreeState.{IsBTree, limited_to, pairs_of, rootless, unlimited};
-    ghost use Rattle.btree_edit.specs.Outcomes.{ExchangesLent, ExchangesLentBy};
+    ghost use Rattle.btree_laws.specs.TreeState.{IsBTree, limited_to, pairs_of, rootless, unlimited};
+    ghost use Rattle.btree_ext.specs.Outcomes.{ExchangesLent, ExchangesLentBy};
     ghost use Rattle.btree_map.specs.Lent.{lends_at_key, lends_by};
 
     /// Returns a map without pairs, over an empty store made from `origin`. It allocates no memory.
@@ -164,12 +164,12 @@ impl<K: Ord, V, C: NodesMut<K, V>> BTreeMap<K, V, C> {
 
 impl<K: Ord + Drop, V: Drop, C: NodesMut<K, V>> BTreeMap<K, V, C> {
     ghost use Rattle.btree_item.specs.Pairs.{found, found_value, inserted};
-    ghost use Rattle.btree_shape.specs.TreeState.{pairs_of};
-    ghost use Rattle.btree_edit.specs.Insert.{InsertsByKey, IsGrantedIfAbsent, IsRefusedAtGap};
-    ghost use Rattle.btree_edit.specs.InsertAbsent.{InsertsAbsent, IsGapOf};
-    ghost use Rattle.btree_edit.specs.Remove.{RemovesBy, RemovesByKey, removed};
-    ghost use Rattle.btree_edit.specs.Replace.{ReplacesByKey, replaced};
-    ghost use Rattle.btree_edit.specs.Update.{RunsByKey};
+    ghost use Rattle.btree_laws.specs.TreeState.{pairs_of};
+    ghost use Rattle.btree_ext.specs.Insert.{InsertsByKey, IsGrantedIfAbsent, IsRefusedAtGap};
+    ghost use Rattle.btree_ext.specs.InsertAbsent.{InsertsAbsent, IsGapOf};
+    ghost use Rattle.btree_ext.specs.Remove.{RemovesBy, RemovesByKey, removed};
+    ghost use Rattle.btree_ext.specs.Replace.{ReplacesByKey, replaced};
+    ghost use Rattle.btree_ext.specs.Update.{RunsByKey};
     ghost use Rattle.btree_map.specs.Removal.{RemovesValueBy, RemovesValueOf};
 
     /// Inserts a pair, or replaces the value if the key is there: the stored key stays, and the given one is dropped.
@@ -311,7 +311,7 @@ impl<K: Ord + Drop, V: Drop, C: NodesMut<K, V>> BTreeMap<K, V, C> {
 }
 
 impl<K: Ord, V, C: ClearNodes<K, V>> BTreeMap<K, V, C> {
-    ghost use Rattle.btree_shape.specs.TreeState.{pairs_of, rootless};
+    ghost use Rattle.btree_laws.specs.TreeState.{pairs_of, rootless};
 
     /// Removes all pairs. The store has no node then, and the count of refusals stays.
     pub fn clear(&mut self)
@@ -334,12 +334,12 @@ impl<K: Ord, V, C: NodesMut<K, V>> BTreeExt<K, V> for BTreeMap<K, V, C> {
 
 impl<K: Ord + Drop, V: Drop, C: NodesMut<K, V>> BTreeExtMut<K, V> for BTreeMap<K, V, C> {
     ghost use Rattle.btree_item.specs.Pairs.{found, found_value};
-    ghost use Rattle.btree_shape.specs.TreeState.{IsLeafAddressIn, IsUsed, IsValidIn, pairs_of};
+    ghost use Rattle.btree_laws.specs.TreeState.{IsLeafAddressIn, IsUsed, IsValidIn, pairs_of};
     ghost use Rattle.btree_find.specs.Fits.{FitsAt, FitsIn, pairs_below};
-    ghost use Rattle.btree_edit.specs.Insert.{IsGrantedIfAbsent, IsRefusedAtGap};
-    ghost use Rattle.btree_edit.specs.InsertAt.{InsertsAt, IsRefusedAt};
-    ghost use Rattle.btree_edit.specs.Update.{RunsByKey};
-    ghost use Rattle.btree_edit.specs.ValueWritten.{value_written};
+    ghost use Rattle.btree_ext.specs.Insert.{IsGrantedIfAbsent, IsRefusedAtGap};
+    ghost use Rattle.btree_ext.specs.InsertAt.{InsertsAt, IsRefusedAt};
+    ghost use Rattle.btree_ext.specs.Update.{RunsByKey};
+    ghost use Rattle.btree_ext.specs.ValueWritten.{value_written};
 
     ghost with_value = { value_written };
 

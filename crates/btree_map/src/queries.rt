@@ -2,8 +2,8 @@
 ghost use Rattle.std.specs.Prelude.{◌≡◌, ℕ, [], option_map, slice_get};
 ghost use Rattle.std.specs.declared.cmp.Ordering.TheVariants.{Greater, Less};
 ghost use Rattle.btree_item.specs.Pairs.{before};
-ghost use Rattle.btree_shape.specs.TreeState.{IsValidIn, pairs_of};
-ghost use Rattle.btree_shape.specs.Visits.{prior};
+ghost use Rattle.btree_laws.specs.TreeState.{IsValidIn, pairs_of};
+ghost use Rattle.btree_laws.specs.Visits.{prior};
 ghost use Rattle.btree_find.specs.Navigation.{HasPlace};
 ghost use Rattle.btree_walk.specs.Bounds.{IsValidRange, pairs_between};
 ghost use Rattle.btree_map.specs.Queries.{pairs_from_to};

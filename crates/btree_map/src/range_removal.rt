@@ -1,7 +1,7 @@
 //! Removal of the pairs in a range.
 ghost use Rattle.std.specs.Prelude.{◌≡◌, false, true, Some, IsFalse, IsTrue, slice_get};
 ghost use Rattle.std.specs.BTreeMap.Range.{is_past_end};
-ghost use Rattle.btree_shape.specs.TreeState.{pairs_of};
+ghost use Rattle.btree_laws.specs.TreeState.{pairs_of};
 ghost use Rattle.btree_walk.specs.Bounds.{bound_key};
 ghost use Rattle.btree_map.specs.Editing.{RemovesEntry, left_of};
 ghost use Rattle.btree_map.specs.Removal.{AddsNoNode, pairs_outside};

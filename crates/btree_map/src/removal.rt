@@ -1,7 +1,7 @@
 //! Removal at both ends.
 ghost use Rattle.std.specs.Prelude.{◌≡◌, IfNone, IfSome, slice_get};
 ghost use Rattle.std.specs.Iterator.{YieldsFirst, YieldsLast};
-ghost use Rattle.btree_shape.specs.TreeState.{pairs_of};
+ghost use Rattle.btree_laws.specs.TreeState.{pairs_of};
 ghost use Rattle.btree_map.specs.Lists.{last_of, last_place};
 ghost use Rattle.btree_map.specs.Removal.{RemovesPlace};
 

@@ -5,7 +5,7 @@ ghost use Rattle.std.specs.FinMap as map;
 ghost use Rattle.std.specs.Mem.{FitsInMemory};
 ghost use Rattle.std.specs.declared.ops.Bound.TheVariants.{Included};
 ghost use Rattle.btree_node.specs.contracts.node.Node.{the_row as node_row};
-ghost use Rattle.btree_shape.specs.TreeState.{pairs_of, unlimited};
+ghost use Rattle.btree_laws.specs.TreeState.{pairs_of, unlimited};
 ghost use Rattle.btree_walk.specs.Bounds.{pairs_from};
 ghost use Rattle.btree_map.specs.Extension.{RefusesInTurn};
 ghost use Rattle.btree_map.specs.Removal.{AddsNoNode};

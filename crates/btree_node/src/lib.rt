@@ -2,13 +2,13 @@
 #![tactic(auto)]
 
 mod node;
-mod nodes;
+mod node_stores;
 
 pub use btree_internal::{Branch, Children, ChildrenWithSeparators, InternalNode};
 pub use btree_leaf::LeafNode;
 pub use btree_view::{Balance, WouldUnderflow};
 pub use node::{Node, PoppedItem};
-pub use nodes::{ClearNodes, CloneNodes, Nodes, NodesMut};
+pub use node_stores::{ClearNodes, CloneNodes, Nodes, NodesMut};
 
 /// Internal nodes, under their path in Rust's crate.
 pub mod internal {

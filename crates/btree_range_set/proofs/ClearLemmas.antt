@@ -7,11 +7,11 @@ use Rattle.std.proofs.lemmas.List.Edits.{length-remove}
 use Rattle.std.proofs.lemmas.Option.{same_Some, slice_get_within}
 use Rattle.btree_item.specs.Pairs.{KeyFits}
 use Rattle.btree_item.specs.Address.{Address}
-use Rattle.btree_shape.specs.TreeState.{TreeState, item_of, pairs_of}
+use Rattle.btree_laws.specs.TreeState.{TreeState, item_of, pairs_of}
 use Rattle.btree_find.specs.Answers.{IsFoundAt}
 use Rattle.btree_find.specs.Fits.{ReplacesAt}
 use Rattle.btree_find.specs.Navigation.{HasPlace, IsNormalized}
-use Rattle.btree_edit.specs.Exchange.{IsExchanged}
+use Rattle.btree_ext.specs.Exchange.{IsExchanged}
 use Rattle.btree_range_set.specs.Places.{EndsBefore, StartsFrom}
 use Rattle.btree_range_set.specs.Ranges.{AreRuns, has_number}
 use Rattle.btree_range_set.specs.Steps.{CanClear, Clears, TakesRange}

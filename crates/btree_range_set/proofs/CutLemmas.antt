@@ -6,13 +6,13 @@ use Rattle.std.proofs.lemmas.Option.{same_Some, slice_get_within}
 use Rattle.std.specs.Ordering.{nat_cmp}
 use Rattle.btree_item.specs.Pairs.{KeyFits}
 use Rattle.btree_item.specs.Address.{Address}
-use Rattle.btree_shape.specs.TreeState.{TreeState, IsPlaceIn, item_of, pairs_of}
+use Rattle.btree_laws.specs.TreeState.{TreeState, IsPlaceIn, item_of, pairs_of}
 use Rattle.btree_find.specs.Answers.{IsGapAt}
 use Rattle.btree_find.specs.Fits.{FitsAt}
 use Rattle.btree_find.specs.Navigation.{HasPlace, IsItemAddress, IsItemAt, IsNormalized, IsPrevious}
-use Rattle.btree_edit.specs.CallerLaws.{value-list}
-use Rattle.btree_edit.specs.Exchange.{IsValueExchanged}
-use Rattle.btree_edit.specs.InsertAt.{InsertsAt}
+use Rattle.btree_ext.specs.CallerLaws.{value-list}
+use Rattle.btree_ext.specs.Exchange.{IsValueExchanged}
+use Rattle.btree_ext.specs.InsertAt.{InsertsAt}
 use Rattle.btree_range_set.specs.Places.{EndsBefore, StartsFrom}
 use Rattle.btree_range_set.specs.Ranges.{AreRuns, has_number, is_within}
 use Rattle.btree_range_set.specs.Steps.{CanClear, CanCut, Clears}

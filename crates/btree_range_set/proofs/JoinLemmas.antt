@@ -7,12 +7,12 @@ use Rattle.std.specs.List.{insert, remove}
 use Rattle.std.specs.Ordering.{nat_cmp}
 use Rattle.btree_item.specs.Pairs.{KeyFits}
 use Rattle.btree_item.specs.Address.{Address}
-use Rattle.btree_shape.specs.TreeState.{TreeState, item_of, pairs_of}
+use Rattle.btree_laws.specs.TreeState.{TreeState, item_of, pairs_of}
 use Rattle.btree_find.specs.Answers.{IsFoundAt}
 use Rattle.btree_find.specs.Fits.{ReplacesAt}
 use Rattle.btree_find.specs.Navigation.{HasPlace, IsNormalized, IsPrevious}
-use Rattle.btree_edit.specs.Exchange.{IsExchanged}
-use Rattle.btree_edit.specs.InsertAt.{InsertsAt}
+use Rattle.btree_ext.specs.Exchange.{IsExchanged}
+use Rattle.btree_ext.specs.InsertAt.{InsertsAt}
 use Rattle.btree_range_set.specs.Places.{EndsBefore, StartsAfter, StartsBy}
 use Rattle.btree_range_set.specs.Ranges.{AreRuns, has_number, is_within}
 use Rattle.btree_range_set.specs.Steps.{CanJoin, Joins, TakesRange}

@@ -4,9 +4,9 @@ use Rattle.std.specs.List.{insert}
 use Rattle.std.specs.Ordering.{nat_cmp}
 use Rattle.std.proofs.lemmas.List.Edits.{length-insert}
 use Rattle.btree_item.specs.Address.{Address}
-use Rattle.btree_shape.specs.TreeState.{TreeState, pairs_of}
+use Rattle.btree_laws.specs.TreeState.{TreeState, pairs_of}
 use Rattle.btree_find.specs.Navigation.{HasPlace}
-use Rattle.btree_edit.specs.InsertAt.{InsertsAt}
+use Rattle.btree_ext.specs.InsertAt.{InsertsAt}
 use Rattle.btree_range_set.specs.State.{GrowsWithinLimit, ranges_of}
 
 -- a step that adds no range

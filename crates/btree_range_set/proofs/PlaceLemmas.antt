@@ -8,7 +8,7 @@ use Rattle.std.proofs.lemmas.Cmp.{ranked}
 use Rattle.std.proofs.lemmas.Option.{same_Some, slice_get_within}
 use Rattle.btree_item.specs.Pairs.{KeyFits}
 use Rattle.btree_item.specs.Address.{Address}
-use Rattle.btree_shape.specs.TreeState.{TreeState, item_of, pairs_of}
+use Rattle.btree_laws.specs.TreeState.{TreeState, item_of, pairs_of}
 use Rattle.btree_find.specs.Answers.{IsFoundAt}
 use Rattle.btree_find.specs.CallerLaws.{pair-there}
 use Rattle.btree_find.specs.Navigation.{HasPlace, IsItemAddress, IsItemAt, IsItemBefore, IsNormalized, IsPrevious}

@@ -3,7 +3,7 @@ use Rattle.std.proofs.Common.{◌≡◌, ◌∙◌, ◌<◌, ◌≤◌, ℕ, Boo
 use Rattle.std.proofs.lemmas.Bool.{cases_lt}
 use Rattle.btree_item.specs.declared.refused.Cause.{Cause}
 use Rattle.btree_item.specs.declared.refused.Cause.TheVariants.{Count, Store}
-use Rattle.btree_shape.specs.TreeState.{refused_once}
+use Rattle.btree_laws.specs.TreeState.{refused_once}
 use Rattle.btree_range_set.specs.Ranges.{IsDifference, IsUnion, has_number, is_within}
 use Rattle.btree_range_set.specs.Series.{CountsLastRefusal, GoesThrough}
 use Rattle.btree_range_set.specs.State.{GrowsWithinLimit, IsRefused, RangeState}

@@ -7,7 +7,7 @@ use Rattle.btree_item.specs.declared.refused.Cause.{Cause}
 use Rattle.btree_item.specs.declared.refused.Cause.TheVariants.{Store, Count}
 use Rattle.btree_store.specs.Content.{Content}
 use Rattle.btree_node.specs.declared.node.Node.{Node}
-use Rattle.btree_shape.specs.TreeState.{IsBTree, Kept, TreeState, coded_kept, pairs_of, refused_once}
+use Rattle.btree_laws.specs.TreeState.{IsBTree, Kept, TreeState, coded_kept, pairs_of, refused_once}
 
 pub record RangeState : Type 0 where
   pub ranges : List (ℕ × ℕ)

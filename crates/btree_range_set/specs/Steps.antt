@@ -5,7 +5,7 @@ use Rattle.std.specs.Prelude.{◌≡◌, ℕ, suc, ◌≤◌, ◌<◌, length, O
 use Rattle.std.specs.List.{remove}
 use Rattle.btree_item.specs.Address.{Address}
 use Rattle.btree_item.specs.declared.refused.Cause.{Cause}
-use Rattle.btree_shape.specs.TreeState.{TreeState, IsValidIn, pairs_of}
+use Rattle.btree_laws.specs.TreeState.{TreeState, IsValidIn, pairs_of}
 use Rattle.btree_find.specs.Navigation.{HasPlace, IsItemAddress, IsItemAt}
 use Rattle.btree_range_set.specs.Places.{EndsBefore, StartsAfter, StartsBy, StartsFrom}
 use Rattle.btree_range_set.specs.Ranges.{AreRuns, IsDifference, IsUnion}

@@ -1,6 +1,6 @@
 //! The steps of a set of ranges on its map, by addresses.
 ghost use Rattle.std.specs.Prelude.{◌≡◌, ◌<◌, ℕ, IfErr, IfNone, IfSome, IsFalse, IsTrue, OnErr, OnOk, false};
-ghost use Rattle.btree_shape.specs.TreeState.{IsOccupiedIn, IsValidIn, pairs_of};
+ghost use Rattle.btree_laws.specs.TreeState.{IsOccupiedIn, IsValidIn, pairs_of};
 ghost use Rattle.btree_find.specs.Navigation.{HasPlace};
 ghost use Rattle.btree_range_set.specs.Places.{IsRangeAround};
 ghost use Rattle.btree_range_set.specs.Ranges.{AreRuns, CutsOne, JoinsNone, has_number};

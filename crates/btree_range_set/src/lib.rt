@@ -5,13 +5,13 @@ mod algebra;
 mod comparison;
 mod edits;
 mod extension;
+mod fmt;
 mod gaps;
 mod iter;
 mod overlapping;
 mod owned;
 mod queries;
 mod set;
-mod shown;
 
 pub use gaps::Gaps;
 pub use iter::Iter;

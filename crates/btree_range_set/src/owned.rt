@@ -18,7 +18,7 @@ pub struct IntoIter<C: NodesMut<u64, u64>> {
 
 impl<C: NodesMut<u64, u64>> Model for IntoIter<C> {
     ghost use Rattle.std.specs.Prelude.{List, ℕ};
-    ghost use Rattle.btree_owned.specs.Leaving.{left_of};
+    ghost use Rattle.btree_owned_walk.specs.Leaving.{left_of};
 
     ghost Value = { List (ℕ × ℕ) };
 

@@ -1,7 +1,7 @@
 //! The set.
 ghost use Rattle.std.specs.Prelude.{◌≡◌, ◌↔◌, [], IfErr, IsTrue, OnErr, OnOk, length};
 ghost use Rattle.std.specs.FinMap as map;
-ghost use Rattle.btree_shape.specs.TreeState.{limited_to, unlimited};
+ghost use Rattle.btree_laws.specs.TreeState.{limited_to, unlimited};
 ghost use Rattle.btree_range_set.specs.Ranges.{CutsOne, IsDifference, IsUnion, JoinsNone, has_number};
 ghost use Rattle.btree_range_set.specs.State.{GrowsWithinLimit, HoldsRanges, IsRefused};
 
@@ -21,7 +21,7 @@ pub struct RangeSet<C: NodesMut<u64, u64>> {
 }
 
 impl<C: NodesMut<u64, u64>> Model for RangeSet<C> {
-    ghost use Rattle.btree_shape.specs.TreeState.{pairs_of};
+    ghost use Rattle.btree_laws.specs.TreeState.{pairs_of};
     ghost use Rattle.btree_range_set.specs.Ranges.{AreRuns};
     ghost use Rattle.btree_range_set.specs.State.{RangeState, range_code, ranges_of};
 

@@ -3,10 +3,10 @@ use Rattle.std.proofs.Common.{◌≡◌, ◌<◌, ◌≤◌, ◌∙◌, ℕ, zer
 use Rattle.std.specs.Prelude.{nat_lt}
 use Rattle.std.proofs.lemmas.Option.{same_Some}
 use Rattle.btree_view.specs.View.{NodeMap, View, most_of, parent_of, size_of}
-use Rattle.btree_shape.specs.Need.{levels_above, levels_over, levels_up, need_of_split, split_need, split_need_in}
-use Rattle.btree_shape.specs.WellFormed.{times_used}
-use Rattle.btree_shape.proofs.Paths.Used.{less-no, less-yes}
-use Rattle.btree_shape.proofs.Trees.Numbers.{less-or, used-mapped}
+use Rattle.btree_laws.specs.Need.{levels_above, levels_over, levels_up, need_of_split, split_need, split_need_in}
+use Rattle.btree_laws.specs.WellFormed.{times_used}
+use Rattle.btree_laws.proofs.Paths.Used.{less-no, less-yes}
+use Rattle.btree_laws.proofs.Trees.Numbers.{less-or, used-mapped}
 use Rattle.btree_raw.specs.Steps.{AreSplitAlike, split_key}
 
 -- one comparison stands for the other

@@ -6,12 +6,12 @@ use Rattle.btree_store.specs.ContentLaws.{get-insert_other, get-insert_same, rem
 use Rattle.btree_raw.specs.Claimed.{EMPTY, with_claims, AreClaims, IsClaimed}
 use Rattle.btree_node.specs.Node.{view_of}
 use Rattle.btree_node.specs.declared.node.Node.{Node}
-use Rattle.btree_shape.specs.Lists.{one}
-use Rattle.btree_shape.specs.Step.{Claims}
-use Rattle.btree_shape.specs.TreeState.{views}
-use Rattle.btree_shape.specs.WellFormed.{times_used}
-use Rattle.btree_shape.proofs.Trees.Numbers.{same-or}
-use Rattle.btree_shape.proofs.Paths.Frames.{one-other, one-self}
+use Rattle.btree_laws.specs.Lists.{one}
+use Rattle.btree_laws.specs.Step.{Claims}
+use Rattle.btree_laws.specs.TreeState.{views}
+use Rattle.btree_laws.specs.WellFormed.{times_used}
+use Rattle.btree_laws.proofs.Trees.Numbers.{same-or}
+use Rattle.btree_laws.proofs.Paths.Frames.{one-other, one-self}
 
 module _ {N : Type 0} (empty : N) where
   pub with-one_more : (nodes : Content N) (ids : List ℕ) (id : ℕ) → with_claims empty nodes (ids ++ id ∷ []) ≡ map.insert (with_claims empty nodes ids) id empty

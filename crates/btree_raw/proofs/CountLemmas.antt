@@ -5,11 +5,11 @@ use Rattle.std.specs.FinMap as map
 use Rattle.btree_store.specs.Content.{Content}
 use Rattle.btree_node.specs.declared.node.Node.{Node}
 use Rattle.btree_view.specs.View.{View, most_of, parent_of, size_of}
-use Rattle.btree_shape.specs.Focus.Need.{IsCountingUpward}
-use Rattle.btree_shape.specs.Need.{split_need, levels_above}
-use Rattle.btree_shape.specs.TreeState.{views}
-use Rattle.btree_shape.proofs.Splits.Need.{upward-done, upward-root, upward-up, upward-used}
-use Rattle.btree_shape.proofs.Trees.Stores.{used-view}
+use Rattle.btree_laws.specs.Focus.Need.{IsCountingUpward}
+use Rattle.btree_laws.specs.Need.{split_need, levels_above}
+use Rattle.btree_laws.specs.TreeState.{views}
+use Rattle.btree_laws.proofs.Splits.Need.{upward-done, upward-root, upward-up, upward-used}
+use Rattle.btree_laws.proofs.Trees.Stores.{used-view}
 use Rattle.btree_raw.specs.Steps.{IsCountingSplits, split_key}
 use Rattle.btree_raw.proofs.AlikeLemmas.{KeyAt, full-alike, key-at, levels-alike, low-alike, need-alike, used-alike}
 

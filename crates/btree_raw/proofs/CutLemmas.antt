@@ -7,9 +7,9 @@ use Rattle.btree_node.specs.declared.node.Node.{Node}
 use Rattle.btree_node.specs.Node.{view_of}
 use Rattle.btree_view.specs.Edits.{IsOverflowing, IsSplit}
 use Rattle.btree_view.specs.View.{NodeMap, View, most_of, parent_of, size_of}
-use Rattle.btree_shape.specs.Step.{Splits}
-use Rattle.btree_shape.specs.TreeState.{views}
-use Rattle.btree_shape.proofs.Trees.Stores.{writes_node}
+use Rattle.btree_laws.specs.Step.{Splits}
+use Rattle.btree_laws.specs.TreeState.{views}
+use Rattle.btree_laws.proofs.Trees.Stores.{writes_node}
 use Rattle.btree_raw.specs.OverflowSplit.{CutsNode, StaysWhole}
 use Rattle.btree_raw.specs.Steps.{CanCut, CutsAtMedian, HasCount, LeavesPart, Overflows}
 use Rattle.btree_raw.proofs.StepLemmas.{halves}

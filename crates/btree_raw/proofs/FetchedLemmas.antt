@@ -5,8 +5,8 @@ use Rattle.btree_store.specs.Content.{Content}
 use Rattle.btree_node.specs.declared.node.Node.{Node}
 use Rattle.btree_node.specs.Node.{view_of}
 use Rattle.btree_view.specs.View.{View, NodeMap, parent_of, size_of}
-use Rattle.btree_shape.specs.TreeState.{views}
-use Rattle.btree_shape.proofs.Trees.Stores.{writes_node}
+use Rattle.btree_laws.specs.TreeState.{views}
+use Rattle.btree_laws.proofs.Trees.Stores.{writes_node}
 use Rattle.btree_raw.specs.Steps.{HasCount, HasParent}
 
 module _ {K V : Type 0} (nodes : Content (Node K V)) (id : ℕ) (node : Node K V) where

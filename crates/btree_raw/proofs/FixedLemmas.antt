@@ -3,20 +3,20 @@ use Rattle.std.proofs.Common.{◌≡◌, ◌≢◌, ℕ, suc, ◌+◌, ◌<◌, 
 use Rattle.btree_item.specs.Address.{Address}
 use Rattle.btree_view.specs.Edits.{is_internal, with_parent}
 use Rattle.btree_view.specs.View.{NodeMap, View, leaf, internal, children_of, parent_of, size_of}
-use Rattle.btree_shape.specs.Focus.Overflow.{IsRepaired}
-use Rattle.btree_shape.specs.SiblingSteps.{ShrinksRoot}
-use Rattle.btree_shape.specs.UnderflowFix.{Borrows, IsUnderflowFixed, UnderflowsUnder, MergesNode, borrows, empties, merges, shrinks_root, rests, size_in}
-use Rattle.btree_shape.specs.Moved.{first_in, moved_by_emptying, moved_by_shrink_root}
-use Rattle.btree_shape.specs.Need.{levels_above}
-use Rattle.btree_shape.specs.Lists.{times_listed}
-use Rattle.btree_shape.specs.Focus.Underflow.{MayUnderflowAt}
-use Rattle.btree_shape.specs.Step.{RemovesNode}
-use Rattle.btree_shape.specs.WellFormed.{least_of, times_used}
-use Rattle.btree_shape.proofs.Paths.Frames.{one-other, one-self}
-use Rattle.btree_shape.proofs.Underflow.Order.{underflow-apart, underflow-root}
-use Rattle.btree_shape.proofs.Trees.Numbers.{listed-append, same-or, used-mapped, used-one, used-there}
-use Rattle.btree_shape.proofs.Underflow.Upward.{underflow-done, underflow-done-root, underflow-node, underflow-used, to-child, to-nothing}
-use Rattle.btree_shape.proofs.Trees.Sizes.{least-low, least-other, least-root}
+use Rattle.btree_laws.specs.Focus.Overflow.{IsRepaired}
+use Rattle.btree_laws.specs.SiblingSteps.{ShrinksRoot}
+use Rattle.btree_laws.specs.UnderflowFix.{Borrows, IsUnderflowFixed, UnderflowsUnder, MergesNode, borrows, empties, merges, shrinks_root, rests, size_in}
+use Rattle.btree_laws.specs.Moved.{first_in, moved_by_emptying, moved_by_shrink_root}
+use Rattle.btree_laws.specs.Need.{levels_above}
+use Rattle.btree_laws.specs.Lists.{times_listed}
+use Rattle.btree_laws.specs.Focus.Underflow.{MayUnderflowAt}
+use Rattle.btree_laws.specs.Step.{RemovesNode}
+use Rattle.btree_laws.specs.WellFormed.{least_of, times_used}
+use Rattle.btree_laws.proofs.Paths.Frames.{one-other, one-self}
+use Rattle.btree_laws.proofs.Underflow.Order.{underflow-apart, underflow-root}
+use Rattle.btree_laws.proofs.Trees.Numbers.{listed-append, same-or, used-mapped, used-one, used-there}
+use Rattle.btree_laws.proofs.Underflow.Upward.{underflow-done, underflow-done-root, underflow-node, underflow-used, to-child, to-nothing}
+use Rattle.btree_laws.proofs.Trees.Sizes.{least-low, least-other, least-root}
 use Rattle.btree_raw.specs.NodeSteps.{CanShrinkRoot}
 use Rattle.btree_raw.specs.Rebalance.{IsFit}
 use Rattle.btree_raw.specs.Underflow.{AreFixed, IsFollowed, IsFixing, PassesUnderflowUp, EndsUnderflow, IsRepairedOrEmpty}

@@ -11,21 +11,21 @@ use Rattle.btree_store.specs.ContentLaws.{insert-same}
 use Rattle.btree_view.specs.Edits.{without_last}
 use Rattle.btree_view.specs.View.{View, leaf, internal, children_in, children_of, item_in, last_child_of, last_item_of, size_of}
 use Rattle.btree_view.proofs.RemovalLemmas.{leaf-from_no_child}
-use Rattle.btree_shape.specs.Addresses.{last_child, last_leaf}
-use Rattle.btree_shape.specs.Focus.Positions.{address_at}
-use Rattle.btree_shape.specs.Focus.Search.{levels_below}
-use Rattle.btree_shape.specs.Place.{IsPlace}
-use Rattle.btree_shape.specs.Step.{WritesNode}
-use Rattle.btree_shape.specs.TreeState.{TreeState, IsBTreeButLength, IsPlaceIn, IsUsed, node_map, pairs_of}
-use Rattle.btree_shape.proofs.AddressLists.LeafEnds.{last-child-at, last-leaf-down, last-leaf-self}
-use Rattle.btree_shape.proofs.Places.ChildPlaces.{child-places, down-to-end}
-use Rattle.btree_shape.specs.WellFormed.{IsOffByOne, IsSized, IsWellFormed}
-use Rattle.btree_shape.proofs.Places.OfTree.{positions-addressed, valid-on}
-use Rattle.btree_shape.proofs.Places.Words.{item-within}
-use Rattle.btree_shape.proofs.Removal.FromTree.{take-off}
-use Rattle.btree_shape.proofs.Trees.Density.{height-low}
-use Rattle.btree_shape.proofs.Trees.States.{is-off, pairs-off}
-use Rattle.btree_shape.proofs.Trees.Stores.{writes_node}
+use Rattle.btree_laws.specs.Addresses.{last_child, last_leaf}
+use Rattle.btree_laws.specs.Focus.Positions.{address_at}
+use Rattle.btree_laws.specs.Focus.Search.{levels_below}
+use Rattle.btree_laws.specs.Place.{IsPlace}
+use Rattle.btree_laws.specs.Step.{WritesNode}
+use Rattle.btree_laws.specs.TreeState.{TreeState, IsBTreeButLength, IsPlaceIn, IsUsed, node_map, pairs_of}
+use Rattle.btree_laws.proofs.AddressLists.LeafEnds.{last-child-at, last-leaf-down, last-leaf-self}
+use Rattle.btree_laws.proofs.Places.ChildPlaces.{child-places, down-to-end}
+use Rattle.btree_laws.specs.WellFormed.{IsOffByOne, IsSized, IsWellFormed}
+use Rattle.btree_laws.proofs.Places.OfTree.{positions-addressed, valid-on}
+use Rattle.btree_laws.proofs.Places.Words.{item-within}
+use Rattle.btree_laws.proofs.Removal.FromTree.{take-off}
+use Rattle.btree_laws.proofs.Trees.Density.{height-low}
+use Rattle.btree_laws.proofs.Trees.States.{is-off, pairs-off}
+use Rattle.btree_laws.proofs.Trees.Stores.{writes_node}
 use Rattle.btree_raw.specs.LastItem.{EndsInLeaf, LosesItem, TakesLast}
 use Rattle.btree_raw.specs.Raw.{with_node}
 use Rattle.btree_raw.proofs.PlacedLemmas.{in-state, in-tree, leaf-without, placed, root-there, some-items, used-of, well}

@@ -3,10 +3,10 @@ use Rattle.std.proofs.Common.{◌+◌, ◌≤◌, if◌then◌else◌, Bool, tru
 use Rattle.std.specs.Prelude.{nat_lt}
 use Rattle.std.specs.declared.cmp.Ordering.{Ordering}
 use Rattle.btree_view.specs.View.{NodeMap}
-use Rattle.btree_shape.specs.Focus.Need.{IsCountingUpward, path_need}
-use Rattle.btree_shape.specs.Focus.Subtree.{count_at, most_at}
-use Rattle.btree_shape.specs.WellFormed.{IsNearlySized, IsOffByOne}
-use Rattle.btree_shape.proofs.Paths.Levels.{levels-rooted}
+use Rattle.btree_laws.specs.Focus.Need.{IsCountingUpward, path_need}
+use Rattle.btree_laws.specs.Focus.Subtree.{count_at, most_at}
+use Rattle.btree_laws.specs.WellFormed.{IsNearlySized, IsOffByOne}
+use Rattle.btree_laws.proofs.Paths.Levels.{levels-rooted}
 use Rattle.btree_raw.proofs.NeedLemmas.{path_need-few}
 
 either-low : (b : Bool) (x y : ℕ) → (if b then x else y) ≤ x + y

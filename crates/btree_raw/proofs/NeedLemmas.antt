@@ -6,26 +6,26 @@ use Rattle.std.specs.declared.cmp.Ordering.{Ordering}
 use Rattle.btree_node.specs.declared.node.Node.{Node}
 use Rattle.btree_node.specs.Node.{view_of}
 use Rattle.btree_view.specs.View.{NodeMap, most_of, parent_of, size_of}
-use Rattle.btree_shape.specs.Focus.Need.{IsCountingUpward, path_need_from, path_need}
-use Rattle.btree_shape.specs.Need.{need, need_of_split, split_need, split_need_in}
-use Rattle.btree_shape.specs.Focus.Node.{IsNode}
-use Rattle.btree_shape.specs.Focus.Subtree.{IsFilled, IsFilledBelow, Subtree, count_at, items_under, later_items, most_at}
-use Rattle.btree_shape.specs.TreeState.{TreeState, IsBTree, IsUsed, node_map, nodes_for_splits, nodes_needed, pairs_of}
-use Rattle.btree_shape.specs.Focus.Path.{Path, depth, fill, frame_count, least_at, top, under}
-use Rattle.btree_shape.specs.WellFormed.{IsFormed, IsRooted, IsSized, times_used}
-use Rattle.btree_shape.specs.Focus.Focus.{IsFocus}
-use Rattle.btree_shape.proofs.Trees.Density.{dense}
-use Rattle.btree_shape.proofs.Paths.Frames.{fill-count}
-use Rattle.btree_shape.proofs.Paths.Levels.{levels-rooted}
-use Rattle.btree_shape.proofs.Trees.States.{height_held}
-use Rattle.btree_shape.proofs.Paths.Used.{less-no, less-yes}
-use Rattle.btree_shape.proofs.Splits.Need.{split_need-node, upward-start}
-use Rattle.btree_shape.proofs.Paths.UnsizedFocus.{focus-unsized}
+use Rattle.btree_laws.specs.Focus.Need.{IsCountingUpward, path_need_from, path_need}
+use Rattle.btree_laws.specs.Need.{need, need_of_split, split_need, split_need_in}
+use Rattle.btree_laws.specs.Focus.Node.{IsNode}
+use Rattle.btree_laws.specs.Focus.Subtree.{IsFilled, IsFilledBelow, Subtree, count_at, items_under, later_items, most_at}
+use Rattle.btree_laws.specs.TreeState.{TreeState, IsBTree, IsUsed, node_map, nodes_for_splits, nodes_needed, pairs_of}
+use Rattle.btree_laws.specs.Focus.Path.{Path, depth, fill, frame_count, least_at, top, under}
+use Rattle.btree_laws.specs.WellFormed.{IsFormed, IsRooted, IsSized, times_used}
+use Rattle.btree_laws.specs.Focus.Focus.{IsFocus}
+use Rattle.btree_laws.proofs.Trees.Density.{dense}
+use Rattle.btree_laws.proofs.Paths.Frames.{fill-count}
+use Rattle.btree_laws.proofs.Paths.Levels.{levels-rooted}
+use Rattle.btree_laws.proofs.Trees.States.{height_held}
+use Rattle.btree_laws.proofs.Paths.Used.{less-no, less-yes}
+use Rattle.btree_laws.proofs.Splits.Need.{split_need-node, upward-start}
+use Rattle.btree_laws.proofs.Paths.UnsizedFocus.{focus-unsized}
 use Rattle.btree_raw.specs.Steps.{IsCountingSplits}
-use Rattle.btree_shape.proofs.Trees.Numbers.{less-or}
-use Rattle.btree_shape.proofs.Paths.FromRoot.{node-at}
-use Rattle.btree_shape.proofs.Trees.Stores.{some-used}
-use Rattle.btree_shape.proofs.Paths.Focus.{close}
+use Rattle.btree_laws.proofs.Trees.Numbers.{less-or}
+use Rattle.btree_laws.proofs.Paths.FromRoot.{node-at}
+use Rattle.btree_laws.proofs.Trees.Stores.{some-used}
+use Rattle.btree_laws.proofs.Paths.Focus.{close}
 
 -- the test whether a node is full
 pub is-full : {K V : Type 0} (node : Node K V) → (IsTrue true ↔ (most_of (view_of node) ≤ size_of (view_of node))) → most_of (view_of node) ≤ size_of (view_of node)

@@ -10,16 +10,16 @@ use Rattle.btree_item.specs.Address.{Address}
 use Rattle.btree_node.specs.declared.node.Node.{Node}
 use Rattle.btree_node.specs.Node.{view_of}
 use Rattle.btree_view.specs.View.{leaf, item_in}
-use Rattle.btree_shape.specs.Place.{IsPlace, IsWithin}
-use Rattle.btree_shape.specs.Lists.{one}
-use Rattle.btree_shape.specs.Step.{WritesNode}
-use Rattle.btree_shape.specs.TreeState.{TreeState, Changes, node_map, pairs_of}
-use Rattle.btree_shape.specs.WellFormed.{IsWellFormed}
-use Rattle.btree_shape.proofs.Splits.Insertion.{first-well}
-use Rattle.btree_shape.proofs.Trees.OneLeaf.{IsOneLeaf, once_here, only-place}
-use Rattle.btree_shape.proofs.Trees.Stores.{len-views}
-use Rattle.btree_shape.specs.Need.{need}
-use Rattle.btree_shape.proofs.Trees.States.{is-tree-but-length, pairs-tree}
+use Rattle.btree_laws.specs.Place.{IsPlace, IsWithin}
+use Rattle.btree_laws.specs.Lists.{one}
+use Rattle.btree_laws.specs.Step.{WritesNode}
+use Rattle.btree_laws.specs.TreeState.{TreeState, Changes, node_map, pairs_of}
+use Rattle.btree_laws.specs.WellFormed.{IsWellFormed}
+use Rattle.btree_laws.proofs.Splits.Insertion.{first-well}
+use Rattle.btree_laws.proofs.Trees.OneLeaf.{IsOneLeaf, once_here, only-place}
+use Rattle.btree_laws.proofs.Trees.Stores.{len-views}
+use Rattle.btree_laws.specs.Need.{need}
+use Rattle.btree_laws.proofs.Trees.States.{is-tree-but-length, pairs-tree}
 use Rattle.btree_raw.specs.Claimed.{EMPTY}
 use Rattle.btree_raw.proofs.StateLemmas.{nodes-of, same-len, same-kept}
 use Rattle.btree_raw.specs.Insertion.{InsertsExactly, IsRefused, UsesNeeded}

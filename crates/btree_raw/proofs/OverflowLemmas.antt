@@ -2,11 +2,11 @@
 use Rattle.std.proofs.Common.{◌≡◌, ℕ, ◌<◌, ◌≤◌, [], ◌∷◌, Some, None, sym, ap, ◌∙◌, option_map, arith}
 use Rattle.btree_view.specs.Edits.{IsSplit, with_parent}
 use Rattle.btree_view.specs.View.{View, NodeMap, internal, children_of, children_in, size_of}
-use Rattle.btree_shape.specs.Lists.{times_listed}
-use Rattle.btree_shape.specs.Step.{Reparents, WritesNode, GrowsRoot, Splits}
-use Rattle.btree_shape.specs.WellFormed.{times_used}
-use Rattle.btree_shape.proofs.Splits.Upward.{right-children}
-use Rattle.btree_shape.proofs.Trees.Numbers.{used-same}
+use Rattle.btree_laws.specs.Lists.{times_listed}
+use Rattle.btree_laws.specs.Step.{Reparents, WritesNode, GrowsRoot, Splits}
+use Rattle.btree_laws.specs.WellFormed.{times_used}
+use Rattle.btree_laws.proofs.Splits.Upward.{right-children}
+use Rattle.btree_laws.proofs.Trees.Numbers.{used-same}
 use Rattle.btree_raw.specs.Steps.{AreThere, CanGrowRoot, CanSplitInto, CutsAtMedian, HasCount, SetsParent}
 
 module _ {A : Type 0} (node_at mid : NodeMap A) (id right count : ℕ) (median : A) (part : View A) (can : CanSplitInto node_at id right) (half : CutsAtMedian node_at mid id count median part) where

@@ -6,15 +6,15 @@ use Rattle.btree_node.specs.declared.node.Node.{Node}
 use Rattle.btree_view.specs.Edits.{with_parent}
 use Rattle.btree_node.specs.Node.{view_of}
 use Rattle.btree_view.specs.View.{View, NodeMap, leaf, internal, children_in, children_of}
-use Rattle.btree_shape.specs.Lists.{one, times_listed}
-use Rattle.btree_shape.specs.Step.{Reparents}
-use Rattle.btree_shape.specs.TreeState.{views}
-use Rattle.btree_shape.specs.WellFormed.{times_used}
-use Rattle.btree_shape.proofs.Paths.Frames.{one-zero, one-other}
-use Rattle.btree_shape.proofs.Trees.Numbers.{listed-append, same-or, used-mapped, zero-or}
+use Rattle.btree_laws.specs.Lists.{one, times_listed}
+use Rattle.btree_laws.specs.Step.{Reparents}
+use Rattle.btree_laws.specs.TreeState.{views}
+use Rattle.btree_laws.specs.WellFormed.{times_used}
+use Rattle.btree_laws.proofs.Paths.Frames.{one-zero, one-other}
+use Rattle.btree_laws.proofs.Trees.Numbers.{listed-append, same-or, used-mapped, zero-or}
 use Rattle.btree_raw.specs.Steps.{AreThere, CanReparent, SetsParent}
-use Rattle.btree_shape.proofs.Paths.Parents.{get-times}
-use Rattle.btree_shape.proofs.Trees.Stores.{used-view}
+use Rattle.btree_laws.proofs.Paths.Parents.{get-times}
+use Rattle.btree_laws.proofs.Trees.Stores.{used-view}
 
 times-take : (n i : ℕ) (ids : List ℕ) → times_listed n (take i ids) ≤ times_listed n ids
 times-take n zero ids = omega arith

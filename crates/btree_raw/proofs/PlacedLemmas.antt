@@ -5,15 +5,15 @@ use Rattle.std.specs.Cmp.{IsTotalOrder}
 use Rattle.std.specs.FinMap as finite
 use Rattle.std.specs.declared.cmp.Ordering.{Ordering}
 use Rattle.btree_view.specs.View.{View, leaf, internal, children_of, size_of}
-use Rattle.btree_shape.specs.AddressLaws.{IsPlaced}
-use Rattle.btree_shape.specs.Place.{IsPlace}
-use Rattle.btree_shape.specs.TreeState.{TreeState, IsBTree, IsBTreeButLength, IsUsed, node_map, pairs_of}
-use Rattle.btree_shape.specs.WellFormed.{IsWellFormed, least_of}
-use Rattle.btree_shape.proofs.AddressLists.OnePlaceEach.{placed-formed}
-use Rattle.btree_shape.proofs.Trees.Numbers.{same-or, used-one}
-use Rattle.btree_shape.proofs.Trees.Sizes.{least-other, least-root}
-use Rattle.btree_shape.proofs.Trees.States.{height_held}
-use Rattle.btree_shape.proofs.Trees.Stores.{used-view}
+use Rattle.btree_laws.specs.AddressLaws.{IsPlaced}
+use Rattle.btree_laws.specs.Place.{IsPlace}
+use Rattle.btree_laws.specs.TreeState.{TreeState, IsBTree, IsBTreeButLength, IsUsed, node_map, pairs_of}
+use Rattle.btree_laws.specs.WellFormed.{IsWellFormed, least_of}
+use Rattle.btree_laws.proofs.AddressLists.OnePlaceEach.{placed-formed}
+use Rattle.btree_laws.proofs.Trees.Numbers.{same-or, used-one}
+use Rattle.btree_laws.proofs.Trees.Sizes.{least-other, least-root}
+use Rattle.btree_laws.proofs.Trees.States.{height_held}
+use Rattle.btree_laws.proofs.Trees.Stores.{used-view}
 
 -- a well formed tree is one whatever its length says
 pub but-length : {K V : Type 0} (cmp : K → K → Ordering) (s : TreeState K V) → IsBTree cmp s → IsBTreeButLength cmp s

@@ -15,9 +15,9 @@ use Rattle.btree_view.specs.Edits.{HasChildFor, with_item, without, without_at}
 use Rattle.btree_view.specs.Removal.{removal_in}
 use Rattle.btree_view.specs.View.{View, leaf, internal, child_after_offset, items_of, most_of, size_of}
 use Rattle.btree_view.proofs.RemovalLemmas.{item-from_removal}
-use Rattle.btree_shape.specs.TreeState.{TreeState, IsOffByOneAt, node_map}
-use Rattle.btree_shape.proofs.Paths.Used.{full-yes}
-use Rattle.btree_shape.proofs.Trees.Stores.{writes_node}
+use Rattle.btree_laws.specs.TreeState.{TreeState, IsOffByOneAt, node_map}
+use Rattle.btree_laws.proofs.Paths.Used.{full-yes}
+use Rattle.btree_laws.proofs.Trees.Stores.{writes_node}
 use Rattle.btree_raw.specs.Insertion.{IsOffByOneWith}
 use Rattle.btree_raw.specs.Raw.{with_node}
 

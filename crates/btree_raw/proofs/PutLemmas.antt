@@ -15,17 +15,17 @@ use Rattle.btree_node.specs.declared.node.Node.{Node}
 use Rattle.btree_node.specs.Node.{view_of}
 use Rattle.btree_view.specs.Edits.{with_item, HasChildFor}
 use Rattle.btree_view.specs.View.{View, leaf, internal, item_in, items_of, most_of, parent_of, size_of}
-use Rattle.btree_shape.specs.Lists.{times_listed}
-use Rattle.btree_shape.specs.Need.{need, split_need}
-use Rattle.btree_shape.specs.Place.{IsWithin}
-use Rattle.btree_shape.specs.Represents.{numbers_under}
-use Rattle.btree_shape.specs.Step.{Claims}
-use Rattle.btree_shape.specs.TreeState.{TreeState, Changes, IsOffByOneAt, IsUsed, IsValidIn, KeepsRest, item_of, node_map, nodes_for_splits, nodes_needed, pairs_of, views}
-use Rattle.btree_shape.specs.WellFormed.{IsOffByOne, times_used}
-use Rattle.btree_shape.proofs.Paths.Used.{less-no}
-use Rattle.btree_shape.proofs.Trees.Numbers.{less-or, same-node, same-or, used-low, used-one}
-use Rattle.btree_shape.proofs.Trees.States.{is-off}
-use Rattle.btree_shape.proofs.Trees.Stores.{len-views}
+use Rattle.btree_laws.specs.Lists.{times_listed}
+use Rattle.btree_laws.specs.Need.{need, split_need}
+use Rattle.btree_laws.specs.Place.{IsWithin}
+use Rattle.btree_laws.specs.Represents.{numbers_under}
+use Rattle.btree_laws.specs.Step.{Claims}
+use Rattle.btree_laws.specs.TreeState.{TreeState, Changes, IsOffByOneAt, IsUsed, IsValidIn, KeepsRest, item_of, node_map, nodes_for_splits, nodes_needed, pairs_of, views}
+use Rattle.btree_laws.specs.WellFormed.{IsOffByOne, times_used}
+use Rattle.btree_laws.proofs.Paths.Used.{less-no}
+use Rattle.btree_laws.proofs.Trees.Numbers.{less-or, same-node, same-or, used-low, used-one}
+use Rattle.btree_laws.proofs.Trees.States.{is-off}
+use Rattle.btree_laws.proofs.Trees.Stores.{len-views}
 use Rattle.btree_raw.specs.Claimed.{AreClaimed, EMPTY, MayRefuseOneOf}
 use Rattle.btree_raw.specs.Insertion.{InsertsExactly, IsFull, IsOffByOneWith, IsRefused, PutsItem, UsesNeeded}
 use Rattle.btree_raw.specs.Limit.{IsBelowLimit}

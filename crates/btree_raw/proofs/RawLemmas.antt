@@ -6,16 +6,16 @@ use Rattle.btree_store.specs.Content.{Content}
 use Rattle.btree_node.specs.declared.node.Node.{Node}
 use Rattle.btree_node.specs.Node.{view_of}
 use Rattle.btree_view.specs.View.{children_in, children_of}
-use Rattle.btree_shape.specs.Lists.{times_listed}
-use Rattle.btree_shape.specs.Step.{Reparents}
-use Rattle.btree_shape.specs.TreeState.{TreeState, IsOffByOneAt, node_map, pairs_of, views}
-use Rattle.btree_shape.specs.WellFormed.{IsOffByOne, times_used}
-use Rattle.btree_shape.proofs.Trees.States.{is-off}
+use Rattle.btree_laws.specs.Lists.{times_listed}
+use Rattle.btree_laws.specs.Step.{Reparents}
+use Rattle.btree_laws.specs.TreeState.{TreeState, IsOffByOneAt, node_map, pairs_of, views}
+use Rattle.btree_laws.specs.WellFormed.{IsOffByOne, times_used}
+use Rattle.btree_laws.proofs.Trees.States.{is-off}
 use Rattle.btree_valid.specs.OffByOne.{IsOffByOneAmong}
-use Rattle.btree_shape.proofs.Trees.Numbers.{zero-or}
+use Rattle.btree_laws.proofs.Trees.Numbers.{zero-or}
 use Rattle.btree_raw.specs.Raw.{AreUsed}
 use Rattle.btree_raw.specs.Steps.{CanReparent}
-use Rattle.btree_shape.proofs.Trees.Stores.{writes_node, some-used}
+use Rattle.btree_laws.proofs.Trees.Stores.{writes_node, some-used}
 
 module _ {K V : Type 0} where
   not-both : (o : Option (Node K V)) → o ≡ None → IsSome o → ⊥

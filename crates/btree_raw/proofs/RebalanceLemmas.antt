@@ -8,27 +8,27 @@ use Rattle.btree_item.specs.Address.{Address}
 use Rattle.btree_item.specs.declared.refused.Cause.TheVariants.{Store}
 use Rattle.btree_node.specs.declared.node.Node.{Node}
 use Rattle.btree_view.specs.View.{View, NodeMap, item_in, items_of, most_of, size_of}
-use Rattle.btree_shape.specs.Focus.Overflow.{MayOverflowAt, IsRepaired}
-use Rattle.btree_shape.specs.UnderflowFix.{IsUnderflowFixed}
-use Rattle.btree_shape.specs.Need.{split_need}
-use Rattle.btree_shape.specs.Focus.TreePositions.{IsAddressed}
-use Rattle.btree_shape.specs.Place.{IsEnd, IsPlace, IsPlaceOf, IsValid}
-use Rattle.btree_shape.specs.Lists.{times_listed}
-use Rattle.btree_shape.specs.Focus.Underflow.{MayUnderflowAt}
-use Rattle.btree_shape.specs.Strain.{debt_of}
-use Rattle.btree_shape.specs.Represents.{Represents, numbers_under}
-use Rattle.btree_shape.specs.Step.{Claims}
-use Rattle.btree_shape.specs.Strain.{IsStrain, strain_under}
-use Rattle.btree_shape.specs.Focus.Positions.{IsExpected}
-use Rattle.btree_shape.specs.TreeState.{TreeState, HasLevels, HasLevelsUnder, KeepsRest, IsOffByOneAt, IsUsed, IsValidIn, node_map, nodes_for_splits, pairs_of, views}
-use Rattle.btree_shape.specs.WellFormed.{IsNearlySized, IsWellFormed, times_used}
-use Rattle.btree_shape.proofs.Underflow.Order.{underflow-levels}
-use Rattle.btree_shape.proofs.Trees.Numbers.{listed-append}
-use Rattle.btree_shape.proofs.Underflow.OffByOne.{emptied-well, fixed-well, off-need, off-overflow, off-underflow}
-use Rattle.btree_shape.proofs.Places.OfTree.{positions-addressed, valid-on}
-use Rattle.btree_shape.proofs.Splits.Insertion.{repaired-within, repaired-rooted}
-use Rattle.btree_shape.proofs.Places.Steps.{repaired-addressed}
-use Rattle.btree_shape.specs.Place.{item_at}
+use Rattle.btree_laws.specs.Focus.Overflow.{MayOverflowAt, IsRepaired}
+use Rattle.btree_laws.specs.UnderflowFix.{IsUnderflowFixed}
+use Rattle.btree_laws.specs.Need.{split_need}
+use Rattle.btree_laws.specs.Focus.TreePositions.{IsAddressed}
+use Rattle.btree_laws.specs.Place.{IsEnd, IsPlace, IsPlaceOf, IsValid}
+use Rattle.btree_laws.specs.Lists.{times_listed}
+use Rattle.btree_laws.specs.Focus.Underflow.{MayUnderflowAt}
+use Rattle.btree_laws.specs.Strain.{debt_of}
+use Rattle.btree_laws.specs.Represents.{Represents, numbers_under}
+use Rattle.btree_laws.specs.Step.{Claims}
+use Rattle.btree_laws.specs.Strain.{IsStrain, strain_under}
+use Rattle.btree_laws.specs.Focus.Positions.{IsExpected}
+use Rattle.btree_laws.specs.TreeState.{TreeState, HasLevels, HasLevelsUnder, KeepsRest, IsOffByOneAt, IsUsed, IsValidIn, node_map, nodes_for_splits, pairs_of, views}
+use Rattle.btree_laws.specs.WellFormed.{IsNearlySized, IsWellFormed, times_used}
+use Rattle.btree_laws.proofs.Underflow.Order.{underflow-levels}
+use Rattle.btree_laws.proofs.Trees.Numbers.{listed-append}
+use Rattle.btree_laws.proofs.Underflow.OffByOne.{emptied-well, fixed-well, off-need, off-overflow, off-underflow}
+use Rattle.btree_laws.proofs.Places.OfTree.{positions-addressed, valid-on}
+use Rattle.btree_laws.proofs.Splits.Insertion.{repaired-within, repaired-rooted}
+use Rattle.btree_laws.proofs.Places.Steps.{repaired-addressed}
+use Rattle.btree_laws.specs.Place.{item_at}
 use Rattle.btree_raw.specs.Claimed.{EMPTY, MayRefuseOneOf}
 use Rattle.btree_raw.specs.Steps.{IsCountingSplits}
 use Rattle.btree_raw.specs.Claimed.{AreClaimed}
@@ -39,9 +39,9 @@ use Rattle.btree_raw.specs.Underflow.{AreFixed, IsFixingOf, FixesUnderflowUpward
 use Rattle.btree_raw.specs.Steps.{IsSplitting, Overflows, SplitsUpward}
 use Rattle.btree_raw.proofs.LevelLemmas.{split_need-few}
 use Rattle.btree_raw.proofs.FixedLemmas.{fix-done, fix-start}
-use Rattle.btree_shape.proofs.Trees.States.{height_held, is-tree-but-length, pairs-tree}
-use Rattle.btree_shape.proofs.Trees.Stores.{used-view, len-views}
-use Rattle.btree_shape.proofs.Options.{some-of}
+use Rattle.btree_laws.proofs.Trees.States.{height_held, is-tree-but-length, pairs-tree}
+use Rattle.btree_laws.proofs.Trees.Stores.{used-view, len-views}
+use Rattle.btree_laws.proofs.Options.{some-of}
 use Rattle.btree_raw.proofs.ClaimLemmas.{claims-focus}
 use Rattle.btree_raw.proofs.StateLemmas.{same-len, same-kept, same-root}
 use Rattle.std.proofs.lemmas.Option.{slice_get_within}

@@ -1,7 +1,7 @@
 -- Claims in a loop: one more, one freed, all freed.
 use Rattle.std.proofs.Common.{◌≡◌, ℕ, ◌+◌, ◌<◌, ◌^◌, ◌-◌, List, [], ◌∷◌, ◌++◌, IsSome, None, ap, sym, subst}
 use Rattle.std.specs.FinMap as map
-use Rattle.btree_shape.specs.TreeState.{TreeState, refused_once}
+use Rattle.btree_laws.specs.TreeState.{TreeState, refused_once}
 use Rattle.btree_raw.specs.Claimed.{AreClaimed, EMPTY, IsClaimed}
 use Rattle.btree_raw.specs.Raw.{Refuses}
 use Rattle.btree_raw.proofs.ClaimLemmas.{claims-undone, one-more}

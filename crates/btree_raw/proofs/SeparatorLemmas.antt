@@ -12,13 +12,13 @@ use Rattle.btree_node.specs.declared.node.Node.{Node}
 use Rattle.btree_view.specs.Edits.{is_internal, with_item}
 use Rattle.btree_node.specs.Node.{view_of}
 use Rattle.btree_view.specs.View.{View, leaf, internal, children_of, most_of, size_of}
-use Rattle.btree_shape.specs.Lists.{times_listed}
-use Rattle.btree_shape.specs.TreeState.{views}
-use Rattle.btree_shape.proofs.Trees.Numbers.{same-or}
+use Rattle.btree_laws.specs.Lists.{times_listed}
+use Rattle.btree_laws.specs.TreeState.{views}
+use Rattle.btree_laws.proofs.Trees.Numbers.{same-or}
 use Rattle.btree_raw.specs.OverflowSplit.{AddsSeparator}
 use Rattle.btree_raw.specs.Steps.{AddsItem, CanAddSeparator, CanAddItem}
-use Rattle.btree_shape.proofs.Paths.Frames.{one-other}
-use Rattle.btree_shape.proofs.Places.Untouched.{other-test, same-test}
+use Rattle.btree_laws.proofs.Paths.Frames.{one-other}
+use Rattle.btree_laws.proofs.Places.Untouched.{other-test, same-test}
 
 are-equal : (m n : ℕ) → (m == n) ≡ true → m ≡ n
 are-equal m n e = grind (arith, nat_tests)

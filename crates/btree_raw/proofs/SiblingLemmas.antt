@@ -1,16 +1,16 @@
 -- Rotations and merges of two siblings, call by call.
 use Rattle.std.proofs.Common.{◌≡◌, ◌≢◌, ℕ, ◌+◌, ◌<◌, ◌≤◌, inl, inr, [], ◌∷◌, ◌++◌, Option, Some, None, IfSome, refl, sym, ap, subst, ◌∙◌, option_map, slice_get, arith}
-use Rattle.btree_moved.specs.declared.siblings.Siblings.{Siblings}
+use Rattle.btree_raw.specs.declared.moved.siblings.Siblings.{Siblings}
 use Rattle.btree_view.specs.Edits.{HasChildFor, is_internal, joined, pushed_left, pushed_right, with_other_item, without}
 use Rattle.btree_view.specs.View.{NodeMap, View, children_of, items_of}
-use Rattle.btree_shape.specs.Lists.{as_list, times_listed}
-use Rattle.btree_shape.specs.Moved.{first_in}
-use Rattle.btree_shape.specs.SiblingSteps.{IsRemade}
-use Rattle.btree_shape.specs.Step.{Reparents, Becomes, WritesNode}
-use Rattle.btree_shape.specs.WellFormed.{times_used}
-use Rattle.btree_shape.proofs.Paths.Frames.{one-self}
-use Rattle.btree_shape.proofs.Trees.Numbers.{listed-append, same-node, used-same, used-there, zero-or}
-use Rattle.btree_shape.proofs.Underflow.Calls.{left-written, merge-written, right-written}
+use Rattle.btree_laws.specs.Lists.{as_list, times_listed}
+use Rattle.btree_laws.specs.Moved.{first_in}
+use Rattle.btree_laws.specs.SiblingSteps.{IsRemade}
+use Rattle.btree_laws.specs.Step.{Reparents, Becomes, WritesNode}
+use Rattle.btree_laws.specs.WellFormed.{times_used}
+use Rattle.btree_laws.proofs.Paths.Frames.{one-self}
+use Rattle.btree_laws.proofs.Trees.Numbers.{listed-append, same-node, used-same, used-there, zero-or}
+use Rattle.btree_laws.proofs.Underflow.Calls.{left-written, merge-written, right-written}
 use Rattle.btree_raw.specs.NodeSteps.{AreSiblings, MergesSiblings, CanMerge, CanRotateLeft, CanRotateRight, ChangesSeparator, GainsAll, GainsFirst, GainsLast, HasSeparator, HasRoomFor, HasRoomForAll, RotatesSiblingsLeft, RotatesSiblingsRight, LosesSeparator, LosesFirst, LosesLast}
 use Rattle.btree_raw.specs.Steps.{AreThere}
 use Rattle.btree_raw.proofs.SingleNodeLemmas.{first-pushed, kind-left, kind-right, remade-joined, remade-left, remade-other, remade-right, remade-without}

@@ -12,17 +12,17 @@ use Rattle.btree_node.specs.declared.node.Node.{Node}
 use Rattle.btree_node.specs.Node.{view_of}
 use Rattle.btree_view.specs.Edits.{HasChildFor, HaveRoom, is_internal, joined, pushed_left, pushed_right, with_other_item, with_other_item_at, with_parent, without}
 use Rattle.btree_view.specs.View.{NodeMap, View, leaf, internal, children_of, items_of, most_of, size_of}
-use Rattle.btree_shape.specs.Lists.{as_list, one}
-use Rattle.btree_shape.specs.Moved.{first_in}
-use Rattle.btree_shape.specs.SiblingSteps.{IsRemade, ShrinksRoot}
-use Rattle.btree_shape.specs.Step.{Reparents, RemovesNode}
-use Rattle.btree_shape.specs.WellFormed.{times_used}
-use Rattle.btree_shape.proofs.Paths.Frames.{one-other, one-self}
-use Rattle.btree_shape.proofs.Trees.Numbers.{same-or}
-use Rattle.btree_shape.specs.TreeState.{views}
+use Rattle.btree_laws.specs.Lists.{as_list, one}
+use Rattle.btree_laws.specs.Moved.{first_in}
+use Rattle.btree_laws.specs.SiblingSteps.{IsRemade, ShrinksRoot}
+use Rattle.btree_laws.specs.Step.{Reparents, RemovesNode}
+use Rattle.btree_laws.specs.WellFormed.{times_used}
+use Rattle.btree_laws.proofs.Paths.Frames.{one-other, one-self}
+use Rattle.btree_laws.proofs.Trees.Numbers.{same-or}
+use Rattle.btree_laws.specs.TreeState.{views}
 use Rattle.btree_raw.specs.NodeSteps.{CanShrinkRoot, ChangesSeparator, ClearsParent, GainsAll, GainsFirst, GainsLast, HasSeparator, HasRoomFor, HasRoomForAll, LosesSeparator, LosesFirst, LosesLast}
 use Rattle.btree_raw.specs.Steps.{HasCount, SetsParent}
-use Rattle.btree_shape.proofs.Trees.Stores.{most-few, writes_node, view-at}
+use Rattle.btree_laws.proofs.Trees.Stores.{most-few, writes_node, view-at}
 use Rattle.btree_raw.proofs.SeparatorLemmas.{one-more}
 use Rattle.btree_raw.proofs.StepLemmas.{index-at}
 use Rattle.btree_internal.proofs.BranchLemmas.{map_remove}

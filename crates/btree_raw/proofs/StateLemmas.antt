@@ -6,10 +6,10 @@ use Rattle.btree_store.specs.ContentLaws.{get-insert_other, get-remove_other, ge
 use Rattle.btree_node.specs.declared.node.Node.{Node}
 use Rattle.btree_item.specs.Address.{Address}
 use Rattle.btree_view.specs.View.{View, item_in}
-use Rattle.btree_shape.specs.Place.{IsOccupied}
-use Rattle.btree_shape.specs.TreeState.{IsOccupiedIn, KeepsRest, Kept, TreeState, item_of, node_map, views}
-use Rattle.btree_shape.proofs.Trees.Numbers.{used-one}
-use Rattle.btree_shape.proofs.Trees.Stores.{used-view}
+use Rattle.btree_laws.specs.Place.{IsOccupied}
+use Rattle.btree_laws.specs.TreeState.{IsOccupiedIn, KeepsRest, Kept, TreeState, item_of, node_map, views}
+use Rattle.btree_laws.proofs.Trees.Numbers.{used-one}
+use Rattle.btree_laws.proofs.Trees.Stores.{used-view}
 
 module _ {K V : Type 0} where
   -- a state with other nodes

@@ -7,11 +7,11 @@ use Rattle.btree_node.specs.declared.node.Node.{Node}
 use Rattle.btree_view.specs.Edits.{HasChildFor, is_internal, IsSplit, with_item, with_item_at}
 use Rattle.btree_node.specs.Node.{view_of}
 use Rattle.btree_view.specs.View.{View, NodeMap, leaf, internal, children_in, children_of, most_of, size_of}
-use Rattle.btree_shape.specs.Place.{IsLeaf}
-use Rattle.btree_shape.specs.TreeState.{views}
+use Rattle.btree_laws.specs.Place.{IsLeaf}
+use Rattle.btree_laws.specs.TreeState.{views}
 use Rattle.btree_raw.specs.Steps.{AddsItem, CanAddItem, CutsAtMedian, HasCount}
-use Rattle.btree_shape.proofs.Places.Untouched.{other-test}
-use Rattle.btree_shape.proofs.Trees.Stores.{most-few, writes_node, view-at}
+use Rattle.btree_laws.proofs.Places.Untouched.{other-test}
+use Rattle.btree_laws.proofs.Trees.Stores.{most-few, writes_node, view-at}
 
 -- an index that is not too large is an offset
 index-small : (n index : ℕ) (o : Option ℕ) → index < 2 ^ 64 - 1 → index ≤ n → o ≡ index_offset index → IsSomeAnd o (λ i. i ≤ n)

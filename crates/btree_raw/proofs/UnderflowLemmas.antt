@@ -4,27 +4,27 @@ use Rattle.std.proofs.lemmas.List.{length-map}
 use Rattle.std.specs.FinMap as nodes_map
 use Rattle.std.specs.List.{position}
 use Rattle.btree_store.specs.Content.{Content}
-use Rattle.btree_moved.specs.declared.siblings.Siblings.{Siblings}
+use Rattle.btree_raw.specs.declared.moved.siblings.Siblings.{Siblings}
 use Rattle.btree_item.specs.Address.{Address}
 use Rattle.btree_node.specs.declared.node.Node.{Node}
 use Rattle.btree_node.specs.Node.{view_of}
 use Rattle.std.specs.Prelude.{IfSome}
 use Rattle.btree_view.specs.View.{NodeMap, View, leaf, internal, children_in, children_of, parent_of, size_of}
-use Rattle.btree_shape.specs.SiblingSteps.{Merges}
-use Rattle.btree_shape.specs.UnderflowFix.{Borrows, MergesNode, NoneSpares, child_at, from_left, from_right, size_in, with_left, with_right}
-use Rattle.btree_shape.specs.Lists.{times_listed}
-use Rattle.btree_shape.specs.TreeState.{views}
-use Rattle.btree_shape.specs.WellFormed.{times_used}
-use Rattle.btree_shape.proofs.Paths.Parents.{get-times}
-use Rattle.btree_shape.proofs.Underflow.Upward.{to-over}
+use Rattle.btree_laws.specs.SiblingSteps.{Merges}
+use Rattle.btree_laws.specs.UnderflowFix.{Borrows, MergesNode, NoneSpares, child_at, from_left, from_right, size_in, with_left, with_right}
+use Rattle.btree_laws.specs.Lists.{times_listed}
+use Rattle.btree_laws.specs.TreeState.{views}
+use Rattle.btree_laws.specs.WellFormed.{times_used}
+use Rattle.btree_laws.proofs.Paths.Parents.{get-times}
+use Rattle.btree_laws.proofs.Underflow.Upward.{to-over}
 use Rattle.btree_raw.specs.NodeSteps.{MergesSiblings, RotatesSiblingsLeft, RotatesSiblingsRight}
 use Rattle.btree_raw.specs.Underflow.{AreAdjacent, HasSiblings, FitTogether, IsChild, IsFollowed, Underflows, siblings_at, siblings_of}
 use Rattle.btree_raw.specs.Steps.{HasCount}
 use Rattle.btree_raw.proofs.SeparatorLemmas.{has-index, index-is}
 use Rattle.btree_raw.proofs.StepLemmas.{size-at}
-use Rattle.btree_shape.proofs.Underflow.Adjacent.{AdjacentSteps}
-use Rattle.btree_shape.proofs.Trees.Numbers.{used-there, same-node}
-use Rattle.btree_shape.proofs.Options.{none-some}
+use Rattle.btree_laws.proofs.Underflow.Adjacent.{AdjacentSteps}
+use Rattle.btree_laws.proofs.Trees.Numbers.{used-there, same-node}
+use Rattle.btree_laws.proofs.Options.{none-some}
 use Rattle.btree_raw.proofs.BorrowLemmas.{followed-node, followed-under, pair}
 use Rattle.std.proofs.lemmas.Option.{slice_get_within, slice_get-get_or}
 

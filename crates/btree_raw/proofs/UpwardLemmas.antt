@@ -4,23 +4,23 @@ use Rattle.std.proofs.lemmas.List.{nil_from_length}
 use Rattle.btree_item.specs.Address.{Address}
 use Rattle.btree_view.specs.Edits.{IsOverflowing, with_item, with_parent}
 use Rattle.btree_view.specs.View.{View, NodeMap, children_in, children_of, internal, most_of, parent_of, size_of}
-use Rattle.btree_shape.specs.Focus.Overflow.{MayOverflowAt, IsRepaired}
-use Rattle.btree_shape.specs.Moved.{moved_by_split}
-use Rattle.btree_shape.specs.Place.{IsBack}
-use Rattle.btree_shape.specs.Lists.{one, times_listed}
-use Rattle.btree_shape.specs.Focus.Subtree.{count_at, times_under, view_at}
-use Rattle.btree_shape.specs.Step.{WritesNode, GrowsRoot, Splits}
-use Rattle.btree_shape.specs.Focus.Path.{parent_above}
-use Rattle.btree_shape.specs.WellFormed.{times_used}
-use Rattle.btree_shape.proofs.Places.Backs.{split-back}
-use Rattle.btree_shape.proofs.Splits.Claims.{push-spare}
-use Rattle.btree_shape.proofs.Paths.Parents.{get-times}
-use Rattle.btree_shape.proofs.Paths.Frames.{one-self}
-use Rattle.btree_shape.proofs.Splits.Upward.{UpTo, child-apart, child-used, overflow-done, overflow-node, overflow-spare, overflow-used, new-root, root-spare, spare-apart, spare-used, to-parent}
-use Rattle.btree_shape.proofs.Trees.Numbers.{less-or, none-listed, same-or, times-has, used-low, used-mapped, used-one, zero-or}
-use Rattle.btree_shape.proofs.Trees.Sizes.{view-most, view-size}
+use Rattle.btree_laws.specs.Focus.Overflow.{MayOverflowAt, IsRepaired}
+use Rattle.btree_laws.specs.Moved.{moved_by_split}
+use Rattle.btree_laws.specs.Place.{IsBack}
+use Rattle.btree_laws.specs.Lists.{one, times_listed}
+use Rattle.btree_laws.specs.Focus.Subtree.{count_at, times_under, view_at}
+use Rattle.btree_laws.specs.Step.{WritesNode, GrowsRoot, Splits}
+use Rattle.btree_laws.specs.Focus.Path.{parent_above}
+use Rattle.btree_laws.specs.WellFormed.{times_used}
+use Rattle.btree_laws.proofs.Places.Backs.{split-back}
+use Rattle.btree_laws.proofs.Splits.Claims.{push-spare}
+use Rattle.btree_laws.proofs.Paths.Parents.{get-times}
+use Rattle.btree_laws.proofs.Paths.Frames.{one-self}
+use Rattle.btree_laws.proofs.Splits.Upward.{UpTo, child-apart, child-used, overflow-done, overflow-node, overflow-spare, overflow-used, new-root, root-spare, spare-apart, spare-used, to-parent}
+use Rattle.btree_laws.proofs.Trees.Numbers.{less-or, none-listed, same-or, times-has, used-low, used-mapped, used-one, zero-or}
+use Rattle.btree_laws.proofs.Trees.Sizes.{view-most, view-size}
 use Rattle.btree_raw.specs.OverflowSplit.{AddsSeparator, CutsNode, OverflowSplit, goes_up, grows_root, rests}
-use Rattle.btree_raw.specs.declared.nodes.Cut.{Cut}
+use Rattle.btree_raw.specs.declared.node_changes.Cut.{Cut}
 use Rattle.btree_raw.specs.Steps.{AreSplit, CanAddSeparator, CanCut, CanGrowRoot, CanSplitInto, HasCount, IsSplitting, MayCut, Overflows}
 use Rattle.btree_raw.proofs.SeparatorLemmas.{one-more}
 use Rattle.btree_raw.proofs.OffsetLemmas.{overflow-low}

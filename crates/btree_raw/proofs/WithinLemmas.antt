@@ -5,9 +5,9 @@ use Rattle.btree_item.specs.Address.{Address}
 use Rattle.btree_node.proofs.RoomLemmas.{at_least}
 use Rattle.btree_node.specs.Node.{view_of}
 use Rattle.btree_node.specs.declared.node.Node.{Node}
-use Rattle.btree_shape.specs.Place.{IsWithin}
+use Rattle.btree_laws.specs.Place.{IsWithin}
 use Rattle.btree_view.specs.View.{size_of}
-use Rattle.btree_shape.specs.TreeState.{TreeState, IsUsed, node_map}
+use Rattle.btree_laws.specs.TreeState.{TreeState, IsUsed, node_map}
 use Rattle.btree_raw.specs.Raw.{IsWithinNode}
 
 -- no address is in a node that is not there

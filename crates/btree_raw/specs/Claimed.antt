@@ -6,7 +6,7 @@ use Rattle.std.specs.FinMap as map
 use Rattle.btree_store.specs.Content.{Content}
 use Rattle.btree_node.specs.declared.node.Node.{Node}
 use Rattle.btree_node.specs.declared.node.Node.TheVariants.{Leaf}
-use Rattle.btree_shape.specs.TreeState.{TreeState, KeepsRest}
+use Rattle.btree_laws.specs.TreeState.{TreeState, KeepsRest}
 
 -- a leaf with no item and no parent
 abbrev pub EMPTY : {K V : Type 0} → Node K V

@@ -13,8 +13,8 @@ use Rattle.btree_item.specs.declared.refused.Cause.{Cause}
 use Rattle.btree_item.specs.declared.refused.Cause.TheVariants.{Store, Count}
 use Rattle.btree_node.specs.declared.node.Node.{Node}
 use Rattle.btree_view.specs.View.{View, NodeMap, most_of, size_of}
-use Rattle.btree_shape.specs.Place.{IsLeaf}
-use Rattle.btree_shape.specs.TreeState.{TreeState, Changes, IsBTreeButLength, IsOffByOneAt, IsPlaceIn, IsValidIn, item_of, node_map, nodes_for_splits, nodes_needed, pairs_of}
+use Rattle.btree_laws.specs.Place.{IsLeaf}
+use Rattle.btree_laws.specs.TreeState.{TreeState, Changes, IsBTreeButLength, IsOffByOneAt, IsPlaceIn, IsValidIn, item_of, node_map, nodes_for_splits, nodes_needed, pairs_of}
 use Rattle.btree_raw.specs.Claimed.{EMPTY, MayRefuseOneOf}
 use Rattle.btree_raw.specs.Limit.{IsBelowLimit}
 use Rattle.btree_raw.specs.Raw.{Refuses}

@@ -8,11 +8,11 @@ use Rattle.std.specs.List.{remove}
 use Rattle.std.specs.declared.cmp.Ordering.{Ordering}
 use Rattle.btree_item.specs.Address.{Address}
 use Rattle.btree_view.specs.View.{leaf, size_of}
-use Rattle.btree_shape.specs.Addresses.{last_leaf}
-use Rattle.btree_shape.specs.Focus.Positions.{address_at}
-use Rattle.btree_shape.specs.Place.{IsLeaf}
-use Rattle.btree_shape.specs.Step.{WritesNode}
-use Rattle.btree_shape.specs.TreeState.{TreeState, IsOffByOneAt, IsPlaceIn, KeepsRest, item_of, node_map, pairs_of}
+use Rattle.btree_laws.specs.Addresses.{last_leaf}
+use Rattle.btree_laws.specs.Focus.Positions.{address_at}
+use Rattle.btree_laws.specs.Place.{IsLeaf}
+use Rattle.btree_laws.specs.Step.{WritesNode}
+use Rattle.btree_laws.specs.TreeState.{TreeState, IsOffByOneAt, IsPlaceIn, KeepsRest, item_of, node_map, pairs_of}
 
 -- the last leaf under a node, with its number of items, ends where the node does
 pub record EndsInLeaf {K V : Type 0} (s : TreeState K V) (id : ℕ) (last : ℕ × ℕ) : Type 0 where

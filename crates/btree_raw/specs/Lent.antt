@@ -4,7 +4,7 @@ use Rattle.std.specs.Borrow.{Fml, Lends, MutBor, RattleType}
 use Rattle.btree_store.specs.Content.{Content}
 use Rattle.btree_node.specs.declared.node.Node.{Node}
 use Rattle.btree_node.specs.contracts.node.Node.{the_row as node_row}
-use Rattle.btree_shape.specs.TreeState.{TreeState}
+use Rattle.btree_laws.specs.TreeState.{TreeState}
 use Rattle.btree_raw.specs.Raw.{with_node}
 use Rattle.btree_raw.specs.contracts.raw.RawBTree.{the_row}
 

@@ -1,6 +1,7 @@
 pub mod Claimed
 pub mod OverflowSplit
 pub mod Steps
+pub mod Siblings
 pub mod NodeSteps
 pub mod Underflow
 pub mod Raw

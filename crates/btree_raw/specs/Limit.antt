@@ -1,7 +1,7 @@
 -- The limit of a tree's length: how many pairs there may be. Insertions keep a tree within it; a raw tree may be beyond.
 use Rattle.std.specs.Prelude.{◌<◌, ◌≤◌}
 use Rattle.std.specs.declared.cmp.Ordering.{Ordering}
-use Rattle.btree_shape.specs.TreeState.{TreeState, IsBTree}
+use Rattle.btree_laws.specs.TreeState.{TreeState, IsBTree}
 
 module _ {K V : Type 0} (s : TreeState K V) where
   -- there may be one more pair

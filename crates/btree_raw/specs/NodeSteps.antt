@@ -1,19 +1,19 @@
 -- What the steps that fix an underflow require of a store's nodes, and what each call leaves.
--- The two siblings are one value, `Siblings` (`btree_moved`). Read bottom-up: each step between two siblings
+-- The two siblings are one value, `Siblings` (`moved.rt`). Read bottom-up: each step between two siblings
 -- requires `AreSiblings`, as a part of `CanRotateLeft`, `CanRotateRight` or `CanMerge`; the steps leave
 -- `RotatesSiblingsLeft`, `RotatesSiblingsRight` and `MergesSiblings`. The earlier definitions are for the single calls of
--- which these steps are made (`src/rotate.rt`), each on one node: what it requires (`HasRoomFor` and others), and what
+-- which these steps are made (`src/sibling_steps.rt`), each on one node: what it requires (`HasRoomFor` and others), and what
 -- it gains or loses (`GainsFirst`, `LosesFirst` and others). `CanShrinkRoot` is the condition for shrinking the root. All
 -- calls that cite these words are private; `src/borrow.rt` cites the steps between siblings.
 use Rattle.std.specs.Prelude.{◌≡◌, ◌≢◌, ℕ, ◌+◌, ◌<◌, ◌≤◌, [], ◌∷◌, slice_get, Option, Some, None, IfSome, option_map, IsTrue}
 use Rattle.btree_view.specs.View.{View, NodeMap, size_of, most_of, items_of, children_of}
 use Rattle.btree_view.specs.Edits.{with_parent, with_other_item, without, joined, pushed_left, pushed_right, is_internal, HasChildFor, HaveRoom}
-use Rattle.btree_moved.specs.declared.siblings.Siblings.{Siblings}
-use Rattle.btree_shape.specs.Lists.{times_listed}
-use Rattle.btree_shape.specs.Moved.{first_in}
-use Rattle.btree_shape.specs.SiblingSteps.{Merges, RotatesLeft, RotatesRight}
-use Rattle.btree_shape.specs.Step.{Becomes, WritesNode}
-use Rattle.btree_shape.specs.WellFormed.{times_used}
+use Rattle.btree_raw.specs.declared.moved.siblings.Siblings.{Siblings}
+use Rattle.btree_laws.specs.Lists.{times_listed}
+use Rattle.btree_laws.specs.Moved.{first_in}
+use Rattle.btree_laws.specs.SiblingSteps.{Merges, RotatesLeft, RotatesRight}
+use Rattle.btree_laws.specs.Step.{Becomes, WritesNode}
+use Rattle.btree_laws.specs.WellFormed.{times_used}
 
 module _ {A : Type 0} (node_at : NodeMap A) where
   -- node `id` is an internal node that does not overflow, and has an item at the index

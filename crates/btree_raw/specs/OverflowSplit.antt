@@ -5,7 +5,7 @@
 use Rattle.std.specs.Prelude.{◌≡◌, ℕ, ◌≤◌, List, [], ◌∷◌, ◌++◌, slice_get, Option, Some, None, option_map}
 use Rattle.btree_view.specs.View.{View, NodeMap, size_of, most_of, children_of, parent_of}
 use Rattle.btree_view.specs.Edits.{with_item, IsOverflowing}
-use Rattle.btree_shape.specs.Step.{Claims, GrowsRoot, Splits, WritesNode}
+use Rattle.btree_laws.specs.Step.{Claims, GrowsRoot, Splits, WritesNode}
 
 module _ {A : Type 0} (node_at new : NodeMap A) where
   -- node `id` has no item too many; nothing has changed

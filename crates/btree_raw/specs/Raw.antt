@@ -5,10 +5,10 @@ use Rattle.btree_store.specs.Content.{Content}
 use Rattle.btree_node.specs.declared.node.Node.{Node}
 use Rattle.btree_node.specs.Node.{view_of}
 use Rattle.btree_view.specs.View.{children_of}
-use Rattle.btree_shape.specs.Lists.{times_listed}
-use Rattle.btree_shape.specs.Step.{Reparents}
-use Rattle.btree_shape.specs.Place.{IsWithin}
-use Rattle.btree_shape.specs.TreeState.{TreeState, KeepsRest, node_map, refused_once, views}
+use Rattle.btree_laws.specs.Lists.{times_listed}
+use Rattle.btree_laws.specs.Step.{Reparents}
+use Rattle.btree_laws.specs.Place.{IsWithin}
+use Rattle.btree_laws.specs.TreeState.{TreeState, KeepsRest, node_map, refused_once, views}
 use Rattle.btree_item.specs.Address.{Address}
 
 module _ {K V : Type 0} where

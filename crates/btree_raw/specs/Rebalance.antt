@@ -14,10 +14,10 @@ use Rattle.btree_item.specs.declared.refused.Cause.{Cause}
 use Rattle.btree_item.specs.declared.refused.Cause.TheVariants.{Store}
 use Rattle.btree_node.specs.declared.node.Node.{Node}
 use Rattle.btree_view.specs.View.{View, NodeMap, most_of, size_of}
-use Rattle.btree_shape.specs.UnderflowFix.{IsUnderflowFixed}
-use Rattle.btree_shape.specs.Strain.{debt_of}
-use Rattle.btree_shape.specs.TreeState.{TreeState, HasLevels, HasStrain, IsBTreeButLength, IsPlaceIn, IsValidIn, item_of, node_map, nodes_for_splits, pairs_of}
-use Rattle.btree_shape.specs.WellFormed.{IsSized}
+use Rattle.btree_laws.specs.UnderflowFix.{IsUnderflowFixed}
+use Rattle.btree_laws.specs.Strain.{debt_of}
+use Rattle.btree_laws.specs.TreeState.{TreeState, HasLevels, HasStrain, IsBTreeButLength, IsPlaceIn, IsValidIn, item_of, node_map, nodes_for_splits, pairs_of}
+use Rattle.btree_laws.specs.WellFormed.{IsSized}
 use Rattle.btree_raw.specs.Claimed.{EMPTY, MayRefuseOneOf}
 use Rattle.btree_raw.specs.OverflowSplit.{IsOverflowSplit}
 use Rattle.btree_raw.specs.Raw.{Refuses}

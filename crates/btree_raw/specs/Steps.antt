@@ -1,6 +1,6 @@
 -- Changes of single nodes, and splits: what they require, and what they leave.
 -- `CanAddItem` and the other words with `Can` are what calls require of the nodes. What a call leaves is here or in
--- `Step.antt` of `btree_shape`. Read them in the order of a split: `CanAddItem` and `AddsItem` (an item is added);
+-- `Step.antt` of `btree_laws`. Read them in the order of a split: `CanAddItem` and `AddsItem` (an item is added);
 -- `Overflows` and `CutsAtMedian`, `CanReparent`, `CanSplitInto` (a node is split); `CanAddSeparator` and
 -- `AddsSeparator` of `OverflowSplit.antt` (the median goes to the parent); `CanGrowRoot` (or to a new root). Then the
 -- whole way upward: `split_upward` requires `IsSplitting` and ensures `SplitsUpward`, so what held of the tree and of
@@ -11,14 +11,14 @@ use Rattle.btree_item.specs.declared.TheConstants.{MAX_CLAIMS}
 use Rattle.btree_item.specs.Address.{Address}
 use Rattle.btree_view.specs.View.{View, NodeMap, size_of, most_of, children_in, children_of, parent_of}
 use Rattle.btree_view.specs.Edits.{with_parent, with_item, is_internal, HasChildFor, IsOverflowing, IsSplit}
-use Rattle.btree_shape.specs.Focus.Overflow.{MayOverflowAt, IsRepaired}
-use Rattle.btree_shape.specs.Focus.Need.{IsCountingUpward}
-use Rattle.btree_shape.specs.Need.{split_need}
-use Rattle.btree_shape.specs.Lists.{times_listed}
-use Rattle.btree_shape.specs.Step.{Becomes, WritesNode}
-use Rattle.btree_shape.specs.TreeState.{TreeState, Changes, node_map}
-use Rattle.btree_shape.specs.WellFormed.{times_used}
-use Rattle.btree_raw.specs.declared.nodes.Cut.{Cut}
+use Rattle.btree_laws.specs.Focus.Overflow.{MayOverflowAt, IsRepaired}
+use Rattle.btree_laws.specs.Focus.Need.{IsCountingUpward}
+use Rattle.btree_laws.specs.Need.{split_need}
+use Rattle.btree_laws.specs.Lists.{times_listed}
+use Rattle.btree_laws.specs.Step.{Becomes, WritesNode}
+use Rattle.btree_laws.specs.TreeState.{TreeState, Changes, node_map}
+use Rattle.btree_laws.specs.WellFormed.{times_used}
+use Rattle.btree_raw.specs.declared.node_changes.Cut.{Cut}
 use Rattle.btree_raw.specs.OverflowSplit.{AddsSeparator, CutsNode, OverflowSplit, StaysWhole}
 
 module _ {A : Type 0} (node_at : NodeMap A) where

@@ -8,16 +8,16 @@ use Rattle.btree_item.specs.Address.{Address}
 use Rattle.btree_node.specs.declared.node.Node.{Node}
 use Rattle.btree_node.specs.Node.{view_of}
 use Rattle.btree_view.specs.View.{NodeMap, children_in, size_of}
-use Rattle.btree_moved.specs.declared.siblings.Siblings.{Siblings}
-use Rattle.btree_shape.specs.Moved.{first_in}
-use Rattle.btree_shape.specs.Step.{Splits}
-use Rattle.btree_shape.specs.TreeState.{TreeState, Changes, node_map, pairs_of}
+use Rattle.btree_raw.specs.declared.moved.siblings.Siblings.{Siblings}
+use Rattle.btree_laws.specs.Moved.{first_in}
+use Rattle.btree_laws.specs.Step.{Splits}
+use Rattle.btree_laws.specs.TreeState.{TreeState, Changes, node_map, pairs_of}
 use Rattle.btree_raw.specs.LastItem.{LosesItem}
 use Rattle.btree_raw.specs.NodeSteps.{RotatesSiblingsLeft, RotatesSiblingsRight}
 use Rattle.btree_raw.specs.Rebalance.{IsFit, StaysAsIs}
-use Rattle.btree_raw.specs.declared.nodes.Cut.{Cut}
-use Rattle.btree_raw.specs.declared.nodes.NotAdded.TheVariants.{Full, Inner}
-use Rattle.btree_raw.specs.declared.nodes.NotAdded.{NotAdded}
+use Rattle.btree_raw.specs.declared.node_changes.Cut.{Cut}
+use Rattle.btree_raw.specs.declared.node_changes.NotAdded.TheVariants.{Full, Inner}
+use Rattle.btree_raw.specs.declared.node_changes.NotAdded.{NotAdded}
 use Rattle.btree_raw.specs.Insertion.{IsFullLeaf}
 use Rattle.btree_raw.specs.Steps.{HasCount, IsCutFrom, LeavesPart, MayCut, SplitsUpward}
 use Rattle.btree_raw.specs.Underflow.{EndsUnderflow}

@@ -8,15 +8,15 @@ use Rattle.std.specs.Prelude.{◌-◌, ◌*◌, ◌≡◌, ℕ, suc, ◌+◌, �
 use Rattle.btree_item.specs.declared.TheConstants.{MIN_ITEMS}
 use Rattle.btree_item.specs.Address.{Address}
 use Rattle.btree_view.specs.View.{View, NodeMap, children_of, parent_of, size_of}
-use Rattle.btree_moved.specs.declared.siblings.Siblings.{Siblings}
-use Rattle.btree_shape.specs.Focus.Overflow.{IsRepaired}
-use Rattle.btree_shape.specs.UnderflowFix.{Borrows, IsUnderflowFixed, MergesNode, NoneSpares, child_at}
-use Rattle.btree_shape.specs.Need.{levels_above}
-use Rattle.btree_shape.specs.Place.{IsPlace, IsValid}
-use Rattle.btree_shape.specs.Lists.{one, times_listed}
-use Rattle.btree_shape.specs.Focus.Underflow.{MayUnderflowAt}
-use Rattle.btree_shape.specs.TreeState.{TreeState, node_map}
-use Rattle.btree_shape.specs.WellFormed.{IsFormed, times_used}
+use Rattle.btree_raw.specs.declared.moved.siblings.Siblings.{Siblings}
+use Rattle.btree_laws.specs.Focus.Overflow.{IsRepaired}
+use Rattle.btree_laws.specs.UnderflowFix.{Borrows, IsUnderflowFixed, MergesNode, NoneSpares, child_at}
+use Rattle.btree_laws.specs.Need.{levels_above}
+use Rattle.btree_laws.specs.Place.{IsPlace, IsValid}
+use Rattle.btree_laws.specs.Lists.{one, times_listed}
+use Rattle.btree_laws.specs.Focus.Underflow.{MayUnderflowAt}
+use Rattle.btree_laws.specs.TreeState.{TreeState, node_map}
+use Rattle.btree_laws.specs.WellFormed.{IsFormed, times_used}
 
 -- two adjacent children of `parent`, if both are there
 abbrev pub siblings_of : (parent index : ℕ) → (left right : Option ℕ) → Option Siblings

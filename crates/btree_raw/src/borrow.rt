@@ -1,16 +1,16 @@
 //! One step of an underflow fix, between two siblings, with an address that is followed.
 ghost use Rattle.std.specs.Prelude.{◌≡◌, ℕ, ◌<◌, ◌≤◌, IfNone, IfSome, IsSome, OnSome};
-ghost use Rattle.btree_shape.specs.TreeState.{Changes, node_map};
-ghost use Rattle.btree_shape.specs.UnderflowFix.{size_in};
+ghost use Rattle.btree_laws.specs.TreeState.{Changes, node_map};
+ghost use Rattle.btree_laws.specs.UnderflowFix.{size_in};
 ghost use Rattle.btree_raw.specs.NodeSteps.{MergesSiblings};
 ghost use Rattle.btree_raw.specs.Underflow.{AreAdjacent, GoesUpFromEither, FitTogether, Underflows};
 ghost use Rattle.btree_raw.specs.Steps.{HasCount};
 ghost use Rattle.btree_raw.specs.TreeSteps.{EndsUnderflowIn, RotatesLeftIn, RotatesRightIn};
 
+use crate::moved::{Siblings, moved_by_merge, moved_by_rotate_left, moved_by_rotate_right};
 use crate::raw::RawBTree;
-use crate::rotate::{merge, rotate_left, rotate_right};
+use crate::sibling_steps::{merge, rotate_left, rotate_right};
 use btree_item::{Address, LEAF_SLOTS, MIN_ITEMS};
-use btree_moved::{Siblings, moved_by_merge, moved_by_rotate_left, moved_by_rotate_right};
 use btree_node::NodesMut;
 
 /// Moves the first item of the right sibling into the left one, which underflows and has `count` items, through their parent. Returns the

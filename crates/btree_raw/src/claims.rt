@@ -1,7 +1,7 @@
 //! Nodes that are claimed from the store before a change, so that a refusal leaves the tree as it was.
 ghost use Rattle.std.specs.Prelude.{◌≡◌, ◌<◌, ◌≤◌, ◌∷◌, ◌++◌, [], length, None, IfSome, IfNone, OnSome, IsTrue, false};
 ghost use Rattle.std.specs.FinMap as map;
-ghost use Rattle.btree_shape.specs.TreeState.{TreeState};
+ghost use Rattle.btree_laws.specs.TreeState.{TreeState};
 ghost use Rattle.btree_raw.specs.Claimed.{AreClaimed, CanHoldMore, EMPTY, UndoesClaims, MayRefuseOneOf};
 ghost use Rattle.btree_raw.specs.Raw.{Refuses, with_node};
 

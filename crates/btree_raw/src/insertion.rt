@@ -1,16 +1,16 @@
 //! Insertion at exactly an address.
 ghost use Rattle.std.specs.Prelude.{◌≡◌, ◌≢◌, ◌<◌, ◌≤◌, None, IfOk, IfErr};
 ghost use Rattle.std.specs.FinMap as map;
-ghost use Rattle.btree_shape.specs.TreeState.{node_map};
+ghost use Rattle.btree_laws.specs.TreeState.{node_map};
 ghost use Rattle.btree_raw.specs.Steps.{HasParent};
 ghost use Rattle.btree_raw.specs.Insertion.{InsertsExactly, IsFull, IsOffByOneWith, IsRefused, IsVacant};
 
 use crate::claims::{ClaimedIds, claim, claim_one};
-use crate::count::split_need_above;
-use crate::nodes::put;
-use crate::overflow::add_and_split;
+use crate::need::split_need_above;
+use crate::node_changes::put;
 use crate::raw::RawBTree;
 use crate::rebalance::rebalance_fetched;
+use crate::splits::add_and_split;
 use btree_item::{Address, Cause, Item, Offset, Refused};
 use btree_node::{Node, NodesMut};
 

@@ -3,22 +3,23 @@
 
 mod borrow;
 mod claims;
-mod count;
 mod insertion;
-mod nodes;
-mod overflow;
+mod moved;
+mod need;
+mod node_changes;
 mod raw;
 mod rebalance;
 mod removal;
-mod rotate;
+mod sibling_steps;
+mod splits;
 mod underflow;
 
 pub use claims::{ClaimedIds, claim, claim_one, release};
-pub use count::{need, need_above, split_need};
 pub use insertion::refused;
-pub use nodes::{NotAdded, add_item_at_leaf, add_item_in_room, put};
-pub use overflow::{add_and_split, split_upward};
+pub use need::{need, need_above, split_need};
+pub use node_changes::{NotAdded, add_item_at_leaf, add_item_in_room, put};
 pub use raw::RawBTree;
 pub use rebalance::{rebalance_fetched, rebalance_underflow};
 pub use removal::take_last_below;
+pub use splits::{add_and_split, split_upward};
 pub use underflow::fix_underflow_upward;

@@ -8,7 +8,7 @@ ghost use Rattle.btree_node.specs.Node.{view_of};
 ghost use Rattle.btree_node.specs.contracts.node.Node.{the_row as node_row};
 ghost use Rattle.btree_raw.specs.Raw.{IsWithinNode};
 
-use crate::nodes::reparent_children;
+use crate::node_changes::reparent_children;
 use btree_item::{Address, Fault, Item};
 use btree_node::{ClearNodes, CloneNodes, Node, Nodes, NodesMut};
 use btree_valid::{is_off_by_one, validate, validate_node};
@@ -28,7 +28,7 @@ pub struct RawBTree<K, V, C: NodesMut<K, V>> {
 
 impl<K, V, C: NodesMut<K, V>> Model for RawBTree<K, V, C> {
     ghost use Rattle.std.specs.Coded.{codes};
-    ghost use Rattle.btree_shape.specs.TreeState.{TreeState, tree_code};
+    ghost use Rattle.btree_laws.specs.TreeState.{TreeState, tree_code};
 
     ghost Value = { TreeState K V };
 
@@ -41,7 +41,7 @@ impl<K, V, C: NodesMut<K, V>> Model for RawBTree<K, V, C> {
 
 impl<K, V, C: NodesMut<K, V>> RawBTree<K, V, C> {
     ghost use Rattle.btree_view.specs.View.{children_of};
-    ghost use Rattle.btree_shape.specs.TreeState.{IsOccupiedIn, IsUsed, IsValidIn, item_of, rootless, unlimited};
+    ghost use Rattle.btree_laws.specs.TreeState.{IsOccupiedIn, IsUsed, IsValidIn, item_of, rootless, unlimited};
     ghost use Rattle.btree_raw.specs.Raw.{AreUsed, GainsNode, Refuses, with_node};
     ghost use Rattle.btree_raw.specs.Lent.{lends_node};
 
@@ -252,7 +252,7 @@ impl<K, V, C: NodesMut<K, V>> RawBTree<K, V, C> {
 }
 
 impl<K: Ord, V, C: NodesMut<K, V>> RawBTree<K, V, C> {
-    ghost use Rattle.btree_shape.specs.TreeState.{IsOffByOneAt};
+    ghost use Rattle.btree_laws.specs.TreeState.{IsOffByOneAt};
     ghost use Rattle.btree_valid.specs.Faults.{AcceptsRawNode, BlamesRawNode, IsRawVerdict, IsVerdictFor, SuitsRawNode};
     ghost use Rattle.btree_raw.specs.Limit.{IsBTreeWithinLimit};
 
@@ -309,7 +309,7 @@ impl<K: Ord, V, C: NodesMut<K, V>> RawBTree<K, V, C> {
 }
 
 impl<K, V, C: ClearNodes<K, V>> RawBTree<K, V, C> {
-    ghost use Rattle.btree_shape.specs.TreeState.{rootless};
+    ghost use Rattle.btree_laws.specs.TreeState.{rootless};
 
     /// Drops every node. There is no root then, the length is 0, and the count of refusals stays.
     pub fn clear(&mut self)
@@ -322,7 +322,7 @@ impl<K, V, C: ClearNodes<K, V>> RawBTree<K, V, C> {
 }
 
 impl<K: Clone, V: Clone, C: CloneNodes<K, V>> RawBTree<K, V, C> {
-    ghost use Rattle.btree_shape.specs.TreeState.{unrefused};
+    ghost use Rattle.btree_laws.specs.TreeState.{unrefused};
 
     /// Returns a tree with clones of the keys and values, whose nodes have the same numbers. Its store has refused no node yet. It fails only if
     /// the clone of the store fails.

@@ -1,13 +1,13 @@
 //! Rebalancing a tree that is off by one at a node.
 ghost use Rattle.std.specs.Prelude.{IfOk, IfErr};
-ghost use Rattle.btree_shape.specs.TreeState.{IsOffByOneAt, IsValidIn, node_map};
+ghost use Rattle.btree_laws.specs.TreeState.{IsOffByOneAt, IsValidIn, node_map};
 ghost use Rattle.btree_raw.specs.Steps.{HasCount, HasParent, Overflows};
 ghost use Rattle.btree_raw.specs.Rebalance.{HasRoom, IsRebalanced, IsRefusal};
 
 use crate::claims::{ClaimedIds, claim};
-use crate::count::split_need;
-use crate::overflow::split_upward;
+use crate::need::split_need;
 use crate::raw::RawBTree;
+use crate::splits::split_upward;
 use crate::underflow::fix_underflow_upward;
 use btree_item::{Address, Cause};
 use btree_node::NodesMut;

@@ -1,5 +1,5 @@
 //! Removal of the last item under a node.
-ghost use Rattle.btree_shape.specs.TreeState.{IsBTreeButLength, IsUsed, node_map};
+ghost use Rattle.btree_laws.specs.TreeState.{IsBTreeButLength, IsUsed, node_map};
 ghost use Rattle.btree_raw.specs.LastItem.{TakesLast};
 ghost use Rattle.btree_raw.specs.Steps.{HasCount, HasParent};
 ghost use Rattle.btree_raw.specs.TreeSteps.{LosesItemOfFew};

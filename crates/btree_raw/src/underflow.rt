@@ -1,8 +1,8 @@
 //! Fixes of underflows, from a node upward.
 ghost use Rattle.std.specs.Prelude.{◌≡◌, ◌-◌, ℕ, ◌<◌, ◌≤◌, IfSome, IsSome, Some, None, option_map, true, false};
 ghost use Rattle.btree_view.specs.View.{parent_of};
-ghost use Rattle.btree_shape.specs.UnderflowFix.{Borrows, MergesNode};
-ghost use Rattle.btree_shape.specs.TreeState.{KeepsRest, node_map};
+ghost use Rattle.btree_laws.specs.UnderflowFix.{Borrows, MergesNode};
+ghost use Rattle.btree_laws.specs.TreeState.{KeepsRest, node_map};
 ghost use Rattle.btree_raw.specs.Rebalance.{StaysAsIs};
 ghost use Rattle.btree_raw.specs.Underflow.{AreAdjacent, BorrowsFromLeft, EndsHere, GoesUp, HasSiblings, IsChild, IsFollowed, IsFixing, IsFixingOf, Underflows, MergesWithLeft, FixesUnderflowUpward};
 ghost use Rattle.btree_raw.specs.Underflow as specs;
@@ -10,10 +10,10 @@ ghost use Rattle.btree_raw.specs.Steps.{HasCount, HasParent};
 ghost use Rattle.btree_raw.specs.TreeSteps.{StaysIfFit};
 
 use crate::borrow::{borrow_from_left, borrow_from_right, merge_siblings};
+use crate::moved::{Siblings, moved_by_shrink_root};
 use crate::raw::RawBTree;
-use crate::rotate::shrink_root;
+use crate::sibling_steps::shrink_root;
 use btree_item::{Address, LEAF_SLOTS, MIN_ITEMS};
-use btree_moved::{Siblings, moved_by_shrink_root};
 use btree_node::NodesMut;
 
 // Returns two adjacent children, if both are there.

@@ -3,11 +3,11 @@ use Rattle.std.specs.Prelude.{◌≡◌, ◌⊎◌, ℕ, IsFalse, IsTrue, List, 
 use Rattle.std.specs.FinMap as map
 use Rattle.btree_store.specs.Content.{Content}
 use Rattle.btree_node.specs.declared.node.Node.{Node}
-use Rattle.btree_shape.specs.TreeState.{limited_to, rootless}
+use Rattle.btree_laws.specs.TreeState.{limited_to, rootless}
 use Rattle.btree_session.specs.Held.{Held}
 use Rattle.btree_session.specs.Script.{Drives}
 use Rattle.btree_session.specs.declared.options.Setup.{Setup}
-use Rattle.btree_session.specs.declared.script.Stop.{Stop}
+use Rattle.btree_session.specs.declared.drive.Stop.{Stop}
 use Rattle.btree_script.specs.declared.Ending.{Ending}
 use Rattle.btree_script.specs.declared.Ending.TheVariants.{Stopped, WrongArguments}
 use Rattle.btree_script.specs.Ending.{status_after}

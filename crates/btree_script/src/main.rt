@@ -13,10 +13,10 @@ ghost use Rattle.btree_script.specs.Serving.{ReportsRun, ServesAnew, ServesArgum
 ghost use Rattle.btree_script.specs.Words.{ReadsWord};
 ghost use Rattle.btree_script.specs.declared.Ending.TheVariants.{WrongArguments};
 
+use btree_more_stores::FixedSlab;
 use btree_node::{ClearNodes, Node};
 use btree_session::{Session, Setup, Stop, drive, setup};
 use btree_store::SlabStore;
-use btree_stores::FixedSlab;
 use std::alloc::Global;
 use std::env::FillError;
 use std::io::{Read, Write};

@@ -9,13 +9,13 @@ use Rattle.btree_item.specs.Address.{Address}
 use Rattle.btree_item.specs.declared.refused.Cause.{Cause}
 use Rattle.btree_store.specs.Content.{Content}
 use Rattle.btree_node.specs.declared.node.Node.{Node}
-use Rattle.btree_shape.specs.TreeState.{TreeState, IsBTree, IsValidIn, pairs_of, rootless}
+use Rattle.btree_laws.specs.TreeState.{TreeState, IsBTree, IsValidIn, pairs_of, rootless}
 use Rattle.btree_find.specs.Fits.{FitsAt}
 use Rattle.btree_find.specs.Navigation.{HasPlace, IsNormalized}
 use Rattle.btree_find.proofs.PlaceLemmas.{has-place, place-there}
 use Rattle.btree_raw.specs.Limit.{IsWithinLimit}
-use Rattle.btree_edit.specs.InsertAt.{InsertsAt, IsRefusedAt}
-use Rattle.btree_edit.specs.Remove.{IsRemoved, RemovesByKey}
+use Rattle.btree_ext.specs.InsertAt.{InsertsAt, IsRefusedAt}
+use Rattle.btree_ext.specs.Remove.{IsRemoved, RemovesByKey}
 use Rattle.btree_session.specs.declared.command.Command.TheVariants.{Remove, Clear, Put, Take}
 use Rattle.btree_session.specs.declared.command.Reply.TheVariants.{Nothing, Value, Pair, Done, NoPlace, Unfit, Refused}
 use Rattle.btree_session.specs.Held.{Held, HoldsBack}

@@ -8,7 +8,7 @@ use Rattle.btree_item.specs.Address.{Address}
 use Rattle.btree_item.proofs.PairLemmas.{before-from_Ok, before-from_Err, found-from_Err}
 use Rattle.btree_store.specs.Content.{Content}
 use Rattle.btree_node.specs.declared.node.Node.{Node}
-use Rattle.btree_shape.specs.TreeState.{TreeState, IsBTree, IsPlaceIn, item_of, node_map, pairs_of}
+use Rattle.btree_laws.specs.TreeState.{TreeState, IsBTree, IsPlaceIn, item_of, node_map, pairs_of}
 use Rattle.btree_find.specs.Answers.{IsFoundAt, IsGapAt}
 use Rattle.btree_find.specs.Navigation.{HasPlace, IsItemAddress, IsItemAt, IsItemBefore, IsNext, IsNormalized, IsPrevious}
 use Rattle.btree_find.proofs.FitsLemmas.{place-low}

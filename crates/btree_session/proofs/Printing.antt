@@ -11,7 +11,7 @@ use Rattle.btree_view.specs.View.{NodeMap}
 use Rattle.btree_internal.specs.declared.internal.Branch.{Branch}
 use Rattle.btree_node.specs.declared.node.Node.{Node}
 use Rattle.btree_node.specs.declared.node.Node.TheVariants.{Internal}
-use Rattle.btree_shape.specs.TreeState.{views}
+use Rattle.btree_laws.specs.TreeState.{views}
 use Rattle.btree_session.specs.Answer.{pair_text, list_text, bracketed, shape_in, shape_under}
 use Rattle.btree_session.specs.Text.{Grows}
 

@@ -9,7 +9,7 @@ use Rattle.btree_internal.specs.Internal.{Internal as InternalParts}
 use Rattle.btree_node.specs.Node.{view_of}
 use Rattle.btree_node.specs.declared.node.Node.{Node}
 use Rattle.btree_node.specs.declared.node.Node.TheVariants.{Internal}
-use Rattle.btree_shape.specs.TreeState.{views}
+use Rattle.btree_laws.specs.TreeState.{views}
 use Rattle.btree_session.specs.Answer.{shape_in, shape_under}
 use Rattle.btree_session.specs.Text.{LacksCapacityFor, LacksRoomFor}
 use Rattle.btree_session.proofs.Printing.{Printed, shape_under-suc}

@@ -8,8 +8,8 @@ use Rattle.std.specs.Io.Buffered.{reader_buffer, reader_capacity}
 use Rattle.std.specs.declared.io.buffered.BufReader.{BufReader}
 use Rattle.btree_session.specs.declared.line.Line.{Line}
 use Rattle.btree_session.specs.declared.line.Line.TheVariants.{Other}
-use Rattle.btree_session.specs.declared.script.Stop.{Stop}
-use Rattle.btree_session.specs.declared.script.Stop.TheVariants.{NotACommand, Memory, Input, Output}
+use Rattle.btree_session.specs.declared.drive.Stop.{Stop}
+use Rattle.btree_session.specs.declared.drive.Stop.TheVariants.{NotACommand, Memory, Input, Output}
 use Rattle.btree_session.specs.Held.{Held}
 use Rattle.btree_session.specs.Line.{line_words, MeansLine}
 use Rattle.btree_store.specs.Content.{Content}

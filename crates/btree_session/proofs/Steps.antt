@@ -9,12 +9,12 @@ use Rattle.btree_item.specs.declared.refused.Cause.{Cause}
 use Rattle.btree_item.specs.declared.refused.Cause.TheVariants.{Store, Count}
 use Rattle.btree_store.specs.Content.{Content}
 use Rattle.btree_node.specs.declared.node.Node.{Node}
-use Rattle.btree_shape.specs.TreeState.{Kept, TreeState, IsBTree, pairs_of, refused_once}
+use Rattle.btree_laws.specs.TreeState.{Kept, TreeState, IsBTree, pairs_of, refused_once}
 use Rattle.btree_find.specs.Navigation.{HasPlace}
 use Rattle.btree_find.proofs.PlaceLemmas.{has-place, place-there}
 use Rattle.btree_raw.specs.Insertion.{IsRefused}
 use Rattle.btree_raw.specs.Limit.{IsWithinLimit}
-use Rattle.btree_edit.specs.Insert.{IsRefusedAtGap, InsertsByKey}
+use Rattle.btree_ext.specs.Insert.{IsRefusedAtGap, InsertsByKey}
 use Rattle.btree_session.specs.declared.command.Command.{Command}
 use Rattle.btree_session.specs.declared.command.Command.TheVariants.{Insert, Get}
 use Rattle.btree_session.specs.declared.command.Reply.{Reply}

@@ -5,7 +5,7 @@ use Rattle.std.specs.FinMap as finite
 use Rattle.std.specs.Fmt.{decimal}
 use Rattle.std.specs.List.{flat_map, join_with_byte, AllByRecursion}
 use Rattle.btree_view.specs.View.{View, leaf, internal, NodeMap}
-use Rattle.btree_shape.specs.TreeState.{TreeState, node_map, pairs_of}
+use Rattle.btree_laws.specs.TreeState.{TreeState, node_map, pairs_of}
 use Rattle.btree_session.specs.declared.question.Question.{Question}
 use Rattle.btree_session.specs.declared.question.Question.TheVariants as questions
 use Rattle.btree_session.specs.Text.{LacksRoomFor, Pushes, as_line}

@@ -13,12 +13,12 @@ use Rattle.btree_item.specs.declared.refused.Cause.{Cause}
 use Rattle.btree_item.specs.declared.refused.Cause.TheVariants.{Store, Count}
 use Rattle.btree_store.specs.Content.{Content}
 use Rattle.btree_node.specs.declared.node.Node.{Node}
-use Rattle.btree_node.specs.declared.nodes.Nodes as nodes
-use Rattle.btree_node.specs.declared.nodes.NodesMut as nodes_mut
-use Rattle.btree_shape.specs.TreeState.{Kept, TreeState, pairs_of, refused_once}
+use Rattle.btree_node.specs.declared.node_stores.Nodes as nodes
+use Rattle.btree_node.specs.declared.node_stores.NodesMut as nodes_mut
+use Rattle.btree_laws.specs.TreeState.{Kept, TreeState, pairs_of, refused_once}
 use Rattle.btree_find.specs.Navigation.{HasPlace}
-use Rattle.btree_edit.specs.InsertAt.{InsertsAt, IsRefusedAt}
-use Rattle.btree_edit.specs.Remove.{IsRemoved}
+use Rattle.btree_ext.specs.InsertAt.{InsertsAt, IsRefusedAt}
+use Rattle.btree_ext.specs.Remove.{IsRemoved}
 use Rattle.btree_map.specs.Cursor.{WritesPlace}
 use Rattle.btree_map.specs.Editing.{FitsBetween, entry_front}
 use Rattle.btree_map.specs.declared.cursor.editing.EntriesMut.{EntriesMut}

@@ -3,7 +3,7 @@ use Rattle.std.specs.Prelude.{ℕ, Option, IfSome, IsSome, refl}
 use Rattle.std.specs.Coded.{Coded, code_by, coded×, coded_ℕ, coded_option}
 use Rattle.btree_item.specs.Address.{Address}
 use Rattle.btree_node.specs.declared.node.Node.{Node}
-use Rattle.btree_shape.specs.TreeState.{TreeState, IsValidIn, tree_code}
+use Rattle.btree_laws.specs.TreeState.{TreeState, IsValidIn, tree_code}
 
 pub record Held (K V : Type 0) : Type 0 where
   pub map : TreeState K V

@@ -13,12 +13,12 @@ use Rattle.btree_item.specs.declared.refused.Cause.{Cause}
 use Rattle.btree_item.specs.declared.refused.Cause.TheVariants.{Store, Count}
 use Rattle.btree_store.specs.Content.{Content}
 use Rattle.btree_node.specs.declared.node.Node.{Node}
-use Rattle.btree_shape.specs.TreeState.{Kept, TreeState, IsBTree, IsOccupiedIn, pairs_of, refused_once, rootless}
+use Rattle.btree_laws.specs.TreeState.{Kept, TreeState, IsBTree, IsOccupiedIn, pairs_of, refused_once, rootless}
 use Rattle.btree_find.specs.Answers.{IsFoundAt, IsGapAt}
 use Rattle.btree_find.specs.Navigation.{HasPlace, IsNormalized}
-use Rattle.btree_edit.specs.Insert.{IsRefusedAtGap, InsertsByKey}
-use Rattle.btree_edit.specs.InsertAt.{InsertsAt, IsRefusedAt}
-use Rattle.btree_edit.specs.Remove.{IsRemoved, RemovesByKey}
+use Rattle.btree_ext.specs.Insert.{IsRefusedAtGap, InsertsByKey}
+use Rattle.btree_ext.specs.InsertAt.{InsertsAt, IsRefusedAt}
+use Rattle.btree_ext.specs.Remove.{IsRemoved, RemovesByKey}
 use Rattle.btree_session.specs.declared.command.Command.{Command}
 use Rattle.btree_session.specs.declared.command.Command.TheVariants.{Insert, Get, Remove, Clear, Seek, Next, Prev, Put, Take}
 use Rattle.btree_session.specs.declared.command.Reply.{Reply}

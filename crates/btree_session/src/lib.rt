@@ -7,16 +7,16 @@
 mod arguments;
 mod command;
 mod cursor;
+mod drive;
 mod line;
 mod options;
 mod question;
-mod script;
 mod session;
 mod text;
 
 pub use arguments::setup;
 pub use command::{Command, Reply};
 pub use cursor::{CursorStep, run_cursor};
+pub use drive::{Stop, drive};
 pub use options::Setup;
-pub use script::{Stop, drive};
 pub use session::{Session, SessionOver, run};

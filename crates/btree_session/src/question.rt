@@ -1,6 +1,6 @@
 //! Questions about a session's map, and their answers as text.
 ghost use Rattle.std.specs.Prelude.{◌≤◌, vec_capacity, OnOk, OnErr};
-ghost use Rattle.btree_shape.specs.TreeState.{node_map, pairs_of};
+ghost use Rattle.btree_laws.specs.TreeState.{node_map, pairs_of};
 ghost use Rattle.btree_session.specs.Answer.{Answers, IsAnswer, LacksRoomToAnswer, list_text, leaf_text, shape_under, answer_text};
 ghost use Rattle.btree_session.specs.Text.{Grows, LacksRoomFor, Pushes};
 

@@ -1,7 +1,7 @@
 //! A session: a map, and commands that are run on it.
 ghost use Rattle.std.specs.Prelude.{◌≡◌, [], Some, None, length, IsOk, OnOk, OnErr};
 ghost use Rattle.std.specs.FinMap as map;
-ghost use Rattle.btree_shape.specs.TreeState.{IsOccupiedIn, item_of, limited_to, pairs_of, rootless, unlimited};
+ghost use Rattle.btree_laws.specs.TreeState.{IsOccupiedIn, item_of, limited_to, pairs_of, rootless, unlimited};
 ghost use Rattle.btree_session.specs.Machine.{IsStep, Runs, value_reply};
 ghost use Rattle.btree_session.specs.Text.{HasCapacityFor};
 

@@ -5,7 +5,7 @@ use Rattle.std.specs.Iterator.{MakesProgress, at_most}
 use Rattle.std.specs.List.{FoldsTo}
 use Rattle.std.specs.Map.{keys_of}
 use Rattle.std.specs.Map.Calls.{CallableOnEachPair, SomeCallAtPair}
-use Rattle.btree_shape.specs.TreeState.{TreeState, pairs_of}
+use Rattle.btree_laws.specs.TreeState.{TreeState, pairs_of}
 use Rattle.btree_map.specs.Drain.{Asks as PairAsks, Selects as PairSelects, RunsTest as PairRunsTest, RunsOut as PairRunsOut, Yields as PairYields, if_same as if_same_pair, picked as picked_pairs}
 use Rattle.btree_map.proofs.DrainRuns.{cons-tail}
 use Rattle.btree_set.specs.Drain.{Asks, CallableOnEach, RunsOut, RunsTest, Selects, SomeCallAt, Yields, if_same, picked}

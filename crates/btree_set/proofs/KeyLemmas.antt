@@ -20,13 +20,13 @@ use Rattle.btree_store.specs.Content.{Content}
 use Rattle.btree_item.specs.declared.refused.Cause.{Cause}
 use Rattle.btree_item.specs.declared.refused.Cause.TheVariants.{Count, Store}
 use Rattle.btree_node.specs.declared.node.Node.{Node}
-use Rattle.btree_shape.specs.TreeState.{Kept, TreeState, pairs_of}
+use Rattle.btree_laws.specs.TreeState.{Kept, TreeState, pairs_of}
 use Rattle.btree_raw.specs.Insertion as raw
-use Rattle.btree_edit.specs.Insert.{IsRefusedAtGap, LeavesPairs}
-use Rattle.btree_edit.specs.Replace as replace
-use Rattle.btree_edit.specs.Remove as lists
-use Rattle.btree_edit.specs.Remove.{RemovesBy, RemovesByKey, RemovesIfThereBy}
-use Rattle.btree_edit.specs.Update.{RemovesIfThere}
+use Rattle.btree_ext.specs.Insert.{IsRefusedAtGap, LeavesPairs}
+use Rattle.btree_ext.specs.Replace as replace
+use Rattle.btree_ext.specs.Remove as lists
+use Rattle.btree_ext.specs.Remove.{RemovesBy, RemovesByKey, RemovesIfThereBy}
+use Rattle.btree_ext.specs.Update.{RemovesIfThere}
 use Rattle.btree_map.specs.Comparison.{pair_cmp, pair_eq, pair_partial_cmp}
 use Rattle.btree_map.specs.Extension as many
 use Rattle.btree_set.specs.Elements.{IsRefused, LeavesElements, SetState, before, inserted, removed, replaced, set_of, stored}

@@ -9,7 +9,7 @@ use Rattle.std.specs.declared.cmp.Ordering.{Ordering}
 use Rattle.std.specs.declared.cmp.Ordering.TheVariants.{Less, Equal, Greater}
 use Rattle.btree_set.specs.Merges.{difference, intersection, is_in}
 use Rattle.btree_walk.proofs.BoundLemmas.{all-so}
-use Rattle.btree_shape.proofs.LookUp.KeyInList.{reversed, reversed-back}
+use Rattle.btree_laws.proofs.LookUp.KeyInList.{reversed, reversed-back}
 
 pub by-order : {P : Type 0} (o : Ordering) → (o ≡ Less → P) → (o ≡ Equal → P) → (o ≡ Greater → P) → P
 by-order Less a b c = a refl

@@ -12,7 +12,7 @@ use Rattle.std.specs.declared.cmp.Ordering.TheVariants.{Less, Equal}
 use Rattle.btree_set.specs.Merges.{is_in}
 use Rattle.btree_set.proofs.MergeLemmas.{above-equal, above-more, absent, by-order, merge-equal, merge-greater, merge-less, rest-up}
 use Rattle.btree_find.specs.CallerLaws.{equal-by}
-use Rattle.btree_shape.proofs.LookUp.KeyInList.{reversed-back}
+use Rattle.btree_laws.proofs.LookUp.KeyInList.{reversed-back}
 
 module _ {T : Type 0} (cmp : T → T → Ordering) where
   -- whether x is in a list, by its first element

@@ -6,7 +6,7 @@ use Rattle.std.specs.Fn.{CalledAt, TakesAt}
 use Rattle.std.specs.List.{FoldsTo}
 use denote.Ref.{Bor}
 use denote.Param.Members.{Mut}
-use Rattle.btree_shape.specs.TreeAddresses.{item_addresses_of}
+use Rattle.btree_laws.specs.TreeAddresses.{item_addresses_of}
 use Rattle.btree_set.specs.Elements.{SetState}
 use Rattle.btree_set.specs.declared.drain.DrainFilter.{DrainFilter}
 

@@ -15,8 +15,8 @@ use Rattle.btree_store.specs.Content.{Content}
 use Rattle.btree_item.specs.declared.refused.Cause.{Cause}
 use Rattle.btree_item.specs.declared.refused.Cause.TheVariants.{Store, Count}
 use Rattle.btree_node.specs.declared.node.Node.{Node}
-use Rattle.btree_shape.specs.TreeState.{IsBTree, Kept, TreeState, coded_kept, pairs_of, refused_once, tree_code, with_limit}
-use Rattle.btree_edit.specs.Insert.{IsRefusedAtGap}
+use Rattle.btree_laws.specs.TreeState.{IsBTree, Kept, TreeState, coded_kept, pairs_of, refused_once, tree_code, with_limit}
+use Rattle.btree_ext.specs.Insert.{IsRefusedAtGap}
 use Rattle.btree_map.specs.Lists.{last_place}
 use Rattle.btree_map.specs.Removal.{RemovesPlace}
 

@@ -11,7 +11,7 @@ use Rattle.btree_item.specs.declared.refused.Cause.{Cause}
 use Rattle.btree_item.specs.declared.refused.Refused.{Refused}
 use Rattle.btree_store.specs.Content.{Content}
 use Rattle.btree_node.specs.declared.node.Node.{Node}
-use Rattle.btree_shape.specs.TreeState.{Kept}
+use Rattle.btree_laws.specs.TreeState.{Kept}
 use Rattle.btree_set.specs.Elements.{IsRefused, SetState, inserted, stored, set_with_limit}
 
 module _ {T : Type 0} (cmp : T → T → Ordering) where

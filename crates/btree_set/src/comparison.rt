@@ -3,7 +3,7 @@ ghost use Rattle.std.specs.Prelude.{◌≡◌, IfOk, OnErr};
 ghost use Rattle.std.specs.Cmp.{on_equiv, on_per, on_po, on_total};
 ghost use Rattle.std.specs.Cmp.Lexicographic.{lists_agrees, lists_equiv, lists_per, lists_po, lists_ties, lists_total, pointwise, slice_cmp, slice_partial_cmp};
 ghost use Rattle.std.specs.List.{flat_map};
-ghost use Rattle.btree_shape.specs.TreeState.{unrefused};
+ghost use Rattle.btree_laws.specs.TreeState.{unrefused};
 ghost use Rattle.btree_map.specs.Comparison.{writes-same};
 
 use crate::BTreeSet;

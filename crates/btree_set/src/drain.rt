@@ -1,5 +1,5 @@
 //! The drain: the elements of a set that a closure picks, removed one at a time.
-mod calls;
+mod set;
 mod steps;
 
 use crate::BTreeSet;

@@ -4,7 +4,7 @@ ghost use Rattle.std.specs.Iterator.{IsFinite};
 ghost use Rattle.std.specs.Mem.{FitsInMemory};
 ghost use denote.Plain.{Nothing as unit_row};
 ghost use Rattle.btree_node.specs.contracts.node.Node.{the_row as node_row};
-ghost use Rattle.btree_shape.specs.TreeState.{unlimited};
+ghost use Rattle.btree_laws.specs.TreeState.{unlimited};
 ghost use Rattle.btree_map.specs.Ascending.{GoesLast, IsLastPair};
 ghost use Rattle.btree_set.specs.Elements.{IsRefused, inserted, stored};
 ghost use Rattle.btree_set.specs.Extension.{Adds, AddsAll, AddsUntil, Collects, CollectsUntil, MovesEach, MovesUntil, RefusesInTurn, SwapsIntoEmpty, copied_steps};

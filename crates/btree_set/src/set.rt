@@ -6,11 +6,11 @@ ghost use Rattle.std.specs.Mem.{FitsInMemory};
 ghost use denote.Plain.{Nothing as unit_row};
 ghost use Rattle.btree_node.specs.contracts.node.Node.{the_row as node_row};
 ghost use Rattle.std.specs.Option.{option_copied};
-ghost use Rattle.btree_shape.specs.TreeState.{limited_to, unlimited};
-ghost use Rattle.btree_edit.specs.Insert.{InsertsByKey};
-ghost use Rattle.btree_edit.specs.Remove.{RemovesIfThereBy};
-ghost use Rattle.btree_edit.specs.Replace.{ReplacesByKey};
-ghost use Rattle.btree_edit.specs.Update.{RemovesIfThere};
+ghost use Rattle.btree_laws.specs.TreeState.{limited_to, unlimited};
+ghost use Rattle.btree_ext.specs.Insert.{InsertsByKey};
+ghost use Rattle.btree_ext.specs.Remove.{RemovesIfThereBy};
+ghost use Rattle.btree_ext.specs.Replace.{ReplacesByKey};
+ghost use Rattle.btree_ext.specs.Update.{RemovesIfThere};
 ghost use Rattle.btree_map.specs.Removal.{AddsNoNode};
 ghost use Rattle.btree_set.specs.Elements.{IsInTree, IsRefused, RemovesFirst, RemovesLast, elements_outside, inserted, removed, replaced, stored};
 

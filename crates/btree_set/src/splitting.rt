@@ -5,7 +5,7 @@ ghost use Rattle.std.specs.Mem.{FitsInMemory};
 ghost use Rattle.std.specs.declared.ops.Bound.TheVariants.{Included, Unbounded};
 ghost use denote.Plain.{Nothing as unit_row};
 ghost use Rattle.btree_node.specs.contracts.node.Node.{the_row as node_row};
-ghost use Rattle.btree_shape.specs.TreeState.{unlimited};
+ghost use Rattle.btree_laws.specs.TreeState.{unlimited};
 ghost use Rattle.btree_map.specs.Removal.{AddsNoNode};
 ghost use Rattle.btree_set.specs.Elements.{elements_between};
 ghost use Rattle.btree_set.specs.Extension.{RefusesInTurn};

@@ -1,18 +1,18 @@
 -- The words that the contracts of the public functions cite, so that a crate that names this library alone can import each
 -- of them, as `Rattle.btree_slab.specs.TreeState.{pairs_of}`.
-pub use Rattle.btree_edit.specs.ByKey
-pub use Rattle.btree_edit.specs.Exchange
-pub use Rattle.btree_edit.specs.Insert
-pub use Rattle.btree_edit.specs.InsertAbsent
-pub use Rattle.btree_edit.specs.InsertAt
-pub use Rattle.btree_edit.specs.KeyWritten
-pub use Rattle.btree_edit.specs.Outcomes
-pub use Rattle.btree_edit.specs.Remove
-pub use Rattle.btree_edit.specs.Replace
-pub use Rattle.btree_edit.specs.Update
-pub use Rattle.btree_edit.specs.ValueWritten
+pub use Rattle.btree_ext.specs.ByKey
+pub use Rattle.btree_ext.specs.Exchange
+pub use Rattle.btree_ext.specs.Insert
+pub use Rattle.btree_ext.specs.InsertAbsent
+pub use Rattle.btree_ext.specs.InsertAt
+pub use Rattle.btree_ext.specs.KeyWritten
+pub use Rattle.btree_ext.specs.Outcomes
+pub use Rattle.btree_ext.specs.Remove
+pub use Rattle.btree_ext.specs.Replace
+pub use Rattle.btree_ext.specs.Update
+pub use Rattle.btree_ext.specs.ValueWritten
 pub use Rattle.btree_ext.specs.Changes
-pub use Rattle.btree_ext.specs.Lent as ExtLent
+pub use Rattle.btree_ext.specs.TreeLent
 pub use Rattle.btree_ext.specs.Seen
 pub use Rattle.btree_find.specs.Answers
 pub use Rattle.btree_find.specs.Ends
@@ -56,7 +56,7 @@ pub use Rattle.btree_map.specs.Written
 pub use Rattle.btree_node.specs.Node
 pub use Rattle.btree_node.specs.NodeLends
 pub use Rattle.btree_node.specs.StoreLends
-pub use Rattle.btree_owned.specs.Leaving
+pub use Rattle.btree_owned_walk.specs.Leaving
 pub use Rattle.btree_range_set.specs.Gaps
 pub use Rattle.btree_range_set.specs.Places
 pub use Rattle.btree_range_set.specs.Ranges
@@ -85,17 +85,17 @@ pub use Rattle.btree_set.specs.Elements
 pub use Rattle.btree_set.specs.Extension as SetExtension
 pub use Rattle.btree_set.specs.Merges
 pub use Rattle.btree_set.specs.Splitting as SetSplitting
-pub use Rattle.btree_shape.specs.Step
-pub use Rattle.btree_shape.specs.TreeAddresses
-pub use Rattle.btree_shape.specs.TreeState
+pub use Rattle.btree_laws.specs.Step
+pub use Rattle.btree_laws.specs.TreeAddresses
+pub use Rattle.btree_laws.specs.TreeState
 pub use Rattle.btree_store.specs.Content
 pub use Rattle.btree_store.specs.SlotLaws
-pub use Rattle.btree_stores.specs.Gated
-pub use Rattle.btree_stores.specs.Odd
-pub use Rattle.btree_stores.specs.OddLaws
-pub use Rattle.btree_stores.specs.Table
-pub use Rattle.btree_table.specs.Capacity
-pub use Rattle.btree_table.specs.From
+pub use Rattle.btree_more_stores.specs.Gated
+pub use Rattle.btree_more_stores.specs.Odd
+pub use Rattle.btree_more_stores.specs.OddLaws
+pub use Rattle.btree_more_stores.specs.Table
+pub use Rattle.btree_fixed.specs.Capacity
+pub use Rattle.btree_fixed.specs.From
 pub use Rattle.btree_valid.specs.Faults
 pub use Rattle.btree_valid.specs.Reading
 pub use Rattle.btree_valid.specs.Verdicts
@@ -114,7 +114,7 @@ pub use Rattle.btree_walk.specs.Ranges as WalkRanges
 pub use Rattle.btree_walk.specs.Rows
 -- what callers conclude from them
 pub use Rattle.btree_find.specs.CallerLaws as FindLaws
-pub use Rattle.btree_edit.specs.CallerLaws as EditLaws
+pub use Rattle.btree_ext.specs.CallerLaws as EditLaws
 pub use Rattle.btree_map.specs.CallerLaws as MapLaws
 pub use Rattle.btree_range_set.specs.CallerLaws as RangeLaws
 pub use Rattle.btree_valid.proofs.ReadLaws

@@ -4,9 +4,9 @@
 #![tactic(auto)]
 
 pub use btree_ext::{BTreeExt, BTreeExtMut};
+pub use btree_fixed::{FixedMap, FixedSet};
 pub use btree_item::Address;
 use btree_store::SlabStore;
-pub use btree_table::{FixedMap, FixedSet};
 
 /// A map with its nodes in a slab, with memory from the global allocator.
 pub type BTreeMap<K, V> = generic::BTreeMap<K, V, SlabStore<generic::Node<K, V>>>;
@@ -61,14 +61,14 @@ pub mod generic {
 
 /// The contracts of a store, for any values and for nodes, and four stores.
 pub mod store {
+    pub use btree_more_stores::{FixedSlab, Gate, OddSlab};
     pub use btree_node::{ClearNodes, CloneNodes, Nodes, NodesMut};
     pub use btree_store::{Clear, Slab, SlabClone, SlabMut, SlabStore};
-    pub use btree_stores::{FixedSlab, Gate, OddSlab};
 }
 
 /// Calls over a fixed table of nodes, whose contracts say exactly when they are refused, and calls over any store that are not refused.
 pub mod table {
-    pub use btree_table::{
+    pub use btree_fixed::{
         FixedMap, FixedSet, insert, insert_at, insert_at_with_room, insert_element,
         insert_exactly_at, insert_from, insert_present, insert_vacant, insert_with_room, or_insert,
         replace, replace_element, replace_present, update, update_in, update_present,

@@ -9,9 +9,9 @@ use Rattle.btree_store.specs.Content.{Content}
 use Rattle.btree_view.specs.Checks.{IsNodeVerdict}
 use Rattle.btree_view.specs.Separators.{separator_after, separator_before}
 use Rattle.btree_view.specs.View.{View, children_of}
-use Rattle.btree_shape.specs.Focus.Subtree.{Subtree, count_at, items_under, view_at}
-use Rattle.btree_shape.specs.TreeState.{views}
-use Rattle.btree_shape.proofs.LookUp.KeyInList.{rises}
+use Rattle.btree_laws.specs.Focus.Subtree.{Subtree, count_at, items_under, view_at}
+use Rattle.btree_laws.specs.TreeState.{views}
+use Rattle.btree_laws.proofs.LookUp.KeyInList.{rises}
 use Rattle.btree_valid.specs.Faults.{Allows, AreBetween}
 use Rattle.btree_valid.specs.Positions.{nearest_of}
 use Rattle.btree_valid.specs.Spots.{BeginsAt, BlamesAt, CanMeet, IsAnswerFor, freed}

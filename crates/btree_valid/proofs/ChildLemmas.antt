@@ -2,7 +2,7 @@
 use Rattle.std.proofs.Common.{◌≡◌, ◌≤◌, ◌<◌, ◌∷◌, [], ℕ, zero, suc, List, length, IsTrue, Some, slice_get, arith}
 use Rattle.btree_view.specs.Edits.{is_internal}
 use Rattle.btree_view.specs.View.{View, children_of, internal, leaf, size_of}
-use Rattle.btree_shape.proofs.Paths.SiblingNumbers.{children-count}
+use Rattle.btree_laws.proofs.Paths.SiblingNumbers.{children-count}
 
 found-below : {B : Type 0} (xs : List B) (index : ℕ) (x : B) → Some x ≡ slice_get xs index → index < length xs
 found-below [] index x found = absurd (cc)

@@ -10,11 +10,11 @@ use Rattle.btree_item.specs.declared.fault.Fault.{Fault}
 use Rattle.btree_node.specs.declared.node.Node.{Node}
 use Rattle.btree_store.specs.Content.{Content}
 use Rattle.btree_view.specs.View.{NodeMap, children_in}
-use Rattle.btree_shape.specs.Focus.Subtree.{Holds, Subtree, id_of, items_under}
-use Rattle.btree_shape.specs.Represents.{Represents, numbers_under}
-use Rattle.btree_shape.specs.TreeState.{views}
-use Rattle.btree_shape.proofs.Trees.Represented.{represented-is}
-use Rattle.btree_shape.proofs.Trees.Subtrees.{represents-of}
+use Rattle.btree_laws.specs.Focus.Subtree.{Holds, Subtree, id_of, items_under}
+use Rattle.btree_laws.specs.Represents.{Represents, numbers_under}
+use Rattle.btree_laws.specs.TreeState.{views}
+use Rattle.btree_laws.proofs.Trees.Represented.{represented-is}
+use Rattle.btree_laws.proofs.Trees.Subtrees.{represents-of}
 use Rattle.btree_valid.specs.Names.{IsFirstLevel, Knows, NamesAt, spotted}
 use Rattle.btree_valid.specs.PositionLaws.{leaf-depth-once, met-once}
 use Rattle.btree_valid.specs.Positions.{HasNoFault, IsFirstFault, IsLeafDepth, IsMetBelow, root_spot, start_spot}

@@ -3,7 +3,7 @@ use Rattle.std.proofs.Common.{◌≡◌, ◌<◌, ◌≤◌, ◌+◌, ℕ, true,
 use Rattle.std.specs.Option.{option_eq}
 use Rattle.std.proofs.lemmas.Bool.Decides.{nat_tests}
 use Rattle.btree_view.specs.View.{View, most_of, parent_of, size_of}
-use Rattle.btree_shape.specs.WellFormed.{excess_allowed, least_allowed}
+use Rattle.btree_laws.specs.WellFormed.{excess_allowed, least_allowed}
 use Rattle.btree_valid.specs.OffByOne.{MayEnter}
 
 same-number : (m n : ℕ) → eqb m n ≡ true → m ≡ n

@@ -12,11 +12,11 @@ use Rattle.btree_store.specs.Content.{Content}
 use Rattle.btree_view.specs.Checks.{IsNodeVerdict}
 use Rattle.btree_view.specs.Separators.{separator_after, separator_before}
 use Rattle.btree_view.specs.View.{View, children_of, internal, leaf, size_of}
-use Rattle.btree_shape.specs.Lists.{total}
-use Rattle.btree_shape.specs.Focus.Subtree.{Subtree, id_of, items_under}
-use Rattle.btree_shape.specs.TreeState.{views}
-use Rattle.btree_shape.proofs.LookUp.KeyInList.{Rises, ascends}
-use Rattle.btree_shape.proofs.Paths.Frames.{total-append}
+use Rattle.btree_laws.specs.Lists.{total}
+use Rattle.btree_laws.specs.Focus.Subtree.{Subtree, id_of, items_under}
+use Rattle.btree_laws.specs.TreeState.{views}
+use Rattle.btree_laws.proofs.LookUp.KeyInList.{Rises, ascends}
+use Rattle.btree_laws.proofs.Paths.Frames.{total-append}
 use Rattle.btree_valid.specs.Faults.{AreBetween}
 use Rattle.btree_valid.specs.Positions.{nearest_of}
 use Rattle.btree_valid.specs.Spots.{CanMeet, FindsAt, HasFoundPart, MeetsLeaf, Suits, WasMore, least_between}

@@ -9,12 +9,12 @@ use Rattle.btree_store.specs.Content.{Content}
 use Rattle.btree_view.specs.Checks.{IsNodeVerdict}
 use Rattle.btree_view.specs.Separators.{separator_after, separator_before}
 use Rattle.btree_view.specs.View.{View, children_of, size_of}
-use Rattle.btree_shape.specs.Lists.{total}
-use Rattle.btree_shape.specs.Focus.Subtree.{Subtree, count_at, items_under, view_at}
-use Rattle.btree_shape.specs.Represents.{numbers_under}
-use Rattle.btree_shape.specs.TreeState.{views}
-use Rattle.btree_shape.proofs.Paths.Frames.{top-view}
-use Rattle.btree_shape.proofs.Trees.Sizes.{view-size}
+use Rattle.btree_laws.specs.Lists.{total}
+use Rattle.btree_laws.specs.Focus.Subtree.{Subtree, count_at, items_under, view_at}
+use Rattle.btree_laws.specs.Represents.{numbers_under}
+use Rattle.btree_laws.specs.TreeState.{views}
+use Rattle.btree_laws.proofs.Paths.Frames.{top-view}
+use Rattle.btree_laws.proofs.Trees.Sizes.{view-size}
 use Rattle.btree_valid.specs.Positions.{nearest_of}
 use Rattle.btree_valid.specs.Spots.{BeginsAt, CanMeet, HasMet, IsFewer, Meets, MeetsAt, Suits}
 use Rattle.btree_valid.specs.declared.faults.Met.{Met}

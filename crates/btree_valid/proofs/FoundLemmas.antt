@@ -10,9 +10,9 @@ use Rattle.std.specs.declared.cmp.Ordering.TheVariants.{Less}
 use Rattle.btree_item.specs.declared.fault.Fault.{Fault}
 use Rattle.btree_view.specs.Checks.{BeginsAbove, EndsBelow, FirstFailed, IsNodeVerdict, PassesCheck, is_judged_as_root, node_faults}
 use Rattle.btree_view.specs.View.{NodeMap, View, items_of, most_of, parent_of, size_of}
-use Rattle.btree_shape.specs.Focus.Subtree.{Holds, IsFilled, IsFilledBelow, Subtree, count_at, items_under, later_items}
-use Rattle.btree_shape.proofs.LookUp.KeyInList.{Rises, rises}
-use Rattle.btree_shape.proofs.Paths.Frames.{AllByRecursion-append}
+use Rattle.btree_laws.specs.Focus.Subtree.{Holds, IsFilled, IsFilledBelow, Subtree, count_at, items_under, later_items}
+use Rattle.btree_laws.proofs.LookUp.KeyInList.{Rises, rises}
+use Rattle.btree_laws.proofs.Paths.Frames.{AllByRecursion-append}
 use Rattle.btree_valid.specs.Faults.{AreBetween}
 use Rattle.btree_valid.specs.Spots.{Suits, least_between}
 

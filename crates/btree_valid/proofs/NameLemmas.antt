@@ -10,8 +10,8 @@ use Rattle.btree_store.specs.Content.{Content}
 use Rattle.btree_view.specs.Checks.{IsNodeVerdict}
 use Rattle.btree_view.specs.Separators.{separator_after, separator_before}
 use Rattle.btree_view.specs.View.{View, children_of}
-use Rattle.btree_shape.specs.Focus.Subtree.{Subtree, id_of}
-use Rattle.btree_shape.specs.TreeState.{views}
+use Rattle.btree_laws.specs.Focus.Subtree.{Subtree, id_of}
+use Rattle.btree_laws.specs.TreeState.{views}
 use Rattle.btree_valid.specs.Names.{IsFirstLevel, Knows, NamesAt, spotted}
 use Rattle.btree_valid.specs.PositionLaws.{leaf-depth-once, met-once}
 use Rattle.btree_valid.specs.Positions.{IsFirstFaultAmong, IsFirstLeaf, IsMetBelow, Leads, Spotted, nearest_of, step_down}

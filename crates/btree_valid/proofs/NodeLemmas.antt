@@ -7,11 +7,11 @@ use Rattle.btree_store.specs.Content.{Content}
 use Rattle.btree_node.specs.Node.{view_of}
 use Rattle.btree_node.specs.declared.node.Node.{Node}
 use Rattle.btree_view.specs.View.{NodeMap, View, branches_of, children_of, internal, items_of, leaf, parent_of}
-use Rattle.btree_shape.specs.Lists.{times_listed}
-use Rattle.btree_shape.specs.Represents.{Represents, numbers_under, represented}
-use Rattle.btree_shape.specs.TreeState.{views}
-use Rattle.btree_shape.specs.WellFormed.{IsNearlySized}
-use Rattle.btree_shape.proofs.Paths.Frames.{one-self}
+use Rattle.btree_laws.specs.Lists.{times_listed}
+use Rattle.btree_laws.specs.Represents.{Represents, numbers_under, represented}
+use Rattle.btree_laws.specs.TreeState.{views}
+use Rattle.btree_laws.specs.WellFormed.{IsNearlySized}
+use Rattle.btree_laws.proofs.Paths.Frames.{one-self}
 use Rattle.btree_valid.specs.OffByOne.{CanOrder, CanPassUnder, MayEnter, Orders, PassesUnder}
 use Rattle.btree_valid.specs.declared.off_by_one.Walk.{Walk}
 use Rattle.btree_valid.proofs.PassLemmas.{IsInNode, first-can, first-passed, leaf-can, leaf-passed}

@@ -9,16 +9,16 @@ use Rattle.btree_item.specs.Pairs.{Ascends}
 use Rattle.btree_node.specs.Node.{view_of}
 use Rattle.btree_node.specs.declared.node.Node.{Node}
 use Rattle.btree_view.specs.View.{NodeMap}
-use Rattle.btree_shape.specs.Lists.{times_listed}
-use Rattle.btree_shape.specs.Focus.Subtree.{times_under}
-use Rattle.btree_shape.specs.Represents.{Represents, numbers_under, represented}
-use Rattle.btree_shape.specs.TreeState.{views}
-use Rattle.btree_shape.specs.WellFormed.{IsOffByOne, times_used}
-use Rattle.btree_shape.proofs.Trees.Numbers.{less-or, numbers-subtree, used-mapped, used-one}
-use Rattle.btree_shape.proofs.LookUp.KeyInList.{Rises, rises}
-use Rattle.btree_shape.proofs.Trees.Represented.{represented-is}
-use Rattle.btree_shape.proofs.Trees.Subtrees.{subtree-of}
-use Rattle.btree_shape.proofs.Trees.Stores.{len-views}
+use Rattle.btree_laws.specs.Lists.{times_listed}
+use Rattle.btree_laws.specs.Focus.Subtree.{times_under}
+use Rattle.btree_laws.specs.Represents.{Represents, numbers_under, represented}
+use Rattle.btree_laws.specs.TreeState.{views}
+use Rattle.btree_laws.specs.WellFormed.{IsOffByOne, times_used}
+use Rattle.btree_laws.proofs.Trees.Numbers.{less-or, numbers-subtree, used-mapped, used-one}
+use Rattle.btree_laws.proofs.LookUp.KeyInList.{Rises, rises}
+use Rattle.btree_laws.proofs.Trees.Represented.{represented-is}
+use Rattle.btree_laws.proofs.Trees.Subtrees.{subtree-of}
+use Rattle.btree_laws.proofs.Trees.Stores.{len-views}
 use Rattle.btree_valid.specs.OffByOne.{CanPassUnder, IsOffByOneAmong, IsOffByOneWithHeight, IsOffByOneAtSomeHeight, PassesUnder}
 use Rattle.btree_valid.proofs.OnceLemmas.{all-used, few}
 use Rattle.btree_valid.proofs.OrderLemmas.{passed-none}

@@ -10,12 +10,12 @@ use Rattle.std.specs.declared.cmp.Ordering.TheVariants.{Equal, Greater, Less}
 use Rattle.btree_store.specs.Content.{Content}
 use Rattle.btree_store.specs.ContentLaws.{get-remove_other, get-remove_same, is_insert}
 use Rattle.btree_view.specs.View.{NodeMap, View, internal, items_of, leaf, parent_of}
-use Rattle.btree_shape.specs.Lists.{one, times_listed, total}
-use Rattle.btree_shape.specs.Focus.Subtree.{Holds, Subtree, id_of, items_under, later_items, times_under}
-use Rattle.btree_shape.specs.WellFormed.{IsNearlySized, least_allowed, times_used}
-use Rattle.btree_shape.proofs.Paths.Frames.{one-other, one-self, total-append}
-use Rattle.btree_shape.proofs.Trees.Numbers.{same-or, used-low, used-one, used-some, zero-or}
-use Rattle.btree_shape.proofs.LookUp.KeyInList.{Rises}
+use Rattle.btree_laws.specs.Lists.{one, times_listed, total}
+use Rattle.btree_laws.specs.Focus.Subtree.{Holds, Subtree, id_of, items_under, later_items, times_under}
+use Rattle.btree_laws.specs.WellFormed.{IsNearlySized, least_allowed, times_used}
+use Rattle.btree_laws.proofs.Paths.Frames.{one-other, one-self, total-append}
+use Rattle.btree_laws.proofs.Trees.Numbers.{same-or, used-low, used-one, used-some, zero-or}
+use Rattle.btree_laws.proofs.LookUp.KeyInList.{Rises}
 
 -- as many numbers as a content has, each used and none twice, are all of its numbers
 module _ {T : Type 0} where

@@ -5,8 +5,8 @@ use Rattle.std.specs.List.{AllByRecursion}
 use Rattle.std.specs.declared.cmp.Ordering.{Ordering}
 use Rattle.std.specs.declared.cmp.Ordering.TheVariants.{Less}
 use Rattle.btree_item.specs.Pairs.{Ascends}
-use Rattle.btree_shape.proofs.Paths.Frames.{AllByRecursion-append, AllByRecursion-right}
-use Rattle.btree_shape.proofs.LookUp.KeyInList.{Rises, ascends, rises, rises-left}
+use Rattle.btree_laws.proofs.Paths.Frames.{AllByRecursion-append, AllByRecursion-right}
+use Rattle.btree_laws.proofs.LookUp.KeyInList.{Rises, ascends, rises, rises-left}
 use Rattle.btree_valid.specs.OffByOne.{CanOrder, HasPassed, IsAbove, Orders}
 
 module _ {K V : Type 0} (cmp : K → K → Ordering) where

@@ -8,9 +8,9 @@ use Rattle.btree_view.specs.Checks.{FirstFailed, IsNodeVerdict, PassesCheck, nod
 use Rattle.btree_view.specs.Separators.{separator_after, separator_before}
 use Rattle.btree_view.specs.View.{NodeMap, View, children_of, items_of, most_of, parent_of}
 use Rattle.std.specs.Map.{keys_of}
-use Rattle.btree_shape.specs.Focus.Subtree.{Subtree, id_of, view_at}
-use Rattle.btree_shape.proofs.Paths.Frames.{top-view}
-use Rattle.btree_shape.proofs.Options.{none-some}
+use Rattle.btree_laws.specs.Focus.Subtree.{Subtree, id_of, view_at}
+use Rattle.btree_laws.proofs.Paths.Frames.{top-view}
+use Rattle.btree_laws.proofs.Options.{none-some}
 use Rattle.btree_valid.specs.Positions.{IsFirstFaultAmong, IsFirstLeaf, IsLeafAt, IsMetBelow, IsVerdictAt, Leads, PassesAt, PassesOwn, Precedes, Spotted, nearest_of, step_down}
 use Rattle.btree_valid.specs.PositionLaws.{ok-or-err}
 use Rattle.btree_valid.specs.Spots.{Suits}

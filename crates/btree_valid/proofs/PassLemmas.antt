@@ -4,12 +4,12 @@ use Rattle.std.specs.Cmp.{IsTotalOrder}
 use Rattle.std.specs.List.{AllByRecursion, flat_map}
 use Rattle.std.specs.declared.cmp.Ordering.{Ordering}
 use Rattle.btree_view.specs.View.{NodeMap, View, children_in, internal, leaf}
-use Rattle.btree_shape.specs.Lists.{times_listed}
-use Rattle.btree_shape.specs.Represents.{Represents, numbers_under, represented, represented_in}
-use Rattle.btree_shape.specs.WellFormed.{IsNearlySized}
-use Rattle.btree_shape.proofs.Paths.Frames.{one-other}
-use Rattle.btree_shape.proofs.Trees.Numbers.{listed-append, same-or, zero-or}
-use Rattle.btree_shape.proofs.Trees.Represented.{represented-is}
+use Rattle.btree_laws.specs.Lists.{times_listed}
+use Rattle.btree_laws.specs.Represents.{Represents, numbers_under, represented, represented_in}
+use Rattle.btree_laws.specs.WellFormed.{IsNearlySized}
+use Rattle.btree_laws.proofs.Paths.Frames.{one-other}
+use Rattle.btree_laws.proofs.Trees.Numbers.{listed-append, same-or, zero-or}
+use Rattle.btree_laws.proofs.Trees.Represented.{represented-is}
 use Rattle.btree_valid.specs.OffByOne.{AreNearlySized, CanOrder, CanPass, CanPassUnder, IsAbove, Orders, Passes, PassesUnder}
 use Rattle.btree_valid.proofs.OrderLemmas.{can-back, can-front, can-above, orders-append, orders-none, orders-one}
 

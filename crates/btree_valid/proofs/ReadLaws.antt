@@ -8,7 +8,7 @@ use Rattle.btree_store.specs.Content.{Content}
 use Rattle.btree_item.specs.declared.fault.Fault.{Fault}
 use Rattle.btree_node.specs.declared.node.Node.{Node}
 use Rattle.btree_view.specs.Checks.{FirstFailed}
-use Rattle.btree_shape.specs.TreeState.{views}
+use Rattle.btree_laws.specs.TreeState.{views}
 use Rattle.btree_valid.specs.ListedLaws.{leads-depth}
 use Rattle.btree_valid.specs.PositionLaws.{met-once-under, no-fault}
 use Rattle.btree_valid.specs.Positions.{IsLeafDepth, IsMetUnder, PassesAt, Spotted, root_spot}

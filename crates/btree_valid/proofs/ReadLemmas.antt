@@ -16,14 +16,14 @@ use Rattle.btree_item.specs.declared.fault.Fault.TheVariants.{NoNode, WrongParen
 use Rattle.btree_node.specs.declared.node.Node.{Node}
 use Rattle.btree_view.specs.Checks.{FirstFailed, IsNodeVerdict, node_faults}
 use Rattle.btree_view.specs.View.{NodeMap, View, children_of, internal, items_of, leaf}
-use Rattle.btree_shape.specs.Focus.Subtree.{Holds, Subtree, id_of, items_under, times_under}
-use Rattle.btree_shape.specs.Lists.{times_listed}
-use Rattle.btree_shape.specs.Represents.{numbers_under}
-use Rattle.btree_shape.specs.TreeState.{pairs_under, views}
-use Rattle.btree_shape.proofs.LookUp.KeyInList.{ascends, rises}
-use Rattle.btree_shape.proofs.Trees.Numbers.{numbers-subtree, zero-or}
-use Rattle.btree_shape.proofs.Trees.Represented.{represented-is}
-use Rattle.btree_shape.proofs.Trees.Subtrees.{represents-of}
+use Rattle.btree_laws.specs.Focus.Subtree.{Holds, Subtree, id_of, items_under, times_under}
+use Rattle.btree_laws.specs.Lists.{times_listed}
+use Rattle.btree_laws.specs.Represents.{numbers_under}
+use Rattle.btree_laws.specs.TreeState.{pairs_under, views}
+use Rattle.btree_laws.proofs.LookUp.KeyInList.{ascends, rises}
+use Rattle.btree_laws.proofs.Trees.Numbers.{numbers-subtree, zero-or}
+use Rattle.btree_laws.proofs.Trees.Represented.{represented-is}
+use Rattle.btree_laws.proofs.Trees.Subtrees.{represents-of}
 use Rattle.btree_valid.specs.ListedLaws.{numbers-met}
 use Rattle.btree_valid.specs.PositionLaws.{ok-or-err}
 use Rattle.btree_valid.specs.Positions.{IsFirstLeaf, IsLeafAt, IsLeafDepth, IsMetBelow, IsVerdictAt, PassesAt, PassesOwn, Spotted, position_faults, root_spot, step_down}

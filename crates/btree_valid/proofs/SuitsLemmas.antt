@@ -7,11 +7,11 @@ use Rattle.std.specs.declared.cmp.Ordering.{Ordering}
 use Rattle.std.specs.declared.cmp.Ordering.TheVariants.{Less}
 use Rattle.btree_view.specs.Separators.{separator_after, separator_before}
 use Rattle.btree_view.specs.View.{NodeMap, children_in, children_of, internal}
-use Rattle.btree_shape.specs.Lists.{total}
-use Rattle.btree_shape.specs.Focus.Subtree.{Holds, IsFilled, IsFilledBelow, Subtree, count_at, id_of, items_under, later_items, view_at}
-use Rattle.btree_shape.specs.Represents.{numbers_under}
-use Rattle.btree_shape.proofs.LookUp.KeyInList.{Rises, ascends, rises, rises-left, rises-right}
-use Rattle.btree_shape.proofs.Paths.Frames.{AllByRecursion-left, AllByRecursion-right}
+use Rattle.btree_laws.specs.Lists.{total}
+use Rattle.btree_laws.specs.Focus.Subtree.{Holds, IsFilled, IsFilledBelow, Subtree, count_at, id_of, items_under, later_items, view_at}
+use Rattle.btree_laws.specs.Represents.{numbers_under}
+use Rattle.btree_laws.proofs.LookUp.KeyInList.{Rises, ascends, rises, rises-left, rises-right}
+use Rattle.btree_laws.proofs.Paths.Frames.{AllByRecursion-left, AllByRecursion-right}
 use Rattle.btree_valid.specs.Faults.{AreBetween}
 use Rattle.btree_valid.specs.Positions.{nearest_of}
 use Rattle.btree_valid.specs.Spots.{Suits}

@@ -12,25 +12,25 @@ use Rattle.btree_node.specs.declared.node.Node.{Node}
 use Rattle.btree_store.specs.Content.{Content}
 use Rattle.btree_view.specs.Checks.{is_judged_as_root}
 use Rattle.btree_view.specs.View.{NodeMap, View, most_of, size_of}
-use Rattle.btree_shape.specs.Focus.Focus.{IsFocus}
-use Rattle.btree_shape.specs.Focus.Path.{Path, parent_above}
-use Rattle.btree_shape.specs.Focus.Search.{levels_below}
-use Rattle.btree_shape.specs.Focus.Subtree.{Holds, Subtree, count_at, id_of, items_under, most_at, times_under, view_at}
-use Rattle.btree_shape.specs.Lists.{times_listed}
-use Rattle.btree_shape.specs.Represents.{Represents, numbers_under, represented}
-use Rattle.btree_shape.specs.TreeState.{IsBTree, TreeState, node_map, pairs_under, views, unlimited}
-use Rattle.btree_shape.specs.WellFormed.{IsNearlySized, IsRooted, IsSized, IsWellFormed, least_allowed, times_used}
-use Rattle.btree_shape.proofs.LookUp.KeyInList.{rises}
-use Rattle.btree_shape.proofs.Paths.Frames.{one-other, top-view}
-use Rattle.btree_shape.proofs.Paths.FromRoot.{node-at}
-use Rattle.btree_shape.proofs.Paths.Levels.{levels-rooted}
-use Rattle.btree_shape.proofs.Paths.UnsizedFocus.{focus-unsized}
-use Rattle.btree_shape.proofs.Trees.Heights.{levels-is}
-use Rattle.btree_shape.proofs.Trees.Numbers.{numbers-subtree, same-or, used-mapped, used-none, used-one, used-there}
-use Rattle.btree_shape.proofs.Trees.Represented.{represented-is}
-use Rattle.btree_shape.proofs.Trees.Sizes.{below-middle, least-low, least-root, view-most, view-parent, view-size}
-use Rattle.btree_shape.proofs.Trees.States.{height_held, is-tree}
-use Rattle.btree_shape.proofs.Trees.Subtrees.{represents-of}
+use Rattle.btree_laws.specs.Focus.Focus.{IsFocus}
+use Rattle.btree_laws.specs.Focus.Path.{Path, parent_above}
+use Rattle.btree_laws.specs.Focus.Search.{levels_below}
+use Rattle.btree_laws.specs.Focus.Subtree.{Holds, Subtree, count_at, id_of, items_under, most_at, times_under, view_at}
+use Rattle.btree_laws.specs.Lists.{times_listed}
+use Rattle.btree_laws.specs.Represents.{Represents, numbers_under, represented}
+use Rattle.btree_laws.specs.TreeState.{IsBTree, TreeState, node_map, pairs_under, views, unlimited}
+use Rattle.btree_laws.specs.WellFormed.{IsNearlySized, IsRooted, IsSized, IsWellFormed, least_allowed, times_used}
+use Rattle.btree_laws.proofs.LookUp.KeyInList.{rises}
+use Rattle.btree_laws.proofs.Paths.Frames.{one-other, top-view}
+use Rattle.btree_laws.proofs.Paths.FromRoot.{node-at}
+use Rattle.btree_laws.proofs.Paths.Levels.{levels-rooted}
+use Rattle.btree_laws.proofs.Paths.UnsizedFocus.{focus-unsized}
+use Rattle.btree_laws.proofs.Trees.Heights.{levels-is}
+use Rattle.btree_laws.proofs.Trees.Numbers.{numbers-subtree, same-or, used-mapped, used-none, used-one, used-there}
+use Rattle.btree_laws.proofs.Trees.Represented.{represented-is}
+use Rattle.btree_laws.proofs.Trees.Sizes.{below-middle, least-low, least-root, view-most, view-parent, view-size}
+use Rattle.btree_laws.proofs.Trees.States.{height_held, is-tree}
+use Rattle.btree_laws.proofs.Trees.Subtrees.{represents-of}
 use Rattle.btree_valid.specs.Faults.{AreBetween, SuitsNode}
 use Rattle.btree_valid.specs.Spots.{FindsAt, FindsTree, Suits, least_between}
 use Rattle.btree_valid.specs.declared.faults.Met.{Met}

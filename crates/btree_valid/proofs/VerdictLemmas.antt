@@ -10,11 +10,11 @@ use Rattle.btree_item.specs.declared.fault.Fault.{Fault}
 use Rattle.btree_item.specs.declared.fault.Fault.TheVariants.{NoNode, WrongParent, Overflowing, Underflowing, EmptyRoot, Unsorted, BelowSeparator, AboveSeparator, TooDeep, NotBalanced, WrongLength, Unreachable, OverLimit}
 use Rattle.btree_view.specs.Checks.{BeginsAbove, EndsBelow, FirstFailed, IsNodeVerdict, PassesCheck, is_judged_as_root, node_faults}
 use Rattle.btree_view.specs.View.{NodeMap, View, items_of, most_of, parent_of}
-use Rattle.btree_shape.specs.Focus.Subtree.{Subtree, count_at, id_of, items_under, later_items, view_at}
-use Rattle.btree_shape.proofs.LookUp.KeyInList.{ascends, rises}
-use Rattle.btree_shape.proofs.Paths.Frames.{AllByRecursion-right}
-use Rattle.btree_shape.proofs.Trees.Sizes.{view-most, view-parent, view-size}
-use Rattle.btree_shape.proofs.LookUp.Descent.{items-rise}
+use Rattle.btree_laws.specs.Focus.Subtree.{Subtree, count_at, id_of, items_under, later_items, view_at}
+use Rattle.btree_laws.proofs.LookUp.KeyInList.{ascends, rises}
+use Rattle.btree_laws.proofs.Paths.Frames.{AllByRecursion-right}
+use Rattle.btree_laws.proofs.Trees.Sizes.{view-most, view-parent, view-size}
+use Rattle.btree_laws.proofs.LookUp.Descent.{items-rise}
 use Rattle.btree_valid.specs.Faults.{Allows}
 use Rattle.btree_valid.specs.Spots.{Suits, least_between}
 

@@ -9,26 +9,26 @@ use Rattle.btree_node.specs.declared.node.Node.{Node}
 use Rattle.btree_store.specs.Content.{Content}
 use Rattle.btree_view.specs.Checks.{is_judged_as_root}
 use Rattle.btree_view.specs.View.{View, parent_of, size_of}
-use Rattle.btree_shape.specs.Focus.Focus.{IsFocus}
-use Rattle.btree_shape.specs.Focus.Path.{Path, items_after, items_before, least_at, parent_above}
-use Rattle.btree_shape.specs.Focus.Search.{levels_below}
-use Rattle.btree_shape.specs.Focus.Subtree.{Holds, IsFilled, Subtree, count_at, id_of, items_under, view_at}
-use Rattle.btree_shape.specs.Represents.{numbers_under, represented}
-use Rattle.btree_shape.specs.TreeState.{IsBTree, TreeState, node_map, pairs_under, views, unlimited}
-use Rattle.btree_shape.specs.WellFormed.{IsRooted, IsSized, IsWellFormed}
-use Rattle.btree_shape.proofs.LookUp.KeyInList.{Rises, ascends, rises, rises-left, rises-right}
-use Rattle.btree_shape.proofs.Paths.Frames.{top-view}
-use Rattle.btree_shape.proofs.Paths.FromRoot.{HasSubtree, node-at, rooted-subtree}
-use Rattle.btree_shape.proofs.Paths.Levels.{levels-rooted}
-use Rattle.btree_shape.proofs.Paths.UnsizedFocus.{focus-unsized}
-use Rattle.btree_shape.proofs.Trees.Density.{height-low}
-use Rattle.btree_shape.proofs.Trees.Heights.{levels-is, low-enough}
-use Rattle.btree_shape.proofs.Trees.Numbers.{used-there}
-use Rattle.btree_shape.proofs.Trees.Represented.{represented-is}
-use Rattle.btree_shape.proofs.Trees.Sizes.{view-parent, view-size}
-use Rattle.btree_shape.proofs.Trees.States.{few-nodes, height_held}
-use Rattle.btree_shape.proofs.Trees.Stores.{len-views}
-use Rattle.btree_shape.proofs.Trees.Subtrees.{represents-of}
+use Rattle.btree_laws.specs.Focus.Focus.{IsFocus}
+use Rattle.btree_laws.specs.Focus.Path.{Path, items_after, items_before, least_at, parent_above}
+use Rattle.btree_laws.specs.Focus.Search.{levels_below}
+use Rattle.btree_laws.specs.Focus.Subtree.{Holds, IsFilled, Subtree, count_at, id_of, items_under, view_at}
+use Rattle.btree_laws.specs.Represents.{numbers_under, represented}
+use Rattle.btree_laws.specs.TreeState.{IsBTree, TreeState, node_map, pairs_under, views, unlimited}
+use Rattle.btree_laws.specs.WellFormed.{IsRooted, IsSized, IsWellFormed}
+use Rattle.btree_laws.proofs.LookUp.KeyInList.{Rises, ascends, rises, rises-left, rises-right}
+use Rattle.btree_laws.proofs.Paths.Frames.{top-view}
+use Rattle.btree_laws.proofs.Paths.FromRoot.{HasSubtree, node-at, rooted-subtree}
+use Rattle.btree_laws.proofs.Paths.Levels.{levels-rooted}
+use Rattle.btree_laws.proofs.Paths.UnsizedFocus.{focus-unsized}
+use Rattle.btree_laws.proofs.Trees.Density.{height-low}
+use Rattle.btree_laws.proofs.Trees.Heights.{levels-is, low-enough}
+use Rattle.btree_laws.proofs.Trees.Numbers.{used-there}
+use Rattle.btree_laws.proofs.Trees.Represented.{represented-is}
+use Rattle.btree_laws.proofs.Trees.Sizes.{view-parent, view-size}
+use Rattle.btree_laws.proofs.Trees.States.{few-nodes, height_held}
+use Rattle.btree_laws.proofs.Trees.Stores.{len-views}
+use Rattle.btree_laws.proofs.Trees.Subtrees.{represents-of}
 use Rattle.btree_valid.specs.Faults.{Allows, AreBetween, SuitsNode, depth_below}
 use Rattle.btree_valid.specs.Spots.{BeginsAt, BlamesAt, CanMeet, MeetsAt, MeetsTree, Suits, least_between}
 use Rattle.btree_valid.specs.declared.faults.Met.{Met}

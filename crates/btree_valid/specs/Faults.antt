@@ -15,9 +15,9 @@ use Rattle.btree_node.specs.declared.node.Node.{Node}
 use Rattle.btree_store.specs.Content.{Content}
 use Rattle.btree_view.specs.Checks.{is_judged_as_root}
 use Rattle.btree_view.specs.View.{View, parent_of, size_of}
-use Rattle.btree_shape.specs.Focus.Search.{levels_below}
-use Rattle.btree_shape.specs.Represents.{represented}
-use Rattle.btree_shape.specs.TreeState.{TreeState, IsBTree, node_map, unlimited}
+use Rattle.btree_laws.specs.Focus.Search.{levels_below}
+use Rattle.btree_laws.specs.Represents.{represented}
+use Rattle.btree_laws.specs.TreeState.{TreeState, IsBTree, node_map, unlimited}
 use Rattle.btree_valid.specs.Positions.{start_spot}
 use Rattle.btree_valid.specs.Verdicts.{IsVerdict, IsVerdictBelow}
 

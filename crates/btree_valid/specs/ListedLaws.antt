@@ -3,10 +3,10 @@
 use Rattle.std.proofs.Common.{◌≡◌, ◌+◌, ◌<◌, ◌≤◌, ◌∷◌, [], ℕ, zero, suc, inl, inr, List, length, Option, Some, None, slice_get, refl, sym, ap, subst, arith}
 use Rattle.std.specs.List.{flat_map}
 use Rattle.btree_view.specs.View.{NodeMap, View, children_in, children_of}
-use Rattle.btree_shape.specs.Lists.{one, times_listed}
-use Rattle.btree_shape.specs.Represents.{numbers_under}
-use Rattle.btree_shape.proofs.Paths.Frames.{one-other, one-self}
-use Rattle.btree_shape.proofs.Trees.Numbers.{listed-append, same-or, zero-or}
+use Rattle.btree_laws.specs.Lists.{one, times_listed}
+use Rattle.btree_laws.specs.Represents.{numbers_under}
+use Rattle.btree_laws.proofs.Paths.Frames.{one-other, one-self}
+use Rattle.btree_laws.proofs.Trees.Numbers.{listed-append, same-or, zero-or}
 use Rattle.btree_valid.specs.Positions.{IsMetUnder, Leads, Spotted, root_spot, step_down}
 use Rattle.btree_valid.specs.Verdicts.{numbers_met}
 use Rattle.std.specs.Prelude.{◌↔◌}

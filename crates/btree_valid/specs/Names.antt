@@ -6,7 +6,7 @@ use Rattle.btree_item.specs.declared.TheConstants.{MAX_LEVELS}
 use Rattle.btree_item.specs.declared.fault.Fault.{Fault}
 use Rattle.btree_node.specs.declared.node.Node.{Node}
 use Rattle.btree_store.specs.Content.{Content}
-use Rattle.btree_shape.specs.TreeState.{views}
+use Rattle.btree_laws.specs.TreeState.{views}
 use Rattle.btree_valid.specs.Positions.{IsFirstFaultAmong, IsFirstLeaf, IsLeafDepth, IsMetBelow, Spotted}
 use Rattle.btree_valid.specs.declared.faults.Met.{Met}
 use Rattle.btree_valid.specs.declared.faults.Spot.{Spot}

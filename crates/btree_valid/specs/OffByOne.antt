@@ -15,10 +15,10 @@ use Rattle.btree_item.specs.Pairs.{Ascends}
 use Rattle.btree_node.specs.declared.node.Node.{Node}
 use Rattle.btree_store.specs.Content.{Content}
 use Rattle.btree_view.specs.View.{NodeMap, View, parent_of}
-use Rattle.btree_shape.specs.Lists.{times_listed}
-use Rattle.btree_shape.specs.Represents.{Represents, numbers_under, represented}
-use Rattle.btree_shape.specs.TreeState.{views}
-use Rattle.btree_shape.specs.WellFormed.{IsNearlySized, IsOffByOne, IsRooted}
+use Rattle.btree_laws.specs.Lists.{times_listed}
+use Rattle.btree_laws.specs.Represents.{Represents, numbers_under, represented}
+use Rattle.btree_laws.specs.TreeState.{views}
+use Rattle.btree_laws.specs.WellFormed.{IsNearlySized, IsOffByOne, IsRooted}
 
 -- the key is greater than the last one passed, if there is one
 abbrev pub IsAbove : {K : Type 0} → (cmp : K → K → Ordering) → (last : Option K) → K → Type 0

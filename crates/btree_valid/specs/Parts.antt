@@ -10,7 +10,7 @@ use Rattle.btree_node.specs.declared.node.Node.{Node}
 use Rattle.btree_node.specs.Node.{view_of}
 use Rattle.btree_store.specs.Content.{Content}
 use Rattle.btree_view.specs.View.{items_of}
-use Rattle.btree_shape.specs.TreeState.{views}
+use Rattle.btree_laws.specs.TreeState.{views}
 use Rattle.btree_valid.specs.OffByOne.{CanOrder, CanPassUnder, IsAbove, Orders, PassesUnder}
 use Rattle.btree_valid.specs.declared.off_by_one.Part.{Part}
 use Rattle.btree_valid.specs.declared.off_by_one.Walk.{Walk}

@@ -7,8 +7,8 @@ use Rattle.btree_item.specs.declared.fault.Fault.{Fault}
 use Rattle.btree_item.specs.declared.fault.Fault.TheVariants.{WrongLength, Unreachable, OverLimit}
 use Rattle.btree_node.specs.declared.node.Node.{Node}
 use Rattle.btree_store.specs.Content.{Content}
-use Rattle.btree_shape.specs.Lists.{times_listed}
-use Rattle.btree_shape.specs.TreeState.{pairs_under, views}
+use Rattle.btree_laws.specs.Lists.{times_listed}
+use Rattle.btree_laws.specs.TreeState.{pairs_under, views}
 use Rattle.btree_valid.specs.Verdicts.{items_met, numbers_met}
 
 -- the answer names no check at a position: the tree is well formed, or it is but for its length, its limit, and other nodes

@@ -14,9 +14,9 @@ use Rattle.btree_store.specs.Content.{Content}
 use Rattle.btree_view.specs.Checks.{is_judged_as_root}
 use Rattle.btree_view.specs.Separators.{separator_after, separator_before}
 use Rattle.btree_view.specs.View.{NodeMap, View}
-use Rattle.btree_shape.specs.Focus.Subtree.{Holds, IsFilled, IsFilledBelow, Subtree, count_at, id_of, items_under}
-use Rattle.btree_shape.specs.Represents.{numbers_under}
-use Rattle.btree_shape.specs.TreeState.{views}
+use Rattle.btree_laws.specs.Focus.Subtree.{Holds, IsFilled, IsFilledBelow, Subtree, count_at, id_of, items_under}
+use Rattle.btree_laws.specs.Represents.{numbers_under}
+use Rattle.btree_laws.specs.TreeState.{views}
 use Rattle.btree_valid.specs.Faults.{Allows, AreBTree, AreBetween}
 use Rattle.btree_valid.specs.Positions.{nearest_of}
 use Rattle.btree_valid.specs.declared.faults.Met.{Met}

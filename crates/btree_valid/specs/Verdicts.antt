@@ -13,8 +13,8 @@ use Rattle.btree_node.specs.declared.node.Node.{Node}
 use Rattle.btree_store.specs.Content.{Content}
 use Rattle.btree_view.specs.Checks.{FirstFailed}
 use Rattle.btree_view.specs.View.{NodeMap}
-use Rattle.btree_shape.specs.Represents.{numbers_under}
-use Rattle.btree_shape.specs.TreeState.{pairs_under, views}
+use Rattle.btree_laws.specs.Represents.{numbers_under}
+use Rattle.btree_laws.specs.TreeState.{pairs_under, views}
 use Rattle.btree_valid.specs.PositionLaws.{fault-once, leaf-depth-once, met-once, met-once-under, no-fault, one-answer}
 use Rattle.btree_valid.specs.Positions.{HasNoFault, IsFirstFault, IsLeafDepth, IsMetBelow, IsMetUnder, Spotted}
 use Rattle.btree_valid.specs.declared.faults.Met.{Met}

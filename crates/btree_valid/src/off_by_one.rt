@@ -4,7 +4,7 @@ ghost use Rattle.std.specs.Mem.{FitsInMemory};
 ghost use Rattle.btree_node.specs.contracts.node.Node.{the_row as node_row};
 ghost use Rattle.btree_node.specs.Node.{view_of};
 ghost use Rattle.btree_view.specs.View.{items_of, leaf, most_of, parent_of};
-ghost use Rattle.btree_shape.specs.WellFormed.{excess_allowed, least_allowed};
+ghost use Rattle.btree_laws.specs.WellFormed.{excess_allowed, least_allowed};
 ghost use Rattle.btree_valid.specs.OffByOne.{IsAbove, IsOffByOneAmong, IsOffByOneAtHeight, IsOffByOneAtSomeHeight, MayEnter};
 ghost use Rattle.btree_valid.specs.Parts.{CanPassItems, CanPassPart, PassesItems, PassesKey, PassesPart};
 

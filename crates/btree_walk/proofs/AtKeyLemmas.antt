@@ -9,12 +9,12 @@ use Rattle.btree_item.specs.KeyLaws.{cuts_of}
 use Rattle.btree_item.specs.Pairs.{place_of}
 use Rattle.btree_view.specs.LookUp.{placed}
 use Rattle.btree_view.specs.View.{NodeMap, View, internal, items_of, leaf}
-use Rattle.btree_shape.specs.Remaining.{IsUnder, remaining_in}
-use Rattle.btree_shape.specs.Represents.{represented}
-use Rattle.btree_shape.proofs.LookUp.Descent.{map-parts}
-use Rattle.btree_shape.proofs.LookUp.KeyInList.{AreAbove, AreBelow, Rises, above-pivot, below-pivot, rises-right, searched, side}
-use Rattle.btree_shape.proofs.LookUp.Walk.{under-internal, under-leaf}
-use Rattle.btree_shape.proofs.Paths.Frames.{AllByRecursion-append, AllByRecursion-right}
+use Rattle.btree_laws.specs.Remaining.{IsUnder, remaining_in}
+use Rattle.btree_laws.specs.Represents.{represented}
+use Rattle.btree_laws.proofs.LookUp.Descent.{map-parts}
+use Rattle.btree_laws.proofs.LookUp.KeyInList.{AreAbove, AreBelow, Rises, above-pivot, below-pivot, rises-right, searched, side}
+use Rattle.btree_laws.proofs.LookUp.Walk.{under-internal, under-leaf}
+use Rattle.btree_laws.proofs.Paths.Frames.{AllByRecursion-append, AllByRecursion-right}
 use Rattle.btree_find.proofs.SearchLemmas.{placed-ok}
 use Rattle.btree_walk.specs.AtKey.{below_place, up_to_place}
 use Rattle.btree_walk.specs.Preceding.{preceding_in, with_child_before}

@@ -8,10 +8,10 @@ use Rattle.btree_store.specs.Content.{Content}
 use Rattle.btree_node.specs.declared.node.Node.{Node}
 use Rattle.btree_node.specs.Node.{view_of}
 use Rattle.btree_view.specs.View.{View, leaf, internal, items_of, children_of, size_of}
-use Rattle.btree_shape.specs.Represents.{represented}
-use Rattle.btree_shape.specs.TreeState.{views}
-use Rattle.btree_shape.specs.Remaining.{IsUnder}
-use Rattle.btree_shape.proofs.LookUp.Walk.{under-leaf}
+use Rattle.btree_laws.specs.Represents.{represented}
+use Rattle.btree_laws.specs.TreeState.{views}
+use Rattle.btree_laws.specs.Remaining.{IsUnder}
+use Rattle.btree_laws.proofs.LookUp.Walk.{under-leaf}
 use Rattle.btree_walk.specs.declared.ancestors.Ancestor.{Ancestor}
 use Rattle.btree_walk.specs.Preceding.{AreRowsBefore, EndsAt, branches_before, preceding_above, preceding_in, row_before, rows_before, with_child_before}
 use Rattle.btree_node.proofs.RoomLemmas.{none-last}

@@ -7,8 +7,8 @@ use Rattle.std.specs.declared.cmp.Ordering.{Ordering}
 use Rattle.std.specs.declared.cmp.Ordering.TheVariants.{Equal, Greater, Less}
 use Rattle.std.specs.declared.ops.Bound.TheVariants.{Included, Unbounded}
 use Rattle.btree_item.specs.KeyLaws.{cuts_of}
-use Rattle.btree_shape.proofs.Paths.Frames.{AllByRecursion-append}
-use Rattle.btree_shape.proofs.LookUp.KeyInList.{AreAbove, AreBelow, Rises, equal-back, equal-front, rises-right, side}
+use Rattle.btree_laws.proofs.Paths.Frames.{AllByRecursion-append}
+use Rattle.btree_laws.proofs.LookUp.KeyInList.{AreAbove, AreBelow, Rises, equal-back, equal-front, rises-right, side}
 
 module _ {X : Type 0} (test : X → Bool) where
   -- all of the elements pass the test

@@ -10,8 +10,8 @@ use Rattle.std.specs.declared.cmp.Ordering.{Ordering}
 use Rattle.std.specs.declared.cmp.Ordering.TheVariants.{Equal, Greater, Less}
 use Rattle.std.specs.declared.ops.Bound.{Bound}
 use Rattle.std.specs.declared.ops.Bound.TheVariants.{Included, Excluded, Unbounded}
-use Rattle.btree_shape.proofs.LookUp.KeyInList.{Rises, reversed, reversed-back, rises-left, rises-right}
-use Rattle.btree_shape.proofs.Paths.Frames.{AllByRecursion-right}
+use Rattle.btree_laws.proofs.LookUp.KeyInList.{Rises, reversed, reversed-back, rises-left, rises-right}
+use Rattle.btree_laws.proofs.Paths.Frames.{AllByRecursion-right}
 use Rattle.btree_find.specs.CallerLaws.{equal-by}
 
 module _ {A : Type 0} where

@@ -6,8 +6,8 @@ use Rattle.std.specs.FinMap as finite
 use Rattle.std.specs.List.{AllByRecursion}
 use Rattle.std.specs.Option.{option_copied}
 use Rattle.btree_view.specs.View.{View, leaf, internal, children_of, size_of}
-use Rattle.btree_shape.specs.Remaining.{IsUnder}
-use Rattle.btree_shape.specs.TreeState.{TreeState, IsUsed, node_map}
+use Rattle.btree_laws.specs.Remaining.{IsUnder}
+use Rattle.btree_laws.specs.TreeState.{TreeState, IsUsed, node_map}
 use Rattle.btree_walk.specs.declared.ancestors.Ancestor.{Ancestor}
 use Rattle.btree_walk.specs.Preceding.{AreAncestorsBefore, HasChildrenBefore, row_before, with_child_before}
 use Rattle.btree_walk.proofs.BackLemmas.{row_of, taken-off-back}

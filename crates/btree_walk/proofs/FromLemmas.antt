@@ -14,12 +14,12 @@ use Rattle.btree_item.specs.Pairs.{Ascends, place_of}
 use Rattle.btree_node.specs.declared.node.Node.{Node}
 use Rattle.btree_node.specs.Node.{view_of}
 use Rattle.btree_view.specs.View.{internal, items_of, leaf}
-use Rattle.btree_shape.specs.Remaining.{AreRows, IsUnder, remaining_above, remaining_in}
-use Rattle.btree_shape.specs.Represents.{represented}
-use Rattle.btree_shape.specs.TreeState.{views}
-use Rattle.btree_shape.proofs.LookUp.KeyInList.{AreAbove, AreBelow, Rises, ascends, rises-left, rises-right, searched, side}
-use Rattle.btree_shape.proofs.LookUp.Walk.{Inside, remaining-push, rows-push, under-internal, under-leaf}
-use Rattle.btree_shape.proofs.Paths.Frames.{AllByRecursion-append, AllByRecursion-right}
+use Rattle.btree_laws.specs.Remaining.{AreRows, IsUnder, remaining_above, remaining_in}
+use Rattle.btree_laws.specs.Represents.{represented}
+use Rattle.btree_laws.specs.TreeState.{views}
+use Rattle.btree_laws.proofs.LookUp.KeyInList.{AreAbove, AreBelow, Rises, ascends, rises-left, rises-right, searched, side}
+use Rattle.btree_laws.proofs.LookUp.Walk.{Inside, remaining-push, rows-push, under-internal, under-leaf}
+use Rattle.btree_laws.proofs.Paths.Frames.{AllByRecursion-append, AllByRecursion-right}
 use Rattle.btree_walk.specs.AtKey.{below_in, below_place}
 use Rattle.btree_walk.specs.Preceding.{preceding_in, with_child_before}
 use Rattle.btree_walk.specs.Rows.{rows_of}

@@ -2,11 +2,11 @@
 use Rattle.std.proofs.Common.{◌≡◌, ℕ, ◌^◌, ◌<◌, List, [], ◌∷◌, ◌++◌, ◌∙◌, length, Some, None, ap, sym, arith}
 use Rattle.std.specs.FinMap as map
 use Rattle.std.specs.declared.cmp.Ordering.{Ordering}
-use Rattle.btree_shape.specs.TreeState.{TreeState, node_map, pairs_of}
-use Rattle.btree_shape.specs.WellFormed.{IsSized, IsWellFormed}
-use Rattle.btree_shape.specs.Remaining.{IsUnder}
-use Rattle.btree_shape.proofs.Trees.Density.{height-low}
-use Rattle.btree_shape.proofs.Trees.States.{height_held}
+use Rattle.btree_laws.specs.TreeState.{TreeState, node_map, pairs_of}
+use Rattle.btree_laws.specs.WellFormed.{IsSized, IsWellFormed}
+use Rattle.btree_laws.specs.Remaining.{IsUnder}
+use Rattle.btree_laws.proofs.Trees.Density.{height-low}
+use Rattle.btree_laws.proofs.Trees.States.{height_held}
 
 -- the next item is above the leaf, and the next leaf is there as a list
 pub next-above : {X : Type 0} (none above new items run : List X) (x : X) → none ≡ [] → above ≡ x ∷ (items ++ new) → run ≡ items → none ++ above ≡ x ∷ (run ++ new)

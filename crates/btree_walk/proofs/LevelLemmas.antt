@@ -2,9 +2,9 @@
 use Rattle.std.proofs.Common.{◌≡◌, ℕ, zero, suc, ◌<◌, ◌≤◌, List, [], ◌∷◌, map, Option, Some, refl, ap, arith}
 use Rattle.std.specs.List.{AllByRecursion}
 use Rattle.btree_view.specs.View.{NodeMap, internal}
-use Rattle.btree_shape.specs.Focus.Search.{levels_below}
-use Rattle.btree_shape.specs.Remaining.{IsUnder}
-use Rattle.btree_shape.specs.Represents.{Represents}
+use Rattle.btree_laws.specs.Focus.Search.{levels_below}
+use Rattle.btree_laws.specs.Remaining.{IsUnder}
+use Rattle.btree_laws.specs.Represents.{Represents}
 
 module _ {A : Type 0} (node_at : NodeMap A) where
   levels-are : (most height : ℕ) (parent : Option ℕ) (id : ℕ) (ys : List A) → height ≤ most → Represents node_at height parent id ys → levels_below node_at most id ≡ height

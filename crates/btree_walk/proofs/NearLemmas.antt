@@ -9,8 +9,8 @@ use Rattle.std.specs.declared.cmp.Ordering.{Ordering}
 use Rattle.std.specs.declared.cmp.Ordering.TheVariants.{Less}
 use Rattle.std.specs.declared.ops.Bound.{Bound}
 use Rattle.std.specs.declared.ops.Bound.TheVariants.{Unbounded}
-use Rattle.btree_shape.proofs.LookUp.KeyInList.{Rises, rises-left, rises-right}
-use Rattle.btree_shape.proofs.Paths.Frames.{AllByRecursion-append, AllByRecursion-right}
+use Rattle.btree_laws.proofs.LookUp.KeyInList.{Rises, rises-left, rises-right}
+use Rattle.btree_laws.proofs.Paths.Frames.{AllByRecursion-append, AllByRecursion-right}
 use Rattle.btree_walk.specs.Near.{IsCut, IsLast, IsLastOr, StopsAt, pair_past}
 use Rattle.btree_walk.proofs.BoundLemmas.{all-so, filter-all, filter-earlier, filter-none, past-on}
 

@@ -11,12 +11,12 @@ use Rattle.btree_store.specs.Content.{Content}
 use Rattle.btree_node.specs.declared.node.Node.{Node}
 use Rattle.btree_node.specs.Node.{view_of}
 use Rattle.btree_view.specs.View.{internal, leaf}
-use Rattle.btree_shape.specs.Focus.Search.{levels_below}
-use Rattle.btree_shape.specs.Remaining.{AreRows, IsUnder, remaining_above, remaining_in}
-use Rattle.btree_shape.specs.TreeState.{TreeState, views}
-use Rattle.btree_shape.proofs.LookUp.KeyInList.{Rises}
-use Rattle.btree_shape.proofs.LookUp.Walk.{Inside, Lowest, remaining-push, rows-pop, under-internal, under-leaf}
-use Rattle.btree_shape.proofs.Paths.Frames.{AllByRecursion-left, AllByRecursion-right}
+use Rattle.btree_laws.specs.Focus.Search.{levels_below}
+use Rattle.btree_laws.specs.Remaining.{AreRows, IsUnder, remaining_above, remaining_in}
+use Rattle.btree_laws.specs.TreeState.{TreeState, views}
+use Rattle.btree_laws.proofs.LookUp.KeyInList.{Rises}
+use Rattle.btree_laws.proofs.LookUp.Walk.{Inside, Lowest, remaining-push, rows-pop, under-internal, under-leaf}
+use Rattle.btree_laws.proofs.Paths.Frames.{AllByRecursion-left, AllByRecursion-right}
 use Rattle.btree_walk.specs.Near.{AreSomewhere, IsCut, IsLast, IsLastOr, StopsAt, branch_past, child_in, item_or, list_below, list_under, pair_past}
 use Rattle.btree_walk.specs.declared.ancestors.Ancestor.{Ancestor}
 use Rattle.btree_walk.specs.Rows.{rows_of}

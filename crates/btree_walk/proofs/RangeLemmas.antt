@@ -9,8 +9,8 @@ use Rattle.std.specs.declared.cmp.Ordering.{Ordering}
 use Rattle.std.specs.declared.cmp.Ordering.TheVariants.{Equal, Greater, Less}
 use Rattle.std.specs.declared.ops.Bound.{Bound}
 use Rattle.std.specs.declared.ops.Bound.TheVariants.{Excluded, Unbounded}
-use Rattle.btree_shape.proofs.LookUp.KeyInList.{Rises, reversed, reversed-back, rises-right}
-use Rattle.btree_shape.proofs.Paths.Frames.{AllByRecursion-append, AllByRecursion-right}
+use Rattle.btree_laws.proofs.LookUp.KeyInList.{Rises, reversed, reversed-back, rises-right}
+use Rattle.btree_laws.proofs.Paths.Frames.{AllByRecursion-append, AllByRecursion-right}
 use Rattle.btree_walk.specs.Near.{IsLast}
 use Rattle.btree_walk.specs.Ranges.{AreLeftSame, IsAhead, IsBehind, IsFirstOf, IsLastOf, bound_at, from_first, left_until}
 use Rattle.btree_walk.proofs.BoundLemmas.{all-so, end-cut, filter-earlier, filter-none, from-start, start-cut, until-end}

@@ -5,9 +5,9 @@ use Rattle.std.specs.Borrow.{Bor}
 use Rattle.std.specs.Iterator.{YieldsFirstRef, YieldsLastRef}
 use Rattle.std.specs.List.{AllByRecursion}
 use Rattle.btree_view.specs.View.{NodeMap, internal}
-use Rattle.btree_shape.specs.Remaining.{IsUnder, remaining_in}
-use Rattle.btree_shape.specs.Represents.{represented}
-use Rattle.btree_shape.proofs.LookUp.Walk.{under-internal}
+use Rattle.btree_laws.specs.Remaining.{IsUnder, remaining_in}
+use Rattle.btree_laws.specs.Represents.{represented}
+use Rattle.btree_laws.proofs.LookUp.Walk.{under-internal}
 use Rattle.btree_walk.specs.Preceding.{AreRowsBefore, preceding_above, preceding_in, with_child_before}
 
 -- no elements of a list

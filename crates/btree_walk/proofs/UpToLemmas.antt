@@ -14,12 +14,12 @@ use Rattle.btree_item.specs.Pairs.{Ascends, place_of}
 use Rattle.btree_node.specs.declared.node.Node.{Node}
 use Rattle.btree_node.specs.Node.{view_of}
 use Rattle.btree_view.specs.View.{NodeMap, View, internal, items_of, leaf, size_of}
-use Rattle.btree_shape.specs.Remaining.{IsUnder, remaining_in}
-use Rattle.btree_shape.specs.Represents.{represented}
-use Rattle.btree_shape.specs.TreeState.{views}
-use Rattle.btree_shape.proofs.LookUp.KeyInList.{AreAbove, AreBelow, Rises, ascends, rises-left, rises-right, searched, side}
-use Rattle.btree_shape.proofs.LookUp.Walk.{Inside, under-internal, under-leaf}
-use Rattle.btree_shape.proofs.Paths.Frames.{AllByRecursion-append, AllByRecursion-left}
+use Rattle.btree_laws.specs.Remaining.{IsUnder, remaining_in}
+use Rattle.btree_laws.specs.Represents.{represented}
+use Rattle.btree_laws.specs.TreeState.{views}
+use Rattle.btree_laws.proofs.LookUp.KeyInList.{AreAbove, AreBelow, Rises, ascends, rises-left, rises-right, searched, side}
+use Rattle.btree_laws.proofs.LookUp.Walk.{Inside, under-internal, under-leaf}
+use Rattle.btree_laws.proofs.Paths.Frames.{AllByRecursion-append, AllByRecursion-left}
 use Rattle.btree_walk.specs.AtKey.{up_to_in, up_to_place}
 use Rattle.btree_walk.specs.Preceding.{AreRowsBefore, branches_before, preceding_above, preceding_in, row_before, rows_before, with_child_before}
 use Rattle.btree_walk.specs.declared.ancestors.Ancestor.{Ancestor}

@@ -7,10 +7,10 @@ use Rattle.btree_store.specs.Content.{Content}
 use Rattle.btree_node.specs.declared.node.Node.{Node}
 use Rattle.btree_node.specs.Node.{view_of}
 use Rattle.btree_view.specs.View.{View, leaf, internal, branches_of}
-use Rattle.btree_shape.specs.Represents.{Represents, represented}
-use Rattle.btree_shape.specs.TreeState.{views}
-use Rattle.btree_shape.specs.Remaining.{remaining_above, remaining_in, IsUnder, AreRows}
-use Rattle.btree_shape.proofs.LookUp.Walk.{remaining-push, rows-push, rows-pop, under-leaf, under-internal}
+use Rattle.btree_laws.specs.Represents.{Represents, represented}
+use Rattle.btree_laws.specs.TreeState.{views}
+use Rattle.btree_laws.specs.Remaining.{remaining_above, remaining_in, IsUnder, AreRows}
+use Rattle.btree_laws.proofs.LookUp.Walk.{remaining-push, rows-push, rows-pop, under-leaf, under-internal}
 use Rattle.btree_walk.specs.declared.ancestors.Ancestor.{Ancestor}
 use Rattle.btree_node.proofs.RoomLemmas.{none-last}
 use Rattle.btree_walk.specs.Rows.{rows_of}

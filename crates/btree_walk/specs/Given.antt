@@ -4,7 +4,7 @@ use Rattle.std.specs.Borrow.{Bor}
 use Rattle.std.specs.declared.cmp.Ordering.{Ordering}
 use Rattle.std.specs.declared.ops.Bound.{Bound}
 use Rattle.btree_leaf.specs.Leaf.{Leaf}
-use Rattle.btree_shape.specs.TreeState.{TreeState, pairs_of}
+use Rattle.btree_laws.specs.TreeState.{TreeState, pairs_of}
 use Rattle.btree_walk.specs.Bounds.{bound_key, pairs_from, pairs_up_to}
 use Rattle.btree_walk.specs.Near.{IsLastWithin}
 use Rattle.btree_walk.specs.Preceding.{preceding_at, preceding_of}

@@ -14,9 +14,9 @@ use Rattle.btree_leaf.specs.Leaf.{Leaf}
 use Rattle.btree_node.specs.declared.node.Node.{Node}
 use Rattle.btree_node.specs.Node.{view_of}
 use Rattle.btree_view.specs.View.{branches_of}
-use Rattle.btree_shape.specs.Remaining.{IsUnder}
-use Rattle.btree_shape.specs.Represents.{represented}
-use Rattle.btree_shape.specs.TreeState.{TreeState, node_map}
+use Rattle.btree_laws.specs.Remaining.{IsUnder}
+use Rattle.btree_laws.specs.Represents.{represented}
+use Rattle.btree_laws.specs.TreeState.{TreeState, node_map}
 use Rattle.btree_walk.specs.Ranges.{pair_now}
 use Rattle.btree_walk.specs.Rows.{remaining_in_leaf}
 

@@ -11,9 +11,9 @@ use Rattle.btree_leaf.specs.Leaf.{Leaf}
 use Rattle.btree_node.specs.declared.node.Node.{Node}
 use Rattle.btree_node.specs.Node.{view_of}
 use Rattle.btree_view.specs.View.{View, leaf, internal, NodeMap, size_of}
-use Rattle.btree_shape.specs.Remaining.{IsUnder}
-use Rattle.btree_shape.specs.Represents.{represented}
-use Rattle.btree_shape.specs.TreeState.{TreeState, IsUsed, node_map}
+use Rattle.btree_laws.specs.Remaining.{IsUnder}
+use Rattle.btree_laws.specs.Represents.{represented}
+use Rattle.btree_laws.specs.TreeState.{TreeState, IsUsed, node_map}
 use Rattle.btree_walk.specs.Rows.{run_left}
 use Rattle.btree_walk.specs.declared.ancestors.Ancestor.{Ancestor}
 

@@ -7,7 +7,7 @@ use Rattle.std.specs.Borrow.{Bor}
 use Rattle.std.specs.declared.cmp.Ordering.{Ordering}
 use Rattle.std.specs.declared.ops.Bound.{Bound}
 use Rattle.std.specs.declared.ops.Bound.TheVariants.{Excluded, Included, Unbounded}
-use Rattle.btree_shape.specs.TreeState.{TreeState, pairs_of}
+use Rattle.btree_laws.specs.TreeState.{TreeState, pairs_of}
 use Rattle.btree_walk.specs.Preceding.{AreAncestorsBefore, AreFetched, preceding_with}
 use Rattle.btree_walk.specs.Rows.{remaining_of}
 use Rattle.btree_walk.specs.declared.walks.Front.{Front}

@@ -8,9 +8,9 @@ use Rattle.std.specs.FinMap as finite
 use Rattle.btree_leaf.specs.Leaf.{Leaf}
 use Rattle.btree_node.specs.Node.{view_of}
 use Rattle.btree_view.specs.View.{branches_of}
-use Rattle.btree_shape.specs.Remaining.{remaining_above, AreRows, IsUnder}
-use Rattle.btree_shape.specs.Represents.{represented}
-use Rattle.btree_shape.specs.TreeState.{TreeState, node_map}
+use Rattle.btree_laws.specs.Remaining.{remaining_above, AreRows, IsUnder}
+use Rattle.btree_laws.specs.Represents.{represented}
+use Rattle.btree_laws.specs.TreeState.{TreeState, node_map}
 use Rattle.btree_walk.specs.declared.ancestors.Ancestor.{Ancestor}
 
 module _ {K V : Type 0} where

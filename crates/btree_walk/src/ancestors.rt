@@ -1,7 +1,7 @@
 //! The path from the root to the leaf that a walk is in.
 ghost use Rattle.std.specs.Prelude.{◌≡◌, ◌-◌, ◌<◌, ◌++◌, [], ◌∷◌, Some, OnSome, length, slice_get, take};
 ghost use Rattle.std.specs.Option.{option_copied};
-ghost use Rattle.btree_shape.specs.TreeState.{pairs_of};
+ghost use Rattle.btree_laws.specs.TreeState.{pairs_of};
 ghost use Rattle.btree_walk.specs.Given.{KeepsLeft};
 ghost use Rattle.btree_walk.specs.Rows.{AreAncestors, IsBelow, IsNextAbove, IsNextIn, remaining_of};
 

@@ -1,7 +1,7 @@
 //! The path from the root to the leaf that a backward walk is in. The items of its nodes are passed from the last one backwards.
 ghost use Rattle.std.specs.Prelude.{◌≡◌, ◌<◌, [], Some, OnSome};
 ghost use Rattle.btree_node.specs.Node.{view_of};
-ghost use Rattle.btree_shape.specs.TreeState.{pairs_of};
+ghost use Rattle.btree_laws.specs.TreeState.{pairs_of};
 ghost use Rattle.btree_walk.specs.Given.{KeepsLeftBefore};
 ghost use Rattle.btree_walk.specs.Preceding.{AreAncestorsBefore, AreFetched, EndsAt, HasKept, HasKeptAbove, IsBelowBefore, IsPreviousAbove, kept_in_leaf, preceding_of};
 ghost use Rattle.btree_walk.specs.Ranges.{IsLastOf, pair_now};

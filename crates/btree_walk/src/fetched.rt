@@ -1,7 +1,7 @@
 //! The leaves of one parent that a backward walk comes to next, fetched together.
 ghost use Rattle.std.specs.Prelude.{◌≡◌, [], Some};
 ghost use Rattle.std.specs.FinMap as map;
-ghost use Rattle.btree_shape.specs.TreeState.{IsUsed};
+ghost use Rattle.btree_laws.specs.TreeState.{IsUsed};
 ghost use Rattle.btree_walk.specs.Preceding.{AreAncestorsBefore, AreFetched, HasChildrenBefore};
 
 use crate::ancestors::{Ancestor, Ancestors};

@@ -134,7 +134,7 @@ impl<'a, K: Ord, V, C: NodesMut<K, V>> Model for Iter<'a, K, V, C> {
 }
 
 impl<'a, K: Ord, V, C: NodesMut<K, V>> Iter<'a, K, V, C> {
-    ghost use Rattle.btree_shape.specs.TreeState.{pairs_of};
+    ghost use Rattle.btree_laws.specs.TreeState.{pairs_of};
 
     /// Returns an iterator over all pairs.
     pub fn new(tree: &'a Tree<K, V, C>) -> Self

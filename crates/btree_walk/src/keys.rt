@@ -26,7 +26,7 @@ impl<'a, K: Ord, V, C: NodesMut<K, V>> Model for Keys<'a, K, V, C> {
 
 impl<'a, K: Ord, V, C: NodesMut<K, V>> Keys<'a, K, V, C> {
     ghost use Rattle.std.specs.Map.{keys_of};
-    ghost use Rattle.btree_shape.specs.TreeState.{pairs_of};
+    ghost use Rattle.btree_laws.specs.TreeState.{pairs_of};
 
     /// Returns an iterator over all keys.
     pub fn new(tree: &'a Tree<K, V, C>) -> Self
@@ -99,7 +99,7 @@ impl<'a, K: Ord, V, C: NodesMut<K, V>> Model for Values<'a, K, V, C> {
 
 impl<'a, K: Ord, V, C: NodesMut<K, V>> Values<'a, K, V, C> {
     ghost use Rattle.std.specs.Map.{values_of};
-    ghost use Rattle.btree_shape.specs.TreeState.{pairs_of};
+    ghost use Rattle.btree_laws.specs.TreeState.{pairs_of};
 
     /// Returns an iterator over all values.
     pub fn new(tree: &'a Tree<K, V, C>) -> Self

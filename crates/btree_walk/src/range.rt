@@ -3,7 +3,7 @@ ghost use Rattle.std.specs.Prelude.{◌≡◌, Some, None, IfSome, true};
 ghost use Rattle.std.specs.Iterator.SizeHint.{IsWithinCount};
 ghost use Rattle.std.specs.Iterator.{YieldsFirstBy, YieldsLastBy, item_count, UpTo};
 ghost use Rattle.btree_item.specs.Pairs.{Ascends};
-ghost use Rattle.btree_shape.specs.TreeState.{pairs_of};
+ghost use Rattle.btree_laws.specs.TreeState.{pairs_of};
 ghost use Rattle.btree_walk.specs.Bounds.{IsValidRange, pairs_between};
 ghost use Rattle.btree_walk.specs.Given.{GivesLastWithin, IsBehindIn, LeavesSame, ahead_from};
 ghost use Rattle.btree_walk.specs.Ranges.{IsBack};
@@ -88,7 +88,7 @@ pub struct Range<'a, K: Ord, V, C: NodesMut<K, V>> {
 
 impl<'a, K: Ord, V, C: NodesMut<K, V>> Model for Range<'a, K, V, C> {
     ghost use Rattle.std.specs.Prelude.{List};
-    ghost use Rattle.btree_shape.specs.TreeState.{pairs_of};
+    ghost use Rattle.btree_laws.specs.TreeState.{pairs_of};
     ghost use Rattle.btree_walk.specs.Ranges.{IsAhead, IsBack, IsBehind, behind_in, from_first, left_until, pair_now};
     ghost use Rattle.btree_walk.specs.Rows.{AreAncestors, remaining_after};
 

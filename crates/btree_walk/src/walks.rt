@@ -1,7 +1,7 @@
 //! A walk forward and a walk backward, each from a bound on the keys.
 ghost use Rattle.std.specs.Prelude.{◌≡◌, []};
 ghost use Rattle.std.specs.declared.ops.Bound.TheVariants.{Excluded, Included};
-ghost use Rattle.btree_shape.specs.TreeState.{pairs_of};
+ghost use Rattle.btree_laws.specs.TreeState.{pairs_of};
 ghost use Rattle.btree_walk.specs.Bounds.{bound_key, pairs_from, pairs_up_to};
 ghost use Rattle.btree_walk.specs.Given.{GivesFirstFrom, GivesLastUpTo};
 ghost use Rattle.btree_walk.specs.Preceding.{AreAncestorsBefore, AreFetched};

@@ -1,6 +1,6 @@
 //! What an editing cursor counts.
 ghost use Rattle.std.specs.Prelude.{◌≡◌, ◌+◌, ◌<◌, ◌^◌, ◌-◌, IfSome, length, option_map};
-ghost use Rattle.btree_shape.specs.TreeState.{pairs_of};
+ghost use Rattle.btree_laws.specs.TreeState.{pairs_of};
 ghost use Rattle.btree_map.specs.Spans.{IsFirstListed, item_index};
 
 use crate::BTreeMap;

@@ -1,8 +1,8 @@
 //! Where an editing cursor starts, and its steps.
 ghost use Rattle.std.specs.Prelude.{◌≡◌, ◌↔◌, ◌<◌, ◌≤◌, ℕ, [], Some, IsFalse, IsSome, IsTrue, IfErr, IfNone, IfSome, OnOk, length, option_copied, slice_get};
 ghost use Rattle.std.specs.Borrow.{sem};
-ghost use Rattle.btree_shape.specs.TreeAddresses.{item_addresses_of};
-ghost use Rattle.btree_shape.specs.TreeState.{IsValidIn, pairs_of};
+ghost use Rattle.btree_laws.specs.TreeAddresses.{item_addresses_of};
+ghost use Rattle.btree_laws.specs.TreeState.{IsValidIn, pairs_of};
 ghost use Rattle.btree_find.specs.Navigation.{HasPlace};
 ghost use Rattle.btree_walk.specs.Bounds.{bound_key, pairs_from};
 ghost use Rattle.btree_map.specs.Editing.{FitsBetween, InsertsEntry, PassesEntry, RefusesEntry, RemovesEntry, WritesPassed, WritesPeeked, entry_front, left_of, passed_of};

@@ -1,8 +1,8 @@
 //! The steps of a cursor over pairs.
 ghost use Rattle.std.specs.Prelude.{◌≡◌, ◌-◌, ◌<◌, ℕ, [], Some, IfSome, IfNone, length, slice_get};
 ghost use Rattle.std.specs.Borrow.{sem};
-ghost use Rattle.btree_shape.specs.TreeAddresses.{item_addresses_of};
-ghost use Rattle.btree_shape.specs.TreeState.{IsBTree, IsOccupiedIn};
+ghost use Rattle.btree_laws.specs.TreeAddresses.{item_addresses_of};
+ghost use Rattle.btree_laws.specs.TreeState.{IsBTree, IsOccupiedIn};
 ghost use Rattle.btree_map.specs.Cursor.{WritesFirst, WritesLast, pairs_left};
 ghost use Rattle.btree_map.specs.CursorLent.{lends_back, lends_front};
 ghost use Rattle.btree_map.specs.Lists.{IsAddressAfter, IsAddressBefore, LendsPairAt, last_of};

@@ -1,7 +1,7 @@
 //! Where a cursor over a range starts.
 ghost use Rattle.std.specs.Prelude.{◌≡◌, nat_lt, true};
 ghost use Rattle.std.specs.BTreeMap.Range.{entries_between};
-ghost use Rattle.btree_shape.specs.TreeState.{IsBTree, pairs_of};
+ghost use Rattle.btree_laws.specs.TreeState.{IsBTree, pairs_of};
 ghost use Rattle.btree_walk.specs.Bounds.{bound_key, is_valid};
 ghost use Rattle.btree_map.specs.RangeCursor.{range_left};
 ghost use Rattle.btree_map.specs.Spans.{IsFirstListed, IsLastListed, first_address, item_index, last_address, next_index};

@@ -1,7 +1,7 @@
 //! Where a cursor starts.
 ghost use Rattle.std.specs.Prelude.{◌≡◌, length};
 ghost use Rattle.std.specs.Map.{values_of};
-ghost use Rattle.btree_shape.specs.TreeState.{pairs_of};
+ghost use Rattle.btree_laws.specs.TreeState.{pairs_of};
 ghost use Rattle.btree_map.specs.Cursor.{pairs_left, values_left};
 
 use crate::BTreeMap;

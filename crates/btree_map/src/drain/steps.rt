@@ -1,8 +1,8 @@
 //! How a drain asks.
 ghost use Rattle.std.specs.Prelude.{◌≡◌, ◌<◌, ◌≤◌, Some, drop, length, slice_get, true};
 ghost use Rattle.std.specs.Map.Calls.{CallableOnEachPair};
-ghost use Rattle.btree_shape.specs.TreeAddresses.{item_addresses_of};
-ghost use Rattle.btree_shape.specs.TreeState.{pairs_of};
+ghost use Rattle.btree_laws.specs.TreeAddresses.{item_addresses_of};
+ghost use Rattle.btree_laws.specs.TreeState.{pairs_of};
 ghost use Rattle.btree_map.specs.Drain.{AcceptsFirst, AsksFirst, EndsIn, RunsOut, Yields, YieldsIn};
 ghost use Rattle.btree_map.specs.Editing.{entry_front, left_of};
 

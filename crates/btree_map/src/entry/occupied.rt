@@ -1,7 +1,7 @@
 //! An entry whose key is there.
 ghost use Rattle.std.specs.Prelude.{◌≡◌, IfOk, IsOk, IsSome, Some, option_map};
 ghost use Rattle.std.specs.Borrow.{sem};
-ghost use Rattle.btree_shape.specs.TreeState.{item_of};
+ghost use Rattle.btree_laws.specs.TreeState.{item_of};
 ghost use Rattle.btree_map.specs.Entry.{with_entry_value};
 ghost use Rattle.btree_map.specs.Lent.{lends_in_entry, lends_occupied, rests_if_entered};
 ghost use Rattle.btree_map.specs.Written.{RemovesAt, RemovesValueAt, WritesLentAt, WritesValueAt};

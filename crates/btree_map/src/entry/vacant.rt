@@ -1,7 +1,7 @@
 //! An entry whose key is not there.
 ghost use Rattle.std.specs.Prelude.{◌≡◌, IfErr, IfOk};
 ghost use Rattle.std.specs.Borrow.{sem};
-ghost use Rattle.btree_edit.specs.InsertAbsent.{InsertsAbsent};
+ghost use Rattle.btree_ext.specs.InsertAbsent.{InsertsAbsent};
 ghost use Rattle.btree_map.specs.Lent.{lends_inserted, rests_if_refused};
 
 use super::{OccupiedEntry, VacantEntry};

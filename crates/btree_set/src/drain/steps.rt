@@ -1,7 +1,7 @@
 //! How a drain asks: the steps of the map's drain, on a set.
 ghost use Rattle.std.specs.Prelude.{◌≡◌, ◌≤◌, length, slice_get};
 ghost use Rattle.std.specs.Fn.{CalledAt};
-ghost use Rattle.btree_shape.specs.TreeAddresses.{item_addresses_of};
+ghost use Rattle.btree_laws.specs.TreeAddresses.{item_addresses_of};
 ghost use Rattle.btree_set.specs.Drain.{CallableFrom, RunsOut, YieldsBy};
 
 use crate::BTreeSet;

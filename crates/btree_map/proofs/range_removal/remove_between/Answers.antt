@@ -1,8 +1,8 @@
 use Rattle.std.proofs.Common.{◌≡◌, ◌∙◌, ◌++◌, ◌∷◌, ◌≤◌, [], ap, arith, false, refl, subst, sym}
 use Rattle.std.proofs.lemmas.List.{take-append-drop}
 use Rattle.std.specs.BTreeMap.Range.{is_past_end}
-use Rattle.btree_shape.specs.TreeState.{pairs_of}
-use Rattle.btree_shape.proofs.LookUp.KeyInList.{rises}
+use Rattle.btree_laws.specs.TreeState.{pairs_of}
+use Rattle.btree_laws.proofs.LookUp.KeyInList.{rises}
 use Rattle.btree_walk.specs.Bounds.{bound_key}
 use Rattle.btree_map.specs.Editing.{entry_front, left_of, passed_of}
 use Rattle.btree_map.specs.Removal.{AddsNoNode}

@@ -1,7 +1,7 @@
 use Rattle.std.proofs.Common.{◌∙◌, sym}
 use Rattle.std.specs.declared.ops.Bound.TheVariants.{Included}
-use Rattle.btree_shape.specs.TreeState.{pairs_of}
-use Rattle.btree_shape.proofs.LookUp.KeyInList.{rises}
+use Rattle.btree_laws.specs.TreeState.{pairs_of}
+use Rattle.btree_laws.proofs.LookUp.KeyInList.{rises}
 use Rattle.btree_map.proofs.SplitLemmas.{all-before, below-before, match-some}
 use Rattle.btree_map.proofs.splitting.pop_from.Goals as goal
 

@@ -1,5 +1,5 @@
 use Rattle.std.proofs.Common.{arith}
-use Rattle.btree_shape.specs.TreeState.{pairs_of}
+use Rattle.btree_laws.specs.TreeState.{pairs_of}
 use Rattle.btree_range_set.specs.Places.{EndsBefore, StartsAfter}
 use Rattle.btree_range_set.proofs.JoinLemmas.{join-after, join-before, join-found, joined-wider, put-done}
 use Rattle.btree_range_set.proofs.PlaceLemmas.{ends-none, ends-some, starts-none, starts-some}

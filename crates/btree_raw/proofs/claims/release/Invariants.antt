@@ -1,5 +1,5 @@
 use Rattle.std.proofs.Common.{length}
-use Rattle.btree_shape.specs.TreeState.{TreeState}
+use Rattle.btree_laws.specs.TreeState.{TreeState}
 use Rattle.btree_raw.specs.Claimed.{AreClaimed}
 use Rattle.btree_raw.proofs.claims.release.Given as goal
 

@@ -1,7 +1,7 @@
 use Rattle.std.proofs.Common.{arith, ap, option_map, refl, sym, subst, rules}
 use Rattle.std.specs.Prelude.{IfErr, IfOk}
 use Rattle.btree_node.specs.Node.{view_of}
-use Rattle.btree_shape.specs.TreeState.{TreeState, node_map}
+use Rattle.btree_laws.specs.TreeState.{TreeState, node_map}
 use Rattle.btree_raw.proofs.NeedLemmas.{is-full, not-full}
 use Rattle.btree_raw.proofs.PutLemmas.{add-used, can-add, no-overflow, put-inserted, put-off, put-room, put-valid, room-at, these}
 use Rattle.btree_raw.specs.Insertion.{InsertsExactly, IsFull, IsOffByOneWith, IsRefused}

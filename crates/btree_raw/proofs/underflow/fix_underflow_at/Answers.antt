@@ -1,6 +1,6 @@
 use Rattle.std.proofs.Common.{subst, sym}
-use Rattle.btree_shape.specs.UnderflowFix.{Borrows, MergesNode}
-use Rattle.btree_shape.specs.TreeState.{TreeState, KeepsRest, node_map}
+use Rattle.btree_laws.specs.UnderflowFix.{Borrows, MergesNode}
+use Rattle.btree_laws.specs.TreeState.{TreeState, KeepsRest, node_map}
 use Rattle.btree_raw.specs.NodeSteps.{MergesSiblings}
 use Rattle.btree_raw.specs.Underflow.{AreAdjacent, BorrowsFromLeft, EndsUnderflow, FitTogether, MergesWithLeft, PassesUnderflowUp, Underflows}
 use Rattle.btree_raw.proofs.UnderflowLemmas.{is-child, is-short, before-there, are-after, after-adjacent, after-left, after-up, after-few, are-before, as-after, as-before, before-right, low-after, none-after, right-borrows, right-merges}

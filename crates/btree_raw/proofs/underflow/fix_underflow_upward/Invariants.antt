@@ -1,5 +1,5 @@
-use Rattle.btree_shape.specs.Need.{levels_above}
-use Rattle.btree_shape.specs.TreeState.{KeepsRest, node_map}
+use Rattle.btree_laws.specs.Need.{levels_above}
+use Rattle.btree_laws.specs.TreeState.{KeepsRest, node_map}
 use Rattle.btree_raw.specs.Rebalance.{IsFit, StaysAsIs}
 use Rattle.btree_raw.specs.Steps.{HasCount, HasParent}
 use Rattle.btree_raw.proofs.FixedLemmas.{FixedUpTo}

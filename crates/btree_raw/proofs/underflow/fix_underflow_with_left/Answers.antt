@@ -1,5 +1,5 @@
 use Rattle.std.proofs.Common.{subst, sym}
-use Rattle.btree_shape.specs.TreeState.{TreeState, KeepsRest, node_map}
+use Rattle.btree_laws.specs.TreeState.{TreeState, KeepsRest, node_map}
 use Rattle.btree_raw.specs.NodeSteps.{MergesSiblings}
 use Rattle.btree_raw.specs.Underflow.{AreAdjacent, FitTogether, PassesUnderflowUp}
 use Rattle.btree_raw.proofs.UnderflowLemmas.{left-borrows, left-few, left-merges}

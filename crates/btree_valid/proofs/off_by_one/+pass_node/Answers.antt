@@ -1,7 +1,7 @@
 use Rattle.std.proofs.Common.{◌≡◌, ◌∙◌, ◌+◌, false, true, arith, drop, refl, sym, ap, option_copied, option_map, rules}
 use Rattle.btree_node.specs.Node.{view_of}
 use Rattle.btree_view.specs.View.{branches_of, items_of}
-use Rattle.btree_shape.specs.TreeState.{views}
+use Rattle.btree_laws.specs.TreeState.{views}
 use Rattle.btree_valid.proofs.NodeLemmas.{inner-can, inner-start, is-internal, is-leaf, leaf-low, leaf-only, leaf-order, not-entered, nothing-there}
 use Rattle.btree_valid.proofs.PassLemmas.{node-child, node-end, node-next, node-stops}
 use Rattle.btree_valid.proofs.off_by_one.+pass_node.Goals as goal

@@ -1,5 +1,5 @@
 use Rattle.std.proofs.Common.{arith, refl, rules}
-use Rattle.btree_shape.specs.TreeState.{views}
+use Rattle.btree_laws.specs.TreeState.{views}
 use Rattle.btree_valid.specs.OffByOne.{IsOffByOneWithHeight}
 use Rattle.btree_valid.proofs.OffByOneLemmas.{next-height}
 use Rattle.btree_valid.proofs.off_by_one.is_off_by_one_at_some_height.Goals as goal

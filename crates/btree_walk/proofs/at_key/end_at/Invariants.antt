@@ -1,6 +1,6 @@
 use Rattle.std.proofs.Common.{◌-◌, length}
 use Rattle.std.specs.FinMap as map
-use Rattle.btree_shape.specs.TreeState.{pairs_of}
+use Rattle.btree_laws.specs.TreeState.{pairs_of}
 use Rattle.btree_walk.proofs.UpToLemmas.{IsUpTo}
 use Rattle.btree_walk.proofs.at_key.end_at.Given as goal
 

@@ -1,7 +1,7 @@
 use Rattle.std.proofs.Common.{◌++◌, ◌-◌, length}
 use Rattle.std.specs.FinMap as map
-use Rattle.btree_shape.specs.Represents.{represented}
-use Rattle.btree_shape.specs.TreeState.{views}
+use Rattle.btree_laws.specs.Represents.{represented}
+use Rattle.btree_laws.specs.TreeState.{views}
 use Rattle.btree_walk.specs.Preceding.{AreFetched, preceding_above, rows_before}
 use Rattle.btree_walk.proofs.BackLemmas.{IsDownBack}
 use Rattle.btree_walk.proofs.backward.descend_last.Given as goal

@@ -2,7 +2,7 @@ use Rattle.std.proofs.Common.{[], ap, subst, sym, ◌∙◌}
 use Rattle.std.specs.FinMap as map
 use Rattle.btree_node.specs.Node.{view_of}
 use Rattle.btree_node.proofs.NodeSizes.{fits-internal, fits-leaf}
-use Rattle.btree_shape.proofs.LookUp.KeyInList.{rises}
+use Rattle.btree_laws.proofs.LookUp.KeyInList.{rises}
 use Rattle.btree_walk.specs.Bounds.{bound_key}
 use Rattle.btree_walk.specs.Near.{IsLast, list_under}
 use Rattle.btree_walk.specs.Ranges.{pair_now}

@@ -1,6 +1,6 @@
 use Rattle.std.specs.FinMap as map
-use Rattle.btree_shape.specs.Focus.Search.{levels_below}
-use Rattle.btree_shape.specs.TreeState.{node_map}
+use Rattle.btree_laws.specs.Focus.Search.{levels_below}
+use Rattle.btree_laws.specs.TreeState.{node_map}
 use Rattle.btree_walk.specs.Bounds.{bound_key}
 use Rattle.btree_walk.specs.Near.{list_under}
 use Rattle.btree_walk.specs.Ranges.{pair_now}

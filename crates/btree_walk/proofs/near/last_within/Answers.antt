@@ -1,6 +1,6 @@
 use Rattle.std.proofs.Common.{◌≡◌, ◌∙◌, ◌-◌, suc, ap, arith, refl, sym}
 use Rattle.std.specs.FinMap as map
-use Rattle.btree_shape.proofs.LookUp.KeyInList.{ascends, rises}
+use Rattle.btree_laws.proofs.LookUp.KeyInList.{ascends, rises}
 use Rattle.btree_walk.specs.Bounds.{bound_key}
 use Rattle.btree_walk.specs.Near.{branch_now, child_in, list_below}
 use Rattle.btree_walk.specs.Ranges.{pair_now}

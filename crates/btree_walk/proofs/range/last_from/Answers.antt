@@ -1,6 +1,6 @@
 use Rattle.std.proofs.Common.{◌∷◌, Some, arith, ap, ◌∙◌}
 use Rattle.btree_node.proofs.NodeSizes.{fits-leaf}
-use Rattle.btree_shape.proofs.LookUp.KeyInList.{ascends, rises}
+use Rattle.btree_laws.proofs.LookUp.KeyInList.{ascends, rises}
 use Rattle.btree_walk.specs.Bounds.{bound_key}
 use Rattle.btree_walk.specs.Ranges.{ahead_of, pair_now}
 use Rattle.btree_walk.proofs.NearLemmas.{map-or}

@@ -1,4 +1,4 @@
-use Rattle.btree_shape.proofs.Trees.States.{few-nodes}
+use Rattle.btree_laws.proofs.Trees.States.{few-nodes}
 use Rattle.btree_ext.proofs.ext.BTreeExt.node_count.Goals as goal
 
 pub returns-clause-dense : goal.returns-clause-dense

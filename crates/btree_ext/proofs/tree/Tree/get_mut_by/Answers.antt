@@ -1,6 +1,6 @@
 use Rattle.std.proofs.Common.{refl}
-use Rattle.btree_edit.specs.KeyWritten.{address_at_key}
-use Rattle.btree_ext.proofs.LimitLemmas.{written-within}
+use Rattle.btree_ext.specs.KeyWritten.{address_at_key}
+use Rattle.btree_ext.proofs.TreeLimitLemmas.{written-within}
 use Rattle.btree_ext.proofs.tree.Tree.get_mut_by.Goals as goal
 
 pub invariant_of-self-lent : goal.invariant_of-self-lent

@@ -1,7 +1,7 @@
 use Rattle.std.proofs.Common.{ap, refl, ◌∙◌}
 use Rattle.std.specs.FinMap.{empty_of_len}
-use Rattle.btree_shape.specs.TreeState.{rootless, unlimited}
-use Rattle.btree_ext.proofs.LimitLemmas.{empty-within}
+use Rattle.btree_laws.specs.TreeState.{rootless, unlimited}
+use Rattle.btree_ext.proofs.TreeLimitLemmas.{empty-within}
 use Rattle.btree_ext.proofs.tree.Tree.in_store.Goals as goal
 
 pub invariant_of-result : goal.invariant_of-result

@@ -1,4 +1,4 @@
-use Rattle.btree_ext.proofs.LimitLemmas.{empty-within}
+use Rattle.btree_ext.proofs.TreeLimitLemmas.{empty-within}
 use Rattle.btree_ext.proofs.tree.Tree.new.Goals as goal
 
 pub invariant_of-result : goal.invariant_of-result

@@ -1,6 +1,6 @@
 use Rattle.std.proofs.Common.{ap, ◌∙◌}
-use Rattle.btree_shape.specs.TreeState.{TreeState, with_limit}
-use Rattle.btree_ext.proofs.LimitLemmas.{limited-within}
+use Rattle.btree_laws.specs.TreeState.{TreeState, with_limit}
+use Rattle.btree_ext.proofs.TreeLimitLemmas.{limited-within}
 use Rattle.btree_ext.proofs.tree.Tree.swap.Goals as goal
 
 pub invariant_of-self : goal.invariant_of-self

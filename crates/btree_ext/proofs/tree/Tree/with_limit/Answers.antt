@@ -1,6 +1,6 @@
 use Rattle.std.proofs.Common.{ap, ◌∙◌}
-use Rattle.btree_shape.specs.TreeState.{TreeState, with_limit}
-use Rattle.btree_ext.proofs.LimitLemmas.{empty-within}
+use Rattle.btree_laws.specs.TreeState.{TreeState, with_limit}
+use Rattle.btree_ext.proofs.TreeLimitLemmas.{empty-within}
 use Rattle.btree_ext.proofs.tree.Tree.with_limit.Goals as goal
 
 pub invariant_of-result : goal.invariant_of-result

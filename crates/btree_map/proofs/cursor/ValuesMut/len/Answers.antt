@@ -1,7 +1,7 @@
 use Rattle.std.proofs.Common.{◌∙◌, ◌-◌, drop, take, sym, arith}
 use Rattle.std.proofs.lemmas.List.{length-drop, length-map, length-take}
-use Rattle.btree_shape.specs.TreeState.{pairs_of}
-use Rattle.btree_shape.proofs.AddressLists.Whole.{addresses-tree}
+use Rattle.btree_laws.specs.TreeState.{pairs_of}
+use Rattle.btree_laws.proofs.AddressLists.Whole.{addresses-tree}
 use Rattle.btree_map.proofs.cursor.ValuesMut.len.Goals as goal
 
 pub returns-clause-left : goal.returns-clause-left

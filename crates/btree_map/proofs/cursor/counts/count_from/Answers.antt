@@ -1,5 +1,5 @@
 use Rattle.std.proofs.Common.{◌≡◌, ◌+◌, ap, arith, length}
-use Rattle.btree_shape.specs.TreeAddresses.{item_addresses_of}
+use Rattle.btree_laws.specs.TreeAddresses.{item_addresses_of}
 use Rattle.btree_map.specs.Spans.{item_index}
 use Rattle.btree_map.proofs.EditingLemmas.{at-listed, at-within, counted}
 use Rattle.btree_map.proofs.IndexLemmas.{index-is}

@@ -1,5 +1,5 @@
 use Rattle.std.proofs.Common.{◌≡◌, ◌+◌, ◌-◌, length}
-use Rattle.btree_shape.specs.TreeAddresses.{item_addresses_of}
+use Rattle.btree_laws.specs.TreeAddresses.{item_addresses_of}
 use Rattle.btree_map.specs.Spans.{IsFirstListed, item_index}
 use Rattle.btree_map.proofs.cursor.counts.count_from.Given as goal
 

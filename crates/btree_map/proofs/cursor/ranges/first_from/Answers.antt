@@ -1,6 +1,6 @@
 use Rattle.std.proofs.Common.{◌∙◌, slice_get, sym, ap}
-use Rattle.btree_shape.specs.TreeAddresses.{item_addresses_of}
-use Rattle.btree_shape.specs.TreeState.{pairs_of}
+use Rattle.btree_laws.specs.TreeAddresses.{item_addresses_of}
+use Rattle.btree_laws.specs.TreeState.{pairs_of}
 use Rattle.btree_walk.specs.Bounds.{bound_key}
 use Rattle.btree_map.specs.Spans.{from_place}
 use Rattle.btree_map.proofs.RangeStarts.{found-after, found-first, gap-after, gap-first, whole-first}

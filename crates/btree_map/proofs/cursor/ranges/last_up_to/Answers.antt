@@ -1,7 +1,7 @@
 use Rattle.std.proofs.Common.{◌∙◌, sym, ap}
-use Rattle.btree_shape.specs.TreeAddresses.{item_addresses_of}
-use Rattle.btree_shape.specs.TreeState.{pairs_of}
-use Rattle.btree_shape.specs.Visits.{prior}
+use Rattle.btree_laws.specs.TreeAddresses.{item_addresses_of}
+use Rattle.btree_laws.specs.TreeState.{pairs_of}
+use Rattle.btree_laws.specs.Visits.{prior}
 use Rattle.btree_walk.specs.Bounds.{bound_key}
 use Rattle.btree_map.specs.Spans.{to_place}
 use Rattle.btree_map.proofs.RangeStarts.{found-before, found-last, gap-before, gap-last, whole-last}

@@ -1,7 +1,7 @@
 use Rattle.std.proofs.Common.{◌≡◌, ◌≤◌, ◌∙◌, ap, drop, length, slice_get, subst, sym, true}
 use Rattle.std.specs.Map.Calls.{CallableOnEachPair}
-use Rattle.btree_shape.specs.TreeAddresses.{item_addresses_of}
-use Rattle.btree_shape.specs.TreeState.{pairs_of}
+use Rattle.btree_laws.specs.TreeAddresses.{item_addresses_of}
+use Rattle.btree_laws.specs.TreeState.{pairs_of}
 use Rattle.btree_map.specs.Drain.{Yields}
 use Rattle.btree_map.specs.Editing.{entry_front}
 use Rattle.btree_map.specs.SpanLaws.{index-within}

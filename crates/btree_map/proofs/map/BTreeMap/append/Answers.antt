@@ -1,6 +1,6 @@
 use Rattle.std.proofs.Common.{◌≡◌, ◌∙◌, ◌∷◌, [], ap, sym, rules}
 use Rattle.btree_item.specs.Pairs.{inserted}
-use Rattle.btree_shape.specs.TreeState.{pairs_of}
+use Rattle.btree_laws.specs.TreeState.{pairs_of}
 use Rattle.btree_map.specs.Extension.{inserted_all}
 use Rattle.btree_find.specs.CallerLaws.{none-first}
 use Rattle.btree_map.proofs.ExtensionLemmas.{all-into-none, first-and-rest}

@@ -1,6 +1,6 @@
 use Rattle.std.proofs.Common.{◌≡◌, ◌∙◌, ◌∷◌, [], None, Some, refl, ap}
 use Rattle.btree_item.specs.Pairs.{inserted}
-use Rattle.btree_shape.specs.TreeState.{pairs_of}
+use Rattle.btree_laws.specs.TreeState.{pairs_of}
 use Rattle.btree_map.specs.Extension.{inserted_all}
 use Rattle.btree_map.specs.CallerLaws.{last-pair}
 use Rattle.btree_map.proofs.map.BTreeMap.extend.Goals as goal

@@ -2,7 +2,7 @@ use Rattle.std.proofs.Common.{None, sym, rules}
 use Rattle.btree_raw.proofs.StateLemmas.{found-occupied}
 use Rattle.btree_item.specs.declared.address.Address.TheView.{view}
 use Rattle.btree_raw.proofs.raw.RawBTree.item.Goals as goal
-use Rattle.btree_shape.proofs.Trees.Stores.{item-some, item-none}
+use Rattle.btree_laws.proofs.Trees.Stores.{item-some, item-none}
 
 pub returns-in-None-clause-value : goal.returns-in-None-clause-value
 returns-in-None-clause-value g c = rw (← c.self.view_is, ← c.addr.view_is) (item-none (g.C.Nodes.content c.self.inside.store) (view c.addr.inside) (sym c.in-None.ensures.value))

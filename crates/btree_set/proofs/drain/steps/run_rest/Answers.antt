@@ -1,7 +1,7 @@
 use Rattle.std.proofs.Common.{◌≡◌, ◌≤◌, drop, length, slice_get, subst, sym}
 use Rattle.std.specs.Fn.{CalledAt, TakesAt}
-use Rattle.btree_shape.specs.TreeAddresses.{item_addresses_of}
-use Rattle.btree_shape.specs.TreeState.{pairs_of}
+use Rattle.btree_laws.specs.TreeAddresses.{item_addresses_of}
+use Rattle.btree_laws.specs.TreeState.{pairs_of}
 use Rattle.btree_set.specs.Drain.{CallableOnEach, RunsOut}
 use Rattle.btree_set.specs.Elements.{set_of}
 use Rattle.btree_set.proofs.DrainLemmas.{callable-pairs, drop-keys, runs-out-keys}

@@ -1,5 +1,5 @@
 use Rattle.std.proofs.Common.{◌∙◌, ap, option_map, sym}
-use Rattle.btree_shape.specs.TreeState.{pairs_of}
+use Rattle.btree_laws.specs.TreeState.{pairs_of}
 use Rattle.btree_set.proofs.KeyLemmas.{stored-keys}
 use Rattle.btree_set.proofs.set.BTreeSet.get.Goals as goal
 

@@ -1,6 +1,6 @@
 use Rattle.std.proofs.Common.{◌∙◌, IfSome, ap, subst, sym}
 use Rattle.std.specs.Map.{keys_of}
-use Rattle.btree_shape.specs.TreeState.{pairs_of}
+use Rattle.btree_laws.specs.TreeState.{pairs_of}
 use Rattle.btree_map.specs.Ascending.{GoesLast, IsLastPair}
 use Rattle.btree_set.specs.Elements.{SetState}
 use Rattle.btree_set.proofs.KeyLemmas.{absent-keys, gap-refused, inserted-keys}

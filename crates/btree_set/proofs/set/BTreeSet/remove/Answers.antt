@@ -1,5 +1,5 @@
 use Rattle.std.proofs.Common.{◌≡◌, ◌∙◌, ap, sym}
-use Rattle.btree_shape.specs.TreeState.{pairs_of}
+use Rattle.btree_laws.specs.TreeState.{pairs_of}
 use Rattle.std.proofs.Common.{is_some}
 use Rattle.std.specs.Map.{keys_of}
 use Rattle.btree_set.specs.Elements.{stored}

@@ -1,6 +1,6 @@
 use Rattle.std.proofs.Common.{subst, sym, true}
 use Rattle.std.specs.Fn.{CalledAt, TakesAt}
-use Rattle.btree_shape.specs.TreeState.{pairs_of}
+use Rattle.btree_laws.specs.TreeState.{pairs_of}
 use Rattle.btree_map.specs.Drain.{KeepsAddresses}
 use Rattle.btree_set.specs.Drain.{CallableOnEach, Selects}
 use Rattle.btree_set.specs.Elements.{set_of}

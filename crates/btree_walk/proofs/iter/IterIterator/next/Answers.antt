@@ -1,8 +1,8 @@
 use Rattle.std.proofs.Common.{◌++◌, length, ap, ◌∙◌, arith}
 use Rattle.std.specs.FinMap as map
 use Rattle.btree_node.proofs.NodeSizes.{fits-leaf}
-use Rattle.btree_shape.specs.Remaining.{remaining_above}
-use Rattle.btree_shape.specs.TreeState.{views}
+use Rattle.btree_laws.specs.Remaining.{remaining_above}
+use Rattle.btree_laws.specs.TreeState.{views}
 use Rattle.btree_walk.specs.Rows.{rows_of}
 use Rattle.btree_walk.proofs.EndLemmas.{ends-first, first-left, none-ahead}
 use Rattle.btree_walk.proofs.IterLemmas.{next-above}

@@ -1,7 +1,7 @@
 use Rattle.std.proofs.Common.{◌++◌, ◌∙◌, ap, arith, subst, sym, true}
 use Rattle.btree_node.proofs.NodeSizes.{fits-leaf}
-use Rattle.btree_shape.specs.TreeState.{pairs_of}
-use Rattle.btree_shape.proofs.LookUp.KeyInList.{ascends, rises}
+use Rattle.btree_laws.specs.TreeState.{pairs_of}
+use Rattle.btree_laws.proofs.LookUp.KeyInList.{ascends, rises}
 use Rattle.btree_walk.specs.Bounds.{bound_key}
 use Rattle.btree_walk.specs.Ranges.{IsAhead, ahead_of, from_first, left_until, pair_now}
 use Rattle.btree_walk.specs.Rows.{remaining_in_ancestors}

@@ -1,6 +1,6 @@
 use Rattle.std.proofs.Common.{sym, subst, ◌∙◌}
-use Rattle.btree_shape.specs.TreeState.{pairs_of}
-use Rattle.btree_shape.proofs.LookUp.KeyInList.{rises}
+use Rattle.btree_laws.specs.TreeState.{pairs_of}
+use Rattle.btree_laws.proofs.LookUp.KeyInList.{rises}
 use Rattle.btree_walk.specs.Ranges.{IsLastOf, behind_of, pair_now}
 use Rattle.btree_walk.proofs.BoundLemmas.{before-key, before-none, before-other}
 use Rattle.btree_walk.proofs.walks.Back.last_before.Goals as goal

@@ -1,5 +1,5 @@
 use Rattle.std.proofs.Common.{arith, length-drop}
-use Rattle.btree_shape.specs.TreeState.{pairs_of}
+use Rattle.btree_laws.specs.TreeState.{pairs_of}
 use Rattle.btree_map.specs.Editing.{entry_front}
 use Rattle.btree_map.proofs.cursor.editing.EntriesMut.count_left.Goals as goal
 

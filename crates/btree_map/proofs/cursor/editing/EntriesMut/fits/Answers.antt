@@ -1,4 +1,4 @@
-use Rattle.btree_shape.specs.TreeAddresses.{item_addresses_of}
+use Rattle.btree_laws.specs.TreeAddresses.{item_addresses_of}
 use Rattle.btree_map.specs.Editing.{entry_front}
 use Rattle.btree_map.specs.SpanLaws.{index-within}
 use Rattle.btree_map.proofs.EditingLemmas.{at-fits, fits-at}

@@ -1,6 +1,6 @@
 use Rattle.std.proofs.Common.{◌∙◌, ◌+◌, arith, refl}
-use Rattle.btree_shape.specs.TreeAddresses.{item_addresses_of}
-use Rattle.btree_shape.specs.TreeState.{pairs_of}
+use Rattle.btree_laws.specs.TreeAddresses.{item_addresses_of}
+use Rattle.btree_laws.specs.TreeState.{pairs_of}
 use Rattle.btree_map.specs.Editing.{entry_front, next_of}
 use Rattle.btree_map.specs.Spans.{item_index}
 use Rattle.btree_map.proofs.CursorLemmas.{stands-next, stands-pair, stands-state, stands-written}

@@ -7,7 +7,7 @@ use Rattle.btree_map.proofs.EditingSteps.{writes-peeked}
 use Rattle.btree_map.proofs.KnownLemmas.{known-written}
 use Rattle.btree_map.proofs.RangeSteps.{again-first}
 use Rattle.btree_map.proofs.SameEditing.{same_editing}
-use Rattle.btree_shape.specs.TreeState.{pairs_of}
+use Rattle.btree_laws.specs.TreeState.{pairs_of}
 use Rattle.btree_map.proofs.cursor.editing.EntriesMut.peek_pair.Goals as goal
 
 pub unreachable-requires : goal.unreachable-requires

@@ -1,0 +1,354 @@
+//! Times the kit's map and this repository's map: insertion, look-up, walks from both ends, removal, insertion in descending order, owning
+//! walks from both ends, and sets of ranges over both maps. Of this repository's map alone, it times short ranges, insertion at the address
+//! of the item before, and insertion in ascending order. Insertion and look-up are timed over a fixed table of nodes too, for up to 1,536 keys.
+//!
+//! Without an argument it runs over 1000 keys and prints the sum of each phase. With a number of keys as its argument it prints, for each
+//! phase, its name, the nanoseconds that it took, and its sum.
+#![tactic(auto)]
+
+mod ascent;
+mod descent;
+mod random;
+mod ranges;
+mod spans;
+mod tables;
+
+use crate::ascent::{ascend, collect};
+use crate::descent::{descend, descend_at};
+use crate::random::{Numbers, drawn, shuffle};
+use crate::ranges::sum_ranges;
+use crate::spans::{KitSpans, Spans, add_and_subtract};
+use crate::tables::{FixedNodes, KitMap, SlabMap, SlabNodes, Table};
+use btree_map::BTreeMap;
+use btree_node::NodesMut;
+use btree_range_set::RangeSet;
+use std::alloc::{AllocError, Global};
+use std::env::Env;
+use std::process::ExitCode;
+use std::time::{Clock, Instant};
+use std::{env, io};
+
+// The keys in the order of their insertion, the same keys in the order of their look-up, and keys that are absent.
+#[derive(Drop)]
+struct Keys {
+    put: Vec<u64>,
+    present: Vec<u64>,
+    absent: Vec<u64>,
+}
+
+fn make_keys(count: usize, alloc: Global) -> Result<Keys, AllocError> {
+    let mut numbers = Numbers::from_state(0x9e37_79b9_7f4a_7c15);
+    let put = drawn(&mut numbers, count, alloc)?;
+    let absent = drawn(&mut numbers, count, alloc)?;
+    let mut present = put.clone()?;
+    shuffle(present.as_mut_slice(), &mut numbers);
+    Ok(Keys {
+        put,
+        present,
+        absent,
+    })
+}
+
+// Inserts each key with its index, and returns how many were there.
+fn put_all(table: &mut impl Table, keys: &[u64]) -> Result<u64, AllocError> {
+    let mut present = 0u64;
+    let mut index = 0u64;
+    for key in keys {
+        if table.put(*key, index)? {
+            present = present.wrapping_add(1);
+        }
+        index = index.wrapping_add(1);
+    }
+    Ok(present)
+}
+
+// Returns the sum of the values at the keys that are there.
+fn sum_at(table: &impl Table, keys: &[u64]) -> u64 {
+    let mut sum = 0u64;
+    for key in keys {
+        if let Some(value) = table.value_at(*key) {
+            sum = sum.wrapping_add(value);
+        }
+    }
+    sum
+}
+
+// Removes each key, and returns the sum of the values.
+fn take_all(table: &mut impl Table, keys: &[u64]) -> u64 {
+    let mut sum = 0u64;
+    for key in keys {
+        if let Some(value) = table.take(*key) {
+            sum = sum.wrapping_add(value);
+        }
+    }
+    sum
+}
+
+fn report(
+    rt: &(impl Print + Clock),
+    is_timed: bool,
+    (map, phase): (&str, &str),
+    since: Instant,
+    sum: u64,
+) -> io::Result<()> {
+    let nanos = since.elapsed(rt)?.as_nanos();
+    if is_timed {
+        rt.println(format_args!("{map}.{phase} {nanos} {sum}"))
+    } else {
+        rt.println(format_args!("{map}.{phase} {sum}"))
+    }
+}
+
+fn measure_look_ups(
+    rt: &(impl Print + Clock),
+    is_timed: bool,
+    map: &str,
+    table: &mut impl Table,
+    keys: &Keys,
+) -> io::Result<()> {
+    let since = Instant::now(rt)?;
+    let sum = put_all(table, keys.put.as_slice())?;
+    report(rt, is_timed, (map, "insert"), since, sum)?;
+    let since = Instant::now(rt)?;
+    let sum = sum_at(table, keys.present.as_slice());
+    report(rt, is_timed, (map, "get_present"), since, sum)?;
+    let since = Instant::now(rt)?;
+    let sum = sum_at(table, keys.absent.as_slice());
+    report(rt, is_timed, (map, "get_absent"), since, sum)
+}
+
+fn measure<T: Table + Drop>(
+    rt: &(impl Print + Clock),
+    is_timed: bool,
+    map: &str,
+    mut table: T,
+    keys: &Keys,
+) -> io::Result<()> {
+    measure_look_ups(rt, is_timed, map, &mut table, keys)?;
+    let since = Instant::now(rt)?;
+    let sum = table.sum();
+    report(rt, is_timed, (map, "iterate"), since, sum)?;
+    let since = Instant::now(rt)?;
+    let sum = table.sum_back();
+    report(rt, is_timed, (map, "iterate_back"), since, sum)?;
+    let since = Instant::now(rt)?;
+    let sum = take_all(&mut table, keys.present.as_slice());
+    report(rt, is_timed, (map, "remove"), since, sum)
+}
+
+// Insertion and look-up alone.
+fn measure_fixed<C: NodesMut<u64, u64> + Drop>(
+    rt: &(impl Print + Clock),
+    is_timed: bool,
+    origin: C::Origin,
+    keys: &Keys,
+) -> io::Result<()> {
+    let mut table: BTreeMap<u64, u64, C> = BTreeMap::new(origin);
+    measure_look_ups(rt, is_timed, "fixed", &mut table, keys)
+}
+
+fn measure_descent<T: Table + Drop>(
+    rt: &(impl Print + Clock),
+    is_timed: bool,
+    map: &str,
+    mut table: T,
+    count: u64,
+) -> io::Result<()> {
+    let since = Instant::now(rt)?;
+    let absent = descend(&mut table, count)?;
+    report(rt, is_timed, (map, "descend"), since, absent)
+}
+
+fn measure_descent_at<C: NodesMut<u64, u64> + Drop>(
+    rt: &(impl Print + Clock),
+    is_timed: bool,
+    origin: C::Origin,
+    count: u64,
+) -> io::Result<()> {
+    let mut ours: BTreeMap<u64, u64, C> = BTreeMap::new(origin);
+    let since = Instant::now(rt)?;
+    let len = descend_at(&mut ours, count)?;
+    report(
+        rt,
+        is_timed,
+        ("btree_slab", "descend_at"),
+        since,
+        len as u64,
+    )
+}
+
+// From each key on, a range that has about ten pairs.
+fn measure_ranges<C: NodesMut<u64, u64> + Drop>(
+    rt: &(impl Print + Clock),
+    is_timed: bool,
+    origin: C::Origin,
+    keys: &Keys,
+) -> io::Result<()> {
+    let mut ours: BTreeMap<u64, u64, C> = BTreeMap::new(origin);
+    let _present = put_all(&mut ours, keys.put.as_slice())?;
+    let width = (u64::MAX / (keys.put.len() as u64).max(1)).saturating_mul(9);
+    let since = Instant::now(rt)?;
+    let sum = sum_ranges(&ours, keys.present.as_slice(), width);
+    report(rt, is_timed, ("btree_slab", "range_ten"), since, sum)
+}
+
+// The pairs of a map inserted into an empty one in order, each by its key.
+fn measure_ascent<C: NodesMut<u64, u64> + Drop>(
+    rt: &(impl Print + Clock),
+    is_timed: bool,
+    mut map: BTreeMap<u64, u64, C>,
+    from: &BTreeMap<u64, u64, C>,
+) -> io::Result<()> {
+    let since = Instant::now(rt)?;
+    let len = ascend(&mut map, from)? as u64;
+    report(rt, is_timed, ("btree_slab", "ascend"), since, len)
+}
+
+// The same pairs made a map by one call.
+fn measure_collect<C: NodesMut<u64, u64> + Drop>(
+    rt: &(impl Print + Clock),
+    is_timed: bool,
+    origin: C::Origin,
+    from: &BTreeMap<u64, u64, C>,
+) -> io::Result<()>
+where
+    C::Origin: Copy,
+{
+    let since = Instant::now(rt)?;
+    let map = collect(origin, from)?;
+    report(
+        rt,
+        is_timed,
+        ("btree_slab", "collect"),
+        since,
+        map.len() as u64,
+    )
+}
+
+fn measure_ascents<C: NodesMut<u64, u64> + Drop>(
+    rt: &(impl Print + Clock),
+    is_timed: bool,
+    origin: C::Origin,
+    keys: &Keys,
+) -> io::Result<()>
+where
+    C::Origin: Copy,
+{
+    let mut from: BTreeMap<u64, u64, C> = BTreeMap::new(origin);
+    let _present = put_all(&mut from, keys.put.as_slice())?;
+    measure_ascent(rt, is_timed, BTreeMap::new(origin), &from)?;
+    measure_collect(rt, is_timed, origin, &from)
+}
+
+// Both ends of an iterator that owns its map, each of a new one.
+fn measure_owned<T: Table + Drop>(
+    rt: &(impl Print + Clock),
+    is_timed: bool,
+    map: &str,
+    (table, other): (T, T),
+    keys: &Keys,
+) -> io::Result<()> {
+    let (mut table, mut other) = (table, other);
+    let _present = put_all(&mut table, keys.put.as_slice())?;
+    let since = Instant::now(rt)?;
+    let sum = table.into_sum();
+    report(rt, is_timed, (map, "consume"), since, sum)?;
+    let _present = put_all(&mut other, keys.put.as_slice())?;
+    let since = Instant::now(rt)?;
+    let sum = other.into_sum_back();
+    report(rt, is_timed, (map, "consume_back"), since, sum)
+}
+
+// The widths of all ranges together are those of all numbers.
+fn measure_spans<S: Spans + Drop>(
+    rt: &(impl Print + Clock),
+    is_timed: bool,
+    map: &str,
+    mut set: S,
+    keys: &Keys,
+) -> io::Result<()> {
+    let width = u64::MAX / (keys.put.len() as u64).max(1);
+    let since = Instant::now(rt)?;
+    let count = add_and_subtract(&mut set, keys.put.as_slice(), width)? as u64;
+    report(rt, is_timed, (map, "range_set"), since, count)
+}
+
+// The phases of a map that is filled once, each with a new map, so that all of them touch fresh memory.
+fn measure_maps(
+    rt: &(impl Print + Clock),
+    alloc: Global,
+    is_timed: bool,
+    keys: &Keys,
+) -> io::Result<()> {
+    let count = keys.put.len() as u64;
+    measure(rt, is_timed, "std", KitMap::new(alloc), keys)?;
+    measure(rt, is_timed, "btree_slab", SlabMap::new(alloc), keys)?;
+    // (a table of 512 nodes takes 1,536 keys in any order)
+    if keys.put.len() <= 1_536 {
+        measure_fixed::<FixedNodes>(rt, is_timed, (), keys)?;
+    }
+    measure_ranges::<SlabNodes>(rt, is_timed, alloc, keys)?;
+    measure_descent(rt, is_timed, "std", KitMap::new(alloc), count)?;
+    measure_descent(rt, is_timed, "btree_slab", SlabMap::new(alloc), count)
+}
+
+// The other phases.
+fn measure_others(
+    rt: &(impl Print + Clock),
+    alloc: Global,
+    is_timed: bool,
+    keys: &Keys,
+) -> io::Result<()> {
+    measure_descent_at::<SlabNodes>(rt, is_timed, alloc, keys.put.len() as u64)?;
+    measure_ascents::<SlabNodes>(rt, is_timed, alloc, keys)?;
+    let kit = (KitMap::new(alloc), KitMap::new(alloc));
+    measure_owned(rt, is_timed, "std", kit, keys)?;
+    let ours = (SlabMap::new(alloc), SlabMap::new(alloc));
+    measure_owned(rt, is_timed, "btree_slab", ours, keys)?;
+    measure_spans(
+        rt,
+        is_timed,
+        "std",
+        KitSpans::in_map(KitMap::new(alloc)),
+        keys,
+    )?;
+    let ours: RangeSet<SlabNodes> = RangeSet::new(alloc);
+    measure_spans(rt, is_timed, "btree_slab", ours, keys)
+}
+
+fn measure_all(
+    rt: &(impl Print + Clock + AllocGlobal),
+    count: usize,
+    is_timed: bool,
+) -> io::Result<()> {
+    let keys = make_keys(count, rt.alloc())?;
+    measure_maps(rt, rt.alloc(), is_timed, &keys)?;
+    measure_others(rt, rt.alloc(), is_timed, &keys)
+}
+
+// Returns the number of keys that the arguments give, and whether times are printed; `None` if they are something else.
+fn read_arguments(rt: &(impl Env + Alloc)) -> Option<(usize, bool)> {
+    let mut words = env::args(rt).ok()?.skip(1);
+    let Some(word) = words.next() else {
+        return Some((1000, false));
+    };
+    let count = word.as_str().parse::<usize>().ok()?;
+    match words.next() {
+        Some(_) => None,
+        None => Some((count, true)),
+    }
+}
+
+fn main(rt: HostRuntime) -> ExitCode {
+    let Some((count, is_timed)) = read_arguments(&rt) else {
+        let _ = rt.eprintln("usage: bench_maps [number of keys]");
+        return ExitCode::from(1);
+    };
+    match measure_all(&rt, count, is_timed) {
+        Ok(()) => ExitCode::SUCCESS,
+        Err(error) => {
+            let _ = rt.eprintln(format_args!("{error}"));
+            ExitCode::from(2)
+        }
+    }
+}

@@ -1,4 +1,0 @@
-use Rattle.btree_bench.proofs.descent.descend.Given as goal
-
-abbrev pub decreases-loop-key : goal.decreases-loop-key
-decreases-loop-key g l = l.key

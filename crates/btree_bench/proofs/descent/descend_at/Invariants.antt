@@ -1,8 +1,0 @@
-use Rattle.btree_bench.specs.Begins.{BeginsAt}
-use Rattle.btree_bench.proofs.descent.descend_at.Given as goal
-
-abbrev pub invariant-loop-first : goal.invariant-loop-first
-invariant-loop-first g l = BeginsAt l.map l.at l.first
-
-abbrev pub decreases-loop-first : goal.decreases-loop-first
-decreases-loop-first g l = l.first

@@ -1,4 +1,0 @@
-use Rattle.btree_book.proofs.places.+glue_node.Given as goal
-
-abbrev pub decreases-glue_node : goal.decreases-glue_node
-decreases-glue_node g l = l.levels

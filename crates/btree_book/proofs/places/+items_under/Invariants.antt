@@ -1,4 +1,0 @@
-use Rattle.btree_book.proofs.places.+items_under.Given as goal
-
-abbrev pub decreases-items_under : goal.decreases-items_under
-decreases-items_under g l = l.levels

@@ -1,4 +1,0 @@
-use Rattle.btree_book.proofs.places.+start.Given as goal
-
-abbrev pub decreases-start : goal.decreases-start
-decreases-start g l = l.levels

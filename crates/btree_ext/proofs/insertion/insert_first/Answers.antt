@@ -1,0 +1,53 @@
+use Rattle.std.proofs.Common.{refl, arith, rules}
+use Rattle.btree_store.specs.ContentLaws.{get-insert_same}
+use Rattle.btree_raw.specs.Claimed.{EMPTY}
+use Rattle.btree_ext.proofs.FirstLemmas.{first-inserted}
+use Rattle.btree_ext.proofs.insertion.insert_first.Goals as goal
+use Rattle.std.proofs.lemmas.Grind.{common_steps}
+
+pub returns-in-Some-clause-inserted : goal.returns-in-Some-clause-inserted
+returns-in-Some-clause-inserted g c =
+    rw (c.set_len.ensures, c.set_root_id.ensures)
+    (first-inserted g.K.Ord.cmp c.args.tree.now c.claim_one.new.tree c.put.new.tree c.in-Some.root c.requires.empty c.requires.tree
+    c.leaf.result c.args.item c.in-Some.ensures.claimed c.put.ensures c.leaf.ensures c.args.addr c.new.result
+    (rw (← c.from.ensures) c.new.ensures) c.requires.granted)
+
+pub put-requires : goal.put-requires
+put-requires g c =
+    (c.tell_fits.ensures, rw (c.in-Some.ensures.claimed, get-insert_same c.args.tree.now.nodes c.in-Some.root EMPTY) refl)
+
+pub tell_fits-requires : goal.tell_fits-requires
+tell_fits-requires g c κs = search rules steps 200000
+
+pub claim_one-requires : goal.claim_one-requires
+claim_one-requires g c κs = search rules steps 200000
+
+pub set_root_id-requires : goal.set_root_id-requires
+set_root_id-requires g c κs = search rules steps 200000
+
+pub set_len-requires : goal.set_len-requires
+set_len-requires g c κs = search rules steps 200000
+
+pub from-requires : goal.from-requires
+from-requires g c = search rules steps 200000
+
+pub new-requires : goal.new-requires
+new-requires g c = search rules steps 200000
+
+pub refused-requires : goal.refused-requires
+refused-requires g c κs = search rules steps 200000
+
+pub returns-in-Some-clause-returned : goal.returns-in-Some-clause-returned
+returns-in-Some-clause-returned g c = search rules steps 200000
+
+pub returns-in-Some-clause-refused : goal.returns-in-Some-clause-refused
+returns-in-Some-clause-refused g c = search rules steps 200000
+
+pub returns-in-None-clause-inserted : goal.returns-in-None-clause-inserted
+returns-in-None-clause-inserted g c = search rules steps 200000
+
+pub returns-in-None-clause-returned : goal.returns-in-None-clause-returned
+returns-in-None-clause-returned g c = grind (arith, common_steps) steps 300000
+
+pub returns-in-None-clause-refused : goal.returns-in-None-clause-refused
+returns-in-None-clause-refused g c = grind (arith, common_steps) steps 300000

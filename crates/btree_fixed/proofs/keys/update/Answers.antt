@@ -1,0 +1,11 @@
+use Rattle.btree_fixed.specs.CapacityLaws.{taken, update-exact}
+use Rattle.btree_fixed.proofs.keys.update.Goals as goal
+
+pub returns-clause-exact : goal.returns-clause-exact
+returns-clause-exact g c = update-exact _ _ _ _ _ (λ e. e.cause) _ c.update-result.ensures.cause c.update-result.ensures.granted
+
+pub returns-clause-few : goal.returns-clause-few
+returns-clause-few g c = taken _ _ _ _ _ (λ e. e.cause) c.tell_well_formed.ensures.well_formed _ c.update-result.ensures.cause
+
+pub returns-clause-held : goal.returns-clause-held
+returns-clause-held g c = c.tell_held.ensures

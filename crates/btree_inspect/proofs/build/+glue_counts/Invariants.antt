@@ -1,4 +1,0 @@
-use Rattle.btree_inspect.proofs.build.+glue_counts.Given as goal
-
-abbrev pub decreases-glue_counts : goal.decreases-glue_counts
-decreases-glue_counts g l = l.levels

@@ -1,4 +1,0 @@
-use Rattle.btree_inspect.proofs.everywhere.+pass.Given as goal
-
-abbrev pub decreases-pass : goal.decreases-pass
-decreases-pass g l = l.levels

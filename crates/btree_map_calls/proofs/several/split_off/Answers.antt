@@ -1,6 +1,0 @@
-use Rattle.std.proofs.Common.{◌∙◌, ap}
-use Rattle.std.specs.FinMap as map
-use Rattle.btree_map_calls.proofs.several.split_off.Goals as goal
-
-pub split_off-requires-clause-empty : goal.split_off-requires-clause-empty
-split_off-requires-clause-empty g c = ap map.len c.empty.ensures.content ∙ map.len-empty _ _

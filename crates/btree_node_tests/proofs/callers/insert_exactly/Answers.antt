@@ -1,5 +1,0 @@
-use Rattle.btree_stores.specs.CapacityLaws.{refuses-exactly}
-use Rattle.btree_node_tests.proofs.callers.insert_exactly.Goals as goal
-
-pub returns : goal.returns
-returns g c = refuses-exactly _ _ _ _ _ c.insert.ensures.unused c.insert.ensures.stored c.insert.ensures.can_hold c.insert.ensures.may_refuse

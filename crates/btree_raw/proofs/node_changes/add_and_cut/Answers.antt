@@ -1,0 +1,84 @@
+use Rattle.std.proofs.Common.{refl, ap}
+use Rattle.btree_node.specs.Node.{view_of}
+use Rattle.btree_view.specs.Edits.{is_internal}
+use Rattle.btree_view.specs.View.{items_of}
+use Rattle.btree_laws.specs.TreeState.{Changes, node_map}
+use Rattle.btree_raw.specs.Raw.{with_node}
+use Rattle.btree_raw.specs.Steps.{AddsItem}
+use Rattle.btree_raw.proofs.CutLemmas.{cuts-node, here-after, over-after, part-after, stays-after}
+use Rattle.btree_raw.proofs.StateLemmas.{then, used-here}
+use Rattle.btree_raw.proofs.StepLemmas.{adds, take-room}
+use Rattle.btree_raw.proofs.UpwardLemmas.{is-over, not-over}
+use Rattle.btree_raw.proofs.node_changes.add_and_cut.Goals as goal
+
+pub node_mut-node-requires : goal.node_mut-node-requires
+node_mut-node-requires g c = (c.tell_fits.ensures, used-here c.args.tree.now.nodes c.args.id c.requires.can.node c.requires.can.here)
+
+pub insert-requires : goal.insert-requires
+insert-requires g c =
+    (c.tell_fits.ensures, take-room c.args.tree.now.nodes c.args.id c.node_mut-node.result.now c.node_mut-node.ensures.value c.args.index c.args.child c.from.result c.from.ensures c.requires.can)
+
+pub returns-then-not-is_overflowing : goal.returns-then-not-is_overflowing
+returns-then-not-is_overflowing g c = record {
+  added = with_node c.args.tree.now c.args.id c.insert.new.self;
+  adds = (record {
+    nodes = adds c.args.tree.now.nodes c.args.id c.node_mut-node.result.now c.node_mut-node.ensures.value c.insert.new.self c.args.index c.args.item c.args.child c.from.result c.from.ensures c.requires.can c.insert.ensures;
+    rest = record { rest = refl };
+  });
+  cuts = record {
+    nodes = (stays-after c.args.tree.now.nodes c.args.id c.insert.new.self (not-over (view_of c.insert.new.self) c.if-not-is_overflowing.ensures), refl);
+    rest = record { rest = refl };
+  };
+}
+
+pub split_into-kept-requires : goal.split_into-kept-requires
+split_into-kept-requires g c = (
+  c.tell_fits.ensures,
+  (is-over (view_of c.insert.new.self) c.if-not-is_overflowing.ensures, (ap (λ n. is_internal (view_of n)) c.empty_leaf-part.ensures, ap (λ n. items_of (view_of n)) c.empty_leaf-part.ensures)),
+)
+
+pub place_part-right-requires : goal.place_part-right-requires
+place_part-right-requires g c = (
+  c.tell_fits.ensures,
+  part-after c.args.tree.now.nodes c.args.id c.insert.new.self c.split_into-kept.new.self c.split_into-kept.result.0 c.split_into-kept.result.1
+      (view_of c.split_into-kept.new.part) c.split_into-kept.ensures.left c.split_into-kept.ensures.parts c.args.claims.now.items
+      (c.requires.can_cut (with_node c.args.tree.now c.args.id c.insert.new.self)
+      (record {
+        nodes = adds c.args.tree.now.nodes c.args.id c.node_mut-node.result.now c.node_mut-node.ensures.value c.insert.new.self c.args.index c.args.item c.args.child c.from.result c.from.ensures c.requires.can c.insert.ensures;
+        rest = record { rest = refl };
+      })
+      (over-after c.args.tree.now.nodes c.args.id c.insert.new.self (is-over (view_of c.insert.new.self) c.if-not-is_overflowing.ensures))),
+)
+
+pub returns : goal.returns
+returns g c =
+    let over = is-over (view_of c.insert.new.self) c.if-not-is_overflowing.ensures in
+    let put : Changes (λ a b. AddsItem a b c.args.id c.args.index c.args.item c.args.child) c.args.tree.now (with_node c.args.tree.now c.args.id c.insert.new.self) = (record {
+      nodes = adds c.args.tree.now.nodes c.args.id c.node_mut-node.result.now c.node_mut-node.ensures.value c.insert.new.self c.args.index c.args.item c.args.child c.from.result c.from.ensures c.requires.can c.insert.ensures;
+      rest = record { rest = refl };
+    }) in
+    let left =
+    part-after c.args.tree.now.nodes c.args.id c.insert.new.self c.split_into-kept.new.self c.split_into-kept.result.0 c.split_into-kept.result.1
+    (view_of c.split_into-kept.new.part) c.split_into-kept.ensures.left c.split_into-kept.ensures.parts c.args.claims.now.items
+    (c.requires.can_cut (with_node c.args.tree.now c.args.id c.insert.new.self) put (over-after c.args.tree.now.nodes c.args.id c.insert.new.self over)) in
+    record {
+      added = with_node c.args.tree.now c.args.id c.insert.new.self;
+      adds = put;
+      cuts = record {
+        nodes =
+            cuts-node (node_map (with_node c.args.tree.now c.args.id c.insert.new.self)) (node_map c.place_part-right.new.tree) c.args.id c.args.claims.now.items
+            c.place_part-right.new.claims.items (view_of c.insert.new.self) (here-after c.args.tree.now.nodes c.args.id c.insert.new.self) over
+            c.parent-parent.result c.parent-parent.ensures.value c.split_into-kept.result.0 c.split_into-kept.result.1 c.place_part-right.result c.place_part-right.ensures.last
+            (c.place_part-right.ensures.splits left) (c.place_part-right.ensures.leaves left);
+        rest = then (record { rest = refl }) c.place_part-right.ensures.rest;
+      };
+    }
+
+pub is_overflowing-requires : goal.is_overflowing-requires
+is_overflowing-requires g c = c.tell_fits.ensures
+
+pub parent-parent-requires : goal.parent-parent-requires
+parent-parent-requires g c = c.tell_fits.ensures
+
+pub empty_leaf-part-requires : goal.empty_leaf-part-requires
+empty_leaf-part-requires g c = c.tell_fits.ensures

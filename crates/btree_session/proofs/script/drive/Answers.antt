@@ -1,6 +1,0 @@
-use Rattle.btree_session.specs.declared.script.Stop.TheVariants.{Memory}
-use Rattle.btree_session.proofs.Serving.{begun, stopped}
-use Rattle.btree_session.proofs.script.drive.Goals as goal
-
-pub returns-in_default : goal.returns-in_default
-returns-in_default g c = stopped _ _ _ _ _ _ _ _ _ Memory (begun _ _ _ _) tt tt

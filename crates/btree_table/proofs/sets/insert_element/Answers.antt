@@ -1,8 +1,0 @@
-use Rattle.btree_table.specs.SetLaws.{insert_element-exact, taken-element}
-use Rattle.btree_table.proofs.sets.insert_element.Goals as goal
-
-pub returns-clause-exact : goal.returns-clause-exact
-returns-clause-exact g c = insert_element-exact _ _ _ _ _ (λ e. e.cause) c.node_count-before.ensures.in_tree _ c.insert-result.ensures.cause c.insert-result.ensures.nodes c.node_count-count.ensures.can_hold
-
-pub returns-clause-few : goal.returns-clause-few
-returns-clause-few g c = taken-element _ _ _ _ _ (λ e. e.cause) c.node_count-before.ensures.in_tree _ c.insert-result.ensures.cause

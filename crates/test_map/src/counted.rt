@@ -1,0 +1,402 @@
+//! Calls by key search once: at most six comparisons at each level, by keys that count them. An extension by ascending pairs
+//! or elements, or by copies of them, compares each with the last one alone. An entry and an editing cursor insert and remove without any.
+use crate::asserts::{assert_same, assert_same_in, assert_true, assert_true_in};
+use btree_ext::BTreeExt;
+use btree_map::{BTreeMap, EntriesMut, Entry};
+use btree_node::{Node, NodesMut};
+use btree_set::BTreeSet;
+use btree_store::SlabStore;
+use std::cell::Cell;
+use std::process::Abort;
+use test_support::Counted;
+
+type Store<'a> = SlabStore<Node<Counted<'a>, u32>>;
+
+type Map<'a, C> = BTreeMap<Counted<'a>, u32, C>;
+
+// Asks for a key in three ways, each of which compares at most `most` keys.
+fn ask<'a, C: NodesMut<Counted<'a>, u32>>(
+    rt: &impl Abort,
+    map: &mut BTreeMap<Counted<'a>, u32, C>,
+    key: Counted<'a>,
+    most: u32,
+) {
+    let (number, compared) = (key.number, key.compared);
+    let is_there = number % 2 == 1;
+    compared.set(0);
+    let contains = map.contains_key(&key);
+    assert_true_in(rt, number, contains == is_there && compared.get() <= most);
+    compared.set(0);
+    let finds = map.get_key_value(&key).is_some();
+    assert_true_in(rt, number, finds == is_there && compared.get() <= most);
+    compared.set(0);
+    let is_occupied = match map.entry(key) {
+        Entry::Occupied(_) => true,
+        Entry::Vacant(_) => false,
+    };
+    assert_true_in(
+        rt,
+        number,
+        is_occupied == is_there && compared.get() <= most,
+    );
+}
+
+// Finds the address of a key, and removes the key if it is there, by itself or as a query, each with no more comparisons than a look-up
+// makes. Puts the key back.
+fn remove_once<'a, C: NodesMut<Counted<'a>, u32>>(
+    rt: &impl Abort,
+    map: &mut BTreeMap<Counted<'a>, u32, C>,
+    key: Counted<'a>,
+    is_query: bool,
+) {
+    let (number, compared) = (key.number, key.compared);
+    compared.set(0);
+    let is_there = map.contains_key(&key);
+    let most = compared.get();
+    compared.set(0);
+    let is_found = map.address_by(&key).is_ok();
+    assert_true_in(rt, number, is_found == is_there && compared.get() <= most);
+    compared.set(0);
+    let removed = if is_query {
+        map.remove_by(&key)
+    } else {
+        map.remove(&key)
+    };
+    assert_true_in(
+        rt,
+        number,
+        removed.is_some() == is_there && compared.get() <= most,
+    );
+    if let Some(value) = removed {
+        assert_same_in(rt, number, map.insert(key, value).ok(), Some(None));
+    }
+}
+
+// The same over any store: the odd keys up to 87, on three levels.
+fn asks_in<'a, C: NodesMut<Counted<'a>, u32> + Drop>(
+    rt: &impl Abort,
+    compared: &'a Cell<u32>,
+    origin: C::Origin,
+) {
+    let mut map: BTreeMap<Counted<'a>, u32, C> = BTreeMap::new(origin);
+    for value in 0..44u32 {
+        let number = 2 * value + 1;
+        assert_same_in(
+            rt,
+            number,
+            map.insert(Counted { number, compared }, value).ok(),
+            Some(None),
+        );
+    }
+    assert_same_in(rt, 0u32, map.height(), 3);
+    for number in 0..89u32 {
+        ask(rt, &mut map, Counted { number, compared }, 18);
+        remove_once(rt, &mut map, Counted { number, compared }, false);
+        remove_once(rt, &mut map, Counted { number, compared }, true);
+    }
+}
+
+#[test]
+fn a_key_is_sought_once(rt: HostRuntime) {
+    let compared = Cell::new(0u32);
+    asks_in::<Store<'_>>(&rt, &compared, rt.alloc());
+}
+
+// Inserts a number where a cursor is. Returns how many comparisons that makes, or `None` if it does not fit there or is refused.
+fn inserts_at_cursor<'a, C: NodesMut<Counted<'a>, u32>>(
+    compared: &'a Cell<u32>,
+    entries: &mut EntriesMut<'_, Counted<'a>, u32, C>,
+    number: u32,
+) -> Option<u32> {
+    let key = Counted { number, compared };
+    if !entries.fits(&key) {
+        return None;
+    }
+    compared.set(0);
+    match entries.insert(key, number) {
+        Ok(()) => Some(compared.get()),
+        Err(_) => None,
+    }
+}
+
+// Inserts a number that is absent by its entry. Returns how many comparisons that makes after the search, or `None` if it is refused.
+fn inserts_at_entry<'a, C: NodesMut<Counted<'a>, u32>>(
+    compared: &'a Cell<u32>,
+    map: &mut Map<'a, C>,
+    number: u32,
+) -> Option<u32> {
+    let Entry::Vacant(vacant) = map.entry(Counted { number, compared }) else {
+        return None;
+    };
+    compared.set(0);
+    match vacant.insert(number) {
+        Ok(_) => Some(compared.get()),
+        Err(_) => None,
+    }
+}
+
+// Enters a number, which may be there, by its entry. Returns how many comparisons that makes after the search, or `None` if it is refused.
+fn enters<'a, C: NodesMut<Counted<'a>, u32>>(
+    compared: &'a Cell<u32>,
+    map: &mut Map<'a, C>,
+    number: u32,
+) -> Option<u32> {
+    let entry = map.entry(Counted { number, compared });
+    compared.set(0);
+    match entry.insert_entry(number) {
+        Ok(_) => Some(compared.get()),
+        Err(_) => None,
+    }
+}
+
+// Removes a number by its entry. Returns how many comparisons that makes after the search, or `None` if it is absent.
+fn removes_at_entry<'a, C: NodesMut<Counted<'a>, u32>>(
+    compared: &'a Cell<u32>,
+    map: &mut Map<'a, C>,
+    number: u32,
+) -> Option<u32> {
+    let Entry::Occupied(occupied) = map.entry(Counted { number, compared }) else {
+        return None;
+    };
+    compared.set(0);
+    drop(occupied.remove_entry());
+    Some(compared.get())
+}
+
+// A cursor inserts the odd numbers up to 87 between the even ones, and removes all.
+fn edits_by_cursor<'a, C: NodesMut<Counted<'a>, u32>>(
+    rt: &impl Abort,
+    compared: &'a Cell<u32>,
+    map: &mut Map<'a, C>,
+) {
+    let mut entries = map.entries_mut();
+    for half in 0..44u32 {
+        assert_true(rt, entries.next().is_some());
+        let made = inserts_at_cursor(compared, &mut entries, 2 * half + 1);
+        assert_same_in(rt, half, made, Some(0));
+    }
+    let mut entries = map.entries_mut();
+    compared.set(0);
+    for place in 0..88u32 {
+        assert_true_in(rt, place, entries.remove().is_some());
+    }
+    assert_same(rt, compared.get(), 0);
+}
+
+// Entries insert the even numbers below 88 before a cursor edits, and after it insert those below 44, enter 44 from 22 on, and remove those
+// below 44.
+fn edits_in<'a, C: NodesMut<Counted<'a>, u32> + Drop>(
+    rt: &impl Abort,
+    compared: &'a Cell<u32>,
+    origin: C::Origin,
+) {
+    let mut map: Map<'a, C> = BTreeMap::new(origin);
+    for half in 0..44u32 {
+        let made = inserts_at_entry(compared, &mut map, 2 * half);
+        assert_same_in(rt, half, made, Some(0));
+    }
+    edits_by_cursor(rt, compared, &mut map);
+    for number in 0..44u32 {
+        let made = inserts_at_entry(compared, &mut map, number);
+        assert_same_in(rt, number, made, Some(0));
+    }
+    for number in 0..44u32 {
+        let made = enters(compared, &mut map, number.wrapping_add(22));
+        assert_same_in(rt, number, made, Some(0));
+    }
+    for number in 0..44u32 {
+        let made = removes_at_entry(compared, &mut map, number);
+        assert_same_in(rt, number, made, Some(0));
+    }
+}
+
+#[test]
+fn entries_and_cursors_edit_without_comparisons(rt: HostRuntime) {
+    let compared = Cell::new(0u32);
+    edits_in::<Store<'_>>(&rt, &compared, rt.alloc());
+}
+
+// A map of the numbers from one up to another.
+fn numbers<'a, C: NodesMut<Counted<'a>, u32> + Drop>(
+    rt: &impl Abort,
+    compared: &'a Cell<u32>,
+    origin: C::Origin,
+    (start, end): (u32, u32),
+) -> Map<'a, C> {
+    let mut map: Map<'a, C> = BTreeMap::new(origin);
+    for number in start..end {
+        let replaced = map.insert(Counted { number, compared }, number).ok();
+        assert_same_in(rt, number, replaced, Some(None));
+    }
+    map
+}
+
+// Extends a map by the pairs of another one. Returns whether none was refused.
+fn move_pairs<K: Ord + Drop, V: Drop, C: NodesMut<K, V> + Drop>(
+    map: &mut BTreeMap<K, V, C>,
+    from: BTreeMap<K, V, C>,
+) -> bool {
+    let mut source = from.into_iter();
+    let is_done = map.extend(&mut source).is_ok();
+    drop(source);
+    is_done
+}
+
+// Extends a map by copies of the pairs of another one. Returns whether none was refused.
+fn copy_pairs<K: Ord + Copy + Drop, V: Copy + Drop, C: NodesMut<K, V>>(
+    map: &mut BTreeMap<K, V, C>,
+    from: &BTreeMap<K, V, C>,
+) -> bool {
+    let mut source = from.iter();
+    map.extend_copied(&mut source).is_ok()
+}
+
+// Extends a map by the pairs of another one, or by copies of them. Returns how many comparisons it made, or `None` if a pair was refused.
+fn extends<'a, C: NodesMut<Counted<'a>, u32> + Drop>(
+    compared: &'a Cell<u32>,
+    map: &mut Map<'a, C>,
+    from: Map<'a, C>,
+    copies: bool,
+) -> Option<u32> {
+    compared.set(0);
+    let is_done = if copies {
+        copy_pairs(map, &from)
+    } else {
+        move_pairs(map, from)
+    };
+    if is_done { Some(compared.get()) } else { None }
+}
+
+// Returns how many comparisons an insertion makes.
+fn inserts<'a, C: NodesMut<Counted<'a>, u32>>(
+    compared: &'a Cell<u32>,
+    map: &mut Map<'a, C>,
+    number: u32,
+) -> u32 {
+    compared.set(0);
+    drop(map.insert(Counted { number, compared }, number));
+    compared.get()
+}
+
+// 44 pairs into an empty map make 43 comparisons, the next 44 one each. Of two that are not above the last one, the first makes one more than
+// an insertion, and the other as many as an insertion.
+fn extends_in<'a, C: NodesMut<Counted<'a>, u32> + Drop>(
+    rt: &impl Abort,
+    compared: &'a Cell<u32>,
+    origin: C::Origin,
+    copies: bool,
+)
+where
+    C::Origin: Copy,
+{
+    let low: Map<'a, C> = numbers(rt, compared, origin, (0, 44));
+    let high: Map<'a, C> = numbers(rt, compared, origin, (44, 88));
+    let two: Map<'a, C> = numbers(rt, compared, origin, (30, 32));
+    let mut map: Map<'a, C> = BTreeMap::new(origin);
+    assert_same(rt, extends(compared, &mut map, low, copies), Some(43));
+    assert_same(rt, extends(compared, &mut map, high, copies), Some(44));
+    let first = inserts(compared, &mut map, 30);
+    let second = inserts(compared, &mut map, 31);
+    let sum = first.wrapping_add(second).wrapping_add(1);
+    assert_same(rt, extends(compared, &mut map, two, copies), Some(sum));
+}
+
+#[test]
+fn ascending_keys_are_compared_once(rt: HostRuntime) {
+    let compared = Cell::new(0u32);
+    extends_in::<Store<'_>>(&rt, &compared, rt.alloc(), false);
+}
+
+#[test]
+fn copied_keys_are_compared_once(rt: HostRuntime) {
+    let compared = Cell::new(0u32);
+    extends_in::<Store<'_>>(&rt, &compared, rt.alloc(), true);
+}
+
+// Makes a set of 44 ascending elements by 43 comparisons, and extends it by the next 44, by one each. Of two that are not above the last one,
+// the first makes one more than an insertion, and the other as many as an insertion.
+fn extends_set<'a, C: NodesMut<Counted<'a>, ()> + Drop>(
+    rt: &impl Abort,
+    compared: &'a Cell<u32>,
+    origin: C::Origin,
+) {
+    let mut low = (0..44u32).map(move |number| Counted { number, compared });
+    let Ok(set) = BTreeSet::<Counted<'a>, C>::from_iter(origin, &mut low) else {
+        panic!(rt; "refused")
+    };
+    let mut set = set;
+    assert_same(rt, compared.replace(0), 43);
+    let mut high = (44..88u32).map(move |number| Counted { number, compared });
+    assert_true(rt, set.extend(&mut high).is_ok());
+    assert_same(rt, compared.replace(0), 44);
+    for number in 30..32u32 {
+        let inserted = set.insert(Counted { number, compared }).ok();
+        assert_same(rt, inserted, Some(false));
+    }
+    let sought = compared.replace(0);
+    let mut two = (30..32u32).map(move |number| Counted { number, compared });
+    assert_true(rt, set.extend(&mut two).is_ok());
+    assert_same(rt, compared.get(), sought.wrapping_add(1));
+}
+
+#[test]
+fn ascending_elements_are_compared_once(rt: HostRuntime) {
+    let compared = Cell::new(0u32);
+    extends_set::<SlabStore<Node<Counted<'_>, ()>>>(&rt, &compared, rt.alloc());
+}
+
+// Returns a set of the numbers from one up to another.
+fn elements<'a, C: NodesMut<Counted<'a>, ()> + Drop>(
+    rt: &impl Abort,
+    compared: &'a Cell<u32>,
+    origin: C::Origin,
+    (start, end): (u32, u32),
+) -> BTreeSet<Counted<'a>, C> {
+    let mut source = (start..end).map(move |number| Counted { number, compared });
+    match BTreeSet::<Counted<'a>, C>::from_iter(origin, &mut source) {
+        Ok(set) => set,
+        Err(_) => panic!(rt; "refused"),
+    }
+}
+
+// Extends a set by copies of the elements of another one. Returns whether none was refused.
+fn copy_elements<T: Ord + Copy + Drop, C: NodesMut<T, ()>>(
+    set: &mut BTreeSet<T, C>,
+    from: &BTreeSet<T, C>,
+) -> bool {
+    let mut source = from.iter();
+    set.extend_copied(&mut source).is_ok()
+}
+
+// The numbers of `extends_set` for copies of the elements.
+fn copies_set<'a, C: NodesMut<Counted<'a>, ()> + Drop>(
+    rt: &impl Abort,
+    compared: &'a Cell<u32>,
+    origin: C::Origin,
+)
+where
+    C::Origin: Copy,
+{
+    let low: BTreeSet<Counted<'a>, C> = elements(rt, compared, origin, (0, 44));
+    let high: BTreeSet<Counted<'a>, C> = elements(rt, compared, origin, (44, 88));
+    let two: BTreeSet<Counted<'a>, C> = elements(rt, compared, origin, (30, 32));
+    let mut set: BTreeSet<Counted<'a>, C> = BTreeSet::new(origin);
+    compared.set(0);
+    assert_true(rt, copy_elements(&mut set, &low));
+    assert_same(rt, compared.replace(0), 43);
+    assert_true(rt, copy_elements(&mut set, &high));
+    assert_same(rt, compared.replace(0), 44);
+    for number in 30..32u32 {
+        let inserted = set.insert(Counted { number, compared }).ok();
+        assert_same(rt, inserted, Some(false));
+    }
+    let sought = compared.replace(0);
+    assert_true(rt, copy_elements(&mut set, &two));
+    assert_same(rt, compared.get(), sought.wrapping_add(1));
+}
+
+#[test]
+fn copied_elements_are_compared_once(rt: HostRuntime) {
+    let compared = Cell::new(0u32);
+    copies_set::<SlabStore<Node<Counted<'_>, ()>>>(&rt, &compared, rt.alloc());
+}
